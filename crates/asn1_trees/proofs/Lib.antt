@@ -1,0 +1,5 @@
+pub mod Digits
+pub mod Elements
+pub mod Spelling
+pub mod Rows
+pub mod Leaf

@@ -1,0 +1,3 @@
+pub mod Length
+pub mod Tree
+pub mod Firsts

@@ -1,0 +1,11 @@
+-- What a watched device shows.
+use Rattle.std.specs.Prelude.{ℕ}
+use Rattle.devices.specs.declared.watched.Watched.{Watched}
+
+-- the device
+abbrev pub watched_device : {D : Type 0} → Watched D → D
+watched_device w = w.device
+
+-- how many of its calls failed
+abbrev pub watched_failures : {D : Type 0} → Watched D → ℕ
+watched_failures w = w.failures

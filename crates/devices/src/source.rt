@@ -1,0 +1,61 @@
+//! What gives bytes.
+ghost use Rattle.std.specs.Prelude.{◌≡◌, ℕ, List, Option, Some};
+ghost use Rattle.std.specs.Io.{ReadsAtMost};
+ghost use Rattle.std.specs.Io.KnownBytes.{ReadConsumes};
+ghost use Rattle.devices.specs.Counting.{CountsRead};
+
+use std::io::{ErrorKind, Read};
+
+/// A device that gives bytes.
+pub trait Source {
+    // The bytes that reads will give from here on, where they are known.
+    ghost left: { Self → Option (List ℕ) };
+
+    // How many reads have failed.
+    ghost failed: { Self → ℕ };
+
+    /// Reads some bytes into the front of `buffer`, and gives how many.
+    ///
+    /// A short read is not the end: 0 bytes are, where `buffer` has room. A call that fails, an
+    /// interrupted one too, loses no byte and is counted.
+    fn read_some(&mut self, buffer: &mut [u8]) -> Result<usize, ErrorKind>
+        ensures bound { ReadsAtMost result buffer.new }
+        ensures bytes { ReadConsumes (left self.old) (left self.new) result buffer.new }
+        ensures count { CountsRead (failed self.old) (failed self.new) result };
+
+    /// How many reads have failed so far, held at the greatest `u64`.
+    fn failures(&self) -> u64
+        ensures { result ≡ failed self.now };
+}
+
+/// Bytes in memory, whose front is read away. No read fails.
+impl Source for &[u8] {
+    ghost left = { λ s. Some s.now };
+
+    ghost failed = { λ _. 0 };
+
+    fn read_some(&mut self, buffer: &mut [u8]) -> Result<usize, ErrorKind> {
+        match self.read(buffer) {
+            Ok(count) => Ok(count),
+            Err(fault) => Err(fault.kind()),
+        }
+    }
+
+    fn failures(&self) -> u64 {
+        0
+    }
+}
+
+impl<S: Source> Source for &mut S {
+    ghost left = { λ s. S.left s.now };
+
+    ghost failed = { λ s. S.failed s.now };
+
+    fn read_some(&mut self, buffer: &mut [u8]) -> Result<usize, ErrorKind> {
+        (**self).read_some(buffer)
+    }
+
+    fn failures(&self) -> u64 {
+        (**self).failures()
+    }
+}

@@ -1,0 +1,45 @@
+-- A realm's accounts: a finite map from the components of a name to an account.
+use Rattle.std.specs.Prelude.{◌≡◌, ℕ, false, List, [], ◌∷◌, Option, Result, Ok, Err, if◌then◌else◌, codes, refl}
+use Rattle.std.specs.Ordering.{nat_cmp, eq_by_cmp}
+use Rattle.std.specs.declared.cmp.Ordering.{Ordering}
+use Rattle.std.specs.Cmp.{IsTotalOrder, nat_cmp_total}
+use Rattle.std.specs.Cmp.Lexicographic.{slice_cmp, lists_total}
+use Rattle.std.specs.FinMap.{FinMap, get, contains_key, IsAntisymmetric, nat_cmp-IsAntisymmetric, slice_cmp-IsAntisymmetric}
+use Rattle.krb_accounts.specs.Account.{AccountRecord}
+use Rattle.krb_accounts.specs.declared.refusal.RealmRefusal.{RealmRefusal}
+use Rattle.krb_accounts.specs.declared.refusal.RealmRefusal.TheVariants.{Exists}
+
+-- by the first component that differs, and there by the first character that differs
+abbrev pub name_cmp : List (List ℕ) → List (List ℕ) → Ordering
+name_cmp = slice_cmp (slice_cmp nat_cmp)
+
+abbrev pub AccountMap : Type 0
+AccountMap = FinMap name_cmp AccountRecord
+
+-- what a realm answers of each name: its account, if it has one
+abbrev pub Look : Type 0
+Look = List (List ℕ) → Option AccountRecord
+
+abbrev pub look_in : AccountMap → Look
+look_in accounts = get accounts
+
+-- a name that has an account gets no other
+abbrev pub inserting : AccountMap → List (List ℕ) → Result (Unit {0}) RealmRefusal
+inserting accounts name = if contains_key accounts name then Err Exists else Ok tt
+
+-- names are in one order, in which only equal names tie
+pub name_total : IsTotalOrder name_cmp
+name_total = lists_total (lists_total nat_cmp_total)
+
+pub name_apart : IsAntisymmetric name_cmp
+name_apart = slice_cmp-IsAntisymmetric (slice_cmp-IsAntisymmetric nat_cmp-IsAntisymmetric)
+
+-- the components a and b are neither the component ab nor the component a/b, and case matters
+apart : eq_by_cmp name_cmp (codes "a" ∷ codes "b" ∷ []) (codes "ab" ∷ []) ≡ false
+apart = refl
+
+apart_slash : eq_by_cmp name_cmp (codes "a" ∷ codes "b" ∷ []) (codes "a/b" ∷ []) ≡ false
+apart_slash = refl
+
+apart_case : eq_by_cmp name_cmp (codes "host" ∷ []) (codes "Host" ∷ []) ≡ false
+apart_case = refl

@@ -1,0 +1,8 @@
+-- How the accounts are held.
+use Rattle.std.specs.Prelude.{ℕ, List, map}
+use Rattle.krb_accounts.specs.Account.{AccountRecord}
+use Rattle.krb_accounts.specs.declared.accounts.Entry.{Entry}
+
+-- the name and the account of each entry
+abbrev pub pairs : List Entry → List (List (List ℕ) × AccountRecord)
+pairs entries = map (λ entry. (entry.name.items, entry.account)) entries

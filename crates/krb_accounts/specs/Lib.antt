@@ -1,0 +1,6 @@
+pub mod Account
+pub mod Accounts
+pub mod Entries
+pub mod Names
+pub mod Refusal
+pub mod Settings

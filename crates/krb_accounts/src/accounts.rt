@@ -1,0 +1,93 @@
+//! The accounts of a realm.
+ghost use Rattle.std.specs.Prelude.{◌≡◌, ◌↔◌, IsSome, OnOk, OnErr};
+ghost use Rattle.std.specs.Option.{option_copied};
+ghost use Rattle.std.specs.FinMap as finite;
+
+use crate::{Account, RealmRefusal};
+use picky_asn1::wrapper::GeneralStringAsn1;
+use std::alloc::Global;
+use std::marker::Model;
+
+/// The accounts of a realm: at most one for each name. Names are the same where they have the same
+/// components with the same characters, in the same case. A contract sees a finite map from the
+/// components to the account.
+#[derive(Drop)]
+pub struct Accounts {
+    entries: Vec<Entry>,
+}
+
+#[derive(Drop)]
+struct Entry {
+    name: Vec<GeneralStringAsn1>,
+    account: Account,
+}
+
+impl Model for Accounts {
+    ghost use Rattle.std.specs.Prelude.{ℕ};
+    ghost use Rattle.std.specs.Coded.{coded_list, coded_ℕ};
+    ghost use Rattle.std.specs.FinMap as finite;
+    ghost use Rattle.krb_accounts.specs.Accounts.{AccountMap};
+    ghost use Rattle.krb_accounts.specs.contracts.account.Account as account;
+
+    ghost Value = { AccountMap };
+
+    ghost coded = { finite.code (coded_list (coded_list coded_ℕ)) account.the_row.coded };
+
+    ghost use Rattle.krb_accounts.specs.Entries.{pairs};
+
+    ghost view = { λ a. finite.from_entries (pairs a.entries.items) };
+}
+
+impl Accounts {
+    ghost use Rattle.krb_accounts.specs.Accounts.{inserting};
+    ghost use Rattle.krb_accounts.specs.Refusal.{IsMemoryAside};
+
+    /// No accounts.
+    pub fn new(alloc: Global) -> Accounts
+        ensures { result ≡ finite.empty }
+    {
+        Accounts {
+            entries: Vec::new(alloc),
+        }
+    }
+
+    /// The account of a name.
+    pub fn get(&self, name: &[GeneralStringAsn1]) -> Option<&Account>
+        ensures { option_copied result ≡ finite.get self.now name.now }
+    {
+        find(self.entries.as_slice(), name)
+    }
+
+    /// Gives a name its account. A name that has one is refused.
+    pub fn insert_new(
+        &mut self,
+        name: Vec<GeneralStringAsn1>,
+        account: Account,
+    ) -> Result<(), RealmRefusal>
+        ensures exists { (result ≡ Err RealmRefusal.Exists) ↔ IsSome (finite.get self.old name.items) }
+        ensures refusal { IsMemoryAside result (inserting self.old name.items) }
+        ensures ok { OnOk result (self.new ≡ finite.insert self.old name.items account) }
+        ensures err { OnErr result (self.new ≡ self.old) }
+    {
+        if self.get(name.as_slice()).is_some() {
+            return Err(RealmRefusal::Exists);
+        }
+        self.entries.push(Entry { name, account })?;
+        Ok(())
+    }
+}
+
+ghost use Rattle.krb_accounts.specs.Accounts.{name_cmp};
+ghost use Rattle.krb_accounts.specs.Entries.{pairs};
+
+/// The account of the first entry of that name.
+fn find<'a>(entries: &'a [Entry], name: &[GeneralStringAsn1]) -> Option<&'a Account>
+    ensures { option_copied result ≡ finite.find name_cmp name.now (pairs entries.now) }
+{
+    for entry in entries {
+        if name == entry.name.as_slice() {
+            return Some(&entry.account);
+        }
+    }
+    None
+}

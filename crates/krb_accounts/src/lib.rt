@@ -1,0 +1,16 @@
+//! What a realm knows, without any message: its settings, the rules for names, and the accounts.
+#![tactic(auto)]
+
+mod account;
+mod accounts;
+mod names;
+mod refusal;
+mod settings;
+#[cfg(test)]
+mod tests;
+
+pub use account::Account;
+pub use accounts::Accounts;
+pub use names::{are_components, components_of, is_realm_name, realm_name_of};
+pub use refusal::RealmRefusal;
+pub use settings::Settings;

@@ -1,0 +1,46 @@
+//! Why a command to a realm is refused.
+ghost use Rattle.std.specs.Prelude.{◌≡◌};
+ghost use Rattle.krb_accounts.specs.declared.refusal.RealmRefusal.TheVariants.{Memory};
+
+use std::alloc::{AllocError, AllocFailed};
+use thiserror::Error;
+
+/// Why settings, a name or an account were refused. A refused command changes nothing.
+#[derive(Clone, Copy, Debug, PartialEq, Eq, Hash, Error)]
+pub enum RealmRefusal {
+    /// An account has that name already.
+    #[error("the account exists already")]
+    Exists = 1,
+
+    /// The name breaks the rules for the names of realms or of principals.
+    #[error("not a name of a realm or a principal")]
+    BadName = 3,
+
+    /// The key doesn't have as many bytes as its suite's keys.
+    #[error("the key's length is not its suite's")]
+    BadKeyLength = 4,
+
+    /// A setting is out of its range.
+    #[error("a setting is out of its range")]
+    BadSetting = 7,
+
+    /// Memory ran out.
+    #[error("out of memory")]
+    Memory = 8,
+}
+
+impl From<AllocError> for RealmRefusal {
+    ghost from_gives = { λ _ refusal. refusal ≡ Memory };
+
+    fn from(_error: AllocError) -> RealmRefusal {
+        RealmRefusal::Memory
+    }
+}
+
+impl<T: Drop> From<AllocFailed<T>> for RealmRefusal {
+    ghost from_gives = { λ _ refusal. refusal ≡ Memory };
+
+    fn from(_error: AllocFailed<T>) -> RealmRefusal {
+        RealmRefusal::Memory
+    }
+}

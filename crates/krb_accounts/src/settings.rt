@@ -1,0 +1,65 @@
+//! A realm's settings.
+ghost use Rattle.std.specs.Prelude.{◌≡◌, ◌≤◌, IfErr};
+ghost use Rattle.std.specs.Result.{OkIff};
+ghost use Rattle.krb_accounts.specs.Settings.{IsSkew, IsLifetime};
+
+use crate::RealmRefusal;
+use std::marker::Model;
+
+/// The most seconds by which clocks may be allowed to differ: a day.
+const SKEW_LIMIT: u64 = 86_400;
+
+/// The most seconds for which tickets may be allowed to last: a year of 365 days.
+const LIFETIME_LIMIT: u64 = 31_536_000;
+
+/// A realm's settings: how far clocks may differ, and how long tickets last. A contract sees both.
+#[derive(Clone, Copy, Debug, PartialEq, Eq)]
+pub struct Settings {
+    skew: u64,
+    lifetime: u64,
+}
+
+impl Model for Settings {
+    ghost use Rattle.krb_accounts.specs.Settings.{SettingsRecord, AreSettings};
+
+    ghost Value = { SettingsRecord };
+
+    ghost view = { λ s. record { skew = s.skew; lifetime = s.lifetime } };
+
+    ghost invariant = { λ s. AreSettings s.skew s.lifetime };
+
+    ghost inverse = { λ r. record { skew = r.skew; lifetime = r.lifetime } };
+}
+
+impl Settings {
+    ghost use Rattle.krb_accounts.specs.Settings.{AreSettings};
+
+    /// Settings of a skew of 0 to 86,400 seconds and a lifetime of 1 to 31,536,000 seconds. Others are
+    /// refused.
+    pub fn new(skew: u64, lifetime: u64) -> Result<Settings, RealmRefusal>
+        ensures value { OkIff result (AreSettings skew lifetime) (record { skew = skew; lifetime = lifetime }) }
+        ensures refusal { IfErr result (λ e. e ≡ RealmRefusal.BadSetting) }
+    {
+        if skew <= SKEW_LIMIT && 1 <= lifetime && lifetime <= LIFETIME_LIMIT {
+            Ok(Settings { skew, lifetime })
+        } else {
+            Err(RealmRefusal::BadSetting)
+        }
+    }
+
+    /// How many seconds clocks may differ.
+    pub fn skew(self) -> u64
+        ensures value { result ≡ self.skew }
+        ensures in_range { IsSkew result }
+    {
+        self.skew
+    }
+
+    /// How many seconds a ticket lasts at most.
+    pub fn lifetime(self) -> u64
+        ensures value { result ≡ self.lifetime }
+        ensures in_range { IsLifetime result }
+    {
+        self.lifetime
+    }
+}

@@ -1,0 +1,10 @@
+pub mod AllBytes
+pub mod Tables
+pub mod Words
+pub mod Sums
+pub mod States
+pub mod Inverses
+pub mod Rounds
+pub mod Blocks
+pub mod Chaining
+pub mod Stealing

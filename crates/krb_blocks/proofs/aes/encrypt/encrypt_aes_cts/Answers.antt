@@ -1,0 +1,16 @@
+use Rattle.std.proofs.Common.{◌≡◌, ◌≤◌, length, ap, ◌∙◌, arith, lit<}
+use Rattle.krb_blocks.specs.Aes.{aes_cipher}
+use Rattle.krb_blocks.specs.Chains.{swapped, zero_filled, IsChained}
+use Rattle.krb_blocks.proofs.Stealing.{stolen_long, length-zero_filled, written_back}
+use Rattle.krb_blocks.proofs.aes.encrypt.encrypt_aes_cts.Goals as goal
+
+pub returns-clause-stolen : goal.returns-clause-stolen
+returns-clause-stolen c =
+    let E = aes_cipher c.args.key.now in
+    let text = c.args.payload.now in
+    let x = c.in_ok-cipher.cipher.items in
+    let chained : IsChained 16 E (zero_filled 16 text) x = rw (c.deref.ensures.value, c.in_ok-filled.ensures) at c.in_ok-cipher.ensures.chained in
+    let same : c.deref_mut.result.now ≡ x = c.deref_mut.ensures.value in
+    let long : 32 ≤ length c.deref_mut.result.now = omega (arith, ap length same, chained.same_length, length-zero_filled 16 text (lit< tt)) in
+    let turned = written_back c.in_ok-cipher.cipher.len c.swap_two_last_blocks.new.data x (omega (arith, ap length same)) (omega (arith, ap length same)) ∙ c.swap_two_last_blocks.ensures.swapped long ∙ ap (swapped 16) same in
+    rw (c.truncate.ensures.items, turned) (stolen_long 16 E text x (lit< tt) (omega arith) chained)

@@ -1,0 +1,6 @@
+pub mod Bytes
+pub mod Field
+pub mod Aes
+pub mod AesSize
+pub mod Chains
+pub mod Worked

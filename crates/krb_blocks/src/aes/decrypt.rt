@@ -1,0 +1,144 @@
+//! Opening: the chain, and the chain with ciphertext stealing (RFC 3962, section 5).
+
+ghost use Rattle.std.specs.Prelude.{◌≡◌, ◌≢◌, ◌⊎◌, ◌-◌, ◌%◌, ◌<◌, ◌≤◌, ℕ, List, length, vec_len, Err, IfOk, IfErr, OnOk};
+ghost use Rattle.krb_blocks.specs.Aes.{aes_cipher, aes_inverse, cipher};
+ghost use Rattle.krb_blocks.specs.AesSize.{key_length_of};
+ghost use Rattle.krb_blocks.specs.Bytes.{IsBytes};
+ghost use Rattle.krb_blocks.specs.Chains.{IsBlockCipher, IsChained, IsCompleted, IsStolen, block_count};
+ghost use Rattle.krb_blocks.specs.declared.error.KerberosCryptoError.TheVariants.{KeyLength, CipherLength, CipherUnpad, Memory};
+
+use super::schedule::KeySchedule;
+use super::steps::add_bytes;
+use super::{AES_BLOCK_SIZE, AesSize, check_key_length, swap_two_last_blocks};
+use crate::error::{KerberosCryptoError, KerberosCryptoResult};
+use std::alloc::{AllocError, Global};
+
+/// The text of whole blocks that this is the chain of, from an initial vector of zeros. Refused are a key
+/// of another length (`KeyLength`) and bytes that aren't whole blocks (`CipherUnpad`).
+pub fn decrypt_aes_cbc(
+    alloc: Global,
+    key: &[u8],
+    cipher_data: &[u8],
+    aes_size: &AesSize,
+) -> KerberosCryptoResult<Vec<u8>>
+    ensures chained { IfOk result (λ p. IsChained 16 (aes_cipher key.now) p.items cipher_data.now) }
+    ensures bytes { IfOk result (λ p. IsBytes p.items) }
+    ensures only { IfOk result (λ p. (q : List ℕ) → IsBytes q
+        → IsChained 16 (aes_cipher key.now) q cipher_data.now → q ≡ p.items) }
+    ensures undone { OnOk result (IsBlockCipher 16 (aes_cipher key.now) (aes_inverse key.now)) }
+    ensures sized { OnOk result (length key.now ≡ key_length_of aes_size.now) }
+
+    // The refusals, the first that holds.
+    ensures key_length { length key.now ≢ key_length_of aes_size.now
+        → result ≡ Err (KeyLength (length key.now) (key_length_of aes_size.now)) }
+    ensures unpad { length key.now ≡ key_length_of aes_size.now → length cipher_data.now % 16 ≢ 0
+        → result ≡ Err CipherUnpad }
+    ensures memory { length key.now ≡ key_length_of aes_size.now → length cipher_data.now % 16 ≡ 0
+        → IfErr result (λ e. e ≡ Memory) }
+{
+    check_key_length(key, aes_size)?;
+    if cipher_data.len() % AES_BLOCK_SIZE != 0 {
+        return Err(KerberosCryptoError::CipherUnpad);
+    }
+    let keys = KeySchedule::new(alloc, key)?;
+    let text = decrypt_chain(alloc, &keys, cipher_data)?;
+    Ok(text)
+}
+
+/// The text whose chain of whole blocks under these round keys this is.
+fn decrypt_chain(alloc: Global, keys: &KeySchedule, chain: &[u8]) -> Result<Vec<u8>, AllocError>
+    requires { length chain.now % 16 ≡ 0 }
+    ensures bytes { IfOk result (λ p. IsBytes p.items) }
+    ensures chained { IfOk result
+        (λ p. IsChained 16 (cipher keys.now.words.items keys.now.rounds) p.items chain.now) }
+{
+    let mut text = Vec::with_capacity(alloc, chain.len())?;
+    let mut last = [0u8; 16];
+    for i in 0..chain.len() / 16 {
+        let mut block = [0u8; 16];
+        block.copy_from_slice(&chain[16 * i..16 * i + 16]);
+        let sum = add_bytes(keys.decrypt_block(&block), &last);
+        text.extend_from_slice(&sum)?;
+        last = block;
+    }
+    Ok(text)
+}
+
+/// The text whose cipher in a chain with ciphertext stealing this is; of no bytes, no bytes. Refused are a
+/// key of another length (`KeyLength`) and 1 to 15 bytes (`CipherLength`).
+pub fn decrypt_aes_cts(
+    alloc: Global,
+    key: &[u8],
+    cipher_data: &[u8],
+    aes_size: &AesSize,
+) -> KerberosCryptoResult<Vec<u8>>
+    ensures stolen { IfOk result (λ p. IsStolen 16 (aes_cipher key.now) p.items cipher_data.now) }
+    ensures bytes { IfOk result (λ p. IsBytes p.items) }
+    ensures only { IfOk result (λ p. (q : List ℕ) → IsBytes q → 16 ≤ length q
+        → IsStolen 16 (aes_cipher key.now) q cipher_data.now → q ≡ p.items) }
+    ensures same_length { IfOk result (λ p. vec_len p ≡ length cipher_data.now) }
+    ensures sized { OnOk result (length key.now ≡ key_length_of aes_size.now) }
+
+    // The refusals, the first that holds.
+    ensures key_length { length key.now ≢ key_length_of aes_size.now
+        → result ≡ Err (KeyLength (length key.now) (key_length_of aes_size.now)) }
+    ensures short { length key.now ≡ key_length_of aes_size.now → 0 < length cipher_data.now
+        → length cipher_data.now < 16 → result ≡ Err (CipherLength (length cipher_data.now) 16) }
+    ensures memory { length key.now ≡ key_length_of aes_size.now
+        → (length cipher_data.now ≡ 0) ⊎ (16 ≤ length cipher_data.now) → IfErr result (λ e. e ≡ Memory) }
+{
+    check_key_length(key, aes_size)?;
+    if !cipher_data.is_empty() && cipher_data.len() < AES_BLOCK_SIZE {
+        return Err(KerberosCryptoError::CipherLength(cipher_data.len(), AES_BLOCK_SIZE));
+    }
+    if cipher_data.len() <= AES_BLOCK_SIZE {
+        let text = decrypt_aes_cbc(alloc, key, cipher_data, aes_size)?;
+        return Ok(text);
+    }
+    let text = decrypt_stolen(alloc, key, cipher_data, aes_size)?;
+    Ok(text)
+}
+
+/// The text of more than one block that is stolen to this.
+fn decrypt_stolen(
+    alloc: Global,
+    key: &[u8],
+    cipher_data: &[u8],
+    aes_size: &AesSize,
+) -> KerberosCryptoResult<Vec<u8>>
+    requires key_length { length key.now ≡ key_length_of aes_size.now }
+    requires more { 16 < length cipher_data.now }
+    ensures stolen { IfOk result (λ p. IsStolen 16 (aes_cipher key.now) p.items cipher_data.now) }
+    ensures bytes { IfOk result (λ p. IsBytes p.items) }
+    ensures only { IfOk result (λ p. (q : List ℕ) → IsBytes q → length q ≡ length cipher_data.now
+        → IsStolen 16 (aes_cipher key.now) q cipher_data.now → q ≡ p.items) }
+    ensures same_length { IfOk result (λ p. vec_len p ≡ length cipher_data.now) }
+    ensures memory { IfErr result (λ e. e ≡ Memory) }
+{
+    let mut chain = completed(alloc, key, cipher_data, aes_size)?;
+    swap_two_last_blocks(&mut chain)?;
+    let mut text = decrypt_aes_cbc(alloc, key, &chain, aes_size)?;
+    text.truncate(cipher_data.len());
+    Ok(text)
+}
+
+/// The cipher text, completed by what stealing left out of its last block: that shows in the text under
+/// the block before it.
+fn completed(
+    alloc: Global,
+    key: &[u8],
+    cipher_data: &[u8],
+    aes_size: &AesSize,
+) -> KerberosCryptoResult<Vec<u8>>
+    requires key_length { length key.now ≡ key_length_of aes_size.now }
+    requires more { 16 < length cipher_data.now }
+    ensures completed { IfOk result (λ v.
+        IsCompleted 16 (block_count 16 (length cipher_data.now) - 2) (aes_cipher key.now) cipher_data.now v.items) }
+    ensures memory { IfErr result (λ e. e ≡ Memory) }
+{
+    let last = (cipher_data.len() - 1) / 16 * 16;
+    let under = decrypt_aes_cbc(alloc, key, &cipher_data[last - 16..last], aes_size)?;
+    let mut chain = Vec::from_slice(alloc, cipher_data)?;
+    chain.extend_from_slice(&under[cipher_data.len() - last..])?;
+    Ok(chain)
+}

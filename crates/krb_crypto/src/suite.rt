@@ -1,0 +1,78 @@
+//! The suites, and the numbers that name them in messages.
+
+ghost use Rattle.std.specs.Prelude.{◌≡◌};
+ghost use Rattle.krb_crypto.specs.Suites.{checksum_number, cipher_key_size, cipher_number};
+
+/// The ways to encrypt (RFC 3962, section 7).
+#[derive(Clone, Copy, Debug, PartialEq, Eq)]
+pub enum CipherSuite {
+    /// AES with 128-bit keys in CBC mode with ciphertext stealing, and HMAC-SHA1 cut to 96 bits.
+    Aes128CtsHmacSha196,
+
+    /// AES with 256-bit keys in CBC mode with ciphertext stealing, and HMAC-SHA1 cut to 96 bits.
+    Aes256CtsHmacSha196,
+}
+
+impl CipherSuite {
+    /// How many bytes a key of this suite has (RFC 3962, section 6).
+    pub fn key_size(self) -> usize
+        ensures { result ≡ cipher_key_size self }
+    {
+        match self {
+            CipherSuite::Aes128CtsHmacSha196 => 16,
+            CipherSuite::Aes256CtsHmacSha196 => 32,
+        }
+    }
+}
+
+/// The suite's number, as `etype` in a message (RFC 3962, section 7).
+impl From<CipherSuite> for u8 {
+    ghost from_gives = { λ suite number. number ≡ cipher_number suite };
+
+    fn from(suite: CipherSuite) -> u8 {
+        match suite {
+            CipherSuite::Aes128CtsHmacSha196 => 17,
+            CipherSuite::Aes256CtsHmacSha196 => 18,
+        }
+    }
+}
+
+/// The suite's number, as `etype` in a message (RFC 3962, section 7).
+impl From<CipherSuite> for usize {
+    ghost from_gives = { λ suite number. number ≡ cipher_number suite };
+
+    fn from(suite: CipherSuite) -> usize {
+        usize::from(u8::from(suite))
+    }
+}
+
+/// The keyed checksums (RFC 3962, section 7).
+#[derive(Clone, Copy, Debug, PartialEq, Eq)]
+pub enum ChecksumSuite {
+    /// HMAC-SHA1 cut to 96 bits, with a 128-bit key.
+    HmacSha196Aes128,
+
+    /// HMAC-SHA1 cut to 96 bits, with a 256-bit key.
+    HmacSha196Aes256,
+}
+
+/// The suite's number, as `cksumtype` in a message (RFC 3962, section 7).
+impl From<ChecksumSuite> for u8 {
+    ghost from_gives = { λ suite number. number ≡ checksum_number suite };
+
+    fn from(suite: ChecksumSuite) -> u8 {
+        match suite {
+            ChecksumSuite::HmacSha196Aes128 => 15,
+            ChecksumSuite::HmacSha196Aes256 => 16,
+        }
+    }
+}
+
+/// The suite's number, as `cksumtype` in a message (RFC 3962, section 7).
+impl From<ChecksumSuite> for usize {
+    ghost from_gives = { λ suite number. number ≡ checksum_number suite };
+
+    fn from(suite: ChecksumSuite) -> usize {
+        usize::from(u8::from(suite))
+    }
+}

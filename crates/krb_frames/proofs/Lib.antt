@@ -1,0 +1,6 @@
+pub mod Answering
+pub mod Fronts
+pub mod KnownMoments
+pub mod Progress
+pub mod Turns
+pub mod WholeOutput

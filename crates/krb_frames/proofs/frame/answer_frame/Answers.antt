@@ -1,0 +1,37 @@
+use Rattle.std.proofs.Common.{rules, Some, None, take, sym, subst}
+use Rattle.krb_frames.proofs.Answering.{answered}
+use Rattle.std.proofs.KnownBytes.{Keeps-refl}
+use Rattle.krb_frames.proofs.frame.answer_frame.Goals as goal
+
+pub returns-in-Err-Unreadable-clause-step : goal.returns-in-Err-Unreadable-clause-step
+returns-in-Err-Unreadable-clause-step g c = λ words known.
+    let w = c.in_ok-words.ensures.front words known in (
+      (
+        w.1,
+        subst (λ l. g.A.Responder.replies c.args.responder.now c.args.message.now c.args.moment l None) w.0
+            (c.in-Err-Unreadable.ensures c.in-Err-Unreadable.field-0-is),
+      ),
+      Keeps-refl _,
+    )
+
+pub returns-then-len-gt-FRAME_LIMIT-clause-step : goal.returns-then-len-gt-FRAME_LIMIT-clause-step
+returns-then-len-gt-FRAME_LIMIT-clause-step g c = λ words known.
+    let w = c.in_ok-words.ensures.front words known in (
+      c.in-Ok.reply.items,
+      (
+        w.1,
+        subst (λ l. g.A.Responder.replies c.args.responder.now c.args.message.now c.args.moment l (Some c.in-Ok.reply.items)) w.0
+            c.in-Ok.ensures,
+      ),
+      search rules,
+      Keeps-refl _,
+    )
+
+pub returns-clause-step : goal.returns-clause-step
+returns-clause-step g c = λ words known.
+    let w = c.in_ok-words.ensures.front words known in
+    let reply = c.deref.result.now in
+    let replied = subst (λ l. g.A.Responder.replies c.args.responder.now c.args.message.now c.args.moment l (Some c.in-Ok.reply.items)) w.0 c.in-Ok.ensures in
+    let same = subst (λ l. g.A.Responder.replies c.args.responder.now c.args.message.now c.args.moment (take 128 words) (Some l)) (sym c.deref.ensures.value) replied in
+    answered (g.A.Responder.replies c.args.responder.now) c.args.message.now c.args.moment words reply _ _ _ c.write_frame.result (w.1, same) (search rules) w.2
+    c.write_frame.ensures.written

@@ -1,0 +1,33 @@
+use Rattle.std.proofs.Common.{rules}
+use Rattle.std.proofs.lemmas.Result.{err_from_is_err_and}
+use Rattle.krb_frames.proofs.Fronts.{front_of-nothing, front_of-short, front_of-long, IsFrontFault-after_prefix, front_of-whole, begins}
+use Rattle.krb_frames.proofs.frame.read_frame.Goals as goal
+
+pub returns-then-prefix_count-eq0-clause-front : goal.returns-then-prefix_count-eq0-clause-front
+returns-then-prefix_count-eq0-clause-front g c = λ stream known.
+    front_of-nothing stream _ _ _ (search rules) c.if-prefix_count-eq0.true (c.in_ok-prefix_count.ensures.front stream known)
+
+pub returns-then-prefix_count-lt4-clause-front : goal.returns-then-prefix_count-lt4-clause-front
+returns-then-prefix_count-lt4-clause-front g c = λ stream known.
+    front_of-short stream _ _ _ (search rules) c.if-prefix_count-eq0.false c.if-prefix_count-lt4.true (c.in_ok-prefix_count.ensures.front stream known)
+
+pub returns-then-size-gt-FRAME_LIMIT-clause-front :
+    goal.returns-then-size-gt-FRAME_LIMIT-clause-front
+returns-then-size-gt-FRAME_LIMIT-clause-front g c = λ stream known.
+    let b = begins stream c.fill.new.buffer _ _ c.from_be_bytes-size.result (search rules) c.if-prefix_count-lt4.false c.from_be_bytes-size.ensures (c.in_ok-prefix_count.ensures.front stream known) in
+    front_of-long stream _ _ b (search rules)
+
+pub returns-in_err-message-clause-front : goal.returns-in_err-message-clause-front
+returns-in_err-message-clause-front g c =
+    let r = err_from_is_err_and c.from_residual-in_err-message.result c.from_residual-in_err-message.ensures.1 in
+    rw (r.1, r.2) (λ stream known.
+    let first = c.in_ok-prefix_count.ensures.front stream known in
+    let b = begins stream c.fill.new.buffer _ _ c.from_be_bytes-size.result (search rules) c.if-prefix_count-lt4.false c.from_be_bytes-size.ensures first in
+    IsFrontFault-after_prefix stream _ _ b (search rules) c.in_err-message.field-0.0 c.in_err-message.ensures.faults (c.in_err-message.ensures.front first.rest first.known))
+
+pub returns-clause-front : goal.returns-clause-front
+returns-clause-front g c = λ stream known.
+    let first = c.in_ok-prefix_count.ensures.front stream known in
+    let b = begins stream c.fill.new.buffer _ _ c.from_be_bytes-size.result (search rules) c.if-prefix_count-lt4.false c.from_be_bytes-size.ensures first in
+    let taken = c.in_ok-message.ensures.front first.rest first.known in
+    (taken.rest, taken.known, front_of-whole stream _ _ b (search rules) c.in_ok-message.message.items _ (search rules) taken)

@@ -1,0 +1,20 @@
+use Rattle.krb_frames.proofs.WholeOutput.{served, front-all, same-all, front-longer}
+use Rattle.krb_frames.proofs.laws.output_is_whole.Goals as goal
+
+pub returns-clause-front : goal.returns-clause-front
+returns-clause-front g c = λ responder start all part whole other final w o.
+    let r = g.A.Responder.replies responder in
+    let one = g.met.A.Responder.one_reply responder in
+    front-all r one start all part whole other final (served r one start all whole w) (served r one start part other o)
+
+pub returns-clause-same : goal.returns-clause-same
+returns-clause-same g c = λ responder start all other a b a_final b_final w o.
+    let r = g.A.Responder.replies responder in
+    let one = g.met.A.Responder.one_reply responder in
+    same-all r one start all other a b a_final (served r one start all a w) (served r one start other b o) b_final
+
+pub returns-clause-longer : goal.returns-clause-longer
+returns-clause-longer g c = λ responder start t written result more o run short.
+    let r = g.A.Responder.replies responder in
+    let one = g.met.A.Responder.one_reply responder in
+    front-longer r one start t written result more (served r one start written result o) run short

@@ -1,0 +1,43 @@
+-- Frames: a message behind its length in four bytes, the highest first (RFC 4120 7.2.2).
+use Rattle.std.specs.Prelude.{◌≡◌, ℕ, List, [], ◌∷◌, ◌++◌, length, take, drop, nat_lt, if◌then◌else◌, refl}
+use Rattle.std.specs.Int.{w32, from_be_bytes, to_be_bytes}
+use Rattle.krb_frames.specs.declared.fault.ServeFault.{ServeFault}
+use Rattle.krb_frames.specs.declared.fault.ServeFault.TheVariants.{Truncated, FrameTooLong}
+
+-- the length that the first four bytes of a stream announce
+abbrev pub announced : List ℕ → ℕ
+announced stream = from_be_bytes w32 (take 4 stream)
+
+-- a reply in its frame
+abbrev pub framed : List ℕ → List ℕ
+framed reply = to_be_bytes w32 (length reply) ++ reply
+
+-- what stands at the front of a stream: nothing, no frame, or a whole message with the rest behind it
+pub data Front : Type 0 where
+  Ended : Front
+  Bad : ServeFault → Front
+  Whole : (message rest : List ℕ) → Front
+
+-- a message has at most 65,536 bytes
+abbrev pub front_of : List ℕ → Front
+front_of stream =
+    if nat_lt 0 (length stream) then
+    (if nat_lt (length stream) 4 then Bad Truncated
+    else if nat_lt 65536 (announced stream) then Bad FrameTooLong
+    else if nat_lt (length (drop 4 stream)) (announced stream) then Bad Truncated
+    else Whole (take (announced stream) (drop 4 stream)) (drop (announced stream) (drop 4 stream)))
+    else Ended
+
+-- two bytes in their frame, and a frame with a byte behind it
+framed-example : framed (7 ∷ 8 ∷ []) ≡ 0 ∷ 0 ∷ 0 ∷ 2 ∷ 7 ∷ 8 ∷ []
+framed-example = refl
+
+front_of-example : front_of (0 ∷ 0 ∷ 0 ∷ 2 ∷ 7 ∷ 8 ∷ 9 ∷ []) ≡ Whole (7 ∷ 8 ∷ []) (9 ∷ [])
+front_of-example = refl
+
+-- three bytes are no length, and 65,537 is too long
+truncated-example : front_of (0 ∷ 0 ∷ 0 ∷ []) ≡ Bad Truncated
+truncated-example = refl
+
+long-example : front_of (0 ∷ 1 ∷ 0 ∷ 1 ∷ []) ≡ Bad FrameTooLong
+long-example = refl

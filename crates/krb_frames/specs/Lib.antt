@@ -1,0 +1,4 @@
+pub mod Frames
+pub mod Numbers
+pub mod Serving
+pub mod Steps

@@ -1,0 +1,93 @@
+-- What one step of serving does to its devices.
+use Rattle.std.specs.Prelude.{◌≡◌, ℕ, ◌<◌, ◌≤◌, List, [], ◌++◌, length, take, drop, Option, Some, None, ⊤}
+use Rattle.std.specs.Io.KnownBytes.{Appends, Keeps}
+use Rattle.devices.specs.Counting.{one_more}
+use Rattle.krb_frames.specs.declared.fault.ServeFault.{ServeFault}
+use Rattle.krb_frames.specs.declared.fault.ServeFault.TheVariants.{Truncated, FrameTooLong, NoRequest, Read, Write, NoWords, ReplyTooLong, Memory}
+use Rattle.krb_frames.specs.Frames.{Bad, front_of, framed}
+use Rattle.krb_frames.specs.Serving.{IsReply}
+
+-- a reader's count of failures after a fault, and a writer's
+abbrev pub after_read_fault : ℕ → ServeFault → ℕ
+after_read_fault old Read = one_more old
+after_read_fault old _ = old
+
+abbrev pub after_write_fault : ℕ → ServeFault → ℕ
+after_write_fault old Write = one_more old
+after_write_fault old _ = old
+
+-- the first n bytes of a buffer were read from a stream, and leave these: none where there was more room
+pub record IsFilled (stream : List ℕ) (left : Option (List ℕ)) (buffer : List ℕ) (n : ℕ) : Type 0 where
+  pub rest : List ℕ
+  pub known : left ≡ Some rest
+  pub whole : stream ≡ take n buffer ++ rest
+  pub ends : n < length buffer → rest ≡ []
+
+-- these bytes were read from a stream, and leave the rest
+pub record IsTaken (stream : List ℕ) (left : Option (List ℕ)) (bytes : List ℕ) : Type 0 where
+  pub rest : List ℕ
+  pub known : left ≡ Some rest
+  pub whole : stream ≡ bytes ++ rest
+
+-- the stream's front is why no frame was read
+abbrev pub IsFrontFault : List ℕ → ServeFault → Type 0
+IsFrontFault stream Truncated = front_of stream ≡ Bad Truncated
+IsFrontFault stream FrameTooLong = front_of stream ≡ Bad FrameTooLong
+IsFrontFault stream Read = ⊤
+IsFrontFault stream Memory = ⊤
+IsFrontFault stream _ = ⊥
+
+-- the faults that reading a message may have
+abbrev pub IsMessageFault : ServeFault → Type 0
+IsMessageFault Truncated = ⊤
+IsMessageFault Read = ⊤
+IsMessageFault Memory = ⊤
+IsMessageFault _ = ⊥
+
+-- the faults that reading random bytes may have
+abbrev pub IsWordsFault : ServeFault → Type 0
+IsWordsFault NoWords = ⊤
+IsWordsFault Read = ⊤
+IsWordsFault _ = ⊥
+
+-- the faults that answering a message may have
+abbrev pub IsAnswerFault : ServeFault → Type 0
+IsAnswerFault NoRequest = ⊤
+IsAnswerFault Read = ⊤
+IsAnswerFault Write = ⊤
+IsAnswerFault NoWords = ⊤
+IsAnswerFault ReplyTooLong = ⊤
+IsAnswerFault Memory = ⊤
+IsAnswerFault _ = ⊥
+
+-- the faults that reading a frame may have
+abbrev pub IsReadFault : ServeFault → Type 0
+IsReadFault Truncated = ⊤
+IsReadFault FrameTooLong = ⊤
+IsReadFault Read = ⊤
+IsReadFault Memory = ⊤
+IsReadFault _ = ⊥
+
+-- what was written of a frame, where writing it stopped
+abbrev pub IsWrittenPart : List ℕ → Option (List ℕ) → Option (List ℕ) → ServeFault → Type 0
+IsWrittenPart frame old new Write = (n : ℕ) × Appends old new (take n frame)
+IsWrittenPart frame old new Memory = Keeps old new
+IsWrittenPart frame old new _ = ⊥
+
+module _ (replies : List ℕ → ℕ → List ℕ → Option (List ℕ) → Type 0) where
+  -- a message was answered: its reply was written in a frame, and 128 random bytes were taken
+  abbrev pub IsAnswered : List ℕ → ℕ → List ℕ → Option (List ℕ) → Option (List ℕ) → Option (List ℕ) → Type 0
+  IsAnswered message moment words old new left = (reply : List ℕ) × IsReply replies message moment words (Some reply) × (length reply ≤ 65536)
+      × Appends old new (framed reply) × (left ≡ Some (drop 128 words))
+
+  -- why a message was not answered, and what was written of its reply
+  abbrev pub IsStepFault : List ℕ → ℕ → List ℕ → Option (List ℕ) → Option (List ℕ) → ServeFault → Type 0
+  IsStepFault message moment words old new NoWords = (length words < 128) × Keeps old new
+  IsStepFault message moment words old new NoRequest = IsReply replies message moment words None × Keeps old new
+  IsStepFault message moment words old new ReplyTooLong =
+      (reply : List ℕ) × IsReply replies message moment words (Some reply) × (65536 < length reply) × Keeps old new
+  IsStepFault message moment words old new Write =
+      (reply : List ℕ) × IsReply replies message moment words (Some reply) × (length reply ≤ 65536) × (n : ℕ) × Appends old new (take n (framed reply))
+  IsStepFault message moment words old new Read = Keeps old new
+  IsStepFault message moment words old new Memory = Keeps old new
+  IsStepFault message moment words old new _ = ⊥

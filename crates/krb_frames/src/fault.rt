@@ -1,0 +1,69 @@
+//! Why a message gets no reply, and why serving stops.
+ghost use Rattle.std.specs.Prelude.{◌≡◌};
+
+use thiserror::Error;
+
+/// Why a responder gives no reply.
+#[derive(Clone, Copy, Debug, PartialEq, Eq, Error)]
+pub enum AnswerRefusal {
+    /// The message is no request.
+    #[error("the message is no request")]
+    Unreadable = 1,
+    /// Memory ran out.
+    #[error("out of memory")]
+    Memory = 2,
+}
+
+impl AnswerRefusal {
+    ghost use Rattle.krb_frames.specs.Numbers.{refusal_number};
+
+    /// The refusal's number.
+    pub fn number(self) -> u8
+        ensures { result ≡ refusal_number self }
+    {
+        self as u8
+    }
+}
+
+/// Why serving stopped before the end of the stream. It is shown as its name.
+#[derive(Clone, Copy, Debug, PartialEq, Eq, Error)]
+pub enum ServeFault {
+    /// The stream ended within a frame.
+    #[error("Truncated")]
+    Truncated = 1,
+    /// A frame announces a message of more than 65,536 bytes.
+    #[error("FrameTooLong")]
+    FrameTooLong = 2,
+    /// A message is no request.
+    #[error("NoRequest")]
+    NoRequest = 3,
+    /// The reader of the stream, or of the random bytes, failed.
+    #[error("Read")]
+    Read = 4,
+    /// The writer failed, or took nothing.
+    #[error("Write")]
+    Write = 5,
+    /// Fewer than 128 random bytes were left for a message.
+    #[error("NoWords")]
+    NoWords = 6,
+    /// No moment was left for a message.
+    #[error("NoMoment")]
+    NoMoment = 7,
+    /// A reply has more than 65,536 bytes.
+    #[error("ReplyTooLong")]
+    ReplyTooLong = 8,
+    /// Memory ran out.
+    #[error("Memory")]
+    Memory = 9,
+}
+
+impl ServeFault {
+    ghost use Rattle.krb_frames.specs.Numbers.{fault_number};
+
+    /// The fault's number.
+    pub fn number(self) -> u8
+        ensures { result ≡ fault_number self }
+    {
+        self as u8
+    }
+}

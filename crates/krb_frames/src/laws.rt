@@ -1,0 +1,30 @@
+//! What holds of every run of serving.
+ghost use Rattle.std.specs.Prelude.{◌≡◌, ℕ, ◌≤◌, ◌⊎◌, List, length, map, Result};
+ghost use Rattle.std.specs.List.{concat};
+ghost use Rattle.krb_frames.specs.Frames.{framed};
+ghost use Rattle.krb_frames.specs.Serving.{Left, Run, IsServed, IsFinal, IsFrontOf};
+ghost use Rattle.krb_frames.specs.declared.fault.ServeFault.{ServeFault};
+
+use crate::Responder;
+
+/// Of two runs over the same moments, stream and random bytes, the replies of one are the first
+/// replies of the other. It does nothing when it runs: its contract is the law.
+pub fn runs_agree<A: Responder>()
+    ensures { (responder : A) (start s t : Left) (done more : List (List ℕ)) → Run (A.replies responder) start done s
+        → Run (A.replies responder) start more t → IsFrontOf done more ⊎ IsFrontOf more done }
+{}
+
+/// Where no device and no memory failed, what was written is the one output of these moments, stream
+/// and random bytes, and the answer the one answer. Whatever was written else is a front of it. It
+/// does nothing when it runs: its contract is the law.
+pub fn output_is_whole<A: Responder>()
+    ensures front { (responder : A) (start : Left) (all part : List ℕ) (whole other : Result ℕ ServeFault) → IsFinal whole
+        → IsServed (A.replies responder) start all whole → IsServed (A.replies responder) start part other → IsFrontOf part all }
+    ensures same { (responder : A) (start : Left) (all other : List ℕ) (a b : Result ℕ ServeFault) → IsFinal a → IsFinal b
+        → IsServed (A.replies responder) start all a → IsServed (A.replies responder) start other b → (other ≡ all) × (b ≡ a) }
+
+    // What was written is also a front of the frames of each run that is as long.
+    ensures longer { (responder : A) (start t : Left) (written : List ℕ) (result : Result ℕ ServeFault) (more : List (List ℕ))
+        → IsServed (A.replies responder) start written result → Run (A.replies responder) start more t
+        → length written ≤ length (concat (map framed more)) → IsFrontOf written (concat (map framed more)) }
+{}

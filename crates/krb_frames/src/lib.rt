@@ -1,0 +1,22 @@
+//! Messages in frames: the loop that answers a stream of requests.
+//!
+//! A frame is a message behind its length in four bytes, the highest first (RFC 4120 7.2.2).
+//! [`serve`] reads frames to the end of a stream and writes each reply in a frame of its own. Who
+//! replies is a [`Responder`]. Each message is answered at the next moment and with the next 128
+//! random bytes.
+#![tactic(auto)]
+
+mod fault;
+mod frame;
+mod laws;
+mod responder;
+mod stream;
+
+pub use fault::{AnswerRefusal, ServeFault};
+pub use frame::{FRAME_LIMIT, WORDS_NEEDED};
+pub use laws::{output_is_whole, runs_agree};
+pub use responder::Responder;
+pub use stream::{serve, serve_bytes};
+
+#[cfg(test)]
+mod tests;

@@ -1,0 +1,31 @@
+//! Who replies to messages.
+ghost use Rattle.std.specs.Prelude.{◌≡◌, ℕ, List, Option, None, Some, MatchResult, length};
+
+use crate::AnswerRefusal;
+use krb_moments::Moment;
+use std::alloc::Global;
+
+/// Who replies to messages, each at a moment and with 128 random bytes.
+pub trait Responder {
+    ghost use Rattle.krb_frames.specs.declared.fault.AnswerRefusal.{AnswerRefusal};
+
+    // The reply that a message may have at a moment with these random bytes. None is of bytes that
+    // are no request.
+    ghost replies: { Self → List ℕ → ℕ → List ℕ → Option (List ℕ) → Type 0 };
+
+    /// The reply to `message`. Only `Unreadable` says that it is no request.
+    fn answer(
+        &self,
+        alloc: Global,
+        message: &[u8],
+        moment: Moment,
+        words: &[u8],
+    ) -> Result<Vec<u8>, AnswerRefusal>
+        requires { length words.now ≡ 128 }
+        ensures { MatchResult result (λ reply. replies self.now message.now moment words.now (Some reply.items))
+            (λ refusal. refusal ≡ AnswerRefusal.Unreadable → replies self.now message.now moment words.now None) };
+
+    // A message has at most one reply.
+    ghost one_reply: { (responder : Self) (message : List ℕ) (moment : ℕ) (words : List ℕ) (a b : Option (List ℕ))
+        → replies responder message moment words a → replies responder message moment words b → a ≡ b };
+}

@@ -1,0 +1,83 @@
+//! The loop over the frames of a stream.
+ghost use Rattle.std.specs.Prelude.{◌≡◌, ◌≢◌, ℕ, ◌++◌, List, [], Some, Err, ◌⊎◌};
+ghost use Rattle.std.specs.Iterator.{IsFinite, DrainsIf};
+ghost use Rattle.std.specs.Io.KnownBytes.{Appends};
+ghost use Rattle.devices.specs.Counting.{one_more};
+ghost use Rattle.krb_frames.specs.Serving.{WhereKnown, IsServed, IsFinal, at};
+
+use crate::frame::{answer_frame, read_frame};
+use crate::{Responder, ServeFault};
+use devices::{Sink, Source};
+use krb_moments::Moment;
+use std::alloc::Global;
+
+/// Answers each frame of `reader` in a frame of `writer`, to the end of the stream, and gives how
+/// many were answered, held at the greatest `u64`.
+///
+/// Each message takes the next moment and the next 128 bytes of `words_reader`. A frame's faults
+/// come in this order: the stream ends within it or it is too long, no moment is left, too few
+/// random bytes are left, the message is no request, the reply is too long, the write fails. A fault
+/// leaves the replies before it written, and no part of the next but where the write failed.
+///
+/// A reply is handed to `writer`, in one call where that takes all, before the next frame is read. A
+/// writer that buffers would hold it back.
+pub fn serve<A: Responder, R: Source, W: Sink, M: Iterator<Item = Moment> + Drop, K: Source>(
+    alloc: Global,
+    responder: &A,
+    reader: &mut R,
+    writer: &mut W,
+    mut moments: M,
+    words_reader: &mut K,
+) -> Result<u64, ServeFault>
+    requires can { M.can_next moments }
+    requires ends { IsFinite (M.remaining moments) }
+
+    // What was written and the answer are a run over the moments that were taken, and over any
+    // that may come after them.
+    ensures output { WhereKnown (R.left reader.old) (λ stream. WhereKnown (K.left words_reader.old) (λ words.
+        (taken : List ℕ) × (written : List ℕ) × DrainsIf M.next_gives (result ≡ Err ServeFault.NoMoment) moments taken
+        × Appends (W.written writer.old) (W.written writer.new) written
+        × ((later : List ℕ) → (result ≡ Err ServeFault.NoMoment → later ≡ [])
+        → IsServed (A.replies responder.now) (at (taken ++ later) stream words) written result))) }
+    ensures read_failed { result ≡ Err ServeFault.Read
+        → (R.failed reader.new ≡ one_more (R.failed reader.old)) ⊎ (K.failed words_reader.new ≡ one_more (K.failed words_reader.old)) }
+    ensures write_failed { result ≡ Err ServeFault.Write → W.failed writer.new ≡ one_more (W.failed writer.old) }
+{
+    let mut answered = 0u64;
+    'frames: while let Some(message) = read_frame(alloc, reader)? {
+        let Some(moment) = moments.next() else {
+            return Err(ServeFault::NoMoment);
+        };
+        answer_frame(alloc, responder, &message, moment, words_reader, writer)?;
+        answered = answered.saturating_add(1);
+    }
+    Ok(answered)
+}
+
+/// Answers each frame of a stream in memory, as [`serve`] does, with these moments and random bytes.
+/// The replies' frames are appended to `replies`.
+pub fn serve_bytes<A: Responder>(
+    alloc: Global,
+    responder: &A,
+    stream: &[u8],
+    moments: &[Moment],
+    words: &[u8],
+    replies: &mut Vec<u8>,
+) -> Result<u64, ServeFault>
+    ensures output { (written : List ℕ) × (replies.new.items ≡ replies.old.items ++ written)
+        × IsServed (A.replies responder.now) (at moments.now stream.now words.now) written result }
+
+    // Bytes in memory never fail.
+    ensures devices { result ≢ Err ServeFault.Memory → IsFinal result }
+{
+    let mut reader = stream;
+    let mut words_reader = words;
+    serve(
+        alloc,
+        responder,
+        &mut reader,
+        replies,
+        moments.iter().copied(),
+        &mut words_reader,
+    )
+}

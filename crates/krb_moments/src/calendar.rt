@@ -1,0 +1,70 @@
+//! Moments on the calendar.
+ghost use Rattle.std.specs.Prelude.{◌≡◌, ◌≢◌, ◌+◌, ◌*◌, ◌/◌, ◌%◌, ◌<◌, MatchOption};
+ghost use Rattle.picky_asn1.specs.declared.date.GeneralizedTime.{GeneralizedTime as Time};
+ghost use Rattle.picky_asn1.specs.GeneralizedTime.{time_text, seconds_of};
+ghost use Rattle.krb_moments.specs.Calendar.{IsMomentOfText};
+
+use crate::Moment;
+use picky_asn1::date::GeneralizedTime;
+
+const MICROSECONDS_IN_SECOND: u64 = 1_000_000;
+
+impl Moment {
+    /// The beginning of the second that the 15 characters `YYYYMMDDHHMMSSZ` name, none where they name no
+    /// time of the calendar.
+    pub fn from_text(text: &[u8]) -> Option<Moment>
+        ensures { MatchOption
+            result
+            ((time : Time) → time_text time ≢ text.now)
+            (IsMomentOfText text.now) }
+    {
+        let time = GeneralizedTime::from_text(text)?;
+        Some(Moment::at(time, 0))
+    }
+
+    /// The moment that many microseconds after the beginning of a second.
+    pub fn at(time: GeneralizedTime, microsecond: u32) -> Moment
+        requires { microsecond < 1000000 }
+        ensures { result ≡ seconds_of time * 1000000 + microsecond }
+    {
+        Moment::new(time.seconds() * MICROSECONDS_IN_SECOND + microsecond as u64).unwrap()
+    }
+
+    /// The second that the moment lies in.
+    pub fn second(self) -> GeneralizedTime
+        ensures { seconds_of result ≡ self / 1000000 }
+    {
+        GeneralizedTime::from_seconds(self.micros() / MICROSECONDS_IN_SECOND)
+    }
+
+    /// The microseconds since that second began, below 1,000,000.
+    pub fn microsecond(self) -> u32
+        ensures value { result ≡ self % 1000000 }
+        ensures in_range { result < 1000000 }
+    {
+        (self.micros() % MICROSECONDS_IN_SECOND) as u32
+    }
+}
+
+#[cfg(test)]
+mod tests {
+    use crate::Moment;
+    use std::test::Fail;
+
+    #[test]
+    fn moments(rt: HostRuntime) -> Result<(), Fail> {
+        let new_year = Moment::from_text(b"20000101000000Z").ok_or("2000-01-01")?;
+        assert_eq!(rt; new_year.micros(), 63_113_904_000_000_000);
+        assert!(rt; Moment::from_text(b"20000101000060Z").is_none());
+        let last = Moment::new(315_569_519_999_999_999).ok_or("the last moment")?;
+        assert_eq!(rt;
+            last.second().to_text().as_slice(),
+            b"99991231235959Z".as_slice()
+        );
+        assert_eq!(rt; last.microsecond(), 999_999);
+        assert_eq!(rt; Moment::at(last.second(), 999_999), last);
+        assert!(rt; Moment::new(315_569_520_000_000_000).is_none());
+        assert!(rt; new_year < last);
+        Ok(())
+    }
+}

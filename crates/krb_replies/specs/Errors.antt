@@ -1,0 +1,51 @@
+-- The error message of a realm (RFC 4120 5.9.1).
+use Rattle.std.specs.Prelude.{◌≡◌, ℕ, ◌/◌, ◌%◌, List, [], ◌∷◌, Option, None, Some, codes, pos}
+use Rattle.std.proofs.Common.{sym, ◌∙◌}
+use Rattle.asn1_trees.specs.Tree.{der}
+use Rattle.picky_asn1.specs.declared.date.GeneralizedTime.{GeneralizedTime}
+use Rattle.picky_asn1.specs.GeneralizedTime.{seconds_of}
+use Rattle.picky_asn1.proofs.TimeLemmas.{seconds_of-injective}
+use Rattle.picky_krb.specs.declared.messages.kdc_req.KdcReq.{KdcReq}
+use Rattle.picky_krb.specs.declared.messages.krb_error.KrbErrorInner.{KrbErrorInner}
+use Rattle.picky_krb.specs.declared.data_types.principal_name.PrincipalName.{PrincipalName}
+use Rattle.krb_replies.specs.One.{IsSole}
+use Rattle.krb_replies.specs.Messages.{krb_error_tree}
+
+-- the ticket-granting service of a realm (RFC 4120 7.3), of name type 2
+abbrev pub ticket_service : List ℕ → PrincipalName
+ticket_service realm = record {
+  name_type = record { 0 = pos 2 };
+  name_string = record { 0 = codes "krbtgt" ∷ realm ∷ [] };
+}
+
+-- the components of a name
+abbrev pub components : PrincipalName → List (List ℕ)
+components name = name.name_string.0
+
+-- the error with this code, at a time and its microseconds, about a service; no optional field
+abbrev pub error_of : List ℕ → GeneralizedTime → ℕ → PrincipalName → ℕ → KrbErrorInner
+error_of realm time microseconds service code = record {
+  pvno = record { 0 = pos 5 };
+  msg_type = record { 0 = pos 30 };
+  ctime = record { 0 = None };
+  cusec = record { 0 = None };
+  stime = record { 0 = record { 0 = time } };
+  susec = record { 0 = pos microseconds };
+  error_code = record { 0 = code };
+  crealm = record { 0 = None };
+  cname = record { 0 = None };
+  realm = record { 0 = realm };
+  sname = record { 0 = service };
+  e_text = record { 0 = None };
+  e_data = record { 0 = None };
+}
+
+abbrev pub error_bytes : List ℕ → GeneralizedTime → ℕ → PrincipalName → ℕ → List ℕ
+error_bytes realm time microseconds service code = der (krb_error_tree (error_of realm time microseconds service code))
+
+-- the time is the second of the moment
+abbrev pub IsSecondOf : ℕ → GeneralizedTime → Type 0
+IsSecondOf moment time = seconds_of time ≡ moment / 1000000
+
+pub sole_second : (moment : ℕ) → IsSole (IsSecondOf moment)
+sole_second moment t u p q = seconds_of-injective t u (p ∙ sym q)

@@ -1,0 +1,50 @@
+//! Writing errors.
+ghost use Rattle.std.specs.Prelude.{◌≡◌, ◌<◌, ◌^◌, IfOk};
+ghost use Rattle.krb_replies.specs.Errors.{error_bytes};
+
+use picky_asn1::date::GeneralizedTime;
+use picky_asn1::wrapper::{GeneralStringAsn1, GeneralizedTimeAsn1, IntegerAsn1};
+use picky_asn1_der::{ApplicationTag, ExplicitContextTag, Optional, to_vec};
+use picky_krb::data_types::PrincipalName;
+use picky_krb::messages::{KrbError, KrbErrorInner};
+use std::alloc::{AllocError, Global};
+
+// A Kerberos message's version and the type of an error (RFC 4120 5.9.1).
+const VERSION: u64 = 5;
+
+const ERROR_TYPE: u64 = 30;
+
+/// The encoding of an error with this code, at a time and its microseconds, about a service (RFC 4120 5.9.1).
+pub fn error_reply(
+    alloc: Global,
+    realm: GeneralStringAsn1,
+    time: GeneralizedTime,
+    microseconds: u32,
+    service: PrincipalName,
+    code: u32,
+) -> Result<Vec<u8>, AllocError>
+    ensures { IfOk result (λ bytes. bytes.items ≡ error_bytes realm time microseconds service code) }
+{
+    let version = IntegerAsn1::from_u64(alloc, VERSION)?;
+    let kind = IntegerAsn1::from_u64(alloc, ERROR_TYPE)?;
+    let susec = IntegerAsn1::from_u64(alloc, microseconds as u64)?;
+    let error: KrbError = ApplicationTag(KrbErrorInner {
+        pvno: ExplicitContextTag(version),
+        msg_type: ExplicitContextTag(kind),
+        ctime: Optional(None),
+        cusec: Optional(None),
+        stime: ExplicitContextTag(GeneralizedTimeAsn1(time)),
+        susec: ExplicitContextTag(susec),
+        error_code: ExplicitContextTag(code),
+        crealm: Optional(None),
+        cname: Optional(None),
+        realm: ExplicitContextTag(realm),
+        sname: ExplicitContextTag(service),
+        e_text: Optional(None),
+        e_data: Optional(None),
+    });
+    let Ok(bytes) = to_vec(alloc, &error) else {
+        return Err(AllocError);
+    };
+    Ok(bytes)
+}

@@ -1,0 +1,4 @@
+pub mod BitLemmas
+pub mod CalendarLemmas
+pub mod IntegerLemmas
+pub mod TimeLemmas

@@ -1,0 +1,9 @@
+pub mod BitString
+pub mod Calendar
+pub mod GeneralizedTime
+pub mod GeneralString
+pub mod Integer
+pub mod IntegerLaws
+pub mod Leaf
+pub mod TimeLaws
+pub mod BitStringLaws

@@ -1,0 +1,163 @@
+//! Strings of bits.
+ghost use Rattle.std.specs.Prelude.{◌≡◌, ◌≢◌, ℕ, min, ◌<◌, ◌==◌, length, if◌then◌else◌, IfOk};
+ghost use Rattle.std.specs.Int.{bit_at};
+ghost use Rattle.picky_asn1.specs.BitString.{Bits, is_bit_string, IsBitString, bit_count, bit_of, bit_content};
+ghost use Rattle.picky_asn1.specs.Leaf.{Makes, Decodes};
+
+use crate::LeafFault;
+use std::alloc::{AllocError, Global};
+use std::marker::Model;
+
+/// A BIT STRING (X.690 8.6 and 11.2). A contract sees its octets and how many bits of the last are unused.
+#[derive(Drop, Debug)]
+pub struct BitStringAsn1 {
+    octets: Vec<u8>,
+    unused: u8,
+}
+
+impl Model for BitStringAsn1 {
+    ghost use Rattle.picky_asn1.specs.BitString.{Bits, IsBitString};
+
+    ghost Value = { Bits };
+
+    ghost view = { λ s. record { octets = s.octets.items; unused = s.unused } };
+
+    ghost invariant = { λ s. IsBitString (record { octets = s.octets.items; unused = s.unused }) };
+}
+
+impl BitStringAsn1 {
+    /// The bits of the octets but for the last `unused`, which are at most 7 and all zero, and none where
+    /// there are no octets; else `LeafFault::Bits`.
+    pub fn new(alloc: Global, octets: &[u8], unused: u8) -> Result<BitStringAsn1, LeafFault>
+        ensures { let bits : Bits = record { octets = octets.now; unused = unused } in
+            Makes (IsBitString bits) LeafFault.Bits bits result }
+    {
+        if !is_bit_string(octets, unused) {
+            return Err(LeafFault::Bits);
+        }
+        let octets = Vec::from_slice(alloc, octets)?;
+        Ok(BitStringAsn1 { octets, unused })
+    }
+
+    /// Reads the content octets of an element, none where they are no bit string's.
+    pub fn from_content(alloc: Global, content: &[u8]) -> Result<Option<BitStringAsn1>, AllocError>
+        ensures { IfOk result (Decodes IsBitString bit_content content.now) }
+    {
+        match content {
+            [unused, octets @ ..] if is_bit_string(octets, *unused) => {
+                let octets = Vec::from_slice(alloc, octets)?;
+                Ok(Some(BitStringAsn1 {
+                    octets,
+                    unused: *unused,
+                }))
+            }
+            _ => Ok(None),
+        }
+    }
+
+    /// How many bits there are, held at `usize`'s greatest value.
+    pub fn len(&self) -> usize
+        ensures { result ≡ min (bit_count self.now) usize.MAX }
+    {
+        let count = 8 * self.octets.len() as u128 - self.unused as u128;
+        count.min(usize::MAX as u128) as usize
+    }
+
+    /// Whether there are no bits.
+    pub fn is_empty(&self) -> bool
+        ensures { result ≡ (bit_count self.now == 0) }
+    {
+        self.octets.is_empty()
+    }
+
+    /// Bit `i`, counted from the most significant of the first octet. A missing bit is 0.
+    pub fn bit(&self, i: usize) -> bool
+        ensures { result ≡ bit_of self.now i }
+    {
+        match self.octets.get(i / 8) {
+            Some(octet) => (octet >> (7 - i % 8)) & 1 == 1,
+            None => false,
+        }
+    }
+
+    /// Sets bit `i` to `value`.
+    pub fn set(&mut self, i: usize, value: bool)
+        requires { i < bit_count self.old }
+        ensures bits { (k : ℕ) → bit_of self.new k ≡ (if k == i then value else bit_of self.old k) }
+        ensures len { length self.new.octets ≡ length self.old.octets }
+        ensures unused { self.new.unused ≡ self.old.unused }
+    {
+        let octet = self.octets[i / 8];
+        self.octets[i / 8] = with_bit(octet, 7 - i % 8, value);
+    }
+
+    /// The octets. The unused bits of the last are zero.
+    pub fn as_bytes(&self) -> &[u8]
+        ensures value { result.now ≡ self.now.octets }
+        ensures valid { IsBitString self.now }
+    {
+        self.octets.as_slice()
+    }
+
+    /// How many bits of the last octet are unused.
+    pub fn unused(&self) -> u8
+        ensures { result ≡ self.now.unused }
+    {
+        self.unused
+    }
+
+    /// A copy.
+    pub fn clone(&self, alloc: Global) -> Result<BitStringAsn1, AllocError>
+        ensures { IfOk result (λ s. s ≡ self.now) }
+    {
+        let octets = Vec::from_slice(alloc, self.as_bytes())?;
+        Ok(BitStringAsn1 {
+            octets,
+            unused: self.unused,
+        })
+    }
+}
+
+impl PartialEq for BitStringAsn1 {
+    ghost use Rattle.std.specs.Bool.{nat_eq};
+    ghost use Rattle.std.specs.Cmp.Lexicographic.{pointwise};
+    ghost use Rattle.std.specs.Cmp.Rules.{comparing};
+    ghost use Rattle.std.specs.Ordering.{on};
+    ghost use Rattle.std.proofs.lemmas.Cmp.{nat_list_eq_equiv};
+    ghost use Rattle.std.proofs.Common.{rules};
+    ghost use Rattle.picky_asn1.specs.BitString.{bit_content};
+
+    ghost eq = { on bit_content (pointwise nat_eq) };
+
+    ghost laws = { Prim.search (comparing, nat_list_eq_equiv, rules) };
+
+    fn eq(&self, other: &BitStringAsn1) -> bool {
+        self.unused == other.unused && self.as_bytes() == other.as_bytes()
+    }
+}
+
+impl Eq for BitStringAsn1 {
+    ghost use Rattle.std.specs.Cmp.Rules.{comparing};
+    ghost use Rattle.std.proofs.Common.{rules};
+
+    ghost laws = { Prim.search (comparing, rules) };
+}
+
+fn is_bit_string(octets: &[u8], unused: u8) -> bool
+    ensures { result ≡ is_bit_string (record { octets = octets.now; unused = unused }) }
+{
+    match octets.last() {
+        Some(last) => unused <= 7 && last % (1 << unused) == 0,
+        None => unused == 0,
+    }
+}
+
+// The octet with the bit at `place`, counted from the least significant, set to `value`.
+fn with_bit(octet: u8, place: usize, value: bool) -> u8
+    requires { place < 8 }
+    ensures at_place { bit_at result place ≡ (if value then 1 else 0) }
+    ensures elsewhere { (k : ℕ) → k < 8 → k ≢ place → bit_at result k ≡ bit_at octet k }
+{
+    let mask = 1u8 << place;
+    if value { octet | mask } else { octet & !mask }
+}

@@ -1,0 +1,205 @@
+//! Whole numbers.
+ghost use Rattle.std.specs.Prelude.{◌≡◌, ◌≢◌, ◌<◌, ◌≤◌, ℤ, pos, map, length, slice_index, nat_le, if◌then◌else◌, IfOk, MatchOption, SomeIff, FitsSigned};
+ghost use Rattle.std.specs.Int.{w64};
+ghost use Rattle.std.specs.Int.Digits.{number_from_digits};
+ghost use Rattle.picky_asn1.specs.Integer.{complement, is_integer, IsInteger, integer_value, integer_content};
+ghost use Rattle.picky_asn1.specs.Leaf.{Makes};
+
+use crate::LeafFault;
+use std::alloc::{AllocError, Global};
+use std::marker::Model;
+
+/// An INTEGER of any size and sign (X.690 8.3). A contract sees a whole number.
+#[derive(Drop, Debug)]
+pub struct IntegerAsn1 {
+    octets: Vec<u8>,
+}
+
+impl Model for IntegerAsn1 {
+    ghost use Rattle.std.specs.Prelude.{◌≡◌, ℤ};
+    ghost use Rattle.picky_asn1.specs.Integer.{integer_content, integer_value};
+
+    ghost Value = { ℤ };
+
+    ghost view = { λ z. integer_value z.octets.items };
+
+    ghost invariant = { λ z. integer_content (integer_value z.octets.items) ≡ z.octets.items };
+}
+
+impl IntegerAsn1 {
+    /// The number whose two's complement the octets are, or `LeafFault::Integer` where there are none, or
+    /// more than the number needs.
+    pub fn new(alloc: Global, octets: &[u8]) -> Result<IntegerAsn1, LeafFault>
+        ensures { Makes (IsInteger octets.now) LeafFault.Integer (integer_value octets.now) result }
+    {
+        if !is_integer(octets) {
+            return Err(LeafFault::Integer);
+        }
+        Ok(IntegerAsn1::from_octets(alloc, octets)?)
+    }
+
+    /// Reads the content octets of an element, none where they are no integer's.
+    pub fn from_content(alloc: Global, content: &[u8]) -> Result<Option<IntegerAsn1>, AllocError>
+        ensures { IfOk result (λ read. MatchOption
+            read
+            ((z : ℤ) → integer_content z ≢ content.now)
+            (λ z. integer_content z ≡ content.now)) }
+    {
+        if !is_integer(content) {
+            return Ok(None);
+        }
+        Ok(Some(IntegerAsn1::from_octets(alloc, content)?))
+    }
+
+    /// The number whose two's complement the octets are, the most significant first, or
+    /// `LeafFault::Integer` where there are none. Octets that the number doesn't need are left out.
+    pub fn from_bytes_be_signed(alloc: Global, octets: &[u8]) -> Result<IntegerAsn1, LeafFault>
+        ensures { Makes (0 < length octets.now) LeafFault.Integer (integer_value octets.now) result }
+    {
+        if octets.is_empty() {
+            return Err(LeafFault::Integer);
+        }
+        Ok(IntegerAsn1::from_octets(alloc, shortest(octets))?)
+    }
+
+    /// The number whose digits to the base 256 the octets are, the most significant first.
+    pub fn from_bytes_be_unsigned(alloc: Global, octets: &[u8]) -> Result<IntegerAsn1, AllocError>
+        ensures { IfOk result (λ z. z ≡ pos (number_from_digits 256 octets.now)) }
+    {
+        let mut signed = Vec::new(alloc);
+        signed.push(0)?;
+        signed.extend_from_slice(octets)?;
+        IntegerAsn1::from_octets(alloc, shortest(signed.as_slice()))
+    }
+
+    /// The number.
+    pub fn from_u64(alloc: Global, value: u64) -> Result<IntegerAsn1, AllocError>
+        ensures { IfOk result (λ z. z ≡ pos value) }
+    {
+        let mut octets = [0; 9];
+        octets[1..].copy_from_slice(&value.to_be_bytes());
+        IntegerAsn1::from_octets(alloc, shortest(&octets))
+    }
+
+    /// The number 0.
+    pub fn default(alloc: Global) -> Result<IntegerAsn1, AllocError>
+        ensures { IfOk result (λ z. z ≡ pos 0) }
+    {
+        IntegerAsn1::from_u64(alloc, 0)
+    }
+
+    fn from_octets(alloc: Global, octets: &[u8]) -> Result<IntegerAsn1, AllocError>
+        requires { IsInteger octets.now }
+        ensures value { IfOk result (λ z. z ≡ integer_value octets.now) }
+        ensures content { IfOk result (λ z. integer_content z ≡ octets.now) }
+    {
+        let octets = Vec::from_slice(alloc, octets)?;
+        Ok(IntegerAsn1 { octets })
+    }
+
+    /// The number as an `i64`, where it is one.
+    pub fn to_i64(&self) -> Option<i64>
+        ensures { SomeIff result (FitsSigned w64 self.now) self.now }
+    {
+        let octets = self.octets.as_slice();
+        if octets.len() > 8 {
+            return None;
+        }
+        if is_negative(octets) {
+            Some(-1 - number_of(octets, true) as i64)
+        } else {
+            Some(number_of(octets, false) as i64)
+        }
+    }
+
+    /// The number's two's complement in the fewest octets, the most significant first.
+    pub fn as_signed_bytes_be(&self) -> &[u8]
+        ensures { result.now ≡ integer_content self.now }
+    {
+        self.octets.as_slice()
+    }
+
+    /// A copy.
+    pub fn clone(&self, alloc: Global) -> Result<IntegerAsn1, AllocError>
+        ensures { IfOk result (λ z. z ≡ self.now) }
+    {
+        let octets = Vec::from_slice(alloc, self.octets.as_slice())?;
+        Ok(IntegerAsn1 { octets })
+    }
+}
+
+impl PartialEq for IntegerAsn1 {
+    ghost use Rattle.std.specs.Ordering.{int_eq};
+    ghost use Rattle.std.specs.Cmp.Rules.{comparing};
+    ghost use Rattle.std.proofs.Common.{rules};
+
+    ghost eq = { int_eq };
+
+    ghost laws = { Prim.search (comparing, rules) };
+
+    fn eq(&self, other: &IntegerAsn1) -> bool {
+        self.octets == other.octets
+    }
+}
+
+impl Eq for IntegerAsn1 {
+    ghost use Rattle.std.specs.Cmp.Rules.{comparing};
+    ghost use Rattle.std.proofs.Common.{rules};
+
+    ghost laws = { Prim.search (comparing, rules) };
+}
+
+// Whether the octets are the fewest for their number (X.690 8.3.2).
+fn is_integer(octets: &[u8]) -> bool
+    ensures { result ≡ is_integer octets.now }
+{
+    match octets {
+        [] => false,
+        [_] => true,
+        [0, second, ..] => *second >= 128,
+        [255, second, ..] => *second < 128,
+        _ => true,
+    }
+}
+
+fn is_negative(octets: &[u8]) -> bool
+    ensures { result ≡ nat_le 128 (slice_index octets.now 0) }
+{
+    match octets {
+        [first, ..] => *first >= 128,
+        [] => false,
+    }
+}
+
+// The fewest of the octets that stand for the same number.
+fn shortest(octets: &[u8]) -> &[u8]
+    requires { 0 < length octets.now }
+    ensures minimal { IsInteger result.now }
+    ensures value { integer_value result.now ≡ integer_value octets.now }
+{
+    let mut rest = octets;
+    while !is_integer(rest) {
+        rest = &rest[1..];
+    }
+    rest
+}
+
+// The number whose digits to the base 256 the octets are, or their complements.
+fn number_of(octets: &[u8], complemented: bool) -> u64
+    requires { length octets.now ≤ 8 }
+    ensures { result
+        ≡ number_from_digits 256 (if complemented then map complement octets.now else octets.now) }
+{
+    let mut number = 0;
+    for octet in octets {
+        let digit = digit_of(*octet, complemented);
+        number = number * 256 + digit as u64;
+    }
+    number
+}
+
+fn digit_of(octet: u8, complemented: bool) -> u8
+    ensures { result ≡ (if complemented then complement octet else octet) }
+{
+    if complemented { 255 - octet } else { octet }
+}

@@ -1,0 +1,78 @@
+//! Strings of octets.
+ghost use Rattle.std.specs.Prelude.{◌≡◌, IfOk};
+ghost use Rattle.std.specs.Bool.{nat_eq};
+ghost use Rattle.std.specs.Cmp.Lexicographic.{pointwise};
+ghost use Rattle.std.proofs.lemmas.Cmp.{nat_list_eq_equiv};
+ghost use Rattle.std.proofs.Common.{rules};
+
+use std::alloc::{AllocError, Global};
+use std::marker::Model;
+
+/// An OCTET STRING (X.690 8.7): any octets. A contract sees their list.
+#[derive(Drop, Debug)]
+pub struct OctetStringAsn1 {
+    octets: Vec<u8>,
+}
+
+impl Model for OctetStringAsn1 {
+    ghost use Rattle.std.specs.Prelude.{ℕ, List};
+
+    ghost Value = { List ℕ };
+
+    ghost view = { λ s. s.octets.items };
+}
+
+impl OctetStringAsn1 {
+    /// A copy of the octets.
+    pub fn new(alloc: Global, octets: &[u8]) -> Result<OctetStringAsn1, AllocError>
+        ensures { IfOk result (λ s. s ≡ octets.now) }
+    {
+        let octets = Vec::from_slice(alloc, octets)?;
+        Ok(OctetStringAsn1 { octets })
+    }
+
+    /// The octets.
+    pub fn as_bytes(&self) -> &[u8]
+        ensures { result.now ≡ self.now }
+    {
+        self.octets.as_slice()
+    }
+
+    /// A copy.
+    pub fn clone(&self, alloc: Global) -> Result<OctetStringAsn1, AllocError>
+        ensures { IfOk result (λ s. s ≡ self.now) }
+    {
+        OctetStringAsn1::new(alloc, self.as_bytes())
+    }
+}
+
+impl From<Vec<u8>> for OctetStringAsn1 {
+    ghost from_gives = { λ octets s. s ≡ octets.items };
+
+    fn from(octets: Vec<u8>) -> OctetStringAsn1 {
+        OctetStringAsn1 { octets }
+    }
+}
+
+impl From<OctetStringAsn1> for Vec<u8> {
+    ghost from_gives = { λ s octets. octets.items ≡ s };
+
+    fn from(string: OctetStringAsn1) -> Vec<u8> {
+        let OctetStringAsn1 { octets } = string;
+        octets
+    }
+}
+
+impl PartialEq for OctetStringAsn1 {
+    ghost eq = { pointwise nat_eq };
+
+    ghost laws = { Prim.search (nat_list_eq_equiv, rules) };
+
+    fn eq(&self, other: &OctetStringAsn1) -> bool {
+        self.as_bytes() == other.as_bytes()
+    }
+}
+
+impl Eq for OctetStringAsn1 {
+    ghost laws = { nat_list_eq_equiv };
+}

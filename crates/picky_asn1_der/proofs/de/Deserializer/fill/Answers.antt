@@ -1,0 +1,17 @@
+use Rattle.std.proofs.Common.{◌≡◌, List, [], length, inr, sym, ap, ◌∙◌, arith, take, ◌<◌, ◌≤◌, length-take}
+use Rattle.picky_asn1_der.specs.Reading.{IsCount}
+use Rattle.picky_asn1_der.specs.Peeking.{left_of}
+use Rattle.picky_asn1_der.proofs.Chain.{refused-own, missing-short, left-consumed}
+use Rattle.picky_asn1_der.proofs.de.Deserializer.fill.Goals as goal
+
+pub returns-then-count-octets : goal.returns-then-count-octets
+returns-then-count-octets g c =
+    let read = c.in-Ok.ensures in
+    let after = c.refuse.ensures.after in
+    let same : length c.read_full.new.buffer ≡ length c.args.octets.now = c.read_full.auto.buffer in
+    let taken = take c.in-Ok.count c.read_full.new.buffer in
+    let short : length taken < length c.args.octets.now = omega (arith, length-take c.in-Ok.count c.read_full.new.buffer) in
+    refused-own (IsCount (length c.args.octets.now)) c.args.self.now _ _ _ c.in_ok-ready.ensures (ap (λ r. r.failed) after)
+    (ap (λ r. r.faults) after ∙ read.count ∙ ap (λ r. r.faults) c.self.view_is) c.refuse.ensures.fault
+    (inr (missing-short (IsCount (length c.args.octets.now)) (length c.args.octets.now) c.args.self.now (left_of g.R.Source.left c.read_full.new.reader) taken (λ bytes p. omega arith)
+    (left-consumed c.args.self.now (left_of g.R.Source.left c.self.inside.reader) _ taken (ap (λ r. r.left) (sym c.self.view_is)) read.bytes) (read.end c.if-count-octets.true) short))

@@ -1,0 +1,11 @@
+pub mod Reading
+pub mod Writing
+pub use Rattle.asn1_trees.specs.Length
+pub use Rattle.asn1_trees.specs.Tree
+pub use Rattle.asn1_trees.specs.Firsts
+pub mod Peeking
+pub mod Ends
+pub mod Reads
+pub mod Fields
+pub mod Unsigned
+pub mod UnsignedLaws

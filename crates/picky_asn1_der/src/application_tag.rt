@@ -1,0 +1,50 @@
+//! Values under an application tag.
+ghost use Rattle.std.specs.Prelude.{◌≡◌, ℕ, ◌+◌, ◌%◌, MatchResult};
+ghost use Rattle.asn1_trees.specs.Tree.{Tree, wrapped};
+ghost use Rattle.asn1_trees.specs.Firsts.{only};
+
+use crate::de::{Deserialize, Deserializer};
+use crate::error::Asn1DerError;
+use crate::ser::{Serialize, Serializer};
+use devices::{Sink, Source};
+
+/// A value under the constructed application tag `TAG` (X.690, 8.14), which is below 31.
+#[derive(Clone, Copy, Debug, Drop, PartialEq, Eq)]
+pub struct ApplicationTag<V, const TAG: u8>(pub V);
+
+impl<V, const TAG: u8> From<V> for ApplicationTag<V, TAG> {
+    ghost from_gives = { λ value made. made.0 ≡ value };
+
+    fn from(value: V) -> Self {
+        ApplicationTag(value)
+    }
+}
+
+impl<V: Serialize, const TAG: u8> Serialize for ApplicationTag<V, TAG> {
+    ghost use Rattle.asn1_trees.proofs.Spelling.{wrapped-begins, wrapped-injective};
+
+    ghost tree = { λ value. wrapped (96 + TAG % 32) (V.tree value.0) };
+
+    ghost firsts = { only (96 + TAG % 32) };
+
+    ghost begins = { λ value. wrapped-begins (96 + TAG % 32) (V.tree value.0) };
+
+    ghost injective = { λ v w whole also e.
+        let same = wrapped-injective (96 + TAG % 32) V.tree V.injective v.0 w.0 whole also e
+        in λ i. record { 0 = same i } };
+
+    fn serialize<W: Sink>(&self, to: &mut Serializer<W>) -> Result<usize, Asn1DerError> {
+        to.wrapped(96 + TAG % 32, &self.0)
+    }
+}
+
+impl<V: Deserialize, const TAG: u8> Deserialize for ApplicationTag<V, TAG> {
+    fn may_start(first: u8) -> bool {
+        first == 96 + TAG % 32
+    }
+
+    fn deserialize<R: Source>(from: &mut Deserializer<R>) -> Result<Self, Asn1DerError> {
+        let value = from.wrapped(96 + TAG % 32)?;
+        Ok(ApplicationTag(value))
+    }
+}

@@ -1,0 +1,352 @@
+//! Reading values.
+ghost use Rattle.std.specs.Prelude.{◌≡◌, ℕ, ◌+◌, ◌-◌, ◌^◌, ◌<◌, ◌≤◌, List, [], ◌∷◌, ◌++◌, length, MatchResult, MatchOption, IfOk, IsTrue, false, true, Some};
+ghost use Rattle.std.specs.Prelude.{◌↔◌, Result, Ok, Err, ◌⊎◌};
+ghost use Rattle.asn1_trees.specs.Tree.{Tree, Trees, AreWhole, wrapped, der, ders};
+ghost use Rattle.asn1_trees.specs.Length.{element, length_octets};
+ghost use Rattle.asn1_trees.specs.Firsts.{may_begin};
+ghost use Rattle.picky_asn1_der.specs.Reads.{Reads, ReadsAll};
+ghost use Rattle.picky_asn1_der.specs.Reading.{TookValue, Refused, IsLastSpelling};
+
+use crate::error::Asn1DerError;
+use crate::fields::{End, Field, Fields};
+use crate::peek::{PeekableReader, read_octet};
+use crate::ser::Serialize;
+use asn1_trees::{following, length_of};
+use devices::{Source, read_full};
+use std::alloc::Global;
+use std::marker::Model;
+
+/// A value that is read from its one DER spelling.
+pub trait Deserialize: Serialize + Sized + Drop {
+    ghost use Rattle.picky_asn1_der.specs.Reading.{Reading, TookValue, IsSpelling, Refused};
+
+    /// Whether a value may begin with this identifier octet.
+    fn may_start(first: u8) -> bool
+        ensures { result ≡ may_begin Self.firsts first };
+
+    /// Reads a value, and takes just its spelling. After a refusal the deserializer answers `InvalidData`
+    /// from then on.
+    fn deserialize<R: Source>(from: &mut Deserializer<R>) -> Result<Self, Asn1DerError>
+        ensures { MatchResult result
+            (λ value. TookValue Self.tree value from.old from.new)
+            (λ fault. Refused (IsSpelling Self.tree) from.old from.new fault) };
+}
+
+/// A reader of DER from any source, up to a limit.
+///
+/// The limit is the end of the content that is being read: there is no stack of open elements.
+#[derive(Drop)]
+pub struct Deserializer<R: Source> {
+    alloc: Global,
+    reader: PeekableReader<R>,
+    limit: usize,
+    failed: bool,
+}
+
+impl<R: Source> Model for Deserializer<R> {
+    ghost use Rattle.std.specs.Prelude.{◌<◌, ◌^◌};
+    ghost use Rattle.picky_asn1_der.specs.Reading.{Reading};
+    ghost use Rattle.picky_asn1_der.specs.Peeking.{left_of, failed_of};
+
+    ghost Value = { Reading };
+
+    ghost view = { λ d. record {
+      left = left_of R.left d.reader;
+      limit = d.limit;
+      failed = d.failed;
+      faults = failed_of R.failed d.reader;
+    } };
+
+    ghost invariant = { λ d. d.limit < 2 ^ 64 };
+}
+
+impl<'a> Deserializer<&'a [u8]> {
+    ghost use Rattle.picky_asn1_der.specs.Reading.{whole_input};
+
+    /// A deserializer of the values in `input`, one after another.
+    pub fn new_from_bytes(alloc: Global, input: &'a [u8]) -> Self
+        ensures { result ≡ whole_input input.now }
+    {
+        Deserializer {
+            alloc,
+            limit: input.len(),
+            reader: PeekableReader::new(input),
+            failed: false,
+        }
+    }
+}
+
+impl<R: Source> Deserializer<R> {
+    ghost use Rattle.picky_asn1_der.specs.Reading.{Reading, Took, TookNone, TookValue, IsSpelling, TookFields, AreFields, Refused, IsOctet, IsCount, HasOctets, IsElement, IsLength, IsList, Tells, within, stopped};
+
+    /// Refuses for `fault`, and gives it back: from now on each call answers `InvalidData`.
+    ///
+    /// A type's `deserialize` calls it where what was taken breaks a rule of the type's own.
+    pub fn refuse(&mut self, fault: Asn1DerError) -> Asn1DerError
+        ensures after { self.new ≡ stopped self.old }
+        ensures fault { result ≡ fault }
+    {
+        self.failed = true;
+        fault
+    }
+
+    /// Answers `InvalidData` after a refusal.
+    pub(crate) fn ready(&self) -> Result<(), Asn1DerError>
+        ensures { MatchResult result
+            (λ _. self.now.failed ≡ false)
+            (λ fault. (fault ≡ Asn1DerError.InvalidData) × (self.now.failed ≡ true)) }
+    {
+        if self.failed {
+            Err(Asn1DerError::InvalidData)
+        } else {
+            Ok(())
+        }
+    }
+
+    /// Takes one octet.
+    fn take_octet(&mut self) -> Result<u8, Asn1DerError>
+        ensures { MatchResult result
+            (λ octet. Took (octet ∷ []) self.old self.new)
+            (λ fault. Refused IsOctet self.old self.new fault) }
+    {
+        self.ready()?;
+        if self.limit == 0 {
+            return Err(self.refuse(Asn1DerError::TruncatedData));
+        }
+        match read_octet(&mut self.reader) {
+            Ok(Some(octet)) => {
+                self.limit -= 1;
+                Ok(octet)
+            }
+            Ok(None) => Err(self.refuse(Asn1DerError::TruncatedData)),
+            Err(kind) => Err(self.refuse(Asn1DerError::Other(kind))),
+        }
+    }
+
+    /// Looks at the next octet, of which there is one.
+    fn peek(&mut self) -> Result<u8, Asn1DerError>
+        ensures { MatchResult result
+            (λ octet. TookNone self.old self.new × ((bytes : List ℕ) (first : ℕ)
+            → self.old.left ≡ Some (first ∷ bytes) → first ≡ octet))
+            (λ fault. Refused HasOctets self.old self.new fault) }
+    {
+        self.ready()?;
+        match self.reader.peek_one() {
+            Ok(Some(octet)) => Ok(octet),
+            Ok(None) => Err(self.refuse(Asn1DerError::TruncatedData)),
+            Err(kind) => Err(self.refuse(Asn1DerError::Other(kind))),
+        }
+    }
+
+    /// Takes `count` octets.
+    fn take_octets(&mut self, count: usize) -> Result<Vec<u8>, Asn1DerError>
+        requires { count ≤ self.old.limit }
+        ensures { MatchResult result
+            (λ octets. Took octets.items self.old self.new × (length octets.items ≡ count))
+            (λ fault. Refused (IsCount count) self.old self.new fault) }
+    {
+        self.ready()?;
+        let mut octets = match vec![in self.alloc; 0u8; count] {
+            Ok(octets) => octets,
+            Err(_) => return Err(self.refuse(Asn1DerError::Memory)),
+        };
+        self.fill(&mut octets)?;
+        Ok(octets)
+    }
+
+    /// Takes as many octets as `octets` has room for.
+    fn fill(&mut self, octets: &mut [u8]) -> Result<(), Asn1DerError>
+        requires { length octets.old ≤ self.old.limit }
+        ensures { MatchResult result
+            (λ _. Took octets.new self.old self.new)
+            (λ fault. Refused (IsCount (length octets.old)) self.old self.new fault) }
+    {
+        self.ready()?;
+        match read_full(&mut self.reader, octets) {
+            Ok(count) => {
+                if count < octets.len() {
+                    return Err(self.refuse(Asn1DerError::TruncatedData));
+                }
+                self.limit -= count;
+                Ok(())
+            }
+            Err(kind) => Err(self.refuse(Asn1DerError::Other(kind))),
+        }
+    }
+
+    /// Takes length octets, and gives the length. Only a length below the limit is wanted.
+    fn take_length(&mut self) -> Result<usize, Asn1DerError>
+        ensures { MatchResult result
+            (λ count. Took (length_octets count) self.old self.new)
+            (λ fault. Refused (IsLength self.old.limit) self.old self.new fault) }
+    {
+        let first = self.take_octet()?;
+        let room = self.limit;
+        let Some(more) = following(first) else {
+            return Err(self.refuse(Asn1DerError::InvalidData));
+        };
+        if room < more {
+            return Err(self.refuse(Asn1DerError::TruncatedData));
+        }
+        let mut octets = [first; 9];
+        self.fill(&mut octets[1..1 + more])?;
+        match length_of(&octets[..1 + more]) {
+            Some(count) => Ok(count),
+            None => Err(self.refuse(Asn1DerError::InvalidData)),
+        }
+    }
+
+    /// Takes the identifier octet `tag` and length octets, and gives the length, which lies within the limit.
+    fn open(&mut self, tag: u8) -> Result<usize, Asn1DerError>
+        ensures { MatchResult result
+            (λ count. Took (tag ∷ length_octets count) self.old self.new × (count ≤ self.new.limit))
+            (λ fault. Refused (IsElement tag) self.old self.new fault) }
+    {
+        let first = self.take_octet()?;
+        if first != tag {
+            return Err(self.refuse(Asn1DerError::InvalidData));
+        }
+        let count = self.take_length()?;
+        if self.limit < count {
+            return Err(self.refuse(Asn1DerError::TruncatedData));
+        }
+        Ok(count)
+    }
+
+    /// Lowers the limit to `count`, and gives what lies behind.
+    fn enter(&mut self, count: usize) -> usize
+        requires { count ≤ self.old.limit }
+        ensures inside { self.new ≡ within count self.old }
+        ensures outside { result + count ≡ self.old.limit }
+    {
+        let outside = self.limit - count;
+        self.limit = count;
+        outside
+    }
+
+    /// Raises the limit to `outside`, from which `enter` lowered it.
+    fn leave(&mut self, outside: usize)
+        ensures { self.new ≡ within outside self.old }
+    {
+        self.limit = outside;
+    }
+
+    /// Takes an element with the identifier octet `tag`, and gives its content (X.690, 8.1).
+    pub fn content(&mut self, tag: u8) -> Result<Vec<u8>, Asn1DerError>
+        ensures { MatchResult result
+            (λ content. Took (element tag content.items) self.old self.new)
+            (λ fault. Refused (IsElement tag) self.old self.new fault) }
+    {
+        let count = self.open(tag)?;
+        let content = self.take_octets(count)?;
+        Ok(content)
+    }
+
+    /// Takes a constructed element with the identifier octet `tag`, whose content is these fields.
+    pub fn list<F: Fields>(&mut self, tag: u8) -> Result<F, Asn1DerError>
+        requires { IsTrue F.sound }
+        ensures { MatchResult result
+            (λ fields. AreWhole (F.trees fields) × Took (element tag (ders (F.trees fields))) self.old self.new)
+            (λ fault. Refused (IsList tag F.trees) self.old self.new fault) }
+    {
+        let count = self.open(tag)?;
+        let outside = self.enter(count);
+        let fields = F::read(self)?;
+        self.leave(outside);
+        Ok(fields)
+    }
+
+    /// Takes a value under the further identifier octet `tag`.
+    pub fn wrapped<T: Deserialize>(&mut self, tag: u8) -> Result<T, Asn1DerError>
+        ensures { MatchResult result
+            (λ value. TookValue (λ v. wrapped tag (T.tree v)) value self.old self.new)
+            (λ fault. Refused (IsSpelling (λ v. wrapped tag (T.tree v))) self.old self.new fault) }
+    {
+        let fields: Field<T, End> = self.list(tag)?;
+        let Field(value, End) = fields;
+        Ok(value)
+    }
+
+    /// Whether bytes are left up to the limit.
+    pub(crate) fn remains(&self) -> bool
+        ensures { IsTrue result ↔ (1 ≤ self.now.limit) }
+    {
+        self.limit > 0
+    }
+
+    /// What memory is taken from.
+    pub fn allocator(&self) -> Global {
+        self.alloc
+    }
+
+    /// Whether the next octet begins a value of `T`: not at the limit.
+    pub fn starts<T: Deserialize>(&mut self) -> Result<bool, Asn1DerError>
+        ensures { MatchResult result
+            (λ answer. TookNone self.old self.new × Tells T.firsts answer self.old)
+            (λ fault. Refused (IsCount self.old.limit) self.old self.new fault) }
+    {
+        self.ready()?;
+        if self.limit == 0 {
+            return Ok(false);
+        }
+        let first = self.peek()?;
+        Ok(T::may_start(first))
+    }
+
+    /// Refuses where bytes are left up to the limit.
+    pub fn finish(&mut self) -> Result<(), Asn1DerError>
+        ensures { MatchResult result
+            (λ _. (self.new ≡ self.old) × (self.old.failed ≡ false) × (self.old.limit ≡ 0))
+            (λ fault. Refused (λ bytes. (bytes ≡ []) × (length bytes ≡ self.old.limit)) self.old self.new fault) }
+    {
+        self.ready()?;
+        if self.limit != 0 {
+            return Err(self.refuse(Asn1DerError::InvalidData));
+        }
+        Ok(())
+    }
+}
+
+/// Reads the value whose spelling begins `input`; what stands behind it stays unread.
+pub fn from_bytes<T: Deserialize>(alloc: Global, input: &[u8]) -> Result<T, Asn1DerError>
+    ensures { Reads T.tree input.now result }
+{
+    let mut from = Deserializer::new_from_bytes(alloc, input);
+    match T::deserialize(&mut from) {
+        Ok(value) => Ok(value),
+        Err(fault) => {
+            // The proof looks into the reader here: bytes in memory count no failure, so none is answered.
+            let _ = &from.reader;
+            Err(fault)
+        }
+    }
+}
+
+/// Reads the value whose spelling is all of `input`.
+pub fn from_exact_bytes<T: Deserialize>(alloc: Global, input: &[u8]) -> Result<T, Asn1DerError>
+    ensures { ReadsAll T.tree input.now result }
+{
+    let mut from = Deserializer::new_from_bytes(alloc, input);
+    match read_last(&mut from) {
+        Ok(value) => Ok(value),
+        Err(fault) => {
+            // The proof looks into the reader here: bytes in memory count no failure, so none is answered.
+            let _ = &from.reader;
+            Err(fault)
+        }
+    }
+}
+
+/// Reads a value, behind which nothing is left up to the limit.
+fn read_last<T: Deserialize, R: Source>(from: &mut Deserializer<R>) -> Result<T, Asn1DerError>
+    ensures { MatchResult result
+        (λ value. TookValue T.tree value from.old from.new × (from.new.limit ≡ 0))
+        (λ fault. Refused (IsLastSpelling T.tree from.old.limit) from.old from.new fault) }
+{
+    let value = T::deserialize(from)?;
+    from.finish()?;
+    Ok(value)
+}
+
+#[cfg(test)]
+mod tests;

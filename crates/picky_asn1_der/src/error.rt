@@ -1,0 +1,48 @@
+//! Why a value was not read or written.
+
+use std::io::ErrorKind;
+use thiserror::Error;
+
+/// A rule of a value's own type, which its content breaks.
+#[derive(Clone, Copy, Debug, PartialEq, Eq)]
+pub enum Rule {
+    /// What an INTEGER is (X.690 8.3).
+    Integer,
+    /// What an OBJECT IDENTIFIER is (X.690 8.19).
+    ObjectIdentifier,
+    /// What a BIT STRING is (X.690 11.2).
+    BitString,
+    /// The characters of a string type (X.680 41).
+    Characters,
+    /// What a time is (X.690 11.7 and 11.8).
+    Time,
+}
+
+/// Why a value was not read or written. They count from 1 to 8, in this order.
+#[derive(Clone, Copy, Debug, PartialEq, Eq, Error)]
+pub enum Asn1DerError {
+    /// The input ended inside a value.
+    #[error("the input ends inside a value")]
+    TruncatedData,
+    /// The bytes are no canonical DER of the wanted type; also each call after a refused one.
+    #[error("the bytes are no canonical DER of the wanted type")]
+    InvalidData,
+    /// The value is beyond what the type holds.
+    #[error("the value is beyond what the type holds")]
+    UnsupportedValue,
+    /// The type has no DER here.
+    #[error("the type has no DER here")]
+    UnsupportedType,
+    /// The sink takes no more bytes; also each call after a failed one.
+    #[error("the sink takes no more bytes")]
+    InvalidSink,
+    /// A rule of the value's own type was broken.
+    #[error("the content breaks the rule of its type: {0:?}")]
+    Message(Rule),
+    /// The device failed.
+    #[error("the device failed: {0:?}")]
+    Other(ErrorKind),
+    /// The memory could not grow.
+    #[error("out of memory")]
+    Memory,
+}
