@@ -1,1 +1,3 @@
+pub mod Derivation
+pub mod Sealing
 pub mod Suites

@@ -1,7 +1,9 @@
 //! The suites, and the numbers that name them in messages.
 
 ghost use Rattle.std.specs.Prelude.{◌≡◌};
-ghost use Rattle.krb_crypto.specs.Suites.{checksum_number, cipher_key_size, cipher_number};
+ghost use Rattle.krb_crypto.specs.Suites.{IsChecksumOf, IsCipherOf, IsCipherOfByte, checksum_number, cipher_key_size, cipher_number};
+
+use krb_blocks::KerberosCryptoError;
 
 /// The ways to encrypt (RFC 3962, section 7).
 #[derive(Clone, Copy, Debug, PartialEq, Eq)]
@@ -46,6 +48,54 @@ impl From<CipherSuite> for usize {
     }
 }
 
+/// The suite's number, as `etype` in a message (RFC 3962, section 7).
+impl From<&CipherSuite> for u8 {
+    ghost from_gives = { λ suite number. number ≡ cipher_number suite.now };
+
+    fn from(suite: &CipherSuite) -> u8 {
+        u8::from(*suite)
+    }
+}
+
+/// The suite's number, as `etype` in a message (RFC 3962, section 7).
+impl From<&CipherSuite> for u32 {
+    ghost from_gives = { λ suite number. number ≡ cipher_number suite.now };
+
+    fn from(suite: &CipherSuite) -> u32 {
+        u32::from(u8::from(*suite))
+    }
+}
+
+/// The suite that has this number.
+impl TryFrom<usize> for CipherSuite {
+    type Error = KerberosCryptoError;
+
+    ghost try_from_gives = { λ number result. IsCipherOf number result };
+
+    fn try_from(number: usize) -> Result<CipherSuite, KerberosCryptoError> {
+        match number {
+            17 => Ok(CipherSuite::Aes128CtsHmacSha196),
+            18 => Ok(CipherSuite::Aes256CtsHmacSha196),
+            _ => Err(KerberosCryptoError::AlgorithmIdentifier(number)),
+        }
+    }
+}
+
+/// The suite whose number is the one byte.
+impl TryFrom<&[u8]> for CipherSuite {
+    type Error = KerberosCryptoError;
+
+    ghost try_from_gives = { λ bytes result. IsCipherOfByte bytes.now result };
+
+    fn try_from(bytes: &[u8]) -> Result<CipherSuite, KerberosCryptoError> {
+        match bytes {
+            [17] => Ok(CipherSuite::Aes128CtsHmacSha196),
+            [18] => Ok(CipherSuite::Aes256CtsHmacSha196),
+            _ => Err(KerberosCryptoError::AlgorithmIdentifierData(bytes.len())),
+        }
+    }
+}
+
 /// The keyed checksums (RFC 3962, section 7).
 #[derive(Clone, Copy, Debug, PartialEq, Eq)]
 pub enum ChecksumSuite {
@@ -74,5 +124,47 @@ impl From<ChecksumSuite> for usize {
 
     fn from(suite: ChecksumSuite) -> usize {
         usize::from(u8::from(suite))
+    }
+}
+
+/// The suite's number, as `cksumtype` in a message (RFC 3962, section 7).
+impl From<ChecksumSuite> for u32 {
+    ghost from_gives = { λ suite number. number ≡ checksum_number suite };
+
+    fn from(suite: ChecksumSuite) -> u32 {
+        u32::from(u8::from(suite))
+    }
+}
+
+/// The suite's number, as `cksumtype` in a message (RFC 3962, section 7).
+impl From<&ChecksumSuite> for u8 {
+    ghost from_gives = { λ suite number. number ≡ checksum_number suite.now };
+
+    fn from(suite: &ChecksumSuite) -> u8 {
+        u8::from(*suite)
+    }
+}
+
+/// The suite's number, as `cksumtype` in a message (RFC 3962, section 7).
+impl From<&ChecksumSuite> for u32 {
+    ghost from_gives = { λ suite number. number ≡ checksum_number suite.now };
+
+    fn from(suite: &ChecksumSuite) -> u32 {
+        u32::from(u8::from(*suite))
+    }
+}
+
+/// The checksum that has this number.
+impl TryFrom<usize> for ChecksumSuite {
+    type Error = KerberosCryptoError;
+
+    ghost try_from_gives = { λ number result. IsChecksumOf number result };
+
+    fn try_from(number: usize) -> Result<ChecksumSuite, KerberosCryptoError> {
+        match number {
+            15 => Ok(ChecksumSuite::HmacSha196Aes128),
+            16 => Ok(ChecksumSuite::HmacSha196Aes256),
+            _ => Err(KerberosCryptoError::AlgorithmIdentifier(number)),
+        }
     }
 }

@@ -79,6 +79,18 @@ impl<'a> Deserializer<&'a [u8]> {
 impl<R: Source> Deserializer<R> {
     ghost use Rattle.picky_asn1_der.specs.Reading.{Reading, Took, TookNone, TookValue, IsSpelling, TookFields, AreFields, Refused, IsOctet, IsCount, HasOctets, IsElement, IsLength, IsList, Tells, within, stopped};
 
+    /// A deserializer of the values that `reader` gives, which takes at most `limit` bytes.
+    pub fn new_from_reader(alloc: Global, reader: R, limit: usize) -> Self
+        ensures { result ≡ record { left = R.left reader; limit = limit; failed = false; faults = R.failed reader } }
+    {
+        Deserializer {
+            alloc,
+            reader: PeekableReader::new(reader),
+            limit,
+            failed: false,
+        }
+    }
+
     /// Refuses for `fault`, and gives it back: from now on each call answers `InvalidData`.
     ///
     /// A type's `deserialize` calls it where what was taken breaks a rule of the type's own.
@@ -347,6 +359,3 @@ fn read_last<T: Deserialize, R: Source>(from: &mut Deserializer<R>) -> Result<T,
     from.finish()?;
     Ok(value)
 }
-
-#[cfg(test)]
-mod tests;

@@ -1,0 +1,73 @@
+"""Measures the program that is its argument beside python's own libraries: see sealing.sh."""
+import hashlib
+import subprocess
+import sys
+import time
+
+PROGRAM = sys.argv[1]
+KEYS = 40
+MEGABYTES = 8
+ROUNDS_OF_ALL = 3
+
+
+def timed(work):
+    """The shortest time of a few runs, and what the last one gave."""
+    best = None
+    for _ in range(ROUNDS_OF_ALL):
+        start = time.perf_counter()
+        outcome = work()
+        passed = time.perf_counter() - start
+        best = passed if best is None else min(best, passed)
+    return best, outcome
+
+
+def program(task, times):
+    """The time of so many steps without that of none, and what was printed."""
+    run = lambda n: subprocess.run([PROGRAM, task, str(n)], capture_output=True, text=True, check=True).stdout.strip()
+    none, _ = timed(lambda: run(0))
+    some, printed = timed(lambda: run(times))
+    return some - none, printed
+
+
+def hashlib_keys():
+    key = b"password"
+    for _ in range(KEYS):
+        key = hashlib.pbkdf2_hmac("sha1", key, b"EXAMPLE.COMtest1", 4096, 32)
+    return key.hex()
+
+
+def cryptography_cts():
+    from cryptography.hazmat.primitives.ciphers import Cipher, algorithms, modes
+
+    text = bytes(1_000_000)
+    for _ in range(MEGABYTES):
+        cipher = Cipher(algorithms.AES(b"a key of AES-128"), modes.CBC(bytes(16))).encryptor()
+        chain = cipher.update(text) + cipher.finalize()
+        text = chain[:-32] + chain[-16:] + chain[-32:-16]
+    return text[-32:].hex()
+
+
+def row(name, unit, amount, ours, theirs, other):
+    here, printed = ours
+    line = f"{name:<24} here {amount / here:9.1f} {unit}"
+    if theirs is None:
+        print(f"{line}   {other} is not at hand")
+        return True
+    there, wanted = theirs
+    print(f"{line}   {other} {amount / there:9.1f} {unit}   here/there {there / here:.2f}")
+    if printed != wanted:
+        print(f"{name}: here {printed}, there {wanted}")
+    return printed == wanted
+
+
+def main():
+    same = row("PBKDF2, 4,096 rounds", "keys/s", KEYS, program("key", KEYS), timed(hashlib_keys), "hashlib")
+    try:
+        theirs = timed(cryptography_cts)
+    except ImportError:
+        theirs = None
+    same = row("AES-128 CTS, 1 MB", "MB/s", MEGABYTES, program("cts", MEGABYTES), theirs, "cryptography") and same
+    return 0 if same else 1
+
+
+sys.exit(main())

@@ -1,0 +1,3 @@
+pub mod DerivationLemmas
+pub mod DerivedKeys
+pub mod SealingLemmas

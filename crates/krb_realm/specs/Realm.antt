@@ -1,0 +1,45 @@
+-- A realm: its name, its settings, and a finite map from component lists to accounts.
+use Rattle.std.specs.Prelude.{◌≡◌, ◌⊎◌, ℕ, Bool, true, false, not, ◌==◌, List, [], ◌∷◌, length, Option, None, Some, Result, Ok, Err, codes, if◌then◌else◌}
+use Rattle.std.specs.FinMap as finite
+use Rattle.krb_crypto.specs.declared.suite.CipherSuite.{CipherSuite}
+use Rattle.krb_crypto.specs.Suites.{cipher_key_size}
+use Rattle.krb_accounts.specs.Account.{AccountRecord}
+use Rattle.krb_accounts.specs.Accounts.{AccountMap, name_cmp}
+use Rattle.krb_accounts.specs.Names.{is_realm_name, are_components}
+use Rattle.krb_accounts.specs.Settings.{SettingsRecord}
+use Rattle.krb_accounts.specs.declared.refusal.RealmRefusal.{RealmRefusal}
+use Rattle.krb_accounts.specs.declared.refusal.RealmRefusal.TheVariants.{BadName, BadKeyLength, Exists, Memory}
+
+pub record RealmState : Type 0 where
+  pub name : List ℕ
+  pub settings : SettingsRecord
+  pub accounts : AccountMap
+
+-- the components of a realm's ticket-granting service (RFC 4120 7.3)
+abbrev pub krbtgt_of : List ℕ → List (List ℕ)
+krbtgt_of name = codes "krbtgt" ∷ name ∷ []
+
+-- an account by a first key
+abbrev pub first_key : CipherSuite → List ℕ → AccountRecord
+first_key suite key = record { suite = suite; key = key; number = 1; salt = None }
+
+-- whether a realm of this name is made with this key, in the order of refusals
+abbrev pub making : List ℕ → CipherSuite → List ℕ → Result (Unit {0}) RealmRefusal
+making name suite key =
+    if not (is_realm_name name) then Err BadName
+    else (if not (length key == cipher_key_size suite) then Err BadKeyLength else Ok tt)
+
+-- the realm with its ticket-granting service's account alone
+abbrev pub made : List ℕ → CipherSuite → List ℕ → SettingsRecord → RealmState
+made name suite key settings = record {
+  name = name;
+  settings = settings;
+  accounts = finite.insert finite.empty (krbtgt_of name) (first_key suite key);
+}
+
+-- whether an account is added by a key, in the order of refusals
+abbrev pub adding : AccountMap → List (List ℕ) → CipherSuite → List ℕ → Result (Unit {0}) RealmRefusal
+adding accounts name suite key =
+    if not (are_components name) then Err BadName
+    else (if not (length key == cipher_key_size suite) then Err BadKeyLength
+    else (if finite.contains_key accounts name then Err Exists else Ok tt))

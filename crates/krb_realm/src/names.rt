@@ -1,0 +1,66 @@
+//! The name of a realm's ticket-granting service.
+ghost use Rattle.std.specs.Prelude.{◌≡◌, IfOk, codes};
+ghost use Rattle.krb_realm.specs.Realm.{krbtgt_of};
+ghost use Rattle.krb_replies.specs.AsTable.{given};
+ghost use Rattle.krb_replies.specs.Errors.{ticket_service};
+ghost use Rattle.krb_replies.specs.Replies.{named_service};
+
+use picky_asn1::wrapper::{Asn1SequenceOf, GeneralStringAsn1, IntegerAsn1};
+use picky_asn1_der::{ExplicitContextTag, ExplicitContextTag3};
+use picky_krb::constants::types::NT_SRV_INST;
+use picky_krb::data_types::PrincipalName;
+use std::alloc::{AllocError, Global};
+
+/// The components of the ticket-granting service of a realm (RFC 4120 7.3).
+pub(crate) fn krbtgt_of(
+    alloc: Global,
+    realm: &GeneralStringAsn1,
+) -> Result<Vec<GeneralStringAsn1>, AllocError>
+    ensures { IfOk result (λ name. name.items ≡ krbtgt_of realm.now) }
+{
+    let first = service_text(alloc)?;
+    let second = realm.clone(alloc)?;
+    let mut name = Vec::with_capacity(alloc, 2)?;
+    name.push(first)?;
+    name.push(second)?;
+    Ok(name)
+}
+
+/// The ticket-granting service of a realm, as messages name it (RFC 4120 7.3).
+pub(crate) fn ticket_service(
+    alloc: Global,
+    realm: &GeneralStringAsn1,
+) -> Result<PrincipalName, AllocError>
+    ensures { IfOk result (λ name. name ≡ ticket_service realm.now) }
+{
+    let kind = IntegerAsn1::from_u64(alloc, NT_SRV_INST as u64)?;
+    let name = krbtgt_of(alloc, realm)?;
+    Ok(PrincipalName {
+        name_type: ExplicitContextTag(kind),
+        name_string: ExplicitContextTag(Asn1SequenceOf::from(name)),
+    })
+}
+
+/// The service that an error names: the request's, or the realm's ticket-granting service.
+pub(crate) fn named_service(
+    alloc: Global,
+    named: Option<ExplicitContextTag3<PrincipalName>>,
+    realm: &GeneralStringAsn1,
+) -> Result<PrincipalName, AllocError>
+    ensures { IfOk result (λ service. service ≡ named_service realm.now (given (λ tagged. tagged.0) named)) }
+{
+    if let Some(tagged) = named {
+        return Ok(tagged.0);
+    }
+    let service = ticket_service(alloc, realm)?;
+    Ok(service)
+}
+
+fn service_text(alloc: Global) -> Result<GeneralStringAsn1, AllocError>
+    ensures { IfOk result (λ text. text ≡ codes "krbtgt") }
+{
+    match GeneralStringAsn1::new(alloc, b"krbtgt") {
+        Ok(text) => Ok(text),
+        Err(_) => Err(AllocError),
+    }
+}

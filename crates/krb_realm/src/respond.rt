@@ -1,0 +1,25 @@
+//! A realm as the responder of a frame loop.
+
+use crate::Realm;
+use krb_frames::{AnswerRefusal, Responder};
+use krb_moments::Moment;
+use std::alloc::Global;
+
+impl Responder for Realm {
+    ghost use Rattle.krb_accounts.specs.Accounts.{look_in};
+    ghost use Rattle.krb_replies.specs.Replies.{Replies, one_reply};
+
+    ghost replies = { λ realm message moment words reply. Replies realm.name (look_in realm.accounts) moment message reply };
+
+    ghost one_reply = { λ realm message moment words. one_reply realm.name (look_in realm.accounts) moment message };
+
+    fn answer(
+        &self,
+        alloc: Global,
+        message: &[u8],
+        moment: Moment,
+        words: &[u8],
+    ) -> Result<Vec<u8>, AnswerRefusal> {
+        Realm::answer(self, alloc, message, moment, words)
+    }
+}

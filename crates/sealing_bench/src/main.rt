@@ -1,0 +1,45 @@
+//! Derives keys from passwords, or seals a megabyte, as often as the arguments say, so that the time can be taken from
+//! outside (bench/sealing.sh). What it prints is the same each time.
+#![tactic(auto)]
+
+use anyhow::bail;
+use krb_blocks::{AesSize, encrypt_aes_cts};
+use krb_digests::pbkdf2_hmac_sha1;
+use std::alloc::Global;
+use std::env;
+
+const KEY: [u8; 16] = *b"a key of AES-128";
+
+fn main(rt: HostRuntime) -> anyhow::Result<()> {
+    let mut words = env::args(&rt)?.skip(1);
+    let (Some(task), Some(times)) = (words.next(), words.next()) else {
+        bail!("usage: sealing_bench key|cts TIMES");
+    };
+    let times = times.parse::<u32>()?;
+    let last = match task.as_str() {
+        "key" => derived(rt.alloc(), times)?,
+        "cts" => sealed(rt.alloc(), times)?,
+        _ => bail!("neither key nor cts: {task}"),
+    };
+    let end = &last[last.len().saturating_sub(32)..];
+    println!(rt; "{}", hex::encode(rt.alloc(), end)?)?;
+    Ok(())
+}
+
+/// A key of 32 bytes after 4,096 rounds, then one with that key as its password, and so on.
+fn derived(alloc: Global, times: u32) -> anyhow::Result<Vec<u8>> {
+    let mut key = Vec::from_slice(alloc, b"password")?;
+    for _ in 0..times {
+        key = pbkdf2_hmac_sha1(alloc, &key, b"EXAMPLE.COMtest1", 4096, 32)?;
+    }
+    Ok(key)
+}
+
+/// A megabyte of zeros sealed by AES-128 with ciphertext stealing, the outcome sealed again, and so on.
+fn sealed(alloc: Global, times: u32) -> anyhow::Result<Vec<u8>> {
+    let mut text = vec![in alloc; 0u8; 1_000_000]?;
+    for _ in 0..times {
+        text = encrypt_aes_cts(alloc, &KEY, &text, &AesSize::Aes128)?;
+    }
+    Ok(text)
+}

@@ -1,0 +1,9 @@
+//! Worked rows of the standards and of recorded runs, over the crates below.
+#![tactic(auto)]
+
+#[cfg(test)]
+mod commands;
+#[cfg(test)]
+mod der;
+#[cfg(test)]
+mod first_path;
