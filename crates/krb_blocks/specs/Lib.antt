@@ -4,3 +4,4 @@ pub mod Aes
 pub mod AesSize
 pub mod Chains
 pub mod Worked
+pub mod Numbers

@@ -6,7 +6,7 @@ ghost use Rattle.krb_blocks.specs.declared.error.KerberosCryptoError.TheVariants
 use std::alloc::{AllocError, AllocFailed};
 use thiserror::Error;
 
-/// Why a cryptographic call was refused.
+/// Why a cryptographic call was refused. The refusals are numbered from 1 to 10, in this order.
 #[derive(Debug, Drop, Error)]
 pub enum KerberosCryptoError {
     /// The key's bytes, and those wanted.
@@ -51,6 +51,28 @@ pub enum KerberosCryptoError {
 }
 
 pub type KerberosCryptoResult<T> = Result<T, KerberosCryptoError>;
+
+impl KerberosCryptoError {
+    ghost use Rattle.krb_blocks.specs.Numbers.{refusal_number};
+
+    /// The refusal's number.
+    pub fn number(&self) -> u8
+        ensures { result ≡ refusal_number self.now }
+    {
+        match self {
+            KerberosCryptoError::KeyLength(..) => 1,
+            KerberosCryptoError::CipherLength(..) => 2,
+            KerberosCryptoError::AlgorithmIdentifier(_) => 3,
+            KerberosCryptoError::AlgorithmIdentifierData(_) => 4,
+            KerberosCryptoError::IntegrityCheck => 5,
+            KerberosCryptoError::CipherError(_) => 6,
+            KerberosCryptoError::CipherUnpad => 7,
+            KerberosCryptoError::CipherPad => 8,
+            KerberosCryptoError::SeedBitLen(_) => 9,
+            KerberosCryptoError::Memory => 10,
+        }
+    }
+}
 
 impl From<AllocError> for KerberosCryptoError {
     ghost from_gives = { λ _ e. e ≡ Memory };

@@ -1,5 +1,6 @@
-ghost use Rattle.std.specs.Prelude.{◌≡◌, ℕ, SomeIff};
+ghost use Rattle.std.specs.Prelude.{◌≡◌, ◌≤◌, ℕ, SomeIff};
 ghost use Rattle.krb_moments.specs.Moment.{IsMoment};
+ghost use Rattle.krb_moments.specs.Skew.{is_far};
 
 use std::marker::Model;
 
@@ -41,5 +42,15 @@ impl Moment {
         ensures in_range { IsMoment self }
     {
         self.micros
+    }
+    /// Whether the two moments differ by more than the skew, which is in microseconds, a day at most (RFC 4120,
+    /// section 5.9.1, KRB_AP_ERR_SKEW).
+    pub fn is_far_from(self, other: Moment, skew: u64) -> bool
+        requires { skew ≤ 86400000000 }
+        ensures { result ≡ is_far skew self other }
+    {
+        let moment = self.micros();
+        let other = other.micros();
+        skew + moment < other || skew + other < moment
     }
 }

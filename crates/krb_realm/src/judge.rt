@@ -2,10 +2,11 @@
 ghost use Rattle.std.specs.Prelude.{◌≡◌, Err};
 ghost use Rattle.std.specs.Option.{option_copied};
 ghost use Rattle.krb_accounts.specs.Accounts.{look_in};
-ghost use Rattle.krb_replies.specs.AsTable.{as_table, is_number, is_same, has_refused_option, is_postdated, account_of, client_of, service_of};
+ghost use Rattle.krb_replies.specs.AsTable.{as_table, has_refused_option, is_postdated, account_of, client_of, service_of};
 
 use krb_accounts::{Account, Accounts};
-use picky_asn1::wrapper::{BitStringAsn1, GeneralStringAsn1, IntegerAsn1};
+use krb_rules::{is_number, is_same_realm};
+use picky_asn1::wrapper::{BitStringAsn1, GeneralStringAsn1};
 use picky_krb::constants::error_codes;
 use picky_krb::data_types::PrincipalName;
 use picky_krb::messages::{KdcReq, KdcReqBody};
@@ -21,7 +22,7 @@ pub(crate) fn judge_as(realm: &GeneralStringAsn1, accounts: &Accounts, request: 
         return error_codes::KRB_AP_ERR_MSG_TYPE;
     }
     let body = &request.req_body.0;
-    if !is_same(&body.realm.0, realm) {
+    if !is_same_realm(&body.realm.0, realm) {
         return error_codes::KDC_ERR_WRONG_REALM;
     }
     if has_refused_option(&body.kdc_options.0) {
@@ -37,21 +38,6 @@ pub(crate) fn judge_as(realm: &GeneralStringAsn1, accounts: &Accounts, request: 
         return error_codes::KDC_ERR_S_PRINCIPAL_UNKNOWN;
     }
     error_codes::KRB_ERR_GENERIC
-}
-
-fn is_number(value: &IntegerAsn1, number: u8) -> bool
-    ensures { result ≡ is_number number value.now }
-{
-    match value.to_i64() {
-        Some(found) => found == i64::from(number),
-        None => false,
-    }
-}
-
-fn is_same(a: &GeneralStringAsn1, b: &GeneralStringAsn1) -> bool
-    ensures { result ≡ is_same a.now b.now }
-{
-    a == b
 }
 
 // One of forwarded, proxy, enc-tkt-in-skey, renew and validate (RFC 4120 5.4.1).

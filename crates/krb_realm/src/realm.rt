@@ -6,7 +6,7 @@ ghost use Rattle.krb_accounts.specs.Names.{parts};
 ghost use Rattle.krb_accounts.specs.Refusal.{IsMemoryAside};
 ghost use Rattle.krb_replies.specs.AsTable.{as_table};
 ghost use Rattle.krb_replies.specs.Replies.{replies, answered, Replies};
-ghost use Rattle.krb_replies.specs.Rows.{done};
+ghost use Rattle.krb_rules.specs.Rows.{done};
 
 use crate::judge::judge_as;
 use crate::names::{krbtgt_of, named_service};

@@ -1,10 +1,10 @@
 -- The error that is made of its numbers.
-use Rattle.std.proofs.Common.{◌≡◌, ℕ, List, Option, None, ap, ◌∙◌}
+use Rattle.std.proofs.Common.{◌≡◌, ℕ, List, None, ap, ◌∙◌}
 use Rattle.std.specs.Prelude.{ℤ, pos}
 use Rattle.asn1_trees.specs.Tree.{der}
 use Rattle.picky_asn1.specs.declared.date.GeneralizedTime.{GeneralizedTime}
 use Rattle.picky_krb.specs.declared.messages.krb_error.KrbErrorInner.{KrbErrorInner}
-use Rattle.picky_krb.specs.declared.data_types.principal_name.PrincipalName.{PrincipalName}
+use Rattle.krb_types.specs.declared.data_types.principal_name.PrincipalName.{PrincipalName}
 use Rattle.krb_replies.specs.Messages.{krb_error_tree}
 use Rattle.krb_replies.specs.Errors.{error_bytes}
 

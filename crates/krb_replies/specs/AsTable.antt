@@ -1,23 +1,14 @@
 -- What an AS request is answered, row by row: the first case that holds counts.
-use Rattle.std.specs.Prelude.{ℕ, Bool, true, false, not, ◌==◌, ◌||◌, List, Option, None, Some, Result, Err, ℤ, pos, negsuc}
-use Rattle.std.specs.Bool.{nat_eq}
-use Rattle.std.specs.Cmp.Lexicographic.{pointwise}
+use Rattle.std.specs.Prelude.{ℕ, Bool, not, ◌||◌, List, Option, None, Some, Result, Err}
 use Rattle.picky_asn1.specs.BitString.{Bits, bit_of}
 use Rattle.picky_krb.specs.declared.messages.kdc_req.KdcReq.{KdcReq}
 use Rattle.picky_krb.specs.declared.messages.kdc_req_body.KdcReqBody.{KdcReqBody}
-use Rattle.picky_krb.specs.declared.data_types.principal_name.PrincipalName.{PrincipalName}
+use Rattle.krb_types.specs.declared.data_types.principal_name.PrincipalName.{PrincipalName}
 use Rattle.krb_accounts.specs.Account.{AccountRecord}
 use Rattle.krb_accounts.specs.Accounts.{Look}
-use Rattle.krb_replies.specs.Rows.{Table, done, refuse, need}
-use Rattle.krb_replies.specs.Errors.{components}
-
--- the whole number is this natural one
-abbrev pub is_number : ℕ → ℤ → Bool
-is_number n (pos m) = m == n
-is_number n (negsuc m) = false
-
-abbrev pub is_same : List ℕ → List ℕ → Bool
-is_same = pointwise nat_eq
+use Rattle.krb_rules.specs.Rows.{Table, done, refuse, need}
+use Rattle.krb_rules.specs.Numbers.{is_number}
+use Rattle.krb_rules.specs.Names.{components, is_same_realm}
 
 -- one of forwarded, proxy, enc-tkt-in-skey, renew and validate (RFC 4120 5.4.1)
 abbrev pub has_refused_option : Bits → Bool
@@ -47,7 +38,7 @@ abbrev pub as_table : List ℕ → Look → KdcReq → Table (Result (List ℕ) 
 as_table realm look request =
     refuse (not (is_number 5 request.pvno.0)) 3
     (refuse (not (is_number 10 request.msg_type.0)) 40
-    (refuse (not (is_same request.req_body.0.realm.0 realm)) 68
+    (refuse (not (is_same_realm request.req_body.0.realm.0 realm)) 68
     (refuse (has_refused_option request.req_body.0.kdc_options.0) 13
     (refuse (is_postdated request.req_body.0.kdc_options.0) 10
     (need (account_of look (client_of request.req_body.0)) 6 (λ client.

@@ -1,14 +1,13 @@
 -- The error message of a realm (RFC 4120 5.9.1).
-use Rattle.std.specs.Prelude.{◌≡◌, ℕ, ◌/◌, ◌%◌, List, [], ◌∷◌, Option, None, Some, codes, pos}
+use Rattle.std.specs.Prelude.{◌≡◌, ℕ, ◌/◌, List, [], ◌∷◌, None, codes, pos}
 use Rattle.std.proofs.Common.{sym, ◌∙◌}
 use Rattle.asn1_trees.specs.Tree.{der}
 use Rattle.picky_asn1.specs.declared.date.GeneralizedTime.{GeneralizedTime}
 use Rattle.picky_asn1.specs.GeneralizedTime.{seconds_of}
 use Rattle.picky_asn1.proofs.TimeLemmas.{seconds_of-injective}
-use Rattle.picky_krb.specs.declared.messages.kdc_req.KdcReq.{KdcReq}
 use Rattle.picky_krb.specs.declared.messages.krb_error.KrbErrorInner.{KrbErrorInner}
-use Rattle.picky_krb.specs.declared.data_types.principal_name.PrincipalName.{PrincipalName}
-use Rattle.krb_replies.specs.One.{IsSole}
+use Rattle.krb_types.specs.declared.data_types.principal_name.PrincipalName.{PrincipalName}
+use Rattle.krb_rules.specs.One.{IsSole}
 use Rattle.krb_replies.specs.Messages.{krb_error_tree}
 
 -- the ticket-granting service of a realm (RFC 4120 7.3), of name type 2
@@ -17,10 +16,6 @@ ticket_service realm = record {
   name_type = record { 0 = pos 2 };
   name_string = record { 0 = codes "krbtgt" ∷ realm ∷ [] };
 }
-
--- the components of a name
-abbrev pub components : PrincipalName → List (List ℕ)
-components name = name.name_string.0
 
 -- the error with this code, at a time and its microseconds, about a service; no optional field
 abbrev pub error_of : List ℕ → GeneralizedTime → ℕ → PrincipalName → ℕ → KrbErrorInner

@@ -1,5 +1,3 @@
-pub mod One
-pub mod Rows
 pub mod Messages
 pub mod Errors
 pub mod AsTable

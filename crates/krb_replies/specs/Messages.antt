@@ -1,13 +1,13 @@
 -- The encodings of the messages that a realm reads and writes (RFC 4120 5.4 and 5.9).
-use Rattle.std.specs.Prelude.{◌≡◌, ℕ, List, Option, None, Some}
+use Rattle.std.specs.Prelude.{ℕ, List}
 use Rattle.std.proofs.Common.{sym, ◌∙◌}
-use Rattle.asn1_trees.specs.Tree.{Tree, Writes, wrapped, der}
+use Rattle.asn1_trees.specs.Tree.{Tree, Writes, wrapped}
 use Rattle.asn1_trees.proofs.Spelling.{wrapped-injective}
 use Rattle.picky_krb.specs.declared.messages.kdc_req.KdcReq.{KdcReq}
 use Rattle.picky_krb.specs.declared.messages.krb_error.KrbErrorInner.{KrbErrorInner}
 use Rattle.picky_krb.specs.contracts.messages.kdc_req.KdcReqSerialize.TheImpl as kdc_req
 use Rattle.picky_krb.specs.contracts.messages.krb_error.KrbErrorInnerSerialize.TheImpl as krb_error
-use Rattle.krb_replies.specs.One.{IsSole}
+use Rattle.krb_rules.specs.One.{IsSole}
 
 abbrev pub kdc_req_tree : KdcReq → Tree
 kdc_req_tree = kdc_req.ghosts.tree
@@ -37,8 +37,3 @@ sole_as_req bytes v w p q = wrapped-injective 106 kdc_req_tree kdc_req.ghosts.in
 
 pub sole_tgs_req : (bytes : List ℕ) → IsSole (IsTgsReq bytes)
 sole_tgs_req bytes v w p q = wrapped-injective 108 kdc_req_tree kdc_req.ghosts.injective v w p.0 q.0 (sym p.1 ∙ q.1)
-
--- a value of which there is at most one is found, or there is none
-abbrev pub IsFound : {A : Type 0} → (A → Type 0) → Option A → Type 0
-IsFound {A} P None = (a : A) → P a → ⊥
-IsFound P (Some a) = P a

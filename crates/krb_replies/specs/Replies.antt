@@ -2,9 +2,9 @@
 use Rattle.std.specs.Prelude.{◌≡◌, ℕ, ◌%◌, List, Option, None, Some, Result, Ok, Err}
 use Rattle.picky_asn1.specs.declared.date.GeneralizedTime.{GeneralizedTime}
 use Rattle.picky_krb.specs.declared.messages.kdc_req.KdcReq.{KdcReq}
-use Rattle.picky_krb.specs.declared.data_types.principal_name.PrincipalName.{PrincipalName}
+use Rattle.krb_types.specs.declared.data_types.principal_name.PrincipalName.{PrincipalName}
 use Rattle.krb_accounts.specs.Accounts.{Look}
-use Rattle.krb_replies.specs.Rows.{Table, done, ask, as_made}
+use Rattle.krb_rules.specs.Rows.{Table, done, ask, as_made}
 use Rattle.krb_replies.specs.Messages.{IsAsReq, IsTgsReq, sole_as_req, sole_tgs_req}
 use Rattle.krb_replies.specs.Errors.{ticket_service, error_bytes, IsSecondOf, sole_second}
 use Rattle.krb_replies.specs.AsTable.{as_table, service_of}

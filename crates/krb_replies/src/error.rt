@@ -2,10 +2,10 @@
 ghost use Rattle.std.specs.Prelude.{◌≡◌, ◌<◌, ◌^◌, IfOk};
 ghost use Rattle.krb_replies.specs.Errors.{error_bytes};
 
+use krb_types::data_types::PrincipalName;
 use picky_asn1::date::GeneralizedTime;
 use picky_asn1::wrapper::{GeneralStringAsn1, GeneralizedTimeAsn1, IntegerAsn1};
 use picky_asn1_der::{ApplicationTag, ExplicitContextTag, Optional, to_vec};
-use picky_krb::data_types::PrincipalName;
 use picky_krb::messages::{KrbError, KrbErrorInner};
 use std::alloc::{AllocError, Global};
 

@@ -9,3 +9,4 @@ pub mod Reads
 pub mod Fields
 pub mod Unsigned
 pub mod UnsignedLaws
+pub mod Numbers

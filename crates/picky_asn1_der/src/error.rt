@@ -1,4 +1,5 @@
 //! Why a value was not read or written.
+ghost use Rattle.std.specs.Prelude.{◌≡◌};
 
 use std::io::ErrorKind;
 use thiserror::Error;
@@ -18,7 +19,7 @@ pub enum Rule {
     Time,
 }
 
-/// Why a value was not read or written. They count from 1 to 8, in this order.
+/// Why a value was not read or written. The faults are numbered from 1 to 8, in this order.
 #[derive(Clone, Copy, Debug, PartialEq, Eq, Error)]
 pub enum Asn1DerError {
     /// The input ended inside a value.
@@ -45,4 +46,24 @@ pub enum Asn1DerError {
     /// The memory could not grow.
     #[error("out of memory")]
     Memory,
+}
+
+impl Asn1DerError {
+    ghost use Rattle.picky_asn1_der.specs.Numbers.{fault_number};
+
+    /// The fault's number.
+    pub fn number(self) -> u8
+        ensures { result ≡ fault_number self }
+    {
+        match self {
+            Asn1DerError::TruncatedData => 1,
+            Asn1DerError::InvalidData => 2,
+            Asn1DerError::UnsupportedValue => 3,
+            Asn1DerError::UnsupportedType => 4,
+            Asn1DerError::InvalidSink => 5,
+            Asn1DerError::Message(_) => 6,
+            Asn1DerError::Other(_) => 7,
+            Asn1DerError::Memory => 8,
+        }
+    }
 }

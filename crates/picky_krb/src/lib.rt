@@ -1,16 +1,19 @@
 //! Kerberos messages (RFC 4120), read from and written in DER.
 //!
-//! The names, fields and tags are the standard's; [`from_bytes`] reads a message that is all of its input, and
-//! `picky_asn1_der::to_vec` writes one.
+//! The names, fields and tags are the standard's; [`from_bytes`] reads a message that is all of its input,
+//! `picky_asn1_der::to_vec` writes one, and [`open_part`] opens the sealed part of one.
 #![tactic(auto)]
 
 ghost use Rattle.std.specs.Prelude.{◌≡◌};
 ghost use Rattle.picky_asn1_der.specs.Reads.{ReadsAll};
 
-pub mod constants;
-pub mod data_types;
+mod find;
 pub mod messages;
+mod open;
 
+pub use find::{open_whole, read_whole};
+pub use krb_types::{constants, data_types};
+pub use open::{OpenFault, open_part};
 use picky_asn1_der::{Asn1DerError, Deserialize, from_exact_bytes};
 use std::alloc::Global;
 

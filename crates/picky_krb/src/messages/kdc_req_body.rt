@@ -1,8 +1,8 @@
 //! The body of a request.
-use crate::data_types::{
+use devices::{Sink, Source};
+use krb_types::data_types::{
     EncryptedData, HostAddresses, KerberosFlags, KerberosTime, PrincipalName, Realm, Ticket,
 };
-use devices::{Sink, Source};
 use picky_asn1::wrapper::{Asn1SequenceOf, IntegerAsn1};
 use picky_asn1_der::{
     Asn1DerError, Deserialize, Deserializer, End, ExplicitContextTag0, ExplicitContextTag1,

@@ -1,7 +1,7 @@
 //! Errors.
-use crate::constants::types::KRB_ERROR_MSG_TYPE;
-use crate::data_types::{KerberosStringAsn1, KerberosTime, Microseconds, PrincipalName, Realm};
 use devices::{Sink, Source};
+use krb_types::constants::types::KRB_ERROR_MSG_TYPE;
+use krb_types::data_types::{KerberosStringAsn1, KerberosTime, Microseconds, PrincipalName, Realm};
 use picky_asn1::wrapper::{IntegerAsn1, OctetStringAsn1};
 use picky_asn1_der::{
     ApplicationTag, Asn1DerError, Deserialize, Deserializer, End, ExplicitContextTag0,
@@ -10,6 +10,7 @@ use picky_asn1_der::{
     ExplicitContextTag9, ExplicitContextTag10, ExplicitContextTag11, ExplicitContextTag12, Field,
     Fields, Optional, OptionalField, Serialize, Serializer,
 };
+use std::fmt;
 
 /// What an error message holds (RFC 4120 5.9.1).
 #[derive(Debug, Drop)]
@@ -44,6 +45,14 @@ pub struct KrbErrorInner {
 
 /// An error message (RFC 4120 5.9.1).
 pub type KrbError = ApplicationTag<KrbErrorInner, KRB_ERROR_MSG_TYPE>;
+
+/// Prints the code, as `0x06`.
+impl fmt::Display for KrbErrorInner {
+    fn fmt<W: fmt::Write>(&self, f: &mut fmt::Formatter<W>) -> fmt::Result {
+        let code = self.error_code.0;
+        write!(f, "0x{code:02X}")
+    }
+}
 
 type KrbErrorInnerFields = Field<
     ExplicitContextTag0<IntegerAsn1>,

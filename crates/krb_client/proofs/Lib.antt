@@ -1,0 +1,4 @@
+pub mod Tagged
+pub mod Outcomes
+pub mod Keys
+pub mod TakingReply

@@ -1,0 +1,47 @@
+-- What a table gives by what its first row says.
+use Rattle.std.proofs.Common.{◌≡◌, Bool, true, false, Option, None, Some, Ok, Err, refl, inl, inr, subst, sym}
+use Rattle.krb_rules.specs.One.{IsSole}
+use Rattle.krb_rules.specs.Rows.{Table, ask}
+use Rattle.krb_client.specs.AsReply.{Taken, need, refuse}
+use Rattle.krb_client.specs.Refusals.{IsTaken}
+use Rattle.krb_client.specs.declared.refusal.TakeRefusal.{TakeRefusal}
+use Rattle.krb_client.specs.declared.refusal.TakeRefusal.TheVariants.{Memory, NotAsked, NotSealed, Refused, Unreadable}
+
+-- the case holds
+pub refused : (case : Bool) (refusal : TakeRefusal) (rest : Table Taken) → case ≡ true → (refuse case refusal rest).gives (Err refusal)
+refused true refusal rest e = refl
+refused false refusal rest e = absurd (cc (e))
+
+-- it doesn't
+pub passed : (case : Bool) (refusal : TakeRefusal) (rest : Table Taken) (taken : Taken) → case ≡ false → IsTaken rest taken → IsTaken (refuse case refusal rest) taken
+passed true refusal rest taken e given = absurd (cc (e))
+passed false refusal rest taken e given = given
+
+-- the value is there
+pub needed : {A : Type 0} (value : Option A) (refusal : TakeRefusal) (rest : A → Table Taken) (taken : Taken) (a : A)
+    → value ≡ Some a → IsTaken (rest a) taken → IsTaken (need value refusal rest) taken
+needed value refusal rest taken a e given = subst (λ v. IsTaken (need v refusal rest) taken) (sym e) given
+
+-- it isn't
+pub lacking : {A : Type 0} (value : Option A) (refusal : TakeRefusal) (rest : A → Table Taken) → value ≡ None → (need value refusal rest).gives (Err refusal)
+lacking value refusal rest e = subst (λ v. (need v refusal rest).gives (Err refusal)) (sym e) refl
+
+-- a value has the property
+pub found : {A : Type 0} (P : A → Type 0) (sole : IsSole P) (otherwise : Table Taken) (rest : A → Table Taken) (taken : Taken) (a : A)
+    → P a → IsTaken (rest a) taken → IsTaken (ask P sole otherwise rest) taken
+found P sole otherwise rest (Ok credential) a p given = inl (a, p, given)
+found P sole otherwise rest (Err Unreadable) a p given = inl (a, p, given)
+found P sole otherwise rest (Err (Refused code)) a p given = inl (a, p, given)
+found P sole otherwise rest (Err NotSealed) a p given = inl (a, p, given)
+found P sole otherwise rest (Err NotAsked) a p given = inl (a, p, given)
+found P sole otherwise rest (Err Memory) a p given = tt
+
+-- none has
+pub not_found : {A : Type 0} (P : A → Type 0) (sole : IsSole P) (otherwise : Table Taken) (rest : A → Table Taken) (taken : Taken)
+    → ((a : A) → P a → ⊥) → IsTaken otherwise taken → IsTaken (ask P sole otherwise rest) taken
+not_found P sole otherwise rest (Ok credential) none given = inr (none, given)
+not_found P sole otherwise rest (Err Unreadable) none given = inr (none, given)
+not_found P sole otherwise rest (Err (Refused code)) none given = inr (none, given)
+not_found P sole otherwise rest (Err NotSealed) none given = inr (none, given)
+not_found P sole otherwise rest (Err NotAsked) none given = inr (none, given)
+not_found P sole otherwise rest (Err Memory) none given = tt

@@ -1,0 +1,102 @@
+-- What a client takes as the reply to its AS request (RFC 4120 3.1.5): the first case that holds counts.
+use Rattle.std.specs.Prelude.{◌≡◌, ℕ, Bool, true, false, not, ◌&&◌, List, Option, None, Some, Result, Ok, Err}
+use Rattle.asn1_trees.proofs.Spelling.{wrapped-injective}
+use Rattle.krb_crypto.specs.declared.suite.CipherSuite.{CipherSuite}
+use Rattle.krb_types.specs.declared.data_types.encrypted_data.EncryptedData.{EncryptedData}
+use Rattle.picky_krb.specs.declared.messages.enc_kdc_rep_part.EncKdcRepPart.{EncKdcRepPart}
+use Rattle.picky_krb.specs.declared.messages.kdc_rep.KdcRep.{KdcRep}
+use Rattle.picky_krb.specs.contracts.messages.enc_kdc_rep_part.EncKdcRepPartSerialize.TheImpl as reply_part
+use Rattle.krb_rules.specs.Keys.{suite_of}
+use Rattle.krb_rules.specs.Names.{components, is_same_name, is_same_realm}
+use Rattle.krb_rules.specs.Numbers.{is_number}
+use Rattle.krb_rules.specs.One.{IsSole}
+use Rattle.krb_rules.specs.Rows.{Table, ask, done}
+use Rattle.krb_rules.specs.Sealed.{IsSealedIn, sole_sealed}
+use Rattle.krb_client.specs.Client.{AsAskedRecord, ClientRecord, CredentialRecord}
+use Rattle.krb_client.specs.Messages.{IsAsReply, IsErrorCode, as_reply_part_tree, sole_as_reply, sole_error_code, tgs_reply_part_tree}
+use Rattle.krb_client.specs.declared.refusal.TakeRefusal.{TakeRefusal}
+use Rattle.krb_client.specs.declared.refusal.TakeRefusal.TheVariants.{NotAsked, NotSealed, Refused, Unreadable}
+
+-- the part of an AS reply, sealed under the client's key (usage 3; RFC 4120 7.5.1), as AS replies have it
+unfoldable pub IsAsPart : ClientRecord → EncryptedData → EncKdcRepPart → Type 0
+IsAsPart client sealed part = IsSealedIn {T = EncKdcRepPart} as_reply_part_tree client.suite client.key 3 sealed part
+
+-- the same with the tag of TGS replies
+unfoldable pub IsTgsPart : ClientRecord → EncryptedData → EncKdcRepPart → Type 0
+IsTgsPart client sealed part = IsSealedIn {T = EncKdcRepPart} tgs_reply_part_tree client.suite client.key 3 sealed part
+
+pub sole_as_part : (client : ClientRecord) (sealed : EncryptedData) → IsSole (IsAsPart client sealed)
+unfolding IsAsPart
+sole_as_part client sealed = sole_sealed as_reply_part_tree (wrapped-injective 121 reply_part.ghosts.tree reply_part.ghosts.injective) client.suite client.key 3 sealed
+
+pub sole_tgs_part : (client : ClientRecord) (sealed : EncryptedData) → IsSole (IsTgsPart client sealed)
+unfolding IsTgsPart
+sole_tgs_part client sealed = sole_sealed tgs_reply_part_tree (wrapped-injective 122 reply_part.ghosts.tree reply_part.ghosts.injective) client.suite client.key 3 sealed
+
+abbrev pub Taken : Type 0
+Taken = Result CredentialRecord TakeRefusal
+
+-- the refusal where the case holds
+abbrev pub refuse : Bool → TakeRefusal → Table Taken → Table Taken
+refuse true refusal rest = done (Err refusal)
+refuse false refusal rest = rest
+
+-- a value that the following cases read, or the refusal where there is none
+abbrev pub need : {A : Type 0} → Option A → TakeRefusal → (A → Table Taken) → Table Taken
+need None refusal rest = done (Err refusal)
+need (Some a) refusal rest = rest a
+
+-- the reply's ticket, with the key, realm and service of its opened part
+abbrev pub credential_of : KdcRep → EncKdcRepPart → CipherSuite → CredentialRecord
+credential_of reply part suite = record {
+  ticket = reply.ticket.0.0;
+  suite = suite;
+  key = part.key.0.key_value.0;
+  realm = part.srealm.0;
+  service = part.sname.0;
+}
+
+-- the opened part has the request's nonce, the reply names the client, and the part the service, in the client's realm
+unfoldable pub is_answer : ClientRecord → AsAskedRecord → KdcRep → EncKdcRepPart → Bool
+is_answer client asked reply part =
+    is_number asked.nonce part.nonce.0
+    && is_same_realm reply.crealm.0 client.realm
+    && is_same_name (components reply.cname.0) client.components
+    && is_same_realm part.srealm.0 client.realm
+    && is_same_name (components part.sname.0) asked.service
+
+-- with the part opened
+abbrev pub takes_part : ClientRecord → AsAskedRecord → KdcRep → EncKdcRepPart → Table Taken
+takes_part client asked reply part =
+    refuse (not (is_answer client asked reply part)) NotAsked
+    (need (suite_of part.key.0) NotAsked (λ suite.
+    done (Ok (credential_of reply part suite))))
+
+-- with a reply of the right version and type
+abbrev pub takes_sealed : ClientRecord → AsAskedRecord → KdcRep → Table Taken
+takes_sealed client asked reply =
+    ask (IsAsPart client reply.enc_part.0) (sole_as_part client reply.enc_part.0)
+    (ask (IsTgsPart client reply.enc_part.0) (sole_tgs_part client reply.enc_part.0) (done (Err NotSealed)) (takes_part client asked reply))
+    (takes_part client asked reply)
+
+-- with the reply read
+abbrev pub takes_reply : ClientRecord → AsAskedRecord → KdcRep → Table Taken
+takes_reply client asked reply =
+    refuse (not (is_number 5 reply.pvno.0)) Unreadable
+    (refuse (not (is_number 11 reply.msg_type.0)) Unreadable
+    (takes_sealed client asked reply))
+
+-- the reply as it comes
+abbrev pub takes_as_reply : ClientRecord → AsAskedRecord → List ℕ → Table Taken
+takes_as_reply client asked bytes =
+    ask (IsErrorCode bytes) (sole_error_code bytes)
+    (ask (IsAsReply bytes) (sole_as_reply bytes) (done (Err Unreadable)) (takes_reply client asked))
+    (λ code. done (Err (Refused code)))
+
+-- what a client that asked this takes of the reply
+abbrev pub TakesAsReply : ClientRecord → AsAskedRecord → List ℕ → Taken → Type 0
+TakesAsReply client asked bytes taken = (takes_as_reply client asked bytes).gives taken
+
+-- there is one outcome at most
+pub one_taking : (client : ClientRecord) (asked : AsAskedRecord) (bytes : List ℕ) (a b : Taken) → TakesAsReply client asked bytes a → TakesAsReply client asked bytes b → a ≡ b
+one_taking client asked bytes = (takes_as_reply client asked bytes).one

@@ -1,0 +1,54 @@
+-- What clients are, what they remember of a request, and what they are granted (RFC 4120 3.1, 3.2).
+use Rattle.std.specs.Prelude.{ℕ, not, ◌&&◌, List, ◌++◌, Option, Result, Ok, Err, if◌then◌else◌}
+use Rattle.std.specs.List.{flat_map}
+use Rattle.krb_crypto.specs.declared.suite.CipherSuite.{CipherSuite}
+use Rattle.krb_crypto.specs.Sealing.{password_key_of}
+use Rattle.krb_accounts.specs.Names.{are_components, is_realm_name}
+use Rattle.krb_types.specs.declared.data_types.principal_name.PrincipalName.{PrincipalName}
+use Rattle.krb_types.specs.declared.data_types.ticket.TicketInner.{TicketInner}
+use Rattle.krb_client.specs.declared.refusal.AskRefusal.{AskRefusal}
+use Rattle.krb_client.specs.declared.refusal.AskRefusal.TheVariants.{BadName}
+
+-- a client: its realm, the components of its name, and its key of a suite
+pub record ClientRecord : Type 0 where
+  pub realm : List ℕ
+  pub components : List (List ℕ)
+  pub suite : CipherSuite
+  pub key : List ℕ
+
+-- the salt of a client's password: the realm, and behind it the components (RFC 4120 4)
+abbrev pub password_salt : List ℕ → List (List ℕ) → List ℕ
+password_salt realm components = realm ++ flat_map (λ component. component) components
+
+-- the client of a password, or why there is none
+abbrev pub client_of : List ℕ → List (List ℕ) → CipherSuite → List ℕ → Result ClientRecord AskRefusal
+client_of realm components suite password =
+    if not (is_realm_name realm && are_components components) then Err BadName
+    else Ok (record {
+      realm = realm;
+      components = components;
+      suite = suite;
+      key = password_key_of suite password (password_salt realm components);
+    })
+
+-- what a client remembers of an AS request: the service's components, the nonce, and the moment
+pub record AsAskedRecord : Type 0 where
+  pub service : List (List ℕ)
+  pub nonce : ℕ
+  pub moment : ℕ
+
+-- what a client is granted: a ticket, the session's key of a suite, and the service that the ticket is for
+pub record CredentialRecord : Type 0 where
+  pub ticket : TicketInner
+  pub suite : CipherSuite
+  pub key : List ℕ
+  pub realm : List ℕ
+  pub service : PrincipalName
+
+-- what a client remembers of an AP request: the session's key, the authenticator's time, and the subkey, if any, which
+-- is of the same suite
+pub record ApAskedRecord : Type 0 where
+  pub suite : CipherSuite
+  pub key : List ℕ
+  pub time : ℕ
+  pub subkey : Option (List ℕ)

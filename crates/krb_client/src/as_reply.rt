@@ -1,0 +1,103 @@
+//! Taking the reply to an AS request.
+ghost use Rattle.std.specs.Prelude.{◌≡◌};
+ghost use Rattle.krb_client.specs.AsReply.{is_answer, takes_as_reply, takes_part, takes_reply};
+ghost use Rattle.krb_client.specs.Refusals.{IsTaken};
+
+use crate::read::{open_as_part, open_tgs_part, read_as_reply, read_error_code};
+use crate::{AsAsked, Client, Credential, TakeRefusal};
+use krb_rules::{is_number, is_same_name, is_same_realm, suite_of};
+use picky_krb::messages::{EncKdcRepPart, KdcRep};
+use std::alloc::Global;
+
+/// The version of Kerberos.
+const VERSION: u32 = 5;
+
+/// The type of an AS reply (RFC 4120, section 5.10).
+const AS_REPLY_TYPE: u32 = 11;
+
+impl Client {
+    /// What the reply to a request grants (RFC 4120, section 3.1.5), taken where it is sealed under the client's key and
+    /// answers that request: with its nonce, its client and its service, and with a key of a known suite.
+    ///
+    /// `Refused` tells an error's code, whatever the error's version and type; the other refusals are in the order in which
+    /// they are looked for.
+    pub fn take_as_reply(
+        &self,
+        alloc: Global,
+        asked: &AsAsked,
+        reply: &[u8],
+    ) -> Result<Credential, TakeRefusal>
+        ensures { IsTaken (takes_as_reply self.now asked.now reply.now) result }
+    {
+        if let Some(code) = read_error_code(alloc, reply)? {
+            return Err(TakeRefusal::Refused(code));
+        }
+        let Some(reply) = read_as_reply(alloc, reply)? else {
+            return Err(TakeRefusal::Unreadable);
+        };
+        self.take_reply(alloc, asked, &reply)
+    }
+
+    // The same, of the reply that was read.
+    fn take_reply(
+        &self,
+        alloc: Global,
+        asked: &AsAsked,
+        reply: &KdcRep,
+    ) -> Result<Credential, TakeRefusal>
+        ensures { IsTaken (takes_reply self.now asked.now reply.now) result }
+    {
+        if !is_number(&reply.pvno.0, VERSION) {
+            return Err(TakeRefusal::Unreadable);
+        }
+        if !is_number(&reply.msg_type.0, AS_REPLY_TYPE) {
+            return Err(TakeRefusal::Unreadable);
+        }
+        if let Some(part) = open_as_part(alloc, self, &reply.enc_part.0)? {
+            return self.take_part(alloc, asked, reply, &part);
+        }
+        let Some(part) = open_tgs_part(alloc, self, &reply.enc_part.0)? else {
+            return Err(TakeRefusal::NotSealed);
+        };
+        self.take_part(alloc, asked, reply, &part)
+    }
+
+    // The same, with the part that was opened.
+    fn take_part(
+        &self,
+        alloc: Global,
+        asked: &AsAsked,
+        reply: &KdcRep,
+        part: &EncKdcRepPart,
+    ) -> Result<Credential, TakeRefusal>
+        ensures { IsTaken (takes_part self.now asked.now reply.now part.now) result }
+    {
+        if !self.is_answer(asked, reply, part) {
+            return Err(TakeRefusal::NotAsked);
+        }
+        let Some(suite) = suite_of(&part.key.0) else {
+            return Err(TakeRefusal::NotAsked);
+        };
+        let credential = Credential::of_reply(alloc, reply, part, suite)?;
+        Ok(credential)
+    }
+    // Whether the opened part has the request's nonce, the reply names the client, and the part the service.
+    #[tactic(auto, unfolding(crate::specs::AsReply::is_answer))]
+    fn is_answer(&self, asked: &AsAsked, reply: &KdcRep, part: &EncKdcRepPart) -> bool
+        ensures { result ≡ is_answer self.now asked.now reply.now part.now }
+    {
+        if !is_number(&part.nonce.0, asked.nonce()) {
+            return false;
+        }
+        if !is_same_realm(&reply.crealm.0, self.realm()) {
+            return false;
+        }
+        if !is_same_name(reply.cname.0.name_string.0.as_slice(), self.components()) {
+            return false;
+        }
+        if !is_same_realm(&part.srealm.0, self.realm()) {
+            return false;
+        }
+        is_same_name(part.sname.0.name_string.0.as_slice(), asked.service())
+    }
+}

@@ -1,0 +1,44 @@
+//! Names, and the salt that is made of them.
+ghost use Rattle.std.specs.Prelude.{◌≡◌, IfOk};
+ghost use Rattle.krb_accounts.specs.Names.{parts};
+ghost use Rattle.krb_client.specs.Client.{password_salt};
+ghost use Rattle.krb_client.specs.Sealing.{principal_name};
+
+use krb_types::data_types::PrincipalName;
+use picky_asn1::wrapper::{Asn1SequenceOf, GeneralStringAsn1, IntegerAsn1};
+use picky_asn1_der::ExplicitContextTag;
+use std::alloc::{AllocError, Global};
+
+/// The salt of a client's password: the realm, and behind it the components of the name (RFC 4120, section 4).
+pub(crate) fn password_salt(
+    alloc: Global,
+    realm: &[u8],
+    name: &[Vec<u8>],
+) -> Result<Vec<u8>, AllocError>
+    ensures { IfOk result (λ salt. salt.items ≡ password_salt realm.now (parts name.now)) }
+{
+    let mut salt = Vec::from_slice(alloc, realm)?;
+    for component in name {
+        salt.extend_from_slice(component)?;
+    }
+    Ok(salt)
+}
+
+/// The name of this type with copies of the components (RFC 4120, section 5.2.2).
+pub(crate) fn principal_name(
+    alloc: Global,
+    kind: u8,
+    components: &[GeneralStringAsn1],
+) -> Result<PrincipalName, AllocError>
+    ensures { IfOk result (λ name. name ≡ principal_name kind components.now) }
+{
+    let kind = IntegerAsn1::from_u64(alloc, u64::from(kind))?;
+    let mut copies = Vec::with_capacity(alloc, components.len())?;
+    for component in components {
+        copies.push(component.clone(alloc)?)?;
+    }
+    Ok(PrincipalName {
+        name_type: ExplicitContextTag(kind),
+        name_string: ExplicitContextTag(Asn1SequenceOf::from(copies)),
+    })
+}

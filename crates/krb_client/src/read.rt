@@ -1,0 +1,84 @@
+//! Reading replies, and opening their sealed parts.
+ghost use Rattle.std.specs.Prelude.{IfOk};
+ghost use Rattle.picky_krb.specs.Found.{IsFound};
+ghost use Rattle.krb_client.specs.Messages.{IsAsReply, IsErrorCode};
+ghost use Rattle.krb_client.specs.AsReply.{IsAsPart, IsTgsPart};
+
+use crate::Client;
+use krb_rules::open_sealed;
+use krb_types::data_types::EncryptedData;
+use picky_krb::messages::{AsRep, EncAsRepPart, EncKdcRepPart, EncTgsRepPart, KdcRep, KrbError};
+use picky_krb::read_whole;
+use std::alloc::{AllocError, Global};
+
+/// The usage of the key that seals the part of an AS reply (RFC 4120, section 7.5.1).
+const AS_REPLY_USAGE: i32 = 3;
+
+/// The code of the error whose one encoding the bytes are, or none (RFC 4120, section 5.9.1).
+pub(crate) fn read_error_code(alloc: Global, bytes: &[u8]) -> Result<Option<u32>, AllocError>
+    ensures { IfOk result (IsFound (IsErrorCode bytes.now)) }
+{
+    let read: Option<KrbError> = read_whole(alloc, bytes)?;
+    match read {
+        Some(error) => Ok(Some(error.0.error_code.0)),
+        None => Ok(None),
+    }
+}
+
+/// The AS reply whose one encoding the bytes are, or none (RFC 4120, section 5.4.2).
+#[tactic(auto, unfolding(crate::specs::Messages::IsAsReply))]
+pub(crate) fn read_as_reply(alloc: Global, bytes: &[u8]) -> Result<Option<KdcRep>, AllocError>
+    ensures { IfOk result (IsFound (IsAsReply bytes.now)) }
+{
+    let read: Option<AsRep> = read_whole(alloc, bytes)?;
+    match read {
+        Some(reply) => Ok(Some(reply.0)),
+        None => Ok(None),
+    }
+}
+
+/// The part of an AS reply that is sealed here under the client's key, with the tag of AS replies, or none.
+#[tactic(auto, unfolding(crate::specs::AsReply::IsAsPart))]
+pub(crate) fn open_as_part(
+    alloc: Global,
+    client: &Client,
+    sealed: &EncryptedData,
+) -> Result<Option<EncKdcRepPart>, AllocError>
+    ensures { IfOk result (IsFound (IsAsPart client.now sealed.now)) }
+{
+    let suite = client.suite();
+    let opened: Option<EncAsRepPart> = open_sealed(
+        alloc,
+        suite,
+        client.key(),
+        AS_REPLY_USAGE,
+        sealed,
+    )?;
+    match opened {
+        Some(part) => Ok(Some(part.0)),
+        None => Ok(None),
+    }
+}
+
+/// The same with the tag of TGS replies, which AS replies of some realms have (RFC 4120, section 5.4.2).
+#[tactic(auto, unfolding(crate::specs::AsReply::IsTgsPart))]
+pub(crate) fn open_tgs_part(
+    alloc: Global,
+    client: &Client,
+    sealed: &EncryptedData,
+) -> Result<Option<EncKdcRepPart>, AllocError>
+    ensures { IfOk result (IsFound (IsTgsPart client.now sealed.now)) }
+{
+    let suite = client.suite();
+    let opened: Option<EncTgsRepPart> = open_sealed(
+        alloc,
+        suite,
+        client.key(),
+        AS_REPLY_USAGE,
+        sealed,
+    )?;
+    match opened {
+        Some(part) => Ok(Some(part.0)),
+        None => Ok(None),
+    }
+}

@@ -1,0 +1,41 @@
+//! The time that a client seals under its own key.
+ghost use Rattle.std.specs.Prelude.{◌≡◌, IfOk};
+ghost use Rattle.picky_krb.specs.Found.{IsFound};
+ghost use Rattle.krb_preauth.specs.Stamps.{IsStamp, moment_of};
+
+use krb_accounts::Account;
+use krb_moments::Moment;
+use krb_rules::{moment_at, open_sealed};
+use krb_types::data_types::{EncryptedData, PaEncTsEnc};
+use picky_krb::read_whole;
+use std::alloc::{AllocError, Global};
+
+/// The usage of the key that seals a stamp (RFC 4120, section 7.5.1).
+const STAMP_USAGE: i32 = 1;
+
+/// The stamp that the account's key seals in the data of an entry, its encoding, or none.
+pub fn open_stamp(
+    alloc: Global,
+    account: &Account,
+    bytes: &[u8],
+) -> Result<Option<PaEncTsEnc>, AllocError>
+    ensures { IfOk result (IsFound (IsStamp account.now bytes.now)) }
+{
+    let read: Option<EncryptedData> = read_whole(alloc, bytes)?;
+    let Some(sealed) = read else {
+        return Ok(None);
+    };
+    let stamp = open_sealed(alloc, account.suite(), account.key(), STAMP_USAGE, &sealed)?;
+    Ok(stamp)
+}
+
+/// The moment that a stamp tells, or none where its microseconds are no part of a second. Missing ones are zero.
+pub fn moment_of(stamp: &PaEncTsEnc) -> Option<Moment>
+    ensures { result ≡ moment_of stamp.now }
+{
+    let time = stamp.patimestamp.0.0;
+    match &stamp.pausec.0 {
+        Some(tagged) => moment_at(time, &tagged.0),
+        None => Some(Moment::at(time, 0)),
+    }
+}

@@ -1,0 +1,17 @@
+-- Keys of messages (RFC 4120 5.2.9).
+use Rattle.std.specs.Prelude.{Bool, ◌==◌, ◌&&◌, length, Option, None, Some, if◌then◌else◌}
+use Rattle.krb_crypto.specs.declared.suite.CipherSuite.{CipherSuite}
+use Rattle.krb_crypto.specs.declared.suite.CipherSuite.TheVariants.{Aes128CtsHmacSha196, Aes256CtsHmacSha196}
+use Rattle.krb_crypto.specs.Suites.{cipher_key_size, cipher_number}
+use Rattle.krb_types.specs.declared.data_types.encryption_key.EncryptionKey.{EncryptionKey}
+use Rattle.krb_rules.specs.Numbers.{is_number}
+
+-- the key's type is the suite's number, and it has as many bytes as the suite's keys
+abbrev pub is_key_of : CipherSuite → EncryptionKey → Bool
+is_key_of suite key = is_number (cipher_number suite) key.key_type.0 && (length key.key_value.0 == cipher_key_size suite)
+
+-- the suite that the key is one of
+abbrev pub suite_of : EncryptionKey → Option CipherSuite
+suite_of key =
+    if is_key_of Aes128CtsHmacSha196 key then Some Aes128CtsHmacSha196
+    else (if is_key_of Aes256CtsHmacSha196 key then Some Aes256CtsHmacSha196 else None)

@@ -1,0 +1,40 @@
+-- A decision table: a relation with one outcome at most. The first case that holds counts.
+use Rattle.std.specs.Prelude.{◌≡◌, ◌⊎◌, ℕ, Bool, true, false, Option, None, Some, Result, Ok, Err}
+use Rattle.krb_rules.specs.One.{IsSole, one_done, one_ask, one_made, one_then}
+
+-- what the table gives, and that it is one outcome at most
+pub record Table (T : Type 0) : Type 1 where
+  pub gives : T → Type 0
+  pub one : (a b : T) → gives a → gives b → a ≡ b
+
+-- the outcome
+abbrev pub done : {T : Type 0} → T → Table T
+done x = record { gives = λ r. r ≡ x; one = one_done x }
+
+-- the value with the property, which the following cases read, or what holds where no value has it
+abbrev pub ask : {A T : Type 0} (P : A → Type 0) → IsSole P → Table T → (A → Table T) → Table T
+ask {A} P sole otherwise rest = record {
+  gives = λ r. ((a : A) × P a × (rest a).gives r) ⊎ (((a : A) → P a → ⊥) × otherwise.gives r);
+  one = one_ask P sole otherwise.gives otherwise.one (λ a. (rest a).gives) (λ a. (rest a).one);
+}
+
+-- what is made of the outcome
+abbrev pub as_made : {T U : Type 0} → (T → U) → Table T → Table U
+as_made {T} f t = record { gives = λ r. (a : T) × t.gives a × (r ≡ f a); one = one_made f t.gives t.one }
+
+-- the error with this code where the case holds
+abbrev pub refuse : {T : Type 0} → Bool → ℕ → Table (Result T ℕ) → Table (Result T ℕ)
+refuse true code rest = done (Err code)
+refuse false code rest = rest
+
+-- a value that the following cases read, or the error with this code where there is none
+abbrev pub need : {A T : Type 0} → Option A → ℕ → (A → Table (Result T ℕ)) → Table (Result T ℕ)
+need None code rest = done (Err code)
+need (Some a) code rest = rest a
+
+-- parts of a table: what the first gives, which the following cases read, or the first one's error
+abbrev pub and_then : {A T : Type 0} → Table (Result A ℕ) → (A → Table (Result T ℕ)) → Table (Result T ℕ)
+and_then {A} t rest = record {
+  gives = λ r. ((a : A) × t.gives (Ok a) × (rest a).gives r) ⊎ ((code : ℕ) × t.gives (Err code) × (r ≡ Err code));
+  one = one_then t.gives t.one (λ a. (rest a).gives) (λ a. (rest a).one);
+}

@@ -1,0 +1,28 @@
+//! Keys of messages.
+ghost use Rattle.std.specs.Prelude.{◌≡◌};
+ghost use Rattle.krb_rules.specs.Keys.{is_key_of, suite_of};
+
+use crate::numbers::is_number;
+use krb_crypto::{Cipher, CipherSuite};
+use krb_types::data_types::EncryptionKey;
+
+/// The suite that a key is one of, by its type and its length, or none (RFC 4120, section 5.2.9).
+pub fn suite_of(key: &EncryptionKey) -> Option<CipherSuite>
+    ensures { result ≡ suite_of key.now }
+{
+    if is_key_of(CipherSuite::Aes128CtsHmacSha196, key) {
+        return Some(CipherSuite::Aes128CtsHmacSha196);
+    }
+    if is_key_of(CipherSuite::Aes256CtsHmacSha196, key) {
+        return Some(CipherSuite::Aes256CtsHmacSha196);
+    }
+    None
+}
+
+fn is_key_of(suite: CipherSuite, key: &EncryptionKey) -> bool
+    ensures { result ≡ is_key_of suite key.now }
+{
+    let has_type = is_number(&key.key_type.0, u32::from(&suite));
+    let size = key.key_value.0.as_bytes().len();
+    has_type && size == suite.key_size()
+}

@@ -1,0 +1,30 @@
+//! Encrypted data of messages.
+ghost use Rattle.std.specs.Prelude.{◌≡◌, IfOk};
+ghost use Rattle.std.specs.Int.{cast_unsigned, w32};
+ghost use Rattle.picky_krb.specs.Found.{IsFound};
+ghost use Rattle.krb_rules.specs.Sealed.{IsSealedIn};
+
+use crate::numbers::is_number;
+use krb_crypto::CipherSuite;
+use krb_types::data_types::EncryptedData;
+use picky_asn1_der::Deserialize;
+use picky_krb::open_whole;
+use std::alloc::{AllocError, Global};
+
+/// The value that is sealed in the data under this key, for this usage, by this suite, or none (RFC 4120, section 5.2.9).
+pub fn open_sealed<T: Deserialize>(
+    alloc: Global,
+    suite: CipherSuite,
+    key: &[u8],
+    usage: i32,
+    sealed: &EncryptedData,
+) -> Result<Option<T>, AllocError>
+    ensures { IfOk result (IsFound (IsSealedIn T.tree suite key.now (cast_unsigned w32 usage) sealed.now)) }
+{
+    if !is_number(&sealed.etype.0, u32::from(&suite)) {
+        return Ok(None);
+    }
+    let bytes = sealed.cipher.0.as_bytes();
+    let value = open_whole(alloc, suite, key, usage, bytes)?;
+    Ok(value)
+}

@@ -1,0 +1,14 @@
+//! What a request presents.
+use krb_crypto::CipherSuite;
+use krb_moments::Moment;
+use krb_types::data_types::{AuthenticatorInner, EncTicketPartInner};
+
+/// What a request presents to its service: the ticket's part, the suite of its key, the authenticator under this key,
+/// and the moment that the authenticator tells.
+#[derive(Drop)]
+pub struct Presented {
+    pub part: EncTicketPartInner,
+    pub suite: CipherSuite,
+    pub authenticator: AuthenticatorInner,
+    pub time: Moment,
+}

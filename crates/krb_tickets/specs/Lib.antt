@@ -1,0 +1,4 @@
+pub mod Times
+pub mod Parts
+pub mod Granted
+pub mod MethodData

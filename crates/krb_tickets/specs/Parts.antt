@@ -1,0 +1,111 @@
+-- What a granted ticket and its reply hold (RFC 4120 3.1.3, 5.3, 5.4.2).
+use Rattle.std.specs.Prelude.{◌≡◌, ℕ, List, [], ◌∷◌, None, Some, pos, refl, take}
+use Rattle.picky_asn1.specs.BitString.{Bits}
+use Rattle.picky_asn1.specs.declared.date.GeneralizedTime.{GeneralizedTime}
+use Rattle.krb_crypto.specs.declared.suite.CipherSuite.{CipherSuite}
+use Rattle.krb_crypto.specs.Suites.{cipher_key_size, cipher_number}
+use Rattle.krb_accounts.specs.Account.{AccountRecord}
+use Rattle.krb_types.specs.declared.data_types.encrypted_data.EncryptedData.{EncryptedData}
+use Rattle.krb_types.specs.declared.data_types.encryption_key.EncryptionKey.{EncryptionKey}
+use Rattle.krb_types.specs.declared.data_types.enc_ticket_part.EncTicketPartInner.{EncTicketPartInner}
+use Rattle.krb_types.specs.declared.data_types.last_req.LastReqInner.{LastReqInner}
+use Rattle.krb_types.specs.declared.data_types.ticket.TicketInner.{TicketInner}
+use Rattle.krb_types.specs.declared.data_types.transited_encoding.TransitedEncoding.{TransitedEncoding}
+use Rattle.picky_krb.specs.declared.messages.kdc_rep.KdcRep.{KdcRep}
+use Rattle.picky_krb.specs.declared.messages.enc_kdc_rep_part.EncKdcRepPart.{EncKdcRepPart}
+use Rattle.krb_tickets.specs.declared.grant.Grant.{Grant}
+
+-- the session's key: the first of the random bytes
+abbrev pub session_key_of : CipherSuite → List ℕ → List ℕ
+session_key_of suite words = take (cipher_key_size suite) words
+
+-- a key of a suite
+abbrev pub encryption_key : CipherSuite → List ℕ → EncryptionKey
+encryption_key suite key = record {
+  key_type = record { 0 = pos (cipher_number suite) };
+  key_value = record { 0 = key };
+}
+
+-- what an account's key encrypts to this ciphertext, with the key's number
+abbrev pub encrypted_by : AccountRecord → List ℕ → EncryptedData
+encrypted_by account cipher = record {
+  etype = record { 0 = pos (cipher_number account.suite) };
+  kvno = record { 0 = Some (record { 0 = pos account.number }) };
+  cipher = record { 0 = cipher };
+}
+
+-- initial and preauthenticated (RFC 4120 5.3)
+abbrev pub initial_flags : Bits
+initial_flags = record { octets = 0x00 ∷ 0x60 ∷ 0x00 ∷ 0x00 ∷ []; unused = 0 }
+
+-- no realm was passed through, spelled as DOMAIN-X500-COMPRESS (RFC 4120 7.5.5)
+abbrev pub no_realms : TransitedEncoding
+no_realms = record { tr_type = record { 0 = pos 1 }; contents = record { 0 = [] } }
+
+-- one last request, of type 0, which says nothing (RFC 4120 5.4.2)
+abbrev pub last_requests : GeneralizedTime → List LastReqInner
+last_requests start = record { lr_type = record { 0 = pos 0 }; lr_value = record { 0 = record { 0 = start } } } ∷ []
+
+-- the part under the service's key: no realm was passed through, and no address and no right is told
+unfoldable pub ticket_part : Grant → EncTicketPartInner
+ticket_part grant = record {
+  flags = record { 0 = initial_flags };
+  key = record { 0 = encryption_key grant.suite grant.session };
+  crealm = record { 0 = grant.realm };
+  cname = record { 0 = grant.client };
+  transited = record { 0 = no_realms };
+  auth_time = record { 0 = record { 0 = grant.start } };
+  starttime = record { 0 = Some (record { 0 = record { 0 = grant.start } }) };
+  endtime = record { 0 = record { 0 = grant.until } };
+  renew_till = record { 0 = None };
+  caddr = record { 0 = None };
+  authorization_data = record { 0 = None };
+}
+
+-- the part under the client's key: one last request, of type 0, at the start
+unfoldable pub reply_part : Grant → EncKdcRepPart
+reply_part grant = record {
+  key = record { 0 = encryption_key grant.suite grant.session };
+  last_req = record { 0 = last_requests grant.start };
+  nonce = record { 0 = grant.nonce };
+  key_expiration = record { 0 = None };
+  flags = record { 0 = initial_flags };
+  auth_time = record { 0 = record { 0 = grant.start } };
+  start_time = record { 0 = Some (record { 0 = record { 0 = grant.start } }) };
+  end_time = record { 0 = record { 0 = grant.until } };
+  renew_till = record { 0 = None };
+  srealm = record { 0 = grant.realm };
+  sname = record { 0 = grant.service };
+  caddr = record { 0 = None };
+  encrypted_pa_data = record { 0 = None };
+}
+
+-- client and service share one key, and know the same end
+one_session_key : (grant : Grant) → (ticket_part grant).key.0 ≡ (reply_part grant).key.0
+unfolding ticket_part reply_part
+one_session_key grant = refl
+
+one_end : (grant : Grant) → (ticket_part grant).endtime.0 ≡ (reply_part grant).end_time.0
+unfolding ticket_part reply_part
+one_end grant = refl
+
+-- the ticket with its part as ciphertext
+unfoldable pub ticket_of : Grant → EncryptedData → TicketInner
+ticket_of grant part = record {
+  tkt_vno = record { 0 = pos 5 };
+  realm = record { 0 = grant.realm };
+  sname = record { 0 = grant.service };
+  enc_part = record { 0 = part };
+}
+
+-- the reply with its ticket, and its part as ciphertext
+unfoldable pub as_reply_of : Grant → TicketInner → EncryptedData → KdcRep
+as_reply_of grant ticket part = record {
+  pvno = record { 0 = pos 5 };
+  msg_type = record { 0 = pos 11 };
+  padata = record { 0 = None };
+  crealm = record { 0 = grant.realm };
+  cname = record { 0 = grant.client };
+  ticket = record { 0 = record { 0 = ticket } };
+  enc_part = record { 0 = part };
+}

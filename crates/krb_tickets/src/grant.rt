@@ -1,0 +1,165 @@
+//! Granting a first ticket.
+ghost use Rattle.std.specs.Prelude.{◌≡◌, ◌≤◌, length, IfOk};
+ghost use Rattle.krb_tickets.specs.Granted.{IsAsReply, IsSealedData, as_reply_bytes, as_reply_part_bytes, ticket_part_bytes};
+ghost use Rattle.krb_tickets.specs.Parts.{as_reply_of, reply_part, ticket_of, ticket_part};
+
+use crate::parts::{reply_part, ticket_part};
+use crate::seal::{encoding_of, sealed_data};
+use krb_accounts::Account;
+use krb_crypto::CipherSuite;
+use krb_types::data_types::{EncTicketPart, EncryptedData, PrincipalName, Ticket, TicketInner};
+use picky_asn1::date::GeneralizedTime;
+use picky_asn1::wrapper::{GeneralStringAsn1, IntegerAsn1, OctetStringAsn1};
+use picky_asn1_der::{ApplicationTag, ExplicitContextTag, Optional};
+use picky_krb::messages::{AsRep, EncAsRepPart, KdcRep};
+use std::alloc::{AllocError, Global};
+
+/// The usage of the key that seals a ticket's part (RFC 4120, section 7.5.1).
+const TICKET_USAGE: i32 = 2;
+
+/// The usage of the key that seals an AS reply's part.
+const AS_REPLY_USAGE: i32 = 3;
+
+/// The version of Kerberos, of tickets and of messages.
+const VERSION: u64 = 5;
+
+/// The type of an AS reply (RFC 4120, section 5.10).
+const AS_REPLY_TYPE: u64 = 11;
+
+/// What a first ticket is granted with.
+#[derive(Drop)]
+pub struct Grant {
+    /// The suite of the session's key.
+    pub suite: CipherSuite,
+    /// The session's key, which client and service will share.
+    pub session: OctetStringAsn1,
+    /// The realm of client and service.
+    pub realm: GeneralStringAsn1,
+    /// The client, as it named itself.
+    pub client: PrincipalName,
+    /// The service, as the client named it.
+    pub service: PrincipalName,
+    /// The second that the ticket starts in.
+    pub start: GeneralizedTime,
+    /// The second that the ticket ends in.
+    pub until: GeneralizedTime,
+    /// The number by which the client knows its request again.
+    pub nonce: IntegerAsn1,
+}
+
+/// The reply with the ticket, under the accounts' keys (RFC 4120, section 5.4.2). Of the random bytes 32 to 47 are the
+/// ticket's confounder, and 48 to 63 the reply's.
+pub fn as_reply(
+    alloc: Global,
+    grant: Grant,
+    client: &Account,
+    service: &Account,
+    words: &[u8],
+) -> Result<Vec<u8>, AllocError>
+    requires { 128 ≤ length words.now }
+    ensures { IfOk result (λ bytes. IsAsReply grant client.now service.now words.now bytes.items) }
+{
+    let ticket = sealed_ticket(alloc, &grant, service, &words[32..48])?;
+    let part = sealed_reply(alloc, &grant, client, &words[48..64])?;
+    let reply = reply_of(alloc, grant, ticket, part)?;
+    let bytes = reply_bytes(alloc, reply)?;
+    Ok(bytes)
+}
+
+// The ticket's part under the service's key.
+fn sealed_ticket(
+    alloc: Global,
+    grant: &Grant,
+    service: &Account,
+    confounder: &[u8],
+) -> Result<EncryptedData, AllocError>
+    requires { length confounder.now ≡ 16 }
+    ensures { IfOk result (IsSealedData service.now 2 confounder.now (ticket_part_bytes (ticket_part grant.now))) }
+{
+    let part = ticket_part(alloc, grant)?;
+    let plain = ticket_part_bytes(alloc, part)?;
+    let sealed = sealed_data(alloc, service, TICKET_USAGE, &plain, confounder)?;
+    Ok(sealed)
+}
+
+// The reply's part under the client's key.
+fn sealed_reply(
+    alloc: Global,
+    grant: &Grant,
+    client: &Account,
+    confounder: &[u8],
+) -> Result<EncryptedData, AllocError>
+    requires { length confounder.now ≡ 16 }
+    ensures { IfOk result (IsSealedData client.now 3 confounder.now (as_reply_part_bytes (reply_part grant.now))) }
+{
+    let part = reply_part(alloc, grant)?;
+    let plain = reply_part_bytes(alloc, part)?;
+    let sealed = sealed_data(alloc, client, AS_REPLY_USAGE, &plain, confounder)?;
+    Ok(sealed)
+}
+
+// The reply with the sealed parts of the ticket and of the reply.
+#[tactic(auto, unfolding(crate::specs::Parts::as_reply_of))]
+fn reply_of(
+    alloc: Global,
+    grant: Grant,
+    ticket: EncryptedData,
+    part: EncryptedData,
+) -> Result<AsRep, AllocError>
+    ensures { IfOk result (λ reply. reply.0 ≡ as_reply_of grant (ticket_of grant ticket) part) }
+{
+    let ticket = ticket_of(alloc, &grant, ticket)?;
+    let version = IntegerAsn1::from_u64(alloc, VERSION)?;
+    let kind = IntegerAsn1::from_u64(alloc, AS_REPLY_TYPE)?;
+    Ok(ApplicationTag(KdcRep {
+        pvno: ExplicitContextTag(version),
+        msg_type: ExplicitContextTag(kind),
+        padata: Optional(None),
+        crealm: ExplicitContextTag(grant.realm),
+        cname: ExplicitContextTag(grant.client),
+        ticket: ExplicitContextTag(ticket),
+        enc_part: ExplicitContextTag(part),
+    }))
+}
+
+// The ticket with its sealed part.
+#[tactic(auto, unfolding(crate::specs::Parts::ticket_of))]
+fn ticket_of(alloc: Global, grant: &Grant, part: EncryptedData) -> Result<Ticket, AllocError>
+    ensures { IfOk result (λ ticket. ticket.0 ≡ ticket_of grant.now part) }
+{
+    let version = IntegerAsn1::from_u64(alloc, VERSION)?;
+    let realm = grant.realm.clone(alloc)?;
+    let service = grant.service.clone(alloc)?;
+    Ok(ApplicationTag(TicketInner {
+        tkt_vno: ExplicitContextTag(version),
+        realm: ExplicitContextTag(realm),
+        sname: ExplicitContextTag(service),
+        enc_part: ExplicitContextTag(part),
+    }))
+}
+
+// The encodings. Each has a function of its own, which also drops what it encodes: no other sees what that is made of.
+
+#[tactic(auto, unfolding(crate::specs::Granted::ticket_part_bytes))]
+fn ticket_part_bytes(alloc: Global, part: EncTicketPart) -> Result<Vec<u8>, AllocError>
+    ensures { IfOk result (λ bytes. bytes.items ≡ ticket_part_bytes part.0) }
+{
+    let bytes = encoding_of(alloc, &part)?;
+    Ok(bytes)
+}
+
+#[tactic(auto, unfolding(crate::specs::Granted::as_reply_part_bytes))]
+fn reply_part_bytes(alloc: Global, part: EncAsRepPart) -> Result<Vec<u8>, AllocError>
+    ensures { IfOk result (λ bytes. bytes.items ≡ as_reply_part_bytes part.0) }
+{
+    let bytes = encoding_of(alloc, &part)?;
+    Ok(bytes)
+}
+
+#[tactic(auto, unfolding(crate::specs::Granted::as_reply_bytes))]
+fn reply_bytes(alloc: Global, reply: AsRep) -> Result<Vec<u8>, AllocError>
+    ensures { IfOk result (λ bytes. bytes.items ≡ as_reply_bytes reply.0) }
+{
+    let bytes = encoding_of(alloc, &reply)?;
+    Ok(bytes)
+}

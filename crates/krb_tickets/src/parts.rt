@@ -1,0 +1,125 @@
+//! The parts of a granted ticket and of its reply, before they are sealed.
+ghost use Rattle.std.specs.Prelude.{◌≡◌, IfOk};
+ghost use Rattle.krb_tickets.specs.Parts.{encryption_key, initial_flags, last_requests, no_realms, reply_part, ticket_part};
+
+use crate::grant::Grant;
+use krb_types::data_types::{
+    EncTicketPart, EncTicketPartInner, EncryptionKey, KerberosFlags, LastReq, LastReqInner,
+    TransitedEncoding,
+};
+use picky_asn1::date::GeneralizedTime;
+use picky_asn1::wrapper::{
+    Asn1SequenceOf, BitStringAsn1, GeneralizedTimeAsn1, IntegerAsn1, OctetStringAsn1,
+};
+use picky_asn1_der::{ApplicationTag, ExplicitContextTag, Optional};
+use picky_krb::messages::{EncAsRepPart, EncKdcRepPart};
+use std::alloc::{AllocError, Global};
+
+/// The flags `initial` and `pre-authent`, bits 9 and 10 of 32 (RFC 4120, section 5.3).
+const INITIAL_FLAGS: [u8; 4] = [0x00, 0x60, 0x00, 0x00];
+
+/// The spelling of passed realms that RFC 4120 names, DOMAIN-X500-COMPRESS (section 7.5.5).
+const DOMAIN_X500_COMPRESS: u64 = 1;
+
+/// A last request of type 0 says nothing (RFC 4120, section 5.4.2).
+const NO_LAST_REQUEST: u64 = 0;
+
+/// The part of the ticket that the service alone reads (RFC 4120, section 5.3).
+#[tactic(auto, unfolding(crate::specs::Parts::ticket_part))]
+pub(crate) fn ticket_part(alloc: Global, grant: &Grant) -> Result<EncTicketPart, AllocError>
+    ensures { IfOk result (λ part. part.0 ≡ ticket_part grant.now) }
+{
+    let flags = initial_flags(alloc)?;
+    let key = encryption_key(alloc, grant)?;
+    let realm = grant.realm.clone(alloc)?;
+    let client = grant.client.clone(alloc)?;
+    let transited = no_realms(alloc)?;
+    let start = GeneralizedTimeAsn1(grant.start);
+    Ok(ApplicationTag(EncTicketPartInner {
+        flags: ExplicitContextTag(flags),
+        key: ExplicitContextTag(key),
+        crealm: ExplicitContextTag(realm),
+        cname: ExplicitContextTag(client),
+        transited: ExplicitContextTag(transited),
+        auth_time: ExplicitContextTag(start),
+        starttime: Optional(Some(ExplicitContextTag(start))),
+        endtime: ExplicitContextTag(GeneralizedTimeAsn1(grant.until)),
+        renew_till: Optional(None),
+        caddr: Optional(None),
+        authorization_data: Optional(None),
+    }))
+}
+
+/// The part of the reply that the client alone reads (RFC 4120, section 5.4.2).
+#[tactic(auto, unfolding(crate::specs::Parts::reply_part))]
+pub(crate) fn reply_part(alloc: Global, grant: &Grant) -> Result<EncAsRepPart, AllocError>
+    ensures { IfOk result (λ part. part.0 ≡ reply_part grant.now) }
+{
+    let key = encryption_key(alloc, grant)?;
+    let last_req = last_requests(alloc, grant.start)?;
+    let nonce = grant.nonce.clone(alloc)?;
+    let flags = initial_flags(alloc)?;
+    let realm = grant.realm.clone(alloc)?;
+    let service = grant.service.clone(alloc)?;
+    let start = GeneralizedTimeAsn1(grant.start);
+    Ok(ApplicationTag(EncKdcRepPart {
+        key: ExplicitContextTag(key),
+        last_req: ExplicitContextTag(last_req),
+        nonce: ExplicitContextTag(nonce),
+        key_expiration: Optional(None),
+        flags: ExplicitContextTag(flags),
+        auth_time: ExplicitContextTag(start),
+        start_time: Optional(Some(ExplicitContextTag(start))),
+        end_time: ExplicitContextTag(GeneralizedTimeAsn1(grant.until)),
+        renew_till: Optional(None),
+        srealm: ExplicitContextTag(realm),
+        sname: ExplicitContextTag(service),
+        caddr: Optional(None),
+        encrypted_pa_data: Optional(None),
+    }))
+}
+
+// The session's key with the number of its suite.
+fn encryption_key(alloc: Global, grant: &Grant) -> Result<EncryptionKey, AllocError>
+    ensures { IfOk result (λ key. key ≡ encryption_key grant.now.suite grant.now.session) }
+{
+    let number = IntegerAsn1::from_u64(alloc, u64::from(u8::from(grant.suite)))?;
+    let session = grant.session.clone(alloc)?;
+    Ok(EncryptionKey {
+        key_type: ExplicitContextTag(number),
+        key_value: ExplicitContextTag(session),
+    })
+}
+
+fn initial_flags(alloc: Global) -> Result<KerberosFlags, AllocError>
+    ensures { IfOk result (λ flags. flags ≡ initial_flags) }
+{
+    let Ok(flags) = BitStringAsn1::new(alloc, &INITIAL_FLAGS, 0) else {
+        return Err(AllocError);
+    };
+    Ok(flags)
+}
+
+// No realm lies between that of the client and that of the service.
+fn no_realms(alloc: Global) -> Result<TransitedEncoding, AllocError>
+    ensures { IfOk result (λ transited. transited ≡ no_realms) }
+{
+    let spelling = IntegerAsn1::from_u64(alloc, DOMAIN_X500_COMPRESS)?;
+    Ok(TransitedEncoding {
+        tr_type: ExplicitContextTag(spelling),
+        contents: ExplicitContextTag(OctetStringAsn1::from(Vec::new(alloc))),
+    })
+}
+
+// A realm that keeps no last requests names none, as one entry (RFC 4120 wants one).
+fn last_requests(alloc: Global, start: GeneralizedTime) -> Result<LastReq, AllocError>
+    ensures { IfOk result (λ requests. requests ≡ last_requests start) }
+{
+    let kind = IntegerAsn1::from_u64(alloc, NO_LAST_REQUEST)?;
+    let request = LastReqInner {
+        lr_type: ExplicitContextTag(kind),
+        lr_value: ExplicitContextTag(GeneralizedTimeAsn1(start)),
+    };
+    let requests = vec![in alloc; request]?;
+    Ok(Asn1SequenceOf::from(requests))
+}

@@ -1,0 +1,35 @@
+//! A ticket's times.
+ghost use Rattle.std.specs.Prelude.{◌≡◌, ◌≤◌, ◌<◌, ◌+◌};
+ghost use Rattle.picky_asn1.specs.GeneralizedTime.{seconds_of};
+ghost use Rattle.krb_tickets.specs.Times.{end_of, start_of};
+
+use krb_accounts::Settings;
+use krb_moments::Moment;
+use picky_asn1::date::GeneralizedTime;
+
+/// The end that asks for as late a one as may be, 1970-01-01 00:00:00 (RFC 4120, section 3.1.3), in seconds since year 0.
+const NO_END: u64 = 62_167_219_200;
+
+/// The last second that a message can name, 9999-12-31 23:59:59.
+const LAST_SECOND: u64 = 315_569_519_999;
+
+/// The second that a ticket starts in.
+pub fn start_of(moment: Moment) -> GeneralizedTime
+    ensures { seconds_of result ≡ start_of moment }
+{
+    moment.second()
+}
+
+/// The second that a ticket ends in: the least of the end asked for, the start and the greatest lifetime, and the last
+/// second of year 9999.
+pub fn end_of(settings: Settings, start: GeneralizedTime, till: GeneralizedTime) -> GeneralizedTime
+    ensures { seconds_of result ≡ end_of settings.lifetime (seconds_of start) (seconds_of till) }
+{
+    let asked = if till.seconds() == NO_END {
+        LAST_SECOND
+    } else {
+        till.seconds()
+    };
+    let greatest = (start.seconds() + settings.lifetime()).min(LAST_SECOND);
+    GeneralizedTime::from_seconds(asked.min(greatest))
+}

@@ -1,0 +1,127 @@
+//! Numbers of the standard.
+
+/// Message types, which are application tags too, further application tags, and name types.
+pub mod types {
+    /// An AS-REQ (RFC 4120 5.10).
+    pub const AS_REQ_MSG_TYPE: u8 = 10;
+
+    /// An AS-REP (RFC 4120 5.10).
+    pub const AS_REP_MSG_TYPE: u8 = 11;
+
+    /// A TGS-REQ (RFC 4120 5.10).
+    pub const TGS_REQ_MSG_TYPE: u8 = 12;
+
+    /// A TGS-REP (RFC 4120 5.10).
+    pub const TGS_REP_MSG_TYPE: u8 = 13;
+
+    /// An AP-REQ (RFC 4120 5.10).
+    pub const AP_REQ_MSG_TYPE: u8 = 14;
+
+    /// An AP-REP (RFC 4120 5.10).
+    pub const AP_REP_MSG_TYPE: u8 = 15;
+
+    /// A KRB-ERROR (RFC 4120 5.10).
+    pub const KRB_ERROR_MSG_TYPE: u8 = 30;
+
+    /// A ticket (RFC 4120 5.10).
+    pub const TICKET_TYPE: u8 = 1;
+
+    /// An authenticator (RFC 4120 5.10).
+    pub const AUTHENTICATOR_TYPE: u8 = 2;
+
+    /// The sealed part of a ticket (RFC 4120 5.10).
+    pub const ENC_TICKET_PART_TYPE: u8 = 3;
+
+    /// The sealed part of an AS-REP (RFC 4120 5.10).
+    pub const ENC_AS_REP_PART_TYPE: u8 = 25;
+
+    /// The sealed part of a TGS-REP (RFC 4120 5.10).
+    pub const ENC_TGS_REP_PART_TYPE: u8 = 26;
+
+    /// The sealed part of an AP-REP (RFC 4120 5.10).
+    pub const ENC_AP_REP_PART_TYPE: u8 = 27;
+
+    /// The name of a principal (RFC 4120 6.2).
+    pub const NT_PRINCIPAL: u8 = 1;
+
+    /// The name of a service and its instance (RFC 4120 6.2).
+    pub const NT_SRV_INST: u8 = 2;
+}
+
+/// Codes of a KRB-ERROR (RFC 4120 7.5.9), those that a realm of this repository answers.
+pub mod error_codes {
+    /// The protocol version isn't 5.
+    pub const KDC_ERR_BAD_PVNO: u32 = 3;
+
+    /// The client isn't known.
+    pub const KDC_ERR_C_PRINCIPAL_UNKNOWN: u32 = 6;
+
+    /// The service isn't known.
+    pub const KDC_ERR_S_PRINCIPAL_UNKNOWN: u32 = 7;
+
+    /// A ticket can't be postdated.
+    pub const KDC_ERR_CANNOT_POSTDATE: u32 = 10;
+
+    /// The ticket would end where it starts, or earlier.
+    pub const KDC_ERR_NEVER_VALID: u32 = 11;
+
+    /// An option isn't granted.
+    pub const KDC_ERR_BADOPTION: u32 = 13;
+
+    /// No suite that the request lists is at hand.
+    pub const KDC_ERR_ETYPE_NOSUPP: u32 = 14;
+
+    /// The preauthentication isn't supported.
+    pub const KDC_ERR_PADATA_TYPE_NOSUPP: u32 = 16;
+
+    /// The preauthentication doesn't show that the client has its key.
+    pub const KDC_ERR_PREAUTH_FAILED: u32 = 24;
+
+    /// The client has to authenticate first.
+    pub const KDC_ERR_PREAUTH_REQUIRED: u32 = 25;
+
+    /// What is sealed doesn't open under the key.
+    pub const KRB_AP_ERR_BAD_INTEGRITY: u32 = 31;
+
+    /// The ticket has ended.
+    pub const KRB_AP_ERR_TKT_EXPIRED: u32 = 32;
+
+    /// The ticket isn't valid yet.
+    pub const KRB_AP_ERR_TKT_NYV: u32 = 33;
+
+    /// The request was admitted before.
+    pub const KRB_AP_ERR_REPEAT: u32 = 34;
+
+    /// The ticket is for another service.
+    pub const KRB_AP_ERR_NOT_US: u32 = 35;
+
+    /// The authenticator is another client's than the ticket.
+    pub const KRB_AP_ERR_BADMATCH: u32 = 36;
+
+    /// The clocks differ by more than the skew.
+    pub const KRB_AP_ERR_SKEW: u32 = 37;
+
+    /// The protocol version of a ticket or an authenticator isn't 5.
+    pub const KRB_AP_ERR_BADVERSION: u32 = 39;
+
+    /// The message type isn't the request's.
+    pub const KRB_AP_ERR_MSG_TYPE: u32 = 40;
+
+    /// A message was modified.
+    pub const KRB_AP_ERR_MODIFIED: u32 = 41;
+
+    /// The ticket is under a key of another number.
+    pub const KRB_AP_ERR_BADKEYVER: u32 = 44;
+
+    /// The service has no key of the ticket's suite.
+    pub const KRB_AP_ERR_NOKEY: u32 = 45;
+
+    /// The service doesn't authenticate in this way.
+    pub const KRB_AP_ERR_METHOD: u32 = 48;
+
+    /// An error that has no code of its own.
+    pub const KRB_ERR_GENERIC: u32 = 60;
+
+    /// The realm is another one.
+    pub const KDC_ERR_WRONG_REALM: u32 = 68;
+}
