@@ -1,10 +1,11 @@
 //! An account: what a realm knows of a principal.
-ghost use Rattle.std.specs.Prelude.{◌≡◌, ◌≢◌, ◌≤◌, ◌↔◌, length, IfOk, IfErr, None, ◌⊎◌};
+ghost use Rattle.std.specs.Prelude.{◌≡◌, ◌≢◌, ◌≤◌, ◌<◌, ◌+◌, ◌↔◌, length, IfOk, IfErr, None, ◌⊎◌};
 ghost use Rattle.std.specs.Option.{option_copied};
 ghost use Rattle.krb_crypto.specs.Suites.{cipher_key_size};
+ghost use Rattle.krb_accounts.specs.Passwords.{password_account};
 
 use crate::RealmRefusal;
-use krb_crypto::CipherSuite;
+use krb_crypto::{Cipher, CipherSuite, KerberosCryptoError};
 use picky_asn1::wrapper::OctetStringAsn1;
 use std::alloc::Global;
 use std::marker::Model;
@@ -64,6 +65,21 @@ impl Account {
         }
         let key = OctetStringAsn1::new(alloc, key)?;
         Ok(Account::new(suite, key, 1, None))
+    }
+
+    /// An account with the first key of a password and a salt (RFC 3962, section 4).
+    pub fn by_password(
+        alloc: Global,
+        suite: CipherSuite,
+        password: &[u8],
+        salt: Vec<u8>,
+    ) -> Result<Account, KerberosCryptoError>
+        ensures ok { IfOk result (λ a. a ≡ password_account suite password.now salt.items) }
+        ensures memory { 0 < length password.now + length salt.items → IfErr result (λ e. e ≡ KerberosCryptoError.Memory) }
+    {
+        let key = suite.generate_key_from_password(alloc, password, &salt)?;
+        let salt = OctetStringAsn1::from(salt);
+        Ok(Account::new(suite, OctetStringAsn1::from(key), 1, Some(salt)))
     }
 
     /// The suite of the key.

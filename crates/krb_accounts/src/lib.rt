@@ -4,6 +4,7 @@
 mod account;
 mod accounts;
 mod names;
+mod passwords;
 mod refusal;
 mod settings;
 #[cfg(test)]
@@ -12,5 +13,6 @@ mod tests;
 pub use account::Account;
 pub use accounts::Accounts;
 pub use names::{are_components, components_of, is_realm_name, realm_name_of};
+pub use passwords::password_salt;
 pub use refusal::RealmRefusal;
 pub use settings::Settings;

@@ -1,30 +1,16 @@
 -- What a table gives by what its first row says.
-use Rattle.std.proofs.Common.{◌≡◌, Bool, true, false, Option, None, Some, Ok, Err, refl, inl, inr, subst, sym}
+use Rattle.std.proofs.Common.{◌≡◌, Bool, true, false, Ok, Err, inl, inr}
 use Rattle.krb_rules.specs.One.{IsSole}
-use Rattle.krb_rules.specs.Rows.{Table, ask}
-use Rattle.krb_client.specs.AsReply.{Taken, need, refuse}
+use Rattle.krb_rules.specs.Rows.{Table, ask, refuse}
+use Rattle.krb_client.specs.AsReply.{Taken}
 use Rattle.krb_client.specs.Refusals.{IsTaken}
 use Rattle.krb_client.specs.declared.refusal.TakeRefusal.{TakeRefusal}
 use Rattle.krb_client.specs.declared.refusal.TakeRefusal.TheVariants.{Memory, NotAsked, NotSealed, Refused, Unreadable}
 
--- the case holds
-pub refused : (case : Bool) (refusal : TakeRefusal) (rest : Table Taken) → case ≡ true → (refuse case refusal rest).gives (Err refusal)
-refused true refusal rest e = refl
-refused false refusal rest e = absurd (cc (e))
-
--- it doesn't
+-- the case doesn't hold
 pub passed : (case : Bool) (refusal : TakeRefusal) (rest : Table Taken) (taken : Taken) → case ≡ false → IsTaken rest taken → IsTaken (refuse case refusal rest) taken
 passed true refusal rest taken e given = absurd (cc (e))
 passed false refusal rest taken e given = given
-
--- the value is there
-pub needed : {A : Type 0} (value : Option A) (refusal : TakeRefusal) (rest : A → Table Taken) (taken : Taken) (a : A)
-    → value ≡ Some a → IsTaken (rest a) taken → IsTaken (need value refusal rest) taken
-needed value refusal rest taken a e given = subst (λ v. IsTaken (need v refusal rest) taken) (sym e) given
-
--- it isn't
-pub lacking : {A : Type 0} (value : Option A) (refusal : TakeRefusal) (rest : A → Table Taken) → value ≡ None → (need value refusal rest).gives (Err refusal)
-lacking value refusal rest e = subst (λ v. (need v refusal rest).gives (Err refusal)) (sym e) refl
 
 -- a value has the property
 pub found : {A : Type 0} (P : A → Type 0) (sole : IsSole P) (otherwise : Table Taken) (rest : A → Table Taken) (taken : Taken) (a : A)

@@ -3,8 +3,8 @@ use Rattle.std.proofs.Common.{◌≡◌, true, not, Err, List, ℕ, ap}
 use Rattle.picky_krb.specs.declared.messages.enc_kdc_rep_part.EncKdcRepPart.{EncKdcRepPart}
 use Rattle.picky_krb.specs.declared.messages.kdc_rep.KdcRep.{KdcRep}
 use Rattle.krb_rules.specs.Numbers.{is_number}
-use Rattle.krb_rules.specs.Rows.{Table, ask, done}
-use Rattle.krb_client.specs.AsReply.{IsAsPart, IsTgsPart, Taken, refuse, sole_as_part, sole_tgs_part, takes_as_reply, takes_part, takes_reply, takes_sealed}
+use Rattle.krb_rules.specs.Rows.{Table, ask, done, refuse}
+use Rattle.krb_client.specs.AsReply.{IsAsPart, IsTgsPart, Taken, sole_as_part, sole_tgs_part, takes_as_reply, takes_part, takes_reply, takes_sealed}
 use Rattle.krb_client.specs.Client.{AsAskedRecord, ClientRecord}
 use Rattle.krb_client.specs.Messages.{IsAsReply, IsErrorCode, sole_as_reply, sole_error_code}
 use Rattle.krb_client.specs.Refusals.{IsTaken}

@@ -1,5 +1,5 @@
 -- What a client takes as the reply to its AS request (RFC 4120 3.1.5): the first case that holds counts.
-use Rattle.std.specs.Prelude.{◌≡◌, ℕ, Bool, true, false, not, ◌&&◌, List, Option, None, Some, Result, Ok, Err}
+use Rattle.std.specs.Prelude.{◌≡◌, ℕ, Bool, not, ◌&&◌, List, Result, Ok, Err}
 use Rattle.asn1_trees.proofs.Spelling.{wrapped-injective}
 use Rattle.krb_crypto.specs.declared.suite.CipherSuite.{CipherSuite}
 use Rattle.krb_types.specs.declared.data_types.encrypted_data.EncryptedData.{EncryptedData}
@@ -10,7 +10,7 @@ use Rattle.krb_rules.specs.Keys.{suite_of}
 use Rattle.krb_rules.specs.Names.{components, is_same_name, is_same_realm}
 use Rattle.krb_rules.specs.Numbers.{is_number}
 use Rattle.krb_rules.specs.One.{IsSole}
-use Rattle.krb_rules.specs.Rows.{Table, ask, done}
+use Rattle.krb_rules.specs.Rows.{Table, ask, done, need, refuse}
 use Rattle.krb_rules.specs.Sealed.{IsSealedIn, sole_sealed}
 use Rattle.krb_client.specs.Client.{AsAskedRecord, ClientRecord, CredentialRecord}
 use Rattle.krb_client.specs.Messages.{IsAsReply, IsErrorCode, as_reply_part_tree, sole_as_reply, sole_error_code, tgs_reply_part_tree}
@@ -35,16 +35,6 @@ sole_tgs_part client sealed = sole_sealed tgs_reply_part_tree (wrapped-injective
 
 abbrev pub Taken : Type 0
 Taken = Result CredentialRecord TakeRefusal
-
--- the refusal where the case holds
-abbrev pub refuse : Bool → TakeRefusal → Table Taken → Table Taken
-refuse true refusal rest = done (Err refusal)
-refuse false refusal rest = rest
-
--- a value that the following cases read, or the refusal where there is none
-abbrev pub need : {A : Type 0} → Option A → TakeRefusal → (A → Table Taken) → Table Taken
-need None refusal rest = done (Err refusal)
-need (Some a) refusal rest = rest a
 
 -- the reply's ticket, with the key, realm and service of its opened part
 abbrev pub credential_of : KdcRep → EncKdcRepPart → CipherSuite → CredentialRecord

@@ -1,9 +1,9 @@
 -- What clients are, what they remember of a request, and what they are granted (RFC 4120 3.1, 3.2).
-use Rattle.std.specs.Prelude.{ℕ, not, ◌&&◌, List, ◌++◌, Option, Result, Ok, Err, if◌then◌else◌}
-use Rattle.std.specs.List.{flat_map}
+use Rattle.std.specs.Prelude.{ℕ, not, ◌&&◌, List, Option, Result, Ok, Err, if◌then◌else◌}
 use Rattle.krb_crypto.specs.declared.suite.CipherSuite.{CipherSuite}
 use Rattle.krb_crypto.specs.Sealing.{password_key_of}
 use Rattle.krb_accounts.specs.Names.{are_components, is_realm_name}
+use Rattle.krb_accounts.specs.Passwords.{password_salt}
 use Rattle.krb_types.specs.declared.data_types.principal_name.PrincipalName.{PrincipalName}
 use Rattle.krb_types.specs.declared.data_types.ticket.TicketInner.{TicketInner}
 use Rattle.krb_client.specs.declared.refusal.AskRefusal.{AskRefusal}
@@ -15,10 +15,6 @@ pub record ClientRecord : Type 0 where
   pub components : List (List ℕ)
   pub suite : CipherSuite
   pub key : List ℕ
-
--- the salt of a client's password: the realm, and behind it the components (RFC 4120 4)
-abbrev pub password_salt : List ℕ → List (List ℕ) → List ℕ
-password_salt realm components = realm ++ flat_map (λ component. component) components
 
 -- the client of a password, or why there is none
 abbrev pub client_of : List ℕ → List (List ℕ) → CipherSuite → List ℕ → Result ClientRecord AskRefusal

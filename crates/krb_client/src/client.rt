@@ -4,8 +4,7 @@ ghost use Rattle.krb_accounts.specs.Names.{parts};
 ghost use Rattle.krb_crypto.specs.Suites.{cipher_key_size};
 
 use crate::AskRefusal;
-use crate::names::password_salt;
-use krb_accounts::{are_components, components_of, is_realm_name, realm_name_of};
+use krb_accounts::{are_components, components_of, is_realm_name, password_salt, realm_name_of};
 use krb_crypto::{Cipher, CipherSuite};
 use picky_asn1::wrapper::{GeneralStringAsn1, OctetStringAsn1};
 use std::alloc::Global;

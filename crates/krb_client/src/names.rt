@@ -1,28 +1,11 @@
-//! Names, and the salt that is made of them.
+//! Names.
 ghost use Rattle.std.specs.Prelude.{◌≡◌, IfOk};
-ghost use Rattle.krb_accounts.specs.Names.{parts};
-ghost use Rattle.krb_client.specs.Client.{password_salt};
 ghost use Rattle.krb_client.specs.Sealing.{principal_name};
 
 use krb_types::data_types::PrincipalName;
 use picky_asn1::wrapper::{Asn1SequenceOf, GeneralStringAsn1, IntegerAsn1};
 use picky_asn1_der::ExplicitContextTag;
 use std::alloc::{AllocError, Global};
-
-/// The salt of a client's password: the realm, and behind it the components of the name (RFC 4120, section 4).
-pub(crate) fn password_salt(
-    alloc: Global,
-    realm: &[u8],
-    name: &[Vec<u8>],
-) -> Result<Vec<u8>, AllocError>
-    ensures { IfOk result (λ salt. salt.items ≡ password_salt realm.now (parts name.now)) }
-{
-    let mut salt = Vec::from_slice(alloc, realm)?;
-    for component in name {
-        salt.extend_from_slice(component)?;
-    }
-    Ok(salt)
-}
 
 /// The name of this type with copies of the components (RFC 4120, section 5.2.2).
 pub(crate) fn principal_name(

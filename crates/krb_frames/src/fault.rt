@@ -1,6 +1,8 @@
 //! Why a message gets no reply, and why serving stops.
 ghost use Rattle.std.specs.Prelude.{◌≡◌};
+ghost use Rattle.krb_frames.specs.declared.fault.AnswerRefusal.TheVariants as answer_refusal;
 
+use std::alloc::AllocError;
 use thiserror::Error;
 
 /// Why a responder gives no reply.
@@ -22,6 +24,14 @@ impl AnswerRefusal {
         ensures { result ≡ refusal_number self }
     {
         self as u8
+    }
+}
+
+impl From<AllocError> for AnswerRefusal {
+    ghost from_gives = { λ _ refusal. refusal ≡ answer_refusal.Memory };
+
+    fn from(_failed: AllocError) -> AnswerRefusal {
+        AnswerRefusal::Memory
     }
 }
 

@@ -10,5 +10,5 @@ unfoldable pub first_entry : ℕ → List PaData → Option PaData
 first_entry kind entries = find (λ entry. is_number kind entry.padata_type.0) entries
 
 -- its data, which counts alone
-abbrev pub first_of : ℕ → List PaData → Option (List ℕ)
+unfoldable pub first_of : ℕ → List PaData → Option (List ℕ)
 first_of kind entries = option_map (λ entry. entry.padata_data.0) (first_entry kind entries)

@@ -38,5 +38,5 @@ or_zero None = pos 0
 or_zero (Some micros) = micros
 
 -- the moment that the stamp tells, in microseconds, or none where its own are no part of a second
-abbrev pub moment_of : PaEncTsEnc → Option ℕ
+unfoldable pub moment_of : PaEncTsEnc → Option ℕ
 moment_of stamp = moment_at (seconds_of stamp.patimestamp.0.0) (or_zero (option_map (λ tagged. tagged.0) stamp.pausec.0))

@@ -8,6 +8,7 @@ use krb_types::data_types::PaData;
 use picky_asn1::wrapper::OctetStringAsn1;
 
 /// The data of the first entry of a type, the one that counts (RFC 4120, section 5.2.7).
+#[tactic(auto, unfolding(crate::specs::Entries::first_of))]
 pub fn first_of(entries: &[PaData], kind: u32) -> Option<&OctetStringAsn1>
     ensures { option_copied result ≡ first_of kind entries.now }
 {

@@ -30,6 +30,7 @@ pub fn open_stamp(
 }
 
 /// The moment that a stamp tells, or none where its microseconds are no part of a second. Missing ones are zero.
+#[tactic(auto, unfolding(crate::specs::Stamps::moment_of))]
 pub fn moment_of(stamp: &PaEncTsEnc) -> Option<Moment>
     ensures { result ≡ moment_of stamp.now }
 {

@@ -1,0 +1,2 @@
+mod Granted
+mod Judged

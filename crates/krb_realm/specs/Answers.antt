@@ -1,5 +1,5 @@
 -- What a realm answers, as a realm's replies are.
-use Rattle.std.specs.Prelude.{◌≡◌, ℕ, List, Option, None, Some, Result, Ok, Err, vec_len}
+use Rattle.std.specs.Prelude.{ℕ, List, Option, None, Some, Result, Ok, Err}
 use Rattle.std.specs.Prelude.{Vec}
 use Rattle.std.specs.Global.{Global}
 use Rattle.krb_frames.specs.declared.fault.AnswerRefusal.{AnswerRefusal}

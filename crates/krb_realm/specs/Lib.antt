@@ -1,3 +1,4 @@
+pub mod Judged
 pub mod Realm
 pub mod Answers
 pub use Rattle.krb_replies.specs.Replies

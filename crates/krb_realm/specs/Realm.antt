@@ -1,14 +1,14 @@
 -- A realm: its name, its settings, and a finite map from component lists to accounts.
-use Rattle.std.specs.Prelude.{◌≡◌, ◌⊎◌, ℕ, Bool, true, false, not, ◌==◌, List, [], ◌∷◌, length, Option, None, Some, Result, Ok, Err, codes, if◌then◌else◌}
+use Rattle.std.specs.Prelude.{ℕ, not, ◌==◌, List, [], ◌∷◌, length, None, Result, Ok, Err, codes, if◌then◌else◌}
 use Rattle.std.specs.FinMap as finite
 use Rattle.krb_crypto.specs.declared.suite.CipherSuite.{CipherSuite}
 use Rattle.krb_crypto.specs.Suites.{cipher_key_size}
 use Rattle.krb_accounts.specs.Account.{AccountRecord}
-use Rattle.krb_accounts.specs.Accounts.{AccountMap, name_cmp}
+use Rattle.krb_accounts.specs.Accounts.{AccountMap}
 use Rattle.krb_accounts.specs.Names.{is_realm_name, are_components}
 use Rattle.krb_accounts.specs.Settings.{SettingsRecord}
 use Rattle.krb_accounts.specs.declared.refusal.RealmRefusal.{RealmRefusal}
-use Rattle.krb_accounts.specs.declared.refusal.RealmRefusal.TheVariants.{BadName, BadKeyLength, Exists, Memory}
+use Rattle.krb_accounts.specs.declared.refusal.RealmRefusal.TheVariants.{BadName, BadKeyLength, Exists}
 
 pub record RealmState : Type 0 where
   pub name : List ℕ
@@ -43,3 +43,9 @@ adding accounts name suite key =
     if not (are_components name) then Err BadName
     else (if not (length key == cipher_key_size suite) then Err BadKeyLength
     else (if finite.contains_key accounts name then Err Exists else Ok tt))
+
+-- whether an account is added by a password, in the order of refusals
+abbrev pub adding_by_password : AccountMap → List (List ℕ) → Result (Unit {0}) RealmRefusal
+adding_by_password accounts name =
+    if not (are_components name) then Err BadName
+    else (if finite.contains_key accounts name then Err Exists else Ok tt)

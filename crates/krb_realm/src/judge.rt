@@ -1,46 +1,64 @@
-//! Judging requests: the codes of a table's rows.
-ghost use Rattle.std.specs.Prelude.{◌≡◌, Err};
-ghost use Rattle.std.specs.Option.{option_copied};
+//! Judging AS requests: the rows of a realm's table, part by part.
+ghost use Rattle.std.specs.Prelude.{◌≡◌};
+ghost use Rattle.std.specs.Option.{is_some, option_copied};
 ghost use Rattle.krb_accounts.specs.Accounts.{look_in};
-ghost use Rattle.krb_replies.specs.AsTable.{as_table, has_refused_option, is_postdated, account_of, client_of, service_of};
+ghost use Rattle.krb_replies.specs.AsTable.{addressed, client_of, entries_of, has_refused_option, is_ended, is_later, is_listed, is_postdated, possible, preauthenticated, service_of};
+ghost use Rattle.krb_preauth.specs.Entries.{first_of};
+ghost use Rattle.krb_replies.specs.Replies.{account_of};
+ghost use Rattle.krb_realm.specs.Judged.{IsJudged};
 
-use krb_accounts::{Account, Accounts};
+use crate::refusal::Refusal;
+use krb_accounts::{Account, Accounts, Settings};
+use krb_crypto::CipherSuite;
+use krb_moments::Moment;
+use krb_preauth::{first_of, moment_of, open_stamp};
 use krb_rules::{is_number, is_same_realm};
+use krb_tickets::{end_of, start_of};
 use picky_asn1::wrapper::{BitStringAsn1, GeneralStringAsn1};
 use picky_krb::constants::error_codes;
-use picky_krb::data_types::PrincipalName;
+use picky_krb::data_types::{PaData, PrincipalName};
 use picky_krb::messages::{KdcReq, KdcReqBody};
+use std::alloc::Global;
 
-/// The code that an AS request gets in a realm of this name and these accounts (RFC 4120 3.1.3).
-pub(crate) fn judge_as(realm: &GeneralStringAsn1, accounts: &Accounts, request: &KdcReq) -> u32
-    ensures { (as_table realm.now (look_in accounts.now) request.now).gives (Err result) }
+/// The version of Kerberos.
+const VERSION: u32 = 5;
+
+/// The type of an AS request (RFC 4120, section 5.10).
+const AS_REQUEST_TYPE: u32 = 10;
+
+/// The type of a preauthentication entry by public keys, PA-PK-AS-REQ (RFC 4556, section 3.1.3).
+const PUBLIC_KEY_ENTRY: u32 = 16;
+
+/// The type of a preauthentication entry by a sealed time, PA-ENC-TIMESTAMP (RFC 4120, section 7.5.2).
+const STAMP_ENTRY: u32 = 2;
+
+/// How many microseconds a second has.
+const SECOND: u64 = 1_000_000;
+
+/// Judges whether it is an AS request to this realm, and its options.
+pub(crate) fn check_address(realm: &GeneralStringAsn1, request: &KdcReq) -> Result<(), Refusal>
+    ensures { IsJudged (addressed realm.now request.now).gives result }
 {
-    if !is_number(&request.pvno.0, 5) {
-        return error_codes::KDC_ERR_BAD_PVNO;
+    if !is_number(&request.pvno.0, VERSION) {
+        return Err(Refusal::Krb(error_codes::KDC_ERR_BAD_PVNO));
     }
-    if !is_number(&request.msg_type.0, 10) {
-        return error_codes::KRB_AP_ERR_MSG_TYPE;
+    if !is_number(&request.msg_type.0, AS_REQUEST_TYPE) {
+        return Err(Refusal::Krb(error_codes::KRB_AP_ERR_MSG_TYPE));
     }
     let body = &request.req_body.0;
     if !is_same_realm(&body.realm.0, realm) {
-        return error_codes::KDC_ERR_WRONG_REALM;
+        return Err(Refusal::Krb(error_codes::KDC_ERR_WRONG_REALM));
     }
     if has_refused_option(&body.kdc_options.0) {
-        return error_codes::KDC_ERR_BADOPTION;
+        return Err(Refusal::Krb(error_codes::KDC_ERR_BADOPTION));
     }
     if is_postdated(&body.kdc_options.0) {
-        return error_codes::KDC_ERR_CANNOT_POSTDATE;
+        return Err(Refusal::Krb(error_codes::KDC_ERR_CANNOT_POSTDATE));
     }
-    if account_of(accounts, client_of(body)).is_none() {
-        return error_codes::KDC_ERR_C_PRINCIPAL_UNKNOWN;
-    }
-    if account_of(accounts, service_of(body)).is_none() {
-        return error_codes::KDC_ERR_S_PRINCIPAL_UNKNOWN;
-    }
-    error_codes::KRB_ERR_GENERIC
+    Ok(())
 }
 
-// One of forwarded, proxy, enc-tkt-in-skey, renew and validate (RFC 4120 5.4.1).
+// One of forwarded, proxy, enc-tkt-in-skey, renew and validate (RFC 4120, section 5.4.1).
 fn has_refused_option(options: &BitStringAsn1) -> bool
     ensures { result ≡ has_refused_option options.now }
 {
@@ -53,7 +71,8 @@ fn is_postdated(options: &BitStringAsn1) -> bool
     options.bit(6)
 }
 
-fn client_of(body: &KdcReqBody) -> Option<&PrincipalName>
+/// The client, where the request names one.
+pub(crate) fn client_of(body: &KdcReqBody) -> Option<&PrincipalName>
     ensures { option_copied result ≡ client_of body.now }
 {
     match &body.cname.0 {
@@ -62,7 +81,8 @@ fn client_of(body: &KdcReqBody) -> Option<&PrincipalName>
     }
 }
 
-fn service_of(body: &KdcReqBody) -> Option<&PrincipalName>
+/// The service, where the request names one.
+pub(crate) fn service_of(body: &KdcReqBody) -> Option<&PrincipalName>
     ensures { option_copied result ≡ service_of body.now }
 {
     match &body.sname.0 {
@@ -71,11 +91,112 @@ fn service_of(body: &KdcReqBody) -> Option<&PrincipalName>
     }
 }
 
-fn account_of<'a>(accounts: &'a Accounts, name: Option<&PrincipalName>) -> Option<&'a Account>
+/// The account of a name, where the name is given and has one.
+pub(crate) fn account_of<'a>(
+    accounts: &'a Accounts,
+    name: Option<&PrincipalName>,
+) -> Option<&'a Account>
     ensures { option_copied result ≡ account_of (look_in accounts.now) (option_copied name.entry) }
 {
     let Some(name) = name else {
         return None;
     };
     accounts.get(name.name_string.0.as_slice())
+}
+
+/// Judges the ticket's times and its suite.
+pub(crate) fn check_possible(
+    settings: Settings,
+    suite: CipherSuite,
+    moment: Moment,
+    body: &KdcReqBody,
+) -> Result<(), Refusal>
+    ensures { IsJudged (possible settings suite moment body.now).gives result }
+{
+    if is_later(settings, moment, body) {
+        return Err(Refusal::Krb(error_codes::KDC_ERR_CANNOT_POSTDATE));
+    }
+    if is_ended(settings, moment, body) {
+        return Err(Refusal::Krb(error_codes::KDC_ERR_NEVER_VALID));
+    }
+    if !is_listed(suite, body) {
+        return Err(Refusal::Krb(error_codes::KDC_ERR_ETYPE_NOSUPP));
+    }
+    Ok(())
+}
+
+// The ticket is to start later than the moment and the skew.
+fn is_later(settings: Settings, moment: Moment, body: &KdcReqBody) -> bool
+    ensures { result ≡ is_later settings.skew moment body.now }
+{
+    match &body.from.0 {
+        Some(told) => moment.micros() + settings.skew() * SECOND < told.0.0.seconds() * SECOND,
+        None => false,
+    }
+}
+
+// The ticket ends where it starts, or earlier.
+fn is_ended(settings: Settings, moment: Moment, body: &KdcReqBody) -> bool
+    ensures { result ≡ is_ended settings.lifetime moment body.now }
+{
+    let start = start_of(moment);
+    let end = end_of(settings, start, body.till.0.0);
+    end.seconds() <= start.seconds()
+}
+
+// The client takes the suite.
+fn is_listed(suite: CipherSuite, body: &KdcReqBody) -> bool
+    ensures { result ≡ is_listed suite body.now }
+{
+    let number = u32::from(&suite);
+    body.etype
+        .0
+        .as_slice()
+        .iter()
+        .any(|etype| is_number(etype, number))
+}
+
+/// Judges what shows that the client has its key: a time sealed under it, near the moment.
+pub(crate) fn check_client(
+    alloc: Global,
+    settings: Settings,
+    client: &Account,
+    moment: Moment,
+    entries: &[PaData],
+) -> Result<(), Refusal>
+    ensures { IsJudged (preauthenticated settings.skew client.now moment entries.now).gives result }
+{
+    if has_entry(entries, PUBLIC_KEY_ENTRY) {
+        return Err(Refusal::Krb(error_codes::KDC_ERR_PADATA_TYPE_NOSUPP));
+    }
+    let Some(entry) = first_of(entries, STAMP_ENTRY) else {
+        return Err(Refusal::Krb(error_codes::KDC_ERR_PREAUTH_REQUIRED));
+    };
+    let Some(stamp) = open_stamp(alloc, client, entry.as_bytes())? else {
+        return Err(Refusal::Krb(error_codes::KDC_ERR_PREAUTH_FAILED));
+    };
+    let Some(time) = moment_of(&stamp) else {
+        return Err(Refusal::Krb(error_codes::KDC_ERR_PREAUTH_FAILED));
+    };
+    if moment.is_far_from(time, settings.skew() * SECOND) {
+        return Err(Refusal::Krb(error_codes::KRB_AP_ERR_SKEW));
+    }
+    Ok(())
+}
+
+// There is an entry of the type.
+fn has_entry(entries: &[PaData], kind: u32) -> bool
+    ensures { result ≡ is_some (first_of kind entries.now) }
+{
+    first_of(entries, kind).is_some()
+}
+
+/// The preauthentication entries of a request.
+pub(crate) fn entries_of(request: &KdcReq) -> &[PaData]
+    ensures { result.now ≡ entries_of request.now }
+{
+    match &request.padata.0 {
+        Some(tagged) => tagged.0.as_slice(),
+        None => &[],
+    }
 }

@@ -1,16 +1,22 @@
-//! A login desk (RFC 4120): a realm that answers the requests of clients.
+//! A login desk (RFC 4120): a realm that answers the requests of clients, clients by password, and services.
 //!
-//! A [`Realm`] has a name, settings and accounts. [`Realm::answer`] gives the reply to a message at a moment,
-//! and [`serve`] answers the frames of a stream.
+//! A [`Realm`] has a name, settings and accounts. [`Realm::answer`] gives the reply to a message at a moment, and
+//! [`serve`] answers the frames of a stream. A [`Client`] asks and takes replies, and a [`Service`] admits each of its
+//! requests once. What the parts are stands in crates of their own, which this one hands on under one name.
 #![tactic(auto)]
 
+mod grant;
 mod judge;
+pub mod laws;
 mod names;
 mod realm;
+mod refusal;
 mod respond;
 
 pub use krb_accounts::{RealmRefusal, Settings};
+pub use krb_client::{ApAsked, AsAsked, AskRefusal, Client, Credential, TakeRefusal};
 pub use krb_crypto::{ChecksumSuite, CipherSuite};
 pub use krb_frames::{AnswerRefusal, Responder, ServeFault, serve, serve_bytes};
 pub use krb_moments::Moment;
+pub use krb_service::{Admission, AdmitRefusal, Service};
 pub use realm::{Realm, words_needed};

@@ -1,7 +1,7 @@
 //! The name of a realm's ticket-granting service.
 ghost use Rattle.std.specs.Prelude.{◌≡◌, IfOk, codes};
+ghost use Rattle.std.specs.Option.{option_map};
 ghost use Rattle.krb_realm.specs.Realm.{krbtgt_of};
-ghost use Rattle.krb_replies.specs.AsTable.{given};
 ghost use Rattle.krb_replies.specs.Errors.{ticket_service};
 ghost use Rattle.krb_replies.specs.Replies.{named_service};
 
@@ -47,7 +47,7 @@ pub(crate) fn named_service(
     named: Option<ExplicitContextTag3<PrincipalName>>,
     realm: &GeneralStringAsn1,
 ) -> Result<PrincipalName, AllocError>
-    ensures { IfOk result (λ service. service ≡ named_service realm.now (given (λ tagged. tagged.0) named)) }
+    ensures { IfOk result (λ service. service ≡ named_service realm.now (option_map (λ tagged. tagged.0) named)) }
 {
     if let Some(tagged) = named {
         return Ok(tagged.0);

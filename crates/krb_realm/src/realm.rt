@@ -1,22 +1,28 @@
 //! Realms.
-ghost use Rattle.std.specs.Prelude.{◌≡◌, ◌≤◌, ℕ, List, Ok, Err, Some, None, OnOk, OnErr, IfOk, MatchResult, length, ◌⊎◌};
+ghost use Rattle.std.specs.Prelude.{◌≡◌, ◌≤◌, ℕ, List, Ok, Err, Some, None, OnOk, OnErr, IfOk, MatchResult, length, ◌⊎◌, ◌%◌};
+ghost use Rattle.std.specs.Option.{option_copied, option_map};
 ghost use Rattle.std.specs.FinMap as finite;
 ghost use Rattle.krb_accounts.specs.Accounts.{look_in};
 ghost use Rattle.krb_accounts.specs.Names.{parts};
 ghost use Rattle.krb_accounts.specs.Refusal.{IsMemoryAside};
-ghost use Rattle.krb_replies.specs.AsTable.{as_table};
-ghost use Rattle.krb_replies.specs.Replies.{replies, answered, Replies};
-ghost use Rattle.krb_rules.specs.Rows.{done};
+ghost use Rattle.krb_replies.specs.AsTable.{as_table, client_of, service_of};
+ghost use Rattle.krb_replies.specs.Replies.{Replies, account_of, as_reply, hint_of, named_service};
 
-use crate::judge::judge_as;
+use crate::grant::{Principals, grant};
+use crate::judge::{
+    account_of, check_address, check_client, check_possible, client_of, entries_of, service_of,
+};
 use crate::names::{krbtgt_of, named_service};
+use crate::refusal::Refusal;
 use krb_accounts::{
-    Account, Accounts, RealmRefusal, Settings, components_of, is_realm_name, realm_name_of,
+    Account, Accounts, RealmRefusal, Settings, components_of, is_realm_name, password_salt,
+    realm_name_of,
 };
 use krb_crypto::CipherSuite;
 use krb_frames::AnswerRefusal;
 use krb_moments::Moment;
 use krb_replies::{error_reply, read_as_req, read_tgs_req};
+use krb_tickets::method_data;
 use picky_asn1::wrapper::GeneralStringAsn1;
 use picky_asn1_der::{ExplicitContextTag, Optional};
 use picky_krb::constants::error_codes;
@@ -59,11 +65,12 @@ impl Model for Realm {
 }
 
 impl Realm {
-    ghost use Rattle.krb_realm.specs.Realm.{making, made, adding, first_key};
+    ghost use Rattle.krb_realm.specs.Realm.{making, made, adding, adding_by_password, first_key};
+    ghost use Rattle.krb_accounts.specs.Passwords.{password_account, password_salt};
     ghost use Rattle.krb_realm.specs.Answers.{IsAnswer};
     ghost use Rattle.picky_asn1.specs.declared.date.GeneralizedTime.{GeneralizedTime};
-    ghost use Rattle.krb_replies.specs.Errors.{IsSecondOf};
-    ghost use Rattle.krb_replies.specs.Replies.{reply_of};
+    ghost use Rattle.krb_realm.specs.Judged.{IsGranted};
+    ghost use Rattle.krb_replies.specs.Errors.{IsSecondOf, error_bytes};
 
     /// A realm of this name, whose ticket-granting service `krbtgt/name` has this key (RFC 4120 7.3).
     pub fn new(
@@ -113,6 +120,32 @@ impl Realm {
         Ok(())
     }
 
+    /// Gives a principal its account, by its first password. The salt is the realm, and behind it the name's components
+    /// (RFC 4120, section 4). A refused command changes nothing.
+    pub fn add_account_by_password(
+        &mut self,
+        alloc: Global,
+        name: &[Vec<u8>],
+        suite: CipherSuite,
+        password: &[u8],
+    ) -> Result<(), RealmRefusal>
+        ensures refusal { IsMemoryAside result (adding_by_password self.old.accounts (parts name.now)) }
+        ensures ok { OnOk result (self.new ≡ record self.old {
+          accounts = finite.insert self.old.accounts (parts name.now)
+              (password_account suite password.now (password_salt self.old.name (parts name.now)));
+        }) }
+        ensures err { OnErr result (self.new ≡ self.old) }
+    {
+        let principal = components_of(alloc, name)?;
+        let salt = password_salt(alloc, self.name.as_bytes(), name)?;
+        // A realm's name isn't empty and neither is the salt, so memory is the only refusal.
+        let Ok(account) = Account::by_password(alloc, suite, password, salt) else {
+            return Err(RealmRefusal::Memory);
+        };
+        self.accounts.insert_new(principal, account)?;
+        Ok(())
+    }
+
     /// The reply to a message at a moment, with random bytes of which the first 128 count (RFC 4120 3.1).
     ///
     /// `Unreadable` says that the bytes are the one encoding of no AS request and of no TGS request.
@@ -124,28 +157,83 @@ impl Realm {
         words: &[u8],
     ) -> Result<Vec<u8>, AnswerRefusal>
         requires { 128 ≤ length words.now }
-        ensures { IsAnswer (Replies self.now.name (look_in self.now.accounts) moment request.now) result }
+        ensures { IsAnswer (Replies self.now.name self.now.settings (look_in self.now.accounts) moment words.now request.now) result }
     {
-        let Ok(read) = read_as_req(alloc, request) else {
-            return Err(AnswerRefusal::Memory);
-        };
-        if let Some(asked) = read {
-            let code = judge_as(&self.name, &self.accounts, &asked);
-            return match self.refusal(alloc, asked, moment, code) {
-                Ok(reply) => Ok(reply),
-                Err(_) => Err(AnswerRefusal::Memory),
-            };
+        if let Some(asked) = read_as_req(alloc, request)? {
+            let reply = self.answer_as(alloc, asked, moment, words)?;
+            return Ok(reply);
         }
-        let Ok(read) = read_tgs_req(alloc, request) else {
-            return Err(AnswerRefusal::Memory);
-        };
-        if let Some(asked) = read {
-            return match self.refusal(alloc, asked, moment, error_codes::KRB_ERR_GENERIC) {
-                Ok(reply) => Ok(reply),
-                Err(_) => Err(AnswerRefusal::Memory),
-            };
+        if let Some(asked) = read_tgs_req(alloc, request)? {
+            let reply = self.refusal(alloc, asked, moment, error_codes::KRB_ERR_GENERIC, None)?;
+            return Ok(reply);
         }
         Err(AnswerRefusal::Unreadable)
+    }
+
+    // The reply to an AS request: a ticket, or the error with its code.
+    fn answer_as(
+        &self,
+        alloc: Global,
+        request: KdcReq,
+        moment: Moment,
+        words: &[u8],
+    ) -> Result<Vec<u8>, AllocError>
+        requires { 128 ≤ length words.now }
+        ensures { IfOk result (λ bytes. (as_reply self.now.name self.now.settings
+            (account_of (look_in self.now.accounts) (client_of request.req_body.0))
+            (account_of (look_in self.now.accounts) (service_of request.req_body.0)) moment words.now request).gives (Some bytes.items)) }
+    {
+        let body = &request.req_body.0;
+        let client = account_of(&self.accounts, client_of(body));
+        let service = account_of(&self.accounts, service_of(body));
+        match self.judge_as(alloc, client, service, moment, words, &request) {
+            Ok(reply) => Ok(reply),
+            Err(Refusal::Memory) => Err(AllocError),
+            Err(Refusal::Krb(code)) => {
+                let hint = hint_of(alloc, client, code)?;
+                let reply = self.refusal(alloc, request, moment, code, hint)?;
+                Ok(reply)
+            }
+        }
+    }
+
+    // The ticket that an AS request is granted, or its code.
+    fn judge_as(
+        &self,
+        alloc: Global,
+        client: Option<&Account>,
+        service: Option<&Account>,
+        moment: Moment,
+        words: &[u8],
+        request: &KdcReq,
+    ) -> Result<Vec<u8>, Refusal>
+        requires { 128 ≤ length words.now }
+        ensures { IsGranted (as_table self.now.name self.now.settings (option_copied client.entry) (option_copied service.entry) moment words.now request.now).gives result }
+    {
+        check_address(&self.name, request)?;
+        let body = &request.req_body.0;
+        let Some(client_name) = client_of(body) else {
+            return Err(Refusal::Krb(error_codes::KDC_ERR_C_PRINCIPAL_UNKNOWN));
+        };
+        let Some(client) = client else {
+            return Err(Refusal::Krb(error_codes::KDC_ERR_C_PRINCIPAL_UNKNOWN));
+        };
+        let Some(service_name) = service_of(body) else {
+            return Err(Refusal::Krb(error_codes::KDC_ERR_S_PRINCIPAL_UNKNOWN));
+        };
+        let Some(service) = service else {
+            return Err(Refusal::Krb(error_codes::KDC_ERR_S_PRINCIPAL_UNKNOWN));
+        };
+        check_possible(self.settings, client.suite(), moment, body)?;
+        check_client(alloc, self.settings, client, moment, entries_of(request))?;
+        let asked = Principals {
+            client_name,
+            client,
+            service_name,
+            service,
+        };
+        let reply = grant(alloc, &self.name, self.settings, asked, moment, words, body)?;
+        Ok(reply)
     }
 
     /// The error with this code that answers a request.
@@ -155,9 +243,10 @@ impl Realm {
         request: KdcReq,
         moment: Moment,
         code: u32,
+        hint: Option<Vec<u8>>,
     ) -> Result<Vec<u8>, AllocError>
         ensures { IfOk result (λ bytes. (time : GeneralizedTime) × IsSecondOf moment time
-            × (reply_of self.now.name moment request time (Err code) ≡ Some bytes.items)) }
+            × (bytes.items ≡ error_bytes self.now.name time (moment % 1000000) (named_service self.now.name (service_of request.req_body.0)) code (option_map (λ h. h.items) hint))) }
     {
         let KdcReq {
             req_body: ExplicitContextTag(body),
@@ -170,7 +259,33 @@ impl Realm {
         let service = named_service(alloc, named, &self.name)?;
         let realm = self.name.clone(alloc)?;
         let time = moment.second();
-        let reply = error_reply(alloc, realm, time, moment.microsecond(), service, code)?;
+        let reply = error_reply(
+            alloc,
+            realm,
+            time,
+            moment.microsecond(),
+            service,
+            code,
+            hint,
+        )?;
         Ok(reply)
     }
+}
+
+// What an error tells beside its code: with the one that asks for preauthentication, how the client authenticates.
+fn hint_of(
+    alloc: Global,
+    client: Option<&Account>,
+    code: u32,
+) -> Result<Option<Vec<u8>>, AllocError>
+    ensures { IfOk result (λ hint. option_map (λ h. h.items) hint ≡ hint_of (option_copied client.entry) code) }
+{
+    if code != error_codes::KDC_ERR_PREAUTH_REQUIRED {
+        return Ok(None);
+    }
+    let Some(account) = client else {
+        return Ok(None);
+    };
+    let methods = method_data(alloc, account)?;
+    Ok(Some(methods))
 }

@@ -9,9 +9,9 @@ impl Responder for Realm {
     ghost use Rattle.krb_accounts.specs.Accounts.{look_in};
     ghost use Rattle.krb_replies.specs.Replies.{Replies, one_reply};
 
-    ghost replies = { λ realm message moment words reply. Replies realm.name (look_in realm.accounts) moment message reply };
+    ghost replies = { λ realm message moment words reply. Replies realm.name realm.settings (look_in realm.accounts) moment words message reply };
 
-    ghost one_reply = { λ realm message moment words. one_reply realm.name (look_in realm.accounts) moment message };
+    ghost one_reply = { λ realm message moment words. one_reply realm.name realm.settings (look_in realm.accounts) moment words message };
 
     fn answer(
         &self,

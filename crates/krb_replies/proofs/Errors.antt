@@ -1,15 +1,17 @@
--- The error that is made of its numbers.
-use Rattle.std.proofs.Common.{◌≡◌, ℕ, List, None, ap, ◌∙◌}
+-- The error that is made of its parts.
+use Rattle.std.proofs.Common.{◌≡◌, ℕ, List, Option, None, ap, ◌∙◌}
 use Rattle.std.specs.Prelude.{ℤ, pos}
+use Rattle.std.specs.Option.{option_map}
 use Rattle.asn1_trees.specs.Tree.{der}
 use Rattle.picky_asn1.specs.declared.date.GeneralizedTime.{GeneralizedTime}
+use Rattle.picky_asn1_der.specs.declared.wrapper.ExplicitContextTag.{ExplicitContextTag}
 use Rattle.picky_krb.specs.declared.messages.krb_error.KrbErrorInner.{KrbErrorInner}
 use Rattle.krb_types.specs.declared.data_types.principal_name.PrincipalName.{PrincipalName}
 use Rattle.krb_replies.specs.Messages.{krb_error_tree}
 use Rattle.krb_replies.specs.Errors.{error_bytes}
 
-abbrev pub made : ℤ → ℤ → ℤ → List ℕ → GeneralizedTime → PrincipalName → ℕ → KrbErrorInner
-made version kind susec realm time service code = record {
+abbrev pub made : ℤ → ℤ → ℤ → List ℕ → GeneralizedTime → PrincipalName → ℕ → Option (ExplicitContextTag 12 (List ℕ)) → KrbErrorInner
+made version kind susec realm time service code told = record {
   pvno = record { 0 = version };
   msg_type = record { 0 = kind };
   ctime = record { 0 = None };
@@ -22,13 +24,15 @@ made version kind susec realm time service code = record {
   realm = record { 0 = realm };
   sname = record { 0 = service };
   e_text = record { 0 = None };
-  e_data = record { 0 = None };
+  e_data = record { 0 = told };
 }
 
 pub made-bytes : (version kind susec : ℤ) (realm : List ℕ) (time : GeneralizedTime) (microseconds : ℕ) (service : PrincipalName) (code : ℕ)
-    → version ≡ pos 5 → kind ≡ pos 30 → susec ≡ pos microseconds
-    → der (krb_error_tree (made version kind susec realm time service code)) ≡ error_bytes realm time microseconds service code
-made-bytes version kind susec realm time microseconds service code v k s =
-    ap (λ x. der (krb_error_tree (made x kind susec realm time service code))) v
-    ∙ ap (λ x. der (krb_error_tree (made (pos 5) x susec realm time service code))) k
-    ∙ ap (λ x. der (krb_error_tree (made (pos 5) (pos 30) x realm time service code))) s
+    (told : Option (ExplicitContextTag 12 (List ℕ))) (hint : Option (List ℕ))
+    → version ≡ pos 5 → kind ≡ pos 30 → susec ≡ pos microseconds → told ≡ option_map (λ bytes. record { 0 = bytes }) hint
+    → der (krb_error_tree (made version kind susec realm time service code told)) ≡ error_bytes realm time microseconds service code hint
+made-bytes version kind susec realm time microseconds service code told hint v k s t =
+    ap (λ x. der (krb_error_tree (made x kind susec realm time service code told))) v
+    ∙ ap (λ x. der (krb_error_tree (made (pos 5) x susec realm time service code told))) k
+    ∙ ap (λ x. der (krb_error_tree (made (pos 5) (pos 30) x realm time service code told))) s
+    ∙ ap (λ x. der (krb_error_tree (made (pos 5) (pos 30) (pos microseconds) realm time service code x))) t

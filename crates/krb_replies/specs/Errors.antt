@@ -1,5 +1,6 @@
 -- The error message of a realm (RFC 4120 5.9.1).
-use Rattle.std.specs.Prelude.{◌≡◌, ℕ, ◌/◌, List, [], ◌∷◌, None, codes, pos}
+use Rattle.std.specs.Prelude.{◌≡◌, ℕ, ◌/◌, List, [], ◌∷◌, Option, None, codes, pos}
+use Rattle.std.specs.Option.{option_map}
 use Rattle.std.proofs.Common.{sym, ◌∙◌}
 use Rattle.asn1_trees.specs.Tree.{der}
 use Rattle.picky_asn1.specs.declared.date.GeneralizedTime.{GeneralizedTime}
@@ -17,9 +18,9 @@ ticket_service realm = record {
   name_string = record { 0 = codes "krbtgt" ∷ realm ∷ [] };
 }
 
--- the error with this code, at a time and its microseconds, about a service; no optional field
-abbrev pub error_of : List ℕ → GeneralizedTime → ℕ → PrincipalName → ℕ → KrbErrorInner
-error_of realm time microseconds service code = record {
+-- the error with this code, at a time and its microseconds, about a service; no optional field but the data
+abbrev pub error_of : List ℕ → GeneralizedTime → ℕ → PrincipalName → ℕ → Option (List ℕ) → KrbErrorInner
+error_of realm time microseconds service code hint = record {
   pvno = record { 0 = pos 5 };
   msg_type = record { 0 = pos 30 };
   ctime = record { 0 = None };
@@ -32,11 +33,11 @@ error_of realm time microseconds service code = record {
   realm = record { 0 = realm };
   sname = record { 0 = service };
   e_text = record { 0 = None };
-  e_data = record { 0 = None };
+  e_data = record { 0 = option_map (λ bytes. record { 0 = bytes }) hint };
 }
 
-abbrev pub error_bytes : List ℕ → GeneralizedTime → ℕ → PrincipalName → ℕ → List ℕ
-error_bytes realm time microseconds service code = der (krb_error_tree (error_of realm time microseconds service code))
+abbrev pub error_bytes : List ℕ → GeneralizedTime → ℕ → PrincipalName → ℕ → Option (List ℕ) → List ℕ
+error_bytes realm time microseconds service code hint = der (krb_error_tree (error_of realm time microseconds service code hint))
 
 -- the time is the second of the moment
 abbrev pub IsSecondOf : ℕ → GeneralizedTime → Type 0

@@ -1,4 +1,6 @@
 pub mod Messages
 pub mod Errors
+pub mod Grants
 pub mod AsTable
 pub mod Replies
+pub mod Involved

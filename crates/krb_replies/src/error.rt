@@ -1,11 +1,12 @@
 //! Writing errors.
 ghost use Rattle.std.specs.Prelude.{◌≡◌, ◌<◌, ◌^◌, IfOk};
+ghost use Rattle.std.specs.Option.{option_map};
 ghost use Rattle.krb_replies.specs.Errors.{error_bytes};
 
 use krb_types::data_types::PrincipalName;
 use picky_asn1::date::GeneralizedTime;
-use picky_asn1::wrapper::{GeneralStringAsn1, GeneralizedTimeAsn1, IntegerAsn1};
-use picky_asn1_der::{ApplicationTag, ExplicitContextTag, Optional, to_vec};
+use picky_asn1::wrapper::{GeneralStringAsn1, GeneralizedTimeAsn1, IntegerAsn1, OctetStringAsn1};
+use picky_asn1_der::{ApplicationTag, ExplicitContextTag, ExplicitContextTag12, Optional, to_vec};
 use picky_krb::messages::{KrbError, KrbErrorInner};
 use std::alloc::{AllocError, Global};
 
@@ -14,7 +15,8 @@ const VERSION: u64 = 5;
 
 const ERROR_TYPE: u64 = 30;
 
-/// The encoding of an error with this code, at a time and its microseconds, about a service (RFC 4120 5.9.1).
+/// The encoding of an error with this code, at a time and its microseconds, about a service, with data that belongs to
+/// the code if there is some (RFC 4120, section 5.9.1).
 pub fn error_reply(
     alloc: Global,
     realm: GeneralStringAsn1,
@@ -22,8 +24,9 @@ pub fn error_reply(
     microseconds: u32,
     service: PrincipalName,
     code: u32,
+    hint: Option<Vec<u8>>,
 ) -> Result<Vec<u8>, AllocError>
-    ensures { IfOk result (λ bytes. bytes.items ≡ error_bytes realm time microseconds service code) }
+    ensures { IfOk result (λ bytes. bytes.items ≡ error_bytes realm time microseconds service code (option_map (λ bytes. bytes.items) hint)) }
 {
     let version = IntegerAsn1::from_u64(alloc, VERSION)?;
     let kind = IntegerAsn1::from_u64(alloc, ERROR_TYPE)?;
@@ -41,10 +44,20 @@ pub fn error_reply(
         realm: ExplicitContextTag(realm),
         sname: ExplicitContextTag(service),
         e_text: Optional(None),
-        e_data: Optional(None),
+        e_data: Optional(data_of(hint)),
     });
     let Ok(bytes) = to_vec(alloc, &error) else {
         return Err(AllocError);
     };
     Ok(bytes)
+}
+
+// The data as a field.
+fn data_of(hint: Option<Vec<u8>>) -> Option<ExplicitContextTag12<OctetStringAsn1>>
+    ensures { result ≡ option_map (λ bytes. record { 0 = bytes }) (option_map (λ bytes. bytes.items) hint) }
+{
+    match hint {
+        Some(bytes) => Some(ExplicitContextTag(OctetStringAsn1::from(bytes))),
+        None => None,
+    }
 }

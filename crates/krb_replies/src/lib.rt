@@ -4,6 +4,7 @@
 #![tactic(auto)]
 
 mod error;
+pub mod laws;
 mod request;
 
 pub use error::error_reply;

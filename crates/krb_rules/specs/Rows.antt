@@ -1,6 +1,6 @@
 -- A decision table: a relation with one outcome at most. The first case that holds counts.
 use Rattle.std.specs.Prelude.{◌≡◌, ◌⊎◌, ℕ, Bool, true, false, Option, None, Some, Result, Ok, Err}
-use Rattle.krb_rules.specs.One.{IsSole, one_done, one_ask, one_made, one_then}
+use Rattle.krb_rules.specs.One.{IsSole, one_done, one_ask, one_found, one_made, one_then}
 
 -- what the table gives, and that it is one outcome at most
 pub record Table (T : Type 0) : Type 1 where
@@ -22,19 +22,26 @@ ask {A} P sole otherwise rest = record {
 abbrev pub as_made : {T U : Type 0} → (T → U) → Table T → Table U
 as_made {T} f t = record { gives = λ r. (a : T) × t.gives a × (r ≡ f a); one = one_made f t.gives t.one }
 
--- the error with this code where the case holds
-abbrev pub refuse : {T : Type 0} → Bool → ℕ → Table (Result T ℕ) → Table (Result T ℕ)
-refuse true code rest = done (Err code)
-refuse false code rest = rest
+-- the error where the case holds
+abbrev pub refuse : {T E : Type 0} → Bool → E → Table (Result T E) → Table (Result T E)
+refuse true error rest = done (Err error)
+refuse false error rest = rest
 
--- a value that the following cases read, or the error with this code where there is none
-abbrev pub need : {A T : Type 0} → Option A → ℕ → (A → Table (Result T ℕ)) → Table (Result T ℕ)
-need None code rest = done (Err code)
-need (Some a) code rest = rest a
+-- a value that the following cases read, or the error where there is none
+abbrev pub need : {A T E : Type 0} → Option A → E → (A → Table (Result T E)) → Table (Result T E)
+need None error rest = done (Err error)
+need (Some a) error rest = rest a
 
 -- parts of a table: what the first gives, which the following cases read, or the first one's error
 abbrev pub and_then : {A T : Type 0} → Table (Result A ℕ) → (A → Table (Result T ℕ)) → Table (Result T ℕ)
 and_then {A} t rest = record {
   gives = λ r. ((a : A) × t.gives (Ok a) × (rest a).gives r) ⊎ ((code : ℕ) × t.gives (Err code) × (r ≡ Err code));
   one = one_then t.gives t.one (λ a. (rest a).gives) (λ a. (rest a).one);
+}
+
+-- the value with the property, which is made, and which the following cases read
+abbrev pub make : {A T : Type 0} (P : A → Type 0) → IsSole P → (A → Table T) → Table T
+make {A} P sole rest = record {
+  gives = λ r. (a : A) × P a × (rest a).gives r;
+  one = λ r s x y. one_found P (λ a. (rest a).gives) (λ a. (rest a).one) x.0 y.0 (sole x.0 y.0 x.1 y.1) r s x.2 y.2;
 }

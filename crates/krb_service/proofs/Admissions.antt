@@ -2,7 +2,7 @@
 use Rattle.std.proofs.Common.{◌≡◌, ◌⊎◌, ℕ, Bool, true, false, not, List, Option, None, Some, Result, Ok, Err, refl, sym, ap, subst, inl, inr, ◌∙◌}
 use Rattle.asn1_trees.specs.Tree.{Tree}
 use Rattle.krb_crypto.specs.declared.suite.CipherSuite.{CipherSuite}
-use Rattle.krb_rules.specs.Rows.{Table, done, ask, refuse, need, and_then}
+use Rattle.krb_rules.specs.Rows.{Table, done, ask, make, refuse, need, and_then}
 use Rattle.krb_rules.specs.Keys.{suite_of}
 use Rattle.krb_rules.specs.Numbers.{is_number}
 use Rattle.krb_rules.specs.Sealed.{IsSealedIn}
@@ -11,7 +11,6 @@ use Rattle.krb_moments.specs.Skew.{is_far}
 use Rattle.picky_asn1.specs.BitString.{bit_of}
 use Rattle.picky_asn1.specs.GeneralizedTime.{seconds_of}
 use Rattle.krb_service.specs.ApReply.{IsReply, sole_reply}
-use Rattle.krb_service.specs.MakeRow.{make}
 use Rattle.krb_seen.specs.Pair.{PairRecord, is_among}
 use Rattle.krb_types.specs.declared.data_types.authenticator.AuthenticatorInner.{AuthenticatorInner}
 use Rattle.krb_types.specs.declared.data_types.encrypted_data.EncryptedData.{EncryptedData}
@@ -171,6 +170,7 @@ shown_addressed service moment request p (inl x) =
 shown_addressed service moment request p (inr x) = absurd (cc (x.2))
 
 shown : (service : ServiceRecord) (moment : ℕ) (request : ApReqInner) (p : Presented) → (presented service moment request).gives (Ok p) → Shown service request p
+unfolding presented
 shown service moment request p (inl x) = shown_addressed service moment request p x.2
 shown service moment request p (inr x) = absurd (cc (x.2))
 
@@ -203,6 +203,7 @@ replied admitted wanted words p =
 
 tells : (skew moment : ℕ) (admitted : List PairRecord) (wanted : Bool) (words : List ℕ) (p : Presented) (made : Admitted) → (once skew moment admitted wanted words p).gives (Ok made)
     → (reply : Option (List ℕ)) × (made.admission ≡ admission_of p reply)
+unfolding once
 tells skew moment admitted wanted words p made x =
     let near = past (is_far skew moment p.time) 37 (refuse (is_among (pair_of p) admitted) 34 (replied admitted wanted words p)) made x in
     let new = past (is_among (pair_of p) admitted) 34 (replied admitted wanted words p) made near in
@@ -238,6 +239,7 @@ by_judged service moment admitted bytes words admission request made found same 
 pub admitted_as_presented : (service : ServiceRecord) (moment : ℕ) (admitted : List PairRecord) (bytes words : List ℕ) (admission : AdmissionRecord) (after : List PairRecord)
     → (remembering service moment admitted bytes words).gives (Ok admission, after)
     → (choice : Choice) × Presents service.key choice bytes × TellsOf choice admission
+unfolding remembering
 admitted_as_presented service moment admitted bytes words admission after (inl x) =
     let judged_so = x.2 in
     let made = admission_made admitted after admission judged_so.0 judged_so.2 in

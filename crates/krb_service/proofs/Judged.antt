@@ -20,16 +20,26 @@ IsTicketJudged service moment request r =
     IsJudged (valid_part service.suite service.key service.seen.skew moment request.ticket.0.0.enc_part.0).gives r
 
 -- as it is by equal settings
-pub ticket_at : (service : ServiceRecord) (moment : ℕ) (request : ApReqInner) (r : Result EncTicketPartInner AdmitRefusal) (key : List ℕ) (skew at : ℕ)
-    → key ≡ service.key → skew ≡ service.seen.skew → at ≡ moment
-    → IsJudged (valid_part service.suite key skew at request.ticket.0.0.enc_part.0).gives r → IsTicketJudged service moment request r
-ticket_at service moment request r key skew at same_key same_skew same_moment x =
-    subst (λ m. IsJudged (valid_part service.suite service.key service.seen.skew m request.ticket.0.0.enc_part.0).gives r) same_moment
-    (subst (λ n. IsJudged (valid_part service.suite service.key n at request.ticket.0.0.enc_part.0).gives r) same_skew
-    (subst (λ k. IsJudged (valid_part service.suite k skew at request.ticket.0.0.enc_part.0).gives r) same_key x))
+pub ticket_at : (service : ServiceRecord) (moment : ℕ) (request : ApReqInner) (r : Result EncTicketPartInner AdmitRefusal) (key : List ℕ) (skew : ℕ)
+    → key ≡ service.key → skew ≡ service.seen.skew
+    → IsJudged (valid_part service.suite key skew moment request.ticket.0.0.enc_part.0).gives r → IsTicketJudged service moment request r
+ticket_at service moment request r key skew same_key same_skew x =
+    subst (λ n. IsJudged (valid_part service.suite service.key n moment request.ticket.0.0.enc_part.0).gives r) same_skew
+    (subst (λ k. IsJudged (valid_part service.suite k skew moment request.ticket.0.0.enc_part.0).gives r) same_key x)
+
+-- a request that is for another service is refused for that
+pub address_refused : (service : ServiceRecord) (moment : ℕ) (request : ApReqInner) (e : AdmitRefusal) (names : List (List ℕ)) → names ≡ service.components
+    → IsJudged {T = Unit {0}} (addressed service.realm names service.suite service.number request).gives (Err e)
+    → IsJudged {T = Presented} (presented service moment request).gives (Err e)
+unfolding presented
+address_refused service moment request (Krb code) names same address =
+    let own = subst (λ list. (addressed service.realm list service.suite service.number request).gives (Err code)) same address in inr (code, own, refl)
+address_refused service moment request Unreadable names same address = address
+address_refused service moment request Memory names same address = tt
 
 pub ticket_refused : (service : ServiceRecord) (moment : ℕ) (request : ApReqInner) (e : AdmitRefusal)
     → IsAddressed service request → IsTicketJudged service moment request (Err e) → IsJudged {T = Presented} (presented service moment request).gives (Err e)
+unfolding presented
 ticket_refused service moment request (Krb code) address ticket = inl (tt, address, inr (code, ticket, refl))
 ticket_refused service moment request Unreadable address ticket = ticket
 ticket_refused service moment request Memory address ticket = tt
@@ -37,6 +47,7 @@ ticket_refused service moment request Memory address ticket = tt
 pub ticket_held : (service : ServiceRecord) (moment : ℕ) (request : ApReqInner) (part : EncTicketPartInner) (r : Result Presented AdmitRefusal)
     → IsAddressed service request → IsTicketJudged service moment request (Ok part)
     → IsJudged {T = Presented} (valid_authenticator request.authenticator.0 part).gives r → IsJudged {T = Presented} (presented service moment request).gives r
+unfolding presented
 ticket_held service moment request part (Ok made) address ticket shown = inl (tt, address, inl (part, ticket, shown))
 ticket_held service moment request part (Err (Krb code)) address ticket shown = inl (tt, address, inl (part, ticket, shown))
 ticket_held service moment request part (Err Unreadable) address ticket shown = shown

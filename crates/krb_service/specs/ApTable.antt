@@ -15,13 +15,12 @@ use Rattle.picky_krb.specs.declared.messages.ap_req.ApReqInner.{ApReqInner}
 use Rattle.krb_rules.specs.Keys.{suite_of}
 use Rattle.krb_rules.specs.Names.{components, is_same_name, is_same_realm}
 use Rattle.krb_rules.specs.Numbers.{is_number}
-use Rattle.krb_rules.specs.Rows.{Table, done, ask, need, refuse}
+use Rattle.krb_rules.specs.Rows.{Table, done, ask, make, need, refuse}
 use Rattle.krb_rules.specs.Times.{moment_at}
 use Rattle.krb_seen.specs.Pair.{PairRecord, is_among}
 use Rattle.krb_service.specs.Admission.{AdmissionRecord, Admitted}
 use Rattle.krb_service.specs.ApReply.{IsReply, sole_reply}
 use Rattle.krb_service.specs.Messages.{IsAuthenticator, IsTicketPart, sole_authenticator, sole_ticket_part}
-use Rattle.krb_service.specs.MakeRow.{make}
 use Rattle.krb_service.specs.declared.presented.Presented.{Presented}
 
 -- the request and its ticket are of version 5
@@ -104,7 +103,7 @@ admission_of presented reply = record {
 
 -- what was presented is admitted where its time is near and it is the first of this client and time, with a reply
 -- where one is wanted
-abbrev pub once : ℕ → ℕ → List PairRecord → Bool → List ℕ → Presented → Table (Result Admitted ℕ)
+unfoldable pub once : ℕ → ℕ → List PairRecord → Bool → List ℕ → Presented → Table (Result Admitted ℕ)
 once skew moment admitted wanted words presented =
     refuse (is_far skew moment presented.time) 37
     (refuse (is_among (pair_of presented) admitted) 34

@@ -1,7 +1,6 @@
 pub mod Refusal
 pub mod Messages
 pub mod Admission
-pub mod MakeRow
 pub mod ApReply
 pub mod ApTable
 pub mod Service

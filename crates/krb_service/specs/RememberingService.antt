@@ -14,7 +14,7 @@ use Rattle.krb_service.specs.Messages.{IsApReq, sole_ap_req}
 use Rattle.krb_service.specs.Service.{ServiceRecord}
 
 -- what the request presents at a moment, up to the time that it tells
-abbrev pub presented : ServiceRecord → ℕ → ApReqInner → Table (Result Presented ℕ)
+unfoldable pub presented : ServiceRecord → ℕ → ApReqInner → Table (Result Presented ℕ)
 presented service moment request =
     and_then (addressed service.realm service.components service.suite service.number request) (λ _.
     and_then (valid_part service.suite service.key service.seen.skew moment request.ticket.0.0.enc_part.0) (λ part.
@@ -36,7 +36,7 @@ outcome_of admitted (Ok made) = (Ok made.admission, made.pair ∷ admitted)
 outcome_of admitted (Err code) = (Err (Krb code), admitted)
 
 -- what a service answers to bytes that has admitted these pairs, and was handed this moment as the greatest
-abbrev pub remembering : ServiceRecord → ℕ → List PairRecord → List ℕ → List ℕ → Table Outcome
+unfoldable pub remembering : ServiceRecord → ℕ → List PairRecord → List ℕ → List ℕ → Table Outcome
 remembering service moment admitted bytes words =
     ask (IsApReq bytes) (sole_ap_req bytes) (done (Err Unreadable, admitted)) (λ request.
     as_made (outcome_of admitted) (judged service moment admitted request words))

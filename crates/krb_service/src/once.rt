@@ -1,6 +1,7 @@
 //! Admitting what was presented, once.
-ghost use Rattle.std.specs.Prelude.{◌≡◌, ◌≤◌, List, length, IfOk};
+ghost use Rattle.std.specs.Prelude.{◌≡◌, ◌≤◌, false, List, length, IfOk};
 ghost use Rattle.std.specs.Option.{option_map};
+ghost use Rattle.krb_moments.specs.Skew.{is_far};
 ghost use Rattle.krb_seen.specs.Pair.{PairRecord};
 ghost use Rattle.krb_seen.specs.Seen.{IsWindow};
 ghost use Rattle.krb_service.specs.ApReply.{IsReply};
@@ -18,8 +19,8 @@ use picky_asn1::wrapper::GeneralStringAsn1;
 use picky_asn1_der::{ExplicitContextTag, ExplicitContextTag6, Optional};
 use std::alloc::{AllocError, Global};
 
-/// Admits what was presented where its time is near the greatest moment and its client and time weren't admitted
-/// before (RFC 4120, section 3.2.3). It is remembered last, so that nothing is remembered of what isn't admitted.
+/// Admits what was presented where its client and time weren't admitted before (RFC 4120, section 3.2.3). It is
+/// remembered last, so that nothing is remembered of what isn't admitted.
 pub(crate) fn admit_once(
     seen: &mut Seen,
     alloc: Global,
@@ -27,15 +28,13 @@ pub(crate) fn admit_once(
     wanted: bool,
     words: &[u8],
 ) -> Result<Admission, AdmitRefusal>
-    requires { 16 ≤ length words.now }
+    requires confounder { 16 ≤ length words.now }
+    requires near { is_far seen.now.skew seen.now.greatest presented.time ≡ false }
     ensures greatest { seen.new.greatest ≡ seen.old.greatest }
     ensures skew { seen.new.skew ≡ seen.old.skew }
     ensures once { (admitted : List PairRecord) → IsWindow seen.old admitted
         → IsOnce (once seen.old.skew seen.old.greatest admitted wanted words.now presented).gives admitted (pair_of presented) result seen.new }
 {
-    if seen.is_far(presented.time) {
-        return Err(AdmitRefusal::Krb(error_codes::KRB_AP_ERR_SKEW));
-    }
     let pair = pair_of(alloc, &presented)?;
     if seen.contains(&pair) {
         return Err(AdmitRefusal::Krb(error_codes::KRB_AP_ERR_REPEAT));

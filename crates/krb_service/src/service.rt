@@ -17,6 +17,7 @@ use krb_accounts::{RealmRefusal, are_components, components_of, is_realm_name, r
 use krb_crypto::CipherSuite;
 use krb_moments::Moment;
 use krb_seen::Seen;
+use krb_types::constants::error_codes;
 use picky_asn1::wrapper::{GeneralStringAsn1, OctetStringAsn1};
 use picky_krb::messages::ApReqInner;
 use std::alloc::Global;
@@ -124,19 +125,27 @@ impl Service {
             → IsStep (remembering self.old (max self.old.seen.greatest moment) admitted bytes.now words.now).gives admitted result self.new.seen }
     {
         self.seen.raise(moment);
+        let now = self.seen.greatest();
         let Some(request) = read_ap_req(alloc, bytes)? else {
             return Err(AdmitRefusal::Unreadable);
         };
-        let presented = self.judge(alloc, &request)?;
+        let presented = self.judge(alloc, now, &request)?;
+        if now.is_far_from(presented.time, self.skew) {
+            return Err(AdmitRefusal::Krb(error_codes::KRB_AP_ERR_SKEW));
+        }
         let wanted = request.ap_options.0.bit(MUTUAL_REQUIRED);
         admit_once(&mut self.seen, alloc, presented, wanted, words)
     }
 
-    // Judges a request at the greatest moment, up to the time that it tells.
-    fn judge(&self, alloc: Global, request: &ApReqInner) -> Result<Presented, AdmitRefusal>
-        ensures { IsJudged (presented self.now self.now.seen.greatest request.now).gives result }
+    // Judges a request at a moment, up to the time that it tells.
+    fn judge(
+        &self,
+        alloc: Global,
+        moment: Moment,
+        request: &ApReqInner,
+    ) -> Result<Presented, AdmitRefusal>
+        ensures { IsJudged (presented self.now moment request.now).gives result }
     {
-        let moment = self.seen.greatest();
         let key = self.key.as_bytes();
         check_address(
             &self.realm,

@@ -18,7 +18,7 @@ fn main(rt: HostRuntime) -> anyhow::Result<()> {
     let bare = bare_realm(rt.alloc())?;
     replay(&rt, &bare, "real_clients.txt")?;
     let realm = realm_of_three(rt.alloc())?;
-    replay(&rt, &realm, "first_path.txt")
+    replay(&rt, &realm, "as_exchange.txt")
 }
 
 /// The realm R with no account beside its own service.
@@ -32,41 +32,30 @@ fn bare_realm(alloc: Global) -> anyhow::Result<Realm> {
 /// The realm R with the accounts `a`, `h` and `b`.
 fn realm_of_three(alloc: Global) -> anyhow::Result<Realm> {
     let mut realm = bare_realm(alloc)?;
-    add(
-        &mut realm,
-        alloc,
-        b"a",
-        CipherSuite::Aes256CtsHmacSha196,
-        &[2; 32],
-    )?;
-    add(
-        &mut realm,
-        alloc,
-        b"h",
-        CipherSuite::Aes256CtsHmacSha196,
-        &[1; 32],
-    )?;
-    add(
-        &mut realm,
-        alloc,
-        b"b",
-        CipherSuite::Aes128CtsHmacSha196,
-        &[3; 16],
-    )?;
+    let aes256 = CipherSuite::Aes256CtsHmacSha196;
+    let aes128 = CipherSuite::Aes128CtsHmacSha196;
+    realm.add_account_by_password(alloc, &name_of(alloc, b"a")?, aes256, b"pw")?;
+    realm.add_account_by_key(alloc, &name_of(alloc, b"h")?, aes256, &[1; 32])?;
+    realm.add_account_by_password(alloc, &name_of(alloc, b"b")?, aes128, b"pw")?;
     Ok(realm)
 }
 
-fn add(
-    realm: &mut Realm,
-    alloc: Global,
-    name: &[u8],
-    suite: CipherSuite,
-    key: &[u8],
-) -> anyhow::Result<()> {
-    let component = Vec::from_slice(alloc, name)?;
-    let components = vec![in alloc; component]?;
-    realm.add_account_by_key(alloc, &components, suite, key)?;
-    Ok(())
+/// The name of one component.
+fn name_of(alloc: Global, component: &[u8]) -> anyhow::Result<Vec<Vec<u8>>> {
+    let component = Vec::from_slice(alloc, component)?;
+    let name = vec![in alloc; component]?;
+    Ok(name)
+}
+
+/// The random bytes of each reply: 0 to 127.
+fn words() -> [u8; 128] {
+    let mut words = [0; 128];
+    let mut next = 0u8;
+    for word in &mut words {
+        *word = next;
+        next = next.wrapping_add(1);
+    }
+    words
 }
 
 /// Replays a file, and prints how many of its requests got another reply than the recorded one.
@@ -109,7 +98,7 @@ fn recorded_of(alloc: Global, line: &str) -> anyhow::Result<Recorded<'_>> {
 
 fn agrees(alloc: Global, realm: &Realm, recorded: &Recorded<'_>) -> anyhow::Result<bool> {
     let moment = Moment::from_text(b"20000101000000Z").context("no moment")?;
-    match realm.answer(alloc, &recorded.request, moment, &[0; 128]) {
+    match realm.answer(alloc, &recorded.request, moment, &words()) {
         Ok(reply) => Ok(recorded.wanted.as_ref() == Some(&reply)),
         Err(AnswerRefusal::Unreadable) => Ok(recorded.wanted.is_none()),
         Err(AnswerRefusal::Memory) => bail!("out of memory"),

@@ -67,3 +67,21 @@ fn accounts(rt: HostRuntime) -> Result<(), Fail> {
     }
     Ok(())
 }
+
+#[test]
+fn accounts_by_password(rt: HostRuntime) -> Result<(), Fail> {
+    let settings = Settings::new(300, 36_000)?;
+    let mut realm = Realm::new(rt.alloc(), b"R", AES256, &[0; 32], settings)?;
+    let cases: [(&[&[u8]], Result<(), RealmRefusal>); 4] = [
+        (&[b"a"], Ok(())),
+        (&[b"a"], Err(RealmRefusal::Exists)),
+        (&[b"krbtgt", b"R"], Err(RealmRefusal::Exists)),
+        (&[], Err(RealmRefusal::BadName)),
+    ];
+    for (components, wanted) in cases {
+        let name = name_of(rt.alloc(), components)?;
+        let added = realm.add_account_by_password(rt.alloc(), &name, AES128, b"pw");
+        assert_eq!(rt; added, wanted, "at {components:?}");
+    }
+    Ok(())
+}

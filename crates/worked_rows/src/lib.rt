@@ -6,4 +6,4 @@ mod commands;
 #[cfg(test)]
 mod der;
 #[cfg(test)]
-mod first_path;
+mod replies;

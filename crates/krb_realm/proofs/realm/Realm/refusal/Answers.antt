@@ -1,4 +1,5 @@
-use Rattle.std.proofs.Common.{◌≡◌, ℕ, ◌%◌, List, Some, ap, sym, ◌∙◌}
+use Rattle.std.proofs.Common.{◌≡◌, ◌%◌, ap, ◌∙◌}
+use Rattle.std.specs.Option.{option_map}
 use Rattle.krb_replies.specs.AsTable.{service_of}
 use Rattle.krb_replies.specs.Errors.{error_bytes}
 use Rattle.krb_replies.specs.Replies.{named_service}
@@ -8,13 +9,14 @@ pub returns : goal.returns
 returns c =
     let time = c.second-time.result in
     let code = c.args.code in
+    let hint = option_map (λ h. h.items) c.args.hint in
     let own = c.self.inside.name in
     let asked = service_of c.args.request.req_body.0 in
     let service = c.in_ok-service.service in
     let name : own ≡ c.args.self.now.name = ap (λ r. r.name) c.self.view_is in
     let bytes = c.in_ok-reply.ensures
-    ∙ ap (λ realm. error_bytes realm time c.microsecond.result service code) c.in_ok-realm.ensures
-    ∙ ap (λ micros. error_bytes own time micros service code) c.microsecond.ensures.value
-    ∙ ap (λ s. error_bytes own time (c.args.moment % 1000000) s code) c.in_ok-service.ensures
-    ∙ ap (λ n. error_bytes n time (c.args.moment % 1000000) (named_service n asked) code) name in
-    (time, c.second-time.ensures, ap Some (sym bytes))
+    ∙ ap (λ realm. error_bytes realm time c.microsecond.result service code hint) c.in_ok-realm.ensures
+    ∙ ap (λ micros. error_bytes own time micros service code hint) c.microsecond.ensures.value
+    ∙ ap (λ s. error_bytes own time (c.args.moment % 1000000) s code hint) c.in_ok-service.ensures
+    ∙ ap (λ n. error_bytes n time (c.args.moment % 1000000) (named_service n asked) code hint) name in
+    (time, c.second-time.ensures, bytes)

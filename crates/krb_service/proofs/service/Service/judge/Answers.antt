@@ -4,25 +4,34 @@ use Rattle.krb_service.specs.Refusal.{IsJudged}
 use Rattle.krb_service.specs.RememberingService.{presented}
 use Rattle.krb_service.specs.Service.{ServiceRecord}
 use Rattle.krb_service.specs.declared.presented.Presented.{Presented}
-use Rattle.krb_service.proofs.Judged.{ticket_at, ticket_held, ticket_refused}
+use Rattle.krb_service.proofs.Judged.{address_refused, ticket_at, ticket_held, ticket_refused}
 use Rattle.krb_service.proofs.service.Service.judge.Goals as goal
+
+pub returns-in_err-check_address : goal.returns-in_err-check_address
+returns-in_err-check_address c =
+    let own = c.self.inside in
+    let service : ServiceRecord = record { realm = own.realm; components = own.components.items; suite = own.suite; key = own.key; number = own.number; seen = own.seen } in
+    let exit = err_from_is_err_and c.from_residual.result c.from_residual.ensures.1 in
+    rw (exit.1, exit.2)
+    (subst (λ (s : ServiceRecord). IsJudged {T = Presented} (presented s c.args.moment c.args.request.now).gives (Err c.in_err-check_address.field-0.0)) c.self.view_is
+    (address_refused service c.args.moment c.args.request.now c.in_err-check_address.field-0.0 _ c.as_slice.ensures.value c.in_err-check_address.ensures))
 
 pub returns-in_err-part : goal.returns-in_err-part
 returns-in_err-part c =
     let own = c.self.inside in
     let service : ServiceRecord = record { realm = own.realm; components = own.components.items; suite = own.suite; key = own.key; number = own.number; seen = own.seen } in
     let address = rw c.as_slice.ensures.value at c.in_ok-check_address.ensures in
-    let ticket = ticket_at service own.seen.greatest c.args.request.now (Err c.in_err-part.field-0.0) c.as_bytes-key.result.now own.skew c.greatest-moment.result c.as_bytes-key.ensures c.self.invariant.0 c.greatest-moment.ensures c.in_err-part.ensures in
+    let ticket = ticket_at service c.args.moment c.args.request.now (Err c.in_err-part.field-0.0) c.as_bytes-key.result.now own.skew c.as_bytes-key.ensures c.self.invariant.0 c.in_err-part.ensures in
     let exit = err_from_is_err_and c.from_residual-in_err-part.result c.from_residual-in_err-part.ensures.1 in
     rw (exit.1, exit.2)
-    (subst (λ (s : ServiceRecord). IsJudged {T = Presented} (presented s s.seen.greatest c.args.request.now).gives (Err c.in_err-part.field-0.0)) c.self.view_is
-    (ticket_refused service own.seen.greatest c.args.request.now c.in_err-part.field-0.0 address ticket))
+    (subst (λ (s : ServiceRecord). IsJudged {T = Presented} (presented s c.args.moment c.args.request.now).gives (Err c.in_err-part.field-0.0)) c.self.view_is
+    (ticket_refused service c.args.moment c.args.request.now c.in_err-part.field-0.0 address ticket))
 
 pub returns : goal.returns
 returns c =
     let own = c.self.inside in
     let service : ServiceRecord = record { realm = own.realm; components = own.components.items; suite = own.suite; key = own.key; number = own.number; seen = own.seen } in
     let address = rw c.as_slice.ensures.value at c.in_ok-check_address.ensures in
-    let ticket = ticket_at service own.seen.greatest c.args.request.now (Ok c.in_ok-part.part) c.as_bytes-key.result.now own.skew c.greatest-moment.result c.as_bytes-key.ensures c.self.invariant.0 c.greatest-moment.ensures c.in_ok-part.ensures in
-    subst (λ (s : ServiceRecord). IsJudged {T = Presented} (presented s s.seen.greatest c.args.request.now).gives c.check_authenticator.result) c.self.view_is
-    (ticket_held service own.seen.greatest c.args.request.now c.in_ok-part.part c.check_authenticator.result address ticket c.check_authenticator.ensures)
+    let ticket = ticket_at service c.args.moment c.args.request.now (Ok c.in_ok-part.part) c.as_bytes-key.result.now own.skew c.as_bytes-key.ensures c.self.invariant.0 c.in_ok-part.ensures in
+    subst (λ (s : ServiceRecord). IsJudged {T = Presented} (presented s c.args.moment c.args.request.now).gives c.check_authenticator.result) c.self.view_is
+    (ticket_held service c.args.moment c.args.request.now c.in_ok-part.part c.check_authenticator.result address ticket c.check_authenticator.ensures)

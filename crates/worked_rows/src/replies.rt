@@ -1,5 +1,5 @@
-//! An AS request of a client that the realm doesn't know, at 2000-01-01 00:00:00, from bytes to bytes. The bytes
-//! were put together by hand from RFC 4120, appendix A.
+//! An AS request with no preauthentication, of a client that the realm knows or doesn't, at 2000-01-01 00:00:00, from bytes
+//! to bytes. The bytes were put together by hand from RFC 4120, appendix A.
 
 use krb_realm::{
     AnswerRefusal, CipherSuite, Moment, Realm, RealmRefusal, ServeFault, Settings, serve_bytes,
@@ -17,6 +17,12 @@ const REQUEST: &str = "\
 const REPLY: &str = "\
     7e463044a003020105a10302011ea411180f32303030303130313030303030305aa503020100a603\
     020106a9031b0152aa163014a003020102a10d300b1b066b72627467741b0152";
+
+// A KRB-ERROR of code 25 about krbtgt/R, with METHOD-DATA: ETYPE-INFO2 of AES-256 with salt Ra, and PA-ENC-TIMESTAMP.
+const HINT: &str = "\
+    7e71306fa003020105a10302011ea411180f32303030303130313030303030305aa503020100a603\
+    020119a9031b0152aa163014a003020102a10d300b1b066b72627467741b0152\
+    ac29042730253018a103020113a211040f300d300ba003020112a1041b0252613009a103020102a2020400";
 
 const MOMENT: &[u8; 15] = b"20000101000000Z";
 
@@ -50,21 +56,32 @@ fn unknown_client(rt: HostRuntime) -> Result<(), Fail> {
     Ok(())
 }
 
-// The same client, now with an account: what passes the rows so far gets code 60.
+// What the realm answers where `a` has an account of this suite, with the password pw.
+fn answer_for(alloc: Global, suite: CipherSuite) -> Result<Vec<u8>, Fail> {
+    let mut realm = realm_of(alloc)?;
+    let name = vec![in alloc; Vec::from_slice(alloc, b"a")?]?;
+    realm.add_account_by_password(alloc, &name, suite, b"pw")?;
+    let moment = Moment::from_text(MOMENT).ok_or("no moment")?;
+    let request = hex::decode(alloc, REQUEST)?;
+    Ok(realm.answer(alloc, &request, moment, &[0; 128])?)
+}
+
 #[test]
 fn known_client(rt: HostRuntime) -> Result<(), Fail> {
-    let mut realm = realm_of(rt.alloc())?;
-    let name = vec![in rt.alloc(); Vec::from_slice(rt.alloc(), b"a")?]?;
-    let suite = CipherSuite::Aes256CtsHmacSha196;
-    realm.add_account_by_key(rt.alloc(), &name, suite, &[1; 32])?;
-    let moment = Moment::from_text(MOMENT).ok_or("no moment")?;
-    let request = hex::decode(rt.alloc(), REQUEST)?;
-    let mut reply = hex::decode(rt.alloc(), REPLY)?;
-    if let Some(code) = reply.get_mut(42) {
-        *code = 60;
+    let reply = answer_for(rt.alloc(), CipherSuite::Aes256CtsHmacSha196)?;
+    assert_eq!(rt; reply, hex::decode(rt.alloc(), HINT)?);
+    Ok(())
+}
+
+// The request names AES-256 alone, so that a client of AES-128 gets code 14.
+#[test]
+fn other_suite(rt: HostRuntime) -> Result<(), Fail> {
+    let reply = answer_for(rt.alloc(), CipherSuite::Aes128CtsHmacSha196)?;
+    let mut wanted = hex::decode(rt.alloc(), REPLY)?;
+    if let Some(code) = wanted.get_mut(42) {
+        *code = 14;
     }
-    let answer = realm.answer(rt.alloc(), &request, moment, &[0; 128]);
-    assert_eq!(rt; answer, Ok(reply));
+    assert_eq!(rt; reply, wanted);
     Ok(())
 }
 

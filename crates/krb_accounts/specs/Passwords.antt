@@ -1,0 +1,19 @@
+-- Accounts whose key is that of a password (RFC 4120 4, RFC 3962 4).
+use Rattle.std.specs.Prelude.{ℕ, List, ◌++◌, Some}
+use Rattle.std.specs.List.{flat_map}
+use Rattle.krb_crypto.specs.declared.suite.CipherSuite.{CipherSuite}
+use Rattle.krb_crypto.specs.Sealing.{password_key_of}
+use Rattle.krb_accounts.specs.Account.{AccountRecord}
+
+-- the salt of a principal's password: the realm, and behind it the components
+abbrev pub password_salt : List ℕ → List (List ℕ) → List ℕ
+password_salt realm components = realm ++ flat_map (λ component. component) components
+
+-- an account with the first key of a password and a salt
+abbrev pub password_account : CipherSuite → List ℕ → List ℕ → AccountRecord
+password_account suite password salt = record {
+  suite = suite;
+  key = password_key_of suite password salt;
+  number = 1;
+  salt = Some salt;
+}

@@ -1,0 +1,5 @@
+use Rattle.krb_replies.specs.Replies.{one_reply}
+use Rattle.krb_replies.proofs.laws.one_reply.Goals as goal
+
+pub returns : goal.returns
+returns c = one_reply
