@@ -79,8 +79,8 @@ pub(crate) fn credential_of(
     Ok(client.take_as_reply(alloc, &asked, &reply)?)
 }
 
-// The request of a client to `h` at a moment, with neither reply nor subkey or with both, by a ticket till a time. The
-// random bytes are 07.
+// The request of a client to `h` at a moment, with neither reply nor subkey and of zero bytes, or with both and of bytes
+// 07, by a ticket till a time.
 pub(crate) fn request_of(
     alloc: Global,
     client: &Client,
@@ -99,5 +99,6 @@ fn request_by(
     both: bool,
     moment: Moment,
 ) -> Result<(Vec<u8>, ApAsked), Fail> {
-    Ok(client.ap_request(alloc, credential, both, both, moment, &[7; 96])?)
+    let words = [if both { 7 } else { 0 }; 96];
+    Ok(client.ap_request(alloc, credential, both, both, moment, &words)?)
 }
