@@ -1,5 +1,7 @@
 """Measures AS exchanges of the program that is given."""
-import os, resource, shutil, subprocess, sys, tempfile, time
+import os, shutil, subprocess, sys, tempfile
+
+from program import timed
 
 PROGRAM = sys.argv[1]
 
@@ -21,30 +23,6 @@ PARTS = {
 }
 
 
-def processor_seconds():
-    used = resource.getrusage(resource.RUSAGE_CHILDREN)
-    return used.ru_utime + used.ru_stime
-
-
-def are_tickets(replies, count):
-    """The replies are AS replies (first byte 6B), one for each frame, and the same."""
-    replies.seek(0)
-    head = replies.read(4)
-    reply = head + replies.read(int.from_bytes(head, "big"))
-    rest = all(replies.read(len(reply)) == reply for _ in range(count - 1)) and not replies.read(1)
-    return reply[4] == 0x6B and rest
-
-
-def timed(count):
-    with tempfile.TemporaryFile() as requests, tempfile.TemporaryFile() as replies:
-        for _ in range(count // 1000):
-            requests.write(FRAME * 1000)
-        requests.seek(0)
-        before, start = processor_seconds(), time.monotonic()
-        subprocess.run([PROGRAM], stdin=requests, stdout=replies, check=True)
-        return time.monotonic() - start, processor_seconds() - before, are_tickets(replies, count)
-
-
 def part_of(function):
     for part, beginnings in PARTS.items():
         if function.startswith(beginnings):
@@ -58,7 +36,8 @@ def instructions(count):
         out = os.path.join(folder, "callgrind.out")
         words = ["valgrind", "--tool=callgrind", "--callgrind-out-file=" + out, PROGRAM]
         subprocess.run(words, input=FRAME * count, stdout=subprocess.DEVNULL, stderr=subprocess.DEVNULL, check=True)
-        listed = subprocess.run(["callgrind_annotate", "--threshold=100", "--auto=no", out], capture_output=True, text=True, check=True).stdout
+        listed = subprocess.run(["callgrind_annotate", "--threshold=100", "--auto=no", out],
+                                capture_output=True, text=True, check=True).stdout
     taken = dict.fromkeys([*PARTS, "rest"], 0)
     for line in listed.splitlines():
         columns = line.split()
@@ -68,8 +47,11 @@ def instructions(count):
     return taken
 
 
+# The reply is a ticket's, an AS-REP (first byte 6B behind the frame's length), and each frame gets the same.
+reply = subprocess.run([PROGRAM], input=FRAME, stdout=subprocess.PIPE, check=True).stdout
+assert reply[4] == 0x6B, "no ticket was given"
 for count in (20_000, 100_000):
-    seconds, used, whole = timed(count)
+    seconds, used, whole = timed(PROGRAM, FRAME, reply, count)
     print(f"{count} AS exchanges: {count / seconds:.0f} a second, {used / count * 1e6:.1f} microseconds of processor "
           f"each, replies {'whole' if whole else 'WRONG'}")
 

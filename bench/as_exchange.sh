@@ -5,4 +5,4 @@
 set -e
 top=$(cd "$(dirname "$0")/.." && pwd)
 "$top/krb_realm" </dev/null
-exec python3 "$top/bench/as_exchange.py" "$top/crates/krb_realmd/out/krb_realmd"
+exec python3 -B "$top/bench/as_exchange.py" "$top/crates/krb_realmd/out/krb_realmd"
