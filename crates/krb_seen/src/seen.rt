@@ -71,11 +71,12 @@ impl Seen {
         self.greatest
     }
 
-    /// Whether a time differs from the greatest moment by more than the skew.
-    pub fn is_far(&self, time: Moment) -> bool
-        ensures { result ≡ is_far self.now.skew self.now.greatest time }
+    /// By how many microseconds clocks may differ: a day at most.
+    pub fn skew(&self) -> u64
+        ensures value { result ≡ self.now.skew }
+        ensures bound { result ≤ 86400000000 }
     {
-        self.greatest.is_far_from(time, self.skew)
+        self.skew
     }
 
     /// Whether this pair was admitted. Its time must not be far from the greatest moment: of older pairs

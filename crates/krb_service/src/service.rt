@@ -26,9 +26,6 @@ use std::marker::Model;
 /// The most seconds by which clocks may be allowed to differ: a day.
 const SKEW_LIMIT: u64 = 86_400;
 
-/// How many microseconds a second has.
-const SECOND: u64 = 1_000_000;
-
 /// The option mutual-required of an AP request (RFC 4120, section 5.5.1).
 const MUTUAL_REQUIRED: usize = 2;
 
@@ -40,12 +37,10 @@ pub struct Service {
     suite: CipherSuite,
     key: OctetStringAsn1,
     number: u32,
-    skew: u64,
     seen: Seen,
 }
 
 impl Model for Service {
-    ghost use Rattle.std.specs.Prelude.{◌≡◌, ◌≤◌};
     ghost use Rattle.krb_service.specs.Service.{ServiceRecord};
 
     ghost Value = { ServiceRecord };
@@ -58,9 +53,6 @@ impl Model for Service {
       number = s.number;
       seen = s.seen;
     } };
-
-    // The skew stands twice.
-    ghost invariant = { λ s. (s.skew ≡ s.seen.skew) × (s.skew ≤ 86400000000) };
 }
 
 impl Service {
@@ -101,7 +93,6 @@ impl Service {
             suite,
             key,
             number,
-            skew: SECOND * skew,
             seen: Seen::new(alloc, skew),
         })
     }
@@ -130,7 +121,7 @@ impl Service {
             return Err(AdmitRefusal::Unreadable);
         };
         let presented = self.judge(alloc, now, &request)?;
-        if now.is_far_from(presented.time, self.skew) {
+        if now.is_far_from(presented.time, self.seen.skew()) {
             return Err(AdmitRefusal::Krb(error_codes::KRB_AP_ERR_SKEW));
         }
         let wanted = request.ap_options.0.bit(MUTUAL_REQUIRED);
@@ -158,7 +149,7 @@ impl Service {
             alloc,
             self.suite,
             key,
-            self.skew,
+            self.seen.skew(),
             moment,
             &request.ticket.0.0.enc_part.0,
         )?;

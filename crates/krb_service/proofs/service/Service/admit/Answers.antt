@@ -34,15 +34,15 @@ returns-then-is_far_from-clause-remembers c = λ admitted w.
     let far = sym c.is_far_from.ensures ∙ c.if-is_far_from.true in
     subst (λ (s : ServiceRecord). IsWindow s.seen admitted
     → IsStep (remembering s (max s.seen.greatest c.args.moment) admitted c.args.bytes.now c.args.words.now).gives admitted (Err (Krb 37)) c.raise.new.self) c.self.view_is
-    (λ before. step_far service c.raise.new.self own.skew c.greatest-now.result c.args.moment admitted c.args.bytes.now c.args.words.now c.in-Some.request c.in_ok-presented.presented
-    c.self.invariant.0 c.raise.ensures.skew (c.greatest-now.ensures ∙ c.raise.ensures.greatest) found c.in_ok-presented.ensures far (c.raise.ensures.window admitted before)) w
+    (λ before. step_far service c.raise.new.self c.skew.result c.greatest-now.result c.args.moment admitted c.args.bytes.now c.args.words.now c.in-Some.request c.in_ok-presented.presented
+    (c.skew.ensures.value ∙ c.raise.ensures.skew) c.raise.ensures.skew (c.greatest-now.ensures ∙ c.raise.ensures.greatest) found c.in_ok-presented.ensures far (c.raise.ensures.window admitted before)) w
 
 pub admit_once-requires-clause-near : goal.admit_once-requires-clause-near
 admit_once-requires-clause-near c =
     let own = c.self.inside in
     let service : ServiceRecord = record { realm = own.realm; components = own.components.items; suite = own.suite; key = own.key; number = own.number; seen = own.seen } in
     let near = sym c.is_far_from.ensures ∙ c.if-is_far_from.false in
-    near_seen service c.raise.new.self own.skew c.greatest-now.result c.in_ok-presented.presented.time c.self.invariant.0 c.raise.ensures.skew c.greatest-now.ensures near
+    near_seen service c.raise.new.self c.skew.result c.greatest-now.result c.in_ok-presented.presented.time (c.skew.ensures.value ∙ c.raise.ensures.skew) c.raise.ensures.skew c.greatest-now.ensures near
 
 pub returns-clause-remembers : goal.returns-clause-remembers
 returns-clause-remembers c = λ admitted w.

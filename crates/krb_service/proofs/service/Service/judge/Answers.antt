@@ -21,7 +21,7 @@ returns-in_err-part c =
     let own = c.self.inside in
     let service : ServiceRecord = record { realm = own.realm; components = own.components.items; suite = own.suite; key = own.key; number = own.number; seen = own.seen } in
     let address = rw c.as_slice.ensures.value at c.in_ok-check_address.ensures in
-    let ticket = ticket_at service c.args.moment c.args.request.now (Err c.in_err-part.field-0.0) c.as_bytes-key.result.now own.skew c.as_bytes-key.ensures c.self.invariant.0 c.in_err-part.ensures in
+    let ticket = ticket_at service c.args.moment c.args.request.now (Err c.in_err-part.field-0.0) c.as_bytes-key.result.now c.skew.result c.as_bytes-key.ensures c.skew.ensures.value c.in_err-part.ensures in
     let exit = err_from_is_err_and c.from_residual-in_err-part.result c.from_residual-in_err-part.ensures.1 in
     rw (exit.1, exit.2)
     (subst (λ (s : ServiceRecord). IsJudged {T = Presented} (presented s c.args.moment c.args.request.now).gives (Err c.in_err-part.field-0.0)) c.self.view_is
@@ -32,6 +32,6 @@ returns c =
     let own = c.self.inside in
     let service : ServiceRecord = record { realm = own.realm; components = own.components.items; suite = own.suite; key = own.key; number = own.number; seen = own.seen } in
     let address = rw c.as_slice.ensures.value at c.in_ok-check_address.ensures in
-    let ticket = ticket_at service c.args.moment c.args.request.now (Ok c.in_ok-part.part) c.as_bytes-key.result.now own.skew c.as_bytes-key.ensures c.self.invariant.0 c.in_ok-part.ensures in
+    let ticket = ticket_at service c.args.moment c.args.request.now (Ok c.in_ok-part.part) c.as_bytes-key.result.now c.skew.result c.as_bytes-key.ensures c.skew.ensures.value c.in_ok-part.ensures in
     subst (λ (s : ServiceRecord). IsJudged {T = Presented} (presented s c.args.moment c.args.request.now).gives c.check_authenticator.result) c.self.view_is
     (ticket_held service c.args.moment c.args.request.now c.in_ok-part.part c.check_authenticator.result address ticket c.check_authenticator.ensures)
