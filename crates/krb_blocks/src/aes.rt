@@ -11,8 +11,6 @@ mod decrypt;
 mod encrypt;
 mod schedule;
 mod steps;
-#[cfg(test)]
-mod tests;
 
 use crate::error::{KerberosCryptoError, KerberosCryptoResult};
 pub use decrypt::{decrypt_aes_cbc, decrypt_aes_cts};

@@ -5,8 +5,6 @@ pub mod aes;
 mod by_suite;
 mod cipher;
 mod suite;
-#[cfg(test)]
-mod tests;
 mod unchecked;
 mod usage;
 

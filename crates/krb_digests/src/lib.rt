@@ -7,8 +7,6 @@ mod fold;
 mod hmac;
 mod pbkdf2;
 mod place;
-#[cfg(test)]
-mod tests;
 mod usage;
 
 pub use fold::n_fold;
