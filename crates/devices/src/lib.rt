@@ -15,6 +15,3 @@ pub use exact::{WholeFault, read_full, write_whole};
 pub use sink::{Sink, SinkFault};
 pub use source::Source;
 pub use watched::Watched;
-
-#[cfg(test)]
-mod tests;

@@ -17,6 +17,3 @@ pub use frame::{FRAME_LIMIT, WORDS_NEEDED};
 pub use laws::{output_is_whole, runs_agree};
 pub use responder::Responder;
 pub use stream::{serve, serve_bytes};
-
-#[cfg(test)]
-mod tests;

@@ -1,0 +1,11 @@
+//! Streams over whole, slow and failing devices.
+#![tactic(auto)]
+
+#[cfg(test)]
+mod moving;
+#[cfg(test)]
+mod serving;
+#[cfg(test)]
+mod slow;
+#[cfg(test)]
+mod texts;
