@@ -115,30 +115,3 @@ fn number_of(digits: &[u8]) -> usize
     }
     number
 }
-
-#[cfg(test)]
-mod tests {
-    use super::*;
-
-    // The examples of X.690, 8.1.3.4 and 8.1.3.5.
-    #[test]
-    fn writes_the_standards_examples(rt: HostRuntime) {
-        assert_eq!(rt; LengthOctets::of(38).as_bytes(), [0x26].as_slice());
-        assert_eq!(rt; LengthOctets::of(201).as_bytes(), [0x81, 0xC9].as_slice());
-    }
-
-    #[test]
-    fn reads_the_standards_examples(rt: HostRuntime) {
-        assert_eq!(rt; following(0x26), Some(0));
-        assert_eq!(rt; length_of(&[0x26]), Some(38));
-        assert_eq!(rt; following(0x81), Some(1));
-        assert_eq!(rt; length_of(&[0x81, 0xC9]), Some(201));
-    }
-
-    // One octet would do for 38, and 80 begins the indefinite form (X.690, 8.1.3.6 and 10.1).
-    #[test]
-    fn refuses_other_forms(rt: HostRuntime) {
-        assert_eq!(rt; length_of(&[0x81, 0x26]), None);
-        assert_eq!(rt; following(0x80), None);
-    }
-}

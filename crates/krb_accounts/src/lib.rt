@@ -7,8 +7,6 @@ mod names;
 mod passwords;
 mod refusal;
 mod settings;
-#[cfg(test)]
-mod tests;
 
 pub use account::Account;
 pub use accounts::Accounts;

@@ -3,8 +3,6 @@
 
 mod pair;
 mod seen;
-#[cfg(test)]
-mod tests;
 
 pub use pair::Pair;
 pub use seen::Seen;

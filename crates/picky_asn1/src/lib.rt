@@ -10,8 +10,6 @@ mod leaf;
 mod octet_string;
 pub mod restricted_string;
 mod sequence_of;
-#[cfg(test)]
-mod tests;
 pub mod wrapper;
 
 pub use fault::LeafFault;
