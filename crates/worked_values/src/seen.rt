@@ -45,8 +45,10 @@ fn far_times(rt: HostRuntime) -> Result<(), Fail> {
     let mut seen = seen_two(rt.alloc())?;
     seen.raise(at(990)?);
     assert_eq!(rt; seen.greatest(), at(1_000)?);
+    assert_eq!(rt; seen.skew(), 300_000_000);
     for (second, is_far) in [(699, true), (700, false), (1_300, false), (1_301, true)] {
-        assert_eq!(rt; seen.is_far(at(second)?), is_far, "at {second}");
+        let told = seen.greatest().is_far_from(at(second)?, seen.skew());
+        assert_eq!(rt; told, is_far, "at {second}");
     }
     Ok(())
 }
