@@ -1,0 +1,9 @@
+pub mod BitStrings
+pub mod Permutations
+pub mod Feistel
+pub mod Laws
+pub mod Turns
+pub mod Boxes
+pub mod Steps
+pub mod Schedules
+pub mod SeedLemmas
