@@ -2,38 +2,45 @@
 
 ghost use Rattle.std.specs.Prelude.{◌≡◌, ◌≢◌, ◌%◌, length, Err, IfOk, IfErr, OnOk};
 ghost use Rattle.krb_blocks.specs.Bytes.{sum_of_bytes};
-ghost use Rattle.krb_blocks.specs.Chains.{IsChained};
-ghost use Rattle.krb_blocks.specs.declared.error.KerberosCryptoError.TheVariants.{KeyLength, CipherPad, Memory};
+ghost use Rattle.krb_blocks.specs.Chains.{IsChained, zero_filled};
+ghost use Rattle.krb_blocks.specs.declared.error.KerberosCryptoError.TheVariants.{KeyLength, Memory};
 ghost use Rattle.krb_des.specs.Des.{triple_des_cipher};
 ghost use Rattle.krb_des.specs.Schedule.{cipher_under};
 
+use super::check_key_length;
 use super::schedule::KeySchedule;
-use super::{DES3_BLOCK_SIZE, check_key_length};
-use krb_blocks::{KerberosCryptoError, KerberosCryptoResult};
+use krb_blocks::KerberosCryptoResult;
 use std::alloc::{AllocError, Global};
 
-/// The cipher of whole blocks in a chain, from an initial vector of zeros. Refused are a key that hasn't 24 bytes
-/// (`KeyLength`) and a text that isn't whole blocks of eight (`CipherPad`).
-pub fn encrypt_des3_cbc(
-    alloc: Global,
-    key: &[u8],
-    plaintext: &[u8],
-) -> KerberosCryptoResult<Vec<u8>>
-    ensures chained { IfOk result (λ c. IsChained 8 (triple_des_cipher key.now) plaintext.now c.items) }
+/// The cipher, in a chain from an initial vector of zeros, of a text that is filled with zeros up to whole blocks.
+/// Refused is a key that hasn't 24 bytes (`KeyLength`).
+pub fn encrypt_des(alloc: Global, key: &[u8], payload: &[u8]) -> KerberosCryptoResult<Vec<u8>>
+    ensures chained { IfOk result
+        (λ c. IsChained 8 (triple_des_cipher key.now) (zero_filled 8 payload.now) c.items) }
+    ensures whole { length payload.now % 8 ≡ 0
+        → IfOk result (λ c. IsChained 8 (triple_des_cipher key.now) payload.now c.items) }
     ensures sized { OnOk result (length key.now ≡ 24) }
 
-    // The refusals, the first that holds.
+    // The refusals.
     ensures key_length { length key.now ≢ 24 → result ≡ Err (KeyLength (length key.now) 24) }
-    ensures pad { length key.now ≡ 24 → length plaintext.now % 8 ≢ 0 → result ≡ Err CipherPad }
-    ensures memory { length key.now ≡ 24 → length plaintext.now % 8 ≡ 0 → IfErr result (λ e. e ≡ Memory) }
+    ensures memory { length key.now ≡ 24 → IfErr result (λ e. e ≡ Memory) }
 {
     check_key_length(key)?;
-    if plaintext.len() % DES3_BLOCK_SIZE != 0 {
-        return Err(KerberosCryptoError::CipherPad);
-    }
+    let filled = zero_filled(alloc, payload)?;
     let keys = KeySchedule::to_encipher(key);
-    let chain = encrypt_chain(alloc, &keys, plaintext)?;
+    let chain = encrypt_chain(alloc, &keys, &filled)?;
     Ok(chain)
+}
+
+/// The text with zeros added up to whole blocks.
+fn zero_filled(alloc: Global, text: &[u8]) -> Result<Vec<u8>, AllocError>
+    ensures filled { IfOk result (λ v. v.items ≡ zero_filled 8 text.now) }
+    ensures whole { IfOk result (λ v. length v.items % 8 ≡ 0) }
+{
+    let missing = (8 - text.len() % 8) % 8;
+    let mut filled = Vec::from_slice(alloc, text)?;
+    filled.resize(text.len() + missing, 0)?;
+    Ok(filled)
 }
 
 /// The chain of whole blocks under these round keys.

@@ -12,8 +12,8 @@ mod round;
 mod schedule;
 mod seed;
 
-pub use decrypt::decrypt_des3_cbc;
-pub use encrypt::encrypt_des3_cbc;
+pub use decrypt::decrypt_des;
+pub use encrypt::encrypt_des;
 use krb_blocks::{KerberosCryptoError, KerberosCryptoResult};
 pub use seed::random_to_key;
 

@@ -5,7 +5,7 @@ use Rattle.krb_des.specs.Des.{triple_des_cipher, triple_des_inverse}
 use Rattle.krb_des.specs.Schedule.{cipher_under}
 use Rattle.krb_des.proofs.Laws.{triple_des_pair}
 use Rattle.krb_des.proofs.Schedules.{undone_by}
-use Rattle.krb_des.proofs.decrypt.decrypt_des3_cbc.Goals as goal
+use Rattle.krb_des.proofs.decrypt.decrypt_des.Goals as goal
 
 pub returns-clause-undone : goal.returns-clause-undone
 returns-clause-undone c = triple_des_pair c.args.key.now
