@@ -1,5 +1,6 @@
 -- Strings cut into blocks of `size` bytes.
 use Rattle.std.proofs.Common.{◌≡◌, ◌<◌, ◌≤◌, ◌+◌, ◌-◌, ◌*◌, ◌/◌, ◌%◌, ℕ, zero, suc, List, [], ◌++◌, length, get_or, take, drop, replicate, refl, sym, ap, ◌∙◌, inl, inr, arith, add-one, lit<}
+use Rattle.std.specs.Int.Bits.{xor_zero_r}
 use Rattle.std.proofs.lemmas.Bool.{cases_lt}
 use Rattle.std.proofs.lemmas.Nat.{xor_comm}
 use Rattle.std.proofs.Math.Nat.{mul-le-mul_left}
@@ -15,6 +16,14 @@ sum_of_bytes-comm n a b =
     (λ i h.
     let within : i < n = omega (arith, length-sum_of_bytes n a b) in
     get_or-sum_of_bytes n a b i within ∙ xor_comm (get_or a i 0) (get_or b i 0) ∙ sym (get_or-sum_of_bytes n b a i within))
+
+-- a sum with zeros
+pub sum_of_bytes-zeros : (n : ℕ) (a : List ℕ) → length a ≡ n → sum_of_bytes n a (replicate n 0) ≡ a
+sum_of_bytes-zeros n a sized =
+    ext_get_or 0 (sum_of_bytes n a (replicate n 0)) a (length-sum_of_bytes n a (replicate n 0) ∙ sym sized)
+    (λ i h.
+    let inside : i < n = omega (arith, length-sum_of_bytes n a (replicate n 0)) in
+    get_or-sum_of_bytes n a (replicate n 0) i inside ∙ rw (get_or-replicate {A = ℕ} n i 0 0 inside) (xor_zero_r (get_or a i 0)))
 
 pub IsBytes-replicate : (n : ℕ) → IsBytes (replicate n 0)
 IsBytes-replicate n =

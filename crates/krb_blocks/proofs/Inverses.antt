@@ -98,11 +98,11 @@ coefficient_small a b r small bytes =
     let three = xor_lt 8 (bit_xor (term 0) (term 1)) (term 2) two (fits 2) in
     xor_lt 8 (bit_xor (bit_xor (term 0) (term 1)) (term 2)) (term 3) three (fits 3)
 
-at_place : (a b : List ℕ) (r : ℕ) → r < 4 → get_or (column_product a b) r 0 ≡ coefficient a b r
+pub at_place : (a b : List ℕ) (r : ℕ) → r < 4 → get_or (column_product a b) r 0 ≡ coefficient a b r
 unfolding column_product
 at_place a b r h = get_or-map-range_with_len (coefficient a b) 0 4 r r 0 h (omega arith)
 
-length-column_product : (a b : List ℕ) → length (column_product a b) ≡ 4
+pub length-column_product : (a b : List ℕ) → length (column_product a b) ≡ 4
 unfolding column_product
 length-column_product a b = length-map-range_with_len (coefficient a b) 0 4
 
@@ -137,7 +137,7 @@ product_back u m test b r bytes h =
     rw (passed_is u m test r 0 (slice_index b 0) h (lit< tt) (bytes 0), passed_is u m test r 1 (slice_index b 1) h (lit< tt) (bytes 1), passed_is u m test r 2 (slice_index b 2) h (lit< tt) (bytes 2), passed_is u m test r 3 (slice_index b 3) h (lit< tt) (bytes 3)) refl in
     linear ∙ sum_swap (λ j k. field_product (U j) (inner j k)) ∙ apart ∙ picked_out (λ k. slice_index b k) r h
 
-get_or-column : (s : List ℕ) (c r : ℕ) → r < 4 → get_or (column s c) r 0 ≡ entry s r c
+pub get_or-column : (s : List ℕ) (c r : ℕ) → r < 4 → get_or (column s c) r 0 ≡ entry s r c
 get_or-column s c r h = get_or-map-range_with_len (λ r. entry s r c) 0 4 r r 0 h (omega arith)
 
 column-bytes : (s : List ℕ) (c : ℕ) → IsBytes s → IsBytes (column s c)

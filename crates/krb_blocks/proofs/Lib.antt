@@ -1,5 +1,8 @@
 pub mod AllBytes
 pub mod Tables
+pub mod WordBytes
+pub mod Columns
+pub mod Unmixed
 pub mod Words
 pub mod Sums
 pub mod States

@@ -1,11 +1,11 @@
 -- The cipher and the inverse cipher keep blocks of bytes and undo each other.
-use Rattle.std.proofs.Common.{◌≡◌, ◌<◌, ◌≤◌, ◌+◌, ◌-◌, ◌*◌, ℕ, zero, suc, List, length, take, drop, refl, ◌∙◌, inl, inr, lit<, arith}
+use Rattle.std.proofs.Common.{◌≡◌, ◌<◌, ◌≤◌, ◌+◌, ◌-◌, ◌*◌, ℕ, zero, suc, List, length, take, drop, refl, inl, inr, lit<, arith}
 use Rattle.krb_blocks.specs.Bytes.{IsBytes, IsBlock, sum_of_bytes}
 use Rattle.krb_blocks.specs.Aes.{IsAesKey, round_key, round_count, sub_bytes, inv_sub_bytes, shift_rows, inv_shift_rows, mix_columns, inv_mix_columns, rounds, inv_rounds, cipher, inv_cipher, key_schedule, aes_cipher, aes_inverse}
 use Rattle.krb_blocks.specs.AesSize.{key_length_of}
 use Rattle.krb_blocks.specs.declared.aes.AesSize.{AesSize}
 use Rattle.krb_blocks.specs.declared.aes.AesSize.TheVariants.{Aes128, Aes256}
-use Rattle.krb_blocks.specs.Chains.{IsChained, IsBlockCipher}
+use Rattle.krb_blocks.specs.Chains.{IsChained, IsBlockCipher, IsCompleted}
 use Rattle.krb_blocks.proofs.States.{IsBlock-cut, length-sum_of_bytes, sum_of_bytes-block, sum_of_bytes-twice}
 use Rattle.krb_blocks.proofs.Inverses.{sub_bytes-block, inv_sub_bytes-block, shift_rows-block, inv_shift_rows-block, mix_columns-block, inv_mix_columns-block, inv_sub_bytes-sub_bytes, sub_bytes-inv_sub_bytes, inv_shift_rows-shift_rows, shift_rows-inv_shift_rows, inv_mix_columns-mix_columns, mix_columns-inv_mix_columns}
 use Rattle.krb_blocks.proofs.Words.{length-key_schedule, IsBytes-key_schedule}
@@ -94,29 +94,34 @@ pub length-cipher : (w : List ℕ) (n : ℕ) (s : List ℕ) → length (cipher w
 unfolding cipher
 length-cipher w n s = length-sum_of_bytes 16 (shift_rows (sub_bytes (rounds w s (n - 1)))) (round_key w n)
 
--- the steps of the code, with a round key as the code cuts it out
-pub cut : (n : ℕ) (w : List ℕ) → take (16 * n + 16 - 16 * n) (drop (16 * n) w) ≡ round_key w n
+-- a block as the code cuts it out
+pub cut : (n : ℕ) (w : List ℕ) → take (16 * n + 16 - 16 * n) (drop (16 * n) w) ≡ take 16 (drop (16 * n) w)
 cut n w = let size : 16 * n + 16 - 16 * n ≡ 16 = omega arith in rw size refl
 
-pub rounds_more : (w s t : List ℕ) (n : ℕ) → 0 < n → t ≡ rounds w s (n - 1) → sum_of_bytes 16 (mix_columns (shift_rows (sub_bytes t))) (take (16 * n + 16 - 16 * n) (drop (16 * n) w)) ≡ rounds w s (n + 1 - 1)
+-- the steps of the code
+pub rounds_more : (w s t : List ℕ) (n : ℕ) → 0 < n → t ≡ rounds w s (n - 1) → sum_of_bytes 16 (mix_columns (shift_rows (sub_bytes t))) (round_key w n) ≡ rounds w s (n + 1 - 1)
 unfolding rounds
 rounds_more w s t zero some e = absurd (omega arith)
 rounds_more w s t (suc m) some e =
     let here : suc m - 1 ≡ m = omega arith in
     let after : suc m + 1 - 1 ≡ suc m = omega arith in
-    rw (cut (suc m) w, after, e, here) refl
+    rw (after, e, here) refl
 
-pub cipher_written : (w s t : List ℕ) (n last : ℕ) → n ≡ last → t ≡ rounds w s (n - 1) → sum_of_bytes 16 (shift_rows (sub_bytes t)) (take (16 * last + 16 - 16 * last) (drop (16 * last) w)) ≡ cipher w last s
+pub cipher_written : (w s t : List ℕ) (n last : ℕ) → n ≡ last → t ≡ rounds w s (n - 1) → sum_of_bytes 16 (shift_rows (sub_bytes t)) (round_key w last) ≡ cipher w last s
 unfolding cipher
-cipher_written w s t n last same e = rw (cut last w, e, same) refl
+cipher_written w s t n last same e = rw (e, same) refl
 
-pub inv_rounds_less : (w s : List ℕ) (n m : ℕ) → n ≡ suc m → inv_rounds w (inv_sub_bytes (inv_shift_rows (inv_mix_columns (sum_of_bytes 16 s (take (16 * n + 16 - 16 * n) (drop (16 * n) w)))))) m ≡ inv_rounds w s n
+pub inv_cipher_begun : (w s : List ℕ) (n : ℕ) → inv_rounds w (inv_sub_bytes (inv_shift_rows (sum_of_bytes 16 s (round_key w n)))) (n - 1) ≡ inv_cipher w n s
+unfolding inv_cipher
+inv_cipher_begun w s n = refl
+
+pub inv_rounds_less : (w s : List ℕ) (n m : ℕ) → n ≡ suc m → inv_rounds w (inv_sub_bytes (inv_shift_rows (inv_mix_columns (sum_of_bytes 16 s (round_key w n))))) m ≡ inv_rounds w s n
 unfolding inv_rounds
-inv_rounds_less w s n m e = rw (cut n w, e) refl
+inv_rounds_less w s n m e = rw e refl
 
-pub inv_cipher_written : (w s t : List ℕ) (n last : ℕ) → n ≡ 0 → inv_rounds w t n ≡ inv_rounds w (inv_sub_bytes (inv_shift_rows (sum_of_bytes 16 s (take (16 * last + 16 - 16 * last) (drop (16 * last) w))))) (last - 1) → sum_of_bytes 16 t (take 16 w) ≡ inv_cipher w last s
-unfolding inv_rounds inv_cipher
-inv_cipher_written w s t n last none e = (rw none at e) ∙ rw (cut last w) refl
+pub inv_rounds_none : (w s : List ℕ) (n : ℕ) → n ≡ 0 → sum_of_bytes 16 s (round_key w 0) ≡ inv_rounds w s n
+unfolding inv_rounds
+inv_rounds_none w s n none = rw none refl
 
 -- AES under a key
 module _ (key : List ℕ) (sized : IsAesKey key) (bytes : IsBytes key) where
@@ -153,3 +158,7 @@ IsAesKey-of_size Aes128 key sized = inl sized
 pub chained_by_aes : (key w p c : List ℕ) (n : ℕ) → w ≡ key_schedule key → n ≡ round_count key → IsChained 16 (cipher w n) p c → IsChained 16 (aes_cipher key) p c
 unfolding aes_cipher
 chained_by_aes key w p c n words count chained = rw (words, count) at chained
+
+pub completed_by_aes : (key w c v : List ℕ) (n m : ℕ) → w ≡ key_schedule key → n ≡ round_count key → IsCompleted 16 m (cipher w n) c v → IsCompleted 16 m (aes_cipher key) c v
+unfolding aes_cipher
+completed_by_aes key w c v n m words count completed = rw (words, count) at completed

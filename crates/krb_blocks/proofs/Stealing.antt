@@ -1,15 +1,15 @@
 -- Ciphertext stealing over a chain, both ways, and that it is one to one from one block on.
-use Rattle.std.proofs.Common.{◌≡◌, ◌<◌, ◌≤◌, ◌+◌, ◌-◌, ◌*◌, ◌/◌, ℕ, List, ◌++◌, length, get_or, take, drop, replicate, bit_xor, refl, sym, ap, ◌∙◌, inl, inr, lit<, arith, add-one}
-use Rattle.std.specs.Int.Bits.{xor_zero_l, xor_zero_r, xor_self}
+use Rattle.std.proofs.Common.{◌≡◌, ◌<◌, ◌≤◌, ◌+◌, ◌-◌, ◌*◌, ◌/◌, ℕ, List, ◌++◌, length, get_or, take, drop, replicate, bit_xor, refl, sym, ap, ◌∙◌, inl, inr, arith, add-one}
+use Rattle.std.specs.Int.Bits.{xor_zero_l, xor_self}
 use Rattle.std.proofs.lemmas.Bool.{cases_lt}
 use Rattle.std.proofs.Math.Nat.{mul-le-mul_left}
 use Rattle.std.proofs.Math.Seq.{take-append-add}
-use Rattle.std.proofs.lemmas.List.{length-append, length-replicate, length-take, length-take-le, length-drop, take_at, take_rest, take_all, drop_all, append_assoc, append-nil, ext_get_or, get_or-drop, get_or-take, get_or-replicate, drop_at, get_or_past, get_or-append_right, take-append-drop}
+use Rattle.std.proofs.lemmas.List.{drop-append-le, drop-replicate, length-append, length-replicate, length-take, length-take-le, length-drop, take_at, take_all, drop_all, append_assoc, append-nil, ext_get_or, get_or-drop, get_or-take, get_or-replicate, drop_at, get_or_past, get_or-append_right, take-append-drop}
 use Rattle.krb_blocks.specs.Bytes.{IsBytes, IsBlock, sum_of_bytes}
 use Rattle.krb_blocks.specs.Chains.{block_at, before, IsChained, IsBlockCipher, IsStolen, IsCompleted, block_count, zero_filled, exchanged, swapped}
 use Rattle.krb_blocks.proofs.Sums.{added_twice}
-use Rattle.krb_blocks.proofs.States.{IsBlock-cut, IsBytes-append, IsBytes-take, IsBytes-drop, length-sum_of_bytes, get_or-sum_of_bytes, sum_of_bytes-block}
-use Rattle.krb_blocks.proofs.Blocks.{IsBytes-replicate, block_at-block, mid_of, last_of, exchanged_of, swapped_of, in_parts, in_front_parts, length-front, length-mid, length-last}
+use Rattle.krb_blocks.proofs.States.{IsBlock-cut, IsBytes-append, IsBytes-take, IsBytes-drop, get_or-sum_of_bytes, sum_of_bytes-block}
+use Rattle.krb_blocks.proofs.Blocks.{sum_of_bytes-zeros, IsBytes-replicate, block_at-block, mid_of, last_of, exchanged_of, swapped_of, in_parts, in_front_parts, length-front, length-mid, length-last}
 use Rattle.krb_blocks.proofs.Chaining.{chained_function, chain-bytes, chained_text}
 
 -- n bytes are m whole blocks, one more, and up to one more
@@ -52,6 +52,17 @@ zeros_behind size p i j past =
           get_or_past (block_at size (zero_filled size p) i) j 0 (omega (arith, length-take size (drop (size * i) (p ++ zeros))))
     ]
 
+-- the last block of a zero-filled text, as the code fills it
+pub last_filled : (p rest : List ℕ) (i : ℕ) → rest ≡ drop (16 * i) p → 16 * i < length p → length rest < 16 → rest ++ drop (length rest) (replicate 16 0) ≡ block_at 16 (zero_filled 16 p) i
+last_filled p rest i is inside few =
+    let zeros : List ℕ = replicate (16 * block_count 16 (length p) - length p) 0 in
+    let left : length rest ≡ length p - 16 * i = ap length is ∙ length-drop (16 * i) p in
+    let missing : 16 - length rest ≡ 16 * block_count 16 (length p) - length p = omega arith in
+    let start : 16 * i ≤ length p = omega arith in
+    ap (λ (s : List ℕ). rest ++ s) (drop-replicate {X = ℕ} (length rest) 16 0 ∙ ap (λ (k : ℕ). replicate {A = ℕ} k 0) missing)
+    ∙ sym (ap (take 16) (drop-append-le (16 * i) p zeros start ∙ ap (λ (s : List ℕ). s ++ zeros) (sym is))
+    ∙ take_all 16 (rest ++ zeros) (omega (arith, length-append rest zeros, length-replicate {A = ℕ} (16 * block_count 16 (length p) - length p) 0)))
+
 -- the text is the front of its zero-filled form
 pub front_of_filled : (size : ℕ) (p : List ℕ) → take (length p) (zero_filled size p) ≡ p
 front_of_filled size p = take_at p (replicate (size * block_count size (length p) - length p) 0) (length p) refl
@@ -89,14 +100,6 @@ stolen_long size E p x some more chained =
                 ∙ ap (λ (s : List ℕ). exchanged size m (length p) s) (sym parts),
           );
     }
-
--- a sum with zeros
-sum_of_bytes-zeros : (n : ℕ) (a : List ℕ) → length a ≡ n → sum_of_bytes n a (replicate n 0) ≡ a
-sum_of_bytes-zeros n a sized =
-    ext_get_or 0 (sum_of_bytes n a (replicate n 0)) a (length-sum_of_bytes n a (replicate n 0) ∙ sym sized)
-    (λ i h.
-    let inside : i < n = omega (arith, length-sum_of_bytes n a (replicate n 0)) in
-    get_or-sum_of_bytes n a (replicate n 0) i inside ∙ rw (get_or-replicate {A = ℕ} n i 0 0 inside) (xor_zero_r (get_or a i 0)))
 
 -- one block alone: its chain is its cipher
 pub alone : (size : ℕ) (E : List ℕ → List ℕ) (a b : List ℕ) → 0 < size → length b ≡ size → IsChained size E a b → (length a ≡ size) × (b ≡ E a)
@@ -335,21 +338,26 @@ length-completed size E c v some more completed =
     let d = length c - size * (m + 1) in
     omega (arith, ap length completed.appended, length-append c (drop d completed.under), length-drop d completed.under, completed.under_block.sized, last.over, last.within)
 
+-- the last whole block before the bytes from (n - 1) / 16 * 16 on
+pub cut_before : (c : List ℕ) (last : ℕ) → IsBytes c → 16 < length c → last ≡ (length c - 1) / 16 * 16 → IsBlock 16 (take (last - (last - 16)) (drop (last - 16) c))
+cut_before c last bytes more is = let size : last - (last - 16) ≡ 16 = omega arith in rw size (IsBlock-cut 16 (last - 16) c bytes (omega arith))
+
 -- the code's `completed`, whose last block begins at (n - 1) / 16 * 16
 pub completed_of :
-    (E : List ℕ → List ℕ) (c under out : List ℕ) (last : ℕ) → 16 < length c → last ≡ (length c - 1) / 16 * 16 → IsBytes under → IsChained 16 E under (take (last - (last - 16)) (drop (last - 16) c)) → out ≡ c ++ take (length under - (length c - last)) (drop (length c - last) under)
+    (E : List ℕ → List ℕ) (c under out : List ℕ) (last : ℕ) → 16 < length c → last ≡ (length c - 1) / 16 * 16 → IsBlock 16 under → E under ≡ take (last - (last - 16)) (drop (last - 16) c) → out ≡ c ++ take (16 - (length c - last)) (drop (length c - last) under)
     → IsCompleted 16 (block_count 16 (length c) - 2) E c out
-completed_of E c under out last more is bytes chained appended =
+completed_of E c under out last more is block stands appended =
     let m = block_count 16 (length c) - 2 in
     let size : last - (last - 16) ≡ 16 = omega arith in
     let start : last - 16 ≡ 16 * m = omega arith in
-    let one = alone 16 E under (block_at 16 c m) (lit< tt) (length-take-le 16 (drop (16 * m) c) (omega (arith, length-drop (16 * m) c))) (rw (size, start) at chained) in
     let rest : length c - last ≡ length c - 16 * (m + 1) = omega arith in
+    let tail : take (16 - (length c - last)) (drop (length c - last) under) ≡ drop (length c - last) under =
+    take_all (16 - (length c - last)) (drop (length c - last) under) (omega (arith, length-drop (length c - last) under, block.sized)) in
     record {
       under = under;
-      under_block = record { sized = one.0; bytes = bytes };
-      stands = one.1;
-      appended = appended ∙ ap (λ (s : List ℕ). c ++ s) (take_rest under (length c - last)) ∙ ap (λ (k : ℕ). c ++ drop k under) rest;
+      under_block = block;
+      stands = sym (rw (size, start) at stands);
+      appended = appended ∙ ap (λ (s : List ℕ). c ++ s) tail ∙ ap (λ (k : ℕ). c ++ drop k under) rest;
     }
 
 -- a slice written back into the vector that it was lent from

@@ -49,7 +49,7 @@ pub field_product-sum : (a : ℕ) (f : ℕ → ℕ) → field_product a (sum_of_
 field_product-sum a f =
     rw (field_product-xor a (bit_xor (bit_xor (f 0) (f 1)) (f 2)) (f 3), field_product-xor a (bit_xor (f 0) (f 1)) (f 2), field_product-xor a (f 0) (f 1)) refl
 
-sum_of_sums : (f g : ℕ → ℕ) → sum_of_four (λ j. bit_xor (f j) (g j)) ≡ bit_xor (sum_of_four f) (sum_of_four g)
+pub sum_of_sums : (f g : ℕ → ℕ) → sum_of_four (λ j. bit_xor (f j) (g j)) ≡ bit_xor (sum_of_four f) (sum_of_four g)
 sum_of_sums f g =
     rw (interchange (f 0) (g 0) (f 1) (g 1), interchange (bit_xor (f 0) (f 1)) (bit_xor (g 0) (g 1)) (f 2) (g 2), interchange (bit_xor (bit_xor (f 0) (f 1)) (f 2)) (bit_xor (bit_xor (g 0) (g 1)) (g 2)) (f 3) (g 3)) refl
 

@@ -1,57 +1,76 @@
 -- Words of four bytes, and the expansion of a key made of them.
-use Rattle.std.proofs.Common.{◌%◌, ◌≢◌, ◌⊎◌, rules, tests, ◌≡◌, ◌==◌, ◌<◌, ◌≤◌, ◌+◌, ◌-◌, ◌*◌, ◌/◌, ℕ, zero, suc, true, List, [], ◌∷◌, ◌++◌, length, get_or, take, drop, map, slice_index, bit_xor, nat_lt, refl, add-one, ⊎_elim, lit<, Bool, false, if◌then◌else◌, ◌&&◌, sym, ap, ◌∙◌, arith}
-use Rattle.std.specs.Int.Bits.{xor_zero_r}
+use Rattle.std.proofs.Common.{◌%◌, ◌≢◌, ◌⊎◌, rules, tests, ◌≡◌, ◌==◌, ◌<◌, ◌≤◌, ◌+◌, ◌-◌, ◌*◌, ◌/◌, ℕ, zero, suc, true, List, [], ◌∷◌, ◌++◌, length, get_or, take, drop, set, map, slice_index, bit_xor, nat_lt, refl, add-one, ⊎_elim, lit<, Bool, false, if◌then◌else◌, ◌&&◌, sym, ap, ◌∙◌, arith}
+use Rattle.std.specs.Int.{w32, to_be_bytes}
 use Rattle.std.proofs.lemmas.Bool.{eqb-true}
-use Rattle.std.proofs.lemmas.List.{drop_more, length-append, length-map, get_or-map}
+use Rattle.std.proofs.lemmas.Nat.{le-div}
+use Rattle.std.proofs.Math.Seq.{take-add}
+use Rattle.std.proofs.lemmas.List.{ext_get_or, take_more_set, get_or-take, length-take-le, length-append, length-map, get_or-map}
 use Rattle.krb_blocks.specs.Field.{sub_byte, field_product, product_below, remainder}
 use Rattle.krb_blocks.specs.Bytes.{IsBytes, sum_of_bytes}
-use Rattle.krb_blocks.specs.Aes.{IsAesKey, word, x_power, turned_word, next_word, expansion, key_schedule}
+use Rattle.krb_blocks.specs.Aes.{IsAesKey, word, x_power, round_constant, turned_word, next_word, expansion, key_schedule}
+use Rattle.krb_blocks.specs.Words.{bytes_of}
 use Rattle.krb_blocks.specs.declared.aes.schedule.TheConstants.{ROUND_CONSTANTS}
 use Rattle.krb_blocks.proofs.States.{length-sum_of_bytes, sum_of_bytes-block, IsBytes-from_below, IsBytes-take, IsBytes-drop, IsBytes-append}
 use Rattle.krb_blocks.proofs.Tables.{product_small, sub_byte-lt}
 use Rattle.krb_blocks.proofs.AllBytes.{all_below, all_below_at}
+use Rattle.krb_blocks.proofs.Blocks.{sum_of_bytes-zeros}
+use Rattle.krb_blocks.proofs.WordBytes.{bytes_of_sum, bytes_of-append, bytes_of-one, word-bytes_of}
 
-constants : all_below (λ n. slice_index ROUND_CONSTANTS n == x_power n) 10 ≡ true
+constants : all_below (λ n. all_below (λ r. get_or (to_be_bytes w32 (slice_index ROUND_CONSTANTS n)) r 0 == get_or (round_constant (n + 1)) r 0) 4) 10 ≡ true
 unfolding all_below field_product product_below remainder x_power
 constants = refl
 
--- the constants of the code are powers of x
-pub constant_at : (n : ℕ) → n < 10 → slice_index ROUND_CONSTANTS n ≡ x_power n
-constant_at n small = eqb-true _ _ (all_below_at (λ x. slice_index ROUND_CONSTANTS x == x_power x) 10 n constants small)
+-- the constants of the code are the round constants
+pub constant_at : (n : ℕ) → n < 10 → to_be_bytes w32 (slice_index ROUND_CONSTANTS n) ≡ round_constant (n + 1)
+constant_at n small =
+    ext_get_or 0 (to_be_bytes w32 (slice_index ROUND_CONSTANTS n)) (round_constant (n + 1)) refl
+    (λ r h.
+    let places = λ (n : ℕ). all_below (λ r. get_or (to_be_bytes w32 (slice_index ROUND_CONSTANTS n)) r 0 == get_or (round_constant (n + 1)) r 0) 4 in
+    eqb-true _ _ (all_below_at (λ r. get_or (to_be_bytes w32 (slice_index ROUND_CONSTANTS n)) r 0 == get_or (round_constant (n + 1)) r 0) 4 r (all_below_at places 10 n constants small) h))
 
--- four bytes from place a on, written out
-pub four_bytes : (w : List ℕ) (a b c d : ℕ) → b ≡ a + 1 → c ≡ b + 1 → d ≡ c + 1 → d < length w → take 4 (drop a w) ≡ get_or w a 0 ∷ get_or w b 0 ∷ get_or w c 0 ∷ get_or w d 0 ∷ []
-four_bytes w a b c d eb ec ed fits =
-    rw (drop_more w a 0 (omega arith), sym eb, drop_more w b 0 (omega arith), sym ec, drop_more w c 0 (omega arith), sym ed, drop_more w d 0 fits) refl
+pub one_back : (i nk : ℕ) → 0 < nk → nk ≤ i → i / nk - 1 + 1 ≡ i / nk
+one_back i nk some from = let first : 1 * nk ≤ i = omega arith in omega (arith, le-div 1 i nk some first)
 
 -- the three cases of what is added to an earlier word, written out
-pub turned_by_constant : (nk i k a b c d : ℕ) → i % nk ≡ 0 → k ≡ x_power (i / nk - 1) → bit_xor (sub_byte b) k ∷ sub_byte c ∷ sub_byte d ∷ sub_byte a ∷ [] ≡ turned_word nk i (a ∷ b ∷ c ∷ d ∷ [])
-unfolding turned_word sum_of_bytes
-turned_by_constant nk i k a b c d whole constant =
-    rw (whole, constant, xor_zero_r (sub_byte c), xor_zero_r (sub_byte d), xor_zero_r (sub_byte a)) refl
-
-pub turned_by_substitution : (nk i a b c d : ℕ) → 6 < nk → i % nk ≡ 4 → sub_byte a ∷ sub_byte b ∷ sub_byte c ∷ sub_byte d ∷ [] ≡ turned_word nk i (a ∷ b ∷ c ∷ d ∷ [])
+pub turned_by_constant :
+    (nk i k a b c d : ℕ) → i % nk ≡ 0 → to_be_bytes w32 k ≡ round_constant (i / nk)
+    → sum_of_bytes 4 (map sub_byte (b ∷ c ∷ d ∷ a ∷ [])) (to_be_bytes w32 k) ≡ turned_word nk i (a ∷ b ∷ c ∷ d ∷ [])
 unfolding turned_word
-turned_by_substitution nk i a b c d long middle = let test : nat_lt 6 nk ≡ true = search rules in rw (middle, test) refl
+turned_by_constant nk i k a b c d whole constant = ap (sum_of_bytes 4 (map sub_byte (b ∷ c ∷ d ∷ a ∷ []))) constant ∙ rw whole refl
+
+pub turned_by_substitution :
+    (nk i a b c d : ℕ) → 6 < nk → i % nk ≡ 4 → sum_of_bytes 4 (map sub_byte (a ∷ b ∷ c ∷ d ∷ [])) (to_be_bytes w32 0) ≡ turned_word nk i (a ∷ b ∷ c ∷ d ∷ [])
+unfolding turned_word
+turned_by_substitution nk i a b c d long middle =
+    let test : nat_lt 6 nk ≡ true = search rules in
+    sum_of_bytes-zeros 4 (map sub_byte (a ∷ b ∷ c ∷ d ∷ [])) refl ∙ rw (middle, test) refl
 
 pub not_turned : (nk i a b c d : ℕ) → i % nk ≢ 0 → (nk ≤ 6) ⊎ (i % nk ≢ 4) → a ∷ b ∷ c ∷ d ∷ [] ≡ turned_word nk i (a ∷ b ∷ c ∷ d ∷ [])
 unfolding turned_word
 not_turned nk i a b c d off plain = search (rules, tests)
 
--- the next word as the code writes it: `last` and `first` are the places of the two words that it reads
-pub next_word_written :
-    (nk i last first : ℕ) (w t : List ℕ) → nk ≤ i → 0 < nk → length w ≡ 4 * i → last ≡ 4 * i - 4 → first ≡ 4 * (i - nk)
-    → t ≡ turned_word nk i (get_or w last 0 ∷ get_or w (last + 1) 0 ∷ get_or w (last + 2) 0 ∷ get_or w (last + 3) 0 ∷ [])
-    → bit_xor (get_or w first 0) (get_or t 0 0) ∷ bit_xor (get_or w (first + 1) 0) (get_or t 1 0) ∷ bit_xor (get_or w (first + 2) 0) (get_or t 2 0) ∷ bit_xor (get_or w (first + 3) 0) (get_or t 3 0) ∷ []
-    ≡ next_word nk i w
-unfolding next_word sum_of_bytes
-next_word_written nk i last first w t from some sized at_last at_first turned =
-    let before : 4 * (i - 1) ≡ last = omega arith in
-    let ends : take 4 (drop last w) ≡ get_or w last 0 ∷ get_or w (last + 1) 0 ∷ get_or w (last + 2) 0 ∷ get_or w (last + 3) 0 ∷ [] =
-    four_bytes w last (last + 1) (last + 2) (last + 3) (omega arith) (omega arith) (omega arith) (omega arith) in
-    let begins : take 4 (drop first w) ≡ get_or w first 0 ∷ get_or w (first + 1) 0 ∷ get_or w (first + 2) 0 ∷ get_or w (first + 3) 0 ∷ [] =
-    four_bytes w first (first + 1) (first + 2) (first + 3) (omega arith) (omega arith) (omega arith) (omega arith) in
-    rw (before, sym at_first, ends, begins, sym turned) refl
+-- the next word, as the code writes it in its place
+pub word_written :
+    (ws : List ℕ) (nk i t : ℕ) → i < length ws → 0 < nk → nk ≤ i → to_be_bytes w32 t ≡ turned_word nk i (to_be_bytes w32 (get_or ws (i - 1) 0))
+    → bytes_of (take (i + 1) (set ws i (bit_xor (get_or ws (i - nk) 0) t))) ≡ bytes_of (take i ws) ++ next_word nk i (bytes_of (take i ws))
+unfolding next_word
+word_written ws nk i t inside some from turned =
+    let x = bit_xor (get_or ws (i - nk) 0) t in
+    let long : length (take i ws) ≡ i = length-take-le i ws (omega arith) in
+    let read = λ (k : ℕ) (h : k < i). word-bytes_of (take i ws) k (omega arith) ∙ ap (to_be_bytes w32) (get_or-take i ws k 0 h) in
+    ap bytes_of (take_more_set ws i x inside) ∙ bytes_of-append (take i ws) (x ∷ []) ∙ ap (λ (s : List ℕ). bytes_of (take i ws) ++ s) (bytes_of-one x)
+    ∙ ap (λ (s : List ℕ). bytes_of (take i ws) ++ s)
+    (bytes_of_sum (get_or ws (i - nk) 0) t ∙ ap (sum_of_bytes 4 (to_be_bytes w32 (get_or ws (i - nk) 0))) turned
+    ∙ ap (λ (s : List ℕ). sum_of_bytes 4 s (turned_word nk i (to_be_bytes w32 (get_or ws (i - 1) 0)))) (sym (read (i - nk) (omega arith)))
+    ∙ ap (λ (s : List ℕ). sum_of_bytes 4 (word (bytes_of (take i ws)) (i - nk)) (turned_word nk i s)) (sym (read (i - 1) (omega arith))))
+
+-- a word of the key, as the code writes it in its place
+pub key_written :
+    (ws key : List ℕ) (i x : ℕ) → i < length ws → bytes_of (take i ws) ≡ take (4 * i) key → to_be_bytes w32 x ≡ word key i → bytes_of (take (i + 1) (set ws i x)) ≡ take (4 * (i + 1)) key
+key_written ws key i x inside so_far read =
+    let more : 4 * (i + 1) ≡ 4 * i + 4 = omega arith in
+    ap bytes_of (take_more_set ws i x inside) ∙ bytes_of-append (take i ws) (x ∷ []) ∙ ap (λ (s : List ℕ). bytes_of (take i ws) ++ s) (bytes_of-one x ∙ read)
+    ∙ ap (λ (s : List ℕ). s ++ word key i) so_far ∙ sym (take-add (4 * i) 4 key) ∙ ap (λ (k : ℕ). take k key) (sym more)
 
 pub length-next_word : (nk i : ℕ) (w : List ℕ) → length (next_word nk i w) ≡ 4
 unfolding next_word

@@ -1,6 +1,7 @@
 pub mod Bytes
 pub mod Field
 pub mod Aes
+pub mod Words
 pub mod AesSize
 pub mod Chains
 pub mod Worked

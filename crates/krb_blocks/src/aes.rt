@@ -7,10 +7,11 @@ ghost use Rattle.krb_blocks.specs.declared.error.KerberosCryptoError.TheVariants
 
 mod block;
 mod bytes;
+mod columns;
 mod decrypt;
 mod encrypt;
+mod mixing;
 mod schedule;
-mod steps;
 
 use crate::error::{KerberosCryptoError, KerberosCryptoResult};
 pub use decrypt::{decrypt_aes_cbc, decrypt_aes_cts};

@@ -1,46 +1,64 @@
-//! The cipher and its inverse on one block (FIPS 197, 5.1 and 5.3).
+//! The cipher and its inverse on one block (FIPS 197, 5.1 and 5.3), and the sum of two blocks.
 
 ghost use Rattle.std.specs.Prelude.{◌≡◌};
+ghost use Rattle.krb_blocks.specs.Bytes.{sum_of_bytes};
 ghost use Rattle.krb_blocks.specs.Aes.{cipher, inv_cipher};
+ghost use Rattle.krb_blocks.specs.Words.{schedule_of};
 
-use super::schedule::KeySchedule;
-use super::steps::{
-    add_bytes, inv_mix_columns, inv_shift_rows, inv_sub_bytes, mix_columns, shift_rows, sub_bytes,
-};
+use super::columns::Columns;
+use super::schedule::{InverseSchedule, KeySchedule, round_key};
 
 impl KeySchedule {
     /// The cipher of a block.
     pub(crate) fn encrypt_block(&self, block: &[u8; 16]) -> [u8; 16]
-        ensures is_cipher { result ≡ cipher self.now.words.items self.now.rounds block.now }
-        ensures undone { inv_cipher self.now.words.items self.now.rounds result ≡ block.now }
+        ensures is_cipher { result ≡ cipher (schedule_of self.now.rounds self.now.words) self.now.rounds block.now }
+        ensures undone { inv_cipher (schedule_of self.now.rounds self.now.words) self.now.rounds result ≡ block.now }
     {
-        let keys = self.words.as_slice();
-        let last = self.rounds;
-        let mut state = add_bytes(*block, &keys[..16]);
-        for n in 1..last {
-            let mixed = mix_columns(shift_rows(sub_bytes(state)));
-            state = add_bytes(mixed, &keys[16 * n..16 * n + 16]);
+        let mut state = Columns::of_bytes(block).plus(round_key(&self.words, 0));
+        for n in 1..self.rounds {
+            state = state.round(round_key(&self.words, n));
         }
-        add_bytes(
-            shift_rows(sub_bytes(state)),
-            &keys[16 * last..16 * last + 16],
-        )
+        state
+            .last_round(round_key(&self.words, self.rounds))
+            .bytes()
     }
+}
 
-    /// The block whose cipher this is.
+impl InverseSchedule {
+    /// The block whose cipher this is, by the equivalent inverse cipher (FIPS 197, 5.3.5).
     pub(crate) fn decrypt_block(&self, block: &[u8; 16]) -> [u8; 16]
-        ensures is_inverse { result ≡ inv_cipher self.now.words.items self.now.rounds block.now }
-        ensures undone { cipher self.now.words.items self.now.rounds result ≡ block.now }
+        ensures is_inverse { result ≡ inv_cipher (schedule_of self.now.keys.rounds self.now.keys.words) self.now.keys.rounds block.now }
+        ensures undone { cipher (schedule_of self.now.keys.rounds self.now.keys.words) self.now.keys.rounds result ≡ block.now }
     {
-        let keys = self.words.as_slice();
-        let last = self.rounds;
-        let unmixed = add_bytes(*block, &keys[16 * last..16 * last + 16]);
-        let mut state = inv_sub_bytes(inv_shift_rows(unmixed));
+        let last = self.keys.rounds;
+        let mut state = Columns::of_bytes(block).plus(round_key(&self.keys.words, last));
         for done in 1..last {
-            let n = last - done;
-            let unmixed = inv_mix_columns(add_bytes(state, &keys[16 * n..16 * n + 16]));
-            state = inv_sub_bytes(inv_shift_rows(unmixed));
+            state = state.inv_round(round_key(&self.unmixed, last - done));
         }
-        add_bytes(state, &keys[..16])
+        state.inv_last_round(round_key(&self.keys.words, 0)).bytes()
     }
+}
+
+/// The sum of two blocks, bit by bit: a step of a chain.
+pub(crate) fn add_blocks(a: &[u8; 16], b: &[u8; 16]) -> [u8; 16]
+    ensures { result ≡ sum_of_bytes 16 a.now b.now }
+{
+    [
+        a[0] ^ b[0],
+        a[1] ^ b[1],
+        a[2] ^ b[2],
+        a[3] ^ b[3],
+        a[4] ^ b[4],
+        a[5] ^ b[5],
+        a[6] ^ b[6],
+        a[7] ^ b[7],
+        a[8] ^ b[8],
+        a[9] ^ b[9],
+        a[10] ^ b[10],
+        a[11] ^ b[11],
+        a[12] ^ b[12],
+        a[13] ^ b[13],
+        a[14] ^ b[14],
+        a[15] ^ b[15],
+    ]
 }

@@ -1,7 +1,11 @@
-//! The substitution of bytes, and multiplication by the constants that MixColumns and its inverse need.
+//! The substitution of bytes, alone and in words.
 
-ghost use Rattle.std.specs.Prelude.{◌≡◌};
-ghost use Rattle.krb_blocks.specs.Field.{field_product, sub_byte, inv_sub_byte};
+ghost use Rattle.std.specs.Prelude.{◌≡◌, ◌∷◌, []};
+ghost use Rattle.std.specs.Int.{w32, to_be_bytes};
+ghost use Rattle.krb_blocks.specs.Aes.{sub_word};
+ghost use Rattle.krb_blocks.specs.Words.{inv_sub_word};
+ghost use Rattle.krb_blocks.specs.Bytes.{sum_of_bytes};
+ghost use Rattle.krb_blocks.specs.Field.{sub_byte, inv_sub_byte};
 
 /// The byte that replaces each byte (FIPS 197, 5.1.1, table 4).
 #[rattlefmt::skip]
@@ -59,58 +63,21 @@ pub(crate) fn inv_sub_byte(byte: u8) -> u8
     INVERSE_SUBSTITUTION[byte as usize]
 }
 
-/// The product with x, which is 02 (FIPS 197, 4.2.1): a shift, and 1b added where x^8 appears.
-pub(crate) fn times_2(byte: u8) -> u8
-    ensures { result ≡ field_product 2 byte }
+/// The word of these bytes substituted, and a word of a key added.
+pub(crate) fn substituted_word(key: u32, a: u8, b: u8, c: u8, d: u8) -> u32
+    ensures { to_be_bytes w32 result ≡ sum_of_bytes 4 (sub_word (a ∷ b ∷ c ∷ d ∷ [])) (to_be_bytes w32 key) }
 {
-    ((byte & 0x7f) << 1) ^ ((byte >> 7) * 0x1b)
+    key ^ u32::from_be_bytes([sub_byte(a), sub_byte(b), sub_byte(c), sub_byte(d)])
 }
 
-/// The product with 03.
-pub(crate) fn times_3(byte: u8) -> u8
-    ensures { result ≡ field_product 3 byte }
+/// The word of the bytes that these replace, and a word of a key added.
+pub(crate) fn inv_substituted_word(key: u32, a: u8, b: u8, c: u8, d: u8) -> u32
+    ensures { to_be_bytes w32 result ≡ sum_of_bytes 4 (inv_sub_word (a ∷ b ∷ c ∷ d ∷ [])) (to_be_bytes w32 key) }
 {
-    times_2(byte) ^ byte
-}
-
-/// The product with 04.
-fn times_4(byte: u8) -> u8
-    ensures { result ≡ field_product 4 byte }
-{
-    times_2(times_2(byte))
-}
-
-/// The product with 08.
-fn times_8(byte: u8) -> u8
-    ensures { result ≡ field_product 8 byte }
-{
-    times_2(times_4(byte))
-}
-
-/// The product with 09.
-pub(crate) fn times_9(byte: u8) -> u8
-    ensures { result ≡ field_product 9 byte }
-{
-    times_8(byte) ^ byte
-}
-
-/// The product with 0b.
-pub(crate) fn times_11(byte: u8) -> u8
-    ensures { result ≡ field_product 11 byte }
-{
-    times_8(byte) ^ times_2(byte) ^ byte
-}
-
-/// The product with 0d.
-pub(crate) fn times_13(byte: u8) -> u8
-    ensures { result ≡ field_product 13 byte }
-{
-    times_8(byte) ^ times_4(byte) ^ byte
-}
-
-/// The product with 0e.
-pub(crate) fn times_14(byte: u8) -> u8
-    ensures { result ≡ field_product 14 byte }
-{
-    times_8(byte) ^ times_4(byte) ^ times_2(byte)
+    key ^ u32::from_be_bytes([
+        inv_sub_byte(a),
+        inv_sub_byte(b),
+        inv_sub_byte(c),
+        inv_sub_byte(d),
+    ])
 }

@@ -5,10 +5,11 @@ ghost use Rattle.krb_blocks.specs.Aes.{aes_cipher, aes_inverse, cipher};
 ghost use Rattle.krb_blocks.specs.AesSize.{key_length_of};
 ghost use Rattle.krb_blocks.specs.Bytes.{IsBytes};
 ghost use Rattle.krb_blocks.specs.Chains.{IsBlockCipher, IsChained, IsCompleted, IsStolen, block_count};
+ghost use Rattle.krb_blocks.specs.Words.{schedule_of};
 ghost use Rattle.krb_blocks.specs.declared.error.KerberosCryptoError.TheVariants.{KeyLength, CipherLength, CipherUnpad, Memory};
 
-use super::schedule::KeySchedule;
-use super::steps::add_bytes;
+use super::block::add_blocks;
+use super::schedule::InverseSchedule;
 use super::{AES_BLOCK_SIZE, AesSize, check_key_length, swap_two_last_blocks};
 use crate::error::{KerberosCryptoError, KerberosCryptoResult};
 use std::alloc::{AllocError, Global};
@@ -40,24 +41,24 @@ pub fn decrypt_aes_cbc(
     if cipher_data.len() % AES_BLOCK_SIZE != 0 {
         return Err(KerberosCryptoError::CipherUnpad);
     }
-    let keys = KeySchedule::new(alloc, key)?;
+    let keys = InverseSchedule::new(key);
     let text = decrypt_chain(alloc, &keys, cipher_data)?;
     Ok(text)
 }
 
 /// The text whose chain of whole blocks under these round keys this is.
-fn decrypt_chain(alloc: Global, keys: &KeySchedule, chain: &[u8]) -> Result<Vec<u8>, AllocError>
+fn decrypt_chain(alloc: Global, keys: &InverseSchedule, chain: &[u8]) -> Result<Vec<u8>, AllocError>
     requires { length chain.now % 16 ≡ 0 }
     ensures bytes { IfOk result (λ p. IsBytes p.items) }
-    ensures chained { IfOk result
-        (λ p. IsChained 16 (cipher keys.now.words.items keys.now.rounds) p.items chain.now) }
+    ensures chained { IfOk result (λ p. IsChained 16
+        (cipher (schedule_of keys.now.keys.rounds keys.now.keys.words) keys.now.keys.rounds) p.items chain.now) }
 {
     let mut text = Vec::with_capacity(alloc, chain.len())?;
     let mut last = [0u8; 16];
     for i in 0..chain.len() / 16 {
         let mut block = [0u8; 16];
         block.copy_from_slice(&chain[16 * i..16 * i + 16]);
-        let sum = add_bytes(keys.decrypt_block(&block), &last);
+        let sum = add_blocks(&keys.decrypt_block(&block), &last);
         text.extend_from_slice(&sum)?;
         last = block;
     }
@@ -115,9 +116,10 @@ fn decrypt_stolen(
     ensures same_length { IfOk result (λ p. vec_len p ≡ length cipher_data.now) }
     ensures memory { IfErr result (λ e. e ≡ Memory) }
 {
-    let mut chain = completed(alloc, key, cipher_data, aes_size)?;
+    let keys = InverseSchedule::new(key);
+    let mut chain = completed(alloc, &keys, cipher_data)?;
     swap_two_last_blocks(&mut chain)?;
-    let mut text = decrypt_aes_cbc(alloc, key, &chain, aes_size)?;
+    let mut text = decrypt_chain(alloc, &keys, &chain)?;
     text.truncate(cipher_data.len());
     Ok(text)
 }
@@ -126,19 +128,19 @@ fn decrypt_stolen(
 /// the block before it.
 fn completed(
     alloc: Global,
-    key: &[u8],
+    keys: &InverseSchedule,
     cipher_data: &[u8],
-    aes_size: &AesSize,
-) -> KerberosCryptoResult<Vec<u8>>
-    requires key_length { length key.now ≡ key_length_of aes_size.now }
-    requires more { 16 < length cipher_data.now }
-    ensures completed { IfOk result (λ v.
-        IsCompleted 16 (block_count 16 (length cipher_data.now) - 2) (aes_cipher key.now) cipher_data.now v.items) }
-    ensures memory { IfErr result (λ e. e ≡ Memory) }
+) -> Result<Vec<u8>, AllocError>
+    requires { 16 < length cipher_data.now }
+    ensures { IfOk result (λ v. IsCompleted 16 (block_count 16 (length cipher_data.now) - 2)
+        (cipher (schedule_of keys.now.keys.rounds keys.now.keys.words) keys.now.keys.rounds) cipher_data.now v.items) }
 {
     let last = (cipher_data.len() - 1) / 16 * 16;
-    let under = decrypt_aes_cbc(alloc, key, &cipher_data[last - 16..last], aes_size)?;
-    let mut chain = Vec::from_slice(alloc, cipher_data)?;
+    let mut stands = [0u8; 16];
+    stands.copy_from_slice(&cipher_data[last - 16..last]);
+    let under = keys.decrypt_block(&stands);
+    let mut chain = Vec::with_capacity(alloc, last + 16)?;
+    chain.extend_from_slice(cipher_data)?;
     chain.extend_from_slice(&under[cipher_data.len() - last..])?;
     Ok(chain)
 }

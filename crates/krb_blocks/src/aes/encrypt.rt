@@ -1,13 +1,14 @@
 //! Sealing: the chain, and the chain with ciphertext stealing (RFC 3962, section 5).
 
-ghost use Rattle.std.specs.Prelude.{◌≡◌, ◌≢◌, ◌%◌, ◌≤◌, length, vec_len, Err, IfOk, IfErr, OnOk};
+ghost use Rattle.std.specs.Prelude.{◌≡◌, ◌≢◌, ◌*◌, ◌%◌, ◌<◌, ◌≤◌, length, vec_len, Err, IfOk, IfErr, OnOk};
 ghost use Rattle.krb_blocks.specs.Aes.{aes_cipher, cipher};
 ghost use Rattle.krb_blocks.specs.AesSize.{key_length_of};
-ghost use Rattle.krb_blocks.specs.Chains.{IsChained, IsStolen, zero_filled};
+ghost use Rattle.krb_blocks.specs.Chains.{IsChained, IsStolen, block_at, zero_filled};
+ghost use Rattle.krb_blocks.specs.Words.{schedule_of};
 ghost use Rattle.krb_blocks.specs.declared.error.KerberosCryptoError.TheVariants.{KeyLength, CipherPad, Memory};
 
+use super::block::add_blocks;
 use super::schedule::KeySchedule;
-use super::steps::add_bytes;
 use super::{AES_BLOCK_SIZE, AesSize, check_key_length, swap_two_last_blocks};
 use crate::error::{KerberosCryptoError, KerberosCryptoResult};
 use std::alloc::{AllocError, Global};
@@ -35,25 +36,40 @@ pub fn encrypt_aes_cbc(
     if plaintext.len() % AES_BLOCK_SIZE != 0 {
         return Err(KerberosCryptoError::CipherPad);
     }
-    let keys = KeySchedule::new(alloc, key)?;
+    let keys = KeySchedule::new(key);
     let chain = encrypt_chain(alloc, &keys, plaintext)?;
     Ok(chain)
 }
 
-/// The chain of whole blocks under these round keys.
+/// The chain of a text under these round keys, with zeros added up to whole blocks.
 fn encrypt_chain(alloc: Global, keys: &KeySchedule, text: &[u8]) -> Result<Vec<u8>, AllocError>
-    requires { length text.now % 16 ≡ 0 }
-    ensures { IfOk result
-        (λ c. IsChained 16 (cipher keys.now.words.items keys.now.rounds) text.now c.items) }
+    ensures { IfOk result (λ c. IsChained 16
+        (cipher (schedule_of keys.now.rounds keys.now.words) keys.now.rounds) (zero_filled 16 text.now) c.items) }
 {
-    let mut chain = Vec::with_capacity(alloc, text.len())?;
+    let count = text.len().div_ceil(AES_BLOCK_SIZE);
+    let mut chain = Vec::with_capacity(alloc, AES_BLOCK_SIZE * count)?;
     let mut last = [0u8; 16];
-    for i in 0..text.len() / 16 {
-        let sum = add_bytes(last, &text[16 * i..16 * i + 16]);
+    for i in 0..count {
+        let sum = add_blocks(&filled_block(text, i), &last);
         last = keys.encrypt_block(&sum);
         chain.extend_from_slice(&last)?;
     }
     Ok(chain)
+}
+
+/// Block `i` of a text with zeros added up to whole blocks.
+fn filled_block(text: &[u8], i: usize) -> [u8; 16]
+    requires { 16 * i < length text.now }
+    ensures { result ≡ block_at 16 (zero_filled 16 text.now) i }
+{
+    let rest = &text[16 * i..];
+    let mut block = [0u8; 16];
+    if rest.len() < AES_BLOCK_SIZE {
+        block[..rest.len()].copy_from_slice(rest);
+    } else {
+        block.copy_from_slice(&rest[..16]);
+    }
+    block
 }
 
 /// The cipher of a text in a chain with ciphertext stealing. Up to one block it is the cipher of the
@@ -74,22 +90,12 @@ pub fn encrypt_aes_cts(
     ensures memory { length key.now ≡ key_length_of aes_size.now → IfErr result (λ e. e ≡ Memory) }
 {
     check_key_length(key, aes_size)?;
-    let filled = zero_filled(alloc, payload)?;
-    let mut cipher = encrypt_aes_cbc(alloc, key, &filled, aes_size)?;
+    let keys = KeySchedule::new(key);
+    let mut cipher = encrypt_chain(alloc, &keys, payload)?;
     if payload.len() <= AES_BLOCK_SIZE {
         return Ok(cipher);
     }
     swap_two_last_blocks(&mut cipher)?;
     cipher.truncate(payload.len());
     Ok(cipher)
-}
-
-/// The text with zeros added up to whole blocks.
-fn zero_filled(alloc: Global, text: &[u8]) -> Result<Vec<u8>, AllocError>
-    ensures { IfOk result (λ v. v.items ≡ zero_filled 16 text.now) }
-{
-    let missing = (16 - text.len() % 16) % 16;
-    let mut filled = Vec::from_slice(alloc, text)?;
-    filled.resize(text.len() + missing, 0)?;
-    Ok(filled)
 }

@@ -1,88 +1,149 @@
-//! The key expansion (FIPS 197, 5.2).
+//! The key expansion (FIPS 197, 5.2), and the round keys of the equivalent inverse cipher (5.3.5).
 
-ghost use Rattle.std.specs.Prelude.{◌≡◌, ◌+◌, ◌*◌, ◌<◌, ◌≤◌, ◌∷◌, [], length, IfOk};
-ghost use Rattle.krb_blocks.specs.Bytes.{IsBytes};
-ghost use Rattle.krb_blocks.specs.Aes.{IsAesKey, key_schedule, next_word, round_count, turned_word};
+ghost use Rattle.std.specs.Prelude.{◌≡◌, ◌⊎◌, ◌+◌, ◌*◌, ◌/◌, ◌<◌, ◌≤◌, length, take};
+ghost use Rattle.std.specs.Int.{w32, to_be_bytes};
+ghost use Rattle.krb_blocks.specs.Aes.{IsAesKey, key_schedule, round_count, round_key, turned_word};
+ghost use Rattle.krb_blocks.specs.Words.{IsUnmixed, block_of, bytes_of, schedule_of};
 
-use super::bytes::sub_byte;
-use std::alloc::{AllocError, Global};
+use super::AES128_KEY_SIZE;
+use super::bytes::substituted_word;
+use super::columns::{Columns, word_at};
+use super::mixing::unmixed_key;
 
-/// The powers of x that the round constants begin with.
-const ROUND_CONSTANTS: [u8; 10] = [0x01, 0x02, 0x04, 0x08, 0x10, 0x20, 0x40, 0x80, 0x1b, 0x36];
+/// The round constants as words, from the first on (FIPS 197, 5.2).
+const ROUND_CONSTANTS: [u32; 10] = [
+    0x0100_0000,
+    0x0200_0000,
+    0x0400_0000,
+    0x0800_0000,
+    0x1000_0000,
+    0x2000_0000,
+    0x4000_0000,
+    0x8000_0000,
+    0x1b00_0000,
+    0x3600_0000,
+];
 
-/// The round keys of one key: 16 bytes before the first round, and 16 for each round.
+/// The words that the round keys of 14 rounds take.
+const MOST_WORDS: usize = 60;
+
+/// The round keys of one key: four words before the first round, and four for each round, in front.
 #[derive(Drop)]
 pub(crate) struct KeySchedule {
-    pub(crate) words: Vec<u8>,
+    pub(crate) words: [u32; MOST_WORDS],
     pub(crate) rounds: usize,
-    ghost sized: { length words.items ≡ 16 * rounds + 16 },
     ghost some: { 0 < rounds },
-    ghost bytes: { IsBytes words.items },
+    ghost few: { rounds < 15 },
 }
 
 impl KeySchedule {
     /// The round keys of a key of 16 or 32 bytes.
-    pub(crate) fn new(alloc: Global, key: &[u8]) -> Result<KeySchedule, AllocError>
+    pub(crate) fn new(key: &[u8]) -> KeySchedule
         requires sized { IsAesKey key.now }
-        ensures words { IfOk result (λ k. k.words.items ≡ key_schedule key.now) }
-        ensures rounds { IfOk result (λ k. k.rounds ≡ round_count key.now) }
+        ensures words { schedule_of result.rounds result.words ≡ key_schedule key.now }
+        ensures rounds { result.rounds ≡ round_count key.now }
     {
-        let key_words = key.len() / 4;
-        let rounds = key_words + 6;
-        let mut words = Vec::with_capacity(alloc, 16 * rounds + 16)?;
-        words.extend_from_slice(key)?;
-        for i in key_words..4 * rounds + 4 {
-            let word = next_word(&words, key_words, i);
-            words.extend_from_slice(&word)?;
+        let begun = begun_words(key);
+        if key.len() == AES128_KEY_SIZE {
+            return KeySchedule {
+                words: expanded(begun, 4),
+                rounds: 10,
+            };
         }
-        Ok(KeySchedule { words, rounds })
+        KeySchedule {
+            words: expanded(begun, 8),
+            rounds: 14,
+        }
     }
 }
 
-/// Word `i` of the expanded key, from the words before it, where the key has `key_words` words.
-fn next_word(words: &[u8], key_words: usize, i: usize) -> [u8; 4]
-    requires before { length words.now ≡ 4 * i }
-    requires some { 0 < key_words }
-    requires from { key_words ≤ i }
-    requires to { i < 11 * key_words }
-    ensures { result ≡ next_word key_words i words.now }
+/// The round keys of one key, and beside them those of the middle rounds with their columns unmixed, as the
+/// equivalent inverse cipher wants them.
+#[derive(Drop)]
+pub(crate) struct InverseSchedule {
+    pub(crate) keys: KeySchedule,
+    pub(crate) unmixed: [u32; MOST_WORDS],
+    ghost middle: { IsUnmixed keys.rounds (bytes_of keys.words) (bytes_of unmixed) },
+}
+
+impl InverseSchedule {
+    /// The round keys of a key of 16 or 32 bytes.
+    pub(crate) fn new(key: &[u8]) -> InverseSchedule
+        requires sized { IsAesKey key.now }
+        ensures words { schedule_of result.keys.rounds result.keys.words ≡ key_schedule key.now }
+        ensures rounds { result.keys.rounds ≡ round_count key.now }
+    {
+        let keys = KeySchedule::new(key);
+        let unmixed = unmixed_words(&keys.words, keys.rounds);
+        InverseSchedule { keys, unmixed }
+    }
+}
+
+/// The words of a key, in front.
+fn begun_words(key: &[u8]) -> [u32; MOST_WORDS]
+    requires sized { IsAesKey key.now }
+    ensures { bytes_of (take (length key.now / 4) result) ≡ key.now }
 {
-    let last = 4 * i - 4;
-    let turned = turned_word(
-        key_words,
-        i,
-        words[last],
-        words[last + 1],
-        words[last + 2],
-        words[last + 3],
-    );
-    let first = 4 * (i - key_words);
-    [
-        words[first] ^ turned[0],
-        words[first + 1] ^ turned[1],
-        words[first + 2] ^ turned[2],
-        words[first + 3] ^ turned[3],
-    ]
+    let mut words = [0u32; MOST_WORDS];
+    for i in 0..key.len() / 4 {
+        words[i] = word_at(key, i);
+    }
+    words
+}
+
+/// The expansion of the `key_words` words in front. The two numbers that it is called with are known where it is
+/// called, and so it divides by no variable.
+#[inline(always)]
+fn expanded(mut words: [u32; MOST_WORDS], key_words: usize) -> [u32; MOST_WORDS]
+    requires { (key_words ≡ 4) ⊎ (key_words ≡ 8) }
+    ensures { schedule_of (key_words + 6) result ≡ key_schedule (bytes_of (take key_words words)) }
+{
+    for i in key_words..4 * (key_words + 6) + 4 {
+        words[i] = words[i - key_words] ^ turned_word(key_words, i, words[i - 1]);
+    }
+    words
 }
 
 /// What is added to an earlier word to make word `i`, from the word before it.
-fn turned_word(key_words: usize, i: usize, a: u8, b: u8, c: u8, d: u8) -> [u8; 4]
+#[inline(always)]
+fn turned_word(key_words: usize, i: usize, previous: u32) -> u32
     requires some { 0 < key_words }
     requires from { key_words ≤ i }
     requires to { i < 11 * key_words }
-    ensures { result ≡ turned_word key_words i (a ∷ b ∷ c ∷ d ∷ []) }
+    ensures { to_be_bytes w32 result ≡ turned_word key_words i (to_be_bytes w32 previous) }
 {
+    let bytes = previous.to_be_bytes();
     if i % key_words == 0 {
         let constant = ROUND_CONSTANTS[i / key_words - 1];
-        [
-            sub_byte(b) ^ constant,
-            sub_byte(c),
-            sub_byte(d),
-            sub_byte(a),
-        ]
+        substituted_word(constant, bytes[1], bytes[2], bytes[3], bytes[0])
     } else if key_words > 6 && i % key_words == 4 {
-        [sub_byte(a), sub_byte(b), sub_byte(c), sub_byte(d)]
+        substituted_word(0, bytes[0], bytes[1], bytes[2], bytes[3])
     } else {
-        [a, b, c, d]
+        previous
+    }
+}
+
+/// Words of which those between the first round's key and the last one's are unmixed.
+fn unmixed_words(words: &[u32; MOST_WORDS], rounds: usize) -> [u32; MOST_WORDS]
+    requires { rounds < 15 }
+    ensures { IsUnmixed rounds (bytes_of words.now) (bytes_of result) }
+{
+    let mut unmixed = [0u32; MOST_WORDS];
+    for i in 4..4 * rounds {
+        unmixed[i] = unmixed_key(words[i]);
+    }
+    unmixed
+}
+
+/// Round key `n` of those in these words.
+pub(crate) fn round_key(words: &[u32; MOST_WORDS], n: usize) -> Columns
+    requires { n < 15 }
+    ensures { block_of result ≡ round_key (bytes_of words.now) n }
+{
+    Columns {
+        a: words[4 * n],
+        b: words[4 * n + 1],
+        c: words[4 * n + 2],
+        d: words[4 * n + 3],
     }
 }

@@ -7,7 +7,7 @@ use Rattle.krb_blocks.proofs.aes.decrypt.decrypt_aes_cbc.Goals as goal
 
 pub returns-clause-chained : goal.returns-clause-chained
 returns-clause-chained c =
-    chained_by_aes c.args.key.now c.in_ok-keys.keys.words.items c.in_ok-text.text.items c.args.cipher_data.now c.in_ok-keys.keys.rounds c.in_ok-keys.ensures.words c.in_ok-keys.ensures.rounds c.in_ok-text.ensures.chained
+    chained_by_aes c.args.key.now _ c.in_ok-text.text.items c.args.cipher_data.now _ c.new-keys.ensures.words c.new-keys.ensures.rounds c.in_ok-text.ensures.chained
 
 pub returns-clause-undone : goal.returns-clause-undone
 returns-clause-undone c =

@@ -1,6 +1,10 @@
+use Rattle.std.proofs.Common.{arith}
 use Rattle.krb_blocks.proofs.Rounds.{chained_by_aes}
+use Rattle.krb_blocks.proofs.Stealing.{filled_already}
 use Rattle.krb_blocks.proofs.aes.encrypt.encrypt_aes_cbc.Goals as goal
 
 pub returns-clause-chained : goal.returns-clause-chained
 returns-clause-chained c =
-    chained_by_aes c.args.key.now c.in_ok-keys.keys.words.items c.args.plaintext.now c.in_ok-chain.chain.items c.in_ok-keys.keys.rounds c.in_ok-keys.ensures.words c.in_ok-keys.ensures.rounds c.in_ok-chain.ensures
+    let text = c.args.plaintext.now in
+    chained_by_aes c.args.key.now _ text c.in_ok-chain.chain.items _ c.new-keys.ensures.words c.new-keys.ensures.rounds
+    (rw (filled_already 16 c.args.plaintext.now (omega arith)) at c.in_ok-chain.ensures)

@@ -1,25 +1,33 @@
-use Rattle.std.proofs.Common.{◌≡◌, arith}
+use Rattle.std.proofs.Common.{◌≡◌, ◌∙◌, refl, arith}
 use Rattle.krb_blocks.specs.Aes.{rounds, cipher}
+use Rattle.krb_blocks.specs.Words.{schedule_of}
 use Rattle.krb_blocks.proofs.Rounds.{rounds_more, cipher_written, inv_cipher-cipher}
+use Rattle.krb_blocks.proofs.Unmixed.{keyed}
+use Rattle.krb_blocks.proofs.WordBytes.{IsBytes-bytes_of, length-schedule_of}
 use Rattle.krb_blocks.proofs.aes.schedule.KeySchedule.encrypt_block.Goals as goal
 
 pub loop-n-init : goal.loop-n-init
 unfolding rounds
-loop-n-init c = c.add_bytes-state.ensures
+loop-n-init c =
+    let k = c.args.self.now in
+    c.plus-state.ensures ∙ keyed k.words k.rounds (omega arith) k.few c.args.block.now _ _ 0 (omega arith) c.of_bytes.ensures c.round_key.ensures
 
 pub loop-n-preserved : goal.loop-n-preserved
 loop-n-preserved c =
-    rw (c.add_bytes-state-in-loop-n.ensures, c.mix_columns-mixed.ensures, c.shift_rows.ensures, c.sub_bytes.ensures)
-    (rounds_more c.as_slice-keys.result.now c.args.block.now c.loop-n.state c.loop-n.n (omega arith) c.loop-n.invariant)
+    let k = c.args.self.now in
+    c.round-state.ensures ∙ keyed k.words k.rounds (omega arith) k.few _ _ _ c.loop-n.n (omega arith) refl c.round_key-in-loop-n.ensures
+    ∙ rounds_more (schedule_of k.rounds k.words) c.args.block.now _ c.loop-n.n (omega arith) c.loop-n.invariant
 
 pub returns-clause-is_cipher : goal.returns-clause-is_cipher
 returns-clause-is_cipher c =
-    rw (c.add_bytes.ensures, c.shift_rows-2.ensures, c.sub_bytes-2.ensures, c.as_slice-keys.ensures.value)
-    (cipher_written c.args.self.now.words.items c.args.block.now c.loop-n.state c.loop-n.n c.args.self.now.rounds (omega arith)
-    (rw c.as_slice-keys.ensures.value at c.loop-n.invariant))
+    let k = c.args.self.now in
+    c.bytes.ensures ∙ c.last_round.ensures ∙ keyed k.words k.rounds (omega arith) k.few _ _ _ k.rounds (omega arith) refl c.round_key-2.ensures
+    ∙ cipher_written (schedule_of k.rounds k.words) c.args.block.now _ c.loop-n.n k.rounds (omega arith) c.loop-n.invariant
 
 pub returns-clause-undone : goal.returns-clause-undone
 returns-clause-undone c =
-    let is_cipher : c.add_bytes.result ≡ cipher c.args.self.now.words.items c.args.self.now.rounds c.args.block.now = returns-clause-is_cipher c in
+    let k = c.args.self.now in
+    let w = schedule_of c.args.self.now.rounds c.args.self.now.words in
+    let is_cipher : c.bytes.result ≡ cipher w k.rounds c.args.block.now = returns-clause-is_cipher c in
     rw is_cipher
-    (inv_cipher-cipher c.args.self.now.words.items c.args.self.now.bytes c.args.self.now.rounds (omega arith) c.args.block.now (record { sized = c.told-block; bytes = c.fits-block }))
+    (inv_cipher-cipher w (IsBytes-bytes_of _) k.rounds (omega (arith, length-schedule_of k.rounds k.words (omega arith))) c.args.block.now (record { sized = c.told-block; bytes = c.fits-block }))
