@@ -4,6 +4,7 @@ use Rattle.std.specs.Int.Bits.{xor_zero_r}
 use Rattle.std.proofs.lemmas.Bool.{cases_lt}
 use Rattle.std.proofs.lemmas.Nat.{xor_comm}
 use Rattle.std.proofs.Math.Nat.{mul-le-mul_left}
+use Rattle.std.proofs.Math.Seq.{take-add}
 use Rattle.std.proofs.lemmas.List.{length-drop, length-append, length-replicate, length-take-le, append_assoc, get_or-take, get_or-drop, get_or-replicate, ext_get_or, take-append-le, drop-append-le, take_at, drop_at, take_all, drop-drop, take-append-drop, drop_all, append-nil}
 use borrow.Rule.Slice.PartMut.{put_mid}
 use Rattle.krb_blocks.specs.Bytes.{IsBytes, IsBlock, sum_of_bytes}
@@ -142,14 +143,21 @@ length-mid size m s long = length-take-le size (drop (size * m) s) (omega (arith
 pub length-last : (size m : ℕ) (s : List ℕ) → length s ≡ size * (m + 2) → length (block_at size s (m + 1)) ≡ size
 length-last size m s long = length-take-le size (drop (size * (m + 1)) s) (omega (arith, length-drop (size * (m + 1)) s))
 
--- a rotation by 16 of the last 32 bytes exchanges their halves
-pub rotated_end :
-    (xs ys : List ℕ) → 32 ≤ length xs → ys ≡ drop 16 (take (length xs - (length xs - 32)) (drop (length xs - 32) xs)) ++ take 16 (take (length xs - (length xs - 32)) (drop (length xs - 32) xs))
-    → put_mid (length xs - 32) (length xs - (length xs - 32)) xs ys ≡ swapped 16 xs
-rotated_end xs ys long turned =
+-- the last 16 bytes, exchanged with those before them in the rest
+pub ends_exchanged :
+    (xs f l fs ls : List ℕ) → 32 ≤ length xs → f ≡ take (length xs - 16) xs → l ≡ drop (length xs - 16) xs → fs ≡ l → ls ≡ take (length f - (length f - 16)) (drop (length f - 16) f)
+    → put_mid (length f - 16) (length f - (length f - 16)) f fs ++ ls ≡ swapped 16 xs
+ends_exchanged xs f l fs ls long front last turned_front turned_last =
     let a = length xs - 32 in
-    let count : length xs - (length xs - 32) ≡ 32 = omega arith in
-    let all : take 32 (drop a xs) ≡ drop a xs = take_all 32 (drop a xs) (omega (arith, length-drop a xs)) in
-    let none : drop 32 (drop a xs) ≡ [] = drop_all 32 (drop a xs) (omega (arith, length-drop a xs)) in
-    let half : drop 16 (drop a xs) ≡ drop (length xs - 16) xs = drop-drop 16 a xs ∙ (let same : a + 16 ≡ length xs - 16 = omega arith in rw same refl) in
-    rw (turned, count, all, none, half, append-nil (drop (length xs - 16) xs ++ take 16 (drop a xs)), append_assoc (take a xs) (drop (length xs - 16) xs) (take 16 (drop a xs))) refl
+    let ends : length xs - 16 ≡ a + 16 = omega arith in
+    let sized : length f ≡ a + 16 = ap length front ∙ length-take-le (length xs - 16) xs (omega arith) ∙ ends in
+    let start : length f - 16 ≡ a = omega arith in
+    let count : length f - (length f - 16) ≡ 16 = omega arith in
+    let f_is : f ≡ take a xs ++ take 16 (drop a xs) = front ∙ ap (λ (k : ℕ). take k xs) ends ∙ take-add a 16 xs in
+    let head : length (take a xs) ≡ a = length-take-le a xs (omega arith) in
+    let mid : length (take 16 (drop a xs)) ≡ 16 = length-take-le 16 (drop a xs) (omega (arith, length-drop a xs)) in
+    let begins : take a f ≡ take a xs = ap (take a) f_is ∙ take_at (take a xs) (take 16 (drop a xs)) a head in
+    let rest : drop a f ≡ take 16 (drop a xs) = ap (drop a) f_is ∙ drop_at (take a xs) (take 16 (drop a xs)) a head in
+    let whole : take 16 (take 16 (drop a xs)) ≡ take 16 (drop a xs) = take_all 16 (take 16 (drop a xs)) (omega arith) in
+    let none : drop 16 (take 16 (drop a xs)) ≡ [] = drop_all 16 (take 16 (drop a xs)) (omega arith) in
+    rw (turned_last, turned_front, last, count, start, begins, rest, whole, none, append-nil (drop (length xs - 16) xs)) refl

@@ -75,8 +75,9 @@ pub fn swap_two_last_blocks(data: &mut [u8]) -> KerberosCryptoResult<()>
     if data.len() < AES_BLOCK_SIZE * 2 {
         return Err(KerberosCryptoError::CipherLength(data.len(), AES_BLOCK_SIZE * 2));
     }
-    let start = data.len() - AES_BLOCK_SIZE * 2;
-    data[start..].rotate_left(AES_BLOCK_SIZE);
+    let (front, last) = data.split_at_mut(data.len() - AES_BLOCK_SIZE);
+    let start = front.len() - AES_BLOCK_SIZE;
+    front[start..].swap_with_slice(last);
     Ok(())
 }
 
