@@ -4,5 +4,5 @@
 # hand. Both sides must come to the same bytes. The first run proves and builds the program crates/sealing_bench.
 set -e
 cd "$(dirname "$0")/.."
-(cd crates/sealing_bench && rt run -- key 1 > out/first_run.txt 2>&1) || { cat crates/sealing_bench/out/first_run.txt; exit 1; }
+(cd crates/sealing_bench && mkdir -p out && rt run -- key 1 > out/first_run.txt 2>&1) || { cat crates/sealing_bench/out/first_run.txt; exit 1; }
 exec python3 bench/sealing.py crates/sealing_bench/out/sealing_bench
