@@ -9,7 +9,8 @@ use super::columns::Columns;
 use super::schedule::{InverseSchedule, KeySchedule, round_key};
 
 impl KeySchedule {
-    /// The cipher of a block.
+    /// The cipher of a block. Out of line its state stays in four registers, whatever the caller does.
+    #[inline(never)]
     pub(crate) fn encrypt_block(&self, block: &[u8; 16]) -> [u8; 16]
         ensures is_cipher { result ≡ cipher (schedule_of self.now.rounds self.now.words) self.now.rounds block.now }
         ensures undone { inv_cipher (schedule_of self.now.rounds self.now.words) self.now.rounds result ≡ block.now }
@@ -25,7 +26,8 @@ impl KeySchedule {
 }
 
 impl InverseSchedule {
-    /// The block whose cipher this is, by the equivalent inverse cipher (FIPS 197, 5.3.5).
+    /// The block whose cipher this is, by the equivalent inverse cipher (FIPS 197, 5.3.5). Out of line as above.
+    #[inline(never)]
     pub(crate) fn decrypt_block(&self, block: &[u8; 16]) -> [u8; 16]
         ensures is_inverse { result ≡ inv_cipher (schedule_of self.now.keys.rounds self.now.keys.words) self.now.keys.rounds block.now }
         ensures undone { cipher (schedule_of self.now.keys.rounds self.now.keys.words) self.now.keys.rounds result ≡ block.now }
