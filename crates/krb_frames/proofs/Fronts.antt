@@ -1,13 +1,15 @@
 -- What the bytes that were read say of a stream's front.
-use Rattle.std.proofs.Common.{◌≡◌, ◌≢◌, ℕ, ◌+◌, ◌<◌, ◌≤◌, List, ◌++◌, length, take, drop, nat_lt, if◌then◌else◌, Option, Some, refl, ap, sym, ◌∙◌, arith}
+use Rattle.std.proofs.Common.{◌≡◌, ◌≢◌, ℕ, ◌+◌, ◌<◌, ◌≤◌, List, [], ◌++◌, length, take, drop, nat_lt, if◌then◌else◌, Option, Some, None, refl, ap, sym, subst, ◌∙◌, arith}
 use Rattle.std.specs.Int.{w32, from_be_bytes}
 use Rattle.std.proofs.lemmas.Bool.Decides.{nat_tests}
 use Rattle.std.proofs.lemmas.Grind.{common_steps}
+use Rattle.std.specs.Io.KnownBytes.{Consumes}
+use Rattle.std.proofs.Math.Seq.{drop-drop}
 use Rattle.std.proofs.lemmas.List.{take_all, take_at, drop_at}
 use Rattle.krb_frames.specs.declared.fault.ServeFault.TheVariants.{Truncated, FrameTooLong, NoRequest, Read, Write, NoWords, NoMoment, ReplyTooLong, Memory}
 use Rattle.krb_frames.specs.declared.fault.ServeFault.{ServeFault}
-use Rattle.krb_frames.specs.Frames.{Front, Ended, Bad, Whole, front_of, announced}
-use Rattle.krb_frames.specs.Steps.{IsFilled, IsTaken, IsMessageFault, IsFrontFault}
+use Rattle.krb_frames.specs.Frames.{Front, Ended, Bad, Whole, front_of, announced, frame_room}
+use Rattle.krb_frames.specs.Steps.{IsFilled, IsTaken, IsBroken, IsMessageStop, IsFrontFault}
 
 -- ---- the tests of `front_of` on plain numbers
 
@@ -33,11 +35,51 @@ module _ (ended short long cut whole : Front) where
   tested-whole : (all size left : ℕ) → 4 ≤ all → size ≤ 65536 → size ≤ left → tested all size left ≡ whole
   tested-whole all size left enough small fits = grind (arith, nat_tests)
 
+-- ---- how many bytes the first frame takes at most
+
+room-least : (size : ℕ) → 4 ≤ (if nat_lt 65536 size then 4 else 4 + size)
+room-least size = grind (arith, nat_tests)
+
+frame_room-least : (stream : List ℕ) → 4 ≤ frame_room stream
+frame_room-least stream = room-least (announced stream)
+
+room-whole : (size : ℕ) → size ≤ 65536 → (if nat_lt 65536 size then 4 else 4 + size) ≡ 4 + size
+room-whole size small = grind (arith, nat_tests)
+
+frame_room-whole : (stream : List ℕ) → announced stream ≤ 65536 → frame_room stream ≡ 4 + announced stream
+frame_room-whole stream = room-whole (announced stream)
+
+-- ---- a reader that failed
+
+IsBroken-from_read : (stream buffer : List ℕ) (left : Option (List ℕ)) (n : ℕ) → Consumes (Some stream) left (take n buffer) → IsBroken stream left (length buffer)
+IsBroken-from_read stream buffer None n wrong = absurd wrong
+IsBroken-from_read stream buffer (Some rest) n whole = (
+  length (take n buffer),
+  grind (arith, common_steps),
+  ap Some (sym (ap (drop (length (take n buffer))) whole ∙ drop_at (take n buffer) rest (length (take n buffer)) refl)),
+)
+
+pub IsBroken-from_Consumes : (stream buffer : List ℕ) (old new : Option (List ℕ)) (n : ℕ) → old ≡ Some stream → Consumes old new (take n buffer)
+    → IsBroken stream new (length buffer)
+IsBroken-from_Consumes stream buffer old new n known read = IsBroken-from_read stream buffer new n (subst (λ o. Consumes o new (take n buffer)) known read)
+
+-- within the length a frame is broken, too
+pub IsBroken-in_prefix : (stream : List ℕ) (left : Option (List ℕ)) (room : ℕ) → room ≡ 4 → IsBroken stream left room → IsFrontFault stream left Read
+IsBroken-in_prefix stream left room four broken = (broken.0, omega (arith, four, broken.1, frame_room-least stream), broken.2)
+
 -- ---- a stream whose first bytes were read into a prefix
 
 pub front_of-nothing : (stream prefix : List ℕ) (left : Option (List ℕ)) (n : ℕ) → length prefix ≡ 4 → n ≡ 0 → IsFilled stream left prefix n → front_of stream ≡ Ended
 front_of-nothing stream prefix left n four none filled =
     ap front_of (filled.whole ∙ ap (λ m. take m prefix ++ filled.rest) none ∙ filled.ends (omega arith))
+
+-- and nothing of it was read
+pub left-nothing : (stream prefix : List ℕ) (left : Option (List ℕ)) (n : ℕ) → n ≡ 0 → IsFilled stream left prefix n → left ≡ Some stream
+left-nothing stream prefix left n none filled = filled.known ∙ ap Some (sym (filled.whole ∙ ap (λ m. take m prefix ++ filled.rest) none))
+
+-- a short buffer took all of the stream
+pub left-none : (stream buffer : List ℕ) (left : Option (List ℕ)) (n : ℕ) → n < length buffer → IsFilled stream left buffer n → left ≡ Some []
+left-none stream buffer left n few filled = filled.known ∙ ap Some (filled.ends few)
 
 pub front_of-short : (stream prefix : List ℕ) (left : Option (List ℕ)) (n : ℕ) → length prefix ≡ 4 → n ≢ 0 → n < 4 → IsFilled stream left prefix n
     → front_of stream ≡ Bad Truncated
@@ -63,6 +105,10 @@ begins stream prefix left n size four enough is filled =
       rest_is = ap (drop 4) joined ∙ drop_at prefix filled.rest 4 four;
     }
 
+-- its first four bytes were read
+pub left-behind_prefix : (stream : List ℕ) (size : ℕ) (rest : List ℕ) (left : Option (List ℕ)) → Begins stream size rest → left ≡ Some rest → left ≡ Some (drop 4 stream)
+left-behind_prefix stream size rest left b known = known ∙ ap Some (sym b.rest_is)
+
 pub front_of-long : (stream : List ℕ) (size : ℕ) (rest : List ℕ) → Begins stream size rest → 65536 < size → front_of stream ≡ Bad FrameTooLong
 front_of-long stream size rest b big = tested-long _ _ _ _ _ (length stream) (announced stream) _ b.enough (omega (arith, b.size_is))
 
@@ -72,17 +118,21 @@ front_of-cut stream size rest b small few =
     tested-cut _ _ _ _ _ (length stream) (announced stream) (length (drop 4 stream)) b.enough (omega (arith, b.size_is)) (omega (arith, b.size_is, ap length b.rest_is))
 
 -- why the message was not read
-pub IsFrontFault-after_prefix : (stream : List ℕ) (size : ℕ) (rest : List ℕ) → Begins stream size rest → size ≤ 65536
-    → (fault : ServeFault) → IsMessageFault fault → (fault ≡ Truncated → length rest < size) → IsFrontFault stream fault
-IsFrontFault-after_prefix stream size rest b small Truncated is few = front_of-cut stream size rest b small (few refl)
-IsFrontFault-after_prefix stream size rest b small FrameTooLong is few = absurd is
-IsFrontFault-after_prefix stream size rest b small NoRequest is few = absurd is
-IsFrontFault-after_prefix stream size rest b small Read is few = tt
-IsFrontFault-after_prefix stream size rest b small Write is few = absurd is
-IsFrontFault-after_prefix stream size rest b small NoWords is few = absurd is
-IsFrontFault-after_prefix stream size rest b small NoMoment is few = absurd is
-IsFrontFault-after_prefix stream size rest b small ReplyTooLong is few = absurd is
-IsFrontFault-after_prefix stream size rest b small Memory is few = tt
+pub IsFrontFault-after_prefix : (stream : List ℕ) (size : ℕ) (rest : List ℕ) (left : Option (List ℕ)) → Begins stream size rest → size ≤ 65536
+    → (fault : ServeFault) → IsMessageStop rest left size fault → IsFrontFault stream left fault
+IsFrontFault-after_prefix stream size rest left b small Truncated (few, none) = (front_of-cut stream size rest b small few, none)
+IsFrontFault-after_prefix stream size rest left b small FrameTooLong why = absurd why
+IsFrontFault-after_prefix stream size rest left b small NoRequest why = absurd why
+IsFrontFault-after_prefix stream size rest left b small Read (n, within, known) = (
+  4 + n,
+  omega (arith, within, b.size_is, frame_room-whole stream (omega (arith, b.size_is))),
+  known ∙ ap Some (ap (drop n) (sym b.rest_is) ∙ drop-drop n 4 stream),
+)
+IsFrontFault-after_prefix stream size rest left b small Write why = absurd why
+IsFrontFault-after_prefix stream size rest left b small NoWords why = absurd why
+IsFrontFault-after_prefix stream size rest left b small NoMoment why = absurd why
+IsFrontFault-after_prefix stream size rest left b small ReplyTooLong why = absurd why
+IsFrontFault-after_prefix stream size rest left b small Memory known = (b.enough, omega (arith, b.size_is), left-behind_prefix stream size rest left b known)
 
 pub front_of-whole : (stream : List ℕ) (size : ℕ) (rest : List ℕ) → Begins stream size rest → size ≤ 65536
     → (message : List ℕ) (left : Option (List ℕ)) → length message ≡ size → (taken : IsTaken rest left message) → front_of stream ≡ Whole message taken.rest

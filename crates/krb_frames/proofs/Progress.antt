@@ -1,5 +1,5 @@
 -- How far serving a stream has come, and what that shows where it stops.
-use Rattle.std.proofs.Common.{◌≡◌, ℕ, ◌+◌, ◌-◌, ◌^◌, min, List, [], ◌∷◌, ◌++◌, length, take, drop, map, Option, Some, None, Result, Ok, Err, refl, sym, ap, subst, ◌∙◌, append_assoc, append-nil, length-append, arith}
+use Rattle.std.proofs.Common.{◌≡◌, ℕ, ◌+◌, ◌-◌, ◌^◌, min, List, [], ◌∷◌, ◌++◌, length, take, drop, map, Option, Some, None, Result, Ok, Err, inl, inr, refl, sym, ap, subst, ◌∙◌, append_assoc, append-nil, length-append, arith}
 use Rattle.std.specs.List.{concat}
 use Rattle.std.specs.Iterator.{Yields, DrainsIf}
 use Rattle.std.specs.Io.KnownBytes.{Appends, Keeps}
@@ -7,7 +7,7 @@ use Rattle.std.proofs.KnownBytes.{Appends-nil, Appends-trans, Appends-kept, Keep
 use Rattle.krb_frames.specs.declared.fault.ServeFault.{ServeFault}
 use Rattle.krb_frames.specs.declared.fault.ServeFault.TheVariants.{Truncated, FrameTooLong, NoRequest, Read, Write, NoWords, NoMoment, ReplyTooLong, Memory}
 use Rattle.krb_frames.specs.Frames.{Ended, Whole, front_of, framed}
-use Rattle.krb_frames.specs.Serving.{Left, at, Run, Step, Asks, IsReply, IsServed, StopsBy, IsPart}
+use Rattle.krb_frames.specs.Serving.{Left, at, Run, Step, Asks, TakesMoment, IsReply, IsServed, StopsBy, IsPart, Draws}
 use Rattle.krb_frames.specs.Steps.{IsFrontFault, IsStepFault, IsAnswered}
 
 -- serving ended so
@@ -63,10 +63,11 @@ module _ (replies : List ℕ → ℕ → List ℕ → Option (List ℕ) → Type
       count = omega arith;
     }
 
-    -- what `serve` ensures of its output
-    abbrev pub Shows : Option (List ℕ) → Result ℕ ServeFault → Type 0
-    Shows written result = (taken : List ℕ) × (bytes : List ℕ) × DrainsIf gives (result ≡ Err NoMoment) start taken × Appends before written bytes
-        × ((later : List ℕ) → (result ≡ Err NoMoment → later ≡ []) → IsServed replies (at (taken ++ later) stream words) bytes result)
+    -- what the loop ensures of its output
+    abbrev pub Shows : Option (List ℕ) → Option (List ℕ) → Option (List ℕ) → M → Result ℕ ServeFault → Type 0
+    Shows left_stream left_words written now result = (taken : List ℕ) × (bytes : List ℕ) × (rest : List ℕ) × (more : List ℕ) × Draws gives result start taken now
+        × Appends before written bytes × (left_stream ≡ Some rest) × (left_words ≡ Some more)
+        × ((later : List ℕ) → (result ≡ Err NoMoment → later ≡ []) → IsServed replies (at (taken ++ later) stream words) bytes result (at later rest more))
 
     module _ {left_stream left_words written : Option (List ℕ)} {now : M} {answered : ℕ} (p : Progress left_stream left_words written now answered) where
       -- the run so far, where one moment more was taken
@@ -75,45 +76,61 @@ module _ (replies : List ℕ → ℕ → List ℕ → Option (List ℕ) → Type
           (sym (append_assoc p.taken (moment ∷ []) later)) (p.run (moment ∷ later))
 
       -- the stream ended
-      pub ended : front_of p.rest ≡ Ended → Shows written (Ok answered)
-      ended front = (
+      pub ended : (new_stream : Option (List ℕ)) → front_of p.rest ≡ Ended → new_stream ≡ Some p.rest → Shows new_stream left_words written now (Ok answered)
+      ended new_stream front known = (
         p.taken,
         concat (map framed p.done),
-        (now, p.yields, λ e. absurd (cc (e))),
+        p.rest,
+        p.more,
+        p.yields,
         p.appends,
-        λ later _. (p.done, at later p.rest p.more, p.run later, (front, refl, p.count)),
+        known,
+        p.words_known,
+        λ later _. (p.done, at later p.rest p.more, p.run later, (front, refl, refl, p.count)),
       )
 
       -- it stopped where nothing of a reply was written: these moments were taken, and the run leaves these
-      stopped : (taken : List ℕ) (left : List ℕ → List ℕ) (fault : ServeFault) (new : Option (List ℕ)) → DrainsIf gives (Failed fault ≡ Failed NoMoment) start taken
-          → Keeps written new
+      stopped : (taken : List ℕ) (left : List ℕ → List ℕ) (fault : ServeFault) (new_stream new_words new : Option (List ℕ)) (end : M) (rest more : List ℕ)
+          → Draws gives (Failed fault) start taken end → Keeps written new → new_stream ≡ Some rest → new_words ≡ Some more
           → ((later : List ℕ) → (Failed fault ≡ Failed NoMoment → later ≡ []) → Run replies (at (taken ++ later) stream words) p.done (at (left later) p.rest p.more)
-          × StopsBy replies (at (left later) p.rest p.more) fault × IsPart replies (at (left later) p.rest p.more) fault []) → Shows new (Failed fault)
-      stopped taken left fault new drains keeps why = (
+          × StopsBy replies (at (left later) p.rest p.more) fault (at later rest more) × IsPart replies (at (left later) p.rest p.more) fault [])
+          → Shows new_stream new_words new end (Failed fault)
+      stopped taken left fault new_stream new_words new end rest more draws keeps stream_known words_known why = (
         taken,
         concat (map framed p.done),
-        drains,
+        rest,
+        more,
+        draws,
         Appends-kept _ _ _ _ p.appends keeps,
+        stream_known,
+        words_known,
         λ later none. let q = why later none in (p.done, at (left later) p.rest p.more, q.0, (q.1, [], q.2, sym (append-nil _))),
       )
 
       -- the stream's front is no frame
-      pub stopped_at_front : (fault : ServeFault) → IsFrontFault p.rest fault → Shows written (Failed fault)
-      stopped_at_front Truncated front = stopped p.taken (λ l. l) Truncated written (now, p.yields, λ e. absurd (cc (e))) (Keeps-refl _) (λ later _. (p.run later, front, refl))
-      stopped_at_front FrameTooLong front = stopped p.taken (λ l. l) FrameTooLong written (now, p.yields, λ e. absurd (cc (e))) (Keeps-refl _) (λ later _. (p.run later, front, refl))
-      stopped_at_front NoRequest front = absurd front
-      stopped_at_front Read front = stopped p.taken (λ l. l) Read written (now, p.yields, λ e. absurd (cc (e))) (Keeps-refl _) (λ later _. (p.run later, tt, refl))
-      stopped_at_front Write front = absurd front
-      stopped_at_front NoWords front = absurd front
-      stopped_at_front NoMoment front = absurd front
-      stopped_at_front ReplyTooLong front = absurd front
-      stopped_at_front Memory front = stopped p.taken (λ l. l) Memory written (now, p.yields, λ e. absurd (cc (e))) (Keeps-refl _) (λ later _. (p.run later, tt, refl))
+      pub stopped_at_front : (new_stream : Option (List ℕ)) (fault : ServeFault) → IsFrontFault p.rest new_stream fault → Shows new_stream left_words written now (Failed fault)
+      stopped_at_front new_stream Truncated (front, known) =
+          stopped p.taken (λ l. l) Truncated new_stream left_words written now [] p.more p.yields (Keeps-refl _) known p.words_known (λ later _. (p.run later, (front, refl), refl))
+      stopped_at_front new_stream FrameTooLong (front, known) =
+          stopped p.taken (λ l. l) FrameTooLong new_stream left_words written now (drop 4 p.rest) p.more p.yields (Keeps-refl _) known p.words_known
+          (λ later _. (p.run later, (front, refl), refl))
+      stopped_at_front new_stream NoRequest why = absurd why
+      stopped_at_front new_stream Read (n, within, known) =
+          stopped p.taken (λ l. l) Read new_stream left_words written now (drop n p.rest) p.more p.yields (Keeps-refl _) known p.words_known
+          (λ later _. (p.run later, inl (n, within, refl), refl))
+      stopped_at_front new_stream Write why = absurd why
+      stopped_at_front new_stream NoWords why = absurd why
+      stopped_at_front new_stream NoMoment why = absurd why
+      stopped_at_front new_stream ReplyTooLong why = absurd why
+      stopped_at_front new_stream Memory (enough, small, known) =
+          stopped p.taken (λ l. l) Memory new_stream left_words written now (drop 4 p.rest) p.more p.yields (Keeps-refl _) known p.words_known
+          (λ later _. (p.run later, inl (enough, small, refl), refl))
 
-      module _ (message rest : List ℕ) (front : front_of p.rest ≡ Whole message rest) (next : M) where
+      module _ (message rest : List ℕ) (front : front_of p.rest ≡ Whole message rest) (new_stream : Option (List ℕ)) (known : new_stream ≡ Some rest) (next : M) where
         -- no moment was left
-        pub stopped_at_moment : gives now None next → Shows written (Failed NoMoment)
-        stopped_at_moment none = stopped p.taken (λ l. l) NoMoment written (now, p.yields, λ _. (next, none)) (Keeps-refl _)
-            (λ later w. (p.run later, ((message, rest, front), w refl), refl))
+        pub stopped_at_moment : gives now None next → Shows new_stream left_words written next (Failed NoMoment)
+        stopped_at_moment none = stopped p.taken (λ l. l) NoMoment new_stream left_words written next rest p.more (now, p.yields, none) (Keeps-refl _) known p.words_known
+            (λ later w. (p.run later, (message, rest, front, w refl, ap (λ l. at l rest p.more) (w refl)), refl))
 
         module _ (moment : ℕ) (gave : gives now (Some moment) next) where
           drained : Yields gives start (p.taken ++ moment ∷ []) next
@@ -123,10 +140,13 @@ module _ (replies : List ℕ → ℕ → List ℕ → Option (List ℕ) → Type
               → Asks replies (at (moment ∷ later) p.rest p.more) answer (at later rest (drop 128 p.more))
           asks later answer replied = (message, moment, front, refl, refl, replied)
 
+          takes : (later more : List ℕ) → TakesMoment (at (moment ∷ later) p.rest p.more) (at later rest more)
+          takes later more = (message, moment, front, refl)
+
           -- one frame more was answered
-          pub goes : (new_stream new_words new : Option (List ℕ)) (total : ℕ) → total ≡ min (answered + 1) (2 ^ 64 - 1) → new_stream ≡ Some rest
+          pub goes : (new_words new : Option (List ℕ)) (total : ℕ) → total ≡ min (answered + 1) (2 ^ 64 - 1)
               → IsAnswered replies message moment p.more written new new_words → Progress new_stream new_words new next total
-          goes new_stream new_words new total one_more known step = record {
+          goes new_words new total one_more step = record {
             taken = p.taken ++ moment ∷ [];
             done = p.done ++ step.0 ∷ [];
             rest = rest;
@@ -139,27 +159,56 @@ module _ (replies : List ℕ → ℕ → List ℕ → Option (List ℕ) → Type
             count = let e = length-append p.done (step.0 ∷ []) in let c = p.count in omega (arith, e, c);
           }
 
+          -- it stopped at this frame, of whose reply nothing was written
+          stopped_here : (fault : ServeFault) (new_words new : Option (List ℕ)) (more : List ℕ) → Draws gives (Failed fault) start (p.taken ++ moment ∷ []) next → Keeps written new
+              → new_words ≡ Some more → ((later : List ℕ) → StopsBy replies (at (moment ∷ later) p.rest p.more) fault (at later rest more)
+              × IsPart replies (at (moment ∷ later) p.rest p.more) fault []) → Shows new_stream new_words new next (Failed fault)
+          stopped_here fault new_words new more draws keeps words_known why =
+              stopped (p.taken ++ moment ∷ []) (λ l. moment ∷ l) fault new_stream new_words new next rest more draws keeps known words_known
+              (λ later _. let q = why later in (run_with moment later, q.0, q.1))
+
           -- the message was not answered
-          pub stopped_at_step : (new : Option (List ℕ)) (fault : ServeFault) → IsStepFault replies message moment p.more written new fault → Shows new (Failed fault)
-          stopped_at_step new Truncated why = absurd why
-          stopped_at_step new FrameTooLong why = absurd why
-          stopped_at_step new NoRequest why = stopped (p.taken ++ moment ∷ []) (λ l. moment ∷ l) NoRequest new (next, drained, λ e. absurd (cc (e))) why.1
-              (λ later _. (run_with moment later, (at later rest (drop 128 p.more), asks later None why.0), refl))
-          stopped_at_step new Read why = stopped (p.taken ++ moment ∷ []) (λ l. moment ∷ l) Read new (next, drained, λ e. absurd (cc (e))) why
-              (λ later _. (run_with moment later, tt, refl))
-          stopped_at_step new Write (reply, replied, fits, n, grown) = (
+          pub stopped_at_step : (new_words new : Option (List ℕ)) (fault : ServeFault) → IsStepFault replies message moment p.more written new new_words fault
+              → Shows new_stream new_words new next (Failed fault)
+          stopped_at_step new_words new Truncated why = absurd why
+          stopped_at_step new_words new FrameTooLong why = absurd why
+          stopped_at_step new_words new NoRequest (replied, keeps, left) =
+              stopped_here NoRequest new_words new (drop 128 p.more) drained keeps left (λ later. (asks later None replied, refl))
+          stopped_at_step new_words new Read ((n, within, left), keeps) =
+              stopped_here Read new_words new (drop n p.more) drained keeps left (λ later. (inr (takes later (drop n p.more), n, within, refl), refl))
+          stopped_at_step new_words new Write (reply, replied, fits, n, grown, left) = (
             p.taken ++ moment ∷ [],
             concat (map framed p.done) ++ take n (framed reply),
-            (next, drained, λ e. absurd (cc (e))),
+            rest,
+            drop 128 p.more,
+            drained,
             Appends-trans _ _ _ _ _ p.appends grown,
+            known,
+            left,
             λ later _. let after = at later rest (drop 128 p.more) in
                 let step : Step replies (at (moment ∷ later) p.rest p.more) reply after = (asks later (Some reply) replied, fits) in
-                (p.done, at (moment ∷ later) p.rest p.more, run_with moment later, ((reply, after, step), take n (framed reply), (reply, after, n, step, refl), refl)),
+                (p.done, at (moment ∷ later) p.rest p.more, run_with moment later, ((reply, step), take n (framed reply), (reply, after, n, step, refl), refl)),
           )
-          stopped_at_step new NoWords why = stopped (p.taken ++ moment ∷ []) (λ l. moment ∷ l) NoWords new (next, drained, λ e. absurd (cc (e))) why.1
-              (λ later _. (run_with moment later, ((message, rest, front), (λ e. cc (e)), why.0), refl))
-          stopped_at_step new NoMoment why = absurd why
-          stopped_at_step new ReplyTooLong (reply, replied, long, keeps) = stopped (p.taken ++ moment ∷ []) (λ l. moment ∷ l) ReplyTooLong new (next, drained, λ e. absurd (cc (e))) keeps
-              (λ later _. (run_with moment later, (reply, at later rest (drop 128 p.more), asks later (Some reply) replied, long), refl))
-          stopped_at_step new Memory why = stopped (p.taken ++ moment ∷ []) (λ l. moment ∷ l) Memory new (next, drained, λ e. absurd (cc (e))) why
-              (λ later _. (run_with moment later, tt, refl))
+          stopped_at_step new_words new NoWords (few, keeps, left) =
+              stopped_here NoWords new_words new [] drained keeps left (λ later. ((takes later [], few, refl), refl))
+          stopped_at_step new_words new NoMoment why = absurd why
+          stopped_at_step new_words new ReplyTooLong (reply, replied, long, keeps, left) =
+              stopped_here ReplyTooLong new_words new (drop 128 p.more) drained keeps left (λ later. ((reply, asks later (Some reply) replied, long), refl))
+          stopped_at_step new_words new Memory (enough, keeps, left) =
+              stopped_here Memory new_words new (drop 128 p.more) drained keeps left (λ later. (inr (takes later (drop 128 p.more), enough, refl), refl))
+
+-- ---- an iterator that is handed in by value
+
+-- the moments that were drawn were taken, and then none was left where that is the fault
+pub DrainsIf-from_Draws : {M : Type 0} (gives : M → Option ℕ → M → Type 0) (start end : M) (taken : List ℕ) (result : Result ℕ ServeFault) → Draws gives result start taken end
+    → DrainsIf gives (result ≡ Err NoMoment) start taken
+DrainsIf-from_Draws gives start end taken (Ok n) draws = (end, draws, λ e. absurd (cc (e)))
+DrainsIf-from_Draws gives start end taken (Err Truncated) draws = (end, draws, λ e. absurd (cc (e)))
+DrainsIf-from_Draws gives start end taken (Err FrameTooLong) draws = (end, draws, λ e. absurd (cc (e)))
+DrainsIf-from_Draws gives start end taken (Err NoRequest) draws = (end, draws, λ e. absurd (cc (e)))
+DrainsIf-from_Draws gives start end taken (Err Read) draws = (end, draws, λ e. absurd (cc (e)))
+DrainsIf-from_Draws gives start end taken (Err Write) draws = (end, draws, λ e. absurd (cc (e)))
+DrainsIf-from_Draws gives start end taken (Err NoWords) draws = (end, draws, λ e. absurd (cc (e)))
+DrainsIf-from_Draws gives start end taken (Err NoMoment) draws = (draws.0, draws.1, λ _. (end, draws.2))
+DrainsIf-from_Draws gives start end taken (Err ReplyTooLong) draws = (end, draws, λ e. absurd (cc (e)))
+DrainsIf-from_Draws gives start end taken (Err Memory) draws = (end, draws, λ e. absurd (cc (e)))

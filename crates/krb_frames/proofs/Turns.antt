@@ -98,10 +98,6 @@ number_of-below (Err fault) = (fault_number-within fault).1
 not_nil : (x : ℕ) (xs list : List ℕ) → list ≡ x ∷ xs → length list ≢ 0
 not_nil x xs list e none = let len = ap length e in omega (arith, len, none)
 
-length-not_nil : (list : List ℕ) → list ≢ [] → length list ≢ 0
-length-not_nil [] some = λ _. some refl
-length-not_nil (x ∷ xs) some = not_nil x xs (x ∷ xs) refl
-
 -- ---- the turns of what is left to serve
 
 module _ (replies : List ℕ → ℕ → List ℕ → Option (List ℕ) → Type 0)
@@ -120,9 +116,9 @@ module _ (replies : List ℕ → ℕ → List ℕ → Option (List ℕ) → Type
         ap (λ l. at l t.stream t.words) later ∙ ap (λ l. at u.moments l t.words) stream ∙ ap (λ l. at u.moments u.stream l) (ws ∙ sym vs),
       )
 
-  -- why serving stops with this result where this is left
-  abbrev pub Why : Left → Result ℕ ServeFault → Type 0
-  Why s result = MatchResult result (λ _. front_of s.stream ≡ Ended) (StopsBy replies s)
+  -- why serving stops with this result where this is left, and what it then leaves
+  abbrev pub Why : Left → Result ℕ ServeFault → Left → Type 0
+  Why s result new = MatchResult result (λ _. (front_of s.stream ≡ Ended) × (new ≡ s)) (λ fault. StopsBy replies s fault new)
 
   -- whatever the next frame's answer is, it has this number
   abbrev HasAnswer : Left → ℕ → Type 0
@@ -134,36 +130,36 @@ module _ (replies : List ℕ → ℕ → List ℕ → Option (List ℕ) → Type
   no_frame : (s : Left) (front : Front) → front_of s.stream ≡ front → front_number front < 10 → HasAnswer s 0
   no_frame s front e below b after asks = let n : 10 ≡ front_number front = ap front_number (sym asks.2 ∙ e) in absurd (omega (arith, n, below))
 
-  an_answer : (s : Left) (result : Result ℕ ServeFault) → IsFinal result → Why s result → (a : ℕ) × HasAnswer s a
-  an_answer s (Ok _) final front = (0, no_frame s Ended front (lit< tt))
-  an_answer s (Err Truncated) final front = (0, no_frame s (Bad Truncated) front (lit< tt))
-  an_answer s (Err FrameTooLong) final front = (0, no_frame s (Bad FrameTooLong) front (lit< tt))
-  an_answer s (Err NoRequest) final (t, asks) = (0, λ b after other. ap answer_number (same_asks s after t b None other asks).0)
-  an_answer s (Err Read) final why = absurd final
-  an_answer s (Err Write) final why = absurd final
-  an_answer s (Err NoWords) final (frame, some, few) = (0, λ b after asks. absurd (not-le_of_lt few asks.5.0))
-  an_answer s (Err NoMoment) final (frame, none) = (0, λ b after asks. absurd (not_nil asks.1 after.moments s.moments asks.3 (ap length none)))
-  an_answer s (Err ReplyTooLong) final (reply, t, asks, long) = (1 + length reply, λ b after other. ap answer_number (same_asks s after t b (Some reply) other asks).0)
-  an_answer s (Err Memory) final why = absurd final
+  an_answer : (s new : Left) (result : Result ℕ ServeFault) → IsFinal result → Why s result new → (a : ℕ) × HasAnswer s a
+  an_answer s new (Ok _) final (front, same) = (0, no_frame s Ended front (lit< tt))
+  an_answer s new (Err Truncated) final (front, same) = (0, no_frame s (Bad Truncated) front (lit< tt))
+  an_answer s new (Err FrameTooLong) final (front, same) = (0, no_frame s (Bad FrameTooLong) front (lit< tt))
+  an_answer s new (Err NoRequest) final asks = (0, λ b after other. ap answer_number (same_asks s after new b None other asks).0)
+  an_answer s new (Err Read) final why = absurd final
+  an_answer s new (Err Write) final why = absurd final
+  an_answer s new (Err NoWords) final (takes, few, none) = (0, λ b after asks. absurd (not-le_of_lt few asks.5.0))
+  an_answer s new (Err NoMoment) final (message, rest, front, none, same) = (0, λ b after asks. absurd (not_nil asks.1 after.moments s.moments asks.3 (ap length none)))
+  an_answer s new (Err ReplyTooLong) final (reply, asks, long) = (1 + length reply, λ b after other. ap answer_number (same_asks s after new b (Some reply) other asks).0)
+  an_answer s new (Err Memory) final why = absurd final
 
-  turn-final : (s : Left) (result : Result ℕ ServeFault) → IsFinal result → Why s result → (a : ℕ) → HasAnswer s a → turn s a ≡ number_of result
-  turn-final s (Ok _) final front a answers = turn_of-ended (front_number (front_of s.stream)) (length s.moments) (length s.words) a (ap front_number front)
-  turn-final s (Err Truncated) final front a answers = turn_of-truncated (front_number (front_of s.stream)) (length s.moments) (length s.words) a (ap front_number front)
-  turn-final s (Err FrameTooLong) final front a answers = turn_of-long (front_number (front_of s.stream)) (length s.moments) (length s.words) a (ap front_number front)
-  turn-final s (Err NoRequest) final (t, asks) a answers =
-      turn_of-no_request (front_number (front_of s.stream)) (length s.moments) (length s.words) a (ap front_number asks.2) (not_nil asks.1 t.moments s.moments asks.3) asks.5.0
-      (sym (answers None t asks))
-  turn-final s (Err Read) final why a answers = absurd final
-  turn-final s (Err Write) final why a answers = absurd final
-  turn-final s (Err NoWords) final ((m, rest, f), some, few) a answers =
-      turn_of-no_words (front_number (front_of s.stream)) (length s.moments) (length s.words) a (ap front_number f) (length-not_nil s.moments some) few
-  turn-final s (Err NoMoment) final ((m, rest, f), none) a answers =
-      turn_of-no_moment (front_number (front_of s.stream)) (length s.moments) (length s.words) a (ap front_number f) (ap length none)
-  turn-final s (Err ReplyTooLong) final (reply, t, asks, long) a answers =
-      let n = answers (Some reply) t asks in
-      turn_of-long_reply (front_number (front_of s.stream)) (length s.moments) (length s.words) a (ap front_number asks.2) (not_nil asks.1 t.moments s.moments asks.3) asks.5.0
+  turn-final : (s new : Left) (result : Result ℕ ServeFault) → IsFinal result → Why s result new → (a : ℕ) → HasAnswer s a → turn s a ≡ number_of result
+  turn-final s new (Ok _) final (front, same) a answers = turn_of-ended (front_number (front_of s.stream)) (length s.moments) (length s.words) a (ap front_number front)
+  turn-final s new (Err Truncated) final (front, same) a answers = turn_of-truncated (front_number (front_of s.stream)) (length s.moments) (length s.words) a (ap front_number front)
+  turn-final s new (Err FrameTooLong) final (front, same) a answers = turn_of-long (front_number (front_of s.stream)) (length s.moments) (length s.words) a (ap front_number front)
+  turn-final s new (Err NoRequest) final asks a answers =
+      turn_of-no_request (front_number (front_of s.stream)) (length s.moments) (length s.words) a (ap front_number asks.2) (not_nil asks.1 new.moments s.moments asks.3) asks.5.0
+      (sym (answers None new asks))
+  turn-final s new (Err Read) final why a answers = absurd final
+  turn-final s new (Err Write) final why a answers = absurd final
+  turn-final s new (Err NoWords) final ((message, moment, front, moments), few, none) a answers =
+      turn_of-no_words (front_number (front_of s.stream)) (length s.moments) (length s.words) a (ap front_number front) (not_nil moment new.moments s.moments moments) few
+  turn-final s new (Err NoMoment) final (message, rest, front, none, same) a answers =
+      turn_of-no_moment (front_number (front_of s.stream)) (length s.moments) (length s.words) a (ap front_number front) (ap length none)
+  turn-final s new (Err ReplyTooLong) final (reply, asks, long) a answers =
+      let n = answers (Some reply) new asks in
+      turn_of-long_reply (front_number (front_of s.stream)) (length s.moments) (length s.words) a (ap front_number asks.2) (not_nil asks.1 new.moments s.moments asks.3) asks.5.0
       (omega (arith, n, long))
-  turn-final s (Err Memory) final why a answers = absurd final
+  turn-final s new (Err Memory) final why a answers = absurd final
 
   turn-step : (s t : Left) (reply : List ℕ) → Step replies s reply t → (a : ℕ) → HasAnswer s a → turn s a ≡ 10
   turn-step s t reply (asks, fits) a answers =
@@ -172,29 +168,54 @@ module _ (replies : List ℕ → ℕ → List ℕ → Option (List ℕ) → Type
       (λ none. omega (arith, n, none)) (omega (arith, n, fits))
 
   -- where serving stops for good, no frame is answered
-  pub no_step : (s t : Left) (result : Result ℕ ServeFault) (reply : List ℕ) → IsFinal result → Why s result → Step replies s reply t → ⊥
-  no_step s t result reply final why step =
-      let a = an_answer s result final why in
-      let ends = turn-final s result final why a.0 a.1 in
+  pub no_step : (s new t : Left) (result : Result ℕ ServeFault) (reply : List ℕ) → IsFinal result → Why s result new → Step replies s reply t → ⊥
+  no_step s new t result reply final why step =
+      let a = an_answer s new result final why in
+      let ends = turn-final s new result final why a.0 a.1 in
       let goes = turn-step s t reply step a.0 a.1 in
       let below = number_of-below result in
       omega (arith, ends, goes, below)
 
-  same_number : (s : Left) (p q : Result ℕ ServeFault) → IsFinal p → IsFinal q → Why s p → Why s q → number_of p ≡ number_of q
-  same_number s p q p_final q_final p_why q_why =
-      let a = an_answer s p p_final p_why in
-      sym (turn-final s p p_final p_why a.0 a.1) ∙ turn-final s q q_final q_why a.0 a.1
+  same_number : (s t u : Left) (p q : Result ℕ ServeFault) → IsFinal p → IsFinal q → Why s p t → Why s q u → number_of p ≡ number_of q
+  same_number s t u p q p_final q_final p_why q_why =
+      let a = an_answer s t p p_final p_why in
+      sym (turn-final s t p p_final p_why a.0 a.1) ∙ turn-final s u q q_final q_why a.0 a.1
 
   -- serving stops for good in one way: with the same fault, or both times at the end
-  pub same_result : (s : Left) (p q : Result ℕ ServeFault) → IsFinal p → IsFinal q → Why s p → Why s q → (count : ℕ) → IfOk p (λ n. n ≡ count) → IfOk q (λ n. n ≡ count) → q ≡ p
-  same_result s (Ok m) (Ok n) p_final q_final p_why q_why count left right = ap Ok (right ∙ sym left)
-  same_result s (Ok m) (Err g) p_final q_final p_why q_why count left right =
-      let e = same_number s (Ok m) (Err g) p_final q_final p_why q_why in
+  pub same_result : (s t u : Left) (p q : Result ℕ ServeFault) → IsFinal p → IsFinal q → Why s p t → Why s q u → (count : ℕ) → IfOk p (λ n. n ≡ count) → IfOk q (λ n. n ≡ count)
+      → q ≡ p
+  same_result s t u (Ok m) (Ok n) p_final q_final p_why q_why count left right = ap Ok (right ∙ sym left)
+  same_result s t u (Ok m) (Err g) p_final q_final p_why q_why count left right =
+      let e = same_number s t u (Ok m) (Err g) p_final q_final p_why q_why in
       let some = (fault_number-within g).0 in
       absurd (omega (arith, e, some))
-  same_result s (Err f) (Ok n) p_final q_final p_why q_why count left right =
-      let e = same_number s (Err f) (Ok n) p_final q_final p_why q_why in
+  same_result s t u (Err f) (Ok n) p_final q_final p_why q_why count left right =
+      let e = same_number s t u (Err f) (Ok n) p_final q_final p_why q_why in
       let some = (fault_number-within f).0 in
       absurd (omega (arith, e, some))
-  same_result s (Err f) (Err g) p_final q_final p_why q_why count left right =
-      ap Err (sym (fault_at-number g q_final) ∙ ap fault_at (sym (same_number s (Err f) (Err g) p_final q_final p_why q_why)) ∙ fault_at-number f p_final)
+  same_result s t u (Err f) (Err g) p_final q_final p_why q_why count left right =
+      ap Err (sym (fault_at-number g q_final) ∙ ap fault_at (sym (same_number s t u (Err f) (Err g) p_final q_final p_why q_why)) ∙ fault_at-number f p_final)
+
+  -- two frames that stand at the front are one
+  same_rest : (stream m n rest more : List ℕ) → front_of stream ≡ Whole m rest → front_of stream ≡ Whole n more → more ≡ rest
+  same_rest stream m n rest more front other = let fronts : Whole m rest ≡ Whole n more = sym front ∙ other in cc (fronts)
+
+  same_later : (moments later more : List ℕ) (x y : ℕ) → moments ≡ x ∷ later → moments ≡ y ∷ more → more ≡ later
+  same_later moments later more x y first other = let lists : ◌≡◌ {A = List ℕ} (x ∷ later) (y ∷ more) = sym first ∙ other in cc (lists)
+
+  -- and then it leaves the same
+  pub same_left : (s t u : Left) (p : Result ℕ ServeFault) → IsFinal p → Why s p t → Why s p u → u ≡ t
+  same_left s t u (Ok _) final (front, same) (again, other) = other ∙ sym same
+  same_left s t u (Err Truncated) final (front, same) (again, other) = other ∙ sym same
+  same_left s t u (Err FrameTooLong) final (front, same) (again, other) = other ∙ sym same
+  same_left s t u (Err NoRequest) final asks other = (same_asks s u t None None other asks).1
+  same_left s t u (Err Read) final why other = absurd final
+  same_left s t u (Err Write) final why other = absurd final
+  same_left s t u (Err NoWords) final ((m, x, f, ms), few, none) ((n, y, g, ns), again, nothing) =
+      ap (λ l. at l u.stream u.words) (same_later s.moments t.moments u.moments x y ms ns)
+      ∙ ap (λ l. at t.moments l u.words) (same_rest s.stream m n t.stream u.stream f g)
+      ∙ ap (λ l. at t.moments t.stream l) (nothing ∙ sym none)
+  same_left s t u (Err NoMoment) final (m, rest, f, none, same) (n, more, g, nothing, other) =
+      other ∙ ap (λ l. at [] l s.words) (same_rest s.stream m n rest more f g) ∙ sym same
+  same_left s t u (Err ReplyTooLong) final (x, asks, long) (y, other, again) = (same_asks s u t (Some y) (Some x) other asks).1
+  same_left s t u (Err Memory) final why other = absurd final

@@ -6,7 +6,7 @@ use Rattle.krb_frames.specs.declared.fault.ServeFault.{ServeFault}
 use Rattle.krb_frames.specs.declared.fault.ServeFault.TheVariants.{Truncated, FrameTooLong, NoRequest, Read, Write, NoWords, NoMoment, ReplyTooLong, Memory}
 use Rattle.krb_frames.specs.Frames.{framed}
 use Rattle.krb_frames.specs.Serving.{Left, Run, Step, IsServed, IsPart, IsFinal, IsFrontOf}
-use Rattle.krb_frames.proofs.Turns.{Why, same_asks, no_step, same_result}
+use Rattle.krb_frames.proofs.Turns.{Why, same_asks, no_step, same_result, same_left}
 
 concat-map-append : (done more : List (List ℕ)) → concat (map framed (done ++ more)) ≡ concat (map framed done) ++ concat (map framed more)
 concat-map-append [] more = refl
@@ -50,12 +50,12 @@ module _ (replies : List ℕ → ℕ → List ℕ → Option (List ℕ) → Type
   abbrev pub Part : Left → List ℕ → Type 0
   Part s part = (part ≡ []) ⊎ ((reply : List ℕ) × (after : Left) × (n : ℕ) × Step replies s reply after × (part ≡ take n (framed reply)))
 
-  pub record Served (start : Left) (written : List ℕ) (result : Result ℕ ServeFault) : Type 0 where
+  pub record Served (start : Left) (written : List ℕ) (result : Result ℕ ServeFault) (new : Left) : Type 0 where
     done : List (List ℕ)
     stop : Left
     part : List ℕ
     run : Run replies start done stop
-    why : Why replies one_reply stop result
+    why : Why replies one_reply stop result new
     of_next : Part stop part
     whole : written ≡ concat (map framed done) ++ part
     count : IfOk result (λ n. n ≡ min (length done) (2 ^ 64 - 1))
@@ -83,19 +83,19 @@ module _ (replies : List ℕ → ℕ → List ℕ → Option (List ℕ) → Type
   no_part s ReplyTooLong part is final = is
   no_part s Memory part is final = absurd final
 
-  pub served : (start : Left) (written : List ℕ) (result : Result ℕ ServeFault) → IsServed replies start written result → Served start written result
-  served start written (Ok n) (done, s, run, (ended, whole, count)) = record {
+  pub served : (start new : Left) (written : List ℕ) (result : Result ℕ ServeFault) → IsServed replies start written result new → Served start written result new
+  served start new written (Ok n) (done, s, run, (ended, same, whole, count)) = record {
     done = done;
     stop = s;
     part = [];
     run = run;
-    why = ended;
+    why = (ended, same);
     of_next = inl refl;
     whole = whole ∙ sym (append-nil _);
     count = count;
     final = λ _. refl;
   }
-  served start written (Err fault) (done, s, run, (stops, part, is, whole)) = record {
+  served start new written (Err fault) (done, s, run, (stops, part, is, whole)) = record {
     done = done;
     stop = s;
     part = part;
@@ -131,21 +131,21 @@ module _ (replies : List ℕ → ℕ → List ℕ → Option (List ℕ) → Type
 
   -- ---- where serving stops for good
 
-  module _ (s : Left) (result : Result ℕ ServeFault) (final : IsFinal result) (why : Why replies one_reply s result) where
+  module _ (s new : Left) (result : Result ℕ ServeFault) (final : IsFinal result) (why : Why replies one_reply s result new) where
     no_more : (rest : List (List ℕ)) (u : Left) → Run replies s rest u → (rest ≡ []) × (u ≡ s)
     no_more [] u run = (refl, run)
-    no_more (reply ∷ rest) u (mid, step, run) = absurd (no_step replies one_reply s mid result reply final why step)
+    no_more (reply ∷ rest) u (mid, step, run) = absurd (no_step replies one_reply s new mid result reply final why step)
 
     no_next : (part : List ℕ) → Part s part → part ≡ []
     no_next part (inl none) = none
-    no_next part (inr (reply, after, n, step, is)) = absurd (no_step replies one_reply s after result reply final why step)
+    no_next part (inr (reply, after, n, step, is)) = absurd (no_step replies one_reply s new after result reply final why step)
 
-  module _ (start : Left) (all part : List ℕ) (whole other : Result ℕ ServeFault) (final : IsFinal whole) (w : Served start all whole) (o : Served start part other) where
+  module _ (start s t : Left) (all part : List ℕ) (whole other : Result ℕ ServeFault) (final : IsFinal whole) (w : Served start all whole s) (o : Served start part other t) where
     to_end : GoesOn o.done o.stop w.done w.stop
     unfolding GoesOn
     to_end = elim (agree o.done w.done start o.stop w.stop o.run w.run) [
       | inl g ↦ g
-      | inr g ↦ let none = no_more w.stop whole final w.why g.0 o.stop g.2 in
+      | inr g ↦ let none = no_more w.stop s whole final w.why g.0 o.stop g.2 in
           ([], sym (append-nil _ ∙ g.1 ∙ ap (λ l. w.done ++ l) none.0 ∙ append-nil w.done), sym none.1)
     ]
 
@@ -158,22 +158,25 @@ module _ (replies : List ℕ → ℕ → List ℕ → Option (List ℕ) → Type
         let g = to_end in
         let none : g.0 ≡ [] → o.part ≡ [] = λ e.
         let here : w.stop ≡ o.stop = subst (λ l. Run replies o.stop l w.stop) e g.2 in
-        no_next o.stop whole final (subst (λ v. Why replies one_reply v whole) here w.why) o.part o.of_next in
+        no_next o.stop s whole final (subst (λ v. Why replies one_reply v whole s) here w.why) o.part o.of_next in
         along part (concat (map framed o.done) ++ o.part) all (concat (map framed o.done) ++ concat (map framed g.0)) o.whole (all_is g.0 g.1)
         (front-behind o.done o.part (concat (map framed g.0)) (part-front_or_none o.stop w.stop o.part g.0 o.of_next none g.2))
 
-    pub same-all : IsFinal other → (part ≡ all) × (other ≡ whole)
+    pub same-all : IsFinal other → (part ≡ all) × (other ≡ whole) × (t ≡ s)
     unfolding GoesOn
     same-all other_final =
         let g = to_end in
-        let none = no_more o.stop other other_final o.why g.0 w.stop g.2 in
+        let none = no_more o.stop t other other_final o.why g.0 w.stop g.2 in
         let done : w.done ≡ o.done = g.1 ∙ ap (λ l. o.done ++ l) none.0 ∙ append-nil o.done in
-        let count : IfOk whole (λ n. n ≡ min (length o.done) (2 ^ 64 - 1)) = subst (λ l. IfOk whole (λ n. n ≡ min (length l) (2 ^ 64 - 1))) done w.count in (
+        let count : IfOk whole (λ n. n ≡ min (length o.done) (2 ^ 64 - 1)) = subst (λ l. IfOk whole (λ n. n ≡ min (length l) (2 ^ 64 - 1))) done w.count in
+        let why : Why replies one_reply o.stop whole s = subst (λ v. Why replies one_reply v whole s) none.1 w.why in
+        let same : other ≡ whole = same_result replies one_reply o.stop s t whole other final other_final why o.why _ count o.count in (
           o.whole ∙ ap (λ l. concat (map framed o.done) ++ l) (o.final other_final) ∙ ap (λ l. concat (map framed o.done) ++ concat (map framed l)) (sym none.0) ∙ sym (all_is g.0 g.1),
-          same_result replies one_reply o.stop whole other final other_final (subst (λ v. Why replies one_reply v whole) none.1 w.why) o.why _ count o.count,
+          same,
+          same_left replies one_reply o.stop s t whole final why (subst (λ r. Why replies one_reply o.stop r t) same o.why),
         )
 
-  module _ (start t : Left) (written : List ℕ) (result : Result ℕ ServeFault) (more : List (List ℕ)) (o : Served start written result) (run : Run replies start more t)
+  module _ (start s t : Left) (written : List ℕ) (result : Result ℕ ServeFault) (more : List (List ℕ)) (o : Served start written result s) (run : Run replies start more t)
       (short : length written ≤ length (concat (map framed more))) where
     pub front-longer : IsFrontOf written (concat (map framed more))
     unfolding GoesOn

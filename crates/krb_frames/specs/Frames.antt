@@ -1,5 +1,5 @@
 -- Frames: a message behind its length in four bytes, the highest first (RFC 4120 7.2.2).
-use Rattle.std.specs.Prelude.{◌≡◌, ℕ, List, [], ◌∷◌, ◌++◌, length, take, drop, nat_lt, if◌then◌else◌, refl}
+use Rattle.std.specs.Prelude.{◌≡◌, ℕ, ◌+◌, List, [], ◌∷◌, ◌++◌, length, take, drop, nat_lt, if◌then◌else◌, refl}
 use Rattle.std.specs.Int.{w32, from_be_bytes, to_be_bytes}
 use Rattle.krb_frames.specs.declared.fault.ServeFault.{ServeFault}
 use Rattle.krb_frames.specs.declared.fault.ServeFault.TheVariants.{Truncated, FrameTooLong}
@@ -7,6 +7,10 @@ use Rattle.krb_frames.specs.declared.fault.ServeFault.TheVariants.{Truncated, Fr
 -- the length that the first four bytes of a stream announce
 abbrev pub announced : List ℕ → ℕ
 announced stream = from_be_bytes w32 (take 4 stream)
+
+-- how many bytes reading the first frame takes at most: its length, and its message where that isn't too long
+abbrev pub frame_room : List ℕ → ℕ
+frame_room stream = if nat_lt 65536 (announced stream) then 4 else 4 + announced stream
 
 -- a reply in its frame
 abbrev pub framed : List ℕ → List ℕ

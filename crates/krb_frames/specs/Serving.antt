@@ -1,9 +1,10 @@
 -- What serving a stream writes and how it ends: the run of a machine over frames.
-use Rattle.std.specs.Prelude.{◌≡◌, ◌≢◌, ℕ, ◌-◌, ◌^◌, ◌<◌, ◌≤◌, min, List, [], ◌∷◌, ◌++◌, length, take, drop, map, Option, Some, None, Result, Ok, Err, MatchResult, ⊤}
+use Rattle.std.specs.Prelude.{◌≡◌, ℕ, ◌-◌, ◌^◌, ◌<◌, ◌≤◌, ◌⊎◌, min, List, [], ◌∷◌, ◌++◌, length, take, drop, map, Option, Some, None, Result, Ok, Err, MatchResult, ⊤}
+use Rattle.std.specs.Iterator.{Yields, YieldsThen}
 use Rattle.std.specs.List.{concat}
 use Rattle.krb_frames.specs.declared.fault.ServeFault.{ServeFault}
 use Rattle.krb_frames.specs.declared.fault.ServeFault.TheVariants.{Truncated, FrameTooLong, NoRequest, Read, Write, NoWords, NoMoment, ReplyTooLong, Memory}
-use Rattle.krb_frames.specs.Frames.{Ended, Bad, Whole, front_of, framed}
+use Rattle.krb_frames.specs.Frames.{Ended, Bad, Whole, announced, frame_room, front_of, framed}
 
 -- a fact of the bytes of a device, where they are known
 abbrev pub WhereKnown : Option (List ℕ) → (List ℕ → Type 0) → Type 0
@@ -17,6 +18,26 @@ pub record Left : Type 0 where
 
 abbrev pub at : List ℕ → List ℕ → List ℕ → Left
 at moments stream words = record { moments = moments; stream = stream; words = words }
+
+-- the next frame is whole and takes the next moment; the random bytes aside `new` is left
+abbrev pub TakesMoment : Left → Left → Type 0
+TakesMoment old new = (message : List ℕ) × (moment : ℕ) × (front_of old.stream ≡ Whole message new.stream) × (old.moments ≡ moment ∷ new.moments)
+
+-- and it takes 128 random bytes, which are there
+abbrev pub TakesUp : Left → Left → Type 0
+TakesUp old new = TakesMoment old new × (128 ≤ length old.words) × (new.words ≡ drop 128 old.words)
+
+-- the stream's reader failed within the next frame: some bytes of it were read, and no moment and no random byte was taken
+abbrev pub BreaksFrame : Left → Left → Type 0
+BreaksFrame old new = (n : ℕ) × (n ≤ frame_room old.stream) × (new ≡ at old.moments (drop n old.stream) old.words)
+
+-- the random bytes' reader failed: at most 128 of them were read
+abbrev pub BreaksWords : Left → Left → Type 0
+BreaksWords old new = TakesMoment old new × (n : ℕ) × (n ≤ 128) × (new.words ≡ drop n old.words)
+
+-- the next frame's length was read, and there was no memory for the message
+abbrev pub LacksRoom : Left → Left → Type 0
+LacksRoom old new = (4 ≤ length old.stream) × (announced old.stream ≤ 65536) × (new ≡ at old.moments (drop 4 old.stream) old.words)
 
 -- `replies message moment words answer`: whether a responder may answer so. None is of bytes that are no request
 module _ (replies : List ℕ → ℕ → List ℕ → Option (List ℕ) → Type 0) where
@@ -38,32 +59,34 @@ module _ (replies : List ℕ → ℕ → List ℕ → Option (List ℕ) → Type
   Run old [] new = new ≡ old
   Run old (reply ∷ done) new = (mid : Left) × Step old reply mid × Run mid done new
 
-  -- a whole message is next
-  abbrev pub HasFrame : Left → Type 0
-  HasFrame s = (message : List ℕ) × (rest : List ℕ) × (front_of s.stream ≡ Whole message rest)
-
-  -- why serving stops where this is left
-  abbrev pub StopsBy : Left → ServeFault → Type 0
-  StopsBy s Truncated = front_of s.stream ≡ Bad Truncated
-  StopsBy s FrameTooLong = front_of s.stream ≡ Bad FrameTooLong
-  StopsBy s NoRequest = (after : Left) × Asks s None after
-  StopsBy s Read = ⊤
-  StopsBy s Write = (reply : List ℕ) × (after : Left) × Step s reply after
-  StopsBy s NoWords = HasFrame s × (s.moments ≢ []) × (length s.words < 128)
-  StopsBy s NoMoment = HasFrame s × (s.moments ≡ [])
-  StopsBy s ReplyTooLong = (reply : List ℕ) × (after : Left) × Asks s (Some reply) after × (65536 < length reply)
-  StopsBy s Memory = ⊤
+  -- why serving stops where this is left, and what it then leaves. Memory is wanting for a message alone, or once its moment and its random bytes were taken
+  abbrev pub StopsBy : Left → ServeFault → Left → Type 0
+  StopsBy s Truncated new = (front_of s.stream ≡ Bad Truncated) × (new ≡ at s.moments [] s.words)
+  StopsBy s FrameTooLong new = (front_of s.stream ≡ Bad FrameTooLong) × (new ≡ at s.moments (drop 4 s.stream) s.words)
+  StopsBy s NoRequest new = Asks s None new
+  StopsBy s Read new = BreaksFrame s new ⊎ BreaksWords s new
+  StopsBy s Write new = (reply : List ℕ) × Step s reply new
+  StopsBy s NoWords new = TakesMoment s new × (length s.words < 128) × (new.words ≡ [])
+  StopsBy s NoMoment new = (message : List ℕ) × (rest : List ℕ) × (front_of s.stream ≡ Whole message rest) × (s.moments ≡ []) × (new ≡ at [] rest s.words)
+  StopsBy s ReplyTooLong new = (reply : List ℕ) × Asks s (Some reply) new × (65536 < length reply)
+  StopsBy s Memory new = LacksRoom s new ⊎ TakesUp s new
 
   -- what stands of the next reply: a front of its frame where the write failed, and else nothing
   abbrev pub IsPart : Left → ServeFault → List ℕ → Type 0
   IsPart s Write part = (reply : List ℕ) × (after : Left) × (n : ℕ) × Step s reply after × (part ≡ take n (framed reply))
   IsPart s fault part = part ≡ []
 
-  -- what was written, and the answer: the frames of a run's replies, up to where serving stops
-  abbrev pub IsServed : Left → List ℕ → Result ℕ ServeFault → Type 0
-  IsServed start written result = (done : List (List ℕ)) × (s : Left) × Run start done s × MatchResult result
-      (λ count. (front_of s.stream ≡ Ended) × (written ≡ concat (map framed done)) × (count ≡ min (length done) (2 ^ 64 - 1)))
-      (λ fault. StopsBy s fault × (part : List ℕ) × IsPart s fault part × (written ≡ concat (map framed done) ++ part))
+  -- what was written, the answer and what is left: the frames of a run's replies, up to where serving stops
+  abbrev pub IsServed : Left → List ℕ → Result ℕ ServeFault → Left → Type 0
+  IsServed start written result new = (done : List (List ℕ)) × (s : Left) × Run start done s × MatchResult result
+      (λ count. (front_of s.stream ≡ Ended) × (new ≡ s) × (written ≡ concat (map framed done)) × (count ≡ min (length done) (2 ^ 64 - 1)))
+      (λ fault. StopsBy s fault new × (part : List ℕ) × IsPart s fault part × (written ≡ concat (map framed done) ++ part))
+
+-- calls of `next` gave these moments, then none where that is the fault, and left this iterator
+abbrev pub Draws : {M : Type 0} → (M → Option ℕ → M → Type 0) → Result ℕ ServeFault → M → List ℕ → M → Type 0
+Draws gives (Ok _) start taken end = Yields gives start taken end
+Draws gives (Err NoMoment) start taken end = YieldsThen gives start taken None end
+Draws gives (Err _) start taken end = Yields gives start taken end
 
 -- the stream was served as far as it can be: no device and no memory failed
 abbrev pub IsFinal : Result ℕ ServeFault → Type 0

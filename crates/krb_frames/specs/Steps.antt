@@ -4,7 +4,7 @@ use Rattle.std.specs.Io.KnownBytes.{Appends, Keeps}
 use Rattle.devices.specs.Counting.{one_more}
 use Rattle.krb_frames.specs.declared.fault.ServeFault.{ServeFault}
 use Rattle.krb_frames.specs.declared.fault.ServeFault.TheVariants.{Truncated, FrameTooLong, NoRequest, Read, Write, NoWords, ReplyTooLong, Memory}
-use Rattle.krb_frames.specs.Frames.{Bad, front_of, framed}
+use Rattle.krb_frames.specs.Frames.{Bad, announced, frame_room, front_of, framed}
 use Rattle.krb_frames.specs.Serving.{IsReply}
 
 -- a reader's count of failures after a fault, and a writer's
@@ -29,13 +29,30 @@ pub record IsTaken (stream : List ℕ) (left : Option (List ℕ)) (bytes : List 
   pub known : left ≡ Some rest
   pub whole : stream ≡ bytes ++ rest
 
--- the stream's front is why no frame was read
-abbrev pub IsFrontFault : List ℕ → ServeFault → Type 0
-IsFrontFault stream Truncated = front_of stream ≡ Bad Truncated
-IsFrontFault stream FrameTooLong = front_of stream ≡ Bad FrameTooLong
-IsFrontFault stream Read = ⊤
-IsFrontFault stream Memory = ⊤
-IsFrontFault stream _ = ⊥
+-- of a stream these many bytes at most were read before its reader failed
+abbrev pub IsBroken : List ℕ → Option (List ℕ) → ℕ → Type 0
+IsBroken stream left room = (n : ℕ) × (n ≤ room) × (left ≡ Some (drop n stream))
+
+-- the stream's front is why no frame was read, and these bytes are left
+abbrev pub IsFrontFault : List ℕ → Option (List ℕ) → ServeFault → Type 0
+IsFrontFault stream left Truncated = (front_of stream ≡ Bad Truncated) × (left ≡ Some [])
+IsFrontFault stream left FrameTooLong = (front_of stream ≡ Bad FrameTooLong) × (left ≡ Some (drop 4 stream))
+IsFrontFault stream left Read = IsBroken stream left (frame_room stream)
+IsFrontFault stream left Memory = (4 ≤ length stream) × (announced stream ≤ 65536) × (left ≡ Some (drop 4 stream))
+IsFrontFault stream left _ = ⊥
+
+-- why a message of this size was not read, and these bytes are left
+abbrev pub IsMessageStop : List ℕ → Option (List ℕ) → ℕ → ServeFault → Type 0
+IsMessageStop stream left size Truncated = (length stream < size) × (left ≡ Some [])
+IsMessageStop stream left size Read = IsBroken stream left size
+IsMessageStop stream left size Memory = left ≡ Some stream
+IsMessageStop stream left size _ = ⊥
+
+-- why a message has no random bytes, and these are left
+abbrev pub IsWordsStop : List ℕ → Option (List ℕ) → ServeFault → Type 0
+IsWordsStop words left NoWords = (length words < 128) × (left ≡ Some [])
+IsWordsStop words left Read = IsBroken words left 128
+IsWordsStop words left _ = ⊥
 
 -- the faults that reading a message may have
 abbrev pub IsMessageFault : ServeFault → Type 0
@@ -80,14 +97,15 @@ module _ (replies : List ℕ → ℕ → List ℕ → Option (List ℕ) → Type
   IsAnswered message moment words old new left = (reply : List ℕ) × IsReply replies message moment words (Some reply) × (length reply ≤ 65536)
       × Appends old new (framed reply) × (left ≡ Some (drop 128 words))
 
-  -- why a message was not answered, and what was written of its reply
-  abbrev pub IsStepFault : List ℕ → ℕ → List ℕ → Option (List ℕ) → Option (List ℕ) → ServeFault → Type 0
-  IsStepFault message moment words old new NoWords = (length words < 128) × Keeps old new
-  IsStepFault message moment words old new NoRequest = IsReply replies message moment words None × Keeps old new
-  IsStepFault message moment words old new ReplyTooLong =
-      (reply : List ℕ) × IsReply replies message moment words (Some reply) × (65536 < length reply) × Keeps old new
-  IsStepFault message moment words old new Write =
+  -- why a message was not answered, what was written of its reply, and the random bytes that are left
+  abbrev pub IsStepFault : List ℕ → ℕ → List ℕ → Option (List ℕ) → Option (List ℕ) → Option (List ℕ) → ServeFault → Type 0
+  IsStepFault message moment words old new left NoWords = (length words < 128) × Keeps old new × (left ≡ Some [])
+  IsStepFault message moment words old new left NoRequest = IsReply replies message moment words None × Keeps old new × (left ≡ Some (drop 128 words))
+  IsStepFault message moment words old new left ReplyTooLong =
+      (reply : List ℕ) × IsReply replies message moment words (Some reply) × (65536 < length reply) × Keeps old new × (left ≡ Some (drop 128 words))
+  IsStepFault message moment words old new left Write =
       (reply : List ℕ) × IsReply replies message moment words (Some reply) × (length reply ≤ 65536) × (n : ℕ) × Appends old new (take n (framed reply))
-  IsStepFault message moment words old new Read = Keeps old new
-  IsStepFault message moment words old new Memory = Keeps old new
-  IsStepFault message moment words old new _ = ⊥
+      × (left ≡ Some (drop 128 words))
+  IsStepFault message moment words old new left Read = IsBroken words left 128 × Keeps old new
+  IsStepFault message moment words old new left Memory = (128 ≤ length words) × Keeps old new × (left ≡ Some (drop 128 words))
+  IsStepFault message moment words old new left _ = ⊥

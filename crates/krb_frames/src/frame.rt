@@ -4,7 +4,7 @@ ghost use Rattle.std.specs.Io.KnownBytes.{Appends};
 ghost use Rattle.krb_frames.specs.Frames.{front_of, framed};
 ghost use Rattle.krb_frames.specs.Frames.Front.{Ended, Whole};
 ghost use Rattle.krb_frames.specs.Serving.{WhereKnown, IsReply};
-ghost use Rattle.krb_frames.specs.Steps.{IsFilled, IsTaken, IsMessageFault, IsWordsFault, IsAnswerFault, IsAnswered, IsFrontFault, IsReadFault, IsStepFault, IsWrittenPart, after_read_fault, after_write_fault};
+ghost use Rattle.krb_frames.specs.Steps.{IsFilled, IsTaken, IsBroken, IsMessageFault, IsMessageStop, IsWordsFault, IsWordsStop, IsAnswerFault, IsAnswered, IsFrontFault, IsReadFault, IsStepFault, IsWrittenPart, after_read_fault, after_write_fault};
 
 use crate::{AnswerRefusal, Responder, ServeFault};
 use devices::{Sink, Source, WholeFault, read_full, write_whole};
@@ -21,7 +21,8 @@ pub const FRAME_LIMIT: usize = 65_536;
 // of the stream.
 fn fill<R: Source>(reader: &mut R, buffer: &mut [u8]) -> Result<usize, ServeFault>
     ensures bound { IfOk result (λ n. n ≤ length buffer.new) }
-    ensures front { WhereKnown (R.left reader.old) (λ stream. IfOk result (λ n. IsFilled stream (R.left reader.new) buffer.new n)) }
+    ensures front { WhereKnown (R.left reader.old) (λ stream. MatchResult result (λ n. IsFilled stream (R.left reader.new) buffer.new n)
+        (λ _. IsBroken stream (R.left reader.new) (length buffer.new))) }
     ensures faults { IfErr result (λ fault. fault ≡ ServeFault.Read) }
     ensures count { MatchResult result (λ _. R.failed reader.new ≡ R.failed reader.old)
         (λ fault. R.failed reader.new ≡ after_read_fault (R.failed reader.old) fault) }
@@ -39,7 +40,7 @@ fn read_message<R: Source>(
     size: usize,
 ) -> Result<Vec<u8>, ServeFault>
     ensures front { WhereKnown (R.left reader.old) (λ stream. MatchResult result
-        (λ message. IsTaken stream (R.left reader.new) message.items) (λ fault. fault ≡ ServeFault.Truncated → length stream < size)) }
+        (λ message. IsTaken stream (R.left reader.new) message.items) (IsMessageStop stream (R.left reader.new) size)) }
     ensures size { IfOk result (λ message. length message.items ≡ size) }
     ensures faults { IfErr result IsMessageFault }
     ensures count { MatchResult result (λ _. R.failed reader.new ≡ R.failed reader.old)
@@ -59,9 +60,9 @@ pub(crate) fn read_frame<R: Source>(
     reader: &mut R,
 ) -> Result<Option<Vec<u8>>, ServeFault>
     ensures front { WhereKnown (R.left reader.old) (λ stream. MatchResult result
-        (λ read. MatchOption read (front_of stream ≡ Ended)
+        (λ read. MatchOption read ((front_of stream ≡ Ended) × (R.left reader.new ≡ Some stream))
         (λ message. (rest : List ℕ) × (R.left reader.new ≡ Some rest) × (front_of stream ≡ Whole message.items rest)))
-        (IsFrontFault stream)) }
+        (IsFrontFault stream (R.left reader.new))) }
     ensures faults { IfErr result IsReadFault }
     ensures count { MatchResult result (λ _. R.failed reader.new ≡ R.failed reader.old)
         (λ fault. R.failed reader.new ≡ after_read_fault (R.failed reader.old) fault) }
@@ -86,7 +87,7 @@ pub(crate) fn read_frame<R: Source>(
 fn read_words<K: Source>(words_reader: &mut K) -> Result<[u8; WORDS_NEEDED], ServeFault>
     ensures front { WhereKnown (K.left words_reader.old) (λ words. MatchResult result
         (λ taken. (taken ≡ take 128 words) × (128 ≤ length words) × (K.left words_reader.new ≡ Some (drop 128 words)))
-        (λ fault. fault ≡ ServeFault.NoWords → length words < 128)) }
+        (IsWordsStop words (K.left words_reader.new))) }
     ensures size { IfOk result (λ taken. length taken ≡ 128) }
     ensures faults { IfErr result IsWordsFault }
     ensures count { MatchResult result (λ _. K.failed words_reader.new ≡ K.failed words_reader.old)
@@ -141,7 +142,7 @@ pub(crate) fn answer_frame<A: Responder, K: Source, W: Sink>(
 ) -> Result<(), ServeFault>
     ensures step { WhereKnown (K.left words_reader.old) (λ words. MatchResult result
         (λ _. IsAnswered (A.replies responder.now) message.now moment words (W.written writer.old) (W.written writer.new) (K.left words_reader.new))
-        (IsStepFault (A.replies responder.now) message.now moment words (W.written writer.old) (W.written writer.new))) }
+        (IsStepFault (A.replies responder.now) message.now moment words (W.written writer.old) (W.written writer.new) (K.left words_reader.new))) }
     ensures faults { IfErr result IsAnswerFault }
     ensures read_count { MatchResult result (λ _. K.failed words_reader.new ≡ K.failed words_reader.old)
         (λ fault. K.failed words_reader.new ≡ after_read_fault (K.failed words_reader.old) fault) }

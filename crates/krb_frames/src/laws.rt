@@ -15,16 +15,16 @@ pub fn runs_agree<A: Responder>()
 {}
 
 /// Where no device and no memory failed, what was written is the one output of these moments, stream
-/// and random bytes, and the answer the one answer. Whatever was written else is a front of it. It
-/// does nothing when it runs: its contract is the law.
+/// and random bytes, the answer the one answer, and what is left the same. Whatever was written else is
+/// a front of it. It does nothing when it runs: its contract is the law.
 pub fn output_is_whole<A: Responder>()
-    ensures front { (responder : A) (start : Left) (all part : List ℕ) (whole other : Result ℕ ServeFault) → IsFinal whole
-        → IsServed (A.replies responder) start all whole → IsServed (A.replies responder) start part other → IsFrontOf part all }
-    ensures same { (responder : A) (start : Left) (all other : List ℕ) (a b : Result ℕ ServeFault) → IsFinal a → IsFinal b
-        → IsServed (A.replies responder) start all a → IsServed (A.replies responder) start other b → (other ≡ all) × (b ≡ a) }
+    ensures front { (responder : A) (start s t : Left) (all part : List ℕ) (whole other : Result ℕ ServeFault) → IsFinal whole
+        → IsServed (A.replies responder) start all whole s → IsServed (A.replies responder) start part other t → IsFrontOf part all }
+    ensures same { (responder : A) (start s t : Left) (all other : List ℕ) (a b : Result ℕ ServeFault) → IsFinal a → IsFinal b
+        → IsServed (A.replies responder) start all a s → IsServed (A.replies responder) start other b t → (other ≡ all) × (b ≡ a) × (t ≡ s) }
 
     // What was written is also a front of the frames of each run that is as long.
-    ensures longer { (responder : A) (start t : Left) (written : List ℕ) (result : Result ℕ ServeFault) (more : List (List ℕ))
-        → IsServed (A.replies responder) start written result → Run (A.replies responder) start more t
+    ensures longer { (responder : A) (start s t : Left) (written : List ℕ) (result : Result ℕ ServeFault) (more : List (List ℕ))
+        → IsServed (A.replies responder) start written result s → Run (A.replies responder) start more t
         → length written ≤ length (concat (map framed more)) → IsFrontOf written (concat (map framed more)) }
 {}

@@ -3,7 +3,7 @@ ghost use Rattle.std.specs.Prelude.{◌≡◌, ◌≢◌, ℕ, ◌++◌, List, [
 ghost use Rattle.std.specs.Iterator.{IsFinite, DrainsIf};
 ghost use Rattle.std.specs.Io.KnownBytes.{Appends};
 ghost use Rattle.devices.specs.Counting.{one_more};
-ghost use Rattle.krb_frames.specs.Serving.{WhereKnown, IsServed, IsFinal, at};
+ghost use Rattle.krb_frames.specs.Serving.{WhereKnown, Left, Draws, IsServed, IsFinal, at};
 
 use crate::frame::{answer_frame, read_frame};
 use crate::{Responder, ServeFault};
@@ -19,6 +19,11 @@ use std::alloc::Global;
 /// random bytes are left, the message is no request, the reply is too long, the write fails. A fault
 /// leaves the replies before it written, and no part of the next but where the write failed.
 ///
+/// No more is taken: of `reader` the frames up to the last one read, or four bytes where that is too
+/// long, and of `words_reader` nothing for a frame that has no moment. Memory is asked for once a
+/// frame's length is read and not too long, and then once its moment and its random bytes are taken, so
+/// a fault that is found before that is answered however little memory there is.
+///
 /// A reply is handed to `writer`, in one call where that takes all, before the next frame is read. A
 /// writer that buffers would hold it back.
 pub fn serve<A: Responder, R: Source, W: Sink, M: Iterator<Item = Moment> + Drop, K: Source>(
@@ -32,13 +37,38 @@ pub fn serve<A: Responder, R: Source, W: Sink, M: Iterator<Item = Moment> + Drop
     requires can { M.can_next moments }
     requires ends { IsFinite (M.remaining moments) }
 
-    // What was written and the answer are a run over the moments that were taken, and over any
-    // that may come after them.
+    // What was written, the answer and what is left are a run over the moments that were taken, and
+    // over any that may come after them.
     ensures output { WhereKnown (R.left reader.old) (λ stream. WhereKnown (K.left words_reader.old) (λ words.
-        (taken : List ℕ) × (written : List ℕ) × DrainsIf M.next_gives (result ≡ Err ServeFault.NoMoment) moments taken
+        (taken written rest more : List ℕ) × DrainsIf M.next_gives (result ≡ Err ServeFault.NoMoment) moments taken
         × Appends (W.written writer.old) (W.written writer.new) written
+        × (R.left reader.new ≡ Some rest) × (K.left words_reader.new ≡ Some more)
         × ((later : List ℕ) → (result ≡ Err ServeFault.NoMoment → later ≡ [])
-        → IsServed (A.replies responder.now) (at (taken ++ later) stream words) written result))) }
+        → IsServed (A.replies responder.now) (at (taken ++ later) stream words) written result (at later rest more)))) }
+    ensures read_failed { result ≡ Err ServeFault.Read
+        → (R.failed reader.new ≡ one_more (R.failed reader.old)) ⊎ (K.failed words_reader.new ≡ one_more (K.failed words_reader.old)) }
+    ensures write_failed { result ≡ Err ServeFault.Write → W.failed writer.new ≡ one_more (W.failed writer.old) }
+{
+    serve_frames(alloc, responder, reader, writer, &mut moments, words_reader)
+}
+
+// The loop over the frames. Of `moments` one is taken for each frame.
+fn serve_frames<A: Responder, R: Source, W: Sink, M: Iterator<Item = Moment>, K: Source>(
+    alloc: Global,
+    responder: &A,
+    reader: &mut R,
+    writer: &mut W,
+    moments: &mut M,
+    words_reader: &mut K,
+) -> Result<u64, ServeFault>
+    requires can { M.can_next moments.old }
+    requires ends { IsFinite (M.remaining moments.old) }
+    ensures output { WhereKnown (R.left reader.old) (λ stream. WhereKnown (K.left words_reader.old) (λ words.
+        (taken written rest more : List ℕ) × Draws M.next_gives result moments.old taken moments.new
+        × Appends (W.written writer.old) (W.written writer.new) written
+        × (R.left reader.new ≡ Some rest) × (K.left words_reader.new ≡ Some more)
+        × ((later : List ℕ) → (result ≡ Err ServeFault.NoMoment → later ≡ [])
+        → IsServed (A.replies responder.now) (at (taken ++ later) stream words) written result (at later rest more)))) }
     ensures read_failed { result ≡ Err ServeFault.Read
         → (R.failed reader.new ≡ one_more (R.failed reader.old)) ⊎ (K.failed words_reader.new ≡ one_more (K.failed words_reader.old)) }
     ensures write_failed { result ≡ Err ServeFault.Write → W.failed writer.new ≡ one_more (W.failed writer.old) }
@@ -64,8 +94,8 @@ pub fn serve_bytes<A: Responder>(
     words: &[u8],
     replies: &mut Vec<u8>,
 ) -> Result<u64, ServeFault>
-    ensures output { (written : List ℕ) × (replies.new.items ≡ replies.old.items ++ written)
-        × IsServed (A.replies responder.now) (at moments.now stream.now words.now) written result }
+    ensures output { (written : List ℕ) × (left : Left) × (replies.new.items ≡ replies.old.items ++ written)
+        × IsServed (A.replies responder.now) (at moments.now stream.now words.now) written result left }
 
     // Bytes in memory never fail.
     ensures devices { result ≢ Err ServeFault.Memory → IsFinal result }

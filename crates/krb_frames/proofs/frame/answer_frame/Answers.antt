@@ -12,6 +12,7 @@ returns-in-Err-Unreadable-clause-step g c = λ words known.
             (c.in-Err-Unreadable.ensures c.in-Err-Unreadable.field-0-is),
       ),
       Keeps-refl _,
+      w.2,
     )
 
 pub returns-then-len-gt-FRAME_LIMIT-clause-step : goal.returns-then-len-gt-FRAME_LIMIT-clause-step
@@ -25,6 +26,7 @@ returns-then-len-gt-FRAME_LIMIT-clause-step g c = λ words known.
       ),
       search rules,
       Keeps-refl _,
+      w.2,
     )
 
 pub returns-clause-step : goal.returns-clause-step
@@ -35,3 +37,8 @@ returns-clause-step g c = λ words known.
     let same = subst (λ l. g.A.Responder.replies c.args.responder.now c.args.message.now c.args.moment (take 128 words) (Some l)) (sym c.deref.ensures.value) replied in
     answered (g.A.Responder.replies c.args.responder.now) c.args.message.now c.args.moment words reply _ _ _ c.write_frame.result (w.1, same) (search rules) w.2
     c.write_frame.ensures.written
+
+pub returns-in-Err-Memory-clause-step : goal.returns-in-Err-Memory-clause-step
+returns-in-Err-Memory-clause-step g c = λ words known.
+    let w = c.in_ok-words.ensures.front words known in
+    (w.1, Keeps-refl _, w.2)

@@ -2,19 +2,19 @@ use Rattle.krb_frames.proofs.WholeOutput.{served, front-all, same-all, front-lon
 use Rattle.krb_frames.proofs.laws.output_is_whole.Goals as goal
 
 pub returns-clause-front : goal.returns-clause-front
-returns-clause-front g c = λ responder start all part whole other final w o.
+returns-clause-front g c = λ responder start s t all part whole other final w o.
     let r = g.A.Responder.replies responder in
     let one = g.met.A.Responder.one_reply responder in
-    front-all r one start all part whole other final (served r one start all whole w) (served r one start part other o)
+    front-all r one start s t all part whole other final (served r one start s all whole w) (served r one start t part other o)
 
 pub returns-clause-same : goal.returns-clause-same
-returns-clause-same g c = λ responder start all other a b a_final b_final w o.
+returns-clause-same g c = λ responder start s t all other a b a_final b_final w o.
     let r = g.A.Responder.replies responder in
     let one = g.met.A.Responder.one_reply responder in
-    same-all r one start all other a b a_final (served r one start all a w) (served r one start other b o) b_final
+    same-all r one start s t all other a b a_final (served r one start s all a w) (served r one start t other b o) b_final
 
 pub returns-clause-longer : goal.returns-clause-longer
-returns-clause-longer g c = λ responder start t written result more o run short.
+returns-clause-longer g c = λ responder start s t written result more o run short.
     let r = g.A.Responder.replies responder in
     let one = g.met.A.Responder.one_reply responder in
-    front-longer r one start t written result more (served r one start written result o) run short
+    front-longer r one start s t written result more (served r one start s written result o) run short

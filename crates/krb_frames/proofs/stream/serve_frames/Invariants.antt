@@ -1,7 +1,7 @@
 use Rattle.std.proofs.Common.{◌≡◌, ℕ, List, Some}
 use Rattle.std.specs.Iterator.{IsFinite, size}
 use Rattle.krb_frames.proofs.Progress.{Progress}
-use Rattle.krb_frames.proofs.stream.serve.Given as goal
+use Rattle.krb_frames.proofs.stream.serve_frames.Given as goal
 
 abbrev pub invariant-frames : goal.invariant-frames
 invariant-frames g l = record {
