@@ -6,7 +6,12 @@ use Rattle.std.proofs.lemmas.Nat.{shr-shr, shr_split, mod-pow-add, pow-add}
 use Rattle.std.proofs.lemmas.Nat.Bits.{bit_at_xor, bit_at-lt, bit_at_cat_low, bit_at_cat_high}
 use Rattle.std.proofs.lemmas.List.{ext_get_or, get_or_past}
 use Rattle.krb_blocks.proofs.States.{get_or-sum_of_bytes, length-sum_of_bytes}
-use Rattle.krb_des.specs.Bits.{low_bits, number, sum_of_bits, IsBits}
+use Rattle.krb_des.specs.Bits.{low_bits, number, sum_of_bits}
+
+-- a string of n bits
+pub record IsBits (n : ℕ) (s : List ℕ) : Type 0 where
+  pub sized : length s ≡ n
+  pub bits : (i : ℕ) → slice_index s i < 2
 
 pub length-low_bits : (n x : ℕ) → length (low_bits n x) ≡ n
 unfolding low_bits

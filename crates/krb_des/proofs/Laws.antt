@@ -9,10 +9,10 @@ use Rattle.krb_blocks.specs.Bytes.{IsBytes, IsBlock}
 use Rattle.krb_blocks.specs.Chains.{block_at, IsBlockCipher}
 use Rattle.krb_blocks.proofs.States.{get_or-sum_of_bytes, length-sum_of_bytes, IsBytes-from_below}
 use Rattle.krb_blocks.proofs.Blocks.{same_from_blocks}
-use Rattle.krb_des.specs.Bits.{low_bits, number, bits_of_bytes, bytes_of_bits, permuted, sum_of_bits, IsBits}
+use Rattle.krb_des.specs.Bits.{low_bits, number, bits_of_bytes, bytes_of_bits, permuted, sum_of_bits}
 use Rattle.krb_des.specs.Tables.{initial_permutation, final_permutation, expansion, permutation}
 use Rattle.krb_des.specs.Des.{selected, selected_by_all, cipher_function, round, rounds, exchanged, network, cipher_by, round_keys, des_cipher, des_inverse, part, triple_des_cipher, triple_des_inverse}
-use Rattle.krb_des.proofs.BitStrings.{length-low_bits, low_bits-lt, number-low_bits, number-lt, low_bits-number}
+use Rattle.krb_des.proofs.BitStrings.{IsBits, length-low_bits, low_bits-lt, number-low_bits, number-lt, low_bits-number}
 use Rattle.krb_des.proofs.Permutations.{IsBits-permuted, final-initial, initial-final, length-initial, length-final, length-permutation}
 use Rattle.krb_des.proofs.Feistel.{length-rounds, length-exchanged, network_undone}
 

@@ -6,7 +6,8 @@ use Rattle.std.proofs.lemmas.List.{ext_get_or, get_or_past, get_or-map, length-m
 use Rattle.std.proofs.lemmas.List.FromFn.{get_or-range_with_len, length-range_with_len}
 use Rattle.krb_blocks.proofs.AllBytes.{all_below, all_below_at}
 use Rattle.krb_blocks.proofs.States.{get_or-sum_of_bytes, length-sum_of_bytes}
-use Rattle.krb_des.specs.Bits.{permuted, sum_of_bits, IsBits}
+use Rattle.krb_des.proofs.BitStrings.{IsBits}
+use Rattle.krb_des.specs.Bits.{permuted, sum_of_bits}
 use Rattle.krb_des.specs.Tables.{initial_permutation, final_permutation, permutation}
 
 pub length-permuted : (table s : List ℕ) → length (permuted table s) ≡ length table

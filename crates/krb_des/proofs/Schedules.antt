@@ -7,10 +7,10 @@ use Rattle.std.proofs.lemmas.List.{take_at, drop_at, drop_more, take_more_set, m
 use Rattle.krb_blocks.specs.Bytes.{IsBytes, IsBlock, sum_of_bytes}
 use Rattle.krb_blocks.specs.Chains.{block_at, before, IsChained, IsBlockCipher}
 use Rattle.krb_blocks.proofs.AllBytes.{all_below, all_below_at}
-use Rattle.krb_des.specs.Bits.{low_bits, bits_of_bytes, bytes_of_bits, permuted}
+use Rattle.krb_des.specs.Bits.{low_bits, bits_of_bytes, bytes_of_bits, permuted, strings}
 use Rattle.krb_des.specs.Tables.{initial_permutation, final_permutation, permuted_choice_1, permuted_choice_2, left_shifts}
 use Rattle.krb_des.specs.Des.{turned, keys_by_shifts, round_keys, part, cipher_function, network, cipher_by, des_cipher, des_inverse, triple_des_cipher, triple_des_inverse}
-use Rattle.krb_des.specs.Schedule.{strings, cipher_under}
+use Rattle.krb_des.specs.Schedule.{cipher_under}
 use Rattle.krb_des.specs.declared.schedule.KeySchedule.{KeySchedule}
 use Rattle.krb_des.specs.declared.permute.TheConstants.{INITIAL_PERMUTATION, FINAL_PERMUTATION, PERMUTED_CHOICE_1, PERMUTED_CHOICE_2}
 use Rattle.krb_des.specs.declared.schedule.TheConstants.{LEFT_SHIFTS}
@@ -94,25 +94,25 @@ pub one_more_key :
     (keys : List ℕ) (i key c d next_c next_d : ℕ) (wanted : List (List ℕ)) → i < length keys → i < 16
     → low_bits 28 next_c ≡ turned (slice_index LEFT_SHIFTS i) (low_bits 28 c) → low_bits 28 next_d ≡ turned (slice_index LEFT_SHIFTS i) (low_bits 28 d) → next_c < 2 ^ 28 → next_d < 2 ^ 28
     → low_bits 48 key ≡ permuted PERMUTED_CHOICE_2 (low_bits 56 (bit_or (next_c * 2 ^ 28 % 2 ^ 64) next_d))
-    → map (λ k. low_bits 48 k) (take i keys) ++ keys_by_shifts (drop i left_shifts) (low_bits 28 c) (low_bits 28 d) ≡ wanted
-    → map (λ k. low_bits 48 k) (take (i + 1) (set keys i key)) ++ keys_by_shifts (drop (i + 1) left_shifts) (low_bits 28 next_c) (low_bits 28 next_d) ≡ wanted
+    → strings 48 (take i keys) ++ keys_by_shifts (drop i left_shifts) (low_bits 28 c) (low_bits 28 d) ≡ wanted
+    → strings 48 (take (i + 1) (set keys i key)) ++ keys_by_shifts (drop (i + 1) left_shifts) (low_bits 28 next_c) (low_bits 28 next_d) ≡ wanted
 one_more_key keys i key c d next_c next_d wanted inside few by_c by_d small_c small_d is so_far =
     let shift : get_or left_shifts i 0 ≡ slice_index LEFT_SHIFTS i = ap (λ (s : List ℕ). slice_index s i) (sym shifts_table) in
     let chosen : low_bits 48 key ≡ permuted permuted_choice_2 (turned (slice_index LEFT_SHIFTS i) (low_bits 28 c) ++ turned (slice_index LEFT_SHIFTS i) (low_bits 28 d)) =
     is ∙ rw (choice_2_table, halves_together next_c next_d small_c small_d, by_c, by_d) refl in
-    let before : map (λ k. low_bits 48 k) (take i keys) ++ (low_bits 48 key ∷ keys_by_shifts (drop (i + 1) left_shifts) (low_bits 28 next_c) (low_bits 28 next_d)) ≡ wanted =
+    let before : strings 48 (take i keys) ++ (low_bits 48 key ∷ keys_by_shifts (drop (i + 1) left_shifts) (low_bits 28 next_c) (low_bits 28 next_d)) ≡ wanted =
     rw (chosen, by_c, by_d) (rw (drop_more left_shifts i 0 (omega (arith, length-left_shifts)), shift, keys-cons (slice_index LEFT_SHIFTS i) (drop (i + 1) left_shifts) (low_bits 28 c) (low_bits 28 d)) at so_far) in
-    rw (take_more_set keys i key inside, map-append (λ k. low_bits 48 k) (take i keys) (key ∷ []), append_assoc (map (λ k. low_bits 48 k) (take i keys)) (low_bits 48 key ∷ []) (keys_by_shifts (drop (i + 1) left_shifts) (low_bits 28 next_c) (low_bits 28 next_d))) before
+    rw (take_more_set keys i key inside, map-append (λ k. low_bits 48 k) (take i keys) (key ∷ []), append_assoc (strings 48 (take i keys)) (low_bits 48 key ∷ []) (keys_by_shifts (drop (i + 1) left_shifts) (low_bits 28 next_c) (low_bits 28 next_d))) before
 
 -- all round keys
 pub all_keys :
     (keys : List ℕ) (i c d : ℕ) (wanted : List (List ℕ)) → length keys ≡ 16 → 16 ≤ i
-    → map (λ k. low_bits 48 k) (take i keys) ++ keys_by_shifts (drop i left_shifts) (low_bits 28 c) (low_bits 28 d) ≡ wanted → map (λ k. low_bits 48 k) keys ≡ wanted
+    → strings 48 (take i keys) ++ keys_by_shifts (drop i left_shifts) (low_bits 28 c) (low_bits 28 d) ≡ wanted → strings 48 keys ≡ wanted
 unfolding keys_by_shifts
 all_keys keys i c d wanted sized at_end so_far =
     let none : drop i left_shifts ≡ [] = drop_all i left_shifts (omega (arith, length-left_shifts)) in
     let all : take i keys ≡ keys = take_all i keys (omega arith) in
-    sym (append-nil (map (λ k. low_bits 48 k) keys)) ∙ (rw (none, all) at so_far)
+    sym (append-nil (strings 48 keys)) ∙ (rw (none, all) at so_far)
 
 -- a block as the code passes it on, from its bytes to its bytes
 IsBytes-cons : (b : ℕ) (s : List ℕ) → b < 256 → IsBytes s → IsBytes (b ∷ s)
@@ -142,9 +142,9 @@ cipher_by-written keys block = refl
 pub passed :
     (k : KeySchedule) (block : List ℕ) (number string first_left first_right second_left second_right left right end : ℕ)
     → low_bits 64 number ≡ bits_of_bytes block → low_bits 64 string ≡ permuted INITIAL_PERMUTATION (low_bits 64 number)
-    → low_bits 32 first_left ++ low_bits 32 first_right ≡ network cipher_function (strings k.first) (low_bits 32 (string / 2 ^ 32) ++ low_bits 32 (bit_and string 4294967295))
-    → low_bits 32 second_left ++ low_bits 32 second_right ≡ network cipher_function (strings k.second) (low_bits 32 first_left ++ low_bits 32 first_right)
-    → low_bits 32 left ++ low_bits 32 right ≡ network cipher_function (strings k.third) (low_bits 32 second_left ++ low_bits 32 second_right)
+    → low_bits 32 first_left ++ low_bits 32 first_right ≡ network cipher_function (strings 48 k.first) (low_bits 32 (string / 2 ^ 32) ++ low_bits 32 (bit_and string 4294967295))
+    → low_bits 32 second_left ++ low_bits 32 second_right ≡ network cipher_function (strings 48 k.second) (low_bits 32 first_left ++ low_bits 32 first_right)
+    → low_bits 32 left ++ low_bits 32 right ≡ network cipher_function (strings 48 k.third) (low_bits 32 second_left ++ low_bits 32 second_right)
     → left < 2 ^ 32 → right < 2 ^ 32
     → low_bits 64 end ≡ permuted FINAL_PERMUTATION (low_bits 64 (bit_or (left * 2 ^ 32 % 2 ^ 64) right))
     → to_be_bytes w64 end ≡ cipher_under k block
@@ -152,30 +152,30 @@ unfolding cipher_under
 passed k block number string first_left first_right second_left second_right left right end bits start one two three small_left small_right finish =
     let begun : low_bits 32 (string / 2 ^ 32) ++ low_bits 32 (bit_and string 4294967295) ≡ permuted initial_permutation (bits_of_bytes block) =
     cut_in_halves string ∙ (start ∙ rw (initial_table, bits) refl) in
-    let once = cipher_by (strings k.first) block in
-    let twice = cipher_by (strings k.second) (cipher_by (strings k.first) block) in
-    let ended : low_bits 64 end ≡ permuted final_permutation (network cipher_function (strings k.third) (permuted initial_permutation (bits_of_bytes (cipher_by (strings k.second) (cipher_by (strings k.first) block))))) =
-    finish ∙ rw (final_table, halves_of_block left right small_left small_right, three, two, one, begun, between (strings k.second) (cipher_by (strings k.first) block), between (strings k.first) block) refl in
-    bytes_of_number end (permuted final_permutation (network cipher_function (strings k.third) (permuted initial_permutation (bits_of_bytes (cipher_by (strings k.second) (cipher_by (strings k.first) block)))))) ended
-    ∙ sym (cipher_by-written (strings k.third) (cipher_by (strings k.second) (cipher_by (strings k.first) block)))
+    let once = cipher_by (strings 48 k.first) block in
+    let twice = cipher_by (strings 48 k.second) (cipher_by (strings 48 k.first) block) in
+    let ended : low_bits 64 end ≡ permuted final_permutation (network cipher_function (strings 48 k.third) (permuted initial_permutation (bits_of_bytes (cipher_by (strings 48 k.second) (cipher_by (strings 48 k.first) block))))) =
+    finish ∙ rw (final_table, halves_of_block left right small_left small_right, three, two, one, begun, between (strings 48 k.second) (cipher_by (strings 48 k.first) block), between (strings 48 k.first) block) refl in
+    bytes_of_number end (permuted final_permutation (network cipher_function (strings 48 k.third) (permuted initial_permutation (bits_of_bytes (cipher_by (strings 48 k.second) (cipher_by (strings 48 k.first) block)))))) ended
+    ∙ sym (cipher_by-written (strings 48 k.third) (cipher_by (strings 48 k.second) (cipher_by (strings 48 k.first) block)))
 
 map-reverse : (f : ℕ → List ℕ) (s : List ℕ) → map f (reverse s) ≡ reverse (map f s)
 map-reverse f [] = refl
 map-reverse f (x ∷ s) =
     rw (reverse-append (x ∷ []) s, map-append f (reverse s) (x ∷ []), map-reverse f s, reverse-append (f x ∷ []) (map f s)) refl
 
-pub strings-reverse : (keys turned : List ℕ) (wanted : List (List ℕ)) → turned ≡ reverse keys → strings keys ≡ wanted → strings turned ≡ reverse wanted
+pub strings-reverse : (keys turned : List ℕ) (wanted : List (List ℕ)) → turned ≡ reverse keys → strings 48 keys ≡ wanted → strings 48 turned ≡ reverse wanted
 strings-reverse keys turned wanted is same = rw (is, map-reverse (λ key. low_bits 48 key) keys, same) refl
 
 -- the passes under the round keys of the three parts of a key
 pub enciphers :
-    (key : List ℕ) (k : KeySchedule) → strings k.first ≡ round_keys (part key 0) → strings k.second ≡ reverse (round_keys (part key 1)) → strings k.third ≡ round_keys (part key 2)
+    (key : List ℕ) (k : KeySchedule) → strings 48 k.first ≡ round_keys (part key 0) → strings 48 k.second ≡ reverse (round_keys (part key 1)) → strings 48 k.third ≡ round_keys (part key 2)
     → (block : List ℕ) → cipher_under k block ≡ triple_des_cipher key block
 unfolding cipher_under triple_des_cipher des_cipher des_inverse
 enciphers key k first second third block = rw (first, second, third) refl
 
 pub deciphers :
-    (key : List ℕ) (k : KeySchedule) → strings k.first ≡ reverse (round_keys (part key 2)) → strings k.second ≡ round_keys (part key 1) → strings k.third ≡ reverse (round_keys (part key 0))
+    (key : List ℕ) (k : KeySchedule) → strings 48 k.first ≡ reverse (round_keys (part key 2)) → strings 48 k.second ≡ round_keys (part key 1) → strings 48 k.third ≡ reverse (round_keys (part key 0))
     → (block : List ℕ) → cipher_under k block ≡ triple_des_inverse key block
 unfolding cipher_under triple_des_inverse des_cipher des_inverse
 deciphers key k first second third block = rw (first, second, third) refl
@@ -186,7 +186,7 @@ cut n s = let size : 8 * n + 8 - 8 * n ≡ 8 = omega arith in rw size refl
 
 pub cipher_under-block : (k : KeySchedule) (block : List ℕ) → IsBlock 8 (cipher_under k block)
 unfolding cipher_under
-cipher_under-block k block = cipher_by-block (strings k.third) (cipher_by (strings k.second) (cipher_by (strings k.first) block))
+cipher_under-block k block = cipher_by-block (strings 48 k.third) (cipher_by (strings 48 k.second) (cipher_by (strings 48 k.first) block))
 
 -- a chain by another name of its cipher
 pub chained_by : (E F : List ℕ → List ℕ) (p c : List ℕ) → ((s : List ℕ) → E s ≡ F s) → IsChained 8 E p c → IsChained 8 F p c

@@ -1,5 +1,5 @@
 -- The steps of the code's loops.
-use Rattle.std.proofs.Common.{◌≡◌, ◌<◌, ◌≤◌, ◌+◌, ◌-◌, ◌*◌, ◌/◌, ◌%◌, ◌^◌, ℕ, List, [], ◌∷◌, ◌++◌, length, get_or, take, drop, map, slice_index, bit_and, bit_or, bit_xor, refl, sym, ap, ◌∙◌, ◌⊎◌, inl, inr, arith, Bool, true, false, ◌&&◌, nat_lt, nat_le, IsTrue}
+use Rattle.std.proofs.Common.{◌≡◌, ◌<◌, ◌≤◌, ◌+◌, ◌-◌, ◌*◌, ◌/◌, ◌%◌, ◌^◌, ℕ, List, [], ◌∷◌, ◌++◌, length, get_or, take, drop, slice_index, bit_and, bit_or, bit_xor, refl, sym, ap, ◌∙◌, ◌⊎◌, inl, inr, arith, Bool, true, false, ◌&&◌, nat_lt, nat_le, IsTrue}
 use Rattle.std.specs.List.{list_all}
 use Rattle.std.proofs.lemmas.List.Folds.{list_all_at}
 use Rattle.std.proofs.lemmas.Bool.{false≢true}
@@ -8,7 +8,7 @@ use Rattle.std.specs.Int.{bit_at}
 use Rattle.std.proofs.lemmas.Nat.{or_shifted, mod-pow-add, shl-shr}
 use Rattle.std.proofs.lemmas.Nat.Bits.{shr_and_one, bit_at-lt}
 use Rattle.std.proofs.lemmas.List.{map_more, drop_more, take_all, drop_all}
-use Rattle.krb_des.specs.Bits.{low_bits, permuted}
+use Rattle.krb_des.specs.Bits.{low_bits, permuted, strings}
 use Rattle.krb_des.specs.Des.{cipher_function, exchanged, network, round, rounds}
 use Rattle.krb_des.proofs.BitStrings.{length-low_bits, get_or-low_bits, low_bits-same, low_bits-cat, low_bits-xor, bit_at-mod}
 use Rattle.krb_des.proofs.Feistel.{round_of, exchanged_of}
@@ -64,17 +64,17 @@ rounds-cons f k keys s = refl
 -- one round more
 pub one_more_round :
     (keys : List ℕ) (i key left right next changed : ℕ) → i < length keys → key ≡ get_or keys i 0 → low_bits 32 changed ≡ cipher_function (low_bits 32 right) (low_bits 48 key) → next ≡ bit_xor left changed
-    → rounds cipher_function (map (λ k. low_bits 48 k) (drop i keys)) (low_bits 32 left ++ low_bits 32 right)
-    ≡ rounds cipher_function (map (λ k. low_bits 48 k) (drop (i + 1) keys)) (low_bits 32 right ++ low_bits 32 next)
+    → rounds cipher_function (strings 48 (drop i keys)) (low_bits 32 left ++ low_bits 32 right)
+    ≡ rounds cipher_function (strings 48 (drop (i + 1) keys)) (low_bits 32 right ++ low_bits 32 next)
 one_more_round keys i key left right next changed inside is by_function sum =
-    rw (drop_more keys i 0 inside, sym is, rounds-cons cipher_function (low_bits 48 key) (map (λ k. low_bits 48 k) (drop (i + 1) keys)) (low_bits 32 left ++ low_bits 32 right), round_of cipher_function (low_bits 48 key) (low_bits 32 left) (low_bits 32 right) (length-low_bits 32 left), sum, low_bits-xor 32 left changed, by_function) refl
+    rw (drop_more keys i 0 inside, sym is, rounds-cons cipher_function (low_bits 48 key) (strings 48 (drop (i + 1) keys)) (low_bits 32 left ++ low_bits 32 right), round_of cipher_function (low_bits 48 key) (low_bits 32 left) (low_bits 32 right) (length-low_bits 32 left), sum, low_bits-xor 32 left changed, by_function) refl
 
 -- the rounds at their end
 pub all_rounds :
     (keys : List ℕ) (i left right : ℕ) (start : List ℕ) → length keys ≤ i
-    → rounds cipher_function (map (λ k. low_bits 48 k) (drop i keys)) (low_bits 32 left ++ low_bits 32 right) ≡ rounds cipher_function (map (λ k. low_bits 48 k) keys) start
-    → low_bits 32 right ++ low_bits 32 left ≡ network cipher_function (map (λ k. low_bits 48 k) keys) start
+    → rounds cipher_function (strings 48 (drop i keys)) (low_bits 32 left ++ low_bits 32 right) ≡ rounds cipher_function (strings 48 keys) start
+    → low_bits 32 right ++ low_bits 32 left ≡ network cipher_function (strings 48 keys) start
 unfolding rounds
 all_rounds keys i left right start at_end so_far =
-    let over : low_bits 32 left ++ low_bits 32 right ≡ rounds cipher_function (map (λ k. low_bits 48 k) keys) start = rw (drop_all i keys at_end) at so_far in
+    let over : low_bits 32 left ++ low_bits 32 right ≡ rounds cipher_function (strings 48 keys) start = rw (drop_all i keys at_end) at so_far in
     sym (ap exchanged (sym over) ∙ exchanged_of (low_bits 32 left) (low_bits 32 right) (length-low_bits 32 left))

@@ -1,5 +1,5 @@
 -- Strings of bits, the first one at the left.
-use Rattle.std.specs.Prelude.{ℕ, ◌+◌, ◌-◌, ◌*◌, ◌/◌, ◌^◌, ◌<◌, ◌≡◌, zero, suc, List, [], ◌∷◌, length, map, slice_index}
+use Rattle.std.specs.Prelude.{ℕ, ◌+◌, ◌-◌, ◌*◌, ◌/◌, ◌^◌, zero, suc, List, [], ◌∷◌, length, map, slice_index}
 use Rattle.std.specs.Int.{bit_at}
 use Rattle.std.specs.List.{flat_map, range_with_len}
 use Rattle.krb_blocks.specs.Bytes.{sum_of_bytes}
@@ -9,6 +9,10 @@ use Rattle.krb_blocks.specs.Chains.{block_at}
 unfoldable pub low_bits : ℕ → ℕ → List ℕ
 low_bits zero x = []
 low_bits (suc n) x = bit_at x n ∷ low_bits n x
+
+-- numbers as strings of n bits
+abbrev pub strings : ℕ → List ℕ → List (List ℕ)
+strings n numbers = map (λ x. low_bits n x) numbers
 
 -- the number that a string of bits spells
 unfoldable pub number : List ℕ → ℕ
@@ -30,8 +34,3 @@ permuted table s = map (λ place. slice_index s (place - 1)) table
 -- the sum of two strings of n bits, bit by bit
 abbrev pub sum_of_bits : ℕ → List ℕ → List ℕ → List ℕ
 sum_of_bits n a b = sum_of_bytes n a b
-
--- a string of n bits
-pub record IsBits (n : ℕ) (s : List ℕ) : Type 0 where
-  pub sized : length s ≡ n
-  pub bits : (i : ℕ) → slice_index s i < 2

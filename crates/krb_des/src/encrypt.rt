@@ -1,4 +1,4 @@
-//! Sealing: the chain of whole blocks (RFC 3961, section 6.3).
+//! Sealing: the chain of a text filled with zeros (RFC 3961, section 6.3).
 
 ghost use Rattle.std.specs.Prelude.{◌≡◌, ◌≢◌, ◌%◌, length, Err, IfOk, IfErr, OnOk};
 ghost use Rattle.krb_blocks.specs.Bytes.{sum_of_bytes};
@@ -12,7 +12,7 @@ use super::schedule::KeySchedule;
 use krb_blocks::KerberosCryptoResult;
 use std::alloc::{AllocError, Global};
 
-/// The cipher, in a chain from an initial vector of zeros, of a text that is filled with zeros up to whole blocks.
+/// The cipher by triple DES, in a chain from an initial vector of zeros, of a text filled with zeros up to whole blocks.
 /// Refused is a key that hasn't 24 bytes (`KeyLength`).
 pub fn encrypt_des(alloc: Global, key: &[u8], payload: &[u8]) -> KerberosCryptoResult<Vec<u8>>
     ensures chained { IfOk result

@@ -1,8 +1,8 @@
 //! The rounds of the cipher (FIPS 46-3), with the eight boxes and the permutation P in one table.
 
-ghost use Rattle.std.specs.Prelude.{◌≡◌, ◌+◌, ◌*◌, ◌<◌, ◌++◌, map};
+ghost use Rattle.std.specs.Prelude.{◌≡◌, ◌<◌, ◌++◌};
 ghost use Rattle.krb_blocks.specs.Chains.{block_at};
-ghost use Rattle.krb_des.specs.Bits.{low_bits, permuted, sum_of_bits};
+ghost use Rattle.krb_des.specs.Bits.{low_bits, permuted, strings, sum_of_bits};
 ghost use Rattle.krb_des.specs.Tables.{expansion, permutation};
 ghost use Rattle.krb_des.specs.Des.{cipher_function, network, selected};
 ghost use Rattle.krb_des.specs.Places.{placed};
@@ -85,7 +85,8 @@ const JOINED: [u32; 512] = [
     0x0802_0820, 0x0002_0800, 0x0002_0800, 0x0000_0820, 0x0000_0820, 0x0002_0020, 0x0800_0000, 0x0802_0800,
 ];
 
-/// The six bits that box `k`, from 0 on, is given: those of E(R), added to those of the round key.
+/// The six bits that box `k`, from 0 on, is given: those of E(R), added to those of the round key. E takes six bits that
+/// stand side by side, across the ends of R too, so that turning R by 4k + 5 places puts them last.
 fn sixth(right: u32, key: u64, k: u32) -> usize
     requires { k < 8 }
     ensures small { result < 64 }
@@ -122,7 +123,7 @@ fn cipher_function(right: u32, key: u64) -> u32
 /// The halves of a block after a round for each of the keys, in their order, and exchanged.
 pub(crate) fn network(keys: &[u64; 16], halves: (u32, u32)) -> (u32, u32)
     ensures { low_bits 32 result.0 ++ low_bits 32 result.1
-        ≡ network cipher_function (map (λ key. low_bits 48 key) keys.now) (low_bits 32 halves.0 ++ low_bits 32 halves.1) }
+        ≡ network cipher_function (strings 48 keys.now) (low_bits 32 halves.0 ++ low_bits 32 halves.1) }
 {
     let (mut left, mut right) = halves;
     for key in keys {

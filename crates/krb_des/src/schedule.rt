@@ -1,8 +1,8 @@
 //! The round keys of triple DES, and the cipher of a block under them (FIPS 46-3).
 
-ghost use Rattle.std.specs.Prelude.{◌≡◌, ◌<◌, ◌^◌, length, map, reverse};
-ghost use Rattle.krb_des.specs.Bits.{low_bits};
-ghost use Rattle.krb_des.specs.Des.{part, round_keys, turned};
+ghost use Rattle.std.specs.Prelude.{◌≡◌, ◌<◌, ◌^◌, length};
+ghost use Rattle.krb_des.specs.Bits.{low_bits, strings};
+ghost use Rattle.krb_des.specs.Des.{round_keys, turned};
 
 use super::permute::{
     FINAL_PERMUTATION, INITIAL_PERMUTATION, PERMUTED_CHOICE_1, PERMUTED_CHOICE_2, permute,
@@ -75,7 +75,7 @@ impl KeySchedule {
 /// The sixteen round keys, of 48 bits, of a key of eight bytes.
 fn round_keys(key: &[u8]) -> [u64; 16]
     requires { length key.now ≡ 8 }
-    ensures { map (λ key. low_bits 48 key) result ≡ round_keys key.now }
+    ensures { strings 48 result ≡ round_keys key.now }
 {
     let mut bytes = [0u8; 8];
     bytes.copy_from_slice(key);

@@ -1,5 +1,5 @@
-use Rattle.std.proofs.Common.{◌≡◌, arith}
-use Rattle.krb_blocks.specs.Chains.{IsChained, zero_filled}
+use Rattle.std.proofs.Common.{arith}
+use Rattle.krb_blocks.specs.Chains.{zero_filled}
 use Rattle.krb_blocks.proofs.Stealing.{filled_already}
 use Rattle.krb_des.proofs.Schedules.{chained_by}
 use Rattle.krb_des.specs.Des.{triple_des_cipher}

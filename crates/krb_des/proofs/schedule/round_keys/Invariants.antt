@@ -1,5 +1,5 @@
-use Rattle.std.proofs.Common.{◌≡◌, ◌<◌, ◌^◌, ◌++◌, length, take, drop, map}
-use Rattle.krb_des.specs.Bits.{low_bits}
+use Rattle.std.proofs.Common.{◌≡◌, ◌<◌, ◌^◌, ◌++◌, length, take, drop}
+use Rattle.krb_des.specs.Bits.{low_bits, strings}
 use Rattle.krb_des.specs.Tables.{left_shifts}
 use Rattle.krb_des.specs.Des.{keys_by_shifts, round_keys}
 use Rattle.krb_des.proofs.schedule.round_keys.Given as goal
@@ -10,5 +10,5 @@ invariant-loop-i l =
       sized : length l.keys ≡ 16;
       first : l.c < 2 ^ 28;
       second : l.d < 2 ^ 28;
-      so_far : map (λ k. low_bits 48 k) (take l.i l.keys) ++ keys_by_shifts (drop l.i left_shifts) (low_bits 28 l.c) (low_bits 28 l.d) ≡ round_keys l.key;
+      so_far : strings 48 (take l.i l.keys) ++ keys_by_shifts (drop l.i left_shifts) (low_bits 28 l.c) (low_bits 28 l.d) ≡ round_keys l.key;
     }
