@@ -31,7 +31,7 @@ stretched s =
 abbrev pub weak_pairs : List (ℕ × ℕ)
 weak_pairs = (0x01, 0x01) ∷ (0x1f, 0x0e) ∷ (0xe0, 0xf1) ∷ (0xfe, 0xfe) ∷ []
 
--- the weak and semi-weak keys, x y x y x' y' x' y'
+-- the weak and semi-weak keys (NIST SP 800-67), x y x y x' y' x' y'
 unfoldable pub weak_keys : List (List ℕ)
 weak_keys =
     flat_map (λ p. map (λ q. p.0 ∷ q.0 ∷ p.0 ∷ q.0 ∷ p.1 ∷ q.1 ∷ p.1 ∷ q.1 ∷ []) weak_pairs) weak_pairs

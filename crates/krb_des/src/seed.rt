@@ -4,7 +4,9 @@ ghost use Rattle.std.specs.Prelude.{◌≡◌, ◌<◌, ◌≤◌, length};
 ghost use Rattle.krb_des.specs.Bits.{low_bits};
 ghost use Rattle.krb_des.specs.Seeds.{is_weak, mended, random_to_key, stretched, with_odd_parity};
 
-/// The weak and semi-weak keys.
+use super::DES3_KEY_SIZE;
+
+/// The weak and semi-weak keys (NIST SP 800-67).
 #[rattlefmt::skip]
 const WEAK_KEYS: [[u8; 8]; 16] = [
     [0x01, 0x01, 0x01, 0x01, 0x01, 0x01, 0x01, 0x01],
@@ -25,9 +27,9 @@ const WEAK_KEYS: [[u8; 8]; 16] = [
     [0xfe, 0xfe, 0xfe, 0xfe, 0xfe, 0xfe, 0xfe, 0xfe],
 ];
 
-/// The key that the first 21 bytes of a seed make: each seven of them stretched to eight of odd parity, and a weak or
-/// semi-weak key mended.
-pub fn random_to_key(seed: &[u8]) -> [u8; 24]
+/// The key that the first 21 bytes of a seed make (RFC 3961, section 6.3.1): each seven of them stretched to eight of
+/// odd parity, and a weak or semi-weak key mended.
+pub fn random_to_key(seed: &[u8]) -> [u8; DES3_KEY_SIZE]
     requires { 21 ≤ length seed.now }
     ensures { result ≡ random_to_key seed.now }
 {
