@@ -7,3 +7,4 @@ pub mod Boxes
 pub mod Steps
 pub mod Schedules
 pub mod SeedLemmas
+pub mod KeyLaws

@@ -34,7 +34,7 @@ elements n s sized = fill_by_all (λ i. get_or s i 0) s n 0 sized (λ i h. refl)
 upper_seven : (a : ℕ) → low_bits 7 (a / 2) ≡ take 7 (low_bits 8 a)
 upper_seven a = sym (rw (low_bits-append 7 1 8 a refl) (take_at (low_bits 7 (a / 2 ^ 1)) (low_bits 1 a) 7 (length-low_bits 7 (a / 2 ^ 1))))
 
-AreBits-cons : (b : ℕ) (s : List ℕ) → b < 2 → AreBits s → AreBits (b ∷ s)
+pub AreBits-cons : (b : ℕ) (s : List ℕ) → b < 2 → AreBits s → AreBits (b ∷ s)
 AreBits-cons b s first rest zero = first
 AreBits-cons b s first rest (suc i) = rest i
 
@@ -79,7 +79,7 @@ pub mended_other : (key : List ℕ) (b : Bool) → b ≡ is_weak key → b ≡ f
 unfolding mended
 mended_other key b is other = let test : is_weak key ≡ false = sym is ∙ other in rw test refl
 
-length-stretched : (s : List ℕ) → length (stretched s) ≡ 8
+pub length-stretched : (s : List ℕ) → length (stretched s) ≡ 8
 unfolding stretched
 length-stretched s = refl
 
@@ -87,7 +87,7 @@ mended_cases : (b : Bool) (key : List ℕ) → length key ≡ 8 → length (if b
 mended_cases true key sized = length-set key 7 (bit_xor (slice_index key 7) 0xf0) ∙ sized
 mended_cases false key sized = sized
 
-length-mended : (key : List ℕ) → length key ≡ 8 → length (mended key) ≡ 8
+pub length-mended : (key : List ℕ) → length key ≡ 8 → length (mended key) ≡ 8
 unfolding mended
 length-mended key sized = mended_cases (is_weak key) key sized
 

@@ -1,9 +1,9 @@
 -- Keys of triple DES made from random bytes (RFC 3961, section 6.3.1).
-use Rattle.std.specs.Prelude.{ℕ, ◌+◌, ◌%◌, List, [], ◌∷◌, ◌++◌, map, slice_index, slice_set, sum, bit_xor, if◌then◌else◌, Bool}
+use Rattle.std.specs.Prelude.{◌≡◌, ℕ, ◌+◌, ◌%◌, List, [], ◌∷◌, ◌++◌, map, slice_index, slice_set, sum, bit_xor, if◌then◌else◌, Bool}
 use Rattle.std.specs.List.{flat_map, range_with_len, list_any}
 use Rattle.std.specs.Str.{bytes_eq}
 use Rattle.krb_blocks.specs.Chains.{block_at}
-use Rattle.krb_des.specs.Bits.{number, bits_of_bytes, permuted}
+use Rattle.krb_des.specs.Bits.{low_bits, number, bits_of_bytes, permuted}
 
 -- where the 56 bits stand that are put into eight bytes, seven into each
 unfoldable pub stretching : List ℕ
@@ -20,6 +20,10 @@ stretching =
 -- the byte of seven bits and one behind them that makes the number of ones odd
 unfoldable pub with_odd_parity : List ℕ → ℕ
 with_odd_parity s = number (s ++ (sum s + 1) % 2 ∷ [])
+
+-- the number of ones among a byte's bits is odd
+abbrev pub HasOddParity : ℕ → Type 0
+HasOddParity b = sum (low_bits 8 b) % 2 ≡ 1
 
 -- seven bytes stretched to eight of odd parity
 unfoldable pub stretched : List ℕ → List ℕ

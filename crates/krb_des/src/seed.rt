@@ -1,8 +1,9 @@
 //! Keys from random bytes (RFC 3961, section 6.3.1).
 
-ghost use Rattle.std.specs.Prelude.{◌≡◌, ◌<◌, ◌≤◌, length};
+ghost use Rattle.std.specs.Prelude.{◌≡◌, ◌<◌, ◌≤◌, ℕ, length, All, IsTrue};
 ghost use Rattle.krb_des.specs.Bits.{low_bits};
-ghost use Rattle.krb_des.specs.Seeds.{is_weak, mended, random_to_key, stretched, with_odd_parity};
+ghost use Rattle.krb_des.specs.Des.{part};
+ghost use Rattle.krb_des.specs.Seeds.{HasOddParity, is_weak, mended, random_to_key, stretched, with_odd_parity};
 
 use super::DES3_KEY_SIZE;
 
@@ -28,10 +29,12 @@ const WEAK_KEYS: [[u8; 8]; 16] = [
 ];
 
 /// The key that the first 21 bytes of a seed make (RFC 3961, section 6.3.1): each seven of them stretched to eight of
-/// odd parity, and a weak or semi-weak key mended.
+/// odd parity, and a weak or semi-weak key mended. So its bytes have odd parity, and none of its three parts is weak.
 pub fn random_to_key(seed: &[u8]) -> [u8; DES3_KEY_SIZE]
     requires { 21 ≤ length seed.now }
-    ensures { result ≡ random_to_key seed.now }
+    ensures is_key { result ≡ random_to_key seed.now }
+    ensures odd { All HasOddParity result }
+    ensures strong { (i : ℕ) → i < 3 → ¬ IsTrue (is_weak (part result i)) }
 {
     let a = mended(stretched(&seed[..7]));
     let b = mended(stretched(&seed[7..14]));
