@@ -43,17 +43,13 @@ impl KeySchedule {
         ensures words { schedule_of result.rounds result.words ≡ key_schedule key.now }
         ensures rounds { result.rounds ≡ round_count key.now }
     {
-        let begun = begun_words(key);
+        let mut words = begun_words(key);
         if key.len() == AES128_KEY_SIZE {
-            return KeySchedule {
-                words: expanded(begun, 4),
-                rounds: 10,
-            };
+            expand(&mut words, 4);
+            return KeySchedule { words, rounds: 10 };
         }
-        KeySchedule {
-            words: expanded(begun, 8),
-            rounds: 14,
-        }
+        expand(&mut words, 8);
+        KeySchedule { words, rounds: 14 }
     }
 }
 
@@ -91,17 +87,16 @@ fn begun_words(key: &[u8]) -> [u32; MOST_WORDS]
     words
 }
 
-/// The expansion of the `key_words` words in front. The two numbers that it is called with are known where it is
-/// called, and so it divides by no variable.
+/// Expands the `key_words` words in front. The two numbers that it is called with are known where it is called, and so
+/// it divides by no variable.
 #[inline(always)]
-fn expanded(mut words: [u32; MOST_WORDS], key_words: usize) -> [u32; MOST_WORDS]
+fn expand(words: &mut [u32; MOST_WORDS], key_words: usize)
     requires { (key_words ≡ 4) ⊎ (key_words ≡ 8) }
-    ensures { schedule_of (key_words + 6) result ≡ key_schedule (bytes_of (take key_words words)) }
+    ensures { schedule_of (key_words + 6) words.new ≡ key_schedule (bytes_of (take key_words words.old)) }
 {
     for i in key_words..4 * (key_words + 6) + 4 {
         words[i] = words[i - key_words] ^ turned_word(key_words, i, words[i - 1]);
     }
-    words
 }
 
 /// What is added to an earlier word to make word `i`, from the word before it.
@@ -112,11 +107,12 @@ fn turned_word(key_words: usize, i: usize, previous: u32) -> u32
     requires to { i < 11 * key_words }
     ensures { to_be_bytes w32 result ≡ turned_word key_words i (to_be_bytes w32 previous) }
 {
-    let bytes = previous.to_be_bytes();
     if i % key_words == 0 {
+        let bytes = previous.to_be_bytes();
         let constant = ROUND_CONSTANTS[i / key_words - 1];
         substituted_word(constant, bytes[1], bytes[2], bytes[3], bytes[0])
     } else if key_words > 6 && i % key_words == 4 {
+        let bytes = previous.to_be_bytes();
         substituted_word(0, bytes[0], bytes[1], bytes[2], bytes[3])
     } else {
         previous

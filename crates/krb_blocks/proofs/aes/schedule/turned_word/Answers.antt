@@ -17,7 +17,7 @@ returns-then-i-key_words-eq0 c =
 pub returns-then-i-key_words-eq4 : goal.returns-then-i-key_words-eq4
 returns-then-i-key_words-eq4 c =
     c.substituted_word-then-i-key_words-eq4.ensures
-    ∙ rw c.to_be_bytes-bytes.ensures (turned_by_substitution c.args.key_words c.args.i _ _ _ _ c.if-key_words-gt6.true c.if-i-key_words-eq4.true)
+    ∙ rw c.to_be_bytes-bytes-then-i-key_words-eq4.ensures (turned_by_substitution c.args.key_words c.args.i _ _ _ _ c.if-key_words-gt6.true c.if-i-key_words-eq4.true)
 
 pub returns-else-key_words-gt6 : goal.returns-else-key_words-gt6
 returns-else-key_words-gt6 c =

@@ -1,7 +1,7 @@
 use Rattle.std.proofs.Common.{◌≡◌, ◌-◌, length, take}
 use Rattle.krb_blocks.specs.Aes.{expansion}
 use Rattle.krb_blocks.specs.Words.{bytes_of}
-use Rattle.krb_blocks.proofs.aes.schedule.expanded.Given as goal
+use Rattle.krb_blocks.proofs.aes.schedule.expand.Given as goal
 
 abbrev pub invariant-loop-i : goal.invariant-loop-i
 invariant-loop-i l =

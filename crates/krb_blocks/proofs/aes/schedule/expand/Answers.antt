@@ -4,7 +4,7 @@ use Rattle.krb_blocks.specs.Aes.{expansion}
 use Rattle.krb_blocks.specs.Words.{bytes_of}
 use Rattle.krb_blocks.proofs.Words.{word_written, expansion_more, schedule_written}
 use Rattle.krb_blocks.proofs.WordBytes.{length-front}
-use Rattle.krb_blocks.proofs.aes.schedule.expanded.Goals as goal
+use Rattle.krb_blocks.proofs.aes.schedule.expand.Goals as goal
 
 pub loop-i-init : goal.loop-i-init
 unfolding expansion
@@ -16,8 +16,8 @@ pub loop-i-preserved : goal.loop-i-preserved
 loop-i-preserved c =
     let nk = c.args.key_words in
     let i = c.loop-i.i in
-    let key = bytes_of (take c.args.key_words c.args.words) in
-    let words_of_key : c.args.key_words ≡ length (bytes_of (take c.args.key_words c.args.words)) / 4 = omega (arith, length-front c.args.key_words c.args.words (omega arith)) in
+    let key = bytes_of (take c.args.key_words c.args.words.now) in
+    let words_of_key : c.args.key_words ≡ length (bytes_of (take c.args.key_words c.args.words.now)) / 4 = omega (arith, length-front c.args.key_words c.args.words.now (omega arith)) in
     record {
       long = length-set c.loop-i.words c.loop-i.i _ ∙ c.loop-i.invariant.long;
       so_far =
@@ -28,7 +28,7 @@ loop-i-preserved c =
 pub returns : goal.returns
 returns c =
     let nk = c.args.key_words in
-    let key = bytes_of (take c.args.key_words c.args.words) in
-    let long : length (bytes_of (take c.args.key_words c.args.words)) ≡ 4 * c.args.key_words = length-front c.args.key_words c.args.words (omega arith) in
+    let key = bytes_of (take c.args.key_words c.args.words.now) in
+    let long : length (bytes_of (take c.args.key_words c.args.words.now)) ≡ 4 * c.args.key_words = length-front c.args.key_words c.args.words.now (omega arith) in
     let all : 4 * (c.args.key_words + 6) + 4 ≡ c.loop-i.i = omega arith in
     rw all (c.loop-i.invariant.so_far ∙ schedule_written key (c.loop-i.i - nk) (omega arith))
