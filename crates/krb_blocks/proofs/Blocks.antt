@@ -75,6 +75,19 @@ same_from_blocks size n some s t long_s long_t same =
 pub block_at-block : (size n i : ℕ) (s : List ℕ) → IsBytes s → length s ≡ size * n → i < n → IsBlock size (block_at size s i)
 block_at-block size n i s bytes long below = IsBlock-cut size (size * i) s bytes (omega (arith, block_fits size i n below))
 
+-- the block before block n, as the code cuts it out, and zeros before the first
+pub before_cut : (s : List ℕ) (n : ℕ) → 0 < n → take (16 * n - (16 * n - 16)) (drop (16 * n - 16) s) ≡ before 16 s n
+unfolding before
+before_cut s zero some = absurd (omega arith)
+before_cut s (suc k) some =
+    let start : 16 * suc k - 16 ≡ 16 * k = omega arith in
+    let size : 16 * suc k - 16 * k ≡ 16 = omega arith in
+    rw (start, size) refl
+
+pub before_none : (s : List ℕ) (n : ℕ) → n ≡ 0 → replicate 16 0 ≡ before 16 s n
+unfolding before
+before_none s n none = rw none refl
+
 pub before-bytes : (size : ℕ) (s : List ℕ) (i : ℕ) → IsBytes s → IsBytes (before size s i)
 unfolding before
 before-bytes size s zero bytes = IsBytes-replicate size

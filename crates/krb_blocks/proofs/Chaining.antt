@@ -98,6 +98,30 @@ module _ (size : ℕ) (E D : List ℕ → List ℕ) (pair : IsBlockCipher size E
       let block : IsBlock size (block_at size c i) = block_at-block size n i c bytes whole below in
       rw (so_far.each i below) (sum_of_bytes-block size (D (block_at size c i)) (before size c i) (pair.inverse_block (block_at size c i) block).bytes (before-bytes size c i bytes)).bytes)
 
+  -- a chain with one block more, and its text
+  pub unchain_more :
+      (p c y b last : List ℕ) (n : ℕ) → length c ≡ size * n → IsChained size E p c → IsBlock size y → last ≡ before size c n → b ≡ sum_of_bytes size (D y) last
+      → IsChained size E (p ++ b) (c ++ y)
+  unchain_more p c y b last n whole chained block at is =
+      let sized : length b ≡ size = ap length is ∙ length-sum_of_bytes size (D y) last in
+      let text : length p ≡ size * n = sym chained.same_length ∙ whole in
+      let long : length (p ++ b) ≡ size * (n + 1) = omega (arith, length-append p b) in
+      record {
+        same_length = omega (arith, length-append c y, length-append p b, block.sized);
+        each =
+            λ i h.
+            let below : i < n + 1 = block_below size i (n + 1) (omega arith) in
+            elim (cases_lt i n) [
+              | inl before_it ↦
+                  rw (block_at-front size c y i n whole before_it, block_at-front size p b i n text before_it, before-front size c y i n whole (omega arith))
+                  (chained.each i (omega (arith, text, mul-lt-mul_of_pos_left before_it pair.some)))
+              | inr here ↦
+                  (let same : i ≡ n = omega arith in
+                  rw (same, block_at-last size c y n whole block.sized, block_at-last size p b n text sized, before-front size c y n n whole (omega arith), sym at, is)
+                  (sym (rw (sum_of_bytes-twice size (D y) last (pair.inverse_block y block).sized) (pair.enciphered y block))))
+            ];
+      }
+
   -- a chain of bytes is bytes
   chain_block : (p c : List ℕ) (n : ℕ) → IsBytes p → length p ≡ size * n → IsChained size E p c → (i : ℕ) → i < n → IsBlock size (block_at size c i)
   unfolding before

@@ -1,5 +1,5 @@
 -- Ciphertext stealing over a chain, both ways, and that it is one to one from one block on.
-use Rattle.std.proofs.Common.{◌≡◌, ◌<◌, ◌≤◌, ◌+◌, ◌-◌, ◌*◌, ◌/◌, ℕ, List, ◌++◌, length, get_or, take, drop, replicate, bit_xor, refl, sym, ap, ◌∙◌, inl, inr, arith, add-one}
+use Rattle.std.proofs.Common.{lit<, ◌≡◌, ◌<◌, ◌≤◌, ◌+◌, ◌-◌, ◌*◌, ◌/◌, ℕ, List, ◌++◌, length, get_or, take, drop, replicate, bit_xor, refl, sym, ap, ◌∙◌, inl, inr, arith, add-one}
 use Rattle.std.specs.Int.Bits.{xor_zero_l, xor_self}
 use Rattle.std.proofs.lemmas.Bool.{cases_lt}
 use Rattle.std.proofs.Math.Nat.{mul-le-mul_left}
@@ -9,8 +9,8 @@ use Rattle.krb_blocks.specs.Bytes.{IsBytes, IsBlock, sum_of_bytes}
 use Rattle.krb_blocks.specs.Chains.{block_at, before, IsChained, IsBlockCipher, IsStolen, IsCompleted, block_count, zero_filled, exchanged, swapped}
 use Rattle.krb_blocks.proofs.Sums.{added_twice}
 use Rattle.krb_blocks.proofs.States.{IsBlock-cut, IsBytes-append, IsBytes-take, IsBytes-drop, get_or-sum_of_bytes, sum_of_bytes-block}
-use Rattle.krb_blocks.proofs.Blocks.{sum_of_bytes-zeros, IsBytes-replicate, block_at-block, mid_of, last_of, exchanged_of, swapped_of, in_parts, in_front_parts, length-front, length-mid, length-last}
-use Rattle.krb_blocks.proofs.Chaining.{chained_function, chain-bytes, chained_text}
+use Rattle.krb_blocks.proofs.Blocks.{sum_of_bytes-zeros, IsBytes-replicate, block_at-block, before-front, before-last, mid_of, last_of, exchanged_of, swapped_of, in_parts, in_front_parts, length-front, length-mid, length-last}
+use Rattle.krb_blocks.proofs.Chaining.{chained_function, chain-bytes, chained_text, unchain_more}
 
 -- n bytes are m whole blocks, one more, and up to one more
 pub record LastTwo (size n m : ℕ) : Type 0 where
@@ -330,35 +330,49 @@ module _ (size : ℕ) (E D : List ℕ → List ℕ) (pair : IsBlockCipher size E
   opened_only q q_bytes sized stolen =
       stolen_only size E D pair p q c completed.under (length c) (block_count size (length c) - 2) p_bytes q_bytes sized (last_two size (length c) (block_count size (length c) - 2) pair.some more refl) completed.under_block completed.stands opened_chain stolen
 
--- two whole blocks and more
-pub length-completed : (size : ℕ) (E : List ℕ → List ℕ) (c v : List ℕ) → 0 < size → size < length c → IsCompleted size (block_count size (length c) - 2) E c v → 2 * size ≤ length v
-length-completed size E c v some more completed =
-    let m = block_count size (length c) - 2 in
-    let last = last_two size (length c) (block_count size (length c) - 2) some more refl in
-    let d = length c - size * (m + 1) in
-    omega (arith, ap length completed.appended, length-append c (drop d completed.under), length-drop d completed.under, completed.under_block.sized, last.over, last.within)
+pub text_bytes : (p a b : List ℕ) → IsBytes p → IsBytes (a ++ b) → IsBytes (p ++ a ++ b)
+text_bytes p a b first rest = rw (append_assoc p a b) (IsBytes-append p (a ++ b) first rest)
 
--- the last whole block before the bytes from (n - 1) / 16 * 16 on
-pub cut_before : (c : List ℕ) (last : ℕ) → IsBytes c → 16 < length c → last ≡ (length c - 1) / 16 * 16 → IsBlock 16 (take (last - (last - 16)) (drop (last - 16) c))
-cut_before c last bytes more is = let size : last - (last - 16) ≡ 16 = omega arith in rw size (IsBlock-cut 16 (last - 16) c bytes (omega arith))
-
--- the code's `completed`, whose last block begins at (n - 1) / 16 * 16
-pub completed_of :
-    (E : List ℕ → List ℕ) (c under out : List ℕ) (last : ℕ) → 16 < length c → last ≡ (length c - 1) / 16 * 16 → IsBlock 16 under → E under ≡ take (last - (last - 16)) (drop (last - 16) c) → out ≡ c ++ take (16 - (length c - last)) (drop (length c - last) under)
-    → IsCompleted 16 (block_count 16 (length c) - 2) E c out
-completed_of E c under out last more is block stands appended =
-    let m = block_count 16 (length c) - 2 in
-    let size : last - (last - 16) ≡ 16 = omega arith in
-    let start : last - 16 ≡ 16 * m = omega arith in
-    let rest : length c - last ≡ length c - 16 * (m + 1) = omega arith in
-    let tail : take (16 - (length c - last)) (drop (length c - last) under) ≡ drop (length c - last) under =
-    take_all (16 - (length c - last)) (drop (length c - last) under) (omega (arith, length-drop (length c - last) under, block.sized)) in
-    record {
-      under = under;
-      under_block = block;
-      stands = sym (rw (size, start) at stands);
-      appended = appended ∙ ap (λ (s : List ℕ). c ++ s) tail ∙ ap (λ (k : ℕ). c ++ drop k under) rest;
-    }
+-- what the code reads for the last two blocks of the text, over lists
+module _ (E D : List ℕ → List ℕ) (pair : IsBlockCipher 16 E D) (c : List ℕ) (m : ℕ) (bytes : IsBytes c) (more : 16 < length c) (is : m ≡ block_count 16 (length c) - 2) where
+  pub ends_of :
+      (rest under stolen last a b p : List ℕ) → last ≡ before 16 c m → under ≡ D (before 16 c (m + 1)) → rest ≡ drop (16 * m + 16) c → stolen ≡ rest ++ drop (length rest) under
+      → a ≡ sum_of_bytes 16 (D stolen) last → b ≡ sum_of_bytes 16 under stolen → IsChained 16 E p (take (16 * m) c)
+      → (v : List ℕ) × IsCompleted 16 m E c v × IsChained 16 E (p ++ a ++ b) (swapped 16 v)
+  unfolding before
+  ends_of rest under stolen last a b p last_is under_is rest_is stolen_is a_is b_is chained =
+      let two = last_two 16 (length c) m (lit< tt) more is in
+      let y = block_at 16 c m in
+      let y_block : IsBlock 16 (block_at 16 c m) = IsBlock-cut 16 (16 * m) c bytes (omega (arith, two.over)) in
+      let under_of : under ≡ D (block_at 16 c m) = under_is ∙ rw (add-one m) refl in
+      let under_block : IsBlock 16 under = rw under_of (pair.inverse_block (block_at 16 c m) y_block) in
+      let f = take (16 * m) c in
+      let d = length c - 16 * (m + 1) in
+      let t = drop (16 * (m + 1)) c in
+      let z = t ++ drop d under in
+      let start : 16 * m + 16 ≡ 16 * (m + 1) = omega arith in
+      let rest_of : rest ≡ drop (16 * (m + 1)) c = rest_is ∙ ap (λ (k : ℕ). drop k c) start in
+      let cut : length rest ≡ length c - 16 * (m + 1) = ap length rest_of ∙ length-drop (16 * (m + 1)) c in
+      let stolen_of : stolen ≡ drop (16 * (m + 1)) c ++ drop (length c - 16 * (m + 1)) under = stolen_is ∙ ap (λ (k : ℕ). rest ++ drop k under) cut ∙ ap (λ (s : List ℕ). s ++ drop (length c - 16 * (m + 1)) under) rest_of in
+      let front : length (take (16 * m) c) ≡ 16 * m = length-take-le (16 * m) c (omega (arith, two.over)) in
+      let mid : length (drop (16 * (m + 1)) c ++ drop (length c - 16 * (m + 1)) under) ≡ 16 =
+      omega (arith, length-append t (drop d under), length-drop (16 * (m + 1)) c, length-drop d under, under_block.sized, two.over, two.within) in
+      let z_block : IsBlock 16 (drop (16 * (m + 1)) c ++ drop (length c - 16 * (m + 1)) under) =
+      record { sized = mid; bytes = IsBytes-append t (drop d under) (IsBytes-drop (16 * (m + 1)) c bytes) (IsBytes-drop d under under_block.bytes) } in
+      let parts : c ++ drop d under ≡ f ++ y ++ z =
+      ap (λ (s : List ℕ). s ++ drop d under) (in_front_parts 16 m c (omega (arith, two.over))) ∙ append_assoc (f ++ y) t (drop d under) in
+      let turned : swapped 16 (c ++ drop d under) ≡ f ++ z ++ y = ap (swapped 16) parts ∙ swapped_of 16 m f y z front y_block.sized mid in
+      let before_front : last ≡ before 16 f m =
+      last_is ∙ ap (λ (s : List ℕ). before 16 s m) (sym (take-append-drop (16 * m) c)) ∙ before-front 16 f (drop (16 * m) c) m m front (omega arith) in
+      let first : IsChained 16 E (p ++ a) (f ++ z) =
+      unchain_more 16 E D pair p f z a last m front chained z_block before_front (a_is ∙ ap (λ (s : List ℕ). sum_of_bytes 16 (D s) last) stolen_of) in
+      let second : IsChained 16 E (p ++ a ++ b) (f ++ z ++ y) =
+      unchain_more 16 E D pair (p ++ a) (f ++ z) y b z (m + 1) (omega (arith, length-append f z)) first y_block (sym (before-last 16 f z m (m + 1) front mid refl))
+      (b_is ∙ ap (λ (s : List ℕ). sum_of_bytes 16 s stolen) under_of ∙ ap (sum_of_bytes 16 (D (block_at 16 c m))) stolen_of) in (
+        c ++ drop d under,
+        record { under = under; under_block = under_block; stands = sym (ap E under_of ∙ pair.enciphered (block_at 16 c m) y_block); appended = refl },
+        rw turned second,
+      )
 
 -- a slice written back into the vector that it was lent from
 pub written_back : (n : ℕ) (new old : List ℕ) → length new ≡ length old → n ≡ length old → take n (new ++ drop (length new) old) ≡ new

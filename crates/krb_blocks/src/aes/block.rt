@@ -1,7 +1,7 @@
 //! The cipher and its inverse on one block (FIPS 197, 5.1 and 5.3), and the sum of two blocks.
 
 ghost use Rattle.std.specs.Prelude.{◌≡◌};
-ghost use Rattle.krb_blocks.specs.Bytes.{sum_of_bytes};
+ghost use Rattle.krb_blocks.specs.Bytes.{IsBytes, sum_of_bytes};
 ghost use Rattle.krb_blocks.specs.Aes.{cipher, inv_cipher};
 ghost use Rattle.krb_blocks.specs.Words.{schedule_of};
 
@@ -31,6 +31,7 @@ impl InverseSchedule {
     pub(crate) fn decrypt_block(&self, block: &[u8; 16]) -> [u8; 16]
         ensures is_inverse { result ≡ inv_cipher (schedule_of self.now.keys.rounds self.now.keys.words) self.now.keys.rounds block.now }
         ensures undone { cipher (schedule_of self.now.keys.rounds self.now.keys.words) self.now.keys.rounds result ≡ block.now }
+        ensures bytes { IsBytes result }
     {
         let last = self.keys.rounds;
         let mut state = Columns::of_bytes(block).plus(round_key(&self.keys.words, last));

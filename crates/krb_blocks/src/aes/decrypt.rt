@@ -1,16 +1,16 @@
 //! Opening: the chain, and the chain with ciphertext stealing (RFC 3962, section 5).
 
-ghost use Rattle.std.specs.Prelude.{◌≡◌, ◌≢◌, ◌⊎◌, ◌-◌, ◌%◌, ◌<◌, ◌≤◌, ℕ, List, length, vec_len, Err, IfOk, IfErr, OnOk};
+ghost use Rattle.std.specs.Prelude.{◌≡◌, ◌≢◌, ◌⊎◌, ◌-◌, ◌*◌, ◌%◌, ◌<◌, ◌≤◌, ◌++◌, ℕ, List, take, length, vec_len, Err, IfOk, IfErr, OnOk};
 ghost use Rattle.krb_blocks.specs.Aes.{aes_cipher, aes_inverse, cipher};
 ghost use Rattle.krb_blocks.specs.AesSize.{key_length_of};
 ghost use Rattle.krb_blocks.specs.Bytes.{IsBytes};
-ghost use Rattle.krb_blocks.specs.Chains.{IsBlockCipher, IsChained, IsCompleted, IsStolen, block_count};
+ghost use Rattle.krb_blocks.specs.Chains.{IsBlockCipher, IsChained, IsCompleted, IsStolen, before, block_count, swapped};
 ghost use Rattle.krb_blocks.specs.Words.{schedule_of};
 ghost use Rattle.krb_blocks.specs.declared.error.KerberosCryptoError.TheVariants.{KeyLength, CipherLength, CipherUnpad, Memory};
 
 use super::block::add_blocks;
 use super::schedule::InverseSchedule;
-use super::{AES_BLOCK_SIZE, AesSize, check_key_length, swap_two_last_blocks};
+use super::{AES_BLOCK_SIZE, AesSize, check_key_length};
 use crate::error::{KerberosCryptoError, KerberosCryptoResult};
 use std::alloc::{AllocError, Global};
 
@@ -46,14 +46,15 @@ pub fn decrypt_aes_cbc(
     Ok(text)
 }
 
-/// The text whose chain of whole blocks under these round keys this is.
+/// The text whose chain of whole blocks under these round keys this is, with room for the two blocks that stealing
+/// turns.
 fn decrypt_chain(alloc: Global, keys: &InverseSchedule, chain: &[u8]) -> Result<Vec<u8>, AllocError>
     requires { length chain.now % 16 ≡ 0 }
     ensures bytes { IfOk result (λ p. IsBytes p.items) }
     ensures chained { IfOk result (λ p. IsChained 16
         (cipher (schedule_of keys.now.keys.rounds keys.now.keys.words) keys.now.keys.rounds) p.items chain.now) }
 {
-    let mut text = Vec::with_capacity(alloc, chain.len())?;
+    let mut text = Vec::with_capacity(alloc, chain.len() + 2 * AES_BLOCK_SIZE)?;
     let mut last = [0u8; 16];
     for i in 0..chain.len() / 16 {
         let mut block = [0u8; 16];
@@ -117,30 +118,46 @@ fn decrypt_stolen(
     ensures memory { IfErr result (λ e. e ≡ Memory) }
 {
     let keys = InverseSchedule::new(key);
-    let mut chain = completed(alloc, &keys, cipher_data)?;
-    swap_two_last_blocks(&mut chain)?;
-    let mut text = decrypt_chain(alloc, &keys, &chain)?;
+    let front = (cipher_data.len() - 1) / AES_BLOCK_SIZE - 1;
+    let mut text = decrypt_chain(alloc, &keys, &cipher_data[..16 * front])?;
+    let ends = last_two_blocks(&keys, cipher_data, front);
+    text.extend_from_slice(&ends.0)?;
+    text.extend_from_slice(&ends.1)?;
     text.truncate(cipher_data.len());
     Ok(text)
 }
 
-/// The cipher text, completed by what stealing left out of its last block: that shows in the text under
-/// the block before it.
-fn completed(
-    alloc: Global,
-    keys: &InverseSchedule,
-    cipher_data: &[u8],
-) -> Result<Vec<u8>, AllocError>
-    requires { 16 < length cipher_data.now }
-    ensures { IfOk result (λ v. IsCompleted 16 (block_count 16 (length cipher_data.now) - 2)
-        (cipher (schedule_of keys.now.keys.rounds keys.now.keys.words) keys.now.keys.rounds) cipher_data.now v.items) }
+/// The last two blocks of the zero-filled text that is stolen to this, behind `front` others: behind these they are
+/// the text of the chain that the cipher text is completed to. What stealing left out of it shows in the text under
+/// its last whole block.
+fn last_two_blocks(keys: &InverseSchedule, cipher_data: &[u8], front: usize) -> ([u8; 16], [u8; 16])
+    requires more { 16 < length cipher_data.now }
+    requires front { front ≡ block_count 16 (length cipher_data.now) - 2 }
+    ensures bytes { IsBytes (result.0 ++ result.1) }
+    ensures ended { let E = cipher (schedule_of keys.now.keys.rounds keys.now.keys.words) keys.now.keys.rounds in
+        (p : List ℕ) → IsChained 16 E p (take (16 * front) cipher_data.now)
+        → (v : List ℕ) × IsCompleted 16 front E cipher_data.now v
+        × IsChained 16 E (p ++ result.0 ++ result.1) (swapped 16 v) }
 {
-    let last = (cipher_data.len() - 1) / 16 * 16;
-    let mut stands = [0u8; 16];
-    stands.copy_from_slice(&cipher_data[last - 16..last]);
-    let under = keys.decrypt_block(&stands);
-    let mut chain = Vec::with_capacity(alloc, last + 16)?;
-    chain.extend_from_slice(cipher_data)?;
-    chain.extend_from_slice(&under[cipher_data.len() - last..])?;
-    Ok(chain)
+    let last = block_before(cipher_data, front);
+    let under = keys.decrypt_block(&block_before(cipher_data, front + 1));
+    let rest = &cipher_data[16 * front + 16..];
+    let mut stolen = under;
+    stolen[..rest.len()].copy_from_slice(rest);
+    (
+        add_blocks(&keys.decrypt_block(&stolen), &last),
+        add_blocks(&under, &stolen),
+    )
+}
+
+/// What a chain adds to the block after its first `count`: the last of these, or zeros.
+fn block_before(chain: &[u8], count: usize) -> [u8; 16]
+    requires { 16 * count ≤ length chain.now }
+    ensures { result ≡ before 16 chain.now count }
+{
+    let mut block = [0u8; 16];
+    if count > 0 {
+        block.copy_from_slice(&chain[16 * count - 16..16 * count]);
+    }
+    block
 }

@@ -1,7 +1,7 @@
 use Rattle.std.proofs.Common.{◌≡◌, ◌+◌, ◌-◌, ap, ◌∙◌, refl, arith, List, ℕ}
 use Rattle.krb_blocks.specs.Aes.{inv_cipher, inv_rounds, inv_sub_bytes, inv_shift_rows}
 use Rattle.krb_blocks.specs.Words.{block_of, schedule_of}
-use Rattle.krb_blocks.proofs.Rounds.{inv_cipher_begun, inv_rounds_less, inv_rounds_none, cipher-inv_cipher}
+use Rattle.krb_blocks.proofs.Rounds.{inv_cipher_begun, inv_rounds_less, inv_rounds_none, cipher-inv_cipher, inv_cipher-block}
 use Rattle.krb_blocks.proofs.Unmixed.{keyed, keyed_unmixed}
 use Rattle.krb_blocks.proofs.WordBytes.{IsBytes-bytes_of, length-schedule_of}
 use Rattle.krb_blocks.proofs.aes.schedule.InverseSchedule.decrypt_block.Goals as goal
@@ -40,3 +40,11 @@ returns-clause-undone c =
     let is_inverse : c.bytes.result ≡ inv_cipher w k.rounds c.args.block.now = returns-clause-is_inverse c in
     rw is_inverse
     (cipher-inv_cipher w (IsBytes-bytes_of _) k.rounds (omega (arith, length-schedule_of k.rounds k.words (omega arith))) c.args.block.now (record { sized = c.told-block; bytes = c.fits-block }))
+
+pub returns-clause-bytes : goal.returns-clause-bytes
+returns-clause-bytes c =
+    let k = c.args.self.now.keys in
+    let w = schedule_of c.args.self.now.keys.rounds c.args.self.now.keys.words in
+    let is_inverse : c.bytes.result ≡ inv_cipher w k.rounds c.args.block.now = returns-clause-is_inverse c in
+    rw is_inverse
+    (inv_cipher-block w (IsBytes-bytes_of _) k.rounds (omega (arith, length-schedule_of k.rounds k.words (omega arith))) c.args.block.now (record { sized = c.told-block; bytes = c.fits-block })).bytes
