@@ -2,7 +2,9 @@
 ghost use Rattle.std.specs.Prelude.{◌≡◌, ◌↔◌, IsSome, OnOk, OnErr};
 ghost use Rattle.std.specs.Option.{option_copied};
 ghost use Rattle.std.specs.FinMap as finite;
+ghost use Rattle.krb_accounts.specs.Names.{parts};
 
+use crate::names::has_components;
 use crate::{Account, RealmRefusal};
 use picky_asn1::wrapper::GeneralStringAsn1;
 use std::alloc::Global;
@@ -58,6 +60,13 @@ impl Accounts {
         find(self.entries.as_slice(), name)
     }
 
+    /// Whether a name has an account, by the characters of its components. It takes no memory.
+    pub fn contains(&self, name: &[Vec<u8>]) -> bool
+        ensures { result ≡ finite.contains_key self.now (parts name.now) }
+    {
+        has_entry(self.entries.as_slice(), name)
+    }
+
     /// Gives a name its account. A name that has one is refused.
     pub fn insert_new(
         &mut self,
@@ -77,8 +86,20 @@ impl Accounts {
     }
 }
 
+ghost use Rattle.std.specs.Prelude.{nat_eq};
+ghost use Rattle.std.specs.Cmp.Lexicographic.{pointwise};
+ghost use Rattle.std.specs.List.{list_any};
 ghost use Rattle.krb_accounts.specs.Accounts.{name_cmp};
 ghost use Rattle.krb_accounts.specs.Entries.{pairs};
+
+/// Whether some entry has that name.
+fn has_entry(entries: &[Entry], name: &[Vec<u8>]) -> bool
+    ensures { result ≡ list_any (λ entry. pointwise (pointwise nat_eq) (parts name.now) entry.name.items) entries.now }
+{
+    entries
+        .iter()
+        .any(|entry| has_components(name, entry.name.as_slice()))
+}
 
 /// The account of the first entry of that name.
 fn find<'a>(entries: &'a [Entry], name: &[GeneralStringAsn1]) -> Option<&'a Account>

@@ -15,8 +15,8 @@ use crate::judge::{
 use crate::names::{krbtgt_of, named_service};
 use crate::refusal::Refusal;
 use krb_accounts::{
-    Account, Accounts, RealmRefusal, Settings, components_of, is_realm_name, password_salt,
-    realm_name_of,
+    Account, Accounts, RealmRefusal, Settings, are_components, components_of, is_realm_name,
+    password_salt, realm_name_of,
 };
 use krb_crypto::CipherSuite;
 use krb_frames::AnswerRefusal;
@@ -67,6 +67,7 @@ impl Model for Realm {
 impl Realm {
     ghost use Rattle.krb_realm.specs.Realm.{making, made, adding, adding_by_password, first_key};
     ghost use Rattle.krb_accounts.specs.Passwords.{password_account, password_salt};
+    ghost use Rattle.krb_accounts.specs.declared.refusal.RealmRefusal.{RealmRefusal};
     ghost use Rattle.krb_realm.specs.Answers.{IsAnswer};
     ghost use Rattle.picky_asn1.specs.declared.date.GeneralizedTime.{GeneralizedTime};
     ghost use Rattle.krb_realm.specs.Judged.{IsGranted};
@@ -80,9 +81,12 @@ impl Realm {
         key: &[u8],
         settings: Settings,
     ) -> Result<Realm, RealmRefusal>
-        ensures { MatchResult result
+        ensures made { MatchResult result
             (λ realm. (making name.now suite key.now ≡ Ok tt) × (realm ≡ made name.now suite key.now settings))
             (λ refusal. (refusal ≡ RealmRefusal.Memory) ⊎ (making name.now suite key.now ≡ Err refusal)) }
+
+        // Want of memory hides no other refusal.
+        ensures first { (refusal : RealmRefusal) → making name.now suite key.now ≡ Err refusal → result ≡ Err refusal }
     {
         if !is_realm_name(name) {
             return Err(RealmRefusal::BadName);
@@ -103,6 +107,8 @@ impl Realm {
     }
 
     /// Gives a principal its account, by its first key. A refused command changes nothing.
+    ///
+    /// It is refused, in this order: `BadName`, `BadKeyLength`, `Exists`; and `Memory` only where it isn't refused so.
     pub fn add_account_by_key(
         &mut self,
         alloc: Global,
@@ -111,9 +117,21 @@ impl Realm {
         key: &[u8],
     ) -> Result<(), RealmRefusal>
         ensures refusal { IsMemoryAside result (adding self.old.accounts (parts name.now) suite key.now) }
+
+        // Want of memory hides no other refusal.
+        ensures first { (refusal : RealmRefusal) → adding self.old.accounts (parts name.now) suite key.now ≡ Err refusal → result ≡ Err refusal }
         ensures ok { OnOk result (self.new ≡ record self.old { accounts = finite.insert self.old.accounts (parts name.now) (first_key suite key.now) }) }
         ensures err { OnErr result (self.new ≡ self.old) }
     {
+        if !are_components(name) {
+            return Err(RealmRefusal::BadName);
+        }
+        if key.len() != suite.key_size() {
+            return Err(RealmRefusal::BadKeyLength);
+        }
+        if self.accounts.contains(name) {
+            return Err(RealmRefusal::Exists);
+        }
         let components = components_of(alloc, name)?;
         let account = Account::by_key(alloc, suite, key)?;
         self.accounts.insert_new(components, account)?;
@@ -122,6 +140,8 @@ impl Realm {
 
     /// Gives a principal its account, by its first password. The salt is the realm, and behind it the name's components
     /// (RFC 4120, section 4). A refused command changes nothing.
+    ///
+    /// It is refused, in this order: `BadName`, `Exists`; and `Memory` only where it isn't refused so.
     pub fn add_account_by_password(
         &mut self,
         alloc: Global,
@@ -130,12 +150,21 @@ impl Realm {
         password: &[u8],
     ) -> Result<(), RealmRefusal>
         ensures refusal { IsMemoryAside result (adding_by_password self.old.accounts (parts name.now)) }
+
+        // Want of memory hides no other refusal.
+        ensures first { (refusal : RealmRefusal) → adding_by_password self.old.accounts (parts name.now) ≡ Err refusal → result ≡ Err refusal }
         ensures ok { OnOk result (self.new ≡ record self.old {
           accounts = finite.insert self.old.accounts (parts name.now)
               (password_account suite password.now (password_salt self.old.name (parts name.now)));
         }) }
         ensures err { OnErr result (self.new ≡ self.old) }
     {
+        if !are_components(name) {
+            return Err(RealmRefusal::BadName);
+        }
+        if self.accounts.contains(name) {
+            return Err(RealmRefusal::Exists);
+        }
         let principal = components_of(alloc, name)?;
         let salt = password_salt(alloc, self.name.as_bytes(), name)?;
         // A realm's name isn't empty and neither is the salt, so memory is the only refusal.
