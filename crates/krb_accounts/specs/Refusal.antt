@@ -1,7 +1,15 @@
 -- How commands to a realm are refused.
-use Rattle.std.specs.Prelude.{◌≡◌, ◌⊎◌, Result, Err}
+use Rattle.std.specs.Prelude.{◌≡◌, ◌⊎◌, ℕ, Result, Err}
 use Rattle.krb_accounts.specs.declared.refusal.RealmRefusal.{RealmRefusal}
-use Rattle.krb_accounts.specs.declared.refusal.RealmRefusal.TheVariants.{Memory}
+use Rattle.krb_accounts.specs.declared.refusal.RealmRefusal.TheVariants.{Exists, BadName, BadKeyLength, BadSetting, Memory}
+
+-- the numbers of refusals
+abbrev pub refusal_number : RealmRefusal → ℕ
+refusal_number Exists = 1
+refusal_number BadName = 3
+refusal_number BadKeyLength = 4
+refusal_number BadSetting = 7
+refusal_number Memory = 8
 
 -- the answer is this one, or want of memory
 abbrev pub IsMemoryAside : {T : Type 0} → Result T RealmRefusal → Result T RealmRefusal → Type 0

@@ -29,6 +29,18 @@ pub enum RealmRefusal {
     Memory = 8,
 }
 
+impl RealmRefusal {
+    ghost use Rattle.krb_accounts.specs.Refusal.{refusal_number};
+
+    /// The refusal's number: 1 for `Exists`, 3 for `BadName`, 4 for `BadKeyLength`, 7 for `BadSetting` and 8 for
+    /// `Memory`.
+    pub fn number(self) -> u8
+        ensures { result ≡ refusal_number self }
+    {
+        self as u8
+    }
+}
+
 impl From<AllocError> for RealmRefusal {
     ghost from_gives = { λ _ refusal. refusal ≡ Memory };
 
