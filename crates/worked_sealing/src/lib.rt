@@ -9,3 +9,5 @@ mod digests;
 mod sealing;
 #[cfg(test)]
 mod suites;
+#[cfg(test)]
+mod triple_des;
