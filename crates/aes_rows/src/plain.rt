@@ -3,7 +3,7 @@
 
 ghost use Rattle.std.specs.Prelude.{◌≡◌, ◌⊎◌, ◌+◌, ◌*◌, ◌<◌, ◌≤◌, length};
 
-/// The substitution of bytes, and what undoes it (FIPS 197, 5.1.1 and 5.3.2).
+/// The substitution of bytes, and what undoes it (FIPS 197, sections 5.1.1 and 5.3.2).
 #[derive(Drop)]
 pub struct Substitution {
     there: [u8; 256],
@@ -30,7 +30,7 @@ impl Substitution {
         out
     }
 
-    /// What is added to an earlier word to make word `i`, from the word before it (FIPS 197, 5.2).
+    /// What is added to an earlier word to make word `i`, from the word before it (FIPS 197, section 5.2).
     fn turned(&self, key_words: usize, i: usize, word: [u8; 4]) -> [u8; 4]
         requires { 0 < key_words }
     {
@@ -57,7 +57,7 @@ impl Substitution {
     }
 }
 
-/// The round keys of one key (FIPS 197, 5.2).
+/// The round keys of one key (FIPS 197, section 5.2).
 #[derive(Drop)]
 pub struct RoundKeys {
     bytes: [u8; 240],
@@ -91,7 +91,7 @@ impl RoundKeys {
         }
     }
 
-    /// The block and round key `n` added (FIPS 197, 5.1.4).
+    /// The block and round key `n` added (FIPS 197, section 5.1.4).
     fn added(&self, block: [u8; 16], n: usize) -> [u8; 16]
         requires { n < 15 }
     {
@@ -102,7 +102,7 @@ impl RoundKeys {
         out
     }
 
-    /// The cipher of a block (FIPS 197, 5.1).
+    /// The cipher of a block (FIPS 197, section 5.1).
     pub fn enciphered(&self, substitution: &Substitution, block: [u8; 16]) -> [u8; 16] {
         let mut state = self.added(block, 0);
         for n in 1..self.rounds {
@@ -113,7 +113,7 @@ impl RoundKeys {
         self.added(shifted, self.rounds)
     }
 
-    /// The block whose cipher this is (FIPS 197, 5.3).
+    /// The block whose cipher this is (FIPS 197, section 5.3).
     pub fn deciphered(&self, substitution: &Substitution, block: [u8; 16]) -> [u8; 16] {
         let mut state = self.added(block, self.rounds);
         for done in 1..self.rounds {
@@ -126,7 +126,7 @@ impl RoundKeys {
     }
 }
 
-/// Row r rotated left by `places` times r (FIPS 197, 5.1.2 and 5.3.1).
+/// Row r rotated left by `places` times r (FIPS 197, sections 5.1.2 and 5.3.1).
 fn shifted(block: [u8; 16], places: usize) -> [u8; 16]
     requires { places ≤ 3 }
 {
@@ -138,7 +138,7 @@ fn shifted(block: [u8; 16], places: usize) -> [u8; 16]
     out
 }
 
-/// Each column times a polynomial, modulo x^4 + 1 (FIPS 197, 5.1.3 and 5.3.3).
+/// Each column times a polynomial, modulo x^4 + 1 (FIPS 197, sections 5.1.3 and 5.3.3).
 fn multiplied(block: [u8; 16], polynomial: [u8; 4]) -> [u8; 16] {
     let mut out = [0u8; 16];
     for i in 0..16 {
@@ -152,12 +152,12 @@ fn multiplied(block: [u8; 16], polynomial: [u8; 4]) -> [u8; 16] {
     out
 }
 
-/// The product with x (FIPS 197, 4.2.1).
+/// The product with x (FIPS 197, section 4.2.1).
 fn twice(byte: u8) -> u8 {
     ((byte & 0x7f) << 1) ^ ((byte >> 7) * 0x1b)
 }
 
-/// The product of the field (FIPS 197, 4.2).
+/// The product of the field (FIPS 197, section 4.2).
 fn product(a: u8, b: u8) -> u8 {
     let mut sum = 0;
     let mut power = a;
@@ -181,7 +181,7 @@ fn inverse_of(a: u8) -> u8 {
     power
 }
 
-/// The affine transformation (FIPS 197, 5.1.1).
+/// The affine transformation (FIPS 197, section 5.1.1).
 fn transformed(b: u8) -> u8 {
     b ^ b.rotate_left(1) ^ b.rotate_left(2) ^ b.rotate_left(3) ^ b.rotate_left(4) ^ 0x63
 }

@@ -1,4 +1,4 @@
--- Identifier, length and content octets (X.690, 8.1.2 to 8.1.4; the definite, minimal length of 10.1).
+-- Identifier, length and content octets (X.690, sections 8.1.2 to 8.1.4; the definite, minimal length of 10.1).
 use Rattle.std.specs.Prelude.{◌≡◌, ℕ, zero, suc, ◌+◌, ◌/◌, ◌%◌, List, [], ◌∷◌, ◌++◌, length, nat_lt, if◌then◌else◌, refl}
 
 -- the digits of a number to the base 256, of which the first isn't zero; `steps` is at least the number
@@ -18,7 +18,7 @@ length_octets number = if nat_lt number 128 then number ∷ [] else (128 + lengt
 unfoldable pub element : ℕ → List ℕ → List ℕ
 element first content = first ∷ (length_octets (length content) ++ content)
 
--- X.690, 8.1.3.5: a length of 201 is `81 C9`
+-- X.690, section 8.1.3.5: a length of 201 is `81 C9`
 length_octets_201 : length_octets 201 ≡ 129 ∷ 201 ∷ []
 unfolding length_octets digits digits_within
 length_octets_201 = refl

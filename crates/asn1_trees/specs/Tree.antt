@@ -1,4 +1,4 @@
--- An ASN.1 value as a tree, and the one DER spelling of a tree (X.690, 8.1 and 10.1).
+-- An ASN.1 value as a tree, and the one DER spelling of a tree (X.690, sections 8.1 and 10.1).
 use Rattle.std.specs.Prelude.{Bool, true, false, ◌≡◌, ℕ, List, [], ◌∷◌, ◌++◌, Option, None, Some, ⊤}
 use Rattle.asn1_trees.specs.Length.{element}
 

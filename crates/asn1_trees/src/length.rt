@@ -1,4 +1,4 @@
-//! The length octets of an element: definite, and as few as there can be (X.690, 8.1.3 and 10.1).
+//! The length octets of an element: definite, and as few as there can be (X.690, sections 8.1.3 and 10.1).
 ghost use Rattle.std.specs.Prelude.{◌≡◌, ℕ, ◌+◌, ◌^◌, ◌<◌, ◌≤◌, List, ◌∷◌, length, drop, MatchOption};
 ghost use Rattle.std.specs.Int.Digits.{number_from_digits};
 ghost use Rattle.asn1_trees.specs.Length.{digits, length_octets};
@@ -26,7 +26,7 @@ impl Model for LengthOctets {
 
 impl LengthOctets {
     /// The length octets of `length`: the length itself where it is below 128, else the count of its
-    /// digits to the base 256, with bit 8 set, and the digits (X.690, 8.1.3.4 and 8.1.3.5).
+    /// digits to the base 256, with bit 8 set, and the digits (X.690, sections 8.1.3.4 and 8.1.3.5).
     pub fn of(length: usize) -> LengthOctets
         ensures { result ≡ length_octets length }
     {
@@ -66,7 +66,7 @@ fn put_digits(octets: &mut [u8], number: usize) -> usize
     start
 }
 
-/// How many octets follow the first length octet (X.690, 8.1.3.4 and 8.1.3.5).
+/// How many octets follow the first length octet (X.690, sections 8.1.3.4 and 8.1.3.5).
 ///
 /// `None` where no length below 2^64 begins so in DER: the indefinite form, or more than eight digits.
 pub fn following(first: u8) -> Option<usize>
@@ -82,7 +82,7 @@ pub fn following(first: u8) -> Option<usize>
     }
 }
 
-/// The length that these octets, all of them, write (X.690, 8.1.3).
+/// The length that these octets, all of them, write (X.690, section 8.1.3).
 ///
 /// `None` where they are the length octets of no length below 2^64: where one is missing or too many, and
 /// where fewer would do (10.1).

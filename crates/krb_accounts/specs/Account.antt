@@ -1,4 +1,4 @@
--- What a realm knows of a principal: a name and a secret key (RFC 4120 1.5), and how the key came about.
+-- What a realm knows of a principal: a name and a secret key (RFC 4120, section 1.5), and how the key came about.
 use Rattle.std.specs.Prelude.{ℕ, List, Option}
 use Rattle.krb_crypto.specs.declared.suite.CipherSuite.{CipherSuite}
 

@@ -1,4 +1,4 @@
--- The names of realms and principals (RFC 4120 5.2.1, 5.2.2, 6.1, 6.2): the rules of this realm.
+-- The names of realms and principals (RFC 4120, sections 5.2.1, 5.2.2, 6.1, 6.2): the rules of this realm.
 use Rattle.std.specs.Prelude.{◌≡◌, ℕ, nat_lt, nat_le, Bool, true, false, ◌&&◌, IsTrue, List, [], ◌∷◌, ◌++◌, map, length, Vec, codes, refl}
 use Rattle.std.specs.List.{list_all}
 use Rattle.std.specs.Global.{Global}

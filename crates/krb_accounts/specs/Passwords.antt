@@ -1,4 +1,4 @@
--- Accounts whose key is that of a password (RFC 4120 4, RFC 3962 4).
+-- Accounts whose key is that of a password (RFC 4120, section 4, RFC 3962, section 4).
 use Rattle.std.specs.Prelude.{ℕ, List, ◌++◌, Some}
 use Rattle.std.specs.List.{flat_map}
 use Rattle.krb_crypto.specs.declared.suite.CipherSuite.{CipherSuite}

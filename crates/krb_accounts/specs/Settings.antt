@@ -1,4 +1,4 @@
--- A realm's settings: clock skew (RFC 4120 1.6, 5.9.1) and the greatest lifetime of a ticket (RFC 4120 3.1.3).
+-- A realm's settings: clock skew (RFC 4120, sections 1.6, 5.9.1) and the greatest lifetime of a ticket (RFC 4120, section 3.1.3).
 use Rattle.std.specs.Prelude.{ℕ, ◌≤◌}
 
 -- both in seconds

@@ -97,7 +97,7 @@ impl Account {
         self.key.as_bytes()
     }
 
-    /// The key's number (RFC 4120 5.2.9, `kvno`).
+    /// The key's number (RFC 4120, section 5.2.9, `kvno`).
     pub fn number(&self) -> u32
         ensures value { result ≡ self.now.number }
         ensures from_one { 1 ≤ result }

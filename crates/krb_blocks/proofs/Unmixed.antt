@@ -1,4 +1,4 @@
--- The equivalent inverse cipher (FIPS 197, 5.3.5): a product of columns is linear, so that the round keys can be
+-- The equivalent inverse cipher (FIPS 197, section 5.3.5): a product of columns is linear, so that the round keys can be
 -- unmixed beforehand.
 use Rattle.std.proofs.Common.{◌≡◌, ◌<◌, ◌≤◌, ◌+◌, ◌-◌, ◌*◌, ◌%◌, ℕ, List, [], ◌∷◌, ◌++◌, length, get_or, slice_index, bit_xor, refl, sym, ap, ◌∙◌, arith}
 use Rattle.std.specs.Int.{w32, to_be_bytes}

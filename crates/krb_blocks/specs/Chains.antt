@@ -12,7 +12,7 @@ unfoldable pub before : ℕ → List ℕ → ℕ → List ℕ
 before size c zero = replicate size 0
 before size c (suc i) = block_at size c i
 
--- c is the text p of whole blocks, enciphered in a chain (NIST SP 800-38A, 6.2; RFC 3962, section 5)
+-- c is the text p of whole blocks, enciphered in a chain (NIST SP 800-38A, section 6.2; RFC 3962, section 5)
 pub record IsChained (size : ℕ) (E : List ℕ → List ℕ) (p c : List ℕ) : Type 0 where
   pub same_length : length c ≡ length p
   pub each : (i : ℕ) → size * i < length p → block_at size c i ≡ E (sum_of_bytes size (block_at size p i) (before size c i))

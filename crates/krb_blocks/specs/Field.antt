@@ -14,7 +14,7 @@ unfoldable pub remainder : ℕ → ℕ → ℕ
 remainder p zero = p
 remainder p (suc n) = remainder (bit_xor p (bit_at p (n + 8) * (283 * 2 ^ n))) n
 
--- the product in the field (FIPS 197, 4.2)
+-- the product in the field (FIPS 197, section 4.2)
 unfoldable pub field_product : ℕ → ℕ → ℕ
 field_product a b = remainder (product_below a b 8) 7
 
@@ -23,7 +23,7 @@ unfoldable pub inverse_below : ℕ → ℕ → ℕ
 inverse_below a zero = 0
 inverse_below a (suc n) = if field_product a n == 1 then n else inverse_below a n
 
--- the multiplicative inverse, and 0 for 0 (FIPS 197, 5.1.1)
+-- the multiplicative inverse, and 0 for 0 (FIPS 197, section 5.1.1)
 unfoldable pub inverse : ℕ → ℕ
 inverse a = inverse_below a 256
 
@@ -32,18 +32,18 @@ unfoldable pub of_bits : (ℕ → ℕ) → ℕ → ℕ
 of_bits bit zero = 0
 of_bits bit (suc n) = of_bits bit n + bit n * 2 ^ n
 
--- the affine transformation (FIPS 197, 5.1.1): bit i is the sum of five bits of b and of bit i of 63
+-- the affine transformation (FIPS 197, section 5.1.1): bit i is the sum of five bits of b and of bit i of 63
 unfoldable pub affine : ℕ → ℕ
 affine b = of_bits (λ i. (bit_at b i + bit_at b ((i + 4) % 8) + bit_at b ((i + 5) % 8) + bit_at b ((i + 6) % 8) + bit_at b ((i + 7) % 8) + bit_at 0x63 i) % 2) 8
 
--- the substitution of a byte (FIPS 197, 5.1.1)
+-- the substitution of a byte (FIPS 197, section 5.1.1)
 unfoldable pub sub_byte : ℕ → ℕ
 sub_byte a = affine (inverse a)
 
--- the affine transformation that undoes `affine` (FIPS 197, 5.3.2)
+-- the affine transformation that undoes `affine` (FIPS 197, section 5.3.2)
 unfoldable pub inv_affine : ℕ → ℕ
 inv_affine b = of_bits (λ i. (bit_at b ((i + 2) % 8) + bit_at b ((i + 5) % 8) + bit_at b ((i + 7) % 8) + bit_at 0x05 i) % 2) 8
 
--- the substitution that undoes `sub_byte` (FIPS 197, 5.3.2)
+-- the substitution that undoes `sub_byte` (FIPS 197, section 5.3.2)
 unfoldable pub inv_sub_byte : ℕ → ℕ
 inv_sub_byte b = inverse (inv_affine b)

@@ -23,6 +23,6 @@ abbrev pub inv_sub_word : List ℕ → List ℕ
 inv_sub_word w = map inv_sub_byte w
 
 -- between the first and the last, d has the round keys of w with their columns unmixed: those of the
--- equivalent inverse cipher (FIPS 197, 5.3.5)
+-- equivalent inverse cipher (FIPS 197, section 5.3.5)
 abbrev pub IsUnmixed : ℕ → List ℕ → List ℕ → Type 0
 IsUnmixed n w d = (m : ℕ) → 0 < m → m < n → round_key d m ≡ inv_mix_columns (round_key w m)

@@ -1,4 +1,4 @@
--- The request to a service (RFC 4120 3.2.2, 5.5.1): a ticket, and an authenticator under the session's key.
+-- The request to a service (RFC 4120, sections 3.2.2, 5.5.1): a ticket, and an authenticator under the session's key.
 use Rattle.std.specs.Prelude.{◌≡◌, ℕ, ◌%◌, Bool, List, [], ◌∷◌, take, drop, Option, None, Some, pos, if◌then◌else◌}
 use Rattle.std.specs.Option.{option_map}
 use Rattle.std.proofs.Common.{ap, subst, sym, ◌∙◌}
@@ -37,7 +37,7 @@ authenticator_of client suite second microsecond subkey = record {
   authorization_data = record { 0 = None };
 }
 
--- bit 2, mutual-required (RFC 4120 5.5.1), where the service is to answer
+-- bit 2, mutual-required (RFC 4120, section 5.5.1), where the service is to answer
 abbrev pub options_of : Bool → Bits
 options_of mutual_required = record { octets = (if mutual_required then 0x20 else 0) ∷ 0 ∷ 0 ∷ 0 ∷ []; unused = 0 }
 
@@ -51,7 +51,7 @@ ap_request_of mutual_required ticket authenticator = record {
   authenticator = record { 0 = authenticator };
 }
 
--- the authenticator of the moment, sealed under the credential's key (usage 11; RFC 4120 7.5.1) behind the confounder
+-- the authenticator of the moment, sealed under the credential's key (usage 11; RFC 4120, section 7.5.1) behind the confounder
 pub record IsAuthenticator (client : ClientRecord) (credential : CredentialRecord) (subkey : Option (List ℕ)) (moment : ℕ) (confounder : List ℕ) (authenticator : EncryptedData) : Type 0 where
   pub second : GeneralizedTime
   pub of_moment : IsSecondOf moment second

@@ -1,4 +1,4 @@
--- What a client takes as the reply to its AS request (RFC 4120 3.1.5): the first case that holds counts.
+-- What a client takes as the reply to its AS request (RFC 4120, section 3.1.5): the first case that holds counts.
 use Rattle.std.specs.Prelude.{◌≡◌, ℕ, Bool, not, ◌&&◌, List, Result, Ok, Err}
 use Rattle.asn1_trees.proofs.Spelling.{wrapped-injective}
 use Rattle.krb_crypto.specs.declared.suite.CipherSuite.{CipherSuite}
@@ -17,7 +17,7 @@ use Rattle.krb_client.specs.Messages.{IsAsReply, IsErrorCode, as_reply_part_tree
 use Rattle.krb_client.specs.declared.refusal.TakeRefusal.{TakeRefusal}
 use Rattle.krb_client.specs.declared.refusal.TakeRefusal.TheVariants.{NotAsked, NotSealed, Refused, Unreadable}
 
--- the part of an AS reply, sealed under the client's key (usage 3; RFC 4120 7.5.1), as AS replies have it
+-- the part of an AS reply, sealed under the client's key (usage 3; RFC 4120, section 7.5.1), as AS replies have it
 unfoldable pub IsAsPart : ClientRecord → EncryptedData → EncKdcRepPart → Type 0
 IsAsPart client sealed part = IsSealedIn {T = EncKdcRepPart} as_reply_part_tree client.suite client.key 3 sealed part
 

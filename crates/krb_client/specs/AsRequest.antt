@@ -1,4 +1,4 @@
--- The request for a first ticket (RFC 4120 3.1.1, 5.4.1), with the client's time sealed under its key (5.2.7.2).
+-- The request for a first ticket (RFC 4120, sections 3.1.1, 5.4.1), with the client's time sealed under its key (5.2.7.2).
 use Rattle.std.specs.Prelude.{◌≡◌, ℕ, ◌%◌, List, [], ◌∷◌, take, drop, None, Some, pos}
 use Rattle.std.specs.Int.{from_be_bytes, w32}
 use Rattle.std.proofs.Common.{ap, subst, sym, ◌∙◌}
@@ -46,7 +46,7 @@ request_body client service till nonce = record {
   additional_tickets = record { 0 = None };
 }
 
--- preauthentication by a sealed time, PA-ENC-TIMESTAMP (RFC 4120 7.5.2)
+-- preauthentication by a sealed time, PA-ENC-TIMESTAMP (RFC 4120, section 7.5.2)
 abbrev pub stamp_data : EncryptedData → PaData
 stamp_data stamp = record { padata_type = record { 0 = pos 2 }; padata_data = record { 0 = encrypted_bytes stamp } }
 
@@ -59,7 +59,7 @@ as_request_of client service till nonce stamp = record {
   req_body = record { 0 = request_body client service till nonce };
 }
 
--- the moment, sealed under the client's key (usage 1; RFC 4120 7.5.1) behind the confounder
+-- the moment, sealed under the client's key (usage 1; RFC 4120, section 7.5.1) behind the confounder
 pub record IsStamp (client : ClientRecord) (moment : ℕ) (confounder : List ℕ) (stamp : EncryptedData) : Type 0 where
   pub second : GeneralizedTime
   pub of_moment : IsSecondOf moment second

@@ -1,4 +1,4 @@
--- What clients are, what they remember of a request, and what they are granted (RFC 4120 3.1, 3.2).
+-- What clients are, what they remember of a request, and what they are granted (RFC 4120, sections 3.1, 3.2).
 use Rattle.std.specs.Prelude.{ℕ, not, ◌&&◌, List, Option, Result, Ok, Err, if◌then◌else◌}
 use Rattle.krb_crypto.specs.declared.suite.CipherSuite.{CipherSuite}
 use Rattle.krb_crypto.specs.Sealing.{password_key_of}

@@ -1,4 +1,4 @@
--- The encodings of the messages that a client reads and writes (RFC 4120 5.2.7.2, 5.2.9, 5.4, 5.5.1, 5.9.1).
+-- The encodings of the messages that a client reads and writes (RFC 4120, sections 5.2.7.2, 5.2.9, 5.4, 5.5.1, 5.9.1).
 use Rattle.std.specs.Prelude.{◌≡◌, ℕ, List}
 use Rattle.std.proofs.Common.{ap, sym, ◌∙◌}
 use Rattle.asn1_trees.specs.Tree.{Tree, Writes, der, wrapped}
@@ -53,7 +53,7 @@ krb_error_tree error = wrapped 126 (krb_error.ghosts.tree error)
 abbrev pub as_reply_part_tree : EncKdcRepPart → Tree
 as_reply_part_tree part = wrapped 121 (reply_part.ghosts.tree part)
 
--- the same as TGS replies have it, and AS replies of some realms (RFC 4120 5.4.2), [APPLICATION 26]
+-- the same as TGS replies have it, and AS replies of some realms (RFC 4120, section 5.4.2), [APPLICATION 26]
 abbrev pub tgs_reply_part_tree : EncKdcRepPart → Tree
 tgs_reply_part_tree part = wrapped 122 (reply_part.ghosts.tree part)
 

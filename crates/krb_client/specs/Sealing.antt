@@ -1,4 +1,4 @@
--- What requests hold: sealed data, names, times and keys (RFC 4120 5.2.2, 5.2.3, 5.2.9).
+-- What requests hold: sealed data, names, times and keys (RFC 4120, sections 5.2.2, 5.2.3, 5.2.9).
 use Rattle.std.specs.Prelude.{◌≡◌, ℕ, ◌/◌, List, None, pos}
 use Rattle.std.proofs.Common.{ap, sym, ◌∙◌}
 use Rattle.picky_asn1.specs.declared.date.GeneralizedTime.{GeneralizedTime}
@@ -11,7 +11,7 @@ use Rattle.krb_crypto.proofs.SealingLemmas.{one_string}
 use Rattle.krb_types.specs.declared.data_types.encrypted_data.EncryptedData.{EncryptedData}
 use Rattle.krb_types.specs.declared.data_types.principal_name.PrincipalName.{PrincipalName}
 
--- a name of a type (RFC 4120 6.2)
+-- a name of a type (RFC 4120, section 6.2)
 abbrev pub principal_name : ℕ → List (List ℕ) → PrincipalName
 principal_name kind components = record {
   name_type = record { 0 = pos kind };

@@ -1,4 +1,4 @@
--- Messages that are encrypted with a checksum, and checksums that stand alone (RFC 3961, 5.3 and 5.4; RFC 3962)
+-- Messages that are encrypted with a checksum, and checksums that stand alone (RFC 3961, sections 5.3 and 5.4; RFC 3962)
 use Rattle.std.specs.Prelude.{◌≡◌, ◌≢◌, ◌⊎◌, ℕ, ◌<◌, ◌≤◌, List, ◌++◌, length, take}
 use Rattle.krb_blocks.specs.Aes.{aes_cipher}
 use Rattle.krb_blocks.specs.Bytes.{IsBytes}
@@ -11,12 +11,12 @@ use Rattle.krb_crypto.specs.Suites.{cipher_key_size, cipher_number}
 use Rattle.krb_crypto.specs.declared.suite.CipherSuite.{CipherSuite}
 use Rattle.krb_crypto.specs.declared.suite.ChecksumSuite.{ChecksumSuite}
 
--- HMAC-SHA1 cut to 96 bits (RFC 3962, 6)
+-- HMAC-SHA1 cut to 96 bits (RFC 3962, section 6)
 abbrev pub aes_tag_of : List ℕ → List ℕ → List ℕ
 aes_tag_of key text = take 12 (hmac_sha1_of key text)
 
 -- the bytes are confounder and plaintext, encrypted under Ke with ciphertext stealing, and their checksum under Ki
--- (RFC 3961, 5.3), where keys have `size` bytes
+-- (RFC 3961, section 5.3), where keys have `size` bytes
 pub record IsAesSealed (size : ℕ) (key : List ℕ) (usage : ℕ) (conf plain bytes : List ℕ) : Type 0 where
   pub key_sized : length key ≡ size
   pub conf_sized : length conf ≡ 16
@@ -71,6 +71,6 @@ encryption_checksum_of suite key usage text = aes_tag_of (aes_ki_of key usage) t
 abbrev pub password_key_of : CipherSuite → List ℕ → List ℕ → List ℕ
 password_key_of suite password salt = aes_password_key_of (cipher_key_size suite) password salt
 
--- the checksum of a text that stands alone (RFC 3961, 5.4)
+-- the checksum of a text that stands alone (RFC 3961, section 5.4)
 abbrev pub checksum_of : ChecksumSuite → List ℕ → ℕ → List ℕ → List ℕ
 checksum_of suite key usage text = aes_tag_of (aes_kc_of key usage) text

@@ -6,36 +6,36 @@ use Rattle.krb_crypto.specs.declared.suite.CipherSuite.TheVariants.{Aes128CtsHma
 use Rattle.krb_crypto.specs.declared.suite.ChecksumSuite.{ChecksumSuite}
 use Rattle.krb_crypto.specs.declared.suite.ChecksumSuite.TheVariants.{HmacSha196Aes128, HmacSha196Aes256}
 
--- the number that names a suite as `etype` (RFC 3962 7)
+-- the number that names a suite as `etype` (RFC 3962, section 7)
 abbrev pub cipher_number : CipherSuite → ℕ
 cipher_number Aes128CtsHmacSha196 = 17
 cipher_number Aes256CtsHmacSha196 = 18
 
--- how many bytes a suite's key has (RFC 3962 6)
+-- how many bytes a suite's key has (RFC 3962, section 6)
 abbrev pub cipher_key_size : CipherSuite → ℕ
 cipher_key_size Aes128CtsHmacSha196 = 16
 cipher_key_size Aes256CtsHmacSha196 = 32
 
--- the number that names a checksum as `cksumtype` (RFC 3962 7)
+-- the number that names a checksum as `cksumtype` (RFC 3962, section 7)
 abbrev pub checksum_number : ChecksumSuite → ℕ
 checksum_number HmacSha196Aes128 = 15
 checksum_number HmacSha196Aes256 = 16
 
--- how many bits a suite's key is made from (RFC 3962 6)
+-- how many bits a suite's key is made from (RFC 3962, section 6)
 abbrev pub cipher_seed_bits : CipherSuite → ℕ
 cipher_seed_bits suite = 8 * cipher_key_size suite
 
--- how many bytes a suite's confounder has: a block (RFC 3961 5.3)
+-- how many bytes a suite's confounder has: a block (RFC 3961, section 5.3)
 abbrev pub cipher_confounder_size : CipherSuite → ℕ
 cipher_confounder_size Aes128CtsHmacSha196 = 16
 cipher_confounder_size Aes256CtsHmacSha196 = 16
 
--- the checksum that belongs to a suite (RFC 3962 7)
+-- the checksum that belongs to a suite (RFC 3962, section 7)
 abbrev pub cipher_checksum : CipherSuite → ChecksumSuite
 cipher_checksum Aes128CtsHmacSha196 = HmacSha196Aes128
 cipher_checksum Aes256CtsHmacSha196 = HmacSha196Aes256
 
--- how many bytes a checksum's key has (RFC 3962 6)
+-- how many bytes a checksum's key has (RFC 3962, section 6)
 abbrev pub checksum_key_size : ChecksumSuite → ℕ
 checksum_key_size HmacSha196Aes128 = 16
 checksum_key_size HmacSha196Aes256 = 32

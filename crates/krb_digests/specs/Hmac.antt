@@ -7,7 +7,7 @@ use Rattle.krb_digests.specs.declared.hmac.MacKey.{MacKey}
 abbrev pub fitted : ℕ → List ℕ → List ℕ
 fitted n bytes = take n bytes ++ replicate (n - length bytes) 0
 
--- the key as one block: a longer key's digest, filled with zeros (RFC 2104 2, step 1, and 3)
+-- the key as one block: a longer key's digest, filled with zeros (RFC 2104, section 2, step 1, and 3)
 unfoldable pub key_block : (List ℕ → List ℕ) → ℕ → List ℕ → List ℕ
 key_block digest block key = fitted block (if nat_lt block (length key) then digest key else key)
 
@@ -15,7 +15,7 @@ key_block digest block key = fitted block (if nat_lt block (length key) then dig
 abbrev pub xored_with : ℕ → List ℕ → List ℕ
 xored_with pad bytes = map (λ b. bit_xor b pad) bytes
 
--- ipad is the byte 36, opad the byte 5C (RFC 2104 2)
+-- ipad is the byte 36, opad the byte 5C (RFC 2104, section 2)
 unfoldable pub hmac_of : (List ℕ → List ℕ) → ℕ → List ℕ → List ℕ → List ℕ
 hmac_of digest block key message =
     let k = key_block digest block key in

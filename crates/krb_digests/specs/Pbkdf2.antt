@@ -1,4 +1,4 @@
--- PBKDF2 (RFC 8018 5.2), over any pseudorandom function
+-- PBKDF2 (RFC 8018, section 5.2), over any pseudorandom function
 use Rattle.std.specs.Prelude.{◌≡◌, ℕ, zero, suc, ◌-◌, List, [], ◌∷◌, ◌++◌, length, map, take, bit_xor, slice_index, codes, refl}
 use Rattle.std.specs.List.{range_with_len}
 use Rattle.sha1.specs.Sha1.{compress, digest_bytes, first_words, hash_after, rounds, schedule, sha1}

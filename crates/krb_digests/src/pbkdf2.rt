@@ -1,4 +1,4 @@
-//! PBKDF2 over HMAC-SHA1 (RFC 8018 5.2).
+//! PBKDF2 over HMAC-SHA1 (RFC 8018, section 5.2).
 
 ghost use Rattle.std.specs.Prelude.{◌≡◌, ℕ, ◌*◌, ◌-◌, ◌^◌, ◌<◌, ◌≤◌, List, vec_len, IfOk};
 ghost use Rattle.krb_digests.specs.Hmac.{IsMacKey, hmac_sha1_of};

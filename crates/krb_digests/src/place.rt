@@ -1,4 +1,4 @@
-//! The bytes of the copies that n-fold adds (RFC 3961 5.1), one after the other.
+//! The bytes of the copies that n-fold adds (RFC 3961, section 5.1), one after the other.
 
 ghost use Rattle.std.specs.Prelude.{◌<◌};
 

@@ -1,4 +1,4 @@
-//! The constants that Kerberos derives the keys of a usage from (RFC 3961 5.3): the usage's number as four big-endian
+//! The constants that Kerberos derives the keys of a usage from (RFC 3961, section 5.3): the usage's number as four big-endian
 //! bytes, then one byte for the kind of key.
 
 ghost use Rattle.std.specs.Prelude.{◌≡◌, [], ◌∷◌, ◌++◌};

@@ -1,4 +1,4 @@
--- Frames: a message behind its length in four bytes, the highest first (RFC 4120 7.2.2).
+-- Frames: a message behind its length in four bytes, the highest first (RFC 4120, section 7.2.2).
 use Rattle.std.specs.Prelude.{◌≡◌, ℕ, ◌+◌, List, [], ◌∷◌, ◌++◌, length, take, drop, nat_lt, if◌then◌else◌, refl}
 use Rattle.std.specs.Int.{w32, from_be_bytes, to_be_bytes}
 use Rattle.krb_frames.specs.declared.fault.ServeFault.{ServeFault}

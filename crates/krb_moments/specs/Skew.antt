@@ -1,4 +1,4 @@
--- Clock skew (RFC 4120 1.6, 5.9.1): by how much two clocks that agree may differ.
+-- Clock skew (RFC 4120, sections 1.6, 5.9.1): by how much two clocks that agree may differ.
 use Rattle.std.specs.Prelude.{ℕ, ◌+◌, nat_lt, Bool, ◌||◌}
 
 -- two moments differ by more than the skew; all three are in microseconds

@@ -1,4 +1,4 @@
--- Preauthentication data of a request (RFC 4120 5.2.7).
+-- Preauthentication data of a request (RFC 4120, section 5.2.7).
 use Rattle.std.specs.Prelude.{ℕ, List, Option}
 use Rattle.std.specs.List.{find}
 use Rattle.std.specs.Option.{option_map}

@@ -1,4 +1,4 @@
--- The time that a client seals under its own key (RFC 4120 5.2.7.2).
+-- The time that a client seals under its own key (RFC 4120, section 5.2.7.2).
 use Rattle.std.specs.Prelude.{◌≡◌, ℕ, List, Option, None, Some, ℤ, pos}
 use Rattle.std.specs.Option.{option_map}
 use Rattle.std.proofs.Common.{sym, ◌∙◌, subst}

@@ -1,4 +1,4 @@
-//! Preauthentication: the entries of a request, and the time that a client seals under its own key (RFC 4120, 5.2.7).
+//! Preauthentication: the entries of a request, and the time that a client seals under its own key (RFC 4120, section 5.2.7).
 #![tactic(auto)]
 
 mod entries;

@@ -15,7 +15,7 @@ pub record RealmState : Type 0 where
   pub settings : SettingsRecord
   pub accounts : AccountMap
 
--- the components of a realm's ticket-granting service (RFC 4120 7.3)
+-- the components of a realm's ticket-granting service (RFC 4120, section 7.3)
 abbrev pub krbtgt_of : List ℕ → List (List ℕ)
 krbtgt_of name = codes "krbtgt" ∷ name ∷ []
 

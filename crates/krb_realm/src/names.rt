@@ -11,7 +11,7 @@ use picky_krb::constants::types::NT_SRV_INST;
 use picky_krb::data_types::PrincipalName;
 use std::alloc::{AllocError, Global};
 
-/// The components of the ticket-granting service of a realm (RFC 4120 7.3).
+/// The components of the ticket-granting service of a realm (RFC 4120, section 7.3).
 pub(crate) fn krbtgt_of(
     alloc: Global,
     realm: &GeneralStringAsn1,
@@ -26,7 +26,7 @@ pub(crate) fn krbtgt_of(
     Ok(name)
 }
 
-/// The ticket-granting service of a realm, as messages name it (RFC 4120 7.3).
+/// The ticket-granting service of a realm, as messages name it (RFC 4120, section 7.3).
 pub(crate) fn ticket_service(
     alloc: Global,
     realm: &GeneralStringAsn1,

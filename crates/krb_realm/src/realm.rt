@@ -73,7 +73,7 @@ impl Realm {
     ghost use Rattle.krb_realm.specs.Judged.{IsGranted};
     ghost use Rattle.krb_replies.specs.Errors.{IsSecondOf, error_bytes};
 
-    /// A realm of this name, whose ticket-granting service `krbtgt/name` has this key (RFC 4120 7.3).
+    /// A realm of this name, whose ticket-granting service `krbtgt/name` has this key (RFC 4120, section 7.3).
     pub fn new(
         alloc: Global,
         name: &[u8],
@@ -175,7 +175,7 @@ impl Realm {
         Ok(())
     }
 
-    /// The reply to a message at a moment, with random bytes of which the first 128 count (RFC 4120 3.1).
+    /// The reply to a message at a moment, with random bytes of which the first 128 count (RFC 4120, section 3.1).
     ///
     /// `Unreadable` says that the bytes are the one encoding of no AS request and of no TGS request.
     pub fn answer(

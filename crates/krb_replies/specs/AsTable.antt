@@ -1,4 +1,4 @@
--- What an AS request is answered, in parts of one table, row by row: the first case that holds counts (RFC 4120 3.1.3).
+-- What an AS request is answered, in parts of one table, row by row: the first case that holds counts (RFC 4120, section 3.1.3).
 use Rattle.std.specs.Prelude.{ℕ, ◌+◌, ◌*◌, nat_le, nat_lt, Bool, false, not, ◌||◌, List, [], Option, Result, Ok, Err}
 use Rattle.std.specs.List.{list_any}
 use Rattle.std.specs.Option.{is_some, option_map, option_map_or}
@@ -21,11 +21,11 @@ use Rattle.krb_preauth.specs.Stamps.{IsStamp, moment_of, sole_stamp}
 use Rattle.krb_tickets.specs.Times.{end_of, start_of}
 use Rattle.krb_replies.specs.Grants.{granted}
 
--- one of forwarded, proxy, enc-tkt-in-skey, renew and validate (RFC 4120 5.4.1)
+-- one of forwarded, proxy, enc-tkt-in-skey, renew and validate (RFC 4120, section 5.4.1)
 abbrev pub has_refused_option : Bits → Bool
 has_refused_option options = bit_of options 2 || bit_of options 4 || bit_of options 28 || bit_of options 30 || bit_of options 31
 
--- postdated (RFC 4120 5.4.1)
+-- postdated (RFC 4120, section 5.4.1)
 abbrev pub is_postdated : Bits → Bool
 is_postdated options = bit_of options 6
 

@@ -1,4 +1,4 @@
--- The error message of a realm (RFC 4120 5.9.1).
+-- The error message of a realm (RFC 4120, section 5.9.1).
 use Rattle.std.specs.Prelude.{◌≡◌, ℕ, ◌/◌, List, [], ◌∷◌, Option, None, codes, pos}
 use Rattle.std.specs.Option.{option_map}
 use Rattle.std.proofs.Common.{sym, ◌∙◌}
@@ -11,7 +11,7 @@ use Rattle.krb_types.specs.declared.data_types.principal_name.PrincipalName.{Pri
 use Rattle.krb_rules.specs.One.{IsSole}
 use Rattle.krb_replies.specs.Messages.{krb_error_tree}
 
--- the ticket-granting service of a realm (RFC 4120 7.3), of name type 2
+-- the ticket-granting service of a realm (RFC 4120, section 7.3), of name type 2
 abbrev pub ticket_service : List ℕ → PrincipalName
 ticket_service realm = record {
   name_type = record { 0 = pos 2 };

@@ -1,4 +1,4 @@
--- The ticket that a realm grants (RFC 4120 3.1.3).
+-- The ticket that a realm grants (RFC 4120, section 3.1.3).
 use Rattle.std.specs.Prelude.{◌≡◌, ℕ, List, Result, Ok}
 use Rattle.std.proofs.Common.{sym, ◌∙◌}
 use Rattle.picky_asn1.specs.GeneralizedTime.{seconds_of}

@@ -1,4 +1,4 @@
--- The encodings of the messages that a realm reads and writes (RFC 4120 5.4 and 5.9).
+-- The encodings of the messages that a realm reads and writes (RFC 4120, sections 5.4 and 5.9).
 use Rattle.std.specs.Prelude.{ℕ, List}
 use Rattle.std.proofs.Common.{sym, ◌∙◌}
 use Rattle.asn1_trees.specs.Tree.{Tree, Writes, wrapped}

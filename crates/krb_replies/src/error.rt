@@ -10,7 +10,7 @@ use picky_asn1_der::{ApplicationTag, ExplicitContextTag, ExplicitContextTag12, O
 use picky_krb::messages::{KrbError, KrbErrorInner};
 use std::alloc::{AllocError, Global};
 
-// A Kerberos message's version and the type of an error (RFC 4120 5.9.1).
+// A Kerberos message's version and the type of an error (RFC 4120, section 5.9.1).
 const VERSION: u64 = 5;
 
 const ERROR_TYPE: u64 = 30;

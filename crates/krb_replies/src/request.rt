@@ -7,7 +7,7 @@ use picky_krb::messages::{AsReq, KdcReq, TgsReq};
 use picky_krb::read_whole;
 use std::alloc::{AllocError, Global};
 
-/// The AS request whose one encoding the bytes are, or none (RFC 4120 5.4.1).
+/// The AS request whose one encoding the bytes are, or none (RFC 4120, section 5.4.1).
 pub fn read_as_req(alloc: Global, bytes: &[u8]) -> Result<Option<KdcReq>, AllocError>
     ensures { IfOk result (IsFound (IsAsReq bytes.now)) }
 {
@@ -18,7 +18,7 @@ pub fn read_as_req(alloc: Global, bytes: &[u8]) -> Result<Option<KdcReq>, AllocE
     }
 }
 
-/// The TGS request whose one encoding the bytes are, or none (RFC 4120 5.4.1).
+/// The TGS request whose one encoding the bytes are, or none (RFC 4120, section 5.4.1).
 pub fn read_tgs_req(alloc: Global, bytes: &[u8]) -> Result<Option<KdcReq>, AllocError>
     ensures { IfOk result (IsFound (IsTgsReq bytes.now)) }
 {

@@ -1,4 +1,4 @@
--- Keys of messages (RFC 4120 5.2.9).
+-- Keys of messages (RFC 4120, section 5.2.9).
 use Rattle.std.specs.Prelude.{Bool, ◌==◌, ◌&&◌, length, Option, None, Some, if◌then◌else◌}
 use Rattle.krb_crypto.specs.declared.suite.CipherSuite.{CipherSuite}
 use Rattle.krb_crypto.specs.declared.suite.CipherSuite.TheVariants.{Aes128CtsHmacSha196, Aes256CtsHmacSha196}

@@ -1,4 +1,4 @@
--- Names of realms and principals (RFC 4120 5.2.1, 5.2.2, 6.1, 6.2), which are the same by their characters, in the same
+-- Names of realms and principals (RFC 4120, sections 5.2.1, 5.2.2, 6.1, 6.2), which are the same by their characters, in the same
 -- case, and never by their type.
 use Rattle.std.specs.Prelude.{ℕ, Bool, List}
 use Rattle.std.specs.Bool.{nat_eq}

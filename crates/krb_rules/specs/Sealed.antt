@@ -1,4 +1,4 @@
--- Encrypted data of messages (RFC 4120 5.2.9) that a key opens.
+-- Encrypted data of messages (RFC 4120, section 5.2.9) that a key opens.
 use Rattle.std.specs.Prelude.{◌≡◌, ℕ, true, List}
 use Rattle.asn1_trees.specs.Tree.{Tree}
 use Rattle.asn1_trees.proofs.Spelling.{IsInjective}

@@ -1,4 +1,4 @@
--- The moments that messages tell, as a time and its microseconds (RFC 4120 5.2.3, 5.2.4), in microseconds.
+-- The moments that messages tell, as a time and its microseconds (RFC 4120, sections 5.2.3, 5.2.4), in microseconds.
 use Rattle.std.specs.Prelude.{ℕ, ◌+◌, ◌*◌, nat_lt, Option, None, Some, ℤ, pos, negsuc, if◌then◌else◌}
 
 -- none where the microseconds aren't part of a second

@@ -1,4 +1,4 @@
--- A client and the time of an authenticator, by which a service tells authenticators apart (RFC 4120 3.2.3).
+-- A client and the time of an authenticator, by which a service tells authenticators apart (RFC 4120, section 3.2.3).
 use Rattle.std.specs.Prelude.{ℕ, ◌-◌, nat_le, nat_eq, Bool, ◌&&◌, List}
 use Rattle.std.specs.List.{list_any}
 use Rattle.std.specs.Cmp.{IsEquivalence}

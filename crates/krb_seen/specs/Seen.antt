@@ -1,4 +1,4 @@
--- What a service remembers of the authenticators that it has admitted (RFC 4120 3.2.3).
+-- What a service remembers of the authenticators that it has admitted (RFC 4120, section 3.2.3).
 use Rattle.std.specs.Prelude.{◌≡◌, ℕ, ◌&&◌, List}
 use Rattle.krb_seen.specs.Pair.{PairRecord, is_among, is_recent}
 

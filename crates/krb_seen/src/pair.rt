@@ -6,7 +6,7 @@ use picky_asn1::wrapper::GeneralStringAsn1;
 use std::marker::Model;
 
 /// A client, by its realm and the components of its name, and the time of one of its authenticators, to
-/// the microsecond (RFC 4120 5.5.1, `ctime` and `cusec`). Pairs are the same where the times are, and the
+/// the microsecond (RFC 4120, section 5.5.1, `ctime` and `cusec`). Pairs are the same where the times are, and the
 /// names have the same characters, in the same case. A contract sees the three.
 #[derive(Drop)]
 pub struct Pair {

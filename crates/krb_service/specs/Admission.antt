@@ -1,4 +1,4 @@
--- What a service is told of a client that it admits (RFC 4120 3.2.3).
+-- What a service is told of a client that it admits (RFC 4120, section 3.2.3).
 use Rattle.std.specs.Prelude.{ℕ, List, Option}
 use Rattle.krb_types.specs.declared.data_types.encryption_key.EncryptionKey.{EncryptionKey}
 use Rattle.krb_types.specs.declared.data_types.principal_name.PrincipalName.{PrincipalName}

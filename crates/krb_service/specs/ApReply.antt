@@ -1,4 +1,4 @@
--- The reply by which a service shows that it could open the ticket (RFC 4120 3.2.4, 5.5.2).
+-- The reply by which a service shows that it could open the ticket (RFC 4120, sections 3.2.4, 5.5.2).
 use Rattle.std.specs.Prelude.{◌≡◌, ℕ, Bool, true, false, List, take, Option, None, Some, pos}
 use Rattle.std.proofs.Common.{ap, sym, ◌∙◌}
 use Rattle.asn1_trees.specs.Tree.{der}
@@ -37,7 +37,7 @@ ap_rep_of part = record {
   enc_part = record { 0 = part };
 }
 
--- the bytes are the encoding of the reply, whose part is sealed under the session key (usage 12; RFC 4120 7.5.1)
+-- the bytes are the encoding of the reply, whose part is sealed under the session key (usage 12; RFC 4120, section 7.5.1)
 pub record IsApRep (suite : CipherSuite) (key confounder : List ℕ) (authenticator : AuthenticatorInner) (bytes : List ℕ) : Type 0 where
   pub cipher : List ℕ
   pub sealed : IsSealedBy suite key 12 confounder (der (ap_rep_part_tree (ap_rep_part authenticator))) cipher

@@ -1,4 +1,4 @@
--- How a service judges an AP request, in parts of one table: the first case that holds counts (RFC 4120 3.2.3).
+-- How a service judges an AP request, in parts of one table: the first case that holds counts (RFC 4120, section 3.2.3).
 use Rattle.std.specs.Prelude.{ℕ, ◌+◌, ◌*◌, nat_lt, Bool, true, not, ◌&&◌, ◌||◌, List, Option, Result, Ok, Err}
 use Rattle.std.specs.Option.{option_map, option_map_or}
 use Rattle.picky_asn1.specs.BitString.{bit_of}
@@ -50,7 +50,7 @@ addressed realm name suite number request =
 abbrev pub start_of : EncTicketPartInner → ℕ
 start_of part = option_map_or (λ told. seconds_of told.0.0) part.starttime.0 (seconds_of part.auth_time.0.0)
 
--- the ticket starts later than the moment and the skew, or isn't valid yet (flag 7; RFC 4120 2.2)
+-- the ticket starts later than the moment and the skew, or isn't valid yet (flag 7; RFC 4120, section 2.2)
 abbrev pub is_early : ℕ → ℕ → EncTicketPartInner → Bool
 is_early skew moment part = nat_lt (moment + skew) (start_of part * 1000000) || bit_of part.flags.0 7
 

@@ -1,4 +1,4 @@
--- The encodings of the messages that a service reads and writes, and what is sealed in them (RFC 4120 5.3, 5.5).
+-- The encodings of the messages that a service reads and writes, and what is sealed in them (RFC 4120, sections 5.3, 5.5).
 use Rattle.std.specs.Prelude.{ℕ, List}
 use Rattle.std.proofs.Common.{sym, ◌∙◌}
 use Rattle.asn1_trees.specs.Tree.{Tree, Writes, wrapped}
@@ -45,7 +45,7 @@ IsApReq bytes request = Writes ap_req_tree request bytes
 pub sole_ap_req : (bytes : List ℕ) → IsSole (IsApReq bytes)
 sole_ap_req bytes v w p q = wrapped-injective 110 ap_req.ghosts.tree ap_req.ghosts.injective v w p.0 q.0 (sym p.1 ∙ q.1)
 
--- the data is the ticket's part under the service's key (usage 2; RFC 4120 7.5.1)
+-- the data is the ticket's part under the service's key (usage 2; RFC 4120, section 7.5.1)
 abbrev pub IsTicketPart : CipherSuite → List ℕ → EncryptedData → EncTicketPartInner → Type 0
 IsTicketPart suite key encrypted part = IsSealedIn {T = EncTicketPartInner} ticket_part_tree suite key 2 encrypted part
 

@@ -1,4 +1,4 @@
--- What an AP request is made of, with what is sealed in it and the confounders (RFC 4120 3.2.2, 5.5.1; RFC 3961 5.3).
+-- What an AP request is made of, with what is sealed in it and the confounders (RFC 4120, sections 3.2.2, 5.5.1; RFC 3961, section 5.3).
 use Rattle.std.specs.Prelude.{◌≡◌, ℕ, List, Option, ℤ}
 use Rattle.std.specs.Option.{option_map}
 use Rattle.asn1_trees.specs.Tree.{Tree, Writes}
@@ -71,7 +71,7 @@ pub record Seals {T : Type 0} (tree : T → Tree) (key : List ℕ) (usage : ℕ)
   pub sealed : IsSealedBy suite key usage confounder plain cipher
 
 -- the bytes are the one encoding of an AP request with these outer fields, whose ticket seals the part under the
--- service's key (usage 2), and whose authenticator is sealed under the part's key (usage 11; RFC 4120 7.5.1)
+-- service's key (usage 2), and whose authenticator is sealed under the part's key (usage 11; RFC 4120, section 7.5.1)
 pub record Presents (key : List ℕ) (choice : Choice) (bytes : List ℕ) : Type 0 where
   pub part_cipher : List ℕ
   pub cipher : List ℕ

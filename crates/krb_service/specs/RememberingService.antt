@@ -1,4 +1,4 @@
--- The service that remembers each pair of client and time that it ever admitted (RFC 4120 3.2.3).
+-- The service that remembers each pair of client and time that it ever admitted (RFC 4120, section 3.2.3).
 use Rattle.std.specs.Prelude.{ℕ, List, ◌∷◌, Result, Ok, Err}
 use Rattle.picky_asn1.specs.BitString.{bit_of}
 use Rattle.picky_krb.specs.declared.messages.ap_req.ApReqInner.{ApReqInner}

@@ -1,4 +1,4 @@
--- A service (RFC 4120 1.1): its realm, its name, its key with suite and number, and what it has seen.
+-- A service (RFC 4120, section 1.1): its realm, its name, its key with suite and number, and what it has seen.
 use Rattle.std.specs.Prelude.{ℕ, ◌*◌, nat_le, not, ◌==◌, ◌||◌, List, [], length, Result, Ok, Err, if◌then◌else◌}
 use Rattle.krb_crypto.specs.declared.suite.CipherSuite.{CipherSuite}
 use Rattle.krb_crypto.specs.Suites.{cipher_key_size}

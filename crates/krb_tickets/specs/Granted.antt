@@ -1,4 +1,4 @@
--- The reply that grants a ticket (RFC 4120 3.1.3, 5.4.2).
+-- The reply that grants a ticket (RFC 4120, sections 3.1.3, 5.4.2).
 use Rattle.std.specs.Prelude.{◌≡◌, ℕ, List, take, drop}
 use Rattle.std.proofs.Common.{ap, sym, ◌∙◌}
 use Rattle.asn1_trees.specs.Tree.{der, wrapped}
@@ -49,7 +49,7 @@ sole_sealed account usage confounder plain a b x y =
     x.numbered ∙ ap (encrypted_by account) same ∙ sym y.numbered
 
 -- the bytes are the encoding of the reply in which the ticket's part is sealed under the service's key (usage 2), and
--- the reply's part under the client's (usage 3; RFC 4120 7.5.1)
+-- the reply's part under the client's (usage 3; RFC 4120, section 7.5.1)
 pub record IsAsReply (grant : Grant) (client service : AccountRecord) (words bytes : List ℕ) : Type 0 where
   pub ticket_data : EncryptedData
   pub ticket_sealed : IsSealedData service 2 (ticket_confounder words) (ticket_part_bytes (ticket_part grant)) ticket_data

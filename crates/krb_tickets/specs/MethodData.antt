@@ -1,4 +1,4 @@
--- What a client is told that has to authenticate first: the data of error 25 (RFC 4120 5.2.7.5, 5.9.1).
+-- What a client is told that has to authenticate first: the data of error 25 (RFC 4120, sections 5.2.7.5, 5.9.1).
 use Rattle.std.specs.Prelude.{◌≡◌, ℕ, List, [], ◌∷◌, Option, None, Some, pos, codes, refl, if◌then◌else◌}
 use Rattle.std.specs.Option.{option_map}
 use Rattle.asn1_trees.specs.Length.{element, length_octets}

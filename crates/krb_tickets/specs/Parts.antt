@@ -1,4 +1,4 @@
--- What a granted ticket and its reply hold (RFC 4120 3.1.3, 5.3, 5.4.2).
+-- What a granted ticket and its reply hold (RFC 4120, sections 3.1.3, 5.3, 5.4.2).
 use Rattle.std.specs.Prelude.{◌≡◌, ℕ, List, [], ◌∷◌, None, Some, pos, refl, take}
 use Rattle.picky_asn1.specs.BitString.{Bits}
 use Rattle.picky_asn1.specs.declared.date.GeneralizedTime.{GeneralizedTime}
@@ -34,15 +34,15 @@ encrypted_by account cipher = record {
   cipher = record { 0 = cipher };
 }
 
--- initial and preauthenticated (RFC 4120 5.3)
+-- initial and preauthenticated (RFC 4120, section 5.3)
 abbrev pub initial_flags : Bits
 initial_flags = record { octets = 0x00 ∷ 0x60 ∷ 0x00 ∷ 0x00 ∷ []; unused = 0 }
 
--- no realm was passed through, spelled as DOMAIN-X500-COMPRESS (RFC 4120 7.5.5)
+-- no realm was passed through, spelled as DOMAIN-X500-COMPRESS (RFC 4120, section 7.5.5)
 abbrev pub no_realms : TransitedEncoding
 no_realms = record { tr_type = record { 0 = pos 1 }; contents = record { 0 = [] } }
 
--- one last request, of type 0, which says nothing (RFC 4120 5.4.2)
+-- one last request, of type 0, which says nothing (RFC 4120, section 5.4.2)
 abbrev pub last_requests : GeneralizedTime → List LastReqInner
 last_requests start = record { lr_type = record { 0 = pos 0 }; lr_value = record { 0 = record { 0 = start } } } ∷ []
 

@@ -1,4 +1,4 @@
--- A ticket's times (RFC 4120 3.1.3), in seconds since 0000-01-01 00:00:00.
+-- A ticket's times (RFC 4120, section 3.1.3), in seconds since 0000-01-01 00:00:00.
 use Rattle.std.specs.Prelude.{◌≡◌, ℕ, ◌+◌, ◌/◌, ◌==◌, min, if◌then◌else◌}
 use Rattle.std.proofs.Common.{refl}
 

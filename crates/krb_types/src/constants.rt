@@ -2,53 +2,53 @@
 
 /// Message types, which are application tags too, further application tags, and name types.
 pub mod types {
-    /// An AS-REQ (RFC 4120 5.10).
+    /// An AS-REQ (RFC 4120, section 5.10).
     pub const AS_REQ_MSG_TYPE: u8 = 10;
 
-    /// An AS-REP (RFC 4120 5.10).
+    /// An AS-REP (RFC 4120, section 5.10).
     pub const AS_REP_MSG_TYPE: u8 = 11;
 
-    /// A TGS-REQ (RFC 4120 5.10).
+    /// A TGS-REQ (RFC 4120, section 5.10).
     pub const TGS_REQ_MSG_TYPE: u8 = 12;
 
-    /// A TGS-REP (RFC 4120 5.10).
+    /// A TGS-REP (RFC 4120, section 5.10).
     pub const TGS_REP_MSG_TYPE: u8 = 13;
 
-    /// An AP-REQ (RFC 4120 5.10).
+    /// An AP-REQ (RFC 4120, section 5.10).
     pub const AP_REQ_MSG_TYPE: u8 = 14;
 
-    /// An AP-REP (RFC 4120 5.10).
+    /// An AP-REP (RFC 4120, section 5.10).
     pub const AP_REP_MSG_TYPE: u8 = 15;
 
-    /// A KRB-ERROR (RFC 4120 5.10).
+    /// A KRB-ERROR (RFC 4120, section 5.10).
     pub const KRB_ERROR_MSG_TYPE: u8 = 30;
 
-    /// A ticket (RFC 4120 5.10).
+    /// A ticket (RFC 4120, section 5.10).
     pub const TICKET_TYPE: u8 = 1;
 
-    /// An authenticator (RFC 4120 5.10).
+    /// An authenticator (RFC 4120, section 5.10).
     pub const AUTHENTICATOR_TYPE: u8 = 2;
 
-    /// The sealed part of a ticket (RFC 4120 5.10).
+    /// The sealed part of a ticket (RFC 4120, section 5.10).
     pub const ENC_TICKET_PART_TYPE: u8 = 3;
 
-    /// The sealed part of an AS-REP (RFC 4120 5.10).
+    /// The sealed part of an AS-REP (RFC 4120, section 5.10).
     pub const ENC_AS_REP_PART_TYPE: u8 = 25;
 
-    /// The sealed part of a TGS-REP (RFC 4120 5.10).
+    /// The sealed part of a TGS-REP (RFC 4120, section 5.10).
     pub const ENC_TGS_REP_PART_TYPE: u8 = 26;
 
-    /// The sealed part of an AP-REP (RFC 4120 5.10).
+    /// The sealed part of an AP-REP (RFC 4120, section 5.10).
     pub const ENC_AP_REP_PART_TYPE: u8 = 27;
 
-    /// The name of a principal (RFC 4120 6.2).
+    /// The name of a principal (RFC 4120, section 6.2).
     pub const NT_PRINCIPAL: u8 = 1;
 
-    /// The name of a service and its instance (RFC 4120 6.2).
+    /// The name of a service and its instance (RFC 4120, section 6.2).
     pub const NT_SRV_INST: u8 = 2;
 }
 
-/// Codes of a KRB-ERROR (RFC 4120 7.5.9), those that a realm of this repository answers.
+/// Codes of a KRB-ERROR (RFC 4120, section 7.5.9), those that a realm of this repository answers.
 pub mod error_codes {
     /// The protocol version isn't 5.
     pub const KDC_ERR_BAD_PVNO: u32 = 3;

@@ -1,4 +1,4 @@
-//! What messages hold (RFC 4120 5.2 to 5.5).
+//! What messages hold (RFC 4120, sections 5.2 to 5.5).
 
 mod authenticator;
 mod authorization_data;
@@ -33,20 +33,20 @@ pub use principal_name::PrincipalName;
 pub use ticket::{Ticket, TicketInner};
 pub use transited_encoding::TransitedEncoding;
 
-/// A string (RFC 4120 5.2.1).
+/// A string (RFC 4120, section 5.2.1).
 pub type KerberosStringAsn1 = GeneralStringAsn1;
 
-/// The name of a realm (RFC 4120 5.2.2).
+/// The name of a realm (RFC 4120, section 5.2.2).
 pub type Realm = KerberosStringAsn1;
 
-/// A time to the second (RFC 4120 5.2.3).
+/// A time to the second (RFC 4120, section 5.2.3).
 pub type KerberosTime = GeneralizedTimeAsn1;
 
-/// Microseconds (RFC 4120 5.2.4): any number is read, since the rules that judge one say where.
+/// Microseconds (RFC 4120, section 5.2.4): any number is read, since the rules that judge one say where.
 pub type Microseconds = IntegerAsn1;
 
-/// Flags (RFC 4120 5.2.8): bits that are missing are 0.
+/// Flags (RFC 4120, section 5.2.8): bits that are missing are 0.
 pub type KerberosFlags = BitStringAsn1;
 
-/// The options of a request to a service (RFC 4120 5.5.1).
+/// The options of a request to a service (RFC 4120, section 5.5.1).
 pub type ApOptions = KerberosFlags;

@@ -1,4 +1,4 @@
-//! What Kerberos messages hold (RFC 4120 5.2 to 5.5), and the numbers of the standard.
+//! What Kerberos messages hold (RFC 4120, sections 5.2 to 5.5), and the numbers of the standard.
 //!
 //! The names, fields and tags are the standard's. `picky_krb` hands these modules on beside the messages.
 #![tactic(auto)]

@@ -1,4 +1,4 @@
--- Bit strings (X.690 8.6 and 11.2): octets, of which the last ends with some unused bits.
+-- Bit strings (X.690, sections 8.6 and 11.2): octets, of which the last ends with some unused bits.
 use Rattle.std.specs.Prelude.{ℕ, ◌-◌, ◌*◌, ◌/◌, ◌%◌, ◌^◌, Bool, ◌&&◌, ◌==◌, nat_le, if◌then◌else◌, List, ◌∷◌, length, slice_index, IsTrue}
 use Rattle.std.specs.Int.{bit_at}
 

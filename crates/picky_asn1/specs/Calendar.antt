@@ -1,4 +1,4 @@
--- The proleptic Gregorian calendar from the year 0 on (ISO 8601-1 4.2.1), with each day's place in it.
+-- The proleptic Gregorian calendar from the year 0 on (ISO 8601-1, section 4.2.1), with each day's place in it.
 use Rattle.std.specs.Prelude.{◌≡◌, ℕ, zero, suc, ◌+◌, ◌-◌, ◌*◌, ◌/◌, ◌%◌, ◌<◌, ◌≤◌, Bool, not, ◌&&◌, ◌||◌, ◌==◌, if◌then◌else◌, List, [], ◌∷◌, slice_index, refl}
 use Rattle.std.specs.Int.{IsInRange}
 

@@ -1,4 +1,4 @@
--- GeneralString as Kerberos has it: the characters of IA5String (RFC 4120 5.2.1).
+-- GeneralString as Kerberos has it: the characters of IA5String (RFC 4120, section 5.2.1).
 use Rattle.std.specs.Prelude.{ℕ, Bool, nat_lt, List, IsTrue}
 use Rattle.std.specs.List.{list_all}
 

@@ -1,4 +1,4 @@
--- GeneralizedTime of DER (X.690 11.7) without a fraction of a second, as Kerberos has it (RFC 4120 5.2.3).
+-- GeneralizedTime of DER (X.690, section 11.7) without a fraction of a second, as Kerberos has it (RFC 4120, section 5.2.3).
 use Rattle.std.specs.Prelude.{◌≡◌, ℕ, ◌+◌, ◌*◌, ◌/◌, ◌%◌, List, ◌++◌, codes, refl}
 use Rattle.picky_asn1.specs.declared.date.GeneralizedTime.{GeneralizedTime}
 use Rattle.picky_asn1.specs.Calendar.{day_number, days_of_months, two_digits}

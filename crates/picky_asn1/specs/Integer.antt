@@ -1,4 +1,4 @@
--- INTEGER: the fewest octets that are the number's two's complement (X.690 8.3).
+-- INTEGER: the fewest octets that are the number's two's complement (X.690, section 8.3).
 use Rattle.std.specs.Prelude.{◌≡◌, ℕ, ◌-◌, Bool, true, false, not, ◌&&◌, ◌||◌, ◌==◌, nat_lt, nat_le, if◌then◌else◌, List, [], ◌∷◌, map, slice_index, slice_index_or, ℤ, pos, negsuc, IsTrue, refl}
 use Rattle.std.specs.Int.Digits.{digits_of, number_from_digits}
 

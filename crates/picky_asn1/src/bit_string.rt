@@ -8,7 +8,7 @@ use crate::LeafFault;
 use std::alloc::{AllocError, Global};
 use std::marker::Model;
 
-/// A BIT STRING (X.690 8.6 and 11.2). A contract sees its octets and how many bits of the last are unused.
+/// A BIT STRING (X.690, sections 8.6 and 11.2). A contract sees its octets and how many bits of the last are unused.
 #[derive(Drop, Debug)]
 pub struct BitStringAsn1 {
     octets: Vec<u8>,

@@ -9,8 +9,8 @@ use jiff::civil::Date;
 // The first date of `jiff` is -9999-01-01.
 const DAYS_BEFORE_ZERO: u32 = 3_652_059;
 
-/// A time to the second in UTC, on the proleptic Gregorian calendar, in the years 0 to 9999 (X.680 46,
-/// RFC 4120 5.2.3). A leap second is none.
+/// A time to the second in UTC, on the proleptic Gregorian calendar, in the years 0 to 9999 (X.680, section 46,
+/// RFC 4120, section 5.2.3). A leap second is none.
 #[derive(Clone, Copy, Debug, PartialEq, Eq)]
 pub struct GeneralizedTime {
     pub year: u16,

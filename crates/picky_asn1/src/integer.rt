@@ -9,7 +9,7 @@ use crate::LeafFault;
 use std::alloc::{AllocError, Global};
 use std::marker::Model;
 
-/// An INTEGER of any size and sign (X.690 8.3). A contract sees a whole number.
+/// An INTEGER of any size and sign (X.690, section 8.3). A contract sees a whole number.
 #[derive(Drop, Debug)]
 pub struct IntegerAsn1 {
     octets: Vec<u8>,
@@ -149,7 +149,7 @@ impl Eq for IntegerAsn1 {
     ghost laws = { Prim.search (comparing, rules) };
 }
 
-// Whether the octets are the fewest for their number (X.690 8.3.2).
+// Whether the octets are the fewest for their number (X.690, section 8.3.2).
 fn is_integer(octets: &[u8]) -> bool
     ensures { result ≡ is_integer octets.now }
 {

@@ -8,7 +8,7 @@ ghost use Rattle.std.proofs.Common.{rules};
 use std::alloc::{AllocError, Global};
 use std::marker::Model;
 
-/// An OCTET STRING (X.690 8.7): any octets. A contract sees their list.
+/// An OCTET STRING (X.690, section 8.7): any octets. A contract sees their list.
 #[derive(Drop, Debug)]
 pub struct OctetStringAsn1 {
     octets: Vec<u8>,

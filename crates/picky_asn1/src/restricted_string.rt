@@ -11,7 +11,7 @@ use crate::LeafFault;
 use std::alloc::{AllocError, Global};
 use std::marker::Model;
 
-/// A GeneralString of characters below 128, the only ones that Kerberos has in it (RFC 4120 5.2.1). A
+/// A GeneralString of characters below 128, the only ones that Kerberos has in it (RFC 4120, section 5.2.1). A
 /// contract sees their list.
 #[derive(Drop, Debug)]
 pub struct GeneralStringAsn1 {

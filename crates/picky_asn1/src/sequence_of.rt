@@ -5,7 +5,7 @@ use devices::{Sink, Source};
 use picky_asn1_der::{Asn1DerError, Deserialize, Deserializer, Elements, Serialize, Serializer};
 use std::marker::Model;
 
-/// A SEQUENCE OF (X.690 8.10), whose order is kept as given. A contract sees the list of its values.
+/// A SEQUENCE OF (X.690, section 8.10), whose order is kept as given. A contract sees the list of its values.
 #[derive(Drop, Debug)]
 pub struct Asn1SequenceOf<T> {
     items: Vec<T>,

@@ -8,7 +8,7 @@ pub use crate::octet_string::OctetStringAsn1;
 pub use crate::restricted_string::GeneralStringAsn1;
 pub use crate::sequence_of::Asn1SequenceOf;
 
-/// A GeneralizedTime (X.690 11.7). Its content octets are the time's 15 characters.
+/// A GeneralizedTime (X.690, section 11.7). Its content octets are the time's 15 characters.
 #[derive(Clone, Copy, Debug, PartialEq, Eq)]
 pub struct GeneralizedTimeAsn1(pub GeneralizedTime);
 

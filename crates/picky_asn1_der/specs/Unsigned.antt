@@ -1,4 +1,4 @@
--- INTEGER, of the numbers that aren't negative (X.690, 8.3).
+-- INTEGER, of the numbers that aren't negative (X.690, section 8.3).
 use Rattle.std.specs.Prelude.{◌≡◌, ℕ, ◌<◌, ◌≤◌, ◌&&◌, ◌==◌, nat_lt, if◌then◌else◌, List, [], ◌∷◌, refl}
 use Rattle.asn1_trees.specs.Length.{digits, digits_within}
 use Rattle.asn1_trees.specs.Tree.{Tree, leaf}

@@ -8,7 +8,7 @@ use crate::error::Asn1DerError;
 use crate::ser::{Serialize, Serializer};
 use devices::{Sink, Source};
 
-/// A value under the constructed application tag `TAG` (X.690, 8.14), which is below 31.
+/// A value under the constructed application tag `TAG` (X.690, section 8.14), which is below 31.
 #[derive(Clone, Copy, Debug, Drop, PartialEq, Eq)]
 pub struct ApplicationTag<V, const TAG: u8>(pub V);
 

@@ -243,7 +243,7 @@ impl<R: Source> Deserializer<R> {
         self.limit = outside;
     }
 
-    /// Takes an element with the identifier octet `tag`, and gives its content (X.690, 8.1).
+    /// Takes an element with the identifier octet `tag`, and gives its content (X.690, section 8.1).
     pub fn content(&mut self, tag: u8) -> Result<Vec<u8>, Asn1DerError>
         ensures { MatchResult result
             (λ content. Took (element tag content.items) self.old self.new)

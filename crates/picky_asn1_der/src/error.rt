@@ -7,15 +7,15 @@ use thiserror::Error;
 /// A rule of a value's own type, which its content breaks.
 #[derive(Clone, Copy, Debug, PartialEq, Eq)]
 pub enum Rule {
-    /// What an INTEGER is (X.690 8.3).
+    /// What an INTEGER is (X.690, section 8.3).
     Integer,
-    /// What an OBJECT IDENTIFIER is (X.690 8.19).
+    /// What an OBJECT IDENTIFIER is (X.690, section 8.19).
     ObjectIdentifier,
-    /// What a BIT STRING is (X.690 11.2).
+    /// What a BIT STRING is (X.690, section 11.2).
     BitString,
-    /// The characters of a string type (X.680 41).
+    /// The characters of a string type (X.680, section 41).
     Characters,
-    /// What a time is (X.690 11.7 and 11.8).
+    /// What a time is (X.690, sections 11.7 and 11.8).
     Time,
 }
 

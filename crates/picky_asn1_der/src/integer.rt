@@ -12,7 +12,7 @@ use crate::ser::{Serialize, Serializer};
 use devices::{Sink, Source};
 use std::marker::Model;
 
-// The identifier octet of an INTEGER (X.690, 8.3.1).
+// The identifier octet of an INTEGER (X.690, section 8.3.1).
 const INTEGER: u8 = 2;
 
 impl Serialize for u32 {
@@ -68,7 +68,7 @@ fn write_unsigned<W: Sink>(to: &mut Serializer<W>, number: u128) -> Result<usize
     to.element(INTEGER, UnsignedContent::of(number).as_bytes())
 }
 
-/// The number of at most `most` whose content octets these are (X.690, 8.3).
+/// The number of at most `most` whose content octets these are (X.690, section 8.3).
 fn unsigned_of(content: &[u8], most: u128) -> Result<u128, Asn1DerError>
     ensures { MatchResult result
         (λ number. (number ≤ most) × (unsigned_content number ≡ content.now))
@@ -89,7 +89,7 @@ fn unsigned_of(content: &[u8], most: u128) -> Result<u128, Asn1DerError>
     Ok(number)
 }
 
-/// Refuses octets that are the content of no number that isn't negative (X.690, 8.3.2).
+/// Refuses octets that are the content of no number that isn't negative (X.690, section 8.3.2).
 fn check_unsigned(content: &[u8]) -> Result<(), Asn1DerError>
     ensures { MatchResult result
         (λ _. IsUnsigned content.now)
@@ -123,7 +123,7 @@ impl Model for UnsignedContent {
 
 impl UnsignedContent {
     /// The content octets of `number`: its digits to the base 256, and a zero before a first digit that
-    /// would say that the number is negative (X.690, 8.3.3).
+    /// would say that the number is negative (X.690, section 8.3.3).
     fn of(number: u128) -> UnsignedContent
         ensures { result ≡ unsigned_content number }
     {

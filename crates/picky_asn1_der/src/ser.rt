@@ -106,7 +106,7 @@ impl<W: Sink> Serializer<W> {
         Asn1DerError::Memory
     }
 
-    /// Writes one element: its identifier octet `tag`, its length and `content` (X.690, 8.1).
+    /// Writes one element: its identifier octet `tag`, its length and `content` (X.690, section 8.1).
     pub fn element(&mut self, tag: u8, content: &[u8]) -> Result<usize, Asn1DerError>
         ensures { MatchResult result
             (λ count. Wrote (element tag content.now) self.old self.new × (count ≡ length (element tag content.now)))
@@ -119,7 +119,7 @@ impl<W: Sink> Serializer<W> {
         Ok(1 + octets.as_bytes().len() + content.len())
     }
 
-    /// Writes one element whose content is `lead` and then `content`, as a BIT STRING's is (X.690, 8.6.2).
+    /// Writes one element whose content is `lead` and then `content`, as a BIT STRING's is (X.690, section 8.6.2).
     pub fn element_behind(
         &mut self,
         tag: u8,

@@ -20,7 +20,7 @@ impl<T> From<T> for Optional<T> {
     }
 }
 
-/// A value under the explicit context tag `N` (X.690, 8.14.3), which is below 31.
+/// A value under the explicit context tag `N` (X.690, section 8.14.3), which is below 31.
 #[derive(Clone, Copy, Debug, Drop, PartialEq, Eq)]
 pub struct ExplicitContextTag<const N: u8, T>(pub T);
 

@@ -1,4 +1,4 @@
--- Sealed parts of messages (RFC 3961 5.3).
+-- Sealed parts of messages (RFC 3961, section 5.3).
 use Rattle.std.specs.Prelude.{◌≡◌, ◌⊎◌, ℕ, List, Result, Ok, Err}
 use Rattle.std.proofs.Common.{sym, ◌∙◌}
 use Rattle.asn1_trees.specs.Tree.{Tree, Writes}

@@ -1,4 +1,4 @@
-//! Messages between clients, a KDC and services (RFC 4120 5.4, 5.5 and 5.9).
+//! Messages between clients, a KDC and services (RFC 4120, sections 5.4, 5.5 and 5.9).
 
 mod ap_rep;
 mod ap_req;

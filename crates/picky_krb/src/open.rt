@@ -20,7 +20,7 @@ pub enum OpenFault {
     Der(Asn1DerError),
 }
 
-/// The value whose encoding is sealed here under this key, for this usage, with nothing behind it (RFC 3961, 5.3).
+/// The value whose encoding is sealed here under this key, for this usage, with nothing behind it (RFC 3961, section 5.3).
 pub fn open_part<T: Deserialize>(
     alloc: Global,
     suite: CipherSuite,

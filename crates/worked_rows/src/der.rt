@@ -210,7 +210,7 @@ fn optional_fields(rt: HostRuntime) -> Result<(), Fail> {
     Ok(())
 }
 
-// The lengths 38 and 201 are those of X.690, 8.1.3.4 and 8.1.3.5.
+// The lengths 38 and 201 are those of X.690, sections 8.1.3.4 and 8.1.3.5.
 #[test]
 fn lists(rt: HostRuntime) -> Result<(), Fail> {
     let cases: [(usize, usize, &[u8]); 2] = [(10, 2, &[0x30, 38]), (67, 0, &[0x30, 0x81, 0xC9])];
@@ -238,7 +238,7 @@ fn lists(rt: HostRuntime) -> Result<(), Fail> {
     Ok(())
 }
 
-// More length octets than the length needs (X.690, 10.1), and an indefinite length.
+// More length octets than the length needs (X.690, section 10.1), and an indefinite length.
 #[test]
 fn refused_lengths(rt: HostRuntime) {
     let cases: [&[u8]; 4] = [

@@ -10,7 +10,7 @@ use picky_asn1::wrapper::{
 use std::alloc::Global;
 use std::test::Fail;
 
-// X.690, 8.1.3.4 and 8.1.3.5.
+// X.690, sections 8.1.3.4 and 8.1.3.5.
 #[test]
 fn lengths(rt: HostRuntime) {
     let cases: [(usize, &[u8]); 2] = [(38, &[0x26]), (201, &[0x81, 0xC9])];
@@ -22,7 +22,7 @@ fn lengths(rt: HostRuntime) {
     assert_eq!(rt; following(0x81), Some(1));
 }
 
-// One octet would do for 38, and 80 begins the indefinite form (X.690, 8.1.3.6 and 10.1).
+// One octet would do for 38, and 80 begins the indefinite form (X.690, sections 8.1.3.6 and 10.1).
 #[test]
 fn other_lengths(rt: HostRuntime) {
     assert_eq!(rt; length_of(&[0x81, 0x26]), None);
@@ -46,7 +46,7 @@ fn integers(rt: HostRuntime) -> Result<(), Fail> {
     Ok(())
 }
 
-// More octets than the number needs, or none (X.690, 8.3.1 and 8.3.2).
+// More octets than the number needs, or none (X.690, sections 8.3.1 and 8.3.2).
 #[test]
 fn no_integers(rt: HostRuntime) -> Result<(), Fail> {
     let cases: [&[u8]; 3] = [&[0x00, 0x7F], &[0xFF, 0x80], &[]];

@@ -1,4 +1,4 @@
-//! The cipher and its inverse on one block (FIPS 197, 5.1 and 5.3), and the sum of two blocks.
+//! The cipher and its inverse on one block (FIPS 197, sections 5.1 and 5.3), and the sum of two blocks.
 
 ghost use Rattle.std.specs.Prelude.{◌≡◌};
 ghost use Rattle.krb_blocks.specs.Bytes.{IsBytes, sum_of_bytes};
@@ -26,7 +26,7 @@ impl KeySchedule {
 }
 
 impl InverseSchedule {
-    /// The block whose cipher this is, by the equivalent inverse cipher (FIPS 197, 5.3.5). Out of line as above.
+    /// The block whose cipher this is, by the equivalent inverse cipher (FIPS 197, section 5.3.5). Out of line as above.
     #[inline(never)]
     pub(crate) fn decrypt_block(&self, block: &[u8; 16]) -> [u8; 16]
         ensures is_inverse { result ≡ inv_cipher (schedule_of self.now.keys.rounds self.now.keys.words) self.now.keys.rounds block.now }

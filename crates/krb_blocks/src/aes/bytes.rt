@@ -7,7 +7,7 @@ ghost use Rattle.krb_blocks.specs.Words.{inv_sub_word};
 ghost use Rattle.krb_blocks.specs.Bytes.{sum_of_bytes};
 ghost use Rattle.krb_blocks.specs.Field.{sub_byte, inv_sub_byte};
 
-/// The byte that replaces each byte (FIPS 197, 5.1.1, table 4).
+/// The byte that replaces each byte (FIPS 197, section 5.1.1, table 4).
 #[rattlefmt::skip]
 const SUBSTITUTION: [u8; 256] = [
     0x63, 0x7c, 0x77, 0x7b, 0xf2, 0x6b, 0x6f, 0xc5, 0x30, 0x01, 0x67, 0x2b, 0xfe, 0xd7, 0xab, 0x76,
@@ -28,7 +28,7 @@ const SUBSTITUTION: [u8; 256] = [
     0x8c, 0xa1, 0x89, 0x0d, 0xbf, 0xe6, 0x42, 0x68, 0x41, 0x99, 0x2d, 0x0f, 0xb0, 0x54, 0xbb, 0x16,
 ];
 
-/// The byte that each byte replaces (FIPS 197, 5.3.2, table 6).
+/// The byte that each byte replaces (FIPS 197, section 5.3.2, table 6).
 #[rattlefmt::skip]
 const INVERSE_SUBSTITUTION: [u8; 256] = [
     0x52, 0x09, 0x6a, 0xd5, 0x30, 0x36, 0xa5, 0x38, 0xbf, 0x40, 0xa3, 0x9e, 0x81, 0xf3, 0xd7, 0xfb,
@@ -49,14 +49,14 @@ const INVERSE_SUBSTITUTION: [u8; 256] = [
     0x17, 0x2b, 0x04, 0x7e, 0xba, 0x77, 0xd6, 0x26, 0xe1, 0x69, 0x14, 0x63, 0x55, 0x21, 0x0c, 0x7d,
 ];
 
-/// The substitution of one byte (FIPS 197, 5.1.1).
+/// The substitution of one byte (FIPS 197, section 5.1.1).
 pub(crate) fn sub_byte(byte: u8) -> u8
     ensures { result ≡ sub_byte byte }
 {
     SUBSTITUTION[byte as usize]
 }
 
-/// The byte whose substitution this is (FIPS 197, 5.3.2).
+/// The byte whose substitution this is (FIPS 197, section 5.3.2).
 pub(crate) fn inv_sub_byte(byte: u8) -> u8
     ensures { result ≡ inv_sub_byte byte }
 {

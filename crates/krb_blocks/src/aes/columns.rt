@@ -1,5 +1,5 @@
 //! A block as four words, and the rounds of the cipher and of the equivalent inverse cipher on it
-//! (FIPS 197, 5.1 and 5.3.5).
+//! (FIPS 197, sections 5.1 and 5.3.5).
 
 ghost use Rattle.std.specs.Prelude.{◌≡◌, ◌+◌, ◌*◌, ◌≤◌, length};
 ghost use Rattle.std.specs.Int.{w32, to_be_bytes};
@@ -8,7 +8,7 @@ ghost use Rattle.krb_blocks.specs.Aes.{word};
 use super::bytes::{inv_substituted_word, substituted_word};
 use super::mixing::{mixed_word, unmixed_word};
 
-/// A state (FIPS 197, 3.4): a word for each column, whose highest byte stands in row 0.
+/// A state (FIPS 197, section 3.4): a word for each column, whose highest byte stands in row 0.
 #[derive(Clone, Copy)]
 pub(crate) struct Columns {
     pub(crate) a: u32,
@@ -47,7 +47,7 @@ impl Columns {
         ]
     }
 
-    /// AddRoundKey (FIPS 197, 5.1.4).
+    /// AddRoundKey (FIPS 197, section 5.1.4).
     pub(crate) fn plus(self, key: Columns) -> Columns
         ensures { block_of result ≡ add_round_key (block_of self) (block_of key) }
     {
@@ -59,7 +59,7 @@ impl Columns {
         }
     }
 
-    /// A round that mixes columns (FIPS 197, 5.1).
+    /// A round that mixes columns (FIPS 197, section 5.1).
     pub(crate) fn round(self, key: Columns) -> Columns
         ensures { block_of result ≡
             add_round_key (mix_columns (shift_rows (sub_bytes (block_of self)))) (block_of key) }
@@ -76,7 +76,7 @@ impl Columns {
         }
     }
 
-    /// The last round, which mixes no columns (FIPS 197, 5.1).
+    /// The last round, which mixes no columns (FIPS 197, section 5.1).
     pub(crate) fn last_round(self, key: Columns) -> Columns
         ensures { block_of result ≡ add_round_key (shift_rows (sub_bytes (block_of self))) (block_of key) }
     {
@@ -92,7 +92,7 @@ impl Columns {
         }
     }
 
-    /// A round of the equivalent inverse cipher that unmixes columns (FIPS 197, 5.3.5).
+    /// A round of the equivalent inverse cipher that unmixes columns (FIPS 197, section 5.3.5).
     pub(crate) fn inv_round(self, key: Columns) -> Columns
         ensures { block_of result ≡
             add_round_key (inv_mix_columns (inv_sub_bytes (inv_shift_rows (block_of self)))) (block_of key) }
@@ -109,7 +109,7 @@ impl Columns {
         }
     }
 
-    /// The last round of the equivalent inverse cipher (FIPS 197, 5.3.5).
+    /// The last round of the equivalent inverse cipher (FIPS 197, section 5.3.5).
     pub(crate) fn inv_last_round(self, key: Columns) -> Columns
         ensures { block_of result ≡
             add_round_key (inv_sub_bytes (inv_shift_rows (block_of self))) (block_of key) }

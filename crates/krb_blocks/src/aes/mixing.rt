@@ -161,7 +161,7 @@ const MIXED_3: [u32; 256] = [
 ];
 
 /// What a byte in place 0 of a column adds to the unmixed column: the byte that it replaces times 0e 09 0d 0b
-/// (FIPS 197, 5.3.2 and 5.3.3).
+/// (FIPS 197, sections 5.3.2 and 5.3.3).
 #[rattlefmt::skip]
 const UNMIXED_0: [u32; 256] = [
     0x51f4a750, 0x7e416553, 0x1a17a4c3, 0x3a275e96, 0x3bab6bcb, 0x1f9d45f1, 0xacfa58ab, 0x4be30393,
@@ -199,7 +199,7 @@ const UNMIXED_0: [u32; 256] = [
 ];
 
 /// What a byte in place 1 of a column adds to the unmixed column: the byte that it replaces times 0b 0e 09 0d
-/// (FIPS 197, 5.3.2 and 5.3.3).
+/// (FIPS 197, sections 5.3.2 and 5.3.3).
 #[rattlefmt::skip]
 const UNMIXED_1: [u32; 256] = [
     0x5051f4a7, 0x537e4165, 0xc31a17a4, 0x963a275e, 0xcb3bab6b, 0xf11f9d45, 0xabacfa58, 0x934be303,
@@ -237,7 +237,7 @@ const UNMIXED_1: [u32; 256] = [
 ];
 
 /// What a byte in place 2 of a column adds to the unmixed column: the byte that it replaces times 0d 0b 0e 09
-/// (FIPS 197, 5.3.2 and 5.3.3).
+/// (FIPS 197, sections 5.3.2 and 5.3.3).
 #[rattlefmt::skip]
 const UNMIXED_2: [u32; 256] = [
     0xa75051f4, 0x65537e41, 0xa4c31a17, 0x5e963a27, 0x6bcb3bab, 0x45f11f9d, 0x58abacfa, 0x03934be3,
@@ -275,7 +275,7 @@ const UNMIXED_2: [u32; 256] = [
 ];
 
 /// What a byte in place 3 of a column adds to the unmixed column: the byte that it replaces times 09 0d 0b 0e
-/// (FIPS 197, 5.3.2 and 5.3.3).
+/// (FIPS 197, sections 5.3.2 and 5.3.3).
 #[rattlefmt::skip]
 const UNMIXED_3: [u32; 256] = [
     0xf4a75051, 0x4165537e, 0x17a4c31a, 0x275e963a, 0xab6bcb3b, 0x9d45f11f, 0xfa58abac, 0xe303934b,
@@ -312,7 +312,7 @@ const UNMIXED_3: [u32; 256] = [
     0xa8017139, 0x0cb3de08, 0xb4e49cd8, 0x56c19064, 0xcb84617b, 0x32b670d5, 0x6c5c7448, 0xb85742d0,
 ];
 
-/// The column of these bytes substituted and mixed, and a column of the round key added (FIPS 197, 5.1).
+/// The column of these bytes substituted and mixed, and a column of the round key added (FIPS 197, section 5.1).
 /// The key stands first, so that the machine adds word by word and not all four at once.
 pub(crate) fn mixed_word(key: u32, a: u8, b: u8, c: u8, d: u8) -> u32
     ensures { to_be_bytes w32 result ≡
@@ -321,7 +321,7 @@ pub(crate) fn mixed_word(key: u32, a: u8, b: u8, c: u8, d: u8) -> u32
     key ^ MIXED_0[a as usize] ^ MIXED_1[b as usize] ^ MIXED_2[c as usize] ^ MIXED_3[d as usize]
 }
 
-/// The column of the bytes that these replace, unmixed, and a column of a key added (FIPS 197, 5.3.5).
+/// The column of the bytes that these replace, unmixed, and a column of a key added (FIPS 197, section 5.3.5).
 pub(crate) fn unmixed_word(key: u32, a: u8, b: u8, c: u8, d: u8) -> u32
     ensures { to_be_bytes w32 result ≡
         sum_of_bytes 4 (column_product unmixing (inv_sub_word (a ∷ b ∷ c ∷ d ∷ []))) (to_be_bytes w32 key) }
@@ -332,7 +332,7 @@ pub(crate) fn unmixed_word(key: u32, a: u8, b: u8, c: u8, d: u8) -> u32
         ^ UNMIXED_3[d as usize]
 }
 
-/// A column of a round key, unmixed (FIPS 197, 5.3.5).
+/// A column of a round key, unmixed (FIPS 197, section 5.3.5).
 pub(crate) fn unmixed_key(word: u32) -> u32
     ensures { to_be_bytes w32 result ≡ column_product unmixing (to_be_bytes w32 word) }
 {

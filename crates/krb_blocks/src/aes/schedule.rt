@@ -1,4 +1,4 @@
-//! The key expansion (FIPS 197, 5.2), and the round keys of the equivalent inverse cipher (5.3.5).
+//! The key expansion (FIPS 197, section 5.2), and the round keys of the equivalent inverse cipher (5.3.5).
 
 ghost use Rattle.std.specs.Prelude.{◌≡◌, ◌⊎◌, ◌+◌, ◌*◌, ◌/◌, ◌<◌, ◌≤◌, length, take};
 ghost use Rattle.std.specs.Int.{w32, to_be_bytes};
@@ -10,7 +10,7 @@ use super::bytes::substituted_word;
 use super::columns::{Columns, word_at};
 use super::mixing::unmixed_key;
 
-/// The round constants as words, from the first on (FIPS 197, 5.2).
+/// The round constants as words, from the first on (FIPS 197, section 5.2).
 const ROUND_CONSTANTS: [u32; 10] = [
     0x0100_0000,
     0x0200_0000,

@@ -12,7 +12,7 @@ use picky_asn1_der::{
     Fields, Optional, OptionalField, Serialize, Serializer,
 };
 
-/// What an authenticator holds (RFC 4120 5.5.1).
+/// What an authenticator holds (RFC 4120, section 5.5.1).
 #[derive(Debug, Drop)]
 pub struct AuthenticatorInner {
     /// The version, 5.
@@ -35,7 +35,7 @@ pub struct AuthenticatorInner {
     pub authorization_data: Optional<Option<ExplicitContextTag8<AuthorizationData>>>,
 }
 
-/// An authenticator (RFC 4120 5.5.1): it shows that the client of a ticket knows the session key.
+/// An authenticator (RFC 4120, section 5.5.1): it shows that the client of a ticket knows the session key.
 pub type Authenticator = ApplicationTag<AuthenticatorInner, AUTHENTICATOR_TYPE>;
 
 type AuthenticatorInnerFields = Field<

@@ -6,16 +6,16 @@ use picky_asn1_der::{
     Fields, Serialize, Serializer,
 };
 
-/// One entry of authorization data (RFC 4120 5.2.6).
+/// One entry of authorization data (RFC 4120, section 5.2.6).
 #[derive(Debug, Drop)]
 pub struct AuthorizationDataInner {
-    /// What the entry holds (RFC 4120 7.5.4); a negative type is for use within one site.
+    /// What the entry holds (RFC 4120, section 7.5.4); a negative type is for use within one site.
     pub ad_type: ExplicitContextTag0<IntegerAsn1>,
     /// The data of that type.
     pub ad_data: ExplicitContextTag1<OctetStringAsn1>,
 }
 
-/// Authorization data (RFC 4120 5.2.6): entries that narrow what a ticket grants.
+/// Authorization data (RFC 4120, section 5.2.6): entries that narrow what a ticket grants.
 pub type AuthorizationData = Asn1SequenceOf<AuthorizationDataInner>;
 
 type AuthorizationDataInnerFields = Field<

@@ -6,10 +6,10 @@ use picky_asn1_der::{
     Fields, Serialize, Serializer,
 };
 
-/// A checksum (RFC 4120 5.2.9).
+/// A checksum (RFC 4120, section 5.2.9).
 #[derive(Debug, Drop)]
 pub struct Checksum {
-    /// The checksum type (RFC 3961 8).
+    /// The checksum type (RFC 3961, section 8).
     pub cksumtype: ExplicitContextTag0<IntegerAsn1>,
     /// The bytes of the checksum.
     pub checksum: ExplicitContextTag1<OctetStringAsn1>,

@@ -9,7 +9,7 @@ use picky_asn1_der::{
     OptionalField, Serialize, Serializer,
 };
 
-/// What a service's reply holds under the session key (RFC 4120 5.5.2).
+/// What a service's reply holds under the session key (RFC 4120, section 5.5.2).
 #[derive(Debug, Drop)]
 pub struct EncApRepPartInner {
     /// The client's time, as the authenticator has it.
@@ -22,7 +22,7 @@ pub struct EncApRepPartInner {
     pub seq_number: Optional<Option<ExplicitContextTag3<IntegerAsn1>>>,
 }
 
-/// The sealed part of a service's reply (RFC 4120 5.5.2).
+/// The sealed part of a service's reply (RFC 4120, section 5.5.2).
 pub type EncApRepPart = ApplicationTag<EncApRepPartInner, ENC_AP_REP_PART_TYPE>;
 
 type EncApRepPartInnerFields = Field<

@@ -13,10 +13,10 @@ use picky_asn1_der::{
     Serializer,
 };
 
-/// What a ticket holds under the service's key (RFC 4120 5.3).
+/// What a ticket holds under the service's key (RFC 4120, section 5.3).
 #[derive(Debug, Drop)]
 pub struct EncTicketPartInner {
-    /// The flags of the ticket (RFC 4120 5.3, TicketFlags).
+    /// The flags of the ticket (RFC 4120, section 5.3, TicketFlags).
     pub flags: ExplicitContextTag0<KerberosFlags>,
     /// The session key, which client and service share.
     pub key: ExplicitContextTag1<EncryptionKey>,
@@ -40,7 +40,7 @@ pub struct EncTicketPartInner {
     pub authorization_data: Optional<Option<ExplicitContextTag10<AuthorizationData>>>,
 }
 
-/// The sealed part of a ticket (RFC 4120 5.3).
+/// The sealed part of a ticket (RFC 4120, section 5.3).
 pub type EncTicketPart = ApplicationTag<EncTicketPartInner, ENC_TICKET_PART_TYPE>;
 
 type EncTicketPartInnerFields = Field<

@@ -6,7 +6,7 @@ use picky_asn1_der::{
     ExplicitContextTag2, Field, Fields, Optional, OptionalField, Serialize, Serializer,
 };
 
-/// Encrypted data (RFC 4120 5.2.9).
+/// Encrypted data (RFC 4120, section 5.2.9).
 #[derive(Debug, Drop)]
 pub struct EncryptedData {
     /// The encryption type.

@@ -6,10 +6,10 @@ use picky_asn1_der::{
     Fields, Serialize, Serializer,
 };
 
-/// A key (RFC 4120 5.2.9). `Debug` prints it.
+/// A key (RFC 4120, section 5.2.9). `Debug` prints it.
 #[derive(Debug, Drop)]
 pub struct EncryptionKey {
-    /// The encryption type that the key is for (RFC 3961 8).
+    /// The encryption type that the key is for (RFC 3961, section 8).
     pub key_type: ExplicitContextTag0<IntegerAsn1>,
     /// The bytes of the key.
     pub key_value: ExplicitContextTag1<OctetStringAsn1>,

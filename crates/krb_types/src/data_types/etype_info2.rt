@@ -7,18 +7,18 @@ use picky_asn1_der::{
     ExplicitContextTag2, Field, Fields, Optional, OptionalField, Serialize, Serializer,
 };
 
-/// How a key of one encryption type is made of a password (RFC 4120 5.2.7.5).
+/// How a key of one encryption type is made of a password (RFC 4120, section 5.2.7.5).
 #[derive(Debug, Drop)]
 pub struct EtypeInfo2Entry {
     /// The encryption type.
     pub etype: ExplicitContextTag0<IntegerAsn1>,
-    /// The salt; where it is missing, the realm and the principal's components are one (RFC 4120 4).
+    /// The salt; where it is missing, the realm and the principal's components are one (RFC 4120, section 4).
     pub salt: Optional<Option<ExplicitContextTag1<KerberosStringAsn1>>>,
     /// Further parameters of the encryption type's own.
     pub s2kparams: Optional<Option<ExplicitContextTag2<OctetStringAsn1>>>,
 }
 
-/// Such entries, those that the KDC prefers first (RFC 4120 5.2.7.5). The standard's are never empty; an empty list is read
+/// Such entries, those that the KDC prefers first (RFC 4120, section 5.2.7.5). The standard's are never empty; an empty list is read
 /// and written.
 pub type EtypeInfo2 = Asn1SequenceOf<EtypeInfo2Entry>;
 

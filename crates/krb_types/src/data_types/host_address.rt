@@ -6,16 +6,16 @@ use picky_asn1_der::{
     Fields, Serialize, Serializer,
 };
 
-/// An address of a host (RFC 4120 5.2.5).
+/// An address of a host (RFC 4120, section 5.2.5).
 #[derive(Debug, Drop)]
 pub struct HostAddress {
-    /// The address type (RFC 4120 7.5.3).
+    /// The address type (RFC 4120, section 7.5.3).
     pub addr_type: ExplicitContextTag0<IntegerAsn1>,
     /// The address.
     pub address: ExplicitContextTag1<OctetStringAsn1>,
 }
 
-/// A list of addresses (RFC 4120 5.2.5).
+/// A list of addresses (RFC 4120, section 5.2.5).
 pub type HostAddresses = Asn1SequenceOf<HostAddress>;
 
 type HostAddressFields = Field<

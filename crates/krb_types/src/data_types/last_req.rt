@@ -7,7 +7,7 @@ use picky_asn1_der::{
     Fields, Serialize, Serializer,
 };
 
-/// A time of a last request (RFC 4120 5.4.2).
+/// A time of a last request (RFC 4120, section 5.4.2).
 #[derive(Debug, Drop)]
 pub struct LastReqInner {
     /// Which request the time is of; 0 means that the time says nothing.
@@ -16,7 +16,7 @@ pub struct LastReqInner {
     pub lr_value: ExplicitContextTag1<KerberosTime>,
 }
 
-/// The times of a client's last requests (RFC 4120 5.4.2).
+/// The times of a client's last requests (RFC 4120, section 5.4.2).
 pub type LastReq = Asn1SequenceOf<LastReqInner>;
 
 type LastReqInnerFields = Field<

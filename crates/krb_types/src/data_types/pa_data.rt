@@ -6,10 +6,10 @@ use picky_asn1_der::{
     Fields, Serialize, Serializer,
 };
 
-/// One entry of preauthentication data (RFC 4120 5.2.7).
+/// One entry of preauthentication data (RFC 4120, section 5.2.7).
 #[derive(Debug, Drop)]
 pub struct PaData {
-    /// What the entry holds (RFC 4120 7.5.2).
+    /// What the entry holds (RFC 4120, section 7.5.2).
     pub padata_type: ExplicitContextTag1<IntegerAsn1>,
     /// The data of that type.
     pub padata_data: ExplicitContextTag2<OctetStringAsn1>,

@@ -6,7 +6,7 @@ use picky_asn1_der::{
     Fields, Optional, OptionalField, Serialize, Serializer,
 };
 
-/// The time that a client seals under its own key (RFC 4120 5.2.7.2).
+/// The time that a client seals under its own key (RFC 4120, section 5.2.7.2).
 #[derive(Debug, Drop)]
 pub struct PaEncTsEnc {
     /// The client's time.
@@ -15,7 +15,7 @@ pub struct PaEncTsEnc {
     pub pausec: Optional<Option<ExplicitContextTag1<Microseconds>>>,
 }
 
-/// A sealed [`PaEncTsEnc`] (RFC 4120 5.2.7.2).
+/// A sealed [`PaEncTsEnc`] (RFC 4120, section 5.2.7.2).
 pub type PaEncTimestamp = EncryptedData;
 
 type PaEncTsEncFields = Field<

@@ -10,10 +10,10 @@ use picky_asn1_der::{
 };
 use std::alloc::{AllocError, Global};
 
-/// A name of a principal (RFC 4120 5.2.2): its type, which is a hint alone, and its components.
+/// A name of a principal (RFC 4120, section 5.2.2): its type, which is a hint alone, and its components.
 #[derive(Debug, Drop)]
 pub struct PrincipalName {
-    /// The name type (RFC 4120 6.2).
+    /// The name type (RFC 4120, section 6.2).
     pub name_type: ExplicitContextTag0<IntegerAsn1>,
     /// The components, in order.
     pub name_string: ExplicitContextTag1<Asn1SequenceOf<KerberosStringAsn1>>,

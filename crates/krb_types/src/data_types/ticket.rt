@@ -9,7 +9,7 @@ use picky_asn1_der::{
     Serializer,
 };
 
-/// What a ticket holds (RFC 4120 5.3).
+/// What a ticket holds (RFC 4120, section 5.3).
 #[derive(Debug, Drop)]
 pub struct TicketInner {
     /// The version, 5.
@@ -22,7 +22,7 @@ pub struct TicketInner {
     pub enc_part: ExplicitContextTag3<EncryptedData>,
 }
 
-/// A ticket (RFC 4120 5.3).
+/// A ticket (RFC 4120, section 5.3).
 pub type Ticket = ApplicationTag<TicketInner, TICKET_TYPE>;
 
 type TicketInnerFields = Field<

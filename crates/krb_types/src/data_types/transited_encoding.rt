@@ -6,12 +6,12 @@ use picky_asn1_der::{
     Fields, Serialize, Serializer,
 };
 
-/// The realms that took part in the authentication of a client (RFC 4120 5.3).
+/// The realms that took part in the authentication of a client (RFC 4120, section 5.3).
 #[derive(Debug, Drop)]
 pub struct TransitedEncoding {
-    /// How the contents are spelled (RFC 4120 7.5.5): 1 is DOMAIN-X500-COMPRESS.
+    /// How the contents are spelled (RFC 4120, section 7.5.5): 1 is DOMAIN-X500-COMPRESS.
     pub tr_type: ExplicitContextTag0<IntegerAsn1>,
-    /// The realms in that spelling (RFC 4120 3.3.3.2); empty where there are none.
+    /// The realms in that spelling (RFC 4120, section 3.3.3.2); empty where there are none.
     pub contents: ExplicitContextTag1<OctetStringAsn1>,
 }
 

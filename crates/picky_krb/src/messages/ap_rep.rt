@@ -8,7 +8,7 @@ use picky_asn1_der::{
     ExplicitContextTag1, ExplicitContextTag2, Field, Fields, Serialize, Serializer,
 };
 
-/// What a reply of a service holds (RFC 4120 5.5.2).
+/// What a reply of a service holds (RFC 4120, section 5.5.2).
 #[derive(Debug, Drop)]
 pub struct ApRepInner {
     /// The version, 5.
@@ -19,7 +19,7 @@ pub struct ApRepInner {
     pub enc_part: ExplicitContextTag2<EncryptedData>,
 }
 
-/// A reply of a service (RFC 4120 5.5.2), which shows that it could open the ticket.
+/// A reply of a service (RFC 4120, section 5.5.2), which shows that it could open the ticket.
 pub type ApRep = ApplicationTag<ApRepInner, AP_REP_MSG_TYPE>;
 
 type ApRepInnerFields = Field<

@@ -9,7 +9,7 @@ use picky_asn1_der::{
     Fields, Serialize, Serializer,
 };
 
-/// What a request to a service holds (RFC 4120 5.5.1).
+/// What a request to a service holds (RFC 4120, section 5.5.1).
 #[derive(Debug, Drop)]
 pub struct ApReqInner {
     /// The version, 5.
@@ -24,7 +24,7 @@ pub struct ApReqInner {
     pub authenticator: ExplicitContextTag4<EncryptedData>,
 }
 
-/// A request to a service (RFC 4120 5.5.1).
+/// A request to a service (RFC 4120, section 5.5.1).
 pub type ApReq = ApplicationTag<ApReqInner, AP_REQ_MSG_TYPE>;
 
 type ApReqInnerFields = Field<

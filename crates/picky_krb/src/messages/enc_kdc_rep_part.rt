@@ -14,7 +14,7 @@ use picky_asn1_der::{
     Fields, Optional, OptionalField, Serialize, Serializer,
 };
 
-/// What a reply of a KDC holds under a key that the client knows (RFC 4120 5.4.2).
+/// What a reply of a KDC holds under a key that the client knows (RFC 4120, section 5.4.2).
 #[derive(Debug, Drop)]
 pub struct EncKdcRepPart {
     /// The session key, which client and service share.
@@ -25,7 +25,7 @@ pub struct EncKdcRepPart {
     pub nonce: ExplicitContextTag2<IntegerAsn1>,
     /// When the client's key ends.
     pub key_expiration: Optional<Option<ExplicitContextTag3<KerberosTime>>>,
-    /// The flags of the ticket (RFC 4120 5.3, TicketFlags).
+    /// The flags of the ticket (RFC 4120, section 5.3, TicketFlags).
     pub flags: ExplicitContextTag4<KerberosFlags>,
     /// When the client authenticated for the first ticket.
     pub auth_time: ExplicitContextTag5<KerberosTime>,
@@ -41,14 +41,14 @@ pub struct EncKdcRepPart {
     pub sname: ExplicitContextTag10<PrincipalName>,
     /// The addresses that the ticket may be used from; where they are missing, any.
     pub caddr: Optional<Option<ExplicitContextTag11<HostAddresses>>>,
-    /// Further preauthentication data (RFC 6806 11).
+    /// Further preauthentication data (RFC 6806, section 11).
     pub encrypted_pa_data: Optional<Option<ExplicitContextTag12<Asn1SequenceOf<PaData>>>>,
 }
 
-/// The sealed part of a reply with a first ticket (RFC 4120 5.4.2).
+/// The sealed part of a reply with a first ticket (RFC 4120, section 5.4.2).
 pub type EncAsRepPart = ApplicationTag<EncKdcRepPart, ENC_AS_REP_PART_TYPE>;
 
-/// The sealed part of a reply with a further ticket (RFC 4120 5.4.2).
+/// The sealed part of a reply with a further ticket (RFC 4120, section 5.4.2).
 pub type EncTgsRepPart = ApplicationTag<EncKdcRepPart, ENC_TGS_REP_PART_TYPE>;
 
 type EncKdcRepPartFields = Field<

@@ -10,7 +10,7 @@ use picky_asn1_der::{
     Serializer,
 };
 
-/// A reply of a KDC (RFC 4120 5.4.2).
+/// A reply of a KDC (RFC 4120, section 5.4.2).
 #[derive(Debug, Drop)]
 pub struct KdcRep {
     /// The version, 5.
@@ -29,10 +29,10 @@ pub struct KdcRep {
     pub enc_part: ExplicitContextTag6<EncryptedData>,
 }
 
-/// A reply with a first ticket (RFC 4120 5.4.2).
+/// A reply with a first ticket (RFC 4120, section 5.4.2).
 pub type AsRep = ApplicationTag<KdcRep, AS_REP_MSG_TYPE>;
 
-/// A reply with a further ticket (RFC 4120 5.4.2).
+/// A reply with a further ticket (RFC 4120, section 5.4.2).
 pub type TgsRep = ApplicationTag<KdcRep, TGS_REP_MSG_TYPE>;
 
 type KdcRepFields = Field<

@@ -10,7 +10,7 @@ use picky_asn1_der::{
     OptionalField, Serialize, Serializer,
 };
 
-/// A request to a KDC (RFC 4120 5.4.1).
+/// A request to a KDC (RFC 4120, section 5.4.1).
 #[derive(Debug, Drop)]
 pub struct KdcReq {
     /// The version, 5.
@@ -23,10 +23,10 @@ pub struct KdcReq {
     pub req_body: ExplicitContextTag4<KdcReqBody>,
 }
 
-/// A request for a first ticket (RFC 4120 5.4.1).
+/// A request for a first ticket (RFC 4120, section 5.4.1).
 pub type AsReq = ApplicationTag<KdcReq, AS_REQ_MSG_TYPE>;
 
-/// A request for a further ticket (RFC 4120 5.4.1).
+/// A request for a further ticket (RFC 4120, section 5.4.1).
 pub type TgsReq = ApplicationTag<KdcReq, TGS_REQ_MSG_TYPE>;
 
 type KdcReqFields = Field<

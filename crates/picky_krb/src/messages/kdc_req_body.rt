@@ -12,7 +12,7 @@ use picky_asn1_der::{
     Serializer,
 };
 
-/// The body of a request to a KDC (RFC 4120 5.4.1).
+/// The body of a request to a KDC (RFC 4120, section 5.4.1).
 #[derive(Debug, Drop)]
 pub struct KdcReqBody {
     /// The options that are asked for.

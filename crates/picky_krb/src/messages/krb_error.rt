@@ -12,7 +12,7 @@ use picky_asn1_der::{
 };
 use std::fmt;
 
-/// What an error message holds (RFC 4120 5.9.1).
+/// What an error message holds (RFC 4120, section 5.9.1).
 #[derive(Debug, Drop)]
 pub struct KrbErrorInner {
     /// The version, 5.
@@ -27,7 +27,7 @@ pub struct KrbErrorInner {
     pub stime: ExplicitContextTag4<KerberosTime>,
     /// The microseconds of the server's time.
     pub susec: ExplicitContextTag5<Microseconds>,
-    /// The code (RFC 4120 7.5.9).
+    /// The code (RFC 4120, section 7.5.9).
     pub error_code: ExplicitContextTag6<u32>,
     /// The client's realm.
     pub crealm: Optional<Option<ExplicitContextTag7<Realm>>>,
@@ -43,7 +43,7 @@ pub struct KrbErrorInner {
     pub e_data: Optional<Option<ExplicitContextTag12<OctetStringAsn1>>>,
 }
 
-/// An error message (RFC 4120 5.9.1).
+/// An error message (RFC 4120, section 5.9.1).
 pub type KrbError = ApplicationTag<KrbErrorInner, KRB_ERROR_MSG_TYPE>;
 
 /// Prints the code, as `0x06`.
