@@ -19,8 +19,12 @@ def words_of(process):
 
 
 def check_of(process, clone):
-    """What a process checks or builds, None where it is none of the gate's."""
+    """What a process checks or builds, None where it is none of the gate's. A check's helpers are of its kind."""
     words, room = words_of(process), os.readlink(f"/proc/{process}/cwd")
+    if "--crate-name" not in words:
+        with open(f"/proc/{process}/stat") as it:
+            parent = words_of(it.read().rpartition(")")[2].split()[1])
+        words = parent if "--crate-name" in parent else words
     is_check = "--crate-name" in words
     if room.startswith(clone + "/crates/"):
         crate = room[len(clone) :].split("/")[2]
