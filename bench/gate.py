@@ -18,18 +18,21 @@ def words_of(process):
         return it.read().decode(errors="replace").split("\0")
 
 
+def parent_of(process):
+    with open(f"/proc/{process}/stat") as it:
+        return it.read().rpartition(")")[2].split()[1]
+
+
 def check_of(process, clone):
     """What a process checks or builds, None where it is none of the gate's. A check's helpers are of its kind."""
-    words, room = words_of(process), os.readlink(f"/proc/{process}/cwd")
-    if "--crate-name" not in words:
-        with open(f"/proc/{process}/stat") as it:
-            parent = words_of(it.read().rpartition(")")[2].split()[1])
-        words = parent if "--crate-name" in parent else words
+    words, room, parent = words_of(process), os.readlink(f"/proc/{process}/cwd"), parent_of(process)
+    if "--crate-name" not in words and "--crate-name" in words_of(parent):
+        words, parent = words_of(parent), parent_of(parent)
     is_check = "--crate-name" in words
     if room.startswith(clone + "/crates/"):
         crate = room[len(clone) :].split("/")[2]
         return Check(crate, "tests" if is_check and "--test" in words else "proof")
-    if is_check and os.path.basename(room).startswith("rt-edit-"):
+    if is_check and os.path.basename(room).startswith("rt-edit-") and os.readlink(f"/proc/{parent}/cwd") == clone:
         return Check(words[words.index("--crate-name") + 1], "edit")
     return None
 

@@ -30,11 +30,10 @@ const STEPS: [&[u8; 8]; 17] = [
 
 // The key of single DES as one of triple DES.
 fn three_times(part: &[u8; 8]) -> [u8; 24] {
-    let mut key = [0; 24];
-    key[..8].copy_from_slice(part);
-    key[8..16].copy_from_slice(part);
-    key[16..].copy_from_slice(part);
-    key
+    let [a, b, c, d, e, f, g, h] = *part;
+    [
+        a, b, c, d, e, f, g, h, a, b, c, d, e, f, g, h, a, b, c, d, e, f, g, h,
+    ]
 }
 
 // Every second step deciphers, and each has the value as key and as block.
