@@ -3,3 +3,5 @@ pub mod Elements
 pub mod Spelling
 pub mod Rows
 pub mod Leaf
+pub mod Tagged
+pub mod Choices

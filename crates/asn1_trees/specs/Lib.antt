@@ -1,3 +1,5 @@
 pub mod Length
 pub mod Tree
 pub mod Firsts
+pub mod Tags
+pub mod Tagged

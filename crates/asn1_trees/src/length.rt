@@ -1,5 +1,5 @@
 //! The length octets of an element: definite, and as few as there can be (X.690, sections 8.1.3 and 10.1).
-ghost use Rattle.std.specs.Prelude.{◌≡◌, ℕ, ◌+◌, ◌^◌, ◌<◌, ◌≤◌, List, ◌∷◌, length, drop, MatchOption};
+ghost use Rattle.std.specs.Prelude.{◌≡◌, ℕ, ◌+◌, ◌^◌, ◌<◌, ◌≤◌, List, ◌∷◌, length, drop, None, MatchOption};
 ghost use Rattle.std.specs.Int.Digits.{number_from_digits};
 ghost use Rattle.asn1_trees.specs.Length.{digits, length_octets};
 
@@ -70,10 +70,12 @@ fn put_digits(octets: &mut [u8], number: usize) -> usize
 ///
 /// `None` where no length below 2^64 begins so in DER: the indefinite form, or more than eight digits.
 pub fn following(first: u8) -> Option<usize>
-    ensures { MatchOption
+    ensures count { MatchOption
         result
         ((n : ℕ) → n < 2 ^ 64 → (rest : List ℕ) → length_octets n ≡ first ∷ rest → ⊥)
         (λ k. (k ≤ 8) × ((n : ℕ) (rest : List ℕ) → length_octets n ≡ first ∷ rest → length rest ≡ k)) }
+    // The indefinite form.
+    ensures indefinite { first ≡ 128 → result ≡ None }
 {
     match first {
         0..=127 => Some(0),

@@ -1,3 +1,5 @@
 pub mod Counting
+pub mod Faults
+pub mod Room
 pub mod Watched
 pub mod Whole

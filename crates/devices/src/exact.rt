@@ -1,8 +1,10 @@
 //! Reads and writes that go on until all is moved.
-ghost use Rattle.std.specs.Prelude.{◌≡◌, ℕ, ◌≤◌, ◌<◌, length, take, Err, IsTrue, IfOk, IfErr, OnOk, MatchResult};
+ghost use Rattle.std.specs.Prelude.{◌≡◌, ℕ, ◌≤◌, ◌<◌, length, take, Some, Err, IsTrue, IfOk, IfErr, OnOk, MatchResult};
 ghost use Rattle.std.specs.Io.KnownBytes.{Consumes, Appends, Keeps, IsAtEnd};
 ghost use Rattle.devices.specs.Counting.{CountsRead};
 ghost use Rattle.devices.specs.Whole.{after_whole_fault};
+ghost use Rattle.devices.specs.Faults.{TellsWholeFault};
+ghost use Rattle.devices.specs.Room.{FitsRoom};
 
 use crate::{Sink, SinkFault, Source};
 use std::io::ErrorKind;
@@ -27,6 +29,8 @@ pub fn read_full<R: Source>(reader: &mut R, buffer: &mut [u8]) -> Result<usize, 
     ensures end { IfOk result (λ n. n < length buffer.new → IsAtEnd (R.left reader.new)) }
     ensures front { IfErr result (λ _. (n : ℕ) × Consumes (R.left reader.old) (R.left reader.new) (take n buffer.new)) }
     ensures count { CountsRead (R.failed reader.old) (R.failed reader.new) result }
+    ensures kind { IfErr result (λ kind. R.last_fault reader.new ≡ Some kind) }
+    ensures same { R.through reader.new ≡ R.through reader.old }
 {
     let mut at = 0;
     while at < buffer.len() {
@@ -47,6 +51,8 @@ pub fn write_whole<W: Sink>(writer: &mut W, bytes: &[u8]) -> Result<(), WholeFau
     ensures memory { result ≡ Err WholeFault.Memory → IsTrue W.grows × Keeps (W.written writer.old) (W.written writer.new) }
     ensures count { MatchResult result (λ _. W.failed writer.new ≡ W.failed writer.old)
         (λ fault. W.failed writer.new ≡ after_whole_fault (W.failed writer.old) fault) }
+    ensures room { FitsRoom (W.room writer.old) (W.room writer.new) result (length bytes.now) }
+    ensures kind { IfErr result (TellsWholeFault (W.last_fault writer.new)) }
     ensures same { W.through writer.new ≡ W.through writer.old }
 {
     let mut at = 0;

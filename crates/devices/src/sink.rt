@@ -1,9 +1,12 @@
 //! What takes bytes.
-ghost use Rattle.std.specs.Prelude.{◌≡◌, ℕ, List, Bool, true, IsTrue, Option, None, Some, Err, IfOk, length};
+ghost use Rattle.std.specs.Prelude.{◌≡◌, ℕ, List, [], ◌∷◌, Bool, true, IsTrue, Option, None, Some, Err, IfOk, length};
 ghost use Rattle.std.specs.Borrow.{GName};
+ghost use Rattle.std.specs.declared.io.ErrorKind.{ErrorKind};
 ghost use Rattle.std.specs.Io.{WritesAtMost};
 ghost use Rattle.std.specs.Io.KnownBytes.{WriteAppends};
 ghost use Rattle.devices.specs.Counting.{CountsWrite};
+ghost use Rattle.devices.specs.Faults.{TellsWrite};
+ghost use Rattle.devices.specs.Room.{TakesRoom};
 
 use std::io::ErrorKind;
 
@@ -30,19 +33,28 @@ pub trait Sink {
     // sink ever wants memory.
     ghost grows: { Bool };
 
-    // The reference that the bytes are written through, of a sink over a borrowed slice.
-    ghost through: { Self → Option GName } = { λ _. None };
+    // How many bytes it still takes, of a sink over a slice; none where that has no bound or isn't known.
+    ghost room: { Self → Option ℕ } = { λ _. None };
+
+    // Why the last write that failed did so: none where it took nothing.
+    ghost last_fault: { Self → Option ErrorKind } = { λ _. None };
+
+    // The references that the bytes are written through, of a sink behind a reference or over a slice.
+    ghost through: { Self → List GName } = { λ _. [] };
 
     /// Writes a front of `bytes`, and gives how many bytes it took.
     ///
     /// A call that fails, an interrupted one too, takes nothing and is counted; so is a call that
-    /// takes nothing of some bytes. A refused growth is not.
+    /// takes nothing of some bytes. A refused growth is not. A fault has the device's own kind. Where the
+    /// room is known no call fails, and some bytes are taken where there is room for one.
     fn write_some(&mut self, bytes: &[u8]) -> Result<usize, SinkFault>
         ensures bound { WritesAtMost result bytes.now }
         ensures bytes { WriteAppends (written self.old) (written self.new) result bytes.now }
         ensures count { CountsWrite (failed self.old) (failed self.new) result (length bytes.now) }
         ensures memory { result ≡ Err SinkFault.Memory → IsTrue grows }
         ensures whole { IsTrue grows → IfOk result (λ n. n ≡ length bytes.now) }
+        ensures room { TakesRoom (room self.old) (room self.new) result (length bytes.now) }
+        ensures kind { TellsWrite (last_fault self.new) result (length bytes.now) }
         ensures same { through self.new ≡ through self.old };
 
     /// How many writes have failed so far, held at the greatest `u64`.
@@ -77,7 +89,11 @@ impl<S: Sink> Sink for &mut S {
 
     ghost grows = { S.grows };
 
-    ghost through = { λ s. S.through s.now };
+    ghost room = { λ s. S.room s.now };
+
+    ghost last_fault = { λ s. S.last_fault s.now };
+
+    ghost through = { λ s. s.ghost_name ∷ S.through s.now };
 
     fn write_some(&mut self, bytes: &[u8]) -> Result<usize, SinkFault> {
         (**self).write_some(bytes)

@@ -1,5 +1,7 @@
 //! What gives bytes.
-ghost use Rattle.std.specs.Prelude.{◌≡◌, ℕ, List, Option, Some};
+ghost use Rattle.std.specs.Prelude.{◌≡◌, ℕ, List, [], ◌∷◌, Option, None, Some, IfErr};
+ghost use Rattle.std.specs.Borrow.{GName};
+ghost use Rattle.std.specs.declared.io.ErrorKind.{ErrorKind};
 ghost use Rattle.std.specs.Io.{ReadsAtMost};
 ghost use Rattle.std.specs.Io.KnownBytes.{ReadConsumes};
 ghost use Rattle.devices.specs.Counting.{CountsRead};
@@ -14,14 +16,22 @@ pub trait Source {
     // How many reads have failed.
     ghost failed: { Self → ℕ };
 
+    // Why the last read that failed did so.
+    ghost last_fault: { Self → Option ErrorKind } = { λ _. None };
+
+    // The references that the bytes are read through, of a source behind a reference.
+    ghost through: { Self → List GName } = { λ _. [] };
+
     /// Reads some bytes into the front of `buffer`, and gives how many.
     ///
     /// A short read is not the end: 0 bytes are, where `buffer` has room. A call that fails, an
-    /// interrupted one too, loses no byte and is counted.
+    /// interrupted one too, loses no byte and is counted; it answers the device's own kind of fault.
     fn read_some(&mut self, buffer: &mut [u8]) -> Result<usize, ErrorKind>
         ensures bound { ReadsAtMost result buffer.new }
         ensures bytes { ReadConsumes (left self.old) (left self.new) result buffer.new }
-        ensures count { CountsRead (failed self.old) (failed self.new) result };
+        ensures count { CountsRead (failed self.old) (failed self.new) result }
+        ensures kind { IfErr result (λ kind. last_fault self.new ≡ Some kind) }
+        ensures same { through self.new ≡ through self.old };
 
     /// How many reads have failed so far, held at the greatest `u64`.
     fn failures(&self) -> u64
@@ -50,6 +60,10 @@ impl<S: Source> Source for &mut S {
     ghost left = { λ s. S.left s.now };
 
     ghost failed = { λ s. S.failed s.now };
+
+    ghost last_fault = { λ s. S.last_fault s.now };
+
+    ghost through = { λ s. s.ghost_name ∷ S.through s.now };
 
     fn read_some(&mut self, buffer: &mut [u8]) -> Result<usize, ErrorKind> {
         (**self).read_some(buffer)

@@ -3,7 +3,7 @@ use Rattle.std.specs.Prelude.{◌≡◌, ℕ, ◌%◌, Bool, List, [], ◌∷◌
 use Rattle.std.specs.Option.{option_map}
 use Rattle.std.proofs.Common.{ap, subst, sym, ◌∙◌}
 use Rattle.picky_asn1.specs.BitString.{Bits}
-use Rattle.picky_asn1.specs.declared.date.GeneralizedTime.{GeneralizedTime}
+use Rattle.asn1_leaves.specs.declared.date.GeneralizedTime.{GeneralizedTime}
 use Rattle.krb_crypto.specs.declared.suite.CipherSuite.{CipherSuite}
 use Rattle.krb_crypto.specs.Suites.{cipher_key_size, cipher_number}
 use Rattle.krb_types.specs.declared.data_types.authenticator.AuthenticatorInner.{AuthenticatorInner}

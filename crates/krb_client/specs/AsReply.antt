@@ -5,7 +5,7 @@ use Rattle.krb_crypto.specs.declared.suite.CipherSuite.{CipherSuite}
 use Rattle.krb_types.specs.declared.data_types.encrypted_data.EncryptedData.{EncryptedData}
 use Rattle.picky_krb.specs.declared.messages.enc_kdc_rep_part.EncKdcRepPart.{EncKdcRepPart}
 use Rattle.picky_krb.specs.declared.messages.kdc_rep.KdcRep.{KdcRep}
-use Rattle.picky_krb.specs.contracts.messages.enc_kdc_rep_part.EncKdcRepPartSerialize.TheImpl as reply_part
+use Rattle.picky_krb.specs.Trees as messages
 use Rattle.krb_rules.specs.Keys.{suite_of}
 use Rattle.krb_rules.specs.Names.{components, is_same_name, is_same_realm}
 use Rattle.krb_rules.specs.Numbers.{is_number}
@@ -27,11 +27,11 @@ IsTgsPart client sealed part = IsSealedIn {T = EncKdcRepPart} tgs_reply_part_tre
 
 pub sole_as_part : (client : ClientRecord) (sealed : EncryptedData) → IsSole (IsAsPart client sealed)
 unfolding IsAsPart
-sole_as_part client sealed = sole_sealed as_reply_part_tree (wrapped-injective 121 reply_part.ghosts.tree reply_part.ghosts.injective) client.suite client.key 3 sealed
+sole_as_part client sealed = sole_sealed as_reply_part_tree (wrapped-injective 121 messages.enc_kdc_rep_part_tree messages.enc_kdc_rep_part-injective) client.suite client.key 3 sealed
 
 pub sole_tgs_part : (client : ClientRecord) (sealed : EncryptedData) → IsSole (IsTgsPart client sealed)
 unfolding IsTgsPart
-sole_tgs_part client sealed = sole_sealed tgs_reply_part_tree (wrapped-injective 122 reply_part.ghosts.tree reply_part.ghosts.injective) client.suite client.key 3 sealed
+sole_tgs_part client sealed = sole_sealed tgs_reply_part_tree (wrapped-injective 122 messages.enc_kdc_rep_part_tree messages.enc_kdc_rep_part-injective) client.suite client.key 3 sealed
 
 abbrev pub Taken : Type 0
 Taken = Result CredentialRecord TakeRefusal

@@ -6,56 +6,50 @@ use Rattle.asn1_trees.proofs.Spelling.{wrapped-injective}
 use Rattle.krb_types.specs.declared.data_types.authenticator.AuthenticatorInner.{AuthenticatorInner}
 use Rattle.krb_types.specs.declared.data_types.encrypted_data.EncryptedData.{EncryptedData}
 use Rattle.krb_types.specs.declared.data_types.pa_enc_timestamp.PaEncTsEnc.{PaEncTsEnc}
-use Rattle.krb_types.specs.contracts.data_types.authenticator.AuthenticatorInnerSerialize.TheImpl as authenticator
-use Rattle.krb_types.specs.contracts.data_types.encrypted_data.EncryptedDataSerialize.TheImpl as encrypted_data
-use Rattle.krb_types.specs.contracts.data_types.pa_enc_timestamp.PaEncTsEncSerialize.TheImpl as stamp
+use Rattle.krb_types.specs.Trees as held
 use Rattle.picky_krb.specs.declared.messages.ap_req.ApReqInner.{ApReqInner}
 use Rattle.picky_krb.specs.declared.messages.enc_kdc_rep_part.EncKdcRepPart.{EncKdcRepPart}
 use Rattle.picky_krb.specs.declared.messages.kdc_rep.KdcRep.{KdcRep}
 use Rattle.picky_krb.specs.declared.messages.kdc_req.KdcReq.{KdcReq}
 use Rattle.picky_krb.specs.declared.messages.krb_error.KrbErrorInner.{KrbErrorInner}
-use Rattle.picky_krb.specs.contracts.messages.ap_req.ApReqInnerSerialize.TheImpl as ap_req
-use Rattle.picky_krb.specs.contracts.messages.enc_kdc_rep_part.EncKdcRepPartSerialize.TheImpl as reply_part
-use Rattle.picky_krb.specs.contracts.messages.kdc_rep.KdcRepSerialize.TheImpl as kdc_rep
-use Rattle.picky_krb.specs.contracts.messages.kdc_req.KdcReqSerialize.TheImpl as kdc_req
-use Rattle.picky_krb.specs.contracts.messages.krb_error.KrbErrorInnerSerialize.TheImpl as krb_error
+use Rattle.picky_krb.specs.Trees as messages
 use Rattle.krb_rules.specs.One.{IsSole}
 
 -- the encoding of a client's time
 unfoldable pub stamp_bytes : PaEncTsEnc → List ℕ
-stamp_bytes value = der (stamp.ghosts.tree value)
+stamp_bytes value = der (held.pa_enc_ts_enc_tree value)
 
 -- the encoding of encrypted data
 unfoldable pub encrypted_bytes : EncryptedData → List ℕ
-encrypted_bytes value = der (encrypted_data.ghosts.tree value)
+encrypted_bytes value = der (held.encrypted_data_tree value)
 
 -- the encoding of an AS request, [APPLICATION 10]
 unfoldable pub as_request_bytes : KdcReq → List ℕ
-as_request_bytes request = der (wrapped 106 (kdc_req.ghosts.tree request))
+as_request_bytes request = der (wrapped 106 (messages.kdc_req_tree request))
 
 -- the encoding of an authenticator, [APPLICATION 2]
 unfoldable pub authenticator_bytes : AuthenticatorInner → List ℕ
-authenticator_bytes value = der (wrapped 98 (authenticator.ghosts.tree value))
+authenticator_bytes value = der (wrapped 98 (held.authenticator_tree value))
 
 -- the encoding of an AP request, [APPLICATION 14]
 unfoldable pub ap_request_bytes : ApReqInner → List ℕ
-ap_request_bytes request = der (wrapped 110 (ap_req.ghosts.tree request))
+ap_request_bytes request = der (wrapped 110 (messages.ap_req_tree request))
 
 -- [APPLICATION 11]
 abbrev pub as_reply_tree : KdcRep → Tree
-as_reply_tree reply = wrapped 107 (kdc_rep.ghosts.tree reply)
+as_reply_tree reply = wrapped 107 (messages.kdc_rep_tree reply)
 
 -- [APPLICATION 30]
 abbrev pub krb_error_tree : KrbErrorInner → Tree
-krb_error_tree error = wrapped 126 (krb_error.ghosts.tree error)
+krb_error_tree error = wrapped 126 (messages.krb_error_tree error)
 
 -- the sealed part of a reply as the standard's AS replies have it, [APPLICATION 25]
 abbrev pub as_reply_part_tree : EncKdcRepPart → Tree
-as_reply_part_tree part = wrapped 121 (reply_part.ghosts.tree part)
+as_reply_part_tree part = wrapped 121 (messages.enc_kdc_rep_part_tree part)
 
 -- the same as TGS replies have it, and AS replies of some realms (RFC 4120, section 5.4.2), [APPLICATION 26]
 abbrev pub tgs_reply_part_tree : EncKdcRepPart → Tree
-tgs_reply_part_tree part = wrapped 122 (reply_part.ghosts.tree part)
+tgs_reply_part_tree part = wrapped 122 (messages.enc_kdc_rep_part_tree part)
 
 -- the bytes are the one encoding of the AS reply
 unfoldable pub IsAsReply : List ℕ → KdcRep → Type 0
@@ -69,9 +63,9 @@ pub record IsErrorCode (bytes : List ℕ) (code : ℕ) : Type 0 where
 
 pub sole_as_reply : (bytes : List ℕ) → IsSole (IsAsReply bytes)
 unfolding IsAsReply
-sole_as_reply bytes v w p q = wrapped-injective 107 kdc_rep.ghosts.tree kdc_rep.ghosts.injective v w p.0 q.0 (sym p.1 ∙ q.1)
+sole_as_reply bytes v w p q = wrapped-injective 107 messages.kdc_rep_tree messages.kdc_rep-injective v w p.0 q.0 (sym p.1 ∙ q.1)
 
 pub sole_error_code : (bytes : List ℕ) → IsSole (IsErrorCode bytes)
 sole_error_code bytes a b p q =
-    let same = wrapped-injective 126 krb_error.ghosts.tree krb_error.ghosts.injective p.error q.error p.writes.0 q.writes.0 (sym p.writes.1 ∙ q.writes.1) in
+    let same = wrapped-injective 126 messages.krb_error_tree messages.krb_error-injective p.error q.error p.writes.0 q.writes.0 (sym p.writes.1 ∙ q.writes.1) in
     p.coded ∙ ap (λ e. e.error_code.0) same ∙ sym q.coded

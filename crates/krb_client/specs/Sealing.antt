@@ -1,9 +1,9 @@
 -- What requests hold: sealed data, names, times and keys (RFC 4120, sections 5.2.2, 5.2.3, 5.2.9).
 use Rattle.std.specs.Prelude.{◌≡◌, ℕ, ◌/◌, List, None, pos}
 use Rattle.std.proofs.Common.{ap, sym, ◌∙◌}
-use Rattle.picky_asn1.specs.declared.date.GeneralizedTime.{GeneralizedTime}
+use Rattle.asn1_leaves.specs.declared.date.GeneralizedTime.{GeneralizedTime}
 use Rattle.picky_asn1.specs.GeneralizedTime.{seconds_of}
-use Rattle.picky_asn1.proofs.TimeLemmas.{seconds_of-injective}
+use Rattle.asn1_leaves.proofs.TimeLemmas.{seconds_of-injective}
 use Rattle.krb_crypto.specs.declared.suite.CipherSuite.{CipherSuite}
 use Rattle.krb_crypto.specs.Suites.{cipher_key_size, cipher_number}
 use Rattle.krb_crypto.specs.Sealing.{IsSealedBy}

@@ -100,7 +100,7 @@ impl Client {
         ensures { IfOk result (λ inner. inner ≡ authenticator_of self.now suite second microsecond subkey.now) }
     {
         let version = IntegerAsn1::from_u64(alloc, VERSION)?;
-        let realm = self.realm().clone(alloc)?;
+        let realm = self.realm().clone()?;
         let name = principal_name(alloc, NT_PRINCIPAL, self.components())?;
         let microsecond = IntegerAsn1::from_u64(alloc, u64::from(microsecond))?;
         let subkey = key_of(alloc, suite, subkey)?;
@@ -151,7 +151,7 @@ fn key_of(
         return Ok(None);
     };
     let number = IntegerAsn1::from_u64(alloc, u64::from(u8::from(suite)))?;
-    let value = key.clone(alloc)?;
+    let value = key.clone()?;
     Ok(Some(EncryptionKey {
         key_type: ExplicitContextTag(number),
         key_value: ExplicitContextTag(value),
@@ -191,7 +191,7 @@ fn ap_request_of(
     let version = IntegerAsn1::from_u64(alloc, VERSION)?;
     let kind = IntegerAsn1::from_u64(alloc, u64::from(AP_REQ_MSG_TYPE))?;
     let options = options_of(alloc, mutual_required)?;
-    let ticket = ticket_copy(alloc, ticket)?;
+    let ticket = ticket_copy(ticket)?;
     Ok(ApReqInner {
         pvno: ExplicitContextTag(version),
         msg_type: ExplicitContextTag(kind),

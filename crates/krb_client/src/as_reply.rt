@@ -54,18 +54,17 @@ impl Client {
             return Err(TakeRefusal::Unreadable);
         }
         if let Some(part) = open_as_part(alloc, self, &reply.enc_part.0)? {
-            return self.take_part(alloc, asked, reply, &part);
+            return self.take_part(asked, reply, &part);
         }
         let Some(part) = open_tgs_part(alloc, self, &reply.enc_part.0)? else {
             return Err(TakeRefusal::NotSealed);
         };
-        self.take_part(alloc, asked, reply, &part)
+        self.take_part(asked, reply, &part)
     }
 
     // The same, with the part that was opened.
     fn take_part(
         &self,
-        alloc: Global,
         asked: &AsAsked,
         reply: &KdcRep,
         part: &EncKdcRepPart,
@@ -78,7 +77,7 @@ impl Client {
         let Some(suite) = suite_of(&part.key.0) else {
             return Err(TakeRefusal::NotAsked);
         };
-        let credential = Credential::of_reply(alloc, reply, part, suite)?;
+        let credential = Credential::of_reply(reply, part, suite)?;
         Ok(credential)
     }
     // Whether the opened part has the request's nonce, the reply names the client, and the part the service.

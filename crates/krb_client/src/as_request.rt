@@ -128,7 +128,7 @@ impl Client {
     {
         let options = no_options(alloc)?;
         let client = principal_name(alloc, NT_PRINCIPAL, self.components())?;
-        let realm = self.realm().clone(alloc)?;
+        let realm = self.realm().clone()?;
         let service = principal_name(alloc, NT_SRV_INST, service)?;
         let nonce = IntegerAsn1::from_u64(alloc, u64::from(nonce))?;
         let suite = IntegerAsn1::from_u64(alloc, u64::from(u8::from(self.suite())))?;

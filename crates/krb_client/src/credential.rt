@@ -9,7 +9,7 @@ use krb_crypto::CipherSuite;
 use krb_types::data_types::{PrincipalName, Ticket};
 use picky_asn1::wrapper::{GeneralStringAsn1, OctetStringAsn1};
 use picky_krb::messages::{EncKdcRepPart, KdcRep};
-use std::alloc::{AllocError, Global};
+use std::alloc::AllocError;
 use std::marker::Model;
 
 /// What a realm granted a client: a ticket, the session's key, which client and service share, and the service's realm
@@ -38,7 +38,6 @@ impl Model for Credential {
 impl Credential {
     /// The credential of a reply and its opened part, whose key is of this suite.
     pub(crate) fn of_reply(
-        alloc: Global,
         reply: &KdcRep,
         part: &EncKdcRepPart,
         suite: CipherSuite,
@@ -46,10 +45,10 @@ impl Credential {
         requires { suite_of part.now.key.0 ≡ Some suite }
         ensures { IfOk result (λ credential. credential ≡ credential_of reply.now part.now suite) }
     {
-        let ticket = ticket_copy(alloc, &reply.ticket.0)?;
-        let key = part.key.0.key_value.0.clone(alloc)?;
-        let realm = part.srealm.0.clone(alloc)?;
-        let service = part.sname.0.clone(alloc)?;
+        let ticket = ticket_copy(&reply.ticket.0)?;
+        let key = part.key.0.key_value.0.clone()?;
+        let realm = part.srealm.0.clone()?;
+        let service = part.sname.0.clone()?;
         Ok(Credential {
             ticket,
             suite,

@@ -18,7 +18,7 @@ pub(crate) fn principal_name(
     let kind = IntegerAsn1::from_u64(alloc, u64::from(kind))?;
     let mut copies = Vec::with_capacity(alloc, components.len())?;
     for component in components {
-        copies.push(component.clone(alloc)?)?;
+        copies.push(component.clone()?)?;
     }
     Ok(PrincipalName {
         name_type: ExplicitContextTag(kind),

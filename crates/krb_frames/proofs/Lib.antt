@@ -1,4 +1,5 @@
 pub mod Answering
+pub mod Counts
 pub mod Fronts
 pub mod KnownMoments
 pub mod Progress

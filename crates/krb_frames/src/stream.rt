@@ -48,6 +48,11 @@ pub fn serve<A: Responder, R: Source, W: Sink, M: Iterator<Item = Moment> + Drop
     ensures read_failed { result ≡ Err ServeFault.Read
         → (R.failed reader.new ≡ one_more (R.failed reader.old)) ⊎ (K.failed words_reader.new ≡ one_more (K.failed words_reader.old)) }
     ensures write_failed { result ≡ Err ServeFault.Write → W.failed writer.new ≡ one_more (W.failed writer.old) }
+
+    // No failed call is passed over.
+    ensures read_kept { result ≢ Err ServeFault.Read
+        → (R.failed reader.new ≡ R.failed reader.old) × (K.failed words_reader.new ≡ K.failed words_reader.old) }
+    ensures write_kept { result ≢ Err ServeFault.Write → W.failed writer.new ≡ W.failed writer.old }
 {
     serve_frames(alloc, responder, reader, writer, &mut moments, words_reader)
 }
@@ -72,6 +77,11 @@ fn serve_frames<A: Responder, R: Source, W: Sink, M: Iterator<Item = Moment>, K:
     ensures read_failed { result ≡ Err ServeFault.Read
         → (R.failed reader.new ≡ one_more (R.failed reader.old)) ⊎ (K.failed words_reader.new ≡ one_more (K.failed words_reader.old)) }
     ensures write_failed { result ≡ Err ServeFault.Write → W.failed writer.new ≡ one_more (W.failed writer.old) }
+
+    // No failed call is passed over.
+    ensures read_kept { result ≢ Err ServeFault.Read
+        → (R.failed reader.new ≡ R.failed reader.old) × (K.failed words_reader.new ≡ K.failed words_reader.old) }
+    ensures write_kept { result ≢ Err ServeFault.Write → W.failed writer.new ≡ W.failed writer.old }
 {
     let mut answered = 0u64;
     'frames: while let Some(message) = read_frame(alloc, reader)? {

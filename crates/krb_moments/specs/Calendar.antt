@@ -1,6 +1,6 @@
 -- Moments and the times of the calendar.
 use Rattle.std.specs.Prelude.{◌≡◌, ℕ, ◌*◌, List}
-use Rattle.picky_asn1.specs.declared.date.GeneralizedTime.{GeneralizedTime}
+use Rattle.asn1_leaves.specs.declared.date.GeneralizedTime.{GeneralizedTime}
 use Rattle.picky_asn1.specs.GeneralizedTime.{time_text, seconds_of}
 
 -- the moment at which the second of this text begins

@@ -4,7 +4,7 @@ use Rattle.asn1_trees.specs.Tree.{Writes}
 use Rattle.krb_accounts.specs.Account.{AccountRecord}
 use Rattle.krb_types.specs.declared.data_types.encrypted_data.EncryptedData.{EncryptedData}
 use Rattle.krb_types.specs.declared.data_types.pa_enc_timestamp.PaEncTsEnc.{PaEncTsEnc}
-use Rattle.krb_types.specs.contracts.data_types.encrypted_data.EncryptedDataSerialize.TheImpl as encrypted_data
+use Rattle.krb_types.specs.Trees as held
 use Rattle.picky_krb.specs.Found.{IsFound}
 use Rattle.krb_rules.specs.Sealed.{IsSealedIn}
 use Rattle.krb_preauth.specs.Stamps.{IsStamp, encrypted_data_tree, stamp_tree}
@@ -14,5 +14,5 @@ pub stamp_found : (account : AccountRecord) (bytes : List ℕ) (sealed : Encrypt
     → IsFound (IsStamp account bytes) found
 stamp_found account bytes sealed None writes none = λ value stamp.
     none value (subst (λ s. IsSealedIn {T = PaEncTsEnc} stamp_tree account.suite account.key 1 s value)
-    (encrypted_data.ghosts.injective stamp.sealed sealed stamp.writes.0 writes.0 (sym stamp.writes.1 ∙ writes.1)) stamp.opens)
+    (held.encrypted_data-injective stamp.sealed sealed stamp.writes.0 writes.0 (sym stamp.writes.1 ∙ writes.1)) stamp.opens)
 stamp_found account bytes sealed (Some value) writes opens = record { sealed = sealed; writes = writes; opens = opens }

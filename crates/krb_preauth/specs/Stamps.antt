@@ -7,16 +7,15 @@ use Rattle.picky_asn1.specs.GeneralizedTime.{seconds_of}
 use Rattle.krb_accounts.specs.Account.{AccountRecord}
 use Rattle.krb_types.specs.declared.data_types.encrypted_data.EncryptedData.{EncryptedData}
 use Rattle.krb_types.specs.declared.data_types.pa_enc_timestamp.PaEncTsEnc.{PaEncTsEnc}
-use Rattle.krb_types.specs.contracts.data_types.encrypted_data.EncryptedDataSerialize.TheImpl as encrypted_data
-use Rattle.krb_types.specs.contracts.data_types.pa_enc_timestamp.PaEncTsEncSerialize.TheImpl as stamp_impl
+use Rattle.krb_types.specs.Trees as held
 use Rattle.krb_rules.specs.Sealed.{IsSealedIn, sole_sealed}
 use Rattle.krb_rules.specs.Times.{moment_at}
 
 abbrev pub encrypted_data_tree : EncryptedData → Tree
-encrypted_data_tree = encrypted_data.ghosts.tree
+encrypted_data_tree = held.encrypted_data_tree
 
 abbrev pub stamp_tree : PaEncTsEnc → Tree
-stamp_tree = stamp_impl.ghosts.tree
+stamp_tree = held.pa_enc_ts_enc_tree
 
 -- the bytes are the encoding of encrypted data in which the stamp is sealed under the account's key (usage 1; RFC 4120
 -- 7.5.1)
@@ -28,9 +27,9 @@ pub record IsStamp (account : AccountRecord) (bytes : List ℕ) (stamp : PaEncTs
 -- there is one at most
 pub sole_stamp : (account : AccountRecord) (bytes : List ℕ) (v w : PaEncTsEnc) → IsStamp account bytes v → IsStamp account bytes w → v ≡ w
 sole_stamp account bytes v w x y =
-    let same = encrypted_data.ghosts.injective x.sealed y.sealed x.writes.0 y.writes.0 (sym x.writes.1 ∙ y.writes.1) in
+    let same = held.encrypted_data-injective x.sealed y.sealed x.writes.0 y.writes.0 (sym x.writes.1 ∙ y.writes.1) in
     let first = subst (λ s. IsSealedIn {T = PaEncTsEnc} stamp_tree account.suite account.key 1 s v) same x.opens in
-    sole_sealed stamp_tree stamp_impl.ghosts.injective account.suite account.key 1 y.sealed v w first y.opens
+    sole_sealed stamp_tree held.pa_enc_ts_enc-injective account.suite account.key 1 y.sealed v w first y.opens
 
 -- missing microseconds are zero
 abbrev pub or_zero : Option ℤ → ℤ

@@ -41,10 +41,10 @@ pub(crate) fn grant(
 {
     let suite = asked.client.suite();
     let session = session_key(alloc, suite, words)?;
-    let realm = realm.clone(alloc)?;
-    let client = asked.client_name.clone(alloc)?;
-    let service = asked.service_name.clone(alloc)?;
-    let nonce = body.nonce.0.clone(alloc)?;
+    let realm = realm.clone()?;
+    let client = asked.client_name.clone()?;
+    let service = asked.service_name.clone()?;
+    let nonce = body.nonce.0.clone()?;
     let start = start_of(moment);
     let until = end_of(settings, start, body.till.0.0);
     let grant = Grant {

@@ -19,7 +19,7 @@ pub(crate) fn krbtgt_of(
     ensures { IfOk result (λ name. name.items ≡ krbtgt_of realm.now) }
 {
     let first = service_text(alloc)?;
-    let second = realm.clone(alloc)?;
+    let second = realm.clone()?;
     let mut name = Vec::with_capacity(alloc, 2)?;
     name.push(first)?;
     name.push(second)?;

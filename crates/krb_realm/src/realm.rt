@@ -69,7 +69,7 @@ impl Realm {
     ghost use Rattle.krb_accounts.specs.Passwords.{password_account, password_salt};
     ghost use Rattle.krb_accounts.specs.declared.refusal.RealmRefusal.{RealmRefusal};
     ghost use Rattle.krb_realm.specs.Answers.{IsAnswer};
-    ghost use Rattle.picky_asn1.specs.declared.date.GeneralizedTime.{GeneralizedTime};
+    ghost use Rattle.asn1_leaves.specs.declared.date.GeneralizedTime.{GeneralizedTime};
     ghost use Rattle.krb_realm.specs.Judged.{IsGranted};
     ghost use Rattle.krb_replies.specs.Errors.{IsSecondOf, error_bytes};
 
@@ -286,7 +286,7 @@ impl Realm {
             ..
         } = body;
         let service = named_service(alloc, named, &self.name)?;
-        let realm = self.name.clone(alloc)?;
+        let realm = self.name.clone()?;
         let time = moment.second();
         let reply = error_reply(
             alloc,

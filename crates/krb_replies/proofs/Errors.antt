@@ -3,7 +3,7 @@ use Rattle.std.proofs.Common.{◌≡◌, ℕ, List, Option, None, ap, ◌∙◌}
 use Rattle.std.specs.Prelude.{ℤ, pos}
 use Rattle.std.specs.Option.{option_map}
 use Rattle.asn1_trees.specs.Tree.{der}
-use Rattle.picky_asn1.specs.declared.date.GeneralizedTime.{GeneralizedTime}
+use Rattle.asn1_leaves.specs.declared.date.GeneralizedTime.{GeneralizedTime}
 use Rattle.picky_asn1_der.specs.declared.wrapper.ExplicitContextTag.{ExplicitContextTag}
 use Rattle.picky_krb.specs.declared.messages.krb_error.KrbErrorInner.{KrbErrorInner}
 use Rattle.krb_types.specs.declared.data_types.principal_name.PrincipalName.{PrincipalName}

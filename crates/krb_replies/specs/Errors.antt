@@ -3,9 +3,9 @@ use Rattle.std.specs.Prelude.{◌≡◌, ℕ, ◌/◌, List, [], ◌∷◌, Opti
 use Rattle.std.specs.Option.{option_map}
 use Rattle.std.proofs.Common.{sym, ◌∙◌}
 use Rattle.asn1_trees.specs.Tree.{der}
-use Rattle.picky_asn1.specs.declared.date.GeneralizedTime.{GeneralizedTime}
+use Rattle.asn1_leaves.specs.declared.date.GeneralizedTime.{GeneralizedTime}
 use Rattle.picky_asn1.specs.GeneralizedTime.{seconds_of}
-use Rattle.picky_asn1.proofs.TimeLemmas.{seconds_of-injective}
+use Rattle.asn1_leaves.proofs.TimeLemmas.{seconds_of-injective}
 use Rattle.picky_krb.specs.declared.messages.krb_error.KrbErrorInner.{KrbErrorInner}
 use Rattle.krb_types.specs.declared.data_types.principal_name.PrincipalName.{PrincipalName}
 use Rattle.krb_rules.specs.One.{IsSole}

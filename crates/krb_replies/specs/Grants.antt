@@ -2,8 +2,8 @@
 use Rattle.std.specs.Prelude.{◌≡◌, ℕ, List, Result, Ok}
 use Rattle.std.proofs.Common.{sym, ◌∙◌}
 use Rattle.picky_asn1.specs.GeneralizedTime.{seconds_of}
-use Rattle.picky_asn1.specs.declared.date.GeneralizedTime.{GeneralizedTime}
-use Rattle.picky_asn1.proofs.TimeLemmas.{seconds_of-injective}
+use Rattle.asn1_leaves.specs.declared.date.GeneralizedTime.{GeneralizedTime}
+use Rattle.asn1_leaves.proofs.TimeLemmas.{seconds_of-injective}
 use Rattle.krb_accounts.specs.Account.{AccountRecord}
 use Rattle.krb_types.specs.declared.data_types.principal_name.PrincipalName.{PrincipalName}
 use Rattle.picky_krb.specs.declared.messages.kdc_req_body.KdcReqBody.{KdcReqBody}

@@ -10,8 +10,7 @@ use Rattle.krb_crypto.proofs.SealingLemmas.{one_sealed, one_string}
 use Rattle.krb_types.specs.declared.data_types.authenticator.AuthenticatorInner.{AuthenticatorInner}
 use Rattle.krb_types.specs.declared.data_types.encrypted_data.EncryptedData.{EncryptedData}
 use Rattle.krb_types.specs.declared.data_types.enc_ticket_part.EncTicketPartInner.{EncTicketPartInner}
-use Rattle.krb_types.specs.contracts.data_types.enc_ticket_part.EncTicketPartInnerSerialize.TheImpl as ticket_part
-use Rattle.krb_types.specs.contracts.data_types.authenticator.AuthenticatorInnerSerialize.TheImpl as authenticator
+use Rattle.krb_types.specs.Trees as held
 use Rattle.picky_krb.specs.declared.messages.ap_req.ApReqInner.{ApReqInner}
 use Rattle.krb_service.specs.Messages.{ap_req_tree, authenticator_tree, sole_ap_req, ticket_part_tree}
 use Rattle.krb_service.specs.Presents.{Choice, Outer, Presents, Seals, encrypted, request_of}
@@ -89,10 +88,10 @@ one_presentation key bytes a b x y =
     let outer : a.outer ≡ b.outer = sym (outer-request a.outer x.part_cipher x.cipher) ∙ ap outer_of request ∙ outer-request b.outer y.part_cipher y.cipher in
     let part_cipher : x.part_cipher ≡ y.part_cipher = ap (λ (r : ApReqInner). r.ticket.0.0.enc_part.0.cipher.0) request in
     let cipher : x.cipher ≡ y.cipher = ap (λ (r : ApReqInner). r.authenticator.0.cipher.0) request in
-    let part = one_value ticket_part_tree (wrapped-injective 99 ticket_part.ghosts.tree ticket_part.ghosts.injective) key 2 a.part_confounder b.part_confounder a.part b.part y.part_cipher
+    let part = one_value ticket_part_tree (wrapped-injective 99 held.enc_ticket_part_tree held.enc_ticket_part-injective) key 2 a.part_confounder b.part_confounder a.part b.part y.part_cipher
     (subst (λ c. Seals {T = EncTicketPartInner} ticket_part_tree key 2 a.part_confounder a.part c) part_cipher x.part) y.part in
     let under = subst (λ (p : EncTicketPartInner). Seals {T = AuthenticatorInner} authenticator_tree p.key.0.key_value.0 11 a.confounder a.authenticator x.cipher) part.1 x.authenticator in
-    let own = one_value authenticator_tree (wrapped-injective 98 authenticator.ghosts.tree authenticator.ghosts.injective) b.part.key.0.key_value.0 11 a.confounder b.confounder a.authenticator b.authenticator y.cipher
+    let own = one_value authenticator_tree (wrapped-injective 98 held.authenticator_tree held.authenticator-injective) b.part.key.0.key_value.0 11 a.confounder b.confounder a.authenticator b.authenticator y.cipher
     (subst (λ c. Seals {T = AuthenticatorInner} authenticator_tree b.part.key.0.key_value.0 11 a.confounder a.authenticator c) cipher under) y.authenticator in
     λ i. record { outer = outer i; part = part.1 i; part_confounder = part.0 i; authenticator = own.1 i; confounder = own.0 i }
 

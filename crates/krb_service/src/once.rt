@@ -48,7 +48,7 @@ pub(crate) fn admit_once(
 fn pair_of(alloc: Global, presented: &Presented) -> Result<Pair, AllocError>
     ensures { IfOk result (λ pair. pair ≡ pair_of presented.now) }
 {
-    let realm = presented.part.crealm.0.clone(alloc)?;
+    let realm = presented.part.crealm.0.clone()?;
     let components = copies_of(alloc, presented.part.cname.0.name_string.0.as_slice())?;
     Ok(Pair::new(realm, components, presented.time))
 }
@@ -62,7 +62,7 @@ fn copies_of(
 {
     let mut copies = Vec::with_capacity(alloc, components.len())?;
     for component in components {
-        copies.push(component.clone(alloc)?)?;
+        copies.push(component.clone()?)?;
     }
     Ok(copies)
 }

@@ -47,7 +47,7 @@ pub(crate) fn ap_reply(
 fn part_bytes(alloc: Global, authenticator: &AuthenticatorInner) -> Result<Vec<u8>, AllocError>
     ensures { IfOk result (λ bytes. bytes.items ≡ der (ap_rep_part_tree (ap_rep_part authenticator.now))) }
 {
-    let cusec = authenticator.cusec.0.clone(alloc)?;
+    let cusec = authenticator.cusec.0.clone()?;
     let part: EncApRepPart = ApplicationTag(EncApRepPartInner {
         ctime: ExplicitContextTag(authenticator.ctime.0),
         cusec: ExplicitContextTag(cusec),

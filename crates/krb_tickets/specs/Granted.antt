@@ -8,25 +8,24 @@ use Rattle.krb_crypto.proofs.SealingLemmas.{one_string}
 use Rattle.krb_accounts.specs.Account.{AccountRecord}
 use Rattle.krb_types.specs.declared.data_types.enc_ticket_part.EncTicketPartInner.{EncTicketPartInner}
 use Rattle.krb_types.specs.declared.data_types.encrypted_data.EncryptedData.{EncryptedData}
-use Rattle.krb_types.specs.contracts.data_types.enc_ticket_part.EncTicketPartInnerSerialize.TheImpl as ticket_part_impl
+use Rattle.krb_types.specs.Trees as held
 use Rattle.picky_krb.specs.declared.messages.kdc_rep.KdcRep.{KdcRep}
 use Rattle.picky_krb.specs.declared.messages.enc_kdc_rep_part.EncKdcRepPart.{EncKdcRepPart}
-use Rattle.picky_krb.specs.contracts.messages.kdc_rep.KdcRepSerialize.TheImpl as kdc_rep
-use Rattle.picky_krb.specs.contracts.messages.enc_kdc_rep_part.EncKdcRepPartSerialize.TheImpl as reply_part_impl
+use Rattle.picky_krb.specs.Trees as messages
 use Rattle.krb_tickets.specs.declared.grant.Grant.{Grant}
 use Rattle.krb_tickets.specs.Parts.{as_reply_of, encrypted_by, reply_part, ticket_of, ticket_part}
 
 -- the encoding of the part under the service's key, [APPLICATION 3]
 unfoldable pub ticket_part_bytes : EncTicketPartInner → List ℕ
-ticket_part_bytes part = der (wrapped 99 (ticket_part_impl.ghosts.tree part))
+ticket_part_bytes part = der (wrapped 99 (held.enc_ticket_part_tree part))
 
 -- that of the part under the client's key, [APPLICATION 25]
 unfoldable pub as_reply_part_bytes : EncKdcRepPart → List ℕ
-as_reply_part_bytes part = der (wrapped 121 (reply_part_impl.ghosts.tree part))
+as_reply_part_bytes part = der (wrapped 121 (messages.enc_kdc_rep_part_tree part))
 
 -- and that of the reply, [APPLICATION 11]
 unfoldable pub as_reply_bytes : KdcRep → List ℕ
-as_reply_bytes reply = der (wrapped 107 (kdc_rep.ghosts.tree reply))
+as_reply_bytes reply = der (wrapped 107 (messages.kdc_rep_tree reply))
 
 -- which of the random bytes are the confounder of the ticket, and that of the reply
 abbrev pub ticket_confounder : List ℕ → List ℕ

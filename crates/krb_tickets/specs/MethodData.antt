@@ -3,7 +3,7 @@ use Rattle.std.specs.Prelude.{◌≡◌, ℕ, List, [], ◌∷◌, Option, None,
 use Rattle.std.specs.Option.{option_map}
 use Rattle.asn1_trees.specs.Length.{element, length_octets}
 use Rattle.asn1_trees.specs.Tree.{Tree, constructed, der, trees_of}
-use Rattle.picky_asn1.specs.GeneralString.{is_general_string}
+use Rattle.picky_asn1.specs.CharSets.{is_general_string}
 use Rattle.picky_asn1.specs.Integer.{integer_content, natural_octets}
 use Rattle.krb_crypto.specs.declared.suite.CipherSuite.{CipherSuite}
 use Rattle.krb_crypto.specs.declared.suite.CipherSuite.TheVariants.{Aes256CtsHmacSha196}
@@ -11,8 +11,7 @@ use Rattle.krb_crypto.specs.Suites.{cipher_number}
 use Rattle.krb_accounts.specs.Account.{AccountRecord}
 use Rattle.krb_types.specs.declared.data_types.etype_info2.EtypeInfo2Entry.{EtypeInfo2Entry}
 use Rattle.krb_types.specs.declared.data_types.pa_data.PaData.{PaData}
-use Rattle.krb_types.specs.contracts.data_types.etype_info2.EtypeInfo2EntrySerialize.TheImpl as entry_impl
-use Rattle.krb_types.specs.contracts.data_types.pa_data.PaDataSerialize.TheImpl as pa_data_impl
+use Rattle.krb_types.specs.Trees as held
 
 -- how a key is made of a password: the suite, and the salt if there is one
 abbrev pub key_entry : CipherSuite → Option (List ℕ) → EtypeInfo2Entry
@@ -24,7 +23,7 @@ key_entry suite salt = record {
 
 -- ETYPE-INFO2, a list of one entry
 abbrev pub key_info_tree : List EtypeInfo2Entry → Tree
-key_info_tree entries = constructed 48 (trees_of entry_impl.ghosts.tree entries)
+key_info_tree entries = constructed 48 (trees_of held.etype_info2_entry_tree entries)
 
 -- a salt that is no GeneralString has no tree, so that nothing is written of it
 unfoldable pub key_info_bytes : AccountRecord → List ℕ
@@ -45,7 +44,7 @@ method_data account = pa_data_of 19 (key_info_bytes account) ∷ pa_data_of 2 []
 
 -- METHOD-DATA
 abbrev pub method_data_tree : List PaData → Tree
-method_data_tree methods = constructed 48 (trees_of pa_data_impl.ghosts.tree methods)
+method_data_tree methods = constructed 48 (trees_of held.pa_data_tree methods)
 
 unfoldable pub method_data_bytes : AccountRecord → List ℕ
 method_data_bytes account = der (method_data_tree (method_data account))

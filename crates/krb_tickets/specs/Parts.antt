@@ -1,7 +1,7 @@
 -- What a granted ticket and its reply hold (RFC 4120, sections 3.1.3, 5.3, 5.4.2).
 use Rattle.std.specs.Prelude.{◌≡◌, ℕ, List, [], ◌∷◌, None, Some, pos, refl, take}
 use Rattle.picky_asn1.specs.BitString.{Bits}
-use Rattle.picky_asn1.specs.declared.date.GeneralizedTime.{GeneralizedTime}
+use Rattle.asn1_leaves.specs.declared.date.GeneralizedTime.{GeneralizedTime}
 use Rattle.krb_crypto.specs.declared.suite.CipherSuite.{CipherSuite}
 use Rattle.krb_crypto.specs.Suites.{cipher_key_size, cipher_number}
 use Rattle.krb_accounts.specs.Account.{AccountRecord}

@@ -128,8 +128,8 @@ fn ticket_of(alloc: Global, grant: &Grant, part: EncryptedData) -> Result<Ticket
     ensures { IfOk result (λ ticket. ticket.0 ≡ ticket_of grant.now part) }
 {
     let version = IntegerAsn1::from_u64(alloc, VERSION)?;
-    let realm = grant.realm.clone(alloc)?;
-    let service = grant.service.clone(alloc)?;
+    let realm = grant.realm.clone()?;
+    let service = grant.service.clone()?;
     Ok(ApplicationTag(TicketInner {
         tkt_vno: ExplicitContextTag(version),
         realm: ExplicitContextTag(realm),

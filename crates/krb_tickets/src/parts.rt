@@ -31,8 +31,8 @@ pub(crate) fn ticket_part(alloc: Global, grant: &Grant) -> Result<EncTicketPart,
 {
     let flags = initial_flags(alloc)?;
     let key = encryption_key(alloc, grant)?;
-    let realm = grant.realm.clone(alloc)?;
-    let client = grant.client.clone(alloc)?;
+    let realm = grant.realm.clone()?;
+    let client = grant.client.clone()?;
     let transited = no_realms(alloc)?;
     let start = GeneralizedTimeAsn1(grant.start);
     Ok(ApplicationTag(EncTicketPartInner {
@@ -57,10 +57,10 @@ pub(crate) fn reply_part(alloc: Global, grant: &Grant) -> Result<EncAsRepPart, A
 {
     let key = encryption_key(alloc, grant)?;
     let last_req = last_requests(alloc, grant.start)?;
-    let nonce = grant.nonce.clone(alloc)?;
+    let nonce = grant.nonce.clone()?;
     let flags = initial_flags(alloc)?;
-    let realm = grant.realm.clone(alloc)?;
-    let service = grant.service.clone(alloc)?;
+    let realm = grant.realm.clone()?;
+    let service = grant.service.clone()?;
     let start = GeneralizedTimeAsn1(grant.start);
     Ok(ApplicationTag(EncKdcRepPart {
         key: ExplicitContextTag(key),
@@ -84,7 +84,7 @@ fn encryption_key(alloc: Global, grant: &Grant) -> Result<EncryptionKey, AllocEr
     ensures { IfOk result (λ key. key ≡ encryption_key grant.now.suite grant.now.session) }
 {
     let number = IntegerAsn1::from_u64(alloc, u64::from(u8::from(grant.suite)))?;
-    let session = grant.session.clone(alloc)?;
+    let session = grant.session.clone()?;
     Ok(EncryptionKey {
         key_type: ExplicitContextTag(number),
         key_value: ExplicitContextTag(session),

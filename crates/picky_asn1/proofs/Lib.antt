@@ -1,4 +1,2 @@
 pub mod BitLemmas
-pub mod CalendarLemmas
 pub mod IntegerLemmas
-pub mod TimeLemmas

@@ -1,9 +1,7 @@
+pub use Rattle.asn1_leaves.specs.Calendar
+pub use Rattle.asn1_leaves.specs.CharSets
+pub use Rattle.asn1_leaves.specs.GeneralizedTime
 pub mod BitString
-pub mod Calendar
-pub mod GeneralizedTime
-pub mod GeneralString
+pub mod BitStringLaws
 pub mod Integer
 pub mod IntegerLaws
-pub mod Leaf
-pub mod TimeLaws
-pub mod BitStringLaws

@@ -2,7 +2,7 @@
 ghost use Rattle.std.specs.Prelude.{◌≡◌, ◌≢◌, ℕ, min, ◌<◌, ◌==◌, length, if◌then◌else◌, IfOk};
 ghost use Rattle.std.specs.Int.{bit_at};
 ghost use Rattle.picky_asn1.specs.BitString.{Bits, is_bit_string, IsBitString, bit_count, bit_of, bit_content};
-ghost use Rattle.picky_asn1.specs.Leaf.{Makes, Decodes};
+ghost use Rattle.asn1_leaves.specs.Makes.{Makes, Decodes};
 
 use crate::LeafFault;
 use std::alloc::{AllocError, Global};
@@ -105,12 +105,13 @@ impl BitStringAsn1 {
     {
         self.unused
     }
+}
 
-    /// A copy.
-    pub fn clone(&self, alloc: Global) -> Result<BitStringAsn1, AllocError>
-        ensures { IfOk result (λ s. s ≡ self.now) }
-    {
-        let octets = Vec::from_slice(alloc, self.as_bytes())?;
+impl Clone for BitStringAsn1 {
+    ghost is_clone = { λ bits copy. copy ≡ bits };
+
+    fn clone(&self) -> Result<BitStringAsn1, AllocError> {
+        let octets = self.octets.clone()?;
         Ok(BitStringAsn1 {
             octets,
             unused: self.unused,

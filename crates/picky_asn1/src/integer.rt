@@ -1,9 +1,9 @@
 //! Whole numbers.
-ghost use Rattle.std.specs.Prelude.{◌≡◌, ◌≢◌, ◌<◌, ◌≤◌, ℤ, pos, map, length, slice_index, nat_le, if◌then◌else◌, IfOk, MatchOption, SomeIff, FitsSigned};
+ghost use Rattle.std.specs.Prelude.{◌≡◌, ◌≢◌, ◌<◌, ◌≤◌, ℤ, pos, map, ◌∷◌, length, slice_index, nat_le, if◌then◌else◌, IfOk, MatchOption, SomeIff, FitsSigned};
 ghost use Rattle.std.specs.Int.{w64};
 ghost use Rattle.std.specs.Int.Digits.{number_from_digits};
 ghost use Rattle.picky_asn1.specs.Integer.{complement, is_integer, IsInteger, integer_value, integer_content};
-ghost use Rattle.picky_asn1.specs.Leaf.{Makes};
+ghost use Rattle.asn1_leaves.specs.Makes.{Makes};
 
 use crate::LeafFault;
 use std::alloc::{AllocError, Global};
@@ -62,14 +62,20 @@ impl IntegerAsn1 {
         Ok(IntegerAsn1::from_octets(alloc, shortest(octets))?)
     }
 
-    /// The number whose digits to the base 256 the octets are, the most significant first.
-    pub fn from_bytes_be_unsigned(alloc: Global, octets: &[u8]) -> Result<IntegerAsn1, AllocError>
-        ensures { IfOk result (λ z. z ≡ pos (number_from_digits 256 octets.now)) }
+    /// The number whose digits to the base 256 the octets are, the most significant first, or
+    /// `LeafFault::Integer` where there are none. Octets that the number doesn't need are left out.
+    pub fn from_bytes_be_unsigned(alloc: Global, octets: &[u8]) -> Result<IntegerAsn1, LeafFault>
+        ensures { Makes
+            (0 < length octets.now)
+            LeafFault.Integer
+            (pos (number_from_digits 256 octets.now))
+            result }
     {
-        let mut signed = Vec::new(alloc);
-        signed.push(0)?;
-        signed.extend_from_slice(octets)?;
-        IntegerAsn1::from_octets(alloc, shortest(signed.as_slice()))
+        if octets.is_empty() {
+            return Err(LeafFault::Integer);
+        }
+        let signed = behind_zero(alloc, octets)?;
+        Ok(IntegerAsn1::from_octets(alloc, shortest(signed.as_slice()))?)
     }
 
     /// The number.
@@ -118,12 +124,13 @@ impl IntegerAsn1 {
     {
         self.octets.as_slice()
     }
+}
 
-    /// A copy.
-    pub fn clone(&self, alloc: Global) -> Result<IntegerAsn1, AllocError>
-        ensures { IfOk result (λ z. z ≡ self.now) }
-    {
-        let octets = Vec::from_slice(alloc, self.octets.as_slice())?;
+impl Clone for IntegerAsn1 {
+    ghost is_clone = { λ z copy. copy ≡ z };
+
+    fn clone(&self) -> Result<IntegerAsn1, AllocError> {
+        let octets = self.octets.clone()?;
         Ok(IntegerAsn1 { octets })
     }
 }
@@ -147,6 +154,16 @@ impl Eq for IntegerAsn1 {
     ghost use Rattle.std.proofs.Common.{rules};
 
     ghost laws = { Prim.search (comparing, rules) };
+}
+
+// The octets behind one that says that the number isn't negative.
+fn behind_zero(alloc: Global, octets: &[u8]) -> Result<Vec<u8>, AllocError>
+    ensures { IfOk result (λ signed. signed.items ≡ 0 ∷ octets.now) }
+{
+    let mut signed = Vec::new(alloc);
+    signed.push(0)?;
+    signed.extend_from_slice(octets)?;
+    Ok(signed)
 }
 
 // Whether the octets are the fewest for their number (X.690, section 8.3.2).

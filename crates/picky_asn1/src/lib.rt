@@ -1,15 +1,13 @@
-//! The leaf types of ASN.1: integers, strings and times, as DER has them (X.690).
+//! The leaf types of ASN.1: integers, strings, object identifiers and times, and their lists, as DER has them (X.690).
 #![tactic(auto)]
 
 pub mod bit_string;
-pub mod date;
 mod encoding;
-mod fault;
+mod general_string;
 mod integer;
-mod leaf;
+mod list_of;
 mod octet_string;
 pub mod restricted_string;
-mod sequence_of;
 pub mod wrapper;
 
-pub use fault::LeafFault;
+pub use asn1_leaves::{LeafFault, date, oid};

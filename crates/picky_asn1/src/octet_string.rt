@@ -37,12 +37,14 @@ impl OctetStringAsn1 {
     {
         self.octets.as_slice()
     }
+}
 
-    /// A copy.
-    pub fn clone(&self, alloc: Global) -> Result<OctetStringAsn1, AllocError>
-        ensures { IfOk result (λ s. s ≡ self.now) }
-    {
-        OctetStringAsn1::new(alloc, self.as_bytes())
+impl Clone for OctetStringAsn1 {
+    ghost is_clone = { λ string copy. copy ≡ string };
+
+    fn clone(&self) -> Result<OctetStringAsn1, AllocError> {
+        let octets = self.octets.clone()?;
+        Ok(OctetStringAsn1 { octets })
     }
 }
 

@@ -1,92 +1,107 @@
-//! Strings of a character set.
-ghost use Rattle.std.specs.Prelude.{◌≡◌, IfOk};
-ghost use Rattle.std.specs.Bool.{nat_eq};
-ghost use Rattle.std.specs.Cmp.Lexicographic.{pointwise};
-ghost use Rattle.std.proofs.lemmas.Cmp.{nat_list_eq_equiv};
-ghost use Rattle.std.proofs.Common.{rules};
-ghost use Rattle.picky_asn1.specs.GeneralString.{is_general_string, IsGeneralString};
-ghost use Rattle.picky_asn1.specs.Leaf.{Makes, Decodes};
+//! Strings of a character set (X.680, section 41).
+ghost use Rattle.std.specs.Prelude.{◌≡◌, IsTrue, IfOk};
+ghost use Rattle.asn1_leaves.specs.Makes.{Makes, Decodes};
 
 use crate::LeafFault;
+pub use asn1_leaves::char_sets::{
+    BmpCharSet, CharSet, GeneralCharSet, Ia5CharSet, PrintableCharSet, Utf8CharSet,
+};
 use std::alloc::{AllocError, Global};
-use std::marker::Model;
+use std::marker::{Model, PhantomData};
+use std::str;
 
-/// A GeneralString of characters below 128, the only ones that Kerberos has in it (RFC 4120, section 5.2.1). A
-/// contract sees their list.
+/// A text of the character set `C`. A contract sees the list of its octets.
 #[derive(Drop, Debug)]
-pub struct GeneralStringAsn1 {
-    characters: Vec<u8>,
+pub struct RestrictedString<C: CharSet> {
+    octets: Vec<u8>,
+    set: PhantomData<C>,
 }
 
-impl Model for GeneralStringAsn1 {
-    ghost use Rattle.std.specs.Prelude.{ℕ, List};
-    ghost use Rattle.picky_asn1.specs.GeneralString.{IsGeneralString};
+impl<C: CharSet> Model for RestrictedString<C> {
+    ghost use Rattle.std.specs.Prelude.{ℕ, List, IsTrue};
 
     ghost Value = { List ℕ };
 
-    ghost view = { λ s. s.characters.items };
+    ghost view = { λ s. s.octets.items };
 
-    ghost invariant = { λ s. IsGeneralString s.characters.items };
+    ghost invariant = { λ s. IsTrue (C.is_text s.octets.items) };
 }
 
-impl GeneralStringAsn1 {
-    /// A copy of the characters, or `LeafFault::Character` where one isn't below 128.
-    pub fn new(alloc: Global, characters: &[u8]) -> Result<GeneralStringAsn1, LeafFault>
-        ensures { Makes (IsGeneralString characters.now) LeafFault.Character characters.now result }
+impl<C: CharSet> RestrictedString<C> {
+    /// A copy of the octets, or `LeafFault::Character` where they are no text of the set.
+    pub fn new(alloc: Global, octets: &[u8]) -> Result<RestrictedString<C>, LeafFault>
+        ensures { Makes (IsTrue (C.is_text octets.now)) LeafFault.Character octets.now result }
     {
-        match GeneralStringAsn1::from_content(alloc, characters)? {
+        match RestrictedString::from_content(alloc, octets)? {
             Some(string) => Ok(string),
             None => Err(LeafFault::Character),
         }
     }
 
-    /// Reads the content octets of an element, none where they are no GeneralString's.
+    /// Reads the content octets of an element, none where they are no text of the set.
     pub fn from_content(
         alloc: Global,
         content: &[u8],
-    ) -> Result<Option<GeneralStringAsn1>, AllocError>
-        ensures { IfOk result (Decodes IsGeneralString (λ s. s) content.now) }
+    ) -> Result<Option<RestrictedString<C>>, AllocError>
+        ensures { IfOk result (Decodes (λ s. IsTrue (C.is_text s)) (λ s. s) content.now) }
     {
-        if !is_general_string(content) {
+        if !C::has_text(content) {
             return Ok(None);
         }
-        let characters = Vec::from_slice(alloc, content)?;
-        Ok(Some(GeneralStringAsn1 { characters }))
+        let octets = Vec::from_slice(alloc, content)?;
+        Ok(Some(RestrictedString {
+            octets,
+            set: PhantomData,
+        }))
     }
 
-    /// The characters, which are the content octets too.
+    /// The octets, which are the content octets too.
     pub fn as_bytes(&self) -> &[u8]
         ensures value { result.now ≡ self.now }
-        ensures character_set { IsGeneralString self.now }
+        ensures character_set { IsTrue (C.is_text self.now) }
     {
-        self.characters.as_slice()
-    }
-
-    /// A copy.
-    pub fn clone(&self, alloc: Global) -> Result<GeneralStringAsn1, AllocError>
-        ensures { IfOk result (λ s. s ≡ self.now) }
-    {
-        let characters = Vec::from_slice(alloc, self.as_bytes())?;
-        Ok(GeneralStringAsn1 { characters })
+        self.octets.as_slice()
     }
 }
 
-impl PartialEq for GeneralStringAsn1 {
+impl RestrictedString<Utf8CharSet> {
+    /// The text.
+    pub fn as_str(&self) -> &str
+        ensures { result.now ≡ self.now }
+    {
+        str::from_utf8(self.as_bytes()).unwrap()
+    }
+}
+
+impl<C: CharSet> Clone for RestrictedString<C> {
+    ghost is_clone = { λ string copy. copy ≡ string };
+
+    fn clone(&self) -> Result<RestrictedString<C>, AllocError> {
+        let octets = self.octets.clone()?;
+        Ok(RestrictedString {
+            octets,
+            set: PhantomData,
+        })
+    }
+}
+
+impl<C: CharSet> PartialEq for RestrictedString<C> {
+    ghost use Rattle.std.specs.Bool.{nat_eq};
+    ghost use Rattle.std.specs.Cmp.Lexicographic.{pointwise};
+    ghost use Rattle.std.proofs.lemmas.Cmp.{nat_list_eq_equiv};
+    ghost use Rattle.std.proofs.Common.{rules};
+
     ghost eq = { pointwise nat_eq };
 
     ghost laws = { Prim.search (nat_list_eq_equiv, rules) };
 
-    fn eq(&self, other: &GeneralStringAsn1) -> bool {
+    fn eq(&self, other: &RestrictedString<C>) -> bool {
         self.as_bytes() == other.as_bytes()
     }
 }
 
-impl Eq for GeneralStringAsn1 {
-    ghost laws = { nat_list_eq_equiv };
-}
+impl<C: CharSet> Eq for RestrictedString<C> {
+    ghost use Rattle.std.proofs.lemmas.Cmp.{nat_list_eq_equiv};
 
-fn is_general_string(characters: &[u8]) -> bool
-    ensures { result ≡ is_general_string characters.now }
-{
-    characters.iter().all(|character| *character < 128)
+    ghost laws = { nat_list_eq_equiv };
 }

@@ -1,8 +1,4 @@
-pub mod Chain
-pub mod Peeks
-pub mod Headers
-pub mod FieldsLemmas
-pub mod Writes
-pub mod ReadsLemmas
-pub mod Leaves
-pub mod UnsignedLemmas
+pub mod ChoiceLemmas
+pub mod DefaultLemmas
+pub mod RawLemmas
+pub mod Splits

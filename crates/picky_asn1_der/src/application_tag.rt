@@ -2,10 +2,10 @@
 ghost use Rattle.std.specs.Prelude.{◌≡◌, ℕ, ◌+◌, ◌%◌, MatchResult};
 ghost use Rattle.asn1_trees.specs.Tree.{Tree, wrapped};
 ghost use Rattle.asn1_trees.specs.Firsts.{only};
+ghost use Rattle.asn1_codec.specs.Refusals.{part_refusal};
 
-use crate::de::{Deserialize, Deserializer};
-use crate::error::Asn1DerError;
-use crate::ser::{Serialize, Serializer};
+use asn1_codec::{Deserialize, Deserializer, IsTagNumber, Serialize, Serializer, TagNumber};
+use asn1_octets::Asn1DerError;
 use devices::{Sink, Source};
 
 /// A value under the constructed application tag `TAG` (X.690, section 8.14), which is below 31.
@@ -20,10 +20,15 @@ impl<V, const TAG: u8> From<V> for ApplicationTag<V, TAG> {
     }
 }
 
-impl<V: Serialize, const TAG: u8> Serialize for ApplicationTag<V, TAG> {
+impl<V: Serialize, const TAG: u8> Serialize for ApplicationTag<V, TAG>
+where
+    TagNumber<TAG>: IsTagNumber,
+{
     ghost use Rattle.asn1_trees.proofs.Spelling.{wrapped-begins, wrapped-injective};
 
     ghost tree = { λ value. wrapped (96 + TAG % 32) (V.tree value.0) };
+
+    ghost refusal = { part_refusal (λ value. value.0) V.refusal };
 
     ghost firsts = { only (96 + TAG % 32) };
 
@@ -38,7 +43,10 @@ impl<V: Serialize, const TAG: u8> Serialize for ApplicationTag<V, TAG> {
     }
 }
 
-impl<V: Deserialize, const TAG: u8> Deserialize for ApplicationTag<V, TAG> {
+impl<V: Deserialize, const TAG: u8> Deserialize for ApplicationTag<V, TAG>
+where
+    TagNumber<TAG>: IsTagNumber,
+{
     fn may_start(first: u8) -> bool {
         first == 96 + TAG % 32
     }

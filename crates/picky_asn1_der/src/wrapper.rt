@@ -2,23 +2,11 @@
 ghost use Rattle.std.specs.Prelude.{◌≡◌, ℕ, ◌+◌, ◌%◌, MatchResult};
 ghost use Rattle.asn1_trees.specs.Tree.{Tree, wrapped};
 ghost use Rattle.asn1_trees.specs.Firsts.{only};
+ghost use Rattle.asn1_codec.specs.Refusals.{part_refusal};
 
-use crate::de::{Deserialize, Deserializer};
-use crate::error::Asn1DerError;
-use crate::ser::{Serialize, Serializer};
+use asn1_codec::{Deserialize, Deserializer, IsTagNumber, Serialize, Serializer, TagNumber};
+use asn1_octets::Asn1DerError;
 use devices::{Sink, Source};
-
-/// A field that may be missing, as `Optional<Option<T>>`.
-#[derive(Clone, Copy, Debug, Drop, PartialEq, Eq)]
-pub struct Optional<T>(pub T);
-
-impl<T> From<T> for Optional<T> {
-    ghost from_gives = { λ value made. made.0 ≡ value };
-
-    fn from(value: T) -> Self {
-        Optional(value)
-    }
-}
 
 /// A value under the explicit context tag `N` (X.690, section 8.14.3), which is below 31.
 #[derive(Clone, Copy, Debug, Drop, PartialEq, Eq)]
@@ -32,10 +20,15 @@ impl<const N: u8, T> From<T> for ExplicitContextTag<N, T> {
     }
 }
 
-impl<const N: u8, T: Serialize> Serialize for ExplicitContextTag<N, T> {
+impl<const N: u8, T: Serialize> Serialize for ExplicitContextTag<N, T>
+where
+    TagNumber<N>: IsTagNumber,
+{
     ghost use Rattle.asn1_trees.proofs.Spelling.{wrapped-begins, wrapped-injective};
 
     ghost tree = { λ value. wrapped (160 + N % 32) (T.tree value.0) };
+
+    ghost refusal = { part_refusal (λ value. value.0) T.refusal };
 
     ghost firsts = { only (160 + N % 32) };
 
@@ -50,7 +43,10 @@ impl<const N: u8, T: Serialize> Serialize for ExplicitContextTag<N, T> {
     }
 }
 
-impl<const N: u8, T: Deserialize> Deserialize for ExplicitContextTag<N, T> {
+impl<const N: u8, T: Deserialize> Deserialize for ExplicitContextTag<N, T>
+where
+    TagNumber<N>: IsTagNumber,
+{
     fn may_start(first: u8) -> bool {
         first == 160 + N % 32
     }

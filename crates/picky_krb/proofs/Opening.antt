@@ -6,9 +6,9 @@ use Rattle.krb_crypto.specs.declared.suite.CipherSuite.{CipherSuite}
 use Rattle.krb_crypto.specs.declared.suite.CipherSuite.TheVariants.{Aes128CtsHmacSha196, Aes256CtsHmacSha196}
 use Rattle.krb_crypto.specs.Sealing.{IsSealed, IsSealedBy}
 use Rattle.krb_crypto.specs.Suites.{cipher_number}
-use Rattle.picky_asn1_der.specs.Reads.{ReadsAll}
-use Rattle.picky_asn1_der.specs.declared.error.Asn1DerError.{Asn1DerError}
-use Rattle.picky_asn1_der.specs.declared.error.Asn1DerError.TheVariants.{Memory}
+use Rattle.asn1_codec.specs.Reads.{ReadsAll}
+use Rattle.asn1_octets.specs.declared.error.Asn1DerError.{Asn1DerError}
+use Rattle.asn1_octets.specs.declared.error.Asn1DerError.TheVariants.{Memory}
 use Rattle.picky_krb.specs.Opens.{Opens}
 
 -- a number has one suite

@@ -2,9 +2,9 @@
 use Rattle.std.proofs.Common.{◌≡◌, ◌⊎◌, ◌↔◌, ◌∙◌, ℕ, Bool, false, IsTrue, List, Ok, Err, inl, inr, refl, sym}
 use Rattle.std.proofs.lemmas.Bool.{false≢true}
 use Rattle.asn1_trees.specs.Tree.{Tree, Writes}
-use Rattle.picky_asn1_der.specs.declared.error.Asn1DerError.{Asn1DerError}
-use Rattle.picky_asn1_der.specs.declared.error.Asn1DerError.TheVariants.{Memory}
-use Rattle.picky_asn1_der.specs.Reads.{ReadsAll}
+use Rattle.asn1_octets.specs.declared.error.Asn1DerError.{Asn1DerError}
+use Rattle.asn1_octets.specs.declared.error.Asn1DerError.TheVariants.{Memory}
+use Rattle.asn1_codec.specs.Reads.{ReadsAll}
 
 -- memory wasn't wanting, and no value was read: the input is the spelling of none
 pub not_read : {T : Type 0} (tree : T → Tree) (input : List ℕ) (fault : Asn1DerError) → (fault ≡ Memory → ⊥) → ReadsAll {T = T} tree input (Err fault)

@@ -8,8 +8,8 @@ use Rattle.krb_blocks.specs.declared.error.KerberosCryptoError.{KerberosCryptoEr
 use Rattle.krb_blocks.specs.declared.error.KerberosCryptoError.TheVariants as crypto
 use Rattle.krb_crypto.specs.Sealing.{IsSealed}
 use Rattle.krb_crypto.proofs.SealingLemmas.{one_sealed}
-use Rattle.picky_asn1_der.specs.declared.error.Asn1DerError.{Asn1DerError}
-use Rattle.picky_asn1_der.specs.declared.error.Asn1DerError.TheVariants as der_fault
+use Rattle.asn1_octets.specs.declared.error.Asn1DerError.{Asn1DerError}
+use Rattle.asn1_octets.specs.declared.error.Asn1DerError.TheVariants as der_fault
 use Rattle.picky_krb.specs.declared.open.OpenFault.{OpenFault}
 use Rattle.picky_krb.specs.declared.open.OpenFault.TheVariants.{Crypto, Der}
 

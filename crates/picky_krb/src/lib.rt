@@ -5,7 +5,7 @@
 #![tactic(auto)]
 
 ghost use Rattle.std.specs.Prelude.{◌≡◌};
-ghost use Rattle.picky_asn1_der.specs.Reads.{ReadsAll};
+ghost use Rattle.asn1_codec.specs.Reads.{ReadsAll};
 
 mod find;
 pub mod messages;

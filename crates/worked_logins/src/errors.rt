@@ -1,5 +1,6 @@
-//! How an error prints.
+//! How an error prints, and how it is written where memory is set aside.
 
+use picky_asn1_der::{Asn1DerError, Serialize, to_bytes};
 use picky_krb::messages::KrbError;
 use std::alloc::Global;
 use std::test::Fail;
@@ -23,5 +24,22 @@ fn codes(rt: HostRuntime) -> Result<(), Fail> {
         }
         assert_eq!(rt; printed(rt.alloc(), &bytes)?.as_str(), text);
     }
+    Ok(())
+}
+
+// The error has 72 bytes. Once it is read no memory is wanted.
+#[test]
+fn into_a_slice(rt: HostRuntime) -> Result<(), Fail> {
+    let bytes = hex::decode(rt.alloc(), ERROR)?;
+    let error: KrbError = picky_krb::from_bytes(rt.alloc(), &bytes)?;
+    let mut out = [0; 72];
+    assert_eq!(rt; to_bytes(&error, &mut out), Ok(72));
+    assert_eq!(rt; out.as_slice(), bytes.as_slice());
+    let mut short = [0; 71];
+    assert_eq!(rt;
+        to_bytes(&error, &mut short),
+        Err(Asn1DerError::InvalidSink)
+    );
+    assert_eq!(rt; error.encoded_len(), Ok(72));
     Ok(())
 }

@@ -4,6 +4,4 @@
 #[cfg(test)]
 mod commands;
 #[cfg(test)]
-mod der;
-#[cfg(test)]
 mod replies;

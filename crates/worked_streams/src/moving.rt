@@ -1,7 +1,7 @@
 //! Bytes moved whole, however the devices cut them.
 
 use crate::slow::{Drip, Trickle};
-use devices::{Sink, SinkFault, Source, Watched, WholeFault, read_full, write_whole};
+use devices::{Sink, SinkFault, Source, Space, Watched, WholeFault, read_full, write_whole};
 use std::io::{self, ErrorKind, Read, Write};
 
 // No byte is lost to a failure.
@@ -98,4 +98,14 @@ fn watched_failures_count(rt: HostRuntime) {
         Err(SinkFault::Failed(ErrorKind::BrokenPipe))
     );
     assert_eq!(rt; Sink::failures(&broken), 2);
+}
+
+#[test]
+fn a_slice_takes_what_fits(rt: HostRuntime) {
+    let mut bytes = [0; 4];
+    let mut space = Space::new(&mut bytes);
+    assert_eq!(rt; write_whole(&mut space, b"abc"), Ok(()));
+    assert_eq!(rt; write_whole(&mut space, b"de"), Err(WholeFault::Full));
+    assert_eq!(rt; Sink::failures(&space), 1);
+    assert_eq!(rt; bytes.as_slice(), b"abcd".as_slice());
 }

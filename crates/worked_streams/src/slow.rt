@@ -1,5 +1,6 @@
 //! Devices that move a byte a call, and fail in mid-stream.
-ghost use Rattle.std.specs.Prelude.{false, Some};
+ghost use Rattle.std.specs.Prelude.{false, None, Some, if◌then◌else◌};
+ghost use Rattle.std.specs.declared.io.ErrorKind.TheVariants.{BrokenPipe};
 
 use devices::{Sink, SinkFault, Source};
 use std::alloc::Global;
@@ -27,6 +28,8 @@ impl Source for Drip<'_> {
     ghost left = { λ d. Some d.rest.now };
 
     ghost failed = { λ d. d.failures };
+
+    ghost last_fault = { λ _. Some BrokenPipe };
 
     fn read_some(&mut self, buffer: &mut [u8]) -> Result<usize, ErrorKind> {
         if self.until_failure == 0 {
@@ -68,6 +71,8 @@ impl Sink for Trickle {
     ghost written = { λ t. Some t.taken.items };
 
     ghost failed = { λ t. t.failures };
+
+    ghost last_fault = { λ t. (if t.is_broken then Some BrokenPipe else None) };
 
     ghost grows = { false };
 

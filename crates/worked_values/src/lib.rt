@@ -1,9 +1,9 @@
-//! Worked values of leaves, moments, accounts and what services remember.
+//! Worked values of moments, accounts and what services remember.
 #![tactic(auto)]
 
 #[cfg(test)]
 mod accounts;
 #[cfg(test)]
-mod leaves;
+mod moments;
 #[cfg(test)]
 mod seen;

@@ -2,8 +2,8 @@
 use devices::{Sink, Source};
 use picky_asn1::wrapper::{Asn1SequenceOf, IntegerAsn1, OctetStringAsn1};
 use picky_asn1_der::{
-    Asn1DerError, Deserialize, Deserializer, End, ExplicitContextTag0, ExplicitContextTag1, Field,
-    Fields, Serialize, Serializer,
+    Asn1DerError, Deserializer, ExplicitContextTag0, ExplicitContextTag1, Fields, Row2, Serializer,
+    Tagged, fields_of, from_fields, read_sequence,
 };
 
 /// One entry of authorization data (RFC 4120, section 5.2.6).
@@ -18,44 +18,39 @@ pub struct AuthorizationDataInner {
 /// Authorization data (RFC 4120, section 5.2.6): entries that narrow what a ticket grants.
 pub type AuthorizationData = Asn1SequenceOf<AuthorizationDataInner>;
 
-type AuthorizationDataInnerFields = Field<
+type AuthorizationDataInnerRow = Row2<
     ExplicitContextTag0<IntegerAsn1>,
-    Field<ExplicitContextTag1<OctetStringAsn1>, End>,
+    ExplicitContextTag1<OctetStringAsn1>,
 >;
 
-impl Serialize for AuthorizationDataInner {
-    ghost use Rattle.std.specs.Prelude.{refl, true};
-    ghost use Rattle.std.proofs.Common.{ap};
-    ghost use Rattle.asn1_trees.specs.Tree.{constructed};
-    ghost use Rattle.asn1_trees.specs.Firsts.{only};
-    ghost use Rattle.asn1_trees.proofs.Spelling.{may_begin-only};
-    ghost use Rattle.asn1_trees.proofs.Elements.{element-content};
-    ghost use Rattle.picky_asn1_der.specs.Fields.{required, end};
+impl Tagged for AuthorizationDataInner {
+    ghost use Rattle.std.proofs.Common.{ap, refl, true};
+    ghost use Rattle.asn1_trees.specs.Tagged.{sequence};
+    ghost use Rattle.asn1_trees.proofs.Tagged.{sequence_laws};
 
-    ghost tree = { λ v. constructed 48
-        (⟦<AuthorizationDataInnerFields as Fields>⟧.trees (required v.ad_type (required v.ad_data end))) };
+    type Row = AuthorizationDataInnerRow;
 
-    ghost firsts = { only 48 };
+    const FIRST: u8 = 48;
 
-    ghost begins = { λ v. may_begin-only 48 };
+    ghost FIRST = { 48 };
 
-    ghost injective = { λ v w whole also e. ap
-        (λ f. record { ad_type = f.0; ad_data = f.1.0 })
-        (⟦<AuthorizationDataInnerFields as Fields>⟧.injective (refl {a = true}) _ _ whole also (element-content 48 _ _ e)) };
+    ghost row_tree = { sequence ⟦<AuthorizationDataInnerRow as Fields>⟧.trees };
 
-    fn serialize<W: Sink>(&self, to: &mut Serializer<W>) -> Result<usize, Asn1DerError> {
-        to.list(48, &Field(&self.ad_type, Field(&self.ad_data, End)))
-    }
-}
+    ghost row_laws = { sequence_laws ⟦<AuthorizationDataInnerRow as Fields>⟧.trees (⟦<AuthorizationDataInnerRow as Fields>⟧.injective (refl {a = true})) };
 
-impl Deserialize for AuthorizationDataInner {
-    fn may_start(first: u8) -> bool {
-        first == 48
+    ghost row_of = { λ v. (v.ad_type, (v.ad_data, tt)) };
+
+    ghost one_row = { λ v w e. ap (λ f. record { ad_type = f.0; ad_data = f.1.0 }) e };
+
+    fn read_row<R: Source>(tag: u8, from: &mut Deserializer<R>) -> Result<Self::Row, Asn1DerError> {
+        read_sequence(tag, from)
     }
 
-    fn deserialize<R: Source>(from: &mut Deserializer<R>) -> Result<Self, Asn1DerError> {
-        let fields: AuthorizationDataInnerFields = from.list(48)?;
-        let Field(ad_type, Field(ad_data, End)) = fields;
-        Ok(AuthorizationDataInner { ad_type, ad_data })
+    fn of_row(row: Self::Row) -> Self {
+        from_fields![row; ad_type, ad_data]
+    }
+
+    fn write_row<W: Sink>(&self, tag: u8, to: &mut Serializer<W>) -> Result<usize, Asn1DerError> {
+        to.list(tag, &fields_of![self; ad_type, ad_data])
     }
 }

@@ -2,8 +2,8 @@
 use devices::{Sink, Source};
 use picky_asn1::wrapper::{IntegerAsn1, OctetStringAsn1};
 use picky_asn1_der::{
-    Asn1DerError, Deserialize, Deserializer, End, ExplicitContextTag0, ExplicitContextTag1, Field,
-    Fields, Serialize, Serializer,
+    Asn1DerError, Deserializer, ExplicitContextTag0, ExplicitContextTag1, Fields, Row2, Serializer,
+    Tagged, fields_of, from_fields, read_sequence,
 };
 
 /// A checksum (RFC 4120, section 5.2.9).
@@ -15,47 +15,36 @@ pub struct Checksum {
     pub checksum: ExplicitContextTag1<OctetStringAsn1>,
 }
 
-type ChecksumFields = Field<
-    ExplicitContextTag0<IntegerAsn1>,
-    Field<ExplicitContextTag1<OctetStringAsn1>, End>,
->;
+type ChecksumRow = Row2<ExplicitContextTag0<IntegerAsn1>, ExplicitContextTag1<OctetStringAsn1>>;
 
-impl Serialize for Checksum {
-    ghost use Rattle.std.specs.Prelude.{refl, true};
-    ghost use Rattle.std.proofs.Common.{ap};
-    ghost use Rattle.asn1_trees.specs.Tree.{constructed};
-    ghost use Rattle.asn1_trees.specs.Firsts.{only};
-    ghost use Rattle.asn1_trees.proofs.Spelling.{may_begin-only};
-    ghost use Rattle.asn1_trees.proofs.Elements.{element-content};
-    ghost use Rattle.picky_asn1_der.specs.Fields.{required, end};
+impl Tagged for Checksum {
+    ghost use Rattle.std.proofs.Common.{ap, refl, true};
+    ghost use Rattle.asn1_trees.specs.Tagged.{sequence};
+    ghost use Rattle.asn1_trees.proofs.Tagged.{sequence_laws};
 
-    ghost tree = { λ v. constructed 48
-        (⟦<ChecksumFields as Fields>⟧.trees (required v.cksumtype (required v.checksum end))) };
+    type Row = ChecksumRow;
 
-    ghost firsts = { only 48 };
+    const FIRST: u8 = 48;
 
-    ghost begins = { λ v. may_begin-only 48 };
+    ghost FIRST = { 48 };
 
-    ghost injective = { λ v w whole also e. ap
-        (λ f. record { cksumtype = f.0; checksum = f.1.0 })
-        (⟦<ChecksumFields as Fields>⟧.injective (refl {a = true}) _ _ whole also (element-content 48 _ _ e)) };
+    ghost row_tree = { sequence ⟦<ChecksumRow as Fields>⟧.trees };
 
-    fn serialize<W: Sink>(&self, to: &mut Serializer<W>) -> Result<usize, Asn1DerError> {
-        to.list(48, &Field(&self.cksumtype, Field(&self.checksum, End)))
-    }
-}
+    ghost row_laws = { sequence_laws ⟦<ChecksumRow as Fields>⟧.trees (⟦<ChecksumRow as Fields>⟧.injective (refl {a = true})) };
 
-impl Deserialize for Checksum {
-    fn may_start(first: u8) -> bool {
-        first == 48
+    ghost row_of = { λ v. (v.cksumtype, (v.checksum, tt)) };
+
+    ghost one_row = { λ v w e. ap (λ f. record { cksumtype = f.0; checksum = f.1.0 }) e };
+
+    fn read_row<R: Source>(tag: u8, from: &mut Deserializer<R>) -> Result<Self::Row, Asn1DerError> {
+        read_sequence(tag, from)
     }
 
-    fn deserialize<R: Source>(from: &mut Deserializer<R>) -> Result<Self, Asn1DerError> {
-        let fields: ChecksumFields = from.list(48)?;
-        let Field(cksumtype, Field(checksum, End)) = fields;
-        Ok(Checksum {
-            cksumtype,
-            checksum,
-        })
+    fn of_row(row: Self::Row) -> Self {
+        from_fields![row; cksumtype, checksum]
+    }
+
+    fn write_row<W: Sink>(&self, tag: u8, to: &mut Serializer<W>) -> Result<usize, Asn1DerError> {
+        to.list(tag, &fields_of![self; cksumtype, checksum])
     }
 }

@@ -4,9 +4,9 @@ use crate::data_types::{EncryptionKey, KerberosTime, Microseconds};
 use devices::{Sink, Source};
 use picky_asn1::wrapper::IntegerAsn1;
 use picky_asn1_der::{
-    ApplicationTag, Asn1DerError, Deserialize, Deserializer, End, ExplicitContextTag0,
-    ExplicitContextTag1, ExplicitContextTag2, ExplicitContextTag3, Field, Fields, Optional,
-    OptionalField, Serialize, Serializer,
+    ApplicationTag, Asn1DerError, Deserializer, ExplicitContextTag0, ExplicitContextTag1,
+    ExplicitContextTag2, ExplicitContextTag3, Fields, Optional, Row4, Serializer, Tagged,
+    fields_of, from_fields, read_sequence,
 };
 
 /// What a service's reply holds under the session key (RFC 4120, section 5.5.2).
@@ -25,68 +25,41 @@ pub struct EncApRepPartInner {
 /// The sealed part of a service's reply (RFC 4120, section 5.5.2).
 pub type EncApRepPart = ApplicationTag<EncApRepPartInner, ENC_AP_REP_PART_TYPE>;
 
-type EncApRepPartInnerFields = Field<
+type EncApRepPartInnerRow = Row4<
     ExplicitContextTag0<KerberosTime>,
-    Field<
-        ExplicitContextTag1<Microseconds>,
-        OptionalField<
-            ExplicitContextTag2<EncryptionKey>,
-            OptionalField<ExplicitContextTag3<IntegerAsn1>, End>,
-        >,
-    >,
+    ExplicitContextTag1<Microseconds>,
+    Optional<Option<ExplicitContextTag2<EncryptionKey>>>,
+    Optional<Option<ExplicitContextTag3<IntegerAsn1>>>,
 >;
 
-impl Serialize for EncApRepPartInner {
-    ghost use Rattle.std.specs.Prelude.{refl, true};
-    ghost use Rattle.std.proofs.Common.{ap};
-    ghost use Rattle.asn1_trees.specs.Tree.{constructed};
-    ghost use Rattle.asn1_trees.specs.Firsts.{only};
-    ghost use Rattle.asn1_trees.proofs.Spelling.{may_begin-only};
-    ghost use Rattle.asn1_trees.proofs.Elements.{element-content};
-    ghost use Rattle.picky_asn1_der.specs.Fields.{required, optional, end};
+impl Tagged for EncApRepPartInner {
+    ghost use Rattle.std.proofs.Common.{ap, refl, true};
+    ghost use Rattle.asn1_trees.specs.Tagged.{sequence};
+    ghost use Rattle.asn1_trees.proofs.Tagged.{sequence_laws};
 
-    ghost tree = { λ v. constructed 48
-        (⟦<EncApRepPartInnerFields as Fields>⟧.trees (required v.ctime (required v.cusec (optional v.subkey.0 (optional v.seq_number.0 end))))) };
+    type Row = EncApRepPartInnerRow;
 
-    ghost firsts = { only 48 };
+    const FIRST: u8 = 48;
 
-    ghost begins = { λ v. may_begin-only 48 };
+    ghost FIRST = { 48 };
 
-    ghost injective = { λ v w whole also e. ap
-        (λ f. record { ctime = f.0; cusec = f.1.0; subkey = record { 0 = f.1.1.0 }; seq_number = record { 0 = f.1.1.1.0 } })
-        (⟦<EncApRepPartInnerFields as Fields>⟧.injective (refl {a = true}) _ _ whole also (element-content 48 _ _ e)) };
+    ghost row_tree = { sequence ⟦<EncApRepPartInnerRow as Fields>⟧.trees };
 
-    fn serialize<W: Sink>(&self, to: &mut Serializer<W>) -> Result<usize, Asn1DerError> {
-        to.list(
-            48,
-            &Field(
-                &self.ctime,
-                Field(
-                    &self.cusec,
-                    OptionalField(
-                        self.subkey.0.as_ref(),
-                        OptionalField(self.seq_number.0.as_ref(), End),
-                    ),
-                ),
-            ),
-        )
-    }
-}
+    ghost row_laws = { sequence_laws ⟦<EncApRepPartInnerRow as Fields>⟧.trees (⟦<EncApRepPartInnerRow as Fields>⟧.injective (refl {a = true})) };
 
-impl Deserialize for EncApRepPartInner {
-    fn may_start(first: u8) -> bool {
-        first == 48
+    ghost row_of = { λ v. (v.ctime, (v.cusec, (v.subkey, (v.seq_number, tt)))) };
+
+    ghost one_row = { λ v w e. ap (λ f. record { ctime = f.0; cusec = f.1.0; subkey = f.1.1.0; seq_number = f.1.1.1.0 }) e };
+
+    fn read_row<R: Source>(tag: u8, from: &mut Deserializer<R>) -> Result<Self::Row, Asn1DerError> {
+        read_sequence(tag, from)
     }
 
-    fn deserialize<R: Source>(from: &mut Deserializer<R>) -> Result<Self, Asn1DerError> {
-        let fields: EncApRepPartInnerFields = from.list(48)?;
-        let Field(ctime, Field(cusec, OptionalField(subkey, OptionalField(seq_number, End)))) =
-            fields;
-        Ok(EncApRepPartInner {
-            ctime,
-            cusec,
-            subkey: Optional(subkey),
-            seq_number: Optional(seq_number),
-        })
+    fn of_row(row: Self::Row) -> Self {
+        from_fields![row; ctime, cusec, subkey, seq_number]
+    }
+
+    fn write_row<W: Sink>(&self, tag: u8, to: &mut Serializer<W>) -> Result<usize, Asn1DerError> {
+        to.list(tag, &fields_of![self; ctime, cusec, subkey, seq_number])
     }
 }

@@ -2,8 +2,8 @@
 use devices::{Sink, Source};
 use picky_asn1::wrapper::{IntegerAsn1, OctetStringAsn1};
 use picky_asn1_der::{
-    Asn1DerError, Deserialize, Deserializer, End, ExplicitContextTag0, ExplicitContextTag1,
-    ExplicitContextTag2, Field, Fields, Optional, OptionalField, Serialize, Serializer,
+    Asn1DerError, Deserializer, ExplicitContextTag0, ExplicitContextTag1, ExplicitContextTag2,
+    Fields, Optional, Row3, Serializer, Tagged, fields_of, from_fields, read_sequence,
 };
 
 /// Encrypted data (RFC 4120, section 5.2.9).
@@ -17,57 +17,40 @@ pub struct EncryptedData {
     pub cipher: ExplicitContextTag2<OctetStringAsn1>,
 }
 
-type EncryptedDataFields = Field<
+type EncryptedDataRow = Row3<
     ExplicitContextTag0<IntegerAsn1>,
-    OptionalField<
-        ExplicitContextTag1<IntegerAsn1>,
-        Field<ExplicitContextTag2<OctetStringAsn1>, End>,
-    >,
+    Optional<Option<ExplicitContextTag1<IntegerAsn1>>>,
+    ExplicitContextTag2<OctetStringAsn1>,
 >;
 
-impl Serialize for EncryptedData {
-    ghost use Rattle.std.specs.Prelude.{refl, true};
-    ghost use Rattle.std.proofs.Common.{ap};
-    ghost use Rattle.asn1_trees.specs.Tree.{constructed};
-    ghost use Rattle.asn1_trees.specs.Firsts.{only};
-    ghost use Rattle.asn1_trees.proofs.Spelling.{may_begin-only};
-    ghost use Rattle.asn1_trees.proofs.Elements.{element-content};
-    ghost use Rattle.picky_asn1_der.specs.Fields.{required, optional, end};
+impl Tagged for EncryptedData {
+    ghost use Rattle.std.proofs.Common.{ap, refl, true};
+    ghost use Rattle.asn1_trees.specs.Tagged.{sequence};
+    ghost use Rattle.asn1_trees.proofs.Tagged.{sequence_laws};
 
-    ghost tree = { λ v. constructed 48
-        (⟦<EncryptedDataFields as Fields>⟧.trees (required v.etype (optional v.kvno.0 (required v.cipher end)))) };
+    type Row = EncryptedDataRow;
 
-    ghost firsts = { only 48 };
+    const FIRST: u8 = 48;
 
-    ghost begins = { λ v. may_begin-only 48 };
+    ghost FIRST = { 48 };
 
-    ghost injective = { λ v w whole also e. ap
-        (λ f. record { etype = f.0; kvno = record { 0 = f.1.0 }; cipher = f.1.1.0 })
-        (⟦<EncryptedDataFields as Fields>⟧.injective (refl {a = true}) _ _ whole also (element-content 48 _ _ e)) };
+    ghost row_tree = { sequence ⟦<EncryptedDataRow as Fields>⟧.trees };
 
-    fn serialize<W: Sink>(&self, to: &mut Serializer<W>) -> Result<usize, Asn1DerError> {
-        to.list(
-            48,
-            &Field(
-                &self.etype,
-                OptionalField(self.kvno.0.as_ref(), Field(&self.cipher, End)),
-            ),
-        )
-    }
-}
+    ghost row_laws = { sequence_laws ⟦<EncryptedDataRow as Fields>⟧.trees (⟦<EncryptedDataRow as Fields>⟧.injective (refl {a = true})) };
 
-impl Deserialize for EncryptedData {
-    fn may_start(first: u8) -> bool {
-        first == 48
+    ghost row_of = { λ v. (v.etype, (v.kvno, (v.cipher, tt))) };
+
+    ghost one_row = { λ v w e. ap (λ f. record { etype = f.0; kvno = f.1.0; cipher = f.1.1.0 }) e };
+
+    fn read_row<R: Source>(tag: u8, from: &mut Deserializer<R>) -> Result<Self::Row, Asn1DerError> {
+        read_sequence(tag, from)
     }
 
-    fn deserialize<R: Source>(from: &mut Deserializer<R>) -> Result<Self, Asn1DerError> {
-        let fields: EncryptedDataFields = from.list(48)?;
-        let Field(etype, OptionalField(kvno, Field(cipher, End))) = fields;
-        Ok(EncryptedData {
-            etype,
-            kvno: Optional(kvno),
-            cipher,
-        })
+    fn of_row(row: Self::Row) -> Self {
+        from_fields![row; etype, kvno, cipher]
+    }
+
+    fn write_row<W: Sink>(&self, tag: u8, to: &mut Serializer<W>) -> Result<usize, Asn1DerError> {
+        to.list(tag, &fields_of![self; etype, kvno, cipher])
     }
 }

@@ -3,8 +3,8 @@ use crate::data_types::KerberosStringAsn1;
 use devices::{Sink, Source};
 use picky_asn1::wrapper::{Asn1SequenceOf, IntegerAsn1, OctetStringAsn1};
 use picky_asn1_der::{
-    Asn1DerError, Deserialize, Deserializer, End, ExplicitContextTag0, ExplicitContextTag1,
-    ExplicitContextTag2, Field, Fields, Optional, OptionalField, Serialize, Serializer,
+    Asn1DerError, Deserializer, ExplicitContextTag0, ExplicitContextTag1, ExplicitContextTag2,
+    Fields, Optional, Row3, Serializer, Tagged, fields_of, from_fields, read_sequence,
 };
 
 /// How a key of one encryption type is made of a password (RFC 4120, section 5.2.7.5).
@@ -22,60 +22,40 @@ pub struct EtypeInfo2Entry {
 /// and written.
 pub type EtypeInfo2 = Asn1SequenceOf<EtypeInfo2Entry>;
 
-type EtypeInfo2EntryFields = Field<
+type EtypeInfo2EntryRow = Row3<
     ExplicitContextTag0<IntegerAsn1>,
-    OptionalField<
-        ExplicitContextTag1<KerberosStringAsn1>,
-        OptionalField<ExplicitContextTag2<OctetStringAsn1>, End>,
-    >,
+    Optional<Option<ExplicitContextTag1<KerberosStringAsn1>>>,
+    Optional<Option<ExplicitContextTag2<OctetStringAsn1>>>,
 >;
 
-impl Serialize for EtypeInfo2Entry {
-    ghost use Rattle.std.specs.Prelude.{refl, true};
-    ghost use Rattle.std.proofs.Common.{ap};
-    ghost use Rattle.asn1_trees.specs.Tree.{constructed};
-    ghost use Rattle.asn1_trees.specs.Firsts.{only};
-    ghost use Rattle.asn1_trees.proofs.Spelling.{may_begin-only};
-    ghost use Rattle.asn1_trees.proofs.Elements.{element-content};
-    ghost use Rattle.picky_asn1_der.specs.Fields.{required, optional, end};
+impl Tagged for EtypeInfo2Entry {
+    ghost use Rattle.std.proofs.Common.{ap, refl, true};
+    ghost use Rattle.asn1_trees.specs.Tagged.{sequence};
+    ghost use Rattle.asn1_trees.proofs.Tagged.{sequence_laws};
 
-    ghost tree = { λ v. constructed 48
-        (⟦<EtypeInfo2EntryFields as Fields>⟧.trees (required v.etype (optional v.salt.0 (optional v.s2kparams.0 end)))) };
+    type Row = EtypeInfo2EntryRow;
 
-    ghost firsts = { only 48 };
+    const FIRST: u8 = 48;
 
-    ghost begins = { λ v. may_begin-only 48 };
+    ghost FIRST = { 48 };
 
-    ghost injective = { λ v w whole also e. ap
-        (λ f. record { etype = f.0; salt = record { 0 = f.1.0 }; s2kparams = record { 0 = f.1.1.0 } })
-        (⟦<EtypeInfo2EntryFields as Fields>⟧.injective (refl {a = true}) _ _ whole also (element-content 48 _ _ e)) };
+    ghost row_tree = { sequence ⟦<EtypeInfo2EntryRow as Fields>⟧.trees };
 
-    fn serialize<W: Sink>(&self, to: &mut Serializer<W>) -> Result<usize, Asn1DerError> {
-        to.list(
-            48,
-            &Field(
-                &self.etype,
-                OptionalField(
-                    self.salt.0.as_ref(),
-                    OptionalField(self.s2kparams.0.as_ref(), End),
-                ),
-            ),
-        )
-    }
-}
+    ghost row_laws = { sequence_laws ⟦<EtypeInfo2EntryRow as Fields>⟧.trees (⟦<EtypeInfo2EntryRow as Fields>⟧.injective (refl {a = true})) };
 
-impl Deserialize for EtypeInfo2Entry {
-    fn may_start(first: u8) -> bool {
-        first == 48
+    ghost row_of = { λ v. (v.etype, (v.salt, (v.s2kparams, tt))) };
+
+    ghost one_row = { λ v w e. ap (λ f. record { etype = f.0; salt = f.1.0; s2kparams = f.1.1.0 }) e };
+
+    fn read_row<R: Source>(tag: u8, from: &mut Deserializer<R>) -> Result<Self::Row, Asn1DerError> {
+        read_sequence(tag, from)
     }
 
-    fn deserialize<R: Source>(from: &mut Deserializer<R>) -> Result<Self, Asn1DerError> {
-        let fields: EtypeInfo2EntryFields = from.list(48)?;
-        let Field(etype, OptionalField(salt, OptionalField(s2kparams, End))) = fields;
-        Ok(EtypeInfo2Entry {
-            etype,
-            salt: Optional(salt),
-            s2kparams: Optional(s2kparams),
-        })
+    fn of_row(row: Self::Row) -> Self {
+        from_fields![row; etype, salt, s2kparams]
+    }
+
+    fn write_row<W: Sink>(&self, tag: u8, to: &mut Serializer<W>) -> Result<usize, Asn1DerError> {
+        to.list(tag, &fields_of![self; etype, salt, s2kparams])
     }
 }

@@ -2,8 +2,8 @@
 use devices::{Sink, Source};
 use picky_asn1::wrapper::{Asn1SequenceOf, IntegerAsn1, OctetStringAsn1};
 use picky_asn1_der::{
-    Asn1DerError, Deserialize, Deserializer, End, ExplicitContextTag0, ExplicitContextTag1, Field,
-    Fields, Serialize, Serializer,
+    Asn1DerError, Deserializer, ExplicitContextTag0, ExplicitContextTag1, Fields, Row2, Serializer,
+    Tagged, fields_of, from_fields, read_sequence,
 };
 
 /// An address of a host (RFC 4120, section 5.2.5).
@@ -18,44 +18,36 @@ pub struct HostAddress {
 /// A list of addresses (RFC 4120, section 5.2.5).
 pub type HostAddresses = Asn1SequenceOf<HostAddress>;
 
-type HostAddressFields = Field<
-    ExplicitContextTag0<IntegerAsn1>,
-    Field<ExplicitContextTag1<OctetStringAsn1>, End>,
->;
+type HostAddressRow = Row2<ExplicitContextTag0<IntegerAsn1>, ExplicitContextTag1<OctetStringAsn1>>;
 
-impl Serialize for HostAddress {
-    ghost use Rattle.std.specs.Prelude.{refl, true};
-    ghost use Rattle.std.proofs.Common.{ap};
-    ghost use Rattle.asn1_trees.specs.Tree.{constructed};
-    ghost use Rattle.asn1_trees.specs.Firsts.{only};
-    ghost use Rattle.asn1_trees.proofs.Spelling.{may_begin-only};
-    ghost use Rattle.asn1_trees.proofs.Elements.{element-content};
-    ghost use Rattle.picky_asn1_der.specs.Fields.{required, end};
+impl Tagged for HostAddress {
+    ghost use Rattle.std.proofs.Common.{ap, refl, true};
+    ghost use Rattle.asn1_trees.specs.Tagged.{sequence};
+    ghost use Rattle.asn1_trees.proofs.Tagged.{sequence_laws};
 
-    ghost tree = { λ v. constructed 48
-        (⟦<HostAddressFields as Fields>⟧.trees (required v.addr_type (required v.address end))) };
+    type Row = HostAddressRow;
 
-    ghost firsts = { only 48 };
+    const FIRST: u8 = 48;
 
-    ghost begins = { λ v. may_begin-only 48 };
+    ghost FIRST = { 48 };
 
-    ghost injective = { λ v w whole also e. ap
-        (λ f. record { addr_type = f.0; address = f.1.0 })
-        (⟦<HostAddressFields as Fields>⟧.injective (refl {a = true}) _ _ whole also (element-content 48 _ _ e)) };
+    ghost row_tree = { sequence ⟦<HostAddressRow as Fields>⟧.trees };
 
-    fn serialize<W: Sink>(&self, to: &mut Serializer<W>) -> Result<usize, Asn1DerError> {
-        to.list(48, &Field(&self.addr_type, Field(&self.address, End)))
-    }
-}
+    ghost row_laws = { sequence_laws ⟦<HostAddressRow as Fields>⟧.trees (⟦<HostAddressRow as Fields>⟧.injective (refl {a = true})) };
 
-impl Deserialize for HostAddress {
-    fn may_start(first: u8) -> bool {
-        first == 48
+    ghost row_of = { λ v. (v.addr_type, (v.address, tt)) };
+
+    ghost one_row = { λ v w e. ap (λ f. record { addr_type = f.0; address = f.1.0 }) e };
+
+    fn read_row<R: Source>(tag: u8, from: &mut Deserializer<R>) -> Result<Self::Row, Asn1DerError> {
+        read_sequence(tag, from)
     }
 
-    fn deserialize<R: Source>(from: &mut Deserializer<R>) -> Result<Self, Asn1DerError> {
-        let fields: HostAddressFields = from.list(48)?;
-        let Field(addr_type, Field(address, End)) = fields;
-        Ok(HostAddress { addr_type, address })
+    fn of_row(row: Self::Row) -> Self {
+        from_fields![row; addr_type, address]
+    }
+
+    fn write_row<W: Sink>(&self, tag: u8, to: &mut Serializer<W>) -> Result<usize, Asn1DerError> {
+        to.list(tag, &fields_of![self; addr_type, address])
     }
 }

@@ -3,8 +3,8 @@ use crate::data_types::KerberosTime;
 use devices::{Sink, Source};
 use picky_asn1::wrapper::{Asn1SequenceOf, IntegerAsn1};
 use picky_asn1_der::{
-    Asn1DerError, Deserialize, Deserializer, End, ExplicitContextTag0, ExplicitContextTag1, Field,
-    Fields, Serialize, Serializer,
+    Asn1DerError, Deserializer, ExplicitContextTag0, ExplicitContextTag1, Fields, Row2, Serializer,
+    Tagged, fields_of, from_fields, read_sequence,
 };
 
 /// A time of a last request (RFC 4120, section 5.4.2).
@@ -19,44 +19,36 @@ pub struct LastReqInner {
 /// The times of a client's last requests (RFC 4120, section 5.4.2).
 pub type LastReq = Asn1SequenceOf<LastReqInner>;
 
-type LastReqInnerFields = Field<
-    ExplicitContextTag0<IntegerAsn1>,
-    Field<ExplicitContextTag1<KerberosTime>, End>,
->;
+type LastReqInnerRow = Row2<ExplicitContextTag0<IntegerAsn1>, ExplicitContextTag1<KerberosTime>>;
 
-impl Serialize for LastReqInner {
-    ghost use Rattle.std.specs.Prelude.{refl, true};
-    ghost use Rattle.std.proofs.Common.{ap};
-    ghost use Rattle.asn1_trees.specs.Tree.{constructed};
-    ghost use Rattle.asn1_trees.specs.Firsts.{only};
-    ghost use Rattle.asn1_trees.proofs.Spelling.{may_begin-only};
-    ghost use Rattle.asn1_trees.proofs.Elements.{element-content};
-    ghost use Rattle.picky_asn1_der.specs.Fields.{required, end};
+impl Tagged for LastReqInner {
+    ghost use Rattle.std.proofs.Common.{ap, refl, true};
+    ghost use Rattle.asn1_trees.specs.Tagged.{sequence};
+    ghost use Rattle.asn1_trees.proofs.Tagged.{sequence_laws};
 
-    ghost tree = { λ v. constructed 48
-        (⟦<LastReqInnerFields as Fields>⟧.trees (required v.lr_type (required v.lr_value end))) };
+    type Row = LastReqInnerRow;
 
-    ghost firsts = { only 48 };
+    const FIRST: u8 = 48;
 
-    ghost begins = { λ v. may_begin-only 48 };
+    ghost FIRST = { 48 };
 
-    ghost injective = { λ v w whole also e. ap
-        (λ f. record { lr_type = f.0; lr_value = f.1.0 })
-        (⟦<LastReqInnerFields as Fields>⟧.injective (refl {a = true}) _ _ whole also (element-content 48 _ _ e)) };
+    ghost row_tree = { sequence ⟦<LastReqInnerRow as Fields>⟧.trees };
 
-    fn serialize<W: Sink>(&self, to: &mut Serializer<W>) -> Result<usize, Asn1DerError> {
-        to.list(48, &Field(&self.lr_type, Field(&self.lr_value, End)))
-    }
-}
+    ghost row_laws = { sequence_laws ⟦<LastReqInnerRow as Fields>⟧.trees (⟦<LastReqInnerRow as Fields>⟧.injective (refl {a = true})) };
 
-impl Deserialize for LastReqInner {
-    fn may_start(first: u8) -> bool {
-        first == 48
+    ghost row_of = { λ v. (v.lr_type, (v.lr_value, tt)) };
+
+    ghost one_row = { λ v w e. ap (λ f. record { lr_type = f.0; lr_value = f.1.0 }) e };
+
+    fn read_row<R: Source>(tag: u8, from: &mut Deserializer<R>) -> Result<Self::Row, Asn1DerError> {
+        read_sequence(tag, from)
     }
 
-    fn deserialize<R: Source>(from: &mut Deserializer<R>) -> Result<Self, Asn1DerError> {
-        let fields: LastReqInnerFields = from.list(48)?;
-        let Field(lr_type, Field(lr_value, End)) = fields;
-        Ok(LastReqInner { lr_type, lr_value })
+    fn of_row(row: Self::Row) -> Self {
+        from_fields![row; lr_type, lr_value]
+    }
+
+    fn write_row<W: Sink>(&self, tag: u8, to: &mut Serializer<W>) -> Result<usize, Asn1DerError> {
+        to.list(tag, &fields_of![self; lr_type, lr_value])
     }
 }

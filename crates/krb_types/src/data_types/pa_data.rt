@@ -2,8 +2,8 @@
 use devices::{Sink, Source};
 use picky_asn1::wrapper::{IntegerAsn1, OctetStringAsn1};
 use picky_asn1_der::{
-    Asn1DerError, Deserialize, Deserializer, End, ExplicitContextTag1, ExplicitContextTag2, Field,
-    Fields, Serialize, Serializer,
+    Asn1DerError, Deserializer, ExplicitContextTag1, ExplicitContextTag2, Fields, Row2, Serializer,
+    Tagged, fields_of, from_fields, read_sequence,
 };
 
 /// One entry of preauthentication data (RFC 4120, section 5.2.7).
@@ -15,47 +15,36 @@ pub struct PaData {
     pub padata_data: ExplicitContextTag2<OctetStringAsn1>,
 }
 
-type PaDataFields = Field<
-    ExplicitContextTag1<IntegerAsn1>,
-    Field<ExplicitContextTag2<OctetStringAsn1>, End>,
->;
+type PaDataRow = Row2<ExplicitContextTag1<IntegerAsn1>, ExplicitContextTag2<OctetStringAsn1>>;
 
-impl Serialize for PaData {
-    ghost use Rattle.std.specs.Prelude.{refl, true};
-    ghost use Rattle.std.proofs.Common.{ap};
-    ghost use Rattle.asn1_trees.specs.Tree.{constructed};
-    ghost use Rattle.asn1_trees.specs.Firsts.{only};
-    ghost use Rattle.asn1_trees.proofs.Spelling.{may_begin-only};
-    ghost use Rattle.asn1_trees.proofs.Elements.{element-content};
-    ghost use Rattle.picky_asn1_der.specs.Fields.{required, end};
+impl Tagged for PaData {
+    ghost use Rattle.std.proofs.Common.{ap, refl, true};
+    ghost use Rattle.asn1_trees.specs.Tagged.{sequence};
+    ghost use Rattle.asn1_trees.proofs.Tagged.{sequence_laws};
 
-    ghost tree = { λ v. constructed 48
-        (⟦<PaDataFields as Fields>⟧.trees (required v.padata_type (required v.padata_data end))) };
+    type Row = PaDataRow;
 
-    ghost firsts = { only 48 };
+    const FIRST: u8 = 48;
 
-    ghost begins = { λ v. may_begin-only 48 };
+    ghost FIRST = { 48 };
 
-    ghost injective = { λ v w whole also e. ap
-        (λ f. record { padata_type = f.0; padata_data = f.1.0 })
-        (⟦<PaDataFields as Fields>⟧.injective (refl {a = true}) _ _ whole also (element-content 48 _ _ e)) };
+    ghost row_tree = { sequence ⟦<PaDataRow as Fields>⟧.trees };
 
-    fn serialize<W: Sink>(&self, to: &mut Serializer<W>) -> Result<usize, Asn1DerError> {
-        to.list(48, &Field(&self.padata_type, Field(&self.padata_data, End)))
-    }
-}
+    ghost row_laws = { sequence_laws ⟦<PaDataRow as Fields>⟧.trees (⟦<PaDataRow as Fields>⟧.injective (refl {a = true})) };
 
-impl Deserialize for PaData {
-    fn may_start(first: u8) -> bool {
-        first == 48
+    ghost row_of = { λ v. (v.padata_type, (v.padata_data, tt)) };
+
+    ghost one_row = { λ v w e. ap (λ f. record { padata_type = f.0; padata_data = f.1.0 }) e };
+
+    fn read_row<R: Source>(tag: u8, from: &mut Deserializer<R>) -> Result<Self::Row, Asn1DerError> {
+        read_sequence(tag, from)
     }
 
-    fn deserialize<R: Source>(from: &mut Deserializer<R>) -> Result<Self, Asn1DerError> {
-        let fields: PaDataFields = from.list(48)?;
-        let Field(padata_type, Field(padata_data, End)) = fields;
-        Ok(PaData {
-            padata_type,
-            padata_data,
-        })
+    fn of_row(row: Self::Row) -> Self {
+        from_fields![row; padata_type, padata_data]
+    }
+
+    fn write_row<W: Sink>(&self, tag: u8, to: &mut Serializer<W>) -> Result<usize, Asn1DerError> {
+        to.list(tag, &fields_of![self; padata_type, padata_data])
     }
 }

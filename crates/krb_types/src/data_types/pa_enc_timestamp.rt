@@ -2,8 +2,8 @@
 use crate::data_types::{EncryptedData, KerberosTime, Microseconds};
 use devices::{Sink, Source};
 use picky_asn1_der::{
-    Asn1DerError, Deserialize, Deserializer, End, ExplicitContextTag0, ExplicitContextTag1, Field,
-    Fields, Optional, OptionalField, Serialize, Serializer,
+    Asn1DerError, Deserializer, ExplicitContextTag0, ExplicitContextTag1, Fields, Optional, Row2,
+    Serializer, Tagged, fields_of, from_fields, read_sequence,
 };
 
 /// The time that a client seals under its own key (RFC 4120, section 5.2.7.2).
@@ -18,53 +18,39 @@ pub struct PaEncTsEnc {
 /// A sealed [`PaEncTsEnc`] (RFC 4120, section 5.2.7.2).
 pub type PaEncTimestamp = EncryptedData;
 
-type PaEncTsEncFields = Field<
+type PaEncTsEncRow = Row2<
     ExplicitContextTag0<KerberosTime>,
-    OptionalField<ExplicitContextTag1<Microseconds>, End>,
+    Optional<Option<ExplicitContextTag1<Microseconds>>>,
 >;
 
-impl Serialize for PaEncTsEnc {
-    ghost use Rattle.std.specs.Prelude.{refl, true};
-    ghost use Rattle.std.proofs.Common.{ap};
-    ghost use Rattle.asn1_trees.specs.Tree.{constructed};
-    ghost use Rattle.asn1_trees.specs.Firsts.{only};
-    ghost use Rattle.asn1_trees.proofs.Spelling.{may_begin-only};
-    ghost use Rattle.asn1_trees.proofs.Elements.{element-content};
-    ghost use Rattle.picky_asn1_der.specs.Fields.{required, optional, end};
+impl Tagged for PaEncTsEnc {
+    ghost use Rattle.std.proofs.Common.{ap, refl, true};
+    ghost use Rattle.asn1_trees.specs.Tagged.{sequence};
+    ghost use Rattle.asn1_trees.proofs.Tagged.{sequence_laws};
 
-    ghost tree = { λ v. constructed 48
-        (⟦<PaEncTsEncFields as Fields>⟧.trees (required v.patimestamp (optional v.pausec.0 end))) };
+    type Row = PaEncTsEncRow;
 
-    ghost firsts = { only 48 };
+    const FIRST: u8 = 48;
 
-    ghost begins = { λ v. may_begin-only 48 };
+    ghost FIRST = { 48 };
 
-    ghost injective = { λ v w whole also e. ap
-        (λ f. record { patimestamp = f.0; pausec = record { 0 = f.1.0 } })
-        (⟦<PaEncTsEncFields as Fields>⟧.injective (refl {a = true}) _ _ whole also (element-content 48 _ _ e)) };
+    ghost row_tree = { sequence ⟦<PaEncTsEncRow as Fields>⟧.trees };
 
-    fn serialize<W: Sink>(&self, to: &mut Serializer<W>) -> Result<usize, Asn1DerError> {
-        to.list(
-            48,
-            &Field(
-                &self.patimestamp,
-                OptionalField(self.pausec.0.as_ref(), End),
-            ),
-        )
-    }
-}
+    ghost row_laws = { sequence_laws ⟦<PaEncTsEncRow as Fields>⟧.trees (⟦<PaEncTsEncRow as Fields>⟧.injective (refl {a = true})) };
 
-impl Deserialize for PaEncTsEnc {
-    fn may_start(first: u8) -> bool {
-        first == 48
+    ghost row_of = { λ v. (v.patimestamp, (v.pausec, tt)) };
+
+    ghost one_row = { λ v w e. ap (λ f. record { patimestamp = f.0; pausec = f.1.0 }) e };
+
+    fn read_row<R: Source>(tag: u8, from: &mut Deserializer<R>) -> Result<Self::Row, Asn1DerError> {
+        read_sequence(tag, from)
     }
 
-    fn deserialize<R: Source>(from: &mut Deserializer<R>) -> Result<Self, Asn1DerError> {
-        let fields: PaEncTsEncFields = from.list(48)?;
-        let Field(patimestamp, OptionalField(pausec, End)) = fields;
-        Ok(PaEncTsEnc {
-            patimestamp,
-            pausec: Optional(pausec),
-        })
+    fn of_row(row: Self::Row) -> Self {
+        from_fields![row; patimestamp, pausec]
+    }
+
+    fn write_row<W: Sink>(&self, tag: u8, to: &mut Serializer<W>) -> Result<usize, Asn1DerError> {
+        to.list(tag, &fields_of![self; patimestamp, pausec])
     }
 }

@@ -1,14 +1,14 @@
 //! Names of principals.
-ghost use Rattle.std.specs.Prelude.{◌≡◌, IfOk};
+ghost use Rattle.std.specs.Prelude.{◌≡◌};
 
 use crate::data_types::KerberosStringAsn1;
 use devices::{Sink, Source};
 use picky_asn1::wrapper::{Asn1SequenceOf, IntegerAsn1};
 use picky_asn1_der::{
-    Asn1DerError, Deserialize, Deserializer, End, ExplicitContextTag, ExplicitContextTag0,
-    ExplicitContextTag1, Field, Fields, Serialize, Serializer,
+    Asn1DerError, Deserializer, ExplicitContextTag, ExplicitContextTag0, ExplicitContextTag1,
+    Fields, Row2, Serializer, Tagged, fields_of, from_fields, read_sequence,
 };
-use std::alloc::{AllocError, Global};
+use std::alloc::AllocError;
 
 /// A name of a principal (RFC 4120, section 5.2.2): its type, which is a hint alone, and its components.
 #[derive(Debug, Drop)]
@@ -19,75 +19,52 @@ pub struct PrincipalName {
     pub name_string: ExplicitContextTag1<Asn1SequenceOf<KerberosStringAsn1>>,
 }
 
-impl PrincipalName {
-    /// A copy.
-    pub fn clone(&self, alloc: Global) -> Result<PrincipalName, AllocError>
-        ensures { IfOk result (λ name. name ≡ self.now) }
-    {
-        let name_type = self.name_type.0.clone(alloc)?;
-        let components = copies_of(alloc, self.name_string.0.as_slice())?;
+impl Clone for PrincipalName {
+    ghost is_clone = { λ name copy. copy ≡ name };
+
+    fn clone(&self) -> Result<PrincipalName, AllocError> {
+        let name_type = self.name_type.0.clone()?;
+        let components = self.name_string.0.clone()?;
         Ok(PrincipalName {
             name_type: ExplicitContextTag(name_type),
-            name_string: ExplicitContextTag(Asn1SequenceOf::from(components)),
+            name_string: ExplicitContextTag(components),
         })
     }
 }
 
-// A copy of each component.
-fn copies_of(
-    alloc: Global,
-    components: &[KerberosStringAsn1],
-) -> Result<Vec<KerberosStringAsn1>, AllocError>
-    ensures { IfOk result (λ copies. copies.items ≡ components.now) }
-{
-    let mut copies = Vec::with_capacity(alloc, components.len())?;
-    for component in components {
-        copies.push(component.clone(alloc)?)?;
-    }
-    Ok(copies)
-}
-
-type PrincipalNameFields = Field<
+type PrincipalNameRow = Row2<
     ExplicitContextTag0<IntegerAsn1>,
-    Field<ExplicitContextTag1<Asn1SequenceOf<KerberosStringAsn1>>, End>,
+    ExplicitContextTag1<Asn1SequenceOf<KerberosStringAsn1>>,
 >;
 
-impl Serialize for PrincipalName {
-    ghost use Rattle.std.specs.Prelude.{refl, true};
-    ghost use Rattle.std.proofs.Common.{ap};
-    ghost use Rattle.asn1_trees.specs.Tree.{constructed};
-    ghost use Rattle.asn1_trees.specs.Firsts.{only};
-    ghost use Rattle.asn1_trees.proofs.Spelling.{may_begin-only};
-    ghost use Rattle.asn1_trees.proofs.Elements.{element-content};
-    ghost use Rattle.picky_asn1_der.specs.Fields.{required, end};
+impl Tagged for PrincipalName {
+    ghost use Rattle.std.proofs.Common.{ap, refl, true};
+    ghost use Rattle.asn1_trees.specs.Tagged.{sequence};
+    ghost use Rattle.asn1_trees.proofs.Tagged.{sequence_laws};
 
-    ghost tree = { λ v. constructed 48
-        (⟦<PrincipalNameFields as Fields>⟧.trees (required v.name_type (required v.name_string end))) };
+    type Row = PrincipalNameRow;
 
-    ghost firsts = { only 48 };
+    const FIRST: u8 = 48;
 
-    ghost begins = { λ v. may_begin-only 48 };
+    ghost FIRST = { 48 };
 
-    ghost injective = { λ v w whole also e. ap
-        (λ f. record { name_type = f.0; name_string = f.1.0 })
-        (⟦<PrincipalNameFields as Fields>⟧.injective (refl {a = true}) _ _ whole also (element-content 48 _ _ e)) };
+    ghost row_tree = { sequence ⟦<PrincipalNameRow as Fields>⟧.trees };
 
-    fn serialize<W: Sink>(&self, to: &mut Serializer<W>) -> Result<usize, Asn1DerError> {
-        to.list(48, &Field(&self.name_type, Field(&self.name_string, End)))
-    }
-}
+    ghost row_laws = { sequence_laws ⟦<PrincipalNameRow as Fields>⟧.trees (⟦<PrincipalNameRow as Fields>⟧.injective (refl {a = true})) };
 
-impl Deserialize for PrincipalName {
-    fn may_start(first: u8) -> bool {
-        first == 48
+    ghost row_of = { λ v. (v.name_type, (v.name_string, tt)) };
+
+    ghost one_row = { λ v w e. ap (λ f. record { name_type = f.0; name_string = f.1.0 }) e };
+
+    fn read_row<R: Source>(tag: u8, from: &mut Deserializer<R>) -> Result<Self::Row, Asn1DerError> {
+        read_sequence(tag, from)
     }
 
-    fn deserialize<R: Source>(from: &mut Deserializer<R>) -> Result<Self, Asn1DerError> {
-        let fields: PrincipalNameFields = from.list(48)?;
-        let Field(name_type, Field(name_string, End)) = fields;
-        Ok(PrincipalName {
-            name_type,
-            name_string,
-        })
+    fn of_row(row: Self::Row) -> Self {
+        from_fields![row; name_type, name_string]
+    }
+
+    fn write_row<W: Sink>(&self, tag: u8, to: &mut Serializer<W>) -> Result<usize, Asn1DerError> {
+        to.list(tag, &fields_of![self; name_type, name_string])
     }
 }

@@ -4,9 +4,9 @@ use crate::data_types::{EncryptedData, PrincipalName, Realm};
 use devices::{Sink, Source};
 use picky_asn1::wrapper::IntegerAsn1;
 use picky_asn1_der::{
-    ApplicationTag, Asn1DerError, Deserialize, Deserializer, End, ExplicitContextTag0,
-    ExplicitContextTag1, ExplicitContextTag2, ExplicitContextTag3, Field, Fields, Serialize,
-    Serializer,
+    ApplicationTag, Asn1DerError, Deserializer, ExplicitContextTag0, ExplicitContextTag1,
+    ExplicitContextTag2, ExplicitContextTag3, Fields, Row4, Serializer, Tagged, fields_of,
+    from_fields, read_sequence,
 };
 
 /// What a ticket holds (RFC 4120, section 5.3).
@@ -25,58 +25,41 @@ pub struct TicketInner {
 /// A ticket (RFC 4120, section 5.3).
 pub type Ticket = ApplicationTag<TicketInner, TICKET_TYPE>;
 
-type TicketInnerFields = Field<
+type TicketInnerRow = Row4<
     ExplicitContextTag0<IntegerAsn1>,
-    Field<
-        ExplicitContextTag1<Realm>,
-        Field<ExplicitContextTag2<PrincipalName>, Field<ExplicitContextTag3<EncryptedData>, End>>,
-    >,
+    ExplicitContextTag1<Realm>,
+    ExplicitContextTag2<PrincipalName>,
+    ExplicitContextTag3<EncryptedData>,
 >;
 
-impl Serialize for TicketInner {
-    ghost use Rattle.std.specs.Prelude.{refl, true};
-    ghost use Rattle.std.proofs.Common.{ap};
-    ghost use Rattle.asn1_trees.specs.Tree.{constructed};
-    ghost use Rattle.asn1_trees.specs.Firsts.{only};
-    ghost use Rattle.asn1_trees.proofs.Spelling.{may_begin-only};
-    ghost use Rattle.asn1_trees.proofs.Elements.{element-content};
-    ghost use Rattle.picky_asn1_der.specs.Fields.{required, end};
+impl Tagged for TicketInner {
+    ghost use Rattle.std.proofs.Common.{ap, refl, true};
+    ghost use Rattle.asn1_trees.specs.Tagged.{sequence};
+    ghost use Rattle.asn1_trees.proofs.Tagged.{sequence_laws};
 
-    ghost tree = { λ v. constructed 48
-        (⟦<TicketInnerFields as Fields>⟧.trees (required v.tkt_vno (required v.realm (required v.sname (required v.enc_part end))))) };
+    type Row = TicketInnerRow;
 
-    ghost firsts = { only 48 };
+    const FIRST: u8 = 48;
 
-    ghost begins = { λ v. may_begin-only 48 };
+    ghost FIRST = { 48 };
 
-    ghost injective = { λ v w whole also e. ap
-        (λ f. record { tkt_vno = f.0; realm = f.1.0; sname = f.1.1.0; enc_part = f.1.1.1.0 })
-        (⟦<TicketInnerFields as Fields>⟧.injective (refl {a = true}) _ _ whole also (element-content 48 _ _ e)) };
+    ghost row_tree = { sequence ⟦<TicketInnerRow as Fields>⟧.trees };
 
-    fn serialize<W: Sink>(&self, to: &mut Serializer<W>) -> Result<usize, Asn1DerError> {
-        to.list(
-            48,
-            &Field(
-                &self.tkt_vno,
-                Field(&self.realm, Field(&self.sname, Field(&self.enc_part, End))),
-            ),
-        )
-    }
-}
+    ghost row_laws = { sequence_laws ⟦<TicketInnerRow as Fields>⟧.trees (⟦<TicketInnerRow as Fields>⟧.injective (refl {a = true})) };
 
-impl Deserialize for TicketInner {
-    fn may_start(first: u8) -> bool {
-        first == 48
+    ghost row_of = { λ v. (v.tkt_vno, (v.realm, (v.sname, (v.enc_part, tt)))) };
+
+    ghost one_row = { λ v w e. ap (λ f. record { tkt_vno = f.0; realm = f.1.0; sname = f.1.1.0; enc_part = f.1.1.1.0 }) e };
+
+    fn read_row<R: Source>(tag: u8, from: &mut Deserializer<R>) -> Result<Self::Row, Asn1DerError> {
+        read_sequence(tag, from)
     }
 
-    fn deserialize<R: Source>(from: &mut Deserializer<R>) -> Result<Self, Asn1DerError> {
-        let fields: TicketInnerFields = from.list(48)?;
-        let Field(tkt_vno, Field(realm, Field(sname, Field(enc_part, End)))) = fields;
-        Ok(TicketInner {
-            tkt_vno,
-            realm,
-            sname,
-            enc_part,
-        })
+    fn of_row(row: Self::Row) -> Self {
+        from_fields![row; tkt_vno, realm, sname, enc_part]
+    }
+
+    fn write_row<W: Sink>(&self, tag: u8, to: &mut Serializer<W>) -> Result<usize, Asn1DerError> {
+        to.list(tag, &fields_of![self; tkt_vno, realm, sname, enc_part])
     }
 }

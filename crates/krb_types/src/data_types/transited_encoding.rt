@@ -2,8 +2,8 @@
 use devices::{Sink, Source};
 use picky_asn1::wrapper::{IntegerAsn1, OctetStringAsn1};
 use picky_asn1_der::{
-    Asn1DerError, Deserialize, Deserializer, End, ExplicitContextTag0, ExplicitContextTag1, Field,
-    Fields, Serialize, Serializer,
+    Asn1DerError, Deserializer, ExplicitContextTag0, ExplicitContextTag1, Fields, Row2, Serializer,
+    Tagged, fields_of, from_fields, read_sequence,
 };
 
 /// The realms that took part in the authentication of a client (RFC 4120, section 5.3).
@@ -15,44 +15,39 @@ pub struct TransitedEncoding {
     pub contents: ExplicitContextTag1<OctetStringAsn1>,
 }
 
-type TransitedEncodingFields = Field<
+type TransitedEncodingRow = Row2<
     ExplicitContextTag0<IntegerAsn1>,
-    Field<ExplicitContextTag1<OctetStringAsn1>, End>,
+    ExplicitContextTag1<OctetStringAsn1>,
 >;
 
-impl Serialize for TransitedEncoding {
-    ghost use Rattle.std.specs.Prelude.{refl, true};
-    ghost use Rattle.std.proofs.Common.{ap};
-    ghost use Rattle.asn1_trees.specs.Tree.{constructed};
-    ghost use Rattle.asn1_trees.specs.Firsts.{only};
-    ghost use Rattle.asn1_trees.proofs.Spelling.{may_begin-only};
-    ghost use Rattle.asn1_trees.proofs.Elements.{element-content};
-    ghost use Rattle.picky_asn1_der.specs.Fields.{required, end};
+impl Tagged for TransitedEncoding {
+    ghost use Rattle.std.proofs.Common.{ap, refl, true};
+    ghost use Rattle.asn1_trees.specs.Tagged.{sequence};
+    ghost use Rattle.asn1_trees.proofs.Tagged.{sequence_laws};
 
-    ghost tree = { λ v. constructed 48
-        (⟦<TransitedEncodingFields as Fields>⟧.trees (required v.tr_type (required v.contents end))) };
+    type Row = TransitedEncodingRow;
 
-    ghost firsts = { only 48 };
+    const FIRST: u8 = 48;
 
-    ghost begins = { λ v. may_begin-only 48 };
+    ghost FIRST = { 48 };
 
-    ghost injective = { λ v w whole also e. ap
-        (λ f. record { tr_type = f.0; contents = f.1.0 })
-        (⟦<TransitedEncodingFields as Fields>⟧.injective (refl {a = true}) _ _ whole also (element-content 48 _ _ e)) };
+    ghost row_tree = { sequence ⟦<TransitedEncodingRow as Fields>⟧.trees };
 
-    fn serialize<W: Sink>(&self, to: &mut Serializer<W>) -> Result<usize, Asn1DerError> {
-        to.list(48, &Field(&self.tr_type, Field(&self.contents, End)))
-    }
-}
+    ghost row_laws = { sequence_laws ⟦<TransitedEncodingRow as Fields>⟧.trees (⟦<TransitedEncodingRow as Fields>⟧.injective (refl {a = true})) };
 
-impl Deserialize for TransitedEncoding {
-    fn may_start(first: u8) -> bool {
-        first == 48
+    ghost row_of = { λ v. (v.tr_type, (v.contents, tt)) };
+
+    ghost one_row = { λ v w e. ap (λ f. record { tr_type = f.0; contents = f.1.0 }) e };
+
+    fn read_row<R: Source>(tag: u8, from: &mut Deserializer<R>) -> Result<Self::Row, Asn1DerError> {
+        read_sequence(tag, from)
     }
 
-    fn deserialize<R: Source>(from: &mut Deserializer<R>) -> Result<Self, Asn1DerError> {
-        let fields: TransitedEncodingFields = from.list(48)?;
-        let Field(tr_type, Field(contents, End)) = fields;
-        Ok(TransitedEncoding { tr_type, contents })
+    fn of_row(row: Self::Row) -> Self {
+        from_fields![row; tr_type, contents]
+    }
+
+    fn write_row<W: Sink>(&self, tag: u8, to: &mut Serializer<W>) -> Result<usize, Asn1DerError> {
+        to.list(tag, &fields_of![self; tr_type, contents])
     }
 }

@@ -4,11 +4,11 @@ use krb_types::constants::types::KRB_ERROR_MSG_TYPE;
 use krb_types::data_types::{KerberosStringAsn1, KerberosTime, Microseconds, PrincipalName, Realm};
 use picky_asn1::wrapper::{IntegerAsn1, OctetStringAsn1};
 use picky_asn1_der::{
-    ApplicationTag, Asn1DerError, Deserialize, Deserializer, End, ExplicitContextTag0,
-    ExplicitContextTag1, ExplicitContextTag2, ExplicitContextTag3, ExplicitContextTag4,
-    ExplicitContextTag5, ExplicitContextTag6, ExplicitContextTag7, ExplicitContextTag8,
-    ExplicitContextTag9, ExplicitContextTag10, ExplicitContextTag11, ExplicitContextTag12, Field,
-    Fields, Optional, OptionalField, Serialize, Serializer,
+    ApplicationTag, Asn1DerError, Deserializer, ExplicitContextTag0, ExplicitContextTag1,
+    ExplicitContextTag2, ExplicitContextTag3, ExplicitContextTag4, ExplicitContextTag5,
+    ExplicitContextTag6, ExplicitContextTag7, ExplicitContextTag8, ExplicitContextTag9,
+    ExplicitContextTag10, ExplicitContextTag11, ExplicitContextTag12, Fields, Optional, Row13,
+    Serializer, Tagged, fields_of, from_fields, read_sequence,
 };
 use std::fmt;
 
@@ -54,172 +54,59 @@ impl fmt::Display for KrbErrorInner {
     }
 }
 
-type KrbErrorInnerFields = Field<
+type KrbErrorInnerRow = Row13<
     ExplicitContextTag0<IntegerAsn1>,
-    Field<
-        ExplicitContextTag1<IntegerAsn1>,
-        OptionalField<
-            ExplicitContextTag2<KerberosTime>,
-            OptionalField<
-                ExplicitContextTag3<Microseconds>,
-                Field<
-                    ExplicitContextTag4<KerberosTime>,
-                    Field<
-                        ExplicitContextTag5<Microseconds>,
-                        Field<
-                            ExplicitContextTag6<u32>,
-                            OptionalField<
-                                ExplicitContextTag7<Realm>,
-                                OptionalField<
-                                    ExplicitContextTag8<PrincipalName>,
-                                    Field<
-                                        ExplicitContextTag9<Realm>,
-                                        Field<
-                                            ExplicitContextTag10<PrincipalName>,
-                                            OptionalField<
-                                                ExplicitContextTag11<KerberosStringAsn1>,
-                                                OptionalField<
-                                                    ExplicitContextTag12<OctetStringAsn1>,
-                                                    End,
-                                                >,
-                                            >,
-                                        >,
-                                    >,
-                                >,
-                            >,
-                        >,
-                    >,
-                >,
-            >,
-        >,
-    >,
+    ExplicitContextTag1<IntegerAsn1>,
+    Optional<Option<ExplicitContextTag2<KerberosTime>>>,
+    Optional<Option<ExplicitContextTag3<Microseconds>>>,
+    ExplicitContextTag4<KerberosTime>,
+    ExplicitContextTag5<Microseconds>,
+    ExplicitContextTag6<u32>,
+    Optional<Option<ExplicitContextTag7<Realm>>>,
+    Optional<Option<ExplicitContextTag8<PrincipalName>>>,
+    ExplicitContextTag9<Realm>,
+    ExplicitContextTag10<PrincipalName>,
+    Optional<Option<ExplicitContextTag11<KerberosStringAsn1>>>,
+    Optional<Option<ExplicitContextTag12<OctetStringAsn1>>>,
 >;
 
-impl Serialize for KrbErrorInner {
-    ghost use Rattle.std.specs.Prelude.{refl, true};
-    ghost use Rattle.std.proofs.Common.{ap};
-    ghost use Rattle.asn1_trees.specs.Tree.{constructed};
-    ghost use Rattle.asn1_trees.specs.Firsts.{only};
-    ghost use Rattle.asn1_trees.proofs.Spelling.{may_begin-only};
-    ghost use Rattle.asn1_trees.proofs.Elements.{element-content};
-    ghost use Rattle.picky_asn1_der.specs.Fields.{required, optional, end};
+impl Tagged for KrbErrorInner {
+    ghost use Rattle.std.proofs.Common.{ap, refl, true};
+    ghost use Rattle.asn1_trees.specs.Tagged.{sequence};
+    ghost use Rattle.asn1_trees.proofs.Tagged.{sequence_laws};
 
-    ghost tree = { λ v. constructed 48
-        (⟦<KrbErrorInnerFields as Fields>⟧.trees (required v.pvno (required v.msg_type (optional v.ctime.0 (optional v.cusec.0 (required v.stime (required v.susec (required v.error_code (optional v.crealm.0 (optional v.cname.0 (required v.realm (required v.sname (optional v.e_text.0 (optional v.e_data.0 end)))))))))))))) };
+    type Row = KrbErrorInnerRow;
 
-    ghost firsts = { only 48 };
+    const FIRST: u8 = 48;
 
-    ghost begins = { λ v. may_begin-only 48 };
+    ghost FIRST = { 48 };
 
-    ghost injective = { λ v w whole also e. ap
-        (λ f. record { pvno = f.0; msg_type = f.1.0; ctime = record { 0 = f.1.1.0 }; cusec = record { 0 = f.1.1.1.0 }; stime = f.1.1.1.1.0; susec = f.1.1.1.1.1.0; error_code = f.1.1.1.1.1.1.0; crealm = record { 0 = f.1.1.1.1.1.1.1.0 }; cname = record { 0 = f.1.1.1.1.1.1.1.1.0 }; realm = f.1.1.1.1.1.1.1.1.1.0; sname = f.1.1.1.1.1.1.1.1.1.1.0; e_text = record { 0 = f.1.1.1.1.1.1.1.1.1.1.1.0 }; e_data = record { 0 = f.1.1.1.1.1.1.1.1.1.1.1.1.0 } })
-        (⟦<KrbErrorInnerFields as Fields>⟧.injective (refl {a = true}) _ _ whole also (element-content 48 _ _ e)) };
+    ghost row_tree = { sequence ⟦<KrbErrorInnerRow as Fields>⟧.trees };
 
-    fn serialize<W: Sink>(&self, to: &mut Serializer<W>) -> Result<usize, Asn1DerError> {
+    ghost row_laws = { sequence_laws ⟦<KrbErrorInnerRow as Fields>⟧.trees (⟦<KrbErrorInnerRow as Fields>⟧.injective (refl {a = true})) };
+
+    ghost row_of = { λ v. (v.pvno, (v.msg_type, (v.ctime, (v.cusec, (v.stime, (v.susec, (v.error_code, (v.crealm, (v.cname, (v.realm, (v.sname, (v.e_text, (v.e_data, tt))))))))))))) };
+
+    ghost one_row = { λ v w e. ap (λ f. record { pvno = f.0; msg_type = f.1.0; ctime = f.1.1.0; cusec = f.1.1.1.0; stime = f.1.1.1.1.0; susec = f.1.1.1.1.1.0; error_code = f.1.1.1.1.1.1.0; crealm = f.1.1.1.1.1.1.1.0; cname = f.1.1.1.1.1.1.1.1.0; realm = f.1.1.1.1.1.1.1.1.1.0; sname = f.1.1.1.1.1.1.1.1.1.1.0; e_text = f.1.1.1.1.1.1.1.1.1.1.1.0; e_data = f.1.1.1.1.1.1.1.1.1.1.1.1.0 }) e };
+
+    fn read_row<R: Source>(tag: u8, from: &mut Deserializer<R>) -> Result<Self::Row, Asn1DerError> {
+        read_sequence(tag, from)
+    }
+
+    fn of_row(row: Self::Row) -> Self {
+        from_fields![row;
+            pvno, msg_type, ctime, cusec, stime, susec, error_code, crealm, cname, realm, sname,
+            e_text, e_data
+        ]
+    }
+
+    fn write_row<W: Sink>(&self, tag: u8, to: &mut Serializer<W>) -> Result<usize, Asn1DerError> {
         to.list(
-            48,
-            &Field(
-                &self.pvno,
-                Field(
-                    &self.msg_type,
-                    OptionalField(
-                        self.ctime.0.as_ref(),
-                        OptionalField(
-                            self.cusec.0.as_ref(),
-                            Field(
-                                &self.stime,
-                                Field(
-                                    &self.susec,
-                                    Field(
-                                        &self.error_code,
-                                        OptionalField(
-                                            self.crealm.0.as_ref(),
-                                            OptionalField(
-                                                self.cname.0.as_ref(),
-                                                Field(
-                                                    &self.realm,
-                                                    Field(
-                                                        &self.sname,
-                                                        OptionalField(
-                                                            self.e_text.0.as_ref(),
-                                                            OptionalField(
-                                                                self.e_data.0.as_ref(),
-                                                                End,
-                                                            ),
-                                                        ),
-                                                    ),
-                                                ),
-                                            ),
-                                        ),
-                                    ),
-                                ),
-                            ),
-                        ),
-                    ),
-                ),
-            ),
+            tag,
+            &fields_of![self;
+                pvno, msg_type, ctime, cusec, stime, susec, error_code, crealm, cname, realm, sname,
+                e_text, e_data
+            ],
         )
-    }
-}
-
-impl Deserialize for KrbErrorInner {
-    fn may_start(first: u8) -> bool {
-        first == 48
-    }
-
-    fn deserialize<R: Source>(from: &mut Deserializer<R>) -> Result<Self, Asn1DerError> {
-        let fields: KrbErrorInnerFields = from.list(48)?;
-        let Field(
-            pvno,
-            Field(
-                msg_type,
-                OptionalField(
-                    ctime,
-                    OptionalField(
-                        cusec,
-                        Field(
-                            stime,
-                            Field(
-                                susec,
-                                Field(
-                                    error_code,
-                                    OptionalField(
-                                        crealm,
-                                        OptionalField(
-                                            cname,
-                                            Field(
-                                                realm,
-                                                Field(
-                                                    sname,
-                                                    OptionalField(
-                                                        e_text,
-                                                        OptionalField(e_data, End),
-                                                    ),
-                                                ),
-                                            ),
-                                        ),
-                                    ),
-                                ),
-                            ),
-                        ),
-                    ),
-                ),
-            ),
-        ) = fields;
-        Ok(KrbErrorInner {
-            pvno,
-            msg_type,
-            ctime: Optional(ctime),
-            cusec: Optional(cusec),
-            stime,
-            susec,
-            error_code,
-            crealm: Optional(crealm),
-            cname: Optional(cname),
-            realm,
-            sname,
-            e_text: Optional(e_text),
-            e_data: Optional(e_data),
-        })
     }
 }

@@ -15,4 +15,5 @@ loop-at-preserved g c =
       given = subst (Consumes start (g.R.Source.left c.read_some.new.self)) (sym joined)
           (Consumes-trans start _ _ _ _ c.loop-at.invariant.given c.in_ok-count.ensures.bytes.0);
       count = search rules;
+      same = search rules;
     }

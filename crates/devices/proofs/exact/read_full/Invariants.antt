@@ -8,6 +8,7 @@ invariant-loop-at g l = record {
   within : l.at ≤ length l.buffer;
   given : Consumes (g.R.Source.left l.initial.reader) (g.R.Source.left l.reader) (take l.at l.buffer);
   count : g.R.Source.failed l.reader ≡ g.R.Source.failed l.initial.reader;
+  same : g.R.Source.through l.reader ≡ g.R.Source.through l.initial.reader;
 }
 
 abbrev pub decreases-loop-at : goal.decreases-loop-at

@@ -3,6 +3,7 @@ use Rattle.std.proofs.Math.Nat.{not-le_of_lt}
 use Rattle.std.proofs.KnownBytes.{Appends-trans, Keeps-trans}
 use Rattle.std.specs.Io.KnownBytes.{Appends}
 use Rattle.devices.proofs.Parts.{take-front_more, length-le-taken, Keeps-from_Appends}
+use Rattle.devices.proofs.Rooms.{taken_room-more}
 use Rattle.devices.proofs.exact.write_whole.Goals as goal
 
 pub loop-at-preserved : goal.loop-at-preserved
@@ -15,6 +16,7 @@ loop-at-preserved g c =
           (Appends-trans start _ _ _ _ c.loop-at.invariant.taken c.in-Ok.ensures.bytes);
       count = search rules;
       same = search rules;
+      room = taken_room-more (g.W.Sink.room c.args.writer.now) _ _ c.loop-at.at c.in-Ok.count _ c.loop-at.invariant.room c.in-Ok.ensures.room;
       whole = λ growing more. absurd (not-le_of_lt more (length-le-taken c.loop-at.at c.in-Ok.count c.args.bytes.now (c.in-Ok.ensures.whole growing)));
     }
 

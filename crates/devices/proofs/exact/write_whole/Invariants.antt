@@ -1,5 +1,6 @@
 use Rattle.std.proofs.Common.{◌≡◌, ◌-◌, ◌≤◌, ◌<◌, IsTrue, length, take}
 use Rattle.std.specs.Io.KnownBytes.{Appends}
+use Rattle.devices.specs.Room.{TakenRoom}
 use Rattle.devices.proofs.exact.write_whole.Given as goal
 
 abbrev pub invariant-loop-at : goal.invariant-loop-at
@@ -8,6 +9,7 @@ invariant-loop-at g l = record {
   taken : Appends (g.W.Sink.written l.initial.writer) (g.W.Sink.written l.writer) (take l.at l.bytes);
   count : g.W.Sink.failed l.writer ≡ g.W.Sink.failed l.initial.writer;
   same : g.W.Sink.through l.writer ≡ g.W.Sink.through l.initial.writer;
+  room : TakenRoom (g.W.Sink.room l.initial.writer) (g.W.Sink.room l.writer) l.at;
   whole : IsTrue g.W.Sink.grows → l.at < length l.bytes → l.at ≡ 0;
 }
 

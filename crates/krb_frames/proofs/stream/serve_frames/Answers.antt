@@ -1,5 +1,6 @@
-use Rattle.std.proofs.Common.{rules}
+use Rattle.std.proofs.Common.{rules, ◌∙◌}
 use Rattle.std.proofs.lemmas.Result.{err_from_is_err_and}
+use Rattle.krb_frames.proofs.Counts.{read_kept, write_kept}
 use Rattle.krb_frames.proofs.Progress.{Whole-same, begins, ended, stopped_at_front, stopped_at_moment, stopped_at_step, goes}
 use Rattle.krb_frames.proofs.stream.serve_frames.Goals as goal
 
@@ -55,3 +56,21 @@ frames-preserved g c = record {
       goes _ _ _ _ _ _ p c.deref.result.now read.0 front _ read.1 _ c.in-Some-next.moment c.in-Some-next.ensures.steps _ _ _ c.saturating_add-answered.ensures
       (c.in_ok-answer_frame.ensures.step p.more p.words_known);
 }
+
+pub returns-in_err-message-clause-read_kept : goal.returns-in_err-message-clause-read_kept
+returns-in_err-message-clause-read_kept g c =
+    let r = err_from_is_err_and c.from_residual.result c.from_residual.ensures.1 in
+    rw (r.1, r.2) (λ other. (read_kept _ _ c.in_err-message.field-0.0 c.in_err-message.ensures.count other ∙ c.frames.invariant.read_count, c.frames.invariant.words_count))
+
+pub returns-in_err-answer_frame-clause-read_kept : goal.returns-in_err-answer_frame-clause-read_kept
+returns-in_err-answer_frame-clause-read_kept g c =
+    let r = err_from_is_err_and c.from_residual-in_err-answer_frame.result c.from_residual-in_err-answer_frame.ensures.1 in
+    rw (r.1, r.2) (λ other. (
+      c.in_ok-message.ensures.count ∙ c.frames.invariant.read_count,
+      read_kept _ _ c.in_err-answer_frame.field-0.0 c.in_err-answer_frame.ensures.read_count other ∙ c.frames.invariant.words_count,
+    ))
+
+pub returns-in_err-answer_frame-clause-write_kept : goal.returns-in_err-answer_frame-clause-write_kept
+returns-in_err-answer_frame-clause-write_kept g c =
+    let r = err_from_is_err_and c.from_residual-in_err-answer_frame.result c.from_residual-in_err-answer_frame.ensures.1 in
+    rw (r.1, r.2) (λ other. write_kept _ _ c.in_err-answer_frame.field-0.0 c.in_err-answer_frame.ensures.write_count other ∙ c.frames.invariant.write_count)

@@ -16,5 +16,5 @@ returns c =
       nonce = c.in_ok-nonce.nonce;
     } in
     granted_by c.args.realm.now c.args.settings.lifetime (principals c.args.asked) c.args.moment c.args.words.now c.args.body.now grant c.in_ok-bytes.bytes.items
-    c.start_of-start.ensures c.end_of-until.ensures c.suite-suite.ensures c.in_ok-session.ensures c.in_ok-realm.ensures
-    c.in_ok-client.ensures c.in_ok-service.ensures c.in_ok-nonce.ensures c.in_ok-bytes.ensures
+    c.start_of-start.ensures c.end_of-until.ensures c.suite-suite.ensures c.in_ok-session.ensures c.in_ok-realm.ensures.cases
+    c.in_ok-client.ensures.cases c.in_ok-service.ensures.cases c.in_ok-nonce.ensures.cases c.in_ok-bytes.ensures

@@ -15,7 +15,7 @@ returns c =
     let service = c.in_ok-service.service in
     let name : own ≡ c.args.self.now.name = ap (λ r. r.name) c.self.view_is in
     let bytes = c.in_ok-reply.ensures
-    ∙ ap (λ realm. error_bytes realm time c.microsecond.result service code hint) c.in_ok-realm.ensures
+    ∙ ap (λ realm. error_bytes realm time c.microsecond.result service code hint) c.in_ok-realm.ensures.cases
     ∙ ap (λ micros. error_bytes own time micros service code hint) c.microsecond.ensures.value
     ∙ ap (λ s. error_bytes own time (c.args.moment % 1000000) s code hint) c.in_ok-service.ensures
     ∙ ap (λ n. error_bytes n time (c.args.moment % 1000000) (named_service n asked) code hint) name in

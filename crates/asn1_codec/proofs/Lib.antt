@@ -1,0 +1,10 @@
+pub mod ArrayLemmas
+pub mod Chain
+pub mod CharacterLemmas
+pub mod ElementWrites
+pub mod FieldsLemmas
+pub mod Headers
+pub mod Leaves
+pub mod ReadsLemmas
+pub mod UnsignedLemmas
+pub mod Writes

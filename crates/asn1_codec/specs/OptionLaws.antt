@@ -1,0 +1,16 @@
+-- A value that is written says which it is, and nothing is no spelling.
+use Rattle.std.proofs.Common.{Option, None, Some, ap}
+use Rattle.asn1_trees.specs.Tree.{Tree}
+use Rattle.asn1_trees.specs.Firsts.{Firsts, BeginsAmong}
+use Rattle.asn1_trees.proofs.Spelling.{IsInjective}
+use Rattle.asn1_codec.specs.Options.{option_tree}
+
+pub option_tree-begins : {A : Type 0} (tree : A → Tree) (firsts : Firsts) → ((value : A) → BeginsAmong firsts (tree value))
+    → (value : Option A) → BeginsAmong firsts (option_tree tree value)
+option_tree-begins tree firsts begins None = tt
+option_tree-begins tree firsts begins (Some value) = begins value
+
+pub option_tree-injective : {A : Type 0} (tree : A → Tree) → IsInjective tree → IsInjective (option_tree tree)
+option_tree-injective tree one None w whole also e = absurd whole
+option_tree-injective tree one (Some v) None whole also e = absurd also
+option_tree-injective tree one (Some v) (Some w) whole also e = ap Some (one v w whole also e)

@@ -1,0 +1,36 @@
+-- What reading a value from an input answers.
+use Rattle.std.specs.Prelude.{◌≡◌, List, ℕ, ◌++◌, ◌⊎◌, Result, Ok, Err}
+use Rattle.asn1_trees.specs.Tree.{Tree, Writes}
+use Rattle.asn1_octets.specs.declared.error.Asn1DerError.{Asn1DerError}
+use Rattle.asn1_octets.specs.declared.error.Asn1DerError.TheVariants.{Memory}
+
+-- the front of a text is read as one value, and is one front; `reads` says which bytes are read as a value
+abbrev pub IsOneValue : {T : Type 0} → (T → List ℕ → Type 0) → Type 0
+IsOneValue {T} reads =
+    (v w : T) (a b x y : List ℕ) → reads v a → reads w b → a ++ x ≡ b ++ y → (v ≡ w) × (a ≡ b)
+
+-- the input begins with bytes that are read as the value
+abbrev pub BeginsBy : {T : Type 0} → (T → List ℕ → Type 0) → T → List ℕ → Type 0
+BeginsBy reads value input = (bytes rest : List ℕ) × reads value bytes × (input ≡ bytes ++ rest)
+
+-- the value that the input's front is read as, and no other; or want of memory
+abbrev pub ReadsFront : {T : Type 0} → (T → List ℕ → Type 0) → List ℕ → Result T Asn1DerError → Type 0
+ReadsFront {T} reads input answer =
+    (answer ≡ Err Memory)
+    ⊎ ((value : T) → (answer ≡ Ok value → BeginsBy reads value input) × (BeginsBy reads value input → answer ≡ Ok value))
+
+-- the value that the whole input is read as, and no other; or want of memory
+abbrev pub ReadsWhole : {T : Type 0} → (T → List ℕ → Type 0) → List ℕ → Result T Asn1DerError → Type 0
+ReadsWhole {T} reads input answer =
+    (answer ≡ Err Memory)
+    ⊎ ((value : T) → (answer ≡ Ok value → reads value input) × (reads value input → answer ≡ Ok value))
+
+-- the same of the one spelling of a value
+abbrev pub BeginsWith : {T : Type 0} → (T → Tree) → T → List ℕ → Type 0
+BeginsWith tree value input = BeginsBy (Writes tree) value input
+
+abbrev pub Reads : {T : Type 0} → (T → Tree) → List ℕ → Result T Asn1DerError → Type 0
+Reads tree input answer = ReadsFront (Writes tree) input answer
+
+abbrev pub ReadsAll : {T : Type 0} → (T → Tree) → List ℕ → Result T Asn1DerError → Type 0
+ReadsAll tree input answer = ReadsWhole (Writes tree) input answer

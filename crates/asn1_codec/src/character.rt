@@ -1,0 +1,60 @@
+//! Characters.
+ghost use Rattle.std.specs.Prelude.{◌≡◌, ℕ, IfOk, MatchOption, IsTrue};
+ghost use Rattle.asn1_codec.specs.Characters.{is_character, character_content};
+
+use crate::leaf::Leaf;
+use crate::ser::Serializer;
+use asn1_octets::{Asn1DerError, Rule};
+use devices::Sink;
+use std::alloc::{AllocError, Global};
+use std::str;
+
+/// A UTF8String (X.690, section 8.23) of exactly one character: `0C 02 C3 A9` is `é`.
+impl Leaf for char {
+    ghost use Rattle.asn1_codec.specs.Characters.{is_character, character_content};
+    ghost use Rattle.asn1_codec.specs.CharacterLaws.{character_content-injective};
+
+    const OCTET: u8 = 12;
+
+    const RULE: Rule = Rule::Characters;
+
+    ghost OCTET = { 12 };
+
+    ghost is_valid = { is_character };
+
+    ghost content_of = { character_content };
+
+    ghost one_content = { λ v w _ _ e. character_content-injective v w e };
+
+    fn decode(alloc: Global, content: &[u8]) -> Result<Option<Self>, AllocError> {
+        match str::from_utf8(content) {
+            Ok(text) => Ok(only_character(text)),
+            Err(_) => Ok(None),
+        }
+    }
+
+    fn write_content<W: Sink>(
+        &self,
+        tag: u8,
+        to: &mut Serializer<W>,
+    ) -> Result<usize, Asn1DerError> {
+        let character = *self;
+        let mut octets = [0u8; 4];
+        to.element(tag, character.encode_utf8(&mut octets).as_bytes())
+    }
+}
+
+/// The character of a text of one, none of another.
+fn only_character(text: &str) -> Option<char>
+    ensures { MatchOption result
+        ((character : ℕ) → character_content character ≡ text.now → ⊥)
+        (λ character. IsTrue (is_character character) × (character_content character ≡ text.now)) }
+{
+    let Some(first) = text.chars().next() else {
+        return None;
+    };
+    if first.len_utf8() != text.len() {
+        return None;
+    }
+    Some(first)
+}

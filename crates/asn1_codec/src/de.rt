@@ -1,0 +1,505 @@
+//! Reading values.
+ghost use Rattle.std.specs.Prelude.{◌≡◌, ℕ, ◌+◌, ◌-◌, ◌^◌, ◌<◌, ◌≤◌, List, [], ◌∷◌, ◌++◌, length, MatchResult, MatchOption, IfOk, IfErr, IsTrue, false, true, Some};
+ghost use Rattle.std.specs.Prelude.{◌↔◌, Result, Ok, Err, ◌⊎◌};
+ghost use Rattle.std.specs.Io.KnownBytes.{Consumes};
+ghost use Rattle.asn1_trees.specs.Tree.{Tree, Trees, IsWhole, AreWhole, wrapped, der, ders};
+ghost use Rattle.asn1_trees.specs.Length.{element, length_octets};
+ghost use Rattle.asn1_trees.specs.Firsts.{may_begin};
+ghost use Rattle.asn1_codec.specs.Reads.{ReadsFront, ReadsWhole};
+ghost use Rattle.asn1_codec.specs.Reading.{TookValue, TookBy, Refused, IsOwn, IsExcuse, IsSpelling, IsReadBy, IsLastBy, IsNotNext, TellsKind, result_faults};
+
+use crate::fields::Fields;
+use crate::row::Row1;
+use crate::ser::Serialize;
+use asn1_octets::{Asn1DerError, Content, MOST_IN_PLACE, PeekableReader};
+use asn1_trees::{following, length_of};
+use devices::Source;
+use std::alloc::Global;
+use std::marker::Model;
+
+// How many bytes a value from a reader has at most, where nothing else is said.
+const MOST_BYTES: usize = 10_240;
+
+/// A value that is read from its one DER spelling.
+pub trait Deserialize: Serialize + Sized + Drop {
+    ghost use Rattle.asn1_codec.specs.Reading.{Reading, TookValue, IsSpelling, Refused};
+
+    /// Whether a value may begin with this identifier octet.
+    fn may_start(first: u8) -> bool
+        ensures { result ≡ may_begin Self.firsts first };
+
+    /// Reads a value, and takes just its spelling. After a refusal the deserializer answers `InvalidData`
+    /// from then on.
+    fn deserialize<R: Source>(from: &mut Deserializer<R>) -> Result<Self, Asn1DerError>
+        ensures { MatchResult result
+            (λ value. TookValue Self.tree value from.old from.new)
+            (λ fault. Refused (IsSpelling Self.tree) from.old from.new fault) };
+}
+
+/// A value that is read from bytes: from its one DER spelling, as each value of a [`Deserialize`] type, or as the type
+/// says, for what a message leaves open. Fields, lists and tags hold values of the first kind alone.
+pub trait FromDer: Sized + Drop {
+    ghost use Rattle.asn1_codec.specs.Reads.{IsOneValue};
+    ghost use Rattle.asn1_codec.specs.Reading.{Reading, TookBy, IsReadBy, Refused};
+
+    // Which bytes are read as a value.
+    ghost reads: { Self → List ℕ → Type 0 };
+
+    ghost one_value: { IsOneValue reads };
+
+    /// Reads a value, and takes just the bytes that are read as it. After a refusal the deserializer answers
+    /// `InvalidData` from then on.
+    fn read_from<R: Source>(from: &mut Deserializer<R>) -> Result<Self, Asn1DerError>
+        ensures { MatchResult result
+            (λ value. TookBy reads value from.old from.new)
+            (λ fault. Refused (IsReadBy reads) from.old from.new fault) };
+}
+
+impl<T: Deserialize> FromDer for T {
+    ghost use Rattle.asn1_trees.specs.Tree.{Writes};
+    ghost use Rattle.asn1_trees.proofs.Spelling.{one_spelling};
+
+    ghost reads = { λ value bytes. Writes T.tree value bytes };
+
+    ghost one_value = { λ v w a b x y first second e.
+        let same = one_spelling T.tree T.injective v w a b x y first second e
+        in (same.0, same.1) };
+
+    fn read_from<R: Source>(from: &mut Deserializer<R>) -> Result<Self, Asn1DerError> {
+        let value = T::deserialize(from)?;
+        Ok(value)
+    }
+}
+
+/// A reader of DER from any source, up to a limit.
+///
+/// The limit is the end of the content that is being read: there is no stack of open elements.
+#[derive(Drop)]
+pub struct Deserializer<R: Source> {
+    alloc: Global,
+    reader: PeekableReader<R>,
+    limit: usize,
+    failed: bool,
+}
+
+impl<R: Source> Model for Deserializer<R> {
+    ghost use Rattle.std.specs.Prelude.{◌≡◌, ◌<◌, ◌^◌, false};
+    ghost use Rattle.asn1_codec.specs.Reading.{Reading};
+    ghost use Rattle.asn1_octets.specs.Peeking.{left_of, failed_of, looked_of, kind_of, names_of};
+
+    ghost Value = { Reading };
+
+    ghost view = { λ d. record {
+      left = left_of R.left d.reader;
+      looked = looked_of d.reader;
+      limit = d.limit;
+      failed = d.failed;
+      faults = failed_of R.failed d.reader;
+      kind = kind_of R.last_fault d.reader;
+      through = names_of R.through d.reader;
+    } };
+
+    // An octet is looked at below the limit alone.
+    ghost invariant = { λ d. (d.limit < 2 ^ 64) × (d.limit ≡ 0 → looked_of d.reader ≡ false) };
+}
+
+impl<'a> Deserializer<&'a [u8]> {
+    ghost use Rattle.asn1_codec.specs.Reading.{whole_input};
+
+    /// A deserializer of the values in `input`, one after another.
+    pub fn new_from_bytes(alloc: Global, input: &'a [u8]) -> Self
+        ensures { result ≡ whole_input input.now }
+    {
+        Deserializer {
+            alloc,
+            limit: input.len(),
+            reader: PeekableReader::new(input),
+            failed: false,
+        }
+    }
+}
+
+impl<R: Source> Deserializer<R> {
+    ghost use Rattle.asn1_codec.specs.Reading.{Reading, Took, TookNone, TookValue, IsSpelling, TookFields, AreFields, Refused, IsOctet, IsCount, HasOctets, IsFront, IsElement, IsLength, IsList, Tells, within, stopped};
+
+    /// A deserializer of the values that `reader` gives, which takes at most `limit` bytes.
+    pub fn new_from_reader(alloc: Global, reader: R, limit: usize) -> Self
+        ensures { result ≡ record {
+          left = R.left reader;
+          looked = false;
+          limit = limit;
+          failed = false;
+          faults = R.failed reader;
+          kind = R.last_fault reader;
+          through = R.through reader;
+        } }
+    {
+        Deserializer {
+            alloc,
+            reader: PeekableReader::new(reader),
+            limit,
+            failed: false,
+        }
+    }
+
+    /// The reader. An octet that was looked at is lost; behind a value that was read there is none.
+    pub fn into_reader(self) -> R
+        ensures left { self.looked ≡ false → R.left result ≡ self.left }
+        ensures failed { R.failed result ≡ self.faults }
+        ensures kind { R.last_fault result ≡ self.kind }
+        ensures same { R.through result ≡ self.through }
+    {
+        let Deserializer { reader, .. } = self;
+        reader.into_inner()
+    }
+
+    /// Refuses for `fault`, and gives it back: from now on each call answers `InvalidData`.
+    ///
+    /// A type's `deserialize` calls it where what was taken breaks a rule of the type's own.
+    pub fn refuse(&mut self, fault: Asn1DerError) -> Asn1DerError
+        ensures after { self.new ≡ stopped self.old }
+        ensures fault { result ≡ fault }
+    {
+        self.failed = true;
+        fault
+    }
+
+    /// Answers `InvalidData` after a refusal.
+    pub(crate) fn ready(&self) -> Result<(), Asn1DerError>
+        ensures { MatchResult result
+            (λ _. self.now.failed ≡ false)
+            (λ fault. (fault ≡ Asn1DerError.InvalidData) × (self.now.failed ≡ true)) }
+    {
+        if self.failed {
+            Err(Asn1DerError::InvalidData)
+        } else {
+            Ok(())
+        }
+    }
+
+    /// Takes one octet.
+    fn take_octet(&mut self) -> Result<u8, Asn1DerError>
+        ensures { MatchResult result
+            (λ octet. Took (octet ∷ []) self.old self.new)
+            (λ fault. Refused IsOctet self.old self.new fault) }
+    {
+        self.ready()?;
+        if self.limit == 0 {
+            return Err(self.refuse(Asn1DerError::TruncatedData));
+        }
+        match self.reader.take_one() {
+            Ok(Some(octet)) => {
+                self.limit -= 1;
+                Ok(octet)
+            }
+            Ok(None) => Err(self.refuse(Asn1DerError::TruncatedData)),
+            Err(kind) => Err(self.refuse(Asn1DerError::Other(kind))),
+        }
+    }
+
+    /// Looks at the next octet, of which there is one.
+    pub(crate) fn peek(&mut self) -> Result<u8, Asn1DerError>
+        requires { 1 ≤ self.old.limit }
+        ensures { MatchResult result
+            (λ octet. TookNone self.old self.new × ((bytes : List ℕ) (first : ℕ)
+            → self.old.left ≡ Some (first ∷ bytes) → first ≡ octet))
+            (λ fault. Refused HasOctets self.old self.new fault) }
+    {
+        self.ready()?;
+        match self.reader.peek_one() {
+            Ok(Some(octet)) => Ok(octet),
+            Ok(None) => Err(self.refuse(Asn1DerError::TruncatedData)),
+            Err(kind) => Err(self.refuse(Asn1DerError::Other(kind))),
+        }
+    }
+
+    /// Takes `count` octets.
+    fn take_octets(&mut self, count: usize) -> Result<Vec<u8>, Asn1DerError>
+        requires room { count ≤ self.old.limit }
+        requires unlooked { self.old.looked ≡ false }
+        ensures { MatchResult result
+            (λ octets. Took octets.items self.old self.new × (length octets.items ≡ count))
+            (λ fault. Refused (IsCount count) self.old self.new fault) }
+    {
+        self.ready()?;
+        let mut octets = match vec![in self.alloc; 0u8; count] {
+            Ok(octets) => octets,
+            Err(_) => return Err(self.refuse(Asn1DerError::Memory)),
+        };
+        self.fill(&mut octets)?;
+        Ok(octets)
+    }
+
+    /// Takes as many octets as `octets` has room for.
+    fn fill(&mut self, octets: &mut [u8]) -> Result<(), Asn1DerError>
+        requires room { length octets.old ≤ self.old.limit }
+        requires unlooked { self.old.looked ≡ false }
+        ensures { MatchResult result
+            (λ _. Took octets.new self.old self.new)
+            (λ fault. Refused (IsCount (length octets.old)) self.old self.new fault) }
+    {
+        self.ready()?;
+        match self.reader.read_unlooked(octets) {
+            Ok(count) => {
+                if count < octets.len() {
+                    return Err(self.refuse(Asn1DerError::TruncatedData));
+                }
+                self.limit -= count;
+                Ok(())
+            }
+            Err(kind) => Err(self.refuse(Asn1DerError::Other(kind))),
+        }
+    }
+
+    /// Takes length octets, and gives the length. Only a length below the limit is wanted.
+    fn take_length(&mut self) -> Result<usize, Asn1DerError>
+        ensures { MatchResult result
+            (λ count. Took (length_octets count) self.old self.new)
+            (λ fault. Refused (IsLength self.old.limit) self.old self.new fault) }
+    {
+        let first = self.take_octet()?;
+        if first < 128 {
+            return Ok(first as usize);
+        }
+        let room = self.limit;
+        let Some(more) = following(first) else {
+            return Err(self.refuse(Asn1DerError::InvalidData));
+        };
+        if room < more {
+            return Err(self.refuse(Asn1DerError::TruncatedData));
+        }
+        let mut octets = [first; 9];
+        self.fill(&mut octets[1..1 + more])?;
+        match length_of(&octets[..1 + more]) {
+            Some(count) => Ok(count),
+            None => Err(self.refuse(Asn1DerError::InvalidData)),
+        }
+    }
+
+    /// Takes the identifier octet `tag` and length octets, and gives the length, which lies within the limit.
+    fn open(&mut self, tag: u8) -> Result<usize, Asn1DerError>
+        ensures { MatchResult result
+            (λ count. Took (tag ∷ length_octets count) self.old self.new × (count ≤ self.new.limit))
+            (λ fault. Refused (IsElement tag) self.old self.new fault) }
+    {
+        let first = self.take_octet()?;
+        if first != tag {
+            return Err(self.refuse(Asn1DerError::InvalidData));
+        }
+        let count = self.take_length()?;
+        if self.limit < count {
+            return Err(self.refuse(Asn1DerError::TruncatedData));
+        }
+        Ok(count)
+    }
+
+    /// Lowers the limit to `count`, and gives what lies behind.
+    fn enter(&mut self, count: usize) -> usize
+        requires room { count ≤ self.old.limit }
+        requires unlooked { self.old.looked ≡ false }
+        ensures inside { self.new ≡ within count self.old }
+        ensures outside { result + count ≡ self.old.limit }
+    {
+        let outside = self.limit - count;
+        self.limit = count;
+        outside
+    }
+
+    /// Raises the limit to `outside`, from which `enter` lowered it.
+    fn leave(&mut self, outside: usize)
+        requires { self.old.looked ≡ false }
+        ensures { self.new ≡ within outside self.old }
+    {
+        self.limit = outside;
+    }
+
+    /// Takes an element with the identifier octet `tag`, and gives its content (X.690, section 8.1).
+    pub fn content(&mut self, tag: u8) -> Result<Vec<u8>, Asn1DerError>
+        ensures { MatchResult result
+            (λ content. Took (element tag content.items) self.old self.new)
+            (λ fault. Refused (IsElement tag) self.old self.new fault) }
+    {
+        let count = self.open(tag)?;
+        let content = self.take_octets(count)?;
+        Ok(content)
+    }
+
+    /// Takes an element with the identifier octet `tag`, and gives its content, which takes no memory where it is
+    /// short (X.690, section 8.1).
+    pub fn short_content(&mut self, tag: u8) -> Result<Content, Asn1DerError>
+        ensures { MatchResult result
+            (λ content. Took (element tag content) self.old self.new)
+            (λ fault. Refused (IsElement tag) self.old self.new fault) }
+    {
+        let count = self.open(tag)?;
+        if count > MOST_IN_PLACE {
+            let content = self.take_octets(count)?;
+            return Ok(Content::from(content));
+        }
+        let mut octets = [0u8; MOST_IN_PLACE];
+        self.fill(&mut octets[..count])?;
+        Ok(Content::in_place(octets, count))
+    }
+
+    /// Takes a constructed element with the identifier octet `tag`, whose content is these fields.
+    pub fn list<F: Fields>(&mut self, tag: u8) -> Result<F, Asn1DerError>
+        requires { IsTrue F.sound }
+        ensures { MatchResult result
+            (λ fields. AreWhole (F.trees fields) × Took (element tag (ders (F.trees fields))) self.old self.new)
+            (λ fault. Refused (IsList tag F.trees) self.old self.new fault) }
+    {
+        let count = self.open(tag)?;
+        let outside = self.enter(count);
+        let fields = F::read(self)?;
+        self.leave(outside);
+        Ok(fields)
+    }
+
+    /// Takes a value under the further identifier octet `tag`.
+    pub fn wrapped<T: Deserialize>(&mut self, tag: u8) -> Result<T, Asn1DerError>
+        ensures { MatchResult result
+            (λ value. TookValue (λ v. wrapped tag (T.tree v)) value self.old self.new)
+            (λ fault. Refused (IsSpelling (λ v. wrapped tag (T.tree v))) self.old self.new fault) }
+    {
+        let fields: Row1<T> = self.list(tag)?;
+        let (value, ()) = fields;
+        Ok(value)
+    }
+
+    /// Whether bytes are left up to the limit.
+    pub(crate) fn remains(&self) -> bool
+        ensures some { IsTrue result ↔ (1 ≤ self.now.limit) }
+        ensures none { result ≡ false → self.now.looked ≡ false }
+    {
+        self.limit > 0
+    }
+
+    /// What memory is taken from.
+    pub fn allocator(&self) -> Global {
+        self.alloc
+    }
+
+    /// Whether the next octet begins a value of `T`: not at the limit. The octet stays unread.
+    pub fn starts<T: Deserialize>(&mut self) -> Result<bool, Asn1DerError>
+        ensures { MatchResult result
+            (λ answer. TookNone self.old self.new × Tells T.firsts answer self.old)
+            (λ fault. Refused (IsFront self.old.limit) self.old self.new fault) }
+    {
+        self.ready()?;
+        if self.limit == 0 {
+            return Ok(false);
+        }
+        let first = self.peek()?;
+        Ok(T::may_start(first))
+    }
+
+    /// Refuses where bytes are left up to the limit.
+    pub fn finish(&mut self) -> Result<(), Asn1DerError>
+        ensures { MatchResult result
+            (λ _. (self.new ≡ self.old) × (self.old.failed ≡ false) × (self.old.limit ≡ 0) × (self.old.looked ≡ false))
+            (λ fault. Refused (λ bytes. (bytes ≡ []) × (length bytes ≡ self.old.limit)) self.old self.new fault) }
+    {
+        self.ready()?;
+        if self.limit != 0 {
+            return Err(self.refuse(Asn1DerError::InvalidData));
+        }
+        Ok(())
+    }
+}
+
+impl<R: Source> Deserializer<R> {
+    ghost use Rattle.std.specs.Prelude.{ℕ, List, ◌∷◌, Some, MatchResult};
+    ghost use Rattle.asn1_codec.specs.Reading.{Reading, TookNone, Refused, HasOctets};
+
+    /// Looks at the next octet, which is left below the limit.
+    ///
+    /// A type that is read by its next octet calls it first.
+    pub fn peek_in_limit(&mut self) -> Result<u8, Asn1DerError>
+        ensures { MatchResult result
+            (λ octet. TookNone self.old self.new × ((bytes : List ℕ) (first : ℕ)
+            → self.old.left ≡ Some (first ∷ bytes) → first ≡ octet))
+            (λ fault. Refused HasOctets self.old self.new fault) }
+    {
+        self.ready()?;
+        if !self.remains() {
+            return Err(self.refuse(Asn1DerError::TruncatedData));
+        }
+        let octet = self.peek()?;
+        Ok(octet)
+    }
+}
+
+/// Reads the value whose spelling begins `input`; what stands behind it stays unread. No fault is a device's.
+pub fn from_bytes<T: FromDer>(alloc: Global, input: &[u8]) -> Result<T, Asn1DerError>
+    ensures value { ReadsFront T.reads input.now result }
+    ensures own { IfErr result IsOwn }
+{
+    let mut from = Deserializer::new_from_bytes(alloc, input);
+    match T::read_from(&mut from) {
+        Ok(value) => Ok(value),
+        Err(fault) => {
+            // The proof looks into the reader here: bytes in memory count no failure, so none is answered.
+            let _ = &from.reader;
+            Err(fault)
+        }
+    }
+}
+
+/// Reads the value whose spelling is all of `input`. No fault is a device's.
+pub fn from_exact_bytes<T: FromDer>(alloc: Global, input: &[u8]) -> Result<T, Asn1DerError>
+    ensures value { ReadsWhole T.reads input.now result }
+    ensures own { IfErr result IsOwn }
+{
+    let mut from = Deserializer::new_from_bytes(alloc, input);
+    match read_last(&mut from) {
+        Ok(value) => Ok(value),
+        Err(fault) => {
+            // The proof looks into the reader here: bytes in memory count no failure, so none is answered.
+            let _ = &from.reader;
+            Err(fault)
+        }
+    }
+}
+
+/// Reads the value whose spelling comes next from `reader`, of at most 10,240 bytes, and takes just these.
+pub fn from_reader<T: FromDer, R: Source>(alloc: Global, reader: &mut R) -> Result<T, Asn1DerError>
+    ensures value { IfOk result (λ value. (bytes : List ℕ) × T.reads value bytes × (length bytes ≤ MOST_BYTES)
+        × Consumes (R.left reader.old) (R.left reader.new) bytes) }
+    ensures fault { IfErr result (λ fault. IsExcuse fault ⊎ IsNotNext (IsReadBy T.reads) (R.left reader.old) MOST_BYTES) }
+    ensures count { R.failed reader.new ≡ result_faults result (R.failed reader.old) }
+    ensures kind { IfErr result (λ fault. TellsKind fault (R.last_fault reader.new)) }
+    ensures same { R.through reader.new ≡ R.through reader.old }
+{
+    from_reader_with_max_len(alloc, reader, MOST_BYTES)
+}
+
+/// Reads the value whose spelling comes next from `reader`, of at most `limit` bytes, and takes just these.
+pub fn from_reader_with_max_len<T: FromDer, R: Source>(
+    alloc: Global,
+    reader: &mut R,
+    limit: usize,
+) -> Result<T, Asn1DerError>
+    ensures value { IfOk result (λ value. (bytes : List ℕ) × T.reads value bytes × (length bytes ≤ limit)
+        × Consumes (R.left reader.old) (R.left reader.new) bytes) }
+    ensures fault { IfErr result (λ fault. IsExcuse fault ⊎ IsNotNext (IsReadBy T.reads) (R.left reader.old) limit) }
+    ensures count { R.failed reader.new ≡ result_faults result (R.failed reader.old) }
+    ensures kind { IfErr result (λ fault. TellsKind fault (R.last_fault reader.new)) }
+    ensures same { R.through reader.new ≡ R.through reader.old }
+{
+    let mut from = Deserializer::new_from_reader(alloc, reader, limit);
+    let value = T::read_from(&mut from);
+    let back = from.into_reader();
+    let _ = &*back;
+    value
+}
+
+/// Reads a value, behind which nothing is left up to the limit.
+fn read_last<T: FromDer, R: Source>(from: &mut Deserializer<R>) -> Result<T, Asn1DerError>
+    ensures { MatchResult result
+        (λ value. TookBy T.reads value from.old from.new × (from.new.limit ≡ 0))
+        (λ fault. Refused (IsLastBy T.reads from.old.limit) from.old from.new fault) }
+{
+    let value = T::read_from(from)?;
+    from.finish()?;
+    Ok(value)
+}

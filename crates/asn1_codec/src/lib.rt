@@ -1,0 +1,45 @@
+//! What a reader and a writer of DER are, and what a type says to be read and written (X.690).
+//!
+//! A [`Deserializer`] takes elements from a source, a [`Serializer`] writes them into a sink. A type is [`Serialize`] and
+//! [`Deserialize`], most by their row of fields ([`Tagged`]) or by their content ([`Leaf`]). The forms that types are
+//! made of (tags, choices, defaults) stand in `picky_asn1_der`, which hands on all names of this crate.
+#![tactic(auto)]
+
+ghost use Rattle.std.specs.Prelude.{◌≡◌};
+
+mod array;
+mod boolean;
+mod character;
+mod de;
+mod elements;
+mod fields;
+mod integer;
+mod leaf;
+mod measure;
+mod null;
+mod option;
+mod optional;
+mod row;
+mod ser;
+mod slices;
+mod tag_number;
+mod tagged;
+mod tuple;
+mod unsigned;
+
+pub use asn1_octets::{Asn1DerError, Content, PeekableReader, Rule, Unsupported};
+pub use de::{
+    Deserialize, Deserializer, FromDer, from_bytes, from_exact_bytes, from_reader,
+    from_reader_with_max_len,
+};
+pub use elements::Elements;
+pub use fields::{Fields, WriteFields, write_field};
+pub use leaf::Leaf;
+pub use optional::Optional;
+pub use row::{
+    Item, Row1, Row2, Row3, Row4, Row5, Row6, Row7, Row8, Row9, Row10, Row11, Row12, Row13,
+    WriteItem,
+};
+pub use ser::{Serialize, Serializer, to_byte_buf, to_bytes, to_vec, to_writer};
+pub use tag_number::{IsTagNumber, TagNumber};
+pub use tagged::{Tagged, read_as, read_sequence};

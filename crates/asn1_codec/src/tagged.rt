@@ -1,0 +1,114 @@
+//! Types whose values have one identifier octet, which an implicit tag may change.
+ghost use Rattle.std.specs.Prelude.{◌≡◌, ℕ, Option, None, MatchResult, IsTrue};
+ghost use Rattle.asn1_trees.specs.Tree.{Tree, Trees, der, ders};
+ghost use Rattle.asn1_trees.specs.Firsts.{only};
+ghost use Rattle.asn1_trees.specs.Tagged.{sequence, tagged_tree};
+ghost use Rattle.asn1_trees.proofs.Tagged.{TagLaws};
+ghost use Rattle.asn1_codec.specs.Reading.{TookValue, IsSpelling, Refused};
+
+use crate::de::{Deserialize, Deserializer};
+use crate::fields::Fields;
+use crate::ser::{Serialize, Serializer};
+use asn1_octets::Asn1DerError;
+use devices::{Sink, Source};
+
+/// A type whose values have the identifier octet `FIRST`, and are read and written under any other too.
+///
+/// A value is told by its row: the fields of a SEQUENCE, and of another type what its content says. Nothing
+/// else is wanted of a type to be read and written. A type that refuses to write values says by `refuses` which and
+/// how; most refuse none.
+pub trait Tagged: Sized + Drop {
+    ghost use Rattle.asn1_codec.specs.Reading.{Reading, TookValue, IsSpelling, Refused};
+    ghost use Rattle.asn1_octets.specs.declared.error.Unsupported.{Unsupported};
+    ghost use Rattle.asn1_codec.specs.Refusals.{refusal_of};
+    ghost use Rattle.asn1_codec.specs.Writing.{Writing, WroteValue, NotWroteValue};
+
+    /// What a value holds.
+    type Row: Drop;
+
+    /// The identifier octet (X.690, section 8.1.2).
+    const FIRST: u8;
+
+    ghost FIRST: { ℕ };
+
+    ghost row_tree: { ℕ → Self.Row → Tree };
+
+    ghost row_laws: { TagLaws row_tree };
+
+    ghost row_of: { Self → Self.Row };
+
+    ghost one_row: { (v w : Self) → row_of v ≡ row_of w → v ≡ w };
+
+    ghost refuses: { Option (Self → Option Unsupported) } = { None };
+
+    /// Takes what a value holds, under the identifier octet `tag`.
+    fn read_row<R: Source>(tag: u8, from: &mut Deserializer<R>) -> Result<Self::Row, Asn1DerError>
+        ensures { MatchResult result
+            (λ row. TookValue (row_tree tag) row from.old from.new)
+            (λ fault. Refused (IsSpelling (row_tree tag)) from.old from.new fault) };
+
+    /// The value that holds this.
+    fn of_row(row: Self::Row) -> Self
+        ensures { row_of result ≡ row };
+
+    /// Writes the value under the identifier octet `tag`, and gives how many bytes that took.
+    fn write_row<W: Sink>(&self, tag: u8, to: &mut Serializer<W>) -> Result<usize, Asn1DerError>
+        ensures { MatchResult result
+            (WroteValue (refusal_of refuses self.now) (der (row_tree tag (row_of self.now))) to.old to.new)
+            (NotWroteValue (refusal_of refuses self.now) (der (row_tree tag (row_of self.now))) to.old to.new) };
+}
+
+impl<T: Tagged> Serialize for T {
+    ghost use Rattle.asn1_trees.proofs.Tagged.{tagged-injective};
+
+    ghost tree = { tagged_tree T.FIRST T.row_tree T.row_of };
+
+    ghost firsts = { only T.FIRST };
+
+    ghost begins = { λ value. T.row_laws.begins T.FIRST (T.row_of value) };
+
+    ghost refusal = { T.refuses };
+
+    ghost injective = { tagged-injective T.FIRST T.row_tree T.row_laws T.row_of T.one_row };
+
+    fn serialize<W: Sink>(&self, to: &mut Serializer<W>) -> Result<usize, Asn1DerError> {
+        self.write_row(T::FIRST, to)
+    }
+}
+
+impl<T: Tagged> Deserialize for T {
+    fn may_start(first: u8) -> bool {
+        first == T::FIRST
+    }
+
+    fn deserialize<R: Source>(from: &mut Deserializer<R>) -> Result<Self, Asn1DerError> {
+        let value = read_as(T::FIRST, from)?;
+        Ok(value)
+    }
+}
+
+/// Takes a value under the identifier octet `tag`.
+///
+/// A type that puts a tag in place of another type's own calls it.
+pub fn read_as<T: Tagged, R: Source>(tag: u8, from: &mut Deserializer<R>) -> Result<T, Asn1DerError>
+    ensures { MatchResult result
+        (λ value. TookValue (tagged_tree tag T.row_tree T.row_of) value from.old from.new)
+        (λ fault. Refused (IsSpelling (tagged_tree tag T.row_tree T.row_of)) from.old from.new fault) }
+{
+    let row = T::read_row(tag, from)?;
+    Ok(T::of_row(row))
+}
+
+/// Takes a constructed element of these fields under the identifier octet `tag`.
+pub fn read_sequence<F: Fields, R: Source>(
+    tag: u8,
+    from: &mut Deserializer<R>,
+) -> Result<F, Asn1DerError>
+    requires { IsTrue F.sound }
+    ensures { MatchResult result
+        (λ fields. TookValue (sequence F.trees tag) fields from.old from.new)
+        (λ fault. Refused (IsSpelling (sequence F.trees tag)) from.old from.new fault) }
+{
+    let fields = from.list(tag)?;
+    Ok(fields)
+}

@@ -1,6 +1,0 @@
-use Rattle.std.proofs.Common.{arith}
-use Rattle.picky_asn1.proofs.TimeLemmas.{seconds_of-injective}
-use Rattle.picky_asn1.proofs.date.GeneralizedTime.from_seconds.Goals as goal
-
-pub returns-clause-only : goal.returns-clause-only
-returns-clause-only c = λ t e. seconds_of-injective t _ (omega (arith, e, c.calendar_date-year.ensures.number))

@@ -1,0 +1,88 @@
+//! GeneralString as Kerberos has it.
+ghost use Rattle.std.specs.Prelude.{◌≡◌, IfOk};
+ghost use Rattle.asn1_leaves.specs.CharSets.{IsGeneralString};
+ghost use Rattle.asn1_leaves.specs.Makes.{Makes, Decodes};
+
+use crate::LeafFault;
+use crate::restricted_string::{GeneralCharSet, RestrictedString};
+use std::alloc::{AllocError, Global};
+use std::marker::Model;
+
+/// A GeneralString of characters below 128, the only ones that Kerberos has in it (RFC 4120, section 5.2.1). A
+/// contract sees their list.
+#[derive(Drop, Debug)]
+pub struct GeneralStringAsn1 {
+    text: RestrictedString<GeneralCharSet>,
+}
+
+impl Model for GeneralStringAsn1 {
+    ghost use Rattle.std.specs.Prelude.{ℕ, List};
+    ghost use Rattle.asn1_leaves.specs.CharSets.{IsGeneralString};
+
+    ghost Value = { List ℕ };
+
+    ghost view = { λ s. s.text };
+
+    ghost invariant = { λ s. IsGeneralString s.text };
+}
+
+impl GeneralStringAsn1 {
+    /// A copy of the characters, or `LeafFault::Character` where one isn't below 128.
+    pub fn new(alloc: Global, characters: &[u8]) -> Result<GeneralStringAsn1, LeafFault>
+        ensures { Makes (IsGeneralString characters.now) LeafFault.Character characters.now result }
+    {
+        let text = RestrictedString::new(alloc, characters)?;
+        Ok(GeneralStringAsn1 { text })
+    }
+
+    /// Reads the content octets of an element, none where they are no GeneralString's.
+    pub fn from_content(
+        alloc: Global,
+        content: &[u8],
+    ) -> Result<Option<GeneralStringAsn1>, AllocError>
+        ensures { IfOk result (Decodes IsGeneralString (λ s. s) content.now) }
+    {
+        match RestrictedString::from_content(alloc, content)? {
+            Some(text) => Ok(Some(GeneralStringAsn1 { text })),
+            None => Ok(None),
+        }
+    }
+
+    /// The characters, which are the content octets too.
+    pub fn as_bytes(&self) -> &[u8]
+        ensures value { result.now ≡ self.now }
+        ensures character_set { IsGeneralString self.now }
+    {
+        self.text.as_bytes()
+    }
+}
+
+impl Clone for GeneralStringAsn1 {
+    ghost is_clone = { λ string copy. copy ≡ string };
+
+    fn clone(&self) -> Result<GeneralStringAsn1, AllocError> {
+        let text = self.text.clone()?;
+        Ok(GeneralStringAsn1 { text })
+    }
+}
+
+impl PartialEq for GeneralStringAsn1 {
+    ghost use Rattle.std.specs.Bool.{nat_eq};
+    ghost use Rattle.std.specs.Cmp.Lexicographic.{pointwise};
+    ghost use Rattle.std.proofs.lemmas.Cmp.{nat_list_eq_equiv};
+    ghost use Rattle.std.proofs.Common.{rules};
+
+    ghost eq = { pointwise nat_eq };
+
+    ghost laws = { Prim.search (nat_list_eq_equiv, rules) };
+
+    fn eq(&self, other: &GeneralStringAsn1) -> bool {
+        self.text == other.text
+    }
+}
+
+impl Eq for GeneralStringAsn1 {
+    ghost use Rattle.std.proofs.lemmas.Cmp.{nat_list_eq_equiv};
+
+    ghost laws = { nat_list_eq_equiv };
+}

@@ -1,0 +1,14 @@
+-- An element of any type, as its identifier octet and its content.
+use Rattle.std.specs.Prelude.{◌≡◌, ℕ, ◌%◌, Bool, not, ◌==◌, List}
+use Rattle.asn1_trees.specs.Tree.{Tree, leaf}
+
+pub record Raw : Type 0 where
+  pub first : ℕ
+  pub content : List ℕ
+
+-- the tag's number stands in the identifier octet itself (X.690, section 8.1.2.2): it is below 31
+abbrev pub has_low_number : ℕ → Bool
+has_low_number first = not (first % 32 == 31)
+
+abbrev pub raw_tree : Raw → Tree
+raw_tree raw = leaf (has_low_number raw.first) raw.first raw.content

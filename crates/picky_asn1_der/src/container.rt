@@ -1,0 +1,53 @@
+//! Strings of octets that hold an encoding.
+ghost use Rattle.std.specs.Prelude.{◌≡◌};
+ghost use Rattle.asn1_trees.specs.Tree.{wrapped};
+
+use asn1_codec::{Deserialize, Deserializer, Serializer, Tagged};
+use asn1_octets::Asn1DerError;
+use devices::{Sink, Source};
+
+/// An OCTET STRING whose octets are the encoding of one value (X.690, section 8.7).
+#[derive(Clone, Copy, Debug, Drop, PartialEq, Eq)]
+pub struct OctetStringContainer<T>(pub T);
+
+impl<T> From<T> for OctetStringContainer<T> {
+    ghost from_gives = { λ value made. made.0 ≡ value };
+
+    fn from(value: T) -> Self {
+        OctetStringContainer(value)
+    }
+}
+
+impl<T: Deserialize> Tagged for OctetStringContainer<T> {
+    ghost use Rattle.asn1_trees.proofs.Tagged.{wrapped_laws};
+
+    type Row = T;
+
+    const FIRST: u8 = 4;
+
+    ghost FIRST = { 4 };
+
+    ghost row_tree = { λ octet value. wrapped octet (T.tree value) };
+
+    ghost row_laws = { wrapped_laws T.tree T.injective };
+
+    ghost use Rattle.asn1_codec.specs.Refusals.{part_refusal};
+
+    ghost refuses = { part_refusal (λ value. value.0) T.refusal };
+
+    ghost row_of = { λ value. value.0 };
+
+    ghost one_row = { λ v w e. λ i. record { 0 = e i } };
+
+    fn read_row<R: Source>(tag: u8, from: &mut Deserializer<R>) -> Result<T, Asn1DerError> {
+        from.wrapped(tag)
+    }
+
+    fn of_row(row: T) -> Self {
+        OctetStringContainer(row)
+    }
+
+    fn write_row<W: Sink>(&self, tag: u8, to: &mut Serializer<W>) -> Result<usize, Asn1DerError> {
+        to.wrapped(tag, &self.0)
+    }
+}

@@ -1,0 +1,87 @@
+//! Elements of any type.
+ghost use Rattle.std.specs.Prelude.{◌≡◌, MatchOption, IfSome, IsTrue};
+ghost use Rattle.picky_asn1_der.specs.Raw.{Raw, has_low_number};
+
+use asn1_codec::{Deserialize, Deserializer, Serialize, Serializer};
+use asn1_octets::Asn1DerError;
+use devices::{Sink, Source};
+use std::marker::Model;
+
+/// One element of any type, whose tag's number is below 31 (X.690, section 8.1.2). Of its content nothing is asked.
+#[derive(Drop, Debug)]
+pub struct RawElement {
+    first: u8,
+    content: Vec<u8>,
+}
+
+impl Model for RawElement {
+    ghost use Rattle.std.specs.Prelude.{IsTrue};
+    ghost use Rattle.picky_asn1_der.specs.Raw.{Raw, has_low_number};
+
+    ghost Value = { Raw };
+
+    ghost view = { λ r. record { first = r.first; content = r.content.items } };
+
+    ghost invariant = { λ r. IsTrue (has_low_number r.first) };
+}
+
+impl RawElement {
+    /// The element, or none where the tag's number doesn't stand in the identifier octet.
+    pub fn new(first: u8, content: Vec<u8>) -> Option<RawElement>
+        ensures { MatchOption result
+            (IsTrue (has_low_number first) → ⊥)
+            (λ raw. raw ≡ record { first = first; content = content.items }) }
+    {
+        if first % 32 == 31 {
+            return None;
+        }
+        Some(RawElement { first, content })
+    }
+
+    /// The identifier octet.
+    pub fn first(&self) -> u8
+        ensures { result ≡ self.now.first }
+    {
+        self.first
+    }
+
+    /// The content octets.
+    pub fn content(&self) -> &[u8]
+        ensures { result.now ≡ self.now.content }
+    {
+        self.content.as_slice()
+    }
+}
+
+impl Serialize for RawElement {
+    ghost use Rattle.asn1_trees.specs.Firsts.{any_octet};
+    ghost use Rattle.picky_asn1_der.specs.Raw.{raw_tree};
+    ghost use Rattle.picky_asn1_der.specs.RawLaws.{raw-begins, raw-injective};
+
+    ghost tree = { raw_tree };
+
+    ghost firsts = { any_octet };
+
+    ghost begins = { raw-begins };
+
+    ghost injective = { raw-injective };
+
+    fn serialize<W: Sink>(&self, to: &mut Serializer<W>) -> Result<usize, Asn1DerError> {
+        to.element(self.first, self.content.as_slice())
+    }
+}
+
+impl Deserialize for RawElement {
+    fn may_start(_first: u8) -> bool {
+        true
+    }
+
+    fn deserialize<R: Source>(from: &mut Deserializer<R>) -> Result<Self, Asn1DerError> {
+        let first = from.peek_in_limit()?;
+        if first % 32 == 31 {
+            return Err(from.refuse(Asn1DerError::InvalidData));
+        }
+        let content = from.content(first)?;
+        Ok(RawElement { first, content })
+    }
+}

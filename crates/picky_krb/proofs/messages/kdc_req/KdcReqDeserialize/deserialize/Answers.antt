@@ -1,8 +1,0 @@
-use Rattle.picky_asn1_der.specs.Fields.{required, optional, end}
-use Rattle.picky_asn1_der.proofs.Chain.{at-exit, refused-as}
-use Rattle.picky_krb.proofs.messages.kdc_req.KdcReqDeserialize.deserialize.Goals as goal
-
-pub returns-in_err-fields : goal.returns-in_err-fields
-returns-in_err-fields g c =
-    at-exit _ _ _ _ c.from_residual.ensures.1
-    (refused-as _ _ _ _ _ c.in_err-fields.ensures (λ bytes q. ((required q.0.pvno (required q.0.msg_type (optional q.0.padata.0 (required q.0.req_body end)))), q.1.0, q.1.1)))

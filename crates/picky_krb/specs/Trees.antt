@@ -1,0 +1,53 @@
+-- The trees of messages without their application tags (RFC 4120, sections 5.4 to 5.9), each of one value.
+use Rattle.asn1_trees.specs.Tree.{Tree}
+use Rattle.asn1_trees.specs.Tagged.{tagged_tree}
+use Rattle.asn1_trees.proofs.Spelling.{IsInjective}
+use Rattle.asn1_trees.proofs.Tagged.{tagged-injective}
+use Rattle.picky_krb.specs.declared.messages.ap_rep.ApRepInner.{ApRepInner}
+use Rattle.picky_krb.specs.declared.messages.ap_req.ApReqInner.{ApReqInner}
+use Rattle.picky_krb.specs.declared.messages.enc_kdc_rep_part.EncKdcRepPart.{EncKdcRepPart}
+use Rattle.picky_krb.specs.declared.messages.kdc_rep.KdcRep.{KdcRep}
+use Rattle.picky_krb.specs.declared.messages.kdc_req.KdcReq.{KdcReq}
+use Rattle.picky_krb.specs.declared.messages.krb_error.KrbErrorInner.{KrbErrorInner}
+use Rattle.picky_krb.specs.contracts.messages.ap_rep.ApRepInnerTagged.TheImpl as ap_rep_impl
+use Rattle.picky_krb.specs.contracts.messages.ap_req.ApReqInnerTagged.TheImpl as ap_req_impl
+use Rattle.picky_krb.specs.contracts.messages.enc_kdc_rep_part.EncKdcRepPartTagged.TheImpl as enc_kdc_rep_part_impl
+use Rattle.picky_krb.specs.contracts.messages.kdc_rep.KdcRepTagged.TheImpl as kdc_rep_impl
+use Rattle.picky_krb.specs.contracts.messages.kdc_req.KdcReqTagged.TheImpl as kdc_req_impl
+use Rattle.picky_krb.specs.contracts.messages.krb_error.KrbErrorInnerTagged.TheImpl as krb_error_impl
+
+abbrev pub ap_rep_tree : ApRepInner → Tree
+ap_rep_tree = tagged_tree 48 ap_rep_impl.ghosts.row_tree ap_rep_impl.ghosts.row_of
+
+pub ap_rep-injective : IsInjective ap_rep_tree
+ap_rep-injective = tagged-injective 48 ap_rep_impl.ghosts.row_tree ap_rep_impl.ghosts.row_laws ap_rep_impl.ghosts.row_of ap_rep_impl.ghosts.one_row
+
+abbrev pub ap_req_tree : ApReqInner → Tree
+ap_req_tree = tagged_tree 48 ap_req_impl.ghosts.row_tree ap_req_impl.ghosts.row_of
+
+pub ap_req-injective : IsInjective ap_req_tree
+ap_req-injective = tagged-injective 48 ap_req_impl.ghosts.row_tree ap_req_impl.ghosts.row_laws ap_req_impl.ghosts.row_of ap_req_impl.ghosts.one_row
+
+abbrev pub enc_kdc_rep_part_tree : EncKdcRepPart → Tree
+enc_kdc_rep_part_tree = tagged_tree 48 enc_kdc_rep_part_impl.ghosts.row_tree enc_kdc_rep_part_impl.ghosts.row_of
+
+pub enc_kdc_rep_part-injective : IsInjective enc_kdc_rep_part_tree
+enc_kdc_rep_part-injective = tagged-injective 48 enc_kdc_rep_part_impl.ghosts.row_tree enc_kdc_rep_part_impl.ghosts.row_laws enc_kdc_rep_part_impl.ghosts.row_of enc_kdc_rep_part_impl.ghosts.one_row
+
+abbrev pub kdc_rep_tree : KdcRep → Tree
+kdc_rep_tree = tagged_tree 48 kdc_rep_impl.ghosts.row_tree kdc_rep_impl.ghosts.row_of
+
+pub kdc_rep-injective : IsInjective kdc_rep_tree
+kdc_rep-injective = tagged-injective 48 kdc_rep_impl.ghosts.row_tree kdc_rep_impl.ghosts.row_laws kdc_rep_impl.ghosts.row_of kdc_rep_impl.ghosts.one_row
+
+abbrev pub kdc_req_tree : KdcReq → Tree
+kdc_req_tree = tagged_tree 48 kdc_req_impl.ghosts.row_tree kdc_req_impl.ghosts.row_of
+
+pub kdc_req-injective : IsInjective kdc_req_tree
+kdc_req-injective = tagged-injective 48 kdc_req_impl.ghosts.row_tree kdc_req_impl.ghosts.row_laws kdc_req_impl.ghosts.row_of kdc_req_impl.ghosts.one_row
+
+abbrev pub krb_error_tree : KrbErrorInner → Tree
+krb_error_tree = tagged_tree 48 krb_error_impl.ghosts.row_tree krb_error_impl.ghosts.row_of
+
+pub krb_error-injective : IsInjective krb_error_tree
+krb_error-injective = tagged-injective 48 krb_error_impl.ghosts.row_tree krb_error_impl.ghosts.row_laws krb_error_impl.ghosts.row_of krb_error_impl.ghosts.one_row

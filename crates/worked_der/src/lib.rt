@@ -1,0 +1,17 @@
+//! Worked values of DER and of the leaf types: the examples of the standards.
+#![tactic(auto)]
+
+#[cfg(test)]
+mod built_in;
+#[cfg(test)]
+mod elements;
+#[cfg(test)]
+mod forms;
+#[cfg(test)]
+mod identifiers;
+#[cfg(test)]
+mod leaves;
+#[cfg(test)]
+mod sample;
+#[cfg(test)]
+mod streams;
