@@ -1,0 +1,64 @@
+//! Reads or writes a message as often as the arguments say, so that the time can be taken from outside (bench/der.sh).
+//! It prints how many bytes were read or written at the last turn.
+#![tactic(auto)]
+
+use anyhow::bail;
+use picky_asn1_der::{Deserialize, from_exact_bytes, to_vec};
+use picky_krb::messages::{ApReq, AsRep, AsReq, KrbError, TgsReq};
+use std::alloc::Global;
+use std::env;
+
+fn main(rt: HostRuntime) -> anyhow::Result<()> {
+    let mut words = env::args(&rt)?.skip(1);
+    let (Some(task), Some(kind), Some(text), Some(times)) = (
+        words.next(),
+        words.next(),
+        words.next(),
+        words.next(),
+    ) else {
+        bail!("usage: der_bench read|write KIND HEXADECIMAL TIMES");
+    };
+    let bytes = hex::decode(rt.alloc(), text.as_str())?;
+    let times = times.parse::<u32>()?;
+    let count = match kind.as_str() {
+        "as_req" => turn::<AsReq>(rt.alloc(), task.as_str(), &bytes, times)?,
+        "tgs_req" => turn::<TgsReq>(rt.alloc(), task.as_str(), &bytes, times)?,
+        "as_rep" => turn::<AsRep>(rt.alloc(), task.as_str(), &bytes, times)?,
+        "ap_req" => turn::<ApReq>(rt.alloc(), task.as_str(), &bytes, times)?,
+        "krb_error" => turn::<KrbError>(rt.alloc(), task.as_str(), &bytes, times)?,
+        _ => bail!("no such kind of message: {kind}"),
+    };
+    println!(rt; "{count}")?;
+    Ok(())
+}
+
+/// How many bytes each turn took.
+fn turn<T: Deserialize>(
+    alloc: Global,
+    task: &str,
+    bytes: &[u8],
+    times: u32,
+) -> anyhow::Result<usize> {
+    match task {
+        "read" => read::<T>(alloc, bytes, times),
+        "write" => write::<T>(alloc, bytes, times),
+        _ => bail!("neither read nor write: {task}"),
+    }
+}
+
+fn read<T: Deserialize>(alloc: Global, bytes: &[u8], times: u32) -> anyhow::Result<usize> {
+    for _ in 0..times {
+        let _: T = from_exact_bytes(alloc, bytes)?;
+    }
+    Ok(bytes.len())
+}
+
+/// The message is read once first.
+fn write<T: Deserialize>(alloc: Global, bytes: &[u8], times: u32) -> anyhow::Result<usize> {
+    let message: T = from_exact_bytes(alloc, bytes)?;
+    let mut count = 0;
+    for _ in 0..times {
+        count = to_vec(alloc, &message)?.len();
+    }
+    Ok(count)
+}
