@@ -1,13 +1,13 @@
 -- What is wanted behind the fields that were read.
-use Rattle.std.proofs.Common.{◌≡◌, ◌⊎◌, ℕ, zero, ◌+◌, ◌<◌, ◌≤◌, Bool, true, false, List, [], ◌∷◌, ◌++◌, length, Option, None, Some, inl, inr, refl, sym, ap, subst, ◌∙◌, arith, length-append, append_assoc, append-nil}
+use Rattle.std.proofs.Common.{◌≡◌, ℕ, ◌+◌, ◌<◌, ◌≤◌, true, false, List, [], ◌∷◌, ◌++◌, length, Option, None, Some, refl, sym, ap, subst, ◌∙◌, arith, length-append, append_assoc, append-nil}
 use Rattle.std.specs.Prelude.{IsTrue}
 use Rattle.asn1_trees.specs.Tree.{Tree, Trees, more, der, ders, put, trees_of, IsWhole, AreWhole}
-use Rattle.asn1_trees.specs.Firsts.{Firsts, may_begin, either, apart}
+use Rattle.asn1_trees.specs.Firsts.{Firsts, may_begin, apart}
 use Rattle.asn1_trees.proofs.Spelling.{der-front, der-begins, der-nonempty}
 use Rattle.asn1_trees.proofs.Rows.{AllBeginAmong, StartAmong, apart-none}
 use Rattle.asn1_octets.specs.declared.error.Asn1DerError.{Asn1DerError}
-use Rattle.asn1_codec.specs.Reading.{Reading, Took, TookNone, Refused, AreFields, IsSpelling, Tells}
-use Rattle.asn1_codec.proofs.Chain.{Cuts, refused-after, refused-unread, refused-known, took-unread}
+use Rattle.asn1_codec.specs.Reading.{Reading, TookNone, Refused, AreFields, IsSpelling, Tells}
+use Rattle.asn1_codec.proofs.Chain.{Cuts, refused-unread, refused-known}
 
 -- the trees of a field and of those behind it
 abbrev pub field_trees : {A B : Type 0} → (A → Tree) → (B → Trees) → A × B → Trees

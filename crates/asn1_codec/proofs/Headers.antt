@@ -1,10 +1,12 @@
 -- Identifier and length octets at the front of bytes.
-use Rattle.std.proofs.Common.{◌≡◌, ℕ, ◌+◌, ◌<◌, ◌≤◌, List, [], ◌∷◌, ◌++◌, length, refl, sym, ap, ◌∙◌, arith, append_assoc, length-take, take, ◌-◌, suc}
+use Rattle.std.proofs.Common.{Result, Ok, Err, MatchResult, subst, ◌≡◌, ℕ, ◌+◌, ◌≤◌, List, [], ◌∷◌, ◌++◌, length, refl, sym, ap, ◌∙◌, arith, append_assoc, length-take, take, ◌-◌, suc}
 use lib.Seq.{take-append_seam}
 use Rattle.asn1_trees.specs.Length.{element, length_octets}
 use Rattle.asn1_trees.proofs.Elements.{element-split, element-begins, length-element, length_octets-one, length-length_octets-ge}
-use Rattle.asn1_codec.specs.Reading.{IsElement, IsLength, IsOctet}
-use Rattle.asn1_codec.proofs.Chain.{Cuts}
+use Rattle.asn1_octets.specs.declared.error.Asn1DerError.{Asn1DerError}
+use Rattle.asn1_codec.specs.Reading.{Reading, Took, Refused, IsElement, IsLength, IsOctet}
+use Rattle.asn1_codec.specs.Tails.{IsLengthTail, TookTail}
+use Rattle.asn1_codec.proofs.Chain.{Cuts, took-as, took-join, refused-after}
 
 -- some bytes are an octet and the rest
 pub one_front : (bytes : List ℕ) → 1 ≤ length bytes → (c d : List ℕ) × IsOctet c × (bytes ≡ c ++ d)
@@ -16,10 +18,6 @@ pub one_cut : (bytes rest more : List ℕ) (first : ℕ) → 1 ≤ length bytes 
 one_cut [] rest more first some e = absurd (omega arith)
 one_cut (b ∷ bytes) rest more first some e = (bytes, ap (λ x. x ∷ bytes) (cc (e)), cc (e))
 
--- the length octets behind the first
-abbrev pub IsLengthTail : ℕ → ℕ → List ℕ → Type 0
-IsLengthTail limit first bytes = (count : ℕ) × (count < limit) × (length_octets count ≡ first ∷ bytes)
-
 pub length_front : (limit : ℕ) (bytes : List ℕ) → IsLength limit bytes → (c d : List ℕ) × IsOctet c × (bytes ≡ c ++ d)
 length_front limit bytes (count, fits, is) = one_front bytes (omega (arith, length-length_octets-ge count, ap length is))
 
@@ -27,6 +25,16 @@ pub length_cut : (limit first : ℕ) → Cuts (IsLength limit) (IsLengthTail lim
 length_cut limit first bytes rest more (count, fits, is) e within =
     let parts = one_cut bytes rest more first (omega (arith, length-length_octets-ge count, ap length is)) e in
     (parts.0, rest, (count, fits, sym is ∙ parts.1), parts.2, omega (arith, ap length parts.1))
+
+-- what was taken or refused behind the first length octet
+pub length_tail : (first : ℕ) (old mid new : Reading) (answer : Result ℕ Asn1DerError) → Took (first ∷ []) old mid
+    → MatchResult answer (λ count. TookTail first count mid new) (λ fault. Refused (IsLengthTail (1 + mid.limit) first) mid new fault)
+    → MatchResult answer (λ count. Took (length_octets count) old new) (λ fault. Refused (IsLength old.limit) old new fault)
+length_tail first old mid new (Ok count) took tail =
+    took-as ((first ∷ []) ++ tail.0) (length_octets count) old new (sym tail.1) (took-join (first ∷ []) tail.0 old mid new took tail.2)
+length_tail first old mid new (Err fault) took refused =
+    refused-after (IsLength old.limit) (IsLengthTail (1 + mid.limit) first) (first ∷ []) old mid new fault took refused
+    (subst (λ limit. Cuts (IsLength old.limit) (IsLengthTail limit first) (first ∷ []) old.limit) took.limit (length_cut old.limit first))
 
 -- an element begins with its identifier octet
 pub element_front : (tag : ℕ) (bytes : List ℕ) → IsElement tag bytes → (c d : List ℕ) × IsOctet c × (bytes ≡ c ++ d)

@@ -1,4 +1,6 @@
+pub mod AnyElements
 pub mod ArrayLemmas
+pub mod Behinds
 pub mod Chain
 pub mod CharacterLemmas
 pub mod ElementWrites
@@ -6,5 +8,6 @@ pub mod FieldsLemmas
 pub mod Headers
 pub mod Leaves
 pub mod ReadsLemmas
+pub mod Sequences
 pub mod UnsignedLemmas
 pub mod Writes

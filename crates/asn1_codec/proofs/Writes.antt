@@ -12,7 +12,7 @@ use Rattle.devices.specs.Whole.{after_whole_fault}
 use Rattle.devices.specs.declared.exact.WholeFault.{WholeFault}
 use Rattle.devices.specs.declared.exact.WholeFault.TheVariants as whole
 use Rattle.devices.proofs.Rooms.{taken_room-none, taken_room-join, past-after, past-more, past-whole, unbounded-after, unbounded-whole}
-use Rattle.asn1_trees.specs.Tree.{Tree, primitive, constructed, absent, der, ders, wrapped}
+use Rattle.asn1_trees.specs.Tree.{Tree, primitive, constructed, absent, der, ders, wrapped, behind}
 use Rattle.asn1_trees.specs.Length.{element, length_octets}
 use Rattle.asn1_trees.proofs.Elements.{element-nonempty, element-split, length-element, length_octets-short}
 use Rattle.asn1_octets.specs.declared.error.Asn1DerError.{Asn1DerError}
@@ -52,6 +52,9 @@ wrote-nothing old sound = record {
 
 pub wrote-same : (a : List ℕ) (old mid new : Writing) → Wrote a old mid → new ≡ mid → Wrote a old new
 wrote-same a old mid new p is = subst (Wrote a old) (sym is) p
+
+pub wrote-from : (a : List ℕ) (old mid new : Writing) → mid ≡ old → Wrote a mid new → Wrote a old new
+wrote-from a old mid new is p = subst (λ w. Wrote a w new) is p
 
 -- where lengths alone are wanted, all is as if written
 pub wrote-measured : (bytes : List ℕ) (old : Writing) → old.held ≡ None → old.room ≡ None → old.failed ≡ false → Wrote bytes old old
@@ -350,6 +353,24 @@ length-wrapped first (primitive inner content) =
 length-wrapped first (constructed inner parts) =
     omega (arith, length-element first (element inner (ders parts) ++ []), ap length (append-nil (element inner (ders parts))))
 length-wrapped first absent = omega arith
+
+-- the same with an octet in front
+pub der-behind_nothing : (first octet : ℕ) (t : Tree) → der t ≡ [] → der (behind octet (wrapped first t)) ≡ []
+der-behind_nothing first octet (primitive inner content) e = absurd (element-nonempty inner content e)
+der-behind_nothing first octet (constructed inner parts) e = absurd (element-nonempty inner (ders parts) e)
+der-behind_nothing first octet absent e = refl
+
+pub der-behind_some : (first octet : ℕ) (t : Tree) → (length (der t) ≡ 0 → ⊥) → der (behind octet (wrapped first t)) ≡ element first (octet ∷ der t)
+der-behind_some first octet (primitive inner content) some = ap (λ l. element first (octet ∷ l)) (append-nil (element inner content))
+der-behind_some first octet (constructed inner parts) some = ap (λ l. element first (octet ∷ l)) (append-nil (element inner (ders parts)))
+der-behind_some first octet absent some = absurd (some refl)
+
+pub length-behind : (first octet : ℕ) (t : Tree) → length (der t) ≤ length (der (behind octet (wrapped first t)))
+length-behind first octet (primitive inner content) =
+    omega (arith, length-element first (octet ∷ (element inner content ++ [])), ap length (append-nil (element inner content)))
+length-behind first octet (constructed inner parts) =
+    omega (arith, length-element first (octet ∷ (element inner (ders parts) ++ [])), ap length (append-nil (element inner (ders parts))))
+length-behind first octet absent = omega arith
 
 pub empty_of_length : (bytes : List ℕ) → length bytes ≡ 0 → bytes ≡ []
 empty_of_length [] e = refl

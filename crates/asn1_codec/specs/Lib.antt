@@ -11,9 +11,12 @@ pub mod Options
 pub mod Reading
 pub mod Reads
 pub mod Refusals
+pub mod Sequences
 pub mod Sinks
+pub mod Tails
 pub mod Unsigned
 pub mod UnsignedLaws
+pub mod Values
 pub mod Writing
 pub use Rattle.asn1_trees.specs.Firsts
 pub use Rattle.asn1_trees.specs.Length

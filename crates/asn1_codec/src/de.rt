@@ -2,10 +2,11 @@
 ghost use Rattle.std.specs.Prelude.{◌≡◌, ℕ, ◌+◌, ◌-◌, ◌^◌, ◌<◌, ◌≤◌, List, [], ◌∷◌, ◌++◌, length, MatchResult, MatchOption, IfOk, IfErr, IsTrue, false, true, Some};
 ghost use Rattle.std.specs.Prelude.{◌↔◌, Result, Ok, Err, ◌⊎◌};
 ghost use Rattle.std.specs.Io.KnownBytes.{Consumes};
-ghost use Rattle.asn1_trees.specs.Tree.{Tree, Trees, IsWhole, AreWhole, wrapped, der, ders};
+ghost use Rattle.asn1_trees.specs.Tree.{Tree, Trees, none, more, bare, IsWhole, AreWhole, wrapped, behind, der, ders};
 ghost use Rattle.asn1_trees.specs.Length.{element, length_octets};
 ghost use Rattle.asn1_trees.specs.Firsts.{may_begin};
 ghost use Rattle.asn1_codec.specs.Reads.{ReadsFront, ReadsWhole};
+ghost use Rattle.asn1_codec.specs.Tails.{IsLengthTail, TookTail};
 ghost use Rattle.asn1_codec.specs.Reading.{TookValue, TookBy, Refused, IsOwn, IsExcuse, IsSpelling, IsReadBy, IsLastBy, IsNotNext, TellsKind, result_faults};
 
 use crate::fields::Fields;
@@ -261,6 +262,20 @@ impl<R: Source> Deserializer<R> {
         if first < 128 {
             return Ok(first as usize);
         }
+        self.take_long_length(first)
+    }
+
+    /// Takes the length octets behind the first, and gives the length. Only a length of at most the limit is wanted.
+    ///
+    /// It stays out of line, since most lengths are one octet.
+    #[inline(never)]
+    fn take_long_length(&mut self, first: u8) -> Result<usize, Asn1DerError>
+        requires sound { self.old.failed ≡ false }
+        requires unlooked { self.old.looked ≡ false }
+        ensures { MatchResult result
+            (λ count. TookTail first count self.old self.new)
+            (λ fault. Refused (IsLengthTail (1 + self.old.limit) first) self.old self.new fault) }
+    {
         let room = self.limit;
         let Some(more) = following(first) else {
             return Err(self.refuse(Asn1DerError::InvalidData));
@@ -277,7 +292,7 @@ impl<R: Source> Deserializer<R> {
     }
 
     /// Takes the identifier octet `tag` and length octets, and gives the length, which lies within the limit.
-    fn open(&mut self, tag: u8) -> Result<usize, Asn1DerError>
+    pub(crate) fn open(&mut self, tag: u8) -> Result<usize, Asn1DerError>
         ensures { MatchResult result
             (λ count. Took (tag ∷ length_octets count) self.old self.new × (count ≤ self.new.limit))
             (λ fault. Refused (IsElement tag) self.old self.new fault) }
@@ -294,7 +309,7 @@ impl<R: Source> Deserializer<R> {
     }
 
     /// Lowers the limit to `count`, and gives what lies behind.
-    fn enter(&mut self, count: usize) -> usize
+    pub(crate) fn enter(&mut self, count: usize) -> usize
         requires room { count ≤ self.old.limit }
         requires unlooked { self.old.looked ≡ false }
         ensures inside { self.new ≡ within count self.old }
@@ -306,7 +321,7 @@ impl<R: Source> Deserializer<R> {
     }
 
     /// Raises the limit to `outside`, from which `enter` lowered it.
-    fn leave(&mut self, outside: usize)
+    pub(crate) fn leave(&mut self, outside: usize)
         requires { self.old.looked ≡ false }
         ensures { self.new ≡ within outside self.old }
     {
@@ -362,6 +377,35 @@ impl<R: Source> Deserializer<R> {
             (λ fault. Refused (IsSpelling (λ v. wrapped tag (T.tree v))) self.old self.new fault) }
     {
         let fields: Row1<T> = self.list(tag)?;
+        let (value, ()) = fields;
+        Ok(value)
+    }
+
+    /// Takes a value under the further identifier octet `tag`, where it stands behind the octet `lead`: in a BIT STRING behind
+    /// 0 (X.690, section 8.6.2).
+    pub fn wrapped_behind<T: Deserialize>(&mut self, tag: u8, lead: u8) -> Result<T, Asn1DerError>
+        ensures { MatchResult result
+            (λ value. TookValue (λ v. behind lead (wrapped tag (T.tree v))) value self.old self.new)
+            (λ fault. Refused (IsSpelling (λ v. behind lead (wrapped tag (T.tree v)))) self.old self.new fault) }
+    {
+        let count = self.open(tag)?;
+        let rest = self.enter(count);
+        let value = self.last_behind(lead)?;
+        self.leave(rest);
+        Ok(value)
+    }
+
+    /// Takes the octet `lead` and a value behind it, which are all that is left up to the limit.
+    fn last_behind<T: Deserialize>(&mut self, lead: u8) -> Result<T, Asn1DerError>
+        ensures { MatchResult result
+            (λ value. TookFields (λ v. bare lead (more (T.tree v) none)) value self.old self.new)
+            (λ fault. Refused (AreFields (λ v. bare lead (more (T.tree v) none)) self.old.limit) self.old self.new fault) }
+    {
+        let first = self.take_octet()?;
+        if first != lead {
+            return Err(self.refuse(Asn1DerError::InvalidData));
+        }
+        let fields: Row1<T> = Fields::read(self)?;
         let (value, ()) = fields;
         Ok(value)
     }

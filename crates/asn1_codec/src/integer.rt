@@ -31,8 +31,8 @@ pub(crate) fn read_unsigned<R: Source>(
     }
 }
 
-/// Writes `number` as an INTEGER, under the identifier octet `tag`.
-pub(crate) fn write_unsigned<W: Sink>(
+/// Writes `number` as an INTEGER (X.690, section 8.3), under the identifier octet `tag`.
+pub fn write_unsigned<W: Sink>(
     tag: u8,
     to: &mut Serializer<W>,
     number: u128,
@@ -45,7 +45,10 @@ pub(crate) fn write_unsigned<W: Sink>(
 }
 
 /// The number of at most `most` whose content octets these are (X.690, section 8.3).
-fn unsigned_of(content: &[u8], most: u128) -> Result<u128, Asn1DerError>
+///
+/// It answers `TruncatedData` where there is no octet, `InvalidData` for a needless zero octet at the front, and
+/// `UnsupportedValue` for a number that is negative or past `most`.
+pub fn unsigned_of(content: &[u8], most: u128) -> Result<u128, Asn1DerError>
     ensures { MatchResult result
         (λ number. (number ≤ most) × (unsigned_content number ≡ content.now))
         (λ fault. (fault ≡ unsigned_fault content.now)

@@ -19,13 +19,16 @@ mod measure;
 mod null;
 mod option;
 mod optional;
+mod reading_calls;
 mod row;
+mod sequence;
 mod ser;
 mod slices;
 mod tag_number;
 mod tagged;
 mod tuple;
 mod unsigned;
+mod writing_calls;
 
 pub use asn1_octets::{Asn1DerError, Content, PeekableReader, Rule, Unsupported};
 pub use de::{
@@ -34,12 +37,14 @@ pub use de::{
 };
 pub use elements::Elements;
 pub use fields::{Fields, WriteFields, write_field};
+pub use integer::{unsigned_of, write_unsigned};
 pub use leaf::Leaf;
 pub use optional::Optional;
 pub use row::{
     Item, Row1, Row2, Row3, Row4, Row5, Row6, Row7, Row8, Row9, Row10, Row11, Row12, Row13,
     WriteItem,
 };
-pub use ser::{Serialize, Serializer, to_byte_buf, to_bytes, to_vec, to_writer};
+pub use sequence::Sequence;
+pub use ser::{Serialize, Serializer, to_byte_buf, to_bytes, to_vec, to_writer, write_octets};
 pub use tag_number::{IsTagNumber, TagNumber};
 pub use tagged::{Tagged, read_as, read_sequence};

@@ -87,7 +87,7 @@ impl<W: Sink> Model for Serializer<W> {
 }
 
 impl<W: Sink> Serializer<W> {
-    ghost use Rattle.asn1_trees.specs.Tree.{wrapped};
+    ghost use Rattle.asn1_trees.specs.Tree.{wrapped, behind};
     ghost use Rattle.asn1_octets.specs.declared.error.Unsupported.{Unsupported};
     ghost use Rattle.asn1_codec.specs.Writing.{Writing, Wrote, NotWrote, IsTooLong, halted, left_by};
 
@@ -183,6 +183,16 @@ impl<W: Sink> Serializer<W> {
         }
     }
 
+    /// Writes `bytes` as they stand, and gives how many they are.
+    pub(crate) fn octets(&mut self, bytes: &[u8]) -> Result<usize, Asn1DerError>
+        ensures { MatchResult result
+            (WroteValue None bytes.now self.old self.new)
+            (NotWroteValue None bytes.now self.old self.new) }
+    {
+        self.put(bytes)?;
+        Ok(bytes.len())
+    }
+
     /// Writes the octets before a content of this length, and gives the length of the whole element.
     fn header(&mut self, tag: u8, count: usize) -> Result<usize, Asn1DerError>
         ensures { MatchResult result
@@ -270,6 +280,36 @@ impl<W: Sink> Serializer<W> {
         Ok(whole)
     }
 
+    /// Writes a value under the further identifier octet `tag`, behind the octet `lead` there: in a BIT STRING behind 0
+    /// (X.690, section 8.6.2). What is written as nothing stays so.
+    pub fn wrapped_behind<T: Serialize>(
+        &mut self,
+        tag: u8,
+        lead: u8,
+        value: &T,
+    ) -> Result<usize, Asn1DerError>
+        ensures { MatchResult result
+            (WroteValue (refusal_of T.refusal value.now) (der (behind lead (wrapped tag (T.tree value.now)))) self.old self.new)
+            (NotWroteValue (refusal_of T.refusal value.now) (der (behind lead (wrapped tag (T.tree value.now)))) self.old self.new) }
+    {
+        self.ready()?;
+        let count = match len_of(value) {
+            Ok(count) => count,
+            Err(fault) => return Err(self.unmeasured(fault)),
+        };
+        if count == 0 {
+            return Ok(count);
+        }
+        let inside = self.sum(1, count)?;
+        let whole = self.header(tag, inside)?;
+        self.put(&[lead])?;
+        if self.measures {
+            return Ok(whole);
+        }
+        let _ = value.serialize(self)?;
+        Ok(whole)
+    }
+
     /// The sink.
     pub fn into_writer(self) -> W
         ensures held { W.written result ≡ self.held }
@@ -280,6 +320,44 @@ impl<W: Sink> Serializer<W> {
     {
         let Serializer { writer, .. } = self;
         writer
+    }
+}
+
+impl<'a> Serializer<Space<'a>> {
+    ghost use Rattle.asn1_codec.specs.Writing.{Writing};
+
+    /// A serializer that writes into the front of `out`, and answers `InvalidSink` for what doesn't fit.
+    pub fn new_to_bytes(out: &'a mut [u8]) -> Self
+        ensures { result ≡ record {
+          held = Some [];
+          room = Some (length out.entry.now);
+          failed = false;
+          faults = 0;
+          kind = None;
+          grows = false;
+          through = out.entry.ghost_name ∷ [];
+        } }
+    {
+        Serializer::new_to_writer(Space::new(out))
+    }
+}
+
+impl<'a> Serializer<&'a mut Vec<u8>> {
+    ghost use Rattle.asn1_codec.specs.Writing.{Writing};
+
+    /// A serializer that writes behind what `buffer` holds.
+    pub fn new_to_byte_buf(buffer: &'a mut Vec<u8>) -> Self
+        ensures { result ≡ record {
+          held = Some buffer.entry.now.items;
+          room = None;
+          failed = false;
+          faults = 0;
+          kind = None;
+          grows = true;
+          through = buffer.entry.ghost_name ∷ [];
+        } }
+    {
+        Serializer::new_to_writer(buffer)
     }
 }
 
@@ -346,6 +424,21 @@ pub fn to_writer<T: Serialize, W: Sink>(value: &T, writer: &mut W) -> Result<usi
 {
     let mut to = Serializer::new_to_writer(writer);
     let count = value.serialize(&mut to);
+    let back = to.into_writer();
+    let _ = &*back;
+    count
+}
+
+/// Writes `bytes` as they stand to `writer`, and gives how many they are.
+///
+/// What is written octet by octet, as the length of an element alone, calls it.
+pub fn write_octets<W: Sink>(bytes: &[u8], writer: &mut W) -> Result<usize, Asn1DerError>
+    ensures { let view = at_sink W.written W.room W.failed W.last_fault W.grows W.through in MatchResult result
+        (WroteValue None bytes.now (view false writer.old) (view false writer.new))
+        (NotWroteTo None bytes.now (view false writer.old) (view false writer.new)) }
+{
+    let mut to = Serializer::new_to_writer(writer);
+    let count = to.octets(bytes);
     let back = to.into_writer();
     let _ = &*back;
     count

@@ -1,9 +1,8 @@
 -- Alternatives that are told by their first octets.
 use Rattle.std.proofs.Common.{◌≡◌, ℕ, true, List, [], ◌∷◌, ◌++◌, sym, ap, ◌∙◌}
 use Rattle.std.proofs.lemmas.List.{append-nil}
-use Rattle.std.specs.Prelude.{IsTrue}
 use Rattle.asn1_trees.specs.Tree.{Tree, primitive, constructed, absent, der, IsWhole}
-use Rattle.asn1_trees.specs.Firsts.{Firsts, may_begin, either, apart, BeginsAmong}
+use Rattle.asn1_trees.specs.Firsts.{Firsts, either, apart, BeginsAmong}
 use Rattle.asn1_trees.proofs.Spelling.{IsInjective, der-begins, der-first}
 use Rattle.asn1_trees.proofs.Rows.{may_begin-either_left, may_begin-either_right, apart-none}
 

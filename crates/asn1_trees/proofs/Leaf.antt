@@ -1,6 +1,6 @@
 -- A primitive value, of which only those of its type have a tree.
 use Rattle.std.proofs.Common.{◌≡◌, ℕ, Bool, true, false, List, refl, ap, sym, ◌∙◌}
-use Rattle.asn1_trees.specs.Tree.{Tree, primitive, leaf, der, IsWhole}
+use Rattle.asn1_trees.specs.Tree.{primitive, leaf, der, IsWhole}
 use Rattle.asn1_trees.specs.Length.{element}
 use Rattle.asn1_trees.specs.Firsts.{only, BeginsAmong}
 use Rattle.asn1_trees.proofs.Elements.{element-content}

@@ -3,7 +3,7 @@ use Rattle.std.proofs.Common.{◌≡◌, ℕ, List, [], ◌∷◌, ◌++◌, len
 use Rattle.std.proofs.lemmas.List.{append-nil}
 use Rattle.std.specs.Prelude.{◌||◌, false, IsTrue}
 use Rattle.asn1_trees.specs.Length.{length_octets, element}
-use Rattle.asn1_trees.specs.Tree.{Tree, primitive, constructed, absent, none, more, der, ders, IsWhole, Writes, wrapped}
+use Rattle.asn1_trees.specs.Tree.{Tree, primitive, constructed, absent, none, more, der, ders, IsWhole, Writes, wrapped, behind}
 use Rattle.asn1_trees.specs.Firsts.{Firsts, only, may_begin, BeginsAmong}
 use Rattle.asn1_trees.proofs.Elements.{Begins, element-split, element-one, element-content, element-nonempty, element-begins}
 
@@ -89,3 +89,46 @@ wrapped-injective first tree injective v w whole also e =
     let same : element first (der (tree v)) ≡ element first (der (tree w)) =
     sym (der-wrapped first (tree v) one) ∙ e ∙ der-wrapped first (tree w) other in
     injective v w one other (element-content first (der (tree v)) (der (tree w)) same)
+
+-- a tree behind an octet: it is whole, and begins, as the tree does
+
+pub behind-whole : (octet : ℕ) (t : Tree) → IsWhole (behind octet t) → IsWhole t
+behind-whole octet (primitive s a) whole = tt
+behind-whole octet (constructed s parts) whole = whole
+behind-whole octet absent whole = absurd whole
+
+pub whole-behind : (octet : ℕ) (t : Tree) → IsWhole t → IsWhole (behind octet t)
+whole-behind octet (primitive s a) whole = tt
+whole-behind octet (constructed s parts) whole = whole
+whole-behind octet absent whole = absurd whole
+
+pub behind-begins : (octet : ℕ) (firsts : Firsts) (t : Tree) → BeginsAmong firsts t → BeginsAmong firsts (behind octet t)
+behind-begins octet firsts (primitive s a) begins = begins
+behind-begins octet firsts (constructed s parts) begins = begins
+behind-begins octet firsts absent begins = tt
+
+pub heads : (m n : ℕ) (a b : List ℕ) → m ∷ a ≡ n ∷ b → m ≡ n
+heads m n a b e = cc
+
+pub tails : (m n : ℕ) (a b : List ℕ) → m ∷ a ≡ n ∷ b → a ≡ b
+tails m n a b e = cc
+
+element_behind : (octet s t : ℕ) (a b : List ℕ) → element s (octet ∷ a) ≡ element t (octet ∷ b) → element s a ≡ element t b
+element_behind octet s t a b e =
+    let parts = element-one s t (octet ∷ a) (octet ∷ b) [] [] (ap (λ octets. octets ++ []) e) in
+    ap (λ first. element first a) parts.0 ∙ ap (element t) (tails octet octet a b parts.1)
+
+-- two that are written alike behind an octet are so without it
+pub behind-same : (octet : ℕ) (t u : Tree) → IsWhole t → IsWhole u → der (behind octet t) ≡ der (behind octet u) → der t ≡ der u
+behind-same octet (primitive s a) (primitive t b) whole also e = element_behind octet s t a b e
+behind-same octet (primitive s a) (constructed t bs) whole also e = element_behind octet s t a (ders bs) e
+behind-same octet (primitive s a) absent whole also e = absurd also
+behind-same octet (constructed s parts) (primitive t b) whole also e = element_behind octet s t (ders parts) b e
+behind-same octet (constructed s parts) (constructed t bs) whole also e = element_behind octet s t (ders parts) (ders bs) e
+behind-same octet (constructed s parts) absent whole also e = absurd also
+behind-same octet absent u whole also e = absurd whole
+
+-- a tree under a further tag, behind an octet, is an element that holds the octet and the tree's spelling
+pub der-behind : (first octet : ℕ) (t : Tree) → IsWhole t → der (behind octet (wrapped first t)) ≡ element first (octet ∷ der t)
+der-behind first octet t whole =
+    ap (λ (u : Tree). der (behind octet u)) (wrapped-is first t whole) ∙ ap (λ content. element first (octet ∷ content)) (ders-one t)

@@ -1,10 +1,10 @@
 -- Trees of one identifier octet: they begin with it, and no two whole ones are spelled alike.
-use Rattle.std.proofs.Common.{◌≡◌, ℕ, Bool, true, List, refl}
-use Rattle.asn1_trees.specs.Tree.{Tree, Trees, wrapped}
+use Rattle.std.proofs.Common.{◌≡◌, ℕ, Bool, true, List}
+use Rattle.asn1_trees.specs.Tree.{Tree, Trees, wrapped, behind}
 use Rattle.asn1_trees.specs.Tagged.{sequence, leaf_as, tagged_tree}
 use Rattle.asn1_trees.specs.Firsts.{only, BeginsAmong}
 use Rattle.asn1_trees.proofs.Elements.{element-content}
-use Rattle.asn1_trees.proofs.Spelling.{IsInjective, may_begin-only, wrapped-begins, wrapped-injective}
+use Rattle.asn1_trees.proofs.Spelling.{IsInjective, may_begin-only, wrapped-begins, wrapped-injective, behind-whole, behind-begins, behind-same}
 use Rattle.asn1_trees.proofs.Rows.{AreInjective}
 use Rattle.asn1_trees.proofs.Leaf.{leaf-begins, leaf-injective}
 
@@ -37,4 +37,14 @@ pub wrapped_laws : {T : Type 0} (tree : T → Tree) → IsInjective tree → Tag
 wrapped_laws tree injective = record {
   begins = λ octet value. wrapped-begins octet (tree value);
   injective = λ octet. wrapped-injective octet tree injective;
+}
+
+-- values behind an octet
+pub behind_laws : {T : Type 0} (before : ℕ) (tree : ℕ → T → Tree) → TagLaws tree → TagLaws (λ octet value. behind before (tree octet value))
+behind_laws before tree laws = record {
+  begins = λ octet value. behind-begins before (only octet) (tree octet value) (laws.begins octet value);
+  injective = λ octet v w whole also e.
+      let one = behind-whole before (tree octet v) whole in
+      let other = behind-whole before (tree octet w) also in
+      laws.injective octet v w one other (behind-same before (tree octet v) (tree octet w) one other e);
 }

@@ -1,6 +1,5 @@
 -- The room of a sink, of which writes take part by part.
-use Rattle.std.proofs.Common.{◌≡◌, ℕ, ◌+◌, ◌-◌, ◌<◌, ◌≤◌, Option, None, Some, Result, Ok, Err, refl, ap, sym, subst, ◌∙◌, arith}
-use Rattle.std.specs.Prelude.{⊤}
+use Rattle.std.proofs.Common.{◌≡◌, ℕ, ◌+◌, ◌-◌, ◌<◌, ◌≤◌, Option, None, Some, Ok, Err, refl, ap, ◌∙◌, arith}
 use Rattle.devices.specs.Room.{TakesRoom, TakenRoom, FitsRoom, IsPast, IsUnbounded}
 use Rattle.devices.specs.declared.sink.SinkFault.{SinkFault}
 use Rattle.devices.specs.declared.exact.WholeFault.{WholeFault}

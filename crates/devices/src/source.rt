@@ -45,6 +45,16 @@ impl Source for &[u8] {
     ghost failed = { λ _. 0 };
 
     fn read_some(&mut self, buffer: &mut [u8]) -> Result<usize, ErrorKind> {
+        // One octet is moved without a call of `memcpy`, which costs more than the octet.
+        if buffer.len() == 1 {
+            let all: &[u8] = *self;
+            let [first, rest @ ..] = all else {
+                return Ok(0);
+            };
+            buffer[0] = *first;
+            *self = rest;
+            return Ok(1);
+        }
         match self.read(buffer) {
             Ok(count) => Ok(count),
             Err(fault) => Err(fault.kind()),

@@ -2,6 +2,7 @@
 use Rattle.std.proofs.Common.{◌≡◌, ℕ, Bool, true, false, List, Option, Ok, Err, ap, refl}
 use Rattle.krb_moments.specs.Skew.{is_far}
 use Rattle.krb_seen.specs.Pair.{PairRecord, is_among}
+use Rattle.krb_seen.specs.Seen.{SeenRecord, IsWindow}
 use Rattle.krb_service.specs.Admission.{AdmissionRecord}
 use Rattle.krb_service.specs.ApReply.{IsReply}
 use Rattle.krb_service.specs.ApTable.{admission_of, once, pair_of}
@@ -25,3 +26,7 @@ pub admitted_new : (skew moment : ℕ) (admitted : List PairRecord) (wanted : Bo
 unfolding once
 admitted_new skew moment admitted wanted words p reply made near new replied told =
     rw (near, new) (reply, replied, ap (λ (m : AdmissionRecord). Ok (record { admission = m; pair = pair_of p })) told)
+
+-- where memory runs out the pairs are those before
+pub kept : (admitted : List PairRecord) (seen : SeenRecord) → IsWindow seen admitted → IsWindow seen admitted
+kept admitted seen w = w

@@ -1,5 +1,5 @@
 -- A bit string has one content.
-use Rattle.std.specs.Prelude.{◌≡◌, ℕ, List, ◌∷◌, slice_index}
+use Rattle.std.specs.Prelude.{◌≡◌, slice_index}
 use Rattle.std.proofs.Common.{ap, drop}
 use Rattle.picky_asn1.specs.BitString.{Bits, bit_content}
 

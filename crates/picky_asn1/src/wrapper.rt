@@ -11,6 +11,9 @@ use crate::oid::ObjectIdentifier;
 use crate::restricted_string::{
     BmpCharSet, Ia5CharSet, PrintableCharSet, RestrictedString, Utf8CharSet,
 };
+pub use picky_asn1_der::{
+    BitStringContainer as BitStringAsn1Container, OctetStringContainer as OctetStringAsn1Container,
+};
 
 /// A UTF8String (X.690, section 8.23).
 pub type Utf8StringAsn1 = RestrictedString<Utf8CharSet>;

@@ -1,5 +1,5 @@
 -- Values of a type with one default are told by what is written of them.
-use Rattle.std.proofs.Common.{◌≡◌, Bool, true, false, Option, None, Some, refl}
+use Rattle.std.proofs.Common.{◌≡◌, Bool, true, false, refl}
 use Rattle.picky_asn1_der.specs.Defaults.{unless, told_value}
 
 told_cases : {A : Type 0} (b c : Bool) (v w : A) → (b ≡ true → c ≡ true → v ≡ w) → unless b v ≡ unless c w → v ≡ w

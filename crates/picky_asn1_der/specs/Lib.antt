@@ -1,5 +1,6 @@
 pub mod ChoiceLaws
 pub mod Choices
+pub mod Contents
 pub mod DefaultLaws
 pub mod Defaults
 pub mod Identifiers
@@ -8,6 +9,7 @@ pub mod Parts
 pub mod Raw
 pub mod RawLaws
 pub mod Splits
+pub mod Streams
 pub use Rattle.asn1_trees.specs.Firsts
 pub use Rattle.asn1_trees.specs.Length
 pub use Rattle.asn1_trees.specs.Tagged

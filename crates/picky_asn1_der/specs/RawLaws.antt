@@ -1,14 +1,13 @@
 -- Any octet begins an element, and no two elements are spelled alike.
 use Rattle.std.proofs.Common.{◌≡◌, ℕ, Bool, true, false, List, [], ◌++◌, refl, sym, ap, ◌∙◌}
-use Rattle.std.proofs.lemmas.List.{append-nil}
 use Rattle.asn1_trees.specs.Length.{element}
-use Rattle.asn1_trees.specs.Tree.{Tree, leaf, der}
+use Rattle.asn1_trees.specs.Tree.{leaf}
 use Rattle.asn1_trees.specs.Firsts.{any_octet, BeginsAmong}
 use Rattle.asn1_trees.proofs.Elements.{element-one}
 use Rattle.asn1_trees.proofs.Leaf.{leaf-whole, der-leaf}
 use Rattle.asn1_trees.proofs.Spelling.{IsInjective}
 use Rattle.asn1_trees.proofs.Rows.{AllBeginAmong}
-use Rattle.picky_asn1_der.specs.Raw.{Raw, has_low_number, raw_tree}
+use Rattle.picky_asn1_der.specs.Raw.{has_low_number, raw_tree}
 
 begins_any : (valid : Bool) (first : ℕ) (content : List ℕ) → BeginsAmong any_octet (leaf valid first content)
 begins_any true first content = refl

@@ -96,7 +96,7 @@ fn split_identifier(input: &[u8]) -> Result<(u8, &[u8]), Asn1DerError>
 }
 
 // The length whose octets begin the input, and what stands behind them.
-fn split_length(input: &[u8]) -> Result<(usize, &[u8]), Asn1DerError>
+pub(crate) fn split_length(input: &[u8]) -> Result<(usize, &[u8]), Asn1DerError>
     ensures { MatchResult result
         (λ split. (split.0 < 2 ^ 64) × (input.now ≡ length_octets split.0 ++ split.1.now))
         (λ fault. IsWanting AreLengthOctets input.now fault) }

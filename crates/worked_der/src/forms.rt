@@ -1,7 +1,7 @@
 //! The forms of types. The bytes are those of the standards' examples, and what `openssl asn1parse -genconf` writes.
 use crate::sample::{LONG_SAMPLE, SHORT_SAMPLE, Sample, sample_of};
 use picky_asn1_der::{
-    Alternatives, ApplicationTag, Asn1DerError, Choice, Deserializer, Elements,
+    Alternatives, ApplicationTag, Asn1DerError, BitStringContainer, Choice, Deserializer, Elements,
     ExplicitContextTag0, ExplicitContextTag1, ExplicitContextTag3, ImplicitContextTag1,
     ImplicitContextTag2, Last, OctetStringContainer, RawElement, Retagged, Serializer, from_bytes,
     from_exact_bytes, to_vec,
@@ -102,6 +102,16 @@ fn octet_strings(rt: HostRuntime) -> Result<(), Fail> {
         bytes.as_slice()
     );
     assert_eq!(rt; from_bytes(rt.alloc(), &bytes), Ok(primitive));
+    Ok(())
+}
+
+// The zero octet counts in each length around it (X.690, section 8.6.2).
+#[test]
+fn bit_strings(rt: HostRuntime) -> Result<(), Fail> {
+    let bits = ExplicitContextTag0::from(BitStringContainer(5u32));
+    let bytes = [0xA0, 6, 3, 4, 0, 2, 1, 5];
+    assert_eq!(rt; to_vec(rt.alloc(), &bits)?.as_slice(), bytes.as_slice());
+    assert_eq!(rt; from_exact_bytes(rt.alloc(), &bytes), Ok(bits));
     Ok(())
 }
 

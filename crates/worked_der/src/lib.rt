@@ -12,6 +12,8 @@ mod identifiers;
 #[cfg(test)]
 mod leaves;
 #[cfg(test)]
+mod misc;
+#[cfg(test)]
 mod sample;
 #[cfg(test)]
 mod streams;

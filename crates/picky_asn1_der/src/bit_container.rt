@@ -1,0 +1,55 @@
+//! Strings of bits that hold an encoding.
+ghost use Rattle.std.specs.Prelude.{◌≡◌};
+ghost use Rattle.asn1_trees.specs.Tree.{wrapped, behind};
+
+use asn1_codec::{Deserialize, Deserializer, Serializer, Tagged};
+use asn1_octets::Asn1DerError;
+use devices::{Sink, Source};
+
+/// A BIT STRING whose bits, of which none is unused, are the encoding of one value (X.690, section 8.6).
+///
+/// Another count of unused bits than 0 is `InvalidData`.
+#[derive(Clone, Copy, Debug, Drop, PartialEq, Eq)]
+pub struct BitStringContainer<T>(pub T);
+
+impl<T> From<T> for BitStringContainer<T> {
+    ghost from_gives = { λ value made. made.0 ≡ value };
+
+    fn from(value: T) -> Self {
+        BitStringContainer(value)
+    }
+}
+
+impl<T: Deserialize> Tagged for BitStringContainer<T> {
+    ghost use Rattle.asn1_trees.proofs.Tagged.{wrapped_laws, behind_laws};
+
+    type Row = T;
+
+    const FIRST: u8 = 3;
+
+    ghost FIRST = { 3 };
+
+    ghost row_tree = { λ octet value. behind 0 (wrapped octet (T.tree value)) };
+
+    ghost row_laws = { behind_laws 0 (λ octet value. wrapped octet (T.tree value)) (wrapped_laws T.tree T.injective) };
+
+    ghost use Rattle.asn1_codec.specs.Refusals.{part_refusal};
+
+    ghost refuses = { part_refusal (λ value. value.0) T.refusal };
+
+    ghost row_of = { λ value. value.0 };
+
+    ghost one_row = { λ v w e. λ i. record { 0 = e i } };
+
+    fn read_row<R: Source>(tag: u8, from: &mut Deserializer<R>) -> Result<T, Asn1DerError> {
+        from.wrapped_behind(tag, 0)
+    }
+
+    fn of_row(row: T) -> Self {
+        BitStringContainer(row)
+    }
+
+    fn write_row<W: Sink>(&self, tag: u8, to: &mut Serializer<W>) -> Result<usize, Asn1DerError> {
+        to.wrapped_behind(tag, 0, &self.0)
+    }
+}
