@@ -7,7 +7,7 @@ use Rattle.asn1_trees.proofs.Elements.{element-one}
 use Rattle.asn1_trees.proofs.Leaf.{leaf-whole, der-leaf}
 use Rattle.asn1_trees.proofs.Spelling.{IsInjective}
 use Rattle.asn1_trees.proofs.Rows.{AllBeginAmong}
-use Rattle.picky_asn1_der.specs.Raw.{has_low_number, raw_tree}
+use Rattle.asn1_elements.specs.Raw.{has_low_number, raw_tree}
 
 begins_any : (valid : Bool) (first : ℕ) (content : List ℕ) → BeginsAmong any_octet (leaf valid first content)
 begins_any true first content = refl

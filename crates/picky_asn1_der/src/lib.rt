@@ -12,15 +12,11 @@ mod byte_buf;
 mod choice;
 mod container;
 mod default;
-mod element;
 mod implicit_tag;
-pub mod misc;
 mod raw;
 mod raw_der;
 mod retagged;
 mod rows;
-mod tag;
-mod tag_peeker;
 mod wrapper;
 
 pub use application_tag::ApplicationTag;
@@ -31,13 +27,13 @@ pub use asn1_codec::{
     WriteItem, from_bytes, from_exact_bytes, from_reader, from_reader_with_max_len, read_sequence,
     to_byte_buf, to_bytes, to_vec, to_writer,
 };
+pub use asn1_elements::{Element, Tag, TagClass, TagPeeker, misc, split_element};
 pub use bit_container::BitStringContainer;
 pub use byte_buf::ByteBuf;
 pub use choice::{Alternatives, Choice, Last};
 pub use container::OctetStringContainer;
 pub use default::{DefaultField, HasDefault};
 pub use devices::{Sink, Source, Space, Watched};
-pub use element::{Element, split_element};
 pub use implicit_tag::{
     ImplicitContextTag, ImplicitContextTag0, ImplicitContextTag1, ImplicitContextTag2,
     ImplicitContextTag3, ImplicitContextTag4, ImplicitContextTag5, ImplicitContextTag6,
@@ -48,8 +44,6 @@ pub use implicit_tag::{
 pub use raw::RawElement;
 pub use raw_der::Asn1RawDer;
 pub use retagged::Retagged;
-pub use tag::{Tag, TagClass};
-pub use tag_peeker::TagPeeker;
 pub use wrapper::{
     ExplicitContextTag, ExplicitContextTag0, ExplicitContextTag1, ExplicitContextTag2,
     ExplicitContextTag3, ExplicitContextTag4, ExplicitContextTag5, ExplicitContextTag6,

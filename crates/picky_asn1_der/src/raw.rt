@@ -1,6 +1,6 @@
 //! Elements of any type.
 ghost use Rattle.std.specs.Prelude.{◌≡◌, MatchOption, IfSome, IsTrue};
-ghost use Rattle.picky_asn1_der.specs.Raw.{Raw, has_low_number};
+ghost use Rattle.asn1_elements.specs.Raw.{Raw, has_low_number};
 
 use asn1_codec::{Deserialize, Deserializer, Serialize, Serializer};
 use asn1_octets::Asn1DerError;
@@ -16,7 +16,7 @@ pub struct RawElement {
 
 impl Model for RawElement {
     ghost use Rattle.std.specs.Prelude.{IsTrue};
-    ghost use Rattle.picky_asn1_der.specs.Raw.{Raw, has_low_number};
+    ghost use Rattle.asn1_elements.specs.Raw.{Raw, has_low_number};
 
     ghost Value = { Raw };
 
@@ -55,7 +55,7 @@ impl RawElement {
 
 impl Serialize for RawElement {
     ghost use Rattle.asn1_trees.specs.Firsts.{any_octet};
-    ghost use Rattle.picky_asn1_der.specs.Raw.{raw_tree};
+    ghost use Rattle.asn1_elements.specs.Raw.{raw_tree};
     ghost use Rattle.picky_asn1_der.specs.RawLaws.{raw-begins, raw-injective};
 
     ghost tree = { raw_tree };

@@ -1,12 +1,12 @@
 //! Elements of any type, as their bytes.
 ghost use Rattle.std.specs.Prelude.{◌≡◌, ◌≤◌, true, length, drop, MatchResult, IfOk};
 ghost use Rattle.asn1_trees.specs.Length.{element};
-ghost use Rattle.picky_asn1_der.specs.Raw.{Raw, has_low_number};
-ghost use Rattle.picky_asn1_der.specs.Splits.{IsNotOne};
+ghost use Rattle.asn1_elements.specs.Raw.{Raw, has_low_number};
+ghost use Rattle.asn1_elements.specs.Splits.{IsNotOne};
 
-use crate::element::split_element;
 use crate::raw::RawElement;
 use asn1_codec::{Deserialize, Deserializer, Serialize, Serializer};
+use asn1_elements::split_element;
 use asn1_octets::Asn1DerError;
 use asn1_trees::LengthOctets;
 use devices::{Sink, Source};
@@ -28,7 +28,7 @@ pub struct Asn1RawDer {
 impl Model for Asn1RawDer {
     ghost use Rattle.std.specs.Prelude.{◌≡◌, ◌≤◌, true, drop, length};
     ghost use Rattle.asn1_trees.specs.Length.{element};
-    ghost use Rattle.picky_asn1_der.specs.Raw.{Raw, has_low_number};
+    ghost use Rattle.asn1_elements.specs.Raw.{Raw, has_low_number};
 
     ghost Value = { Raw };
 
@@ -101,7 +101,7 @@ fn one_element(bytes: &[u8]) -> Result<(u8, usize), Asn1DerError>
 
 impl Serialize for Asn1RawDer {
     ghost use Rattle.asn1_trees.specs.Firsts.{any_octet};
-    ghost use Rattle.picky_asn1_der.specs.Raw.{raw_tree};
+    ghost use Rattle.asn1_elements.specs.Raw.{raw_tree};
     ghost use Rattle.picky_asn1_der.specs.RawLaws.{raw-begins, raw-injective};
 
     ghost tree = { raw_tree };
@@ -139,7 +139,7 @@ impl PartialEq for Asn1RawDer {
     ghost use Rattle.std.specs.Ordering.{on};
     ghost use Rattle.std.proofs.lemmas.Cmp.{nat_list_eq_equiv};
     ghost use Rattle.std.proofs.Common.{rules};
-    ghost use Rattle.picky_asn1_der.specs.Splits.{raw_bytes};
+    ghost use Rattle.asn1_elements.specs.Splits.{raw_bytes};
 
     ghost eq = { on raw_bytes (pointwise nat_eq) };
 

@@ -1,0 +1,7 @@
+pub mod Contents
+pub mod Identifiers
+pub mod PartLaws
+pub mod Parts
+pub mod Raw
+pub mod Splits
+pub mod Streams

@@ -1,0 +1,54 @@
+-- The parts of an element (X.690, section 8.1): the elements that its content is, and their parts in turn. That the encoding
+-- is constructed isn't asked: the content of an OCTET STRING may be elements too.
+use Rattle.std.specs.Prelude.{◌≡◌, ℕ, List, [], ◌∷◌, Some, refl}
+use Rattle.std.specs.List.{slice_get}
+use Rattle.asn1_trees.specs.Length.{element, length_octets}
+use Rattle.asn1_elements.specs.Raw.{Raw}
+use Rattle.asn1_elements.specs.Splits.{SplitsInto}
+
+-- the bytes are these elements, one after another
+abbrev pub AreElements : List Raw → List ℕ → Type 0
+AreElements [] bytes = bytes ≡ []
+AreElements (raw ∷ raws) bytes = (rest : List ℕ) × SplitsInto bytes raw rest × AreElements raws rest
+
+-- the bytes are elements, of which this one has the number n, counted from 0
+abbrev pub IsElementAt : ℕ → List ℕ → List ℕ → Type 0
+IsElementAt n bytes part =
+    (raws : List Raw) × (raw : Raw) × AreElements raws bytes × (slice_get raws n ≡ Some raw) × (part ≡ element raw.first raw.content)
+
+-- the empty path stays at the bytes; any other goes to an element of their content, and on from there
+abbrev pub IsPart : List ℕ → List ℕ → List ℕ → Type 0
+IsPart bytes [] part = part ≡ bytes
+IsPart bytes (n ∷ path) part =
+    (raw : Raw) × (inner : List ℕ) × SplitsInto bytes raw [] × IsElementAt n raw.content inner × IsPart inner path part
+
+-- a SEQUENCE of the INTEGER 7 and of NULL
+integer_7 : Raw
+integer_7 = record { first = 2; content = 7 ∷ [] }
+
+two_elements : AreElements (integer_7 ∷ record { first = 5; content = [] } ∷ []) (2 ∷ 1 ∷ 7 ∷ 5 ∷ 0 ∷ [])
+unfolding integer_7 element length_octets
+two_elements = (5 ∷ 0 ∷ [], (refl, refl), ([], (refl, refl), refl))
+
+part_itself : IsPart (48 ∷ 5 ∷ 2 ∷ 1 ∷ 7 ∷ 5 ∷ 0 ∷ []) [] (48 ∷ 5 ∷ 2 ∷ 1 ∷ 7 ∷ 5 ∷ 0 ∷ [])
+part_itself = refl
+
+part_first : IsPart (48 ∷ 5 ∷ 2 ∷ 1 ∷ 7 ∷ 5 ∷ 0 ∷ []) (0 ∷ []) (2 ∷ 1 ∷ 7 ∷ [])
+unfolding integer_7 element length_octets
+part_first = (
+  record { first = 48; content = 2 ∷ 1 ∷ 7 ∷ 5 ∷ 0 ∷ [] },
+  2 ∷ 1 ∷ 7 ∷ [],
+  (refl, refl),
+  (integer_7 ∷ record { first = 5; content = [] } ∷ [], integer_7, two_elements, refl, refl),
+  refl,
+)
+
+part_second : IsPart (48 ∷ 5 ∷ 2 ∷ 1 ∷ 7 ∷ 5 ∷ 0 ∷ []) (1 ∷ []) (5 ∷ 0 ∷ [])
+unfolding integer_7 element length_octets
+part_second = (
+  record { first = 48; content = 2 ∷ 1 ∷ 7 ∷ 5 ∷ 0 ∷ [] },
+  5 ∷ 0 ∷ [],
+  (refl, refl),
+  (integer_7 ∷ record { first = 5; content = [] } ∷ [], record { first = 5; content = [] }, two_elements, refl, refl),
+  refl,
+)

@@ -1,0 +1,16 @@
+//! Elements taken apart by hand: tags, lengths, contents, single octets.
+//!
+//! [`split_element`] gives the element that begins an input, in place, and [`Tag`] tells an identifier octet. The
+//! module `misc` has what code needs that reads and writes octets by itself. `picky_asn1_der` hands on all names.
+#![tactic(auto)]
+
+ghost use Rattle.std.specs.Prelude.{◌≡◌};
+
+mod element;
+pub mod misc;
+mod tag;
+mod tag_peeker;
+
+pub use element::{Element, split_element};
+pub use tag::{Tag, TagClass};
+pub use tag_peeker::TagPeeker;
