@@ -3,6 +3,7 @@ pub mod ArrayLemmas
 pub mod Behinds
 pub mod Chain
 pub mod CharacterLemmas
+pub mod Cuts
 pub mod ElementWrites
 pub mod FieldsLemmas
 pub mod Headers

@@ -4,6 +4,7 @@ pub mod BooleanLaws
 pub mod Booleans
 pub mod CharacterLaws
 pub mod Characters
+pub mod Cuts
 pub mod Ends
 pub mod Nulls
 pub mod OptionLaws

@@ -5,6 +5,7 @@ ghost use Rattle.std.specs.Io.KnownBytes.{Consumes};
 ghost use Rattle.asn1_trees.specs.Tree.{Tree, Trees, none, more, bare, IsWhole, AreWhole, wrapped, behind, der, ders};
 ghost use Rattle.asn1_trees.specs.Length.{element, length_octets};
 ghost use Rattle.asn1_trees.specs.Firsts.{may_begin};
+ghost use Rattle.asn1_codec.specs.Cuts.{TakesNext, MissesNext};
 ghost use Rattle.asn1_codec.specs.Reads.{ReadsFront, ReadsWhole};
 ghost use Rattle.asn1_codec.specs.Tails.{IsLengthTail, TookTail};
 ghost use Rattle.asn1_codec.specs.Reading.{TookValue, TookBy, Refused, IsOwn, IsExcuse, IsSpelling, IsReadBy, IsLastBy, IsNotNext, TellsKind, result_faults};
@@ -507,9 +508,8 @@ pub fn from_exact_bytes<T: FromDer>(alloc: Global, input: &[u8]) -> Result<T, As
 
 /// Reads the value whose spelling comes next from `reader`, of at most 10,240 bytes, and takes just these.
 pub fn from_reader<T: FromDer, R: Source>(alloc: Global, reader: &mut R) -> Result<T, Asn1DerError>
-    ensures value { IfOk result (λ value. (bytes : List ℕ) × T.reads value bytes × (length bytes ≤ MOST_BYTES)
-        × Consumes (R.left reader.old) (R.left reader.new) bytes) }
-    ensures fault { IfErr result (λ fault. IsExcuse fault ⊎ IsNotNext (IsReadBy T.reads) (R.left reader.old) MOST_BYTES) }
+    ensures value { IfOk result (TakesNext T.reads MOST_BYTES (R.left reader.old) (R.left reader.new)) }
+    ensures fault { IfErr result (MissesNext T.reads MOST_BYTES (R.left reader.old)) }
     ensures count { R.failed reader.new ≡ result_faults result (R.failed reader.old) }
     ensures kind { IfErr result (λ fault. TellsKind fault (R.last_fault reader.new)) }
     ensures same { R.through reader.new ≡ R.through reader.old }
@@ -523,9 +523,8 @@ pub fn from_reader_with_max_len<T: FromDer, R: Source>(
     reader: &mut R,
     limit: usize,
 ) -> Result<T, Asn1DerError>
-    ensures value { IfOk result (λ value. (bytes : List ℕ) × T.reads value bytes × (length bytes ≤ limit)
-        × Consumes (R.left reader.old) (R.left reader.new) bytes) }
-    ensures fault { IfErr result (λ fault. IsExcuse fault ⊎ IsNotNext (IsReadBy T.reads) (R.left reader.old) limit) }
+    ensures value { IfOk result (TakesNext T.reads limit (R.left reader.old) (R.left reader.new)) }
+    ensures fault { IfErr result (MissesNext T.reads limit (R.left reader.old)) }
     ensures count { R.failed reader.new ≡ result_faults result (R.failed reader.old) }
     ensures kind { IfErr result (λ fault. TellsKind fault (R.last_fault reader.new)) }
     ensures same { R.through reader.new ≡ R.through reader.old }

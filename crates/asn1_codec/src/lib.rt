@@ -14,6 +14,7 @@ mod de;
 mod elements;
 mod fields;
 mod integer;
+mod laws;
 mod leaf;
 mod measure;
 mod null;
@@ -22,6 +23,7 @@ mod optional;
 mod reading_calls;
 mod row;
 mod sequence;
+mod sequence_writing;
 mod ser;
 mod slices;
 mod tag_number;
@@ -38,6 +40,7 @@ pub use de::{
 pub use elements::Elements;
 pub use fields::{Fields, WriteFields, write_field};
 pub use integer::{unsigned_of, write_unsigned};
+pub use laws::one_reading;
 pub use leaf::Leaf;
 pub use optional::Optional;
 pub use row::{
@@ -45,6 +48,7 @@ pub use row::{
     WriteItem,
 };
 pub use sequence::Sequence;
+pub use sequence_writing::SequenceWriter;
 pub use ser::{Serialize, Serializer, to_byte_buf, to_bytes, to_vec, to_writer, write_octets};
 pub use tag_number::{IsTagNumber, TagNumber};
 pub use tagged::{Tagged, read_as, read_sequence};

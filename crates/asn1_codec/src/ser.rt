@@ -154,7 +154,7 @@ impl<W: Sink> Serializer<W> {
     }
 
     /// The fault of a measurement, after which nothing is written.
-    fn unmeasured(&mut self, fault: Asn1DerError) -> Asn1DerError
+    pub(crate) fn unmeasured(&mut self, fault: Asn1DerError) -> Asn1DerError
         ensures fault { result ≡ fault }
         ensures after { self.new ≡ left_by fault self.old }
     {
@@ -194,7 +194,7 @@ impl<W: Sink> Serializer<W> {
     }
 
     /// Writes the octets before a content of this length, and gives the length of the whole element.
-    fn header(&mut self, tag: u8, count: usize) -> Result<usize, Asn1DerError>
+    pub(crate) fn header(&mut self, tag: u8, count: usize) -> Result<usize, Asn1DerError>
         ensures { MatchResult result
             (λ whole. Wrote (tag ∷ length_octets count) self.old self.new × (whole ≡ 1 + length (length_octets count) + count))
             (λ fault. (content : List ℕ) → length content ≡ count → NotWrote None (element tag content) self.old self.new fault) }

@@ -1,0 +1,43 @@
+-- What reading a value from a source answers, by the bytes of the source alone.
+use Rattle.std.specs.Io.KnownBytes.{Consumes}
+use Rattle.std.specs.Prelude.{◌≡◌, ℕ, ◌≤◌, List, ◌++◌, length, Option, Some, ⊤, ◌⊎◌, Result, Ok, Err, MatchResult}
+use Rattle.asn1_octets.specs.declared.error.Asn1DerError.{Asn1DerError}
+use Rattle.asn1_codec.specs.Reading.{IsExcuse, IsNotNext, IsReadBy}
+
+-- the bytes begin with some that are read as the value, of at most so many, and this rest stands behind them
+abbrev pub BeginsWithin : {T : Type 0} → (T → List ℕ → Type 0) → ℕ → T → List ℕ → List ℕ → Type 0
+BeginsWithin reads limit value input rest =
+    (bytes : List ℕ) × reads value bytes × (length bytes ≤ limit) × (input ≡ bytes ++ rest)
+
+-- a call took bytes that are read as this value, of at most so many, and just these
+abbrev pub TakesNext : {T : Type 0} → (T → List ℕ → Type 0) → ℕ → Option (List ℕ) → Option (List ℕ) → T → Type 0
+TakesNext reads limit old new value =
+    (bytes : List ℕ) × reads value bytes × (length bytes ≤ limit) × Consumes old new bytes
+
+-- the memory or the source was wanting, or no such bytes are next
+abbrev pub MissesNext : {T : Type 0} → (T → List ℕ → Type 0) → ℕ → Option (List ℕ) → Asn1DerError → Type 0
+MissesNext reads limit old fault = IsExcuse fault ⊎ IsNotNext (IsReadBy reads) old limit
+
+-- the memory or the source was wanting
+abbrev pub IsExcused : {T : Type 0} → Result T Asn1DerError → Type 0
+IsExcused (Ok value) = ⊥
+IsExcused (Err fault) = IsExcuse fault
+
+-- what `from_reader_with_max_len` answers, by its contract
+abbrev pub IsNextAnswer : {T : Type 0} → (T → List ℕ → Type 0) → ℕ → Option (List ℕ) → Option (List ℕ) → Result T Asn1DerError → Type 0
+IsNextAnswer reads limit old new answer = MatchResult answer (TakesNext reads limit old new) (MissesNext reads limit old)
+
+-- the value that the front of what is left is read as, and no other, with the rest left; or an excuse
+abbrev pub ReadsNext : {T : Type 0} → (T → List ℕ → Type 0) → ℕ → Option (List ℕ) → Option (List ℕ) → Result T Asn1DerError → Type 0
+ReadsNext {T} reads limit left after answer =
+    IsExcused answer
+    ⊎ ((input : List ℕ) → left ≡ Some input → (value : T)
+    → (answer ≡ Ok value → (rest : List ℕ) × BeginsWithin reads limit value input rest × (after ≡ Some rest))
+    × ((rest : List ℕ) → BeginsWithin reads limit value input rest → (answer ≡ Ok value) × (after ≡ Some rest)))
+
+-- the same value was read, and the same is left; or no value was read
+abbrev pub IsSameReading : {T : Type 0} → Result T Asn1DerError → Option (List ℕ) → Result T Asn1DerError → Option (List ℕ) → Type 0
+IsSameReading (Ok value) left (Ok same) other = (value ≡ same) × (left ≡ other)
+IsSameReading (Ok value) left (Err fault) other = ⊥
+IsSameReading (Err fault) left (Ok value) other = ⊥
+IsSameReading (Err fault) left (Err again) other = ⊤
