@@ -1,11 +1,11 @@
 -- A path leads to one part at most, and elements are found by splitting off one after another.
-use Rattle.std.proofs.Common.{◌≡◌, ℕ, suc, List, [], ◌∷◌, Some, refl, sym, ap, ◌∙◌, subst}
+use Rattle.std.proofs.Common.{◌≡◌, ℕ, suc, List, [], ◌∷◌, Some, refl, sym, ap, ◌∙◌, subst, append-nil}
 use Rattle.std.specs.List.{slice_get}
 use Rattle.asn1_trees.specs.Length.{element}
 use Rattle.asn1_trees.proofs.Elements.{element-one, element-parts}
 use Rattle.asn1_elements.specs.Raw.{Raw}
-use Rattle.asn1_elements.specs.Splits.{SplitsInto}
-use Rattle.asn1_elements.specs.Parts.{AreElements, IsElementAt, IsPart}
+use Rattle.asn1_elements.specs.Splits.{SplitsInto, raw_bytes}
+use Rattle.asn1_elements.specs.Parts.{AreElements, IsElementAt, IsPart, IsPartIn, IsStep}
 
 -- an input is split in one way
 split-one : (input : List ℕ) (raw other : Raw) (rest more : List ℕ) → SplitsInto input raw rest → SplitsInto input other more → (raw ≡ other) × (rest ≡ more)
@@ -68,3 +68,24 @@ split-of-first input raw rest raws split all = (raw ∷ raws, raw, (rest, split,
 
 pub split-of-later : (n : ℕ) (input : List ℕ) (raw : Raw) (rest part : List ℕ) → SplitsInto input raw rest → IsElementAt n rest part → IsElementAt (suc n) input part
 split-of-later n input raw rest part split (raws, at, all, found, is) = (raw ∷ raws, at, (rest, split, all), found, is)
+
+-- an element is split into itself and nothing
+whole_split : (input : List ℕ) (raw : Raw) (rest : List ℕ) → SplitsInto input raw rest → SplitsInto (raw_bytes raw) raw []
+whole_split input raw rest split = (split.0, sym (append-nil (raw_bytes raw)))
+
+inside_part : (input : List ℕ) (raw : Raw) (rest : List ℕ) (n : ℕ) (path part : List ℕ) → SplitsInto input raw rest
+    → IsPart (raw_bytes raw) (n ∷ path) part → IsPartIn raw.content n path part
+inside_part input raw rest n path part split (other, inner, splits, at, further) =
+    let same : other ≡ raw = (split-one (raw_bytes raw) other raw [] [] splits (whole_split input raw rest split)).0 in
+    (inner, subst (λ (r : Raw). IsElementAt n r.content inner) same at, further)
+
+pub split-step : (input : List ℕ) (raw : Raw) (rest : List ℕ) → SplitsInto input raw rest → IsStep input raw rest
+split-step input raw rest split = record {
+  split = split;
+  first = λ path part (inner, at, further). subst (λ (l : List ℕ). IsPart l path part) (first-of-split input raw rest inner split at) further;
+  at_first = λ raws path part all further. (raw_bytes raw, split-of-first input raw rest raws split all, further);
+  later = λ n path part (inner, at, further). (inner, later-of-split n input raw rest inner split at, further);
+  at_later = λ n path part (inner, at, further). (inner, split-of-later n input raw rest inner split at, further);
+  inside = λ n path part is. inside_part input raw rest n path part split is;
+  from_inside = λ n path part (inner, at, further). (raw, inner, whole_split input raw rest split, at, further);
+}

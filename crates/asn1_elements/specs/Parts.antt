@@ -1,10 +1,10 @@
 -- The parts of an element (X.690, section 8.1): the elements that its content is, and their parts in turn. That the encoding
 -- is constructed isn't asked: the content of an OCTET STRING may be elements too.
-use Rattle.std.specs.Prelude.{◌≡◌, ℕ, List, [], ◌∷◌, Some, refl}
+use Rattle.std.specs.Prelude.{◌≡◌, ℕ, suc, List, [], ◌∷◌, Some, refl}
 use Rattle.std.specs.List.{slice_get}
 use Rattle.asn1_trees.specs.Length.{element, length_octets}
 use Rattle.asn1_elements.specs.Raw.{Raw}
-use Rattle.asn1_elements.specs.Splits.{SplitsInto}
+use Rattle.asn1_elements.specs.Splits.{SplitsInto, raw_bytes}
 
 -- the bytes are these elements, one after another
 abbrev pub AreElements : List Raw → List ℕ → Type 0
@@ -21,6 +21,21 @@ abbrev pub IsPart : List ℕ → List ℕ → List ℕ → Type 0
 IsPart bytes [] part = part ≡ bytes
 IsPart bytes (n ∷ path) part =
     (raw : Raw) × (inner : List ℕ) × SplitsInto bytes raw [] × IsElementAt n raw.content inner × IsPart inner path part
+
+-- the same of a path whose first number counts the elements that the bytes are
+abbrev pub IsPartIn : List ℕ → ℕ → List ℕ → List ℕ → Type 0
+IsPartIn bytes n path part = (inner : List ℕ) × IsElementAt n bytes inner × IsPart inner path part
+
+-- splitting an element off an input is one step of a path. The element has the number 0, and each of the rest a number less
+-- there; a path goes on inside the element, and from it to the elements of its content
+pub record IsStep (input : List ℕ) (raw : Raw) (rest : List ℕ) : Type 0 where
+  pub split : SplitsInto input raw rest
+  pub first : (path part : List ℕ) → IsPartIn input 0 path part → IsPart (raw_bytes raw) path part
+  pub at_first : (raws : List Raw) (path part : List ℕ) → AreElements raws rest → IsPart (raw_bytes raw) path part → IsPartIn input 0 path part
+  pub later : (n : ℕ) (path part : List ℕ) → IsPartIn input (suc n) path part → IsPartIn rest n path part
+  pub at_later : (n : ℕ) (path part : List ℕ) → IsPartIn rest n path part → IsPartIn input (suc n) path part
+  pub inside : (n : ℕ) (path part : List ℕ) → IsPart (raw_bytes raw) (n ∷ path) part → IsPartIn raw.content n path part
+  pub from_inside : (n : ℕ) (path part : List ℕ) → IsPartIn raw.content n path part → IsPart (raw_bytes raw) (n ∷ path) part
 
 -- a SEQUENCE of the INTEGER 7 and of NULL
 integer_7 : Raw

@@ -2,7 +2,8 @@
 ghost use Rattle.std.specs.Prelude.{◌≡◌, ℕ, ◌^◌, ◌<◌, List, ◌∷◌, ◌++◌, true, MatchResult};
 ghost use Rattle.asn1_trees.specs.Length.{element, length_octets};
 ghost use Rattle.asn1_elements.specs.Raw.{Raw, has_low_number};
-ghost use Rattle.asn1_elements.specs.Splits.{SplitsInto, IsNoSplit, IsOneElement, AreLengthOctets, IsWanting};
+ghost use Rattle.asn1_elements.specs.Parts.{IsStep};
+ghost use Rattle.asn1_elements.specs.Splits.{IsNoSplit, IsOneElement, AreLengthOctets, IsWanting};
 
 use crate::tag::Tag;
 use asn1_octets::Asn1DerError;
@@ -62,7 +63,7 @@ impl<'a> Element<'a> {
 /// or of 2^64 and more.
 pub fn split_element(input: &[u8]) -> Result<(Element<'_>, &[u8]), Asn1DerError>
     ensures { MatchResult result
-        (λ split. SplitsInto input.now split.0 split.1.now)
+        (λ split. IsStep input.now split.0 split.1.now)
         (λ fault. IsNoSplit input.now × IsWanting IsOneElement input.now fault) }
 {
     let (first, behind) = split_identifier(input)?;

@@ -1,5 +1,6 @@
 use Rattle.std.proofs.Common.{◌^◌, ◌<◌, length, arith}
 use Rattle.asn1_codec.proofs.Chain.{at-exit}
+use Rattle.asn1_elements.specs.PartLaws.{split-step}
 use Rattle.asn1_elements.proofs.Splits.{no_split, wanting_behind, wanting_content, splits, whole_of}
 use Rattle.asn1_elements.proofs.element.split_element.Goals as goal
 
@@ -27,8 +28,9 @@ invariant_of-element c =
     (c.in_ok-first.ensures.0, whole_of c.args.input.now _ _ c.split_at.result.1.now parts c.split_at-2.ensures.front)
 
 pub returns : goal.returns
-returns c = (
-  c.in_ok-first.ensures.0,
-  splits c.args.input.now c.in_ok-first.behind.now c.in_ok-count.held.now c.split_at.result.0.now c.split_at.result.1.now c.in_ok-first.first c.in_ok-count.count
-      c.in_ok-first.ensures.1 c.in_ok-count.ensures.1 c.split_at.ensures.by_index.0 c.split_at.ensures.front_len,
-)
+returns c =
+    split-step _ _ _ (
+      c.in_ok-first.ensures.0,
+      splits c.args.input.now c.in_ok-first.behind.now c.in_ok-count.held.now c.split_at.result.0.now c.split_at.result.1.now c.in_ok-first.first c.in_ok-count.count
+          c.in_ok-first.ensures.1 c.in_ok-count.ensures.1 c.split_at.ensures.by_index.0 c.split_at.ensures.front_len,
+    )

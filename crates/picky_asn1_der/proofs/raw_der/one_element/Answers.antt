@@ -9,14 +9,14 @@ returns-in_err-element c =
 
 pub returns-then-not-is_empty : goal.returns-then-not-is_empty
 returns-then-not-is_empty c =
-    not_all c.args.bytes.now c.in_ok-element.rest.now c.in_ok-element.element c.in_ok-element.ensures
+    not_all c.args.bytes.now c.in_ok-element.rest.now c.in_ok-element.element c.in_ok-element.ensures.split
     (some_left c.in_ok-element.rest.now (sym c.if-not-is_empty.true ∙ c.is_empty.ensures))
 
 pub overflow_sub-result : goal.overflow_sub-result
 overflow_sub-result c =
-    content_fits c.args.bytes.now c.in_ok-element.rest.now c.content.result.now c.in_ok-element.element c.in_ok-element.ensures c.content.ensures
+    content_fits c.args.bytes.now c.in_ok-element.rest.now c.content.result.now c.in_ok-element.element c.in_ok-element.ensures.split c.content.ensures
 
 pub returns : goal.returns
 returns c =
-    held_parts c.args.bytes.now c.in_ok-element.rest.now c.content.result.now c.in_ok-element.element c.from.result c.in_ok-element.ensures
+    held_parts c.args.bytes.now c.in_ok-element.rest.now c.content.result.now c.in_ok-element.element c.from.result c.in_ok-element.ensures.split
     (sym c.if-not-is_empty.false ∙ c.is_empty.ensures) c.content.ensures (c.from.ensures ∙ c.tag.ensures)
