@@ -11,6 +11,8 @@ use asn1_octets::Asn1DerError;
 use asn1_trees::LengthOctets;
 use devices::{Sink, Source};
 use std::alloc::{AllocError, Global};
+use std::cmp::Ordering;
+use std::hash::{Hash, Hasher};
 use std::marker::Model;
 
 /// One element of any type, held as all its bytes: a tag whose number is below 31, a definite length in as few octets
@@ -155,4 +157,57 @@ impl Eq for Asn1RawDer {
     ghost use Rattle.std.proofs.Common.{rules};
 
     ghost laws = { Prim.search (comparing, rules) };
+}
+
+impl PartialOrd for Asn1RawDer {
+    ghost use Rattle.std.specs.Prelude.{Some};
+    ghost use Rattle.std.specs.Ordering.{nat_cmp};
+    ghost use Rattle.std.specs.Cmp.{on_po};
+    ghost use Rattle.std.specs.Cmp.Lexicographic.{slice_cmp, texts_po};
+    ghost use Rattle.asn1_elements.specs.Splits.{raw_bytes};
+
+    ghost partial_cmp = { λ a b. Some (slice_cmp nat_cmp (raw_bytes a) (raw_bytes b)) };
+
+    ghost laws = { on_po raw_bytes texts_po };
+
+    fn partial_cmp(&self, other: &Asn1RawDer) -> Option<Ordering> {
+        Some(self.cmp(other))
+    }
+}
+
+/// The order of their bytes.
+impl Ord for Asn1RawDer {
+    ghost use Rattle.std.specs.Prelude.{refl};
+    ghost use Rattle.std.specs.Ordering.{nat_cmp};
+    ghost use Rattle.std.specs.Cmp.{on_total};
+    ghost use Rattle.std.specs.Cmp.Lexicographic.{slice_cmp, nat_list_cmp_total, texts_ties};
+    ghost use Rattle.asn1_elements.specs.Splits.{raw_bytes};
+
+    ghost cmp = { λ a b. slice_cmp nat_cmp (raw_bytes a) (raw_bytes b) };
+
+    ghost total = { on_total raw_bytes nat_list_cmp_total };
+
+    ghost matches_partial_cmp = { λ a b. refl };
+
+    ghost matches_eq = { λ a b. texts_ties (raw_bytes a) (raw_bytes b) };
+
+    fn cmp(&self, other: &Asn1RawDer) -> Ordering {
+        self.as_bytes().cmp(other.as_bytes())
+    }
+}
+
+/// By their bytes.
+impl Hash for Asn1RawDer {
+    ghost use Rattle.std.specs.Hash as fed;
+    ghost use Rattle.std.specs.Cmp.Rules.{hashing};
+    ghost use Rattle.std.proofs.Common.{rules};
+    ghost use Rattle.asn1_elements.specs.Splits.{raw_bytes};
+
+    ghost hash_input = { λ raw. fed.slice fed.u8 (raw_bytes raw) };
+
+    ghost respects_eq = { Prim.search (hashing, rules) };
+
+    fn hash<H: Hasher>(&self, state: &mut H) {
+        self.as_bytes().hash(state);
+    }
 }
