@@ -8,6 +8,7 @@ mod integer;
 mod list_of;
 mod octet_string;
 pub mod restricted_string;
+pub mod tag;
 pub mod wrapper;
 
 pub use asn1_leaves::{LeafFault, date, oid};

@@ -12,7 +12,16 @@ use crate::restricted_string::{
     BmpCharSet, Ia5CharSet, PrintableCharSet, RestrictedString, Utf8CharSet,
 };
 pub use picky_asn1_der::{
-    BitStringContainer as BitStringAsn1Container, OctetStringContainer as OctetStringAsn1Container,
+    BitStringContainer as BitStringAsn1Container, ExplicitContextTag, ExplicitContextTag0,
+    ExplicitContextTag1, ExplicitContextTag2, ExplicitContextTag3, ExplicitContextTag4,
+    ExplicitContextTag5, ExplicitContextTag6, ExplicitContextTag7, ExplicitContextTag8,
+    ExplicitContextTag9, ExplicitContextTag10, ExplicitContextTag11, ExplicitContextTag12,
+    ExplicitContextTag13, ExplicitContextTag14, ExplicitContextTag15, ImplicitContextTag,
+    ImplicitContextTag0, ImplicitContextTag1, ImplicitContextTag2, ImplicitContextTag3,
+    ImplicitContextTag4, ImplicitContextTag5, ImplicitContextTag6, ImplicitContextTag7,
+    ImplicitContextTag8, ImplicitContextTag9, ImplicitContextTag10, ImplicitContextTag11,
+    ImplicitContextTag12, ImplicitContextTag13, ImplicitContextTag14, ImplicitContextTag15,
+    OctetStringContainer as OctetStringAsn1Container, Optional,
 };
 
 /// A UTF8String (X.690, section 8.23).

@@ -14,6 +14,8 @@ mod leaves;
 #[cfg(test)]
 mod misc;
 #[cfg(test)]
+mod peeked;
+#[cfg(test)]
 mod sample;
 #[cfg(test)]
 mod streams;
