@@ -1,13 +1,14 @@
 -- What is wanted behind the fields that were read.
-use Rattle.std.proofs.Common.{◌≡◌, ℕ, ◌+◌, ◌<◌, ◌≤◌, true, false, List, [], ◌∷◌, ◌++◌, length, Option, None, Some, refl, sym, ap, subst, ◌∙◌, arith, length-append, append_assoc, append-nil}
+use Rattle.std.proofs.Common.{◌≡◌, ℕ, ◌+◌, ◌<◌, ◌≤◌, Bool, true, false, List, [], ◌∷◌, ◌++◌, length, Option, None, Some, refl, sym, ap, subst, ◌∙◌, arith, length-append, append_assoc, append-nil}
 use Rattle.std.specs.Prelude.{IsTrue}
 use Rattle.asn1_trees.specs.Tree.{Tree, Trees, more, der, ders, put, trees_of, IsWhole, AreWhole}
 use Rattle.asn1_trees.specs.Firsts.{Firsts, may_begin, apart}
 use Rattle.asn1_trees.proofs.Spelling.{der-front, der-begins, der-nonempty}
 use Rattle.asn1_trees.proofs.Rows.{AllBeginAmong, StartAmong, apart-none}
 use Rattle.asn1_octets.specs.declared.error.Asn1DerError.{Asn1DerError}
-use Rattle.asn1_codec.specs.Reading.{Reading, TookNone, Refused, AreFields, IsSpelling, Tells}
-use Rattle.asn1_codec.proofs.Chain.{Cuts, refused-unread, refused-known}
+use Rattle.asn1_codec.specs.Optionals.{ReadIf}
+use Rattle.asn1_codec.specs.Reading.{Reading, Took, TookNone, TookFields, Refused, AreFields, IsSpelling, Tells}
+use Rattle.asn1_codec.proofs.Chain.{Cuts, refused-after, refused-unread, refused-known, took-join, took-unread}
 
 -- the trees of a field and of those behind it
 abbrev pub field_trees : {A B : Type 0} → (A → Tree) → (B → Trees) → A × B → Trees
@@ -97,6 +98,27 @@ module _ {A B : Type 0} (tree : A → Tree) (trees : B → Trees) (firsts others
       refused-known (AreFields (optional_trees tree trees) old.limit) (AreFields trees old.limit) old new e
       (refused-unread (AreFields trees old.limit) old mid new e none here)
       (λ bytes rest p left within. tail_front old p.0.0 p.0.1 tells bytes rest p.1 p.2 p.3 left)
+
+  -- the optional field was read where it begins, and those behind it are refused
+  pub optional_behind_refused : (head : Option A) (answer : Bool) (old begun mid new : Reading) (e : Asn1DerError) → TookNone old begun → Tells firsts answer old
+      → ReadIf tree answer head begun mid → Refused (AreFields trees mid.limit) mid new e
+      → Refused (AreFields (optional_trees tree trees) old.limit) old new e
+  optional_behind_refused None answer old begun mid new e none tells read refused =
+      optional_tail_refused old mid new e (subst (λ r. TookNone old r) (sym read.1) none) (subst (λ b. Tells firsts b old) read.0 tells) refused
+  optional_behind_refused (Some head) answer old begun mid new e none tells read refused =
+      let took = took-unread (der (tree head)) old begun mid none read.1.1 in
+      refused-after (AreFields (optional_trees tree trees) old.limit) (AreFields trees mid.limit) (der (tree head)) old mid new e took refused
+      (optional_some_cut head old.limit mid.limit read.1.0 took.limit)
+
+-- the optional field was read where it begins, and then those behind it
+pub optional_took : {A B : Type 0} (tree : A → Tree) (trees : B → Trees) (head : Option A) (fields : B) (answer : Bool) (old begun mid new : Reading)
+    → TookNone old begun → ReadIf tree answer head begun mid → TookFields trees fields mid new → TookFields (optional_trees tree trees) (head, fields) old new
+optional_took tree trees None fields answer old begun mid new none read rest =
+    let here : Took (ders (trees fields)) begun new = subst (λ r. Took (ders (trees fields)) r new) read.1 rest.1 in
+    (rest.0, took-unread (ders (trees fields)) old begun new none here, rest.2)
+optional_took tree trees (Some head) fields answer old begun mid new none read rest =
+    let took = took-unread (der (tree head)) old begun mid none read.1.1 in
+    ((read.1.0, rest.0), took-join (der (tree head)) (ders (trees fields)) old mid new took rest.1, rest.2)
 
 -- the elements that were read are a front of the wanted ones, of which there are more
 pub elements_cut : {A : Type 0} (tree : A → Tree) (items values : List A) (rest behind : List ℕ) → AreWhole (trees_of tree items) → AreWhole (trees_of tree values)

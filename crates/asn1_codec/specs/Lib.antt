@@ -8,6 +8,7 @@ pub mod Cuts
 pub mod Ends
 pub mod Nulls
 pub mod OptionLaws
+pub mod Optionals
 pub mod Options
 pub mod Reading
 pub mod Reads

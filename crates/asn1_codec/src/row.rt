@@ -6,6 +6,8 @@
 ghost use Rattle.std.specs.Prelude.{◌≡◌, ℕ, Bool, true, false, ◌&&◌, List, [], ◌∷◌, Option, None, MatchResult, IsTrue};
 ghost use Rattle.asn1_trees.specs.Tree.{Tree, Trees, none, more, der, ders, IsWhole, AreWhole, put};
 ghost use Rattle.asn1_trees.specs.Firsts.{Firsts, one_of, may_begin, either, apart};
+ghost use Rattle.asn1_codec.specs.Reading.{Refused, IsSpelling};
+ghost use Rattle.asn1_codec.specs.Optionals.{ReadIf};
 
 use crate::de::{Deserialize, Deserializer};
 use crate::fields::{Fields, WriteFields, write_field};
@@ -213,14 +215,29 @@ impl<H: Deserialize> Item for Optional<Option<H>> {
         from: &mut Deserializer<R>,
     ) -> Result<(Self, T), Asn1DerError> {
         let begins = from.starts::<H>()?;
-        if begins {
-            let head = H::deserialize(from)?;
-            let tail = T::read(from)?;
-            return Ok((Optional(Some(head)), tail));
-        }
+        let head = read_if::<H, R>(begins, from)?;
         let tail = T::read(from)?;
-        Ok((Optional(None), tail))
+        Ok((Optional(head), tail))
     }
+}
+
+/// Reads a value where `begins` says that one begins, else none.
+///
+/// The fields behind an optional one are read at one place then, whichever it is: a function pays for the room of
+/// each such place as it begins.
+fn read_if<H: Deserialize, R: Source>(
+    begins: bool,
+    from: &mut Deserializer<R>,
+) -> Result<Option<H>, Asn1DerError>
+    ensures { MatchResult result
+        (λ read. ReadIf H.tree begins read from.old from.new)
+        (λ fault. (begins ≡ true) × Refused (IsSpelling H.tree) from.old from.new fault) }
+{
+    if !begins {
+        return Ok(None);
+    }
+    let value = H::deserialize(from)?;
+    Ok(Some(value))
 }
 
 /// A row of one field.
