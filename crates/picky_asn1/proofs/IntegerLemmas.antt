@@ -170,6 +170,12 @@ shorter (x ∷ y ∷ ys) some loose =
 number-be_bytes : (n : ℕ) → n < 2 ^ 64 → number_from_digits 256 (0 ∷ to_be_bytes w64 n) ≡ n
 number-be_bytes n h = omega (arith, from_be_bytes-to_be_bytes_8 n h)
 
+-- one octet without a sign is its number
+pub integer_value-one : (n : ℕ) → n < 128 → integer_value (n ∷ []) ≡ pos n
+integer_value-one n low =
+    let digit : number_from_digits 256 (n ∷ []) ≡ n = omega arith in
+    integer_value-low (n ∷ []) low ∙ ap pos digit
+
 -- the bytes of a machine's number, behind a zero
 pub integer_value-be_bytes : (bytes : List ℕ) (n : ℕ) → n < 2 ^ 64 → bytes ≡ to_be_bytes w64 n → integer_value (0 ∷ (bytes ++ [])) ≡ pos n
 integer_value-be_bytes bytes n h e =

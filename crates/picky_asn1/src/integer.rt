@@ -6,13 +6,14 @@ ghost use Rattle.picky_asn1.specs.Integer.{complement, is_integer, IsInteger, in
 ghost use Rattle.asn1_leaves.specs.Makes.{Makes};
 
 use crate::LeafFault;
+use crate::few_octets::FewOctets;
 use std::alloc::{AllocError, Global};
 use std::marker::Model;
 
 /// An INTEGER of any size and sign (X.690, section 8.3). A contract sees a whole number.
 #[derive(Drop, Debug)]
 pub struct IntegerAsn1 {
-    octets: Vec<u8>,
+    octets: FewOctets,
 }
 
 impl Model for IntegerAsn1 {
@@ -21,9 +22,9 @@ impl Model for IntegerAsn1 {
 
     ghost Value = { ℤ };
 
-    ghost view = { λ z. integer_value z.octets.items };
+    ghost view = { λ z. integer_value z.octets };
 
-    ghost invariant = { λ z. integer_content (integer_value z.octets.items) ≡ z.octets.items };
+    ghost invariant = { λ z. integer_content (integer_value z.octets) ≡ z.octets };
 }
 
 impl IntegerAsn1 {
@@ -82,6 +83,10 @@ impl IntegerAsn1 {
     pub fn from_u64(alloc: Global, value: u64) -> Result<IntegerAsn1, AllocError>
         ensures { IfOk result (λ z. z ≡ pos value) }
     {
+        // Most numbers of messages are one octet, and of those none is left out.
+        if value < 128 {
+            return IntegerAsn1::from_octets(alloc, &[value as u8]);
+        }
         let mut octets = [0; 9];
         octets[1..].copy_from_slice(&value.to_be_bytes());
         IntegerAsn1::from_octets(alloc, shortest(&octets))
@@ -99,7 +104,7 @@ impl IntegerAsn1 {
         ensures value { IfOk result (λ z. z ≡ integer_value octets.now) }
         ensures content { IfOk result (λ z. integer_content z ≡ octets.now) }
     {
-        let octets = Vec::from_slice(alloc, octets)?;
+        let octets = FewOctets::from_slice(alloc, octets)?;
         Ok(IntegerAsn1 { octets })
     }
 
@@ -145,7 +150,7 @@ impl PartialEq for IntegerAsn1 {
     ghost laws = { Prim.search (comparing, rules) };
 
     fn eq(&self, other: &IntegerAsn1) -> bool {
-        self.octets == other.octets
+        self.octets.as_slice() == other.octets.as_slice()
     }
 }
 

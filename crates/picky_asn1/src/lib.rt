@@ -3,6 +3,7 @@
 
 pub mod bit_string;
 mod encoding;
+mod few_octets;
 mod general_string;
 mod integer;
 mod list_of;
