@@ -15,11 +15,12 @@ mod respond;
 
 pub use devices::{Sink, SinkFault, Source};
 pub use krb_accounts::{RealmRefusal, Settings};
+pub use krb_ap::{Admission, AdmitRefusal};
 pub use krb_client::{ApAsked, AsAsked, AskRefusal, Client, Credential, TakeRefusal};
 pub use krb_crypto::{ChecksumSuite, CipherSuite};
 pub use krb_frames::{AnswerRefusal, Responder, ServeFault, serve, serve_bytes};
 pub use krb_moments::Moment;
-pub use krb_service::{Admission, AdmitRefusal, Service};
+pub use krb_service::Service;
 pub use picky_asn1::date::GeneralizedTime;
 pub use picky_asn1::wrapper::{GeneralStringAsn1, OctetStringAsn1};
 pub use picky_krb::data_types::{EncryptionKey, PrincipalName, Ticket};

@@ -1,99 +1,106 @@
 -- A call's outcome is that of the remembering service.
-use Rattle.std.proofs.Common.{◌≡◌, ℕ, Bool, true, false, List, ◌∷◌, Result, Ok, Err, max, refl, sym, subst, inl, inr, ◌∙◌}
-use Rattle.picky_asn1.specs.BitString.{bit_of}
-use Rattle.picky_krb.specs.declared.messages.ap_req.ApReqInner.{ApReqInner}
+use Rattle.std.proofs.Common.{◌≡◌, ℕ, true, false, List, ◌∷◌, Result, Ok, Err, max, ap, refl, sym, subst, inl, inr, ◌∙◌}
 use Rattle.krb_moments.specs.Skew.{is_far}
-use Rattle.krb_rules.specs.Rows.{Table, and_then}
 use Rattle.krb_seen.specs.Pair.{PairRecord}
 use Rattle.krb_seen.specs.Seen.{SeenRecord, IsWindow}
-use Rattle.krb_service.specs.Admission.{AdmissionRecord}
-use Rattle.krb_service.specs.ApTable.{addressed, once, pair_of, valid_authenticator, valid_part}
-use Rattle.krb_service.specs.Messages.{IsApReq}
-use Rattle.krb_service.specs.Refusal.{IsJudged}
-use Rattle.krb_service.specs.RememberingService.{IsOnce, IsStep, presented, remembering}
+use Rattle.krb_ap.specs.Admission.{AdmissionRecord}
+use Rattle.krb_ap.specs.Entry.{EntryRecord}
+use Rattle.krb_ap.specs.Received.{Receives}
+use Rattle.krb_ap.specs.declared.presented.Presented.{Presented}
+use Rattle.krb_ap.specs.declared.refusal.AdmitRefusal.{AdmitRefusal}
+use Rattle.krb_ap.specs.declared.refusal.AdmitRefusal.TheVariants.{Unreadable, Krb, Memory}
+use Rattle.krb_service.specs.Once.{IsOnce, once, pair_of}
+use Rattle.krb_service.specs.RememberingService.{IsStep, remembering}
 use Rattle.krb_service.specs.Service.{ServiceRecord}
-use Rattle.krb_service.specs.declared.presented.Presented.{Presented}
-use Rattle.krb_service.specs.declared.refusal.AdmitRefusal.{AdmitRefusal}
-use Rattle.krb_service.specs.declared.refusal.AdmitRefusal.TheVariants.{Unreadable, Krb, Memory}
 use Rattle.krb_service.proofs.NewPairs.{refused_far}
 
--- what the request presents by this skew
-abbrev presented_by : ServiceRecord → ℕ → ℕ → ApReqInner → Table (Result Presented ℕ)
-presented_by service skew moment request =
-    and_then (addressed service.realm service.components service.suite service.number request) (λ _.
-    and_then (valid_part service.suite service.key skew moment request.ticket.0.0.enc_part.0) (λ part.
-    valid_authenticator request.authenticator.0 part))
+-- a service's settings for a call: its entry, and what was seen once the moment was raised, with its skew and greatest moment
+pub record AreSettings (old : ServiceRecord) (moment : ℕ) (entry : EntryRecord) (raised : SeenRecord) (skew now : ℕ) : Type 0 where
+  pub own_entry : entry ≡ old.entry
+  pub raised_skew : raised.skew ≡ old.seen.skew
+  pub raised_greatest : raised.greatest ≡ max old.seen.greatest moment
+  pub own_skew : skew ≡ raised.skew
+  pub own_now : now ≡ raised.greatest
 
--- raising the moment changes no more of what is presented
-moved : (old : ServiceRecord) (seen : SeenRecord) (now moment : ℕ) (request : ApReqInner) (r : Result Presented AdmitRefusal)
-    → seen.skew ≡ old.seen.skew → now ≡ moment
-    → IsJudged {T = Presented} (presented (record old { seen = seen }) now request).gives r → IsJudged {T = Presented} (presented old moment request).gives r
-unfolding presented
-moved old seen now moment request r skew same x =
-    subst (λ m. IsJudged {T = Presented} (presented_by old old.seen.skew m request).gives r) same
-    (subst (λ n. IsJudged {T = Presented} (presented_by old n now request).gives r) skew x)
+pub settings_of : (old own : ServiceRecord) (moment : ℕ) (raised : SeenRecord) (skew now : ℕ) → own ≡ old → raised.greatest ≡ max own.seen.greatest moment
+    → raised.skew ≡ own.seen.skew → skew ≡ raised.skew → now ≡ raised.greatest → AreSettings old moment own.entry raised skew now
+settings_of old own moment raised skew now same greatest_is skew_is skewed timed = record {
+  own_entry = ap (λ (s : ServiceRecord). s.entry) same;
+  raised_skew = skew_is ∙ ap (λ (s : ServiceRecord). s.seen.skew) same;
+  raised_greatest = greatest_is ∙ ap (λ (s : ServiceRecord). max s.seen.greatest moment) same;
+  own_skew = skewed;
+  own_now = timed;
+}
 
--- bytes that no request has
-pub step_unread : (old : ServiceRecord) (seen : SeenRecord) (moment : ℕ) (admitted : List PairRecord) (bytes words : List ℕ)
-    → ((request : ApReqInner) → IsApReq bytes request → ⊥) → IsWindow seen admitted
-    → IsStep (remembering old moment admitted bytes words).gives admitted (Err Unreadable) seen
-unfolding remembering
-step_unread old seen moment admitted bytes words none w = (admitted, inr (none, refl), w)
+-- a window of what was seen is one once the moment was raised
+pub window_raised : (old own : ServiceRecord) (raised : SeenRecord) (admitted : List PairRecord) → own ≡ old → (IsWindow own.seen admitted → IsWindow raised admitted)
+    → IsWindow old.seen admitted → IsWindow raised admitted
+window_raised old own raised admitted same raise w = raise (subst (λ (s : ServiceRecord). IsWindow s.seen admitted) (sym same) w)
 
-refused : (service : ServiceRecord) (moment : ℕ) (admitted : List PairRecord) (bytes words : List ℕ) (request : ApReqInner) (e : AdmitRefusal) (seen : SeenRecord)
-    → IsApReq bytes request → IsJudged {T = Presented} (presented service moment request).gives (Err e) → IsWindow seen admitted
+-- what is received by them is received by the service
+moved : (old : ServiceRecord) (moment : ℕ) (entry : EntryRecord) (raised : SeenRecord) (skew now : ℕ) (bytes : List ℕ) (r : Result Presented AdmitRefusal)
+    → AreSettings old moment entry raised skew now → Receives entry skew now bytes r → Receives old.entry old.seen.skew (max old.seen.greatest moment) bytes r
+moved old moment entry raised skew now bytes r same x =
+    subst (λ m. Receives old.entry old.seen.skew m bytes r) (same.own_now ∙ same.raised_greatest)
+    (subst (λ n. Receives old.entry n now bytes r) (same.own_skew ∙ same.raised_skew)
+    (subst (λ e. Receives e skew now bytes r) same.own_entry x))
+
+refused : (service : ServiceRecord) (moment : ℕ) (admitted : List PairRecord) (bytes words : List ℕ) (e : AdmitRefusal) (seen : SeenRecord)
+    → Receives service.entry service.seen.skew moment bytes (Err e) → IsWindow seen admitted
     → IsStep (remembering service moment admitted bytes words).gives admitted (Err e) seen
-unfolding remembering
-refused service moment admitted bytes words request (Krb code) seen found x w = (admitted, inl (request, found, (Err code, inr (code, x, refl), refl)), w)
-refused service moment admitted bytes words request Unreadable seen found x w = absurd x
-refused service moment admitted bytes words request Memory seen found x w = w
+unfolding Receives IsStep remembering
+refused service moment admitted bytes words (Krb code) seen x w = (admitted, inl (x.0, x.1, (Err code, inr (code, x.2, refl), refl)), w)
+refused service moment admitted bytes words Unreadable seen x w = (admitted, inr (x, refl), w)
+refused service moment admitted bytes words Memory seen x w = w
 
-held : (service : ServiceRecord) (moment : ℕ) (admitted : List PairRecord) (bytes words : List ℕ) (request : ApReqInner) (p : Presented) (r : Result AdmissionRecord AdmitRefusal) (seen : SeenRecord)
-    → IsApReq bytes request → IsJudged {T = Presented} (presented service moment request).gives (Ok p)
-    → IsOnce (once service.seen.skew moment admitted (bit_of request.ap_options.0 2) words p).gives admitted (pair_of p) r seen
+held : (service : ServiceRecord) (moment : ℕ) (admitted : List PairRecord) (bytes words : List ℕ) (p : Presented) (r : Result AdmissionRecord AdmitRefusal) (seen : SeenRecord)
+    → Receives service.entry service.seen.skew moment bytes (Ok p)
+    → IsOnce (once service.seen.skew moment admitted words p).gives admitted (pair_of p) r seen
     → IsStep (remembering service moment admitted bytes words).gives admitted r seen
-unfolding remembering
-held service moment admitted bytes words request p (Ok made) seen found x y =
-    (pair_of p ∷ admitted, inl (request, found, (Ok (record { admission = made; pair = pair_of p }), inl (p, x, y.0), refl)), y.1)
-held service moment admitted bytes words request p (Err (Krb code)) seen found x y = (admitted, inl (request, found, (Err code, inl (p, x, y.0), refl)), y.1)
-held service moment admitted bytes words request p (Err Unreadable) seen found x y = absurd y
-held service moment admitted bytes words request p (Err Memory) seen found x y = y
+unfolding Receives IsOnce IsStep remembering
+held service moment admitted bytes words p (Ok made) seen x y =
+    (pair_of p ∷ admitted, inl (x.0, x.1, (Ok (record { admission = made; pair = pair_of p }), inl (p, x.2, y.0), refl)), y.1)
+held service moment admitted bytes words p (Err (Krb code)) seen x y = (admitted, inl (x.0, x.1, (Err code, inl (p, x.2, y.0), refl)), y.1)
+held service moment admitted bytes words p (Err Unreadable) seen x y = absurd y
+held service moment admitted bytes words p (Err Memory) seen x y = y
+
+far_once : (skew moment : ℕ) (admitted : List PairRecord) (words : List ℕ) (p : Presented) (seen : SeenRecord) → is_far skew moment p.time ≡ true → IsWindow seen admitted
+    → IsOnce (once skew moment admitted words p).gives admitted (pair_of p) (Err (Krb 37)) seen
+unfolding IsOnce
+far_once skew moment admitted words p seen far w = (refused_far skew moment admitted words p far, w)
 
 -- a request that is refused for what it presents
-pub step_refused : (old : ServiceRecord) (seen : SeenRecord) (now moment : ℕ) (admitted : List PairRecord) (bytes words : List ℕ) (request : ApReqInner) (e : AdmitRefusal)
-    → seen.skew ≡ old.seen.skew → now ≡ max old.seen.greatest moment → IsApReq bytes request
-    → IsJudged {T = Presented} (presented (record old { seen = seen }) now request).gives (Err e) → IsWindow seen admitted
-    → IsStep (remembering old (max old.seen.greatest moment) admitted bytes words).gives admitted (Err e) seen
-step_refused old seen now moment admitted bytes words request e skew same found x w =
-    refused old (max old.seen.greatest moment) admitted bytes words request e seen found (moved old seen now (max old.seen.greatest moment) request (Err e) skew same x) w
+pub step_refused : (old : ServiceRecord) (moment : ℕ) (entry : EntryRecord) (raised : SeenRecord) (skew now : ℕ) (admitted : List PairRecord) (bytes words : List ℕ) (e : AdmitRefusal)
+    → AreSettings old moment entry raised skew now → Receives entry skew now bytes (Err e) → IsWindow raised admitted
+    → IsStep (remembering old (max old.seen.greatest moment) admitted bytes words).gives admitted (Err e) raised
+step_refused old moment entry raised skew now admitted bytes words e same x w =
+    refused old (max old.seen.greatest moment) admitted bytes words e raised (moved old moment entry raised skew now bytes (Err e) same x) w
 
 -- a request whose time is far from the greatest moment
-pub step_far : (old : ServiceRecord) (seen : SeenRecord) (own now moment : ℕ) (admitted : List PairRecord) (bytes words : List ℕ) (request : ApReqInner) (p : Presented)
-    → own ≡ old.seen.skew → seen.skew ≡ old.seen.skew → now ≡ max old.seen.greatest moment → IsApReq bytes request
-    → IsJudged {T = Presented} (presented (record old { seen = seen }) now request).gives (Ok p) → is_far own now p.time ≡ true → IsWindow seen admitted
-    → IsStep (remembering old (max old.seen.greatest moment) admitted bytes words).gives admitted (Err (Krb 37)) seen
-step_far old seen own now moment admitted bytes words request p owned skew same found x far w =
+pub step_far : (old : ServiceRecord) (moment : ℕ) (entry : EntryRecord) (raised : SeenRecord) (skew now : ℕ) (admitted : List PairRecord) (bytes words : List ℕ) (p : Presented)
+    → AreSettings old moment entry raised skew now → Receives entry skew now bytes (Ok p) → is_far skew now p.time ≡ true → IsWindow raised admitted
+    → IsStep (remembering old (max old.seen.greatest moment) admitted bytes words).gives admitted (Err (Krb 37)) raised
+step_far old moment entry raised skew now admitted bytes words p same x far w =
     let at : ℕ = max old.seen.greatest moment in
-    let far_at = subst (λ m. is_far old.seen.skew m p.time ≡ true) same (subst (λ n. is_far n now p.time ≡ true) owned far) in
-    held old at admitted bytes words request p (Err (Krb 37)) seen found (moved old seen now at request (Ok p) skew same x)
-    (refused_far old.seen.skew at admitted (bit_of request.ap_options.0 2) words p far_at, w)
+    let far_at = subst (λ m. is_far old.seen.skew m p.time ≡ true) (same.own_now ∙ same.raised_greatest)
+    (subst (λ n. is_far n now p.time ≡ true) (same.own_skew ∙ same.raised_skew) far) in
+    held old at admitted bytes words p (Err (Krb 37)) raised (moved old moment entry raised skew now bytes (Ok p) same x)
+    (far_once old.seen.skew at admitted words p raised far_at w)
 
--- a time that is near by the service's settings is near by what was seen
-pub near_seen : (old : ServiceRecord) (seen : SeenRecord) (own now time : ℕ) → own ≡ old.seen.skew → seen.skew ≡ old.seen.skew → now ≡ seen.greatest
-    → is_far own now time ≡ false → is_far seen.skew seen.greatest time ≡ false
-near_seen old seen own now time owned skew same near =
-    subst (λ m. is_far seen.skew m time ≡ false) same (subst (λ n. is_far n now time ≡ false) (owned ∙ sym skew) near)
+-- a time that is near by the settings is near by what was seen
+pub near_seen : (seen : SeenRecord) (skew now time : ℕ) → skew ≡ seen.skew → now ≡ seen.greatest → is_far skew now time ≡ false
+    → is_far seen.skew seen.greatest time ≡ false
+near_seen seen skew now time same_skew same_now near =
+    subst (λ m. is_far seen.skew m time ≡ false) same_now (subst (λ n. is_far n now time ≡ false) same_skew near)
 
 -- a request that presents this
-pub step_held : (old : ServiceRecord) (seen after : SeenRecord) (now moment : ℕ) (admitted : List PairRecord) (bytes words : List ℕ) (request : ApReqInner) (p : Presented) (wanted : Bool)
-    (r : Result AdmissionRecord AdmitRefusal)
-    → seen.skew ≡ old.seen.skew → seen.greatest ≡ max old.seen.greatest moment → now ≡ max old.seen.greatest moment → IsApReq bytes request
-    → IsJudged {T = Presented} (presented (record old { seen = seen }) now request).gives (Ok p) → wanted ≡ bit_of request.ap_options.0 2
-    → IsOnce (once seen.skew seen.greatest admitted wanted words p).gives admitted (pair_of p) r after
+pub step_held : (old : ServiceRecord) (moment : ℕ) (entry : EntryRecord) (raised : SeenRecord) (skew now : ℕ) (admitted : List PairRecord) (bytes words : List ℕ) (p : Presented)
+    (r : Result AdmissionRecord AdmitRefusal) (after : SeenRecord)
+    → AreSettings old moment entry raised skew now → Receives entry skew now bytes (Ok p)
+    → IsOnce (once raised.skew raised.greatest admitted words p).gives admitted (pair_of p) r after
     → IsStep (remembering old (max old.seen.greatest moment) admitted bytes words).gives admitted r after
-step_held old seen after now moment admitted bytes words request p wanted r skew greatest same found x asked y =
+step_held old moment entry raised skew now admitted bytes words p r after same x y =
     let at : ℕ = max old.seen.greatest moment in
-    held old at admitted bytes words request p r after found (moved old seen now at request (Ok p) skew same x)
-    (subst (λ b. IsOnce (once old.seen.skew at admitted b words p).gives admitted (pair_of p) r after) asked
-    (subst (λ m. IsOnce (once old.seen.skew m admitted wanted words p).gives admitted (pair_of p) r after) greatest
-    (subst (λ n. IsOnce (once n seen.greatest admitted wanted words p).gives admitted (pair_of p) r after) skew y)))
+    held old at admitted bytes words p r after (moved old moment entry raised skew now bytes (Ok p) same x)
+    (subst (λ m. IsOnce (once old.seen.skew m admitted words p).gives admitted (pair_of p) r after) same.raised_greatest
+    (subst (λ n. IsOnce (once n raised.greatest admitted words p).gives admitted (pair_of p) r after) same.raised_skew y))

@@ -1,30 +1,21 @@
 -- The service that remembers each pair of client and time that it ever admitted (RFC 4120, section 3.2.3).
 use Rattle.std.specs.Prelude.{ℕ, List, ◌∷◌, Result, Ok, Err}
-use Rattle.picky_asn1.specs.BitString.{bit_of}
 use Rattle.picky_krb.specs.declared.messages.ap_req.ApReqInner.{ApReqInner}
 use Rattle.krb_rules.specs.Rows.{Table, done, ask, as_made, and_then}
 use Rattle.krb_seen.specs.Pair.{PairRecord}
 use Rattle.krb_seen.specs.Seen.{SeenRecord, IsWindow}
-use Rattle.krb_service.specs.declared.presented.Presented.{Presented}
-use Rattle.krb_service.specs.declared.refusal.AdmitRefusal.{AdmitRefusal}
-use Rattle.krb_service.specs.declared.refusal.AdmitRefusal.TheVariants.{Unreadable, Krb, Memory}
-use Rattle.krb_service.specs.Admission.{AdmissionRecord, Admitted}
-use Rattle.krb_service.specs.ApTable.{addressed, valid_part, valid_authenticator, once}
-use Rattle.krb_service.specs.Messages.{IsApReq, sole_ap_req}
+use Rattle.krb_ap.specs.Admission.{AdmissionRecord}
+use Rattle.krb_ap.specs.ApTable.{presented}
+use Rattle.krb_ap.specs.Messages.{IsApReq, sole_ap_req}
+use Rattle.krb_ap.specs.declared.refusal.AdmitRefusal.{AdmitRefusal}
+use Rattle.krb_ap.specs.declared.refusal.AdmitRefusal.TheVariants.{Unreadable, Krb, Memory}
+use Rattle.krb_service.specs.Once.{Admitted, once}
 use Rattle.krb_service.specs.Service.{ServiceRecord}
 
--- what the request presents at a moment, up to the time that it tells
-unfoldable pub presented : ServiceRecord → ℕ → ApReqInner → Table (Result Presented ℕ)
-presented service moment request =
-    and_then (addressed service.realm service.components service.suite service.number request) (λ _.
-    and_then (valid_part service.suite service.key service.seen.skew moment request.ticket.0.0.enc_part.0) (λ part.
-    valid_authenticator request.authenticator.0 part))
-
--- an AP request is admitted once, with a reply where option 2, mutual-required, is set
+-- what an AP request presents is admitted once
 abbrev pub judged : ServiceRecord → ℕ → List PairRecord → ApReqInner → List ℕ → Table (Result Admitted ℕ)
 judged service moment admitted request words =
-    and_then (presented service moment request)
-    (once service.seen.skew moment admitted (bit_of request.ap_options.0 2) words)
+    and_then (presented service.entry service.seen.skew moment request) (once service.seen.skew moment admitted words)
 
 -- the answer to a call, and the pairs that were ever admitted after it
 abbrev pub Outcome : Type 0
@@ -46,15 +37,8 @@ abbrev pub IsAfter : (Outcome → Type 0) → Result AdmissionRecord AdmitRefusa
 IsAfter gives answer seen = (after : List PairRecord) × gives (answer, after) × IsWindow seen after
 
 -- so it is, or memory was wanting, and what was seen is a window of the pairs before
-abbrev pub IsStep : (Outcome → Type 0) → List PairRecord → Result AdmissionRecord AdmitRefusal → SeenRecord → Type 0
+unfoldable pub IsStep : (Outcome → Type 0) → List PairRecord → Result AdmissionRecord AdmitRefusal → SeenRecord → Type 0
 IsStep gives admitted (Ok admission) seen = IsAfter gives (Ok admission) seen
 IsStep gives admitted (Err Unreadable) seen = IsAfter gives (Err Unreadable) seen
 IsStep gives admitted (Err (Krb code)) seen = IsAfter gives (Err (Krb code)) seen
 IsStep gives admitted (Err Memory) seen = IsWindow seen admitted
-
--- of what was presented alone: it is admitted and remembered, or it is refused and isn't
-abbrev pub IsOnce : (Result Admitted ℕ → Type 0) → List PairRecord → PairRecord → Result AdmissionRecord AdmitRefusal → SeenRecord → Type 0
-IsOnce gives admitted pair (Ok admission) seen = gives (Ok (record { admission = admission; pair = pair })) × IsWindow seen (pair ∷ admitted)
-IsOnce gives admitted pair (Err (Krb code)) seen = gives (Err code) × IsWindow seen admitted
-IsOnce gives admitted pair (Err Unreadable) seen = ⊥
-IsOnce gives admitted pair (Err Memory) seen = IsWindow seen admitted

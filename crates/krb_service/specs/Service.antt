@@ -1,18 +1,15 @@
--- A service (RFC 4120, section 1.1): its realm, its name, its key with suite and number, and what it has seen.
+-- A service (RFC 4120, section 1.1): its key with its realm and its name, and what it has seen.
 use Rattle.std.specs.Prelude.{ℕ, ◌*◌, nat_le, not, ◌==◌, ◌||◌, List, [], length, Result, Ok, Err, if◌then◌else◌}
 use Rattle.krb_crypto.specs.declared.suite.CipherSuite.{CipherSuite}
 use Rattle.krb_crypto.specs.Suites.{cipher_key_size}
 use Rattle.krb_accounts.specs.Names.{is_realm_name, are_components}
 use Rattle.krb_accounts.specs.declared.refusal.RealmRefusal.{RealmRefusal}
 use Rattle.krb_accounts.specs.declared.refusal.RealmRefusal.TheVariants.{BadName, BadKeyLength, BadSetting}
+use Rattle.krb_ap.specs.Entry.{EntryRecord}
 use Rattle.krb_seen.specs.Seen.{SeenRecord}
 
 pub record ServiceRecord : Type 0 where
-  pub realm : List ℕ
-  pub components : List (List ℕ)
-  pub suite : CipherSuite
-  pub key : List ℕ
-  pub number : ℕ
+  pub entry : EntryRecord
   pub seen : SeenRecord
 
 -- whether a service is made, in the order of refusals; the skew is in seconds, a day at most, and numbers count from 1
@@ -25,10 +22,6 @@ making realm components suite key number skew =
 -- the service that has seen nothing
 abbrev pub made : List ℕ → List (List ℕ) → CipherSuite → List ℕ → ℕ → ℕ → ServiceRecord
 made realm components suite key number skew = record {
-  realm = realm;
-  components = components;
-  suite = suite;
-  key = key;
-  number = number;
+  entry = record { realm = realm; components = components; suite = suite; key = key; number = number };
   seen = record { greatest = 0; skew = 1000000 * skew; held = [] };
 }

@@ -3,40 +3,27 @@ ghost use Rattle.std.specs.Prelude.{◌≡◌, ◌≤◌, ◌⊎◌, List, lengt
 ghost use Rattle.krb_accounts.specs.Names.{parts};
 ghost use Rattle.krb_seen.specs.Pair.{PairRecord};
 ghost use Rattle.krb_seen.specs.Seen.{IsWindow};
-ghost use Rattle.krb_service.specs.RememberingService.{IsStep, presented, remembering};
-ghost use Rattle.krb_service.specs.Refusal.{IsJudged};
+ghost use Rattle.krb_service.specs.RememberingService.{IsStep, remembering};
 ghost use Rattle.krb_service.specs.Service.{made, making};
 
-use crate::admission::Admission;
-use crate::judge::{check_address, check_authenticator, check_ticket};
-use crate::messages::read_ap_req;
 use crate::once::admit_once;
-use crate::presented::Presented;
-use crate::refusal::AdmitRefusal;
 use krb_accounts::{RealmRefusal, are_components, components_of, is_realm_name, realm_name_of};
+use krb_ap::{Admission, AdmitRefusal, KeytabEntry};
 use krb_crypto::CipherSuite;
 use krb_moments::Moment;
 use krb_seen::Seen;
 use krb_types::constants::error_codes;
-use picky_asn1::wrapper::{GeneralStringAsn1, OctetStringAsn1};
-use picky_krb::messages::ApReqInner;
+use picky_asn1::wrapper::OctetStringAsn1;
 use std::alloc::Global;
 use std::marker::Model;
 
 /// The most seconds by which clocks may be allowed to differ: a day.
 const SKEW_LIMIT: u64 = 86_400;
 
-/// The option mutual-required of an AP request (RFC 4120, section 5.5.1).
-const MUTUAL_REQUIRED: usize = 2;
-
-/// A service: its realm and its name, its key with suite and number, and what it has seen. A contract sees these six.
+/// A service: its key with its realm and its name, and what it has seen. A contract sees both.
 #[derive(Drop)]
 pub struct Service {
-    realm: GeneralStringAsn1,
-    components: Vec<GeneralStringAsn1>,
-    suite: CipherSuite,
-    key: OctetStringAsn1,
-    number: u32,
+    entry: KeytabEntry,
     seen: Seen,
 }
 
@@ -45,14 +32,7 @@ impl Model for Service {
 
     ghost Value = { ServiceRecord };
 
-    ghost view = { λ s. record {
-      realm = s.realm;
-      components = s.components.items;
-      suite = s.suite;
-      key = s.key;
-      number = s.number;
-      seen = s.seen;
-    } };
+    ghost view = { λ s. record { entry = s.entry; seen = s.seen } };
 }
 
 impl Service {
@@ -88,11 +68,7 @@ impl Service {
         let components = components_of(alloc, name)?;
         let key = OctetStringAsn1::new(alloc, key)?;
         Ok(Service {
-            realm,
-            components,
-            suite,
-            key,
-            number,
+            entry: KeytabEntry::new(realm, components, suite, key, number),
             seen: Seen::new(alloc, skew),
         })
     }
@@ -117,42 +93,11 @@ impl Service {
     {
         self.seen.raise(moment);
         let now = self.seen.greatest();
-        let Some(request) = read_ap_req(alloc, bytes)? else {
-            return Err(AdmitRefusal::Unreadable);
-        };
-        let presented = self.judge(alloc, now, &request)?;
-        if now.is_far_from(presented.time, self.seen.skew()) {
+        let skew = self.seen.skew();
+        let presented = self.entry.receive(alloc, skew, now, bytes)?;
+        if now.is_far_from(presented.time, skew) {
             return Err(AdmitRefusal::Krb(error_codes::KRB_AP_ERR_SKEW));
         }
-        let wanted = request.ap_options.0.bit(MUTUAL_REQUIRED);
-        admit_once(&mut self.seen, alloc, presented, wanted, words)
-    }
-
-    // Judges a request at a moment, up to the time that it tells.
-    fn judge(
-        &self,
-        alloc: Global,
-        moment: Moment,
-        request: &ApReqInner,
-    ) -> Result<Presented, AdmitRefusal>
-        ensures { IsJudged (presented self.now moment request.now).gives result }
-    {
-        let key = self.key.as_bytes();
-        check_address(
-            &self.realm,
-            self.components.as_slice(),
-            self.suite,
-            self.number,
-            request,
-        )?;
-        let part = check_ticket(
-            alloc,
-            self.suite,
-            key,
-            self.seen.skew(),
-            moment,
-            &request.ticket.0.0.enc_part.0,
-        )?;
-        check_authenticator(alloc, &request.authenticator.0, part)
+        admit_once(&mut self.seen, alloc, presented, words)
     }
 }

@@ -1,0 +1,4 @@
+pub mod Tagged
+pub mod Judged
+pub mod Presentations
+pub mod Shown

@@ -1,0 +1,28 @@
+-- What a service is told of a client that it admits (RFC 4120, section 3.2.3).
+use Rattle.std.specs.Prelude.{ℕ, List, Option}
+use Rattle.std.specs.Option.{option_map}
+use Rattle.krb_types.specs.declared.data_types.authenticator.AuthenticatorInner.{AuthenticatorInner}
+use Rattle.krb_types.specs.declared.data_types.encryption_key.EncryptionKey.{EncryptionKey}
+use Rattle.krb_types.specs.declared.data_types.principal_name.PrincipalName.{PrincipalName}
+use Rattle.krb_ap.specs.declared.presented.Presented.{Presented}
+
+-- the client by its realm and its name, the session key, the authenticator's key if it has one, and the reply if one
+-- was asked for
+pub record AdmissionRecord : Type 0 where
+  pub realm : List ℕ
+  pub client : PrincipalName
+  pub session : EncryptionKey
+  pub subkey : Option EncryptionKey
+  pub reply : Option (List ℕ)
+
+abbrev pub subkey_of : AuthenticatorInner → Option EncryptionKey
+subkey_of authenticator = option_map (λ told. told.0) authenticator.subkey.0
+
+abbrev pub admission_of : Presented → Option (List ℕ) → AdmissionRecord
+admission_of presented reply = record {
+  realm = presented.part.crealm.0;
+  client = presented.part.cname.0;
+  session = presented.part.key.0;
+  subkey = subkey_of presented.authenticator;
+  reply = reply;
+}

@@ -1,0 +1,105 @@
+-- How a service judges an AP request, in parts of one table: the first case that holds counts (RFC 4120, section 3.2.3).
+use Rattle.std.specs.Prelude.{ℕ, ◌+◌, ◌*◌, nat_lt, Bool, true, not, ◌&&◌, ◌||◌, List, Result, Ok, Err}
+use Rattle.std.specs.Option.{option_map_or}
+use Rattle.picky_asn1.specs.BitString.{bit_of}
+use Rattle.picky_asn1.specs.GeneralizedTime.{seconds_of}
+use Rattle.krb_crypto.specs.declared.suite.CipherSuite.{CipherSuite}
+use Rattle.krb_crypto.specs.Suites.{cipher_number}
+use Rattle.krb_types.specs.declared.data_types.authenticator.AuthenticatorInner.{AuthenticatorInner}
+use Rattle.krb_types.specs.declared.data_types.encrypted_data.EncryptedData.{EncryptedData}
+use Rattle.krb_types.specs.declared.data_types.encryption_key.EncryptionKey.{EncryptionKey}
+use Rattle.krb_types.specs.declared.data_types.enc_ticket_part.EncTicketPartInner.{EncTicketPartInner}
+use Rattle.krb_types.specs.declared.data_types.ticket.TicketInner.{TicketInner}
+use Rattle.picky_krb.specs.declared.messages.ap_req.ApReqInner.{ApReqInner}
+use Rattle.krb_rules.specs.Keys.{suite_of}
+use Rattle.krb_rules.specs.Names.{components, is_same_name, is_same_realm}
+use Rattle.krb_rules.specs.Numbers.{is_number}
+use Rattle.krb_rules.specs.Rows.{Table, done, ask, and_then, need, refuse}
+use Rattle.krb_rules.specs.Times.{moment_at}
+use Rattle.krb_ap.specs.Entry.{EntryRecord}
+use Rattle.krb_ap.specs.Messages.{IsAuthenticator, IsTicketPart, sole_authenticator, sole_ticket_part}
+use Rattle.krb_ap.specs.declared.presented.Presented.{Presented}
+
+-- the request and its ticket are of version 5
+abbrev pub is_version_5 : ApReqInner → Bool
+is_version_5 request = is_number 5 request.pvno.0 && is_number 5 request.ticket.0.0.tkt_vno.0
+
+-- the ticket is for the service of this realm and this name
+abbrev pub is_for : List ℕ → List (List ℕ) → TicketInner → Bool
+is_for realm name ticket = is_same_realm ticket.realm.0 realm && is_same_name (components ticket.sname.0) name
+
+-- the data doesn't say that it is under a key of another number
+abbrev pub may_be_under : ℕ → EncryptedData → Bool
+may_be_under number encrypted = option_map_or (λ told. is_number number told.0) encrypted.kvno.0 true
+
+-- the request's own fields: it is for this service, and sealed as this service can open it
+abbrev pub addressed : List ℕ → List (List ℕ) → CipherSuite → ℕ → ApReqInner → Table (Result (Unit {0}) ℕ)
+addressed realm name suite number request =
+    refuse (bit_of request.ap_options.0 1) 48
+    (refuse (not (is_version_5 request)) 39
+    (refuse (not (is_number 14 request.msg_type.0)) 40
+    (refuse (not (is_for realm name request.ticket.0.0)) 35
+    (refuse (not (may_be_under number request.ticket.0.0.enc_part.0)) 44
+    (refuse (not (is_number (cipher_number suite) request.ticket.0.0.enc_part.0.etype.0)) 45
+    (done (Ok tt)))))))
+
+-- the second in which a ticket starts: where it doesn't tell one, that of the client's first ticket
+abbrev pub start_of : EncTicketPartInner → ℕ
+start_of part = option_map_or (λ told. seconds_of told.0.0) part.starttime.0 (seconds_of part.auth_time.0.0)
+
+-- the ticket starts later than the moment and the skew, or isn't valid yet (flag 7; RFC 4120, section 2.2)
+abbrev pub is_early : ℕ → ℕ → EncTicketPartInner → Bool
+is_early skew moment part = nat_lt (moment + skew) (start_of part * 1000000) || bit_of part.flags.0 7
+
+-- the moment is past the ticket's end and the skew
+abbrev pub is_late : ℕ → ℕ → EncTicketPartInner → Bool
+is_late skew moment part = nat_lt (seconds_of part.endtime.0.0 * 1000000 + skew) moment
+
+-- the ticket counts at this moment
+abbrev pub timely : ℕ → ℕ → EncTicketPartInner → Table (Result (Unit {0}) ℕ)
+timely skew moment part =
+    refuse (is_early skew moment part) 33
+    (refuse (is_late skew moment part) 32
+    (done (Ok tt)))
+
+-- the part that the service's key opens, of a ticket that counts
+abbrev pub valid_part : CipherSuite → List ℕ → ℕ → ℕ → EncryptedData → Table (Result EncTicketPartInner ℕ)
+valid_part suite key skew moment encrypted =
+    ask (IsTicketPart suite key encrypted) (sole_ticket_part suite key encrypted) (done (Err 31)) (λ part.
+    and_then (timely skew moment part) (λ _.
+    done (Ok part)))
+
+-- the authenticator is of the ticket's client
+abbrev pub is_of_client : EncTicketPartInner → AuthenticatorInner → Bool
+is_of_client part authenticator =
+    is_same_realm authenticator.crealm.0 part.crealm.0 && is_same_name (components authenticator.cname.0) (components part.cname.0)
+
+-- the suite of the ticket's key, and the authenticator that this key opens
+abbrev pub opened : EncryptionKey → EncryptedData → Table (Result (CipherSuite × AuthenticatorInner) ℕ)
+opened key encrypted =
+    need (suite_of key) 31 (λ suite.
+    ask (IsAuthenticator suite key.key_value.0 encrypted) (sole_authenticator suite key.key_value.0 encrypted) (done (Err 31)) (λ authenticator.
+    done (Ok (suite, authenticator))))
+
+-- the moment that an authenticator of the ticket's client tells
+abbrev pub told : EncTicketPartInner → AuthenticatorInner → Table (Result ℕ ℕ)
+told part authenticator =
+    refuse (not (is_number 5 authenticator.authenticator_vno.0)) 39
+    (refuse (not (is_of_client part authenticator)) 36
+    (need (moment_at (seconds_of authenticator.ctime.0.0) authenticator.cusec.0) 41 (λ time.
+    done (Ok time))))
+
+-- the authenticator under the ticket's key, with the moment that it tells; a reply is wanted where option 2,
+-- mutual-required, is set
+abbrev pub valid_authenticator : ApReqInner → EncTicketPartInner → Table (Result Presented ℕ)
+valid_authenticator request part =
+    and_then (opened part.key.0 request.authenticator.0) (λ found.
+    and_then (told part found.1) (λ time.
+    done (Ok (record { part = part; suite = found.0; authenticator = found.1; time = time; wants_reply = bit_of request.ap_options.0 2 }))))
+
+-- what the request presents to the service of this key at a moment, up to the time that it tells
+unfoldable pub presented : EntryRecord → ℕ → ℕ → ApReqInner → Table (Result Presented ℕ)
+presented entry skew moment request =
+    and_then (addressed entry.realm entry.components entry.suite entry.number request) (λ _.
+    and_then (valid_part entry.suite entry.key skew moment request.ticket.0.0.enc_part.0) (λ part.
+    valid_authenticator request part))

@@ -1,0 +1,86 @@
+-- What an AP request is made of, with what is sealed in it and the confounders (RFC 4120, sections 3.2.2, 5.5.1; RFC 3961, section 5.3).
+use Rattle.std.specs.Prelude.{◌≡◌, ℕ, List, Option, ℤ}
+use Rattle.std.specs.Option.{option_map}
+use Rattle.asn1_trees.specs.Tree.{Tree, Writes}
+use Rattle.picky_asn1.specs.BitString.{Bits}
+use Rattle.krb_blocks.specs.Bytes.{IsBytes}
+use Rattle.krb_crypto.specs.declared.suite.CipherSuite.{CipherSuite}
+use Rattle.krb_crypto.specs.Sealing.{IsSealedBy}
+use Rattle.krb_types.specs.declared.data_types.authenticator.AuthenticatorInner.{AuthenticatorInner}
+use Rattle.krb_types.specs.declared.data_types.encrypted_data.EncryptedData.{EncryptedData}
+use Rattle.krb_types.specs.declared.data_types.enc_ticket_part.EncTicketPartInner.{EncTicketPartInner}
+use Rattle.krb_types.specs.declared.data_types.principal_name.PrincipalName.{PrincipalName}
+use Rattle.picky_krb.specs.declared.messages.ap_req.ApReqInner.{ApReqInner}
+use Rattle.krb_ap.specs.Admission.{AdmissionRecord, subkey_of}
+use Rattle.krb_ap.specs.Messages.{IsApReq, authenticator_tree, ticket_part_tree}
+
+-- what a request shows to all: its fields and its ticket's, but for the two ciphertexts
+pub record Outer : Type 0 where
+  pub pvno : ℤ
+  pub msg_type : ℤ
+  pub options : Bits
+  pub tkt_vno : ℤ
+  pub realm : List ℕ
+  pub service : PrincipalName
+  pub part_etype : ℤ
+  pub part_kvno : Option ℤ
+  pub etype : ℤ
+  pub kvno : Option ℤ
+
+-- what a client chooses: the outer fields, the ticket's part, the authenticator, and the confounder of each
+pub record Choice : Type 0 where
+  pub outer : Outer
+  pub part : EncTicketPartInner
+  pub part_confounder : List ℕ
+  pub authenticator : AuthenticatorInner
+  pub confounder : List ℕ
+
+abbrev pub encrypted : ℤ → Option ℤ → List ℕ → EncryptedData
+encrypted etype kvno cipher = record {
+  etype = record { 0 = etype };
+  kvno = record { 0 = option_map (λ number. record { 0 = number }) kvno };
+  cipher = record { 0 = cipher };
+}
+
+-- the request with these outer fields and these ciphertexts
+abbrev pub request_of : Outer → List ℕ → List ℕ → ApReqInner
+request_of outer part_cipher cipher = record {
+  pvno = record { 0 = outer.pvno };
+  msg_type = record { 0 = outer.msg_type };
+  ap_options = record { 0 = outer.options };
+  ticket = record {
+    0 = record {
+      0 = record {
+        tkt_vno = record { 0 = outer.tkt_vno };
+        realm = record { 0 = outer.realm };
+        sname = record { 0 = outer.service };
+        enc_part = record { 0 = encrypted outer.part_etype outer.part_kvno part_cipher };
+      };
+    };
+  };
+  authenticator = record { 0 = encrypted outer.etype outer.kvno cipher };
+}
+
+-- the value's encoding is sealed to this ciphertext behind the confounder, by the suite that the key fits
+pub record Seals {T : Type 0} (tree : T → Tree) (key : List ℕ) (usage : ℕ) (confounder : List ℕ) (value : T) (cipher : List ℕ) : Type 0 where
+  pub key_bytes : IsBytes key
+  pub suite : CipherSuite
+  pub plain : List ℕ
+  pub writes : Writes tree value plain
+  pub sealed : IsSealedBy suite key usage confounder plain cipher
+
+-- the bytes are the one encoding of an AP request with these outer fields, whose ticket seals the part under the
+-- service's key (usage 2), and whose authenticator is sealed under the part's key (usage 11; RFC 4120, section 7.5.1)
+pub record Presents (key : List ℕ) (choice : Choice) (bytes : List ℕ) : Type 0 where
+  pub part_cipher : List ℕ
+  pub cipher : List ℕ
+  pub writes : IsApReq bytes (request_of choice.outer part_cipher cipher)
+  pub part : Seals {T = EncTicketPartInner} ticket_part_tree key 2 choice.part_confounder choice.part part_cipher
+  pub authenticator : Seals {T = AuthenticatorInner} authenticator_tree choice.part.key.0.key_value.0 11 choice.confounder choice.authenticator cipher
+
+-- the admission tells client and keys as they were chosen
+pub record TellsOf (choice : Choice) (admission : AdmissionRecord) : Type 0 where
+  pub realm : admission.realm ≡ choice.part.crealm.0
+  pub client : admission.client ≡ choice.part.cname.0
+  pub session : admission.session ≡ choice.part.key.0
+  pub subkey : admission.subkey ≡ subkey_of choice.authenticator

@@ -1,0 +1,117 @@
+//! Admissions.
+ghost use Rattle.std.specs.Prelude.{◌≡◌, ◌≤◌, length, IfOk};
+ghost use Rattle.std.specs.Option.{option_map};
+ghost use Rattle.krb_ap.specs.Admission.{admission_of, subkey_of};
+ghost use Rattle.krb_ap.specs.ApReply.{IsReplyTo};
+
+use crate::presented::Presented;
+use crate::reply::ap_reply;
+use krb_types::data_types::{
+    AuthenticatorInner, EncTicketPartInner, EncryptionKey, PrincipalName, Realm,
+};
+use picky_asn1_der::{ExplicitContextTag, ExplicitContextTag6, Optional};
+use std::alloc::{AllocError, Global};
+use std::marker::Model;
+
+/// What a service is told of a client that it admits (RFC 4120, section 3.2.3).
+#[derive(Drop)]
+pub struct Admission {
+    /// The client's realm.
+    pub realm: Realm,
+    /// The client, as its ticket names it.
+    pub client: PrincipalName,
+    /// The session key, which the client knows.
+    pub session: EncryptionKey,
+    /// The key that the client chose for what follows, if it chose one.
+    pub subkey: Option<EncryptionKey>,
+    /// The AP reply, where the client asked for one.
+    pub reply: Option<Vec<u8>>,
+}
+
+impl Model for Admission {
+    ghost use Rattle.std.specs.Option.{option_map};
+    ghost use Rattle.krb_ap.specs.Admission.{AdmissionRecord};
+
+    ghost Value = { AdmissionRecord };
+
+    ghost view = { λ a. record {
+      realm = a.realm;
+      client = a.client;
+      session = a.session;
+      subkey = a.subkey;
+      reply = option_map (λ v. v.items) a.reply;
+    } };
+}
+
+/// The admission of what was presented, with the reply to it.
+pub fn admission_of(presented: Presented, reply: Option<Vec<u8>>) -> Admission
+    ensures { result ≡ admission_of presented (option_map (λ bytes. bytes.items) reply) }
+{
+    let Presented {
+        part,
+        authenticator,
+        ..
+    } = presented;
+    admission_with(part, subkey_of(authenticator), reply)
+}
+
+// The admission of the ticket's client, with this key and this reply.
+fn admission_with(
+    part: EncTicketPartInner,
+    subkey: Option<EncryptionKey>,
+    reply: Option<Vec<u8>>,
+) -> Admission
+    ensures { result ≡ record { realm = part.crealm.0; client = part.cname.0; session = part.key.0; subkey = subkey; reply = option_map (λ v. v.items) reply } }
+{
+    let EncTicketPartInner {
+        key: ExplicitContextTag(session),
+        crealm: ExplicitContextTag(realm),
+        cname: ExplicitContextTag(client),
+        ..
+    } = part;
+    Admission {
+        realm,
+        client,
+        session,
+        subkey,
+        reply,
+    }
+}
+
+// The key that the client chose.
+fn subkey_of(authenticator: AuthenticatorInner) -> Option<EncryptionKey>
+    ensures { result ≡ subkey_of authenticator }
+{
+    let AuthenticatorInner {
+        subkey: Optional(told),
+        ..
+    } = authenticator;
+    untagged(told)
+}
+
+// The key that is told.
+fn untagged(told: Option<ExplicitContextTag6<EncryptionKey>>) -> Option<EncryptionKey>
+    ensures { result ≡ option_map (λ tagged. tagged.0) told }
+{
+    if let Some(tagged) = told {
+        return Some(tagged.0);
+    }
+    None
+}
+
+/// The reply to what was presented, where one is wanted. Of the random bytes the first 16 count.
+pub fn reply_to(
+    alloc: Global,
+    presented: &Presented,
+    words: &[u8],
+) -> Result<Option<Vec<u8>>, AllocError>
+    requires { 16 ≤ length words.now }
+    ensures { IfOk result (λ reply. IsReplyTo presented.now words.now (option_map (λ bytes. bytes.items) reply)) }
+{
+    if !presented.wants_reply {
+        return Ok(None);
+    }
+    let key = presented.part.key.0.key_value.0.as_bytes();
+    let bytes = ap_reply(alloc, presented.suite, key, &presented.authenticator, words)?;
+    Ok(Some(bytes))
+}

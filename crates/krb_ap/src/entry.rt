@@ -1,0 +1,109 @@
+//! Keys of services.
+ghost use Rattle.std.specs.Prelude.{◌≡◌, ◌≤◌};
+ghost use Rattle.krb_ap.specs.ApTable.{presented};
+ghost use Rattle.krb_ap.specs.Received.{Receives};
+ghost use Rattle.krb_ap.specs.Refusal.{IsJudged};
+
+use crate::judge::{check_address, check_authenticator, check_ticket};
+use crate::messages::read_ap_req;
+use crate::presented::Presented;
+use crate::refusal::AdmitRefusal;
+use krb_crypto::CipherSuite;
+use krb_moments::Moment;
+use picky_asn1::wrapper::{GeneralStringAsn1, OctetStringAsn1};
+use picky_krb::messages::ApReqInner;
+use std::alloc::Global;
+use std::marker::Model;
+
+/// The key of a service, as a keytab holds it: the service's realm and name, and the key with its suite and number. A
+/// contract sees these five.
+#[derive(Drop)]
+pub struct KeytabEntry {
+    realm: GeneralStringAsn1,
+    components: Vec<GeneralStringAsn1>,
+    suite: CipherSuite,
+    key: OctetStringAsn1,
+    number: u32,
+}
+
+impl Model for KeytabEntry {
+    ghost use Rattle.krb_ap.specs.Entry.{EntryRecord};
+
+    ghost Value = { EntryRecord };
+
+    ghost view = { λ e. record {
+      realm = e.realm;
+      components = e.components.items;
+      suite = e.suite;
+      key = e.key;
+      number = e.number;
+    } };
+}
+
+impl KeytabEntry {
+    /// The entry of this service, with this key.
+    pub fn new(
+        realm: GeneralStringAsn1,
+        components: Vec<GeneralStringAsn1>,
+        suite: CipherSuite,
+        key: OctetStringAsn1,
+        number: u32,
+    ) -> KeytabEntry
+        ensures { result ≡ record { realm = realm; components = components.items; suite = suite; key = key; number = number } }
+    {
+        KeytabEntry {
+            realm,
+            components,
+            suite,
+            key,
+            number,
+        }
+    }
+
+    /// What bytes present to this service at a moment, up to the time that they tell (RFC 4120, section 3.2.3). The skew
+    /// is in microseconds, a day at most.
+    pub fn receive(
+        &self,
+        alloc: Global,
+        skew: u64,
+        moment: Moment,
+        bytes: &[u8],
+    ) -> Result<Presented, AdmitRefusal>
+        requires { skew ≤ 86400000000 }
+        ensures { Receives self.now skew moment bytes.now result }
+    {
+        let Some(request) = read_ap_req(alloc, bytes)? else {
+            return Err(AdmitRefusal::Unreadable);
+        };
+        self.judge(alloc, skew, moment, &request)
+    }
+
+    // Judges a request at a moment.
+    fn judge(
+        &self,
+        alloc: Global,
+        skew: u64,
+        moment: Moment,
+        request: &ApReqInner,
+    ) -> Result<Presented, AdmitRefusal>
+        requires { skew ≤ 86400000000 }
+        ensures { IsJudged (presented self.now skew moment request.now).gives result }
+    {
+        check_address(
+            &self.realm,
+            self.components.as_slice(),
+            self.suite,
+            self.number,
+            request,
+        )?;
+        let part = check_ticket(
+            alloc,
+            self.suite,
+            self.key.as_bytes(),
+            skew,
+            moment,
+            &request.ticket.0.0.enc_part.0,
+        )?;
+        check_authenticator(alloc, request, part)
+    }
+}

@@ -1,0 +1,230 @@
+//! Judging a request: the rows of a service's table, part by part.
+ghost use Rattle.std.specs.Prelude.{◌≡◌, ◌≤◌};
+ghost use Rattle.krb_crypto.specs.Suites.{cipher_number};
+ghost use Rattle.krb_rules.specs.Names.{components};
+ghost use Rattle.krb_ap.specs.ApTable.{addressed, is_early, is_for, is_late, is_of_client, is_version_5, may_be_under, opened, start_of, timely, told, valid_authenticator, valid_part};
+ghost use Rattle.krb_ap.specs.Refusal.{IsJudged};
+ghost use Rattle.picky_asn1.specs.GeneralizedTime.{seconds_of};
+
+use crate::messages::{open_authenticator, open_part};
+use crate::presented::Presented;
+use crate::refusal::AdmitRefusal;
+use krb_crypto::CipherSuite;
+use krb_moments::Moment;
+use krb_rules::{is_number, is_same_name, is_same_realm, moment_at, suite_of};
+use krb_types::constants::error_codes;
+use krb_types::data_types::{
+    AuthenticatorInner, EncTicketPartInner, EncryptedData, EncryptionKey, TicketInner,
+};
+use picky_asn1::date::GeneralizedTime;
+use picky_asn1::wrapper::GeneralStringAsn1;
+use picky_krb::messages::ApReqInner;
+use std::alloc::Global;
+
+/// The version of Kerberos, of tickets and of authenticators.
+const VERSION: u32 = 5;
+
+/// The type of an AP request (RFC 4120, section 5.10).
+const AP_REQUEST_TYPE: u32 = 14;
+
+/// The option use-session-key of an AP request (RFC 4120, section 5.5.1).
+const USE_SESSION_KEY: usize = 1;
+
+/// The option mutual-required of an AP request.
+const MUTUAL_REQUIRED: usize = 2;
+
+/// The flag of a ticket that isn't valid yet (RFC 4120, section 5.3).
+const INVALID: usize = 7;
+
+/// How many microseconds a second has.
+const SECOND: u64 = 1_000_000;
+
+/// Judges the request's own fields: it has to be for this service, and sealed as the service can open it.
+pub(crate) fn check_address(
+    realm: &GeneralStringAsn1,
+    name: &[GeneralStringAsn1],
+    suite: CipherSuite,
+    number: u32,
+    request: &ApReqInner,
+) -> Result<(), AdmitRefusal>
+    ensures { IsJudged (addressed realm.now name.now suite number request.now).gives result }
+{
+    if request.ap_options.0.bit(USE_SESSION_KEY) {
+        return Err(AdmitRefusal::Krb(error_codes::KRB_AP_ERR_METHOD));
+    }
+    if !is_version_5(request) {
+        return Err(AdmitRefusal::Krb(error_codes::KRB_AP_ERR_BADVERSION));
+    }
+    if !is_number(&request.msg_type.0, AP_REQUEST_TYPE) {
+        return Err(AdmitRefusal::Krb(error_codes::KRB_AP_ERR_MSG_TYPE));
+    }
+    let ticket = &request.ticket.0.0;
+    if !is_for(realm, name, ticket) {
+        return Err(AdmitRefusal::Krb(error_codes::KRB_AP_ERR_NOT_US));
+    }
+    if !may_be_under(number, &ticket.enc_part.0) {
+        return Err(AdmitRefusal::Krb(error_codes::KRB_AP_ERR_BADKEYVER));
+    }
+    if !is_number(&ticket.enc_part.0.etype.0, u32::from(&suite)) {
+        return Err(AdmitRefusal::Krb(error_codes::KRB_AP_ERR_NOKEY));
+    }
+    Ok(())
+}
+
+// The request and its ticket are of version 5.
+fn is_version_5(request: &ApReqInner) -> bool
+    ensures { result ≡ is_version_5 request.now }
+{
+    is_number(&request.pvno.0, VERSION) && is_number(&request.ticket.0.0.tkt_vno.0, VERSION)
+}
+
+// The ticket is for the service of this realm and this name.
+fn is_for(realm: &GeneralStringAsn1, name: &[GeneralStringAsn1], ticket: &TicketInner) -> bool
+    ensures { result ≡ is_for realm.now name.now ticket.now }
+{
+    is_same_realm(&ticket.realm.0, realm)
+        && is_same_name(ticket.sname.0.name_string.0.as_slice(), name)
+}
+
+// The data doesn't say that it is under a key of another number.
+fn may_be_under(number: u32, encrypted: &EncryptedData) -> bool
+    ensures { result ≡ may_be_under number encrypted.now }
+{
+    match &encrypted.kvno.0 {
+        Some(told) => is_number(&told.0, number),
+        None => true,
+    }
+}
+
+/// Opens the ticket's part, and judges its times and flags at a moment. The skew is in microseconds, a day at most.
+pub(crate) fn check_ticket(
+    alloc: Global,
+    suite: CipherSuite,
+    key: &[u8],
+    skew: u64,
+    moment: Moment,
+    encrypted: &EncryptedData,
+) -> Result<EncTicketPartInner, AdmitRefusal>
+    requires { skew ≤ 86400000000 }
+    ensures { IsJudged (valid_part suite key.now skew moment encrypted.now).gives result }
+{
+    let Some(part) = open_part(alloc, suite, key, encrypted)? else {
+        return Err(AdmitRefusal::Krb(error_codes::KRB_AP_ERR_BAD_INTEGRITY));
+    };
+    check_times(skew, moment, &part)?;
+    Ok(part)
+}
+
+// Judges the times and flags of a ticket's part.
+fn check_times(skew: u64, moment: Moment, part: &EncTicketPartInner) -> Result<(), AdmitRefusal>
+    requires { skew ≤ 86400000000 }
+    ensures { IsJudged (timely skew moment part.now).gives result }
+{
+    if is_early(skew, moment, part) {
+        return Err(AdmitRefusal::Krb(error_codes::KRB_AP_ERR_TKT_NYV));
+    }
+    if is_late(skew, moment, part) {
+        return Err(AdmitRefusal::Krb(error_codes::KRB_AP_ERR_TKT_EXPIRED));
+    }
+    Ok(())
+}
+
+// The second in which a ticket starts.
+fn start_of(part: &EncTicketPartInner) -> GeneralizedTime
+    ensures { seconds_of result ≡ start_of part.now }
+{
+    match &part.starttime.0 {
+        Some(told) => told.0.0,
+        None => part.auth_time.0.0,
+    }
+}
+
+// The ticket starts later than the moment and the skew, or isn't valid yet.
+fn is_early(skew: u64, moment: Moment, part: &EncTicketPartInner) -> bool
+    requires { skew ≤ 86400000000 }
+    ensures { result ≡ is_early skew moment part.now }
+{
+    moment.micros() + skew < start_of(part).seconds() * SECOND || part.flags.0.bit(INVALID)
+}
+
+// The moment is past the ticket's end and the skew.
+fn is_late(skew: u64, moment: Moment, part: &EncTicketPartInner) -> bool
+    requires { skew ≤ 86400000000 }
+    ensures { result ≡ is_late skew moment part.now }
+{
+    part.endtime.0.0.seconds() * SECOND + skew < moment.micros()
+}
+
+/// Opens the request's authenticator under the ticket's key, and judges whose it is and what moment it tells.
+pub(crate) fn check_authenticator(
+    alloc: Global,
+    request: &ApReqInner,
+    part: EncTicketPartInner,
+) -> Result<Presented, AdmitRefusal>
+    ensures { IsJudged (valid_authenticator request.now part).gives result }
+{
+    let opened = open_under(alloc, &part.key.0, &request.authenticator.0)?;
+    let time = check_told(&part, &opened.1)?;
+    let wants_reply = request.ap_options.0.bit(MUTUAL_REQUIRED);
+    let (suite, authenticator) = opened;
+    Ok(Presented {
+        part,
+        suite,
+        authenticator,
+        time,
+        wants_reply,
+    })
+}
+
+// The suite of the ticket's key, and the authenticator that this key opens.
+fn open_under(
+    alloc: Global,
+    key: &EncryptionKey,
+    encrypted: &EncryptedData,
+) -> Result<(CipherSuite, AuthenticatorInner), AdmitRefusal>
+    ensures { IsJudged (opened key.now encrypted.now).gives result }
+{
+    let Some(suite) = suite_of(key) else {
+        return Err(AdmitRefusal::Krb(error_codes::KRB_AP_ERR_BAD_INTEGRITY));
+    };
+    let Some(authenticator) = open_authenticator(
+        alloc,
+        suite,
+        key.key_value.0.as_bytes(),
+        encrypted,
+    )?
+    else {
+        return Err(AdmitRefusal::Krb(error_codes::KRB_AP_ERR_BAD_INTEGRITY));
+    };
+    Ok((suite, authenticator))
+}
+
+// Judges whose the authenticator is, and what moment it tells.
+fn check_told(
+    part: &EncTicketPartInner,
+    authenticator: &AuthenticatorInner,
+) -> Result<Moment, AdmitRefusal>
+    ensures { IsJudged (told part.now authenticator.now).gives result }
+{
+    if !is_number(&authenticator.authenticator_vno.0, VERSION) {
+        return Err(AdmitRefusal::Krb(error_codes::KRB_AP_ERR_BADVERSION));
+    }
+    if !is_of_client(part, authenticator) {
+        return Err(AdmitRefusal::Krb(error_codes::KRB_AP_ERR_BADMATCH));
+    }
+    let Some(time) = moment_at(authenticator.ctime.0.0, &authenticator.cusec.0) else {
+        return Err(AdmitRefusal::Krb(error_codes::KRB_AP_ERR_MODIFIED));
+    };
+    Ok(time)
+}
+
+// The authenticator is of the ticket's client.
+fn is_of_client(part: &EncTicketPartInner, authenticator: &AuthenticatorInner) -> bool
+    ensures { result ≡ is_of_client part.now authenticator.now }
+{
+    is_same_realm(&authenticator.crealm.0, &part.crealm.0)
+        && is_same_name(
+            authenticator.cname.0.name_string.0.as_slice(),
+            part.cname.0.name_string.0.as_slice(),
+        )
+}

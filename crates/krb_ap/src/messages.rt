@@ -1,0 +1,68 @@
+//! Reading a request, and opening what is sealed in it.
+ghost use Rattle.std.specs.Prelude.{IfOk};
+ghost use Rattle.picky_krb.specs.Found.{IsFound};
+ghost use Rattle.krb_ap.specs.Messages.{IsApReq, IsAuthenticator, IsTicketPart};
+
+use krb_crypto::CipherSuite;
+use krb_rules::open_sealed;
+use krb_types::data_types::{
+    Authenticator, AuthenticatorInner, EncTicketPart, EncTicketPartInner, EncryptedData,
+};
+use picky_krb::messages::{ApReq, ApReqInner};
+use picky_krb::read_whole;
+use std::alloc::{AllocError, Global};
+
+/// The usage of the key that seals a ticket's part (RFC 4120, section 7.5.1).
+const TICKET_USAGE: i32 = 2;
+
+/// The usage of the key that seals an AP request's authenticator.
+const AUTHENTICATOR_USAGE: i32 = 11;
+
+/// The AP request whose one encoding the bytes are, or none (RFC 4120, section 5.5.1).
+pub(crate) fn read_ap_req(alloc: Global, bytes: &[u8]) -> Result<Option<ApReqInner>, AllocError>
+    ensures { IfOk result (IsFound (IsApReq bytes.now)) }
+{
+    let read: Option<ApReq> = read_whole(alloc, bytes)?;
+    match read {
+        Some(request) => Ok(Some(request.0)),
+        None => Ok(None),
+    }
+}
+
+/// The ticket's part that the service's key opens, or none (RFC 4120, section 5.3).
+pub(crate) fn open_part(
+    alloc: Global,
+    suite: CipherSuite,
+    key: &[u8],
+    encrypted: &EncryptedData,
+) -> Result<Option<EncTicketPartInner>, AllocError>
+    ensures { IfOk result (IsFound (IsTicketPart suite key.now encrypted.now)) }
+{
+    let found: Option<EncTicketPart> = open_sealed(alloc, suite, key, TICKET_USAGE, encrypted)?;
+    match found {
+        Some(part) => Ok(Some(part.0)),
+        None => Ok(None),
+    }
+}
+
+/// The authenticator that the session key opens, or none (RFC 4120, section 5.5.1).
+pub(crate) fn open_authenticator(
+    alloc: Global,
+    suite: CipherSuite,
+    key: &[u8],
+    encrypted: &EncryptedData,
+) -> Result<Option<AuthenticatorInner>, AllocError>
+    ensures { IfOk result (IsFound (IsAuthenticator suite key.now encrypted.now)) }
+{
+    let found: Option<Authenticator> = open_sealed(
+        alloc,
+        suite,
+        key,
+        AUTHENTICATOR_USAGE,
+        encrypted,
+    )?;
+    match found {
+        Some(authenticator) => Ok(Some(authenticator.0)),
+        None => Ok(None),
+    }
+}

@@ -1,8 +1,0 @@
-use Rattle.std.proofs.Common.{refl}
-use Rattle.krb_service.proofs.Tagged.{same_sealed}
-use Rattle.krb_service.proofs.messages.open_authenticator.Goals as goal
-
-pub returns-in-None : goal.returns-in-None
-returns-in-None c =
-    let none = rw c.in-None.is at c.in_ok-found.ensures in
-    λ a p. none (record { 0 = a }) (same_sealed _ _ _ _ _ _ _ _ refl p)
