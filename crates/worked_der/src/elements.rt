@@ -1,44 +1,71 @@
 //! Elements in place and as bytes, and identifier octets.
-use picky_asn1_der::{
-    Asn1DerError, Asn1RawDer, Tag, TagClass, from_exact_bytes, split_element, to_vec,
-};
-use std::test::Fail;
+use crate::spelling::is_written;
+use picky_asn1_der::{Asn1DerError, Asn1RawDer, Tag, TagClass, from_exact_bytes, split_element};
+use std::alloc::Global;
+
+fn is_split(bytes: &[u8], whole: &[u8], content: &[u8], behind: &[u8]) -> bool {
+    match split_element(bytes) {
+        Ok((element, rest)) => {
+            element.whole() == whole
+                && element.content() == content
+                && rest == behind
+                && element.tag() == Tag::SEQUENCE
+        }
+        Err(_) => false,
+    }
+}
+
+fn split_fault(bytes: &[u8]) -> Option<Asn1DerError> {
+    split_element(bytes).err()
+}
 
 #[test]
-fn split(rt: HostRuntime) -> Result<(), Fail> {
-    let (element, rest) = split_element(&[0x30, 3, 2, 1, 7, 5, 0])?;
-    assert_eq!(rt; element.whole(), [0x30, 3, 2, 1, 7].as_slice());
-    assert_eq!(rt; element.content(), [2, 1, 7].as_slice());
-    assert_eq!(rt; rest, [5, 0].as_slice());
-    assert!(rt; element.tag() == Tag::SEQUENCE);
-    Ok(())
+fn split(rt: HostRuntime) {
+    let bytes = &[0x30, 3, 2, 1, 7, 5, 0];
+    assert!(rt; is_split(bytes, &[0x30, 3, 2, 1, 7], &[2, 1, 7], &[5, 0]));
 }
 
 // A length in more octets than it needs (X.690, section 10.1), a tag of several octets, and fronts of elements.
 #[test]
 fn not_split(rt: HostRuntime) {
-    let cases: [(&[u8], Asn1DerError); 5] = [
-        (&[0x30, 0x81, 3, 2, 1, 7], Asn1DerError::InvalidData),
-        (&[0x1F, 0x21, 0], Asn1DerError::InvalidData),
-        (&[0x30, 0x80, 0, 0], Asn1DerError::InvalidData),
-        (&[0x30, 3, 2, 1], Asn1DerError::TruncatedData),
-        (&[], Asn1DerError::TruncatedData),
-    ];
-    for (bytes, fault) in cases {
-        assert_eq!(rt; split_element(bytes).err(), Some(fault), "at {bytes:?}");
+    let invalid = Some(Asn1DerError::InvalidData);
+    assert!(rt; split_fault(&[0x30, 0x81, 3, 2, 1, 7]) == invalid);
+    assert!(rt; split_fault(&[0x1F, 0x21, 0]) == invalid);
+    assert!(rt; split_fault(&[0x30, 0x80, 0, 0]) == invalid);
+    let truncated = Some(Asn1DerError::TruncatedData);
+    assert!(rt; split_fault(&[0x30, 3, 2, 1]) == truncated);
+    assert!(rt; split_fault(&[]) == truncated);
+}
+
+const RAW: &[u8] = &[0xA0, 3, 2, 1, 7];
+
+fn raw_of(alloc: Global, bytes: &[u8]) -> Result<Asn1RawDer, Asn1DerError> {
+    match Vec::from_slice(alloc, bytes) {
+        Ok(bytes) => Asn1RawDer::new(bytes),
+        Err(_) => Err(Asn1DerError::Memory),
+    }
+}
+
+fn is_raw_written(alloc: Global) -> bool {
+    match raw_of(alloc, RAW) {
+        Ok(element) => is_written(alloc, &element, RAW),
+        Err(_) => false,
+    }
+}
+
+fn is_raw_read(alloc: Global) -> bool {
+    match from_exact_bytes::<Asn1RawDer>(alloc, RAW) {
+        Ok(element) => element.as_bytes() == RAW,
+        Err(_) => false,
     }
 }
 
 #[test]
-fn raw(rt: HostRuntime) -> Result<(), Fail> {
-    let bytes = [0xA0, 3, 2, 1, 7];
-    let element = Asn1RawDer::new(Vec::from_slice(rt.alloc(), &bytes)?)?;
-    assert_eq!(rt; to_vec(rt.alloc(), &element)?.as_slice(), bytes.as_slice());
-    let read: Asn1RawDer = from_exact_bytes(rt.alloc(), &bytes)?;
-    assert_eq!(rt; read.as_bytes(), bytes.as_slice());
-    let longer = Asn1RawDer::new(vec![in rt.alloc(); 5, 0, 5]?);
-    assert!(rt; matches!(longer, Err(Asn1DerError::InvalidData)));
-    Ok(())
+fn raw(rt: HostRuntime) {
+    assert!(rt; is_raw_written(rt.alloc()));
+    assert!(rt; is_raw_read(rt.alloc()));
+    let longer = raw_of(rt.alloc(), &[5, 0, 5]).err();
+    assert!(rt; longer == Some(Asn1DerError::InvalidData));
 }
 
 #[test]
@@ -46,6 +73,6 @@ fn tags(rt: HostRuntime) {
     let tag = Tag::from(0xA3);
     assert!(rt; tag.class() == TagClass::ContextSpecific);
     assert!(rt; tag.is_constructed());
-    assert_eq!(rt; tag.number(), 3);
-    assert_eq!(rt; u8::from(Tag::OID), 6);
+    assert!(rt; tag.number() == 3);
+    assert!(rt; u8::from(Tag::OID) == 6);
 }

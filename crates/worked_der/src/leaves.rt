@@ -7,140 +7,194 @@ use picky_asn1::wrapper::{
     BitStringAsn1, GeneralStringAsn1, GeneralizedTimeAsn1, IntegerAsn1, OctetStringAsn1,
 };
 use std::alloc::Global;
-use std::test::Fail;
+
+fn is_length(length: usize, octets: &[u8]) -> bool {
+    LengthOctets::of(length).as_bytes() == octets && length_of(octets) == Some(length)
+}
 
 // X.690, sections 8.1.3.4 and 8.1.3.5.
 #[test]
 fn lengths(rt: HostRuntime) {
-    let cases: [(usize, &[u8]); 2] = [(38, &[0x26]), (201, &[0x81, 0xC9])];
-    for (length, octets) in cases {
-        assert_eq!(rt; LengthOctets::of(length).as_bytes(), octets);
-        assert_eq!(rt; length_of(octets), Some(length));
-    }
-    assert_eq!(rt; following(0x26), Some(0));
-    assert_eq!(rt; following(0x81), Some(1));
+    assert!(rt; is_length(38, &[0x26]));
+    assert!(rt; is_length(201, &[0x81, 0xC9]));
+    assert!(rt; following(0x26) == Some(0));
+    assert!(rt; following(0x81) == Some(1));
 }
 
 // One octet would do for 38, and 80 begins the indefinite form (X.690, sections 8.1.3.6 and 10.1).
 #[test]
 fn other_lengths(rt: HostRuntime) {
-    assert_eq!(rt; length_of(&[0x81, 0x26]), None);
-    assert_eq!(rt; following(0x80), None);
+    assert!(rt; length_of(&[0x81, 0x26]).is_none());
+    assert!(rt; following(0x80).is_none());
+}
+
+// The integer of these octets, none where they are those of none or memory is wanting.
+fn read(alloc: Global, octets: &[u8]) -> Option<IntegerAsn1> {
+    IntegerAsn1::from_content(alloc, octets).ok()?
+}
+
+fn is_integer(alloc: Global, octets: &[u8], value: Option<i64>) -> Option<bool> {
+    let read = read(alloc, octets)?;
+    let made = IntegerAsn1::new(alloc, octets).ok()?;
+    Some(read.to_i64() == value && made == read)
 }
 
 // The last one has more than 64 bits with its sign.
 #[test]
-fn integers(rt: HostRuntime) -> Result<(), Fail> {
-    let cases: [(&[u8], Option<i64>); 4] = [
-        (&[0x00, 0x80], Some(128)),
-        (&[0xFF], Some(-1)),
-        (&[0x80, 0, 0, 0, 0, 0, 0, 0], Some(i64::MIN)),
-        (&[0, 0xFF, 0xFF, 0xFF, 0xFF, 0xFF, 0xFF, 0xFF, 0xFF], None),
-    ];
-    for (octets, value) in cases {
-        let read = IntegerAsn1::from_content(rt.alloc(), octets)?.ok_or("no integer")?;
-        assert_eq!(rt; read.to_i64(), value, "at {octets:?}");
-        assert!(rt; IntegerAsn1::new(rt.alloc(), octets)? == read);
+fn integers(rt: HostRuntime) {
+    let alloc = rt.alloc();
+    assert!(rt; is_integer(alloc, &[0x00, 0x80], Some(128)) == Some(true));
+    assert!(rt; is_integer(alloc, &[0xFF], Some(-1)) == Some(true));
+    let least = [0x80, 0, 0, 0, 0, 0, 0, 0];
+    assert!(rt; is_integer(alloc, &least, Some(i64::MIN)) == Some(true));
+    let large = [0, 0xFF, 0xFF, 0xFF, 0xFF, 0xFF, 0xFF, 0xFF, 0xFF];
+    assert!(rt; is_integer(alloc, &large, None) == Some(true));
+}
+
+fn is_no_integer(alloc: Global, octets: &[u8]) -> bool {
+    match IntegerAsn1::from_content(alloc, octets) {
+        Ok(read) => read.is_none(),
+        Err(_) => false,
     }
-    Ok(())
 }
 
 // More octets than the number needs, or none (X.690, sections 8.3.1 and 8.3.2).
 #[test]
-fn no_integers(rt: HostRuntime) -> Result<(), Fail> {
-    let cases: [&[u8]; 3] = [&[0x00, 0x7F], &[0xFF, 0x80], &[]];
-    for octets in cases {
-        let read = IntegerAsn1::from_content(rt.alloc(), octets)?;
-        assert!(rt; read.is_none(), "at {octets:?}");
+fn no_integers(rt: HostRuntime) {
+    assert!(rt; is_no_integer(rt.alloc(), &[0x00, 0x7F]));
+    assert!(rt; is_no_integer(rt.alloc(), &[0xFF, 0x80]));
+    assert!(rt; is_no_integer(rt.alloc(), &[]));
+}
+
+fn is_signed(made: Option<IntegerAsn1>, octets: &[u8]) -> bool {
+    match made {
+        Some(integer) => integer.as_signed_bytes_be() == octets,
+        None => false,
     }
-    Ok(())
+}
+
+fn is_copied(integer: Option<IntegerAsn1>) -> Option<bool> {
+    let integer = integer?;
+    let copy = integer.clone().ok()?;
+    Some(copy == integer)
 }
 
 #[test]
-fn made_integers(rt: HostRuntime) -> Result<(), Fail> {
-    let signed = IntegerAsn1::from_bytes_be_signed(rt.alloc(), &[0x00, 0x00, 0x80])?;
-    assert_eq!(rt; signed.as_signed_bytes_be(), [0x00, 0x80].as_slice());
-    let unsigned = IntegerAsn1::from_bytes_be_unsigned(rt.alloc(), &[0x80])?;
-    assert!(rt; unsigned.clone()? == signed);
-    Ok(())
+fn made_integers(rt: HostRuntime) {
+    let alloc = rt.alloc();
+    let signed = IntegerAsn1::from_bytes_be_signed(alloc, &[0x00, 0x00, 0x80]).ok();
+    assert!(rt; is_signed(signed, &[0x00, 0x80]));
+    let unsigned = IntegerAsn1::from_bytes_be_unsigned(alloc, &[0x80]).ok();
+    assert!(rt; is_signed(unsigned, &[0x00, 0x80]));
+    assert!(rt; is_copied(read(alloc, &[0x00, 0x80])) == Some(true));
+    assert!(rt; is_signed(IntegerAsn1::from_u64(alloc, 128).ok(), &[0x00, 0x80]));
+    assert!(rt; is_signed(IntegerAsn1::default(alloc).ok(), &[0]));
 }
 
-#[test]
-fn numbers(rt: HostRuntime) -> Result<(), Fail> {
-    let number = IntegerAsn1::from_u64(rt.alloc(), 128)?;
-    assert_eq!(rt; number.as_signed_bytes_be(), [0x00, 0x80].as_slice());
-    let zero = IntegerAsn1::default(rt.alloc())?;
-    assert_eq!(rt; zero.as_signed_bytes_be(), [0].as_slice());
-    Ok(())
+// The flags 9 and 10 of 32.
+fn two_flags(alloc: Global) -> Option<BitStringAsn1> {
+    BitStringAsn1::new(alloc, &[0x00, 0x60, 0x00, 0x00], 0).ok()
+}
+
+fn are_bits(flags: &BitStringAsn1) -> bool {
+    flags.len() == 32 && flags.bit(9) && flags.bit(10) && !flags.bit(8) && !flags.bit(32)
+}
+
+fn is_set(flags: &mut BitStringAsn1) -> bool {
+    if flags.len() > 1 {
+        flags.set(1, true);
+    }
+    flags.as_bytes() == [0x40, 0x60, 0x00, 0x00].as_slice()
+}
+
+fn is_same(flags: &BitStringAsn1) -> bool {
+    match flags.clone() {
+        Ok(copy) => copy == *flags,
+        Err(_) => false,
+    }
+}
+
+fn are_flags(alloc: Global) -> Option<bool> {
+    let mut flags = two_flags(alloc)?;
+    Some(are_bits(&flags) && is_set(&mut flags) && is_same(&flags))
 }
 
 // RFC 4120, section 5.2.8: bit 0 is the highest of the first octet.
 #[test]
-fn flags(rt: HostRuntime) -> Result<(), Fail> {
-    let mut flags = BitStringAsn1::new(rt.alloc(), &[0x00, 0x60, 0x00, 0x00], 0)?;
-    assert_eq!(rt; flags.len(), 32);
-    assert!(rt; flags.bit(9) && flags.bit(10) && !flags.bit(8) && !flags.bit(32));
-    if flags.len() > 1 {
-        flags.set(1, true);
-    }
-    assert_eq!(rt; flags.as_bytes(), [0x40, 0x60, 0x00, 0x00].as_slice());
-    assert!(rt; flags.clone()? == flags);
-    Ok(())
+fn flags(rt: HostRuntime) {
+    assert!(rt; are_flags(rt.alloc()) == Some(true));
+}
+
+fn are_three_bits(alloc: Global) -> Option<bool> {
+    let read = BitStringAsn1::from_content(alloc, &[5, 0xA0]).ok()??;
+    Some(read.len() == 3 && read.unused() == 5 && !read.is_empty())
 }
 
 #[test]
-fn unused_bits(rt: HostRuntime) -> Result<(), Fail> {
-    let read = BitStringAsn1::from_content(rt.alloc(), &[5, 0xA0])?.ok_or("no bits")?;
-    assert_eq!(rt; (read.len(), read.unused(), read.is_empty()), (3, 5, false));
-    Ok(())
+fn unused_bits(rt: HostRuntime) {
+    assert!(rt; are_three_bits(rt.alloc()) == Some(true));
+}
+
+fn is_name(alloc: Global, bytes: &[u8]) -> Option<bool> {
+    let name = GeneralStringAsn1::new(alloc, bytes).ok()?;
+    let copy = name.clone().ok()?;
+    Some(name.as_bytes() == bytes && copy == name)
+}
+
+fn is_read(alloc: Global, content: &[u8]) -> Option<bool> {
+    let read = GeneralStringAsn1::from_content(alloc, content).ok()??;
+    Some(read.as_bytes() == content)
 }
 
 #[test]
-fn strings(rt: HostRuntime) -> Result<(), Fail> {
-    let name = GeneralStringAsn1::new(rt.alloc(), b"krbtgt")?;
-    assert_eq!(rt; name.as_bytes(), b"krbtgt".as_slice());
-    assert!(rt; name.clone()? == name);
-    assert!(rt; is_read(rt.alloc(), b"krbtgt")?);
-    Ok(())
+fn strings(rt: HostRuntime) {
+    assert!(rt; is_name(rt.alloc(), b"krbtgt") == Some(true));
+    assert!(rt; is_read(rt.alloc(), b"krbtgt") == Some(true));
 }
 
-fn is_read(alloc: Global, content: &[u8]) -> Result<bool, Fail> {
-    let read = GeneralStringAsn1::from_content(alloc, content)?;
-    Ok(read.is_some_and(|name| name.as_bytes() == content))
+fn are_octets(alloc: Global, bytes: &[u8]) -> Option<bool> {
+    let octets = OctetStringAsn1::new(alloc, bytes).ok()?;
+    let copy = octets.clone().ok()?;
+    let is_copied = copy == octets;
+    let given: Vec<u8> = octets.into();
+    Some(is_copied && OctetStringAsn1::from(given).as_bytes() == bytes)
 }
 
 #[test]
-fn octets(rt: HostRuntime) -> Result<(), Fail> {
-    let octets = OctetStringAsn1::new(rt.alloc(), &[1, 255])?;
-    assert!(rt; octets.clone()? == octets);
-    let bytes: Vec<u8> = octets.into();
-    assert_eq!(rt;
-        OctetStringAsn1::from(bytes).as_bytes(),
-        [1, 255].as_slice()
-    );
-    Ok(())
+fn octets(rt: HostRuntime) {
+    assert!(rt; are_octets(rt.alloc(), &[1, 255]) == Some(true));
+}
+
+fn is_date(time: GeneralizedTime) -> bool {
+    time.year() == 2000 && time.month() == 2 && time.day() == 29
+}
+
+fn is_clock(time: GeneralizedTime) -> bool {
+    time.hour() == 23 && time.minute() == 59 && time.second() == 58
+}
+
+fn is_told(time: GeneralizedTime, text: &[u8; 15], seconds: u64) -> bool {
+    time.to_text() == *text
+        && time.seconds() == seconds
+        && GeneralizedTimeAsn1::from(time).0 == time
 }
 
 // A leap day of the calendar, and its seconds since the year 0.
 #[test]
-fn leap_day(rt: HostRuntime) -> Result<(), Fail> {
+fn leap_day(rt: HostRuntime) -> Result<(), LeafFault> {
     let text = b"20000229235958Z";
     let time = GeneralizedTime::new(2000, 2, 29, 23, 59, 58)?;
-    assert_eq!(rt; time.to_text().as_slice(), text.as_slice());
-    assert_eq!(rt; GeneralizedTime::from_text(text), Some(time));
-    assert_eq!(rt; time.seconds(), 63_119_087_998);
-    assert_eq!(rt; GeneralizedTime::from_seconds(63_119_087_998), time);
-    assert_eq!(rt; (time.year(), time.month(), time.day()), (2000, 2, 29));
-    assert_eq!(rt; (time.hour(), time.minute(), time.second()), (23, 59, 58));
-    assert_eq!(rt; GeneralizedTimeAsn1::from(time).0, time);
+    assert!(rt; is_date(time) && is_clock(time));
+    assert!(rt; is_told(time, text, 63_119_087_998));
+    assert!(rt; GeneralizedTime::from_text(text) == Some(time));
+    assert!(rt; GeneralizedTime::from_seconds(63_119_087_998) == time);
     Ok(())
 }
 
 #[test]
 fn no_times(rt: HostRuntime) {
     let refused = GeneralizedTime::new(2001, 2, 29, 0, 0, 0);
-    assert_eq!(rt; refused, Err(LeafFault::Time));
-    for text in [b"20000230000000Z", b"2000022923595:Z"] {
-        assert!(rt; GeneralizedTime::from_text(text).is_none());
-    }
+    assert!(rt; refused == Err(LeafFault::Time));
+    assert!(rt; GeneralizedTime::from_text(b"20000230000000Z").is_none());
+    assert!(rt; GeneralizedTime::from_text(b"2000022923595:Z").is_none());
 }

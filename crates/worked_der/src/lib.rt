@@ -18,4 +18,6 @@ mod peeked;
 #[cfg(test)]
 mod sample;
 #[cfg(test)]
+mod spelling;
+#[cfg(test)]
 mod streams;

@@ -1,14 +1,14 @@
 //! Readers and writers: what stands behind a value, limits, and devices that cut and fail.
 use crate::sample::{LONG_SAMPLE, SHORT_SAMPLE, Sample, sample_of};
+use crate::spelling::{fault_of, front_fault_of};
 use devices::Watched;
 use picky_asn1_der::{
     Asn1DerError, Deserialize, Deserializer, RawElement, Serialize, Serializer, from_bytes,
-    from_exact_bytes, from_reader, from_reader_with_max_len, to_byte_buf, to_writer,
+    from_reader, from_reader_with_max_len, to_byte_buf, to_writer,
 };
 use std::alloc::Global;
 use std::io;
 use std::io::{ErrorKind, Read, Write};
-use std::test::Fail;
 
 // Gives a byte a read, and fails once it gave `count` of them.
 #[derive(Drop)]
@@ -58,108 +58,127 @@ impl Write for Clogging {
     }
 }
 
+fn are_appended(written: &mut Vec<u8>) -> bool {
+    to_byte_buf(&5u32, written) == Ok(3)
+        && written.as_slice() == [1, 2, 1, 5].as_slice()
+        && to_writer(&sample_of(None), written) == Ok(12)
+        && written.get(4..) == Some(SHORT_SAMPLE.as_slice())
+}
+
+fn are_written(alloc: Global) -> Option<bool> {
+    let mut written = vec![in alloc; 1].ok()?;
+    Some(are_appended(&mut written))
+}
+
+// What is written stands behind what was there.
 #[test]
-fn writers(rt: HostRuntime) -> Result<(), Fail> {
-    let mut written = vec![in rt.alloc(); 1]?;
-    assert_eq!(rt; to_byte_buf(&5u32, &mut written), Ok(3));
-    assert_eq!(rt; written.as_slice(), [1, 2, 1, 5].as_slice());
-    assert_eq!(rt; to_writer(&sample_of(None), &mut written), Ok(12));
-    assert_eq!(rt; written.get(4..), Some(SHORT_SAMPLE.as_slice()));
-    Ok(())
+fn writers(rt: HostRuntime) {
+    assert!(rt; are_written(rt.alloc()) == Some(true));
+}
+
+fn is_next(alloc: Global, bytes: &mut &[u8], number: u32, rest: &[u8]) -> bool {
+    from_reader(alloc, bytes) == Ok(number) && *bytes == rest
 }
 
 // A reader is left behind the value, whose last field may be missing.
 #[test]
 fn readers(rt: HostRuntime) {
     let mut bytes: &[u8] = &[2, 1, 5, 2, 1, 7, 0xFF];
-    assert_eq!(rt; from_reader(rt.alloc(), &mut bytes), Ok(5u32));
-    assert_eq!(rt; bytes, [2, 1, 7, 0xFF].as_slice());
-    assert_eq!(rt; from_reader(rt.alloc(), &mut bytes), Ok(7u32));
-    assert_eq!(rt; bytes, [0xFF].as_slice());
+    assert!(rt; is_next(rt.alloc(), &mut bytes, 5, &[2, 1, 7, 0xFF]));
+    assert!(rt; is_next(rt.alloc(), &mut bytes, 7, &[0xFF]));
+}
+
+// An OCTET STRING of so many zeros.
+fn zeros(alloc: Global, count: u16) -> Option<Vec<u8>> {
+    let mut bytes = Vec::from_slice(alloc, &[4, 0x82]).ok()?;
+    bytes.extend_from_slice(&count.to_be_bytes()).ok()?;
+    bytes.resize(4 + count as usize, 0).ok()?;
+    Some(bytes)
+}
+
+fn fits(alloc: Global, count: u16, limit: usize) -> Option<bool> {
+    let bytes = zeros(alloc, count)?;
+    let mut reader = bytes.as_slice();
+    Some(from_reader_with_max_len::<RawElement, _>(alloc, &mut reader, limit).is_ok())
 }
 
 // An OCTET STRING of 300 bytes takes 304 (X.690, section 8.1.3.5), and one of 10,236 the 10,240 that a reader takes at most.
 #[test]
-fn limits(rt: HostRuntime) -> Result<(), Fail> {
-    let cases: [(u16, usize, bool); 4] = [
-        (300, 303, false),
-        (300, 304, true),
-        (10_236, 10_240, true),
-        (10_237, 10_240, false),
-    ];
-    for (count, limit, fits) in cases {
-        let mut bytes = Vec::from_slice(rt.alloc(), &[4, 0x82])?;
-        bytes.extend_from_slice(&count.to_be_bytes())?;
-        bytes.resize(4 + count as usize, 0)?;
-        let mut reader = bytes.as_slice();
-        let read: Result<RawElement, _> = from_reader_with_max_len(rt.alloc(), &mut reader, limit);
-        assert_eq!(rt; read.is_ok(), fits, "{count} in {limit}");
+fn limits(rt: HostRuntime) {
+    assert!(rt; fits(rt.alloc(), 300, 303) == Some(false));
+    assert!(rt; fits(rt.alloc(), 300, 304) == Some(true));
+    assert!(rt; fits(rt.alloc(), 10_236, 10_240) == Some(true));
+    assert!(rt; fits(rt.alloc(), 10_237, 10_240) == Some(false));
+}
+
+fn is_trickled(alloc: Global, count: usize, sample: &Sample) -> bool {
+    match Sample::deserialize(&mut trickle_of(alloc, &LONG_SAMPLE, count)) {
+        Ok(read) => read == *sample,
+        Err(_) => false,
     }
-    Ok(())
 }
 
 #[test]
 fn a_byte_at_a_time(rt: HostRuntime) {
-    let mut from = trickle_of(rt.alloc(), &LONG_SAMPLE, LONG_SAMPLE.len());
-    assert_eq!(rt;
-        Sample::deserialize(&mut from),
-        Ok(sample_of(Some(128.into())))
-    );
+    let sample = sample_of(Some(128.into()));
+    assert!(rt; is_trickled(rt.alloc(), LONG_SAMPLE.len(), &sample));
+}
+
+// What two readings give, one behind the other, from a reader that fails behind so many bytes.
+fn two_faults(alloc: Global, count: usize) -> [Option<Asn1DerError>; 2] {
+    let mut from = trickle_of(alloc, &LONG_SAMPLE, count);
+    let first = Sample::deserialize(&mut from).err();
+    [first, Sample::deserialize(&mut from).err()]
 }
 
 #[test]
 fn failing_reader(rt: HostRuntime) {
+    let reset = Some(Asn1DerError::Other(ErrorKind::ConnectionReset));
     for count in 0..LONG_SAMPLE.len() {
-        let mut from = trickle_of(rt.alloc(), &LONG_SAMPLE, count);
-        let fault = Asn1DerError::Other(ErrorKind::ConnectionReset);
-        assert_eq!(rt; Sample::deserialize(&mut from), Err(fault), "at {count}");
-        assert_eq!(rt;
-            Sample::deserialize(&mut from),
-            Err(Asn1DerError::InvalidData),
-            "behind {count}"
+        let faults = two_faults(rt.alloc(), count);
+        assert!(rt;
+            faults == [reset, Some(Asn1DerError::InvalidData)],
+            "at {count}"
         );
     }
+}
+
+// What two writings give, one behind the other, to a writer that fails behind so many bytes.
+fn two_write_faults(sample: &Sample, count: usize) -> [Option<Asn1DerError>; 2] {
+    let mut to = Serializer::new_to_writer(Watched::new(Clogging { count }));
+    let first = sample.serialize(&mut to).err();
+    [first, sample.serialize(&mut to).err()]
 }
 
 #[test]
 fn failing_writer(rt: HostRuntime) {
     let sample = sample_of(Some(128.into()));
+    let broken = Some(Asn1DerError::Other(ErrorKind::BrokenPipe));
     for count in 0..LONG_SAMPLE.len() {
-        let mut to = Serializer::new_to_writer(Watched::new(Clogging { count }));
-        let fault = Asn1DerError::Other(ErrorKind::BrokenPipe);
-        assert_eq!(rt; sample.serialize(&mut to), Err(fault), "at {count}");
-        assert_eq!(rt;
-            sample.serialize(&mut to),
-            Err(Asn1DerError::InvalidSink),
-            "behind {count}"
+        let faults = two_write_faults(&sample, count);
+        assert!(rt;
+            faults == [broken, Some(Asn1DerError::InvalidSink)],
+            "at {count}"
         );
     }
 }
 
 #[test]
-fn what_follows(rt: HostRuntime) -> Result<(), Fail> {
+fn what_follows(rt: HostRuntime) {
     let bytes = [2, 1, 5, 2, 1, 7];
-    assert_eq!(rt; from_bytes(rt.alloc(), &bytes), Ok(5u32));
-    assert_eq!(rt;
-        from_exact_bytes::<u32>(rt.alloc(), &bytes),
-        Err(Asn1DerError::InvalidData)
-    );
-
+    assert!(rt; from_bytes(rt.alloc(), &bytes) == Ok(5u32));
+    assert!(rt; fault_of::<u32>(rt.alloc(), &bytes) == Some(Asn1DerError::InvalidData));
     let mut from = Deserializer::new_from_bytes(rt.alloc(), &bytes);
-    assert_eq!(rt; u32::deserialize(&mut from), Ok(5));
-    assert_eq!(rt; u32::deserialize(&mut from), Ok(7));
-    assert_eq!(rt;
-        u32::deserialize(&mut from),
-        Err(Asn1DerError::TruncatedData)
-    );
-    assert_eq!(rt; u32::deserialize(&mut from), Err(Asn1DerError::InvalidData));
-    Ok(())
+    assert!(rt; u32::deserialize(&mut from) == Ok(5));
+    assert!(rt; u32::deserialize(&mut from) == Ok(7));
+    assert!(rt; u32::deserialize(&mut from) == Err(Asn1DerError::TruncatedData));
+    assert!(rt; u32::deserialize(&mut from) == Err(Asn1DerError::InvalidData));
 }
 
 #[test]
 fn truncated_input(rt: HostRuntime) {
     for size in 0..LONG_SAMPLE.len() {
-        let read = from_bytes::<Sample>(rt.alloc(), &LONG_SAMPLE[..size]);
-        assert_eq!(rt; read, Err(Asn1DerError::TruncatedData), "at {size}");
+        let fault = front_fault_of::<Sample>(rt.alloc(), &LONG_SAMPLE[..size]);
+        assert!(rt; fault == Some(Asn1DerError::TruncatedData), "at {size}");
     }
 }
