@@ -9,7 +9,6 @@ use krb_frames::{
 };
 use krb_moments::Moment;
 use std::alloc::{AllocError, Global};
-use std::test::Fail;
 use std::{io, iter};
 
 // Replies with the first random byte and the message. A message with no byte is no request.
@@ -52,15 +51,31 @@ fn words_of_two(alloc: Global) -> Result<Vec<u8>, AllocError> {
     Ok(words)
 }
 
-fn first_moment() -> Result<Moment, Fail> {
-    Ok(Moment::new(0).ok_or("no moment")?)
+// What is written for a stream, with so many moments and random bytes, and how it ends.
+#[derive(Drop)]
+struct Case<'a> {
+    stream: &'a [u8],
+    moments: usize,
+    words: usize,
+    end: Result<u64, ServeFault>,
+    written: &'a [u8],
+}
+
+fn is_served(alloc: Global, case: &Case<'_>) -> bool {
+    let (Ok(words), Some(moment)) = (words_of_two(alloc), Moment::new(0)) else {
+        return false;
+    };
+    let moments = [moment; 2];
+    let moments = moments.get(..case.moments).unwrap_or_default();
+    let words = words.get(..case.words).unwrap_or_default();
+    let mut replies = Vec::new(alloc);
+    let end = serve_bytes(alloc, &Toy, case.stream, moments, words, &mut replies);
+    end == case.end && replies.as_slice() == case.written
 }
 
 #[test]
-fn stops_at_the_first_fault(rt: HostRuntime) -> Result<(), Fail> {
-    let words = words_of_two(rt.alloc())?;
-    let moments = [first_moment()?; 2];
-    for (stream, moment_count, word_count, outcome, written) in [
+fn stops_at_the_first_fault(rt: HostRuntime) {
+    for (stream, moments, words, end, written) in [
         (b"".as_slice(), 0, 0, Ok(0), b"".as_slice()),
         (b"\0\0\0", 0, 0, Err(ServeFault::Truncated), b""),
         (b"\0\x01\0\x01", 0, 0, Err(ServeFault::FrameTooLong), b""),
@@ -72,14 +87,15 @@ fn stops_at_the_first_fault(rt: HostRuntime) -> Result<(), Fail> {
         (STREAM, 2, 255, Err(ServeFault::NoWords), &REPLIES[..6]),
         (STREAM, 2, 256, Ok(2), REPLIES),
     ] {
-        let mut replies = Vec::new(rt.alloc());
-        let moments = &moments[..moment_count];
-        let words = words.get(..word_count).unwrap_or_default();
-        let result = serve_bytes(rt.alloc(), &Toy, stream, moments, words, &mut replies);
-        assert_eq!(rt; result, outcome, "at {stream:?}");
-        assert_eq!(rt; replies.as_slice(), written, "at {stream:?}");
+        let case = Case {
+            stream,
+            moments,
+            words,
+            end,
+            written,
+        };
+        assert!(rt; is_served(rt.alloc(), &case), "at {stream:?}");
     }
-    Ok(())
 }
 
 // A frame of as many bytes `x`.
@@ -89,28 +105,23 @@ fn frame_of(alloc: Global, size: u32) -> Result<Vec<u8>, AllocError> {
     Ok(frame)
 }
 
+// How a stream of one frame of as many bytes ends, and how many bytes are written.
+fn end_of_frame(alloc: Global, size: u32) -> Option<(Result<u64, ServeFault>, usize)> {
+    let moments = [Moment::new(0)?];
+    let stream = frame_of(alloc, size).ok()?;
+    let mut replies = Vec::new(alloc);
+    let words = &[0; WORDS_NEEDED];
+    let end = serve_bytes(alloc, &Toy, &stream, &moments, words, &mut replies);
+    Some((end, replies.len()))
+}
+
 // The longest message makes a reply of a byte too many.
 #[test]
-fn long_replies(rt: HostRuntime) -> Result<(), Fail> {
-    for (size, outcome, written) in [
-        (65_535, Ok(1), 4 + FRAME_LIMIT),
-        (65_536, Err(ServeFault::ReplyTooLong), 0),
-    ] {
-        let stream = frame_of(rt.alloc(), size)?;
-        let mut replies = Vec::new(rt.alloc());
-        let moments = [first_moment()?];
-        let result = serve_bytes(
-            rt.alloc(),
-            &Toy,
-            &stream,
-            &moments,
-            &[0; WORDS_NEEDED],
-            &mut replies,
-        );
-        assert_eq!(rt; result, outcome);
-        assert_eq!(rt; replies.len(), written);
-    }
-    Ok(())
+fn long_replies(rt: HostRuntime) {
+    let whole = end_of_frame(rt.alloc(), 65_535);
+    assert!(rt; whole == Some((Ok(1), 4 + FRAME_LIMIT)));
+    let too_long = end_of_frame(rt.alloc(), 65_536);
+    assert!(rt; too_long == Some((Err(ServeFault::ReplyTooLong), 0)));
 }
 
 // Serves a stream at the first moment and to these devices.
@@ -119,83 +130,84 @@ fn served<R: Source, W: Sink, K: Source>(
     reader: &mut R,
     writer: &mut W,
     words: &mut K,
-) -> Result<Result<u64, ServeFault>, Fail> {
-    let moments = iter::repeat_n(first_moment()?, 9);
-    Ok(serve(alloc, &Toy, reader, writer, moments, words))
+) -> Option<Result<u64, ServeFault>> {
+    let moments = iter::repeat_n(Moment::new(0)?, 9);
+    Some(serve(alloc, &Toy, reader, writer, moments, words))
+}
+
+// How the stream ends where its reader fails at a call, and whether so many bytes of the replies are written.
+fn is_end_of_reader(alloc: Global, at: usize, end: Result<u64, ServeFault>, size: usize) -> bool {
+    let Ok(words) = words_of_two(alloc) else {
+        return false;
+    };
+    let mut reader = Drip::new(STREAM, at);
+    let mut replies = Vec::new(alloc);
+    served(alloc, &mut reader, &mut replies, &mut words.as_slice()) == Some(end)
+        && Some(replies.as_slice()) == REPLIES.get(..size)
 }
 
 // The reader fails at its call `at`; the call after the last byte tells the end.
 #[test]
-fn failing_reader(rt: HostRuntime) -> Result<(), Fail> {
-    let words = words_of_two(rt.alloc())?;
+fn failing_reader(rt: HostRuntime) {
     for at in 0..13 {
-        let mut reader = Drip::new(STREAM, at);
-        let mut replies = Vec::new(rt.alloc());
-        let result = served(rt.alloc(), &mut reader, &mut replies, &mut words.as_slice())?;
-        let (outcome, size) = match at {
+        let (end, size) = match at {
             0..5 => (Err(ServeFault::Read), 0),
             5..11 => (Err(ServeFault::Read), 6),
             11 => (Err(ServeFault::Read), 13),
             _ => (Ok(2), 13),
         };
-        assert_eq!(rt; result, outcome, "at {at}");
-        assert_eq!(rt; replies.as_slice(), &REPLIES[..size], "at {at}");
+        assert!(rt; is_end_of_reader(rt.alloc(), at, end, size), "at {at}");
     }
-    Ok(())
+}
+
+fn end_of_words(alloc: Global, at: usize) -> Option<Result<u64, ServeFault>> {
+    let words = words_of_two(alloc).ok()?;
+    let mut drip = Drip::new(&words, at);
+    let mut replies = Vec::new(alloc);
+    served(alloc, &mut &*STREAM, &mut replies, &mut drip)
 }
 
 // The random bytes fail at the call `at`.
 #[test]
-fn failing_random_bytes(rt: HostRuntime) -> Result<(), Fail> {
-    let words = words_of_two(rt.alloc())?;
-    for (at, outcome) in [
-        (0, Err(ServeFault::Read)),
-        (127, Err(ServeFault::Read)),
-        (128, Err(ServeFault::Read)),
-        (255, Err(ServeFault::Read)),
-        (256, Ok(2)),
-    ] {
-        let mut drip = Drip::new(&words, at);
-        let mut replies = Vec::new(rt.alloc());
-        let result = served(rt.alloc(), &mut &*STREAM, &mut replies, &mut drip)?;
-        assert_eq!(rt; result, outcome, "at {at}");
+fn failing_random_bytes(rt: HostRuntime) {
+    for at in [0, 127, 128, 255] {
+        let end = end_of_words(rt.alloc(), at);
+        assert!(rt; end == Some(Err(ServeFault::Read)), "at {at}");
     }
-    Ok(())
+    assert!(rt; end_of_words(rt.alloc(), 256) == Some(Ok(2)));
+}
+
+// How the stream ends where its writer fails at a byte, which is written up to it.
+fn is_end_of_writer(alloc: Global, at: usize, end: Result<u64, ServeFault>) -> bool {
+    let Ok(words) = words_of_two(alloc) else {
+        return false;
+    };
+    let mut writer = Trickle::new(alloc, at, true);
+    served(alloc, &mut &*STREAM, &mut writer, &mut words.as_slice()) == Some(end)
+        && Some(writer.taken.as_slice()) == REPLIES.get(..at)
 }
 
 // The writer fails at the byte `at`.
 #[test]
-fn failing_writer(rt: HostRuntime) -> Result<(), Fail> {
-    let words = words_of_two(rt.alloc())?;
-    for at in 0..14 {
-        let mut writer = Trickle::new(rt.alloc(), at, true);
-        let result = served(
-            rt.alloc(),
-            &mut &*STREAM,
-            &mut writer,
-            &mut words.as_slice(),
-        )?;
-        let outcome = if at < 13 {
-            Err(ServeFault::Write)
-        } else {
-            Ok(2)
-        };
-        assert_eq!(rt; result, outcome, "at {at}");
-        assert_eq!(rt; writer.taken.as_slice(), &REPLIES[..at.min(13)], "at {at}");
+fn failing_writer(rt: HostRuntime) {
+    for at in 0..13 {
+        assert!(rt;
+            is_end_of_writer(rt.alloc(), at, Err(ServeFault::Write)),
+            "at {at}"
+        );
     }
-    Ok(())
+    assert!(rt; is_end_of_writer(rt.alloc(), 13, Ok(2)));
+}
+
+fn is_served_by_std(alloc: Global) -> bool {
+    let mut reader = Watched::new(STREAM);
+    let mut writer = Watched::new(Vec::new(alloc));
+    let mut words = Watched::new(io::repeat(b'A'));
+    served(alloc, &mut reader, &mut writer, &mut words) == Some(Ok(2))
+        && writer.get_ref().as_slice() == b"\0\0\0\x02Aa\0\0\0\x03Abc".as_slice()
 }
 
 #[test]
-fn devices_of_std(rt: HostRuntime) -> Result<(), Fail> {
-    let mut reader = Watched::new(STREAM);
-    let mut writer = Watched::new(Vec::new(rt.alloc()));
-    let mut words = Watched::new(io::repeat(b'A'));
-    let result = served(rt.alloc(), &mut reader, &mut writer, &mut words)?;
-    assert_eq!(rt; result, Ok(2));
-    assert_eq!(rt;
-        writer.get_ref().as_slice(),
-        b"\0\0\0\x02Aa\0\0\0\x03Abc".as_slice()
-    );
-    Ok(())
+fn devices_of_std(rt: HostRuntime) {
+    assert!(rt; is_served_by_std(rt.alloc()));
 }
