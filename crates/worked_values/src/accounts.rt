@@ -7,90 +7,124 @@ use krb_accounts::{
 use krb_crypto::CipherSuite;
 use picky_asn1::wrapper::{GeneralStringAsn1, OctetStringAsn1};
 use std::alloc::Global;
-use std::test::Fail;
 
 const AES128: CipherSuite = CipherSuite::Aes128CtsHmacSha196;
 
 const AES256: CipherSuite = CipherSuite::Aes256CtsHmacSha196;
 
-fn name_of(alloc: Global, components: &[&[u8]]) -> Result<Vec<GeneralStringAsn1>, Fail> {
+fn name_of(alloc: Global, components: &[&[u8]]) -> Option<Vec<GeneralStringAsn1>> {
     let mut name = Vec::new(alloc);
     for component in components {
-        name.push(realm_name_of(alloc, component)?)?;
+        let component = realm_name_of(alloc, component).ok()?;
+        name.push(component).ok()?;
     }
-    Ok(name)
+    Some(name)
+}
+
+fn is_kept(skew: u64, lifetime: u64) -> bool {
+    match Settings::new(skew, lifetime) {
+        Ok(settings) => settings.skew() == skew && settings.lifetime() == lifetime,
+        Err(_) => false,
+    }
 }
 
 #[test]
-fn settings(rt: HostRuntime) -> Result<(), Fail> {
-    let settings = Settings::new(300, 36_000)?;
-    assert_eq!(rt; (settings.skew(), settings.lifetime()), (300, 36_000));
-    Ok(())
+fn settings(rt: HostRuntime) {
+    assert!(rt; is_kept(300, 36_000));
+}
+
+fn host(alloc: Global) -> Option<Vec<Vec<u8>>> {
+    let host = Vec::from_slice(alloc, b"host").ok()?;
+    vec![in alloc; host].ok()
+}
+
+fn is_component(alloc: Global) -> Option<bool> {
+    let name = host(alloc)?;
+    let components = components_of(alloc, &name).ok()?;
+    Some(are_components(&name) && Some(components) == name_of(alloc, &[b"host"]))
+}
+
+fn is_salt(alloc: Global, wanted: &[u8]) -> Option<bool> {
+    let name = host(alloc)?;
+    let salt = password_salt(alloc, b"EXAMPLE.ORG", &name).ok()?;
+    Some(salt.as_slice() == wanted)
 }
 
 // The salt is the realm and behind it the components (RFC 4120, section 4).
 #[test]
-fn names(rt: HostRuntime) -> Result<(), Fail> {
+fn names(rt: HostRuntime) {
     assert!(rt; is_realm_name(b"EXAMPLE.ORG") && !is_realm_name(b""));
-    let host = Vec::from_slice(rt.alloc(), b"host")?;
-    let name = vec![in rt.alloc(); host]?;
-    assert!(rt; are_components(&name));
-    assert!(rt; components_of(rt.alloc(), &name)? == name_of(rt.alloc(), &[b"host"])?);
-    let salt = password_salt(rt.alloc(), b"EXAMPLE.ORG", &name)?;
-    assert_eq!(rt; salt.as_slice(), b"EXAMPLE.ORGhost".as_slice());
-    Ok(())
+    assert!(rt; is_component(rt.alloc()) == Some(true));
+    assert!(rt; is_salt(rt.alloc(), b"EXAMPLE.ORGhost") == Some(true));
+}
+
+fn add(
+    accounts: &mut Accounts,
+    name: Option<Vec<GeneralStringAsn1>>,
+    account: Account,
+) -> Option<()> {
+    accounts.insert_new(name?, account).ok()
 }
 
 // The service host/a, and a user by a key of number 7 with a salt.
-fn two_accounts(alloc: Global) -> Result<Accounts, Fail> {
+fn two_accounts(alloc: Global) -> Option<Accounts> {
     let mut accounts = Accounts::new(alloc);
-    let host = Account::by_key(alloc, AES128, &[1; 16])?;
-    accounts.insert_new(name_of(alloc, &[b"host", b"a"])?, host)?;
-    accounts.insert_new(name_of(alloc, &[b"user"])?, account_7(alloc)?)?;
-    Ok(accounts)
+    let host = Account::by_key(alloc, AES128, &[1; 16]).ok()?;
+    add(&mut accounts, name_of(alloc, &[b"host", b"a"]), host)?;
+    add(&mut accounts, name_of(alloc, &[b"user"]), account_7(alloc)?)?;
+    Some(accounts)
 }
 
-fn account_7(alloc: Global) -> Result<Account, Fail> {
-    let salt = OctetStringAsn1::new(alloc, b"Ruser")?;
-    let key = OctetStringAsn1::new(alloc, &[2; 32])?;
-    Ok(Account::new(AES256, key, 7, Some(salt)))
-}
-
-#[test]
-fn found_accounts(rt: HostRuntime) -> Result<(), Fail> {
-    let accounts = two_accounts(rt.alloc())?;
-    let name = name_of(rt.alloc(), &[b"user"])?;
-    let found = accounts.get(name.as_slice()).ok_or("no account")?;
-    assert!(rt; is_account_7(found));
-    Ok(())
+fn account_7(alloc: Global) -> Option<Account> {
+    let salt = OctetStringAsn1::new(alloc, b"Ruser").ok()?;
+    let key = OctetStringAsn1::new(alloc, &[2; 32]).ok()?;
+    Some(Account::new(AES256, key, 7, Some(salt)))
 }
 
 fn is_account_7(account: &Account) -> bool {
     account.suite() == AES256
         && account.key() == [2; 32].as_slice()
         && account.number() == 7
-        && account
-            .salt()
-            .is_some_and(|salt| salt.as_bytes() == b"Ruser".as_slice())
+        && account.salt().is_some_and(is_user_salt)
+}
+
+fn is_user_salt(salt: &OctetStringAsn1) -> bool {
+    salt.as_bytes() == b"Ruser".as_slice()
+}
+
+// Whether this name has an account.
+fn is_known(alloc: Global, components: &[&[u8]]) -> Option<bool> {
+    let name = name_of(alloc, components)?;
+    Some(two_accounts(alloc)?.get(name.as_slice()).is_some())
+}
+
+fn is_found(alloc: Global) -> Option<bool> {
+    let name = name_of(alloc, &[b"user"])?;
+    Some(
+        two_accounts(alloc)?
+            .get(name.as_slice())
+            .is_some_and(is_account_7),
+    )
 }
 
 // Names differ in the cases of letters and in where components end.
 #[test]
-fn other_names(rt: HostRuntime) -> Result<(), Fail> {
-    let accounts = two_accounts(rt.alloc())?;
-    let names: [&[&[u8]]; 3] = [&[b"User"], &[b"hosta"], &[b"host/a"]];
-    for components in names {
-        let name = name_of(rt.alloc(), components)?;
-        assert!(rt;
-            accounts.get(name.as_slice()).is_none(),
-            "at {components:?}"
-        );
+fn found_accounts(rt: HostRuntime) {
+    assert!(rt; is_found(rt.alloc()) == Some(true));
+    assert!(rt; is_known(rt.alloc(), &[b"User"]) == Some(false));
+    assert!(rt; is_known(rt.alloc(), &[b"hosta"]) == Some(false));
+    assert!(rt; is_known(rt.alloc(), &[b"host/a"]) == Some(false));
+}
+
+fn is_printed(alloc: Global, refusal: RealmRefusal, text: &str) -> bool {
+    match format!(in alloc; "{refusal}") {
+        Ok(printed) => printed.as_str() == text,
+        Err(_) => false,
     }
-    Ok(())
 }
 
 #[test]
-fn refusals(rt: HostRuntime) -> Result<(), Fail> {
+fn refusals(rt: HostRuntime) {
     for (refusal, number) in [
         (RealmRefusal::Exists, 1),
         (RealmRefusal::BadName, 3),
@@ -98,9 +132,13 @@ fn refusals(rt: HostRuntime) -> Result<(), Fail> {
         (RealmRefusal::BadSetting, 7),
         (RealmRefusal::Memory, 8),
     ] {
-        assert_eq!(rt; refusal as u8, number);
+        assert!(rt; refusal as u8 == number, "at {number}");
     }
-    let text = format!(in rt.alloc(); "{}", RealmRefusal::Exists)?;
-    assert_eq!(rt; text.as_str(), "the account exists already");
-    Ok(())
+    assert!(rt;
+        is_printed(
+            rt.alloc(),
+            RealmRefusal::Exists,
+            "the account exists already"
+        )
+    );
 }

@@ -1,18 +1,40 @@
 //! Moments: the first of 2000 and the last of all, whose seconds `date -u +%s` tells.
 use krb_moments::Moment;
-use std::test::Fail;
+
+fn new_year() -> Option<Moment> {
+    Moment::from_text(b"20000101000000Z")
+}
+
+fn last() -> Option<Moment> {
+    Moment::new(315_569_519_999_999_999)
+}
+
+fn micros_of(moment: Option<Moment>) -> Option<u64> {
+    Some(moment?.micros())
+}
+
+fn is_at(moment: Option<Moment>, text: &[u8], microsecond: u32) -> bool {
+    match moment {
+        Some(moment) => {
+            moment.second().to_text().as_slice() == text
+                && moment.microsecond() == microsecond
+                && Moment::at(moment.second(), 999_999) == moment
+        }
+        None => false,
+    }
+}
+
+// Whether the first moment is before the second, and more than a microsecond away.
+fn are_apart(first: Option<Moment>, second: Option<Moment>) -> bool {
+    match (first, second) {
+        (Some(first), Some(second)) => first < second && first.is_far_from(second, 1),
+        _ => false,
+    }
+}
 
 #[test]
-fn moments(rt: HostRuntime) -> Result<(), Fail> {
-    let new_year = Moment::from_text(b"20000101000000Z").ok_or("2000-01-01")?;
-    assert_eq!(rt; new_year.micros(), 63_113_904_000_000_000);
-    let last = Moment::new(315_569_519_999_999_999).ok_or("the last moment")?;
-    assert_eq!(rt;
-        last.second().to_text().as_slice(),
-        b"99991231235959Z".as_slice()
-    );
-    assert_eq!(rt; last.microsecond(), 999_999);
-    assert_eq!(rt; Moment::at(last.second(), 999_999), last);
-    assert!(rt; new_year < last && new_year.is_far_from(last, 1));
-    Ok(())
+fn moments(rt: HostRuntime) {
+    assert!(rt; micros_of(new_year()) == Some(63_113_904_000_000_000));
+    assert!(rt; is_at(last(), b"99991231235959Z", 999_999));
+    assert!(rt; are_apart(new_year(), last()));
 }

@@ -4,58 +4,86 @@ use krb_moments::Moment;
 use krb_seen::{Pair, Seen};
 use picky_asn1::wrapper::GeneralStringAsn1;
 use std::alloc::Global;
-use std::test::Fail;
 
-fn at(second: u64) -> Result<Moment, Fail> {
-    Ok(Moment::new(second.saturating_mul(1_000_000)).ok_or("no moment")?)
+fn at(second: u64) -> Option<Moment> {
+    Moment::new(second.saturating_mul(1_000_000))
 }
 
-fn pair(alloc: Global, name: &[u8], second: u64) -> Result<Pair, Fail> {
-    let realm = GeneralStringAsn1::new(alloc, b"EXAMPLE.ORG")?;
-    let components = vec![in alloc; GeneralStringAsn1::new(alloc, name)?]?;
-    Ok(Pair::new(realm, components, at(second)?))
+fn pair(alloc: Global, name: &[u8], second: u64) -> Option<Pair> {
+    let time = at(second)?;
+    let realm = GeneralStringAsn1::new(alloc, b"EXAMPLE.ORG").ok()?;
+    let components = components_of(alloc, name)?;
+    Some(Pair::new(realm, components, time))
+}
+
+fn components_of(alloc: Global, name: &[u8]) -> Option<Vec<GeneralStringAsn1>> {
+    let name = GeneralStringAsn1::new(alloc, name).ok()?;
+    vec![in alloc; name].ok()
+}
+
+fn record(seen: &mut Seen, pair: Option<Pair>) -> Option<()> {
+    seen.record(pair?).ok()
 }
 
 // At second 1,000 a pair of second 1,100 was admitted, and one of 900.
-fn seen_two(alloc: Global) -> Result<Seen, Fail> {
+fn seen_two(alloc: Global) -> Option<Seen> {
     let mut seen = Seen::new(alloc, 300);
     seen.raise(at(1_000)?);
-    seen.record(pair(alloc, b"user", 1_100)?)?;
-    seen.record(pair(alloc, b"other", 900)?)?;
-    Ok(seen)
+    record(&mut seen, pair(alloc, b"user", 1_100))?;
+    record(&mut seen, pair(alloc, b"other", 900))?;
+    Some(seen)
+}
+
+fn is_seen(alloc: Global, name: &[u8], second: u64) -> Option<bool> {
+    let pair = pair(alloc, name, second)?;
+    Some(seen_two(alloc)?.contains(&pair))
 }
 
 #[test]
-fn admitted_pairs(rt: HostRuntime) -> Result<(), Fail> {
-    let seen = seen_two(rt.alloc())?;
-    for (name, second, is_seen) in [
-        (b"user".as_slice(), 1_100, true),
-        (b"other", 900, true),
-        (b"user", 1_101, false),
-        (b"User", 1_100, false),
-    ] {
-        let pair = pair(rt.alloc(), name, second)?;
-        assert_eq!(rt; seen.contains(&pair), is_seen, "at {name:?}, {second}");
-    }
-    Ok(())
+fn admitted_pairs(rt: HostRuntime) {
+    assert!(rt; is_seen(rt.alloc(), b"user", 1_100) == Some(true));
+    assert!(rt; is_seen(rt.alloc(), b"other", 900) == Some(true));
+    assert!(rt; is_seen(rt.alloc(), b"user", 1_101) == Some(false));
+    assert!(rt; is_seen(rt.alloc(), b"User", 1_100) == Some(false));
 }
 
-#[test]
-fn far_times(rt: HostRuntime) -> Result<(), Fail> {
-    let mut seen = seen_two(rt.alloc())?;
+// What was seen, once an earlier moment was handed in too.
+fn seen_later(alloc: Global) -> Option<Seen> {
+    let mut seen = seen_two(alloc)?;
     seen.raise(at(990)?);
-    assert_eq!(rt; seen.greatest(), at(1_000)?);
-    assert_eq!(rt; seen.skew(), 300_000_000);
-    for (second, is_far) in [(699, true), (700, false), (1_300, false), (1_301, true)] {
-        let told = seen.greatest().is_far_from(at(second)?, seen.skew());
-        assert_eq!(rt; told, is_far, "at {second}");
+    Some(seen)
+}
+
+fn is_kept(seen: &Seen) -> bool {
+    Some(seen.greatest()) == at(1_000) && seen.skew() == 300_000_000
+}
+
+fn is_far(seen: &Seen, second: u64) -> Option<bool> {
+    Some(seen.greatest().is_far_from(at(second)?, seen.skew()))
+}
+
+fn are_far(alloc: Global, second: u64) -> Option<bool> {
+    let seen = seen_later(alloc)?;
+    if is_kept(&seen) {
+        is_far(&seen, second)
+    } else {
+        None
     }
-    Ok(())
 }
 
 #[test]
-fn times(rt: HostRuntime) -> Result<(), Fail> {
-    let pair = pair(rt.alloc(), b"user", 1_300)?;
-    assert_eq!(rt; pair.time(), at(1_300)?);
-    Ok(())
+fn far_times(rt: HostRuntime) {
+    for (second, far) in [(699, true), (700, false), (1_300, false), (1_301, true)] {
+        assert!(rt; are_far(rt.alloc(), second) == Some(far), "at {second}");
+    }
+}
+
+fn time_of(pair: Option<Pair>) -> Option<Moment> {
+    Some(pair?.time())
+}
+
+#[test]
+fn times(rt: HostRuntime) {
+    let time = time_of(pair(rt.alloc(), b"user", 1_300));
+    assert!(rt; time.is_some() && time == at(1_300));
 }
