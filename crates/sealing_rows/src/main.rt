@@ -1,22 +1,23 @@
-//! Replays a file of derived keys, sealed messages, checksums and n-folds, and compares each with what the suites answer.
+//! Replays files of vectors and of values by another implementation, and compares each with what is made here.
 #![tactic(auto)]
 
-use anyhow::bail;
-use krb_crypto::{Checksum, Cipher, CipherSuite, n_fold};
+mod aes;
+mod des;
+mod digests;
+mod row;
+
+use row::{Row, row_of};
 use std::alloc::Global;
 use std::fs;
 
-/// A message under a key, for a usage.
-#[derive(Drop)]
-struct Message {
-    suite: CipherSuite,
-    key: Vec<u8>,
-    usage: i32,
-    text: Vec<u8>,
+fn main(rt: HostRuntime) -> anyhow::Result<()> {
+    replay(&rt, "standards.txt")?;
+    replay(&rt, "sealing_aes.txt")
 }
 
-fn main(rt: HostRuntime) -> anyhow::Result<()> {
-    let text = fs::read_to_string(&rt, "sealing_aes.txt")?;
+/// Replays a file, and prints how many of its lines say something else than what is made.
+fn replay(rt: &HostRuntime, file: &str) -> anyhow::Result<()> {
+    let text = fs::read_to_string(rt, file)?;
     let mut replayed = 0u64;
     let mut differing = 0u64;
     for line in text.lines() {
@@ -24,93 +25,40 @@ fn main(rt: HostRuntime) -> anyhow::Result<()> {
             continue;
         }
         replayed = replayed.saturating_add(1);
-        if !agrees(rt.alloc(), line)? {
+        let row = row_of(rt.alloc(), line)?;
+        if !agrees(rt.alloc(), &row) {
             differing = differing.saturating_add(1);
-            println!(rt; "differs: {line}")?;
+            println!(rt; "{file} differs: {line}")?;
         }
     }
-    println!(rt; "{replayed} lines, {differing} differ")?;
+    println!(rt; "{file}: {replayed} lines, {differing} differ")?;
     Ok(())
 }
 
-/// Whether the suites answer what the line says.
-fn agrees(alloc: Global, line: &str) -> anyhow::Result<bool> {
-    let words: Vec<&str> = line.split(' ').collect(alloc)?;
-    match words.as_slice() {
-        ["key", suite, password, salt, key] => {
-            let suite = CipherSuite::try_from(suite.parse::<usize>()?)?;
-            let password = bytes_of(alloc, password)?;
-            let salt = bytes_of(alloc, salt)?;
-            let made = suite.generate_key_from_password(alloc, &password, &salt)?;
-            Ok(made == bytes_of(alloc, key)?)
-        }
-        ["seal", suite, key, usage, confounder, plain, sealed] => {
-            let message = message_of(alloc, suite, key, usage, plain)?;
-            let confounder = bytes_of(alloc, confounder)?;
-            seals(alloc, &message, &confounder, &bytes_of(alloc, sealed)?)
-        }
-        ["checksum", suite, key, usage, text, checksum] => {
-            let message = message_of(alloc, suite, key, usage, text)?;
-            let hasher = message.suite.checksum_type();
-            let made = hasher.checksum(alloc, &message.key, message.usage, &message.text)?;
-            Ok(made == bytes_of(alloc, checksum)?)
-        }
-        ["nfold", bits, data, folded] => {
-            let bits = bits.parse::<usize>()?;
-            let data = bytes_of(alloc, data)?;
-            if data.is_empty() || bits == 0 || bits % 8 != 0 {
-                bail!("no n-fold of {} bytes to {bits} bits", data.len());
-            }
-            Ok(n_fold(alloc, &data, bits)? == bytes_of(alloc, folded)?)
-        }
-        _ => bail!("not read: {line}"),
+/// Whether what is made is what the line says. A line of another shape differs.
+fn agrees(alloc: Global, row: &Row<'_>) -> bool {
+    match row.kind {
+        "cbc" => aes::is_chained(alloc, row),
+        "cts" => aes::is_stolen(alloc, row),
+        "key" => aes::is_key(alloc, row),
+        "seal" => aes::is_sealed(alloc, row),
+        "checksum" => aes::is_checksum(alloc, row),
+        "mac" => digests::is_code(row),
+        "hmac" => digests::is_fitted_code(alloc, row),
+        "pbkdf2" => digests::is_password_key(alloc, row),
+        "nfold" => digests::is_folded(alloc, row),
+        "des3" => des::is_chained(alloc, row),
+        "des3-seed" => des::is_seeded(row),
+        "des3-derive" => des::is_derived(alloc, row),
+        "des3-password" => des::is_password_key(alloc, row),
+        _ => false,
     }
 }
 
-/// Whether the message is sealed behind the confounder to these bytes, and opened from them.
-fn seals(
-    alloc: Global,
-    message: &Message,
-    confounder: &[u8],
-    sealed: &[u8],
-) -> anyhow::Result<bool> {
-    let suite = message.suite;
-    if confounder.len() != Cipher::confounder_size(&suite) {
-        bail!("a confounder of {} bytes", confounder.len());
-    }
-    let made = suite.encrypt(
-        alloc,
-        &message.key,
-        message.usage,
-        &message.text,
-        confounder,
-    )?;
-    let opened = match suite.decrypt(alloc, &message.key, message.usage, sealed) {
-        Ok(opened) => opened == message.text,
+/// Whether these bytes were made.
+fn is<E: Drop>(made: Result<Vec<u8>, E>, wanted: &[u8]) -> bool {
+    match made {
+        Ok(bytes) => bytes.as_slice() == wanted,
         Err(_) => false,
-    };
-    Ok(opened && made.as_slice() == sealed)
-}
-
-fn message_of(
-    alloc: Global,
-    suite: &str,
-    key: &str,
-    usage: &str,
-    text: &str,
-) -> anyhow::Result<Message> {
-    Ok(Message {
-        suite: CipherSuite::try_from(suite.parse::<usize>()?)?,
-        key: bytes_of(alloc, key)?,
-        usage: usage.parse::<i32>()?,
-        text: bytes_of(alloc, text)?,
-    })
-}
-
-/// The bytes of a column, `-` for none.
-fn bytes_of(alloc: Global, column: &str) -> anyhow::Result<Vec<u8>> {
-    if column == "-" {
-        return Ok(Vec::new(alloc));
     }
-    Ok(hex::decode(alloc, column)?)
 }

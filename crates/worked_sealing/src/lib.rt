@@ -1,13 +1,11 @@
-//! Vectors of the standards and of other programs for what seals messages.
+//! Worked values of what seals messages, at the calls that no line of `sealing_rows` makes.
 #![tactic(auto)]
 
 #[cfg(test)]
-mod blocks;
-#[cfg(test)]
 mod digests;
+#[cfg(test)]
+mod refusals;
 #[cfg(test)]
 mod sealing;
 #[cfg(test)]
 mod suites;
-#[cfg(test)]
-mod triple_des;

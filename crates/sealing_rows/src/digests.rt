@@ -1,0 +1,51 @@
+//! What the digests make.
+
+use crate::is;
+use crate::row::Row;
+use krb_digests::{MacKey, hmac_sha1, n_fold, pbkdf2_hmac_sha1};
+use std::alloc::Global;
+
+/// Key, message and code, of the message whole and in two parts.
+pub(crate) fn is_code(row: &Row<'_>) -> bool {
+    let [key, message, code] = row.columns.as_slice() else {
+        return false;
+    };
+    let key = MacKey::new(key);
+    let (front, back) = message.split_at(message.len() / 2);
+    key.mac(message).as_slice() == code.as_slice()
+        && key.mac_of_two(front, back).as_slice() == code.as_slice()
+}
+
+/// Key, message and code, cut or filled to the row's size.
+pub(crate) fn is_fitted_code(alloc: Global, row: &Row<'_>) -> bool {
+    let [key, message, code] = row.columns.as_slice() else {
+        return false;
+    };
+    is(hmac_sha1(alloc, key, message, row.size), code)
+}
+
+/// Password, salt and key, after as many rounds as the row's size.
+pub(crate) fn is_password_key(alloc: Global, row: &Row<'_>) -> bool {
+    let (Ok(rounds), [password, salt, key]) = (u32::try_from(row.size), row.columns.as_slice())
+    else {
+        return false;
+    };
+    if rounds == 0 || key.len() > 100 {
+        return false;
+    }
+    is(
+        pbkdf2_hmac_sha1(alloc, password, salt, rounds, key.len()),
+        key,
+    )
+}
+
+/// Data and what it is folded to, of as many bits as the row's size.
+pub(crate) fn is_folded(alloc: Global, row: &Row<'_>) -> bool {
+    let [data, folded] = row.columns.as_slice() else {
+        return false;
+    };
+    if data.is_empty() || row.size == 0 || row.size % 8 != 0 {
+        return false;
+    }
+    is(n_fold(alloc, data, row.size), folded)
+}
