@@ -377,8 +377,21 @@ impl<R: Source> Deserializer<R> {
             (λ value. TookValue (λ v. wrapped tag (T.tree v)) value self.old self.new)
             (λ fault. Refused (IsSpelling (λ v. wrapped tag (T.tree v))) self.old self.new fault) }
     {
-        let fields: Row1<T> = self.list(tag)?;
-        let (value, ()) = fields;
+        let count = self.open(tag)?;
+        let rest = self.enter(count);
+        let value = self.last()?;
+        self.leave(rest);
+        Ok(value)
+    }
+
+    /// Takes a value, which is all that is left up to the limit.
+    fn last<T: Deserialize>(&mut self) -> Result<T, Asn1DerError>
+        ensures { MatchResult result
+            (λ value. TookFields (λ v. more (T.tree v) none) value self.old self.new)
+            (λ fault. Refused (AreFields (λ v. more (T.tree v) none) self.old.limit) self.old self.new fault) }
+    {
+        let value = T::deserialize(self)?;
+        self.finish()?;
         Ok(value)
     }
 

@@ -1,14 +1,64 @@
-use Rattle.std.proofs.Common.{ap, sym, ◌∙◌}
-use Rattle.asn1_trees.specs.Length.{element}
-use Rattle.asn1_trees.proofs.Spelling.{wrapped-whole, der-wrapped, ders-one}
-use Rattle.asn1_codec.proofs.Chain.{at-exit, refused-as}
+use Rattle.std.proofs.Common.{◌≡◌, List, ℕ, ◌∷◌, ◌++◌, length, ap, sym, ◌∙◌, arith}
+use Rattle.asn1_trees.specs.Tree.{Tree, Trees, ders, der, wrapped, IsWhole, AreWhole}
+use Rattle.asn1_trees.specs.Tree as trees
+use Rattle.asn1_trees.specs.Length.{element, length_octets}
+use Rattle.asn1_trees.proofs.Elements.{element-split, element-content}
+use Rattle.asn1_trees.proofs.Spelling.{wrapped-whole, whole-wrapped, der-wrapped, ders-one}
+use Rattle.asn1_codec.specs.Reading.{IsSpelling, IsElement, IsList, AreFields}
+use Rattle.asn1_codec.proofs.Chain.{at-exit, refused-as, refused-after, refused-within, took-as, took-within}
+use Rattle.asn1_codec.proofs.Headers.{element_content_cut, header_sizes}
 use Rattle.asn1_codec.proofs.de.Deserializer.wrapped.Goals as goal
 
-pub returns-in_err-fields : goal.returns-in_err-fields
-returns-in_err-fields g c =
+-- the one tree of the content
+abbrev ones : {T : Type 0} → (T → Tree) → T → Trees
+ones tree value = trees.more (tree value) trees.none
+
+spelled : (tag : ℕ) (t : Tree) → IsWhole t → element tag (ders (trees.more t trees.none)) ≡ der (wrapped tag t)
+spelled tag t whole = ap (element tag) (ders-one t) ∙ sym (der-wrapped tag t whole)
+
+-- what is spelled under a further octet is a list of the one tree
+listed : {T : Type 0} (tag : ℕ) (tree : T → Tree) (bytes : List ℕ) → IsSpelling (λ v. wrapped tag (tree v)) bytes → IsList tag (ones tree) bytes
+listed tag tree bytes p =
+    let whole = wrapped-whole tag (tree p.0) p.1.0 in
+    (p.0, (whole, tt), p.1.1 ∙ sym (spelled tag (tree p.0) whole))
+
+pub returns-in_err-count : goal.returns-in_err-count
+returns-in_err-count g c =
     let tree = g.T.Serialize.tree in
     at-exit _ _ _ _ c.from_residual.ensures.1
-    (refused-as _ _ _ _ _ c.in_err-fields.ensures
-    (λ bytes p.
-    let whole = wrapped-whole c.args.tag (tree p.0) p.1.0 in
-    ((p.0, tt), (whole, tt), p.1.1 ∙ der-wrapped c.args.tag (tree p.0) whole ∙ ap (element c.args.tag) (sym (ders-one (tree p.0))))))
+    (refused-as _ (IsElement c.args.tag) _ _ _ c.in_err-count.ensures
+    (λ bytes p. let q = listed c.args.tag tree bytes p in (ders (ones tree q.0), q.2)))
+
+pub returns-in_err-value : goal.returns-in_err-value
+returns-in_err-value g c =
+    let fields = ones g.T.Serialize.tree in
+    let header = c.in_ok-count.ensures.0 in
+    let count = c.in_ok-count.count in
+    let low : c.enter-rest.new.self.limit ≡ count = ap (λ r. r.limit) c.enter-rest.ensures.inside in
+    at-exit _ _ _ _ c.from_residual-in_err-value.ensures.1
+    (refused-after _ (AreFields fields count) (c.args.tag ∷ length_octets count) _ _ _ _ header
+    (refused-within (AreFields fields count) (AreFields fields c.enter-rest.new.self.limit) count _ _ _ _
+    c.enter-rest.ensures.inside c.in_ok-count.ensures.1 c.in_err-value.ensures
+    (λ bytes p. ((p.0, p.1, p.2, p.3 ∙ sym low), omega (arith, p.3))))
+    (λ bytes rest more p e within.
+    let q = listed c.args.tag g.T.Serialize.tree bytes p in
+    let parts = element_content_cut c.args.tag count bytes rest more (ders (fields q.0), q.2) e in
+    let sizes = header_sizes c.args.tag count bytes parts.0 parts.3 parts.1 in
+    let content : parts.0 ≡ ders (fields q.0) = element-content c.args.tag parts.0 (ders (fields q.0)) (sym parts.3 ∙ q.2) in
+    (parts.0, rest, (q.0, q.1, content, parts.1), parts.2, omega (arith, sizes))))
+
+pub returns : goal.returns
+returns g c =
+    let header = c.in_ok-count.ensures.0 in
+    let parts = c.in_ok-value.ensures in
+    let t = g.T.Serialize.tree c.in_ok-value.value in
+    let whole = parts.0.0 in
+    let content = ders (trees.more t trees.none) in
+    let second = parts.1 in
+    let size : length content ≡ c.in_ok-count.count = omega (arith, second.limit, parts.2, ap (λ r. r.limit) c.enter-rest.ensures.inside) in (
+      whole-wrapped c.args.tag t whole,
+      took-as _ (der (wrapped c.args.tag t)) _ _
+          (ap (λ n. (c.args.tag ∷ length_octets n) ++ content) (sym size) ∙ sym (element-split c.args.tag content) ∙ spelled c.args.tag t whole)
+          (took-within (c.args.tag ∷ length_octets c.in_ok-count.count) content c.in_ok-count.count c.enter-rest.result _ _ _ _ _ header
+          c.enter-rest.ensures.inside c.enter-rest.ensures.outside second parts.2 c.leave.ensures),
+    )
