@@ -1,0 +1,11 @@
+-- What stopped a source before its end.
+use Rattle.std.specs.Prelude.{◌≡◌, ℕ, Option, Some}
+use Rattle.std.specs.declared.io.ErrorKind.{ErrorKind}
+use Rattle.devices.specs.Counting.{one_more}
+use Rattle.byte_layouts.specs.declared.reading.RestFault.{RestFault}
+use Rattle.byte_layouts.specs.declared.reading.RestFault.TheVariants.{Failed, Memory}
+
+-- the device failed with its own kind of fault, and counted it; or memory was wanting, and no call failed
+abbrev pub IsRestFault : ℕ → ℕ → Option ErrorKind → RestFault → Type 0
+IsRestFault old new last (Failed kind) = (new ≡ one_more old) × (last ≡ Some kind)
+IsRestFault old new last Memory = new ≡ old

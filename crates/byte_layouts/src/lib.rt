@@ -1,0 +1,13 @@
+//! Bytes at their places: what the binary layouts of other crates are written and read by.
+//!
+//! A layout is a list of parts, and a part is a place with its bytes: laid out is what has every part at
+//! its place. Numbers are two, four or eight bytes, the highest or the lowest first.
+#![tactic(auto)]
+
+mod numbers;
+mod reading;
+mod writing;
+
+pub use numbers::{u16_be, u32_le, u64_be, u64_le};
+pub use reading::{Front, RestFault, read_front, read_rest};
+pub use writing::put_at;

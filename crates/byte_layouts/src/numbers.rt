@@ -1,0 +1,52 @@
+//! Numbers that stand in bytes.
+ghost use Rattle.std.specs.Prelude.{◌≡◌, ℕ, ◌+◌, ◌≤◌, length, take, drop};
+ghost use Rattle.byte_layouts.specs.Numbers.{be16, be16_at, be64, be64_at, le32_at, le64_at};
+ghost use Rattle.byte_layouts.specs.Parts.{part, Stands};
+
+// The bytes at `place`.
+fn array_at<const N: usize>(bytes: &[u8], place: usize) -> [u8; N]
+    requires { place + N ≤ length bytes.now }
+    ensures { result ≡ take N (drop place bytes.now) }
+{
+    let mut array = [0; N];
+    array.copy_from_slice(&bytes[place..place + N]);
+    array
+}
+
+/// The number of the two bytes at `place`, the highest first.
+#[tactic(auto, unfolding(crate::specs::Numbers::be16_at))]
+pub fn u16_be(bytes: &[u8], place: usize) -> u16
+    requires { place + 2 ≤ length bytes.now }
+    ensures read { result ≡ be16_at place bytes.now }
+    ensures stands { Stands (part place (be16 result)) bytes.now }
+{
+    u16::from_be_bytes(array_at::<2>(bytes, place))
+}
+
+/// The number of the eight bytes at `place`, the highest first.
+#[tactic(auto, unfolding(crate::specs::Numbers::be64_at))]
+pub fn u64_be(bytes: &[u8], place: usize) -> u64
+    requires { place + 8 ≤ length bytes.now }
+    ensures read { result ≡ be64_at place bytes.now }
+    ensures stands { Stands (part place (be64 result)) bytes.now }
+{
+    u64::from_be_bytes(array_at::<8>(bytes, place))
+}
+
+/// The number of the four bytes at `place`, the lowest first.
+#[tactic(auto, unfolding(crate::specs::Numbers::le32_at))]
+pub fn u32_le(bytes: &[u8], place: usize) -> u32
+    requires { place + 4 ≤ length bytes.now }
+    ensures { result ≡ le32_at place bytes.now }
+{
+    u32::from_le_bytes(array_at::<4>(bytes, place))
+}
+
+/// The number of the eight bytes at `place`, the lowest first.
+#[tactic(auto, unfolding(crate::specs::Numbers::le64_at))]
+pub fn u64_le(bytes: &[u8], place: usize) -> u64
+    requires { place + 8 ≤ length bytes.now }
+    ensures { result ≡ le64_at place bytes.now }
+{
+    u64::from_le_bytes(array_at::<8>(bytes, place))
+}

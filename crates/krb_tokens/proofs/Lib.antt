@@ -1,0 +1,5 @@
+pub mod GivenBack
+pub mod Judgements
+pub mod ReadingLaws
+pub mod TokenLaws
+pub mod WritingLaws

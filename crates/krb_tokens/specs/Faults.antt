@@ -1,0 +1,45 @@
+-- The faults of tokens, and what of devices they tell.
+use Rattle.std.specs.Prelude.{◌≡◌, ℕ, Option, Some, ◌⊎◌}
+use Rattle.std.specs.declared.io.ErrorKind.{ErrorKind}
+use Rattle.std.specs.declared.io.ErrorKind.TheVariants.{WriteZero}
+use Rattle.devices.specs.declared.exact.WholeFault.{WholeFault}
+use Rattle.devices.specs.declared.exact.WholeFault.TheVariants as whole
+use Rattle.devices.specs.Counting.{one_more}
+use Rattle.devices.specs.Whole.{after_whole_fault}
+use Rattle.devices.specs.Faults.{TellsWholeFault}
+use Rattle.krb_tokens.specs.declared.error.GssApiMessageError.{GssApiMessageError}
+use Rattle.krb_tokens.specs.declared.error.GssApiMessageError.TheVariants.{InvalidId, InvalidMechanismOid, IoError, InvalidMicFiller, InvalidWrapFiller, Asn1Error, Memory}
+
+-- the fault's number
+abbrev pub fault_number : GssApiMessageError → ℕ
+fault_number (InvalidId _ _) = 1
+fault_number (InvalidMechanismOid _ _) = 2
+fault_number (IoError _) = 3
+fault_number (InvalidMicFiller _) = 4
+fault_number (InvalidWrapFiller _) = 5
+fault_number (Asn1Error _) = 6
+fault_number Memory = 7
+
+-- the fault of a write that stopped
+abbrev pub of_whole_fault : WholeFault → GssApiMessageError
+of_whole_fault whole.Full = IoError WriteZero
+of_whole_fault (whole.Failed kind) = IoError kind
+of_whole_fault whole.Memory = Memory
+
+-- a write stopped with this fault, and the device counted it and tells its kind
+pub record IsWriteFault (old new : ℕ) (last : Option ErrorKind) (fault : GssApiMessageError) : Type 0 where
+  pub stop : WholeFault
+  pub answered : fault ≡ of_whole_fault stop
+  pub counted : new ≡ after_whole_fault old stop
+  pub told : TellsWholeFault last stop
+
+-- the device failed with this fault, and counted it
+pub record IsDeviceFault (old new : ℕ) (last : Option ErrorKind) (fault : GssApiMessageError) : Type 0 where
+  pub cause : ErrorKind
+  pub answered : fault ≡ IoError cause
+  pub counted : new ≡ one_more old
+  pub told : last ≡ Some cause
+
+-- memory was wanting, or the device failed
+abbrev pub IsRestFault : ℕ → ℕ → Option ErrorKind → GssApiMessageError → Type 0
+IsRestFault old new last fault = ((fault ≡ Memory) × (new ≡ old)) ⊎ IsDeviceFault old new last fault

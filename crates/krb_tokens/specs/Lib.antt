@@ -1,0 +1,4 @@
+pub mod Faults
+pub mod Judging
+pub mod Refusals
+pub mod Tokens

@@ -1,0 +1,27 @@
+-- Why a token was not read from a device.
+use Rattle.std.specs.Prelude.{◌≡◌, ℕ, List, ◌++◌, Option, Ok, Err, ◌⊎◌}
+use Rattle.std.specs.declared.io.ErrorKind.{ErrorKind}
+use Rattle.std.specs.declared.io.ErrorKind.TheVariants.{UnexpectedEof}
+use Rattle.krb_tokens.specs.declared.kind.TokenKind.{TokenKind}
+use Rattle.krb_tokens.specs.declared.error.GssApiMessageError.{GssApiMessageError}
+use Rattle.krb_tokens.specs.declared.error.GssApiMessageError.TheVariants.{Memory}
+use Rattle.krb_tokens.specs.Faults.{IsDeviceFault}
+use Rattle.krb_tokens.specs.Judging.{id_judged, filler_judged, judged}
+
+-- the device failed behind bytes in which nothing is wrong
+pub record IsBroken (kind : TokenKind) (whole : List ℕ) (old new : ℕ) (last : Option ErrorKind) (fault : GssApiMessageError) : Type 0 where
+  pub device : IsDeviceFault old new last fault
+  pub front : List ℕ
+  pub rest : List ℕ
+  pub cut : whole ≡ front ++ rest
+  pub id : id_judged kind front ≡ Ok tt
+  pub filler : filler_judged kind front ≡ Ok tt
+
+-- memory was wanting, or the device failed
+abbrev pub IsExcuse : TokenKind → List ℕ → ℕ → ℕ → Option ErrorKind → GssApiMessageError → Type 0
+IsExcuse kind whole old new last fault = (fault ≡ Memory) ⊎ IsBroken kind whole old new last fault
+
+-- the bytes are no token, by this fault; or there is an excuse
+abbrev pub IsRefusal : TokenKind → List ℕ → ℕ → ℕ → Option ErrorKind → GssApiMessageError → Type 0
+IsRefusal kind whole old new last fault =
+    (judged kind UnexpectedEof whole ≡ Err fault) ⊎ IsExcuse kind whole old new last fault

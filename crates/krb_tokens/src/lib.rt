@@ -1,0 +1,13 @@
+//! Tokens of the GSS-API mechanism of Kerberos (RFC 4121, section 4.2.6), and the record that tells a service of a
+//! client's integrity level (MS-KILE, section 2.2.5).
+#![tactic(auto)]
+
+mod error;
+mod kind;
+mod mic;
+mod token;
+mod wrap;
+
+pub use error::GssApiMessageError;
+pub use mic::MicToken;
+pub use wrap::WrapToken;
