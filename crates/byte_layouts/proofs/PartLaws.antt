@@ -1,5 +1,5 @@
 -- What is put stands, and what is put elsewhere leaves it standing.
-use Rattle.std.proofs.Common.{◌≡◌, ℕ, ◌+◌, ◌-◌, ◌<◌, ◌≤◌, List, [], ◌∷◌, ◌++◌, length, get_or, take, drop, refl, ap, sym, ◌∙◌, inl, inr, ◌⊎◌, arith, rules}
+use Rattle.std.proofs.Common.{◌≡◌, ℕ, ◌+◌, ◌-◌, ◌<◌, ◌≤◌, List, [], ◌∷◌, ◌++◌, length, get_or, take, drop, refl, ap, sym, ◌∙◌, inl, inr, arith}
 use Rattle.std.proofs.lemmas.List.{places, same_lists, length-take-le, take_at, drop_at, get_or-take, get_or-drop, get_or_append_left, get_or-append_right, drop_more, drop-append-le, take-append-le, length-drop}
 use Rattle.std.proofs.lemmas.Bool.{cases_lt}
 use Rattle.byte_layouts.specs.Parts.{Part, part, end_of, Stands, IsLaidOut, put, put_all, Covers, AreApart, IsApartFrom, AreAllApart, AreInside}

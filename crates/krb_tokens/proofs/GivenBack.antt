@@ -1,5 +1,5 @@
 -- A token that is laid out in what is left of a source is given back, or there is an excuse.
-use Rattle.std.proofs.Common.{◌≡◌, ℕ, ◌^◌, ◌<◌, List, [], ◌++◌, length, Option, None, Some, IfSome, Result, IsErrAnd, MatchResult, ap, subst, ◌∙◌, append-nil}
+use Rattle.std.proofs.Common.{◌≡◌, ℕ, ◌^◌, ◌<◌, List, ◌++◌, length, Option, None, Some, IfSome, Result, IsErrAnd, MatchResult, ap, subst, ◌∙◌, append-nil}
 use Rattle.std.specs.Io.KnownBytes.{Consumes, IsAtEnd}
 use Rattle.std.specs.declared.io.ErrorKind.{ErrorKind}
 use Rattle.byte_layouts.specs.Numbers.{be16_at, be64_at}
@@ -35,11 +35,11 @@ mic-given (Some whole) (Some rest) header checksum n size read given ends =
 pub wrap-excused : (left : Option (List ℕ)) (r : Result WrapToken GssApiMessageError) (e : GssApiMessageError) (old new : ℕ) (last : Option ErrorKind)
     → IsErrAnd r (λ y. y ≡ e) → IfSome left (λ whole. IsRefusal Wrap whole old new last e)
     → IfSome left (λ whole. (w : WrapFields) → w.ec < 2 ^ 16 → w.rrc < 2 ^ 16 → w.seq_num < 2 ^ 64 → IsWrapToken w whole
-      → MatchResult r (λ t. wrap_of t ≡ w) (IsExcuse Wrap whole old new last))
+    → MatchResult r (λ t. wrap_of t ≡ w) (IsExcuse Wrap whole old new last))
 wrap-excused None r e old new last exit refusal = tt
 wrap-excused (Some whole) r e old new last exit refusal =
     λ w fits_ec fits_rrc fits is. at-exit r e (λ t. wrap_of t ≡ w) (IsExcuse Wrap whole old new last) exit
-      (refusal-excuse Wrap whole last old new e (wrap-fine w whole is) refusal)
+    (refusal-excuse Wrap whole last old new e (wrap-fine w whole is) refusal)
 
 pub wrap-given : (left after : Option (List ℕ)) (header checksum : List ℕ) (e r n : ℕ) → length header ≡ 16
     → e ≡ be16_at 4 header → r ≡ be16_at 6 header → n ≡ be64_at 8 header → Consumes left after (header ++ checksum) → IsAtEnd after
@@ -48,4 +48,4 @@ wrap-given None after header checksum e r n size read_e read_r read given ends =
 wrap-given (Some whole) None header checksum e r n size read_e read_r read given ends = absurd given
 wrap-given (Some whole) (Some rest) header checksum e r n size read_e read_r read given ends =
     λ w fits_ec fits_rrc fits is. wrap-only w header checksum e r n size read_e read_r read fits_ec fits_rrc fits
-      (subst (IsWrapToken w) (all-consumed whole rest (header ++ checksum) given ends) is)
+    (subst (IsWrapToken w) (all-consumed whole rest (header ++ checksum) given ends) is)

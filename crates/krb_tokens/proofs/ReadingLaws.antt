@@ -1,6 +1,6 @@
 -- Why a token was not read, from what its parts were refused for.
-use Rattle.std.proofs.Common.{◌≡◌, ℕ, ◌+◌, ◌<◌, ◌≤◌, List, [], ◌++◌, length, take, Option, None, Some, IfSome, MatchOption, Ok, Err, unwrap_or, min, refl, ap, sym, subst, ◌∙◌, inl, inr, ◌⊎◌, append-nil, arith}
-use Rattle.std.proofs.lemmas.List.{length-take, length-take-le}
+use Rattle.std.proofs.Common.{◌≡◌, ℕ, ◌+◌, ◌<◌, List, [], ◌++◌, length, take, Option, None, Some, IfSome, MatchOption, Ok, Err, unwrap_or, refl, ap, sym, subst, ◌∙◌, inl, inr, append-nil, arith}
+use Rattle.std.proofs.lemmas.List.{length-take}
 use Rattle.std.specs.Io.KnownBytes.{Consumes, IsAtEnd}
 use Rattle.std.specs.declared.io.ErrorKind.{ErrorKind}
 use Rattle.std.specs.declared.io.ErrorKind.TheVariants.{UnexpectedEof}
@@ -9,8 +9,8 @@ use Rattle.krb_tokens.specs.declared.kind.TokenKind.{TokenKind}
 use Rattle.krb_tokens.specs.declared.error.GssApiMessageError.{GssApiMessageError}
 use Rattle.krb_tokens.specs.Faults.{IsDeviceFault, IsRestFault}
 use Rattle.krb_tokens.specs.Judging.{judged}
-use Rattle.krb_tokens.specs.Refusals.{IsBroken, IsExcuse, IsRefusal}
-use Rattle.krb_tokens.proofs.Judgements.{IsShort, judged-wrong, judged-fine, judged-settled}
+use Rattle.krb_tokens.specs.Refusals.{IsExcuse, IsRefusal}
+use Rattle.krb_tokens.proofs.Judgements.{judged-wrong, judged-fine}
 
 -- what a device that failed says of its count and its fault
 abbrev pub Counted : Option ErrorKind → ℕ → ℕ → Option ErrorKind → Type 0

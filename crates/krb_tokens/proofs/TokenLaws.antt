@@ -1,5 +1,5 @@
 -- A token is laid out in the bytes that it was read from, and no other is.
-use Rattle.std.proofs.Common.{◌≡◌, ℕ, ◌+◌, ◌^◌, ◌<◌, ◌≤◌, List, [], ◌∷◌, ◌++◌, length, get_or, take, drop, Ok, refl, ap, sym, subst, ◌∙◌, arith}
+use Rattle.std.proofs.Common.{◌≡◌, ℕ, ◌+◌, ◌^◌, ◌<◌, List, [], ◌∷◌, ◌++◌, length, get_or, take, drop, Ok, ap, sym, subst, ◌∙◌, arith}
 use Rattle.std.proofs.lemmas.List.{length-append, drop_at, get_or_append_left}
 use Rattle.std.specs.Int.{w16, w64, to_be_bytes}
 use Rattle.std.specs.declared.io.ErrorKind.TheVariants.{UnexpectedEof}
@@ -10,7 +10,7 @@ use Rattle.byte_layouts.proofs.NumberLaws.{length-be16, length-be64, be16-again,
 use Rattle.krb_tokens.specs.declared.kind.TokenKind.TheVariants.{Mic, Wrap}
 use Rattle.krb_tokens.specs.Judging.{judged}
 use Rattle.krb_tokens.specs.Tokens.{MicFields, WrapFields, mic_header, wrap_header, IsMicToken, IsWrapToken}
-use Rattle.krb_tokens.proofs.Judgements.{IsFine, judged-fine, fine-judged, id-is, mic_filler-is, wrap_filler-is, id-fine, mic_filler-fine, wrap_filler-fine}
+use Rattle.krb_tokens.proofs.Judgements.{judged-fine, fine-judged, id-is, mic_filler-is, wrap_filler-is, id-fine, mic_filler-fine, wrap_filler-fine}
 
 pub mic_header-inside : (m : MicFields) → AreInside 16 (mic_header m)
 mic_header-inside m =
@@ -41,7 +41,7 @@ pub mic-read : (header checksum : List ℕ) (seq_num : ℕ) → length header �
 mic-read header checksum seq_num size fine stands =
     let is = judged-fine Mic UnexpectedEof header fine in
     mic-of_header (mic_read header seq_num checksum) header size
-      (id-is Mic header is, (byte-read 2 header (omega arith), (mic_filler-is header is, (stands, tt))))
+    (id-is Mic header is, (byte-read 2 header (omega arith), (mic_filler-is header is, (stands, tt))))
 
 -- the bytes of a token are fine
 pub mic-fine : (m : MicFields) (whole : List ℕ) → IsMicToken m whole → judged Mic UnexpectedEof whole ≡ Ok tt
@@ -59,9 +59,9 @@ pub mic-only : (m : MicFields) (header checksum : List ℕ) (n : ℕ) → length
 mic-only m header checksum n size read fits is =
     let whole = header ++ checksum in
     let flags : get_or header 2 0 ≡ m.flags =
-      sym (get_or_append_left header checksum 0 2 (omega arith)) ∙ byte-again 2 m.flags whole is.header.1.0 in
+    sym (get_or_append_left header checksum 0 2 (omega arith)) ∙ byte-again 2 m.flags whole is.header.1.0 in
     let seq_num : n ≡ m.seq_num =
-      read ∙ sym (be64_at-append 8 header checksum (omega arith)) ∙ be64-again 8 m.seq_num whole fits is.header.1.1.1.0 in
+    read ∙ sym (be64_at-append 8 header checksum (omega arith)) ∙ be64-again 8 m.seq_num whole fits is.header.1.1.1.0 in
     let rest : checksum ≡ m.checksum = sym (drop_at header checksum 16 size) ∙ is.checksum in
     λ i. record { flags = flags i; seq_num = seq_num i; checksum = rest i }
 
@@ -74,7 +74,7 @@ mic_header-written m zeros h1 h2 h3 h4 id bytes size is_id is_bytes p1 p2 p3 p4 
     let e1 : h1 ≡ put (part 0 (4 ∷ 4 ∷ [])) zeros = p1 ∙ ap (λ (b : List ℕ). put (part 0 b) zeros) is_id in
     let e4 : h4 ≡ put (part 8 (be64 m.seq_num)) h3 = p4 ∙ ap (λ (b : List ℕ). put (part 8 b) h3) (is_bytes ∙ be64-is m.seq_num) in
     let whole : h4 ≡ put_all (mic_header m) zeros =
-      e4 ∙ ap (put (part 8 (be64 m.seq_num))) (p3 ∙ ap (put (part 3 (255 ∷ 255 ∷ 255 ∷ 255 ∷ 255 ∷ []))) (p2 ∙ ap (put (part 2 (m.flags ∷ []))) e1)) in
+    e4 ∙ ap (put (part 8 (be64 m.seq_num))) (p3 ∙ ap (put (part 3 (255 ∷ 255 ∷ 255 ∷ 255 ∷ 255 ∷ []))) (p2 ∙ ap (put (part 2 (m.flags ∷ []))) e1)) in
     subst (IsLaidOut (mic_header m)) (sym whole) (mic_header-put m zeros size)
 
 pub wrap_header-inside : (w : WrapFields) → AreInside 16 (wrap_header w)
@@ -110,7 +110,7 @@ wrap-read header checksum ec rrc seq_num size fine ec_stands rrc_stands stands =
     let is = judged-fine Wrap UnexpectedEof header fine in
     let filler : take 1 (drop 3 header) ≡ 255 ∷ [] = byte-read 3 header (omega arith) ∙ ap (λ (n : ℕ). n ∷ []) (wrap_filler-is header is) in
     wrap-of_header (wrap_read header ec rrc seq_num checksum) header size
-      (id-is Wrap header is, (byte-read 2 header (omega arith), (filler, (ec_stands, (rrc_stands, (stands, tt))))))
+    (id-is Wrap header is, (byte-read 2 header (omega arith), (filler, (ec_stands, (rrc_stands, (stands, tt))))))
 
 pub wrap-fine : (w : WrapFields) (whole : List ℕ) → IsWrapToken w whole → judged Wrap UnexpectedEof whole ≡ Ok tt
 wrap-fine w whole is =
@@ -127,13 +127,13 @@ pub wrap-only : (w : WrapFields) (header checksum : List ℕ) (e r n : ℕ) → 
 wrap-only w header checksum e r n size read_e read_r read fits_ec fits_rrc fits is =
     let whole = header ++ checksum in
     let flags : get_or header 2 0 ≡ w.flags =
-      sym (get_or_append_left header checksum 0 2 (omega arith)) ∙ byte-again 2 w.flags whole is.header.1.0 in
+    sym (get_or_append_left header checksum 0 2 (omega arith)) ∙ byte-again 2 w.flags whole is.header.1.0 in
     let ec : e ≡ w.ec =
-      read_e ∙ sym (be16_at-append 4 header checksum (omega arith)) ∙ be16-again 4 w.ec whole fits_ec is.header.1.1.1.0 in
+    read_e ∙ sym (be16_at-append 4 header checksum (omega arith)) ∙ be16-again 4 w.ec whole fits_ec is.header.1.1.1.0 in
     let rrc : r ≡ w.rrc =
-      read_r ∙ sym (be16_at-append 6 header checksum (omega arith)) ∙ be16-again 6 w.rrc whole fits_rrc is.header.1.1.1.1.0 in
+    read_r ∙ sym (be16_at-append 6 header checksum (omega arith)) ∙ be16-again 6 w.rrc whole fits_rrc is.header.1.1.1.1.0 in
     let seq_num : n ≡ w.seq_num =
-      read ∙ sym (be64_at-append 8 header checksum (omega arith)) ∙ be64-again 8 w.seq_num whole fits is.header.1.1.1.1.1.0 in
+    read ∙ sym (be64_at-append 8 header checksum (omega arith)) ∙ be64-again 8 w.seq_num whole fits is.header.1.1.1.1.1.0 in
     let rest : checksum ≡ w.checksum = sym (drop_at header checksum 16 size) ∙ is.checksum in
     λ i. record { flags = flags i; ec = ec i; rrc = rrc i; seq_num = seq_num i; checksum = rest i }
 
@@ -148,7 +148,7 @@ wrap_header-written w zeros h1 h2 h3 h4 h5 h6 id ec rrc bytes size is_id is_ec i
     let e5 : h5 ≡ put (part 6 (be16 w.rrc)) h4 = p5 ∙ ap (λ (b : List ℕ). put (part 6 b) h4) (is_rrc ∙ be16-is w.rrc) in
     let e6 : h6 ≡ put (part 8 (be64 w.seq_num)) h5 = p6 ∙ ap (λ (b : List ℕ). put (part 8 b) h5) (is_bytes ∙ be64-is w.seq_num) in
     let front : h3 ≡ put (part 3 (255 ∷ [])) (put (part 2 (w.flags ∷ [])) (put (part 0 (5 ∷ 4 ∷ [])) zeros)) =
-      p3 ∙ ap (put (part 3 (255 ∷ []))) (p2 ∙ ap (put (part 2 (w.flags ∷ []))) e1) in
+    p3 ∙ ap (put (part 3 (255 ∷ []))) (p2 ∙ ap (put (part 2 (w.flags ∷ []))) e1) in
     let whole : h6 ≡ put_all (wrap_header w) zeros =
-      e6 ∙ ap (put (part 8 (be64 w.seq_num))) (e5 ∙ ap (put (part 6 (be16 w.rrc))) (e4 ∙ ap (put (part 4 (be16 w.ec))) front)) in
+    e6 ∙ ap (put (part 8 (be64 w.seq_num))) (e5 ∙ ap (put (part 6 (be16 w.rrc))) (e4 ∙ ap (put (part 4 (be16 w.ec))) front)) in
     subst (IsLaidOut (wrap_header w)) (sym whole) (wrap_header-put w zeros size)

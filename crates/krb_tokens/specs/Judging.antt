@@ -1,5 +1,5 @@
 -- When bytes begin as a token does, and else what is first wrong with them (RFC 4121, section 4.2.6).
-use Rattle.std.specs.Prelude.{◌≡◌, ℕ, List, [], ◌∷◌, length, take, drop, slice_index, Result, Ok, Err, not, ◌&&◌, nat_le, nat_lt, nat_eq, bytes_eq, if◌then◌else◌}
+use Rattle.std.specs.Prelude.{ℕ, List, [], ◌∷◌, length, take, drop, slice_index, Result, Ok, Err, not, ◌&&◌, nat_le, nat_lt, nat_eq, bytes_eq, if◌then◌else◌}
 use Rattle.std.specs.declared.io.ErrorKind.{ErrorKind}
 use Rattle.krb_tokens.specs.declared.kind.TokenKind.{TokenKind}
 use Rattle.krb_tokens.specs.declared.kind.TokenKind.TheVariants.{Mic, Wrap}

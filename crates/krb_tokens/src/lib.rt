@@ -1,5 +1,4 @@
-//! Tokens of the GSS-API mechanism of Kerberos (RFC 4121, section 4.2.6), and the record that tells a service of a
-//! client's integrity level (MS-KILE, section 2.2.5).
+//! Tokens of the GSS-API mechanism of Kerberos (RFC 4121, section 4.2.6).
 #![tactic(auto)]
 
 mod error;

@@ -1,4 +1,4 @@
-use Rattle.std.proofs.Common.{sym, refl, arith}
+use Rattle.std.proofs.Common.{sym, arith}
 use Rattle.krb_tokens.proofs.ReadingLaws.{fine-counted, header-refused}
 use Rattle.krb_tokens.proofs.token.read_header.Goals as goal
 

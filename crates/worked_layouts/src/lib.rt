@@ -1,0 +1,5 @@
+//! Binary layouts over published rows.
+#![tactic(auto)]
+
+#[cfg(test)]
+mod tokens;

@@ -1,0 +1,87 @@
+//! Tokens: headers, whole tokens and refusals, by the tables of RFC 4121, section 4.2.6.
+
+use krb_tokens::{MicToken, WrapToken};
+use std::alloc::Global;
+use std::test::Fail;
+
+const MIC: &[u8] = b"\x04\x04\x05\xff\xff\xff\xff\xff\x00\x00\x00\x00\x00\x00\x01\x02sum";
+
+const WRAP: &[u8] = b"\x05\x04\x06\xff\x00\x1c\x00\x03\x00\x00\x00\x00\x00\x00\x01\x02data";
+
+#[test]
+fn headers(rt: HostRuntime) {
+    let mic = MicToken::with_initiator_flags(rt.alloc()).with_seq_number(1);
+    assert_eq!(rt;
+        mic.header(),
+        [4, 4, 4, 255, 255, 255, 255, 255, 0, 0, 0, 0, 0, 0, 0, 1]
+    );
+    let wrap = WrapToken::with_seq_number(rt.alloc(), 2);
+    assert_eq!(rt;
+        wrap.header(),
+        [5, 4, 6, 255, 0, 0, 0, 0, 0, 0, 0, 0, 0, 0, 0, 2]
+    );
+    assert_eq!(rt; WrapToken::header_len(), 16);
+}
+
+#[test]
+fn mic_token(rt: HostRuntime) -> Result<(), Fail> {
+    let mut left = MIC;
+    let token = MicToken::decode(rt.alloc(), &mut left)?;
+    assert_eq!(rt; (token.flags, token.seq_num), (5, 258));
+    assert_eq!(rt; token.checksum.as_slice(), b"sum".as_slice());
+    let mut written = Vec::new(rt.alloc());
+    token.encode(&mut written)?;
+    assert_eq!(rt; written.as_slice(), MIC);
+    Ok(())
+}
+
+#[test]
+fn wrap_token(rt: HostRuntime) -> Result<(), Fail> {
+    let mut left = WRAP;
+    let token = WrapToken::decode(rt.alloc(), &mut left)?;
+    assert_eq!(rt;
+        (token.flags, token.ec, token.rrc, token.seq_num),
+        (6, 28, 3, 258)
+    );
+    assert_eq!(rt; token.checksum.as_slice(), b"data".as_slice());
+    let mut written = Vec::new(rt.alloc());
+    token.encode(&mut written)?;
+    assert_eq!(rt; written.as_slice(), WRAP);
+    Ok(())
+}
+
+fn mic_refusal(alloc: Global, bytes: &[u8]) -> u8 {
+    let mut left = bytes;
+    match MicToken::decode(alloc, &mut left) {
+        Ok(_) => 0,
+        Err(fault) => fault.number(),
+    }
+}
+
+fn wrap_refusal(alloc: Global, bytes: &[u8]) -> u8 {
+    let mut left = bytes;
+    match WrapToken::decode(alloc, &mut left) {
+        Ok(_) => 0,
+        Err(fault) => fault.number(),
+    }
+}
+
+// The first of a wrong id (1), a wrong filler (4, 5) and too few bytes (3); 0 where none is wrong.
+#[test]
+fn refusals(rt: HostRuntime) {
+    for (bytes, mic, wrap) in [
+        (b"".as_slice(), 3, 3),
+        (b"\x07", 3, 3),
+        (b"\x05\x04", 1, 3),
+        (b"\x04\x04", 3, 1),
+        (b"\x04\x04\x00\xff\xff\xff\xff\x00", 4, 1),
+        (b"\x05\x04\x00\x00", 1, 5),
+        (&MIC[..15], 3, 1),
+        (&WRAP[..15], 1, 3),
+        (&MIC[..16], 0, 1),
+        (&WRAP[..16], 1, 0),
+    ] {
+        assert_eq!(rt; mic_refusal(rt.alloc(), bytes), mic, "MIC at {bytes:?}");
+        assert_eq!(rt; wrap_refusal(rt.alloc(), bytes), wrap, "wrap at {bytes:?}");
+    }
+}
