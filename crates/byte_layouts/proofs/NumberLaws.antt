@@ -3,7 +3,7 @@ use Rattle.std.proofs.Common.{◌≡◌, ℕ, ◌+◌, ◌^◌, ◌<◌, ◌≤�
 use Rattle.std.proofs.lemmas.List.{places, get_or_past}
 use Rattle.std.proofs.lemmas.Bool.{cases_lt}
 use Rattle.std.proofs.lemmas.Nat.{be_bytes_2, be_bytes_8, le_bytes_4, le_bytes_8, from_be_bytes-to_be_bytes_2, from_be_bytes-to_be_bytes_8, from_le_bytes-to_le_bytes_4, from_le_bytes-to_le_bytes_8}
-use Rattle.std.specs.Int.{w16, w32, w64, from_be_bytes, from_le_bytes, to_be_bytes}
+use Rattle.std.specs.Int.{w16, w32, w64, from_be_bytes, from_le_bytes, to_be_bytes, to_le_bytes}
 use Rattle.byte_layouts.specs.Parts.{part, Stands}
 use Rattle.byte_layouts.proofs.PartLaws.{cut-append}
 use Rattle.byte_layouts.specs.Numbers.{be16, be16_at, be64, be64_at, le32, le32_at, le64, le64_at}
@@ -41,16 +41,6 @@ bytes-cut whole place size bytes i =
 
 length-cut : (whole : List ℕ) (place size : ℕ) → place + size ≤ length whole → length (take size (drop place whole)) ≡ size
 length-cut whole place size inside = grind (arith, places)
-
-pub le32-read : (place : ℕ) (whole : List ℕ) → AreBytes whole → place + 4 ≤ length whole → Stands (part place (le32 (le32_at place whole))) whole
-unfolding le32 le32_at
-le32-read place whole bytes inside =
-    sym (le_bytes_4 (take 4 (drop place whole)) _ (length-cut whole place 4 inside) (bytes-cut whole place 4 bytes) refl)
-
-pub le64-read : (place : ℕ) (whole : List ℕ) → AreBytes whole → place + 8 ≤ length whole → Stands (part place (le64 (le64_at place whole))) whole
-unfolding le64 le64_at
-le64-read place whole bytes inside =
-    sym (le_bytes_8 (take 8 (drop place whole)) _ (length-cut whole place 8 inside) (bytes-cut whole place 8 bytes) refl)
 
 pub be16-again : (place n : ℕ) (whole : List ℕ) → n < 2 ^ 16 → Stands (part place (be16 n)) whole → be16_at place whole ≡ n
 unfolding be16 be16_at
@@ -96,3 +86,21 @@ be16-is n = refl
 pub be64-is : (n : ℕ) → to_be_bytes w64 n ≡ be64 n
 unfolding be64
 be64-is n = refl
+
+pub le32-stands : (place n : ℕ) (whole : List ℕ) → AreBytes whole → place + 4 ≤ length whole → n ≡ from_le_bytes w32 (take 4 (drop place whole)) → Stands (part place (le32 n)) whole
+unfolding le32
+le32-stands place n whole bytes inside is =
+    sym (le_bytes_4 (take 4 (drop place whole)) n (length-cut whole place 4 inside) (bytes-cut whole place 4 bytes) is)
+
+pub le64-stands : (place n : ℕ) (whole : List ℕ) → AreBytes whole → place + 8 ≤ length whole → n ≡ from_le_bytes w64 (take 8 (drop place whole)) → Stands (part place (le64 n)) whole
+unfolding le64
+le64-stands place n whole bytes inside is =
+    sym (le_bytes_8 (take 8 (drop place whole)) n (length-cut whole place 8 inside) (bytes-cut whole place 8 bytes) is)
+
+pub le32-is : (n : ℕ) → to_le_bytes w32 n ≡ le32 n
+unfolding le32
+le32-is n = refl
+
+pub le64-is : (n : ℕ) → to_le_bytes w64 n ≡ le64 n
+unfolding le64
+le64-is n = refl

@@ -61,7 +61,7 @@ stands-put_apart p q whole inside apart stands =
     ∙ sym (get_or-take size (drop q.place whole) k d few ∙ get_or-drop q.place whole k d)) in
     kept ∙ stands
 
-length-put_all : (ps : List Part) (whole : List ℕ) → AreInside (length whole) ps → length (put_all ps whole) ≡ length whole
+pub length-put_all : (ps : List Part) (whole : List ℕ) → AreInside (length whole) ps → length (put_all ps whole) ≡ length whole
 length-put_all [] whole inside = refl
 length-put_all (p ∷ ps) whole inside =
     let one : length (put p whole) ≡ length whole = length-put p whole inside.0 in

@@ -8,6 +8,6 @@ mod numbers;
 mod reading;
 mod writing;
 
-pub use numbers::{u16_be, u32_le, u64_be, u64_le};
+pub use numbers::{array_at, u16_be, u32_le, u64_be, u64_le};
 pub use reading::{Front, RestFault, read_front, read_rest};
 pub use writing::put_at;

@@ -1,10 +1,10 @@
 //! Numbers that stand in bytes.
 ghost use Rattle.std.specs.Prelude.{◌≡◌, ℕ, ◌+◌, ◌≤◌, length, take, drop};
-ghost use Rattle.byte_layouts.specs.Numbers.{be16, be16_at, be64, be64_at, le32_at, le64_at};
+ghost use Rattle.byte_layouts.specs.Numbers.{be16, be16_at, be64, be64_at, le32, le32_at, le64, le64_at};
 ghost use Rattle.byte_layouts.specs.Parts.{part, Stands};
 
-// The bytes at `place`.
-fn array_at<const N: usize>(bytes: &[u8], place: usize) -> [u8; N]
+/// The bytes at `place`.
+pub fn array_at<const N: usize>(bytes: &[u8], place: usize) -> [u8; N]
     requires { place + N ≤ length bytes.now }
     ensures { result ≡ take N (drop place bytes.now) }
 {
@@ -37,7 +37,8 @@ pub fn u64_be(bytes: &[u8], place: usize) -> u64
 #[tactic(auto, unfolding(crate::specs::Numbers::le32_at))]
 pub fn u32_le(bytes: &[u8], place: usize) -> u32
     requires { place + 4 ≤ length bytes.now }
-    ensures { result ≡ le32_at place bytes.now }
+    ensures read { result ≡ le32_at place bytes.now }
+    ensures stands { Stands (part place (le32 result)) bytes.now }
 {
     u32::from_le_bytes(array_at::<4>(bytes, place))
 }
@@ -46,7 +47,8 @@ pub fn u32_le(bytes: &[u8], place: usize) -> u32
 #[tactic(auto, unfolding(crate::specs::Numbers::le64_at))]
 pub fn u64_le(bytes: &[u8], place: usize) -> u64
     requires { place + 8 ≤ length bytes.now }
-    ensures { result ≡ le64_at place bytes.now }
+    ensures read { result ≡ le64_at place bytes.now }
+    ensures stands { Stands (part place (le64 result)) bytes.now }
 {
     u64::from_le_bytes(array_at::<8>(bytes, place))
 }

@@ -1,4 +1,5 @@
 pub mod GivenBack
+pub mod IntegrityLaws
 pub mod Judgements
 pub mod ReadingLaws
 pub mod TokenLaws

@@ -1,4 +1,6 @@
 pub mod Faults
+pub mod Integrity
 pub mod Judging
 pub mod Refusals
+pub mod Stops
 pub mod Tokens

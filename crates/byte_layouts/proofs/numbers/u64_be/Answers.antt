@@ -6,4 +6,4 @@ use Rattle.byte_layouts.proofs.numbers.u64_be.Goals as goal
 pub returns-clause-stands : goal.returns-clause-stands
 returns-clause-stands c =
     be64-stands c.args.place _ c.args.bytes.now (λ i. omega (arith, c.type_inv.bytes i)) c.requires
-      (c.from_be_bytes.ensures ∙ ap (from_be_bytes w64) c.array_at.ensures)
+    (c.from_be_bytes.ensures ∙ ap (from_be_bytes w64) c.array_at.ensures)

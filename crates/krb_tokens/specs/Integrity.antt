@@ -1,0 +1,33 @@
+-- The record of a process's integrity level (MS-KILE, section 2.2.5).
+use Rattle.std.specs.Prelude.{◌≡◌, ℕ, ◌<◌, List, [], ◌∷◌, length, Option, Some, ◌⊎◌}
+use Rattle.std.specs.declared.io.ErrorKind.{ErrorKind}
+use Rattle.std.specs.declared.io.ErrorKind.TheVariants.{UnexpectedEof}
+use Rattle.devices.specs.Counting.{one_more}
+use Rattle.devices.specs.Whole.{after_whole_fault}
+use Rattle.devices.specs.Faults.{TellsWholeFault}
+use Rattle.devices.specs.declared.exact.WholeFault.{WholeFault}
+use Rattle.byte_layouts.specs.Parts.{Part, part, IsLaidOut}
+use Rattle.byte_layouts.specs.Numbers.{le32}
+use Rattle.krb_tokens.specs.Stops.{kind_of}
+use Rattle.krb_tokens.specs.declared.integrity.LsapTokenInfoIntegrity.{LsapTokenInfoIntegrity}
+
+-- octets 0 to 3 Flags, 4 to 7 TokenIL, 8 to 39 MachineID
+abbrev pub record_parts : LsapTokenInfoIntegrity → List Part
+record_parts r = part 0 (le32 r.flags) ∷ part 4 (le32 r.token_il) ∷ part 8 r.machine_id ∷ []
+
+-- the record is laid out in the bytes
+pub record IsIntegrityRecord (r : LsapTokenInfoIntegrity) (whole : List ℕ) : Type 0 where
+  pub parts : IsLaidOut (record_parts r) whole
+  pub size : length whole ≡ 40
+
+-- a write stopped with this fault, and the device counted it and tells its kind
+pub record IsWriteStop (old new : ℕ) (last : Option ErrorKind) (kind : ErrorKind) : Type 0 where
+  pub stop : WholeFault
+  pub answered : kind ≡ kind_of stop
+  pub counted : new ≡ after_whole_fault old stop
+  pub told : TellsWholeFault last stop
+
+-- fewer than 40 bytes were left, or the device failed and counted it
+abbrev pub IsReadStop : List ℕ → ℕ → ℕ → Option ErrorKind → ErrorKind → Type 0
+IsReadStop bytes old new last kind =
+    ((kind ≡ UnexpectedEof) × (length bytes < 40)) ⊎ ((new ≡ one_more old) × (last ≡ Some kind))

@@ -1,0 +1,92 @@
+//! The record of a process's integrity level (MS-KILE, section 2.2.5).
+ghost use Rattle.std.specs.Prelude.{◌≡◌, ℕ, List, take, IfOk, IfErr, IfSome, MatchResult};
+ghost use Rattle.std.specs.Io.KnownBytes.{Consumes, Appends};
+ghost use Rattle.krb_tokens.specs.Stops.{kind_of};
+
+use byte_layouts::{array_at, put_at, u32_le};
+use devices::{Sink, Source, WholeFault, read_full, write_whole};
+use std::io::ErrorKind;
+
+/// How many bytes name a machine.
+pub const MACHINE_ID_LENGTH: usize = 32;
+
+const RECORD_LEN: usize = 40;
+
+/// What a service is told of the process that asks.
+#[derive(Clone, Copy, Debug, PartialEq, Eq)]
+pub struct LsapTokenInfoIntegrity {
+    /// 0 where the process has its user's whole token, 1 where its token is restricted.
+    pub flags: u32,
+    /// The integrity level.
+    pub token_il: u32,
+    /// The random name of the machine.
+    pub machine_id: [u8; MACHINE_ID_LENGTH],
+}
+
+// What a write that stopped is answered by.
+fn stop_kind(fault: WholeFault) -> ErrorKind
+    ensures { result ≡ kind_of fault }
+{
+    match fault {
+        WholeFault::Full => ErrorKind::WriteZero,
+        WholeFault::Failed(kind) => kind,
+        WholeFault::Memory => ErrorKind::OutOfMemory,
+    }
+}
+
+impl LsapTokenInfoIntegrity {
+    ghost use Rattle.krb_tokens.specs.Integrity.{IsIntegrityRecord, IsWriteStop, IsReadStop};
+
+    // Its 40 bytes.
+    fn bytes(&self) -> [u8; RECORD_LEN]
+        ensures { IsIntegrityRecord self.now result }
+    {
+        let mut bytes = [0; RECORD_LEN];
+        put_at(&mut bytes, 0, &self.flags.to_le_bytes());
+        put_at(&mut bytes, 4, &self.token_il.to_le_bytes());
+        put_at(&mut bytes, 8, &self.machine_id);
+        bytes
+    }
+
+    /// Writes the record; a front of it where the writer stops.
+    pub fn encode<W: Sink>(&self, writer: &mut W) -> Result<(), ErrorKind>
+        ensures written { (whole : List ℕ) × IsIntegrityRecord self.now whole
+            × MatchResult result (λ _. Appends (W.written writer.old) (W.written writer.new) whole)
+            (λ _. (n : ℕ) × Appends (W.written writer.old) (W.written writer.new) (take n whole)) }
+        ensures stop { MatchResult result (λ _. W.failed writer.new ≡ W.failed writer.old)
+            (IsWriteStop (W.failed writer.old) (W.failed writer.new) (W.last_fault writer.new)) }
+        ensures same { W.through writer.new ≡ W.through writer.old }
+    {
+        match write_whole(writer, &self.bytes()) {
+            Ok(()) => Ok(()),
+            Err(fault) => Err(stop_kind(fault)),
+        }
+    }
+
+    // The record that these 40 bytes are.
+    fn of_bytes(bytes: &[u8; RECORD_LEN]) -> LsapTokenInfoIntegrity
+        ensures { IsIntegrityRecord result bytes.now }
+    {
+        LsapTokenInfoIntegrity {
+            flags: u32_le(bytes, 0),
+            token_il: u32_le(bytes, 4),
+            machine_id: array_at::<MACHINE_ID_LENGTH>(bytes, 8),
+        }
+    }
+
+    /// Reads a record, and leaves what follows it. Any bytes are one.
+    pub fn decode<R: Source>(reader: &mut R) -> Result<LsapTokenInfoIntegrity, ErrorKind>
+        ensures found { IfOk result (λ r. (whole : List ℕ) × IsIntegrityRecord r whole
+            × Consumes (R.left reader.old) (R.left reader.new) whole) }
+        ensures refused { IfErr result (λ kind. IfSome (R.left reader.old) (λ bytes.
+            IsReadStop bytes (R.failed reader.old) (R.failed reader.new) (R.last_fault reader.new) kind)) }
+        ensures same { R.through reader.new ≡ R.through reader.old }
+    {
+        let mut bytes = [0; RECORD_LEN];
+        let count = read_full(reader, &mut bytes)?;
+        if count < RECORD_LEN {
+            return Err(ErrorKind::UnexpectedEof);
+        }
+        Ok(LsapTokenInfoIntegrity::of_bytes(&bytes))
+    }
+}
