@@ -2,4 +2,6 @@
 #![tactic(auto)]
 
 #[cfg(test)]
+mod integrity;
+#[cfg(test)]
 mod tokens;
