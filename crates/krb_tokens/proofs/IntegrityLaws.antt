@@ -1,5 +1,5 @@
 -- The record of an integrity level is laid out in the bytes that it was read from, and in those that are written.
-use Rattle.std.proofs.Common.{◌≡◌, ℕ, ◌+◌, ◌<◌, List, ◌++◌, length, take, drop, Option, None, Some, IfSome, refl, ap, sym, subst, ◌∙◌, inl, inr, append-nil, arith}
+use Rattle.std.proofs.Common.{◌≡◌, ℕ, ◌<◌, List, ◌++◌, length, take, drop, Option, None, Some, IfSome, refl, ap, sym, subst, ◌∙◌, inl, inr, append-nil, arith}
 use Rattle.std.proofs.lemmas.List.{length-drop, length-take, length-take-le}
 use Rattle.std.specs.Int.{w32, to_le_bytes}
 use Rattle.std.specs.Io.KnownBytes.{Consumes, IsAtEnd}
