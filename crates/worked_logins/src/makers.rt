@@ -1,31 +1,51 @@
 //! What clients and services are refused to be made of, and the numbers and texts of refusals.
 
-use crate::parties::{AES256, client_of, name_of, start};
-use krb_realm::{AdmitRefusal, AskRefusal, Client, RealmRefusal, Service, TakeRefusal};
+use crate::parties::{AES256, START, TILL, client_of, name_of};
+use krb_realm::{AdmitRefusal, AskRefusal, Client, Moment, RealmRefusal, Service, TakeRefusal};
 use picky_asn1::date::GeneralizedTime;
-use std::test::Fail;
+use std::alloc::Global;
+use std::fmt::Display;
 
-#[test]
-fn clients(rt: HostRuntime) -> Result<(), Fail> {
-    let alloc = rt.alloc();
+fn client_refusal(alloc: Global, realm: &[u8], name: &[Vec<u8>]) -> Option<AskRefusal> {
+    Client::by_password(alloc, realm, name, AES256, b"pw").err()
+}
+
+fn is_no_realm(alloc: Global) -> Option<bool> {
     let name = name_of(alloc, b"a")?;
-    let no_realm = Client::by_password(alloc, b"", &name, AES256, b"pw").err();
-    assert_eq!(rt; no_realm, Some(AskRefusal::BadName));
-    let no_name = Client::by_password(alloc, b"R", &[], AES256, b"pw").err();
-    assert_eq!(rt; no_name, Some(AskRefusal::BadName));
+    Some(client_refusal(alloc, b"", &name) == Some(AskRefusal::BadName))
+}
+
+fn is_no_service(alloc: Global) -> Option<bool> {
+    let now = Moment::from_text(START)?;
+    let till = GeneralizedTime::from_text(TILL)?;
     let client = client_of(alloc, b"a", AES256)?;
-    let till = GeneralizedTime::from_text(b"20000102000000Z").ok_or("no time")?;
-    let no_service = client
-        .as_request(alloc, &[], till, start()?, &[0; 96])
-        .err();
-    assert_eq!(rt; no_service, Some(AskRefusal::BadName));
-    Ok(())
+    let asked = client.as_request(alloc, &[], till, now, &[0; 96]);
+    Some(asked.err() == Some(AskRefusal::BadName))
 }
 
 #[test]
-fn services(rt: HostRuntime) -> Result<(), Fail> {
-    let alloc = rt.alloc();
+fn clients(rt: HostRuntime) {
+    assert!(rt; is_no_realm(rt.alloc()) == Some(true));
+    assert!(rt; client_refusal(rt.alloc(), b"R", &[]) == Some(AskRefusal::BadName));
+    assert!(rt; is_no_service(rt.alloc()) == Some(true));
+}
+
+// Whether a service `h` with this realm, key, number and skew is refused so, or made.
+fn is_made(
+    alloc: Global,
+    realm: &[u8],
+    key: &[u8],
+    number: u32,
+    skew: u64,
+    refusal: Option<RealmRefusal>,
+) -> Option<bool> {
     let name = name_of(alloc, b"h")?;
+    let made = Service::new(alloc, realm, &name, AES256, key, number, skew);
+    Some(made.err() == refusal)
+}
+
+#[test]
+fn services(rt: HostRuntime) {
     let cases: [(&[u8], &[u8], u32, u64, Option<RealmRefusal>); 6] = [
         (b"R", &[1; 32], 1, 86_400, None),
         (b"R", &[1; 32], 1, 86_401, Some(RealmRefusal::BadSetting)),
@@ -35,34 +55,42 @@ fn services(rt: HostRuntime) -> Result<(), Fail> {
         (b"\xC4", &[1; 32], 1, 300, Some(RealmRefusal::BadName)),
     ];
     for (realm, key, number, skew, refusal) in cases {
-        let made = Service::new(alloc, realm, &name, AES256, key, number, skew);
-        assert_eq!(rt; made.err(), refusal, "at {realm:?}");
+        let is_right = is_made(rt.alloc(), realm, key, number, skew, refusal);
+        assert!(rt; is_right == Some(true), "at {realm:?}, {number}, {skew}");
     }
-    Ok(())
 }
 
 #[test]
 fn numbers(rt: HostRuntime) {
-    assert_eq!(rt; AskRefusal::BadName.number(), 1);
-    assert_eq!(rt; AskRefusal::Memory.number(), 3);
-    assert_eq!(rt; TakeRefusal::Unreadable.number(), 1);
-    assert_eq!(rt; TakeRefusal::Refused(24).number(), 2);
-    assert_eq!(rt; TakeRefusal::NotSealed.number(), 3);
-    assert_eq!(rt; TakeRefusal::NotAsked.number(), 4);
-    assert_eq!(rt; TakeRefusal::Memory.number(), 6);
-    assert_eq!(rt; AdmitRefusal::Unreadable.number(), 1);
-    assert_eq!(rt; AdmitRefusal::Krb(34).number(), 2);
-    assert_eq!(rt; AdmitRefusal::Memory.number(), 3);
+    assert!(rt; AskRefusal::BadName.number() == 1);
+    assert!(rt; AskRefusal::Memory.number() == 3);
+    assert!(rt; TakeRefusal::Unreadable.number() == 1);
+    assert!(rt; TakeRefusal::Refused(24).number() == 2);
+    assert!(rt; TakeRefusal::NotSealed.number() == 3);
+    assert!(rt; TakeRefusal::NotAsked.number() == 4);
+    assert!(rt; TakeRefusal::Memory.number() == 6);
+    assert!(rt; AdmitRefusal::Unreadable.number() == 1);
+    assert!(rt; AdmitRefusal::Krb(34).number() == 2);
+    assert!(rt; AdmitRefusal::Memory.number() == 3);
+}
+
+fn is_printed<T: Display>(alloc: Global, refusal: &T, text: &str) -> bool {
+    match format!(in alloc; "{refusal}") {
+        Ok(printed) => printed.as_str() == text,
+        Err(_) => false,
+    }
 }
 
 #[test]
-fn texts(rt: HostRuntime) -> Result<(), Fail> {
-    let alloc = rt.alloc();
-    let asked = format!(in alloc; "{}", AskRefusal::BadName)?;
-    assert_eq!(rt; asked.as_str(), "not a name of a realm or a principal");
-    let taken = format!(in alloc; "{}", TakeRefusal::Refused(24))?;
-    assert_eq!(rt; taken.as_str(), "refused with code 24");
-    let admitted = format!(in alloc; "{}", AdmitRefusal::Krb(34))?;
-    assert_eq!(rt; admitted.as_str(), "refused with code 34");
-    Ok(())
+fn texts(rt: HostRuntime) {
+    let no_name = "not a name of a realm or a principal";
+    assert!(rt; is_printed(rt.alloc(), &AskRefusal::BadName, no_name));
+    assert!(rt;
+        is_printed(
+            rt.alloc(),
+            &TakeRefusal::Refused(24),
+            "refused with code 24"
+        )
+    );
+    assert!(rt; is_printed(rt.alloc(), &AdmitRefusal::Krb(34), "refused with code 34"));
 }
