@@ -5,7 +5,8 @@ use Rattle.picky_krb.specs.declared.messages.kdc_rep.KdcRep.{KdcRep}
 use Rattle.krb_rules.specs.Numbers.{is_number}
 use Rattle.krb_rules.specs.Rows.{Table, ask, done, refuse}
 use Rattle.krb_client.specs.AsReply.{IsAsPart, IsTgsPart, Taken, sole_as_part, sole_tgs_part, takes_as_reply, takes_part, takes_reply, takes_sealed}
-use Rattle.krb_client.specs.Client.{AsAskedRecord, ClientRecord}
+use Rattle.krb_asked.specs.Asked.{AsAskedRecord}
+use Rattle.krb_client.specs.Client.{ClientRecord}
 use Rattle.krb_client.specs.Messages.{IsAsReply, IsErrorCode, sole_as_reply, sole_error_code}
 use Rattle.krb_client.specs.Refusals.{IsTaken}
 use Rattle.krb_client.specs.declared.refusal.TakeRefusal.TheVariants.{NotSealed, Refused, Unreadable}

@@ -11,7 +11,8 @@ use Rattle.krb_types.specs.declared.data_types.encrypted_data.EncryptedData.{Enc
 use Rattle.krb_types.specs.declared.data_types.encryption_key.EncryptionKey.{EncryptionKey}
 use Rattle.krb_types.specs.declared.data_types.ticket.TicketInner.{TicketInner}
 use Rattle.picky_krb.specs.declared.messages.ap_req.ApReqInner.{ApReqInner}
-use Rattle.krb_client.specs.Client.{ApAskedRecord, ClientRecord, CredentialRecord}
+use Rattle.krb_asked.specs.Asked.{ApAskedRecord}
+use Rattle.krb_client.specs.Client.{ClientRecord, CredentialRecord}
 use Rattle.krb_client.specs.Messages.{ap_request_bytes, authenticator_bytes}
 use Rattle.krb_client.specs.Sealing.{IsSecondOf, Seals, principal_name, sole_seals, sole_second}
 

@@ -1,5 +1,5 @@
 -- What a client takes as the reply to its AS request (RFC 4120, section 3.1.5): the first case that holds counts.
-use Rattle.std.specs.Prelude.{◌≡◌, ℕ, Bool, not, ◌&&◌, List, Result, Ok, Err}
+use Rattle.std.specs.Prelude.{◌≡◌, ℕ, not, List, Result, Ok, Err}
 use Rattle.asn1_trees.proofs.Spelling.{wrapped-injective}
 use Rattle.krb_crypto.specs.declared.suite.CipherSuite.{CipherSuite}
 use Rattle.krb_types.specs.declared.data_types.encrypted_data.EncryptedData.{EncryptedData}
@@ -7,12 +7,13 @@ use Rattle.picky_krb.specs.declared.messages.enc_kdc_rep_part.EncKdcRepPart.{Enc
 use Rattle.picky_krb.specs.declared.messages.kdc_rep.KdcRep.{KdcRep}
 use Rattle.picky_krb.specs.Trees as messages
 use Rattle.krb_rules.specs.Keys.{suite_of}
-use Rattle.krb_rules.specs.Names.{components, is_same_name, is_same_realm}
 use Rattle.krb_rules.specs.Numbers.{is_number}
 use Rattle.krb_rules.specs.One.{IsSole}
 use Rattle.krb_rules.specs.Rows.{Table, ask, done, need, refuse}
 use Rattle.krb_rules.specs.Sealed.{IsSealedIn, sole_sealed}
-use Rattle.krb_client.specs.Client.{AsAskedRecord, ClientRecord, CredentialRecord}
+use Rattle.krb_asked.specs.Answers.{is_answer}
+use Rattle.krb_asked.specs.Asked.{AsAskedRecord}
+use Rattle.krb_client.specs.Client.{ClientRecord, CredentialRecord}
 use Rattle.krb_client.specs.Messages.{IsAsReply, IsErrorCode, as_reply_part_tree, sole_as_reply, sole_error_code, tgs_reply_part_tree}
 use Rattle.krb_client.specs.declared.refusal.TakeRefusal.{TakeRefusal}
 use Rattle.krb_client.specs.declared.refusal.TakeRefusal.TheVariants.{NotAsked, NotSealed, Refused, Unreadable}
@@ -46,19 +47,10 @@ credential_of reply part suite = record {
   service = part.sname.0;
 }
 
--- the opened part has the request's nonce, the reply names the client, and the part the service, in the client's realm
-unfoldable pub is_answer : ClientRecord → AsAskedRecord → KdcRep → EncKdcRepPart → Bool
-is_answer client asked reply part =
-    is_number asked.nonce part.nonce.0
-    && is_same_realm reply.crealm.0 client.realm
-    && is_same_name (components reply.cname.0) client.components
-    && is_same_realm part.srealm.0 client.realm
-    && is_same_name (components part.sname.0) asked.service
-
 -- with the part opened
 abbrev pub takes_part : ClientRecord → AsAskedRecord → KdcRep → EncKdcRepPart → Table Taken
 takes_part client asked reply part =
-    refuse (not (is_answer client asked reply part)) NotAsked
+    refuse (not (is_answer client.realm client.components asked reply part)) NotAsked
     (need (suite_of part.key.0) NotAsked (λ suite.
     done (Ok (credential_of reply part suite))))
 

@@ -1,5 +1,5 @@
--- What clients are, what they remember of a request, and what they are granted (RFC 4120, sections 3.1, 3.2).
-use Rattle.std.specs.Prelude.{ℕ, not, ◌&&◌, List, Option, Result, Ok, Err, if◌then◌else◌}
+-- What clients are, and what they are granted (RFC 4120, sections 3.1, 3.2).
+use Rattle.std.specs.Prelude.{ℕ, not, ◌&&◌, List, Result, Ok, Err, if◌then◌else◌}
 use Rattle.krb_crypto.specs.declared.suite.CipherSuite.{CipherSuite}
 use Rattle.krb_crypto.specs.Sealing.{password_key_of}
 use Rattle.krb_accounts.specs.Names.{are_components, is_realm_name}
@@ -27,12 +27,6 @@ client_of realm components suite password =
       key = password_key_of suite password (password_salt realm components);
     })
 
--- what a client remembers of an AS request: the service's components, the nonce, and the moment
-pub record AsAskedRecord : Type 0 where
-  pub service : List (List ℕ)
-  pub nonce : ℕ
-  pub moment : ℕ
-
 -- what a client is granted: a ticket, the session's key of a suite, and the service that the ticket is for
 pub record CredentialRecord : Type 0 where
   pub ticket : TicketInner
@@ -40,11 +34,3 @@ pub record CredentialRecord : Type 0 where
   pub key : List ℕ
   pub realm : List ℕ
   pub service : PrincipalName
-
--- what a client remembers of an AP request: the session's key, the authenticator's time, and the subkey, if any, which
--- is of the same suite
-pub record ApAskedRecord : Type 0 where
-  pub suite : CipherSuite
-  pub key : List ℕ
-  pub time : ℕ
-  pub subkey : Option (List ℕ)

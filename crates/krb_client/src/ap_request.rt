@@ -6,18 +6,18 @@ ghost use Rattle.krb_client.specs.Messages.{ap_request_bytes, authenticator_byte
 
 use crate::copies::ticket_copy;
 use crate::names::principal_name;
-use crate::seal::{encoding_of, sealed_by};
-use crate::{ApAsked, AskRefusal, Client, Credential};
+use crate::seal::sealed_by;
+use crate::{AskRefusal, Client, Credential};
+use krb_asked::ApAsked;
 use krb_crypto::CipherSuite;
+use krb_encoding::tagged_encoding;
 use krb_moments::Moment;
-use krb_types::constants::types::{AP_REQ_MSG_TYPE, NT_PRINCIPAL};
-use krb_types::data_types::{
-    ApOptions, Authenticator, AuthenticatorInner, EncryptedData, EncryptionKey, Ticket,
-};
+use krb_types::constants::types::{AP_REQ_MSG_TYPE, AUTHENTICATOR_TYPE, NT_PRINCIPAL};
+use krb_types::data_types::{ApOptions, AuthenticatorInner, EncryptedData, EncryptionKey, Ticket};
 use picky_asn1::date::GeneralizedTime;
 use picky_asn1::wrapper::{BitStringAsn1, GeneralizedTimeAsn1, IntegerAsn1, OctetStringAsn1};
-use picky_asn1_der::{ApplicationTag, ExplicitContextTag, Optional};
-use picky_krb::messages::{ApReq, ApReqInner};
+use picky_asn1_der::{ExplicitContextTag, Optional};
+use picky_krb::messages::ApReqInner;
 use std::alloc::{AllocError, Global};
 
 /// The version of Kerberos, of requests and of authenticators.
@@ -100,9 +100,9 @@ impl Client {
         ensures { IfOk result (λ inner. inner ≡ authenticator_of self.now suite second microsecond subkey.now) }
     {
         let version = IntegerAsn1::from_u64(alloc, VERSION)?;
+        let microsecond = IntegerAsn1::from_u64(alloc, u64::from(microsecond))?;
         let realm = self.realm().clone()?;
         let name = principal_name(alloc, NT_PRINCIPAL, self.components())?;
-        let microsecond = IntegerAsn1::from_u64(alloc, u64::from(microsecond))?;
         let subkey = key_of(alloc, suite, subkey)?;
         Ok(AuthenticatorInner {
             authenticator_vno: ExplicitContextTag(version),
@@ -163,8 +163,7 @@ fn key_of(
 fn authenticator_bytes(alloc: Global, inner: AuthenticatorInner) -> Result<Vec<u8>, AllocError>
     ensures { IfOk result (λ bytes. bytes.items ≡ authenticator_bytes inner) }
 {
-    let authenticator: Authenticator = ApplicationTag(inner);
-    let bytes = encoding_of(alloc, &authenticator)?;
+    let bytes = tagged_encoding::<AuthenticatorInner, AUTHENTICATOR_TYPE>(alloc, inner)?;
     Ok(bytes)
 }
 
@@ -206,7 +205,6 @@ fn ap_request_of(
 fn ap_request_bytes(alloc: Global, request: ApReqInner) -> Result<Vec<u8>, AllocError>
     ensures { IfOk result (λ bytes. bytes.items ≡ ap_request_bytes request) }
 {
-    let request: ApReq = ApplicationTag(request);
-    let bytes = encoding_of(alloc, &request)?;
+    let bytes = tagged_encoding::<ApReqInner, AP_REQ_MSG_TYPE>(alloc, request)?;
     Ok(bytes)
 }

@@ -1,11 +1,13 @@
 //! Taking the reply to an AS request.
 ghost use Rattle.std.specs.Prelude.{◌≡◌};
-ghost use Rattle.krb_client.specs.AsReply.{is_answer, takes_as_reply, takes_part, takes_reply};
+ghost use Rattle.krb_asked.specs.Answers.{is_answer};
+ghost use Rattle.krb_client.specs.AsReply.{takes_as_reply, takes_part, takes_reply};
 ghost use Rattle.krb_client.specs.Refusals.{IsTaken};
 
 use crate::read::{open_as_part, open_tgs_part, read_as_reply, read_error_code};
-use crate::{AsAsked, Client, Credential, TakeRefusal};
-use krb_rules::{is_number, is_same_name, is_same_realm, suite_of};
+use crate::{Client, Credential, TakeRefusal};
+use krb_asked::AsAsked;
+use krb_rules::{is_number, suite_of};
 use picky_krb::messages::{EncKdcRepPart, KdcRep};
 use std::alloc::Global;
 
@@ -80,23 +82,11 @@ impl Client {
         let credential = Credential::of_reply(reply, part, suite)?;
         Ok(credential)
     }
-    // Whether the opened part has the request's nonce, the reply names the client, and the part the service.
-    #[tactic(auto, unfolding(crate::specs::AsReply::is_answer))]
+
+    // Whether the reply and its opened part answer the request.
     fn is_answer(&self, asked: &AsAsked, reply: &KdcRep, part: &EncKdcRepPart) -> bool
-        ensures { result ≡ is_answer self.now asked.now reply.now part.now }
+        ensures { result ≡ is_answer self.now.realm self.now.components asked.now reply.now part.now }
     {
-        if !is_number(&part.nonce.0, asked.nonce()) {
-            return false;
-        }
-        if !is_same_realm(&reply.crealm.0, self.realm()) {
-            return false;
-        }
-        if !is_same_name(reply.cname.0.name_string.0.as_slice(), self.components()) {
-            return false;
-        }
-        if !is_same_realm(&part.srealm.0, self.realm()) {
-            return false;
-        }
-        is_same_name(part.sname.0.name_string.0.as_slice(), asked.service())
+        asked.is_answered(self.realm(), self.components(), reply, part)
     }
 }

@@ -5,9 +5,11 @@ ghost use Rattle.krb_client.specs.AsRequest.{AsksAs, IsStamp, as_request_of, no_
 ghost use Rattle.krb_client.specs.Messages.{as_request_bytes, stamp_bytes};
 
 use crate::names::principal_name;
-use crate::seal::{encoding_of, sealed_by};
-use crate::{AsAsked, AskRefusal, Client};
+use crate::seal::sealed_by;
+use crate::{AskRefusal, Client};
 use krb_accounts::{are_components, components_of};
+use krb_asked::AsAsked;
+use krb_encoding::{encoding_of, tagged_encoding};
 use krb_moments::Moment;
 use krb_types::constants::types::{AS_REQ_MSG_TYPE, NT_PRINCIPAL, NT_SRV_INST};
 use krb_types::data_types::{EncryptedData, KerberosFlags, PaData, PaEncTsEnc};
@@ -16,8 +18,8 @@ use picky_asn1::wrapper::{
     Asn1SequenceOf, BitStringAsn1, GeneralStringAsn1, GeneralizedTimeAsn1, IntegerAsn1,
     OctetStringAsn1,
 };
-use picky_asn1_der::{ApplicationTag, ExplicitContextTag, Optional};
-use picky_krb::messages::{AsReq, KdcReq, KdcReqBody};
+use picky_asn1_der::{ExplicitContextTag, Optional};
+use picky_krb::messages::{KdcReq, KdcReqBody};
 use std::alloc::{AllocError, Global};
 
 /// The version of Kerberos.
@@ -103,10 +105,10 @@ impl Client {
     ) -> Result<KdcReq, AllocError>
         ensures { IfOk result (λ request. request ≡ as_request_of self.now service.now till nonce stamp) }
     {
-        let version = IntegerAsn1::from_u64(alloc, VERSION)?;
-        let kind = IntegerAsn1::from_u64(alloc, u64::from(AS_REQ_MSG_TYPE))?;
         let stamp = stamp_data(alloc, stamp)?;
         let methods = vec![in alloc; stamp]?;
+        let version = IntegerAsn1::from_u64(alloc, VERSION)?;
+        let kind = IntegerAsn1::from_u64(alloc, u64::from(AS_REQ_MSG_TYPE))?;
         let body = self.request_body(alloc, service, till, nonce)?;
         Ok(KdcReq {
             pvno: ExplicitContextTag(version),
@@ -127,12 +129,12 @@ impl Client {
         ensures { IfOk result (λ body. body ≡ request_body self.now service.now till nonce) }
     {
         let options = no_options(alloc)?;
-        let client = principal_name(alloc, NT_PRINCIPAL, self.components())?;
-        let realm = self.realm().clone()?;
-        let service = principal_name(alloc, NT_SRV_INST, service)?;
         let nonce = IntegerAsn1::from_u64(alloc, u64::from(nonce))?;
         let suite = IntegerAsn1::from_u64(alloc, u64::from(u8::from(self.suite())))?;
         let suites = vec![in alloc; suite]?;
+        let realm = self.realm().clone()?;
+        let client = principal_name(alloc, NT_PRINCIPAL, self.components())?;
+        let service = principal_name(alloc, NT_SRV_INST, service)?;
         Ok(KdcReqBody {
             kdc_options: ExplicitContextTag(options),
             cname: Optional(Some(ExplicitContextTag(client))),
@@ -174,7 +176,7 @@ fn stamp_bytes(
         patimestamp: ExplicitContextTag(GeneralizedTimeAsn1(second)),
         pausec: Optional(Some(ExplicitContextTag(microsecond))),
     };
-    let bytes = encoding_of(alloc, &stamp)?;
+    let bytes = encoding_of(alloc, stamp)?;
     Ok(bytes)
 }
 
@@ -184,7 +186,7 @@ fn stamp_data(alloc: Global, stamp: EncryptedData) -> Result<PaData, AllocError>
     ensures { IfOk result (λ entry. entry ≡ stamp_data stamp) }
 {
     let kind = IntegerAsn1::from_u64(alloc, STAMP_TYPE)?;
-    let value = encoding_of(alloc, &stamp)?;
+    let value = encoding_of(alloc, stamp)?;
     Ok(PaData {
         padata_type: ExplicitContextTag(kind),
         padata_data: ExplicitContextTag(OctetStringAsn1::from(value)),
@@ -205,7 +207,6 @@ fn no_options(alloc: Global) -> Result<KerberosFlags, AllocError>
 fn as_request_bytes(alloc: Global, request: KdcReq) -> Result<Vec<u8>, AllocError>
     ensures { IfOk result (λ bytes. bytes.items ≡ as_request_bytes request) }
 {
-    let request: AsReq = ApplicationTag(request);
-    let bytes = encoding_of(alloc, &request)?;
+    let bytes = tagged_encoding::<KdcReq, AS_REQ_MSG_TYPE>(alloc, request)?;
     Ok(bytes)
 }

@@ -5,7 +5,6 @@
 mod ap_request;
 mod as_reply;
 mod as_request;
-mod asked;
 mod client;
 mod copies;
 mod credential;
@@ -14,7 +13,7 @@ mod read;
 mod refusal;
 mod seal;
 
-pub use asked::{ApAsked, AsAsked};
 pub use client::Client;
 pub use credential::Credential;
+pub use krb_asked::{ApAsked, AsAsked};
 pub use refusal::{AskRefusal, TakeRefusal};

@@ -1,14 +1,14 @@
 //! Reading replies, and opening their sealed parts.
 ghost use Rattle.std.specs.Prelude.{IfOk};
-ghost use Rattle.picky_krb.specs.Found.{IsFound};
+ghost use Rattle.krb_opening.specs.Found.{IsFound};
 ghost use Rattle.krb_client.specs.Messages.{IsAsReply, IsErrorCode};
 ghost use Rattle.krb_client.specs.AsReply.{IsAsPart, IsTgsPart};
 
 use crate::Client;
+use krb_opening::read_whole;
 use krb_rules::open_sealed;
 use krb_types::data_types::EncryptedData;
 use picky_krb::messages::{AsRep, EncAsRepPart, EncKdcRepPart, EncTgsRepPart, KdcRep, KrbError};
-use picky_krb::read_whole;
 use std::alloc::{AllocError, Global};
 
 /// The usage of the key that seals the part of an AS reply (RFC 4120, section 7.5.1).

@@ -1,25 +1,14 @@
-//! Encoding what requests hold, and sealing it.
+//! Sealing what requests hold.
 ghost use Rattle.std.specs.Prelude.{◌≡◌, length, IfOk};
 ghost use Rattle.std.specs.Int.{cast_unsigned, w32};
-ghost use Rattle.asn1_trees.specs.Tree.{der};
 ghost use Rattle.krb_crypto.specs.Suites.{cipher_key_size};
 ghost use Rattle.krb_client.specs.Sealing.{Seals, encrypted_by};
 
 use krb_crypto::{Cipher, CipherSuite};
 use krb_types::data_types::EncryptedData;
 use picky_asn1::wrapper::{IntegerAsn1, OctetStringAsn1};
-use picky_asn1_der::{ExplicitContextTag, Optional, Serialize, to_vec};
+use picky_asn1_der::{ExplicitContextTag, Optional};
 use std::alloc::{AllocError, Global};
-
-/// The encoding of a value. Memory is the only refusal.
-pub(crate) fn encoding_of<T: Serialize>(alloc: Global, value: &T) -> Result<Vec<u8>, AllocError>
-    ensures { IfOk result (λ bytes. bytes.items ≡ der (T.tree value.now)) }
-{
-    let Ok(bytes) = to_vec(alloc, value) else {
-        return Err(AllocError);
-    };
-    Ok(bytes)
-}
 
 /// The text, sealed under the key behind the confounder, with the number of the suite (RFC 4120, section 5.2.9). Memory
 /// is the only refusal.

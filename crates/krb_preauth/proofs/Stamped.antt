@@ -5,7 +5,7 @@ use Rattle.krb_accounts.specs.Account.{AccountRecord}
 use Rattle.krb_types.specs.declared.data_types.encrypted_data.EncryptedData.{EncryptedData}
 use Rattle.krb_types.specs.declared.data_types.pa_enc_timestamp.PaEncTsEnc.{PaEncTsEnc}
 use Rattle.krb_types.specs.Trees as held
-use Rattle.picky_krb.specs.Found.{IsFound}
+use Rattle.krb_opening.specs.Found.{IsFound}
 use Rattle.krb_rules.specs.Sealed.{IsSealedIn}
 use Rattle.krb_preauth.specs.Stamps.{IsStamp, encrypted_data_tree, stamp_tree}
 

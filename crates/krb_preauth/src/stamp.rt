@@ -1,13 +1,13 @@
 //! The time that a client seals under its own key.
 ghost use Rattle.std.specs.Prelude.{◌≡◌, IfOk};
-ghost use Rattle.picky_krb.specs.Found.{IsFound};
+ghost use Rattle.krb_opening.specs.Found.{IsFound};
 ghost use Rattle.krb_preauth.specs.Stamps.{IsStamp, moment_of};
 
 use krb_accounts::Account;
 use krb_moments::Moment;
+use krb_opening::read_whole;
 use krb_rules::{moment_at, open_sealed};
 use krb_types::data_types::{EncryptedData, PaEncTsEnc};
-use picky_krb::read_whole;
 use std::alloc::{AllocError, Global};
 
 /// The usage of the key that seals a stamp (RFC 4120, section 7.5.1).

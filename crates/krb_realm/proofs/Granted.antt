@@ -3,7 +3,7 @@ use Rattle.std.proofs.Common.{◌≡◌, ℕ, List, Ok, ap, refl, subst, ◌∙�
 use Rattle.picky_asn1.specs.GeneralizedTime.{seconds_of}
 use Rattle.picky_krb.specs.declared.messages.kdc_req_body.KdcReqBody.{KdcReqBody}
 use Rattle.krb_tickets.specs.declared.grant.Grant.{Grant}
-use Rattle.krb_tickets.specs.Granted.{IsAsReply}
+use Rattle.krb_grants.specs.Granted.{IsAsReply}
 use Rattle.krb_tickets.specs.Parts.{session_key_of}
 use Rattle.krb_tickets.specs.Times.{end_of, start_of}
 use Rattle.krb_replies.specs.Grants.{Principals, Span, grant_of, granted}

@@ -6,8 +6,9 @@ ghost use Rattle.krb_tickets.specs.Parts.{session_key_of};
 
 use krb_accounts::{Account, Settings};
 use krb_crypto::{Cipher, CipherSuite};
+use krb_grants::as_reply;
 use krb_moments::Moment;
-use krb_tickets::{Grant, as_reply, end_of, start_of};
+use krb_tickets::{Grant, end_of, start_of};
 use picky_asn1::wrapper::{GeneralStringAsn1, OctetStringAsn1};
 use picky_krb::data_types::PrincipalName;
 use picky_krb::messages::KdcReqBody;

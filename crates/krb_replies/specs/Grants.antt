@@ -10,7 +10,7 @@ use Rattle.picky_krb.specs.declared.messages.kdc_req_body.KdcReqBody.{KdcReqBody
 use Rattle.krb_rules.specs.One.{IsSole}
 use Rattle.krb_rules.specs.Rows.{Table, done, make}
 use Rattle.krb_tickets.specs.declared.grant.Grant.{Grant}
-use Rattle.krb_tickets.specs.Granted.{IsAsReply, sole_as_reply}
+use Rattle.krb_grants.specs.Granted.{IsAsReply, sole_as_reply}
 use Rattle.krb_tickets.specs.Parts.{session_key_of}
 use Rattle.krb_tickets.specs.Times.{end_of, start_of}
 

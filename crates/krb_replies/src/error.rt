@@ -3,11 +3,13 @@ ghost use Rattle.std.specs.Prelude.{◌≡◌, ◌<◌, ◌^◌, IfOk};
 ghost use Rattle.std.specs.Option.{option_map};
 ghost use Rattle.krb_replies.specs.Errors.{error_bytes};
 
+use krb_encoding::tagged_encoding;
+use krb_types::constants::types::KRB_ERROR_MSG_TYPE;
 use krb_types::data_types::PrincipalName;
 use picky_asn1::date::GeneralizedTime;
 use picky_asn1::wrapper::{GeneralStringAsn1, GeneralizedTimeAsn1, IntegerAsn1, OctetStringAsn1};
-use picky_asn1_der::{ApplicationTag, ExplicitContextTag, ExplicitContextTag12, Optional, to_vec};
-use picky_krb::messages::{KrbError, KrbErrorInner};
+use picky_asn1_der::{ExplicitContextTag, ExplicitContextTag12, Optional};
+use picky_krb::messages::KrbErrorInner;
 use std::alloc::{AllocError, Global};
 
 // A Kerberos message's version and the type of an error (RFC 4120, section 5.9.1).
@@ -31,7 +33,7 @@ pub fn error_reply(
     let version = IntegerAsn1::from_u64(alloc, VERSION)?;
     let kind = IntegerAsn1::from_u64(alloc, ERROR_TYPE)?;
     let susec = IntegerAsn1::from_u64(alloc, microseconds as u64)?;
-    let error: KrbError = ApplicationTag(KrbErrorInner {
+    let error = KrbErrorInner {
         pvno: ExplicitContextTag(version),
         msg_type: ExplicitContextTag(kind),
         ctime: Optional(None),
@@ -45,10 +47,8 @@ pub fn error_reply(
         sname: ExplicitContextTag(service),
         e_text: Optional(None),
         e_data: Optional(data_of(hint)),
-    });
-    let Ok(bytes) = to_vec(alloc, &error) else {
-        return Err(AllocError);
     };
+    let bytes = tagged_encoding::<KrbErrorInner, KRB_ERROR_MSG_TYPE>(alloc, error)?;
     Ok(bytes)
 }
 

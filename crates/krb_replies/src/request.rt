@@ -1,10 +1,10 @@
 //! Reading requests.
 ghost use Rattle.std.specs.Prelude.{◌≡◌, IfOk};
-ghost use Rattle.picky_krb.specs.Found.{IsFound};
+ghost use Rattle.krb_opening.specs.Found.{IsFound};
 ghost use Rattle.krb_replies.specs.Messages.{IsAsReq, IsTgsReq};
 
+use krb_opening::read_whole;
 use picky_krb::messages::{AsReq, KdcReq, TgsReq};
-use picky_krb::read_whole;
 use std::alloc::{AllocError, Global};
 
 /// The AS request whose one encoding the bytes are, or none (RFC 4120, section 5.4.1).

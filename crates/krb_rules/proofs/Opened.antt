@@ -4,8 +4,8 @@ use Rattle.asn1_trees.specs.Tree.{Tree}
 use Rattle.krb_crypto.specs.declared.suite.CipherSuite.{CipherSuite}
 use Rattle.krb_crypto.specs.Suites.{cipher_number}
 use Rattle.krb_types.specs.declared.data_types.encrypted_data.EncryptedData.{EncryptedData}
-use Rattle.picky_krb.specs.Found.{IsFound}
-use Rattle.picky_krb.specs.Opens.{Opens}
+use Rattle.krb_opening.specs.Found.{IsFound}
+use Rattle.krb_opening.specs.Opens.{Opens}
 use Rattle.krb_rules.specs.Numbers.{is_number}
 use Rattle.krb_rules.specs.Sealed.{IsSealedIn}
 

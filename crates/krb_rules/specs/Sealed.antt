@@ -5,7 +5,7 @@ use Rattle.asn1_trees.proofs.Spelling.{IsInjective}
 use Rattle.krb_crypto.specs.declared.suite.CipherSuite.{CipherSuite}
 use Rattle.krb_crypto.specs.Suites.{cipher_number}
 use Rattle.krb_types.specs.declared.data_types.encrypted_data.EncryptedData.{EncryptedData}
-use Rattle.picky_krb.specs.Opens.{Opens, sole_opens}
+use Rattle.krb_opening.specs.Opens.{Opens, sole_opens}
 use Rattle.krb_rules.specs.Numbers.{is_number}
 
 -- the data says that it is of the suite, and the value's encoding is sealed in it under the key, for the usage

@@ -1,4 +1,4 @@
 pub mod Times
 pub mod Parts
-pub mod Granted
+pub mod Sealed
 pub mod MethodData

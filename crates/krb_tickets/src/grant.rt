@@ -1,17 +1,19 @@
-//! Granting a first ticket.
-ghost use Rattle.std.specs.Prelude.{◌≡◌, ◌≤◌, length, IfOk};
-ghost use Rattle.krb_tickets.specs.Granted.{IsAsReply, IsSealedData, as_reply_bytes, as_reply_part_bytes, ticket_part_bytes};
+//! What a first ticket is granted with, and the parts of its reply.
+ghost use Rattle.std.specs.Prelude.{◌≡◌, length, IfOk};
+ghost use Rattle.krb_tickets.specs.Sealed.{IsSealedData, as_reply_bytes, as_reply_part_bytes, ticket_part_bytes};
 ghost use Rattle.krb_tickets.specs.Parts.{as_reply_of, reply_part, ticket_of, ticket_part};
 
 use crate::parts::{reply_part, ticket_part};
-use crate::seal::{encoding_of, sealed_data};
+use crate::seal::sealed_data;
 use krb_accounts::Account;
 use krb_crypto::CipherSuite;
-use krb_types::data_types::{EncTicketPart, EncryptedData, PrincipalName, Ticket, TicketInner};
+use krb_encoding::tagged_encoding;
+use krb_types::constants::types::{AS_REP_MSG_TYPE, ENC_AS_REP_PART_TYPE, ENC_TICKET_PART_TYPE};
+use krb_types::data_types::{EncTicketPartInner, EncryptedData, PrincipalName, TicketInner};
 use picky_asn1::date::GeneralizedTime;
 use picky_asn1::wrapper::{GeneralStringAsn1, IntegerAsn1, OctetStringAsn1};
 use picky_asn1_der::{ApplicationTag, ExplicitContextTag, Optional};
-use picky_krb::messages::{AsRep, EncAsRepPart, KdcRep};
+use picky_krb::messages::{EncKdcRepPart, KdcRep};
 use std::alloc::{AllocError, Global};
 
 /// The usage of the key that seals a ticket's part (RFC 4120, section 7.5.1).
@@ -47,27 +49,8 @@ pub struct Grant {
     pub nonce: IntegerAsn1,
 }
 
-/// The reply with the ticket, under the accounts' keys (RFC 4120, section 5.4.2). Of the random bytes 32 to 47 are the
-/// ticket's confounder, and 48 to 63 the reply's.
-pub fn as_reply(
-    alloc: Global,
-    grant: Grant,
-    client: &Account,
-    service: &Account,
-    words: &[u8],
-) -> Result<Vec<u8>, AllocError>
-    requires { 128 ≤ length words.now }
-    ensures { IfOk result (λ bytes. IsAsReply grant client.now service.now words.now bytes.items) }
-{
-    let ticket = sealed_ticket(alloc, &grant, service, &words[32..48])?;
-    let part = sealed_reply(alloc, &grant, client, &words[48..64])?;
-    let reply = reply_of(alloc, grant, ticket, part)?;
-    let bytes = reply_bytes(alloc, reply)?;
-    Ok(bytes)
-}
-
-// The ticket's part under the service's key.
-fn sealed_ticket(
+/// The ticket's part under the service's key, behind the confounder of 16 bytes.
+pub fn sealed_ticket(
     alloc: Global,
     grant: &Grant,
     service: &Account,
@@ -82,8 +65,8 @@ fn sealed_ticket(
     Ok(sealed)
 }
 
-// The reply's part under the client's key.
-fn sealed_reply(
+/// The reply's part under the client's key, behind the confounder of 16 bytes.
+pub fn sealed_reply(
     alloc: Global,
     grant: &Grant,
     client: &Account,
@@ -93,73 +76,89 @@ fn sealed_reply(
     ensures { IfOk result (IsSealedData client.now 3 confounder.now (as_reply_part_bytes (reply_part grant.now))) }
 {
     let part = reply_part(alloc, grant)?;
-    let plain = reply_part_bytes(alloc, part)?;
+    let plain = as_reply_part_bytes(alloc, part)?;
     let sealed = sealed_data(alloc, client, AS_REPLY_USAGE, &plain, confounder)?;
     Ok(sealed)
+}
+
+/// The encoding of the reply with the sealed parts of the ticket and of the reply.
+pub fn reply_bytes(
+    alloc: Global,
+    grant: &Grant,
+    ticket: EncryptedData,
+    part: EncryptedData,
+) -> Result<Vec<u8>, AllocError>
+    ensures { IfOk result (λ bytes. bytes.items ≡ as_reply_bytes (as_reply_of grant.now (ticket_of grant.now ticket) part)) }
+{
+    let reply = reply_of(alloc, grant, ticket, part)?;
+    let bytes = as_reply_bytes(alloc, reply)?;
+    Ok(bytes)
 }
 
 // The reply with the sealed parts of the ticket and of the reply.
 #[tactic(auto, unfolding(crate::specs::Parts::as_reply_of))]
 fn reply_of(
     alloc: Global,
-    grant: Grant,
+    grant: &Grant,
     ticket: EncryptedData,
     part: EncryptedData,
-) -> Result<AsRep, AllocError>
-    ensures { IfOk result (λ reply. reply.0 ≡ as_reply_of grant (ticket_of grant ticket) part) }
+) -> Result<KdcRep, AllocError>
+    ensures { IfOk result (λ reply. reply ≡ as_reply_of grant.now (ticket_of grant.now ticket) part) }
 {
-    let ticket = ticket_of(alloc, &grant, ticket)?;
     let version = IntegerAsn1::from_u64(alloc, VERSION)?;
     let kind = IntegerAsn1::from_u64(alloc, AS_REPLY_TYPE)?;
-    Ok(ApplicationTag(KdcRep {
+    let realm = grant.realm.clone()?;
+    let client = grant.client.clone()?;
+    let ticket = ticket_of(alloc, grant, ticket)?;
+    Ok(KdcRep {
         pvno: ExplicitContextTag(version),
         msg_type: ExplicitContextTag(kind),
         padata: Optional(None),
-        crealm: ExplicitContextTag(grant.realm),
-        cname: ExplicitContextTag(grant.client),
-        ticket: ExplicitContextTag(ticket),
+        crealm: ExplicitContextTag(realm),
+        cname: ExplicitContextTag(client),
+        ticket: ExplicitContextTag(ApplicationTag(ticket)),
         enc_part: ExplicitContextTag(part),
-    }))
+    })
 }
 
 // The ticket with its sealed part.
 #[tactic(auto, unfolding(crate::specs::Parts::ticket_of))]
-fn ticket_of(alloc: Global, grant: &Grant, part: EncryptedData) -> Result<Ticket, AllocError>
-    ensures { IfOk result (λ ticket. ticket.0 ≡ ticket_of grant.now part) }
+fn ticket_of(alloc: Global, grant: &Grant, part: EncryptedData) -> Result<TicketInner, AllocError>
+    ensures { IfOk result (λ ticket. ticket ≡ ticket_of grant.now part) }
 {
     let version = IntegerAsn1::from_u64(alloc, VERSION)?;
     let realm = grant.realm.clone()?;
     let service = grant.service.clone()?;
-    Ok(ApplicationTag(TicketInner {
+    Ok(TicketInner {
         tkt_vno: ExplicitContextTag(version),
         realm: ExplicitContextTag(realm),
         sname: ExplicitContextTag(service),
         enc_part: ExplicitContextTag(part),
-    }))
+    })
 }
 
 // The encodings. Each has a function of its own, which also drops what it encodes: no other sees what that is made of.
 
-#[tactic(auto, unfolding(crate::specs::Granted::ticket_part_bytes))]
-fn ticket_part_bytes(alloc: Global, part: EncTicketPart) -> Result<Vec<u8>, AllocError>
-    ensures { IfOk result (λ bytes. bytes.items ≡ ticket_part_bytes part.0) }
+#[tactic(auto, unfolding(crate::specs::Sealed::ticket_part_bytes))]
+fn ticket_part_bytes(alloc: Global, part: EncTicketPartInner) -> Result<Vec<u8>, AllocError>
+    ensures { IfOk result (λ bytes. bytes.items ≡ ticket_part_bytes part) }
 {
-    let bytes = encoding_of(alloc, &part)?;
+    let bytes = tagged_encoding::<EncTicketPartInner, ENC_TICKET_PART_TYPE>(alloc, part)?;
     Ok(bytes)
 }
 
-#[tactic(auto, unfolding(crate::specs::Granted::as_reply_part_bytes))]
-fn reply_part_bytes(alloc: Global, part: EncAsRepPart) -> Result<Vec<u8>, AllocError>
-    ensures { IfOk result (λ bytes. bytes.items ≡ as_reply_part_bytes part.0) }
+#[tactic(auto, unfolding(crate::specs::Sealed::as_reply_part_bytes))]
+fn as_reply_part_bytes(alloc: Global, part: EncKdcRepPart) -> Result<Vec<u8>, AllocError>
+    ensures { IfOk result (λ bytes. bytes.items ≡ as_reply_part_bytes part) }
 {
-    let bytes = encoding_of(alloc, &part)?;
+    let bytes = tagged_encoding::<EncKdcRepPart, ENC_AS_REP_PART_TYPE>(alloc, part)?;
     Ok(bytes)
 }
 
-#[tactic(auto, unfolding(crate::specs::Granted::as_reply_bytes))]
-fn reply_bytes(alloc: Global, reply: AsRep) -> Result<Vec<u8>, AllocError>
-    ensures { IfOk result (λ bytes. bytes.items ≡ as_reply_bytes reply.0) }
+#[tactic(auto, unfolding(crate::specs::Sealed::as_reply_bytes))]
+fn as_reply_bytes(alloc: Global, reply: KdcRep) -> Result<Vec<u8>, AllocError>
+    ensures { IfOk result (λ bytes. bytes.items ≡ as_reply_bytes reply) }
 {
-    let bytes = encoding_of(alloc, &reply)?;
+    let bytes = tagged_encoding::<KdcRep, AS_REP_MSG_TYPE>(alloc, reply)?;
     Ok(bytes)
 }

@@ -1,5 +1,5 @@
-//! What a realm grants: tickets, their times, and the replies that carry them (RFC 4120, section 3.1.3); and what it
-//! tells a client that has to authenticate first.
+//! Tickets: their times, what they and their replies hold, sealed and encoded (RFC 4120, sections 5.3, 5.4.2); and what
+//! a realm tells a client that has to authenticate first.
 #![tactic(auto)]
 
 mod grant;
@@ -8,6 +8,6 @@ mod parts;
 mod seal;
 mod times;
 
-pub use grant::{Grant, as_reply};
+pub use grant::{Grant, reply_bytes, sealed_reply, sealed_ticket};
 pub use methods::method_data;
 pub use times::{end_of, start_of};

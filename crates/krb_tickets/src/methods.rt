@@ -2,8 +2,8 @@
 ghost use Rattle.std.specs.Prelude.{◌≡◌, IfOk};
 ghost use Rattle.krb_tickets.specs.MethodData.{key_entry, key_info_bytes, method_data_bytes, pa_data_of, told_salt};
 
-use crate::seal::encoding_of;
 use krb_accounts::Account;
+use krb_encoding::encoding_of;
 use krb_types::data_types::{EtypeInfo2, EtypeInfo2Entry, KerberosStringAsn1, PaData};
 use picky_asn1::wrapper::{Asn1SequenceOf, GeneralStringAsn1, IntegerAsn1, OctetStringAsn1};
 use picky_asn1_der::{ExplicitContextTag, Optional};
@@ -25,7 +25,7 @@ pub fn method_data(alloc: Global, client: &Account) -> Result<Vec<u8>, AllocErro
     let info = pa_data(alloc, KEY_INFO_TYPE, info)?;
     let timestamp = pa_data(alloc, TIMESTAMP_TYPE, Vec::new(alloc))?;
     let methods: Asn1SequenceOf<PaData> = Asn1SequenceOf::from(vec![in alloc; info, timestamp]?);
-    let bytes = encoding_of(alloc, &methods)?;
+    let bytes = encoding_of(alloc, methods)?;
     Ok(bytes)
 }
 
@@ -36,7 +36,7 @@ fn key_info(alloc: Global, client: &Account) -> Result<Vec<u8>, AllocError>
 {
     let entry = key_entry(alloc, client)?;
     let entries: EtypeInfo2 = Asn1SequenceOf::from(vec![in alloc; entry]?);
-    let bytes = encoding_of(alloc, &entries)?;
+    let bytes = encoding_of(alloc, entries)?;
     Ok(bytes)
 }
 

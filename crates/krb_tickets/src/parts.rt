@@ -4,15 +4,14 @@ ghost use Rattle.krb_tickets.specs.Parts.{encryption_key, initial_flags, last_re
 
 use crate::grant::Grant;
 use krb_types::data_types::{
-    EncTicketPart, EncTicketPartInner, EncryptionKey, KerberosFlags, LastReq, LastReqInner,
-    TransitedEncoding,
+    EncTicketPartInner, EncryptionKey, KerberosFlags, LastReq, LastReqInner, TransitedEncoding,
 };
 use picky_asn1::date::GeneralizedTime;
 use picky_asn1::wrapper::{
     Asn1SequenceOf, BitStringAsn1, GeneralizedTimeAsn1, IntegerAsn1, OctetStringAsn1,
 };
-use picky_asn1_der::{ApplicationTag, ExplicitContextTag, Optional};
-use picky_krb::messages::{EncAsRepPart, EncKdcRepPart};
+use picky_asn1_der::{ExplicitContextTag, Optional};
+use picky_krb::messages::EncKdcRepPart;
 use std::alloc::{AllocError, Global};
 
 /// The flags `initial` and `pre-authent`, bits 9 and 10 of 32 (RFC 4120, section 5.3).
@@ -26,8 +25,8 @@ const NO_LAST_REQUEST: u64 = 0;
 
 /// The part of the ticket that the service alone reads (RFC 4120, section 5.3).
 #[tactic(auto, unfolding(crate::specs::Parts::ticket_part))]
-pub(crate) fn ticket_part(alloc: Global, grant: &Grant) -> Result<EncTicketPart, AllocError>
-    ensures { IfOk result (λ part. part.0 ≡ ticket_part grant.now) }
+pub(crate) fn ticket_part(alloc: Global, grant: &Grant) -> Result<EncTicketPartInner, AllocError>
+    ensures { IfOk result (λ part. part ≡ ticket_part grant.now) }
 {
     let flags = initial_flags(alloc)?;
     let key = encryption_key(alloc, grant)?;
@@ -35,7 +34,7 @@ pub(crate) fn ticket_part(alloc: Global, grant: &Grant) -> Result<EncTicketPart,
     let client = grant.client.clone()?;
     let transited = no_realms(alloc)?;
     let start = GeneralizedTimeAsn1(grant.start);
-    Ok(ApplicationTag(EncTicketPartInner {
+    Ok(EncTicketPartInner {
         flags: ExplicitContextTag(flags),
         key: ExplicitContextTag(key),
         crealm: ExplicitContextTag(realm),
@@ -47,13 +46,13 @@ pub(crate) fn ticket_part(alloc: Global, grant: &Grant) -> Result<EncTicketPart,
         renew_till: Optional(None),
         caddr: Optional(None),
         authorization_data: Optional(None),
-    }))
+    })
 }
 
 /// The part of the reply that the client alone reads (RFC 4120, section 5.4.2).
 #[tactic(auto, unfolding(crate::specs::Parts::reply_part))]
-pub(crate) fn reply_part(alloc: Global, grant: &Grant) -> Result<EncAsRepPart, AllocError>
-    ensures { IfOk result (λ part. part.0 ≡ reply_part grant.now) }
+pub(crate) fn reply_part(alloc: Global, grant: &Grant) -> Result<EncKdcRepPart, AllocError>
+    ensures { IfOk result (λ part. part ≡ reply_part grant.now) }
 {
     let key = encryption_key(alloc, grant)?;
     let last_req = last_requests(alloc, grant.start)?;
@@ -62,7 +61,7 @@ pub(crate) fn reply_part(alloc: Global, grant: &Grant) -> Result<EncAsRepPart, A
     let realm = grant.realm.clone()?;
     let service = grant.service.clone()?;
     let start = GeneralizedTimeAsn1(grant.start);
-    Ok(ApplicationTag(EncKdcRepPart {
+    Ok(EncKdcRepPart {
         key: ExplicitContextTag(key),
         last_req: ExplicitContextTag(last_req),
         nonce: ExplicitContextTag(nonce),
@@ -76,7 +75,7 @@ pub(crate) fn reply_part(alloc: Global, grant: &Grant) -> Result<EncAsRepPart, A
         sname: ExplicitContextTag(service),
         caddr: Optional(None),
         encrypted_pa_data: Optional(None),
-    }))
+    })
 }
 
 // The session's key with the number of its suite.

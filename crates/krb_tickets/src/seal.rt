@@ -1,26 +1,15 @@
-//! Encoding a value, and sealing an encoding under an account's key.
+//! Sealing under an account's key.
 ghost use Rattle.std.specs.Prelude.{◌≡◌, length, IfOk};
 ghost use Rattle.std.specs.Int.{cast_unsigned, w32};
-ghost use Rattle.asn1_trees.specs.Tree.{der};
-ghost use Rattle.krb_tickets.specs.Granted.{IsSealedData};
+ghost use Rattle.krb_tickets.specs.Sealed.{IsSealedData};
 ghost use Rattle.krb_tickets.specs.Parts.{encrypted_by};
 
 use krb_accounts::Account;
 use krb_crypto::Cipher;
 use krb_types::data_types::EncryptedData;
 use picky_asn1::wrapper::{IntegerAsn1, OctetStringAsn1};
-use picky_asn1_der::{ExplicitContextTag, Optional, Serialize, to_vec};
+use picky_asn1_der::{ExplicitContextTag, Optional};
 use std::alloc::{AllocError, Global};
-
-/// The encoding of a value. Memory is the only refusal.
-pub(crate) fn encoding_of<T: Serialize>(alloc: Global, value: &T) -> Result<Vec<u8>, AllocError>
-    ensures { IfOk result (λ bytes. bytes.items ≡ der (T.tree value.now)) }
-{
-    let Ok(bytes) = to_vec(alloc, value) else {
-        return Err(AllocError);
-    };
-    Ok(bytes)
-}
 
 /// The plaintext, sealed under the account's key for the usage, behind the confounder of 16 bytes, with the key's
 /// number (RFC 4120, section 5.2.9).

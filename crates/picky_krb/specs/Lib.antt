@@ -1,3 +1,3 @@
-pub mod Found
-pub mod Opens
 pub mod Trees
+pub use Rattle.krb_opening.specs.Found
+pub use Rattle.krb_opening.specs.Opens

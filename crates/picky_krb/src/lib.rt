@@ -7,13 +7,10 @@
 ghost use Rattle.std.specs.Prelude.{◌≡◌};
 ghost use Rattle.asn1_codec.specs.Reads.{ReadsAll};
 
-mod find;
 pub mod messages;
-mod open;
 
-pub use find::{open_whole, read_whole};
+pub use krb_opening::{OpenFault, open_part, open_whole, read_whole};
 pub use krb_types::{constants, data_types};
-pub use open::{OpenFault, open_part};
 use picky_asn1_der::{Asn1DerError, Deserialize, from_exact_bytes};
 use std::alloc::Global;
 

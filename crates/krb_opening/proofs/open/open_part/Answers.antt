@@ -1,0 +1,21 @@
+use Rattle.std.proofs.Common.{w32, SFits}
+use Rattle.std.proofs.lemmas.Int.{to_z-of_z}
+use Rattle.krb_opening.proofs.Opening.{nothing_opens, nothing_reads, opens_value}
+use Rattle.krb_opening.proofs.open.open_part.Goals as goal
+
+pub returns-in-Err : goal.returns-in-Err
+returns-in-Err g c =
+    let fits : SFits w32 c.args.usage = c.ranges.usage in
+    nothing_opens g.T.Serialize.tree c.args.suite c.args.key.now _ c.args.bytes.now (simp to_z-of_z at c.in-Err.ensures.refused)
+
+pub returns-in-Ok-from_exact_bytes : goal.returns-in-Ok-from_exact_bytes
+returns-in-Ok-from_exact_bytes g c =
+    let fits : SFits w32 c.args.usage = c.ranges.usage in
+    opens_value g.T.Serialize.tree c.args.suite c.args.key.now _ c.in-Ok.plain.items _ c.args.bytes.now c.in-Ok-from_exact_bytes.value
+    (λ i. (c.type_inv.key i).fits) c.deref.ensures.value (simp to_z-of_z at c.in-Ok.ensures.opened) c.in-Ok-from_exact_bytes.ensures.value
+
+pub returns : goal.returns
+returns g c =
+    let fits : SFits w32 c.args.usage = c.ranges.usage in
+    nothing_reads g.T.Serialize.tree c.args.suite c.args.key.now _ c.in-Ok.plain.items _ c.args.bytes.now c.in-Err-from_exact_bytes.fault
+    c.deref.ensures.value (simp to_z-of_z at c.in-Ok.ensures.opened) c.in-Err-from_exact_bytes.ensures.value

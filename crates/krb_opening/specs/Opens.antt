@@ -1,0 +1,40 @@
+-- Sealed parts of messages (RFC 3961, section 5.3).
+use Rattle.std.specs.Prelude.{◌≡◌, ◌⊎◌, ℕ, List, Result, Ok, Err}
+use Rattle.std.proofs.Common.{sym, ◌∙◌}
+use Rattle.asn1_trees.specs.Tree.{Tree, Writes}
+use Rattle.asn1_trees.proofs.Spelling.{IsInjective}
+use Rattle.krb_blocks.specs.Bytes.{IsBytes}
+use Rattle.krb_blocks.specs.declared.error.KerberosCryptoError.{KerberosCryptoError}
+use Rattle.krb_blocks.specs.declared.error.KerberosCryptoError.TheVariants as crypto
+use Rattle.krb_crypto.specs.Sealing.{IsSealed}
+use Rattle.krb_crypto.proofs.SealingLemmas.{one_sealed}
+use Rattle.asn1_octets.specs.declared.error.Asn1DerError.{Asn1DerError}
+use Rattle.asn1_octets.specs.declared.error.Asn1DerError.TheVariants as der_fault
+use Rattle.krb_opening.specs.declared.open.OpenFault.{OpenFault}
+use Rattle.krb_opening.specs.declared.open.OpenFault.TheVariants.{Crypto, Der}
+
+-- some confounder seals the value's encoding to these bytes under the key, for the usage, by the suite that has the
+-- number
+pub record Opens {T : Type 0} (tree : T → Tree) (number : ℕ) (key : List ℕ) (usage : ℕ) (bytes : List ℕ) (value : T) : Type 0 where
+  pub key_bytes : IsBytes key
+  pub conf : List ℕ
+  pub plain : List ℕ
+  pub writes : Writes tree value plain
+  pub sealed : IsSealed number key usage conf plain bytes
+
+-- the fault is want of memory
+abbrev pub IsWantOfMemory : OpenFault → Type 0
+IsWantOfMemory (Crypto fault) = fault ≡ crypto.Memory
+IsWantOfMemory (Der fault) = fault ≡ der_fault.Memory
+
+-- the one value with the property, or, memory aside, there is none
+abbrev pub IsOpened : {T : Type 0} → (T → Type 0) → Result T OpenFault → Type 0
+IsOpened {T} P (Ok value) = P value × ((other : T) → P other → other ≡ value)
+IsOpened {T} P (Err fault) = IsWantOfMemory fault ⊎ ((other : T) → P other → ⊥)
+
+-- one value at most is sealed to the bytes
+pub sole_opens : {T : Type 0} (tree : T → Tree) → IsInjective {T = T} tree → (number : ℕ) (key : List ℕ) (usage : ℕ) (bytes : List ℕ) (v w : T)
+    → Opens {T = T} tree number key usage bytes v → Opens {T = T} tree number key usage bytes w → v ≡ w
+sole_opens tree injective number key usage bytes v w x y =
+    let text = (one_sealed number number key usage x.conf x.plain y.conf y.plain bytes x.key_bytes x.sealed y.sealed).1 in
+    injective v w x.writes.0 y.writes.0 (sym x.writes.1 ∙ text ∙ y.writes.1)

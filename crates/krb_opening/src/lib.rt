@@ -1,0 +1,8 @@
+//! Opening the sealed parts of messages (RFC 3961, section 5.3), and reading what is all of its input.
+#![tactic(auto)]
+
+mod find;
+mod open;
+
+pub use find::{open_whole, read_whole};
+pub use open::{OpenFault, open_part};
