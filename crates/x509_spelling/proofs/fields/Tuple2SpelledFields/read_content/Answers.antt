@@ -1,0 +1,13 @@
+use Rattle.asn1_codec.proofs.Chain.{at-exit}
+use Rattle.x509_spelling.proofs.Refusals.{head_refused, tail_refused}
+use Rattle.x509_spelling.proofs.fields.Tuple2SpelledFields.read_content.Goals as goal
+
+pub returns-in_err-head : goal.returns-in_err-head
+returns-in_err-head g c =
+    at-exit _ _ _ _ c.from_residual.ensures.1
+    (head_refused g.H.SpelledItem.leads g.T.SpelledFields.spells c.args.content.now _ c.in_err-head.ensures)
+
+pub returns-in_err-tail : goal.returns-in_err-tail
+returns-in_err-tail g c =
+    at-exit _ _ _ _ c.from_residual-in_err-tail.ensures.1
+    (tail_refused g.H.SpelledItem.leads g.T.SpelledFields.spells c.args.content.now g.H.SpelledItem.field_laws.one _ _ _ c.in_ok-head.ensures _ c.in_err-tail.ensures)

@@ -1,0 +1,37 @@
+-- What reading a spelling answers.
+use Rattle.std.specs.Prelude.{◌≡◌, ◌↔◌, ◌⊎◌, ℕ, List, Result, Ok, Err, MatchResult}
+use Rattle.asn1_octets.specs.declared.error.Asn1DerError.{Asn1DerError}
+use Rattle.asn1_octets.specs.declared.error.Asn1DerError.TheVariants as der_fault
+use Rattle.x509_spelling.specs.declared.counted.Counted.{Counted}
+use Rattle.x509_spelling.specs.declared.fault.X509Fault.{X509Fault}
+use Rattle.x509_spelling.specs.declared.fault.X509Fault.TheVariants.{Der, Leaf, Meaning, Memory}
+
+abbrev pub fault_number : X509Fault → ℕ
+fault_number Der = 1
+fault_number Leaf = 2
+fault_number Meaning = 3
+fault_number Memory = 4
+
+-- a fault of the DER layer as one of this
+abbrev pub fault_of : Asn1DerError → X509Fault
+fault_of der_fault.Memory = Memory
+fault_of (der_fault.Message rule) = Leaf
+fault_of fault = Der
+
+-- memory was wanting, or no value with any count has the property
+abbrev pub IsRefusal : {T : Type 0} → (T → ℕ → Type 0) → X509Fault → Type 0
+IsRefusal {T} P fault = (fault ≡ Memory) ⊎ ((value : T) (n : ℕ) → P value n → ⊥)
+
+-- a value and a count with the property, or a refusal
+abbrev pub Tells : {T : Type 0} → (T → ℕ → Type 0) → Result (Counted T) X509Fault → Type 0
+Tells P result = MatchResult result (λ told. P told.value told.count) (IsRefusal P)
+
+-- the value of which the bytes are a spelling, whatever its count, and no other; or want of memory
+abbrev pub ReadsSpelling : {T : Type 0} → (T → List ℕ → ℕ → Type 0) → List ℕ → Result T X509Fault → Type 0
+ReadsSpelling {T} spells bytes answer =
+    (answer ≡ Err Memory) ⊎ ((value : T) → (answer ≡ Ok value) ↔ ((n : ℕ) × spells value bytes n))
+
+-- the count of the value of which the bytes are a spelling, and no other; or want of memory
+abbrev pub CountsSpelling : {T : Type 0} → (T → List ℕ → ℕ → Type 0) → List ℕ → Result ℕ X509Fault → Type 0
+CountsSpelling {T} spells bytes answer =
+    (answer ≡ Err Memory) ⊎ ((n : ℕ) → (answer ≡ Ok n) ↔ ((value : T) × spells value bytes n))

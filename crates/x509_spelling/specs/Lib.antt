@@ -1,0 +1,9 @@
+pub mod Deviations
+pub mod Spellings
+pub mod Answers
+pub mod Laws
+pub mod FieldLaws
+pub mod RowLaws
+pub use Rattle.asn1_trees.specs.Firsts
+pub use Rattle.asn1_trees.specs.Tagged
+pub use Rattle.asn1_trees.specs.Tree

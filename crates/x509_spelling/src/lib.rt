@@ -1,0 +1,26 @@
+//! Spellings of X.509 values, and how far they deviate from the strict ones.
+//!
+//! Certificates in the field aren't always DER: some spell out a default, or leave out a NULL. A [`Spelled`] type says
+//! which such bytes are read as which value, and counts what deviates in them; it is written strictly. [`from_bytes`]
+//! reads a value, [`deviations`] counts, and [`to_vec`] writes: it gives the same bytes exactly where the count is 0.
+#![tactic(auto)]
+
+mod calls;
+mod counted;
+mod exact;
+mod fault;
+mod fields;
+mod front;
+mod list;
+mod sequence;
+mod spelled;
+
+pub use calls::{deviations, encoded_len, from_bytes, to_vec};
+pub use counted::{Counted, sum_of};
+pub use exact::Exact;
+pub use fault::X509Fault;
+pub use fields::{Deviates, SpelledFields, SpelledItem};
+pub use front::read_front;
+pub use list::Many;
+pub use sequence::read_fields;
+pub use spelled::Spelled;
