@@ -1,5 +1,5 @@
 -- The elements of a list, read one after another.
-use Rattle.std.proofs.Common.{◌≡◌, ℕ, ◌+◌, ◌<◌, List, [], ◌∷◌, ◌++◌, length, refl, sym, ap, ◌∙◌, subst, arith, append_assoc, append-nil, length-append}
+use Rattle.std.proofs.Common.{◌≡◌, Bool, ℕ, ◌+◌, ◌<◌, List, [], ◌∷◌, ◌++◌, length, refl, sym, ap, ◌∙◌, subst, arith, append_assoc, append-nil, length-append}
 use Rattle.asn1_trees.specs.Tree.{Tree}
 use Rattle.asn1_trees.specs.Firsts.{Firsts}
 use Rattle.asn1_trees.proofs.Elements.{length-element}
@@ -16,7 +16,7 @@ pub record Gone {T : Type 0} (spells : T → List ℕ → ℕ → Type 0) (conte
   pub forward : (vs : List T) (k : ℕ) → AreMany spells vs rest k → AreMany spells (items ++ vs) content (count + k)
   pub backward : (ws : List T) (n : ℕ) → AreMany spells ws content n → (vs : List T) × (k : ℕ) × AreMany spells vs rest k
 
-module _ {T : Type 0} (firsts : Firsts) (tree : T → Tree) (spells : T → List ℕ → ℕ → Type 0) (laws : SpellingLaws firsts tree spells) (content : List ℕ) where
+module _ {T : Type 0} (is_low : Bool) (firsts : Firsts) (tree : T → Tree) (spells : T → List ℕ → ℕ → Type 0) (laws : SpellingLaws is_low firsts tree spells) (content : List ℕ) where
   pub gone-none : (items : List T) → items ≡ [] → Gone spells content items 0 content
   gone-none items e = record {
     forward = λ vs k s.
@@ -42,7 +42,7 @@ module _ {T : Type 0} (firsts : Firsts) (tree : T → Tree) (spells : T → List
     backward = λ ws n s.
         let tail = gone.backward ws n s in
         let found = next tail.0 rest tail.1 some tail.2 in
-        let same = leads-one firsts tree spells laws found.0 v rest found.2 behind found.1 m found.3 read in
+        let same = leads-one is_low firsts tree spells laws found.0 v rest found.2 behind found.1 m found.3 read in
         (found.4.0, found.4.1, subst (λ (l : List ℕ). AreMany spells found.4.0 l found.4.1) same.1 found.4.2);
   }
 
@@ -64,4 +64,4 @@ module _ {T : Type 0} (firsts : Firsts) (tree : T → Tree) (spells : T → List
   pub shorter : (v : T) (rest behind : List ℕ) (n : ℕ) → Leads spells v rest behind n → length behind < length rest
   shorter v rest behind n s =
       let l = laws.element_of v s.0 n s.1 in
-      omega (arith, ap length s.2, length-append s.0 behind, ap length l.4, length-element l.0 l.1)
+      omega (arith, ap length s.3, length-append s.0 behind, ap length l.3, length-element l.0 l.1)

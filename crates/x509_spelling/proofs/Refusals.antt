@@ -5,7 +5,7 @@ use Rattle.std.proofs.lemmas.Bool.{eqb-true}
 use Rattle.asn1_trees.specs.Tree.{Tree, Writes}
 use Rattle.asn1_trees.specs.Length.{element}
 use Rattle.asn1_trees.specs.Firsts.{Firsts}
-use Rattle.asn1_trees.proofs.Elements.{element-one, element-content}
+use Rattle.asn1_trees.proofs.Elements.{element-one, element-content, element-split}
 use Rattle.asn1_codec.specs.Reads.{ReadsWhole}
 use Rattle.asn1_octets.specs.declared.error.Asn1DerError.{Asn1DerError}
 use Rattle.asn1_octets.specs.declared.error.Asn1DerError.TheVariants as der_fault
@@ -14,7 +14,7 @@ use Rattle.picky_asn1_der.specs.Raw.{has_low_number}
 use Rattle.x509_spelling.specs.declared.fault.X509Fault.{X509Fault}
 use Rattle.x509_spelling.specs.Answers.{IsRefusal, Tells, fault_of}
 use Rattle.x509_spelling.specs.declared.counted.Counted.{Counted}
-use Rattle.x509_spelling.specs.Spellings.{IsExact, Leads, begins, LeadsOptional, LeadsDefault, Joins, Holds}
+use Rattle.x509_spelling.specs.Spellings.{has_low_tag, IsExact, Leads, begins, LeadsOptional, LeadsDefault, LeadsImplied, Joins, Holds}
 use Rattle.x509_spelling.specs.Deviations.{Deviation}
 use Rattle.x509_spelling.specs.Laws.{SpellingLaws}
 
@@ -23,22 +23,22 @@ pub refused_by : {A B : Type 0} (P : A → ℕ → Type 0) (Q : B → ℕ → Ty
 refused_by P Q fault (inl memory) also = inl memory
 refused_by P Q fault (inr none) also = inr (λ b n q. let found = also b n q in none found.0 found.1 found.2)
 
-module _ {T : Type 0} (written : T → Tree) (tree : T → Tree) (same : tree ≡ written) (bytes : List ℕ) where
-  pub exact_refused : (fault : Asn1DerError) → ReadsWhole (Writes tree) bytes (Err fault) → IsRefusal (λ v n. IsExact written v bytes n) (fault_of fault)
+module _ {T : Type 0} (tree : T → Tree) (bytes : List ℕ) where
+  pub exact_refused : (fault : Asn1DerError) → ReadsWhole (Writes tree) bytes (Err fault) → IsRefusal (λ v n. IsExact tree v bytes n) (fault_of fault)
   exact_refused fault (inl memory) = let same_fault : fault ≡ der_fault.Memory = cc (memory) in inl (ap fault_of same_fault)
-  exact_refused fault (inr reads) =
-      inr (λ v n s. let read : Err fault ≡ Ok v = (reads v).1 (subst (λ t. Writes t v bytes) (sym same) s.0) in cc (read))
+  exact_refused fault (inr reads) = inr (λ v n s. let read : Err fault ≡ Ok v = (reads v).1 s.0 in cc (read))
 
-  pub exact_told : (value : T) → ReadsWhole (Writes tree) bytes (Ok value) → IsExact written value bytes 0
+  pub exact_told : (value : T) → ReadsWhole (Writes tree) bytes (Ok value) → IsExact tree value bytes 0
   exact_told value (inl memory) = absurd (cc (memory))
-  exact_told value (inr reads) = (subst (λ t. Writes t value bytes) same ((reads value).0 refl), refl)
+  exact_told value (inr reads) = ((reads value).0 refl, refl)
 
-module _ {T : Type 0} (firsts : Firsts) (tree : T → Tree) (spells : T → List ℕ → ℕ → Type 0) (laws : SpellingLaws firsts tree spells) (bytes : List ℕ) where
+module _ {T : Type 0} (is_low : Bool) (firsts : Firsts) (tree : T → Tree) (spells : T → List ℕ → ℕ → Type 0) (laws : SpellingLaws is_low firsts tree spells) (bytes : List ℕ) where
   -- where no element begins the bytes, no spelling does
   pub no_front : IsNoSplit bytes → (v : T) (n : ℕ) → (rest : List ℕ) × Leads spells v bytes rest n → ⊥
   no_front none v n s =
       let l = laws.element_of v s.1.0 n s.1.1 in
-      none (record { first = l.0; content = l.1 }) s.0 (l.2, s.1.2 ∙ ap (λ (f : List ℕ). f ++ s.0) l.4)
+      let low = subst (λ (f : List ℕ). has_low_tag f ≡ true) (l.3 ∙ element-split l.0 l.1) s.1.2 in
+      none (record { first = l.0; content = l.1 }) s.0 (low, s.1.3 ∙ ap (λ (f : List ℕ). f ++ s.0) l.3)
 
   -- the element that begins the bytes is the only one that can be a spelling
   pub front_refused : (whole rest : List ℕ) (first : ℕ) (content : List ℕ) → whole ≡ element first content → bytes ≡ element first content ++ rest
@@ -46,9 +46,9 @@ module _ {T : Type 0} (firsts : Firsts) (tree : T → Tree) (spells : T → List
   front_refused whole rest first content is split fault refused =
       refused_by (λ v n. spells v whole n) (λ v n. (r : List ℕ) × Leads spells v bytes r n) fault refused (λ v n s.
       let l = laws.element_of v s.1.0 n s.1.1 in
-      let text : element l.0 l.1 ++ s.0 ≡ element first content ++ rest = ap (λ (f : List ℕ). f ++ s.0) (sym l.4) ∙ sym s.1.2 ∙ split in
+      let text : element l.0 l.1 ++ s.0 ≡ element first content ++ rest = ap (λ (f : List ℕ). f ++ s.0) (sym l.3) ∙ sym s.1.3 ∙ split in
       let parts = element-one l.0 first l.1 content s.0 rest text in
-      (v, n, subst (λ (f : List ℕ). spells v f n) (l.4 ∙ (λ i. element (parts.0 i) (parts.1 i)) ∙ sym is) s.1.1))
+      (v, n, subst (λ (f : List ℕ). spells v f n) (l.3 ∙ (λ i. element (parts.0 i) (parts.1 i)) ∙ sym is) s.1.1))
 
 module _ {A B : Type 0} (leads : A → List ℕ → List ℕ → ℕ → Type 0) (spells : B → List ℕ → ℕ → Type 0) (bytes : List ℕ) where
   pub head_refused : (fault : X509Fault) → IsRefusal (λ a n. (rest : List ℕ) × leads a bytes rest n) fault
@@ -64,6 +64,12 @@ module _ {A B : Type 0} (leads : A → List ℕ → List ℕ → ℕ → Type 0)
       refused_by (λ b n. spells b rest n) (λ (f : A × B) n. Joins leads spells f.0 f.1 bytes n) fault refused (λ f n s.
       let same = one f.0 a bytes s.0 rest s.1 m s.3 read in
       (f.1, s.2, subst (λ (l : List ℕ). spells f.1 l s.2) same.1 s.4))
+
+-- the element that was split off begins the bytes as a spelling
+pub front_told : {T : Type 0} (spells : T → List ℕ → ℕ → Type 0) (bytes whole rest : List ℕ) (first : ℕ) (content : List ℕ) → whole ≡ element first content
+    → has_low_number first ≡ true → bytes ≡ element first content ++ rest → (value : T) (n : ℕ) → spells value whole n → Leads spells value bytes rest n
+front_told spells bytes whole rest first content is low split value n s =
+    (whole, s, subst (λ (f : List ℕ). has_low_tag f ≡ true) (sym (is ∙ element-split first content)) low, split ∙ ap (λ (f : List ℕ). f ++ rest) (sym is))
 
 -- bytes that no element begins are none
 pub no_element : (bytes : List ℕ) (first : ℕ) → has_low_number first ≡ true → IsNoSplit bytes → (content : List ℕ) → bytes ≡ element first content → ⊥
@@ -97,6 +103,18 @@ module _ {T : Type 0} (firsts : Firsts) (spells : T → List ℕ → ℕ → Typ
   optional_refused held fault refused =
       refused_by (λ v n. (rest : List ℕ) × Leads spells v bytes rest n) (λ a n. (rest : List ℕ) × LeadsOptional firsts spells (held a) bytes rest n) fault refused
       (λ a n s. optional_there (held a) n s.0 s.1)
+
+  implied_there : (tree : T → Tree) (is_default : T → Bool) (deviation : Deviation) (v : T) (n : ℕ) (rest : List ℕ)
+      → LeadsImplied firsts tree spells is_default deviation v bytes rest n → (w : T) × (m : ℕ) × ((r : List ℕ) × Leads spells w bytes r m)
+  implied_there tree is_default deviation v n rest (inl s) = absurd (isnt_both (begins firsts bytes) there s.2)
+  implied_there tree is_default deviation v n rest (inr s) = (v, n, (rest, s))
+
+  pub implied_refused : {A : Type 0} (tree : T → Tree) (is_default : T → Bool) (deviation : Deviation) (held : A → T) (fault : X509Fault)
+      → IsRefusal (λ v n. (rest : List ℕ) × Leads spells v bytes rest n) fault
+      → IsRefusal (λ a n. (rest : List ℕ) × LeadsImplied firsts tree spells is_default deviation (held a) bytes rest n) fault
+  implied_refused tree is_default deviation held fault refused =
+      refused_by (λ v n. (rest : List ℕ) × Leads spells v bytes rest n) (λ a n. (rest : List ℕ) × LeadsImplied firsts tree spells is_default deviation (held a) bytes rest n) fault
+      refused (λ a n s. implied_there tree is_default deviation (held a) n s.0 s.1)
 
   default_there : (is_default : T → Bool) (deviation : Deviation) (v : T) (n : ℕ) (rest : List ℕ) → LeadsDefault firsts spells is_default deviation v bytes rest n
       → (w : T) × (m : ℕ) × ((r : List ℕ) × Leads spells w bytes r m)

@@ -6,17 +6,18 @@ use Rattle.std.proofs.lemmas.Bool.{and_parts, or_cases, eqb-true}
 use Rattle.asn1_trees.specs.Tree.{Tree, Trees, primitive, constructed, absent, der, ders, IsWhole, AreWhole}
 use Rattle.asn1_trees.specs.Length.{element}
 use Rattle.asn1_trees.specs.Firsts.{Firsts, any_octet, one_of, may_begin, BeginsAmong}
+use Rattle.asn1_trees.proofs.Elements.{element-split}
 use Rattle.asn1_trees.proofs.Spelling.{IsInjective}
 use Rattle.asn1_trees.proofs.Rows.{AllBeginAmong}
 use Rattle.picky_asn1_der.specs.Raw.{has_low_number}
-use Rattle.x509_spelling.specs.Spellings.{IsExact}
+use Rattle.x509_spelling.specs.Spellings.{IsExact, has_low_tag}
 
--- the bytes are one element, with a tag in one octet that is one of these
+-- the bytes are one element, with one of these identifier octets
 abbrev pub IsElementOf : Firsts → List ℕ → Type 0
 IsElementOf firsts bytes =
-    (first : ℕ) × (content : List ℕ) × (has_low_number first ≡ true) × IsTrue (may_begin firsts first) × (bytes ≡ element first content)
+    (first : ℕ) × (content : List ℕ) × IsTrue (may_begin firsts first) × (bytes ≡ element first content)
 
-pub record SpellingLaws {T : Type 0} (firsts : Firsts) (tree : T → Tree) (spells : T → List ℕ → ℕ → Type 0) : Type 0 where
+pub record SpellingLaws {T : Type 0} (is_low : Bool) (firsts : Firsts) (tree : T → Tree) (spells : T → List ℕ → ℕ → Type 0) : Type 0 where
   -- the DER spelling is one, with no deviation
   pub strict : (v : T) → IsWhole (tree v) → spells v (der (tree v)) 0
   -- and is the only one without
@@ -26,6 +27,7 @@ pub record SpellingLaws {T : Type 0} (firsts : Firsts) (tree : T → Tree) (spel
   -- bytes have one value and one count
   pub one : (v w : T) (b : List ℕ) (m n : ℕ) → spells v b m → spells w b n → (v ≡ w) × (m ≡ n)
   pub element_of : (v : T) (b : List ℕ) (n : ℕ) → spells v b n → IsElementOf firsts b
+  pub low : IsTrue is_low → (v : T) (b : List ℕ) (n : ℕ) → spells v b n → has_low_tag b ≡ true
 
 -- where anything stands there, it begins with one of these
 abbrev pub Starts : Firsts → List ℕ → Type 0
@@ -67,28 +69,35 @@ low_of : (firsts : Firsts) (first : ℕ) → are_low firsts ≡ true → IsTrue 
 low_of any_octet first low begins = absurd (cc (low))
 low_of (one_of octets) first low begins = low_among octets first low begins
 
-tree_element : (firsts : Firsts) → are_low firsts ≡ true → (t : Tree) → IsWhole t → BeginsAmong firsts t → IsElementOf firsts (der t)
-tree_element firsts low (primitive first content) whole begins = (first, content, low_of firsts first low begins, begins, refl)
-tree_element firsts low (constructed first parts) whole begins = (first, ders parts, low_of firsts first low begins, begins, refl)
-tree_element firsts low absent whole begins = absurd whole
+tree_element : (firsts : Firsts) (t : Tree) → IsWhole t → BeginsAmong firsts t → IsElementOf firsts (der t)
+tree_element firsts (primitive first content) whole begins = (first, content, begins, refl)
+tree_element firsts (constructed first parts) whole begins = (first, ders parts, begins, refl)
+tree_element firsts absent whole begins = absurd whole
+
+-- an element's tag stands in one octet, where each of its octets says so
+pub low_element : (firsts : Firsts) → are_low firsts ≡ true → (b : List ℕ) → IsElementOf firsts b → has_low_tag b ≡ true
+low_element firsts low b e =
+    subst (λ (l : List ℕ). has_low_tag l ≡ true) (sym (e.3 ∙ element-split e.0 e.1)) (low_of firsts e.0 low e.2)
 
 -- a type whose values are spelled in one way
-pub exact_laws : {T : Type 0} (firsts : Firsts) (tree : T → Tree) → are_low firsts ≡ true → AllBeginAmong firsts tree → IsInjective tree → SpellingLaws firsts tree (IsExact tree)
-exact_laws firsts tree low begins injective = record {
+pub exact_laws : {T : Type 0} (firsts : Firsts) (tree : T → Tree) → AllBeginAmong firsts tree → IsInjective tree → SpellingLaws (are_low firsts) firsts tree (IsExact tree)
+exact_laws firsts tree begins injective = record {
   strict = λ v whole. ((whole, refl), refl);
   only = λ v b s. s.0.1;
   whole = λ v b n s. s.0.0;
   one = λ v w b m n s r. (injective v w s.0.0 r.0.0 (sym s.0.1 ∙ r.0.1), s.1 ∙ sym r.1);
-  element_of = λ v b n s. subst (IsElementOf firsts) (sym s.0.1) (tree_element firsts low (tree v) s.0.0 (begins v));
+  element_of = λ v b n s. subst (IsElementOf firsts) (sym s.0.1) (tree_element firsts (tree v) s.0.0 (begins v));
+  low = λ low v b n s. low_element firsts low b (subst (IsElementOf firsts) (sym s.0.1) (tree_element firsts (tree v) s.0.0 (begins v)));
 }
 
 -- a value that is told by what it holds
-pub held_laws : {R T : Type 0} (firsts : Firsts) (tree : R → Tree) (spells : R → List ℕ → ℕ → Type 0) → SpellingLaws firsts tree spells
-    → (row_of : T → R) → ((v w : T) → row_of v ≡ row_of w → v ≡ w) → SpellingLaws firsts (λ v. tree (row_of v)) (λ v. spells (row_of v))
-held_laws firsts tree spells laws row_of told = record {
+pub held_laws : {R T : Type 0} (is_low : Bool) (firsts : Firsts) (tree : R → Tree) (spells : R → List ℕ → ℕ → Type 0) → SpellingLaws is_low firsts tree spells
+    → (row_of : T → R) → ((v w : T) → row_of v ≡ row_of w → v ≡ w) → SpellingLaws is_low firsts (λ v. tree (row_of v)) (λ v. spells (row_of v))
+held_laws is_low firsts tree spells laws row_of told = record {
   strict = λ v. laws.strict (row_of v);
   only = λ v. laws.only (row_of v);
   whole = λ v. laws.whole (row_of v);
   one = λ v w b m n s r. let same = laws.one (row_of v) (row_of w) b m n s r in (told v w same.0, same.1);
   element_of = λ v. laws.element_of (row_of v);
+  low = λ low v. laws.low low (row_of v);
 }

@@ -1,17 +1,23 @@
 -- Which bytes are a spelling of a value, and how many deviations stand in them: a relation of a value, bytes and a count.
-use Rattle.std.specs.Prelude.{◌≡◌, ℕ, ◌+◌, ◌⊎◌, Bool, false, List, [], ◌∷◌, ◌++◌, Option, None, Some, IsTrue}
-use Rattle.asn1_trees.specs.Tree.{Tree, Writes}
+use Rattle.std.specs.Prelude.{◌≡◌, ℕ, ◌+◌, ◌⊎◌, Bool, true, false, List, [], ◌∷◌, ◌++◌, Option, None, Some, IsTrue}
+use Rattle.asn1_trees.specs.Tree.{Tree, IsWhole, Writes}
 use Rattle.asn1_trees.specs.Length.{element}
 use Rattle.asn1_trees.specs.Firsts.{Firsts, may_begin}
+use Rattle.picky_asn1_der.specs.Raw.{has_low_number}
 use Rattle.x509_spelling.specs.Deviations.{Deviation, counted}
 
 -- the value's one DER spelling, in which nothing deviates
 abbrev pub IsExact : {T : Type 0} → (T → Tree) → T → List ℕ → ℕ → Type 0
 IsExact tree value bytes n = Writes tree value bytes × (n ≡ 0)
 
+-- the tag stands in the first octet alone: its number is below 31 (X.690, section 8.1.2.2)
+abbrev pub has_low_tag : List ℕ → Bool
+has_low_tag [] = false
+has_low_tag (octet ∷ octets) = has_low_number octet
+
 -- a spelling begins the bytes, and `rest` stands behind it
 abbrev pub Leads : {T : Type 0} → (T → List ℕ → ℕ → Type 0) → T → List ℕ → List ℕ → ℕ → Type 0
-Leads spells value bytes rest n = (front : List ℕ) × spells value front n × (bytes ≡ front ++ rest)
+Leads spells value bytes rest n = (front : List ℕ) × spells value front n × (has_low_tag front ≡ true) × (bytes ≡ front ++ rest)
 
 -- the next octet is one of these
 abbrev pub begins : Firsts → List ℕ → Bool
@@ -28,6 +34,12 @@ abbrev pub LeadsDefault : {T : Type 0} → Firsts → (T → List ℕ → ℕ �
 LeadsDefault firsts spells is_default deviation value bytes rest n =
     (IsTrue (is_default value) × (begins firsts bytes ≡ false) × (rest ≡ bytes) × (n ≡ 0))
     ⊎ ((m : ℕ) × Leads spells value bytes rest m × (n ≡ m + counted deviation (is_default value)))
+
+-- a field that is always written strictly: where it is missing it has its default, and `deviation` stands there
+abbrev pub LeadsImplied : {T : Type 0} → Firsts → (T → Tree) → (T → List ℕ → ℕ → Type 0) → (T → Bool) → Deviation → T → List ℕ → List ℕ → ℕ → Type 0
+LeadsImplied firsts tree spells is_default deviation value bytes rest n =
+    (IsTrue (is_default value) × IsWhole (tree value) × (begins firsts bytes ≡ false) × (rest ≡ bytes) × (n ≡ 1))
+    ⊎ Leads spells value bytes rest n
 
 -- no field
 abbrev pub IsEnd : List ℕ → ℕ → Type 0

@@ -1,6 +1,7 @@
 //! The calls that a user makes.
-ghost use Rattle.std.specs.Prelude.{◌≡◌, ◌↔◌, ℕ, length, IfOk, IfErr, MatchResult};
+ghost use Rattle.std.specs.Prelude.{◌≡◌, ◌↔◌, ℕ, None, length, IfOk, IfErr, MatchResult};
 ghost use Rattle.asn1_trees.specs.Tree.{IsWhole, der};
+ghost use Rattle.asn1_codec.specs.Refusals.{refusal_of};
 ghost use Rattle.asn1_codec.specs.Writing.{IsTooLong};
 ghost use Rattle.x509_spelling.specs.Answers.{ReadsSpelling, CountsSpelling};
 
@@ -26,21 +27,21 @@ pub fn deviations<T: Spelled>(alloc: Global, bytes: &[u8]) -> Result<usize, X509
     Ok(counted.count)
 }
 
-/// The strict spelling of a value. It fails for want of memory alone.
+/// The strict spelling of a value. A type that refuses to write no value fails for want of memory alone.
 pub fn to_vec<T: Spelled>(alloc: Global, value: &T) -> Result<Vec<u8>, X509Fault>
     ensures bytes { IfOk result (λ bytes. bytes.items ≡ der (T.tree value.now)) }
     ensures strict { IfOk result (λ bytes. IsWhole (T.tree value.now) → T.spells value.now bytes.items 0) }
-    ensures fault { IfErr result (λ fault. fault ≡ X509Fault.Memory) }
+    ensures fault { refusal_of T.refusal value.now ≡ None → IfErr result (λ fault. fault ≡ X509Fault.Memory) }
 {
     match picky_asn1_der::to_vec(alloc, value) {
         Ok(bytes) => Ok(bytes),
-        Err(_) => Err(X509Fault::Memory),
+        Err(fault) => Err(X509Fault::from(fault)),
     }
 }
 
 /// The length of the strict spelling of a value. One that no number holds is answered as want of memory.
 pub fn encoded_len<T: Spelled>(value: &T) -> Result<usize, X509Fault>
-    ensures { MatchResult result
+    ensures { refusal_of T.refusal value.now ≡ None → MatchResult result
         (λ count. count ≡ length (der (T.tree value.now)))
         (λ fault. (fault ≡ X509Fault.Memory) × IsTooLong (der (T.tree value.now))) }
 {

@@ -1,9 +1,6 @@
 //! Types that are spelled in one way.
-ghost use Rattle.std.specs.Prelude.{◌≡◌, ℕ, List, None, MatchResult};
-ghost use Rattle.asn1_trees.specs.Tree.{Tree};
-ghost use Rattle.asn1_trees.specs.Firsts.{Firsts, may_begin};
+ghost use Rattle.std.specs.Prelude.{◌≡◌, ℕ, MatchResult};
 ghost use Rattle.x509_spelling.specs.Spellings.{IsExact};
-ghost use Rattle.x509_spelling.specs.Laws.{SpellingLaws};
 ghost use Rattle.x509_spelling.specs.Answers.{Tells};
 
 use crate::counted::Counted;
@@ -13,39 +10,37 @@ use picky_asn1_der::{Deserialize, from_exact_bytes};
 use std::alloc::Global;
 
 /// A type of which each value has its DER as its one spelling, so that nothing deviates in it.
-pub trait Exact: Deserialize {
-    ghost exact_tree: { Self → Tree };
+pub trait Exact {}
 
-    ghost exact_firsts: { Firsts };
+impl<T: Exact + Deserialize> Spelled for T {
+    ghost use Rattle.std.specs.Prelude.{refl};
+    ghost use Rattle.x509_spelling.specs.Laws.{are_low, exact_laws};
 
-    ghost exact_laws: { SpellingLaws exact_firsts exact_tree (IsExact exact_tree) };
+    ghost spells = { IsExact T.tree };
 
-    ghost tree_is: { Self.tree ≡ exact_tree };
+    ghost written = { T.tree };
 
-    ghost firsts_are: { Self.firsts ≡ exact_firsts };
+    ghost begun = { T.firsts };
 
-    ghost none_refused: { Self.refusal ≡ None };
-}
+    ghost has_low_tags = { are_low T.firsts };
 
-impl<T: Exact> Spelled for T {
-    ghost spells = { IsExact T.exact_tree };
-
-    ghost written = { T.exact_tree };
-
-    ghost begun = { T.exact_firsts };
-
-    ghost laws = { T.exact_laws };
+    ghost laws = { exact_laws T.firsts T.tree T.begins T.injective };
 
     fn may_begin_with(first: u8) -> bool {
         T::may_start(first)
     }
 
     fn read_counted(alloc: Global, bytes: &[u8]) -> Result<Counted<T>, X509Fault> {
-        let value = from_exact_bytes(alloc, bytes)?;
-        Ok(Counted { value, count: 0 })
+        read_exact(alloc, bytes)
     }
 
-    ghost written_is = { T.tree_is };
+    ghost written_is = { refl };
+}
 
-    ghost refuses_none = { T.none_refused };
+/// The value whose DER the bytes are, in which nothing deviates.
+pub fn read_exact<T: Deserialize>(alloc: Global, bytes: &[u8]) -> Result<Counted<T>, X509Fault>
+    ensures { Tells (λ value n. IsExact T.tree value bytes.now n) result }
+{
+    let value = from_exact_bytes(alloc, bytes)?;
+    Ok(Counted { value, count: 0 })
 }

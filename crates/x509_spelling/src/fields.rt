@@ -50,7 +50,7 @@ pub trait SpelledItem: Sized + Drop {
             (IsRefusal (λ (field : Self) n. (rest : List ℕ) × leads field bytes.now rest n)) };
 }
 
-/// A type with a default whose spelling out is a deviation.
+/// A type with a default, for which a spelling may deviate: [`DefaultField`] or [`Implied`] says how.
 pub trait Deviates: HasDefault {
     ghost use Rattle.x509_spelling.specs.Deviations.{Deviation};
 
@@ -118,9 +118,9 @@ impl<H: Spelled> SpelledItem for H {
 
     ghost before = { λ _. H.begun };
 
-    ghost is_told = { λ _. true };
+    ghost is_told = { λ _. H.has_low_tags };
 
-    ghost field_laws = { required_laws H.begun H.written H.spells H.laws };
+    ghost field_laws = { required_laws H.has_low_tags H.begun H.written H.spells H.laws };
 
     fn read_field(alloc: Global, bytes: &[u8]) -> Result<(Counted<H>, &[u8]), X509Fault> {
         read_front(alloc, bytes)
@@ -136,10 +136,10 @@ impl<H: Spelled> SpelledItem for Optional<Option<H>> {
 
     ghost before = { λ others. either H.begun others };
 
-    ghost is_told = { λ others. apart H.begun others };
+    ghost is_told = { λ others. H.has_low_tags && apart H.begun others };
 
-    ghost field_laws = { held_field (λ others. either H.begun others) (λ others. apart H.begun others) (put H.written) (LeadsOptional H.begun H.spells)
-        (optional_laws H.begun H.written H.spells H.laws) (λ value. value.0) (λ v w e. λ i. record { 0 = e i }) };
+    ghost field_laws = { held_field (λ others. either H.begun others) (λ others. H.has_low_tags && apart H.begun others) (put H.written) (LeadsOptional H.begun H.spells)
+        (optional_laws H.has_low_tags H.begun H.written H.spells H.laws) (λ value. value.0) (λ v w e. λ i. record { 0 = e i }) };
 
     fn read_field(alloc: Global, bytes: &[u8]) -> Result<(Counted<Self>, &[u8]), X509Fault> {
         if !is_next::<H>(bytes) {
@@ -166,11 +166,11 @@ impl<H: Spelled + Deviates> SpelledItem for DefaultField<H> {
 
     ghost before = { λ others. either H.begun others };
 
-    ghost is_told = { λ others. apart H.begun others };
+    ghost is_told = { λ others. H.has_low_tags && apart H.begun others };
 
-    ghost field_laws = { held_field (λ others. either H.begun others) (λ others. apart H.begun others)
+    ghost field_laws = { held_field (λ others. either H.begun others) (λ others. H.has_low_tags && apart H.begun others)
         (λ value trees. put H.written (told_value H.is_default_value value) trees) (LeadsDefault H.begun H.spells H.is_default_value H.deviation)
-        (default_laws H.begun H.written H.spells H.laws H.is_default_value H.one_default H.deviation) (λ value. value.0) (λ v w e. λ i. record { 0 = e i }) };
+        (default_laws H.has_low_tags H.begun H.written H.spells H.laws H.is_default_value H.one_default H.deviation) (λ value. value.0) (λ v w e. λ i. record { 0 = e i }) };
 
     fn read_field(alloc: Global, bytes: &[u8]) -> Result<(Counted<Self>, &[u8]), X509Fault> {
         if !is_next::<H>(bytes) {

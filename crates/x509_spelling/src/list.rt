@@ -1,5 +1,5 @@
 //! The elements of a list, each of which may deviate.
-ghost use Rattle.std.specs.Prelude.{◌≡◌, ℕ, true, List, IsTrue, MatchResult};
+ghost use Rattle.std.specs.Prelude.{◌≡◌, ℕ, List, IsTrue, MatchResult};
 ghost use Rattle.asn1_trees.specs.Tree.{trees_of};
 ghost use Rattle.x509_spelling.specs.Spellings.{AreMany};
 ghost use Rattle.x509_spelling.specs.Answers.{Tells};
@@ -45,9 +45,9 @@ impl<T: Spelled> SpelledFields for Many<T> {
 
     ghost row_firsts = { T.begun };
 
-    ghost is_sound = { true };
+    ghost is_sound = { T.has_low_tags };
 
-    ghost row_laws = { λ _. many_laws T.begun T.written T.spells T.laws };
+    ghost row_laws = { many_laws T.has_low_tags T.begun T.written T.spells T.laws };
 
     fn read_content(alloc: Global, content: &[u8]) -> Result<Counted<Self>, X509Fault> {
         let mut items = Vec::new(alloc);

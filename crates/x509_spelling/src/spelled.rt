@@ -1,5 +1,5 @@
 //! What a type's spellings are.
-ghost use Rattle.std.specs.Prelude.{◌≡◌, ℕ, List, None, MatchResult};
+ghost use Rattle.std.specs.Prelude.{◌≡◌, ℕ, Bool, List, MatchResult};
 ghost use Rattle.asn1_trees.specs.Tree.{Tree};
 ghost use Rattle.asn1_trees.specs.Firsts.{Firsts, may_begin};
 ghost use Rattle.x509_spelling.specs.Laws.{SpellingLaws};
@@ -21,7 +21,10 @@ pub trait Spelled: Serialize + Sized + Drop {
 
     ghost begun: { Firsts };
 
-    ghost laws: { SpellingLaws begun written spells };
+    // Whether each tag that begins a value stands in one octet.
+    ghost has_low_tags: { Bool };
+
+    ghost laws: { SpellingLaws has_low_tags begun written spells };
 
     /// Whether a spelling may begin with this identifier octet.
     fn may_begin_with(first: u8) -> bool
@@ -32,6 +35,4 @@ pub trait Spelled: Serialize + Sized + Drop {
         ensures { Tells (λ value n. spells value bytes.now n) result };
 
     ghost written_is: { Self.tree ≡ written };
-
-    ghost refuses_none: { Self.refusal ≡ None };
 }
