@@ -1,0 +1,28 @@
+-- A string of a name as one of three alternatives.
+use Rattle.std.specs.Prelude.{◌≡◌, ℕ, List, refl}
+use Rattle.picky_asn1_der.specs.declared.choice.Choice.{Choice}
+use Rattle.picky_asn1_der.specs.declared.choice.Choice.TheVariants.{This, Other}
+use Rattle.picky_asn1_der.specs.declared.choice.Last.{Last}
+use Rattle.x509_parts.specs.declared.directory_string.DirectoryString.{DirectoryString}
+use Rattle.x509_parts.specs.declared.directory_string.DirectoryString.TheVariants.{PrintableString, Utf8String, BmpString}
+
+-- the content octets
+abbrev pub string_octets : DirectoryString → List ℕ
+string_octets (PrintableString octets) = octets
+string_octets (Utf8String octets) = octets
+string_octets (BmpString octets) = octets
+
+abbrev pub string_choice : DirectoryString → Choice (List ℕ) (Choice (List ℕ) (Last (List ℕ)))
+string_choice (PrintableString octets) = This octets
+string_choice (Utf8String octets) = Other (This octets)
+string_choice (BmpString octets) = Other (Other (record { 0 = octets }))
+
+abbrev pub string_made : Choice (List ℕ) (Choice (List ℕ) (Last (List ℕ))) → DirectoryString
+string_made (This octets) = PrintableString octets
+string_made (Other (This octets)) = Utf8String octets
+string_made (Other (Other last)) = BmpString last.0
+
+pub string_back : (v : DirectoryString) → string_made (string_choice v) ≡ v
+string_back (PrintableString octets) = refl
+string_back (Utf8String octets) = refl
+string_back (BmpString octets) = refl

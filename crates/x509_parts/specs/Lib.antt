@@ -1,0 +1,5 @@
+pub mod Defaults
+pub mod DirectoryStrings
+pub mod RawParameters
+pub mod Times
+pub mod Versions

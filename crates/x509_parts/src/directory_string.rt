@@ -1,0 +1,87 @@
+//! Strings of names (RFC 5280, section 4.1.2.4).
+ghost use Rattle.std.specs.Prelude.{◌≡◌, MatchResult, IfOk};
+
+use devices::{Sink, Source};
+use picky_asn1::wrapper::{BmpStringAsn1, PrintableStringAsn1, Utf8StringAsn1};
+use picky_asn1_der::{
+    Alternatives, Asn1DerError, Choice, Deserialize, Deserializer, Last, Serialize, Serializer,
+};
+use x509_spelling::Exact;
+
+/// A string of a name.
+///
+/// ```text
+/// DirectoryString ::= CHOICE {
+///      teletexString       TeletexString   (SIZE (1..MAX)),
+///      printableString     PrintableString (SIZE (1..MAX)),
+///      universalString     UniversalString (SIZE (1..MAX)),
+///      utf8String          UTF8String      (SIZE (1..MAX)),
+///      bmpString           BMPString       (SIZE (1..MAX)) }
+/// ```
+///
+/// Three of these are read, and empty ones too.
+#[derive(Drop)]
+pub enum DirectoryString {
+    /// Letters, digits and a few marks.
+    PrintableString(PrintableStringAsn1),
+    /// Any text.
+    Utf8String(Utf8StringAsn1),
+    /// Characters of two octets.
+    BmpString(BmpStringAsn1),
+}
+
+type StringChoice = Choice<PrintableStringAsn1, Choice<Utf8StringAsn1, Last<BmpStringAsn1>>>;
+
+impl DirectoryString {
+    ghost use Rattle.x509_parts.specs.DirectoryStrings.{string_octets};
+
+    /// The content octets.
+    pub fn as_bytes(&self) -> &[u8]
+        ensures { result.now ≡ string_octets self.now }
+    {
+        match self {
+            DirectoryString::PrintableString(string) => string.as_bytes(),
+            DirectoryString::Utf8String(string) => string.as_bytes(),
+            DirectoryString::BmpString(string) => string.as_bytes(),
+        }
+    }
+}
+
+impl Serialize for DirectoryString {
+    ghost use Rattle.std.proofs.Common.{refl, true};
+    ghost use Rattle.asn1_trees.proofs.Choices.{injective_as};
+    ghost use Rattle.x509_parts.specs.DirectoryStrings.{string_choice, string_made, string_back};
+
+    ghost tree = { λ v. ⟦<StringChoice as Alternatives>⟧.tree (string_choice v) };
+
+    ghost firsts = { ⟦<StringChoice as Alternatives>⟧.firsts };
+
+    ghost begins = { λ v. ⟦<StringChoice as Alternatives>⟧.begins (string_choice v) };
+
+    ghost injective = { injective_as ⟦<StringChoice as Alternatives>⟧.tree (⟦<StringChoice as Alternatives>⟧.injective (refl {a = true})) string_choice string_made string_back };
+
+    fn serialize<W: Sink>(&self, to: &mut Serializer<W>) -> Result<usize, Asn1DerError> {
+        match self {
+            DirectoryString::PrintableString(string) => string.serialize(to),
+            DirectoryString::Utf8String(string) => string.serialize(to),
+            DirectoryString::BmpString(string) => string.serialize(to),
+        }
+    }
+}
+
+impl Deserialize for DirectoryString {
+    fn may_start(first: u8) -> bool {
+        StringChoice::may_start_any(first)
+    }
+
+    fn deserialize<R: Source>(from: &mut Deserializer<R>) -> Result<Self, Asn1DerError> {
+        let choice: StringChoice = Alternatives::read_one(from)?;
+        Ok(match choice {
+            Choice::This(string) => DirectoryString::PrintableString(string),
+            Choice::Other(Choice::This(string)) => DirectoryString::Utf8String(string),
+            Choice::Other(Choice::Other(Last(string))) => DirectoryString::BmpString(string),
+        })
+    }
+}
+
+impl Exact for DirectoryString {}

@@ -1,0 +1,212 @@
+//! Algorithm identifiers of which nothing is known (RFC 5280, section 4.1.1.2).
+ghost use Rattle.std.specs.Prelude.{◌≡◌, ℕ, List, MatchResult, IsTrue, IfOk};
+
+use devices::{Sink, Source};
+use picky_asn1::wrapper::ObjectIdentifierAsn1;
+use picky_asn1_der::{
+    Asn1DerError, Deserialize, Deserializer, Fields, HasDefault, RawElement, Row2, Serialize,
+    Serializer, Tagged, fields_of, from_fields, read_sequence,
+};
+use std::alloc::{AllocError, Global};
+use x509_spelling::{
+    Counted, Deviates, Implied, Implies, Spelled, SpelledFields, X509Fault, read_exact, read_fields,
+};
+
+/// Parameters of any type. NULL says that there are none.
+#[derive(Drop)]
+pub struct RawParameters(pub RawElement);
+
+impl Serialize for RawParameters {
+    ghost use Rattle.std.specs.Prelude.{refl};
+    ghost use Rattle.picky_asn1_der.specs.Raw.{raw_tree};
+    ghost use Rattle.picky_asn1_der.specs.RawLaws.{raw-begins, raw-injective};
+    ghost use Rattle.asn1_trees.specs.Firsts.{any_octet};
+
+    ghost tree = { λ v. raw_tree v.0 };
+
+    ghost firsts = { any_octet };
+
+    ghost begins = { λ v. raw-begins v.0 };
+
+    ghost injective = { λ v w whole also e. let same = raw-injective v.0 w.0 whole also e in λ i. record { 0 = same i } };
+
+    fn serialize<W: Sink>(&self, to: &mut Serializer<W>) -> Result<usize, Asn1DerError> {
+        self.0.serialize(to)
+    }
+}
+
+impl Deserialize for RawParameters {
+    fn may_start(_first: u8) -> bool {
+        true
+    }
+
+    fn deserialize<R: Source>(from: &mut Deserializer<R>) -> Result<Self, Asn1DerError> {
+        let raw = RawElement::deserialize(from)?;
+        Ok(RawParameters(raw))
+    }
+}
+
+impl Spelled for RawParameters {
+    ghost use Rattle.std.specs.Prelude.{refl, true};
+    ghost use Rattle.asn1_trees.specs.Firsts.{any_octet};
+    ghost use Rattle.picky_asn1_der.specs.Raw.{raw_tree};
+    ghost use Rattle.x509_spelling.specs.Spellings.{IsExact};
+    ghost use Rattle.x509_parts.specs.RawParameters.{raw_laws};
+
+    ghost spells = { IsExact (λ v. raw_tree v.0) };
+
+    ghost written = { λ v. raw_tree v.0 };
+
+    ghost begun = { any_octet };
+
+    ghost has_low_tags = { true };
+
+    ghost laws = { raw_laws };
+
+    fn may_begin_with(_first: u8) -> bool {
+        true
+    }
+
+    fn read_counted(alloc: Global, bytes: &[u8]) -> Result<Counted<Self>, X509Fault> {
+        read_exact(alloc, bytes)
+    }
+
+    ghost written_is = { refl };
+}
+
+impl HasDefault for RawParameters {
+    ghost use Rattle.x509_parts.specs.RawParameters.{is_null, one_null};
+
+    ghost is_default_value = { λ v. is_null v.0 };
+
+    ghost one_default = { λ v w a b. let same = one_null v.0 w.0 a b in λ i. record { 0 = same i } };
+
+    fn is_default(&self) -> bool {
+        self.0.first() == 5 && self.0.content().is_empty()
+    }
+
+    fn default_value(alloc: Global) -> Result<Self, AllocError> {
+        match RawElement::new(5, Vec::new(alloc)) {
+            Some(raw) => Ok(RawParameters(raw)),
+            None => unreachable!(),
+        }
+    }
+}
+
+impl Deviates for RawParameters {
+    ghost use Rattle.x509_spelling.specs.Deviations.{raw_parameters_missing};
+
+    ghost deviation = { raw_parameters_missing };
+}
+
+impl Implies for RawParameters {
+    ghost use Rattle.x509_parts.specs.RawParameters.{null_whole};
+
+    ghost default_is_whole = { λ v null. null_whole v.0 null };
+}
+
+/// An algorithm by its identifier, with parameters of any type.
+///
+/// ```text
+/// AlgorithmIdentifier ::= SEQUENCE {
+///      algorithm               OBJECT IDENTIFIER,
+///      parameters              ANY DEFINED BY algorithm OPTIONAL }
+/// ```
+///
+/// Where there are none, NULL is written.
+#[derive(Drop)]
+pub struct RawAlgorithmIdentifier {
+    algorithm: ObjectIdentifierAsn1,
+    parameters: RawParameters,
+}
+
+type RawAlgorithmRow = Row2<ObjectIdentifierAsn1, RawParameters>;
+
+type RawAlgorithmSpelling = Row2<ObjectIdentifierAsn1, Implied<RawParameters>>;
+
+impl RawAlgorithmIdentifier {
+    /// The algorithm's identifier.
+    pub fn algorithm(&self) -> &ObjectIdentifierAsn1
+        ensures { result.now ≡ self.now.algorithm }
+    {
+        &self.algorithm
+    }
+
+    /// The parameters, none where they are NULL.
+    pub fn parameters(&self) -> Option<&RawElement> {
+        if self.parameters.is_default() {
+            None
+        } else {
+            Some(&self.parameters.0)
+        }
+    }
+}
+
+impl Tagged for RawAlgorithmIdentifier {
+    ghost use Rattle.std.proofs.Common.{ap, refl, true};
+    ghost use Rattle.asn1_trees.specs.Tagged.{sequence};
+    ghost use Rattle.asn1_trees.proofs.Tagged.{sequence_laws};
+
+    type Row = RawAlgorithmRow;
+
+    const FIRST: u8 = 48;
+
+    ghost FIRST = { 48 };
+
+    ghost row_tree = { sequence ⟦<RawAlgorithmRow as Fields>⟧.trees };
+
+    ghost row_laws = { sequence_laws ⟦<RawAlgorithmRow as Fields>⟧.trees (⟦<RawAlgorithmRow as Fields>⟧.injective (refl {a = true})) };
+
+    ghost row_of = { λ v. (v.algorithm, (v.parameters, tt)) };
+
+    ghost one_row = { λ v w e. ap (λ f. record { algorithm = f.0; parameters = f.1.0 }) e };
+
+    fn read_row<R: Source>(tag: u8, from: &mut Deserializer<R>) -> Result<Self::Row, Asn1DerError> {
+        read_sequence(tag, from)
+    }
+
+    fn of_row(row: Self::Row) -> Self {
+        from_fields![row; algorithm, parameters]
+    }
+
+    fn write_row<W: Sink>(&self, tag: u8, to: &mut Serializer<W>) -> Result<usize, Asn1DerError> {
+        to.list(tag, &fields_of![self; algorithm, parameters])
+    }
+}
+
+impl Spelled for RawAlgorithmIdentifier {
+    ghost use Rattle.std.proofs.Common.{ap, refl, true};
+    ghost use Rattle.asn1_trees.specs.Tagged.{sequence};
+    ghost use Rattle.asn1_trees.specs.Firsts.{only};
+    ghost use Rattle.x509_spelling.specs.Spellings.{Holds};
+    ghost use Rattle.x509_spelling.specs.RowLaws.{struct_laws};
+
+    ghost spells = { λ v. Holds 48 ⟦<RawAlgorithmSpelling as SpelledFields>⟧.spells (v.algorithm, (record { 0 = v.parameters }, tt)) };
+
+    ghost written = { λ v. sequence ⟦<RawAlgorithmSpelling as SpelledFields>⟧.row_trees 48 (v.algorithm, (record { 0 = v.parameters }, tt)) };
+
+    ghost begun = { only 48 };
+
+    ghost has_low_tags = { true };
+
+    ghost laws = { struct_laws 48 refl ⟦<RawAlgorithmSpelling as SpelledFields>⟧.row_firsts ⟦<RawAlgorithmSpelling as SpelledFields>⟧.row_trees
+        ⟦<RawAlgorithmSpelling as SpelledFields>⟧.spells (⟦<RawAlgorithmSpelling as SpelledFields>⟧.row_laws (refl {a = true}))
+        (λ v. (v.algorithm, (record { 0 = v.parameters }, tt))) (λ v w e. ap (λ f. record { algorithm = f.0; parameters = f.1.0.0 }) e) };
+
+    fn may_begin_with(first: u8) -> bool {
+        first == 48
+    }
+
+    fn read_counted(alloc: Global, bytes: &[u8]) -> Result<Counted<Self>, X509Fault> {
+        let read: Counted<RawAlgorithmSpelling> = read_fields(alloc, 48, bytes)?;
+        let count = read.count;
+        let (algorithm, (Implied(parameters), ())) = read.into_value();
+        let value = RawAlgorithmIdentifier {
+            algorithm,
+            parameters,
+        };
+        Ok(Counted { value, count })
+    }
+
+    ghost written_is = { refl };
+}

@@ -1,0 +1,86 @@
+//! Times (RFC 5280, section 4.1).
+ghost use Rattle.std.specs.Prelude.{◌≡◌, MatchResult, IfOk};
+
+use devices::{Sink, Source};
+use picky_asn1::date::{GeneralizedTime, UTCTime};
+use picky_asn1::wrapper::{GeneralizedTimeAsn1, UTCTimeAsn1};
+use picky_asn1_der::{
+    Alternatives, Asn1DerError, Choice, Deserialize, Deserializer, Last, Serialize, Serializer,
+};
+use x509_spelling::Exact;
+
+/// A time, to the second.
+///
+/// ```text
+/// Time ::= CHOICE {
+///      utcTime        UTCTime,
+///      generalTime    GeneralizedTime }
+/// ```
+///
+/// Either is read, also where the standard wants the other for its year.
+#[derive(Drop)]
+pub enum Time {
+    /// A time of the years 1950 to 2049.
+    Utc(UTCTimeAsn1),
+    /// A time of any year.
+    Generalized(GeneralizedTimeAsn1),
+}
+
+type TimeChoice = Choice<UTCTimeAsn1, Last<GeneralizedTimeAsn1>>;
+
+impl From<UTCTime> for Time {
+    ghost use Rattle.x509_parts.specs.declared.time.Time.TheVariants.{Utc};
+
+    ghost from_gives = { λ moment time. time ≡ Utc (record { 0 = moment }) };
+
+    fn from(moment: UTCTime) -> Time {
+        Time::Utc(UTCTimeAsn1(moment))
+    }
+}
+
+impl From<GeneralizedTime> for Time {
+    ghost use Rattle.x509_parts.specs.declared.time.Time.TheVariants.{Generalized};
+
+    ghost from_gives = { λ moment time. time ≡ Generalized (record { 0 = moment }) };
+
+    fn from(moment: GeneralizedTime) -> Time {
+        Time::Generalized(GeneralizedTimeAsn1(moment))
+    }
+}
+
+impl Serialize for Time {
+    ghost use Rattle.std.proofs.Common.{refl, true};
+    ghost use Rattle.asn1_trees.proofs.Choices.{injective_as};
+    ghost use Rattle.x509_parts.specs.Times.{time_choice, time_made, time_back};
+
+    ghost tree = { λ v. ⟦<TimeChoice as Alternatives>⟧.tree (time_choice v) };
+
+    ghost firsts = { ⟦<TimeChoice as Alternatives>⟧.firsts };
+
+    ghost begins = { λ v. ⟦<TimeChoice as Alternatives>⟧.begins (time_choice v) };
+
+    ghost injective = { injective_as ⟦<TimeChoice as Alternatives>⟧.tree (⟦<TimeChoice as Alternatives>⟧.injective (refl {a = true})) time_choice time_made time_back };
+
+    fn serialize<W: Sink>(&self, to: &mut Serializer<W>) -> Result<usize, Asn1DerError> {
+        match self {
+            Time::Utc(time) => time.serialize(to),
+            Time::Generalized(time) => time.serialize(to),
+        }
+    }
+}
+
+impl Deserialize for Time {
+    fn may_start(first: u8) -> bool {
+        TimeChoice::may_start_any(first)
+    }
+
+    fn deserialize<R: Source>(from: &mut Deserializer<R>) -> Result<Self, Asn1DerError> {
+        let choice: TimeChoice = Alternatives::read_one(from)?;
+        Ok(match choice {
+            Choice::This(time) => Time::Utc(time),
+            Choice::Other(Last(time)) => Time::Generalized(time),
+        })
+    }
+}
+
+impl Exact for Time {}
