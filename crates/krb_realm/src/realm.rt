@@ -7,13 +7,14 @@ ghost use Rattle.krb_accounts.specs.Names.{parts};
 ghost use Rattle.krb_accounts.specs.Refusal.{IsMemoryAside};
 ghost use Rattle.krb_replies.specs.AsTable.{as_table, client_of, service_of};
 ghost use Rattle.krb_replies.specs.Replies.{Replies, account_of, as_reply, hint_of, named_service};
+ghost use Rattle.krb_realm.specs.Judged.{IsJudgement};
 
 use crate::grant::{Principals, grant};
 use crate::judge::{
     account_of, check_address, check_client, check_possible, client_of, entries_of, service_of,
 };
 use crate::names::{krbtgt_of, named_service};
-use crate::refusal::Refusal;
+use crate::refusal::{Refusal, Told};
 use krb_accounts::{
     Account, Accounts, RealmRefusal, Settings, are_components, components_of, is_realm_name,
     password_salt, realm_name_of,
@@ -24,8 +25,9 @@ use krb_moments::Moment;
 use krb_replies::{error_reply, read_as_req, read_tgs_req};
 use krb_tickets::method_data;
 use picky_asn1::wrapper::GeneralStringAsn1;
-use picky_asn1_der::{ExplicitContextTag, Optional};
+use picky_asn1_der::{ExplicitContextTag, ExplicitContextTag3, Optional};
 use picky_krb::constants::error_codes;
+use picky_krb::data_types::PrincipalName;
 use picky_krb::messages::{KdcReq, KdcReqBody};
 use std::alloc::{AllocError, Global};
 use std::marker::Model;
@@ -193,13 +195,16 @@ impl Realm {
             return Ok(reply);
         }
         if let Some(asked) = read_tgs_req(alloc, request)? {
-            let reply = self.refusal(alloc, asked, moment, error_codes::KRB_ERR_GENERIC, None)?;
+            let service = named_in(asked);
+            let code = error_codes::KRB_ERR_GENERIC;
+            let reply = self.refusal(alloc, service, moment, code, None)?;
             return Ok(reply);
         }
         Err(AnswerRefusal::Unreadable)
     }
 
-    // The reply to an AS request: a ticket, or the error with its code.
+    // The reply to an AS request: a ticket, or the error with its code. The request is judged by reference, so that few
+    // ways out own it.
     fn answer_as(
         &self,
         alloc: Global,
@@ -212,16 +217,41 @@ impl Realm {
             (account_of (look_in self.now.accounts) (client_of request.req_body.0))
             (account_of (look_in self.now.accounts) (service_of request.req_body.0)) moment words.now request).gives (Some bytes.items)) }
     {
+        let judged = self.judge(alloc, &request, moment, words);
+        let service = named_in(request);
+        let found = judged?;
+        match found {
+            Ok(ticket) => Ok(ticket),
+            Err(told) => {
+                let reply = self.refusal(alloc, service, moment, told.code, told.hint)?;
+                Ok(reply)
+            }
+        }
+    }
+
+    // The ticket that an AS request is granted, or what the error that answers it tells.
+    fn judge(
+        &self,
+        alloc: Global,
+        request: &KdcReq,
+        moment: Moment,
+        words: &[u8],
+    ) -> Result<Result<Vec<u8>, Told>, AllocError>
+        requires { 128 ≤ length words.now }
+        ensures { IfOk result (λ judged. IsJudgement (as_table self.now.name self.now.settings
+            (account_of (look_in self.now.accounts) (client_of request.now.req_body.0))
+            (account_of (look_in self.now.accounts) (service_of request.now.req_body.0)) moment words.now request.now).gives
+            (hint_of (account_of (look_in self.now.accounts) (client_of request.now.req_body.0))) judged) }
+    {
         let body = &request.req_body.0;
         let client = account_of(&self.accounts, client_of(body));
         let service = account_of(&self.accounts, service_of(body));
-        match self.judge_as(alloc, client, service, moment, words, &request) {
-            Ok(reply) => Ok(reply),
+        match self.judge_as(alloc, client, service, moment, words, request) {
+            Ok(reply) => Ok(Ok(reply)),
             Err(Refusal::Memory) => Err(AllocError),
             Err(Refusal::Krb(code)) => {
                 let hint = hint_of(alloc, client, code)?;
-                let reply = self.refusal(alloc, request, moment, code, hint)?;
-                Ok(reply)
+                Ok(Err(Told { code, hint }))
             }
         }
     }
@@ -265,26 +295,18 @@ impl Realm {
         Ok(reply)
     }
 
-    /// The error with this code that answers a request.
+    // The error with this code that answers a request for this service.
     fn refusal(
         &self,
         alloc: Global,
-        request: KdcReq,
+        named: Option<ExplicitContextTag3<PrincipalName>>,
         moment: Moment,
         code: u32,
         hint: Option<Vec<u8>>,
     ) -> Result<Vec<u8>, AllocError>
         ensures { IfOk result (λ bytes. (time : GeneralizedTime) × IsSecondOf moment time
-            × (bytes.items ≡ error_bytes self.now.name time (moment % 1000000) (named_service self.now.name (service_of request.req_body.0)) code (option_map (λ h. h.items) hint))) }
+            × (bytes.items ≡ error_bytes self.now.name time (moment % 1000000) (named_service self.now.name (option_map (λ tagged. tagged.0) named)) code (option_map (λ h. h.items) hint))) }
     {
-        let KdcReq {
-            req_body: ExplicitContextTag(body),
-            ..
-        } = request;
-        let KdcReqBody {
-            sname: Optional(named),
-            ..
-        } = body;
         let service = named_service(alloc, named, &self.name)?;
         let realm = self.name.clone()?;
         let time = moment.second();
@@ -299,6 +321,21 @@ impl Realm {
         )?;
         Ok(reply)
     }
+}
+
+// The service that a request names, where it names one.
+fn named_in(request: KdcReq) -> Option<ExplicitContextTag3<PrincipalName>>
+    ensures { option_map (λ tagged. tagged.0) result ≡ service_of request.req_body.0 }
+{
+    let KdcReq {
+        req_body: ExplicitContextTag(body),
+        ..
+    } = request;
+    let KdcReqBody {
+        sname: Optional(named),
+        ..
+    } = body;
+    named
 }
 
 // What an error tells beside its code: with the one that asks for preauthentication, how the client authenticates.

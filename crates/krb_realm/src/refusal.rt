@@ -13,6 +13,15 @@ pub(crate) enum Refusal {
     Memory,
 }
 
+/// What an error tells that answers a request.
+#[derive(Drop)]
+pub(crate) struct Told {
+    /// The code (RFC 4120, section 7.5.9).
+    pub(crate) code: u32,
+    /// What belongs to the code.
+    pub(crate) hint: Option<Vec<u8>>,
+}
+
 impl From<AllocError> for Refusal {
     ghost from_gives = { λ _ e. e ≡ Memory };
 

@@ -1,4 +1,6 @@
-use Rattle.std.proofs.Common.{Some, Err, ap, inl, inr, refl}
+use Rattle.std.proofs.Common.{◌%◌, Some, None, Err, ap, inl, inr, refl, ◌∙◌}
+use Rattle.krb_replies.specs.Errors.{error_bytes}
+use Rattle.krb_replies.specs.Replies.{named_service}
 use Rattle.krb_realm.proofs.realm.Realm.answer.Goals as goal
 
 pub returns-in-Some : goal.returns-in-Some
@@ -10,5 +12,7 @@ pub returns-in-Some-2 : goal.returns-in-Some-2
 returns-in-Some-2 c =
     let none = rw c.in_default.is at c.in_ok-asked.ensures in
     let found = rw c.in-Some-2.is at c.in_ok-asked-2.ensures in
+    let own = c.args.self.now.name in
     let reply = c.in_ok-reply-2.ensures in
-    inr (none, inl (c.in-Some-2.asked, found, (Err 60, refl, (reply.0, reply.1, ap Some reply.2))))
+    let bytes = reply.2 ∙ ap (λ n. error_bytes own reply.0 (c.args.moment % 1000000) (named_service own n) 60 None) c.named_in-service.ensures in
+    inr (none, inl (c.in-Some-2.asked, found, (Err 60, refl, (reply.0, reply.1, ap Some bytes))))

@@ -1,6 +1,5 @@
 use Rattle.std.proofs.Common.{◌≡◌, ◌%◌, ap, ◌∙◌}
 use Rattle.std.specs.Option.{option_map}
-use Rattle.krb_replies.specs.AsTable.{service_of}
 use Rattle.krb_replies.specs.Errors.{error_bytes}
 use Rattle.krb_replies.specs.Replies.{named_service}
 use Rattle.krb_realm.proofs.realm.Realm.refusal.Goals as goal
@@ -11,7 +10,7 @@ returns c =
     let code = c.args.code in
     let hint = option_map (λ h. h.items) c.args.hint in
     let own = c.self.inside.name in
-    let asked = service_of c.args.request.req_body.0 in
+    let asked = option_map (λ tagged. tagged.0) c.args.named in
     let service = c.in_ok-service.service in
     let name : own ≡ c.args.self.now.name = ap (λ r. r.name) c.self.view_is in
     let bytes = c.in_ok-reply.ensures
