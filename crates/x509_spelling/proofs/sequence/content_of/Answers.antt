@@ -10,11 +10,11 @@ returns-in_err-element c =
 pub returns-then-from-first : goal.returns-then-from-first
 returns-then-from-first c = λ content e.
     let same = same_element c.args.bytes.now c.in_ok-element.element.first c.args.first c.in_ok-element.element.content content c.in_ok-element.rest.now
-    c.in_ok-element.ensures.1 e in
+    c.in_ok-element.ensures.split.1 e in
     c.if-from-first.true (c.from.ensures ∙ c.tag.ensures ∙ same.0)
 
 pub returns-then-not-is_empty : goal.returns-then-not-is_empty
 returns-then-not-is_empty c = λ content e.
     let same = same_element c.args.bytes.now c.in_ok-element.element.first c.args.first c.in_ok-element.element.content content c.in_ok-element.rest.now
-    c.in_ok-element.ensures.1 e in
+    c.in_ok-element.ensures.split.1 e in
     some_left c.in_ok-element.rest.now (sym c.if-not-is_empty.true ∙ c.is_empty.ensures) same.2
