@@ -67,6 +67,14 @@ pub be64_at-append : (place : ℕ) (front rest : List ℕ) → place + 8 ≤ len
 unfolding be64_at
 be64_at-append place front rest inside = ap (from_be_bytes w64) (cut-append place 8 front rest inside)
 
+pub le32_at-append : (place : ℕ) (front rest : List ℕ) → place + 4 ≤ length front → le32_at place (front ++ rest) ≡ le32_at place front
+unfolding le32_at
+le32_at-append place front rest inside = ap (from_le_bytes w32) (cut-append place 4 front rest inside)
+
+pub le64_at-append : (place : ℕ) (front rest : List ℕ) → place + 8 ≤ length front → le64_at place (front ++ rest) ≡ le64_at place front
+unfolding le64_at
+le64_at-append place front rest inside = ap (from_le_bytes w64) (cut-append place 8 front rest inside)
+
 -- a number that is read stands
 pub be16-stands : (place n : ℕ) (whole : List ℕ) → AreBytes whole → place + 2 ≤ length whole → n ≡ from_be_bytes w16 (take 2 (drop place whole)) → Stands (part place (be16 n)) whole
 unfolding be16
@@ -104,3 +112,11 @@ le32-is n = refl
 pub le64-is : (n : ℕ) → to_le_bytes w64 n ≡ le64 n
 unfolding le64
 le64-is n = refl
+
+pub le32-read : (place : ℕ) (whole : List ℕ) → AreBytes whole → place + 4 ≤ length whole → Stands (part place (le32 (le32_at place whole))) whole
+unfolding le32_at
+le32-read place whole bytes inside = le32-stands place _ whole bytes inside refl
+
+pub le64-read : (place : ℕ) (whole : List ℕ) → AreBytes whole → place + 8 ≤ length whole → Stands (part place (le64 (le64_at place whole))) whole
+unfolding le64_at
+le64-read place whole bytes inside = le64-stands place _ whole bytes inside refl

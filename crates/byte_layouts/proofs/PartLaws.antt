@@ -1,6 +1,6 @@
 -- What is put stands, and what is put elsewhere leaves it standing.
 use Rattle.std.proofs.Common.{◌≡◌, ℕ, ◌+◌, ◌-◌, ◌<◌, ◌≤◌, List, [], ◌∷◌, ◌++◌, length, get_or, take, drop, refl, ap, sym, ◌∙◌, inl, inr, arith}
-use Rattle.std.proofs.lemmas.List.{places, same_lists, length-take-le, take_at, drop_at, get_or-take, get_or-drop, get_or_append_left, get_or-append_right, drop_more, drop-append-le, take-append-le, length-drop}
+use Rattle.std.proofs.lemmas.List.{places, same_lists, length-take-le, take_at, drop_at, get_or-take, get_or-drop, get_or_append_left, get_or-append_right, drop_more, drop-append-le, take-append-le, length-drop, length-take}
 use Rattle.std.proofs.lemmas.Bool.{cases_lt}
 use Rattle.byte_layouts.specs.Parts.{Part, part, end_of, Stands, IsLaidOut, put, put_all, Covers, AreApart, IsApartFrom, AreAllApart, AreInside}
 
@@ -98,6 +98,12 @@ pub laid-append : (ps : List Part) (front rest : List ℕ) → AreInside (length
 laid-append [] front rest inside laid = tt
 laid-append (p ∷ ps) front rest inside laid =
     (stands-append p front rest inside.0 laid.0, laid-append ps front rest inside.1 laid.1)
+
+-- what has bytes and stands ends inside
+pub stands-inside : (p : Part) (whole : List ℕ) → 0 < length p.bytes → Stands p whole → end_of p ≤ length whole
+stands-inside p whole some stands =
+    let size : length (take (length p.bytes) (drop p.place whole)) ≡ length p.bytes = ap length stands in
+    omega (arith, length-take (length p.bytes) (drop p.place whole), length-drop p.place whole)
 
 -- one byte stands where it is read
 pub byte-read : (place : ℕ) (whole : List ℕ) → place < length whole → Stands (part place (get_or whole place 0 ∷ [])) whole

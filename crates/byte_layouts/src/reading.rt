@@ -1,11 +1,10 @@
 //! Reading from a source as far as it gives bytes.
-ghost use Rattle.std.specs.Prelude.{◌≡◌, ℕ, ◌<◌, ◌≤◌, List, length, take, None, Some, IfOk, IfSome, MatchOption, MatchResult};
+ghost use Rattle.std.specs.Prelude.{◌≡◌, ℕ, ◌<◌, ◌≤◌, List, length, take, None, IfOk, IfSome, MatchResult};
 ghost use Rattle.std.specs.Io.KnownBytes.{Consumes, IsAtEnd};
-ghost use Rattle.devices.specs.Counting.{one_more};
-ghost use Rattle.byte_layouts.specs.Stops.{IsRestFault};
+ghost use Rattle.byte_layouts.specs.Stops.{IsRestFault, IsStop};
 
 use devices::Source;
-use std::alloc::Global;
+use std::alloc::{AllocError, Global};
 use std::io::ErrorKind;
 
 /// What [`read_front`] read.
@@ -31,8 +30,7 @@ pub fn read_front<R: Source>(reader: &mut R, buffer: &mut [u8]) -> Front
     ensures bound { result.count ≤ length buffer.new }
     ensures bytes { Consumes (R.left reader.old) (R.left reader.new) (take result.count buffer.new) }
     ensures end { result.fault ≡ None → result.count < length buffer.new → IsAtEnd (R.left reader.new) }
-    ensures fault { MatchOption result.fault (R.failed reader.new ≡ R.failed reader.old)
-        (λ kind. (R.failed reader.new ≡ one_more (R.failed reader.old)) × (R.last_fault reader.new ≡ Some kind)) }
+    ensures fault { IsStop (R.failed reader.old) (R.failed reader.new) (R.last_fault reader.new) result.fault }
     ensures short { IfSome result.fault (λ _. result.count < length buffer.new) }
     ensures same { R.through reader.new ≡ R.through reader.old }
 {
@@ -55,6 +53,42 @@ pub fn read_front<R: Source>(reader: &mut R, buffer: &mut [u8]) -> Front
     }
 }
 
+/// What a source gave up to its end or its first fault.
+#[derive(Debug, Drop)]
+pub struct Came {
+    /// The bytes that came.
+    pub bytes: Vec<u8>,
+    /// The fault of the device, where it failed before its end.
+    pub fault: Option<ErrorKind>,
+}
+
+/// Reads all that `reader` gives before it stops, at its end or at its first fault. Room is made only for what was read.
+pub fn read_to_stop<R: Source>(alloc: Global, reader: &mut R) -> Result<Came, AllocError>
+    ensures bytes { IfOk result (λ came. Consumes (R.left reader.old) (R.left reader.new) came.bytes.items) }
+    ensures end { IfOk result (λ came. came.fault ≡ None → IsAtEnd (R.left reader.new)) }
+    ensures fault { MatchResult result
+        (λ came. IsStop (R.failed reader.old) (R.failed reader.new) (R.last_fault reader.new) came.fault)
+        (λ _. R.failed reader.new ≡ R.failed reader.old) }
+    ensures same { R.through reader.new ≡ R.through reader.old }
+{
+    let mut bytes = Vec::new(alloc);
+    let mut buffer = [0; 256];
+    for _ in 0..u64::MAX {
+        match reader.read_some(&mut buffer) {
+            Ok(0) => return Ok(Came { bytes, fault: None }),
+            Ok(count) => bytes.extend_from_slice(&buffer[..count])?,
+            Err(kind) => {
+                return Ok(Came {
+                    bytes,
+                    fault: Some(kind),
+                });
+            }
+        }
+    }
+    // So many reads gave a byte each, which no vector holds.
+    Err(AllocError)
+}
+
 /// Reads all that `reader` still gives. Room is made only for what was read.
 pub fn read_rest<R: Source>(alloc: Global, reader: &mut R) -> Result<Vec<u8>, RestFault>
     ensures bytes { IfOk result (λ rest. Consumes (R.left reader.old) (R.left reader.new) rest.items) }
@@ -63,19 +97,11 @@ pub fn read_rest<R: Source>(alloc: Global, reader: &mut R) -> Result<Vec<u8>, Re
         (IsRestFault (R.failed reader.old) (R.failed reader.new) (R.last_fault reader.new)) }
     ensures same { R.through reader.new ≡ R.through reader.old }
 {
-    let mut rest = Vec::new(alloc);
-    let mut buffer = [0; 256];
-    for _ in 0..u64::MAX {
-        match reader.read_some(&mut buffer) {
-            Ok(0) => return Ok(rest),
-            Ok(count) => {
-                if rest.extend_from_slice(&buffer[..count]).is_err() {
-                    return Err(RestFault::Memory);
-                }
-            }
-            Err(kind) => return Err(RestFault::Failed(kind)),
-        }
+    let Ok(came) = read_to_stop(alloc, reader) else {
+        return Err(RestFault::Memory);
+    };
+    match came.fault {
+        None => Ok(came.bytes),
+        Some(kind) => Err(RestFault::Failed(kind)),
     }
-    // So many reads gave a byte each, which no vector holds.
-    Err(RestFault::Memory)
 }
