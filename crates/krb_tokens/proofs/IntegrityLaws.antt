@@ -1,17 +1,17 @@
 -- The record of an integrity level is laid out in the bytes that it was read from, and in those that are written.
 use Rattle.std.proofs.Common.{◌≡◌, ℕ, ◌<◌, List, ◌++◌, length, take, drop, Option, None, Some, IfSome, refl, ap, sym, subst, ◌∙◌, inl, inr, append-nil, arith}
-use Rattle.std.proofs.lemmas.List.{length-drop, length-take, length-take-le}
+use Rattle.std.proofs.lemmas.List.{length-drop, length-take, length-take-le, take_at}
 use Rattle.std.specs.Int.{w32, to_le_bytes}
 use Rattle.std.specs.Io.KnownBytes.{Consumes, IsAtEnd}
 use Rattle.std.specs.declared.io.ErrorKind.{ErrorKind}
 use Rattle.std.specs.declared.io.ErrorKind.TheVariants.{UnexpectedEof}
 use Rattle.devices.specs.Counting.{one_more}
 use Rattle.byte_layouts.specs.Parts.{part, Stands, IsLaidOut, AreInside, put, put_all}
-use Rattle.byte_layouts.specs.Numbers.{le32}
+use Rattle.byte_layouts.specs.Numbers.{le32, le32_at}
 use Rattle.byte_layouts.proofs.PartLaws.{put_all-laid, order-apart, length-put_all}
-use Rattle.byte_layouts.proofs.NumberLaws.{length-le32, le32-is}
+use Rattle.byte_layouts.proofs.NumberLaws.{length-le32, le32-is, le32-again}
 use Rattle.krb_tokens.specs.declared.integrity.LsapTokenInfoIntegrity.{LsapTokenInfoIntegrity}
-use Rattle.krb_tokens.specs.Integrity.{record_parts, IsIntegrityRecord, IsReadStop}
+use Rattle.krb_tokens.specs.Integrity.{record_parts, IsIntegrityRecord, FitsRecord, record_at, IsReadStop}
 
 -- the record as it is written
 pub record-written : (r : LsapTokenInfoIntegrity) (zeros h1 h2 h3 f t : List ℕ) → length zeros ≡ 40 → length r.machine_id ≡ 32
@@ -52,3 +52,39 @@ short-stop (Some bytes) None cause old new count buffer given ends few = absurd 
 short-stop (Some bytes) (Some rest) cause old new count buffer given ends few =
     let whole : bytes ≡ take count buffer = given ∙ ap (λ (l : List ℕ). take count buffer ++ l) ends ∙ append-nil (take count buffer) in
     inl (refl, omega (arith, ap length whole, length-take count buffer))
+
+-- a record that is laid out in 40 bytes is what is read from them
+record-only : (r : LsapTokenInfoIntegrity) (whole : List ℕ) → FitsRecord r → IsIntegrityRecord r whole → record_at whole ≡ r
+record-only r whole fits is =
+    let flags : le32_at 0 whole ≡ r.flags = le32-again 0 r.flags whole fits.flags is.parts.0 in
+    let token_il : le32_at 4 whole ≡ r.token_il = le32-again 4 r.token_il whole fits.token_il is.parts.1.0 in
+    let machine_id : take 32 (drop 8 whole) ≡ r.machine_id = ap (λ (n : ℕ). take n (drop 8 whole)) (sym fits.machine_id) ∙ is.parts.1.1.0 in
+    λ i. record { flags = flags i; token_il = token_il i; machine_id = machine_id i }
+
+pub given-only : (left after : Option (List ℕ)) (whole : List ℕ) (read : LsapTokenInfoIntegrity)
+    → Consumes left after whole → length whole ≡ 40 → read ≡ record_at whole
+    → IfSome left (λ bytes. (r : LsapTokenInfoIntegrity) → FitsRecord r → IsIntegrityRecord r (take 40 bytes) → read ≡ r)
+given-only None after whole read given size is_read = tt
+given-only (Some bytes) None whole read given size is_read = absurd given
+given-only (Some bytes) (Some rest) whole read given size is_read =
+    λ r fits is.
+    let same : take 40 bytes ≡ whole = ap (take 40) given ∙ take_at whole rest 40 size in
+    is_read ∙ record-only r whole fits (subst (IsIntegrityRecord r) same is)
+
+-- no record is laid out in fewer bytes
+pub short-only : (left after : Option (List ℕ)) (count : ℕ) (buffer : List ℕ) (P : LsapTokenInfoIntegrity → Type 0)
+    → Consumes left after (take count buffer) → IsAtEnd after → count < 40
+    → IfSome left (λ bytes. (r : LsapTokenInfoIntegrity) → FitsRecord r → IsIntegrityRecord r (take 40 bytes) → P r)
+short-only None after count buffer P given ends few = tt
+short-only (Some bytes) None count buffer P given ends few = absurd given
+short-only (Some bytes) (Some rest) count buffer P given ends few =
+    λ r fits is.
+    let whole : bytes ≡ take count buffer = given ∙ ap (λ (l : List ℕ). take count buffer ++ l) ends ∙ append-nil (take count buffer) in
+    let size = is.size in
+    absurd (omega (arith, ap length whole, length-take count buffer, length-take 40 bytes))
+
+-- the device failed, whatever is laid out
+pub failed-only : (left : Option (List ℕ)) (P : Type 0) → P
+    → IfSome left (λ bytes. (r : LsapTokenInfoIntegrity) → FitsRecord r → IsIntegrityRecord r (take 40 bytes) → P)
+failed-only None P why = tt
+failed-only (Some bytes) P why = λ r fits is. why

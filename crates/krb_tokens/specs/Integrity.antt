@@ -1,5 +1,5 @@
 -- The record of a process's integrity level (MS-KILE, section 2.2.5).
-use Rattle.std.specs.Prelude.{◌≡◌, ℕ, ◌<◌, List, [], ◌∷◌, length, Option, Some, ◌⊎◌}
+use Rattle.std.specs.Prelude.{◌≡◌, ℕ, ◌<◌, ◌^◌, List, [], ◌∷◌, length, take, drop, Option, Some, ◌⊎◌}
 use Rattle.std.specs.declared.io.ErrorKind.{ErrorKind}
 use Rattle.std.specs.declared.io.ErrorKind.TheVariants.{UnexpectedEof}
 use Rattle.devices.specs.Counting.{one_more}
@@ -7,7 +7,7 @@ use Rattle.devices.specs.Whole.{after_whole_fault}
 use Rattle.devices.specs.Faults.{TellsWholeFault}
 use Rattle.devices.specs.declared.exact.WholeFault.{WholeFault}
 use Rattle.byte_layouts.specs.Parts.{Part, part, IsLaidOut}
-use Rattle.byte_layouts.specs.Numbers.{le32}
+use Rattle.byte_layouts.specs.Numbers.{le32, le32_at}
 use Rattle.krb_tokens.specs.Stops.{kind_of}
 use Rattle.krb_tokens.specs.declared.integrity.LsapTokenInfoIntegrity.{LsapTokenInfoIntegrity}
 
@@ -19,6 +19,16 @@ record_parts r = part 0 (le32 r.flags) ∷ part 4 (le32 r.token_il) ∷ part 8 r
 pub record IsIntegrityRecord (r : LsapTokenInfoIntegrity) (whole : List ℕ) : Type 0 where
   pub parts : IsLaidOut (record_parts r) whole
   pub size : length whole ≡ 40
+
+-- each field is one that its place holds
+pub record FitsRecord (r : LsapTokenInfoIntegrity) : Type 0 where
+  pub flags : r.flags < 2 ^ 32
+  pub token_il : r.token_il < 2 ^ 32
+  pub machine_id : length r.machine_id ≡ 32
+
+-- the record that is read from the bytes
+abbrev pub record_at : List ℕ → LsapTokenInfoIntegrity
+record_at whole = record { flags = le32_at 0 whole; token_il = le32_at 4 whole; machine_id = take 32 (drop 8 whole) }
 
 -- a write stopped with this fault, and the device counted it and tells its kind
 pub record IsWriteStop (old new : ℕ) (last : Option ErrorKind) (kind : ErrorKind) : Type 0 where

@@ -1,6 +1,7 @@
 //! The record of a process's integrity level (MS-KILE, section 2.2.5).
-ghost use Rattle.std.specs.Prelude.{◌≡◌, ℕ, List, take, IfOk, IfErr, IfSome, MatchResult};
+ghost use Rattle.std.specs.Prelude.{◌≡◌, ℕ, List, take, Some, IfOk, IfErr, IfSome, MatchResult};
 ghost use Rattle.std.specs.Io.KnownBytes.{Consumes, Appends};
+ghost use Rattle.devices.specs.Counting.{one_more};
 ghost use Rattle.krb_tokens.specs.Stops.{kind_of};
 
 use byte_layouts::{array_at, put_at, u32_le};
@@ -35,7 +36,7 @@ fn stop_kind(fault: WholeFault) -> ErrorKind
 }
 
 impl LsapTokenInfoIntegrity {
-    ghost use Rattle.krb_tokens.specs.Integrity.{IsIntegrityRecord, IsWriteStop, IsReadStop};
+    ghost use Rattle.krb_tokens.specs.Integrity.{IsIntegrityRecord, FitsRecord, record_at, IsWriteStop, IsReadStop};
 
     // Its 40 bytes.
     fn bytes(&self) -> [u8; RECORD_LEN]
@@ -65,7 +66,8 @@ impl LsapTokenInfoIntegrity {
 
     // The record that these 40 bytes are.
     fn of_bytes(bytes: &[u8; RECORD_LEN]) -> LsapTokenInfoIntegrity
-        ensures { IsIntegrityRecord result bytes.now }
+        ensures laid { IsIntegrityRecord result bytes.now }
+        ensures read { result ≡ record_at bytes.now }
     {
         LsapTokenInfoIntegrity {
             flags: u32_le(bytes, 0),
@@ -78,6 +80,9 @@ impl LsapTokenInfoIntegrity {
     pub fn decode<R: Source>(reader: &mut R) -> Result<LsapTokenInfoIntegrity, ErrorKind>
         ensures found { IfOk result (λ r. (whole : List ℕ) × IsIntegrityRecord r whole
             × Consumes (R.left reader.old) (R.left reader.new) whole) }
+        ensures only { IfSome (R.left reader.old) (λ bytes. (r : LsapTokenInfoIntegrity) → FitsRecord r → IsIntegrityRecord r (take 40 bytes)
+            → MatchResult result (λ read. read ≡ r)
+            (λ kind. (R.failed reader.new ≡ one_more (R.failed reader.old)) × (R.last_fault reader.new ≡ Some kind))) }
         ensures refused { IfErr result (λ kind. IfSome (R.left reader.old) (λ bytes.
             IsReadStop bytes (R.failed reader.old) (R.failed reader.new) (R.last_fault reader.new) kind)) }
         ensures same { R.through reader.new ≡ R.through reader.old }
