@@ -1,0 +1,5 @@
+pub mod FoundLaws
+pub mod OnlyLaws
+pub mod ReadingLaws
+pub mod RefusalLaws
+pub mod WritingLaws

@@ -1,0 +1,56 @@
+-- What a PAC's bytes hold, or what is first wrong with them, in the order of the bytes. `stop` says why the bytes end.
+use Rattle.std.specs.Prelude.{◌≡◌, ℕ, zero, suc, ◌+◌, ◌-◌, List, [], ◌∷◌, length, take, drop, Option, Result, Ok, Err, nat_lt, nat_eq, if◌then◌else◌, MatchResult, ◌⊎◌}
+use Rattle.std.specs.declared.io.ErrorKind.{ErrorKind}
+use Rattle.byte_layouts.specs.Numbers.{le32_at, le64_at}
+use Rattle.pac_layouts.specs.Buffers.{Buffer}
+use Rattle.pac_layouts.specs.Faults.{short_of, range_of}
+use Rattle.pac_layouts.specs.Kinds.{kind_judged}
+use Rattle.pac_layouts.specs.declared.kind.PacBufferType.{PacBufferType}
+use Rattle.pac_layouts.specs.declared.info.PacInfoBuffer.{PacInfoBuffer}
+use Rattle.pac_layouts.specs.declared.error.PacError.{PacError}
+use Rattle.pac_layouts.specs.declared.error.PacError.TheVariants.{InvalidVersion, Memory}
+
+-- what the first gives, handed to the next
+abbrev pub and_then : {A B : Type 0} → Result A PacError → (A → Result B PacError) → Result B PacError
+and_then (Ok a) next = next a
+and_then (Err e) next = Err e
+
+-- the answer, seen so, is what is told, or memory was wanting
+abbrev pub Gives : {A B : Type 0} → (A → B) → Result A PacError → Result B PacError → Type 0
+Gives view result told = MatchResult result (λ a. told ≡ Ok (view a)) (λ e. (e ≡ Memory) ⊎ (told ≡ Err e))
+
+-- the count of buffers, behind which the version is 0
+abbrev pub head_at : Option ErrorKind → List ℕ → Result ℕ PacError
+head_at stop whole =
+    if nat_lt (length whole) 8 then Err (short_of stop)
+    else if nat_eq (le32_at 4 whole) 0 then Ok (le32_at 0 whole) else Err (InvalidVersion (le32_at 4 whole))
+
+-- the row at this place: first its type, and then all of it
+abbrev pub kind_at : Option ErrorKind → ℕ → List ℕ → Result PacBufferType PacError
+kind_at stop place whole = if nat_lt (length whole - place) 4 then Err (short_of stop) else kind_judged (le32_at place whole)
+
+abbrev pub fields_at : Option ErrorKind → PacBufferType → ℕ → List ℕ → Result PacInfoBuffer PacError
+fields_at stop kind place whole =
+    if nat_lt (length whole - place) 16 then Err (short_of stop)
+    else Ok (record { ul_type = kind; cb_buffer_size = le32_at (place + 4) whole; offset = le64_at (place + 8) whole })
+
+abbrev pub info_at : Option ErrorKind → ℕ → List ℕ → Result PacInfoBuffer PacError
+info_at stop place whole = and_then (kind_at stop place whole) (λ kind. fields_at stop kind place whole)
+
+-- the content that a row speaks of
+abbrev pub content_at : Option ErrorKind → PacInfoBuffer → List ℕ → Result Buffer PacError
+content_at stop info whole =
+    if nat_lt (length whole) (info.offset + info.cb_buffer_size) then Err (range_of stop)
+    else Ok (record { info = info; content = take info.cb_buffer_size (drop info.offset whole) })
+
+abbrev pub buffer_at : Option ErrorKind → ℕ → List ℕ → Result Buffer PacError
+buffer_at stop place whole = and_then (info_at stop place whole) (λ info. content_at stop info whole)
+
+-- so many buffers, whose rows stand from this place on
+abbrev pub buffers_at : Option ErrorKind → ℕ → ℕ → List ℕ → Result (List Buffer) PacError
+buffers_at stop zero place whole = Ok []
+buffers_at stop (suc n) place whole =
+    and_then (buffer_at stop place whole) (λ b. and_then (buffers_at stop n (place + 16) whole) (λ bs. Ok (b ∷ bs)))
+
+abbrev pub pac_at : Option ErrorKind → List ℕ → Result (List Buffer) PacError
+pac_at stop whole = and_then (head_at stop whole) (λ count. buffers_at stop count 8 whole)

@@ -1,0 +1,56 @@
+-- How a PAC is written.
+use Rattle.std.specs.Prelude.{◌≡◌, ℕ, ◌+◌, ◌*◌, ◌/◌, ◌≤◌, ◌&&◌, Bool, List, [], ◌∷◌, length, map, replicate, Option, Result, Ok, Err, nat_eq, nat_le, nat_lt, if◌then◌else◌, ◌⊎◌}
+use Rattle.std.specs.List.{list_all}
+use Rattle.std.specs.declared.io.ErrorKind.{ErrorKind}
+use Rattle.byte_layouts.specs.Parts.{Part, part, put_all, AreAllApart}
+use Rattle.pac_layouts.specs.Buffers.{Buffer, pac_parts}
+use Rattle.pac_layouts.specs.Faults.{IsWriteFault}
+use Rattle.pac_layouts.specs.Reading.{and_then}
+use Rattle.pac_layouts.specs.declared.error.PacError.{PacError}
+use Rattle.pac_layouts.specs.declared.error.PacError.TheVariants.{InvalidRange, Memory}
+
+-- a row, and its size rounded up to 8
+abbrev pub room_of : Buffer → ℕ
+room_of b = 16 + (b.info.cb_buffer_size + 7) / 8 * 8
+
+abbrev pub rooms_of : List Buffer → ℕ
+rooms_of [] = 0
+rooms_of (b ∷ bs) = room_of b + rooms_of bs
+
+-- how many bytes a PAC with these buffers has
+abbrev pub pac_size : List Buffer → ℕ
+pac_size bs = 8 + rooms_of bs
+
+-- the content has the row's size, and ends within n bytes
+abbrev pub is_sized : ℕ → Buffer → Bool
+is_sized n b = nat_eq b.info.cb_buffer_size (length b.content) && nat_le (b.info.offset + b.info.cb_buffer_size) n
+
+-- how many buffers there are, where their count fits its field and each is of its size and within n bytes
+abbrev pub counted : ℕ → List Buffer → Result ℕ PacError
+counted n bs = if nat_lt 4294967295 (length bs) then Err InvalidRange else if list_all (is_sized n) bs then Ok (length bs) else Err InvalidRange
+
+-- the parts put to their places, in their order, into zeros
+abbrev pub pac_bytes : List Buffer → List ℕ
+pac_bytes bs = put_all (pac_parts bs) (replicate (pac_size bs) 0)
+
+-- the bytes of a PAC with these buffers, or that there are none
+abbrev pub pac_written : List Buffer → Result (List ℕ) PacError
+pac_written bs = and_then (counted (pac_size bs) bs) (λ _. Ok (pac_bytes bs))
+
+-- each content lies at n or behind
+abbrev pub AreBehind : ℕ → List Buffer → Type 0
+AreBehind n [] = Unit {0}
+AreBehind n (b ∷ bs) = (n ≤ b.info.offset) × AreBehind n bs
+
+abbrev pub content_part : Buffer → Part
+content_part b = part b.info.offset b.content
+
+-- the contents lie behind the table, and apart from each other
+pub record ArePlaced (bs : List Buffer) : Type 0 where
+  pub behind : AreBehind (8 + 16 * length bs) bs
+  pub apart : AreAllApart (map content_part bs)
+
+-- nothing was written, for want of memory or since no bytes are this PAC; or a write stopped
+abbrev pub IsWriteRefusal : List Buffer → ℕ → ℕ → Option ErrorKind → PacError → Type 0
+IsWriteRefusal bs old new last fault =
+    ((new ≡ old) × ((fault ≡ Memory) ⊎ (pac_written bs ≡ Err fault))) ⊎ IsWriteFault old new last fault

@@ -1,0 +1,108 @@
+//! A buffer of a PAC: its row and its content.
+ghost use Rattle.std.specs.Prelude.{◌≡◌, ◌+◌, ◌≤◌, length, IfOk, MatchResult};
+ghost use Rattle.byte_layouts.specs.Parts.{put_all};
+ghost use Rattle.pac_layouts.specs.Buffers.{buffer_of, one_buffer_parts, IsSized};
+ghost use Rattle.pac_layouts.specs.Writing.{room_of, is_sized};
+ghost use Rattle.pac_layouts.specs.Reading.{Gives, content_at, buffer_at};
+
+use crate::error::range_fault;
+use crate::info::INFO_LEN;
+use crate::{PacError, PacInfoBuffer};
+use byte_layouts::put_at;
+use std::alloc::Global;
+use std::io::ErrorKind;
+
+/// A buffer of a PAC.
+#[derive(Clone, Debug, Drop, PartialEq, Eq)]
+pub struct PacBuffer {
+    info_buffer: PacInfoBuffer,
+    data: Vec<u8>,
+}
+
+// The buffer that this row speaks of. It may end at the last of the bytes; where it ends past them, `stop` says why.
+fn read_content(
+    alloc: Global,
+    bytes: &[u8],
+    info: PacInfoBuffer,
+    stop: Option<ErrorKind>,
+) -> Result<PacBuffer, PacError>
+    ensures { Gives buffer_of result (content_at stop info bytes.now) }
+{
+    let size = info.cb_buffer_size();
+    if (bytes.len() as u128) < u128::from(info.offset()) + u128::from(size) {
+        return Err(range_fault(stop));
+    }
+    let begin = info.offset() as usize;
+    let mut data = Vec::new(alloc);
+    data.extend_from_slice(&bytes[begin..begin + size as usize])?;
+    Ok(PacBuffer {
+        info_buffer: info,
+        data,
+    })
+}
+
+impl PacBuffer {
+    /// The buffer of this row and this content.
+    pub fn new(info_buffer: PacInfoBuffer, bytes: Vec<u8>) -> PacBuffer
+        ensures { buffer_of result ≡ record { info = info_buffer; content = bytes.items } }
+    {
+        PacBuffer {
+            info_buffer,
+            data: bytes,
+        }
+    }
+
+    /// Its row.
+    pub fn info_buffer(&self) -> PacInfoBuffer
+        ensures { result ≡ (buffer_of self.now).info }
+    {
+        self.info_buffer
+    }
+
+    /// Its content.
+    pub fn data(&self) -> &[u8]
+        ensures { result.now ≡ (buffer_of self.now).content }
+    {
+        &self.data
+    }
+
+    // The buffer whose row stands at `place`.
+    pub(crate) fn read(
+        alloc: Global,
+        bytes: &[u8],
+        place: usize,
+        stop: Option<ErrorKind>,
+    ) -> Result<PacBuffer, PacError>
+        ensures exact { Gives buffer_of result (buffer_at stop place bytes.now) }
+        ensures room { IfOk result (λ _. place + 16 ≤ length bytes.now) }
+    {
+        let info = PacInfoBuffer::read(bytes, place, stop)?;
+        read_content(alloc, bytes, info, stop)
+    }
+
+    // How many bytes of a PAC it takes: its row, and its size rounded up to 8.
+    pub(crate) fn room(&self) -> usize
+        ensures { result ≡ room_of (buffer_of self.now) }
+    {
+        INFO_LEN + (self.info_buffer.cb_buffer_size() as usize + 7) / 8 * 8
+    }
+
+    // Whether it has its row's size, and ends within `size` bytes.
+    pub(crate) fn is_sized(&self, size: usize) -> bool
+        ensures { result ≡ is_sized size (buffer_of self.now) }
+    {
+        let end = u128::from(self.info_buffer.offset())
+            + u128::from(self.info_buffer.cb_buffer_size());
+        self.info_buffer.cb_buffer_size() as usize == self.data.len() && end <= size as u128
+    }
+
+    // Writes the row to `place`, and then the content to its own.
+    pub(crate) fn put(&self, bytes: &mut [u8], place: usize)
+        requires room { place + 16 ≤ length bytes.old }
+        requires sized { IsSized (length bytes.old) (buffer_of self.now) }
+        ensures { bytes.new ≡ put_all (one_buffer_parts place (buffer_of self.now)) bytes.old }
+    {
+        self.info_buffer.put(bytes, place);
+        put_at(bytes, self.info_buffer.offset() as usize, &self.data);
+    }
+}

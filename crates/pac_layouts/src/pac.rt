@@ -1,0 +1,222 @@
+//! The whole PAC (MS-PAC, section 2.3).
+ghost use Rattle.std.specs.Prelude.{◌≡◌, ℕ, ◌+◌, ◌*◌, ◌≤◌, ◌<◌, length, take, Ok, List, [], ◌∷◌, ◌++◌, None, IfOk, IfErr, IfSome, OnOk, MatchResult, map, replicate};
+ghost use Rattle.std.specs.List.{list_all};
+ghost use Rattle.byte_layouts.specs.Parts.{part, put, put_all};
+ghost use Rattle.byte_layouts.specs.Numbers.{le32};
+ghost use Rattle.pac_layouts.specs.Reading.{Gives, head_at, pac_at};
+ghost use Rattle.pac_layouts.specs.Buffers.{Buffer, buffer_of, pac_buffers, buffer_parts, AreSized, IsPac, AllFit};
+ghost use Rattle.pac_layouts.specs.Writing.{pac_size, is_sized, counted, pac_bytes, pac_written, ArePlaced};
+
+use crate::error::{short_fault, write_fault};
+use crate::info::INFO_LEN;
+use crate::{PacBuffer, PacError};
+use byte_layouts::{put_at, read_to_stop, u32_le};
+use devices::{Sink, Source, write_whole};
+use std::alloc::{AllocError, Global};
+use std::io::ErrorKind;
+
+// How many bytes stand before the table: the count of buffers and the version.
+const HEAD_LEN: usize = 8;
+
+/// A PAC.
+#[derive(Clone, Debug, Drop, PartialEq, Eq)]
+pub struct Pac {
+    buffers: Vec<PacBuffer>,
+}
+
+// How many buffers there are.
+fn read_head(bytes: &[u8], stop: Option<ErrorKind>) -> Result<u32, PacError>
+    ensures { result ≡ head_at stop bytes.now }
+{
+    if bytes.len() < HEAD_LEN {
+        return Err(short_fault(stop));
+    }
+    let version = u32_le(bytes, 4);
+    if version != 0 {
+        return Err(PacError::InvalidVersion(version));
+    }
+    Ok(u32_le(bytes, 0))
+}
+
+fn keep(buffers: &mut Vec<PacBuffer>, buffer: PacBuffer) -> Result<(), AllocError>
+    ensures { OnOk result (buffers.new.items ≡ buffers.old.items ++ buffer ∷ []) }
+{
+    buffers.push(buffer)?;
+    Ok(())
+}
+
+// The buffers. Room is made for those alone whose rows are there.
+fn read_buffers(
+    alloc: Global,
+    bytes: &[u8],
+    stop: Option<ErrorKind>,
+) -> Result<Vec<PacBuffer>, PacError>
+    ensures exact { Gives (λ v. map buffer_of v.items) result (pac_at stop bytes.now) }
+{
+    let count = read_head(bytes, stop)?;
+    let mut buffers = Vec::new(alloc);
+    for i in 0..count {
+        let place = HEAD_LEN + INFO_LEN * i as usize;
+        let buffer = PacBuffer::read(alloc, bytes, place, stop)?;
+        keep(&mut buffers, buffer)?;
+    }
+    Ok(buffers)
+}
+
+// The PAC that these bytes hold.
+fn read_pac(alloc: Global, bytes: &[u8], stop: Option<ErrorKind>) -> Result<Pac, PacError>
+    ensures exact { Gives pac_buffers result (pac_at stop bytes.now) }
+    ensures laid { IfOk result (λ p. IsPac (pac_buffers p) bytes.now) }
+{
+    let buffers = read_buffers(alloc, bytes, stop)?;
+    Ok(Pac { buffers })
+}
+
+// How many bytes a PAC with these buffers has; none where that is past what memory holds.
+fn size_of(buffers: &[PacBuffer]) -> Option<usize>
+    ensures { IfSome result (λ n. n ≡ pac_size (map buffer_of buffers.now)) }
+{
+    let mut size = HEAD_LEN;
+    for buffer in buffers {
+        size = size.checked_add(buffer.room())?;
+    }
+    Some(size)
+}
+
+fn are_sized(buffers: &[PacBuffer], size: usize) -> bool
+    ensures { result ≡ list_all (λ b. is_sized size (buffer_of b)) buffers.now }
+{
+    buffers.iter().all(|buffer| buffer.is_sized(size))
+}
+
+// How many buffers there are, where each is of its size and within `size` bytes.
+fn count_sized(buffers: &[PacBuffer], size: usize) -> Result<u32, PacError>
+    ensures { result ≡ counted size (map buffer_of buffers.now) }
+{
+    if (u32::MAX as usize) < buffers.len() {
+        return Err(PacError::InvalidRange);
+    }
+    if !are_sized(buffers, size) {
+        return Err(PacError::InvalidRange);
+    }
+    Ok(buffers.len() as u32)
+}
+
+fn put_head(bytes: &mut [u8], count: u32)
+    requires { 8 ≤ length bytes.old }
+    ensures parts { bytes.new ≡ put (part 4 (le32 0)) (put (part 0 (le32 count)) bytes.old) }
+    ensures size { length bytes.new ≡ length bytes.old }
+{
+    put_at(bytes, 0, &count.to_le_bytes());
+    put_at(bytes, 4, &0u32.to_le_bytes());
+}
+
+fn put_buffers(bytes: &mut [u8], buffers: &[PacBuffer])
+    requires room { 8 + 16 * length buffers.now ≤ length bytes.old }
+    requires sized { AreSized (length bytes.old) (map buffer_of buffers.now) }
+    ensures { bytes.new ≡ put_all (buffer_parts 8 (map buffer_of buffers.now)) bytes.old }
+{
+    for (i, buffer) in buffers.iter().enumerate() {
+        buffer.put(bytes, HEAD_LEN + INFO_LEN * i);
+    }
+}
+
+fn zeros(alloc: Global, size: usize) -> Result<Vec<u8>, AllocError>
+    ensures { IfOk result (λ v. v.items ≡ replicate size 0) }
+{
+    Ok(vec![in alloc; 0u8; size]?)
+}
+
+// Puts all parts to their places, in their order.
+fn put_parts(bytes: &mut [u8], count: u32, buffers: &[PacBuffer])
+    requires room { 8 + 16 * length buffers.now ≤ length bytes.old }
+    requires sized { AreSized (length bytes.old) (map buffer_of buffers.now) }
+    ensures { bytes.new ≡ put_all (buffer_parts 8 (map buffer_of buffers.now)) (put (part 4 (le32 0)) (put (part 0 (le32 count)) bytes.old)) }
+{
+    put_head(bytes, count);
+    put_buffers(bytes, buffers);
+}
+
+impl Pac {
+    ghost use Rattle.std.specs.Io.KnownBytes.{Consumes, IsAtEnd, Appends};
+    ghost use Rattle.pac_layouts.specs.Refusals.{IsRefusal, IsExcuse};
+    ghost use Rattle.pac_layouts.specs.Writing.{IsWriteRefusal};
+
+    /// A PAC of these buffers.
+    pub fn new(buffers: Vec<PacBuffer>) -> Pac
+        ensures { pac_buffers result ≡ map buffer_of buffers.items }
+    {
+        Pac { buffers }
+    }
+
+    /// Its buffers.
+    pub fn buffers(&self) -> &[PacBuffer]
+        ensures { map buffer_of result.now ≡ pac_buffers self.now }
+    {
+        &self.buffers
+    }
+
+    // Its bytes.
+    fn bytes(&self, alloc: Global) -> Result<Vec<u8>, PacError>
+        ensures { Gives (λ v. v.items) result (pac_written (pac_buffers self.now)) }
+    {
+        let Some(size) = size_of(&self.buffers) else {
+            return Err(PacError::Memory);
+        };
+        let count = count_sized(&self.buffers, size)?;
+        let mut bytes = zeros(alloc, size)?;
+        put_parts(&mut bytes, count, &self.buffers);
+        Ok(bytes)
+    }
+
+    /// Writes the PAC; a front of it where the writer stops. Its buffers' rows are written in turn, and each content at
+    /// its row's offset, into zeros: 8 bytes, 16 for each buffer, and each size rounded up to 8.
+    ///
+    /// A size other than the content's, and a buffer that ends past those bytes, is InvalidRange.
+    pub fn serialize<W: Sink>(&self, alloc: Global, writer: &mut W) -> Result<(), PacError>
+        ensures written { MatchResult result
+            (λ _. Appends (W.written writer.old) (W.written writer.new) (pac_bytes (pac_buffers self.now)))
+            (λ _. (n : ℕ) × Appends (W.written writer.old) (W.written writer.new) (take n (pac_bytes (pac_buffers self.now)))) }
+        ensures laid { IfOk result (λ _. ArePlaced (pac_buffers self.now) → IsPac (pac_buffers self.now) (pac_bytes (pac_buffers self.now))) }
+        ensures judged { IfOk result (λ _. pac_written (pac_buffers self.now) ≡ Ok (pac_bytes (pac_buffers self.now))) }
+        ensures refused { MatchResult result (λ _. W.failed writer.new ≡ W.failed writer.old)
+            (IsWriteRefusal (pac_buffers self.now) (W.failed writer.old) (W.failed writer.new) (W.last_fault writer.new)) }
+        ensures same { W.through writer.new ≡ W.through writer.old }
+    {
+        let bytes = self.bytes(alloc)?;
+        match write_whole(writer, &bytes) {
+            Ok(()) => Ok(()),
+            Err(fault) => Err(write_fault(fault)),
+        }
+    }
+
+    /// Reads a PAC to the end of `reader`. What stands behind and between its buffers is dropped.
+    ///
+    /// Answered is what comes first in the bytes: IoError where they end within the head or the table, InvalidVersion,
+    /// and for each buffer in turn PacBufferType, and InvalidRange where it ends past the bytes; where the device fails
+    /// behind bytes in which nothing is wrong, its fault.
+    pub fn deserialize<R: Source>(alloc: Global, reader: &mut R) -> Result<Pac, PacError>
+        ensures found { IfOk result (λ p. (whole : List ℕ) × IsPac (pac_buffers p) whole
+            × Consumes (R.left reader.old) (R.left reader.new) whole) }
+        ensures end { IfOk result (λ _. IsAtEnd (R.left reader.new)) }
+        ensures only { IfSome (R.left reader.old) (λ whole. (bs : List Buffer) → AllFit bs → IsPac bs whole
+            → MatchResult result (λ p. pac_buffers p ≡ bs)
+            (IsExcuse whole (R.failed reader.old) (R.failed reader.new) (R.last_fault reader.new))) }
+        ensures refused { IfErr result (λ e. IfSome (R.left reader.old) (λ whole.
+            IsRefusal whole (R.failed reader.old) (R.failed reader.new) (R.last_fault reader.new) e)) }
+        ensures same { R.through reader.new ≡ R.through reader.old }
+    {
+        let came = read_to_stop(alloc, reader)?;
+        let pac = read_pac(alloc, &came.bytes, came.fault)?;
+        match came.fault {
+            None => Ok(pac),
+            Some(kind) => Err(PacError::IoError(kind)),
+        }
+    }
+}
+
+/// The law that reading gives back what was written, of buffers whose numbers fit their fields and whose contents lie
+/// behind the table, apart from each other and inside the bytes.
+pub fn written_is_read()
+    ensures { (bs : List Buffer) (out : List ℕ) → AllFit bs → ArePlaced bs → pac_written bs ≡ Ok out → pac_at None out ≡ Ok bs }
+{}
