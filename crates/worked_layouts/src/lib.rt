@@ -4,4 +4,6 @@
 #[cfg(test)]
 mod integrity;
 #[cfg(test)]
+mod pac;
+#[cfg(test)]
 mod tokens;
