@@ -9,6 +9,7 @@ pub mod FieldsLemmas
 pub mod Headers
 pub mod Leaves
 pub mod ReadsLemmas
+pub mod Results
 pub mod Sequences
 pub mod UnsignedLemmas
 pub mod Writes

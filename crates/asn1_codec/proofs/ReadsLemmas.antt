@@ -1,5 +1,5 @@
 -- What reading from the front of an input answers.
-use Rattle.std.proofs.Common.{◌≡◌, ◌⊎◌, ℕ, List, [], ◌∷◌, ◌++◌, length, Some, Ok, Err, inl, inr, refl, sym, ap, subst, ◌∙◌, ◌≤◌, arith, length-append, append-nil}
+use Rattle.std.proofs.Common.{◌≡◌, ◌⊎◌, ℕ, List, [], ◌∷◌, ◌++◌, length, Some, Result, Ok, Err, MatchResult, IfErr, inl, inr, refl, sym, ap, subst, ◌∙◌, ◌≤◌, arith, length-append, append-nil}
 use Rattle.asn1_octets.specs.declared.error.Asn1DerError.{Asn1DerError}
 use Rattle.asn1_octets.specs.declared.error.Asn1DerError.TheVariants.{Memory, Other, TruncatedData, InvalidData, UnsupportedValue, UnsupportedType, InvalidSink, Message}
 use Rattle.std.specs.declared.io.ErrorKind.{ErrorKind}
@@ -8,7 +8,7 @@ use Rattle.asn1_codec.specs.Reads.{IsOneValue, BeginsBy, ReadsFront, ReadsWhole}
 use Rattle.asn1_codec.proofs.Chain.{consumed, cause_of}
 
 -- a value was read
-pub reads-value : {T : Type 0} (reads : T → List ℕ → Type 0) → IsOneValue reads → (value : T) (input : List ℕ) (old new : Reading) → old ≡ whole_input input
+reads-value : {T : Type 0} (reads : T → List ℕ → Type 0) → IsOneValue reads → (value : T) (input : List ℕ) (old new : Reading) → old ≡ whole_input input
     → TookBy reads value old new → ReadsFront reads input (Ok value)
 reads-value reads one value input old new is took =
     let rest = consumed old.left new.left took.0 input took.2.left (ap (λ r. r.left) is) in
@@ -43,7 +43,7 @@ own_where_none (Other kind) counted = no_device kind (Other kind) counted refl
 own_where_none Memory counted = tt
 
 -- over an input in memory no fault is a device's
-pub own_fault : (P : List ℕ → Type 0) (input : List ℕ) (old new : Reading) (fault : Asn1DerError) → old ≡ whole_input input → new.faults ≡ 0
+own_fault : (P : List ℕ → Type 0) (input : List ℕ) (old new : Reading) (fault : Asn1DerError) → old ≡ whole_input input → new.faults ≡ 0
     → Refused P old new fault → IsOwn fault
 own_fault P input old new fault is none refused =
     own_where_none fault (sym none ∙ refused.faults ∙ ap (λ r. faults_after fault r.faults) is)
@@ -65,7 +65,7 @@ front_cause reads input old fault is own (inl excuse) = by_cause reads input old
 front_cause reads input old fault is own (inr missing) = missing_value reads input old fault is missing
 
 -- a value was refused, and no call of the source failed
-pub reads-refused : {T : Type 0} (reads : T → List ℕ → Type 0) (input : List ℕ) (old new : Reading) (fault : Asn1DerError) → old ≡ whole_input input → new.faults ≡ 0
+reads-refused : {T : Type 0} (reads : T → List ℕ → Type 0) (input : List ℕ) (old new : Reading) (fault : Asn1DerError) → old ≡ whole_input input → new.faults ≡ 0
     → Refused (IsReadBy reads) old new fault → ReadsFront {T = T} reads input (Err fault)
 reads-refused reads input old new fault is none refused =
     front_cause reads input old fault is (own_fault (IsReadBy reads) input old new fault is none refused)
@@ -76,7 +76,7 @@ none_left [] e = refl
 none_left (r ∷ rest) e = absurd (omega arith)
 
 -- a value was read, and nothing is left
-pub reads_all-value : {T : Type 0} (reads : T → List ℕ → Type 0) → IsOneValue reads → (value : T) (input : List ℕ) (old new : Reading) → old ≡ whole_input input
+reads_all-value : {T : Type 0} (reads : T → List ℕ → Type 0) → IsOneValue reads → (value : T) (input : List ℕ) (old new : Reading) → old ≡ whole_input input
     → TookBy reads value old new → new.limit ≡ 0 → ReadsWhole reads input (Ok value)
 reads_all-value reads one value input old new is took done =
     let rest = consumed old.left new.left took.0 input took.2.left (ap (λ r. r.left) is) in
@@ -114,8 +114,27 @@ all_cause : {T : Type 0} (reads : T → List ℕ → Type 0) (input : List ℕ) 
 all_cause reads input old fault is own (inl excuse) = by_cause_all reads input fault own excuse
 all_cause reads input old fault is own (inr missing) = missing_all reads input old fault is missing
 
-pub reads_all-refused : {T : Type 0} (reads : T → List ℕ → Type 0) (input : List ℕ) (old new : Reading) (fault : Asn1DerError) → old ≡ whole_input input → new.faults ≡ 0
+reads_all-refused : {T : Type 0} (reads : T → List ℕ → Type 0) (input : List ℕ) (old new : Reading) (fault : Asn1DerError) → old ≡ whole_input input → new.faults ≡ 0
     → Refused (IsLastBy reads old.limit) old new fault → ReadsWhole {T = T} reads input (Err fault)
 reads_all-refused reads input old new fault is none refused =
     all_cause reads input old fault is (own_fault (IsLastBy reads old.limit) input old new fault is none refused)
     (cause_of (IsLastBy reads old.limit) old fault (ap (λ r. r.failed) is) refused.cause)
+
+-- what was answered, a value or a refusal, where no call of the source failed
+pub reads-answer : {T : Type 0} (reads : T → List ℕ → Type 0) → IsOneValue reads → (answer : Result T Asn1DerError) (input : List ℕ) (old new : Reading)
+    → old ≡ whole_input input → new.faults ≡ 0
+    → MatchResult answer (λ value. TookBy reads value old new) (λ fault. Refused (IsReadBy reads) old new fault) → ReadsFront reads input answer
+reads-answer reads one (Ok value) input old new is none read = reads-value reads one value input old new is read
+reads-answer reads one (Err fault) input old new is none read = reads-refused reads input old new fault is none read
+
+pub reads_all-answer : {T : Type 0} (reads : T → List ℕ → Type 0) → IsOneValue reads → (answer : Result T Asn1DerError) (input : List ℕ) (old new : Reading)
+    → old ≡ whole_input input → new.faults ≡ 0
+    → MatchResult answer (λ value. TookBy reads value old new × (new.limit ≡ 0)) (λ fault. Refused (IsLastBy reads old.limit) old new fault)
+    → ReadsWhole reads input answer
+reads_all-answer reads one (Ok value) input old new is none read = reads_all-value reads one value input old new is read.0 read.1
+reads_all-answer reads one (Err fault) input old new is none read = reads_all-refused reads input old new fault is none read
+
+pub own-answer : {T : Type 0} (P : T → Type 0) (Q : List ℕ → Type 0) (answer : Result T Asn1DerError) (input : List ℕ) (old new : Reading)
+    → old ≡ whole_input input → new.faults ≡ 0 → MatchResult answer P (λ fault. Refused Q old new fault) → IfErr answer IsOwn
+own-answer P Q (Ok value) input old new is none read = tt
+own-answer P Q (Err fault) input old new is none read = own_fault Q input old new fault is none read

@@ -68,8 +68,7 @@ impl<T: Deserialize> FromDer for T {
         in (same.0, same.1) };
 
     fn read_from<R: Source>(from: &mut Deserializer<R>) -> Result<Self, Asn1DerError> {
-        let value = T::deserialize(from)?;
-        Ok(value)
+        T::deserialize(from)
     }
 }
 
@@ -158,6 +157,7 @@ impl<R: Source> Deserializer<R> {
     /// Refuses for `fault`, and gives it back: from now on each call answers `InvalidData`.
     ///
     /// A type's `deserialize` calls it where what was taken breaks a rule of the type's own.
+    #[inline(always)]
     pub fn refuse(&mut self, fault: Asn1DerError) -> Asn1DerError
         ensures after { self.new ≡ stopped self.old }
         ensures fault { result ≡ fault }
@@ -167,6 +167,7 @@ impl<R: Source> Deserializer<R> {
     }
 
     /// Answers `InvalidData` after a refusal.
+    #[inline(always)]
     pub(crate) fn ready(&self) -> Result<(), Asn1DerError>
         ensures { MatchResult result
             (λ _. self.now.failed ≡ false)
@@ -180,6 +181,7 @@ impl<R: Source> Deserializer<R> {
     }
 
     /// Takes one octet.
+    #[inline(always)]
     fn take_octet(&mut self) -> Result<u8, Asn1DerError>
         ensures { MatchResult result
             (λ octet. Took (octet ∷ []) self.old self.new)
@@ -200,6 +202,7 @@ impl<R: Source> Deserializer<R> {
     }
 
     /// Looks at the next octet, of which there is one.
+    #[inline(always)]
     pub(crate) fn peek(&mut self) -> Result<u8, Asn1DerError>
         requires { 1 ≤ self.old.limit }
         ensures { MatchResult result
@@ -254,6 +257,7 @@ impl<R: Source> Deserializer<R> {
     }
 
     /// Takes length octets, and gives the length. Only a length below the limit is wanted.
+    #[inline(always)]
     fn take_length(&mut self) -> Result<usize, Asn1DerError>
         ensures { MatchResult result
             (λ count. Took (length_octets count) self.old self.new)
@@ -310,6 +314,7 @@ impl<R: Source> Deserializer<R> {
     }
 
     /// Lowers the limit to `count`, and gives what lies behind.
+    #[inline(always)]
     pub(crate) fn enter(&mut self, count: usize) -> usize
         requires room { count ≤ self.old.limit }
         requires unlooked { self.old.looked ≡ false }
@@ -322,6 +327,7 @@ impl<R: Source> Deserializer<R> {
     }
 
     /// Raises the limit to `outside`, from which `enter` lowered it.
+    #[inline(always)]
     pub(crate) fn leave(&mut self, outside: usize)
         requires { self.old.looked ≡ false }
         ensures { self.new ≡ within outside self.old }
@@ -358,6 +364,7 @@ impl<R: Source> Deserializer<R> {
     }
 
     /// Takes a constructed element with the identifier octet `tag`, whose content is these fields.
+    #[inline(always)]
     pub fn list<F: Fields>(&mut self, tag: u8) -> Result<F, Asn1DerError>
         requires { IsTrue F.sound }
         ensures { MatchResult result
@@ -366,12 +373,16 @@ impl<R: Source> Deserializer<R> {
     {
         let count = self.open(tag)?;
         let outside = self.enter(count);
-        let fields = F::read(self)?;
+        let fields = F::read(self);
+        if fields.is_err() {
+            return fields;
+        }
         self.leave(outside);
-        Ok(fields)
+        fields
     }
 
     /// Takes a value under the further identifier octet `tag`.
+    #[inline(always)]
     pub fn wrapped<T: Deserialize>(&mut self, tag: u8) -> Result<T, Asn1DerError>
         ensures { MatchResult result
             (λ value. TookValue (λ v. wrapped tag (T.tree v)) value self.old self.new)
@@ -379,20 +390,27 @@ impl<R: Source> Deserializer<R> {
     {
         let count = self.open(tag)?;
         let rest = self.enter(count);
-        let value = self.last()?;
+        let value = self.last();
+        if value.is_err() {
+            return value;
+        }
         self.leave(rest);
-        Ok(value)
+        value
     }
 
     /// Takes a value, which is all that is left up to the limit.
+    #[inline(always)]
     fn last<T: Deserialize>(&mut self) -> Result<T, Asn1DerError>
         ensures { MatchResult result
             (λ value. TookFields (λ v. more (T.tree v) none) value self.old self.new)
             (λ fault. Refused (AreFields (λ v. more (T.tree v) none) self.old.limit) self.old self.new fault) }
     {
-        let value = T::deserialize(self)?;
+        let value = T::deserialize(self);
+        if value.is_err() {
+            return value;
+        }
         self.finish()?;
-        Ok(value)
+        value
     }
 
     /// Takes a value under the further identifier octet `tag`, where it stands behind the octet `lead`: in a BIT STRING behind
@@ -404,9 +422,12 @@ impl<R: Source> Deserializer<R> {
     {
         let count = self.open(tag)?;
         let rest = self.enter(count);
-        let value = self.last_behind(lead)?;
+        let value = self.last_behind(lead);
+        if value.is_err() {
+            return value;
+        }
         self.leave(rest);
-        Ok(value)
+        value
     }
 
     /// Takes the octet `lead` and a value behind it, which are all that is left up to the limit.
@@ -425,6 +446,7 @@ impl<R: Source> Deserializer<R> {
     }
 
     /// Whether bytes are left up to the limit.
+    #[inline(always)]
     pub(crate) fn remains(&self) -> bool
         ensures some { IsTrue result ↔ (1 ≤ self.now.limit) }
         ensures none { result ≡ false → self.now.looked ≡ false }
@@ -433,11 +455,13 @@ impl<R: Source> Deserializer<R> {
     }
 
     /// What memory is taken from.
+    #[inline(always)]
     pub fn allocator(&self) -> Global {
         self.alloc
     }
 
     /// Whether the next octet begins a value of `T`: not at the limit. The octet stays unread.
+    #[inline(always)]
     pub fn starts<T: Deserialize>(&mut self) -> Result<bool, Asn1DerError>
         ensures { MatchResult result
             (λ answer. TookNone self.old self.new × Tells T.firsts answer self.old)
@@ -452,6 +476,7 @@ impl<R: Source> Deserializer<R> {
     }
 
     /// Refuses where bytes are left up to the limit.
+    #[inline(always)]
     pub fn finish(&mut self) -> Result<(), Asn1DerError>
         ensures { MatchResult result
             (λ _. (self.new ≡ self.old) × (self.old.failed ≡ false) × (self.old.limit ≡ 0) × (self.old.looked ≡ false))
@@ -493,14 +518,10 @@ pub fn from_bytes<T: FromDer>(alloc: Global, input: &[u8]) -> Result<T, Asn1DerE
     ensures own { IfErr result IsOwn }
 {
     let mut from = Deserializer::new_from_bytes(alloc, input);
-    match T::read_from(&mut from) {
-        Ok(value) => Ok(value),
-        Err(fault) => {
-            // The proof looks into the reader here: bytes in memory count no failure, so none is answered.
-            let _ = &from.reader;
-            Err(fault)
-        }
-    }
+    let answer = T::read_from(&mut from);
+    // The proof looks into the reader here: bytes in memory count no failure, so none is answered.
+    let _ = &from.reader;
+    answer
 }
 
 /// Reads the value whose spelling is all of `input`. No fault is a device's.
@@ -509,14 +530,10 @@ pub fn from_exact_bytes<T: FromDer>(alloc: Global, input: &[u8]) -> Result<T, As
     ensures own { IfErr result IsOwn }
 {
     let mut from = Deserializer::new_from_bytes(alloc, input);
-    match read_last(&mut from) {
-        Ok(value) => Ok(value),
-        Err(fault) => {
-            // The proof looks into the reader here: bytes in memory count no failure, so none is answered.
-            let _ = &from.reader;
-            Err(fault)
-        }
-    }
+    let answer = read_last(&mut from);
+    // The proof looks into the reader here: bytes in memory count no failure, so none is answered.
+    let _ = &from.reader;
+    answer
 }
 
 /// Reads the value whose spelling comes next from `reader`, of at most 10,240 bytes, and takes just these.
@@ -550,12 +567,16 @@ pub fn from_reader_with_max_len<T: FromDer, R: Source>(
 }
 
 /// Reads a value, behind which nothing is left up to the limit.
+#[inline(always)]
 fn read_last<T: FromDer, R: Source>(from: &mut Deserializer<R>) -> Result<T, Asn1DerError>
     ensures { MatchResult result
         (λ value. TookBy T.reads value from.old from.new × (from.new.limit ≡ 0))
         (λ fault. Refused (IsLastBy T.reads from.old.limit) from.old from.new fault) }
 {
-    let value = T::read_from(from)?;
+    let value = T::read_from(from);
+    if value.is_err() {
+        return value;
+    }
     from.finish()?;
-    Ok(value)
+    value
 }

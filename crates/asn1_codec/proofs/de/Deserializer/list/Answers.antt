@@ -5,6 +5,7 @@ use Rattle.asn1_trees.proofs.Elements.{element-split, element-content}
 use Rattle.asn1_codec.specs.Reading.{IsElement, IsList, AreFields}
 use Rattle.asn1_codec.proofs.Chain.{at-exit, refused-as, refused-after, refused-within, took-as, took-within}
 use Rattle.asn1_codec.proofs.Headers.{element_content_cut, header_sizes}
+use Rattle.asn1_codec.proofs.Results.{handed-value, handed-fault}
 use Rattle.asn1_codec.proofs.de.Deserializer.list.Goals as goal
 
 pub returns-in_err-count : goal.returns-in_err-count
@@ -12,15 +13,15 @@ returns-in_err-count g c =
     at-exit _ _ _ _ c.from_residual.ensures.1
     (refused-as (IsList c.args.tag g.F.Fields.trees) (IsElement c.args.tag) _ _ _ c.in_err-count.ensures (λ bytes p. (ders (g.F.Fields.trees p.0), p.2)))
 
-pub returns-in_err-fields : goal.returns-in_err-fields
-returns-in_err-fields g c =
+pub returns-then-is_err : goal.returns-then-is_err
+returns-then-is_err g c =
     let header = c.in_ok-count.ensures.0 in
     let count = c.in_ok-count.count in
     let low : c.enter-outside.new.self.limit ≡ count = ap (λ r. r.limit) c.enter-outside.ensures.inside in
-    at-exit _ _ _ _ c.from_residual-in_err-fields.ensures.1
-    (refused-after (IsList c.args.tag g.F.Fields.trees) (AreFields g.F.Fields.trees count) (c.args.tag ∷ length_octets count) _ _ _ _ header
+    handed-fault _ _ _ _ _ _ c.is_err.ensures.value c.if-is_err.true c.read-fields.ensures (λ fault refused.
+    refused-after (IsList c.args.tag g.F.Fields.trees) (AreFields g.F.Fields.trees count) (c.args.tag ∷ length_octets count) _ _ _ _ header
     (refused-within (AreFields g.F.Fields.trees count) (AreFields g.F.Fields.trees c.enter-outside.new.self.limit) count _ _ _ _
-    c.enter-outside.ensures.inside c.in_ok-count.ensures.1 c.in_err-fields.ensures
+    c.enter-outside.ensures.inside c.in_ok-count.ensures.1 refused
     (λ bytes p. ((p.0, p.1, p.2, p.3 ∙ sym low), omega (arith, p.3))))
     (λ bytes rest more p e within.
     let parts = element_content_cut c.args.tag count bytes rest more (ders (g.F.Fields.trees p.0), p.2) e in
@@ -31,8 +32,8 @@ returns-in_err-fields g c =
 pub returns : goal.returns
 returns g c =
     let header = c.in_ok-count.ensures.0 in
-    let parts = c.in_ok-fields.ensures in
-    let trees = g.F.Fields.trees c.in_ok-fields.fields in
+    handed-value _ _ _ _ _ _ c.is_err.ensures.value c.if-is_err.false c.read-fields.ensures (λ fields parts.
+    let trees = g.F.Fields.trees fields in
     let second = parts.1 in
     let size : length (ders trees) ≡ c.in_ok-count.count = omega (arith, second.limit, parts.2, ap (λ r. r.limit) c.enter-outside.ensures.inside) in (
       parts.0,
@@ -40,4 +41,4 @@ returns g c =
           (ap (λ n. (c.args.tag ∷ length_octets n) ++ ders trees) (sym size) ∙ sym (element-split c.args.tag (ders trees)))
           (took-within (c.args.tag ∷ length_octets c.in_ok-count.count) (ders trees) c.in_ok-count.count c.enter-outside.result _ _ _ _ _ header
           c.enter-outside.ensures.inside c.enter-outside.ensures.outside second parts.2 c.leave.ensures),
-    )
+    ))

@@ -7,6 +7,7 @@ use Rattle.asn1_trees.proofs.Spelling.{wrapped-whole, whole-wrapped, der-wrapped
 use Rattle.asn1_codec.specs.Reading.{IsSpelling, IsElement, IsList, AreFields}
 use Rattle.asn1_codec.proofs.Chain.{at-exit, refused-as, refused-after, refused-within, took-as, took-within}
 use Rattle.asn1_codec.proofs.Headers.{element_content_cut, header_sizes}
+use Rattle.asn1_codec.proofs.Results.{handed-value, handed-fault}
 use Rattle.asn1_codec.proofs.de.Deserializer.wrapped.Goals as goal
 
 -- the one tree of the content
@@ -29,16 +30,16 @@ returns-in_err-count g c =
     (refused-as _ (IsElement c.args.tag) _ _ _ c.in_err-count.ensures
     (λ bytes p. let q = listed c.args.tag tree bytes p in (ders (ones tree q.0), q.2)))
 
-pub returns-in_err-value : goal.returns-in_err-value
-returns-in_err-value g c =
+pub returns-then-is_err : goal.returns-then-is_err
+returns-then-is_err g c =
     let fields = ones g.T.Serialize.tree in
     let header = c.in_ok-count.ensures.0 in
     let count = c.in_ok-count.count in
     let low : c.enter-rest.new.self.limit ≡ count = ap (λ r. r.limit) c.enter-rest.ensures.inside in
-    at-exit _ _ _ _ c.from_residual-in_err-value.ensures.1
-    (refused-after _ (AreFields fields count) (c.args.tag ∷ length_octets count) _ _ _ _ header
+    handed-fault _ _ _ _ _ _ c.is_err.ensures.value c.if-is_err.true c.last-value.ensures (λ fault refused.
+    refused-after _ (AreFields fields count) (c.args.tag ∷ length_octets count) _ _ _ _ header
     (refused-within (AreFields fields count) (AreFields fields c.enter-rest.new.self.limit) count _ _ _ _
-    c.enter-rest.ensures.inside c.in_ok-count.ensures.1 c.in_err-value.ensures
+    c.enter-rest.ensures.inside c.in_ok-count.ensures.1 refused
     (λ bytes p. ((p.0, p.1, p.2, p.3 ∙ sym low), omega (arith, p.3))))
     (λ bytes rest more p e within.
     let q = listed c.args.tag g.T.Serialize.tree bytes p in
@@ -50,8 +51,8 @@ returns-in_err-value g c =
 pub returns : goal.returns
 returns g c =
     let header = c.in_ok-count.ensures.0 in
-    let parts = c.in_ok-value.ensures in
-    let t = g.T.Serialize.tree c.in_ok-value.value in
+    handed-value _ _ _ _ _ _ c.is_err.ensures.value c.if-is_err.false c.last-value.ensures (λ value parts.
+    let t = g.T.Serialize.tree value in
     let whole = parts.0.0 in
     let content = ders (trees.more t trees.none) in
     let second = parts.1 in
@@ -61,4 +62,4 @@ returns g c =
           (ap (λ n. (c.args.tag ∷ length_octets n) ++ content) (sym size) ∙ sym (element-split c.args.tag content) ∙ spelled c.args.tag t whole)
           (took-within (c.args.tag ∷ length_octets c.in_ok-count.count) content c.in_ok-count.count c.enter-rest.result _ _ _ _ _ header
           c.enter-rest.ensures.inside c.enter-rest.ensures.outside second parts.2 c.leave.ensures),
-    )
+    ))
