@@ -1,12 +1,12 @@
 -- Each day of the calendar has its own number. The numbers go up day by day as those of `jiff` do, so that what is
 -- proved there holds here.
-use Rattle.std.proofs.Common.{◌≡◌, ℕ, zero, suc, ◌+◌, ◌-◌, ◌<◌, ◌≤◌, cond, inl, refl, arith, lit≤, ℤ, pos, negsuc, neg_ℤ, ◌+ℤ◌, ◌≤ℤ◌, to_z, w8, w16, w64}
+use Rattle.std.proofs.Common.{◌≡◌, ◌∙◌, ap, ℕ, zero, suc, ◌+◌, ◌-◌, ◌*◌, ◌/◌, ◌<◌, ◌≤◌, cond, refl, arith, ℤ, pos, neg_ℤ, ◌+ℤ◌, ◌≤ℤ◌, to_z, w8, w16}
 use Rattle.std.proofs.lemmas.Bool.Decides.{nat_tests}
 use Rattle.std.proofs.lemmas.Int.{ints}
-use Rattle.jiff.specs.Words.{epoch_day, IsYear, IsEpochDay, IsYmd, days_in_month as month_length}
+use Rattle.jiff.specs.Words.{epoch_day, IsYmd, days_in_month as month_length}
 use Rattle.jiff.specs.Types.{Date}
-use Rattle.jiff.proofs.Family.{epoch_day_injective, epoch_day-lt, days_from_civil-day, days_from_civil-next_month, days_from_civil-next_year, days_from_civil-max}
-use Rattle.asn1_leaves.specs.Calendar.{is_leap_year, days_in_month, IsCalendarDate, days_before_year, days_of_months, day_number, day_number-0000-01-01, day_number-9999-12-31}
+use Rattle.jiff.proofs.Family.{epoch_day_injective, days_from_civil-day, days_from_civil-next_month, days_from_civil-next_year, days_from_civil-max}
+use Rattle.asn1_leaves.specs.Calendar.{is_leap_year, days_in_month, IsCalendarDate, days_before_year, days_of_months, day_number, day_number-9999-12-31}
 
 -- a numbering of the dates that goes up by one from each day to the next
 record CountsDays (f : ℤ → ℕ → ℕ → ℤ) : Type 0 where
@@ -34,6 +34,36 @@ days_before_year-suc y = grind (arith, nat_tests)
 days_of_months-eleven : (y : ℕ) → days_of_months y 11 ≡ 334 + leap_day y
 unfolding days_of_months
 days_of_months-eleven y = grind arith
+
+-- the days of no month, and of one month more
+pub days_of_months-none : (y : ℕ) → days_of_months y 0 ≡ 0
+unfolding days_of_months
+days_of_months-none y = refl
+
+pub days_of_months-more : (y m : ℕ) → 1 ≤ m → days_of_months y m ≡ days_of_months y (m - 1) + days_in_month y m
+unfolding days_of_months
+days_of_months-more y zero low = absurd (omega (arith, low))
+days_of_months-more y (suc n) low =
+    let same : suc n - 1 ≡ n = omega arith in
+    rw same refl
+
+-- the days of December, and of the year
+pub days_of_months-december : (y : ℕ) → days_of_months y 12 ≡ days_of_months y 11 + 31
+unfolding days_of_months
+days_of_months-december y = refl
+
+days_of_year : (y : ℕ) → days_before_year (suc y) ≡ days_before_year y + days_of_months y 12
+days_of_year y = omega (arith, days_before_year-suc y, days_of_months-eleven y, days_of_months-december y)
+
+-- 400 years have 146,097 days, so a day lies in the year that its number tells, or in the one before
+pub year_before : (days next : ℕ) → next ≡ (days * 400 + 400) / 146097 → days < days_before_year next → (days_before_year (next - 1) ≤ days) × (days < days_before_year (next - 1) + days_of_months (next - 1) 12)
+year_before days next is low =
+    let some : next ≡ suc (next - 1) = omega (arith, is, low) in
+    let whole : days_before_year next ≡ days_before_year (next - 1) + days_of_months (next - 1) 12 = ap days_before_year some ∙ days_of_year (next - 1) in
+    (omega (arith, is, some), omega (arith, whole, low))
+
+pub year_itself : (days year : ℕ) → year ≡ (days * 400 + 400) / 146097 → days < days_before_year year + days_of_months year 12
+year_itself days year is = omega (arith, is, days_of_year year)
 
 -- so the first of a month has the days of the months before it
 first_of_month : {f : ℤ → ℕ → ℕ → ℤ} → CountsDays f → (y m : ℕ) → f (pos y) (suc m) 1 ≡ f (pos y) 1 1 +ℤ pos (days_of_months y m)
@@ -77,35 +107,6 @@ day_number-injective y m d y' m' d' h h' e =
     let b = date_of y' m' d' h' in
     let same = epoch_day_injective a b (omega (arith, ints, epoch_day-day_number a y refl, epoch_day-day_number b y' refl)) in
     (omega (arith, ints, same.0), same.1, same.2)
-
-pub zero_year : IsYear (pos 0)
-zero_year = omega (arith, ints)
-
--- 0000-01-01
-abbrev pub zero_date : Date
-zero_date =
-    record { year = pos 0; month = 1; day = 1; year_in = zero_year; month_in = (lit≤ tt, lit≤ tt); day_in = (lit≤ tt, lit≤ tt) }
-
--- `jiff` counts from 1970-01-01, which is day 719528 here
-zero_day : epoch_day zero_date +ℤ pos 719528 ≡ pos 0
-zero_day = omega (arith, ints, epoch_day-day_number zero_date 0 refl, day_number-0000-01-01)
-
--- `jiff` has each day of the years 0 to 9999
-pub IsEpochDay-from_zero : (days : ℕ) → days < 3652425 → IsEpochDay (epoch_day zero_date +ℤ to_z w64 days)
-IsEpochDay-from_zero days h = omega (arith, ints, zero_day)
-
--- from 0000-01-01 on the years have no sign
-years_from_zero : (date : Date) (days : ℕ) → epoch_day date +ℤ pos 719528 ≡ pos days → (z : ℤ) → date.year ≡ z → (year : ℕ) × (date.year ≡ pos year)
-years_from_zero date days e (pos year) h = (year, h)
-years_from_zero date days e (negsuc k) h =
-    absurd (omega (arith, ints, epoch_day-lt date zero_date (inl (omega (arith, ints, h))), zero_day))
-
--- the date that many days after 0000-01-01
-pub day_number-from_zero : (date : Date) (days : ℕ) → days < 3652425 → epoch_day date ≡ epoch_day zero_date +ℤ to_z w64 days → (year : ℕ) × (date.year ≡ pos year) × (year ≤ 9999) × (day_number year date.month date.day ≡ days)
-day_number-from_zero date days h e =
-    let since : epoch_day date +ℤ pos 719528 ≡ pos days = omega (arith, ints, zero_day) in
-    let own = years_from_zero date days since date.year refl in
-    (own.0, own.1, omega (arith, ints, own.1, date.year_in), omega (arith, ints, epoch_day-day_number date own.0 own.1))
 
 -- `jiff` counts its days from -9999-01-01
 pub days_since_min-day_number : (date : Date) (year month day count : ℕ) → IsCalendarDate year month day → IsYmd (to_z w16 year) (to_z w8 month) (to_z w8 day) date → epoch_day date +ℤ pos 4371587 ≡ pos count → count ≡ 3652059 + day_number year month day

@@ -1,10 +1,10 @@
 //! Times of the calendar.
-ghost use Rattle.std.specs.Prelude.{◌≡◌, ◌≢◌, ℕ, ◌+◌, ◌<◌, ◌↔◌, IsOk, IfOk, IfErr, IsTrue, MatchOption, length};
-ghost use Rattle.asn1_leaves.specs.Calendar.{IsCalendarDate, IsTimeOfDay, day_number, HasDigits};
+ghost use Rattle.std.specs.Prelude.{◌≡◌, ◌≢◌, ℕ, ◌+◌, ◌-◌, ◌<◌, ◌≤◌, ◌↔◌, IsOk, IfOk, IfErr, IsTrue, MatchOption, length};
+ghost use Rattle.std.specs.Int.{IsInRange};
+ghost use Rattle.asn1_leaves.specs.Calendar.{IsCalendarDate, IsTimeOfDay, day_number, days_before_year, days_in_month, days_of_months, HasDigits};
 
 use crate::LeafFault;
 pub use crate::utc_time::UTCTime;
-use jiff::ToSpan;
 use jiff::civil::Date;
 
 // The first date of `jiff` is -9999-01-01.
@@ -195,9 +195,65 @@ fn calendar_date(days: u32) -> (u16, u8, u8)
     ensures date { IsCalendarDate result.0 result.1 result.2 }
     ensures number { day_number result.0 result.1 result.2 ≡ days }
 {
-    let date = Date::ZERO.checked_add((days as i64).days()).unwrap();
-    let date = date.to_plain();
-    (date.year as u16, date.month, date.day)
+    let year = year_of(days);
+    let (month, day) = month_and_day(year as u16, days - days_before(year));
+    (year as u16, month, day)
+}
+
+// The year of the day that many days after 0000-01-01.
+fn year_of(days: u32) -> u32
+    requires { days < 3652425 }
+    ensures year { result ≤ 9999 }
+    ensures from { days_before_year result ≤ days }
+    ensures before { days < days_before_year result + days_of_months result 12 }
+{
+    // 400 years have 146,097 days, so the year is this one or the one before.
+    let year = (days * 400 + 400) / 146_097;
+    if days < days_before(year) {
+        return year - 1;
+    }
+    year
+}
+
+// How many days lie before 1 January of the year.
+fn days_before(year: u32) -> u32
+    requires { year ≤ 10000 }
+    ensures { result ≡ days_before_year year }
+{
+    365 * year + (year + 3) / 4 - (year + 99) / 100 + (year + 399) / 400
+}
+
+// The month and the day of the month, of a day of the year that counts from 0.
+fn month_and_day(year: u16, day_of_year: u32) -> (u8, u8)
+    requires { day_of_year < days_of_months year 12 }
+    ensures month { IsInRange 1 12 result.0 }
+    ensures day { IsInRange 1 (days_in_month year result.0) result.1 }
+    ensures number { days_of_months year (result.0 - 1) + (result.1 - 1) ≡ day_of_year }
+{
+    let mut rest = day_of_year;
+    for month in 1..12u8 {
+        let size = month_length(year, month) as u32;
+        if rest < size {
+            return (month, rest as u8 + 1);
+        }
+        rest -= size;
+    }
+    (12, rest as u8 + 1)
+}
+
+// How many days the month of the year has.
+fn month_length(year: u16, month: u8) -> u8
+    ensures { result ≡ days_in_month year month }
+{
+    if month == 2 {
+        let leap = year % 4 == 0 && (year % 100 != 0 || year % 400 == 0);
+        return if leap { 29 } else { 28 };
+    }
+    if month == 4 || month == 6 || month == 9 || month == 11 {
+        30
+    } else {
+        31
+    }
 }
 
 // The number that two decimal digits stand for.
