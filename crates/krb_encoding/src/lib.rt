@@ -2,10 +2,16 @@
 #![tactic(auto)]
 
 ghost use Rattle.std.specs.Prelude.{◌≡◌, ◌+◌, ◌%◌, IfOk};
-ghost use Rattle.asn1_trees.specs.Tree.{der, wrapped};
+ghost use Rattle.asn1_trees.specs.Tree.{Tree, der, wrapped};
 
 use picky_asn1_der::{IsTagNumber, Serialize, Serializer, TagNumber, to_vec};
 use std::alloc::{AllocError, Global};
+
+// How many octets there is room for at first, where an encoding isn't measured.
+const FIRST_OCTETS: usize = 256;
+
+// How many octets stand before a content of up to 4 GiB (X.690, section 8.1.3).
+const MOST_HEADER: usize = 6;
 
 /// The encoding of a value, which goes. Memory is the only refusal.
 ///
@@ -30,8 +36,33 @@ where
     TagNumber<TAG>: IsTagNumber,
     ensures { IfOk result (λ bytes. bytes.items ≡ der (wrapped (96 + TAG % 32) (T.tree value))) }
 {
-    let mut to = Serializer::new_to_writer(Vec::new(alloc));
-    match to.wrapped(96 + TAG % 32, &value) {
+    let content = grown_encoding(alloc, value)?;
+    under_octet(alloc, 96 + TAG % 32, &content)
+}
+
+/// The encoding of a value, which goes, in memory that grows where the first octets don't do. Its length isn't measured
+/// first.
+fn grown_encoding<T: Serialize + Drop>(alloc: Global, value: T) -> Result<Vec<u8>, AllocError>
+    ensures { IfOk result (λ bytes. bytes.items ≡ der (T.tree value)) }
+{
+    let bytes = Vec::with_capacity(alloc, FIRST_OCTETS)?;
+    let mut to = Serializer::new_to_writer(bytes);
+    match value.serialize(&mut to) {
+        Ok(_) => Ok(to.into_writer()),
+        Err(_) => Err(AllocError),
+    }
+}
+
+/// An element of this content under a further identifier octet, and nothing where the content is none.
+fn under_octet(alloc: Global, tag: u8, content: &[u8]) -> Result<Vec<u8>, AllocError>
+    ensures { IfOk result (λ bytes. (t : Tree) → der t ≡ content.now → bytes.items ≡ der (wrapped tag t)) }
+{
+    if content.is_empty() {
+        return Ok(Vec::new(alloc));
+    }
+    let bytes = Vec::with_capacity(alloc, content.len().saturating_add(MOST_HEADER))?;
+    let mut to = Serializer::new_to_writer(bytes);
+    match to.element(tag, content) {
         Ok(_) => Ok(to.into_writer()),
         Err(_) => Err(AllocError),
     }
