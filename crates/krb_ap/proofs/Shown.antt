@@ -2,7 +2,7 @@
 use Rattle.std.proofs.Common.{◌≡◌, ◌⊎◌, ℕ, Bool, true, false, List, Option, None, Some, Result, Ok, Err, refl, sym, ap, subst, inl, inr}
 use Rattle.asn1_trees.specs.Tree.{Tree}
 use Rattle.krb_crypto.specs.declared.suite.CipherSuite.{CipherSuite}
-use Rattle.krb_rules.specs.Rows.{Table, done, ask, refuse, need, and_then}
+use Rattle.decision_tables.specs.Tables.{Table, done, ask, refuse, need, and_then}
 use Rattle.krb_rules.specs.Keys.{suite_of}
 use Rattle.krb_rules.specs.Sealed.{IsSealedIn}
 use Rattle.picky_asn1.specs.BitString.{bit_of}

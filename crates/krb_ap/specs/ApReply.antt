@@ -10,7 +10,7 @@ use Rattle.krb_types.specs.declared.data_types.authenticator.AuthenticatorInner.
 use Rattle.krb_types.specs.declared.data_types.enc_ap_rep_part.EncApRepPartInner.{EncApRepPartInner}
 use Rattle.krb_types.specs.declared.data_types.encrypted_data.EncryptedData.{EncryptedData}
 use Rattle.picky_krb.specs.declared.messages.ap_rep.ApRepInner.{ApRepInner}
-use Rattle.krb_rules.specs.One.{IsSole}
+use Rattle.decision_tables.specs.One.{IsSole}
 use Rattle.krb_ap.specs.Messages.{ap_rep_tree, ap_rep_part_tree}
 use Rattle.krb_ap.specs.declared.presented.Presented.{Presented}
 

@@ -14,7 +14,7 @@ use Rattle.picky_krb.specs.declared.messages.ap_req.ApReqInner.{ApReqInner}
 use Rattle.krb_rules.specs.Keys.{suite_of}
 use Rattle.krb_rules.specs.Names.{components, is_same_name, is_same_realm}
 use Rattle.krb_rules.specs.Numbers.{is_number}
-use Rattle.krb_rules.specs.Rows.{Table, done, ask, and_then, need, refuse}
+use Rattle.decision_tables.specs.Tables.{Table, done, ask, and_then, need, refuse}
 use Rattle.krb_rules.specs.Times.{moment_at}
 use Rattle.krb_ap.specs.Entry.{EntryRecord}
 use Rattle.krb_ap.specs.Messages.{IsAuthenticator, IsTicketPart, sole_authenticator, sole_ticket_part}

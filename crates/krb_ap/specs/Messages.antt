@@ -12,7 +12,7 @@ use Rattle.krb_types.specs.Trees as held
 use Rattle.picky_krb.specs.declared.messages.ap_req.ApReqInner.{ApReqInner}
 use Rattle.picky_krb.specs.declared.messages.ap_rep.ApRepInner.{ApRepInner}
 use Rattle.picky_krb.specs.Trees as messages
-use Rattle.krb_rules.specs.One.{IsSole}
+use Rattle.decision_tables.specs.One.{IsSole}
 use Rattle.krb_rules.specs.Sealed.{IsSealedIn, sole_sealed}
 
 -- [APPLICATION 14]

@@ -1,7 +1,7 @@
 -- What a table gives by what its first row says.
 use Rattle.std.proofs.Common.{◌≡◌, Bool, true, false, Ok, Err, inl, inr}
-use Rattle.krb_rules.specs.One.{IsSole}
-use Rattle.krb_rules.specs.Rows.{Table, ask, refuse}
+use Rattle.decision_tables.specs.One.{IsSole}
+use Rattle.decision_tables.specs.Tables.{Table, ask, refuse}
 use Rattle.krb_client.specs.AsReply.{Taken}
 use Rattle.krb_client.specs.Refusals.{IsTaken}
 use Rattle.krb_client.specs.declared.refusal.TakeRefusal.{TakeRefusal}

@@ -8,8 +8,8 @@ use Rattle.picky_krb.specs.declared.messages.kdc_rep.KdcRep.{KdcRep}
 use Rattle.picky_krb.specs.Trees as messages
 use Rattle.krb_rules.specs.Keys.{suite_of}
 use Rattle.krb_rules.specs.Numbers.{is_number}
-use Rattle.krb_rules.specs.One.{IsSole}
-use Rattle.krb_rules.specs.Rows.{Table, ask, done, need, refuse}
+use Rattle.decision_tables.specs.One.{IsSole}
+use Rattle.decision_tables.specs.Tables.{Table, ask, done, need, refuse}
 use Rattle.krb_rules.specs.Sealed.{IsSealedIn, sole_sealed}
 use Rattle.krb_asked.specs.Answers.{is_answer}
 use Rattle.krb_asked.specs.Asked.{AsAskedRecord}

@@ -13,7 +13,7 @@ use Rattle.picky_krb.specs.declared.messages.kdc_rep.KdcRep.{KdcRep}
 use Rattle.picky_krb.specs.declared.messages.kdc_req.KdcReq.{KdcReq}
 use Rattle.picky_krb.specs.declared.messages.krb_error.KrbErrorInner.{KrbErrorInner}
 use Rattle.picky_krb.specs.Trees as messages
-use Rattle.krb_rules.specs.One.{IsSole}
+use Rattle.decision_tables.specs.One.{IsSole}
 
 -- the encoding of a client's time
 unfoldable pub stamp_bytes : PaEncTsEnc → List ℕ

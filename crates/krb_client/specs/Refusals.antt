@@ -1,6 +1,6 @@
 -- How asking and taking are refused.
 use Rattle.std.specs.Prelude.{◌≡◌, ◌⊎◌, ℕ, Result, Err}
-use Rattle.krb_rules.specs.Rows.{Table}
+use Rattle.decision_tables.specs.Tables.{Table}
 use Rattle.krb_client.specs.declared.refusal.AskRefusal.{AskRefusal}
 use Rattle.krb_client.specs.declared.refusal.AskRefusal.TheVariants as ask_refusal
 use Rattle.krb_client.specs.declared.refusal.TakeRefusal.{TakeRefusal}

@@ -4,7 +4,7 @@ use Rattle.std.specs.Prelude.{Vec}
 use Rattle.std.specs.Global.{Global}
 use Rattle.picky_krb.specs.declared.messages.kdc_req.KdcReq.{KdcReq}
 use Rattle.krb_accounts.specs.Account.{AccountRecord}
-use Rattle.krb_rules.specs.Rows.{Table, and_then}
+use Rattle.decision_tables.specs.Tables.{Table, and_then}
 use Rattle.krb_replies.specs.AsTable.{addressed, as_table, client_of, entries_of, possible, preauthenticated, service_of}
 use Rattle.krb_replies.specs.Grants.{Principals, granted}
 use Rattle.krb_realm.specs.Judged.{IsGranted, IsJudged}

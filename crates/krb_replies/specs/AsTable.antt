@@ -13,7 +13,7 @@ use Rattle.krb_types.specs.declared.data_types.pa_data.PaData.{PaData}
 use Rattle.krb_types.specs.declared.data_types.principal_name.PrincipalName.{PrincipalName}
 use Rattle.picky_krb.specs.declared.messages.kdc_req.KdcReq.{KdcReq}
 use Rattle.picky_krb.specs.declared.messages.kdc_req_body.KdcReqBody.{KdcReqBody}
-use Rattle.krb_rules.specs.Rows.{Table, and_then, ask, done, need, refuse}
+use Rattle.decision_tables.specs.Tables.{Table, and_then, ask, done, need, refuse}
 use Rattle.krb_rules.specs.Numbers.{is_number}
 use Rattle.krb_rules.specs.Names.{is_same_realm}
 use Rattle.krb_preauth.specs.Entries.{first_of}

@@ -8,7 +8,7 @@ use Rattle.picky_asn1.specs.GeneralizedTime.{seconds_of}
 use Rattle.asn1_leaves.proofs.TimeLemmas.{seconds_of-injective}
 use Rattle.picky_krb.specs.declared.messages.krb_error.KrbErrorInner.{KrbErrorInner}
 use Rattle.krb_types.specs.declared.data_types.principal_name.PrincipalName.{PrincipalName}
-use Rattle.krb_rules.specs.One.{IsSole}
+use Rattle.decision_tables.specs.One.{IsSole}
 use Rattle.krb_replies.specs.Messages.{krb_error_tree}
 
 -- the ticket-granting service of a realm (RFC 4120, section 7.3), of name type 2

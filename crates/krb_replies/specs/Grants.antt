@@ -7,8 +7,8 @@ use Rattle.asn1_leaves.proofs.TimeLemmas.{seconds_of-injective}
 use Rattle.krb_accounts.specs.Account.{AccountRecord}
 use Rattle.krb_types.specs.declared.data_types.principal_name.PrincipalName.{PrincipalName}
 use Rattle.picky_krb.specs.declared.messages.kdc_req_body.KdcReqBody.{KdcReqBody}
-use Rattle.krb_rules.specs.One.{IsSole}
-use Rattle.krb_rules.specs.Rows.{Table, done, make}
+use Rattle.decision_tables.specs.One.{IsSole}
+use Rattle.decision_tables.specs.Tables.{Table, done, make}
 use Rattle.krb_tickets.specs.declared.grant.Grant.{Grant}
 use Rattle.krb_grants.specs.Granted.{IsAsReply, sole_as_reply}
 use Rattle.krb_tickets.specs.Parts.{session_key_of}

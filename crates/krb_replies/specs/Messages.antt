@@ -6,7 +6,7 @@ use Rattle.asn1_trees.proofs.Spelling.{wrapped-injective}
 use Rattle.picky_krb.specs.declared.messages.kdc_req.KdcReq.{KdcReq}
 use Rattle.picky_krb.specs.declared.messages.krb_error.KrbErrorInner.{KrbErrorInner}
 use Rattle.picky_krb.specs.Trees as messages
-use Rattle.krb_rules.specs.One.{IsSole}
+use Rattle.decision_tables.specs.One.{IsSole}
 
 abbrev pub kdc_req_tree : KdcReq → Tree
 kdc_req_tree = messages.kdc_req_tree

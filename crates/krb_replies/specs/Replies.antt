@@ -7,7 +7,7 @@ use Rattle.krb_accounts.specs.Account.{AccountRecord}
 use Rattle.krb_accounts.specs.Accounts.{Look}
 use Rattle.krb_accounts.specs.Settings.{SettingsRecord}
 use Rattle.krb_rules.specs.Names.{components}
-use Rattle.krb_rules.specs.Rows.{Table, done, ask, make}
+use Rattle.decision_tables.specs.Tables.{Table, done, ask, make}
 use Rattle.krb_tickets.specs.MethodData.{method_data_bytes}
 use Rattle.krb_replies.specs.Messages.{IsAsReq, IsTgsReq, sole_as_req, sole_tgs_req}
 use Rattle.krb_replies.specs.Errors.{ticket_service, error_bytes, IsSecondOf, sole_second}

@@ -1,5 +1,3 @@
-pub mod One
-pub mod Rows
 pub mod Numbers
 pub mod Names
 pub mod Times

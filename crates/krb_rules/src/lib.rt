@@ -1,5 +1,4 @@
-//! What realms, clients and services judge messages by: decision tables (`specs/Rows`, a relation with one outcome at
-//! most, of which the first case that holds counts), and the questions that their cases ask.
+//! What realms, clients and services judge messages by: the questions that the cases of their tables ask.
 #![tactic(auto)]
 
 mod keys;

@@ -1,7 +1,7 @@
 -- What is admitted was presented.
 use Rattle.std.proofs.Common.{◌≡◌, ℕ, List, Option, Result, Ok, Err, refl, ap, subst, inl, inr, ◌∙◌}
 use Rattle.krb_moments.specs.Skew.{is_far}
-use Rattle.krb_rules.specs.Rows.{Table, done, make, and_then}
+use Rattle.decision_tables.specs.Tables.{Table, done, make, and_then}
 use Rattle.krb_seen.specs.Pair.{PairRecord}
 use Rattle.krb_types.specs.declared.data_types.enc_ticket_part.EncTicketPartInner.{EncTicketPartInner}
 use Rattle.picky_krb.specs.declared.messages.ap_req.ApReqInner.{ApReqInner}

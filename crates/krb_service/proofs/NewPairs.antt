@@ -1,7 +1,7 @@
 -- What becomes of what was presented, by its time and its pair.
 use Rattle.std.proofs.Common.{◌≡◌, ℕ, true, false, List, ◌∷◌, Option, Result, Err, Ok, ap, refl, subst, inl, inr}
 use Rattle.krb_moments.specs.Skew.{is_far}
-use Rattle.krb_rules.specs.Rows.{Table, done}
+use Rattle.decision_tables.specs.Tables.{Table, done}
 use Rattle.krb_seen.specs.Pair.{PairRecord, is_among}
 use Rattle.krb_seen.specs.Seen.{SeenRecord, IsWindow}
 use Rattle.krb_ap.specs.Admission.{AdmissionRecord, admission_of}

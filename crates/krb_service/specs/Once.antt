@@ -2,7 +2,7 @@
 use Rattle.std.specs.Prelude.{ℕ, List, ◌∷◌, Result, Ok, Err}
 use Rattle.krb_moments.specs.Skew.{is_far}
 use Rattle.krb_rules.specs.Names.{components}
-use Rattle.krb_rules.specs.Rows.{Table, done, make, refuse, and_then}
+use Rattle.decision_tables.specs.Tables.{Table, done, make, refuse, and_then}
 use Rattle.krb_seen.specs.Pair.{PairRecord, is_among}
 use Rattle.krb_seen.specs.Seen.{SeenRecord, IsWindow}
 use Rattle.krb_ap.specs.Admission.{AdmissionRecord, admission_of}

@@ -1,7 +1,7 @@
 -- The service that remembers each pair of client and time that it ever admitted (RFC 4120, section 3.2.3).
 use Rattle.std.specs.Prelude.{ℕ, List, ◌∷◌, Result, Ok, Err}
 use Rattle.picky_krb.specs.declared.messages.ap_req.ApReqInner.{ApReqInner}
-use Rattle.krb_rules.specs.Rows.{Table, done, ask, as_made, and_then}
+use Rattle.decision_tables.specs.Tables.{Table, done, ask, as_made, and_then}
 use Rattle.krb_seen.specs.Pair.{PairRecord}
 use Rattle.krb_seen.specs.Seen.{SeenRecord, IsWindow}
 use Rattle.krb_ap.specs.Admission.{AdmissionRecord}

@@ -1,6 +1,6 @@
 -- A decision table: a relation with one outcome at most. The first case that holds counts.
 use Rattle.std.specs.Prelude.{◌≡◌, ◌⊎◌, ℕ, Bool, true, false, Option, None, Some, Result, Ok, Err}
-use Rattle.krb_rules.specs.One.{IsSole, one_done, one_ask, one_found, one_made, one_then}
+use Rattle.decision_tables.specs.One.{IsSole, one_done, one_ask, one_found, one_made, one_then}
 
 -- what the table gives, and that it is one outcome at most
 pub record Table (T : Type 0) : Type 1 where
