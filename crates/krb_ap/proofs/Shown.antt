@@ -3,8 +3,8 @@ use Rattle.std.proofs.Common.{◌≡◌, ◌⊎◌, ℕ, Bool, true, false, List
 use Rattle.asn1_trees.specs.Tree.{Tree}
 use Rattle.krb_crypto.specs.declared.suite.CipherSuite.{CipherSuite}
 use Rattle.decision_tables.specs.Tables.{Table, done, ask, refuse, need, and_then}
-use Rattle.krb_rules.specs.Keys.{suite_of}
-use Rattle.krb_rules.specs.Sealed.{IsSealedIn}
+use Rattle.krb_opening.specs.Keys.{suite_of}
+use Rattle.krb_opening.specs.Sealed.{IsSealedIn}
 use Rattle.picky_asn1.specs.BitString.{bit_of}
 use Rattle.krb_types.specs.declared.data_types.authenticator.AuthenticatorInner.{AuthenticatorInner}
 use Rattle.krb_types.specs.declared.data_types.encrypted_data.EncryptedData.{EncryptedData}

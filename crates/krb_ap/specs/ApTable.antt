@@ -11,11 +11,11 @@ use Rattle.krb_types.specs.declared.data_types.encryption_key.EncryptionKey.{Enc
 use Rattle.krb_types.specs.declared.data_types.enc_ticket_part.EncTicketPartInner.{EncTicketPartInner}
 use Rattle.krb_types.specs.declared.data_types.ticket.TicketInner.{TicketInner}
 use Rattle.picky_krb.specs.declared.messages.ap_req.ApReqInner.{ApReqInner}
-use Rattle.krb_rules.specs.Keys.{suite_of}
-use Rattle.krb_rules.specs.Names.{components, is_same_name, is_same_realm}
-use Rattle.krb_rules.specs.Numbers.{is_number}
+use Rattle.krb_opening.specs.Keys.{suite_of}
+use Rattle.krb_types.specs.Names.{components, is_same_name, is_same_realm}
+use Rattle.picky_asn1.specs.Numbers.{is_number}
 use Rattle.decision_tables.specs.Tables.{Table, done, ask, and_then, need, refuse}
-use Rattle.krb_rules.specs.Times.{moment_at}
+use Rattle.krb_moments.specs.Times.{moment_at}
 use Rattle.krb_ap.specs.Entry.{EntryRecord}
 use Rattle.krb_ap.specs.Messages.{IsAuthenticator, IsTicketPart, sole_authenticator, sole_ticket_part}
 use Rattle.krb_ap.specs.declared.presented.Presented.{Presented}

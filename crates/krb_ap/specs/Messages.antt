@@ -13,7 +13,7 @@ use Rattle.picky_krb.specs.declared.messages.ap_req.ApReqInner.{ApReqInner}
 use Rattle.picky_krb.specs.declared.messages.ap_rep.ApRepInner.{ApRepInner}
 use Rattle.picky_krb.specs.Trees as messages
 use Rattle.decision_tables.specs.One.{IsSole}
-use Rattle.krb_rules.specs.Sealed.{IsSealedIn, sole_sealed}
+use Rattle.krb_opening.specs.Sealed.{IsSealedIn, sole_sealed}
 
 -- [APPLICATION 14]
 abbrev pub ap_req_tree : ApReqInner → Tree

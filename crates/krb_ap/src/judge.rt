@@ -1,7 +1,7 @@
 //! Judging a request: the rows of a service's table, part by part.
 ghost use Rattle.std.specs.Prelude.{◌≡◌, ◌≤◌};
 ghost use Rattle.krb_crypto.specs.Suites.{cipher_number};
-ghost use Rattle.krb_rules.specs.Names.{components};
+ghost use Rattle.krb_types.specs.Names.{components};
 ghost use Rattle.krb_ap.specs.ApTable.{addressed, is_early, is_for, is_late, is_of_client, is_version_5, may_be_under, opened, start_of, timely, told, valid_authenticator, valid_part};
 ghost use Rattle.krb_ap.specs.Refusal.{IsJudged};
 ghost use Rattle.picky_asn1.specs.GeneralizedTime.{seconds_of};
@@ -10,13 +10,15 @@ use crate::messages::{open_authenticator, open_part};
 use crate::presented::Presented;
 use crate::refusal::AdmitRefusal;
 use krb_crypto::CipherSuite;
-use krb_moments::Moment;
-use krb_rules::{is_number, is_same_name, is_same_realm, moment_at, suite_of};
+use krb_moments::{MICROSECONDS_IN_SECOND, Moment, moment_at};
+use krb_opening::suite_of;
 use krb_types::constants::error_codes;
 use krb_types::data_types::{
     AuthenticatorInner, EncTicketPartInner, EncryptedData, EncryptionKey, TicketInner,
 };
+use krb_types::{is_same_name, is_same_realm};
 use picky_asn1::date::GeneralizedTime;
+use picky_asn1::is_number;
 use picky_asn1::wrapper::GeneralStringAsn1;
 use picky_krb::messages::ApReqInner;
 use std::alloc::Global;
@@ -35,9 +37,6 @@ const MUTUAL_REQUIRED: usize = 2;
 
 /// The flag of a ticket that isn't valid yet (RFC 4120, section 5.3).
 const INVALID: usize = 7;
-
-/// How many microseconds a second has.
-const SECOND: u64 = 1_000_000;
 
 /// Judges the request's own fields: it has to be for this service, and sealed as the service can open it.
 pub(crate) fn check_address(
@@ -144,7 +143,8 @@ fn is_early(skew: u64, moment: Moment, part: &EncTicketPartInner) -> bool
     requires { skew ≤ 86400000000 }
     ensures { result ≡ is_early skew moment part.now }
 {
-    moment.micros() + skew < start_of(part).seconds() * SECOND || part.flags.0.bit(INVALID)
+    moment.micros() + skew < start_of(part).seconds() * MICROSECONDS_IN_SECOND
+        || part.flags.0.bit(INVALID)
 }
 
 // The moment is past the ticket's end and the skew.
@@ -152,7 +152,7 @@ fn is_late(skew: u64, moment: Moment, part: &EncTicketPartInner) -> bool
     requires { skew ≤ 86400000000 }
     ensures { result ≡ is_late skew moment part.now }
 {
-    part.endtime.0.0.seconds() * SECOND + skew < moment.micros()
+    part.endtime.0.0.seconds() * MICROSECONDS_IN_SECOND + skew < moment.micros()
 }
 
 /// Opens the request's authenticator under the ticket's key, and judges whose it is and what moment it tells.

@@ -4,7 +4,7 @@ ghost use Rattle.picky_krb.specs.Found.{IsFound};
 ghost use Rattle.krb_ap.specs.Messages.{IsApReq, IsAuthenticator, IsTicketPart};
 
 use krb_crypto::CipherSuite;
-use krb_rules::open_sealed;
+use krb_opening::open_sealed;
 use krb_types::data_types::{
     Authenticator, AuthenticatorInner, EncTicketPart, EncTicketPartInner, EncryptedData,
 };

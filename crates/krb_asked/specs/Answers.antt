@@ -2,8 +2,8 @@
 use Rattle.std.specs.Prelude.{ℕ, Bool, ◌&&◌, List}
 use Rattle.picky_krb.specs.declared.messages.enc_kdc_rep_part.EncKdcRepPart.{EncKdcRepPart}
 use Rattle.picky_krb.specs.declared.messages.kdc_rep.KdcRep.{KdcRep}
-use Rattle.krb_rules.specs.Names.{components, is_same_name, is_same_realm}
-use Rattle.krb_rules.specs.Numbers.{is_number}
+use Rattle.krb_types.specs.Names.{components, is_same_name, is_same_realm}
+use Rattle.picky_asn1.specs.Numbers.{is_number}
 use Rattle.krb_asked.specs.Asked.{AsAskedRecord}
 
 -- the opened part has the request's nonce, the reply names the client, and the part the service, in the client's realm

@@ -5,7 +5,8 @@ ghost use Rattle.krb_asked.specs.Answers.{is_answer};
 
 use krb_crypto::CipherSuite;
 use krb_moments::Moment;
-use krb_rules::{is_number, is_same_name, is_same_realm};
+use krb_types::{is_same_name, is_same_realm};
+use picky_asn1::is_number;
 use picky_asn1::wrapper::{GeneralStringAsn1, OctetStringAsn1};
 use picky_krb::messages::{EncKdcRepPart, KdcRep};
 use std::marker::Model;

@@ -6,8 +6,8 @@ use Rattle.krb_crypto.specs.declared.suite.CipherSuite.{CipherSuite}
 use Rattle.krb_crypto.specs.declared.suite.CipherSuite.TheVariants.{Aes128CtsHmacSha196, Aes256CtsHmacSha196}
 use Rattle.krb_crypto.specs.Suites.{cipher_key_size, cipher_number}
 use Rattle.krb_types.specs.declared.data_types.encryption_key.EncryptionKey.{EncryptionKey}
-use Rattle.krb_rules.specs.Keys.{is_key_of, suite_of}
-use Rattle.krb_rules.specs.Numbers.{is_number}
+use Rattle.krb_opening.specs.Keys.{is_key_of, suite_of}
+use Rattle.picky_asn1.specs.Numbers.{is_number}
 
 second : (a b : Bool) → (a && b) ≡ true → b ≡ true
 second true b both = both

@@ -2,7 +2,7 @@
 use Rattle.std.proofs.Common.{◌≡◌, true, not, Err, List, ℕ, ap}
 use Rattle.picky_krb.specs.declared.messages.enc_kdc_rep_part.EncKdcRepPart.{EncKdcRepPart}
 use Rattle.picky_krb.specs.declared.messages.kdc_rep.KdcRep.{KdcRep}
-use Rattle.krb_rules.specs.Numbers.{is_number}
+use Rattle.picky_asn1.specs.Numbers.{is_number}
 use Rattle.decision_tables.specs.Tables.{Table, ask, done, refuse}
 use Rattle.krb_client.specs.AsReply.{IsAsPart, IsTgsPart, Taken, sole_as_part, sole_tgs_part, takes_as_reply, takes_part, takes_reply, takes_sealed}
 use Rattle.krb_asked.specs.Asked.{AsAskedRecord}

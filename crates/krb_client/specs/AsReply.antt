@@ -6,11 +6,11 @@ use Rattle.krb_types.specs.declared.data_types.encrypted_data.EncryptedData.{Enc
 use Rattle.picky_krb.specs.declared.messages.enc_kdc_rep_part.EncKdcRepPart.{EncKdcRepPart}
 use Rattle.picky_krb.specs.declared.messages.kdc_rep.KdcRep.{KdcRep}
 use Rattle.picky_krb.specs.Trees as messages
-use Rattle.krb_rules.specs.Keys.{suite_of}
-use Rattle.krb_rules.specs.Numbers.{is_number}
+use Rattle.krb_opening.specs.Keys.{suite_of}
+use Rattle.picky_asn1.specs.Numbers.{is_number}
 use Rattle.decision_tables.specs.One.{IsSole}
 use Rattle.decision_tables.specs.Tables.{Table, ask, done, need, refuse}
-use Rattle.krb_rules.specs.Sealed.{IsSealedIn, sole_sealed}
+use Rattle.krb_opening.specs.Sealed.{IsSealedIn, sole_sealed}
 use Rattle.krb_asked.specs.Answers.{is_answer}
 use Rattle.krb_asked.specs.Asked.{AsAskedRecord}
 use Rattle.krb_client.specs.Client.{ClientRecord, CredentialRecord}

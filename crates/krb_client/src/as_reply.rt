@@ -7,7 +7,8 @@ ghost use Rattle.krb_client.specs.Refusals.{IsTaken};
 use crate::read::{open_as_part, open_tgs_part, read_as_reply, read_error_code};
 use crate::{Client, Credential, TakeRefusal};
 use krb_asked::AsAsked;
-use krb_rules::{is_number, suite_of};
+use krb_opening::suite_of;
+use picky_asn1::is_number;
 use picky_krb::messages::{EncKdcRepPart, KdcRep};
 use std::alloc::Global;
 

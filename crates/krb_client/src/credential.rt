@@ -1,7 +1,7 @@
 //! What a client is granted.
 ghost use Rattle.std.specs.Prelude.{◌≡◌, length, Some, IfOk};
 ghost use Rattle.krb_crypto.specs.Suites.{cipher_key_size};
-ghost use Rattle.krb_rules.specs.Keys.{suite_of};
+ghost use Rattle.krb_opening.specs.Keys.{suite_of};
 ghost use Rattle.krb_client.specs.AsReply.{credential_of};
 
 use crate::copies::ticket_copy;

@@ -5,8 +5,7 @@ ghost use Rattle.krb_client.specs.Messages.{IsAsReply, IsErrorCode};
 ghost use Rattle.krb_client.specs.AsReply.{IsAsPart, IsTgsPart};
 
 use crate::Client;
-use krb_opening::read_whole;
-use krb_rules::open_sealed;
+use krb_opening::{open_sealed, read_whole};
 use krb_types::data_types::EncryptedData;
 use picky_krb::messages::{AsRep, EncAsRepPart, EncKdcRepPart, EncTgsRepPart, KdcRep, KrbError};
 use std::alloc::{AllocError, Global};

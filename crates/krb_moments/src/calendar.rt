@@ -7,7 +7,8 @@ ghost use Rattle.krb_moments.specs.Calendar.{IsMomentOfText};
 use crate::Moment;
 use picky_asn1::date::GeneralizedTime;
 
-const MICROSECONDS_IN_SECOND: u64 = 1_000_000;
+/// How many microseconds a second has.
+pub const MICROSECONDS_IN_SECOND: u64 = 1_000_000;
 
 impl Moment {
     /// The beginning of the second that the 15 characters `YYYYMMDDHHMMSSZ` name, none where they name no

@@ -3,5 +3,8 @@
 
 mod calendar;
 mod moment;
+mod times;
 
+pub use calendar::MICROSECONDS_IN_SECOND;
 pub use moment::Moment;
+pub use times::moment_at;

@@ -1,2 +1,4 @@
 pub mod Found
 pub mod Opens
+pub mod Keys
+pub mod Sealed

@@ -2,7 +2,11 @@
 #![tactic(auto)]
 
 mod find;
+mod keys;
 mod open;
+mod sealed;
 
 pub use find::{open_whole, read_whole};
+pub use keys::suite_of;
 pub use open::{OpenFault, open_part};
+pub use sealed::open_sealed;

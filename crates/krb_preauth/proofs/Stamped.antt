@@ -6,7 +6,7 @@ use Rattle.krb_types.specs.declared.data_types.encrypted_data.EncryptedData.{Enc
 use Rattle.krb_types.specs.declared.data_types.pa_enc_timestamp.PaEncTsEnc.{PaEncTsEnc}
 use Rattle.krb_types.specs.Trees as held
 use Rattle.krb_opening.specs.Found.{IsFound}
-use Rattle.krb_rules.specs.Sealed.{IsSealedIn}
+use Rattle.krb_opening.specs.Sealed.{IsSealedIn}
 use Rattle.krb_preauth.specs.Stamps.{IsStamp, encrypted_data_tree, stamp_tree}
 
 pub stamp_found : (account : AccountRecord) (bytes : List ℕ) (sealed : EncryptedData) (found : Option PaEncTsEnc)

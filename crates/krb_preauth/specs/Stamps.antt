@@ -8,8 +8,8 @@ use Rattle.krb_accounts.specs.Account.{AccountRecord}
 use Rattle.krb_types.specs.declared.data_types.encrypted_data.EncryptedData.{EncryptedData}
 use Rattle.krb_types.specs.declared.data_types.pa_enc_timestamp.PaEncTsEnc.{PaEncTsEnc}
 use Rattle.krb_types.specs.Trees as held
-use Rattle.krb_rules.specs.Sealed.{IsSealedIn, sole_sealed}
-use Rattle.krb_rules.specs.Times.{moment_at}
+use Rattle.krb_opening.specs.Sealed.{IsSealedIn, sole_sealed}
+use Rattle.krb_moments.specs.Times.{moment_at}
 
 abbrev pub encrypted_data_tree : EncryptedData → Tree
 encrypted_data_tree = held.encrypted_data_tree

@@ -3,8 +3,8 @@ ghost use Rattle.std.specs.Prelude.{◌≡◌};
 ghost use Rattle.std.specs.Option.{option_copied};
 ghost use Rattle.krb_preauth.specs.Entries.{first_entry, first_of};
 
-use krb_rules::is_number;
 use krb_types::data_types::PaData;
+use picky_asn1::is_number;
 use picky_asn1::wrapper::OctetStringAsn1;
 
 /// The data of the first entry of a type, the one that counts (RFC 4120, section 5.2.7).

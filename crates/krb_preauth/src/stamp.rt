@@ -4,9 +4,8 @@ ghost use Rattle.krb_opening.specs.Found.{IsFound};
 ghost use Rattle.krb_preauth.specs.Stamps.{IsStamp, moment_of};
 
 use krb_accounts::Account;
-use krb_moments::Moment;
-use krb_opening::read_whole;
-use krb_rules::{moment_at, open_sealed};
+use krb_moments::{Moment, moment_at};
+use krb_opening::{open_sealed, read_whole};
 use krb_types::data_types::{EncryptedData, PaEncTsEnc};
 use std::alloc::{AllocError, Global};
 

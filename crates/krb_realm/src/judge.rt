@@ -10,10 +10,11 @@ ghost use Rattle.krb_realm.specs.Judged.{IsJudged};
 use crate::refusal::Refusal;
 use krb_accounts::{Account, Accounts, Settings};
 use krb_crypto::CipherSuite;
-use krb_moments::Moment;
+use krb_moments::{MICROSECONDS_IN_SECOND, Moment};
 use krb_preauth::{first_of, moment_of, open_stamp};
-use krb_rules::{is_number, is_same_realm};
 use krb_tickets::{end_of, start_of};
+use krb_types::is_same_realm;
+use picky_asn1::is_number;
 use picky_asn1::wrapper::{BitStringAsn1, GeneralStringAsn1};
 use picky_krb::constants::error_codes;
 use picky_krb::data_types::{PaData, PrincipalName};
@@ -31,9 +32,6 @@ const PUBLIC_KEY_ENTRY: u32 = 16;
 
 /// The type of a preauthentication entry by a sealed time, PA-ENC-TIMESTAMP (RFC 4120, section 7.5.2).
 const STAMP_ENTRY: u32 = 2;
-
-/// How many microseconds a second has.
-const SECOND: u64 = 1_000_000;
 
 /// Judges whether it is an AS request to this realm, and its options.
 pub(crate) fn check_address(realm: &GeneralStringAsn1, request: &KdcReq) -> Result<(), Refusal>
@@ -130,7 +128,8 @@ fn is_later(settings: Settings, moment: Moment, body: &KdcReqBody) -> bool
     ensures { result ≡ is_later settings.skew moment body.now }
 {
     match &body.from.0 {
-        Some(told) => moment.micros() + settings.skew() * SECOND < told.0.0.seconds() * SECOND,
+        Some(told) => moment.micros() + settings.skew() * MICROSECONDS_IN_SECOND
+            < told.0.0.seconds() * MICROSECONDS_IN_SECOND,
         None => false,
     }
 }
@@ -178,7 +177,7 @@ pub(crate) fn check_client(
     let Some(time) = moment_of(&stamp) else {
         return Err(Refusal::Krb(error_codes::KDC_ERR_PREAUTH_FAILED));
     };
-    if moment.is_far_from(time, settings.skew() * SECOND) {
+    if moment.is_far_from(time, settings.skew() * MICROSECONDS_IN_SECOND) {
         return Err(Refusal::Krb(error_codes::KRB_AP_ERR_SKEW));
     }
     Ok(())

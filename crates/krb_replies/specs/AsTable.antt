@@ -14,8 +14,8 @@ use Rattle.krb_types.specs.declared.data_types.principal_name.PrincipalName.{Pri
 use Rattle.picky_krb.specs.declared.messages.kdc_req.KdcReq.{KdcReq}
 use Rattle.picky_krb.specs.declared.messages.kdc_req_body.KdcReqBody.{KdcReqBody}
 use Rattle.decision_tables.specs.Tables.{Table, and_then, ask, done, need, refuse}
-use Rattle.krb_rules.specs.Numbers.{is_number}
-use Rattle.krb_rules.specs.Names.{is_same_realm}
+use Rattle.picky_asn1.specs.Numbers.{is_number}
+use Rattle.krb_types.specs.Names.{is_same_realm}
 use Rattle.krb_preauth.specs.Entries.{first_of}
 use Rattle.krb_preauth.specs.Stamps.{IsStamp, moment_of, sole_stamp}
 use Rattle.krb_tickets.specs.Times.{end_of, start_of}

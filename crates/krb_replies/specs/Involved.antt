@@ -4,7 +4,7 @@ use Rattle.picky_krb.specs.declared.messages.kdc_req.KdcReq.{KdcReq}
 use Rattle.krb_types.specs.declared.data_types.principal_name.PrincipalName.{PrincipalName}
 use Rattle.krb_accounts.specs.Accounts.{Look}
 use Rattle.krb_accounts.specs.Settings.{SettingsRecord}
-use Rattle.krb_rules.specs.Names.{components}
+use Rattle.krb_types.specs.Names.{components}
 use Rattle.krb_replies.specs.AsTable.{client_of, service_of}
 use Rattle.krb_replies.specs.Messages.{IsAsReq}
 use Rattle.krb_replies.specs.Replies.{Replies}

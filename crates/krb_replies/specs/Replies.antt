@@ -6,7 +6,7 @@ use Rattle.krb_types.specs.declared.data_types.principal_name.PrincipalName.{Pri
 use Rattle.krb_accounts.specs.Account.{AccountRecord}
 use Rattle.krb_accounts.specs.Accounts.{Look}
 use Rattle.krb_accounts.specs.Settings.{SettingsRecord}
-use Rattle.krb_rules.specs.Names.{components}
+use Rattle.krb_types.specs.Names.{components}
 use Rattle.decision_tables.specs.Tables.{Table, done, ask, make}
 use Rattle.krb_tickets.specs.MethodData.{method_data_bytes}
 use Rattle.krb_replies.specs.Messages.{IsAsReq, IsTgsReq, sole_as_req, sole_tgs_req}

@@ -5,12 +5,9 @@ ghost use Rattle.krb_seen.specs.Pair.{PairRecord, is_among};
 ghost use Rattle.krb_seen.specs.Seen.{IsWindow};
 
 use crate::Pair;
-use krb_moments::Moment;
+use krb_moments::{MICROSECONDS_IN_SECOND, Moment};
 use std::alloc::{AllocError, Global};
 use std::marker::Model;
-
-/// How many microseconds a second has.
-const SECOND: u64 = 1_000_000;
 
 /// The pairs of the authenticators that a service has admitted, and the greatest moment that it was
 /// handed. A contract sees those pairs alone whose times lie no further back than the skew: an older one
@@ -50,7 +47,7 @@ impl Seen {
         };
         Seen {
             greatest,
-            skew: SECOND * skew,
+            skew: MICROSECONDS_IN_SECOND * skew,
             pairs: Vec::new(alloc),
         }
     }

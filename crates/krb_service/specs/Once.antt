@@ -1,7 +1,7 @@
 -- Admitting what was presented once (RFC 4120, section 3.2.3).
 use Rattle.std.specs.Prelude.{ℕ, List, ◌∷◌, Result, Ok, Err}
 use Rattle.krb_moments.specs.Skew.{is_far}
-use Rattle.krb_rules.specs.Names.{components}
+use Rattle.krb_types.specs.Names.{components}
 use Rattle.decision_tables.specs.Tables.{Table, done, make, refuse, and_then}
 use Rattle.krb_seen.specs.Pair.{PairRecord, is_among}
 use Rattle.krb_seen.specs.Seen.{SeenRecord, IsWindow}

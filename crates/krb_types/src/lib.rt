@@ -5,3 +5,6 @@
 
 pub mod constants;
 pub mod data_types;
+mod names;
+
+pub use names::{is_same_name, is_same_realm};

@@ -6,3 +6,4 @@ pub mod BitStringLaws
 pub mod FewOctets
 pub mod Integer
 pub mod IntegerLaws
+pub mod Numbers

@@ -7,9 +7,11 @@ mod few_octets;
 mod general_string;
 mod integer;
 mod list_of;
+mod numbers;
 mod octet_string;
 pub mod restricted_string;
 pub mod tag;
 pub mod wrapper;
 
 pub use asn1_leaves::{LeafFault, date, oid};
+pub use numbers::is_number;

@@ -1,7 +1,7 @@
 use Rattle.std.proofs.Common.{rules, tests}
 use Rattle.std.proofs.lemmas.Iterator.{YieldsList-from_slice}
 use Rattle.std.proofs.lemmas.Iterator.Search.{find_from_yields_List}
-use Rattle.krb_rules.specs.Numbers.{is_number}
+use Rattle.picky_asn1.specs.Numbers.{is_number}
 use Rattle.krb_preauth.specs.Entries.{first_entry}
 use Rattle.krb_preauth.proofs.entries.first_entry.Goals as goal
 

@@ -1,8 +1,8 @@
-//! Whole numbers of messages.
+//! Whole numbers.
 ghost use Rattle.std.specs.Prelude.{◌≡◌};
-ghost use Rattle.krb_rules.specs.Numbers.{is_number};
+ghost use Rattle.picky_asn1.specs.Numbers.{is_number};
 
-use picky_asn1::wrapper::IntegerAsn1;
+use crate::wrapper::IntegerAsn1;
 
 /// Whether a whole number is this one.
 pub fn is_number(value: &IntegerAsn1, number: u32) -> bool

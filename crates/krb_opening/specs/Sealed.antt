@@ -6,7 +6,7 @@ use Rattle.krb_crypto.specs.declared.suite.CipherSuite.{CipherSuite}
 use Rattle.krb_crypto.specs.Suites.{cipher_number}
 use Rattle.krb_types.specs.declared.data_types.encrypted_data.EncryptedData.{EncryptedData}
 use Rattle.krb_opening.specs.Opens.{Opens, sole_opens}
-use Rattle.krb_rules.specs.Numbers.{is_number}
+use Rattle.picky_asn1.specs.Numbers.{is_number}
 
 -- the data says that it is of the suite, and the value's encoding is sealed in it under the key, for the usage
 pub record IsSealedIn {T : Type 0} (tree : T → Tree) (suite : CipherSuite) (key : List ℕ) (usage : ℕ) (encrypted : EncryptedData) (value : T) : Type 0 where

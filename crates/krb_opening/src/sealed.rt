@@ -2,13 +2,13 @@
 ghost use Rattle.std.specs.Prelude.{◌≡◌, IfOk};
 ghost use Rattle.std.specs.Int.{cast_unsigned, w32};
 ghost use Rattle.krb_opening.specs.Found.{IsFound};
-ghost use Rattle.krb_rules.specs.Sealed.{IsSealedIn};
+ghost use Rattle.krb_opening.specs.Sealed.{IsSealedIn};
 
-use crate::numbers::is_number;
+use crate::find::open_whole;
+use asn1_codec::Deserialize;
 use krb_crypto::CipherSuite;
-use krb_opening::open_whole;
 use krb_types::data_types::EncryptedData;
-use picky_asn1_der::Deserialize;
+use picky_asn1::is_number;
 use std::alloc::{AllocError, Global};
 
 /// The value that is sealed in the data under this key, for this usage, by this suite, or none (RFC 4120, section 5.2.9).

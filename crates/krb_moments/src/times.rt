@@ -1,21 +1,18 @@
 //! Times of messages.
 ghost use Rattle.std.specs.Prelude.{◌≡◌};
 ghost use Rattle.picky_asn1.specs.GeneralizedTime.{seconds_of};
-ghost use Rattle.krb_rules.specs.Times.{moment_at};
+ghost use Rattle.krb_moments.specs.Times.{moment_at};
 
-use krb_moments::Moment;
+use crate::{MICROSECONDS_IN_SECOND, Moment};
 use picky_asn1::date::GeneralizedTime;
 use picky_asn1::wrapper::IntegerAsn1;
-
-/// How many microseconds a second has.
-const SECOND: i64 = 1_000_000;
 
 /// The moment of a time and its microseconds, or none where these are no part of a second (RFC 4120, section 5.2.4).
 pub fn moment_at(time: GeneralizedTime, micros: &IntegerAsn1) -> Option<Moment>
     ensures { result ≡ moment_at (seconds_of time) micros.now }
 {
     let micros = micros.to_i64()?;
-    if micros < 0 || micros >= SECOND {
+    if micros < 0 || micros >= MICROSECONDS_IN_SECOND as i64 {
         return None;
     }
     Some(Moment::at(time, micros as u32))

@@ -1,4 +1,4 @@
--- Whole numbers of messages, which have any size and sign.
+-- Whole numbers, which have any size and sign.
 use Rattle.std.specs.Prelude.{ℕ, Bool, false, ◌==◌, ℤ, pos, negsuc}
 
 -- the whole number is this natural one

@@ -1,10 +1,10 @@
 //! Keys of messages.
 ghost use Rattle.std.specs.Prelude.{◌≡◌};
-ghost use Rattle.krb_rules.specs.Keys.{is_key_of, suite_of};
+ghost use Rattle.krb_opening.specs.Keys.{is_key_of, suite_of};
 
-use crate::numbers::is_number;
 use krb_crypto::{Cipher, CipherSuite};
 use krb_types::data_types::EncryptionKey;
+use picky_asn1::is_number;
 
 /// The suite that a key is one of, by its type and its length, or none (RFC 4120, section 5.2.9).
 pub fn suite_of(key: &EncryptionKey) -> Option<CipherSuite>

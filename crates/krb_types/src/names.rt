@@ -1,6 +1,6 @@
 //! Names of realms and principals.
 ghost use Rattle.std.specs.Prelude.{◌≡◌};
-ghost use Rattle.krb_rules.specs.Names.{is_same_name, is_same_realm};
+ghost use Rattle.krb_types.specs.Names.{is_same_name, is_same_realm};
 
 use picky_asn1::wrapper::GeneralStringAsn1;
 

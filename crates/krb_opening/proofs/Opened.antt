@@ -6,8 +6,8 @@ use Rattle.krb_crypto.specs.Suites.{cipher_number}
 use Rattle.krb_types.specs.declared.data_types.encrypted_data.EncryptedData.{EncryptedData}
 use Rattle.krb_opening.specs.Found.{IsFound}
 use Rattle.krb_opening.specs.Opens.{Opens}
-use Rattle.krb_rules.specs.Numbers.{is_number}
-use Rattle.krb_rules.specs.Sealed.{IsSealedIn}
+use Rattle.picky_asn1.specs.Numbers.{is_number}
+use Rattle.krb_opening.specs.Sealed.{IsSealedIn}
 
 pub opened_is_sealed : {T : Type 0} (tree : T → Tree) (suite : CipherSuite) (key : List ℕ) (usage : ℕ) (encrypted : EncryptedData) (found : Option T)
     → is_number (cipher_number suite) encrypted.etype.0 ≡ true

@@ -1,7 +1,7 @@
 use Rattle.std.proofs.Common.{rules, SFits, w32}
 use Rattle.std.proofs.lemmas.Int.{to_z-of_z}
-use Rattle.krb_rules.proofs.Opened.{opened_is_sealed}
-use Rattle.krb_rules.proofs.sealed.open_sealed.Goals as goal
+use Rattle.krb_opening.proofs.Opened.{opened_is_sealed}
+use Rattle.krb_opening.proofs.sealed.open_sealed.Goals as goal
 
 pub returns : goal.returns
 returns g c =

@@ -4,7 +4,7 @@ use Rattle.krb_crypto.specs.declared.suite.CipherSuite.{CipherSuite}
 use Rattle.krb_crypto.specs.declared.suite.CipherSuite.TheVariants.{Aes128CtsHmacSha196, Aes256CtsHmacSha196}
 use Rattle.krb_crypto.specs.Suites.{cipher_key_size, cipher_number}
 use Rattle.krb_types.specs.declared.data_types.encryption_key.EncryptionKey.{EncryptionKey}
-use Rattle.krb_rules.specs.Numbers.{is_number}
+use Rattle.picky_asn1.specs.Numbers.{is_number}
 
 -- the key's type is the suite's number, and it has as many bytes as the suite's keys
 abbrev pub is_key_of : CipherSuite → EncryptionKey → Bool
