@@ -13,6 +13,7 @@ use krb_crypto::CipherSuite;
 use krb_moments::{MICROSECONDS_IN_SECOND, Moment, moment_at};
 use krb_opening::suite_of;
 use krb_types::constants::error_codes;
+use krb_types::constants::types::{AP_REQ_MSG_TYPE, KERBEROS_VERSION};
 use krb_types::data_types::{
     AuthenticatorInner, EncTicketPartInner, EncryptedData, EncryptionKey, TicketInner,
 };
@@ -22,12 +23,6 @@ use picky_asn1::is_number;
 use picky_asn1::wrapper::GeneralStringAsn1;
 use picky_krb::messages::ApReqInner;
 use std::alloc::Global;
-
-/// The version of Kerberos, of tickets and of authenticators.
-const VERSION: u32 = 5;
-
-/// The type of an AP request (RFC 4120, section 5.10).
-const AP_REQUEST_TYPE: u32 = 14;
 
 /// The option use-session-key of an AP request (RFC 4120, section 5.5.1).
 const USE_SESSION_KEY: usize = 1;
@@ -54,7 +49,7 @@ pub(crate) fn check_address(
     if !is_version_5(request) {
         return Err(AdmitRefusal::Krb(error_codes::KRB_AP_ERR_BADVERSION));
     }
-    if !is_number(&request.msg_type.0, AP_REQUEST_TYPE) {
+    if !is_number(&request.msg_type.0, u32::from(AP_REQ_MSG_TYPE)) {
         return Err(AdmitRefusal::Krb(error_codes::KRB_AP_ERR_MSG_TYPE));
     }
     let ticket = &request.ticket.0.0;
@@ -74,7 +69,8 @@ pub(crate) fn check_address(
 fn is_version_5(request: &ApReqInner) -> bool
     ensures { result ≡ is_version_5 request.now }
 {
-    is_number(&request.pvno.0, VERSION) && is_number(&request.ticket.0.0.tkt_vno.0, VERSION)
+    is_number(&request.pvno.0, KERBEROS_VERSION)
+        && is_number(&request.ticket.0.0.tkt_vno.0, KERBEROS_VERSION)
 }
 
 // The ticket is for the service of this realm and this name.
@@ -206,7 +202,7 @@ fn check_told(
 ) -> Result<Moment, AdmitRefusal>
     ensures { IsJudged (told part.now authenticator.now).gives result }
 {
-    if !is_number(&authenticator.authenticator_vno.0, VERSION) {
+    if !is_number(&authenticator.authenticator_vno.0, KERBEROS_VERSION) {
         return Err(AdmitRefusal::Krb(error_codes::KRB_AP_ERR_BADVERSION));
     }
     if !is_of_client(part, authenticator) {

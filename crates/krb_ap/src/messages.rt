@@ -5,18 +5,13 @@ ghost use Rattle.krb_ap.specs.Messages.{IsApReq, IsAuthenticator, IsTicketPart};
 
 use krb_crypto::CipherSuite;
 use krb_opening::open_sealed;
+use krb_types::constants::key_usages;
 use krb_types::data_types::{
     Authenticator, AuthenticatorInner, EncTicketPart, EncTicketPartInner, EncryptedData,
 };
 use picky_krb::messages::{ApReq, ApReqInner};
 use picky_krb::read_whole;
 use std::alloc::{AllocError, Global};
-
-/// The usage of the key that seals a ticket's part (RFC 4120, section 7.5.1).
-const TICKET_USAGE: i32 = 2;
-
-/// The usage of the key that seals an AP request's authenticator.
-const AUTHENTICATOR_USAGE: i32 = 11;
 
 /// The AP request whose one encoding the bytes are, or none (RFC 4120, section 5.5.1).
 pub(crate) fn read_ap_req(alloc: Global, bytes: &[u8]) -> Result<Option<ApReqInner>, AllocError>
@@ -38,7 +33,13 @@ pub(crate) fn open_part(
 ) -> Result<Option<EncTicketPartInner>, AllocError>
     ensures { IfOk result (IsFound (IsTicketPart suite key.now encrypted.now)) }
 {
-    let found: Option<EncTicketPart> = open_sealed(alloc, suite, key, TICKET_USAGE, encrypted)?;
+    let found: Option<EncTicketPart> = open_sealed(
+        alloc,
+        suite,
+        key,
+        key_usages::TICKET,
+        encrypted,
+    )?;
     match found {
         Some(part) => Ok(Some(part.0)),
         None => Ok(None),
@@ -58,7 +59,7 @@ pub(crate) fn open_authenticator(
         alloc,
         suite,
         key,
-        AUTHENTICATOR_USAGE,
+        key_usages::AP_REQ_AUTHENTICATOR,
         encrypted,
     )?;
     match found {

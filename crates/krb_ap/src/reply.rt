@@ -6,20 +6,13 @@ ghost use Rattle.krb_ap.specs.ApReply.{IsApRep, ap_rep_of, ap_rep_part, encrypte
 ghost use Rattle.krb_ap.specs.Messages.{ap_rep_part_tree, ap_rep_tree};
 
 use krb_crypto::{Cipher, CipherSuite};
+use krb_types::constants::key_usages;
+use krb_types::constants::types::{AP_REP_MSG_TYPE, KERBEROS_VERSION};
 use krb_types::data_types::{AuthenticatorInner, EncApRepPart, EncApRepPartInner, EncryptedData};
 use picky_asn1::wrapper::{IntegerAsn1, OctetStringAsn1};
 use picky_asn1_der::{ApplicationTag, ExplicitContextTag, Optional, to_vec};
 use picky_krb::messages::{ApRep, ApRepInner};
 use std::alloc::{AllocError, Global};
-
-/// The usage of the key that seals an AP reply's part (RFC 4120, section 7.5.1).
-const AP_REPLY_USAGE: i32 = 12;
-
-/// The version of Kerberos.
-const VERSION: u64 = 5;
-
-/// The type of an AP reply (RFC 4120, section 5.10).
-const AP_REPLY_TYPE: u64 = 15;
 
 /// How many bytes a confounder has.
 const CONFOUNDER: usize = 16;
@@ -71,7 +64,7 @@ fn sealed(
     requires { length confounder.now ≡ 16 }
     ensures { IfOk result (λ cipher. IsSealedBy suite key.now 12 confounder.now plain.now cipher.items) }
 {
-    let Ok(cipher) = suite.encrypt(alloc, key, AP_REPLY_USAGE, plain, confounder) else {
+    let Ok(cipher) = suite.encrypt(alloc, key, key_usages::AP_REP, plain, confounder) else {
         return Err(AllocError);
     };
     Ok(cipher)
@@ -97,8 +90,8 @@ fn encrypted_by(
 fn reply_bytes(alloc: Global, part: EncryptedData) -> Result<Vec<u8>, AllocError>
     ensures { IfOk result (λ bytes. bytes.items ≡ der (ap_rep_tree (ap_rep_of part))) }
 {
-    let version = IntegerAsn1::from_u64(alloc, VERSION)?;
-    let kind = IntegerAsn1::from_u64(alloc, AP_REPLY_TYPE)?;
+    let version = IntegerAsn1::from_u64(alloc, u64::from(KERBEROS_VERSION))?;
+    let kind = IntegerAsn1::from_u64(alloc, u64::from(AP_REP_MSG_TYPE))?;
     let reply: ApRep = ApplicationTag(ApRepInner {
         pvno: ExplicitContextTag(version),
         msg_type: ExplicitContextTag(kind),

@@ -12,19 +12,16 @@ use krb_asked::ApAsked;
 use krb_crypto::CipherSuite;
 use krb_encoding::tagged_encoding;
 use krb_moments::Moment;
-use krb_types::constants::types::{AP_REQ_MSG_TYPE, AUTHENTICATOR_TYPE, NT_PRINCIPAL};
+use krb_types::constants::key_usages;
+use krb_types::constants::types::{
+    AP_REQ_MSG_TYPE, AUTHENTICATOR_TYPE, KERBEROS_VERSION, NT_PRINCIPAL,
+};
 use krb_types::data_types::{ApOptions, AuthenticatorInner, EncryptedData, EncryptionKey, Ticket};
 use picky_asn1::date::GeneralizedTime;
 use picky_asn1::wrapper::{BitStringAsn1, GeneralizedTimeAsn1, IntegerAsn1, OctetStringAsn1};
 use picky_asn1_der::{ExplicitContextTag, Optional};
 use picky_krb::messages::ApReqInner;
 use std::alloc::{AllocError, Global};
-
-/// The version of Kerberos, of requests and of authenticators.
-const VERSION: u64 = 5;
-
-/// The usage of the key that seals an authenticator for a service (RFC 4120, section 7.5.1).
-const AUTHENTICATOR_USAGE: i32 = 11;
 
 /// The option `mutual-required`, bit 2, in the first of the options' octets (RFC 4120, section 5.5.1).
 const MUTUAL_REQUIRED: u8 = 0x20;
@@ -81,7 +78,7 @@ impl Client {
             alloc,
             suite,
             credential.key(),
-            AUTHENTICATOR_USAGE,
+            key_usages::AP_REQ_AUTHENTICATOR,
             confounder,
             &plain,
         )?;
@@ -99,7 +96,7 @@ impl Client {
     ) -> Result<AuthenticatorInner, AllocError>
         ensures { IfOk result (λ inner. inner ≡ authenticator_of self.now suite second microsecond subkey.now) }
     {
-        let version = IntegerAsn1::from_u64(alloc, VERSION)?;
+        let version = IntegerAsn1::from_u64(alloc, u64::from(KERBEROS_VERSION))?;
         let microsecond = IntegerAsn1::from_u64(alloc, u64::from(microsecond))?;
         let realm = self.realm().clone()?;
         let name = principal_name(alloc, NT_PRINCIPAL, self.components())?;
@@ -187,7 +184,7 @@ fn ap_request_of(
 ) -> Result<ApReqInner, AllocError>
     ensures { IfOk result (λ request. request ≡ ap_request_of mutual_required ticket.now.0 authenticator) }
 {
-    let version = IntegerAsn1::from_u64(alloc, VERSION)?;
+    let version = IntegerAsn1::from_u64(alloc, u64::from(KERBEROS_VERSION))?;
     let kind = IntegerAsn1::from_u64(alloc, u64::from(AP_REQ_MSG_TYPE))?;
     let options = options_of(alloc, mutual_required)?;
     let ticket = ticket_copy(ticket)?;

@@ -8,15 +8,10 @@ use crate::read::{open_as_part, open_tgs_part, read_as_reply, read_error_code};
 use crate::{Client, Credential, TakeRefusal};
 use krb_asked::AsAsked;
 use krb_opening::suite_of;
+use krb_types::constants::types::{AS_REP_MSG_TYPE, KERBEROS_VERSION};
 use picky_asn1::is_number;
 use picky_krb::messages::{EncKdcRepPart, KdcRep};
 use std::alloc::Global;
-
-/// The version of Kerberos.
-const VERSION: u32 = 5;
-
-/// The type of an AS reply (RFC 4120, section 5.10).
-const AS_REPLY_TYPE: u32 = 11;
 
 impl Client {
     /// What the reply to a request grants (RFC 4120, section 3.1.5), taken where it is sealed under the client's key and
@@ -50,10 +45,10 @@ impl Client {
     ) -> Result<Credential, TakeRefusal>
         ensures { IsTaken (takes_reply self.now asked.now reply.now) result }
     {
-        if !is_number(&reply.pvno.0, VERSION) {
+        if !is_number(&reply.pvno.0, KERBEROS_VERSION) {
             return Err(TakeRefusal::Unreadable);
         }
-        if !is_number(&reply.msg_type.0, AS_REPLY_TYPE) {
+        if !is_number(&reply.msg_type.0, u32::from(AS_REP_MSG_TYPE)) {
             return Err(TakeRefusal::Unreadable);
         }
         if let Some(part) = open_as_part(alloc, self, &reply.enc_part.0)? {

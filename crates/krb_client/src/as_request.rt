@@ -11,7 +11,10 @@ use krb_accounts::{are_components, components_of};
 use krb_asked::AsAsked;
 use krb_encoding::{encoding_of, tagged_encoding};
 use krb_moments::Moment;
-use krb_types::constants::types::{AS_REQ_MSG_TYPE, NT_PRINCIPAL, NT_SRV_INST};
+use krb_types::constants::key_usages;
+use krb_types::constants::types::{
+    AS_REQ_MSG_TYPE, KERBEROS_VERSION, NT_PRINCIPAL, NT_SRV_INST, PA_ENC_TIMESTAMP,
+};
 use krb_types::data_types::{EncryptedData, KerberosFlags, PaData, PaEncTsEnc};
 use picky_asn1::date::GeneralizedTime;
 use picky_asn1::wrapper::{
@@ -21,15 +24,6 @@ use picky_asn1::wrapper::{
 use picky_asn1_der::{ExplicitContextTag, Optional};
 use picky_krb::messages::{KdcReq, KdcReqBody};
 use std::alloc::{AllocError, Global};
-
-/// The version of Kerberos.
-const VERSION: u64 = 5;
-
-/// The type of data with a sealed time, PA-ENC-TIMESTAMP (RFC 4120, section 7.5.2).
-const STAMP_TYPE: u64 = 2;
-
-/// The usage of the key that seals a client's time (RFC 4120, section 7.5.1).
-const STAMP_USAGE: i32 = 1;
 
 /// A nonce has 31 bits, so that it is positive for every reader (RFC 4120, section 5.4.1).
 const NONCES: u32 = 0x8000_0000;
@@ -87,7 +81,7 @@ impl Client {
             alloc,
             self.suite(),
             self.key(),
-            STAMP_USAGE,
+            key_usages::PA_ENC_TIMESTAMP,
             confounder,
             &plain,
         )?;
@@ -107,7 +101,7 @@ impl Client {
     {
         let stamp = stamp_data(alloc, stamp)?;
         let methods = vec![in alloc; stamp]?;
-        let version = IntegerAsn1::from_u64(alloc, VERSION)?;
+        let version = IntegerAsn1::from_u64(alloc, u64::from(KERBEROS_VERSION))?;
         let kind = IntegerAsn1::from_u64(alloc, u64::from(AS_REQ_MSG_TYPE))?;
         let body = self.request_body(alloc, service, till, nonce)?;
         Ok(KdcReq {
@@ -185,7 +179,7 @@ fn stamp_bytes(
 fn stamp_data(alloc: Global, stamp: EncryptedData) -> Result<PaData, AllocError>
     ensures { IfOk result (λ entry. entry ≡ stamp_data stamp) }
 {
-    let kind = IntegerAsn1::from_u64(alloc, STAMP_TYPE)?;
+    let kind = IntegerAsn1::from_u64(alloc, u64::from(PA_ENC_TIMESTAMP))?;
     let value = encoding_of(alloc, stamp)?;
     Ok(PaData {
         padata_type: ExplicitContextTag(kind),

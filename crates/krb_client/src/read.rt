@@ -6,12 +6,10 @@ ghost use Rattle.krb_client.specs.AsReply.{IsAsPart, IsTgsPart};
 
 use crate::Client;
 use krb_opening::{open_sealed, read_whole};
+use krb_types::constants::key_usages;
 use krb_types::data_types::EncryptedData;
 use picky_krb::messages::{AsRep, EncAsRepPart, EncKdcRepPart, EncTgsRepPart, KdcRep, KrbError};
 use std::alloc::{AllocError, Global};
-
-/// The usage of the key that seals the part of an AS reply (RFC 4120, section 7.5.1).
-const AS_REPLY_USAGE: i32 = 3;
 
 /// The code of the error whose one encoding the bytes are, or none (RFC 4120, section 5.9.1).
 pub(crate) fn read_error_code(alloc: Global, bytes: &[u8]) -> Result<Option<u32>, AllocError>
@@ -50,7 +48,7 @@ pub(crate) fn open_as_part(
         alloc,
         suite,
         client.key(),
-        AS_REPLY_USAGE,
+        key_usages::AS_REP,
         sealed,
     )?;
     match opened {
@@ -73,7 +71,7 @@ pub(crate) fn open_tgs_part(
         alloc,
         suite,
         client.key(),
-        AS_REPLY_USAGE,
+        key_usages::AS_REP,
         sealed,
     )?;
     match opened {

@@ -6,11 +6,9 @@ ghost use Rattle.krb_preauth.specs.Stamps.{IsStamp, moment_of};
 use krb_accounts::Account;
 use krb_moments::{Moment, moment_at};
 use krb_opening::{open_sealed, read_whole};
+use krb_types::constants::key_usages;
 use krb_types::data_types::{EncryptedData, PaEncTsEnc};
 use std::alloc::{AllocError, Global};
-
-/// The usage of the key that seals a stamp (RFC 4120, section 7.5.1).
-const STAMP_USAGE: i32 = 1;
 
 /// The stamp that the account's key seals in the data of an entry, its encoding, or none.
 pub fn open_stamp(
@@ -24,7 +22,13 @@ pub fn open_stamp(
     let Some(sealed) = read else {
         return Ok(None);
     };
-    let stamp = open_sealed(alloc, account.suite(), account.key(), STAMP_USAGE, &sealed)?;
+    let stamp = open_sealed(
+        alloc,
+        account.suite(),
+        account.key(),
+        key_usages::PA_ENC_TIMESTAMP,
+        &sealed,
+    )?;
     Ok(stamp)
 }
 

@@ -13,34 +13,25 @@ use krb_crypto::CipherSuite;
 use krb_moments::{MICROSECONDS_IN_SECOND, Moment};
 use krb_preauth::{first_of, moment_of, open_stamp};
 use krb_tickets::{end_of, start_of};
+use krb_types::constants::error_codes;
+use krb_types::constants::types::{
+    AS_REQ_MSG_TYPE, KERBEROS_VERSION, PA_ENC_TIMESTAMP, PA_PK_AS_REQ,
+};
 use krb_types::is_same_realm;
 use picky_asn1::is_number;
 use picky_asn1::wrapper::{BitStringAsn1, GeneralStringAsn1};
-use picky_krb::constants::error_codes;
 use picky_krb::data_types::{PaData, PrincipalName};
 use picky_krb::messages::{KdcReq, KdcReqBody};
 use std::alloc::Global;
-
-/// The version of Kerberos.
-const VERSION: u32 = 5;
-
-/// The type of an AS request (RFC 4120, section 5.10).
-const AS_REQUEST_TYPE: u32 = 10;
-
-/// The type of a preauthentication entry by public keys, PA-PK-AS-REQ (RFC 4556, section 3.1.3).
-const PUBLIC_KEY_ENTRY: u32 = 16;
-
-/// The type of a preauthentication entry by a sealed time, PA-ENC-TIMESTAMP (RFC 4120, section 7.5.2).
-const STAMP_ENTRY: u32 = 2;
 
 /// Judges whether it is an AS request to this realm, and its options.
 pub(crate) fn check_address(realm: &GeneralStringAsn1, request: &KdcReq) -> Result<(), Refusal>
     ensures { IsJudged (addressed realm.now request.now).gives result }
 {
-    if !is_number(&request.pvno.0, VERSION) {
+    if !is_number(&request.pvno.0, KERBEROS_VERSION) {
         return Err(Refusal::Krb(error_codes::KDC_ERR_BAD_PVNO));
     }
-    if !is_number(&request.msg_type.0, AS_REQUEST_TYPE) {
+    if !is_number(&request.msg_type.0, u32::from(AS_REQ_MSG_TYPE)) {
         return Err(Refusal::Krb(error_codes::KRB_AP_ERR_MSG_TYPE));
     }
     let body = &request.req_body.0;
@@ -165,10 +156,10 @@ pub(crate) fn check_client(
 ) -> Result<(), Refusal>
     ensures { IsJudged (preauthenticated settings.skew client.now moment entries.now).gives result }
 {
-    if has_entry(entries, PUBLIC_KEY_ENTRY) {
+    if has_entry(entries, PA_PK_AS_REQ) {
         return Err(Refusal::Krb(error_codes::KDC_ERR_PADATA_TYPE_NOSUPP));
     }
-    let Some(entry) = first_of(entries, STAMP_ENTRY) else {
+    let Some(entry) = first_of(entries, PA_ENC_TIMESTAMP) else {
         return Err(Refusal::Krb(error_codes::KDC_ERR_PREAUTH_REQUIRED));
     };
     let Some(stamp) = open_stamp(alloc, client, entry.as_bytes())? else {

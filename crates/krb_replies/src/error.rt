@@ -4,18 +4,13 @@ ghost use Rattle.std.specs.Option.{option_map};
 ghost use Rattle.krb_replies.specs.Errors.{error_bytes};
 
 use krb_encoding::tagged_encoding;
-use krb_types::constants::types::KRB_ERROR_MSG_TYPE;
+use krb_types::constants::types::{KERBEROS_VERSION, KRB_ERROR_MSG_TYPE};
 use krb_types::data_types::PrincipalName;
 use picky_asn1::date::GeneralizedTime;
 use picky_asn1::wrapper::{GeneralStringAsn1, GeneralizedTimeAsn1, IntegerAsn1, OctetStringAsn1};
 use picky_asn1_der::{ExplicitContextTag, ExplicitContextTag12, Optional};
 use picky_krb::messages::KrbErrorInner;
 use std::alloc::{AllocError, Global};
-
-// A Kerberos message's version and the type of an error (RFC 4120, section 5.9.1).
-const VERSION: u64 = 5;
-
-const ERROR_TYPE: u64 = 30;
 
 /// The encoding of an error with this code, at a time and its microseconds, about a service, with data that belongs to
 /// the code if there is some (RFC 4120, section 5.9.1).
@@ -30,8 +25,8 @@ pub fn error_reply(
 ) -> Result<Vec<u8>, AllocError>
     ensures { IfOk result (λ bytes. bytes.items ≡ error_bytes realm time microseconds service code (option_map (λ bytes. bytes.items) hint)) }
 {
-    let version = IntegerAsn1::from_u64(alloc, VERSION)?;
-    let kind = IntegerAsn1::from_u64(alloc, ERROR_TYPE)?;
+    let version = IntegerAsn1::from_u64(alloc, u64::from(KERBEROS_VERSION))?;
+    let kind = IntegerAsn1::from_u64(alloc, u64::from(KRB_ERROR_MSG_TYPE))?;
     let susec = IntegerAsn1::from_u64(alloc, microseconds as u64)?;
     let error = KrbErrorInner {
         pvno: ExplicitContextTag(version),

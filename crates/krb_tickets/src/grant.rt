@@ -8,25 +8,16 @@ use crate::seal::sealed_data;
 use krb_accounts::Account;
 use krb_crypto::CipherSuite;
 use krb_encoding::tagged_encoding;
-use krb_types::constants::types::{AS_REP_MSG_TYPE, ENC_AS_REP_PART_TYPE, ENC_TICKET_PART_TYPE};
+use krb_types::constants::key_usages;
+use krb_types::constants::types::{
+    AS_REP_MSG_TYPE, ENC_AS_REP_PART_TYPE, ENC_TICKET_PART_TYPE, KERBEROS_VERSION,
+};
 use krb_types::data_types::{EncTicketPartInner, EncryptedData, PrincipalName, TicketInner};
 use picky_asn1::date::GeneralizedTime;
 use picky_asn1::wrapper::{GeneralStringAsn1, IntegerAsn1, OctetStringAsn1};
 use picky_asn1_der::{ApplicationTag, ExplicitContextTag, Optional};
 use picky_krb::messages::{EncKdcRepPart, KdcRep};
 use std::alloc::{AllocError, Global};
-
-/// The usage of the key that seals a ticket's part (RFC 4120, section 7.5.1).
-const TICKET_USAGE: i32 = 2;
-
-/// The usage of the key that seals an AS reply's part.
-const AS_REPLY_USAGE: i32 = 3;
-
-/// The version of Kerberos, of tickets and of messages.
-const VERSION: u64 = 5;
-
-/// The type of an AS reply (RFC 4120, section 5.10).
-const AS_REPLY_TYPE: u64 = 11;
 
 /// What a first ticket is granted with.
 #[derive(Drop)]
@@ -61,7 +52,7 @@ pub fn sealed_ticket(
 {
     let part = ticket_part(alloc, grant)?;
     let plain = ticket_part_bytes(alloc, part)?;
-    let sealed = sealed_data(alloc, service, TICKET_USAGE, &plain, confounder)?;
+    let sealed = sealed_data(alloc, service, key_usages::TICKET, &plain, confounder)?;
     Ok(sealed)
 }
 
@@ -77,7 +68,7 @@ pub fn sealed_reply(
 {
     let part = reply_part(alloc, grant)?;
     let plain = as_reply_part_bytes(alloc, part)?;
-    let sealed = sealed_data(alloc, client, AS_REPLY_USAGE, &plain, confounder)?;
+    let sealed = sealed_data(alloc, client, key_usages::AS_REP, &plain, confounder)?;
     Ok(sealed)
 }
 
@@ -105,8 +96,8 @@ fn reply_of(
 ) -> Result<KdcRep, AllocError>
     ensures { IfOk result (λ reply. reply ≡ as_reply_of grant.now (ticket_of grant.now ticket) part) }
 {
-    let version = IntegerAsn1::from_u64(alloc, VERSION)?;
-    let kind = IntegerAsn1::from_u64(alloc, AS_REPLY_TYPE)?;
+    let version = IntegerAsn1::from_u64(alloc, u64::from(KERBEROS_VERSION))?;
+    let kind = IntegerAsn1::from_u64(alloc, u64::from(AS_REP_MSG_TYPE))?;
     let realm = grant.realm.clone()?;
     let client = grant.client.clone()?;
     let ticket = ticket_of(alloc, grant, ticket)?;
@@ -126,7 +117,7 @@ fn reply_of(
 fn ticket_of(alloc: Global, grant: &Grant, part: EncryptedData) -> Result<TicketInner, AllocError>
     ensures { IfOk result (λ ticket. ticket ≡ ticket_of grant.now part) }
 {
-    let version = IntegerAsn1::from_u64(alloc, VERSION)?;
+    let version = IntegerAsn1::from_u64(alloc, u64::from(KERBEROS_VERSION))?;
     let realm = grant.realm.clone()?;
     let service = grant.service.clone()?;
     Ok(TicketInner {

@@ -4,16 +4,11 @@ ghost use Rattle.krb_tickets.specs.MethodData.{key_entry, key_info_bytes, method
 
 use krb_accounts::Account;
 use krb_encoding::encoding_of;
+use krb_types::constants::types::{PA_ENC_TIMESTAMP, PA_ETYPE_INFO2};
 use krb_types::data_types::{EtypeInfo2, EtypeInfo2Entry, KerberosStringAsn1, PaData};
 use picky_asn1::wrapper::{Asn1SequenceOf, GeneralStringAsn1, IntegerAsn1, OctetStringAsn1};
 use picky_asn1_der::{ExplicitContextTag, Optional};
 use std::alloc::{AllocError, Global};
-
-/// The type of data that says how a key is made of a password, PA-ETYPE-INFO2 (RFC 4120, section 7.5.2).
-const KEY_INFO_TYPE: u64 = 19;
-
-/// The type of data with a sealed time, PA-ENC-TIMESTAMP.
-const TIMESTAMP_TYPE: u64 = 2;
 
 /// The data of an error that asks for preauthentication (RFC 4120, sections 5.9.1 and 5.2.7.5): how the client makes
 /// its key, and that a sealed time is wanted.
@@ -22,8 +17,8 @@ pub fn method_data(alloc: Global, client: &Account) -> Result<Vec<u8>, AllocErro
     ensures { IfOk result (λ bytes. bytes.items ≡ method_data_bytes client.now) }
 {
     let info = key_info(alloc, client)?;
-    let info = pa_data(alloc, KEY_INFO_TYPE, info)?;
-    let timestamp = pa_data(alloc, TIMESTAMP_TYPE, Vec::new(alloc))?;
+    let info = pa_data(alloc, PA_ETYPE_INFO2, info)?;
+    let timestamp = pa_data(alloc, PA_ENC_TIMESTAMP, Vec::new(alloc))?;
     let methods: Asn1SequenceOf<PaData> = Asn1SequenceOf::from(vec![in alloc; info, timestamp]?);
     let bytes = encoding_of(alloc, methods)?;
     Ok(bytes)
@@ -64,10 +59,10 @@ fn salt_of(alloc: Global, client: &Account) -> Result<Option<KerberosStringAsn1>
     }
 }
 
-fn pa_data(alloc: Global, kind: u64, value: Vec<u8>) -> Result<PaData, AllocError>
+fn pa_data(alloc: Global, kind: u32, value: Vec<u8>) -> Result<PaData, AllocError>
     ensures { IfOk result (λ made. made ≡ pa_data_of kind value.items) }
 {
-    let kind = IntegerAsn1::from_u64(alloc, kind)?;
+    let kind = IntegerAsn1::from_u64(alloc, u64::from(kind))?;
     Ok(PaData {
         padata_type: ExplicitContextTag(kind),
         padata_data: ExplicitContextTag(OctetStringAsn1::from(value)),

@@ -1,7 +1,11 @@
-//! Numbers of the standard.
+//! Numbers of the standard: each stands here once. Those of encryption types are `krb_crypto::CipherSuite`'s own.
 
-/// Message types, which are application tags too, further application tags, and name types.
+/// The version, message types, which are application tags too, further application tags, name types, and types of
+/// preauthentication data.
 pub mod types {
+    /// The version of Kerberos, of messages, tickets and authenticators (RFC 4120, section 5.4.1).
+    pub const KERBEROS_VERSION: u32 = 5;
+
     /// An AS-REQ (RFC 4120, section 5.10).
     pub const AS_REQ_MSG_TYPE: u8 = 10;
 
@@ -46,6 +50,33 @@ pub mod types {
 
     /// The name of a service and its instance (RFC 4120, section 6.2).
     pub const NT_SRV_INST: u8 = 2;
+
+    /// Data with a time that the client seals, PA-ENC-TIMESTAMP (RFC 4120, section 7.5.2).
+    pub const PA_ENC_TIMESTAMP: u32 = 2;
+
+    /// Data by public keys, PA-PK-AS-REQ (RFC 4556, section 3.1.3).
+    pub const PA_PK_AS_REQ: u32 = 16;
+
+    /// Data that says how a key is made of a password, PA-ETYPE-INFO2 (RFC 4120, section 7.5.2).
+    pub const PA_ETYPE_INFO2: u32 = 19;
+}
+
+/// What a key is used for (RFC 4120, section 7.5.1).
+pub mod key_usages {
+    /// The time of PA-ENC-TIMESTAMP, under the client's key.
+    pub const PA_ENC_TIMESTAMP: i32 = 1;
+
+    /// A ticket's part, under the service's key.
+    pub const TICKET: i32 = 2;
+
+    /// The part of an AS-REP, under the client's key.
+    pub const AS_REP: i32 = 3;
+
+    /// The authenticator of an AP-REQ, under the session key.
+    pub const AP_REQ_AUTHENTICATOR: i32 = 11;
+
+    /// The part of an AP-REP, under the session key.
+    pub const AP_REP: i32 = 12;
 }
 
 /// Codes of a KRB-ERROR (RFC 4120, section 7.5.9), those that a realm of this repository answers.

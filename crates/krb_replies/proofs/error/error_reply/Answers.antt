@@ -7,4 +7,4 @@ pub returns : goal.returns
 returns c =
     c.in_ok-bytes.ensures ∙ made-bytes c.in_ok-version.version c.in_ok-kind.kind c.in_ok-susec.susec c.args.realm c.args.time c.args.microseconds c.args.service c.args.code
     c.data_of.result (option_map (λ bytes. bytes.items) c.args.hint)
-    c.in_ok-version.ensures c.in_ok-kind.ensures c.in_ok-susec.ensures c.data_of.ensures
+    (rw c.from.ensures at c.in_ok-version.ensures) (rw c.from-2.ensures at c.in_ok-kind.ensures) c.in_ok-susec.ensures c.data_of.ensures
