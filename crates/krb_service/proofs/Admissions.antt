@@ -2,7 +2,7 @@
 use Rattle.std.proofs.Common.{◌≡◌, ℕ, List, Option, Result, Ok, Err, refl, ap, subst, inl, inr, ◌∙◌}
 use Rattle.krb_moments.specs.Skew.{is_far}
 use Rattle.decision_tables.specs.Tables.{Table, done, make, and_then}
-use Rattle.krb_seen.specs.Pair.{PairRecord}
+use Rattle.krb_replay_cache.specs.Pair.{PairRecord}
 use Rattle.krb_types.specs.declared.data_types.enc_ticket_part.EncTicketPartInner.{EncTicketPartInner}
 use Rattle.picky_krb.specs.declared.messages.ap_req.ApReqInner.{ApReqInner}
 use Rattle.krb_ap.specs.Admission.{AdmissionRecord, admission_of, subkey_of}

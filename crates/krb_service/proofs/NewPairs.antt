@@ -2,8 +2,8 @@
 use Rattle.std.proofs.Common.{◌≡◌, ℕ, true, false, List, ◌∷◌, Option, Result, Err, Ok, ap, refl, subst, inl, inr}
 use Rattle.krb_moments.specs.Skew.{is_far}
 use Rattle.decision_tables.specs.Tables.{Table, done}
-use Rattle.krb_seen.specs.Pair.{PairRecord, is_among}
-use Rattle.krb_seen.specs.Seen.{SeenRecord, IsWindow}
+use Rattle.krb_replay_cache.specs.Pair.{PairRecord, is_among}
+use Rattle.krb_replay_cache.specs.Seen.{SeenRecord, IsWindow}
 use Rattle.krb_ap.specs.Admission.{AdmissionRecord, admission_of}
 use Rattle.krb_ap.specs.ApReply.{IsReplyTo}
 use Rattle.krb_ap.specs.Refusal.{IsJudged}

@@ -1,8 +1,8 @@
 -- A call's outcome is that of the remembering service.
 use Rattle.std.proofs.Common.{◌≡◌, ℕ, true, false, List, ◌∷◌, Result, Ok, Err, max, ap, refl, sym, subst, inl, inr, ◌∙◌}
 use Rattle.krb_moments.specs.Skew.{is_far}
-use Rattle.krb_seen.specs.Pair.{PairRecord}
-use Rattle.krb_seen.specs.Seen.{SeenRecord, IsWindow}
+use Rattle.krb_replay_cache.specs.Pair.{PairRecord}
+use Rattle.krb_replay_cache.specs.Seen.{SeenRecord, IsWindow}
 use Rattle.krb_ap.specs.Admission.{AdmissionRecord}
 use Rattle.krb_ap.specs.Entry.{EntryRecord}
 use Rattle.krb_ap.specs.Received.{Receives}

@@ -3,8 +3,8 @@ use Rattle.std.specs.Prelude.{ℕ, List, ◌∷◌, Result, Ok, Err}
 use Rattle.krb_moments.specs.Skew.{is_far}
 use Rattle.krb_types.specs.Names.{components}
 use Rattle.decision_tables.specs.Tables.{Table, done, make, refuse, and_then}
-use Rattle.krb_seen.specs.Pair.{PairRecord, is_among}
-use Rattle.krb_seen.specs.Seen.{SeenRecord, IsWindow}
+use Rattle.krb_replay_cache.specs.Pair.{PairRecord, is_among}
+use Rattle.krb_replay_cache.specs.Seen.{SeenRecord, IsWindow}
 use Rattle.krb_ap.specs.Admission.{AdmissionRecord, admission_of}
 use Rattle.krb_ap.specs.ApReply.{IsReplyTo, sole_reply_to}
 use Rattle.krb_ap.specs.declared.presented.Presented.{Presented}

@@ -2,8 +2,8 @@
 use Rattle.std.specs.Prelude.{ℕ, List, ◌∷◌, Result, Ok, Err}
 use Rattle.picky_krb.specs.declared.messages.ap_req.ApReqInner.{ApReqInner}
 use Rattle.decision_tables.specs.Tables.{Table, done, ask, as_made, and_then}
-use Rattle.krb_seen.specs.Pair.{PairRecord}
-use Rattle.krb_seen.specs.Seen.{SeenRecord, IsWindow}
+use Rattle.krb_replay_cache.specs.Pair.{PairRecord}
+use Rattle.krb_replay_cache.specs.Seen.{SeenRecord, IsWindow}
 use Rattle.krb_ap.specs.Admission.{AdmissionRecord}
 use Rattle.krb_ap.specs.ApTable.{presented}
 use Rattle.krb_ap.specs.Messages.{IsApReq, sole_ap_req}

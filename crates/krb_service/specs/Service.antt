@@ -6,7 +6,7 @@ use Rattle.krb_accounts.specs.Names.{is_realm_name, are_components}
 use Rattle.krb_accounts.specs.declared.refusal.RealmRefusal.{RealmRefusal}
 use Rattle.krb_accounts.specs.declared.refusal.RealmRefusal.TheVariants.{BadName, BadKeyLength, BadSetting}
 use Rattle.krb_ap.specs.Entry.{EntryRecord}
-use Rattle.krb_seen.specs.Seen.{SeenRecord}
+use Rattle.krb_replay_cache.specs.Seen.{SeenRecord}
 
 pub record ServiceRecord : Type 0 where
   pub entry : EntryRecord

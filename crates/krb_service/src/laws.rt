@@ -2,7 +2,7 @@
 ghost use Rattle.std.specs.Prelude.{◌≡◌, ℕ, List, Ok};
 ghost use Rattle.krb_ap.specs.Admission.{AdmissionRecord};
 ghost use Rattle.krb_ap.specs.Presents.{Choice, Presents, TellsOf};
-ghost use Rattle.krb_seen.specs.Pair.{PairRecord};
+ghost use Rattle.krb_replay_cache.specs.Pair.{PairRecord};
 ghost use Rattle.krb_service.specs.RememberingService.{Outcome, remembering};
 ghost use Rattle.krb_service.specs.Service.{ServiceRecord};
 

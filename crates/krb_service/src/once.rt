@@ -4,12 +4,12 @@ ghost use Rattle.std.specs.Option.{option_map};
 ghost use Rattle.krb_ap.specs.Admission.{admission_of};
 ghost use Rattle.krb_ap.specs.Refusal.{IsJudged};
 ghost use Rattle.krb_moments.specs.Skew.{is_far};
-ghost use Rattle.krb_seen.specs.Pair.{PairRecord};
-ghost use Rattle.krb_seen.specs.Seen.{IsWindow};
+ghost use Rattle.krb_replay_cache.specs.Pair.{PairRecord};
+ghost use Rattle.krb_replay_cache.specs.Seen.{IsWindow};
 ghost use Rattle.krb_service.specs.Once.{IsOnce, admitted_by, fresh, once, pair_of};
 
 use krb_ap::{Admission, AdmitRefusal, Presented, admission_of, reply_to};
-use krb_seen::{Pair, Seen};
+use krb_replay_cache::{Pair, Seen};
 use krb_types::constants::error_codes;
 use picky_asn1::wrapper::GeneralStringAsn1;
 use std::alloc::{AllocError, Global};

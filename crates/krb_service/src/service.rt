@@ -1,8 +1,8 @@
 //! Services.
 ghost use Rattle.std.specs.Prelude.{◌≡◌, ◌≤◌, ◌⊎◌, List, length, Ok, Err, MatchResult, max};
 ghost use Rattle.krb_accounts.specs.Names.{parts};
-ghost use Rattle.krb_seen.specs.Pair.{PairRecord};
-ghost use Rattle.krb_seen.specs.Seen.{IsWindow};
+ghost use Rattle.krb_replay_cache.specs.Pair.{PairRecord};
+ghost use Rattle.krb_replay_cache.specs.Seen.{IsWindow};
 ghost use Rattle.krb_service.specs.RememberingService.{IsStep, remembering};
 ghost use Rattle.krb_service.specs.Service.{made, making};
 
@@ -11,7 +11,7 @@ use krb_accounts::{RealmRefusal, are_components, components_of, is_realm_name, r
 use krb_ap::{Admission, AdmitRefusal, KeytabEntry};
 use krb_crypto::CipherSuite;
 use krb_moments::Moment;
-use krb_seen::Seen;
+use krb_replay_cache::Seen;
 use krb_types::constants::error_codes;
 use picky_asn1::wrapper::OctetStringAsn1;
 use std::alloc::Global;

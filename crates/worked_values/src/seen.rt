@@ -1,7 +1,7 @@
 //! What a service remembers, with a skew of 300 seconds.
 
 use krb_moments::Moment;
-use krb_seen::{Pair, Seen};
+use krb_replay_cache::{Pair, Seen};
 use picky_asn1::wrapper::GeneralStringAsn1;
 use std::alloc::Global;
 

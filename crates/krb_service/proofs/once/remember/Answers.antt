@@ -1,7 +1,7 @@
 use Rattle.std.proofs.Common.{refl, sym, subst}
 use Rattle.std.specs.Option.{option_map}
 use Rattle.std.proofs.lemmas.Result.{err_from_is_err_and}
-use Rattle.krb_seen.specs.Seen.{SeenRecord, IsWindow}
+use Rattle.krb_replay_cache.specs.Seen.{SeenRecord, IsWindow}
 use Rattle.krb_ap.specs.Admission.{AdmissionRecord, admission_of}
 use Rattle.krb_service.proofs.NewPairs.{admitted_new, kept, refused_again}
 use Rattle.krb_service.proofs.once.remember.Goals as goal

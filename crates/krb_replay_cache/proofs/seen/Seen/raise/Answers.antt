@@ -1,7 +1,7 @@
 use Rattle.std.proofs.Common.{arith}
 use Rattle.std.proofs.lemmas.Grind.{common_steps}
-use Rattle.krb_seen.proofs.Window.{window_raised}
-use Rattle.krb_seen.proofs.seen.Seen.raise.Goals as goal
+use Rattle.krb_replay_cache.proofs.Window.{window_raised}
+use Rattle.krb_replay_cache.proofs.seen.Seen.raise.Goals as goal
 
 pub returns-clause-window : goal.returns-clause-window
 returns-clause-window c admitted window =

@@ -1,8 +1,8 @@
 //! The pairs that a service has seen.
 ghost use Rattle.std.specs.Prelude.{◌≡◌, ◌*◌, ◌≤◌, ◌&&◌, false, max, List, [], ◌∷◌, OnOk, OnErr};
 ghost use Rattle.krb_moments.specs.Skew.{is_far};
-ghost use Rattle.krb_seen.specs.Pair.{PairRecord, is_among};
-ghost use Rattle.krb_seen.specs.Seen.{IsWindow};
+ghost use Rattle.krb_replay_cache.specs.Pair.{PairRecord, is_among};
+ghost use Rattle.krb_replay_cache.specs.Seen.{IsWindow};
 
 use crate::Pair;
 use krb_moments::{MICROSECONDS_IN_SECOND, Moment};
@@ -22,8 +22,8 @@ pub struct Seen {
 impl Model for Seen {
     ghost use Rattle.std.specs.Prelude.{◌≤◌};
     ghost use Rattle.std.specs.List.{filter};
-    ghost use Rattle.krb_seen.specs.Pair.{is_recent};
-    ghost use Rattle.krb_seen.specs.Seen.{SeenRecord};
+    ghost use Rattle.krb_replay_cache.specs.Pair.{is_recent};
+    ghost use Rattle.krb_replay_cache.specs.Seen.{SeenRecord};
 
     ghost Value = { SeenRecord };
 

@@ -4,9 +4,9 @@ use Rattle.std.specs.List.{filter}
 use Rattle.std.proofs.lemmas.Bool.{and_parts, and_right, eqb-true}
 use Rattle.std.proofs.lemmas.Bool.Decides.{nat_tests}
 use Rattle.std.proofs.lemmas.Map.Views.{any-filter_same}
-use Rattle.krb_seen.specs.Pair.{PairRecord, is_same_pair, is_among, is_recent}
+use Rattle.krb_replay_cache.specs.Pair.{PairRecord, is_same_pair, is_among, is_recent}
 use Rattle.krb_moments.specs.Skew.{is_far}
-use Rattle.krb_seen.specs.Seen.{IsWindow}
+use Rattle.krb_replay_cache.specs.Seen.{IsWindow}
 
 -- the same pair has the same time
 same_time : (p q : PairRecord) → is_same_pair p q ≡ true → p.time ≡ q.time

@@ -1,6 +1,6 @@
 -- What a service remembers of the authenticators that it has admitted (RFC 4120, section 3.2.3).
 use Rattle.std.specs.Prelude.{◌≡◌, ℕ, ◌&&◌, List}
-use Rattle.krb_seen.specs.Pair.{PairRecord, is_among, is_recent}
+use Rattle.krb_replay_cache.specs.Pair.{PairRecord, is_among, is_recent}
 
 -- the greatest moment that was handed in, the skew, both in microseconds, and the pairs held
 pub record SeenRecord : Type 0 where

@@ -1,6 +1,6 @@
 use Rattle.std.proofs.Common.{◌∙◌}
-use Rattle.krb_seen.proofs.Window.{near_is_recent, among_held}
-use Rattle.krb_seen.proofs.seen.Seen.contains.Goals as goal
+use Rattle.krb_replay_cache.proofs.Window.{near_is_recent, among_held}
+use Rattle.krb_replay_cache.proofs.seen.Seen.contains.Goals as goal
 
 pub returns : goal.returns
 returns c admitted window near =

@@ -16,7 +16,7 @@ pub struct Pair {
 }
 
 impl Model for Pair {
-    ghost use Rattle.krb_seen.specs.Pair.{PairRecord};
+    ghost use Rattle.krb_replay_cache.specs.Pair.{PairRecord};
 
     ghost Value = { PairRecord };
 
@@ -45,8 +45,8 @@ impl Pair {
 
 impl PartialEq for Pair {
     ghost use Rattle.std.specs.Cmp.{partial_equiv_from_equiv};
-    ghost use Rattle.krb_seen.specs.Pair.{is_same_pair};
-    ghost use Rattle.krb_seen.specs.Pair.{pair_equiv};
+    ghost use Rattle.krb_replay_cache.specs.Pair.{is_same_pair};
+    ghost use Rattle.krb_replay_cache.specs.Pair.{pair_equiv};
 
     ghost eq = { is_same_pair };
 
@@ -58,7 +58,7 @@ impl PartialEq for Pair {
 }
 
 impl Eq for Pair {
-    ghost use Rattle.krb_seen.specs.Pair.{pair_equiv};
+    ghost use Rattle.krb_replay_cache.specs.Pair.{pair_equiv};
 
     ghost laws = { pair_equiv };
 }
