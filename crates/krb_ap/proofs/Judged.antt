@@ -8,7 +8,8 @@ use Rattle.krb_types.specs.declared.data_types.enc_ticket_part.EncTicketPartInne
 use Rattle.picky_krb.specs.declared.messages.ap_req.ApReqInner.{ApReqInner}
 use Rattle.krb_ap.specs.ApTable.{addressed, opened, presented, timely, told, valid_authenticator, valid_part}
 use Rattle.krb_ap.specs.Entry.{EntryRecord}
-use Rattle.krb_ap.specs.Messages.{IsApReq, IsTicketPart}
+use Rattle.picky_krb.specs.Messages.{IsApReq}
+use Rattle.krb_ap.specs.Messages.{IsTicketPart}
 use Rattle.krb_ap.specs.Received.{Receives}
 use Rattle.krb_ap.specs.Refusal.{IsJudged}
 use Rattle.krb_ap.specs.declared.presented.Presented.{Presented}

@@ -3,16 +3,15 @@ use Rattle.std.proofs.Common.{◌≡◌, ℕ, List, Option, None, Some, refl, sy
 use Rattle.std.specs.Prelude.{ℤ}
 use Rattle.std.specs.Option.{option_map}
 use Rattle.asn1_trees.specs.Tree.{Tree, der}
-use Rattle.asn1_trees.proofs.Spelling.{IsInjective, wrapped-injective}
+use Rattle.asn1_trees.proofs.Spelling.{IsInjective}
 use Rattle.krb_crypto.specs.Sealing.{IsAesSealed}
 use Rattle.krb_crypto.specs.Suites.{cipher_key_size, cipher_number}
 use Rattle.krb_crypto.proofs.SealingLemmas.{one_sealed, one_string}
 use Rattle.krb_types.specs.declared.data_types.authenticator.AuthenticatorInner.{AuthenticatorInner}
 use Rattle.krb_types.specs.declared.data_types.encrypted_data.EncryptedData.{EncryptedData}
 use Rattle.krb_types.specs.declared.data_types.enc_ticket_part.EncTicketPartInner.{EncTicketPartInner}
-use Rattle.krb_types.specs.Trees as held
 use Rattle.picky_krb.specs.declared.messages.ap_req.ApReqInner.{ApReqInner}
-use Rattle.krb_ap.specs.Messages.{ap_req_tree, authenticator_tree, sole_ap_req, ticket_part_tree}
+use Rattle.picky_krb.specs.Messages.{ap_req_tree, authenticator-injective, authenticator_tree, enc_ticket_part-injective, enc_ticket_part_tree, sole_ap_req}
 use Rattle.krb_ap.specs.Presents.{Choice, Outer, Presents, Seals, encrypted, request_of}
 
 -- a ciphertext has one value and one confounder
@@ -88,16 +87,16 @@ one_presentation key bytes a b x y =
     let outer : a.outer ≡ b.outer = sym (outer-request a.outer x.part_cipher x.cipher) ∙ ap outer_of request ∙ outer-request b.outer y.part_cipher y.cipher in
     let part_cipher : x.part_cipher ≡ y.part_cipher = ap (λ (r : ApReqInner). r.ticket.0.0.enc_part.0.cipher.0) request in
     let cipher : x.cipher ≡ y.cipher = ap (λ (r : ApReqInner). r.authenticator.0.cipher.0) request in
-    let part = one_value ticket_part_tree (wrapped-injective 99 held.enc_ticket_part_tree held.enc_ticket_part-injective) key 2 a.part_confounder b.part_confounder a.part b.part y.part_cipher
-    (subst (λ c. Seals {T = EncTicketPartInner} ticket_part_tree key 2 a.part_confounder a.part c) part_cipher x.part) y.part in
+    let part = one_value enc_ticket_part_tree enc_ticket_part-injective key 2 a.part_confounder b.part_confounder a.part b.part y.part_cipher
+    (subst (λ c. Seals {T = EncTicketPartInner} enc_ticket_part_tree key 2 a.part_confounder a.part c) part_cipher x.part) y.part in
     let under = subst (λ (p : EncTicketPartInner). Seals {T = AuthenticatorInner} authenticator_tree p.key.0.key_value.0 11 a.confounder a.authenticator x.cipher) part.1 x.authenticator in
-    let own = one_value authenticator_tree (wrapped-injective 98 held.authenticator_tree held.authenticator-injective) b.part.key.0.key_value.0 11 a.confounder b.confounder a.authenticator b.authenticator y.cipher
+    let own = one_value authenticator_tree authenticator-injective b.part.key.0.key_value.0 11 a.confounder b.confounder a.authenticator b.authenticator y.cipher
     (subst (λ c. Seals {T = AuthenticatorInner} authenticator_tree b.part.key.0.key_value.0 11 a.confounder a.authenticator c) cipher under) y.authenticator in
     λ i. record { outer = outer i; part = part.1 i; part_confounder = part.0 i; authenticator = own.1 i; confounder = own.0 i }
 
 pub one_request : (key : List ℕ) (choice : Choice) (a b : List ℕ) → Presents key choice a → Presents key choice b → a ≡ b
 one_request key choice a b x y =
-    let part = one_cipher ticket_part_tree key 2 choice.part_confounder choice.part x.part_cipher y.part_cipher x.part y.part in
+    let part = one_cipher enc_ticket_part_tree key 2 choice.part_confounder choice.part x.part_cipher y.part_cipher x.part y.part in
     let own = one_cipher authenticator_tree choice.part.key.0.key_value.0 11 choice.confounder choice.authenticator x.cipher y.cipher x.authenticator y.authenticator in
     x.writes.1
     ∙ ap (λ c. der (ap_req_tree (request_of choice.outer c x.cipher))) part

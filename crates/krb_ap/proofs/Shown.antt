@@ -13,7 +13,8 @@ use Rattle.krb_types.specs.declared.data_types.enc_ticket_part.EncTicketPartInne
 use Rattle.picky_krb.specs.declared.messages.ap_req.ApReqInner.{ApReqInner}
 use Rattle.krb_ap.specs.ApTable.{addressed, opened, presented, timely, told, valid_authenticator, valid_part}
 use Rattle.krb_ap.specs.Entry.{EntryRecord}
-use Rattle.krb_ap.specs.Messages.{IsApReq, IsAuthenticator, authenticator_tree, sole_authenticator, ticket_part_tree}
+use Rattle.picky_krb.specs.Messages.{IsApReq, authenticator_tree, enc_ticket_part_tree}
+use Rattle.krb_ap.specs.Messages.{IsAuthenticator, sole_authenticator}
 use Rattle.krb_ap.specs.Presents.{Choice, Presents, Seals, request_of}
 use Rattle.krb_ap.specs.declared.presented.Presented.{Presented}
 use Rattle.krb_ap.proofs.Presentations.{outer_of, untold-told}
@@ -78,12 +79,12 @@ both t rest value (inr x) = absurd (cc (x.2))
 
 shown_part : (entry : EntryRecord) (skew moment : ℕ) (sealed : EncryptedData) (part : EncTicketPartInner)
     → (valid_part entry.suite entry.key skew moment sealed).gives (Ok part)
-    → IsSealedIn {T = EncTicketPartInner} ticket_part_tree entry.suite entry.key 2 sealed part
+    → IsSealedIn {T = EncTicketPartInner} enc_ticket_part_tree entry.suite entry.key 2 sealed part
 shown_part entry skew moment sealed part x =
     let own = first_of_two part 31 x in
     let kept = both {A = Unit {0}} (timely skew moment own.0) (λ _. done (Ok own.0)) part own.2 in
     let same : part ≡ own.0 = ok_same part own.0 kept.2 in
-    subst (λ p. IsSealedIn {T = EncTicketPartInner} ticket_part_tree entry.suite entry.key 2 sealed p) (sym same) own.1
+    subst (λ p. IsSealedIn {T = EncTicketPartInner} enc_ticket_part_tree entry.suite entry.key 2 sealed p) (sym same) own.1
 
 -- the authenticator is sealed under the key
 abbrev asked : EncryptionKey → EncryptedData → CipherSuite → Table (Result (CipherSuite × AuthenticatorInner) ℕ)
@@ -129,7 +130,7 @@ shown_authenticator request part p x =
 
 -- what was presented: both parts are sealed
 record Shown (entry : EntryRecord) (request : ApReqInner) (p : Presented) : Type 0 where
-  part : IsSealedIn {T = EncTicketPartInner} ticket_part_tree entry.suite entry.key 2 request.ticket.0.0.enc_part.0 p.part
+  part : IsSealedIn {T = EncTicketPartInner} enc_ticket_part_tree entry.suite entry.key 2 request.ticket.0.0.enc_part.0 p.part
   authenticator : IsSealedIn {T = AuthenticatorInner} authenticator_tree p.suite p.part.key.0.key_value.0 11 request.authenticator.0 p.authenticator
 
 abbrev past_address : EntryRecord → ℕ → ℕ → ApReqInner → Table (Result Presented ℕ)
@@ -144,7 +145,7 @@ shown entry skew moment request p x =
     let ticket = both (valid_part entry.suite entry.key skew moment request.ticket.0.0.enc_part.0) (λ part. valid_authenticator request part) p address.2 in
     let own = shown_authenticator request ticket.0 p ticket.2 in
     record {
-      part = subst (λ q. IsSealedIn {T = EncTicketPartInner} ticket_part_tree entry.suite entry.key 2 request.ticket.0.0.enc_part.0 q) (sym own.0)
+      part = subst (λ q. IsSealedIn {T = EncTicketPartInner} enc_ticket_part_tree entry.suite entry.key 2 request.ticket.0.0.enc_part.0 q) (sym own.0)
           (shown_part entry skew moment request.ticket.0.0.enc_part.0 ticket.0 ticket.1);
       authenticator = own.1;
     }
@@ -172,7 +173,7 @@ presented_by entry skew moment bytes request p found x =
         part_cipher = request.ticket.0.0.enc_part.0.cipher.0;
         cipher = request.authenticator.0.cipher.0;
         writes = subst (λ (r : ApReqInner). IsApReq bytes r) (sym (request-outer request)) found;
-        part = seals ticket_part_tree entry.suite entry.key 2 request.ticket.0.0.enc_part.0 p.part both.part;
+        part = seals enc_ticket_part_tree entry.suite entry.key 2 request.ticket.0.0.enc_part.0 p.part both.part;
         authenticator = seals authenticator_tree p.suite p.part.key.0.key_value.0 11 request.authenticator.0 p.authenticator both.authenticator;
       };
       part = refl;

@@ -11,7 +11,7 @@ use Rattle.krb_types.specs.declared.data_types.enc_ap_rep_part.EncApRepPartInner
 use Rattle.krb_types.specs.declared.data_types.encrypted_data.EncryptedData.{EncryptedData}
 use Rattle.picky_krb.specs.declared.messages.ap_rep.ApRepInner.{ApRepInner}
 use Rattle.decision_tables.specs.One.{IsSole}
-use Rattle.krb_ap.specs.Messages.{ap_rep_tree, ap_rep_part_tree}
+use Rattle.picky_krb.specs.Messages.{ap_rep_tree, enc_ap_rep_part_tree}
 use Rattle.krb_ap.specs.declared.presented.Presented.{Presented}
 
 -- the authenticator's time, and nothing optional
@@ -41,13 +41,13 @@ ap_rep_of part = record {
 -- the bytes are the encoding of the reply, whose part is sealed under the session key (usage 12; RFC 4120, section 7.5.1)
 pub record IsApRep (suite : CipherSuite) (key confounder : List ℕ) (authenticator : AuthenticatorInner) (bytes : List ℕ) : Type 0 where
   pub cipher : List ℕ
-  pub sealed : IsSealedBy suite key 12 confounder (der (ap_rep_part_tree (ap_rep_part authenticator))) cipher
+  pub sealed : IsSealedBy suite key 12 confounder (der (enc_ap_rep_part_tree (ap_rep_part authenticator))) cipher
   pub encoding : bytes ≡ der (ap_rep_tree (ap_rep_of (encrypted_by suite cipher)))
 
 -- there is one at most
 pub sole_ap_rep : (suite : CipherSuite) (key confounder : List ℕ) (authenticator : AuthenticatorInner) → IsSole (IsApRep suite key confounder authenticator)
 sole_ap_rep suite key confounder authenticator a b x y =
-    let same = one_string (cipher_key_size suite) key 12 confounder (der (ap_rep_part_tree (ap_rep_part authenticator))) x.cipher y.cipher x.sealed y.sealed in
+    let same = one_string (cipher_key_size suite) key 12 confounder (der (enc_ap_rep_part_tree (ap_rep_part authenticator))) x.cipher y.cipher x.sealed y.sealed in
     x.encoding ∙ ap (λ c. der (ap_rep_tree (ap_rep_of (encrypted_by suite c)))) same ∙ sym y.encoding
 
 -- the reply where one is wanted, with the first 16 of the random bytes as confounder

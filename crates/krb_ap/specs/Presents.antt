@@ -12,7 +12,7 @@ use Rattle.krb_types.specs.declared.data_types.enc_ticket_part.EncTicketPartInne
 use Rattle.krb_types.specs.declared.data_types.principal_name.PrincipalName.{PrincipalName}
 use Rattle.picky_krb.specs.declared.messages.ap_req.ApReqInner.{ApReqInner}
 use Rattle.krb_ap.specs.Admission.{AdmissionRecord, subkey_of}
-use Rattle.krb_ap.specs.Messages.{IsApReq, authenticator_tree, ticket_part_tree}
+use Rattle.picky_krb.specs.Messages.{IsApReq, authenticator_tree, enc_ticket_part_tree}
 
 -- what a request shows to all: its fields and its ticket's, but for the two ciphertexts
 pub record Outer : Type 0 where
@@ -75,7 +75,7 @@ pub record Presents (key : List ℕ) (choice : Choice) (bytes : List ℕ) : Type
   pub part_cipher : List ℕ
   pub cipher : List ℕ
   pub writes : IsApReq bytes (request_of choice.outer part_cipher cipher)
-  pub part : Seals {T = EncTicketPartInner} ticket_part_tree key 2 choice.part_confounder choice.part part_cipher
+  pub part : Seals {T = EncTicketPartInner} enc_ticket_part_tree key 2 choice.part_confounder choice.part part_cipher
   pub authenticator : Seals {T = AuthenticatorInner} authenticator_tree choice.part.key.0.key_value.0 11 choice.confounder choice.authenticator cipher
 
 -- the admission tells client and keys as they were chosen

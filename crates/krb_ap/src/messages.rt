@@ -1,7 +1,8 @@
 //! Reading a request, and opening what is sealed in it.
 ghost use Rattle.std.specs.Prelude.{IfOk};
 ghost use Rattle.picky_krb.specs.Found.{IsFound};
-ghost use Rattle.krb_ap.specs.Messages.{IsApReq, IsAuthenticator, IsTicketPart};
+ghost use Rattle.picky_krb.specs.Messages.{IsApReq};
+ghost use Rattle.krb_ap.specs.Messages.{IsAuthenticator, IsTicketPart};
 
 use krb_crypto::CipherSuite;
 use krb_opening::open_sealed;

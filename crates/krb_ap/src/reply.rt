@@ -3,7 +3,7 @@ ghost use Rattle.std.specs.Prelude.{◌≡◌, ◌≤◌, ℕ, List, length, tak
 ghost use Rattle.asn1_trees.specs.Tree.{der};
 ghost use Rattle.krb_crypto.specs.Sealing.{IsSealedBy};
 ghost use Rattle.krb_ap.specs.ApReply.{IsApRep, ap_rep_of, ap_rep_part, encrypted_by};
-ghost use Rattle.krb_ap.specs.Messages.{ap_rep_part_tree, ap_rep_tree};
+ghost use Rattle.picky_krb.specs.Messages.{ap_rep_tree, enc_ap_rep_part_tree};
 
 use krb_crypto::{Cipher, CipherSuite};
 use krb_types::constants::key_usages;
@@ -38,7 +38,7 @@ pub(crate) fn ap_reply(
 
 // The encoding of the reply's part.
 fn part_bytes(alloc: Global, authenticator: &AuthenticatorInner) -> Result<Vec<u8>, AllocError>
-    ensures { IfOk result (λ bytes. bytes.items ≡ der (ap_rep_part_tree (ap_rep_part authenticator.now))) }
+    ensures { IfOk result (λ bytes. bytes.items ≡ der (enc_ap_rep_part_tree (ap_rep_part authenticator.now))) }
 {
     let cusec = authenticator.cusec.0.clone()?;
     let part: EncApRepPart = ApplicationTag(EncApRepPartInner {

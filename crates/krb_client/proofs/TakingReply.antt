@@ -7,7 +7,8 @@ use Rattle.decision_tables.specs.Tables.{Table, ask, done, refuse}
 use Rattle.krb_client.specs.AsReply.{IsAsPart, IsTgsPart, Taken, sole_as_part, sole_tgs_part, takes_as_reply, takes_part, takes_reply, takes_sealed}
 use Rattle.krb_asked.specs.Asked.{AsAskedRecord}
 use Rattle.krb_client.specs.Client.{ClientRecord}
-use Rattle.krb_client.specs.Messages.{IsAsReply, IsErrorCode, sole_as_reply, sole_error_code}
+use Rattle.picky_krb.specs.Messages.{IsAsRep, sole_as_rep}
+use Rattle.krb_client.specs.Messages.{IsErrorCode, sole_error_code}
 use Rattle.krb_client.specs.Refusals.{IsTaken}
 use Rattle.krb_client.specs.declared.refusal.TakeRefusal.TheVariants.{NotSealed, Refused, Unreadable}
 use Rattle.krb_client.proofs.Outcomes.{found, not_found, passed}
@@ -41,7 +42,7 @@ taken_by_tgs_tag client asked reply part taken version kind none opened given =
     (found (IsTgsPart client reply.enc_part.0) (sole_tgs_part client reply.enc_part.0) (done (Err NotSealed)) (takes_part client asked reply) taken part opened given))
 
 pub taken_read : (client : ClientRecord) (asked : AsAskedRecord) (bytes : List ℕ) (reply : KdcRep) (taken : Taken) → ((code : ℕ) → IsErrorCode bytes code → ⊥)
-    → IsAsReply bytes reply → IsTaken (takes_reply client asked reply) taken → IsTaken (takes_as_reply client asked bytes) taken
+    → IsAsRep bytes reply → IsTaken (takes_reply client asked reply) taken → IsTaken (takes_as_reply client asked bytes) taken
 taken_read client asked bytes reply taken none writes given =
-    not_found (IsErrorCode bytes) (sole_error_code bytes) (ask (IsAsReply bytes) (sole_as_reply bytes) (done (Err Unreadable)) (takes_reply client asked)) (λ code. done (Err (Refused code))) taken none
-    (found (IsAsReply bytes) (sole_as_reply bytes) (done (Err Unreadable)) (takes_reply client asked) taken reply writes given)
+    not_found (IsErrorCode bytes) (sole_error_code bytes) (ask (IsAsRep bytes) (sole_as_rep bytes) (done (Err Unreadable)) (takes_reply client asked)) (λ code. done (Err (Refused code))) taken none
+    (found (IsAsRep bytes) (sole_as_rep bytes) (done (Err Unreadable)) (takes_reply client asked) taken reply writes given)

@@ -1,11 +1,9 @@
 -- What a client takes as the reply to its AS request (RFC 4120, section 3.1.5): the first case that holds counts.
 use Rattle.std.specs.Prelude.{◌≡◌, ℕ, not, List, Result, Ok, Err}
-use Rattle.asn1_trees.proofs.Spelling.{wrapped-injective}
 use Rattle.krb_crypto.specs.declared.suite.CipherSuite.{CipherSuite}
 use Rattle.krb_types.specs.declared.data_types.encrypted_data.EncryptedData.{EncryptedData}
 use Rattle.picky_krb.specs.declared.messages.enc_kdc_rep_part.EncKdcRepPart.{EncKdcRepPart}
 use Rattle.picky_krb.specs.declared.messages.kdc_rep.KdcRep.{KdcRep}
-use Rattle.picky_krb.specs.Trees as messages
 use Rattle.krb_opening.specs.Keys.{suite_of}
 use Rattle.picky_asn1.specs.Numbers.{is_number}
 use Rattle.decision_tables.specs.One.{IsSole}
@@ -14,25 +12,26 @@ use Rattle.krb_opening.specs.Sealed.{IsSealedIn, sole_sealed}
 use Rattle.krb_asked.specs.Answers.{is_answer}
 use Rattle.krb_asked.specs.Asked.{AsAskedRecord}
 use Rattle.krb_client.specs.Client.{ClientRecord, CredentialRecord}
-use Rattle.krb_client.specs.Messages.{IsAsReply, IsErrorCode, as_reply_part_tree, sole_as_reply, sole_error_code, tgs_reply_part_tree}
+use Rattle.picky_krb.specs.Messages.{IsAsRep, enc_as_rep_part-injective, enc_as_rep_part_tree, enc_tgs_rep_part-injective, enc_tgs_rep_part_tree, sole_as_rep}
+use Rattle.krb_client.specs.Messages.{IsErrorCode, sole_error_code}
 use Rattle.krb_client.specs.declared.refusal.TakeRefusal.{TakeRefusal}
 use Rattle.krb_client.specs.declared.refusal.TakeRefusal.TheVariants.{NotAsked, NotSealed, Refused, Unreadable}
 
 -- the part of an AS reply, sealed under the client's key (usage 3; RFC 4120, section 7.5.1), as AS replies have it
 unfoldable pub IsAsPart : ClientRecord → EncryptedData → EncKdcRepPart → Type 0
-IsAsPart client sealed part = IsSealedIn {T = EncKdcRepPart} as_reply_part_tree client.suite client.key 3 sealed part
+IsAsPart client sealed part = IsSealedIn {T = EncKdcRepPart} enc_as_rep_part_tree client.suite client.key 3 sealed part
 
 -- the same with the tag of TGS replies
 unfoldable pub IsTgsPart : ClientRecord → EncryptedData → EncKdcRepPart → Type 0
-IsTgsPart client sealed part = IsSealedIn {T = EncKdcRepPart} tgs_reply_part_tree client.suite client.key 3 sealed part
+IsTgsPart client sealed part = IsSealedIn {T = EncKdcRepPart} enc_tgs_rep_part_tree client.suite client.key 3 sealed part
 
 pub sole_as_part : (client : ClientRecord) (sealed : EncryptedData) → IsSole (IsAsPart client sealed)
 unfolding IsAsPart
-sole_as_part client sealed = sole_sealed as_reply_part_tree (wrapped-injective 121 messages.enc_kdc_rep_part_tree messages.enc_kdc_rep_part-injective) client.suite client.key 3 sealed
+sole_as_part client sealed = sole_sealed enc_as_rep_part_tree enc_as_rep_part-injective client.suite client.key 3 sealed
 
 pub sole_tgs_part : (client : ClientRecord) (sealed : EncryptedData) → IsSole (IsTgsPart client sealed)
 unfolding IsTgsPart
-sole_tgs_part client sealed = sole_sealed tgs_reply_part_tree (wrapped-injective 122 messages.enc_kdc_rep_part_tree messages.enc_kdc_rep_part-injective) client.suite client.key 3 sealed
+sole_tgs_part client sealed = sole_sealed enc_tgs_rep_part_tree enc_tgs_rep_part-injective client.suite client.key 3 sealed
 
 abbrev pub Taken : Type 0
 Taken = Result CredentialRecord TakeRefusal
@@ -72,7 +71,7 @@ takes_reply client asked reply =
 abbrev pub takes_as_reply : ClientRecord → AsAskedRecord → List ℕ → Table Taken
 takes_as_reply client asked bytes =
     ask (IsErrorCode bytes) (sole_error_code bytes)
-    (ask (IsAsReply bytes) (sole_as_reply bytes) (done (Err Unreadable)) (takes_reply client asked))
+    (ask (IsAsRep bytes) (sole_as_rep bytes) (done (Err Unreadable)) (takes_reply client asked))
     (λ code. done (Err (Refused code)))
 
 -- what a client that asked this takes of the reply

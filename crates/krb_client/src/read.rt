@@ -1,7 +1,8 @@
 //! Reading replies, and opening their sealed parts.
 ghost use Rattle.std.specs.Prelude.{IfOk};
 ghost use Rattle.krb_opening.specs.Found.{IsFound};
-ghost use Rattle.krb_client.specs.Messages.{IsAsReply, IsErrorCode};
+ghost use Rattle.picky_krb.specs.Messages.{IsAsRep};
+ghost use Rattle.krb_client.specs.Messages.{IsErrorCode};
 ghost use Rattle.krb_client.specs.AsReply.{IsAsPart, IsTgsPart};
 
 use crate::Client;
@@ -23,9 +24,8 @@ pub(crate) fn read_error_code(alloc: Global, bytes: &[u8]) -> Result<Option<u32>
 }
 
 /// The AS reply whose one encoding the bytes are, or none (RFC 4120, section 5.4.2).
-#[tactic(auto, unfolding(crate::specs::Messages::IsAsReply))]
 pub(crate) fn read_as_reply(alloc: Global, bytes: &[u8]) -> Result<Option<KdcRep>, AllocError>
-    ensures { IfOk result (IsFound (IsAsReply bytes.now)) }
+    ensures { IfOk result (IsFound (IsAsRep bytes.now)) }
 {
     let read: Option<AsRep> = read_whole(alloc, bytes)?;
     match read {

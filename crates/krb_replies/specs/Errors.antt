@@ -9,7 +9,7 @@ use Rattle.asn1_leaves.proofs.TimeLemmas.{seconds_of-injective}
 use Rattle.picky_krb.specs.declared.messages.krb_error.KrbErrorInner.{KrbErrorInner}
 use Rattle.krb_types.specs.declared.data_types.principal_name.PrincipalName.{PrincipalName}
 use Rattle.decision_tables.specs.One.{IsSole}
-use Rattle.krb_replies.specs.Messages.{krb_error_tree}
+use Rattle.picky_krb.specs.Messages.{krb_error_tree}
 
 -- the ticket-granting service of a realm (RFC 4120, section 7.3), of name type 2
 abbrev pub ticket_service : List ℕ → PrincipalName

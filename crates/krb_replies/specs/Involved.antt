@@ -6,7 +6,7 @@ use Rattle.krb_accounts.specs.Accounts.{Look}
 use Rattle.krb_accounts.specs.Settings.{SettingsRecord}
 use Rattle.krb_types.specs.Names.{components}
 use Rattle.krb_replies.specs.AsTable.{client_of, service_of}
-use Rattle.krb_replies.specs.Messages.{IsAsReq}
+use Rattle.picky_krb.specs.Messages.{IsAsReq}
 use Rattle.krb_replies.specs.Replies.{Replies}
 
 -- the name is given, and has these components

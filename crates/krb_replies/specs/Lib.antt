@@ -1,4 +1,3 @@
-pub mod Messages
 pub mod Errors
 pub mod Grants
 pub mod AsTable

@@ -9,7 +9,7 @@ use Rattle.krb_accounts.specs.Settings.{SettingsRecord}
 use Rattle.krb_types.specs.Names.{components}
 use Rattle.decision_tables.specs.Tables.{Table, done, ask, make}
 use Rattle.krb_tickets.specs.MethodData.{method_data_bytes}
-use Rattle.krb_replies.specs.Messages.{IsAsReq, IsTgsReq, sole_as_req, sole_tgs_req}
+use Rattle.picky_krb.specs.Messages.{IsAsReq, IsTgsReq, sole_as_req, sole_tgs_req}
 use Rattle.krb_replies.specs.Errors.{ticket_service, error_bytes, IsSecondOf, sole_second}
 use Rattle.krb_replies.specs.AsTable.{as_table, client_of, service_of}
 

@@ -1,7 +1,7 @@
 //! Reading requests.
 ghost use Rattle.std.specs.Prelude.{◌≡◌, IfOk};
 ghost use Rattle.krb_opening.specs.Found.{IsFound};
-ghost use Rattle.krb_replies.specs.Messages.{IsAsReq, IsTgsReq};
+ghost use Rattle.picky_krb.specs.Messages.{IsAsReq, IsTgsReq};
 
 use krb_opening::read_whole;
 use picky_krb::messages::{AsReq, KdcReq, TgsReq};

@@ -7,7 +7,7 @@ use Rattle.krb_types.specs.declared.data_types.enc_ticket_part.EncTicketPartInne
 use Rattle.picky_krb.specs.declared.messages.ap_req.ApReqInner.{ApReqInner}
 use Rattle.krb_ap.specs.Admission.{AdmissionRecord, admission_of, subkey_of}
 use Rattle.krb_ap.specs.ApReply.{IsReplyTo, sole_reply_to}
-use Rattle.krb_ap.specs.Messages.{IsApReq}
+use Rattle.picky_krb.specs.Messages.{IsApReq}
 use Rattle.krb_ap.specs.Presents.{Choice, Presents, TellsOf}
 use Rattle.krb_ap.specs.declared.presented.Presented.{Presented}
 use Rattle.krb_ap.proofs.Shown.{both, ok_same, past, presented_by}

@@ -6,7 +6,7 @@ use Rattle.krb_replay_cache.specs.Pair.{PairRecord}
 use Rattle.krb_replay_cache.specs.Seen.{SeenRecord, IsWindow}
 use Rattle.krb_ap.specs.Admission.{AdmissionRecord}
 use Rattle.krb_ap.specs.ApTable.{presented}
-use Rattle.krb_ap.specs.Messages.{IsApReq, sole_ap_req}
+use Rattle.picky_krb.specs.Messages.{IsApReq, sole_ap_req}
 use Rattle.krb_ap.specs.declared.refusal.AdmitRefusal.{AdmitRefusal}
 use Rattle.krb_ap.specs.declared.refusal.AdmitRefusal.TheVariants.{Unreadable, Krb, Memory}
 use Rattle.krb_service.specs.Once.{Admitted, once}

@@ -2,30 +2,29 @@
 -- 5.3, 5.4.2).
 use Rattle.std.specs.Prelude.{◌≡◌, ℕ, List}
 use Rattle.std.proofs.Common.{ap, sym, ◌∙◌}
-use Rattle.asn1_trees.specs.Tree.{der, wrapped}
+use Rattle.asn1_trees.specs.Tree.{der}
 use Rattle.krb_crypto.specs.Suites.{cipher_key_size}
 use Rattle.krb_crypto.specs.Sealing.{IsSealedBy}
 use Rattle.krb_crypto.proofs.SealingLemmas.{one_string}
 use Rattle.krb_accounts.specs.Account.{AccountRecord}
 use Rattle.krb_types.specs.declared.data_types.enc_ticket_part.EncTicketPartInner.{EncTicketPartInner}
 use Rattle.krb_types.specs.declared.data_types.encrypted_data.EncryptedData.{EncryptedData}
-use Rattle.krb_types.specs.Trees as held
 use Rattle.picky_krb.specs.declared.messages.kdc_rep.KdcRep.{KdcRep}
 use Rattle.picky_krb.specs.declared.messages.enc_kdc_rep_part.EncKdcRepPart.{EncKdcRepPart}
-use Rattle.picky_krb.specs.Trees as messages
+use Rattle.picky_krb.specs.Messages.{as_rep_tree, enc_as_rep_part_tree, enc_ticket_part_tree}
 use Rattle.krb_tickets.specs.Parts.{encrypted_by}
 
--- the encoding of the part under the service's key, [APPLICATION 3]
+-- the encoding of the part under the service's key
 unfoldable pub ticket_part_bytes : EncTicketPartInner → List ℕ
-ticket_part_bytes part = der (wrapped 99 (held.enc_ticket_part_tree part))
+ticket_part_bytes part = der (enc_ticket_part_tree part)
 
--- that of the part under the client's key, [APPLICATION 25]
+-- that of the part under the client's key
 unfoldable pub as_reply_part_bytes : EncKdcRepPart → List ℕ
-as_reply_part_bytes part = der (wrapped 121 (messages.enc_kdc_rep_part_tree part))
+as_reply_part_bytes part = der (enc_as_rep_part_tree part)
 
--- and that of the reply, [APPLICATION 11]
+-- and that of the reply
 unfoldable pub as_reply_bytes : KdcRep → List ℕ
-as_reply_bytes reply = der (wrapped 107 (messages.kdc_rep_tree reply))
+as_reply_bytes reply = der (as_rep_tree reply)
 
 -- the data is the plaintext, sealed under the account's key for the usage, behind the confounder
 pub record IsSealedData (account : AccountRecord) (usage : ℕ) (confounder plain : List ℕ) (made : EncryptedData) : Type 0 where

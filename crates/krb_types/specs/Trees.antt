@@ -1,4 +1,5 @@
--- The trees of what messages hold (RFC 4120, sections 5.2 to 5.5), each of one value.
+-- The trees of what messages hold (RFC 4120, sections 5.2 to 5.5), each of one value; of what stands under an application tag
+-- the tree inside it, which picky_krb's Messages put the tag on.
 use Rattle.asn1_trees.specs.Tree.{Tree}
 use Rattle.asn1_trees.specs.Tagged.{tagged_tree}
 use Rattle.asn1_trees.proofs.Spelling.{IsInjective}
@@ -18,23 +19,23 @@ use Rattle.krb_types.specs.contracts.data_types.etype_info2.EtypeInfo2EntryTagge
 use Rattle.krb_types.specs.contracts.data_types.pa_data.PaDataTagged.TheImpl as pa_data_impl
 use Rattle.krb_types.specs.contracts.data_types.pa_enc_timestamp.PaEncTsEncTagged.TheImpl as pa_enc_ts_enc_impl
 
-abbrev pub authenticator_tree : AuthenticatorInner → Tree
-authenticator_tree = tagged_tree 48 authenticator_impl.ghosts.row_tree authenticator_impl.ghosts.row_of
+abbrev pub authenticator_inner_tree : AuthenticatorInner → Tree
+authenticator_inner_tree = tagged_tree 48 authenticator_impl.ghosts.row_tree authenticator_impl.ghosts.row_of
 
-pub authenticator-injective : IsInjective authenticator_tree
-authenticator-injective = tagged-injective 48 authenticator_impl.ghosts.row_tree authenticator_impl.ghosts.row_laws authenticator_impl.ghosts.row_of authenticator_impl.ghosts.one_row
+pub authenticator_inner-injective : IsInjective authenticator_inner_tree
+authenticator_inner-injective = tagged-injective 48 authenticator_impl.ghosts.row_tree authenticator_impl.ghosts.row_laws authenticator_impl.ghosts.row_of authenticator_impl.ghosts.one_row
 
-abbrev pub enc_ap_rep_part_tree : EncApRepPartInner → Tree
-enc_ap_rep_part_tree = tagged_tree 48 enc_ap_rep_part_impl.ghosts.row_tree enc_ap_rep_part_impl.ghosts.row_of
+abbrev pub enc_ap_rep_part_inner_tree : EncApRepPartInner → Tree
+enc_ap_rep_part_inner_tree = tagged_tree 48 enc_ap_rep_part_impl.ghosts.row_tree enc_ap_rep_part_impl.ghosts.row_of
 
-pub enc_ap_rep_part-injective : IsInjective enc_ap_rep_part_tree
-enc_ap_rep_part-injective = tagged-injective 48 enc_ap_rep_part_impl.ghosts.row_tree enc_ap_rep_part_impl.ghosts.row_laws enc_ap_rep_part_impl.ghosts.row_of enc_ap_rep_part_impl.ghosts.one_row
+pub enc_ap_rep_part_inner-injective : IsInjective enc_ap_rep_part_inner_tree
+enc_ap_rep_part_inner-injective = tagged-injective 48 enc_ap_rep_part_impl.ghosts.row_tree enc_ap_rep_part_impl.ghosts.row_laws enc_ap_rep_part_impl.ghosts.row_of enc_ap_rep_part_impl.ghosts.one_row
 
-abbrev pub enc_ticket_part_tree : EncTicketPartInner → Tree
-enc_ticket_part_tree = tagged_tree 48 enc_ticket_part_impl.ghosts.row_tree enc_ticket_part_impl.ghosts.row_of
+abbrev pub enc_ticket_part_inner_tree : EncTicketPartInner → Tree
+enc_ticket_part_inner_tree = tagged_tree 48 enc_ticket_part_impl.ghosts.row_tree enc_ticket_part_impl.ghosts.row_of
 
-pub enc_ticket_part-injective : IsInjective enc_ticket_part_tree
-enc_ticket_part-injective = tagged-injective 48 enc_ticket_part_impl.ghosts.row_tree enc_ticket_part_impl.ghosts.row_laws enc_ticket_part_impl.ghosts.row_of enc_ticket_part_impl.ghosts.one_row
+pub enc_ticket_part_inner-injective : IsInjective enc_ticket_part_inner_tree
+enc_ticket_part_inner-injective = tagged-injective 48 enc_ticket_part_impl.ghosts.row_tree enc_ticket_part_impl.ghosts.row_laws enc_ticket_part_impl.ghosts.row_of enc_ticket_part_impl.ghosts.one_row
 
 abbrev pub encrypted_data_tree : EncryptedData → Tree
 encrypted_data_tree = tagged_tree 48 encrypted_data_impl.ghosts.row_tree encrypted_data_impl.ghosts.row_of

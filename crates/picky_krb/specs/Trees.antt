@@ -1,4 +1,4 @@
--- The trees of messages without their application tags (RFC 4120, sections 5.4 to 5.9), each of one value.
+-- The trees of messages inside their application tags (RFC 4120, sections 5.4 to 5.9), each of one value.
 use Rattle.asn1_trees.specs.Tree.{Tree}
 use Rattle.asn1_trees.specs.Tagged.{tagged_tree}
 use Rattle.asn1_trees.proofs.Spelling.{IsInjective}
@@ -16,38 +16,38 @@ use Rattle.picky_krb.specs.contracts.messages.kdc_rep.KdcRepTagged.TheImpl as kd
 use Rattle.picky_krb.specs.contracts.messages.kdc_req.KdcReqTagged.TheImpl as kdc_req_impl
 use Rattle.picky_krb.specs.contracts.messages.krb_error.KrbErrorInnerTagged.TheImpl as krb_error_impl
 
-abbrev pub ap_rep_tree : ApRepInner → Tree
-ap_rep_tree = tagged_tree 48 ap_rep_impl.ghosts.row_tree ap_rep_impl.ghosts.row_of
+abbrev pub ap_rep_inner_tree : ApRepInner → Tree
+ap_rep_inner_tree = tagged_tree 48 ap_rep_impl.ghosts.row_tree ap_rep_impl.ghosts.row_of
 
-pub ap_rep-injective : IsInjective ap_rep_tree
-ap_rep-injective = tagged-injective 48 ap_rep_impl.ghosts.row_tree ap_rep_impl.ghosts.row_laws ap_rep_impl.ghosts.row_of ap_rep_impl.ghosts.one_row
+pub ap_rep_inner-injective : IsInjective ap_rep_inner_tree
+ap_rep_inner-injective = tagged-injective 48 ap_rep_impl.ghosts.row_tree ap_rep_impl.ghosts.row_laws ap_rep_impl.ghosts.row_of ap_rep_impl.ghosts.one_row
 
-abbrev pub ap_req_tree : ApReqInner → Tree
-ap_req_tree = tagged_tree 48 ap_req_impl.ghosts.row_tree ap_req_impl.ghosts.row_of
+abbrev pub ap_req_inner_tree : ApReqInner → Tree
+ap_req_inner_tree = tagged_tree 48 ap_req_impl.ghosts.row_tree ap_req_impl.ghosts.row_of
 
-pub ap_req-injective : IsInjective ap_req_tree
-ap_req-injective = tagged-injective 48 ap_req_impl.ghosts.row_tree ap_req_impl.ghosts.row_laws ap_req_impl.ghosts.row_of ap_req_impl.ghosts.one_row
+pub ap_req_inner-injective : IsInjective ap_req_inner_tree
+ap_req_inner-injective = tagged-injective 48 ap_req_impl.ghosts.row_tree ap_req_impl.ghosts.row_laws ap_req_impl.ghosts.row_of ap_req_impl.ghosts.one_row
 
-abbrev pub enc_kdc_rep_part_tree : EncKdcRepPart → Tree
-enc_kdc_rep_part_tree = tagged_tree 48 enc_kdc_rep_part_impl.ghosts.row_tree enc_kdc_rep_part_impl.ghosts.row_of
+abbrev pub enc_kdc_rep_part_inner_tree : EncKdcRepPart → Tree
+enc_kdc_rep_part_inner_tree = tagged_tree 48 enc_kdc_rep_part_impl.ghosts.row_tree enc_kdc_rep_part_impl.ghosts.row_of
 
-pub enc_kdc_rep_part-injective : IsInjective enc_kdc_rep_part_tree
-enc_kdc_rep_part-injective = tagged-injective 48 enc_kdc_rep_part_impl.ghosts.row_tree enc_kdc_rep_part_impl.ghosts.row_laws enc_kdc_rep_part_impl.ghosts.row_of enc_kdc_rep_part_impl.ghosts.one_row
+pub enc_kdc_rep_part_inner-injective : IsInjective enc_kdc_rep_part_inner_tree
+enc_kdc_rep_part_inner-injective = tagged-injective 48 enc_kdc_rep_part_impl.ghosts.row_tree enc_kdc_rep_part_impl.ghosts.row_laws enc_kdc_rep_part_impl.ghosts.row_of enc_kdc_rep_part_impl.ghosts.one_row
 
-abbrev pub kdc_rep_tree : KdcRep → Tree
-kdc_rep_tree = tagged_tree 48 kdc_rep_impl.ghosts.row_tree kdc_rep_impl.ghosts.row_of
+abbrev pub kdc_rep_inner_tree : KdcRep → Tree
+kdc_rep_inner_tree = tagged_tree 48 kdc_rep_impl.ghosts.row_tree kdc_rep_impl.ghosts.row_of
 
-pub kdc_rep-injective : IsInjective kdc_rep_tree
-kdc_rep-injective = tagged-injective 48 kdc_rep_impl.ghosts.row_tree kdc_rep_impl.ghosts.row_laws kdc_rep_impl.ghosts.row_of kdc_rep_impl.ghosts.one_row
+pub kdc_rep_inner-injective : IsInjective kdc_rep_inner_tree
+kdc_rep_inner-injective = tagged-injective 48 kdc_rep_impl.ghosts.row_tree kdc_rep_impl.ghosts.row_laws kdc_rep_impl.ghosts.row_of kdc_rep_impl.ghosts.one_row
 
-abbrev pub kdc_req_tree : KdcReq → Tree
-kdc_req_tree = tagged_tree 48 kdc_req_impl.ghosts.row_tree kdc_req_impl.ghosts.row_of
+abbrev pub kdc_req_inner_tree : KdcReq → Tree
+kdc_req_inner_tree = tagged_tree 48 kdc_req_impl.ghosts.row_tree kdc_req_impl.ghosts.row_of
 
-pub kdc_req-injective : IsInjective kdc_req_tree
-kdc_req-injective = tagged-injective 48 kdc_req_impl.ghosts.row_tree kdc_req_impl.ghosts.row_laws kdc_req_impl.ghosts.row_of kdc_req_impl.ghosts.one_row
+pub kdc_req_inner-injective : IsInjective kdc_req_inner_tree
+kdc_req_inner-injective = tagged-injective 48 kdc_req_impl.ghosts.row_tree kdc_req_impl.ghosts.row_laws kdc_req_impl.ghosts.row_of kdc_req_impl.ghosts.one_row
 
-abbrev pub krb_error_tree : KrbErrorInner → Tree
-krb_error_tree = tagged_tree 48 krb_error_impl.ghosts.row_tree krb_error_impl.ghosts.row_of
+abbrev pub krb_error_inner_tree : KrbErrorInner → Tree
+krb_error_inner_tree = tagged_tree 48 krb_error_impl.ghosts.row_tree krb_error_impl.ghosts.row_of
 
-pub krb_error-injective : IsInjective krb_error_tree
-krb_error-injective = tagged-injective 48 krb_error_impl.ghosts.row_tree krb_error_impl.ghosts.row_laws krb_error_impl.ghosts.row_of krb_error_impl.ghosts.one_row
+pub krb_error_inner-injective : IsInjective krb_error_inner_tree
+krb_error_inner-injective = tagged-injective 48 krb_error_impl.ghosts.row_tree krb_error_impl.ghosts.row_laws krb_error_impl.ghosts.row_of krb_error_impl.ghosts.one_row

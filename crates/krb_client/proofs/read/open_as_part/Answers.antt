@@ -1,5 +1,5 @@
 use Rattle.krb_client.specs.AsReply.{IsAsPart}
-use Rattle.krb_client.specs.Messages.{as_reply_part_tree}
+use Rattle.picky_krb.specs.Messages.{enc_as_rep_part_tree}
 use Rattle.krb_client.proofs.Tagged.{sealed-around, sealed-inside}
 use Rattle.krb_client.proofs.read.open_as_part.Goals as goal
 
@@ -8,11 +8,11 @@ unfolding IsAsPart
 returns-in-Some c =
     let found = rw c.in-Some.is at c.in_ok-opened.ensures in
     let own = rw (c.suite-suite.ensures, c.key.ensures.value) at found in
-    sealed-inside (λ tagged. tagged.0) as_reply_part_tree _ _ 3 _ c.in-Some.part own
+    sealed-inside (λ tagged. tagged.0) enc_as_rep_part_tree _ _ 3 _ c.in-Some.part own
 
 pub returns-in-None : goal.returns-in-None
 unfolding IsAsPart
 returns-in-None c =
     let none = rw c.in-None.is at c.in_ok-opened.ensures in
     let own = rw (c.suite-suite.ensures, c.key.ensures.value) at none in
-    λ part sealed. own (record { 0 = part }) (sealed-around (λ tagged. tagged.0) as_reply_part_tree _ _ 3 _ (record { 0 = part }) sealed)
+    λ part sealed. own (record { 0 = part }) (sealed-around (λ tagged. tagged.0) enc_as_rep_part_tree _ _ 3 _ (record { 0 = part }) sealed)

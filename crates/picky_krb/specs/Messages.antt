@@ -1,0 +1,130 @@
+-- What messages are: their trees with the application tags (RFC 4120, section 5.10), and which bytes are one (sections 5.4 to
+-- 5.9). What is sealed in messages stands at the end.
+use Rattle.std.specs.Prelude.{ℕ, List}
+use Rattle.std.proofs.Common.{sym, ◌∙◌}
+use Rattle.asn1_trees.specs.Tree.{Tree, Writes, wrapped}
+use Rattle.asn1_trees.proofs.Spelling.{IsInjective, wrapped-injective}
+use Rattle.decision_tables.specs.One.{IsSole}
+use Rattle.krb_types.specs.declared.data_types.authenticator.AuthenticatorInner.{AuthenticatorInner}
+use Rattle.krb_types.specs.declared.data_types.enc_ap_rep_part.EncApRepPartInner.{EncApRepPartInner}
+use Rattle.krb_types.specs.declared.data_types.enc_ticket_part.EncTicketPartInner.{EncTicketPartInner}
+use Rattle.krb_types.specs.Trees as held
+use Rattle.picky_krb.specs.declared.messages.ap_rep.ApRepInner.{ApRepInner}
+use Rattle.picky_krb.specs.declared.messages.ap_req.ApReqInner.{ApReqInner}
+use Rattle.picky_krb.specs.declared.messages.enc_kdc_rep_part.EncKdcRepPart.{EncKdcRepPart}
+use Rattle.picky_krb.specs.declared.messages.kdc_rep.KdcRep.{KdcRep}
+use Rattle.picky_krb.specs.declared.messages.kdc_req.KdcReq.{KdcReq}
+use Rattle.picky_krb.specs.declared.messages.krb_error.KrbErrorInner.{KrbErrorInner}
+use Rattle.picky_krb.specs.Trees as messages
+
+-- [APPLICATION 10]
+abbrev pub as_req_tree : KdcReq → Tree
+as_req_tree request = wrapped 106 (messages.kdc_req_inner_tree request)
+
+-- the bytes are the one encoding of the AS request
+abbrev pub IsAsReq : List ℕ → KdcReq → Type 0
+IsAsReq bytes request = Writes as_req_tree request bytes
+
+pub sole_as_req : (bytes : List ℕ) → IsSole (IsAsReq bytes)
+sole_as_req bytes v w p q = wrapped-injective 106 messages.kdc_req_inner_tree messages.kdc_req_inner-injective v w p.0 q.0 (sym p.1 ∙ q.1)
+
+-- [APPLICATION 12]
+abbrev pub tgs_req_tree : KdcReq → Tree
+tgs_req_tree request = wrapped 108 (messages.kdc_req_inner_tree request)
+
+-- the bytes are the one encoding of the TGS request
+abbrev pub IsTgsReq : List ℕ → KdcReq → Type 0
+IsTgsReq bytes request = Writes tgs_req_tree request bytes
+
+pub sole_tgs_req : (bytes : List ℕ) → IsSole (IsTgsReq bytes)
+sole_tgs_req bytes v w p q = wrapped-injective 108 messages.kdc_req_inner_tree messages.kdc_req_inner-injective v w p.0 q.0 (sym p.1 ∙ q.1)
+
+-- [APPLICATION 11]
+abbrev pub as_rep_tree : KdcRep → Tree
+as_rep_tree reply = wrapped 107 (messages.kdc_rep_inner_tree reply)
+
+-- the bytes are the one encoding of the AS reply
+abbrev pub IsAsRep : List ℕ → KdcRep → Type 0
+IsAsRep bytes reply = Writes as_rep_tree reply bytes
+
+pub sole_as_rep : (bytes : List ℕ) → IsSole (IsAsRep bytes)
+sole_as_rep bytes v w p q = wrapped-injective 107 messages.kdc_rep_inner_tree messages.kdc_rep_inner-injective v w p.0 q.0 (sym p.1 ∙ q.1)
+
+-- [APPLICATION 13]
+abbrev pub tgs_rep_tree : KdcRep → Tree
+tgs_rep_tree reply = wrapped 109 (messages.kdc_rep_inner_tree reply)
+
+-- the bytes are the one encoding of the TGS reply
+abbrev pub IsTgsRep : List ℕ → KdcRep → Type 0
+IsTgsRep bytes reply = Writes tgs_rep_tree reply bytes
+
+pub sole_tgs_rep : (bytes : List ℕ) → IsSole (IsTgsRep bytes)
+sole_tgs_rep bytes v w p q = wrapped-injective 109 messages.kdc_rep_inner_tree messages.kdc_rep_inner-injective v w p.0 q.0 (sym p.1 ∙ q.1)
+
+-- [APPLICATION 14]
+abbrev pub ap_req_tree : ApReqInner → Tree
+ap_req_tree request = wrapped 110 (messages.ap_req_inner_tree request)
+
+-- the bytes are the one encoding of the AP request
+abbrev pub IsApReq : List ℕ → ApReqInner → Type 0
+IsApReq bytes request = Writes ap_req_tree request bytes
+
+pub sole_ap_req : (bytes : List ℕ) → IsSole (IsApReq bytes)
+sole_ap_req bytes v w p q = wrapped-injective 110 messages.ap_req_inner_tree messages.ap_req_inner-injective v w p.0 q.0 (sym p.1 ∙ q.1)
+
+-- [APPLICATION 15]
+abbrev pub ap_rep_tree : ApRepInner → Tree
+ap_rep_tree reply = wrapped 111 (messages.ap_rep_inner_tree reply)
+
+-- the bytes are the one encoding of the AP reply
+abbrev pub IsApRep : List ℕ → ApRepInner → Type 0
+IsApRep bytes reply = Writes ap_rep_tree reply bytes
+
+pub sole_ap_rep : (bytes : List ℕ) → IsSole (IsApRep bytes)
+sole_ap_rep bytes v w p q = wrapped-injective 111 messages.ap_rep_inner_tree messages.ap_rep_inner-injective v w p.0 q.0 (sym p.1 ∙ q.1)
+
+-- [APPLICATION 30]
+abbrev pub krb_error_tree : KrbErrorInner → Tree
+krb_error_tree error = wrapped 126 (messages.krb_error_inner_tree error)
+
+-- the bytes are the one encoding of the error
+abbrev pub IsKrbError : List ℕ → KrbErrorInner → Type 0
+IsKrbError bytes error = Writes krb_error_tree error bytes
+
+pub sole_krb_error : (bytes : List ℕ) → IsSole (IsKrbError bytes)
+sole_krb_error bytes v w p q = wrapped-injective 126 messages.krb_error_inner_tree messages.krb_error_inner-injective v w p.0 q.0 (sym p.1 ∙ q.1)
+
+-- an authenticator, [APPLICATION 2]
+abbrev pub authenticator_tree : AuthenticatorInner → Tree
+authenticator_tree part = wrapped 98 (held.authenticator_inner_tree part)
+
+pub authenticator-injective : IsInjective authenticator_tree
+authenticator-injective = wrapped-injective 98 held.authenticator_inner_tree held.authenticator_inner-injective
+
+-- a ticket's part, [APPLICATION 3]
+abbrev pub enc_ticket_part_tree : EncTicketPartInner → Tree
+enc_ticket_part_tree part = wrapped 99 (held.enc_ticket_part_inner_tree part)
+
+pub enc_ticket_part-injective : IsInjective enc_ticket_part_tree
+enc_ticket_part-injective = wrapped-injective 99 held.enc_ticket_part_inner_tree held.enc_ticket_part_inner-injective
+
+-- the part of an AS reply, [APPLICATION 25]
+abbrev pub enc_as_rep_part_tree : EncKdcRepPart → Tree
+enc_as_rep_part_tree part = wrapped 121 (messages.enc_kdc_rep_part_inner_tree part)
+
+pub enc_as_rep_part-injective : IsInjective enc_as_rep_part_tree
+enc_as_rep_part-injective = wrapped-injective 121 messages.enc_kdc_rep_part_inner_tree messages.enc_kdc_rep_part_inner-injective
+
+-- the part of a TGS reply, and of some realms' AS replies (RFC 4120, section 5.4.2), [APPLICATION 26]
+abbrev pub enc_tgs_rep_part_tree : EncKdcRepPart → Tree
+enc_tgs_rep_part_tree part = wrapped 122 (messages.enc_kdc_rep_part_inner_tree part)
+
+pub enc_tgs_rep_part-injective : IsInjective enc_tgs_rep_part_tree
+enc_tgs_rep_part-injective = wrapped-injective 122 messages.enc_kdc_rep_part_inner_tree messages.enc_kdc_rep_part_inner-injective
+
+-- the part of an AP reply, [APPLICATION 27]
+abbrev pub enc_ap_rep_part_tree : EncApRepPartInner → Tree
+enc_ap_rep_part_tree part = wrapped 123 (held.enc_ap_rep_part_inner_tree part)
+
+pub enc_ap_rep_part-injective : IsInjective enc_ap_rep_part_tree
+enc_ap_rep_part-injective = wrapped-injective 123 held.enc_ap_rep_part_inner_tree held.enc_ap_rep_part_inner-injective
