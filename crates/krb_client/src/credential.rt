@@ -45,10 +45,10 @@ impl Credential {
         requires { suite_of part.now.key.0 ≡ Some suite }
         ensures { IfOk result (λ credential. credential ≡ credential_of reply.now part.now suite) }
     {
-        let ticket = ticket_copy(&reply.ticket.0)?;
         let key = part.key.0.key_value.0.clone()?;
         let realm = part.srealm.0.clone()?;
         let service = part.sname.0.clone()?;
+        let ticket = ticket_copy(&reply.ticket.0)?; // the largest is copied last, so that no way out drops it
         Ok(Credential {
             ticket,
             suite,

@@ -18,31 +18,51 @@ struct Recorded<'a> {
     wanted: &'a str,
 }
 
+/// How many requests there were, and of how many of them what is counted here is so.
+#[derive(Drop)]
+struct Counts {
+    presented: u64,
+    differing: u64,
+    admitted_again: u64,
+}
+
 fn main(rt: HostRuntime) -> anyhow::Result<()> {
     let text = fs::read_to_string(&rt, "admissions.txt")?;
-    let mut presented = 0u64;
-    let mut differing = 0u64;
-    let mut admitted_again = 0u64;
+    let mut counts = Counts {
+        presented: 0,
+        differing: 0,
+        admitted_again: 0,
+    };
     for line in text.lines() {
-        if line.starts_with('#') {
-            continue;
-        }
-        let recorded = recorded_of(rt.alloc(), line)?;
-        presented = presented.saturating_add(1);
-        let mut service = service_h(rt.alloc())?;
-        let answer = answer_of(rt.alloc(), &mut service, &recorded.request)?;
-        if answer.as_str() != recorded.wanted {
-            differing = differing.saturating_add(1);
-            println!(rt; "{}: {}", recorded.label, answer.as_str())?;
-        }
-        let again = answer_of(rt.alloc(), &mut service, &recorded.request)?;
-        if again.starts_with("Ok") {
-            admitted_again = admitted_again.saturating_add(1);
+        if !line.starts_with('#') {
+            present(&rt, line, &mut counts)?;
         }
     }
+    let Counts {
+        presented,
+        differing,
+        admitted_again,
+    } = counts;
     println!(rt;
         "{presented} requests, {differing} differing answers, {admitted_again} admitted again"
     )?;
+    Ok(())
+}
+
+/// Presents the request of a line to a service twice, and counts what it answers.
+fn present(rt: &HostRuntime, line: &str, counts: &mut Counts) -> anyhow::Result<()> {
+    let recorded = recorded_of(rt.alloc(), line)?;
+    let mut service = service_h(rt.alloc())?;
+    counts.presented = counts.presented.saturating_add(1);
+    let answer = answer_of(rt.alloc(), &mut service, &recorded.request)?;
+    if answer.as_str() != recorded.wanted {
+        counts.differing = counts.differing.saturating_add(1);
+        println!(rt; "{}: {}", recorded.label, answer.as_str())?;
+    }
+    let again = answer_of(rt.alloc(), &mut service, &recorded.request)?;
+    if again.starts_with("Ok") {
+        counts.admitted_again = counts.admitted_again.saturating_add(1);
+    }
     Ok(())
 }
 
@@ -89,27 +109,38 @@ fn answer_of(alloc: Global, service: &mut Service, request: &[u8]) -> anyhow::Re
 }
 
 fn text_of(alloc: Global, admission: &Admission) -> anyhow::Result<String> {
-    let components = admission.client.name_string.0.as_slice();
-    let client = match components {
-        [component] => Vec::from_slice(alloc, component.as_bytes())?,
-        _ => bail!("a client of several components"),
-    };
-    let client = String::from_utf8(client)?;
-    let realm = String::from_utf8(Vec::from_slice(alloc, admission.realm.as_bytes())?)?;
+    let client = str::from_utf8(client_of(admission)?)?;
+    let realm = str::from_utf8(admission.realm.as_bytes())?;
     let session = hex::encode(alloc, admission.session.key_value.0.as_bytes())?;
+    let keys = keys_text(alloc, admission)?;
+    let text = format!(in alloc;
+        "Ok client {client} in {realm} key {} {}",
+        session.as_str(),
+        keys.as_str()
+    )?;
+    Ok(text)
+}
+
+/// The client's name, which is of one component in each line.
+fn client_of(admission: &Admission) -> anyhow::Result<&[u8]> {
+    match admission.client.name_string.0.as_slice() {
+        [component] => Ok(component.as_bytes()),
+        _ => bail!("a client of several components"),
+    }
+}
+
+fn keys_text(alloc: Global, admission: &Admission) -> anyhow::Result<String> {
     let subkey = subkey_text(alloc, &admission.subkey)?;
-    let reply = match &admission.reply {
+    let reply = reply_text(alloc, &admission.reply)?;
+    let text = format!(in alloc; "subkey {} reply {}", subkey.as_str(), reply.as_str())?;
+    Ok(text)
+}
+
+fn reply_text(alloc: Global, reply: &Option<Vec<u8>>) -> anyhow::Result<String> {
+    let text = match reply {
         Some(bytes) => hex::encode(alloc, bytes.as_slice())?,
         None => format!(in alloc; "none")?,
     };
-    let text = format!(in alloc;
-        "Ok client {} in {} key {} subkey {} reply {}",
-        client.as_str(),
-        realm.as_str(),
-        session.as_str(),
-        subkey.as_str(),
-        reply.as_str()
-    )?;
     Ok(text)
 }
 
