@@ -1,16 +1,15 @@
 -- The reply by which a service shows that it could open the ticket (RFC 4120, sections 3.2.4, 5.5.2).
-use Rattle.std.specs.Prelude.{◌≡◌, ℕ, Bool, true, false, List, take, Option, None, Some, pos}
+use Rattle.std.specs.Prelude.{◌≡◌, ℕ, Bool, true, false, List, Option, None, Some, pos}
 use Rattle.std.proofs.Common.{ap, sym, ◌∙◌}
 use Rattle.asn1_trees.specs.Tree.{der}
 use Rattle.krb_crypto.specs.declared.suite.CipherSuite.{CipherSuite}
-use Rattle.krb_crypto.specs.Suites.{cipher_key_size, cipher_number}
-use Rattle.krb_crypto.specs.Sealing.{IsSealedBy}
-use Rattle.krb_crypto.proofs.SealingLemmas.{one_string}
 use Rattle.krb_types.specs.declared.data_types.authenticator.AuthenticatorInner.{AuthenticatorInner}
 use Rattle.krb_types.specs.declared.data_types.enc_ap_rep_part.EncApRepPartInner.{EncApRepPartInner}
 use Rattle.krb_types.specs.declared.data_types.encrypted_data.EncryptedData.{EncryptedData}
 use Rattle.picky_krb.specs.declared.messages.ap_rep.ApRepInner.{ApRepInner}
 use Rattle.decision_tables.specs.One.{IsSole}
+use Rattle.krb_sealing.specs.Sealing.{Seals, sole_seals}
+use Rattle.krb_types.specs.RandomBytes.{ap_reply_confounder}
 use Rattle.picky_krb.specs.Messages.{ap_rep_tree, enc_ap_rep_part_tree}
 use Rattle.krb_ap.specs.declared.presented.Presented.{Presented}
 
@@ -23,14 +22,6 @@ ap_rep_part authenticator = record {
   seq_number = record { 0 = None };
 }
 
--- what a session key of the suite encrypts to this ciphertext
-abbrev pub encrypted_by : CipherSuite → List ℕ → EncryptedData
-encrypted_by suite cipher = record {
-  etype = record { 0 = pos (cipher_number suite) };
-  kvno = record { 0 = None };
-  cipher = record { 0 = cipher };
-}
-
 abbrev pub ap_rep_of : EncryptedData → ApRepInner
 ap_rep_of part = record {
   pvno = record { 0 = pos 5 };
@@ -39,29 +30,29 @@ ap_rep_of part = record {
 }
 
 -- the bytes are the encoding of the reply, whose part is sealed under the session key (usage 12; RFC 4120, section 7.5.1)
-pub record IsApRep (suite : CipherSuite) (key confounder : List ℕ) (authenticator : AuthenticatorInner) (bytes : List ℕ) : Type 0 where
-  pub cipher : List ℕ
-  pub sealed : IsSealedBy suite key 12 confounder (der (enc_ap_rep_part_tree (ap_rep_part authenticator))) cipher
-  pub encoding : bytes ≡ der (ap_rep_tree (ap_rep_of (encrypted_by suite cipher)))
+pub record IsReplyUnder (suite : CipherSuite) (key confounder : List ℕ) (authenticator : AuthenticatorInner) (bytes : List ℕ) : Type 0 where
+  pub part : EncryptedData
+  pub sealed : Seals suite key None 12 confounder (der (enc_ap_rep_part_tree (ap_rep_part authenticator))) part
+  pub encoding : bytes ≡ der (ap_rep_tree (ap_rep_of part))
 
 -- there is one at most
-pub sole_ap_rep : (suite : CipherSuite) (key confounder : List ℕ) (authenticator : AuthenticatorInner) → IsSole (IsApRep suite key confounder authenticator)
-sole_ap_rep suite key confounder authenticator a b x y =
-    let same = one_string (cipher_key_size suite) key 12 confounder (der (enc_ap_rep_part_tree (ap_rep_part authenticator))) x.cipher y.cipher x.sealed y.sealed in
-    x.encoding ∙ ap (λ c. der (ap_rep_tree (ap_rep_of (encrypted_by suite c)))) same ∙ sym y.encoding
+pub sole_reply_under : (suite : CipherSuite) (key confounder : List ℕ) (authenticator : AuthenticatorInner) → IsSole (IsReplyUnder suite key confounder authenticator)
+sole_reply_under suite key confounder authenticator a b x y =
+    let same = sole_seals suite key None 12 confounder (der (enc_ap_rep_part_tree (ap_rep_part authenticator))) x.part y.part x.sealed y.sealed in
+    x.encoding ∙ ap (λ part. der (ap_rep_tree (ap_rep_of part))) same ∙ sym y.encoding
 
 -- the reply where one is wanted, with the first 16 of the random bytes as confounder
 abbrev pub IsReply : Bool → List ℕ → CipherSuite → List ℕ → AuthenticatorInner → Option (List ℕ) → Type 0
 IsReply false words suite key authenticator reply = reply ≡ None
 IsReply true words suite key authenticator None = ⊥
-IsReply true words suite key authenticator (Some bytes) = IsApRep suite key (take 16 words) authenticator bytes
+IsReply true words suite key authenticator (Some bytes) = IsReplyUnder suite key (ap_reply_confounder words) authenticator bytes
 
 pub sole_reply : (wanted : Bool) (words : List ℕ) (suite : CipherSuite) (key : List ℕ) (authenticator : AuthenticatorInner)
     → IsSole (IsReply wanted words suite key authenticator)
 sole_reply false words suite key authenticator a b p q = p ∙ sym q
 sole_reply true words suite key authenticator None b p q = absurd p
 sole_reply true words suite key authenticator (Some a) None p q = absurd q
-sole_reply true words suite key authenticator (Some a) (Some b) p q = ap Some (sole_ap_rep suite key (take 16 words) authenticator a b p q)
+sole_reply true words suite key authenticator (Some a) (Some b) p q = ap Some (sole_reply_under suite key (ap_reply_confounder words) authenticator a b p q)
 
 -- the reply to what was presented, under the session key
 abbrev pub IsReplyTo : Presented → List ℕ → Option (List ℕ) → Type 0

@@ -1,5 +1,5 @@
 -- The request to a service (RFC 4120, sections 3.2.2, 5.5.1): a ticket, and an authenticator under the session's key.
-use Rattle.std.specs.Prelude.{◌≡◌, ℕ, ◌%◌, Bool, List, [], ◌∷◌, take, drop, Option, None, Some, pos, if◌then◌else◌}
+use Rattle.std.specs.Prelude.{◌≡◌, ℕ, ◌%◌, Bool, List, [], ◌∷◌, Option, None, Some, pos, if◌then◌else◌}
 use Rattle.std.specs.Option.{option_map}
 use Rattle.std.proofs.Common.{ap, subst, sym, ◌∙◌}
 use Rattle.picky_asn1.specs.BitString.{Bits}
@@ -11,18 +11,16 @@ use Rattle.krb_types.specs.declared.data_types.encrypted_data.EncryptedData.{Enc
 use Rattle.krb_types.specs.declared.data_types.encryption_key.EncryptionKey.{EncryptionKey}
 use Rattle.krb_types.specs.declared.data_types.ticket.TicketInner.{TicketInner}
 use Rattle.picky_krb.specs.declared.messages.ap_req.ApReqInner.{ApReqInner}
+use Rattle.krb_types.specs.RandomBytes.{authenticator_confounder, subkey_bytes}
 use Rattle.krb_asked.specs.Asked.{ApAskedRecord}
 use Rattle.krb_client.specs.Client.{ClientRecord, CredentialRecord}
 use Rattle.krb_client.specs.Messages.{ap_request_bytes, authenticator_bytes}
-use Rattle.krb_client.specs.Sealing.{IsSecondOf, Seals, principal_name, sole_seals, sole_second}
+use Rattle.krb_client.specs.Sealing.{IsSecondOf, principal_name, sole_second}
+use Rattle.krb_sealing.specs.Sealing.{encryption_key, Seals, sole_seals}
 
 -- the subkey, where one is asked for: random bytes from the thirty-third on, as many as a key of the suite has
 abbrev pub subkey_of : Bool → CipherSuite → List ℕ → Option (List ℕ)
-subkey_of with_subkey suite words = if with_subkey then Some (take (cipher_key_size suite) (drop 32 words)) else None
-
--- a key of a suite
-abbrev pub encryption_key : CipherSuite → List ℕ → EncryptionKey
-encryption_key suite key = record { key_type = record { 0 = pos (cipher_number suite) }; key_value = record { 0 = key } }
+subkey_of with_subkey suite words = if with_subkey then Some (subkey_bytes (cipher_key_size suite) words) else None
 
 -- the client, its time, and the subkey
 abbrev pub authenticator_of : ClientRecord → CipherSuite → GeneralizedTime → ℕ → Option (List ℕ) → AuthenticatorInner
@@ -56,13 +54,13 @@ ap_request_of mutual_required ticket authenticator = record {
 pub record IsAuthenticator (client : ClientRecord) (credential : CredentialRecord) (subkey : Option (List ℕ)) (moment : ℕ) (confounder : List ℕ) (authenticator : EncryptedData) : Type 0 where
   pub second : GeneralizedTime
   pub of_moment : IsSecondOf moment second
-  pub sealed : Seals credential.suite credential.key 11 confounder (authenticator_bytes (authenticator_of client credential.suite second (moment % 1000000) subkey)) authenticator
+  pub sealed : Seals credential.suite credential.key None 11 confounder (authenticator_bytes (authenticator_of client credential.suite second (moment % 1000000) subkey)) authenticator
 
 -- the bytes are the client's request, by the credential, at the moment, with or without an answer and a subkey; of the
 -- random bytes the first 16 are the confounder
 pub record AsksAp (client : ClientRecord) (credential : CredentialRecord) (mutual_required with_subkey : Bool) (moment : ℕ) (words bytes : List ℕ) : Type 0 where
   pub authenticator : EncryptedData
-  pub authenticated : IsAuthenticator client credential (subkey_of with_subkey credential.suite words) moment (take 16 words) authenticator
+  pub authenticated : IsAuthenticator client credential (subkey_of with_subkey credential.suite words) moment (authenticator_confounder words) authenticator
   pub encoding : bytes ≡ ap_request_bytes (ap_request_of mutual_required credential.ticket authenticator)
 
 -- what the client remembers of it
@@ -78,8 +76,8 @@ pub sole_authenticator : (client : ClientRecord) (credential : CredentialRecord)
     → IsAuthenticator client credential subkey moment confounder a → IsAuthenticator client credential subkey moment confounder b → a ≡ b
 sole_authenticator client credential subkey moment confounder a b x y =
     let same = sole_second moment x.second y.second x.of_moment y.of_moment in
-    let first = subst (λ (second : GeneralizedTime). Seals credential.suite credential.key 11 confounder (authenticator_bytes (authenticator_of client credential.suite second (moment % 1000000) subkey)) a) same x.sealed in
-    sole_seals credential.suite credential.key 11 confounder (authenticator_bytes (authenticator_of client credential.suite y.second (moment % 1000000) subkey)) a b first y.sealed
+    let first = subst (λ (second : GeneralizedTime). Seals credential.suite credential.key None 11 confounder (authenticator_bytes (authenticator_of client credential.suite second (moment % 1000000) subkey)) a) same x.sealed in
+    sole_seals credential.suite credential.key None 11 confounder (authenticator_bytes (authenticator_of client credential.suite y.second (moment % 1000000) subkey)) a b first y.sealed
 
 -- there is one such request at most
 pub sole_ap_request : (client : ClientRecord) (credential : CredentialRecord) (mutual_required with_subkey : Bool) (moment : ℕ) (words a b : List ℕ)
@@ -87,5 +85,5 @@ pub sole_ap_request : (client : ClientRecord) (credential : CredentialRecord) (m
 sole_ap_request client credential mutual_required with_subkey moment words a b x y =
     x.encoding
     ∙ ap (λ authenticator. ap_request_bytes (ap_request_of mutual_required credential.ticket authenticator))
-    (sole_authenticator client credential (subkey_of with_subkey credential.suite words) moment (take 16 words) x.authenticator y.authenticator x.authenticated y.authenticated)
+    (sole_authenticator client credential (subkey_of with_subkey credential.suite words) moment (authenticator_confounder words) x.authenticator y.authenticator x.authenticated y.authenticated)
     ∙ sym y.encoding

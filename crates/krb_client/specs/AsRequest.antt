@@ -1,5 +1,5 @@
 -- The request for a first ticket (RFC 4120, sections 3.1.1, 5.4.1), with the client's time sealed under its key (5.2.7.2).
-use Rattle.std.specs.Prelude.{◌≡◌, ℕ, ◌%◌, List, [], ◌∷◌, take, drop, None, Some, pos}
+use Rattle.std.specs.Prelude.{◌≡◌, ℕ, ◌%◌, List, [], ◌∷◌, None, Some, pos}
 use Rattle.std.specs.Int.{from_be_bytes, w32}
 use Rattle.std.proofs.Common.{ap, subst, sym, ◌∙◌}
 use Rattle.picky_asn1.specs.BitString.{Bits}
@@ -10,13 +10,15 @@ use Rattle.krb_types.specs.declared.data_types.pa_data.PaData.{PaData}
 use Rattle.krb_types.specs.declared.data_types.pa_enc_timestamp.PaEncTsEnc.{PaEncTsEnc}
 use Rattle.picky_krb.specs.declared.messages.kdc_req.KdcReq.{KdcReq}
 use Rattle.picky_krb.specs.declared.messages.kdc_req_body.KdcReqBody.{KdcReqBody}
+use Rattle.krb_types.specs.RandomBytes.{nonce_bytes, stamp_confounder}
 use Rattle.krb_client.specs.Client.{ClientRecord}
 use Rattle.krb_client.specs.Messages.{as_request_bytes, encrypted_bytes, stamp_bytes}
-use Rattle.krb_client.specs.Sealing.{IsSecondOf, Seals, principal_name, sole_seals, sole_second}
+use Rattle.krb_client.specs.Sealing.{IsSecondOf, principal_name, sole_second}
+use Rattle.krb_sealing.specs.Sealing.{Seals, sole_seals}
 
 -- the nonce: four of the random bytes, big-endian, of which 31 bits count
 abbrev pub nonce_of : List ℕ → ℕ
-nonce_of words = from_be_bytes w32 (take 4 (drop 16 words)) % 2147483648
+nonce_of words = from_be_bytes w32 (nonce_bytes words) % 2147483648
 
 -- the client's time, its microseconds always with it
 abbrev pub stamp_of : GeneralizedTime → ℕ → PaEncTsEnc
@@ -63,26 +65,26 @@ as_request_of client service till nonce stamp = record {
 pub record IsStamp (client : ClientRecord) (moment : ℕ) (confounder : List ℕ) (stamp : EncryptedData) : Type 0 where
   pub second : GeneralizedTime
   pub of_moment : IsSecondOf moment second
-  pub sealed : Seals client.suite client.key 1 confounder (stamp_bytes (stamp_of second (moment % 1000000))) stamp
+  pub sealed : Seals client.suite client.key None 1 confounder (stamp_bytes (stamp_of second (moment % 1000000))) stamp
 
 -- the bytes are the client's request for a ticket for the service till that time, at the moment; of the random bytes
 -- the first 16 are the confounder
 pub record AsksAs (client : ClientRecord) (service : List (List ℕ)) (till : GeneralizedTime) (moment : ℕ) (words bytes : List ℕ) : Type 0 where
   pub stamp : EncryptedData
-  pub stamped : IsStamp client moment (take 16 words) stamp
+  pub stamped : IsStamp client moment (stamp_confounder words) stamp
   pub encoding : bytes ≡ as_request_bytes (as_request_of client service till (nonce_of words) stamp)
 
 pub sole_stamp : (client : ClientRecord) (moment : ℕ) (confounder : List ℕ) (a b : EncryptedData)
     → IsStamp client moment confounder a → IsStamp client moment confounder b → a ≡ b
 sole_stamp client moment confounder a b x y =
     let same = sole_second moment x.second y.second x.of_moment y.of_moment in
-    let first = subst (λ (second : GeneralizedTime). Seals client.suite client.key 1 confounder (stamp_bytes (stamp_of second (moment % 1000000))) a) same x.sealed in
-    sole_seals client.suite client.key 1 confounder (stamp_bytes (stamp_of y.second (moment % 1000000))) a b first y.sealed
+    let first = subst (λ (second : GeneralizedTime). Seals client.suite client.key None 1 confounder (stamp_bytes (stamp_of second (moment % 1000000))) a) same x.sealed in
+    sole_seals client.suite client.key None 1 confounder (stamp_bytes (stamp_of y.second (moment % 1000000))) a b first y.sealed
 
 -- there is one such request at most
 pub sole_as_request : (client : ClientRecord) (service : List (List ℕ)) (till : GeneralizedTime) (moment : ℕ) (words a b : List ℕ)
     → AsksAs client service till moment words a → AsksAs client service till moment words b → a ≡ b
 sole_as_request client service till moment words a b x y =
     x.encoding
-    ∙ ap (λ stamp. as_request_bytes (as_request_of client service till (nonce_of words) stamp)) (sole_stamp client moment (take 16 words) x.stamp y.stamp x.stamped y.stamped)
+    ∙ ap (λ stamp. as_request_bytes (as_request_of client service till (nonce_of words) stamp)) (sole_stamp client moment (stamp_confounder words) x.stamp y.stamp x.stamped y.stamped)
     ∙ sym y.encoding

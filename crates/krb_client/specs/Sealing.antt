@@ -18,27 +18,6 @@ principal_name kind components = record {
   name_string = record { 0 = components };
 }
 
--- ciphertext with the number of its suite; a key's number isn't told
-abbrev pub encrypted_by : CipherSuite → List ℕ → EncryptedData
-encrypted_by suite cipher = record {
-  etype = record { 0 = pos (cipher_number suite) };
-  kvno = record { 0 = None };
-  cipher = record { 0 = cipher };
-}
-
--- the data is the text, sealed under the key, for the usage, behind the confounder
-pub record Seals (suite : CipherSuite) (key : List ℕ) (usage : ℕ) (confounder plain : List ℕ) (sealed : EncryptedData) : Type 0 where
-  pub cipher : List ℕ
-  pub seals : IsSealedBy suite key usage confounder plain cipher
-  pub told : sealed ≡ encrypted_by suite cipher
-
--- there is one such at most
-pub sole_seals : (suite : CipherSuite) (key : List ℕ) (usage : ℕ) (confounder plain : List ℕ) (a b : EncryptedData)
-    → Seals suite key usage confounder plain a → Seals suite key usage confounder plain b → a ≡ b
-sole_seals suite key usage confounder plain a b x y =
-    let same = one_string (cipher_key_size suite) key usage confounder plain x.cipher y.cipher x.seals y.seals in
-    x.told ∙ ap (encrypted_by suite) same ∙ sym y.told
-
 -- the time is the second of the moment
 abbrev pub IsSecondOf : ℕ → GeneralizedTime → Type 0
 IsSecondOf moment time = seconds_of time ≡ moment / 1000000

@@ -1,18 +1,20 @@
 //! Asking a service.
 ghost use Rattle.std.specs.Prelude.{◌≡◌, ◌≤◌, ℕ, List, length, IfErr, IfOk};
 ghost use Rattle.std.specs.Option.{option_map};
-ghost use Rattle.krb_client.specs.ApRequest.{AsksAp, IsAuthenticator, ap_asked, ap_request_of, authenticator_of, encryption_key, options_of, subkey_of};
+ghost use Rattle.krb_client.specs.ApRequest.{AsksAp, IsAuthenticator, ap_asked, ap_request_of, authenticator_of, options_of, subkey_of};
+ghost use Rattle.krb_sealing.specs.Sealing.{encryption_key};
 ghost use Rattle.krb_client.specs.Messages.{ap_request_bytes, authenticator_bytes};
 
 use crate::copies::ticket_copy;
 use crate::names::principal_name;
-use crate::seal::sealed_by;
 use crate::{AskRefusal, Client, Credential};
 use krb_asked::ApAsked;
 use krb_crypto::CipherSuite;
 use krb_encoding::tagged_encoding;
 use krb_moments::Moment;
+use krb_sealing::{encryption_key, sealed_data};
 use krb_types::constants::key_usages;
+use krb_types::constants::random_bytes::{AUTHENTICATOR_CONFOUNDER, CONFOUNDER_SIZE, SUBKEY};
 use krb_types::constants::types::{
     AP_REQ_MSG_TYPE, AUTHENTICATOR_TYPE, KERBEROS_VERSION, NT_PRINCIPAL,
 };
@@ -49,7 +51,7 @@ impl Client {
         ensures refusal { IfErr result (λ e. e ≡ AskRefusal.Memory) }
     {
         let subkey = subkey_of(alloc, with_subkey, credential.suite(), words)?;
-        let authenticator = self.authenticator(alloc, credential, &subkey, moment, &words[0..16])?;
+        let authenticator = self.authenticator(alloc, credential, &subkey, moment, &words[AUTHENTICATOR_CONFOUNDER..AUTHENTICATOR_CONFOUNDER + CONFOUNDER_SIZE])?;
         let request = ap_request_of(alloc, mutual_required, credential.ticket(), authenticator)?;
         let bytes = ap_request_bytes(alloc, request)?;
         let key = OctetStringAsn1::new(alloc, credential.key())?;
@@ -74,10 +76,11 @@ impl Client {
         let microsecond = moment.microsecond();
         let inner = self.authenticator_of(alloc, suite, second, microsecond, subkey)?;
         let plain = authenticator_bytes(alloc, inner)?;
-        let sealed = sealed_by(
+        let sealed = sealed_data(
             alloc,
             suite,
             credential.key(),
+            None,
             key_usages::AP_REQ_AUTHENTICATOR,
             confounder,
             &plain,
@@ -128,11 +131,7 @@ fn subkey_of(
     if !with_subkey {
         return Ok(None);
     }
-    let seed = match suite {
-        CipherSuite::Aes128CtsHmacSha196 => &words[32..48],
-        CipherSuite::Aes256CtsHmacSha196 => &words[32..64],
-    };
-    let subkey = OctetStringAsn1::new(alloc, seed)?;
+    let subkey = OctetStringAsn1::new(alloc, &words[SUBKEY..SUBKEY + suite.key_size()])?;
     Ok(Some(subkey))
 }
 
@@ -147,12 +146,8 @@ fn key_of(
     let Some(key) = key else {
         return Ok(None);
     };
-    let number = IntegerAsn1::from_u64(alloc, u64::from(u8::from(suite)))?;
-    let value = key.clone()?;
-    Ok(Some(EncryptionKey {
-        key_type: ExplicitContextTag(number),
-        key_value: ExplicitContextTag(value),
-    }))
+    let made = encryption_key(alloc, suite, key)?;
+    Ok(Some(made))
 }
 
 // The encoding of the authenticator.

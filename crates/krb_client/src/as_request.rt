@@ -5,13 +5,14 @@ ghost use Rattle.krb_client.specs.AsRequest.{AsksAs, IsStamp, as_request_of, no_
 ghost use Rattle.krb_client.specs.Messages.{as_request_bytes, stamp_bytes};
 
 use crate::names::principal_name;
-use crate::seal::sealed_by;
 use crate::{AskRefusal, Client};
 use krb_accounts::{are_components, components_of};
 use krb_asked::AsAsked;
 use krb_encoding::{encoding_of, tagged_encoding};
 use krb_moments::Moment;
+use krb_sealing::sealed_data;
 use krb_types::constants::key_usages;
+use krb_types::constants::random_bytes::{CONFOUNDER_SIZE, NONCE, STAMP_CONFOUNDER};
 use krb_types::constants::types::{
     AS_REQ_MSG_TYPE, KERBEROS_VERSION, NT_PRINCIPAL, NT_SRV_INST, PA_ENC_TIMESTAMP,
 };
@@ -59,7 +60,7 @@ impl Client {
             return Err(AskRefusal::Memory);
         };
         let nonce = nonce_of(words);
-        let stamp = self.stamp(alloc, moment, &words[0..16])?;
+        let stamp = self.stamp(alloc, moment, &words[STAMP_CONFOUNDER..STAMP_CONFOUNDER + CONFOUNDER_SIZE])?;
         let request = self.as_request_of(alloc, &service, till, nonce, stamp)?;
         let bytes = as_request_bytes(alloc, request)?;
         Ok((bytes, AsAsked::new(service, nonce, moment)))
@@ -77,10 +78,11 @@ impl Client {
     {
         let second = moment.second();
         let plain = stamp_bytes(alloc, second, moment.microsecond())?;
-        let sealed = sealed_by(
+        let sealed = sealed_data(
             alloc,
             self.suite(),
             self.key(),
+            None,
             key_usages::PA_ENC_TIMESTAMP,
             confounder,
             &plain,
@@ -152,7 +154,7 @@ fn nonce_of(words: &[u8]) -> u32
     ensures { result ≡ nonce_of words.now }
 {
     let mut octets = [0; 4];
-    octets.copy_from_slice(&words[16..20]);
+    octets.copy_from_slice(&words[NONCE..NONCE + 4]);
     u32::from_be_bytes(octets) % NONCES
 }
 

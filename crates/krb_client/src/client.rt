@@ -20,7 +20,8 @@ pub struct Client {
 }
 
 impl Model for Client {
-    ghost use Rattle.std.specs.Prelude.{◌≡◌, length};
+    ghost use Rattle.std.specs.Prelude.{◌≡◌, length, IsTrue};
+    ghost use Rattle.krb_accounts.specs.Names.{are_components, is_realm_name};
     ghost use Rattle.krb_crypto.specs.Suites.{cipher_key_size};
     ghost use Rattle.krb_client.specs.Client.{ClientRecord};
 
@@ -28,7 +29,7 @@ impl Model for Client {
 
     ghost view = { λ c. record { realm = c.realm; components = c.name.items; suite = c.suite; key = c.key } };
 
-    ghost invariant = { λ c. length c.key ≡ cipher_key_size c.suite };
+    ghost invariant = { λ c. (length c.key ≡ cipher_key_size c.suite) × IsTrue (is_realm_name c.realm) × IsTrue (are_components c.components) };
 }
 
 impl Client {

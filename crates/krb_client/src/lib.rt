@@ -11,7 +11,6 @@ mod credential;
 mod names;
 mod read;
 mod refusal;
-mod seal;
 
 pub use client::Client;
 pub use credential::Credential;

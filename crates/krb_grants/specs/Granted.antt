@@ -1,18 +1,12 @@
 -- The reply that grants a ticket (RFC 4120, sections 3.1.3, 5.4.2).
-use Rattle.std.specs.Prelude.{◌≡◌, ℕ, List, take, drop}
+use Rattle.std.specs.Prelude.{◌≡◌, ℕ, List}
 use Rattle.std.proofs.Common.{ap, sym, ◌∙◌}
 use Rattle.krb_accounts.specs.Account.{AccountRecord}
 use Rattle.krb_types.specs.declared.data_types.encrypted_data.EncryptedData.{EncryptedData}
+use Rattle.krb_types.specs.RandomBytes.{reply_confounder, ticket_confounder}
 use Rattle.krb_tickets.specs.declared.grant.Grant.{Grant}
 use Rattle.krb_tickets.specs.Parts.{as_reply_of, reply_part, ticket_of, ticket_part}
 use Rattle.krb_tickets.specs.Sealed.{IsSealedData, as_reply_bytes, as_reply_part_bytes, sole_sealed, ticket_part_bytes}
-
--- which of the random bytes are the confounder of the ticket, and that of the reply
-abbrev pub ticket_confounder : List ℕ → List ℕ
-ticket_confounder words = take 16 (drop 32 words)
-
-abbrev pub reply_confounder : List ℕ → List ℕ
-reply_confounder words = take 16 (drop 48 words)
 
 -- the bytes are the encoding of the reply in which the ticket's part is sealed under the service's key (usage 2), and
 -- the reply's part under the client's (usage 3; RFC 4120, section 7.5.1)

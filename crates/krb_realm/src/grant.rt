@@ -9,6 +9,7 @@ use krb_crypto::{Cipher, CipherSuite};
 use krb_grants::as_reply;
 use krb_moments::Moment;
 use krb_tickets::{Grant, end_of, start_of};
+use krb_types::constants::random_bytes::SESSION_KEY;
 use picky_asn1::wrapper::{GeneralStringAsn1, OctetStringAsn1};
 use picky_krb::data_types::PrincipalName;
 use picky_krb::messages::KdcReqBody;
@@ -58,7 +59,7 @@ pub(crate) fn grant(
         until,
         nonce,
     };
-    let bytes = as_reply(alloc, grant, asked.client, asked.service, words)?;
+    let bytes = as_reply(alloc, &grant, asked.client, asked.service, words)?;
     Ok(bytes)
 }
 
@@ -71,6 +72,6 @@ fn session_key(
     requires { 128 ≤ length words.now }
     ensures { IfOk result (λ key. key ≡ session_key_of suite words.now) }
 {
-    let key = Vec::from_slice(alloc, &words[..suite.key_size()])?;
+    let key = Vec::from_slice(alloc, &words[SESSION_KEY..SESSION_KEY + suite.key_size()])?;
     Ok(OctetStringAsn1::from(key))
 }

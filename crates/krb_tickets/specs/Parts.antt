@@ -1,5 +1,5 @@
 -- What a granted ticket and its reply hold (RFC 4120, sections 3.1.3, 5.3, 5.4.2).
-use Rattle.std.specs.Prelude.{◌≡◌, ℕ, List, [], ◌∷◌, None, Some, pos, refl, take}
+use Rattle.std.specs.Prelude.{◌≡◌, ℕ, List, [], ◌∷◌, None, Some, pos, refl}
 use Rattle.picky_asn1.specs.BitString.{Bits}
 use Rattle.asn1_leaves.specs.declared.date.GeneralizedTime.{GeneralizedTime}
 use Rattle.krb_crypto.specs.declared.suite.CipherSuite.{CipherSuite}
@@ -11,28 +11,15 @@ use Rattle.krb_types.specs.declared.data_types.enc_ticket_part.EncTicketPartInne
 use Rattle.krb_types.specs.declared.data_types.last_req.LastReqInner.{LastReqInner}
 use Rattle.krb_types.specs.declared.data_types.ticket.TicketInner.{TicketInner}
 use Rattle.krb_types.specs.declared.data_types.transited_encoding.TransitedEncoding.{TransitedEncoding}
+use Rattle.krb_types.specs.RandomBytes.{session_key_bytes}
 use Rattle.picky_krb.specs.declared.messages.kdc_rep.KdcRep.{KdcRep}
 use Rattle.picky_krb.specs.declared.messages.enc_kdc_rep_part.EncKdcRepPart.{EncKdcRepPart}
+use Rattle.krb_sealing.specs.Sealing.{encryption_key}
 use Rattle.krb_tickets.specs.declared.grant.Grant.{Grant}
 
--- the session's key: the first of the random bytes
+-- the session's key
 abbrev pub session_key_of : CipherSuite → List ℕ → List ℕ
-session_key_of suite words = take (cipher_key_size suite) words
-
--- a key of a suite
-abbrev pub encryption_key : CipherSuite → List ℕ → EncryptionKey
-encryption_key suite key = record {
-  key_type = record { 0 = pos (cipher_number suite) };
-  key_value = record { 0 = key };
-}
-
--- what an account's key encrypts to this ciphertext, with the key's number
-abbrev pub encrypted_by : AccountRecord → List ℕ → EncryptedData
-encrypted_by account cipher = record {
-  etype = record { 0 = pos (cipher_number account.suite) };
-  kvno = record { 0 = Some (record { 0 = pos account.number }) };
-  cipher = record { 0 = cipher };
-}
+session_key_of suite words = session_key_bytes (cipher_key_size suite) words
 
 -- initial and preauthenticated (RFC 4120, section 5.3)
 abbrev pub initial_flags : Bits

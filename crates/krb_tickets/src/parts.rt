@@ -1,8 +1,9 @@
 //! The parts of a granted ticket and of its reply, before they are sealed.
 ghost use Rattle.std.specs.Prelude.{◌≡◌, IfOk};
-ghost use Rattle.krb_tickets.specs.Parts.{encryption_key, initial_flags, last_requests, no_realms, reply_part, ticket_part};
+ghost use Rattle.krb_tickets.specs.Parts.{initial_flags, last_requests, no_realms, reply_part, ticket_part};
 
 use crate::grant::Grant;
+use krb_sealing::encryption_key;
 use krb_types::data_types::{
     EncTicketPartInner, EncryptionKey, KerberosFlags, LastReq, LastReqInner, TransitedEncoding,
 };
@@ -29,7 +30,7 @@ pub(crate) fn ticket_part(alloc: Global, grant: &Grant) -> Result<EncTicketPartI
     ensures { IfOk result (λ part. part ≡ ticket_part grant.now) }
 {
     let flags = initial_flags(alloc)?;
-    let key = encryption_key(alloc, grant)?;
+    let key = encryption_key(alloc, grant.suite, &grant.session)?;
     let realm = grant.realm.clone()?;
     let client = grant.client.clone()?;
     let transited = no_realms(alloc)?;
@@ -54,7 +55,7 @@ pub(crate) fn ticket_part(alloc: Global, grant: &Grant) -> Result<EncTicketPartI
 pub(crate) fn reply_part(alloc: Global, grant: &Grant) -> Result<EncKdcRepPart, AllocError>
     ensures { IfOk result (λ part. part ≡ reply_part grant.now) }
 {
-    let key = encryption_key(alloc, grant)?;
+    let key = encryption_key(alloc, grant.suite, &grant.session)?;
     let last_req = last_requests(alloc, grant.start)?;
     let nonce = grant.nonce.clone()?;
     let flags = initial_flags(alloc)?;
@@ -75,18 +76,6 @@ pub(crate) fn reply_part(alloc: Global, grant: &Grant) -> Result<EncKdcRepPart, 
         sname: ExplicitContextTag(service),
         caddr: Optional(None),
         encrypted_pa_data: Optional(None),
-    })
-}
-
-// The session's key with the number of its suite.
-fn encryption_key(alloc: Global, grant: &Grant) -> Result<EncryptionKey, AllocError>
-    ensures { IfOk result (λ key. key ≡ encryption_key grant.now.suite grant.now.session) }
-{
-    let number = IntegerAsn1::from_u64(alloc, u64::from(u8::from(grant.suite)))?;
-    let session = grant.session.clone()?;
-    Ok(EncryptionKey {
-        key_type: ExplicitContextTag(number),
-        key_value: ExplicitContextTag(session),
     })
 }
 

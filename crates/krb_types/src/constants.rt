@@ -156,3 +156,33 @@ pub mod error_codes {
     /// The realm is another one.
     pub const KDC_ERR_WRONG_REALM: u32 = 68;
 }
+
+/// Where each thing begins in the random bytes of a call. No two things of one message share a byte.
+pub mod random_bytes {
+    /// How many bytes a confounder has: a block of the cipher (RFC 3962, section 6).
+    pub const CONFOUNDER_SIZE: usize = 16;
+
+    /// The confounder of an AS request's stamp.
+    pub const STAMP_CONFOUNDER: usize = 0;
+
+    /// The nonce of an AS request, of four bytes.
+    pub const NONCE: usize = 16;
+
+    /// The confounder of an AP request's authenticator.
+    pub const AUTHENTICATOR_CONFOUNDER: usize = 0;
+
+    /// The subkey of an AP request, as long as a key of its suite.
+    pub const SUBKEY: usize = 32;
+
+    /// The session's key in a realm's reply, as long as a key of its suite.
+    pub const SESSION_KEY: usize = 0;
+
+    /// The confounder of the ticket in a realm's reply.
+    pub const TICKET_CONFOUNDER: usize = 32;
+
+    /// The confounder of the part of a realm's reply.
+    pub const REPLY_CONFOUNDER: usize = 48;
+
+    /// The confounder of the part of a service's reply.
+    pub const AP_REPLY_CONFOUNDER: usize = 0;
+}

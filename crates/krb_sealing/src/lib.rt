@@ -1,0 +1,8 @@
+//! Sealed data and keys of messages (RFC 4120, section 5.2.9), as they are made.
+#![tactic(auto)]
+
+mod key;
+mod seal;
+
+pub use key::encryption_key;
+pub use seal::sealed_data;

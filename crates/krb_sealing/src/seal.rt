@@ -1,0 +1,62 @@
+//! Sealed data.
+ghost use Rattle.std.specs.Prelude.{◌≡◌, length, IfOk};
+ghost use Rattle.std.specs.Int.{cast_unsigned, w32};
+ghost use Rattle.krb_sealing.specs.Sealing.{Seals, encrypted_by, key_number};
+
+use krb_crypto::{Cipher, CipherSuite};
+use krb_types::data_types::EncryptedData;
+use picky_asn1::wrapper::{IntegerAsn1, OctetStringAsn1};
+use picky_asn1_der::{ExplicitContextTag, ExplicitContextTag1, Optional};
+use std::alloc::{AllocError, Global};
+
+/// The text, sealed under the key for the usage behind the confounder of 16 bytes, with the number of the suite and, where
+/// it is given, that of the key (RFC 4120, section 5.2.9). Under a key of the suite's length memory is the only refusal.
+pub fn sealed_data(
+    alloc: Global,
+    suite: CipherSuite,
+    key: &[u8],
+    number: Option<u32>,
+    usage: i32,
+    confounder: &[u8],
+    plain: &[u8],
+) -> Result<EncryptedData, AllocError>
+    requires { length confounder.now ≡ 16 }
+    ensures { IfOk result (Seals suite key.now number (cast_unsigned w32 usage) confounder.now plain.now) }
+{
+    let Ok(cipher) = suite.encrypt(alloc, key, usage, plain, confounder) else {
+        return Err(AllocError);
+    };
+    let sealed = encrypted_by(alloc, suite, number, cipher)?;
+    Ok(sealed)
+}
+
+// The ciphertext with the number of its suite and of the key.
+fn encrypted_by(
+    alloc: Global,
+    suite: CipherSuite,
+    number: Option<u32>,
+    cipher: Vec<u8>,
+) -> Result<EncryptedData, AllocError>
+    ensures { IfOk result (λ made. made ≡ encrypted_by suite number cipher.items) }
+{
+    let etype = IntegerAsn1::from_u64(alloc, u64::from(u8::from(suite)))?;
+    let kvno = key_number(alloc, number)?;
+    Ok(EncryptedData {
+        etype: ExplicitContextTag(etype),
+        kvno: Optional(kvno),
+        cipher: ExplicitContextTag(OctetStringAsn1::from(cipher)),
+    })
+}
+
+fn key_number(
+    alloc: Global,
+    number: Option<u32>,
+) -> Result<Option<ExplicitContextTag1<IntegerAsn1>>, AllocError>
+    ensures { IfOk result (λ made. made ≡ key_number number) }
+{
+    let Some(number) = number else {
+        return Ok(None);
+    };
+    let number = IntegerAsn1::from_u64(alloc, u64::from(number))?;
+    Ok(Some(ExplicitContextTag(number)))
+}
