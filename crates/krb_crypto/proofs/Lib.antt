@@ -1,3 +1,4 @@
 pub mod DerivationLemmas
 pub mod DerivedKeys
 pub mod SealingLemmas
+pub mod SealedTexts

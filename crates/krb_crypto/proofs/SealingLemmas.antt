@@ -163,7 +163,7 @@ own_size size key usage conf plain bytes x = record {
   tagged = x.tagged;
 }
 
-suite_key : (suite : CipherSuite) (key : List ℕ) → length key ≡ cipher_key_size suite → IsAesKey key
+pub suite_key : (suite : CipherSuite) (key : List ℕ) → length key ≡ cipher_key_size suite → IsAesKey key
 suite_key Aes128CtsHmacSha196 key sized = inl sized
 suite_key Aes256CtsHmacSha196 key sized = inr sized
 

@@ -4,6 +4,7 @@
 pub mod aes;
 mod by_suite;
 mod cipher;
+pub mod laws;
 mod suite;
 mod unchecked;
 mod usage;
