@@ -50,3 +50,16 @@ pub among_held : (skew greatest : ℕ) (pairs admitted : List PairRecord) (pair 
 among_held skew greatest pairs admitted pair window recent =
     let agree = narrowed _ true (is_among pair pairs) (is_among pair admitted) (λ _. recent) (sym (among_recent skew greatest pairs pair) ∙ window pair) in
     grind (arith, agree)
+
+-- pairs that pass a test pass it once more
+twice : (recent found : Bool) → (recent && found) ≡ ((recent && found) && recent)
+twice true true = refl
+twice true false = refl
+twice false found = refl
+
+-- the recent ones of any pairs are the window of themselves
+pub own_window : (skew greatest : ℕ) (pairs : List PairRecord)
+    → IsWindow (record { greatest = greatest; skew = skew; held = filter (is_recent skew greatest) pairs }) (filter (is_recent skew greatest) pairs)
+own_window skew greatest pairs pair =
+    let among = among_recent skew greatest pairs pair in
+    among ∙ twice (is_recent skew greatest pair) (is_among pair pairs) ∙ ap (λ found. found && is_recent skew greatest pair) (sym among)

@@ -76,6 +76,15 @@ impl Seen {
         self.skew
     }
 
+    /// What is held is the window of a list of admitted pairs: of those that are held. It does nothing when it runs, and
+    /// tells it of pairs that a caller was handed.
+    pub fn holds_window(&self)
+        ensures { IsWindow self.now self.now.held }
+    {
+        // The clause is of the fields: the proof sees them where one is read.
+        let _greatest = self.greatest;
+    }
+
     /// Whether this pair was admitted. Its time must not be far from the greatest moment: of older pairs
     /// nothing is promised.
     pub fn contains(&self, pair: &Pair) -> bool
