@@ -2,3 +2,8 @@ pub mod Tagged
 pub mod Judged
 pub mod Presentations
 pub mod Shown
+pub mod Short
+pub mod Accepted
+pub mod Chosen
+pub mod Replied
+pub mod Judgements

@@ -37,7 +37,7 @@ given None code rest value p = absurd (cc (p))
 given (Some a) code rest value p = (a, p)
 
 -- what is opened is sealed behind a confounder
-seals : {T : Type 0} (tree : T → Tree) (suite : CipherSuite) (key : List ℕ) (usage : ℕ) (sealed : EncryptedData) (value : T) (x : IsSealedIn {T = T} tree suite key usage sealed value)
+pub seals : {T : Type 0} (tree : T → Tree) (suite : CipherSuite) (key : List ℕ) (usage : ℕ) (sealed : EncryptedData) (value : T) (x : IsSealedIn {T = T} tree suite key usage sealed value)
     → Seals {T = T} tree key usage x.opens.conf value sealed.cipher.0
 seals tree suite key usage sealed value x = record {
   key_bytes = x.opens.key_bytes;
@@ -48,7 +48,7 @@ seals tree suite key usage sealed value x = record {
 }
 
 -- a request is made of its outer fields and its ciphertexts
-request-outer : (request : ApReqInner) → request_of (outer_of request) request.ticket.0.0.enc_part.0.cipher.0 request.authenticator.0.cipher.0 ≡ request
+pub request-outer : (request : ApReqInner) → request_of (outer_of request) request.ticket.0.0.enc_part.0.cipher.0 request.authenticator.0.cipher.0 ≡ request
 request-outer request = λ i. record {
   pvno = request.pvno;
   msg_type = request.msg_type;
@@ -67,7 +67,7 @@ request-outer request = λ i. record {
 }
 
 -- one of two, of which the second can't be
-first_of_two : {A N T : Type 0} (value : T) (code : ℕ) → A ⊎ (N × Same {T = T} (Ok value) (Err code)) → A
+pub first_of_two : {A N T : Type 0} (value : T) (code : ℕ) → A ⊎ (N × Same {T = T} (Ok value) (Err code)) → A
 first_of_two value code (inl x) = x
 first_of_two value code (inr x) = absurd (cc (x.1))
 
@@ -77,7 +77,7 @@ pub both : {A T : Type 0} (t : Table (Result A ℕ)) (rest : A → Table (Result
 both t rest value (inl x) = x
 both t rest value (inr x) = absurd (cc (x.2))
 
-shown_part : (entry : EntryRecord) (skew moment : ℕ) (sealed : EncryptedData) (part : EncTicketPartInner)
+pub shown_part : (entry : EntryRecord) (skew moment : ℕ) (sealed : EncryptedData) (part : EncTicketPartInner)
     → (valid_part entry.suite entry.key skew moment sealed).gives (Ok part)
     → IsSealedIn {T = EncTicketPartInner} enc_ticket_part_tree entry.suite entry.key 2 sealed part
 shown_part entry skew moment sealed part x =
@@ -87,11 +87,11 @@ shown_part entry skew moment sealed part x =
     subst (λ p. IsSealedIn {T = EncTicketPartInner} enc_ticket_part_tree entry.suite entry.key 2 sealed p) (sym same) own.1
 
 -- the authenticator is sealed under the key
-abbrev asked : EncryptionKey → EncryptedData → CipherSuite → Table (Result (CipherSuite × AuthenticatorInner) ℕ)
+abbrev pub asked : EncryptionKey → EncryptedData → CipherSuite → Table (Result (CipherSuite × AuthenticatorInner) ℕ)
 asked key sealed suite =
     ask (IsAuthenticator suite key.key_value.0 sealed) (sole_authenticator suite key.key_value.0 sealed) (done (Err 31)) (λ authenticator. done (Ok (suite, authenticator)))
 
-shown_asked : (key : EncryptionKey) (sealed : EncryptedData) (suite : CipherSuite) (found : CipherSuite × AuthenticatorInner) → (asked key sealed suite).gives (Ok found)
+pub shown_asked : (key : EncryptionKey) (sealed : EncryptedData) (suite : CipherSuite) (found : CipherSuite × AuthenticatorInner) → (asked key sealed suite).gives (Ok found)
     → IsAuthenticator found.0 key.key_value.0 sealed found.1
 shown_asked key sealed suite found x =
     let own = first_of_two found 31 x in
@@ -109,11 +109,11 @@ IsShown : EncryptedData → Presented → Type 0
 IsShown sealed p = IsSealedIn {T = AuthenticatorInner} authenticator_tree p.suite p.part.key.0.key_value.0 11 sealed p.authenticator
 
 -- what is made of an authenticator and its moment
-abbrev made_of : ApReqInner → EncTicketPartInner → CipherSuite × AuthenticatorInner → ℕ → Presented
+abbrev pub made_of : ApReqInner → EncTicketPartInner → CipherSuite × AuthenticatorInner → ℕ → Presented
 made_of request part found time =
     record { part = part; suite = found.0; authenticator = found.1; time = time; wants_reply = bit_of request.ap_options.0 2 }
 
-abbrev timed : ApReqInner → EncTicketPartInner → CipherSuite × AuthenticatorInner → Table (Result Presented ℕ)
+abbrev pub timed : ApReqInner → EncTicketPartInner → CipherSuite × AuthenticatorInner → Table (Result Presented ℕ)
 timed request part found = and_then (told part found.1) (λ time. done (Ok (made_of request part found time)))
 
 shown_authenticator : (request : ApReqInner) (part : EncTicketPartInner) (p : Presented) → (valid_authenticator request part).gives (Ok p)
@@ -133,7 +133,7 @@ record Shown (entry : EntryRecord) (request : ApReqInner) (p : Presented) : Type
   part : IsSealedIn {T = EncTicketPartInner} enc_ticket_part_tree entry.suite entry.key 2 request.ticket.0.0.enc_part.0 p.part
   authenticator : IsSealedIn {T = AuthenticatorInner} authenticator_tree p.suite p.part.key.0.key_value.0 11 request.authenticator.0 p.authenticator
 
-abbrev past_address : EntryRecord → ℕ → ℕ → ApReqInner → Table (Result Presented ℕ)
+abbrev pub past_address : EntryRecord → ℕ → ℕ → ApReqInner → Table (Result Presented ℕ)
 past_address entry skew moment request =
     and_then (valid_part entry.suite entry.key skew moment request.ticket.0.0.enc_part.0) (λ part.
     valid_authenticator request part)

@@ -6,3 +6,4 @@ pub mod ApReply
 pub mod ApTable
 pub mod Received
 pub mod Presents
+pub mod Acceptable

@@ -1,6 +1,15 @@
 //! What holds of every AP request.
-ghost use Rattle.std.specs.Prelude.{◌≡◌, ℕ, List};
+ghost use Rattle.std.specs.Prelude.{◌≡◌, ◌≤◌, ℕ, List, Ok, Option, length};
+ghost use Rattle.krb_ap.specs.Acceptable.{IsAcceptable, shown};
+ghost use Rattle.krb_ap.specs.ApReply.{IsReplyTo};
+ghost use Rattle.krb_ap.specs.ApTable.{presented};
+ghost use Rattle.krb_ap.specs.Entry.{EntryRecord};
 ghost use Rattle.krb_ap.specs.Presents.{Choice, Presents};
+ghost use Rattle.krb_ap.specs.Received.{Receives};
+ghost use Rattle.krb_ap.specs.declared.presented.Presented.{Presented};
+ghost use Rattle.krb_blocks.specs.Bytes.{IsBytes};
+ghost use Rattle.decision_tables.specs.Some.{HasSome};
+ghost use Rattle.picky_krb.specs.declared.messages.ap_req.ApReqInner.{ApReqInner};
 
 /// For a service's key each choice of outer fields, ticket's part, authenticator and confounders presents one string of
 /// bytes at most, and each string is presented by one choice at most. It does nothing when it runs: its contract is the
@@ -8,4 +17,27 @@ ghost use Rattle.krb_ap.specs.Presents.{Choice, Presents};
 pub fn one_presentation()
     ensures choice { (key bytes : List ℕ) (a b : Choice) → Presents key a bytes → Presents key b bytes → a ≡ b }
     ensures bytes { (key : List ℕ) (choice : Choice) (a b : List ℕ) → Presents key choice a → Presents key choice b → a ≡ b }
+{}
+
+/// Bytes that spell a choice that is acceptable are received as it; and what is received was spelled so by one that is.
+/// It does nothing when it runs: its contract is the law.
+pub fn received_as_chosen()
+    ensures received { (entry : EntryRecord) (skew moment : ℕ) (choice : Choice) (bytes : List ℕ) (x : IsAcceptable entry skew moment choice)
+        → Presents entry.key choice bytes → Receives entry skew moment bytes (Ok (shown entry skew moment choice x)) }
+    ensures chosen { (entry : EntryRecord) (skew moment : ℕ) (bytes : List ℕ) (p : Presented) → Receives entry skew moment bytes (Ok p)
+        → (choice : Choice) × Presents entry.key choice bytes × (x : IsAcceptable entry skew moment choice) × (p ≡ shown entry skew moment choice x) }
+{}
+
+/// Each request is judged: it can't be that the table gives nothing. It does nothing when it runs: its contract is the
+/// law.
+pub fn has_judgement()
+    ensures { (entry : EntryRecord) (skew moment : ℕ) (request : ApReqInner) → HasSome (presented entry skew moment request).gives }
+{}
+
+/// To what a choice presents that is acceptable there is a reply, or none is wanted. It does nothing when it runs: its
+/// contract is the law.
+pub fn has_reply_to()
+    ensures { (entry : EntryRecord) (skew moment : ℕ) (choice : Choice) (bytes words : List ℕ) (x : IsAcceptable entry skew moment choice)
+        → Presents entry.key choice bytes → 16 ≤ length words → IsBytes words
+        → (reply : Option (List ℕ)) × IsReplyTo (shown entry skew moment choice x) words reply }
 {}

@@ -1,0 +1,142 @@
+-- A choice that is acceptable is received, and what is received is a choice's that is.
+use Rattle.std.proofs.Common.{◌≡◌, ◌≤◌, ℕ, Bool, true, false, not, ◌&&◌, ◌==◌, List, length, Option, None, Some, Result, Ok, Err, refl, sym, ap, subst, ◌∙◌, inl, inr, if◌then◌else◌}
+use Rattle.std.specs.Prelude.{ℤ}
+use Rattle.std.specs.Option.{option_map, option_map_or}
+use Rattle.std.proofs.lemmas.Bool.{and_parts, eqb-true}
+use Rattle.asn1_trees.specs.Tree.{Tree}
+use Rattle.picky_asn1_der.specs.declared.wrapper.ExplicitContextTag.{ExplicitContextTag}
+use Rattle.picky_asn1.specs.BitString.{bit_of}
+use Rattle.picky_asn1.specs.GeneralizedTime.{seconds_of}
+use Rattle.krb_crypto.specs.Sealing.{IsAesSealed, IsSealedBy}
+use Rattle.krb_crypto.specs.Suites.{cipher_key_size, cipher_number}
+use Rattle.krb_crypto.specs.declared.suite.CipherSuite.{CipherSuite}
+use Rattle.krb_crypto.specs.declared.suite.CipherSuite.TheVariants.{Aes128CtsHmacSha196, Aes256CtsHmacSha196}
+use Rattle.krb_types.specs.declared.data_types.authenticator.AuthenticatorInner.{AuthenticatorInner}
+use Rattle.krb_types.specs.declared.data_types.encrypted_data.EncryptedData.{EncryptedData}
+use Rattle.krb_types.specs.declared.data_types.encryption_key.EncryptionKey.{EncryptionKey}
+use Rattle.krb_types.specs.declared.data_types.enc_ticket_part.EncTicketPartInner.{EncTicketPartInner}
+use Rattle.picky_krb.specs.declared.messages.ap_req.ApReqInner.{ApReqInner}
+use Rattle.krb_opening.specs.Keys.{is_key_of, suite_of}
+use Rattle.krb_types.specs.Names.{components, is_same_name, is_same_realm}
+use Rattle.picky_asn1.specs.Numbers.{is_number}
+use Rattle.decision_tables.specs.Tables.{Table, done, need, refuse}
+use Rattle.krb_opening.specs.Sealed.{IsSealedIn}
+use Rattle.krb_moments.specs.Times.{moment_at}
+use Rattle.krb_ap.specs.Acceptable.{IsAcceptable, shown_by}
+use Rattle.krb_ap.specs.ApTable.{addressed, is_early, is_for, is_late, is_of_client, is_version_5, may_be_under, opened, presented, timely, told, valid_authenticator, valid_part}
+use Rattle.krb_ap.specs.Entry.{EntryRecord}
+use Rattle.picky_krb.specs.Messages.{IsApReq, authenticator_tree, enc_ticket_part_tree}
+use Rattle.krb_ap.specs.Messages.{IsAuthenticator, IsTicketPart}
+use Rattle.krb_ap.specs.Presents.{Choice, Outer, Presents, Seals, encrypted, request_of}
+use Rattle.krb_ap.specs.Received.{Receives}
+use Rattle.krb_ap.specs.declared.presented.Presented.{Presented}
+use Rattle.krb_ap.proofs.Shown.{asked}
+
+-- a key's number by its tagged form, and the other way
+under_number : (number : ℕ) (etype : ℤ) (kvno : Option ℤ) (cipher : List ℕ) → may_be_under number (encrypted etype kvno cipher) ≡ option_map_or (is_number number) kvno true
+under_number number etype None cipher = refl
+under_number number etype (Some told) cipher = refl
+
+number_under : (number : ℕ) (kvno : Option (ExplicitContextTag 1 ℤ))
+    → option_map_or (is_number number) (option_map (λ (tagged : ExplicitContextTag 1 ℤ). tagged.0) kvno) true ≡ option_map_or (λ (tagged : ExplicitContextTag 1 ℤ). is_number number tagged.0) kvno true
+number_under number None = refl
+number_under number (Some tagged) = refl
+
+-- the rows that a request of this service passes
+address_rows : (method version ticket kind realm name number etype : Bool)
+    → method ≡ false → version ≡ true → ticket ≡ true → kind ≡ true → realm ≡ true → name ≡ true → number ≡ true → etype ≡ true
+    → (refuse {T = Unit {0}} {E = ℕ} method 48 (refuse (not (version && ticket)) 39 (refuse (not kind) 40 (refuse (not (realm && name)) 35
+    (refuse (not number) 44 (refuse (not etype) 45 (done (Ok tt)))))))).gives (Ok tt)
+address_rows method version ticket kind realm name number etype m v t k r n u e = rw (m, v, t, k, r, n, u, e) refl
+
+is_addressed : (entry : EntryRecord) (skew moment : ℕ) (choice : Choice) (part_cipher cipher : List ℕ) → IsAcceptable entry skew moment choice
+    → (addressed entry.realm entry.components entry.suite entry.number (request_of choice.outer part_cipher cipher)).gives (Ok tt)
+is_addressed entry skew moment choice part_cipher cipher x =
+    address_rows (bit_of choice.outer.options 1) (is_number 5 choice.outer.pvno) (is_number 5 choice.outer.tkt_vno) (is_number 14 choice.outer.msg_type)
+    (is_same_realm choice.outer.realm entry.realm) (is_same_name (components choice.outer.service) entry.components)
+    (may_be_under entry.number (encrypted choice.outer.part_etype choice.outer.part_kvno part_cipher)) (is_number (cipher_number entry.suite) choice.outer.part_etype)
+    x.method x.version x.ticket_version x.kind x.realm x.name
+    (under_number entry.number choice.outer.part_etype choice.outer.part_kvno part_cipher ∙ x.number)
+    x.part_etype
+
+-- what is sealed by the suite that the key fits is sealed by the suite of this size
+own_suite : {T : Type 0} (tree : T → Tree) (suite : CipherSuite) (key : List ℕ) (usage : ℕ) (confounder : List ℕ) (value : T) (etype : ℤ) (kvno : Option ℤ) (cipher : List ℕ)
+    → length key ≡ cipher_key_size suite → is_number (cipher_number suite) etype ≡ true → Seals {T = T} tree key usage confounder value cipher
+    → IsSealedIn {T = T} tree suite key usage (encrypted etype kvno cipher) value
+own_suite tree suite key usage confounder value etype kvno cipher sized numbered x = record {
+  numbered = numbered;
+  opens = record {
+    key_bytes = x.key_bytes;
+    conf = confounder;
+    plain = x.plain;
+    writes = x.writes;
+    sealed = (suite, refl, subst (λ n. IsAesSealed n key usage confounder x.plain cipher) (sym x.sealed.key_sized ∙ sized) x.sealed);
+  };
+}
+
+-- a key of a suite has as many bytes as the suite's keys
+sized_if : (short long : Bool) (n : ℕ) (suite : CipherSuite) → (short ≡ true → n ≡ 16) → (long ≡ true → n ≡ 32)
+    → (let found : Option CipherSuite = if short then Some Aes128CtsHmacSha196 else (if long then Some Aes256CtsHmacSha196 else None) in found ≡ Some suite) → n ≡ cipher_key_size suite
+sized_if true long n suite f g e = let same : Aes128CtsHmacSha196 ≡ suite = cc (e) in f refl ∙ ap cipher_key_size same
+sized_if false true n suite f g e = let same : Aes256CtsHmacSha196 ≡ suite = cc (e) in g refl ∙ ap cipher_key_size same
+sized_if false false n suite f g e = absurd (cc (e))
+
+has_size : (suite : CipherSuite) (key : EncryptionKey) → is_key_of suite key ≡ true → length key.key_value.0 ≡ cipher_key_size suite
+has_size suite key e = eqb-true (length key.key_value.0) (cipher_key_size suite) ((and_parts _ _ e).1)
+
+pub suite_sized : (key : EncryptionKey) (suite : CipherSuite) → suite_of key ≡ Some suite → length key.key_value.0 ≡ cipher_key_size suite
+suite_sized key suite e =
+    sized_if (is_key_of Aes128CtsHmacSha196 key) (is_key_of Aes256CtsHmacSha196 key) (length key.key_value.0) suite
+    (has_size Aes128CtsHmacSha196 key) (has_size Aes256CtsHmacSha196 key) e
+
+-- past a value that is there
+needed_is : {A T : Type 0} (option : Option A) (code : ℕ) (rest : A → Table (Result T ℕ)) (a : A) (r : Result T ℕ) → option ≡ Some a → (rest a).gives r
+    → (need {A = A} {T = T} option code rest).gives r
+needed_is {A} {T} option code rest a r e x = subst (λ (o : Option A). (need {A = A} {T = T} o code rest).gives r) (sym e) x
+
+time_rows : (early late : Bool) → early ≡ false → late ≡ false → (refuse {T = Unit {0}} {E = ℕ} early 33 (refuse late 32 (done (Ok tt)))).gives (Ok tt)
+time_rows early late e l = rw (e, l) refl
+
+told_rows : (version client : Bool) (moment : Option ℕ) (time : ℕ) → version ≡ true → client ≡ true → moment ≡ Some time
+    → (refuse {T = ℕ} {E = ℕ} (not version) 39 (refuse (not client) 36 (need moment 41 (λ (found : ℕ). done (Ok found))))).gives (Ok time)
+told_rows version client moment time v c m = rw (v, c, m) refl
+
+-- the authenticator that is sealed under the session key is opened
+opened_by : (key : EncryptionKey) (suite : CipherSuite) (sealed : EncryptedData) (authenticator : AuthenticatorInner) → suite_of key ≡ Some suite
+    → IsAuthenticator suite key.key_value.0 sealed authenticator → (opened key sealed).gives (Ok (suite, authenticator))
+opened_by key suite sealed authenticator session x =
+    needed_is (suite_of key) 31 (asked key sealed) suite (Ok (suite, authenticator)) session (inl (authenticator, x, refl))
+
+part_held : (entry : EntryRecord) (skew moment : ℕ) (choice : Choice) (part_cipher : List ℕ) → IsAcceptable entry skew moment choice
+    → Seals {T = EncTicketPartInner} enc_ticket_part_tree entry.key 2 choice.part_confounder choice.part part_cipher
+    → (valid_part entry.suite entry.key skew moment (encrypted choice.outer.part_etype choice.outer.part_kvno part_cipher)).gives (Ok choice.part)
+part_held entry skew moment choice part_cipher x sealed =
+    let own = own_suite enc_ticket_part_tree entry.suite entry.key 2 choice.part_confounder choice.part choice.outer.part_etype choice.outer.part_kvno part_cipher x.keyed x.part_etype sealed in
+    let timed = time_rows (is_early skew moment choice.part) (is_late skew moment choice.part) x.started x.lasts in
+    inl (choice.part, own, inl (tt, timed, refl))
+
+authenticator_held : (entry : EntryRecord) (skew moment : ℕ) (choice : Choice) (part_cipher cipher : List ℕ) (x : IsAcceptable entry skew moment choice)
+    → Seals {T = AuthenticatorInner} authenticator_tree choice.part.key.0.key_value.0 11 choice.confounder choice.authenticator cipher
+    → (valid_authenticator (request_of choice.outer part_cipher cipher) choice.part).gives (Ok (shown_by choice x.suite x.time))
+authenticator_held entry skew moment choice part_cipher cipher x sealed =
+    let own = own_suite authenticator_tree x.suite choice.part.key.0.key_value.0 11 choice.confounder choice.authenticator choice.outer.etype choice.outer.kvno cipher
+    (suite_sized choice.part.key.0 x.suite x.session) x.etype sealed in
+    let found = opened_by choice.part.key.0 x.suite (encrypted choice.outer.etype choice.outer.kvno cipher) choice.authenticator x.session own in
+    let timed = told_rows (is_number 5 choice.authenticator.authenticator_vno.0) (is_of_client choice.part choice.authenticator)
+    (moment_at (seconds_of choice.authenticator.ctime.0.0) choice.authenticator.cusec.0) x.time x.authenticator_version x.client x.told in
+    inl ((x.suite, choice.authenticator), found, inl (x.time, timed, refl))
+
+pub presented_as_chosen : (entry : EntryRecord) (skew moment : ℕ) (choice : Choice) (part_cipher cipher : List ℕ) (x : IsAcceptable entry skew moment choice)
+    → Seals {T = EncTicketPartInner} enc_ticket_part_tree entry.key 2 choice.part_confounder choice.part part_cipher
+    → Seals {T = AuthenticatorInner} authenticator_tree choice.part.key.0.key_value.0 11 choice.confounder choice.authenticator cipher
+    → (presented entry skew moment (request_of choice.outer part_cipher cipher)).gives (Ok (shown_by choice x.suite x.time))
+unfolding presented
+presented_as_chosen entry skew moment choice part_cipher cipher x part authenticator =
+    let address = is_addressed entry skew moment choice part_cipher cipher x in
+    inl (tt, address, inl (choice.part, part_held entry skew moment choice part_cipher x part, authenticator_held entry skew moment choice part_cipher cipher x authenticator))
+
+pub received_as_chosen : (entry : EntryRecord) (skew moment : ℕ) (choice : Choice) (bytes : List ℕ) (x : IsAcceptable entry skew moment choice) → Presents entry.key choice bytes
+    → Receives entry skew moment bytes (Ok (shown_by choice x.suite x.time))
+unfolding Receives
+received_as_chosen entry skew moment choice bytes x p =
+    (request_of choice.outer p.part_cipher p.cipher, p.writes, presented_as_chosen entry skew moment choice p.part_cipher p.cipher x p.part p.authenticator)

@@ -1,0 +1,207 @@
+-- What is received is a choice's that is acceptable: each row of the table is passed.
+use Rattle.std.proofs.Common.{◌≡◌, ℕ, Bool, true, false, not, ◌&&◌, List, length, Option, None, Some, Result, Ok, Err, refl, sym, ap, subst, ◌∙◌, inl, inr, arith}
+use Rattle.std.specs.Prelude.{ℤ}
+use Rattle.std.specs.Option.{option_map, option_map_or}
+use Rattle.picky_asn1_der.specs.declared.wrapper.ExplicitContextTag.{ExplicitContextTag}
+use Rattle.picky_asn1.specs.BitString.{bit_of}
+use Rattle.picky_asn1.specs.GeneralizedTime.{seconds_of}
+use Rattle.krb_crypto.specs.Suites.{cipher_key_size, cipher_number}
+use Rattle.krb_crypto.specs.declared.suite.CipherSuite.{CipherSuite}
+use Rattle.krb_crypto.specs.declared.suite.CipherSuite.TheVariants.{Aes128CtsHmacSha196, Aes256CtsHmacSha196}
+use Rattle.krb_types.specs.declared.data_types.authenticator.AuthenticatorInner.{AuthenticatorInner}
+use Rattle.krb_types.specs.declared.data_types.encrypted_data.EncryptedData.{EncryptedData}
+use Rattle.krb_types.specs.declared.data_types.encryption_key.EncryptionKey.{EncryptionKey}
+use Rattle.krb_types.specs.declared.data_types.enc_ticket_part.EncTicketPartInner.{EncTicketPartInner}
+use Rattle.picky_krb.specs.declared.messages.ap_req.ApReqInner.{ApReqInner}
+use Rattle.krb_opening.specs.Keys.{suite_of}
+use Rattle.krb_types.specs.Names.{components, is_same_name, is_same_realm}
+use Rattle.picky_asn1.specs.Numbers.{is_number}
+use Rattle.decision_tables.specs.Tables.{Table, done, need, refuse}
+use Rattle.krb_opening.specs.Sealed.{IsSealedIn}
+use Rattle.krb_moments.specs.Times.{moment_at}
+use Rattle.krb_ap.specs.Acceptable.{IsAcceptable, shown_by}
+use Rattle.krb_ap.specs.ApTable.{addressed, is_early, is_late, is_of_client, may_be_under, opened, presented, timely, told, valid_authenticator, valid_part}
+use Rattle.krb_ap.specs.Entry.{EntryRecord}
+use Rattle.picky_krb.specs.Messages.{IsApReq, authenticator_tree, enc_ticket_part_tree}
+use Rattle.krb_ap.specs.Messages.{IsAuthenticator, IsTicketPart}
+use Rattle.krb_ap.specs.Presents.{Choice, Presents, request_of}
+use Rattle.krb_ap.specs.Received.{Receives}
+use Rattle.krb_ap.specs.declared.presented.Presented.{Presented}
+use Rattle.krb_ap.proofs.Presentations.{outer_of}
+use Rattle.krb_ap.proofs.Shown.{asked, both, first_of_two, made_of, ok_same, past_address, request-outer, seals, shown_asked, shown_part, timed}
+
+-- what a request has that passes the rows of its own fields
+record IsPassed (method version ticket kind realm name number etype : Bool) : Type 0 where
+  method_is : method ≡ false
+  version_is : version ≡ true
+  ticket_is : ticket ≡ true
+  kind_is : kind ≡ true
+  realm_is : realm ≡ true
+  name_is : name ≡ true
+  number_is : number ≡ true
+  etype_is : etype ≡ true
+
+passed : (method version ticket kind realm name number etype : Bool)
+    → (refuse {T = Unit {0}} {E = ℕ} method 48 (refuse (not (version && ticket)) 39 (refuse (not kind) 40 (refuse (not (realm && name)) 35
+    (refuse (not number) 44 (refuse (not etype) 45 (done (Ok tt)))))))).gives (Ok tt)
+    → IsPassed method version ticket kind realm name number etype
+passed true version ticket kind realm name number etype x = absurd (cc (x))
+passed false false ticket kind realm name number etype x = absurd (cc (x))
+passed false true false kind realm name number etype x = absurd (cc (x))
+passed false true true false realm name number etype x = absurd (cc (x))
+passed false true true true false name number etype x = absurd (cc (x))
+passed false true true true true false number etype x = absurd (cc (x))
+passed false true true true true true false etype x = absurd (cc (x))
+passed false true true true true true true false x = absurd (cc (x))
+passed false true true true true true true true x =
+    record { method_is = refl; version_is = refl; ticket_is = refl; kind_is = refl; realm_is = refl; name_is = refl; number_is = refl; etype_is = refl }
+
+on_time : (early late : Bool) → (refuse {T = Unit {0}} {E = ℕ} early 33 (refuse late 32 (done (Ok tt)))).gives (Ok tt) → (early ≡ false) × (late ≡ false)
+on_time true late x = absurd (cc (x))
+on_time false true x = absurd (cc (x))
+on_time false false x = (refl, refl)
+
+told_so : (version client : Bool) (moment : Option ℕ) (time : ℕ)
+    → (refuse {T = ℕ} {E = ℕ} (not version) 39 (refuse (not client) 36 (need moment 41 (λ (found : ℕ). done (Ok found))))).gives (Ok time)
+    → (version ≡ true) × (client ≡ true) × (moment ≡ Some time)
+told_so false client moment time x = absurd (cc (x))
+told_so true false moment time x = absurd (cc (x))
+told_so true true None time x = absurd (cc (x))
+told_so true true (Some found) time x = (refl, refl, ap Some (sym (ok_same time found x)))
+
+needed : {A T : Type 0} (option : Option A) (code : ℕ) (rest : A → Table (Result T ℕ)) (value : T) → (need {A = A} {T = T} option code rest).gives (Ok value)
+    → (a : A) × (option ≡ Some a) × (rest a).gives (Ok value)
+needed None code rest value x = absurd (cc (x))
+needed (Some a) code rest value x = (a, refl, x)
+
+-- a key's number by its tagged form
+number_under : (number : ℕ) (kvno : Option (ExplicitContextTag 1 ℤ))
+    → option_map_or (is_number number) (option_map (λ (tagged : ExplicitContextTag 1 ℤ). tagged.0) kvno) true
+    ≡ option_map_or (λ (tagged : ExplicitContextTag 1 ℤ). is_number number tagged.0) kvno true
+number_under number None = refl
+number_under number (Some tagged) = refl
+
+-- what a suite's number names has one size of keys
+one_size : (s t : CipherSuite) → cipher_number s ≡ cipher_number t → cipher_key_size s ≡ cipher_key_size t
+one_size Aes128CtsHmacSha196 Aes128CtsHmacSha196 e = refl
+one_size Aes128CtsHmacSha196 Aes256CtsHmacSha196 e = absurd (omega (arith, e))
+one_size Aes256CtsHmacSha196 Aes128CtsHmacSha196 e = absurd (omega (arith, e))
+one_size Aes256CtsHmacSha196 Aes256CtsHmacSha196 e = refl
+
+part_times : (entry : EntryRecord) (skew moment : ℕ) (sealed : EncryptedData) (part : EncTicketPartInner)
+    → (valid_part entry.suite entry.key skew moment sealed).gives (Ok part) → (is_early skew moment part ≡ false) × (is_late skew moment part ≡ false)
+part_times entry skew moment sealed part x =
+    let own = first_of_two part 31 x in
+    let kept = both {A = Unit {0}} (timely skew moment own.0) (λ _. done (Ok own.0)) part own.2 in
+    let same : part ≡ own.0 = ok_same part own.0 kept.2 in
+    let mine = on_time (is_early skew moment own.0) (is_late skew moment own.0) kept.1 in
+    subst (λ (q : EncTicketPartInner). (is_early skew moment q ≡ false) × (is_late skew moment q ≡ false)) (sym same) mine
+
+session_suite : (key : EncryptionKey) (sealed : EncryptedData) (found : CipherSuite × AuthenticatorInner) → (opened key sealed).gives (Ok found)
+    → (suite_of key ≡ Some found.0) × IsAuthenticator found.0 key.key_value.0 sealed found.1
+session_suite key sealed found x =
+    let by = needed (suite_of key) 31 (asked key sealed) found x in
+    let own = first_of_two found 31 by.2 in
+    let mine : CipherSuite × AuthenticatorInner = (by.0, own.0) in
+    let same : found ≡ mine = ok_same found mine own.2 in
+    (subst (λ (f : CipherSuite × AuthenticatorInner). suite_of key ≡ Some f.0) (sym same) by.1, shown_asked key sealed by.0 found by.2)
+
+-- an acceptable choice that presents the bytes, and shows this
+pub record IsReceivedOf (entry : EntryRecord) (skew moment : ℕ) (bytes : List ℕ) (p : Presented) : Type 0 where
+  pub choice : Choice
+  pub presents : Presents entry.key choice bytes
+  pub acceptable : IsAcceptable entry skew moment choice
+  pub shown : p ≡ shown_by choice acceptable.suite acceptable.time
+
+-- what the authenticator's part of the table passed
+record IsOpenedSo (request : ApReqInner) (part : EncTicketPartInner) (p : Presented) : Type 0 where
+  suite : CipherSuite
+  authenticator : AuthenticatorInner
+  time : ℕ
+  session : suite_of part.key.0 ≡ Some suite
+  sealed : IsAuthenticator suite part.key.0.key_value.0 request.authenticator.0 authenticator
+  version : is_number 5 authenticator.authenticator_vno.0 ≡ true
+  client : is_of_client part authenticator ≡ true
+  moment : moment_at (seconds_of authenticator.ctime.0.0) authenticator.cusec.0 ≡ Some time
+  made : p ≡ made_of request part (suite, authenticator) time
+
+opened_so : (request : ApReqInner) (part : EncTicketPartInner) (p : Presented) → (valid_authenticator request part).gives (Ok p) → IsOpenedSo request part p
+opened_so request part p x =
+    let own = both (opened part.key.0 request.authenticator.0) (timed request part) p x in
+    let last = both (told part own.0.1) (λ time. done (Ok (made_of request part own.0 time))) p own.2 in
+    let found = session_suite part.key.0 request.authenticator.0 own.0 own.1 in
+    let rows = told_so (is_number 5 own.0.1.authenticator_vno.0) (is_of_client part own.0.1) (moment_at (seconds_of own.0.1.ctime.0.0) own.0.1.cusec.0) last.0 last.1 in
+    record {
+      suite = own.0.0;
+      authenticator = own.0.1;
+      time = last.0;
+      session = found.0;
+      sealed = found.1;
+      version = rows.0;
+      client = rows.1;
+      moment = rows.2;
+      made = ok_same p (made_of request part own.0 last.0) last.2;
+    }
+
+chosen_of : (entry : EntryRecord) (skew moment : ℕ) (bytes : List ℕ) (request : ApReqInner) (part : EncTicketPartInner) (p : Presented) → IsApReq bytes request
+    → (addressed entry.realm entry.components entry.suite entry.number request).gives (Ok tt)
+    → (valid_part entry.suite entry.key skew moment request.ticket.0.0.enc_part.0).gives (Ok part)
+    → IsOpenedSo request part p → IsReceivedOf entry skew moment bytes p
+chosen_of entry skew moment bytes request part p found address valid x =
+    let rows = passed (bit_of request.ap_options.0 1) (is_number 5 request.pvno.0) (is_number 5 request.ticket.0.0.tkt_vno.0) (is_number 14 request.msg_type.0)
+    (is_same_realm request.ticket.0.0.realm.0 entry.realm) (is_same_name (components request.ticket.0.0.sname.0) entry.components)
+    (may_be_under entry.number request.ticket.0.0.enc_part.0) (is_number (cipher_number entry.suite) request.ticket.0.0.enc_part.0.etype.0) address in
+    let sealed = shown_part entry skew moment request.ticket.0.0.enc_part.0 part valid in
+    let times = part_times entry skew moment request.ticket.0.0.enc_part.0 part valid in
+    record {
+      choice = record {
+        outer = outer_of request;
+        part = part;
+        part_confounder = sealed.opens.conf;
+        authenticator = x.authenticator;
+        confounder = x.sealed.opens.conf;
+      };
+      presents = record {
+        part_cipher = request.ticket.0.0.enc_part.0.cipher.0;
+        cipher = request.authenticator.0.cipher.0;
+        writes = subst (λ (r : ApReqInner). IsApReq bytes r) (sym (request-outer request)) found;
+        part = seals enc_ticket_part_tree entry.suite entry.key 2 request.ticket.0.0.enc_part.0 part sealed;
+        authenticator = seals authenticator_tree x.suite part.key.0.key_value.0 11 request.authenticator.0 x.authenticator x.sealed;
+      };
+      acceptable = record {
+        keyed = sealed.opens.sealed.2.key_sized ∙ one_size sealed.opens.sealed.0 entry.suite sealed.opens.sealed.1;
+        method = rows.method_is;
+        version = rows.version_is;
+        ticket_version = rows.ticket_is;
+        kind = rows.kind_is;
+        realm = rows.realm_is;
+        name = rows.name_is;
+        number = number_under entry.number request.ticket.0.0.enc_part.0.kvno.0 ∙ rows.number_is;
+        part_etype = rows.etype_is;
+        started = times.0;
+        lasts = times.1;
+        suite = x.suite;
+        session = x.session;
+        etype = x.sealed.numbered;
+        authenticator_version = x.version;
+        client = x.client;
+        time = x.time;
+        told = x.moment;
+      };
+      shown = x.made;
+    }
+
+pub chosen_as_received : (entry : EntryRecord) (skew moment : ℕ) (bytes : List ℕ) (request : ApReqInner) (p : Presented) → IsApReq bytes request
+    → (presented entry skew moment request).gives (Ok p) → IsReceivedOf entry skew moment bytes p
+unfolding presented
+chosen_as_received entry skew moment bytes request p found x =
+    let address = both {A = Unit {0}} (addressed entry.realm entry.components entry.suite entry.number request) (λ _. past_address entry skew moment request) p x in
+    let ticket = both (valid_part entry.suite entry.key skew moment request.ticket.0.0.enc_part.0) (λ part. valid_authenticator request part) p address.2 in
+    chosen_of entry skew moment bytes request ticket.0 p found address.1 ticket.1 (opened_so request ticket.0 p ticket.2)
+
+-- by the bytes alone
+pub received_is_chosen : (entry : EntryRecord) (skew moment : ℕ) (bytes : List ℕ) (p : Presented) → Receives entry skew moment bytes (Ok p)
+    → (choice : Choice) × Presents entry.key choice bytes × (x : IsAcceptable entry skew moment choice) × (p ≡ shown_by choice x.suite x.time)
+unfolding Receives
+received_is_chosen entry skew moment bytes p x =
+    let by = chosen_as_received entry skew moment bytes x.0 p x.1 x.2 in (by.choice, by.presents, by.acceptable, by.shown)
