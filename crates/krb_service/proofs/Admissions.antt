@@ -16,7 +16,7 @@ use Rattle.krb_service.specs.RememberingService.{Outcome, judged, outcome_of, re
 use Rattle.krb_service.specs.Service.{ServiceRecord}
 
 -- an admission tells of what was presented
-abbrev replied : List ℕ → Presented → PairRecord → Table (Result Admitted ℕ)
+abbrev pub replied : List ℕ → Presented → PairRecord → Table (Result Admitted ℕ)
 replied words p pair =
     make (IsReplyTo p words) (sole_reply_to p words) (λ reply. done (Ok (record { admission = admission_of p reply; pair = pair })))
 
@@ -38,7 +38,7 @@ admission_made admitted after admission (Ok made) e = let same = ap (λ (o : Out
 admission_made admitted after admission (Err code) e = let same = ap (λ (o : Outcome). o.0) e in absurd (cc (same))
 
 -- it tells client and keys as they were chosen
-told_of : (choice : Choice) (p : Presented) (reply : Option (List ℕ)) (admission : AdmissionRecord) → admission ≡ admission_of p reply → p.part ≡ choice.part
+pub told_of : (choice : Choice) (p : Presented) (reply : Option (List ℕ)) (admission : AdmissionRecord) → admission ≡ admission_of p reply → p.part ≡ choice.part
     → p.authenticator ≡ choice.authenticator → TellsOf choice admission
 told_of choice p reply admission whole part authenticator = record {
   realm = ap (λ (a : AdmissionRecord). a.realm) whole ∙ ap (λ (q : EncTicketPartInner). q.crealm.0) part;

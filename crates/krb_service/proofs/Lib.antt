@@ -1,3 +1,4 @@
 pub mod NewPairs
 pub mod Steps
 pub mod Admissions
+pub mod Admitting

@@ -1,3 +1,4 @@
 pub mod Service
 pub mod Once
 pub mod RememberingService
+pub mod Admissible

@@ -73,6 +73,14 @@ impl Service {
         })
     }
 
+    /// What the service holds is the window of a list of admitted pairs: of those that it holds. It does nothing when it
+    /// runs, and tells it of a service that a caller was handed.
+    pub fn holds_window(&self)
+        ensures { IsWindow self.now.seen self.now.seen.held }
+    {
+        self.seen.holds_window()
+    }
+
     /// Admits an AP request at a moment, or refuses it (RFC 4120, section 3.2.3). The greatest moment that was ever
     /// handed in judges it, and of the random bytes the first 16 count, where a reply is asked for.
     ///
