@@ -1,2 +1,4 @@
 pub mod Errors
 pub mod Involved
+pub mod Seconds
+pub mod HasReply

@@ -3,3 +3,4 @@ pub mod Grants
 pub mod AsTable
 pub mod Replies
 pub mod Involved
+pub mod Calls

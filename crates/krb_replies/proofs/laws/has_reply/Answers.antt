@@ -1,0 +1,5 @@
+use Rattle.krb_replies.proofs.HasReply.{has_reply}
+use Rattle.krb_replies.proofs.laws.has_reply.Goals as goal
+
+pub returns : goal.returns
+returns c = has_reply
