@@ -1,6 +1,9 @@
 //! What holds of every realm and of every service. Each is a function that does nothing when it runs: its contract is the
 //! law.
 
-pub use krb_ap::laws::one_presentation;
-pub use krb_replies::laws::{of_involved_alone, one_reply};
-pub use krb_service::laws::{admitted_as_presented, one_outcome};
+pub use krb_ap::laws::{has_judgement, has_reply_to, one_presentation, received_as_chosen};
+pub use krb_crypto::laws::has_sealed;
+pub use krb_replies::laws::{has_reply, of_involved_alone, one_reply};
+pub use krb_service::laws::{
+    admissible_if_admitted, admitted_as_presented, admitted_if_presented, has_outcome, one_outcome,
+};
