@@ -14,7 +14,8 @@ use Rattle.krb_crypto.proofs.SealedTexts.{has_sealed}
 use Rattle.krb_types.specs.declared.data_types.authenticator.AuthenticatorInner.{AuthenticatorInner}
 use Rattle.krb_moments.specs.Times.{moment_at}
 use Rattle.krb_ap.specs.Acceptable.{IsAcceptable, shown_by}
-use Rattle.krb_ap.specs.ApReply.{IsApRep, IsReply, IsReplyTo, ap_rep_of, ap_rep_part, encrypted_by}
+use Rattle.krb_sealing.specs.Sealing.{encrypted_by}
+use Rattle.krb_ap.specs.ApReply.{IsReply, IsReplyTo, ap_rep_of, ap_rep_part}
 use Rattle.krb_ap.specs.Entry.{EntryRecord}
 use Rattle.picky_krb.specs.Messages.{enc_ap_rep_part_tree, ap_rep_tree}
 use Rattle.krb_ap.specs.Presents.{Choice}
@@ -39,7 +40,8 @@ has_wanted : (wanted : Bool) (words : List ℕ) (suite : CipherSuite) (key : Lis
 has_wanted false words suite key authenticator sized key_bytes long words_bytes part = (None, refl)
 has_wanted true words suite key authenticator sized key_bytes long words_bytes part =
     let made = has_sealed suite key 12 (take 16 words) (der (enc_ap_rep_part_tree (ap_rep_part authenticator))) sized key_bytes (first_block suite words long) (IsBytes-take 16 words words_bytes) part in
-    (Some (der (ap_rep_tree (ap_rep_of (encrypted_by suite made.0)))), record { cipher = made.0; sealed = made.1; encoding = refl })
+    let part = encrypted_by suite None made.0 in
+    (Some (der (ap_rep_tree (ap_rep_of part))), record { part = part; sealed = record { cipher = made.0; seals = made.1; told = refl }; encoding = refl })
 
 pub has_reply_to : (entry : EntryRecord) (skew moment : ℕ) (choice : Choice) (words : List ℕ) (x : IsAcceptable entry skew moment choice)
     → IsBytes choice.part.key.0.key_value.0 → 16 ≤ length words → IsBytes words → (reply : Option (List ℕ)) × IsReplyTo (shown_by choice x.suite x.time) words reply

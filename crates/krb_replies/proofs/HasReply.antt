@@ -29,7 +29,8 @@ use Rattle.decision_tables.proofs.Outcomes.{HasOutcome, has_asked, has_done, has
 use Rattle.krb_preauth.specs.Entries.{first_of}
 use Rattle.krb_preauth.specs.Stamps.{IsStamp, moment_of, sole_stamp}
 use Rattle.krb_tickets.specs.declared.grant.Grant.{Grant}
-use Rattle.krb_tickets.specs.Parts.{as_reply_of, encrypted_by, reply_part, ticket_of, ticket_part}
+use Rattle.krb_sealing.specs.Sealing.{encrypted_by}
+use Rattle.krb_tickets.specs.Parts.{as_reply_of, reply_part, ticket_of, ticket_part}
 use Rattle.krb_tickets.specs.Sealed.{IsSealedData, as_reply_bytes, as_reply_part_bytes, ticket_part_bytes}
 use Rattle.krb_tickets.specs.Times.{end_of, no_end, last_second, start_of}
 use Rattle.krb_grants.specs.Granted.{IsAsReply, reply_confounder, sole_as_reply, ticket_confounder}
@@ -51,7 +52,7 @@ has_data : (account : AccountRecord) (usage from : ℕ) (words plain : List ℕ)
 has_data account usage from words plain key long words_bytes plain_bytes =
     let made = has_sealed account.suite account.key usage (take 16 (drop from words)) plain key.sized key.bytes (block_of account.suite from words long)
     (IsBytes-take 16 (drop from words) (IsBytes-drop from words words_bytes)) plain_bytes in
-    (encrypted_by account made.0, record { cipher = made.0; sealed = made.1; numbered = refl })
+    (encrypted_by account.suite (Some account.number) made.0, record { cipher = made.0; seals = made.1; told = refl })
 
 has_grant : (grant : Grant) (client service : AccountRecord) (words : List ℕ) → IsKeyed client → IsKeyed service → 128 ≤ length words → IsBytes words → IsWritten grant
     → (bytes : List ℕ) × IsAsReply grant client service words bytes
