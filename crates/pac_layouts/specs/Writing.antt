@@ -1,13 +1,14 @@
 -- How a PAC is written.
-use Rattle.std.specs.Prelude.{◌≡◌, ℕ, ◌+◌, ◌*◌, ◌/◌, ◌≤◌, ◌&&◌, Bool, List, [], ◌∷◌, length, map, replicate, Option, Result, Ok, Err, nat_eq, nat_le, nat_lt, if◌then◌else◌, ◌⊎◌}
+use Rattle.std.specs.Prelude.{◌≡◌, ℕ, ◌+◌, ◌-◌, ◌*◌, ◌/◌, ◌≤◌, ◌&&◌, Bool, List, [], ◌∷◌, length, map, replicate, Option, Result, Ok, Err, nat_eq, nat_le, nat_lt, if◌then◌else◌, ◌⊎◌}
 use Rattle.std.specs.List.{list_all}
 use Rattle.std.specs.declared.io.ErrorKind.{ErrorKind}
+use Rattle.std.specs.declared.io.ErrorKind.TheVariants.{WriteZero}
 use Rattle.byte_layouts.specs.Parts.{Part, part, put_all, AreAllApart}
-use Rattle.pac_layouts.specs.Buffers.{Buffer, pac_parts}
+use Rattle.pac_layouts.specs.Buffers.{Buffer, one_buffer_parts, pac_parts}
 use Rattle.pac_layouts.specs.Faults.{IsWriteFault}
 use Rattle.pac_layouts.specs.Reading.{and_then}
 use Rattle.pac_layouts.specs.declared.error.PacError.{PacError}
-use Rattle.pac_layouts.specs.declared.error.PacError.TheVariants.{InvalidRange, Memory}
+use Rattle.pac_layouts.specs.declared.error.PacError.TheVariants.{IoError, InvalidRange, Memory}
 
 -- a row, and its size rounded up to 8
 abbrev pub room_of : Buffer → ℕ
@@ -54,3 +55,9 @@ pub record ArePlaced (bs : List Buffer) : Type 0 where
 abbrev pub IsWriteRefusal : List Buffer → ℕ → ℕ → Option ErrorKind → PacError → Type 0
 IsWriteRefusal bs old new last fault =
     ((new ≡ old) × ((fault ≡ Memory) ⊎ (pac_written bs ≡ Err fault))) ⊎ IsWriteFault old new last fault
+
+-- the bytes with one buffer put into them, its row at this place; or that the row ends past them, or the content does or isn't of its size
+abbrev pub buffer_put : ℕ → Buffer → List ℕ → Result (List ℕ) PacError
+buffer_put place b whole =
+    if nat_lt (length whole - place) 16 then Err (IoError WriteZero)
+    else if is_sized (length whole) b then Ok (put_all (one_buffer_parts place b) whole) else Err InvalidRange

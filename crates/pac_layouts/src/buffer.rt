@@ -1,8 +1,8 @@
 //! A buffer of a PAC: its row and its content.
-ghost use Rattle.std.specs.Prelude.{◌≡◌, ◌+◌, ◌≤◌, length, IfOk, MatchResult};
+ghost use Rattle.std.specs.Prelude.{◌≡◌, ◌+◌, ◌≤◌, length, None, Ok, Err, IfOk, IfErr, MatchResult};
 ghost use Rattle.byte_layouts.specs.Parts.{put_all};
 ghost use Rattle.pac_layouts.specs.Buffers.{buffer_of, one_buffer_parts, IsSized};
-ghost use Rattle.pac_layouts.specs.Writing.{room_of, is_sized};
+ghost use Rattle.pac_layouts.specs.Writing.{room_of, is_sized, buffer_put};
 ghost use Rattle.pac_layouts.specs.Reading.{Gives, content_at, buffer_at};
 
 use crate::error::range_fault;
@@ -64,6 +64,41 @@ impl PacBuffer {
         ensures { result.now ≡ (buffer_of self.now).content }
     {
         &self.data
+    }
+
+    /// Reads the buffer whose row stands at `place`, which moves past the row. Where it is refused, `place` stays.
+    pub fn deserialize(
+        alloc: Global,
+        bytes: &[u8],
+        place: &mut usize,
+    ) -> Result<PacBuffer, PacError>
+        ensures exact { Gives buffer_of result (buffer_at None place.old bytes.now) }
+        ensures moved { MatchResult result (λ _. place.new ≡ place.old + 16) (λ _. place.new ≡ place.old) }
+    {
+        let buffer = PacBuffer::read(alloc, bytes, *place, None)?;
+        *place += INFO_LEN;
+        Ok(buffer)
+    }
+
+    /// Writes the row to `place`, which moves past it, and the content to the row's offset. Where it is refused, nothing
+    /// is written: IoError where the row has no room, and InvalidRange where the content isn't of the row's size or ends
+    /// past the bytes.
+    pub fn serialize(&self, bytes: &mut [u8], place: &mut usize) -> Result<(), PacError>
+        ensures exact { MatchResult result
+            (λ _. buffer_put place.old (buffer_of self.now) bytes.old ≡ Ok bytes.new)
+            (λ e. buffer_put place.old (buffer_of self.now) bytes.old ≡ Err e) }
+        ensures moved { MatchResult result (λ _. place.new ≡ place.old + 16) (λ _. place.new ≡ place.old) }
+        ensures unchanged { IfErr result (λ _. bytes.new ≡ bytes.old) }
+    {
+        if bytes.len().saturating_sub(*place) < INFO_LEN {
+            return Err(PacError::IoError(ErrorKind::WriteZero));
+        }
+        if !self.is_sized(bytes.len()) {
+            return Err(PacError::InvalidRange);
+        }
+        self.put(bytes, *place);
+        *place += INFO_LEN;
+        Ok(())
     }
 
     // The buffer whose row stands at `place`.
