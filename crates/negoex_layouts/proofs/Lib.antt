@@ -1,0 +1,4 @@
+pub mod ElementsPut
+pub mod ElementsRead
+pub mod MessageLaws
+pub mod PairPut

@@ -1,0 +1,48 @@
+-- Whole messages: the header, what fills it up, and the payload (MS-NEGOEX, section 2.2.6).
+use Rattle.std.specs.Prelude.{◌≡◌, ℕ, ◌+◌, ◌⊎◌, List, ◌++◌, length, take, Ok, Option, MatchResult}
+use Rattle.std.specs.declared.io.ErrorKind.{ErrorKind}
+use Rattle.std.specs.declared.io.ErrorKind.TheVariants.{WriteZero, OutOfMemory}
+use Rattle.devices.specs.Whole.{after_whole_fault}
+use Rattle.devices.specs.Faults.{TellsWholeFault}
+use Rattle.devices.specs.declared.exact.WholeFault.{WholeFault}
+use Rattle.devices.specs.declared.exact.WholeFault.TheVariants as whole_fault
+use Rattle.negoex_layouts.specs.Form.{Layout, Answer, IsWithin, IsTooLong}
+
+-- the value stands in the message: its header in front, and its payload where the header says
+abbrev pub IsMessage : {V : Type 0} → Layout V → V → List ℕ → Type 0
+IsMessage l v whole = l.IsLaid v (take l.width whole) whole
+
+-- the bytes of a message whose payload is said to begin at o
+abbrev pub message_bytes : {V : Type 0} → Layout V → List ℕ → V → ℕ → List ℕ
+message_bytes l filler v o = l.head v o ++ (filler ++ l.body v o)
+
+-- the offset is where the payload begins
+abbrev pub IsTrueOffset : {V : Type 0} → Layout V → List ℕ → ℕ → Type 0
+IsTrueOffset l filler o = o ≡ l.width + length filler
+
+-- what a write that stopped is answered by
+abbrev pub stop_kind : WholeFault → ErrorKind
+stop_kind whole_fault.Full = WriteZero
+stop_kind (whole_fault.Failed kind) = kind
+stop_kind whole_fault.Memory = OutOfMemory
+
+-- a write stopped with this fault, and the device counted it and tells its kind
+pub record IsWriteStop (old new : ℕ) (last : Option ErrorKind) (kind : ErrorKind) : Type 0 where
+  pub stop : WholeFault
+  pub answered : kind ≡ stop_kind stop
+  pub counted : new ≡ after_whole_fault old stop
+  pub told : TellsWholeFault last stop
+
+-- memory was wanting or the payload ends past 32 bits, and no write failed; or a write stopped
+abbrev pub IsEncodeStop : ℕ → ℕ → ℕ → ℕ → Option ErrorKind → ErrorKind → Type 0
+IsEncodeStop o n old new last kind = (IsTooLong o n kind × (new ≡ old)) ⊎ IsWriteStop old new last kind
+
+-- memory aside
+abbrev pub GivesBack : {T V : Type 0} → (T → V) → V → Answer T → Type 0
+GivesBack view v result = MatchResult result (λ t. view t ≡ v) (λ e. e ≡ OutOfMemory)
+
+-- what is written is read: with numbers that fit their fields, the offset where the payload begins, and an end within 32 bits
+abbrev pub WrittenIsRead : {V : Type 0} → Layout V → List ℕ → Type 0
+WrittenIsRead {V} l filler =
+    (v : V) (o : ℕ) → l.Fits v → IsTrueOffset l filler o → IsWithin o (l.payload v)
+    → l.read (take l.width (message_bytes l filler v o)) (message_bytes l filler v o) ≡ Ok v

@@ -1,0 +1,124 @@
+//! A token of a scheme (MS-NEGOEX, section 2.2.6.4).
+ghost use Rattle.std.specs.Prelude.{◌≡◌};
+
+use crate::bytes::place_behind;
+use crate::fields::NEGOEXTS_MESSAGE_SIGNATURE;
+use crate::header::MessageHeader;
+use crate::laid::{Laid, Wide};
+use crate::leaves::{AuthScheme, ConversationId};
+use crate::message::NegoexMessage;
+use crate::message_type::MessageType;
+use crate::pairs::put_both;
+use std::alloc::Global;
+use std::io::ErrorKind;
+
+/// A token of a scheme, or what it tells before the exchange.
+#[derive(Debug, Drop, PartialEq, Eq)]
+pub struct Exchange {
+    /// What the message begins with.
+    pub header: MessageHeader,
+    /// The scheme.
+    pub auth_scheme: AuthScheme,
+    /// The token.
+    pub exchange: Vec<u8>,
+}
+
+impl Exchange {
+    ghost use Rattle.std.specs.Prelude.{◌+◌, ◌^◌, ◌≤◌, length, MatchResult};
+    ghost use Rattle.std.specs.declared.io.ErrorKind.{ErrorKind};
+
+    /// A message of this scheme, with its true lengths; `InvalidInput` where it has 2^32 bytes or more.
+    pub fn new(
+        message_type: MessageType,
+        conversation_id: ConversationId,
+        sequence_num: u32,
+        auth_scheme: AuthScheme,
+        exchange: Vec<u8>,
+    ) -> Result<Exchange, ErrorKind>
+        ensures { MatchResult result
+            (λ m. m ≡ record {
+              header = record {
+                signature = 6004521257897772366;
+                message_type = message_type;
+                sequence_num = sequence_num;
+                header_len = 64;
+                message_len = 64 + length exchange.items;
+                conversation_id = conversation_id;
+              };
+              auth_scheme = auth_scheme;
+              exchange = exchange;
+            })
+            (λ e. (e ≡ ErrorKind.InvalidInput) × (2 ^ 32 ≤ 64 + length exchange.items)) }
+    {
+        let message_len = place_behind(64, exchange.len(), 1)? as u32;
+        Ok(Exchange {
+            header: MessageHeader {
+                signature: NEGOEXTS_MESSAGE_SIGNATURE,
+                message_type,
+                sequence_num,
+                header_len: 64,
+                message_len,
+                conversation_id,
+            },
+            auth_scheme,
+            exchange,
+        })
+    }
+}
+
+impl Laid for Exchange {
+    ghost use Rattle.std.specs.Prelude.{map};
+    ghost use Rattle.negoex_layouts.specs.Structs.{ExchangeValue, exchange_layout};
+    ghost use Rattle.negoex_layouts.specs.StructLaws.{exchange_laws};
+
+    ghost Value = { ExchangeValue };
+
+    ghost view = { λ e. ((⟦<MessageHeader as Laid>⟧.view e.header, e.auth_scheme), map (λ b. b) e.exchange.items) };
+
+    ghost layout = { exchange_layout };
+
+    ghost laws = { exchange_laws };
+
+    fn from_header(alloc: Global, header: &[u8], message: &[u8]) -> Result<Self, ErrorKind> {
+        let ((header, auth_scheme), exchange): ((MessageHeader, AuthScheme), Vec<u8>) =
+            Laid::from_header(alloc, header, message)?;
+        Ok(Exchange {
+            header,
+            auth_scheme,
+            exchange,
+        })
+    }
+
+    fn put(
+        &self,
+        alloc: Global,
+        offset: usize,
+        header: &mut Vec<u8>,
+        payload: &mut Vec<u8>,
+    ) -> Result<(), ErrorKind> {
+        let fields = (self.header, self.auth_scheme);
+        put_both(alloc, &fields, &self.exchange, offset, header, payload)
+    }
+}
+
+impl Wide for Exchange {
+    fn width() -> usize {
+        64
+    }
+}
+
+impl NegoexMessage for Exchange {
+    ghost use Rattle.std.specs.Prelude.{[]};
+
+    ghost filler = { [] };
+
+    ghost offset = { λ e. e.header.header_len };
+
+    fn filling() -> &'static [u8] {
+        &[]
+    }
+
+    fn payload_offset(&self) -> usize {
+        self.header.header_len as usize
+    }
+}

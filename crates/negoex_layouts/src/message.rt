@@ -1,0 +1,95 @@
+//! Whole messages, written and read.
+ghost use Rattle.std.specs.Prelude.{◌≡◌, ℕ, List, take, Ok, IfOk, IfErr, MatchResult};
+ghost use Rattle.std.specs.Io.KnownBytes.{Appends};
+ghost use Rattle.negoex_layouts.specs.Form.{Answers, IsWithin, IsTooLong};
+ghost use Rattle.negoex_layouts.specs.Messages.{IsMessage, message_bytes, IsTrueOffset, stop_kind, IsEncodeStop, GivesBack, WrittenIsRead};
+
+use crate::bytes::{extend, front_of};
+use crate::laid::{Laid, Wide};
+use devices::{Sink, WholeFault, write_whole};
+use std::alloc::Global;
+use std::io::ErrorKind;
+
+// What a write that stopped is answered by.
+pub(crate) fn stopped(fault: WholeFault) -> ErrorKind
+    ensures { result ≡ stop_kind fault }
+{
+    match fault {
+        WholeFault::Full => ErrorKind::WriteZero,
+        WholeFault::Failed(kind) => kind,
+        WholeFault::Memory => ErrorKind::OutOfMemory,
+    }
+}
+
+/// A message of NEGOEX.
+pub trait NegoexMessage: Wide {
+    // What stands between header and payload.
+    ghost filler: { List ℕ };
+
+    // The offset of the payload, which is the header's own length field.
+    ghost offset: { Self → ℕ };
+
+    /// The bytes between header and payload.
+    fn filling() -> &'static [u8]
+        ensures { result.now ≡ filler };
+
+    /// The offset of the payload. It isn't compared with the header's size.
+    fn payload_offset(&self) -> usize
+        ensures { result ≡ offset self.now };
+
+    /// Reads a message. What nothing points to, and what stands behind, isn't judged.
+    ///
+    /// Answered is what comes first in the order in which the fields stand, each element of a vector with all that it
+    /// points to: `InvalidData` for a wrong signature, message type or offset past the message, `InvalidInput` for a
+    /// wrong checksum scheme, `UnexpectedEof` for bytes that end before; or `OutOfMemory`.
+    fn decode(alloc: Global, message: &[u8]) -> Result<Self, ErrorKind>
+        ensures found { IfOk result (λ m. IsMessage Self.layout (Self.view m) message.now) }
+        ensures only { (v : Self.Value) → Self.layout.Fits v → IsMessage Self.layout v message.now → GivesBack Self.view v result }
+        ensures exact { Answers Self.view (Self.layout.read (take Self.layout.width message.now) message.now) result }
+    {
+        Self::from_header(alloc, front_of(message, Self::width()), message)
+    }
+
+    /// The message's bytes; `InvalidInput` where the payload ends past 32 bits.
+    fn to_bytes(&self, alloc: Global) -> Result<Vec<u8>, ErrorKind>
+        ensures exact { MatchResult result
+            (λ bytes. bytes.items ≡ message_bytes Self.layout filler (Self.view self.now) (offset self.now))
+            (IsTooLong (offset self.now) (Self.layout.payload (Self.view self.now))) }
+        ensures laid { IfOk result (λ bytes. IsTrueOffset Self.layout filler (offset self.now)
+            → IsMessage Self.layout (Self.view self.now) bytes.items) }
+    {
+        let mut bytes = Vec::new(alloc);
+        let mut payload = Vec::new(alloc);
+        self.put(alloc, self.payload_offset(), &mut bytes, &mut payload)?;
+        extend(&mut bytes, Self::filling())?;
+        extend(&mut bytes, &payload)?;
+        Ok(bytes)
+    }
+
+    /// Writes the message; a front of it where the writer stops.
+    fn encode<W: Sink>(&self, alloc: Global, to: &mut W) -> Result<(), ErrorKind>
+        ensures written { MatchResult result
+            (λ _. Appends (W.written to.old) (W.written to.new) (message_bytes Self.layout filler (Self.view self.now) (offset self.now)))
+            (λ _. (n : ℕ) × Appends (W.written to.old) (W.written to.new)
+            (take n (message_bytes Self.layout filler (Self.view self.now) (offset self.now)))) }
+        ensures laid { IfOk result (λ _. IsTrueOffset Self.layout filler (offset self.now)
+            → IsMessage Self.layout (Self.view self.now) (message_bytes Self.layout filler (Self.view self.now) (offset self.now))) }
+        ensures fault { MatchResult result (λ _. W.failed to.new ≡ W.failed to.old)
+            (IsEncodeStop (offset self.now) (Self.layout.payload (Self.view self.now)) (W.failed to.old) (W.failed to.new) (W.last_fault to.new)) }
+        ensures same { W.through to.new ≡ W.through to.old }
+    {
+        let bytes = self.to_bytes(alloc)?;
+        match write_whole(to, &bytes) {
+            Ok(()) => Ok(()),
+            Err(fault) => Err(stopped(fault)),
+        }
+    }
+}
+
+/// The law that a message that was written is read again. It does nothing.
+///
+/// Its conditions: numbers fit their fields, and signature and checksum scheme are those that are read; the header's
+/// length field is where the payload begins; and the payload ends within 32 bits.
+pub fn written_is_read<M: NegoexMessage>()
+    ensures { WrittenIsRead M.layout M.filler }
+{}
