@@ -1,6 +1,7 @@
 -- What is put after a first field, and the bytes of a fixed size.
-use Rattle.std.proofs.Common.{◌≡◌, ℕ, zero, suc, ◌+◌, ◌-◌, ◌*◌, ◌^◌, ◌<◌, List, ◌++◌, length, Ok, Err, MatchResult, ap, sym, ◌∙◌, append_assoc, append-nil, inl, inr, arith}
+use Rattle.std.proofs.Common.{◌≡◌, ℕ, zero, suc, ◌+◌, ◌-◌, ◌*◌, ◌^◌, ◌<◌, ◌≤◌, List, ◌++◌, length, Ok, Err, MatchResult, ap, sym, ◌∙◌, append_assoc, append-nil, inl, inr, arith}
 use Rattle.std.proofs.lemmas.List.{length-append}
+use Rattle.std.specs.declared.io.ErrorKind.{ErrorKind}
 use Rattle.negoex_layouts.specs.Form.{Layout, Answer, IsPut, IsTooLong, IsWithin}
 use Rattle.negoex_layouts.specs.LeafLaws.{first-all}
 use Rattle.negoex_layouts.specs.Laws.{LayoutLaws}
@@ -46,3 +47,14 @@ pair-put a b laws x y o behind h0 h1 h2 p0 p1 p2 (Ok _) first at near second =
 pair-put a b laws x y o behind h0 h1 h2 p0 p1 p2 (Err e) first at near (inl memory) = inl memory
 pair-put a b laws x y o behind h0 h1 h2 p0 p1 p2 (Err e) first at near (inr long) =
     inr (long.0, omega (arith, long.1, place-second a laws x o behind h0 h1 p0 p1 first at))
+
+-- a payload that ends past 32 bits, with all that follows
+pub first-long : {A : Type 0} (a : Layout A) → LayoutLaws a → (x : A) (o n : ℕ) (h0 h1 p0 p1 : List ℕ) → IsPut a x o h0 h1 p0 p1
+    → 2 ^ 32 ≤ o + (length p1 - length p0) * 1 → 2 ^ 32 ≤ o + (a.payload x + n)
+first-long a laws x o n h0 h1 p0 p1 put long =
+    omega (arith, ap length put.payload, length-append p0 (a.body x o), laws.body_size x o, long)
+
+-- an end past 32 bits is past it with all that follows
+pub long-more : (o n m : ℕ) (e : ErrorKind) → IsTooLong o n e → IsTooLong o (n + m) e
+long-more o n m e (inl memory) = inl memory
+long-more o n m e (inr long) = inr (long.0, omega (arith, long.1))

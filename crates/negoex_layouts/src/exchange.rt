@@ -5,7 +5,7 @@ use crate::bytes::place_behind;
 use crate::fields::NEGOEXTS_MESSAGE_SIGNATURE;
 use crate::header::MessageHeader;
 use crate::laid::{Laid, Wide};
-use crate::leaves::{AuthScheme, ConversationId};
+use crate::leaves::{AuthScheme, ByteVector, ConversationId};
 use crate::message::NegoexMessage;
 use crate::message_type::MessageType;
 use crate::pairs::put_both;
@@ -20,7 +20,7 @@ pub struct Exchange {
     /// The scheme.
     pub auth_scheme: AuthScheme,
     /// The token.
-    pub exchange: Vec<u8>,
+    pub exchange: ByteVector,
 }
 
 impl Exchange {
@@ -33,7 +33,7 @@ impl Exchange {
         conversation_id: ConversationId,
         sequence_num: u32,
         auth_scheme: AuthScheme,
-        exchange: Vec<u8>,
+        exchange: ByteVector,
     ) -> Result<Exchange, ErrorKind>
         ensures { MatchResult result
             (λ m. m ≡ record {
@@ -80,7 +80,7 @@ impl Laid for Exchange {
     ghost laws = { exchange_laws };
 
     fn from_header(alloc: Global, header: &[u8], message: &[u8]) -> Result<Self, ErrorKind> {
-        let ((header, auth_scheme), exchange): ((MessageHeader, AuthScheme), Vec<u8>) =
+        let ((header, auth_scheme), exchange): ((MessageHeader, AuthScheme), ByteVector) =
             Laid::from_header(alloc, header, message)?;
         Ok(Exchange {
             header,
@@ -98,6 +98,10 @@ impl Laid for Exchange {
     ) -> Result<(), ErrorKind> {
         let fields = (self.header, self.auth_scheme);
         put_both(alloc, &fields, &self.exchange, offset, header, payload)
+    }
+
+    fn payload_size(&self) -> usize {
+        self.exchange.payload_size()
     }
 }
 

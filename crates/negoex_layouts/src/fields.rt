@@ -46,6 +46,10 @@ impl Laid for u32 {
     ) -> Result<(), ErrorKind> {
         extend(header, &self.to_le_bytes())
     }
+
+    fn payload_size(&self) -> usize {
+        0
+    }
 }
 
 impl Wide for u32 {
@@ -84,6 +88,10 @@ impl Laid for u64 {
     ) -> Result<(), ErrorKind> {
         extend(header, &self.to_le_bytes())
     }
+
+    fn payload_size(&self) -> usize {
+        0
+    }
 }
 
 impl Wide for u64 {
@@ -120,6 +128,10 @@ impl Laid for [u8; RANDOM_ARRAY_SIZE] {
         _payload: &mut Vec<u8>,
     ) -> Result<(), ErrorKind> {
         extend(header, self)
+    }
+
+    fn payload_size(&self) -> usize {
+        0
     }
 }
 
@@ -167,6 +179,10 @@ impl Laid for Signature {
     ) -> Result<(), ErrorKind> {
         extend(header, &self.0.to_le_bytes())
     }
+
+    fn payload_size(&self) -> usize {
+        0
+    }
 }
 
 impl Wide for Signature {
@@ -212,6 +228,10 @@ impl Laid for ChecksumScheme {
         _payload: &mut Vec<u8>,
     ) -> Result<(), ErrorKind> {
         extend(header, &self.0.to_le_bytes())
+    }
+
+    fn payload_size(&self) -> usize {
+        0
     }
 }
 

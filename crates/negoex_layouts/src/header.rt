@@ -66,6 +66,10 @@ impl Laid for MessageHeader {
         let fields = (self.message_type, (self.sequence_num, lengths));
         (Signature(self.signature), fields).put(alloc, offset, header, payload)
     }
+
+    fn payload_size(&self) -> usize {
+        0
+    }
 }
 
 impl Wide for MessageHeader {

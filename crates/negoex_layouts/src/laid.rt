@@ -32,6 +32,10 @@ pub trait Laid: Sized {
         ensures { MatchResult result
             (λ _. IsPut layout (view self.now) offset header.old.items header.new.items payload.old.items payload.new.items)
             (IsTooLong offset (layout.payload (view self.now))) };
+
+    /// How many bytes the payload has; the greatest `usize` where it would have more.
+    fn payload_size(&self) -> usize
+        ensures { result ≡ min (layout.payload (view self.now)) (2 ^ 64 - 1) };
 }
 
 /// What has a header whose size is known.

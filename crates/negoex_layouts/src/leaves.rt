@@ -37,6 +37,10 @@ impl Laid for u8 {
     ) -> Result<(), ErrorKind> {
         extend(header, &[*self])
     }
+
+    fn payload_size(&self) -> usize {
+        0
+    }
 }
 
 impl Wide for u8 {
@@ -53,6 +57,12 @@ pub type ConversationId = Guid;
 
 /// What names an authentication scheme.
 pub type AuthScheme = Guid;
+
+/// Schemes, as an offset and a count.
+pub type AuthSchemeVector = Vec<AuthScheme>;
+
+/// Bytes, as an offset and a count.
+pub type ByteVector = Vec<u8>;
 
 impl Laid for Uuid {
     ghost use Rattle.std.specs.Prelude.{ℕ, List};
@@ -82,6 +92,10 @@ impl Laid for Uuid {
         _payload: &mut Vec<u8>,
     ) -> Result<(), ErrorKind> {
         extend(header, &self.to_bytes_le())
+    }
+
+    fn payload_size(&self) -> usize {
+        0
     }
 }
 

@@ -96,6 +96,10 @@ impl Laid for MessageType {
     ) -> Result<(), ErrorKind> {
         extend(header, &self.number().to_le_bytes())
     }
+
+    fn payload_size(&self) -> usize {
+        0
+    }
 }
 
 impl Wide for MessageType {

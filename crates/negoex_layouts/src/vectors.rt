@@ -1,5 +1,5 @@
 //! Vectors: an offset and a count, and the elements at the offset (MS-NEGOEX, section 2.2.5.2).
-ghost use Rattle.std.specs.Prelude.{◌≡◌, ℕ, ◌+◌, ◌^◌, ◌<◌, ◌++◌, map, MatchResult};
+ghost use Rattle.std.specs.Prelude.{◌≡◌, ℕ, ◌+◌, ◌^◌, ◌<◌, ◌-◌, ◌++◌, map, min, MatchResult};
 ghost use Rattle.negoex_layouts.specs.Form.{Answers, IsTooLong};
 ghost use Rattle.negoex_layouts.specs.Vectors.{elements_at, payloads, heads, bodies};
 
@@ -55,6 +55,17 @@ fn put_elements<T: Laid>(
     Ok(put)
 }
 
+// The sum of the elements' payloads behind so many bytes, up to the greatest `usize`.
+fn sum_payloads<T: Laid>(elements: &[T], before: usize) -> usize
+    ensures { result ≡ min (before + payloads T.layout (map T.view elements.now)) (2 ^ 64 - 1) }
+{
+    let mut sum = before;
+    for element in elements {
+        sum = sum.saturating_add(element.payload_size());
+    }
+    sum
+}
+
 impl<T: Wide + Drop> Laid for Vec<T> {
     ghost use Rattle.std.specs.Prelude.{List};
     ghost use Rattle.negoex_layouts.specs.Vectors.{vector_layout};
@@ -96,6 +107,11 @@ impl<T: Wide + Drop> Laid for Vec<T> {
         extend_number(header, self.len())?;
         let put = put_elements(alloc, self.as_slice(), first, payload)?;
         extend(payload, &put)
+    }
+
+    fn payload_size(&self) -> usize {
+        let headers = self.len().saturating_mul(T::width());
+        sum_payloads(self.as_slice(), headers)
     }
 }
 
