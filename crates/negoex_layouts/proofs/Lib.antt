@@ -2,3 +2,5 @@ pub mod ElementsPut
 pub mod ElementsRead
 pub mod MessageLaws
 pub mod PairPut
+pub mod SourceLaws
+pub mod WholeFront

@@ -5,6 +5,7 @@ pub mod Leaves
 pub mod Messages
 pub mod PairLaws
 pub mod Pairs
+pub mod Sources
 pub mod Steps
 pub mod StructLaws
 pub mod Structs
@@ -12,3 +13,4 @@ pub mod TypeLaws
 pub mod Types
 pub mod VectorLaws
 pub mod Vectors
+pub mod Widths

@@ -6,6 +6,7 @@
 
 mod bytes;
 mod checksum;
+mod data_type;
 mod exchange;
 mod extension;
 mod fields;
@@ -16,10 +17,13 @@ mod message;
 mod message_type;
 mod nego;
 mod pairs;
+mod reading;
 mod vectors;
 mod verify;
+mod writing;
 
 pub use checksum::Checksum;
+pub use data_type::NegoexDataType;
 pub use exchange::Exchange;
 pub use extension::{Extension, ExtensionVector};
 pub use fields::{CHECKSUM_SCHEME_RFC3961, NEGOEXTS_MESSAGE_SIGNATURE, RANDOM_ARRAY_SIZE};

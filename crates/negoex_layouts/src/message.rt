@@ -2,24 +2,14 @@
 ghost use Rattle.std.specs.Prelude.{◌≡◌, ℕ, List, take, Ok, IfOk, IfErr, MatchResult};
 ghost use Rattle.std.specs.Io.KnownBytes.{Appends};
 ghost use Rattle.negoex_layouts.specs.Form.{Answers, IsWithin, IsTooLong};
-ghost use Rattle.negoex_layouts.specs.Messages.{IsMessage, message_bytes, IsTrueOffset, stop_kind, IsEncodeStop, GivesBack, WrittenIsRead};
+ghost use Rattle.negoex_layouts.specs.Messages.{IsMessage, message_bytes, IsTrueOffset, IsEncodeStop, GivesBack, WrittenIsRead};
 
-use crate::bytes::{extend, front_of};
+use crate::bytes::front_of;
 use crate::laid::{Laid, Wide};
-use devices::{Sink, WholeFault, write_whole};
+use crate::writing::{bytes_of, write_value};
+use devices::Sink;
 use std::alloc::Global;
 use std::io::ErrorKind;
-
-// What a write that stopped is answered by.
-pub(crate) fn stopped(fault: WholeFault) -> ErrorKind
-    ensures { result ≡ stop_kind fault }
-{
-    match fault {
-        WholeFault::Full => ErrorKind::WriteZero,
-        WholeFault::Failed(kind) => kind,
-        WholeFault::Memory => ErrorKind::OutOfMemory,
-    }
-}
 
 /// A message of NEGOEX.
 pub trait NegoexMessage: Wide {
@@ -58,12 +48,7 @@ pub trait NegoexMessage: Wide {
         ensures laid { IfOk result (λ bytes. IsTrueOffset Self.layout filler (offset self.now)
             → IsMessage Self.layout (Self.view self.now) bytes.items) }
     {
-        let mut bytes = Vec::new(alloc);
-        let mut payload = Vec::new(alloc);
-        self.put(alloc, self.payload_offset(), &mut bytes, &mut payload)?;
-        extend(&mut bytes, Self::filling())?;
-        extend(&mut bytes, &payload)?;
-        Ok(bytes)
+        bytes_of(alloc, self, self.payload_offset(), Self::filling())
     }
 
     /// Writes the message; a front of it where the writer stops.
@@ -78,11 +63,7 @@ pub trait NegoexMessage: Wide {
             (IsEncodeStop (offset self.now) (Self.layout.payload (Self.view self.now)) (W.failed to.old) (W.failed to.new) (W.last_fault to.new)) }
         ensures same { W.through to.new ≡ W.through to.old }
     {
-        let bytes = self.to_bytes(alloc)?;
-        match write_whole(to, &bytes) {
-            Ok(()) => Ok(()),
-            Err(fault) => Err(stopped(fault)),
-        }
+        write_value(alloc, self, self.payload_offset(), Self::filling(), to)
     }
 }
 

@@ -1,6 +1,7 @@
 //! The schemes that a party offers (MS-NEGOEX, section 2.2.6.3).
 ghost use Rattle.std.specs.Prelude.{◌≡◌};
 
+use crate::bytes::place_behind;
 use crate::extension::{Extension, ExtensionVector};
 use crate::fields::{NEGOEXTS_MESSAGE_SIGNATURE, RANDOM_ARRAY_SIZE};
 use crate::header::MessageHeader;
@@ -28,6 +29,60 @@ pub struct Nego {
     pub auth_schemes: AuthSchemeVector,
     /// What extends the message.
     pub extensions: ExtensionVector,
+}
+
+impl Nego {
+    ghost use Rattle.std.specs.Prelude.{◌+◌, ◌^◌, ◌≤◌, map, MatchResult};
+    ghost use Rattle.std.specs.declared.io.ErrorKind.{ErrorKind};
+    ghost use Rattle.negoex_layouts.specs.Leaves.{guid_layout};
+    ghost use Rattle.negoex_layouts.specs.Structs.{extension_layout};
+    ghost use Rattle.negoex_layouts.specs.Vectors.{vector_layout};
+
+    /// A message of these schemes and extensions, with its true lengths; `InvalidInput` where it has 2^32 bytes or more.
+    pub fn new(
+        message_type: MessageType,
+        conversation_id: ConversationId,
+        sequence_num: u32,
+        random: [u8; RANDOM_ARRAY_SIZE],
+        auth_schemes: AuthSchemeVector,
+        extensions: ExtensionVector,
+    ) -> Result<Nego, ErrorKind>
+        ensures { MatchResult result
+            (λ m. m ≡ record {
+              header = record {
+                signature = 6004521257897772366;
+                message_type = message_type;
+                sequence_num = sequence_num;
+                header_len = 96;
+                message_len = 96 + (vector_layout guid_layout).payload (map (λ s. s) auth_schemes.items)
+                    + (vector_layout extension_layout).payload (map ⟦<Extension as Laid>⟧.view extensions.items);
+                conversation_id = conversation_id;
+              };
+              random = random;
+              protocol_version = 0;
+              auth_schemes = auth_schemes;
+              extensions = extensions;
+            })
+            (λ e. (e ≡ ErrorKind.InvalidInput) × (2 ^ 32 ≤ 96 + (vector_layout guid_layout).payload (map (λ s. s) auth_schemes.items)
+            + (vector_layout extension_layout).payload (map ⟦<Extension as Laid>⟧.view extensions.items))) }
+    {
+        let behind = place_behind(96, auth_schemes.payload_size(), 1)?;
+        let message_len = place_behind(behind, extensions.payload_size(), 1)? as u32;
+        Ok(Nego {
+            header: MessageHeader {
+                signature: NEGOEXTS_MESSAGE_SIGNATURE,
+                message_type,
+                sequence_num,
+                header_len: 96,
+                message_len,
+                conversation_id,
+            },
+            random,
+            protocol_version: PROTOCOL_VERSION,
+            auth_schemes,
+            extensions,
+        })
+    }
 }
 
 type Fixed = (MessageHeader, ([u8; RANDOM_ARRAY_SIZE], u64));

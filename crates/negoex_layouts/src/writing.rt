@@ -1,0 +1,80 @@
+//! Values written to a device.
+ghost use Rattle.std.specs.Prelude.{◌≡◌, ℕ, List, take, IfOk, MatchResult};
+ghost use Rattle.std.specs.Io.KnownBytes.{Appends};
+ghost use Rattle.negoex_layouts.specs.Form.{IsTooLong};
+ghost use Rattle.negoex_layouts.specs.Messages.{IsMessage, message_bytes, IsTrueOffset, stop_kind, IsWriteStop, IsEncodeStop};
+
+use crate::bytes::extend;
+use crate::laid::Laid;
+use devices::{Sink, WholeFault, write_whole};
+use std::alloc::Global;
+use std::io::ErrorKind;
+
+// What a write that stopped is answered by.
+fn stopped(fault: WholeFault) -> ErrorKind
+    ensures { result ≡ stop_kind fault }
+{
+    match fault {
+        WholeFault::Full => ErrorKind::WriteZero,
+        WholeFault::Failed(kind) => kind,
+        WholeFault::Memory => ErrorKind::OutOfMemory,
+    }
+}
+
+// Writes all of these bytes; a front of them where the writer stops.
+pub(crate) fn write_part<W: Sink>(to: &mut W, bytes: &[u8]) -> Result<(), ErrorKind>
+    ensures written { MatchResult result (λ _. Appends (W.written to.old) (W.written to.new) bytes.now)
+        (λ _. (n : ℕ) × Appends (W.written to.old) (W.written to.new) (take n bytes.now)) }
+    ensures fault { MatchResult result (λ _. W.failed to.new ≡ W.failed to.old)
+        (IsWriteStop (W.failed to.old) (W.failed to.new) (W.last_fault to.new)) }
+    ensures same { W.through to.new ≡ W.through to.old }
+{
+    match write_whole(to, bytes) {
+        Ok(()) => Ok(()),
+        Err(fault) => Err(stopped(fault)),
+    }
+}
+
+// The header, these bytes and the payload, which is said to begin at `offset`.
+pub(crate) fn bytes_of<T: Laid>(
+    alloc: Global,
+    value: &T,
+    offset: usize,
+    filler: &[u8],
+) -> Result<Vec<u8>, ErrorKind>
+    ensures exact { MatchResult result
+        (λ bytes. bytes.items ≡ message_bytes T.layout filler.now (T.view value.now) offset)
+        (IsTooLong offset (T.layout.payload (T.view value.now))) }
+    ensures laid { IfOk result (λ bytes. IsTrueOffset T.layout filler.now offset → IsMessage T.layout (T.view value.now) bytes.items) }
+{
+    let mut bytes = Vec::new(alloc);
+    let mut payload = Vec::new(alloc);
+    value.put(alloc, offset, &mut bytes, &mut payload)?;
+    extend(&mut bytes, filler)?;
+    extend(&mut bytes, &payload)?;
+    Ok(bytes)
+}
+
+// Writes the bytes of a value; a front of them where the writer stops.
+pub(crate) fn write_value<T: Laid, W: Sink>(
+    alloc: Global,
+    value: &T,
+    offset: usize,
+    filler: &[u8],
+    to: &mut W,
+) -> Result<(), ErrorKind>
+    ensures written { MatchResult result
+        (λ _. Appends (W.written to.old) (W.written to.new) (message_bytes T.layout filler.now (T.view value.now) offset))
+        (λ _. (n : ℕ) × Appends (W.written to.old) (W.written to.new) (take n (message_bytes T.layout filler.now (T.view value.now) offset))) }
+    ensures laid { IfOk result (λ _. IsTrueOffset T.layout filler.now offset
+        → IsMessage T.layout (T.view value.now) (message_bytes T.layout filler.now (T.view value.now) offset)) }
+    ensures fault { MatchResult result (λ _. W.failed to.new ≡ W.failed to.old)
+        (IsEncodeStop offset (T.layout.payload (T.view value.now)) (W.failed to.old) (W.failed to.new) (W.last_fault to.new)) }
+    ensures same { W.through to.new ≡ W.through to.old }
+{
+    let bytes = bytes_of(alloc, value, offset, filler)?;
+    match write_whole(to, &bytes) {
+        Ok(()) => Ok(()),
+        Err(fault) => Err(stopped(fault)),
+    }
+}
