@@ -1,5 +1,5 @@
 -- What a client takes of a reply, by how it reads and by the tag of its opened part.
-use Rattle.std.proofs.Common.{◌≡◌, true, not, Err, List, ℕ, ap}
+use Rattle.std.proofs.Common.{◌≡◌, true, not, Err, List, ℕ, ap, refl}
 use Rattle.picky_krb.specs.declared.messages.enc_kdc_rep_part.EncKdcRepPart.{EncKdcRepPart}
 use Rattle.picky_krb.specs.declared.messages.kdc_rep.KdcRep.{KdcRep}
 use Rattle.picky_asn1.specs.Numbers.{is_number}
@@ -43,6 +43,19 @@ taken_by_tgs_tag client asked reply part taken version kind none opened given =
 
 pub taken_read : (client : ClientRecord) (asked : AsAskedRecord) (bytes : List ℕ) (reply : KdcRep) (taken : Taken) → ((code : ℕ) → IsErrorCode bytes code → ⊥)
     → IsAsRep bytes reply → IsTaken (takes_reply client asked reply) taken → IsTaken (takes_as_reply client asked bytes) taken
+unfolding takes_as_reply
 taken_read client asked bytes reply taken none writes given =
     not_found (IsErrorCode bytes) (sole_error_code bytes) (ask (IsAsRep bytes) (sole_as_rep bytes) (done (Err Unreadable)) (takes_reply client asked)) (λ code. done (Err (Refused code))) taken none
     (found (IsAsRep bytes) (sole_as_rep bytes) (done (Err Unreadable)) (takes_reply client asked) taken reply writes given)
+
+pub refused_by_error : (client : ClientRecord) (asked : AsAskedRecord) (bytes : List ℕ) (code : ℕ) → IsErrorCode bytes code → IsTaken (takes_as_reply client asked bytes) (Err (Refused code))
+unfolding takes_as_reply
+refused_by_error client asked bytes code is =
+    found (IsErrorCode bytes) (sole_error_code bytes) (ask (IsAsRep bytes) (sole_as_rep bytes) (done (Err Unreadable)) (takes_reply client asked)) (λ code. done (Err (Refused code))) (Err (Refused code)) code is refl
+
+pub unreadable : (client : ClientRecord) (asked : AsAskedRecord) (bytes : List ℕ) → ((code : ℕ) → IsErrorCode bytes code → ⊥) → ((reply : KdcRep) → IsAsRep bytes reply → ⊥)
+    → IsTaken (takes_as_reply client asked bytes) (Err Unreadable)
+unfolding takes_as_reply
+unreadable client asked bytes none no_reply =
+    not_found (IsErrorCode bytes) (sole_error_code bytes) (ask (IsAsRep bytes) (sole_as_rep bytes) (done (Err Unreadable)) (takes_reply client asked)) (λ code. done (Err (Refused code))) (Err Unreadable) none
+    (not_found (IsAsRep bytes) (sole_as_rep bytes) (done (Err Unreadable)) (takes_reply client asked) (Err Unreadable) no_reply refl)

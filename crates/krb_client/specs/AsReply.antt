@@ -68,7 +68,7 @@ takes_reply client asked reply =
     (takes_sealed client asked reply))
 
 -- the reply as it comes
-abbrev pub takes_as_reply : ClientRecord → AsAskedRecord → List ℕ → Table Taken
+unfoldable pub takes_as_reply : ClientRecord → AsAskedRecord → List ℕ → Table Taken
 takes_as_reply client asked bytes =
     ask (IsErrorCode bytes) (sole_error_code bytes)
     (ask (IsAsRep bytes) (sole_as_rep bytes) (done (Err Unreadable)) (takes_reply client asked))

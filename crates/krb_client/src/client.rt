@@ -29,7 +29,7 @@ impl Model for Client {
 
     ghost view = { λ c. record { realm = c.realm; components = c.name.items; suite = c.suite; key = c.key } };
 
-    ghost invariant = { λ c. (length c.key ≡ cipher_key_size c.suite) × IsTrue (is_realm_name c.realm) × IsTrue (are_components c.components) };
+    ghost invariant = { λ c. (length c.key ≡ cipher_key_size c.suite) × IsTrue (is_realm_name c.realm) × IsTrue (are_components c.name.items) };
 }
 
 impl Client {

@@ -180,6 +180,7 @@ impl Realm {
     /// The reply to a message at a moment, with random bytes of which the first 128 count (RFC 4120, section 3.1).
     ///
     /// `Unreadable` says that the bytes are the one encoding of no AS request and of no TGS request.
+    #[tactic(auto, unfolding(krb_replies::specs::Replies::Replies))]
     pub fn answer(
         &self,
         alloc: Global,

@@ -33,7 +33,8 @@ use Rattle.krb_sealing.specs.Sealing.{encrypted_by}
 use Rattle.krb_tickets.specs.Parts.{as_reply_of, reply_part, ticket_of, ticket_part}
 use Rattle.krb_tickets.specs.Sealed.{IsSealedData, as_reply_bytes, as_reply_part_bytes, ticket_part_bytes}
 use Rattle.krb_tickets.specs.Times.{end_of, no_end, last_second, start_of}
-use Rattle.krb_grants.specs.Granted.{IsAsReply, reply_confounder, sole_as_reply, ticket_confounder}
+use Rattle.krb_types.specs.RandomBytes.{reply_confounder, ticket_confounder}
+use Rattle.krb_grants.specs.Granted.{IsAsReply, sole_as_reply}
 use Rattle.krb_replies.specs.AsTable.{addressed, as_table, client_of, entries_of, has_refused_option, is_ended, is_later, is_listed, is_postdated, possible, preauthenticated, service_of}
 use Rattle.krb_replies.specs.Calls.{AreAsked, AreWritten, IsCall, IsKeyed, IsWritten}
 use Rattle.krb_replies.specs.Errors.{IsSecondOf, error_bytes, sole_second}
@@ -209,6 +210,7 @@ keyed_of look (Some name) account keyed e = keyed (components name) account e
 
 pub has_reply : (realm : List ℕ) (settings : SettingsRecord) (look : Look) (moment : ℕ) (words request : List ℕ) → IsCall look moment words
     → AreWritten realm settings look moment words request → HasSome (Replies realm settings look moment words request)
+unfolding Replies
 has_reply realm settings look moment words request call written =
     let none : Table (Option (List ℕ)) = done None in
     let refused : Table (Result (List ℕ) ℕ) = done (Err 60) in

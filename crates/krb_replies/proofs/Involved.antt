@@ -7,7 +7,7 @@ use Rattle.krb_accounts.specs.Settings.{SettingsRecord}
 use Rattle.krb_types.specs.Names.{components}
 use Rattle.krb_replies.specs.AsTable.{client_of, service_of}
 use Rattle.krb_replies.specs.Involved.{IsNamed, IsOfInvolvedAlone}
-use Rattle.krb_replies.specs.Replies.{account_of, as_reply}
+use Rattle.krb_replies.specs.Replies.{Replies, account_of, as_reply}
 
 same_account : (look other : Look) (name : Option PrincipalName) → ((these : List (List ℕ)) → IsNamed name these → look these ≡ other these)
     → account_of look name ≡ account_of other name
@@ -28,6 +28,7 @@ same_looked realm settings look other moment words v reply client service given 
     (subst (λ c. (as_reply realm settings c (account_of look (service_of v.req_body.0)) moment words v).gives reply) client given)
 
 pub of_involved_alone : IsOfInvolvedAlone
+unfolding Replies
 of_involved_alone realm settings look other moment words request agree reply (inl (v, found, given)) =
     let client = same_account look other (client_of v.req_body.0) (λ these named. agree these (v, found, inl named)) in
     let service = same_account look other (service_of v.req_body.0) (λ these named. agree these (v, found, inr named)) in

@@ -51,10 +51,11 @@ replies realm settings look moment words request =
     (λ v. as_reply realm settings (account_of look (client_of v.req_body.0)) (account_of look (service_of v.req_body.0)) moment words v)
 
 -- the reply that a realm of this name, these settings and these accounts may give, at a moment, with random bytes
-abbrev pub Replies : List ℕ → SettingsRecord → Look → ℕ → List ℕ → List ℕ → Option (List ℕ) → Type 0
+unfoldable pub Replies : List ℕ → SettingsRecord → Look → ℕ → List ℕ → List ℕ → Option (List ℕ) → Type 0
 Replies realm settings look moment words request reply = (replies realm settings look moment words request).gives reply
 
 -- there is one at most
 pub one_reply : (realm : List ℕ) (settings : SettingsRecord) (look : Look) (moment : ℕ) (words request : List ℕ) (a b : Option (List ℕ))
     → Replies realm settings look moment words request a → Replies realm settings look moment words request b → a ≡ b
+unfolding Replies
 one_reply realm settings look moment words request = (replies realm settings look moment words request).one

@@ -1,14 +1,16 @@
 use Rattle.std.proofs.Common.{◌%◌, Some, None, Err, ap, inl, inr, refl, ◌∙◌}
 use Rattle.krb_replies.specs.Errors.{error_bytes}
-use Rattle.krb_replies.specs.Replies.{named_service}
+use Rattle.krb_replies.specs.Replies.{Replies, named_service}
 use Rattle.krb_realm.proofs.realm.Realm.answer.Goals as goal
 
 pub returns-in-Some : goal.returns-in-Some
+unfolding Replies
 returns-in-Some c =
     let found = rw c.in-Some.is at c.in_ok-asked.ensures in
     inl (c.in-Some.asked, found, c.in_ok-reply.ensures)
 
 pub returns-in-Some-2 : goal.returns-in-Some-2
+unfolding Replies
 returns-in-Some-2 c =
     let none = rw c.in_default.is at c.in_ok-asked.ensures in
     let found = rw c.in-Some-2.is at c.in_ok-asked-2.ensures in
