@@ -5,5 +5,6 @@
 mod integrity;
 #[cfg(test)]
 mod pac;
+mod negoex;
 #[cfg(test)]
 mod tokens;

@@ -1,0 +1,255 @@
+//! Messages of NEGOEX, by the tables of MS-NEGOEX, section 2.2, and by messages of a stock peer.
+
+use negoex_layouts::{
+    Checksum, Exchange, Extension, MessageHeader, MessageType, Nego, NegoexDataType, NegoexMessage,
+    Verify,
+};
+use std::alloc::Global;
+use std::io::ErrorKind;
+use uuid::Uuid;
+
+// An initiator's offer of one scheme.
+const NEGO: &[u8] = b"\
+    NEGOEXTS\x00\x00\x00\x00\x00\x00\x00\x00`\x00\x00\x00p\x00\x00\x00Z\x07);\x91\xf33\xaf\xa1\
+    \xb4\xa2\x12$\x9d|\xb4\xab\x1e\x9dm\xa6w\x1d\xd4\x1a(\x0eWE\xbb\xd9\x84\xc3],\xdbpr\xb8\
+    \x88\x19\x5cv\xefqoGx\x00\x00\x00\x00\x00\x00\x00\x00`\x00\x00\x00\x01\x00\x00\x00\x00\x00\
+    \x00\x00\x00\x00\x00\x00\x5c3S\x0d\xea\xf9\x0dM\xb2\xecJ\xe3xn\xc3\x08";
+
+// What an acceptor tells a scheme.
+const EXCHANGE: &[u8] = b"\
+    NEGOEXTS\x03\x00\x00\x00\x03\x00\x00\x00@\x00\x00\x00\xee\x00\x00\x00Z\x07);\x91\xf33\xaf\
+    \xa1\xb4\xa2\x12$\x9d|\xb4\x5c3S\x0d\xea\xf9\x0dM\xb2\xecJ\xe3xn\xc3\x08@\x00\x00\x00\xae\
+    \x00\x00\x000\x81\xab\xa0\x81\xa80\x81\xa50Q\x80O0M1K0I\x06\x03U\x04\x03\x1eB\x00M\x00S\
+    \x00-\x00O\x00r\x00g\x00a\x00n\x00i\x00z\x00a\x00t\x00i\x00o\x00n\x00-\x00P\x002\x00P\x00-\
+    \x00A\x00c\x00c\x00e\x00s\x00s\x00\x20\x00[\x002\x000\x002\x001\x00]0'\x80%0#1!0\x1f\x06\
+    \x03U\x04\x03\x13\x18Token\x20Signing\x20Public\x20Key0'\x80%0#1!0\x1f\x06\x03U\x04\x03\
+    \x13\x18Token\x20Signing\x20Public\x20Key";
+
+// What an initiator tells a scheme.
+const META_DATA: &[u8] = b"\
+    NEGOEXTS\x02\x00\x00\x00\x01\x00\x00\x00@\x00\x00\x00)\x01\x00\x00Z\x07);\x91\xf33\xaf\xa1\
+    \xb4\xa2\x12$\x9d|\xb4\x5c3S\x0d\xea\xf9\x0dM\xb2\xecJ\xe3xn\xc3\x08@\x00\x00\x00\xe9\x00\
+    \x00\x000\x81\xe6\xa0\x81\xa90\x81\xa60Q\x80O0M1K0I\x06\x03U\x04\x03\x1eB\x00M\x00S\x00-\
+    \x00O\x00r\x00g\x00a\x00n\x00i\x00z\x00a\x00t\x00i\x00o\x00n\x00-\x00P\x002\x00P\x00-\x00A\
+    \x00c\x00c\x00e\x00s\x00s\x00\x20\x00[\x002\x000\x002\x001\x00]0Q\x80O0M1K0I\x06\x03U\x04\
+    \x03\x1eB\x00M\x00S\x00-\x00O\x00r\x00g\x00a\x00n\x00i\x00z\x00a\x00t\x00i\x00o\x00n\x00-\
+    \x00P\x002\x00P\x00-\x00A\x00c\x00c\x00e\x00s\x00s\x00\x20\x00[\x002\x000\x002\x001\x00]\
+    \xa1806\xa0\x11\x1b\x0fWELLKNOWN:PKU2U\xa1!0\x1f\xa0\x03\x02\x01\x02\xa1\x180\x16\x1b\x07T\
+    ERMSRV\x1b\x0bAZRDOWN-W10";
+
+// A checksum of 12 bytes.
+const VERIFY: &[u8] = b"\
+    NEGOEXTS\x06\x00\x00\x00\x07\x00\x00\x00P\x00\x00\x00\x5c\x00\x00\x00Z\x07);\x91\xf33\xaf\
+    \xa1\xb4\xa2\x12$\x9d|\xb4\x5c3S\x0d\xea\xf9\x0dM\xb2\xecJ\xe3xn\xc3\x08\x14\x00\x00\x00\
+    \x01\x00\x00\x00\x10\x00\x00\x00P\x00\x00\x00\x0c\x00\x00\x00\x00\x00\x00\x00\xe4\xa7p\x94\
+    \x17\x83\xcc\x0c\x0d$:W";
+
+// The same with another header length and checksum.
+const VERIFY_76: &[u8] = b"\
+    NEGOEXTS\x06\x00\x00\x00\x09\x00\x00\x00L\x00\x00\x00X\x00\x00\x00Z\x07);\x91\xf33\xaf\xa1\
+    \xb4\xa2\x12$\x9d|\xb4\x5c3S\x0d\xea\xf9\x0dM\xb2\xecJ\xe3xn\xc3\x08\x14\x00\x00\x00\x01\
+    \x00\x00\x00\x10\x00\x00\x00L\x00\x00\x00\x0c\x00\x00\x00\x00\x00\x00\x00P\x0e\x8e\x06:\
+    \x1dj\xa5H\xa0o\x0c";
+
+const CHECKSUM: &[u8] = b"\x50\x0e\x8e\x06\x3a\x1d\x6a\xa5\x48\xa0\x6f\x0c";
+
+fn conversation() -> Uuid {
+    Uuid::from_u128(0x3b29_075a_f391_af33_a1b4_a212_249d_7cb4)
+}
+
+fn scheme() -> Uuid {
+    Uuid::from_u128(0x0d53_335c_f9ea_4d0d_b2ec_4ae3_786e_c308)
+}
+
+fn bytes(alloc: Global, content: &[u8]) -> Option<Vec<u8>> {
+    let mut made = Vec::new(alloc);
+    made.extend_from_slice(content).ok()?;
+    Some(made)
+}
+
+// Whether the message is written as these bytes.
+fn is_written<M: NegoexMessage + Drop>(alloc: Global, message: M, wanted: &[u8]) -> bool {
+    let mut written = Vec::new(alloc);
+    message.encode(alloc, &mut written).is_ok() && written.as_slice() == wanted
+}
+
+// Whether a message is read from these bytes and written as they are.
+fn is_given_back<M: NegoexMessage + Drop>(alloc: Global, whole: &[u8]) -> bool {
+    match M::decode(alloc, whole) {
+        Ok(message) => is_written(alloc, message, whole),
+        Err(_) => false,
+    }
+}
+
+#[test]
+fn read_and_written(rt: HostRuntime) {
+    assert!(rt; is_given_back::<Nego>(rt.alloc(), NEGO));
+    assert!(rt; is_given_back::<Exchange>(rt.alloc(), EXCHANGE));
+    assert!(rt; is_given_back::<Exchange>(rt.alloc(), META_DATA));
+    assert!(rt; is_given_back::<Verify>(rt.alloc(), VERIFY));
+}
+
+fn verify(alloc: Global, sequence_num: u32, checksum: &[u8]) -> Option<Verify> {
+    let value = bytes(alloc, checksum)?;
+    Verify::new(
+        MessageType::Verify,
+        conversation(),
+        sequence_num,
+        scheme(),
+        16,
+        value,
+    )
+    .ok()
+}
+
+fn is_verify(alloc: Global) -> bool {
+    match verify(alloc, 7, &VERIFY[80..]) {
+        Some(made) => is_written(alloc, made, VERIFY),
+        None => false,
+    }
+}
+
+fn is_verify_76(alloc: Global) -> bool {
+    match verify(alloc, 9, CHECKSUM) {
+        Some(mut made) => {
+            made.header.header_len = 76;
+            made.header.message_len = 88;
+            is_written(alloc, made, VERIFY_76)
+        }
+        None => false,
+    }
+}
+
+// The true header length is 80, the four zeros counted; another is written and used all the same.
+#[test]
+fn checksums(rt: HostRuntime) {
+    assert!(rt; is_verify(rt.alloc()));
+    assert!(rt; is_verify_76(rt.alloc()));
+}
+
+fn extension(alloc: Global, extension_type: u32, value: &[u8]) -> Option<Extension> {
+    let extension_value = bytes(alloc, value)?;
+    Some(Extension {
+        extension_type,
+        extension_value,
+    })
+}
+
+fn two_extensions(alloc: Global) -> Option<Vec<Extension>> {
+    let mut extensions = Vec::new(alloc);
+    extensions.push(extension(alloc, 1, b"\xaa")?).ok()?;
+    extensions.push(extension(alloc, 2, b"\xbb\xcc")?).ok()?;
+    Some(extensions)
+}
+
+const EXTENSIONS: &[u8] = b"\x00\x00\x00\x00\x00\x00\x00\x00\x60\x00\x00\x00\x02\x00\x00\x00\
+    \x01\x00\x00\x00\x78\x00\x00\x00\x01\x00\x00\x00\x02\x00\x00\x00\x79\x00\x00\x00\x02\x00\x00\x00\xaa\xbb\xcc";
+
+fn nego(alloc: Global) -> Option<Vec<u8>> {
+    let extensions = two_extensions(alloc)?;
+    let none = Vec::new(alloc);
+    let made = Nego::new(
+        MessageType::InitiatorNego,
+        conversation(),
+        0,
+        [7; 32],
+        none,
+        extensions,
+    )
+    .ok()?;
+    made.to_bytes(alloc).ok()
+}
+
+fn are_extensions(alloc: Global) -> bool {
+    match nego(alloc) {
+        Some(whole) => {
+            let all = whole.as_slice();
+            all.len() == 123
+                && &all[20..24] == b"\x7b\x00\x00\x00".as_slice()
+                && &all[80..] == EXTENSIONS
+                && is_given_back::<Nego>(alloc, all)
+        }
+        None => false,
+    }
+}
+
+// 123 bytes: an empty vector at offset 0, and two extensions whose values stand behind both headers.
+#[test]
+fn extensions(rt: HostRuntime) {
+    assert!(rt; are_extensions(rt.alloc()));
+}
+
+// Why a message with other bytes at a place is refused: none where it isn't.
+fn changed<M: NegoexMessage + Drop>(
+    alloc: Global,
+    message: &[u8],
+    place: usize,
+    with: [u8; 4],
+) -> Option<ErrorKind> {
+    let end = place.checked_add(4)?;
+    let mut whole = bytes(alloc, message)?;
+    whole
+        .as_mut_slice()
+        .get_mut(place..end)?
+        .copy_from_slice(&with);
+    M::decode(alloc, &whole).err()
+}
+
+// Signature, type, an offset one past the end with some bytes and without any, and more bytes than there are.
+#[test]
+fn refused_exchanges(rt: HostRuntime) {
+    for (place, with, fault) in [
+        (0, *b"NEGX", Some(ErrorKind::InvalidData)),
+        (8, [8, 0, 0, 0], Some(ErrorKind::InvalidData)),
+        (56, [239, 0, 0, 0], Some(ErrorKind::InvalidData)),
+        (56, [238, 0, 0, 0], Some(ErrorKind::UnexpectedEof)),
+        (60, [0, 0, 0, 0], None),
+        (60, [255, 255, 255, 255], Some(ErrorKind::UnexpectedEof)),
+    ] {
+        assert!(rt;
+            changed::<Exchange>(rt.alloc(), EXCHANGE, place, with) == fault,
+            "at {place}"
+        );
+    }
+}
+
+#[test]
+fn other_refusals(rt: HostRuntime) {
+    let none = changed::<Exchange>(rt.alloc(), &EXCHANGE[..64], 56, [65, 0, 0, 0]);
+    assert!(rt; none == Some(ErrorKind::InvalidData));
+    let scheme = changed::<Verify>(rt.alloc(), VERIFY, 60, [2, 0, 0, 0]);
+    assert!(rt; scheme == Some(ErrorKind::InvalidInput));
+    let short = changed::<Nego>(rt.alloc(), &NEGO[..79], 0, *b"NEGO");
+    assert!(rt; short == Some(ErrorKind::UnexpectedEof));
+}
+
+// Whether a type is read from these bytes and written as they are.
+fn is_type_given_back<T: NegoexDataType + Drop>(alloc: Global, whole: &[u8]) -> bool {
+    let mut left = whole;
+    match T::decode(alloc, &mut left, whole) {
+        Ok(value) => {
+            let mut written = Vec::new(alloc);
+            value.encode(alloc, &mut written).is_ok() && written.as_slice() == whole
+        }
+        Err(_) => false,
+    }
+}
+
+#[test]
+fn types(rt: HostRuntime) {
+    assert!(rt; is_type_given_back::<Uuid>(rt.alloc(), &VERIFY[40..56]));
+    assert!(rt; is_type_given_back::<MessageType>(rt.alloc(), b"\x05\x00\x00\x00"));
+    assert!(rt; is_type_given_back::<MessageHeader>(rt.alloc(), &NEGO[..40]));
+    assert!(rt;
+        is_type_given_back::<Extension>(
+            rt.alloc(),
+            b"\x03\x00\x00\x00\x0c\x00\x00\x00\x06\x00\x00\x00\x01\x02\x03\x04\x05\x06",
+        )
+    );
+    assert!(rt;
+        is_type_given_back::<Checksum>(
+            rt.alloc(),
+            b"\x14\x00\x00\x00\x01\x00\x00\x00\x10\x00\x00\x00\x14\x00\x00\x00\x0c\x00\x00\x00\xe4\xa7\x70\x94\x17\x83\xcc\x0c\x0d\x24\x3a\x57",
+        )
+    );
+}
