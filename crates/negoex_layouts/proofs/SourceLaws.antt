@@ -1,5 +1,5 @@
 -- What was read of a header from a device is the header, or says why there is none.
-use Rattle.std.proofs.Common.{◌≡◌, ℕ, ◌≤◌, ◌<◌, List, [], ◌++◌, length, take, Option, None, Some, IfSome, IfOk, MatchOption, Ok, Err, MatchResult, refl, ap, sym, subst, ◌∙◌, append-nil, inl, inr, arith}
+use Rattle.std.proofs.Common.{◌≡◌, ℕ, ◌≤◌, ◌<◌, List, [], ◌++◌, length, take, Option, None, Some, IfSome, IfOk, MatchOption, Ok, Err, refl, ap, sym, ◌∙◌, append-nil, inl, inr, arith}
 use Rattle.std.specs.Prelude.{◌⊎◌}
 use Rattle.std.proofs.lemmas.Bool.{cases_lt}
 use Rattle.std.proofs.lemmas.List.{take_at, take_all, length-take}
@@ -10,7 +10,7 @@ use Rattle.devices.specs.Counting.{one_more}
 use Rattle.byte_layouts.proofs.NumberLaws.{AreBytes}
 use Rattle.negoex_layouts.specs.Form.{Layout, Answer, Answers}
 use Rattle.negoex_layouts.specs.Laws.{LayoutLaws}
-use Rattle.negoex_layouts.specs.Sources.{IsBroken, IsRefusal, IsGiven}
+use Rattle.negoex_layouts.specs.Sources.{IsRefusal, IsGiven}
 
 -- what a device that failed says of its count and its fault
 abbrev pub Counted : Option ErrorKind → ℕ → ℕ → Option ErrorKind → Type 0

@@ -1,4 +1,4 @@
-use Rattle.std.proofs.Common.{take, arith, ◌∙◌}
+use Rattle.std.proofs.Common.{take, arith}
 use Rattle.negoex_layouts.proofs.SourceLaws.{header-refused, header-given, header-excused}
 use Rattle.negoex_layouts.proofs.reading.read_value.Goals as goal
 
