@@ -4,7 +4,8 @@
 #[cfg(test)]
 mod integrity;
 #[cfg(test)]
-mod pac;
 mod negoex;
+#[cfg(test)]
+mod pac;
 #[cfg(test)]
 mod tokens;
