@@ -157,7 +157,6 @@ impl<R: Source> Deserializer<R> {
     /// Refuses for `fault`, and gives it back: from now on each call answers `InvalidData`.
     ///
     /// A type's `deserialize` calls it where what was taken breaks a rule of the type's own.
-    #[inline(always)]
     pub fn refuse(&mut self, fault: Asn1DerError) -> Asn1DerError
         ensures after { self.new ≡ stopped self.old }
         ensures fault { result ≡ fault }
@@ -167,7 +166,6 @@ impl<R: Source> Deserializer<R> {
     }
 
     /// Answers `InvalidData` after a refusal.
-    #[inline(always)]
     pub(crate) fn ready(&self) -> Result<(), Asn1DerError>
         ensures { MatchResult result
             (λ _. self.now.failed ≡ false)
@@ -181,7 +179,6 @@ impl<R: Source> Deserializer<R> {
     }
 
     /// Takes one octet.
-    #[inline(always)]
     fn take_octet(&mut self) -> Result<u8, Asn1DerError>
         ensures { MatchResult result
             (λ octet. Took (octet ∷ []) self.old self.new)
@@ -202,7 +199,6 @@ impl<R: Source> Deserializer<R> {
     }
 
     /// Looks at the next octet, of which there is one.
-    #[inline(always)]
     pub(crate) fn peek(&mut self) -> Result<u8, Asn1DerError>
         requires { 1 ≤ self.old.limit }
         ensures { MatchResult result
@@ -257,7 +253,6 @@ impl<R: Source> Deserializer<R> {
     }
 
     /// Takes length octets, and gives the length. Only a length below the limit is wanted.
-    #[inline(always)]
     fn take_length(&mut self) -> Result<usize, Asn1DerError>
         ensures { MatchResult result
             (λ count. Took (length_octets count) self.old self.new)
@@ -314,7 +309,6 @@ impl<R: Source> Deserializer<R> {
     }
 
     /// Lowers the limit to `count`, and gives what lies behind.
-    #[inline(always)]
     pub(crate) fn enter(&mut self, count: usize) -> usize
         requires room { count ≤ self.old.limit }
         requires unlooked { self.old.looked ≡ false }
@@ -327,7 +321,6 @@ impl<R: Source> Deserializer<R> {
     }
 
     /// Raises the limit to `outside`, from which `enter` lowered it.
-    #[inline(always)]
     pub(crate) fn leave(&mut self, outside: usize)
         requires { self.old.looked ≡ false }
         ensures { self.new ≡ within outside self.old }
@@ -364,7 +357,6 @@ impl<R: Source> Deserializer<R> {
     }
 
     /// Takes a constructed element with the identifier octet `tag`, whose content is these fields.
-    #[inline(always)]
     pub fn list<F: Fields>(&mut self, tag: u8) -> Result<F, Asn1DerError>
         requires { IsTrue F.sound }
         ensures { MatchResult result
@@ -382,7 +374,6 @@ impl<R: Source> Deserializer<R> {
     }
 
     /// Takes a value under the further identifier octet `tag`.
-    #[inline(always)]
     pub fn wrapped<T: Deserialize>(&mut self, tag: u8) -> Result<T, Asn1DerError>
         ensures { MatchResult result
             (λ value. TookValue (λ v. wrapped tag (T.tree v)) value self.old self.new)
@@ -399,7 +390,6 @@ impl<R: Source> Deserializer<R> {
     }
 
     /// Takes a value, which is all that is left up to the limit.
-    #[inline(always)]
     fn last<T: Deserialize>(&mut self) -> Result<T, Asn1DerError>
         ensures { MatchResult result
             (λ value. TookFields (λ v. more (T.tree v) none) value self.old self.new)
@@ -446,7 +436,6 @@ impl<R: Source> Deserializer<R> {
     }
 
     /// Whether bytes are left up to the limit.
-    #[inline(always)]
     pub(crate) fn remains(&self) -> bool
         ensures some { IsTrue result ↔ (1 ≤ self.now.limit) }
         ensures none { result ≡ false → self.now.looked ≡ false }
@@ -455,13 +444,11 @@ impl<R: Source> Deserializer<R> {
     }
 
     /// What memory is taken from.
-    #[inline(always)]
     pub fn allocator(&self) -> Global {
         self.alloc
     }
 
     /// Whether the next octet begins a value of `T`: not at the limit. The octet stays unread.
-    #[inline(always)]
     pub fn starts<T: Deserialize>(&mut self) -> Result<bool, Asn1DerError>
         ensures { MatchResult result
             (λ answer. TookNone self.old self.new × Tells T.firsts answer self.old)
@@ -476,7 +463,6 @@ impl<R: Source> Deserializer<R> {
     }
 
     /// Refuses where bytes are left up to the limit.
-    #[inline(always)]
     pub fn finish(&mut self) -> Result<(), Asn1DerError>
         ensures { MatchResult result
             (λ _. (self.new ≡ self.old) × (self.old.failed ≡ false) × (self.old.limit ≡ 0) × (self.old.looked ≡ false))
@@ -567,7 +553,6 @@ pub fn from_reader_with_max_len<T: FromDer, R: Source>(
 }
 
 /// Reads a value, behind which nothing is left up to the limit.
-#[inline(always)]
 fn read_last<T: FromDer, R: Source>(from: &mut Deserializer<R>) -> Result<T, Asn1DerError>
     ensures { MatchResult result
         (λ value. TookBy T.reads value from.old from.new × (from.new.limit ≡ 0))

@@ -56,7 +56,6 @@ pub trait Fields: Sized + Drop {
 /// Writes the spellings of a field and of those behind it, one after another.
 ///
 /// A `WriteItem` calls it, for its field and those behind it.
-#[inline(always)]
 pub fn write_field<H: Serialize, T: WriteFields, W: Sink>(
     head: &H,
     tail: &T,

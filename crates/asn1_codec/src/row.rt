@@ -165,7 +165,6 @@ impl<H: Item, T: Fields> Fields for (H, T) {
         let same = H.injective T T.trees T.firsts T.starts (T.injective parts.1) parts.0 v.0 w.0 v.1 w.1 whole also e
         in λ i. (same.0 i, same.1 i) };
 
-    #[inline(always)]
     fn read<R: Source>(from: &mut Deserializer<R>) -> Result<Self, Asn1DerError> {
         H::read_before::<T, R>(from)
     }
@@ -225,7 +224,6 @@ impl<H: Deserialize> Item for Optional<Option<H>> {
 ///
 /// The fields behind an optional one are read at one place then, whichever it is: a function pays for the room of
 /// each such place as it begins.
-#[inline(always)]
 fn read_if<H: Deserialize, R: Source>(
     begins: bool,
     from: &mut Deserializer<R>,

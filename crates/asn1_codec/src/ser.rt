@@ -129,7 +129,6 @@ impl<W: Sink> Serializer<W> {
     }
 
     /// Answers `InvalidSink` after a failed call.
-    #[inline(always)]
     pub(crate) fn ready(&self) -> Result<(), Asn1DerError>
         ensures { MatchResult result
             (λ _. self.now.failed ≡ false)
@@ -143,7 +142,6 @@ impl<W: Sink> Serializer<W> {
     }
 
     /// The sum of two lengths, where a number says it.
-    #[inline(always)]
     pub(crate) fn sum(&mut self, first: usize, second: usize) -> Result<usize, Asn1DerError>
         ensures { MatchResult result
             (λ sum. (sum ≡ first + second) × (self.new ≡ self.old))
@@ -159,7 +157,6 @@ impl<W: Sink> Serializer<W> {
     }
 
     /// The fault of a measurement, after which nothing is written.
-    #[inline(always)]
     pub(crate) fn unmeasured(&mut self, fault: Asn1DerError) -> Asn1DerError
         ensures fault { result ≡ fault }
         ensures after { self.new ≡ left_by fault self.old }
@@ -190,7 +187,6 @@ impl<W: Sink> Serializer<W> {
     }
 
     /// Writes `bytes` as they stand, and gives how many they are.
-    #[inline(always)]
     pub(crate) fn octets(&mut self, bytes: &[u8]) -> Result<usize, Asn1DerError>
         ensures { MatchResult result
             (WroteValue None bytes.now self.old self.new)
@@ -201,7 +197,6 @@ impl<W: Sink> Serializer<W> {
     }
 
     /// Writes the octets before a content of this length, and gives the length of the whole element.
-    #[inline(always)]
     pub(crate) fn header(&mut self, tag: u8, count: usize) -> Result<usize, Asn1DerError>
         ensures { MatchResult result
             (λ whole. Wrote (tag ∷ length_octets count) self.old self.new × (whole ≡ 1 + length (length_octets count) + count))

@@ -71,7 +71,6 @@ impl<T: Tagged> Serialize for T {
 
     ghost injective = { tagged-injective T.FIRST T.row_tree T.row_laws T.row_of T.one_row };
 
-    #[inline(always)]
     fn serialize<W: Sink>(&self, to: &mut Serializer<W>) -> Result<usize, Asn1DerError> {
         self.write_row(T::FIRST, to)
     }
@@ -82,7 +81,6 @@ impl<T: Tagged> Deserialize for T {
         first == T::FIRST
     }
 
-    #[inline(always)]
     fn deserialize<R: Source>(from: &mut Deserializer<R>) -> Result<Self, Asn1DerError> {
         read_as(T::FIRST, from)
     }
@@ -91,7 +89,6 @@ impl<T: Tagged> Deserialize for T {
 /// Takes a value under the identifier octet `tag`.
 ///
 /// A type that puts a tag in place of another type's own calls it.
-#[inline(always)]
 pub fn read_as<T: Tagged, R: Source>(tag: u8, from: &mut Deserializer<R>) -> Result<T, Asn1DerError>
     ensures { MatchResult result
         (λ value. TookValue (tagged_tree tag T.row_tree T.row_of) value from.old from.new)
@@ -102,7 +99,6 @@ pub fn read_as<T: Tagged, R: Source>(tag: u8, from: &mut Deserializer<R>) -> Res
 }
 
 /// Takes a constructed element of these fields under the identifier octet `tag`.
-#[inline(always)]
 pub fn read_sequence<F: Fields, R: Source>(
     tag: u8,
     from: &mut Deserializer<R>,
