@@ -37,7 +37,7 @@ where
     ensures { IfOk result (λ bytes. bytes.items ≡ der (wrapped (96 + TAG % 32) (T.tree value))) }
 {
     let content = grown_encoding(alloc, value)?;
-    under_octet(alloc, 96 + TAG % 32, &content)
+    under_octet(alloc, 96 + TAG % 32, content)
 }
 
 /// The encoding of a value, which goes, in memory that grows where the first octets don't do. Its length isn't measured
@@ -53,16 +53,23 @@ fn grown_encoding<T: Serialize + Drop>(alloc: Global, value: T) -> Result<Vec<u8
     }
 }
 
-/// An element of this content under a further identifier octet, and nothing where the content is none.
-fn under_octet(alloc: Global, tag: u8, content: &[u8]) -> Result<Vec<u8>, AllocError>
-    ensures { IfOk result (λ bytes. (t : Tree) → der t ≡ content.now → bytes.items ≡ der (wrapped tag t)) }
+/// An element of this content under a further identifier octet, and nothing where the content is none. A short one keeps its
+/// memory.
+fn under_octet(alloc: Global, tag: u8, mut content: Vec<u8>) -> Result<Vec<u8>, AllocError>
+    ensures { IfOk result (λ bytes. (t : Tree) → der t ≡ content.items → bytes.items ≡ der (wrapped tag t)) }
 {
-    if content.is_empty() {
-        return Ok(Vec::new(alloc));
+    let count = content.len();
+    if count == 0 {
+        return Ok(content);
     }
-    let bytes = Vec::with_capacity(alloc, content.len().saturating_add(MOST_HEADER))?;
+    if count < 128 {
+        content.insert(0, count as u8)?;
+        content.insert(0, tag)?;
+        return Ok(content);
+    }
+    let bytes = Vec::with_capacity(alloc, count.saturating_add(MOST_HEADER))?;
     let mut to = Serializer::new_to_writer(bytes);
-    match to.element(tag, content) {
+    match to.element(tag, &content) {
         Ok(_) => Ok(to.into_writer()),
         Err(_) => Err(AllocError),
     }
