@@ -292,6 +292,7 @@ impl<R: Source> Deserializer<R> {
     }
 
     /// Takes the identifier octet `tag` and length octets, and gives the length, which lies within the limit.
+    #[inline(always)]
     pub(crate) fn open(&mut self, tag: u8) -> Result<usize, Asn1DerError>
         ensures { MatchResult result
             (λ count. Took (tag ∷ length_octets count) self.old self.new × (count ≤ self.new.limit))
