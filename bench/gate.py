@@ -5,7 +5,7 @@ BUDGET = re.compile(r"^- Budget of the gate: (\d+) processor minutes", re.M)
 CLOCK = os.sysconf("SC_CLK_TCK")
 COLUMNS = ("proof", "tests", "first edit", "further edits")
 # The budget is stated for two processors: with four, a large check takes up to four jobs, which do much of their work twice.
-PROCESSORS = 2
+PROCESSORS = int(os.environ.get("GATE_PROCESSORS", 2))
 
 
 class Check:
