@@ -25,10 +25,10 @@ use krb_moments::Moment;
 use krb_replies::{error_reply, read_as_req, read_tgs_req};
 use krb_tickets::method_data;
 use picky_asn1::wrapper::GeneralStringAsn1;
-use picky_asn1_der::{ExplicitContextTag, ExplicitContextTag3, Optional};
+use picky_asn1_der::ExplicitContextTag3;
 use picky_krb::constants::error_codes;
 use picky_krb::data_types::PrincipalName;
-use picky_krb::messages::{KdcReq, KdcReqBody};
+use picky_krb::messages::KdcReq;
 use std::alloc::{AllocError, Global};
 use std::marker::Model;
 
@@ -325,18 +325,10 @@ impl Realm {
 }
 
 // The service that a request names, where it names one.
-fn named_in(request: KdcReq) -> Option<ExplicitContextTag3<PrincipalName>>
+fn named_in(mut request: KdcReq) -> Option<ExplicitContextTag3<PrincipalName>>
     ensures { option_map (λ tagged. tagged.0) result ≡ service_of request.req_body.0 }
 {
-    let KdcReq {
-        req_body: ExplicitContextTag(body),
-        ..
-    } = request;
-    let KdcReqBody {
-        sname: Optional(named),
-        ..
-    } = body;
-    named
+    request.req_body.0.sname.0.take()
 }
 
 // What an error tells beside its code: with the one that asks for preauthentication, how the client authenticates.
