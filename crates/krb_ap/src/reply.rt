@@ -30,7 +30,15 @@ pub(crate) fn ap_reply(
 {
     let plain = part_bytes(alloc, authenticator)?;
     let confounder = &words[AP_REPLY_CONFOUNDER..AP_REPLY_CONFOUNDER + CONFOUNDER_SIZE];
-    let part = sealed_data(alloc, suite, key, None, key_usages::AP_REP, confounder, &plain)?;
+    let part = sealed_data(
+        alloc,
+        suite,
+        key,
+        None,
+        key_usages::AP_REP,
+        confounder,
+        &plain,
+    )?;
     let bytes = reply_bytes(alloc, part)?;
     Ok(bytes)
 }

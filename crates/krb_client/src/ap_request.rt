@@ -51,7 +51,13 @@ impl Client {
         ensures refusal { IfErr result (λ e. e ≡ AskRefusal.Memory) }
     {
         let subkey = subkey_of(alloc, with_subkey, credential.suite(), words)?;
-        let authenticator = self.authenticator(alloc, credential, &subkey, moment, &words[AUTHENTICATOR_CONFOUNDER..AUTHENTICATOR_CONFOUNDER + CONFOUNDER_SIZE])?;
+        let authenticator = self.authenticator(
+            alloc,
+            credential,
+            &subkey,
+            moment,
+            &words[AUTHENTICATOR_CONFOUNDER..AUTHENTICATOR_CONFOUNDER + CONFOUNDER_SIZE],
+        )?;
         let request = ap_request_of(alloc, mutual_required, credential.ticket(), authenticator)?;
         let bytes = ap_request_bytes(alloc, request)?;
         let key = OctetStringAsn1::new(alloc, credential.key())?;

@@ -60,7 +60,11 @@ impl Client {
             return Err(AskRefusal::Memory);
         };
         let nonce = nonce_of(words);
-        let stamp = self.stamp(alloc, moment, &words[STAMP_CONFOUNDER..STAMP_CONFOUNDER + CONFOUNDER_SIZE])?;
+        let stamp = self.stamp(
+            alloc,
+            moment,
+            &words[STAMP_CONFOUNDER..STAMP_CONFOUNDER + CONFOUNDER_SIZE],
+        )?;
         let request = self.as_request_of(alloc, &service, till, nonce, stamp)?;
         let bytes = as_request_bytes(alloc, request)?;
         Ok((bytes, AsAsked::new(service, nonce, moment)))
