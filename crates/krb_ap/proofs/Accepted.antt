@@ -66,7 +66,6 @@ own_suite : {T : Type 0} (tree : T â†’ Tree) (suite : CipherSuite) (key : List â
 own_suite tree suite key usage confounder value etype kvno cipher sized numbered x = record {
   numbered = numbered;
   opens = record {
-    key_bytes = x.key_bytes;
     conf = confounder;
     plain = x.plain;
     writes = x.writes;

@@ -18,7 +18,7 @@ use Rattle.krb_ap.specs.Presents.{Choice, Outer, Presents, Seals, encrypted, req
 one_value : {T : Type 0} (tree : T → Tree) → IsInjective {T = T} tree → (key : List ℕ) (usage : ℕ) (c d : List ℕ) (v w : T) (cipher : List ℕ)
     → Seals {T = T} tree key usage c v cipher → Seals {T = T} tree key usage d w cipher → (c ≡ d) × (v ≡ w)
 one_value tree injective key usage c d v w cipher x y =
-    let same = one_sealed (cipher_number x.suite) (cipher_number y.suite) key usage c x.plain d y.plain cipher x.key_bytes (x.suite, refl, x.sealed) (y.suite, refl, y.sealed) in
+    let same = one_sealed (cipher_number x.suite) (cipher_number y.suite) key usage c x.plain d y.plain cipher (x.suite, refl, x.sealed) (y.suite, refl, y.sealed) in
     (same.0, injective v w x.writes.0 y.writes.0 (sym x.writes.1 ∙ same.1 ∙ y.writes.1))
 
 -- a value and a confounder have one ciphertext

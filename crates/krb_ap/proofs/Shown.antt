@@ -40,7 +40,6 @@ given (Some a) code rest value p = (a, p)
 pub seals : {T : Type 0} (tree : T → Tree) (suite : CipherSuite) (key : List ℕ) (usage : ℕ) (sealed : EncryptedData) (value : T) (x : IsSealedIn {T = T} tree suite key usage sealed value)
     → Seals {T = T} tree key usage x.opens.conf value sealed.cipher.0
 seals tree suite key usage sealed value x = record {
-  key_bytes = x.opens.key_bytes;
   suite = x.opens.sealed.0;
   plain = x.opens.plain;
   writes = x.opens.writes;

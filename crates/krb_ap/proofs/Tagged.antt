@@ -10,7 +10,6 @@ pub same_sealed : {T U : Type 0} (t : T → Tree) (u : U → Tree) (suite : Ciph
 same_sealed t u suite key usage encrypted v w same x = record {
   numbered = x.numbered;
   opens = record {
-    key_bytes = x.opens.key_bytes;
     conf = x.opens.conf;
     plain = x.opens.plain;
     writes = subst (λ tree. IsWhole tree × (x.opens.plain ≡ der tree)) same x.opens.writes;

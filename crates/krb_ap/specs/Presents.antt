@@ -3,7 +3,6 @@ use Rattle.std.specs.Prelude.{◌≡◌, ℕ, List, Option, ℤ}
 use Rattle.std.specs.Option.{option_map}
 use Rattle.asn1_trees.specs.Tree.{Tree, Writes}
 use Rattle.picky_asn1.specs.BitString.{Bits}
-use Rattle.krb_blocks.specs.Bytes.{IsBytes}
 use Rattle.krb_crypto.specs.declared.suite.CipherSuite.{CipherSuite}
 use Rattle.krb_crypto.specs.Sealing.{IsSealedBy}
 use Rattle.krb_types.specs.declared.data_types.authenticator.AuthenticatorInner.{AuthenticatorInner}
@@ -63,7 +62,6 @@ request_of outer part_cipher cipher = record {
 
 -- the value's encoding is sealed to this ciphertext behind the confounder, by the suite that the key fits
 pub record Seals {T : Type 0} (tree : T → Tree) (key : List ℕ) (usage : ℕ) (confounder : List ℕ) (value : T) (cipher : List ℕ) : Type 0 where
-  pub key_bytes : IsBytes key
   pub suite : CipherSuite
   pub plain : List ℕ
   pub writes : Writes tree value plain

@@ -9,12 +9,12 @@ pub sealed-inside : {T V : Type 0} (inner : T → V) (tree : V → Tree) (suite 
     → IsSealedIn {T = T} (λ v. tree (inner v)) suite key usage sealed value → IsSealedIn {T = V} tree suite key usage sealed (inner value)
 sealed-inside inner tree suite key usage sealed value s = record {
   numbered = s.numbered;
-  opens = record { key_bytes = s.opens.key_bytes; conf = s.opens.conf; plain = s.opens.plain; writes = s.opens.writes; sealed = s.opens.sealed };
+  opens = record { conf = s.opens.conf; plain = s.opens.plain; writes = s.opens.writes; sealed = s.opens.sealed };
 }
 
 pub sealed-around : {T V : Type 0} (inner : T → V) (tree : V → Tree) (suite : CipherSuite) (key : List ℕ) (usage : ℕ) (sealed : EncryptedData) (value : T)
     → IsSealedIn {T = V} tree suite key usage sealed (inner value) → IsSealedIn {T = T} (λ v. tree (inner v)) suite key usage sealed value
 sealed-around inner tree suite key usage sealed value s = record {
   numbered = s.numbered;
-  opens = record { key_bytes = s.opens.key_bytes; conf = s.opens.conf; plain = s.opens.plain; writes = s.opens.writes; sealed = s.opens.sealed };
+  opens = record { conf = s.opens.conf; plain = s.opens.plain; writes = s.opens.writes; sealed = s.opens.sealed };
 }

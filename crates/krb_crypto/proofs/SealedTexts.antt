@@ -52,6 +52,7 @@ has_aes_sealed size key usage conf plain is_key sized key_bytes conf_sized conf_
       stolen.0 ++ aes_tag_of (aes_ki_of key usage) (conf ++ plain),
       record {
         key_sized = sized;
+        key_bytes = key_bytes;
         conf_sized = conf_sized;
         conf_bytes = conf_bytes;
         plain_bytes = plain_bytes;

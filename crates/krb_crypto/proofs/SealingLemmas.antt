@@ -89,13 +89,14 @@ nothing_tagged size key usage text bytes only differs = λ c p x.
     differs (rw (← same) (sym split.tag))
 
 -- where it is, the text is what is sealed
-pub opening_from_parts : (size : ℕ) (key : List ℕ) (usage : ℕ) (conf plain bytes : List ℕ) → 28 ≤ length bytes → length key ≡ size → length conf ≡ 16 → IsBytes conf → IsBytes plain
+pub opening_from_parts : (size : ℕ) (key : List ℕ) (usage : ℕ) (conf plain bytes : List ℕ) → 28 ≤ length bytes → length key ≡ size → IsBytes key → length conf ≡ 16 → IsBytes conf → IsBytes plain
     → IsStolen 16 (aes_cipher (aes_ke_of key usage)) (conf ++ plain) (take (length bytes - 12) bytes) → IsOnlyText key usage (conf ++ plain) bytes
     → aes_tag_of (aes_ki_of key usage) (conf ++ plain) ≡ drop (length bytes - 12) bytes → IsAesOpening size key usage plain bytes
-opening_from_parts size key usage conf plain bytes long key_sized conf_sized conf_bytes plain_bytes stolen only tag = record {
+opening_from_parts size key usage conf plain bytes long key_sized key_bytes conf_sized conf_bytes plain_bytes stolen only tag = record {
   conf = conf;
   sealed = record {
     key_sized = key_sized;
+    key_bytes = key_bytes;
     conf_sized = conf_sized;
     conf_bytes = conf_bytes;
     plain_bytes = plain_bytes;
@@ -130,12 +131,12 @@ stolen-bytes size E D pair p c bytes stolen =
     ]
 
 -- a string is sealed from one confounder and one text
-pub one_opening : (size : ℕ) (key : List ℕ) (usage : ℕ) (c p d q bytes : List ℕ) → IsAesKey key → IsBytes key
+pub one_opening : (size : ℕ) (key : List ℕ) (usage : ℕ) (c p d q bytes : List ℕ) → IsAesKey key
     → IsAesSealed size key usage c p bytes → IsAesSealed size key usage d q bytes → (c ≡ d) × (p ≡ q)
-one_opening size key usage c p d q bytes is_key key_bytes x y =
+one_opening size key usage c p d q bytes is_key x y =
     let ke : List ℕ = aes_ke_of key usage in
-    let derived = derived_key key (usage_constant usage 0xAA) is_key key_bytes in
-    let pair : IsBlockCipher 16 (aes_cipher ke) (aes_inverse ke) = aes_block_cipher ke (derived_aes_key key (usage_constant usage 0xAA) is_key key_bytes) derived.1 in
+    let derived = derived_key key (usage_constant usage 0xAA) is_key x.key_bytes in
+    let pair : IsBlockCipher 16 (aes_cipher ke) (aes_inverse ke) = aes_block_cipher ke (derived_aes_key key (usage_constant usage 0xAA) is_key x.key_bytes) derived.1 in
     let first = sealed_split size key usage c p bytes x in
     let second = sealed_split size key usage d q bytes y in
     let cipher : List ℕ = take (length bytes - 12) bytes in
@@ -155,6 +156,7 @@ length-sealed size key usage conf plain bytes x =
 own_size : (size : ℕ) (key : List ℕ) (usage : ℕ) (conf plain bytes : List ℕ) → IsAesSealed size key usage conf plain bytes → IsAesSealed (length key) key usage conf plain bytes
 own_size size key usage conf plain bytes x = record {
   key_sized = refl;
+  key_bytes = x.key_bytes;
   conf_sized = x.conf_sized;
   conf_bytes = x.conf_bytes;
   plain_bytes = x.plain_bytes;
@@ -168,8 +170,8 @@ suite_key Aes128CtsHmacSha196 key sized = inl sized
 suite_key Aes256CtsHmacSha196 key sized = inr sized
 
 -- by suites of any number, a string is sealed from one confounder and one text
-pub one_sealed : (m n : ℕ) (key : List ℕ) (usage : ℕ) (c p d q bytes : List ℕ) → IsBytes key
+pub one_sealed : (m n : ℕ) (key : List ℕ) (usage : ℕ) (c p d q bytes : List ℕ)
     → IsSealed m key usage c p bytes → IsSealed n key usage d q bytes → (c ≡ d) × (p ≡ q)
-one_sealed m n key usage c p d q bytes key_bytes x y =
-    one_opening (length key) key usage c p d q bytes (suite_key x.0 key x.2.key_sized) key_bytes
+one_sealed m n key usage c p d q bytes x y =
+    one_opening (length key) key usage c p d q bytes (suite_key x.0 key x.2.key_sized)
     (own_size (cipher_key_size x.0) key usage c p bytes x.2) (own_size (cipher_key_size y.0) key usage d q bytes y.2)

@@ -19,6 +19,7 @@ aes_tag_of key text = take 12 (hmac_sha1_of key text)
 -- (RFC 3961, section 5.3), where keys have `size` bytes
 pub record IsAesSealed (size : ℕ) (key : List ℕ) (usage : ℕ) (conf plain bytes : List ℕ) : Type 0 where
   pub key_sized : length key ≡ size
+  pub key_bytes : IsBytes key
   pub conf_sized : length conf ≡ 16
   pub conf_bytes : IsBytes conf
   pub plain_bytes : IsBytes plain

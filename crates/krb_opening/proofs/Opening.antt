@@ -1,7 +1,6 @@
 -- What decrypting and reading tell of a sealed part.
 use Rattle.std.proofs.Common.{◌≡◌, ◌⊎◌, ◌∙◌, ℕ, List, Result, Ok, Err, arith, inl, inr, refl, subst, sym}
 use Rattle.asn1_trees.specs.Tree.{Tree, Writes}
-use Rattle.krb_blocks.specs.Bytes.{IsBytes}
 use Rattle.krb_crypto.specs.declared.suite.CipherSuite.{CipherSuite}
 use Rattle.krb_crypto.specs.declared.suite.CipherSuite.TheVariants.{Aes128CtsHmacSha196, Aes256CtsHmacSha196}
 use Rattle.krb_crypto.specs.Sealing.{IsSealed, IsSealedBy}
@@ -46,13 +45,13 @@ opens_text {T} tree suite key usage plain input bytes same x other o =
 
 -- the value that was read from the text is the one that is sealed here
 pub opens_value : {T : Type 0} (tree : T → Tree) (suite : CipherSuite) (key : List ℕ) (usage : ℕ) (plain input bytes : List ℕ) (value : T)
-    → IsBytes key → input ≡ plain → IsDecrypted suite key usage plain bytes → ReadsAll {T = T} tree input (Ok value)
+    → input ≡ plain → IsDecrypted suite key usage plain bytes → ReadsAll {T = T} tree input (Ok value)
     → Opens {T = T} tree (cipher_number suite) key usage bytes value
     × ((other : T) → Opens {T = T} tree (cipher_number suite) key usage bytes other → other ≡ value)
-opens_value tree suite key usage plain input bytes value key_bytes same x (inl wanting) = absurd (cc (wanting))
-opens_value {T} tree suite key usage plain input bytes value key_bytes same x (inr reads) =
+opens_value tree suite key usage plain input bytes value same x (inl wanting) = absurd (cc (wanting))
+opens_value {T} tree suite key usage plain input bytes value same x (inr reads) =
     let own : Writes {T = T} tree value plain = subst (λ p. Writes {T = T} tree value p) same ((reads value).0 refl) in (
-      record { key_bytes = key_bytes; conf = x.0; plain = plain; writes = own; sealed = (suite, refl, x.1) },
+      record { conf = x.0; plain = plain; writes = own; sealed = (suite, refl, x.1) },
       λ other o. let found = (reads other).1 (opens_text tree suite key usage plain input bytes same x other o) in cc (found),
     )
 

@@ -3,7 +3,6 @@ use Rattle.std.specs.Prelude.{◌≡◌, ◌⊎◌, ℕ, List, Result, Ok, Err}
 use Rattle.std.proofs.Common.{sym, ◌∙◌}
 use Rattle.asn1_trees.specs.Tree.{Tree, Writes}
 use Rattle.asn1_trees.proofs.Spelling.{IsInjective}
-use Rattle.krb_blocks.specs.Bytes.{IsBytes}
 use Rattle.krb_blocks.specs.declared.error.KerberosCryptoError.{KerberosCryptoError}
 use Rattle.krb_blocks.specs.declared.error.KerberosCryptoError.TheVariants as crypto
 use Rattle.krb_crypto.specs.Sealing.{IsSealed}
@@ -16,7 +15,6 @@ use Rattle.krb_opening.specs.declared.open.OpenFault.TheVariants.{Crypto, Der}
 -- some confounder seals the value's encoding to these bytes under the key, for the usage, by the suite that has the
 -- number
 pub record Opens {T : Type 0} (tree : T → Tree) (number : ℕ) (key : List ℕ) (usage : ℕ) (bytes : List ℕ) (value : T) : Type 0 where
-  pub key_bytes : IsBytes key
   pub conf : List ℕ
   pub plain : List ℕ
   pub writes : Writes tree value plain
@@ -36,5 +34,5 @@ IsOpened {T} P (Err fault) = IsWantOfMemory fault ⊎ ((other : T) → P other �
 pub sole_opens : {T : Type 0} (tree : T → Tree) → IsInjective {T = T} tree → (number : ℕ) (key : List ℕ) (usage : ℕ) (bytes : List ℕ) (v w : T)
     → Opens {T = T} tree number key usage bytes v → Opens {T = T} tree number key usage bytes w → v ≡ w
 sole_opens tree injective number key usage bytes v w x y =
-    let text = (one_sealed number number key usage x.conf x.plain y.conf y.plain bytes x.key_bytes x.sealed y.sealed).1 in
+    let text = (one_sealed number number key usage x.conf x.plain y.conf y.plain bytes x.sealed y.sealed).1 in
     injective v w x.writes.0 y.writes.0 (sym x.writes.1 ∙ text ∙ y.writes.1)

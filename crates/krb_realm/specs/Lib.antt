@@ -1,4 +1,3 @@
-pub mod Judged
 pub mod Realm
 pub mod Answers
 pub use Rattle.krb_replies.specs.Replies

@@ -1,5 +1,5 @@
 -- A realm: its name, its settings, and a finite map from component lists to accounts.
-use Rattle.std.specs.Prelude.{ℕ, not, ◌==◌, List, [], ◌∷◌, length, None, Result, Ok, Err, codes, if◌then◌else◌}
+use Rattle.std.specs.Prelude.{ℕ, not, ◌==◌, List, length, None, Result, Ok, Err, if◌then◌else◌}
 use Rattle.std.specs.FinMap as finite
 use Rattle.krb_crypto.specs.declared.suite.CipherSuite.{CipherSuite}
 use Rattle.krb_crypto.specs.Suites.{cipher_key_size}
@@ -7,6 +7,7 @@ use Rattle.krb_accounts.specs.Account.{AccountRecord}
 use Rattle.krb_accounts.specs.Accounts.{AccountMap}
 use Rattle.krb_accounts.specs.Names.{is_realm_name, are_components}
 use Rattle.krb_accounts.specs.Settings.{SettingsRecord}
+use Rattle.krb_replies.specs.Errors.{krbtgt_of}
 use Rattle.krb_accounts.specs.declared.refusal.RealmRefusal.{RealmRefusal}
 use Rattle.krb_accounts.specs.declared.refusal.RealmRefusal.TheVariants.{BadName, BadKeyLength, Exists}
 
@@ -14,10 +15,6 @@ pub record RealmState : Type 0 where
   pub name : List ℕ
   pub settings : SettingsRecord
   pub accounts : AccountMap
-
--- the components of a realm's ticket-granting service (RFC 4120, section 7.3)
-abbrev pub krbtgt_of : List ℕ → List (List ℕ)
-krbtgt_of name = codes "krbtgt" ∷ name ∷ []
 
 -- an account by a first key
 abbrev pub first_key : CipherSuite → List ℕ → AccountRecord

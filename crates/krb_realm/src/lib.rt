@@ -5,12 +5,8 @@
 //! requests once. What the parts are stands in crates of their own, which this one hands on under one name.
 #![tactic(auto)]
 
-mod grant;
-mod judge;
 pub mod laws;
-mod names;
 mod realm;
-mod refusal;
 mod respond;
 
 pub use devices::{Sink, SinkFault, Source};

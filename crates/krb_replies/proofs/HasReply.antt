@@ -33,14 +33,13 @@ use Rattle.krb_sealing.specs.Sealing.{encrypted_by}
 use Rattle.krb_tickets.specs.Parts.{as_reply_of, reply_part, ticket_of, ticket_part}
 use Rattle.krb_tickets.specs.Sealed.{IsSealedData, as_reply_bytes, as_reply_part_bytes, ticket_part_bytes}
 use Rattle.krb_tickets.specs.Times.{end_of, no_end, last_second, start_of}
-use Rattle.krb_types.specs.RandomBytes.{reply_confounder, ticket_confounder}
 use Rattle.krb_grants.specs.Granted.{IsAsReply, sole_as_reply}
 use Rattle.krb_replies.specs.AsTable.{addressed, as_table, client_of, entries_of, has_refused_option, is_ended, is_later, is_listed, is_postdated, possible, preauthenticated, service_of}
-use Rattle.krb_replies.specs.Calls.{AreAsked, AreWritten, IsCall, IsKeyed, IsWritten}
+use Rattle.krb_replies.specs.Calls.{AreWritten, IsCall, IsKeyed, IsWritten}
 use Rattle.krb_replies.specs.Errors.{IsSecondOf, error_bytes, sole_second}
 use Rattle.krb_replies.specs.Grants.{IsSpan, Principals, Span, grant_of, granted, sole_span}
 use Rattle.picky_krb.specs.Messages.{IsAsReq, IsTgsReq, sole_as_req, sole_tgs_req}
-use Rattle.krb_replies.specs.Replies.{Replies, account_of, answered, as_reply, hint_of, named_service, replies, reply_of}
+use Rattle.krb_replies.specs.Replies.{Replies, account_of, answered, as_reply, hint_of, named_service, reply_of}
 use Rattle.krb_replies.proofs.Seconds.{has_time}
 
 -- sixteen of the random bytes

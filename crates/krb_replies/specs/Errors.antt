@@ -11,11 +11,15 @@ use Rattle.krb_types.specs.declared.data_types.principal_name.PrincipalName.{Pri
 use Rattle.decision_tables.specs.One.{IsSole}
 use Rattle.picky_krb.specs.Messages.{krb_error_tree}
 
--- the ticket-granting service of a realm (RFC 4120, section 7.3), of name type 2
+-- the components of a realm's ticket-granting service (RFC 4120, section 7.3)
+abbrev pub krbtgt_of : List ℕ → List (List ℕ)
+krbtgt_of realm = codes "krbtgt" ∷ realm ∷ []
+
+-- its name, of type 2
 abbrev pub ticket_service : List ℕ → PrincipalName
 ticket_service realm = record {
   name_type = record { 0 = pos 2 };
-  name_string = record { 0 = codes "krbtgt" ∷ realm ∷ [] };
+  name_string = record { 0 = krbtgt_of realm };
 }
 
 -- the error with this code, at a time and its microseconds, about a service; no optional field but the data

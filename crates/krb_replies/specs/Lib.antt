@@ -4,3 +4,4 @@ pub mod AsTable
 pub mod Replies
 pub mod Involved
 pub mod Calls
+pub mod Judged

@@ -14,7 +14,7 @@ use std::alloc::{AllocError, Global};
 
 /// The encoding of an error with this code, at a time and its microseconds, about a service, with data that belongs to
 /// the code if there is some (RFC 4120, section 5.9.1).
-pub fn error_reply(
+pub(crate) fn error_reply(
     alloc: Global,
     realm: GeneralStringAsn1,
     time: GeneralizedTime,

@@ -3,7 +3,6 @@ use Rattle.std.specs.Prelude.{◌≡◌, ℕ, ℤ, true, List, Option, None, Som
 use Rattle.std.proofs.Common.{ap, subst, sym, ◌∙◌}
 use Rattle.asn1_trees.specs.Tree.{Tree, Writes}
 use Rattle.picky_asn1_der.specs.declared.wrapper.ExplicitContextTag.{ExplicitContextTag}
-use Rattle.krb_blocks.specs.Bytes.{IsBytes}
 use Rattle.krb_crypto.specs.declared.suite.CipherSuite.{CipherSuite}
 use Rattle.krb_crypto.specs.declared.suite.CipherSuite.TheVariants.{Aes128CtsHmacSha196, Aes256CtsHmacSha196}
 use Rattle.krb_crypto.specs.Suites.{cipher_key_size, cipher_number}
@@ -53,7 +52,7 @@ is_own_number Aes256CtsHmacSha196 = refl
 
 -- what is sealed opens, as it was sealed
 pub sealed_opens : {T : Type 0} (tree : T → Tree) (value : T) (suite : CipherSuite) (key : List ℕ) (number : Option ℕ) (usage : ℕ) (confounder plain : List ℕ) (sealed : EncryptedData)
-    → IsBytes key → Writes tree value plain → Seals suite key number usage confounder plain sealed → IsSealedIn {T = T} tree suite key usage sealed value
-sealed_opens {T} tree value suite key number usage confounder plain sealed bytes writes it =
+    → Writes tree value plain → Seals suite key number usage confounder plain sealed → IsSealedIn {T = T} tree suite key usage sealed value
+sealed_opens {T} tree value suite key number usage confounder plain sealed writes it =
     subst (λ e. IsSealedIn {T = T} tree suite key usage e value) (sym it.told)
-    (record { numbered = is_own_number suite; opens = record { key_bytes = bytes; conf = confounder; plain = plain; writes = writes; sealed = (suite, refl, it.seals) } })
+    (record { numbered = is_own_number suite; opens = record { conf = confounder; plain = plain; writes = writes; sealed = (suite, refl, it.seals) } })

@@ -43,7 +43,7 @@ pub admitted_if_presented : (service : ServiceRecord) (moment : ℕ) (admitted :
 unfolding remembering
 admitted_if_presented service moment admitted bytes words choice x y long words_bytes =
     let p : Presented = shown_by choice x.acceptable.suite x.acceptable.time in
-    let reply = has_reply_to service.entry service.seen.skew moment choice words x.acceptable y.authenticator.key_bytes long words_bytes in
+    let reply = has_reply_to service.entry service.seen.skew moment choice words x.acceptable y.authenticator.sealed.key_bytes long words_bytes in
     let made : AdmissionRecord = admission_of p reply.0 in
     let whole : Admitted = record { admission = made; pair = pair_of p } in
     let shown = presented_as_chosen service.entry service.seen.skew moment choice y.part_cipher y.cipher x.acceptable y.part y.authenticator in
@@ -146,7 +146,7 @@ reply_of : (service : ServiceRecord) (moment : ℕ) (bytes words : List ℕ) (p 
     → IsReceivedOf service.entry service.seen.skew moment bytes p → (reply : Option (List ℕ)) × IsReplyTo p words reply
 reply_of service moment bytes words p long words_bytes by =
     subst (λ (q : Presented). (reply : Option (List ℕ)) × IsReplyTo q words reply) (sym by.shown)
-    (has_reply_to service.entry service.seen.skew moment by.choice words by.acceptable by.presents.authenticator.key_bytes long words_bytes)
+    (has_reply_to service.entry service.seen.skew moment by.choice words by.acceptable by.presents.authenticator.sealed.key_bytes long words_bytes)
 
 has_judged : (service : ServiceRecord) (moment : ℕ) (admitted : List PairRecord) (bytes words : List ℕ) (request : ApReqInner) → IsApReq bytes request → 16 ≤ length words → IsBytes words
     → HasOutcome (judged service moment admitted request words)

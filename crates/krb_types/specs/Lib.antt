@@ -1,3 +1,4 @@
 pub mod Trees
 pub mod Names
 pub mod RandomBytes
+pub mod Refusals

@@ -12,7 +12,7 @@ stamp_confounder = random_part 0 16
 abbrev pub nonce_bytes : List ℕ → List ℕ
 nonce_bytes = random_part 16 4
 
--- an AP request: the confounder of its authenticator, and its subkey
+-- an AP request, or a TGS request, which has a nonce too: the confounder of its authenticator, and its subkey
 abbrev pub authenticator_confounder : List ℕ → List ℕ
 authenticator_confounder = random_part 0 16
 

@@ -51,6 +51,9 @@ pub mod types {
     /// The name of a service and its instance (RFC 4120, section 6.2).
     pub const NT_SRV_INST: u8 = 2;
 
+    /// Data with an AP request, PA-TGS-REQ (RFC 4120, section 7.5.2).
+    pub const PA_TGS_REQ: u32 = 1;
+
     /// Data with a time that the client seals, PA-ENC-TIMESTAMP (RFC 4120, section 7.5.2).
     pub const PA_ENC_TIMESTAMP: u32 = 2;
 
@@ -71,6 +74,18 @@ pub mod key_usages {
 
     /// The part of an AS-REP, under the client's key.
     pub const AS_REP: i32 = 3;
+
+    /// The checksum of a TGS-REQ's body in its authenticator, under the session key.
+    pub const TGS_REQ_CHECKSUM: i32 = 6;
+
+    /// The authenticator of a TGS-REQ, under the session key.
+    pub const TGS_REQ_AUTHENTICATOR: i32 = 7;
+
+    /// The part of a TGS-REP, under the session key.
+    pub const TGS_REP_SESSION_KEY: i32 = 8;
+
+    /// The part of a TGS-REP, under the authenticator's subkey.
+    pub const TGS_REP_SUBKEY: i32 = 9;
 
     /// The authenticator of an AP-REQ, under the session key.
     pub const AP_REQ_AUTHENTICATOR: i32 = 11;
@@ -96,11 +111,17 @@ pub mod error_codes {
     /// The ticket would end where it starts, or earlier.
     pub const KDC_ERR_NEVER_VALID: u32 = 11;
 
+    /// A request asks for what the realm doesn't grant.
+    pub const KDC_ERR_POLICY: u32 = 12;
+
     /// An option isn't granted.
     pub const KDC_ERR_BADOPTION: u32 = 13;
 
     /// No suite that the request lists is at hand.
     pub const KDC_ERR_ETYPE_NOSUPP: u32 = 14;
+
+    /// The checksum's type isn't known.
+    pub const KDC_ERR_SUMTYPE_NOSUPP: u32 = 15;
 
     /// The preauthentication isn't supported.
     pub const KDC_ERR_PADATA_TYPE_NOSUPP: u32 = 16;
@@ -150,6 +171,9 @@ pub mod error_codes {
     /// The service doesn't authenticate in this way.
     pub const KRB_AP_ERR_METHOD: u32 = 48;
 
+    /// There is no checksum, or one of another key's suite.
+    pub const KRB_AP_ERR_INAPP_CKSUM: u32 = 50;
+
     /// An error that has no code of its own.
     pub const KRB_ERR_GENERIC: u32 = 60;
 
@@ -165,10 +189,10 @@ pub mod random_bytes {
     /// The confounder of an AS request's stamp.
     pub const STAMP_CONFOUNDER: usize = 0;
 
-    /// The nonce of an AS request, of four bytes.
+    /// The nonce of an AS or a TGS request, of four bytes.
     pub const NONCE: usize = 16;
 
-    /// The confounder of an AP request's authenticator.
+    /// The confounder of the authenticator of an AP or a TGS request.
     pub const AUTHENTICATOR_CONFOUNDER: usize = 0;
 
     /// The subkey of an AP request, as long as a key of its suite.

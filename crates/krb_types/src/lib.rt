@@ -1,4 +1,4 @@
-//! What Kerberos messages hold (RFC 4120, sections 5.2 to 5.5), and the numbers of the standard.
+//! What Kerberos messages hold (RFC 4120, sections 5.2 to 5.5), the numbers of the standard, and how requests are refused.
 //!
 //! The names, fields and tags are the standard's. `picky_krb` hands these modules on beside the messages.
 #![tactic(auto)]
@@ -6,5 +6,7 @@
 pub mod constants;
 pub mod data_types;
 mod names;
+mod refusal;
 
 pub use names::{is_same_name, is_same_realm};
+pub use refusal::Refusal;

@@ -8,12 +8,14 @@ use Rattle.picky_krb.specs.declared.messages.ap_req.ApReqInner.{ApReqInner}
 use Rattle.picky_krb.specs.declared.messages.enc_kdc_rep_part.EncKdcRepPart.{EncKdcRepPart}
 use Rattle.picky_krb.specs.declared.messages.kdc_rep.KdcRep.{KdcRep}
 use Rattle.picky_krb.specs.declared.messages.kdc_req.KdcReq.{KdcReq}
+use Rattle.picky_krb.specs.declared.messages.kdc_req_body.KdcReqBody.{KdcReqBody}
 use Rattle.picky_krb.specs.declared.messages.krb_error.KrbErrorInner.{KrbErrorInner}
 use Rattle.picky_krb.specs.contracts.messages.ap_rep.ApRepInnerTagged.TheImpl as ap_rep_impl
 use Rattle.picky_krb.specs.contracts.messages.ap_req.ApReqInnerTagged.TheImpl as ap_req_impl
 use Rattle.picky_krb.specs.contracts.messages.enc_kdc_rep_part.EncKdcRepPartTagged.TheImpl as enc_kdc_rep_part_impl
 use Rattle.picky_krb.specs.contracts.messages.kdc_rep.KdcRepTagged.TheImpl as kdc_rep_impl
 use Rattle.picky_krb.specs.contracts.messages.kdc_req.KdcReqTagged.TheImpl as kdc_req_impl
+use Rattle.picky_krb.specs.contracts.messages.kdc_req_body.KdcReqBodyTagged.TheImpl as kdc_req_body_impl
 use Rattle.picky_krb.specs.contracts.messages.krb_error.KrbErrorInnerTagged.TheImpl as krb_error_impl
 
 abbrev pub ap_rep_inner_tree : ApRepInner → Tree
@@ -45,6 +47,12 @@ kdc_req_inner_tree = tagged_tree 48 kdc_req_impl.ghosts.row_tree kdc_req_impl.gh
 
 pub kdc_req_inner-injective : IsInjective kdc_req_inner_tree
 kdc_req_inner-injective = tagged-injective 48 kdc_req_impl.ghosts.row_tree kdc_req_impl.ghosts.row_laws kdc_req_impl.ghosts.row_of kdc_req_impl.ghosts.one_row
+
+abbrev pub kdc_req_body_tree : KdcReqBody → Tree
+kdc_req_body_tree = tagged_tree 48 kdc_req_body_impl.ghosts.row_tree kdc_req_body_impl.ghosts.row_of
+
+pub kdc_req_body-injective : IsInjective kdc_req_body_tree
+kdc_req_body-injective = tagged-injective 48 kdc_req_body_impl.ghosts.row_tree kdc_req_body_impl.ghosts.row_laws kdc_req_body_impl.ghosts.row_of kdc_req_body_impl.ghosts.one_row
 
 abbrev pub krb_error_inner_tree : KrbErrorInner → Tree
 krb_error_inner_tree = tagged_tree 48 krb_error_impl.ghosts.row_tree krb_error_impl.ghosts.row_of

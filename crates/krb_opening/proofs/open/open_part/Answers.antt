@@ -12,7 +12,7 @@ pub returns-in-Ok-from_exact_bytes : goal.returns-in-Ok-from_exact_bytes
 returns-in-Ok-from_exact_bytes g c =
     let fits : SFits w32 c.args.usage = c.ranges.usage in
     opens_value g.T.Serialize.tree c.args.suite c.args.key.now _ c.in-Ok.plain.items _ c.args.bytes.now c.in-Ok-from_exact_bytes.value
-    (λ i. (c.type_inv.key i).fits) c.deref.ensures.value (simp to_z-of_z at c.in-Ok.ensures.opened) c.in-Ok-from_exact_bytes.ensures.value
+    c.deref.ensures.value (simp to_z-of_z at c.in-Ok.ensures.opened) c.in-Ok-from_exact_bytes.ensures.value
 
 pub returns : goal.returns
 returns g c =

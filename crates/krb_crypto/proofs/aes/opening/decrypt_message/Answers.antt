@@ -36,5 +36,5 @@ returns-clause-opened c =
     let text = c.deref-4.ensures.value ∙ (rw (c.deref.ensures.value, c.deref-2.ensures.value) at c.in_ok-text.ensures) in
     let tag = c.deref-5.ensures.value ∙ (rw (ki, text) at c.in_ok-tag.ensures) in
     let came = c.deref-6.ensures.value ∙ before.checksum in
-    opening_from_parts (key_length_of c.args.aes_size.now) c.args.key.now (cast_unsigned w32 c.args.key_usage) opened.confounder.items opened.plaintext.items c.args.cipher_data.now before.long before.key_sized (omega (arith, before.sized.0)) before.bytes.0 before.bytes.1
+    opening_from_parts (key_length_of c.args.aes_size.now) c.args.key.now (cast_unsigned w32 c.args.key_usage) opened.confounder.items opened.plaintext.items c.args.cipher_data.now before.long before.key_sized (λ i. (c.type_inv.key i).fits) (omega (arith, before.sized.0)) before.bytes.0 before.bytes.1
     decrypted only (sym tag ∙ c.if-not-same_bytes.ensures.0 refl ∙ came)

@@ -10,4 +10,4 @@ pub returns-clause-one_text : goal.returns-clause-one_text
 returns-clause-one_text c = λ d q sealed.
     let key = c.args.key.now in
     let is_key = IsAesKey-of_size c.args.aes_size.now key sealed.key_sized in
-    one_opening _ key _ d q c.args.confounder c.args.payload.now _ is_key (λ i. (c.type_inv.key i).fits) sealed (search rules)
+    one_opening _ key _ d q c.args.confounder c.args.payload.now _ is_key sealed (search rules)

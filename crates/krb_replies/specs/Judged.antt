@@ -3,10 +3,10 @@ use Rattle.std.specs.Prelude.{◌≡◌, ℕ, List, Option, Result, Ok, Err, Vec
 use Rattle.std.specs.Global.{Global}
 use Rattle.std.specs.Option.{option_map}
 use Rattle.krb_replies.specs.Grants.{Principals}
-use Rattle.krb_realm.specs.declared.grant.Principals as asked
-use Rattle.krb_realm.specs.declared.refusal.Refusal.{Refusal}
-use Rattle.krb_realm.specs.declared.refusal.Refusal.TheVariants.{Krb, Memory}
-use Rattle.krb_realm.specs.declared.refusal.Told.{Told}
+use Rattle.krb_replies.specs.declared.grant.Principals as asked
+use Rattle.krb_replies.specs.declared.refusal.Refusal.{Refusal}
+use Rattle.krb_replies.specs.declared.refusal.Refusal.TheVariants.{Krb, Memory}
+use Rattle.krb_replies.specs.declared.refusal.Told.{Told}
 
 -- memory aside, the judgement is an outcome of the table's
 abbrev pub IsJudged : {T : Type 0} → (Result T ℕ → Type 0) → Result T Refusal → Type 0

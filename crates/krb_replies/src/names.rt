@@ -1,8 +1,7 @@
 //! The name of a realm's ticket-granting service.
 ghost use Rattle.std.specs.Prelude.{◌≡◌, IfOk, codes};
 ghost use Rattle.std.specs.Option.{option_map};
-ghost use Rattle.krb_realm.specs.Realm.{krbtgt_of};
-ghost use Rattle.krb_replies.specs.Errors.{ticket_service};
+ghost use Rattle.krb_replies.specs.Errors.{krbtgt_of, ticket_service};
 ghost use Rattle.krb_replies.specs.Replies.{named_service};
 
 use picky_asn1::wrapper::{Asn1SequenceOf, GeneralStringAsn1, IntegerAsn1};
@@ -12,7 +11,7 @@ use picky_krb::data_types::PrincipalName;
 use std::alloc::{AllocError, Global};
 
 /// The components of the ticket-granting service of a realm (RFC 4120, section 7.3).
-pub(crate) fn krbtgt_of(
+pub fn krbtgt_of(
     alloc: Global,
     realm: &GeneralStringAsn1,
 ) -> Result<Vec<GeneralStringAsn1>, AllocError>

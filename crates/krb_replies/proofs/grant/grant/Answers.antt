@@ -1,7 +1,7 @@
 use Rattle.krb_tickets.specs.declared.grant.Grant.{Grant}
-use Rattle.krb_realm.specs.Judged.{principals}
-use Rattle.krb_realm.proofs.Granted.{granted_by}
-use Rattle.krb_realm.proofs.grant.grant.Goals as goal
+use Rattle.krb_replies.specs.Judged.{principals}
+use Rattle.krb_replies.proofs.Granted.{granted_by}
+use Rattle.krb_replies.proofs.grant.grant.Goals as goal
 
 pub returns : goal.returns
 returns c =

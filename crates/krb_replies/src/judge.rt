@@ -5,7 +5,7 @@ ghost use Rattle.krb_accounts.specs.Accounts.{look_in};
 ghost use Rattle.krb_replies.specs.AsTable.{addressed, client_of, entries_of, has_refused_option, is_ended, is_later, is_listed, is_postdated, possible, preauthenticated, service_of};
 ghost use Rattle.krb_preauth.specs.Entries.{first_of};
 ghost use Rattle.krb_replies.specs.Replies.{account_of};
-ghost use Rattle.krb_realm.specs.Judged.{IsJudged};
+ghost use Rattle.krb_replies.specs.Judged.{IsJudged};
 
 use crate::refusal::Refusal;
 use krb_accounts::{Account, Accounts, Settings};

@@ -1,6 +1,6 @@
 //! How a request is refused.
 ghost use Rattle.std.specs.Prelude.{◌≡◌};
-ghost use Rattle.krb_realm.specs.declared.refusal.Refusal.TheVariants.{Memory};
+ghost use Rattle.krb_replies.specs.declared.refusal.Refusal.TheVariants.{Memory};
 
 use std::alloc::AllocError;
 

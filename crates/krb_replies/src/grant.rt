@@ -1,7 +1,7 @@
 //! Granting what was asked for.
 ghost use Rattle.std.specs.Prelude.{◌≡◌, ◌≤◌, Ok, length, IfOk};
 ghost use Rattle.krb_replies.specs.Grants.{granted};
-ghost use Rattle.krb_realm.specs.Judged.{principals};
+ghost use Rattle.krb_replies.specs.Judged.{principals};
 ghost use Rattle.krb_tickets.specs.Parts.{session_key_of};
 
 use krb_accounts::{Account, Settings};

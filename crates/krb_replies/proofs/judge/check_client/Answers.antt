@@ -3,7 +3,7 @@ use Rattle.std.specs.Option.{is_some}
 use Rattle.krb_moments.specs.Skew.{is_far}
 use Rattle.krb_preauth.specs.Entries.{first_of}
 use Rattle.krb_preauth.specs.Stamps.{moment_of}
-use Rattle.krb_realm.proofs.judge.check_client.Goals as goal
+use Rattle.krb_replies.proofs.judge.check_client.Goals as goal
 
 pub returns-in_default-2 : goal.returns-in_default-2
 returns-in_default-2 c =
