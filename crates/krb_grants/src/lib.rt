@@ -1,25 +1,26 @@
-//! Granting a first ticket (RFC 4120, section 3.1.3).
+//! Granting a ticket, in an AS or a TGS exchange (RFC 4120, sections 3.1.3, 3.3.3).
 #![tactic(auto)]
 
 ghost use Rattle.std.specs.Prelude.{◌≤◌, length, IfOk};
-ghost use Rattle.krb_grants.specs.Granted.{IsAsReply};
+ghost use Rattle.krb_grants.specs.Granted.{IsTicketReply, reply_key_of};
 
 use krb_accounts::Account;
-use krb_tickets::{Grant, reply_bytes, sealed_reply, sealed_ticket};
+use krb_tickets::{Grant, ReplyKey, reply_bytes, sealed_reply, sealed_ticket};
 use krb_types::constants::random_bytes::{CONFOUNDER_SIZE, REPLY_CONFOUNDER, TICKET_CONFOUNDER};
 use std::alloc::{AllocError, Global};
 
-/// The reply with the ticket, under the accounts' keys (RFC 4120, section 5.4.2). The ticket's confounder and the
-/// reply's are random bytes in their places.
-pub fn as_reply(
+/// The reply with the ticket (RFC 4120, section 5.4.2): the ticket's part under the service's key, with its number, and the
+/// reply's part under the reply key. The ticket's confounder and the reply's are random bytes in their places. Under keys
+/// of their suites' lengths memory is the only refusal.
+pub fn ticket_reply(
     alloc: Global,
     grant: &Grant,
-    client: &Account,
+    under: &ReplyKey<'_>,
     service: &Account,
     words: &[u8],
 ) -> Result<Vec<u8>, AllocError>
     requires { 128 ≤ length words.now }
-    ensures { IfOk result (λ bytes. IsAsReply grant.now client.now service.now words.now bytes.items) }
+    ensures { IfOk result (λ bytes. IsTicketReply grant.now (reply_key_of under.now) service.now words.now bytes.items) }
 {
     let ticket = sealed_ticket(
         alloc,
@@ -30,9 +31,9 @@ pub fn as_reply(
     let part = sealed_reply(
         alloc,
         grant,
-        client,
+        under,
         &words[REPLY_CONFOUNDER..REPLY_CONFOUNDER + CONFOUNDER_SIZE],
     )?;
-    let bytes = reply_bytes(alloc, grant, ticket, part)?;
+    let bytes = reply_bytes(alloc, under.exchange, grant, ticket, part)?;
     Ok(bytes)
 }

@@ -1,12 +1,10 @@
--- What a granted ticket and its reply hold (RFC 4120, sections 3.1.3, 5.3, 5.4.2).
-use Rattle.std.specs.Prelude.{◌≡◌, ℕ, List, [], ◌∷◌, None, Some, pos, refl}
+-- What a granted ticket and its reply hold (RFC 4120, sections 3.1.3, 3.3.3, 5.3, 5.4.2).
+use Rattle.std.specs.Prelude.{◌≡◌, ℕ, ◌+◌, List, [], ◌∷◌, None, Some, true, false, pos, refl, if◌then◌else◌}
 use Rattle.picky_asn1.specs.BitString.{Bits}
 use Rattle.asn1_leaves.specs.declared.date.GeneralizedTime.{GeneralizedTime}
 use Rattle.krb_crypto.specs.declared.suite.CipherSuite.{CipherSuite}
-use Rattle.krb_crypto.specs.Suites.{cipher_key_size, cipher_number}
-use Rattle.krb_accounts.specs.Account.{AccountRecord}
+use Rattle.krb_crypto.specs.Suites.{cipher_key_size}
 use Rattle.krb_types.specs.declared.data_types.encrypted_data.EncryptedData.{EncryptedData}
-use Rattle.krb_types.specs.declared.data_types.encryption_key.EncryptionKey.{EncryptionKey}
 use Rattle.krb_types.specs.declared.data_types.enc_ticket_part.EncTicketPartInner.{EncTicketPartInner}
 use Rattle.krb_types.specs.declared.data_types.last_req.LastReqInner.{LastReqInner}
 use Rattle.krb_types.specs.declared.data_types.ticket.TicketInner.{TicketInner}
@@ -16,14 +14,30 @@ use Rattle.picky_krb.specs.declared.messages.kdc_rep.KdcRep.{KdcRep}
 use Rattle.picky_krb.specs.declared.messages.enc_kdc_rep_part.EncKdcRepPart.{EncKdcRepPart}
 use Rattle.krb_sealing.specs.Sealing.{encryption_key}
 use Rattle.krb_tickets.specs.declared.grant.Grant.{Grant}
+use Rattle.krb_tickets.specs.declared.grant.TicketFlags.{TicketFlags}
+use Rattle.krb_tickets.specs.declared.reply.Exchange.{Exchange}
+use Rattle.krb_tickets.specs.declared.reply.Exchange.TheVariants.{As, Tgs}
 
 -- the session's key
 abbrev pub session_key_of : CipherSuite → List ℕ → List ℕ
 session_key_of suite words = session_key_bytes (cipher_key_size suite) words
 
--- initial and preauthenticated (RFC 4120, section 5.3)
-abbrev pub initial_flags : Bits
-initial_flags = record { octets = 0x00 ∷ 0x60 ∷ 0x00 ∷ 0x00 ∷ []; unused = 0 }
+-- initial is bit 9 of 32, and preauthenticated bit 10 (RFC 4120, section 5.3)
+abbrev pub flags_octet : TicketFlags → ℕ
+flags_octet flags = (if flags.initial then 0x40 else 0x00) + (if flags.pre_authenticated then 0x20 else 0x00)
+
+abbrev pub flags_of : TicketFlags → Bits
+flags_of flags = record { octets = 0x00 ∷ flags_octet flags ∷ 0x00 ∷ 0x00 ∷ []; unused = 0 }
+
+-- those of an AS exchange's ticket, and of a TGS exchange's
+initial_flags : flags_of (record { initial = true; pre_authenticated = true }) ≡ record { octets = 0x00 ∷ 0x60 ∷ 0x00 ∷ 0x00 ∷ []; unused = 0 }
+initial_flags = refl
+
+later_flags : flags_of (record { initial = false; pre_authenticated = true }) ≡ record { octets = 0x00 ∷ 0x20 ∷ 0x00 ∷ 0x00 ∷ []; unused = 0 }
+later_flags = refl
+
+no_flags : flags_of (record { initial = false; pre_authenticated = false }) ≡ record { octets = 0x00 ∷ 0x00 ∷ 0x00 ∷ 0x00 ∷ []; unused = 0 }
+no_flags = refl
 
 -- no realm was passed through, spelled as DOMAIN-X500-COMPRESS (RFC 4120, section 7.5.5)
 abbrev pub no_realms : TransitedEncoding
@@ -36,12 +50,12 @@ last_requests start = record { lr_type = record { 0 = pos 0 }; lr_value = record
 -- the part under the service's key: no realm was passed through, and no address and no right is told
 unfoldable pub ticket_part : Grant → EncTicketPartInner
 ticket_part grant = record {
-  flags = record { 0 = initial_flags };
+  flags = record { 0 = flags_of grant.flags };
   key = record { 0 = encryption_key grant.suite grant.session };
   crealm = record { 0 = grant.realm };
   cname = record { 0 = grant.client };
   transited = record { 0 = no_realms };
-  auth_time = record { 0 = record { 0 = grant.start } };
+  auth_time = record { 0 = record { 0 = grant.auth_time } };
   starttime = record { 0 = Some (record { 0 = record { 0 = grant.start } }) };
   endtime = record { 0 = record { 0 = grant.until } };
   renew_till = record { 0 = None };
@@ -49,15 +63,15 @@ ticket_part grant = record {
   authorization_data = record { 0 = None };
 }
 
--- the part under the client's key: one last request, of type 0, at the start
+-- the part under the reply key: one last request, of type 0, at the start
 unfoldable pub reply_part : Grant → EncKdcRepPart
 reply_part grant = record {
   key = record { 0 = encryption_key grant.suite grant.session };
   last_req = record { 0 = last_requests grant.start };
   nonce = record { 0 = grant.nonce };
   key_expiration = record { 0 = None };
-  flags = record { 0 = initial_flags };
-  auth_time = record { 0 = record { 0 = grant.start } };
+  flags = record { 0 = flags_of grant.flags };
+  auth_time = record { 0 = record { 0 = grant.auth_time } };
   start_time = record { 0 = Some (record { 0 = record { 0 = grant.start } }) };
   end_time = record { 0 = record { 0 = grant.until } };
   renew_till = record { 0 = None };
@@ -85,11 +99,16 @@ ticket_of grant part = record {
   enc_part = record { 0 = part };
 }
 
+-- the message type (RFC 4120, section 5.10)
+abbrev pub reply_type : Exchange → ℕ
+reply_type As = 11
+reply_type Tgs = 13
+
 -- the reply with its ticket, and its part as ciphertext
-unfoldable pub as_reply_of : Grant → TicketInner → EncryptedData → KdcRep
-as_reply_of grant ticket part = record {
+unfoldable pub kdc_reply_of : Exchange → Grant → TicketInner → EncryptedData → KdcRep
+kdc_reply_of exchange grant ticket part = record {
   pvno = record { 0 = pos 5 };
-  msg_type = record { 0 = pos 11 };
+  msg_type = record { 0 = pos (reply_type exchange) };
   padata = record { 0 = None };
   crealm = record { 0 = grant.realm };
   cname = record { 0 = grant.client };

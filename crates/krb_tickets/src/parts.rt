@@ -1,11 +1,11 @@
 //! The parts of a granted ticket and of its reply, before they are sealed.
 ghost use Rattle.std.specs.Prelude.{◌≡◌, IfOk};
-ghost use Rattle.krb_tickets.specs.Parts.{initial_flags, last_requests, no_realms, reply_part, ticket_part};
+ghost use Rattle.krb_tickets.specs.Parts.{flags_octet, flags_of, last_requests, no_realms, reply_part, ticket_part};
 
-use crate::grant::Grant;
+use crate::grant::{Grant, TicketFlags};
 use krb_sealing::encryption_key;
 use krb_types::data_types::{
-    EncTicketPartInner, EncryptionKey, KerberosFlags, LastReq, LastReqInner, TransitedEncoding,
+    EncTicketPartInner, KerberosFlags, LastReq, LastReqInner, TransitedEncoding,
 };
 use picky_asn1::date::GeneralizedTime;
 use picky_asn1::wrapper::{
@@ -15,8 +15,11 @@ use picky_asn1_der::{ExplicitContextTag, Optional};
 use picky_krb::messages::EncKdcRepPart;
 use std::alloc::{AllocError, Global};
 
-/// The flags `initial` and `pre-authent`, bits 9 and 10 of 32 (RFC 4120, section 5.3).
-const INITIAL_FLAGS: [u8; 4] = [0x00, 0x60, 0x00, 0x00];
+/// The flag `initial`, bit 9 of 32, in the second octet (RFC 4120, section 5.3).
+const INITIAL: u8 = 0x40;
+
+/// The flag `pre-authent`, bit 10 of 32, in the second octet (RFC 4120, section 5.3).
+const PRE_AUTHENTICATED: u8 = 0x20;
 
 /// The spelling of passed realms that RFC 4120 names, DOMAIN-X500-COMPRESS (section 7.5.5).
 const DOMAIN_X500_COMPRESS: u64 = 1;
@@ -29,20 +32,19 @@ const NO_LAST_REQUEST: u64 = 0;
 pub(crate) fn ticket_part(alloc: Global, grant: &Grant) -> Result<EncTicketPartInner, AllocError>
     ensures { IfOk result (λ part. part ≡ ticket_part grant.now) }
 {
-    let flags = initial_flags(alloc)?;
+    let flags = flags_of(alloc, grant.flags)?;
     let key = encryption_key(alloc, grant.suite, &grant.session)?;
     let realm = grant.realm.clone()?;
     let client = grant.client.clone()?;
     let transited = no_realms(alloc)?;
-    let start = GeneralizedTimeAsn1(grant.start);
     Ok(EncTicketPartInner {
         flags: ExplicitContextTag(flags),
         key: ExplicitContextTag(key),
         crealm: ExplicitContextTag(realm),
         cname: ExplicitContextTag(client),
         transited: ExplicitContextTag(transited),
-        auth_time: ExplicitContextTag(start),
-        starttime: Optional(Some(ExplicitContextTag(start))),
+        auth_time: ExplicitContextTag(GeneralizedTimeAsn1(grant.auth_time)),
+        starttime: Optional(Some(ExplicitContextTag(GeneralizedTimeAsn1(grant.start)))),
         endtime: ExplicitContextTag(GeneralizedTimeAsn1(grant.until)),
         renew_till: Optional(None),
         caddr: Optional(None),
@@ -58,18 +60,17 @@ pub(crate) fn reply_part(alloc: Global, grant: &Grant) -> Result<EncKdcRepPart, 
     let key = encryption_key(alloc, grant.suite, &grant.session)?;
     let last_req = last_requests(alloc, grant.start)?;
     let nonce = grant.nonce.clone()?;
-    let flags = initial_flags(alloc)?;
+    let flags = flags_of(alloc, grant.flags)?;
     let realm = grant.realm.clone()?;
     let service = grant.service.clone()?;
-    let start = GeneralizedTimeAsn1(grant.start);
     Ok(EncKdcRepPart {
         key: ExplicitContextTag(key),
         last_req: ExplicitContextTag(last_req),
         nonce: ExplicitContextTag(nonce),
         key_expiration: Optional(None),
         flags: ExplicitContextTag(flags),
-        auth_time: ExplicitContextTag(start),
-        start_time: Optional(Some(ExplicitContextTag(start))),
+        auth_time: ExplicitContextTag(GeneralizedTimeAsn1(grant.auth_time)),
+        start_time: Optional(Some(ExplicitContextTag(GeneralizedTimeAsn1(grant.start)))),
         end_time: ExplicitContextTag(GeneralizedTimeAsn1(grant.until)),
         renew_till: Optional(None),
         srealm: ExplicitContextTag(realm),
@@ -79,13 +80,28 @@ pub(crate) fn reply_part(alloc: Global, grant: &Grant) -> Result<EncKdcRepPart, 
     })
 }
 
-fn initial_flags(alloc: Global) -> Result<KerberosFlags, AllocError>
-    ensures { IfOk result (λ flags. flags ≡ initial_flags) }
+// The flags as 32 bits.
+fn flags_of(alloc: Global, flags: TicketFlags) -> Result<KerberosFlags, AllocError>
+    ensures { IfOk result (λ bits. bits ≡ flags_of flags) }
 {
-    let Ok(flags) = BitStringAsn1::new(alloc, &INITIAL_FLAGS, 0) else {
+    let octets = [0x00, flags_octet(flags), 0x00, 0x00];
+    let Ok(bits) = BitStringAsn1::new(alloc, &octets, 0) else {
         return Err(AllocError);
     };
-    Ok(flags)
+    Ok(bits)
+}
+
+// The second of their four octets.
+fn flags_octet(flags: TicketFlags) -> u8
+    ensures { result ≡ flags_octet flags }
+{
+    let initial = if flags.initial { INITIAL } else { 0x00 };
+    let pre_authenticated = if flags.pre_authenticated {
+        PRE_AUTHENTICATED
+    } else {
+        0x00
+    };
+    initial + pre_authenticated
 }
 
 // No realm lies between that of the client and that of the service.

@@ -1,7 +1,8 @@
 //! A ticket's times.
 ghost use Rattle.std.specs.Prelude.{◌≡◌, ◌≤◌, ◌<◌, ◌+◌};
+ghost use Rattle.std.specs.Option.{option_map};
 ghost use Rattle.picky_asn1.specs.GeneralizedTime.{seconds_of};
-ghost use Rattle.krb_tickets.specs.Times.{end_of, start_of};
+ghost use Rattle.krb_tickets.specs.Times.{end_of, old_end, start_of};
 
 use krb_accounts::Settings;
 use krb_moments::Moment;
@@ -20,16 +21,32 @@ pub fn start_of(moment: Moment) -> GeneralizedTime
     moment.second()
 }
 
-/// The second that a ticket ends in: the least of the end asked for, the start and the greatest lifetime, and the last
-/// second of year 9999.
-pub fn end_of(settings: Settings, start: GeneralizedTime, till: GeneralizedTime) -> GeneralizedTime
-    ensures { seconds_of result ≡ end_of settings.lifetime (seconds_of start) (seconds_of till) }
+/// The second that a ticket ends in: the least of the end asked for, the start and the greatest lifetime, the end of the
+/// ticket that it is granted by, if one is, and the last second of year 9999 (RFC 4120, sections 3.1.3, 3.3.3).
+pub fn end_of(
+    settings: Settings,
+    start: GeneralizedTime,
+    old: Option<GeneralizedTime>,
+    till: GeneralizedTime,
+) -> GeneralizedTime
+    ensures { seconds_of result ≡ end_of settings.lifetime (seconds_of start) (option_map seconds_of old) (seconds_of till) }
 {
     let asked = if till.seconds() == NO_END {
         LAST_SECOND
     } else {
         till.seconds()
     };
-    let greatest = (start.seconds() + settings.lifetime()).min(LAST_SECOND);
+    let old = old_end(old).min(LAST_SECOND);
+    let greatest = (start.seconds() + settings.lifetime()).min(old);
     GeneralizedTime::from_seconds(asked.min(greatest))
+}
+
+// The end of the ticket that a new one is granted by, if one is.
+fn old_end(old: Option<GeneralizedTime>) -> u64
+    ensures { result ≡ old_end (option_map seconds_of old) }
+{
+    match old {
+        Some(old) => old.seconds(),
+        None => LAST_SECOND,
+    }
 }

@@ -1,0 +1,193 @@
+//! The reply that a ticket is granted by, and the key that its own part is sealed under.
+ghost use Rattle.std.specs.Prelude.{◌≡◌, length, pos, IfOk};
+ghost use Rattle.krb_tickets.specs.Sealed.{IsSealedReply, kdc_reply_bytes, reply_part_bytes};
+ghost use Rattle.krb_tickets.specs.Parts.{kdc_reply_of, reply_part, reply_type, ticket_of};
+ghost use Rattle.krb_tickets.specs.ReplyKeys.{reply_key_of};
+
+use crate::grant::{Grant, ticket_of};
+use crate::parts::reply_part;
+use krb_accounts::Account;
+use krb_crypto::CipherSuite;
+use krb_encoding::tagged_encoding;
+use krb_sealing::sealed_data;
+use krb_types::constants::key_usages;
+use krb_types::constants::types::{
+    AS_REP_MSG_TYPE, ENC_AS_REP_PART_TYPE, ENC_TGS_REP_PART_TYPE, KERBEROS_VERSION,
+    TGS_REP_MSG_TYPE,
+};
+use krb_types::data_types::EncryptedData;
+use picky_asn1::wrapper::IntegerAsn1;
+use picky_asn1_der::{ApplicationTag, ExplicitContextTag, Optional};
+use picky_krb::messages::{EncKdcRepPart, KdcRep};
+use std::alloc::{AllocError, Global};
+
+/// The exchange that a ticket is granted in (RFC 4120, sections 3.1 and 3.3).
+#[derive(Clone, Copy, Debug, PartialEq, Eq)]
+pub enum Exchange {
+    /// By the client's own key.
+    As,
+    /// By a ticket that it was granted before.
+    Tgs,
+}
+
+/// The key that a reply's own part is sealed under (RFC 4120, sections 3.1.3 and 3.3.3).
+#[derive(Clone, Copy)]
+pub struct ReplyKey<'a> {
+    /// The exchange that is replied in.
+    pub exchange: Exchange,
+    /// The suite of the key.
+    pub suite: CipherSuite,
+    /// The key.
+    pub key: &'a [u8],
+    /// The key's number, where it is told.
+    pub number: Option<u32>,
+    /// What the key is used for (RFC 4120, section 7.5.1).
+    pub usage: i32,
+}
+
+impl<'a> ReplyKey<'a> {
+    ghost use Rattle.krb_tickets.specs.ReplyKeys.{as_reply_key, reply_key_of, tgs_reply_key, tgs_subkey_reply_key};
+
+    /// The client's key, by which it is replied to in an AS exchange.
+    pub fn of_client(client: &'a Account) -> ReplyKey<'a>
+        ensures { reply_key_of result ≡ as_reply_key client.now }
+    {
+        ReplyKey {
+            exchange: Exchange::As,
+            suite: client.suite(),
+            key: client.key(),
+            number: Some(client.number()),
+            usage: key_usages::AS_REP,
+        }
+    }
+
+    /// The old ticket's session key, by which its client is replied to in a TGS exchange without a subkey.
+    pub fn of_session(suite: CipherSuite, key: &'a [u8]) -> ReplyKey<'a>
+        ensures { reply_key_of result ≡ tgs_reply_key suite key.now }
+    {
+        ReplyKey {
+            exchange: Exchange::Tgs,
+            suite,
+            key,
+            number: None,
+            usage: key_usages::TGS_REP_SESSION_KEY,
+        }
+    }
+
+    /// The authenticator's subkey, by which its client is replied to in a TGS exchange.
+    pub fn of_subkey(suite: CipherSuite, key: &'a [u8]) -> ReplyKey<'a>
+        ensures { reply_key_of result ≡ tgs_subkey_reply_key suite key.now }
+    {
+        ReplyKey {
+            exchange: Exchange::Tgs,
+            suite,
+            key,
+            number: None,
+            usage: key_usages::TGS_REP_SUBKEY,
+        }
+    }
+}
+
+/// The reply's part under the reply key, behind the confounder of 16 bytes. Under a key of the suite's length memory is the
+/// only refusal.
+pub fn sealed_reply(
+    alloc: Global,
+    grant: &Grant,
+    under: &ReplyKey<'_>,
+    confounder: &[u8],
+) -> Result<EncryptedData, AllocError>
+    requires { length confounder.now ≡ 16 }
+    ensures { IfOk result (IsSealedReply (reply_key_of under.now) confounder.now
+        (reply_part_bytes under.now.exchange (reply_part grant.now))) }
+{
+    let part = reply_part(alloc, grant)?;
+    let plain = reply_part_bytes(alloc, under.exchange, part)?;
+    let sealed = sealed_data(
+        alloc,
+        under.suite,
+        under.key,
+        under.number,
+        under.usage,
+        confounder,
+        &plain,
+    )?;
+    Ok(sealed)
+}
+
+/// The encoding of the exchange's reply with the sealed parts of the ticket and of the reply.
+pub fn reply_bytes(
+    alloc: Global,
+    exchange: Exchange,
+    grant: &Grant,
+    ticket: EncryptedData,
+    part: EncryptedData,
+) -> Result<Vec<u8>, AllocError>
+    ensures { IfOk result (λ bytes. bytes.items ≡ kdc_reply_bytes exchange (kdc_reply_of exchange grant.now (ticket_of grant.now ticket) part)) }
+{
+    let reply = kdc_reply_of(alloc, exchange, grant, ticket, part)?;
+    let bytes = kdc_reply_bytes(alloc, exchange, reply)?;
+    Ok(bytes)
+}
+
+// The reply with the sealed parts of the ticket and of the reply.
+#[tactic(auto, unfolding(crate::specs::Parts::kdc_reply_of))]
+fn kdc_reply_of(
+    alloc: Global,
+    exchange: Exchange,
+    grant: &Grant,
+    ticket: EncryptedData,
+    part: EncryptedData,
+) -> Result<KdcRep, AllocError>
+    ensures { IfOk result (λ reply. reply ≡ kdc_reply_of exchange grant.now (ticket_of grant.now ticket) part) }
+{
+    let version = IntegerAsn1::from_u64(alloc, u64::from(KERBEROS_VERSION))?;
+    let kind = reply_type(alloc, exchange)?;
+    let realm = grant.realm.clone()?;
+    let client = grant.client.clone()?;
+    let ticket = ticket_of(alloc, grant, ticket)?;
+    Ok(KdcRep {
+        pvno: ExplicitContextTag(version),
+        msg_type: ExplicitContextTag(kind),
+        padata: Optional(None),
+        crealm: ExplicitContextTag(realm),
+        cname: ExplicitContextTag(client),
+        ticket: ExplicitContextTag(ApplicationTag(ticket)),
+        enc_part: ExplicitContextTag(part),
+    })
+}
+
+// The message type.
+fn reply_type(alloc: Global, exchange: Exchange) -> Result<IntegerAsn1, AllocError>
+    ensures { IfOk result (λ kind. kind ≡ pos (reply_type exchange)) }
+{
+    match exchange {
+        Exchange::As => IntegerAsn1::from_u64(alloc, u64::from(AS_REP_MSG_TYPE)),
+        Exchange::Tgs => IntegerAsn1::from_u64(alloc, u64::from(TGS_REP_MSG_TYPE)),
+    }
+}
+
+// The encodings. Each has a function of its own, which also drops what it encodes: no other sees what that is made of.
+
+#[tactic(auto, unfolding(crate::specs::Sealed::reply_part_bytes))]
+fn reply_part_bytes(
+    alloc: Global,
+    exchange: Exchange,
+    part: EncKdcRepPart,
+) -> Result<Vec<u8>, AllocError>
+    ensures { IfOk result (λ bytes. bytes.items ≡ reply_part_bytes exchange part) }
+{
+    match exchange {
+        Exchange::As => tagged_encoding::<EncKdcRepPart, ENC_AS_REP_PART_TYPE>(alloc, part),
+        Exchange::Tgs => tagged_encoding::<EncKdcRepPart, ENC_TGS_REP_PART_TYPE>(alloc, part),
+    }
+}
+
+#[tactic(auto, unfolding(crate::specs::Sealed::kdc_reply_bytes))]
+fn kdc_reply_bytes(alloc: Global, exchange: Exchange, reply: KdcRep) -> Result<Vec<u8>, AllocError>
+    ensures { IfOk result (λ bytes. bytes.items ≡ kdc_reply_bytes exchange reply) }
+{
+    match exchange {
+        Exchange::As => tagged_encoding::<KdcRep, AS_REP_MSG_TYPE>(alloc, reply),
+        Exchange::Tgs => tagged_encoding::<KdcRep, TGS_REP_MSG_TYPE>(alloc, reply),
+    }
+}
