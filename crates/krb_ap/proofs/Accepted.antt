@@ -1,5 +1,5 @@
 -- A choice that is acceptable is received, and what is received is a choice's that is.
-use Rattle.std.proofs.Common.{◌≡◌, ◌≤◌, ℕ, Bool, true, false, not, ◌&&◌, ◌==◌, List, length, Option, None, Some, Result, Ok, Err, refl, sym, ap, subst, ◌∙◌, inl, inr, if◌then◌else◌}
+use Rattle.std.proofs.Common.{◌≡◌, ℕ, Bool, true, false, not, ◌&&◌, List, length, Option, None, Some, Result, Ok, refl, sym, ap, subst, ◌∙◌, inl, if◌then◌else◌}
 use Rattle.std.specs.Prelude.{ℤ}
 use Rattle.std.specs.Option.{option_map, option_map_or}
 use Rattle.std.proofs.lemmas.Bool.{and_parts, eqb-true}
@@ -7,7 +7,7 @@ use Rattle.asn1_trees.specs.Tree.{Tree}
 use Rattle.picky_asn1_der.specs.declared.wrapper.ExplicitContextTag.{ExplicitContextTag}
 use Rattle.picky_asn1.specs.BitString.{bit_of}
 use Rattle.picky_asn1.specs.GeneralizedTime.{seconds_of}
-use Rattle.krb_crypto.specs.Sealing.{IsAesSealed, IsSealedBy}
+use Rattle.krb_crypto.specs.Sealing.{IsAesSealed}
 use Rattle.krb_crypto.specs.Suites.{cipher_key_size, cipher_number}
 use Rattle.krb_crypto.specs.declared.suite.CipherSuite.{CipherSuite}
 use Rattle.krb_crypto.specs.declared.suite.CipherSuite.TheVariants.{Aes128CtsHmacSha196, Aes256CtsHmacSha196}
@@ -15,21 +15,20 @@ use Rattle.krb_types.specs.declared.data_types.authenticator.AuthenticatorInner.
 use Rattle.krb_types.specs.declared.data_types.encrypted_data.EncryptedData.{EncryptedData}
 use Rattle.krb_types.specs.declared.data_types.encryption_key.EncryptionKey.{EncryptionKey}
 use Rattle.krb_types.specs.declared.data_types.enc_ticket_part.EncTicketPartInner.{EncTicketPartInner}
-use Rattle.picky_krb.specs.declared.messages.ap_req.ApReqInner.{ApReqInner}
 use Rattle.krb_opening.specs.Keys.{is_key_of, suite_of}
 use Rattle.krb_types.specs.Names.{components, is_same_name, is_same_realm}
 use Rattle.picky_asn1.specs.Numbers.{is_number}
-use Rattle.decision_tables.specs.Tables.{Table, done, need, refuse}
+use Rattle.decision_tables.specs.Tables.{Table, and_then, done, need, refuse}
 use Rattle.krb_opening.specs.Sealed.{IsSealedIn}
 use Rattle.krb_moments.specs.Times.{moment_at}
 use Rattle.krb_ap.specs.Acceptable.{IsAcceptable, shown_by}
-use Rattle.krb_ap.specs.ApTable.{addressed, is_early, is_for, is_late, is_of_client, is_version_5, may_be_under, opened, presented, timely, told, valid_authenticator, valid_part}
+use Rattle.krb_ap.specs.ApTable.{addressed, ap_fields, is_early, is_late, is_of_client, may_be_under, opened, presented, told, valid_authenticator, valid_part}
 use Rattle.krb_ap.specs.Entry.{EntryRecord}
-use Rattle.picky_krb.specs.Messages.{IsApReq, authenticator_tree, enc_ticket_part_tree}
-use Rattle.krb_ap.specs.Messages.{IsAuthenticator, IsTicketPart}
-use Rattle.krb_ap.specs.Presents.{Choice, Outer, Presents, Seals, encrypted, request_of}
+use Rattle.picky_krb.specs.Messages.{authenticator_tree, enc_ticket_part_tree}
+use Rattle.krb_ap.specs.Messages.{IsAuthenticator}
+use Rattle.krb_ap.specs.Presents.{Choice, Presents, SealsTo, encrypted, request_of}
 use Rattle.krb_ap.specs.Received.{Receives}
-use Rattle.krb_ap.specs.declared.presented.Presented.{Presented}
+use Rattle.krb_ap.specs.declared.presented.Authenticated.{Authenticated}
 use Rattle.krb_ap.proofs.Shown.{asked}
 
 -- a key's number by its tagged form, and the other way
@@ -43,25 +42,29 @@ number_under number None = refl
 number_under number (Some tagged) = refl
 
 -- the rows that a request of this service passes
-address_rows : (method version ticket kind realm name number etype : Bool)
-    → method ≡ false → version ≡ true → ticket ≡ true → kind ≡ true → realm ≡ true → name ≡ true → number ≡ true → etype ≡ true
-    → (refuse {T = Unit {0}} {E = ℕ} method 48 (refuse (not (version && ticket)) 39 (refuse (not kind) 40 (refuse (not (realm && name)) 35
-    (refuse (not number) 44 (refuse (not etype) 45 (done (Ok tt)))))))).gives (Ok tt)
-address_rows method version ticket kind realm name number etype m v t k r n u e = rw (m, v, t, k, r, n, u, e) refl
+field_rows : (version ticket kind realm name number : Bool)
+    → version ≡ true → ticket ≡ true → kind ≡ true → realm ≡ true → name ≡ true → number ≡ true
+    → (refuse {T = Unit {0}} {E = ℕ} (not (version && ticket)) 39 (refuse (not kind) 40 (refuse (not (realm && name)) 35 (refuse (not number) 44 (done (Ok tt)))))).gives (Ok tt)
+field_rows version ticket kind realm name number v t k r n u = rw (v, t, k, r, n, u) refl
+
+address_rows : (method etype : Bool) (fields : Table (Result (Unit {0}) ℕ)) → method ≡ false → etype ≡ true → fields.gives (Ok tt)
+    → (refuse {T = Unit {0}} {E = ℕ} method 48 (and_then {A = Unit {0}} fields (λ _. refuse (not etype) 45 (done (Ok tt))))).gives (Ok tt)
+address_rows method etype fields m e x = rw (m, e) (inl (tt, x, refl))
 
 is_addressed : (entry : EntryRecord) (skew moment : ℕ) (choice : Choice) (part_cipher cipher : List ℕ) → IsAcceptable entry skew moment choice
     → (addressed entry.realm entry.components entry.suite entry.number (request_of choice.outer part_cipher cipher)).gives (Ok tt)
 is_addressed entry skew moment choice part_cipher cipher x =
-    address_rows (bit_of choice.outer.options 1) (is_number 5 choice.outer.pvno) (is_number 5 choice.outer.tkt_vno) (is_number 14 choice.outer.msg_type)
+    let fields = field_rows (is_number 5 choice.outer.pvno) (is_number 5 choice.outer.tkt_vno) (is_number 14 choice.outer.msg_type)
     (is_same_realm choice.outer.realm entry.realm) (is_same_name (components choice.outer.service) entry.components)
-    (may_be_under entry.number (encrypted choice.outer.part_etype choice.outer.part_kvno part_cipher)) (is_number (cipher_number entry.suite) choice.outer.part_etype)
-    x.method x.version x.ticket_version x.kind x.realm x.name
-    (under_number entry.number choice.outer.part_etype choice.outer.part_kvno part_cipher ∙ x.number)
-    x.part_etype
+    (may_be_under entry.number (encrypted choice.outer.part_etype choice.outer.part_kvno part_cipher))
+    x.version x.ticket_version x.kind x.realm x.name
+    (under_number entry.number choice.outer.part_etype choice.outer.part_kvno part_cipher ∙ x.number) in
+    address_rows (bit_of choice.outer.options 1) (is_number (cipher_number entry.suite) choice.outer.part_etype)
+    (ap_fields entry.realm entry.components entry.number (request_of choice.outer part_cipher cipher)) x.method x.part_etype fields
 
 -- what is sealed by the suite that the key fits is sealed by the suite of this size
 own_suite : {T : Type 0} (tree : T → Tree) (suite : CipherSuite) (key : List ℕ) (usage : ℕ) (confounder : List ℕ) (value : T) (etype : ℤ) (kvno : Option ℤ) (cipher : List ℕ)
-    → length key ≡ cipher_key_size suite → is_number (cipher_number suite) etype ≡ true → Seals {T = T} tree key usage confounder value cipher
+    → length key ≡ cipher_key_size suite → is_number (cipher_number suite) etype ≡ true → SealsTo {T = T} tree key usage confounder value cipher
     → IsSealedIn {T = T} tree suite key usage (encrypted etype kvno cipher) value
 own_suite tree suite key usage confounder value etype kvno cipher sized numbered x = record {
   numbered = numbered;
@@ -101,33 +104,34 @@ told_rows : (version client : Bool) (moment : Option ℕ) (time : ℕ) → versi
 told_rows version client moment time v c m = rw (v, c, m) refl
 
 -- the authenticator that is sealed under the session key is opened
-opened_by : (key : EncryptionKey) (suite : CipherSuite) (sealed : EncryptedData) (authenticator : AuthenticatorInner) → suite_of key ≡ Some suite
-    → IsAuthenticator suite key.key_value.0 sealed authenticator → (opened key sealed).gives (Ok (suite, authenticator))
-opened_by key suite sealed authenticator session x =
-    needed_is (suite_of key) 31 (asked key sealed) suite (Ok (suite, authenticator)) session (inl (authenticator, x, refl))
+opened_by : (key : EncryptionKey) (usage : ℕ) (suite : CipherSuite) (sealed : EncryptedData) (authenticator : AuthenticatorInner) → suite_of key ≡ Some suite
+    → IsAuthenticator suite key.key_value.0 usage sealed authenticator → (opened key usage sealed).gives (Ok (suite, authenticator))
+opened_by key usage suite sealed authenticator session x =
+    needed_is (suite_of key) 31 (asked key usage sealed) suite (Ok (suite, authenticator)) session (inl (authenticator, x, refl))
 
 part_held : (entry : EntryRecord) (skew moment : ℕ) (choice : Choice) (part_cipher : List ℕ) → IsAcceptable entry skew moment choice
-    → Seals {T = EncTicketPartInner} enc_ticket_part_tree entry.key 2 choice.part_confounder choice.part part_cipher
+    → SealsTo {T = EncTicketPartInner} enc_ticket_part_tree entry.key 2 choice.part_confounder choice.part part_cipher
     → (valid_part entry.suite entry.key skew moment (encrypted choice.outer.part_etype choice.outer.part_kvno part_cipher)).gives (Ok choice.part)
 part_held entry skew moment choice part_cipher x sealed =
     let own = own_suite enc_ticket_part_tree entry.suite entry.key 2 choice.part_confounder choice.part choice.outer.part_etype choice.outer.part_kvno part_cipher x.keyed x.part_etype sealed in
     let timed = time_rows (is_early skew moment choice.part) (is_late skew moment choice.part) x.started x.lasts in
-    inl (choice.part, own, inl (tt, timed, refl))
+    inl (choice.part, inl (choice.part, own, refl), inl (tt, timed, refl))
 
 authenticator_held : (entry : EntryRecord) (skew moment : ℕ) (choice : Choice) (part_cipher cipher : List ℕ) (x : IsAcceptable entry skew moment choice)
-    → Seals {T = AuthenticatorInner} authenticator_tree choice.part.key.0.key_value.0 11 choice.confounder choice.authenticator cipher
+    → SealsTo {T = AuthenticatorInner} authenticator_tree choice.part.key.0.key_value.0 11 choice.confounder choice.authenticator cipher
     → (valid_authenticator (request_of choice.outer part_cipher cipher) choice.part).gives (Ok (shown_by choice x.suite x.time))
 authenticator_held entry skew moment choice part_cipher cipher x sealed =
     let own = own_suite authenticator_tree x.suite choice.part.key.0.key_value.0 11 choice.confounder choice.authenticator choice.outer.etype choice.outer.kvno cipher
     (suite_sized choice.part.key.0 x.suite x.session) x.etype sealed in
-    let found = opened_by choice.part.key.0 x.suite (encrypted choice.outer.etype choice.outer.kvno cipher) choice.authenticator x.session own in
+    let found = opened_by choice.part.key.0 11 x.suite (encrypted choice.outer.etype choice.outer.kvno cipher) choice.authenticator x.session own in
     let timed = told_rows (is_number 5 choice.authenticator.authenticator_vno.0) (is_of_client choice.part choice.authenticator)
     (moment_at (seconds_of choice.authenticator.ctime.0.0) choice.authenticator.cusec.0) x.time x.authenticator_version x.client x.told in
-    inl ((x.suite, choice.authenticator), found, inl (x.time, timed, refl))
+    let a : Authenticated = record { suite = x.suite; authenticator = choice.authenticator; time = x.time } in
+    inl (a, inl ((x.suite, choice.authenticator), found, inl (x.time, timed, refl)), refl)
 
 pub presented_as_chosen : (entry : EntryRecord) (skew moment : ℕ) (choice : Choice) (part_cipher cipher : List ℕ) (x : IsAcceptable entry skew moment choice)
-    → Seals {T = EncTicketPartInner} enc_ticket_part_tree entry.key 2 choice.part_confounder choice.part part_cipher
-    → Seals {T = AuthenticatorInner} authenticator_tree choice.part.key.0.key_value.0 11 choice.confounder choice.authenticator cipher
+    → SealsTo {T = EncTicketPartInner} enc_ticket_part_tree entry.key 2 choice.part_confounder choice.part part_cipher
+    → SealsTo {T = AuthenticatorInner} authenticator_tree choice.part.key.0.key_value.0 11 choice.confounder choice.authenticator cipher
     → (presented entry skew moment (request_of choice.outer part_cipher cipher)).gives (Ok (shown_by choice x.suite x.time))
 unfolding presented
 presented_as_chosen entry skew moment choice part_cipher cipher x part authenticator =

@@ -1,5 +1,5 @@
 -- What is received is a choice's that is acceptable: each row of the table is passed.
-use Rattle.std.proofs.Common.{◌≡◌, ℕ, Bool, true, false, not, ◌&&◌, List, length, Option, None, Some, Result, Ok, Err, refl, sym, ap, subst, ◌∙◌, inl, inr, arith}
+use Rattle.std.proofs.Common.{◌≡◌, ℕ, Bool, true, false, not, ◌&&◌, List, Option, None, Some, Result, Ok, refl, sym, ap, subst, ◌∙◌, inl, inr, arith}
 use Rattle.std.specs.Prelude.{ℤ}
 use Rattle.std.specs.Option.{option_map, option_map_or}
 use Rattle.picky_asn1_der.specs.declared.wrapper.ExplicitContextTag.{ExplicitContextTag}
@@ -16,19 +16,19 @@ use Rattle.picky_krb.specs.declared.messages.ap_req.ApReqInner.{ApReqInner}
 use Rattle.krb_opening.specs.Keys.{suite_of}
 use Rattle.krb_types.specs.Names.{components, is_same_name, is_same_realm}
 use Rattle.picky_asn1.specs.Numbers.{is_number}
-use Rattle.decision_tables.specs.Tables.{Table, done, need, refuse}
-use Rattle.krb_opening.specs.Sealed.{IsSealedIn}
+use Rattle.decision_tables.specs.Tables.{Table, and_then, done, need, refuse}
 use Rattle.krb_moments.specs.Times.{moment_at}
 use Rattle.krb_ap.specs.Acceptable.{IsAcceptable, shown_by}
-use Rattle.krb_ap.specs.ApTable.{addressed, is_early, is_late, is_of_client, may_be_under, opened, presented, timely, told, valid_authenticator, valid_part}
+use Rattle.krb_ap.specs.ApTable.{addressed, ap_fields, authenticated, is_early, is_late, is_of_client, may_be_under, opened, opened_part, presented, presented_with, timely, told, valid_authenticator, valid_part}
 use Rattle.krb_ap.specs.Entry.{EntryRecord}
 use Rattle.picky_krb.specs.Messages.{IsApReq, authenticator_tree, enc_ticket_part_tree}
 use Rattle.krb_ap.specs.Messages.{IsAuthenticator, IsTicketPart}
-use Rattle.krb_ap.specs.Presents.{Choice, Presents, request_of}
+use Rattle.krb_ap.specs.Presents.{Choice, Presents}
 use Rattle.krb_ap.specs.Received.{Receives}
+use Rattle.krb_ap.specs.declared.presented.Authenticated.{Authenticated}
 use Rattle.krb_ap.specs.declared.presented.Presented.{Presented}
 use Rattle.krb_ap.proofs.Presentations.{outer_of}
-use Rattle.krb_ap.proofs.Shown.{asked, both, first_of_two, made_of, ok_same, past_address, request-outer, seals, shown_asked, shown_part, timed}
+use Rattle.krb_ap.proofs.Shown.{asked, both, first_of_two, ok_same, past_address, request-outer, seals, shown_asked, shown_part, timed, with_time}
 
 -- what a request has that passes the rows of its own fields
 record IsPassed (method version ticket kind realm name number etype : Bool) : Type 0 where
@@ -41,20 +41,44 @@ record IsPassed (method version ticket kind realm name number etype : Bool) : Ty
   number_is : number ≡ true
   etype_is : etype ≡ true
 
-passed : (method version ticket kind realm name number etype : Bool)
-    → (refuse {T = Unit {0}} {E = ℕ} method 48 (refuse (not (version && ticket)) 39 (refuse (not kind) 40 (refuse (not (realm && name)) 35
-    (refuse (not number) 44 (refuse (not etype) 45 (done (Ok tt)))))))).gives (Ok tt)
-    → IsPassed method version ticket kind realm name number etype
-passed true version ticket kind realm name number etype x = absurd (cc (x))
-passed false false ticket kind realm name number etype x = absurd (cc (x))
-passed false true false kind realm name number etype x = absurd (cc (x))
-passed false true true false realm name number etype x = absurd (cc (x))
-passed false true true true false name number etype x = absurd (cc (x))
-passed false true true true true false number etype x = absurd (cc (x))
-passed false true true true true true false etype x = absurd (cc (x))
-passed false true true true true true true false x = absurd (cc (x))
-passed false true true true true true true true x =
-    record { method_is = refl; version_is = refl; ticket_is = refl; kind_is = refl; realm_is = refl; name_is = refl; number_is = refl; etype_is = refl }
+fields_passed : (version ticket kind realm name number : Bool)
+    → (refuse {T = Unit {0}} {E = ℕ} (not (version && ticket)) 39 (refuse (not kind) 40 (refuse (not (realm && name)) 35 (refuse (not number) 44 (done (Ok tt)))))).gives (Ok tt)
+    → (version ≡ true) × (ticket ≡ true) × (kind ≡ true) × (realm ≡ true) × (name ≡ true) × (number ≡ true)
+fields_passed false ticket kind realm name number x = absurd (cc (x))
+fields_passed true false kind realm name number x = absurd (cc (x))
+fields_passed true true false realm name number x = absurd (cc (x))
+fields_passed true true true false name number x = absurd (cc (x))
+fields_passed true true true true false number x = absurd (cc (x))
+fields_passed true true true true true false x = absurd (cc (x))
+fields_passed true true true true true true x = (refl, refl, refl, refl, refl, refl)
+
+past_method : (method etype : Bool) (fields : Table (Result (Unit {0}) ℕ))
+    → (refuse {T = Unit {0}} {E = ℕ} method 48 (and_then {A = Unit {0}} fields (λ _. refuse (not etype) 45 (done (Ok tt))))).gives (Ok tt)
+    → (method ≡ false) × fields.gives (Ok tt) × (etype ≡ true)
+past_method true etype fields x = absurd (cc (x))
+past_method false false fields (inl x) = absurd (cc (x.2))
+past_method false true fields (inl x) = (refl, x.1, refl)
+past_method false etype fields (inr x) = absurd (cc (x.2))
+
+passed : (realm : List ℕ) (name : List (List ℕ)) (suite : CipherSuite) (number : ℕ) (request : ApReqInner) → (addressed realm name suite number request).gives (Ok tt)
+    → IsPassed (bit_of request.ap_options.0 1) (is_number 5 request.pvno.0) (is_number 5 request.ticket.0.0.tkt_vno.0) (is_number 14 request.msg_type.0)
+    (is_same_realm request.ticket.0.0.realm.0 realm) (is_same_name (components request.ticket.0.0.sname.0) name)
+    (may_be_under number request.ticket.0.0.enc_part.0) (is_number (cipher_number suite) request.ticket.0.0.enc_part.0.etype.0)
+passed realm name suite number request x =
+    let outer = past_method (bit_of request.ap_options.0 1) (is_number (cipher_number suite) request.ticket.0.0.enc_part.0.etype.0) (ap_fields realm name number request) x in
+    let fields = fields_passed (is_number 5 request.pvno.0) (is_number 5 request.ticket.0.0.tkt_vno.0) (is_number 14 request.msg_type.0)
+    (is_same_realm request.ticket.0.0.realm.0 realm) (is_same_name (components request.ticket.0.0.sname.0) name)
+    (may_be_under number request.ticket.0.0.enc_part.0) outer.1 in
+    record {
+      method_is = outer.0;
+      version_is = fields.0;
+      ticket_is = fields.1;
+      kind_is = fields.2;
+      realm_is = fields.3;
+      name_is = fields.4;
+      number_is = fields.5;
+      etype_is = outer.2;
+    }
 
 on_time : (early late : Bool) → (refuse {T = Unit {0}} {E = ℕ} early 33 (refuse late 32 (done (Ok tt)))).gives (Ok tt) → (early ≡ false) × (late ≡ false)
 on_time true late x = absurd (cc (x))
@@ -88,23 +112,50 @@ one_size Aes128CtsHmacSha196 Aes256CtsHmacSha196 e = absurd (omega (arith, e))
 one_size Aes256CtsHmacSha196 Aes128CtsHmacSha196 e = absurd (omega (arith, e))
 one_size Aes256CtsHmacSha196 Aes256CtsHmacSha196 e = refl
 
-part_times : (entry : EntryRecord) (skew moment : ℕ) (sealed : EncryptedData) (part : EncTicketPartInner)
-    → (valid_part entry.suite entry.key skew moment sealed).gives (Ok part) → (is_early skew moment part ≡ false) × (is_late skew moment part ≡ false)
-part_times entry skew moment sealed part x =
-    let own = first_of_two part 31 x in
+-- what a ticket's part has that counts
+record IsValidSo (suite : CipherSuite) (key : List ℕ) (skew moment : ℕ) (sealed : EncryptedData) (part : EncTicketPartInner) : Type 0 where
+  found : IsTicketPart suite key sealed part
+  started : is_early skew moment part ≡ false
+  lasts : is_late skew moment part ≡ false
+
+valid_so : (suite : CipherSuite) (key : List ℕ) (skew moment : ℕ) (sealed : EncryptedData) (part : EncTicketPartInner)
+    → (valid_part suite key skew moment sealed).gives (Ok part) → IsValidSo suite key skew moment sealed part
+valid_so suite key skew moment sealed part x =
+    let end : EncTicketPartInner → Table (Result EncTicketPartInner ℕ) = λ q. and_then {A = Unit {0}} (timely skew moment q) (λ _. done (Ok q)) in
+    let own = both (opened_part suite key sealed) end part x in
     let kept = both {A = Unit {0}} (timely skew moment own.0) (λ _. done (Ok own.0)) part own.2 in
     let same : part ≡ own.0 = ok_same part own.0 kept.2 in
-    let mine = on_time (is_early skew moment own.0) (is_late skew moment own.0) kept.1 in
-    subst (λ (q : EncTicketPartInner). (is_early skew moment q ≡ false) × (is_late skew moment q ≡ false)) (sym same) mine
+    let times = on_time (is_early skew moment own.0) (is_late skew moment own.0) kept.1 in
+    subst (λ (q : EncTicketPartInner). IsValidSo suite key skew moment sealed q) (sym same)
+    (record { found = shown_part suite key sealed own.0 own.1; started = times.0; lasts = times.1 })
 
-session_suite : (key : EncryptionKey) (sealed : EncryptedData) (found : CipherSuite × AuthenticatorInner) → (opened key sealed).gives (Ok found)
-    → (suite_of key ≡ Some found.0) × IsAuthenticator found.0 key.key_value.0 sealed found.1
-session_suite key sealed found x =
-    let by = needed (suite_of key) 31 (asked key sealed) found x in
+session_suite : (key : EncryptionKey) (usage : ℕ) (sealed : EncryptedData) (found : CipherSuite × AuthenticatorInner) → (opened key usage sealed).gives (Ok found)
+    → (suite_of key ≡ Some found.0) × IsAuthenticator found.0 key.key_value.0 usage sealed found.1
+session_suite key usage sealed found x =
+    let by = needed (suite_of key) 31 (asked key usage sealed) found x in
     let own = first_of_two found 31 by.2 in
     let mine : CipherSuite × AuthenticatorInner = (by.0, own.0) in
     let same : found ≡ mine = ok_same found mine own.2 in
-    (subst (λ (f : CipherSuite × AuthenticatorInner). suite_of key ≡ Some f.0) (sym same) by.1, shown_asked key sealed by.0 found by.2)
+    (subst (λ (f : CipherSuite × AuthenticatorInner). suite_of key ≡ Some f.0) (sym same) by.1, shown_asked key usage sealed by.0 found by.2)
+
+-- what an authenticator has that was opened
+pub record IsAuthenticatedSo (usage : ℕ) (part : EncTicketPartInner) (sealed : EncryptedData) (a : Authenticated) : Type 0 where
+  pub session : suite_of part.key.0 ≡ Some a.suite
+  pub found : IsAuthenticator a.suite part.key.0.key_value.0 usage sealed a.authenticator
+  pub version : is_number 5 a.authenticator.authenticator_vno.0 ≡ true
+  pub client : is_of_client part a.authenticator ≡ true
+  pub moment : moment_at (seconds_of a.authenticator.ctime.0.0) a.authenticator.cusec.0 ≡ Some a.time
+
+pub authenticated_so : (usage : ℕ) (part : EncTicketPartInner) (sealed : EncryptedData) (a : Authenticated) → (authenticated usage part sealed).gives (Ok a)
+    → IsAuthenticatedSo usage part sealed a
+authenticated_so usage part sealed a x =
+    let own = both (opened part.key.0 usage sealed) (timed part) a x in
+    let last = both (told part own.0.1) (λ time. done (Ok (with_time own.0 time))) a own.2 in
+    let found = session_suite part.key.0 usage sealed own.0 own.1 in
+    let rows = told_so (is_number 5 own.0.1.authenticator_vno.0) (is_of_client part own.0.1) (moment_at (seconds_of own.0.1.ctime.0.0) own.0.1.cusec.0) last.0 last.1 in
+    let same : a ≡ with_time own.0 last.0 = ok_same a (with_time own.0 last.0) last.2 in
+    subst (λ (b : Authenticated). IsAuthenticatedSo usage part sealed b) (sym same)
+    (record { session = found.0; found = found.1; version = rows.0; client = rows.1; moment = rows.2 })
 
 -- an acceptable choice that presents the bytes, and shows this
 pub record IsReceivedOf (entry : EntryRecord) (skew moment : ℕ) (bytes : List ℕ) (p : Presented) : Type 0 where
@@ -113,63 +164,29 @@ pub record IsReceivedOf (entry : EntryRecord) (skew moment : ℕ) (bytes : List 
   pub acceptable : IsAcceptable entry skew moment choice
   pub shown : p ≡ shown_by choice acceptable.suite acceptable.time
 
--- what the authenticator's part of the table passed
-record IsOpenedSo (request : ApReqInner) (part : EncTicketPartInner) (p : Presented) : Type 0 where
-  suite : CipherSuite
-  authenticator : AuthenticatorInner
-  time : ℕ
-  session : suite_of part.key.0 ≡ Some suite
-  sealed : IsAuthenticator suite part.key.0.key_value.0 request.authenticator.0 authenticator
-  version : is_number 5 authenticator.authenticator_vno.0 ≡ true
-  client : is_of_client part authenticator ≡ true
-  moment : moment_at (seconds_of authenticator.ctime.0.0) authenticator.cusec.0 ≡ Some time
-  made : p ≡ made_of request part (suite, authenticator) time
-
-opened_so : (request : ApReqInner) (part : EncTicketPartInner) (p : Presented) → (valid_authenticator request part).gives (Ok p) → IsOpenedSo request part p
-opened_so request part p x =
-    let own = both (opened part.key.0 request.authenticator.0) (timed request part) p x in
-    let last = both (told part own.0.1) (λ time. done (Ok (made_of request part own.0 time))) p own.2 in
-    let found = session_suite part.key.0 request.authenticator.0 own.0 own.1 in
-    let rows = told_so (is_number 5 own.0.1.authenticator_vno.0) (is_of_client part own.0.1) (moment_at (seconds_of own.0.1.ctime.0.0) own.0.1.cusec.0) last.0 last.1 in
-    record {
-      suite = own.0.0;
-      authenticator = own.0.1;
-      time = last.0;
-      session = found.0;
-      sealed = found.1;
-      version = rows.0;
-      client = rows.1;
-      moment = rows.2;
-      made = ok_same p (made_of request part own.0 last.0) last.2;
-    }
-
-chosen_of : (entry : EntryRecord) (skew moment : ℕ) (bytes : List ℕ) (request : ApReqInner) (part : EncTicketPartInner) (p : Presented) → IsApReq bytes request
+chosen_of : (entry : EntryRecord) (skew moment : ℕ) (bytes : List ℕ) (request : ApReqInner) (part : EncTicketPartInner) (a : Authenticated) (p : Presented) → IsApReq bytes request
     → (addressed entry.realm entry.components entry.suite entry.number request).gives (Ok tt)
-    → (valid_part entry.suite entry.key skew moment request.ticket.0.0.enc_part.0).gives (Ok part)
-    → IsOpenedSo request part p → IsReceivedOf entry skew moment bytes p
-chosen_of entry skew moment bytes request part p found address valid x =
-    let rows = passed (bit_of request.ap_options.0 1) (is_number 5 request.pvno.0) (is_number 5 request.ticket.0.0.tkt_vno.0) (is_number 14 request.msg_type.0)
-    (is_same_realm request.ticket.0.0.realm.0 entry.realm) (is_same_name (components request.ticket.0.0.sname.0) entry.components)
-    (may_be_under entry.number request.ticket.0.0.enc_part.0) (is_number (cipher_number entry.suite) request.ticket.0.0.enc_part.0.etype.0) address in
-    let sealed = shown_part entry skew moment request.ticket.0.0.enc_part.0 part valid in
-    let times = part_times entry skew moment request.ticket.0.0.enc_part.0 part valid in
+    → IsValidSo entry.suite entry.key skew moment request.ticket.0.0.enc_part.0 part
+    → IsAuthenticatedSo 11 part request.authenticator.0 a → p ≡ presented_with request part a → IsReceivedOf entry skew moment bytes p
+chosen_of entry skew moment bytes request part a p read address valid x made =
+    let rows = passed entry.realm entry.components entry.suite entry.number request address in
     record {
       choice = record {
         outer = outer_of request;
         part = part;
-        part_confounder = sealed.opens.conf;
-        authenticator = x.authenticator;
-        confounder = x.sealed.opens.conf;
+        part_confounder = valid.found.opens.conf;
+        authenticator = a.authenticator;
+        confounder = x.found.opens.conf;
       };
       presents = record {
         part_cipher = request.ticket.0.0.enc_part.0.cipher.0;
         cipher = request.authenticator.0.cipher.0;
-        writes = subst (λ (r : ApReqInner). IsApReq bytes r) (sym (request-outer request)) found;
-        part = seals enc_ticket_part_tree entry.suite entry.key 2 request.ticket.0.0.enc_part.0 part sealed;
-        authenticator = seals authenticator_tree x.suite part.key.0.key_value.0 11 request.authenticator.0 x.authenticator x.sealed;
+        writes = subst (λ (r : ApReqInner). IsApReq bytes r) (sym (request-outer request)) read;
+        part = seals enc_ticket_part_tree entry.suite entry.key 2 request.ticket.0.0.enc_part.0 part valid.found;
+        authenticator = seals authenticator_tree a.suite part.key.0.key_value.0 11 request.authenticator.0 a.authenticator x.found;
       };
       acceptable = record {
-        keyed = sealed.opens.sealed.2.key_sized ∙ one_size sealed.opens.sealed.0 entry.suite sealed.opens.sealed.1;
+        keyed = valid.found.opens.sealed.2.key_sized ∙ one_size valid.found.opens.sealed.0 entry.suite valid.found.opens.sealed.1;
         method = rows.method_is;
         version = rows.version_is;
         ticket_version = rows.ticket_is;
@@ -178,26 +195,30 @@ chosen_of entry skew moment bytes request part p found address valid x =
         name = rows.name_is;
         number = number_under entry.number request.ticket.0.0.enc_part.0.kvno.0 ∙ rows.number_is;
         part_etype = rows.etype_is;
-        started = times.0;
-        lasts = times.1;
-        suite = x.suite;
+        started = valid.started;
+        lasts = valid.lasts;
+        suite = a.suite;
         session = x.session;
-        etype = x.sealed.numbered;
+        etype = x.found.numbered;
         authenticator_version = x.version;
         client = x.client;
-        time = x.time;
+        time = a.time;
         told = x.moment;
       };
-      shown = x.made;
+      shown = made;
     }
 
 pub chosen_as_received : (entry : EntryRecord) (skew moment : ℕ) (bytes : List ℕ) (request : ApReqInner) (p : Presented) → IsApReq bytes request
     → (presented entry skew moment request).gives (Ok p) → IsReceivedOf entry skew moment bytes p
 unfolding presented
-chosen_as_received entry skew moment bytes request p found x =
+chosen_as_received entry skew moment bytes request p read x =
+    let sealed = request.ticket.0.0.enc_part.0 in
     let address = both {A = Unit {0}} (addressed entry.realm entry.components entry.suite entry.number request) (λ _. past_address entry skew moment request) p x in
-    let ticket = both (valid_part entry.suite entry.key skew moment request.ticket.0.0.enc_part.0) (λ part. valid_authenticator request part) p address.2 in
-    chosen_of entry skew moment bytes request ticket.0 p found address.1 ticket.1 (opened_so request ticket.0 p ticket.2)
+    let ticket = both (valid_part entry.suite entry.key skew moment sealed) (λ part. valid_authenticator request part) p address.2 in
+    let last = both (authenticated 11 ticket.0 request.authenticator.0) (λ a. done (Ok (presented_with request ticket.0 a))) p ticket.2 in
+    let made : p ≡ presented_with request ticket.0 last.0 = ok_same p (presented_with request ticket.0 last.0) last.2 in
+    chosen_of entry skew moment bytes request ticket.0 last.0 p read address.1 (valid_so entry.suite entry.key skew moment sealed ticket.0 ticket.1)
+    (authenticated_so 11 ticket.0 request.authenticator.0 last.0 last.1) made
 
 -- by the bytes alone
 pub received_is_chosen : (entry : EntryRecord) (skew moment : ℕ) (bytes : List ℕ) (p : Presented) → Receives entry skew moment bytes (Ok p)

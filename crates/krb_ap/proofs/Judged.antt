@@ -1,108 +1,124 @@
 -- What the parts of a table give, the table gives.
-use Rattle.std.proofs.Common.{◌≡◌, ℕ, Bool, List, Result, Ok, Err, ap, refl, subst, inl, inr}
-use Rattle.picky_asn1.specs.BitString.{bit_of}
+use Rattle.std.proofs.Common.{◌≡◌, ℕ, List, Result, Ok, Err, ap, refl, subst, inl, inr}
 use Rattle.krb_crypto.specs.declared.suite.CipherSuite.{CipherSuite}
 use Rattle.krb_types.specs.declared.data_types.authenticator.AuthenticatorInner.{AuthenticatorInner}
 use Rattle.krb_types.specs.declared.data_types.encrypted_data.EncryptedData.{EncryptedData}
 use Rattle.krb_types.specs.declared.data_types.enc_ticket_part.EncTicketPartInner.{EncTicketPartInner}
 use Rattle.picky_krb.specs.declared.messages.ap_req.ApReqInner.{ApReqInner}
-use Rattle.krb_ap.specs.ApTable.{addressed, opened, presented, timely, told, valid_authenticator, valid_part}
+use Rattle.krb_types.specs.Refusals.{IsJudged}
+use Rattle.krb_types.specs.declared.refusal.Refusal.{Refusal}
+use Rattle.krb_types.specs.declared.refusal.Refusal.TheVariants.{Krb, Memory}
+use Rattle.krb_ap.specs.ApTable.{addressed, authenticated, opened, opened_part, presented, presented_with, timely, told, valid_authenticator, valid_part}
 use Rattle.krb_ap.specs.Entry.{EntryRecord}
 use Rattle.picky_krb.specs.Messages.{IsApReq}
-use Rattle.krb_ap.specs.Messages.{IsTicketPart}
 use Rattle.krb_ap.specs.Received.{Receives}
-use Rattle.krb_ap.specs.Refusal.{IsJudged}
+use Rattle.krb_ap.specs.Refusal.{refused_for}
+use Rattle.krb_ap.specs.declared.presented.Authenticated.{Authenticated}
 use Rattle.krb_ap.specs.declared.presented.Presented.{Presented}
-use Rattle.krb_ap.specs.declared.refusal.AdmitRefusal.{AdmitRefusal}
-use Rattle.krb_ap.specs.declared.refusal.AdmitRefusal.TheVariants.{Unreadable, Krb, Memory}
+use Rattle.krb_ap.specs.declared.refusal.AdmitRefusal.TheVariants as admit
 
 -- the request is for this service
 abbrev pub IsAddressed : EntryRecord → ApReqInner → Type 0
 IsAddressed entry request = (addressed entry.realm entry.components entry.suite entry.number request).gives (Ok tt)
 
 -- its ticket is judged so
-abbrev pub IsTicketJudged : EntryRecord → ℕ → ℕ → ApReqInner → Result EncTicketPartInner AdmitRefusal → Type 0
+abbrev pub IsTicketJudged : EntryRecord → ℕ → ℕ → ApReqInner → Result EncTicketPartInner Refusal → Type 0
 IsTicketJudged entry skew moment request r =
     IsJudged (valid_part entry.suite entry.key skew moment request.ticket.0.0.enc_part.0).gives r
 
 -- as it is by an equal key
-pub ticket_at : (entry : EntryRecord) (skew moment : ℕ) (request : ApReqInner) (r : Result EncTicketPartInner AdmitRefusal) (key : List ℕ) → key ≡ entry.key
+pub ticket_at : (entry : EntryRecord) (skew moment : ℕ) (request : ApReqInner) (r : Result EncTicketPartInner Refusal) (key : List ℕ) → key ≡ entry.key
     → IsJudged (valid_part entry.suite key skew moment request.ticket.0.0.enc_part.0).gives r → IsTicketJudged entry skew moment request r
 ticket_at entry skew moment request r key same x =
     subst (λ k. IsJudged (valid_part entry.suite k skew moment request.ticket.0.0.enc_part.0).gives r) same x
 
 -- a request that is for another service is refused for that
-pub address_refused : (entry : EntryRecord) (skew moment : ℕ) (request : ApReqInner) (e : AdmitRefusal) (names : List (List ℕ)) → names ≡ entry.components
+pub address_refused : (entry : EntryRecord) (skew moment : ℕ) (request : ApReqInner) (e : Refusal) (names : List (List ℕ)) → names ≡ entry.components
     → IsJudged {T = Unit {0}} (addressed entry.realm names entry.suite entry.number request).gives (Err e)
     → IsJudged {T = Presented} (presented entry skew moment request).gives (Err e)
 unfolding presented
 address_refused entry skew moment request (Krb code) names same address =
     let own = subst (λ list. (addressed entry.realm list entry.suite entry.number request).gives (Err code)) same address in inr (code, own, refl)
-address_refused entry skew moment request Unreadable names same address = address
 address_refused entry skew moment request Memory names same address = tt
 
-pub ticket_refused : (entry : EntryRecord) (skew moment : ℕ) (request : ApReqInner) (e : AdmitRefusal)
+pub ticket_refused : (entry : EntryRecord) (skew moment : ℕ) (request : ApReqInner) (e : Refusal)
     → IsAddressed entry request → IsTicketJudged entry skew moment request (Err e) → IsJudged {T = Presented} (presented entry skew moment request).gives (Err e)
 unfolding presented
 ticket_refused entry skew moment request (Krb code) address ticket = inl (tt, address, inr (code, ticket, refl))
-ticket_refused entry skew moment request Unreadable address ticket = ticket
 ticket_refused entry skew moment request Memory address ticket = tt
 
-pub ticket_held : (entry : EntryRecord) (skew moment : ℕ) (request : ApReqInner) (part : EncTicketPartInner) (r : Result Presented AdmitRefusal)
+pub ticket_held : (entry : EntryRecord) (skew moment : ℕ) (request : ApReqInner) (part : EncTicketPartInner) (r : Result Presented Refusal)
     → IsAddressed entry request → IsTicketJudged entry skew moment request (Ok part)
     → IsJudged {T = Presented} (valid_authenticator request part).gives r → IsJudged {T = Presented} (presented entry skew moment request).gives r
 unfolding presented
 ticket_held entry skew moment request part (Ok made) address ticket shown = inl (tt, address, inl (part, ticket, shown))
 ticket_held entry skew moment request part (Err (Krb code)) address ticket shown = inl (tt, address, inl (part, ticket, shown))
-ticket_held entry skew moment request part (Err Unreadable) address ticket shown = shown
 ticket_held entry skew moment request part (Err Memory) address ticket shown = tt
 
 -- what a request is judged to be is received of its bytes
-pub received : (entry : EntryRecord) (skew moment : ℕ) (bytes : List ℕ) (request : ApReqInner) (r : Result Presented AdmitRefusal) → IsApReq bytes request
-    → IsJudged {T = Presented} (presented entry skew moment request).gives r → Receives entry skew moment bytes r
+pub received : (entry : EntryRecord) (skew moment : ℕ) (bytes : List ℕ) (request : ApReqInner) (p : Presented) → IsApReq bytes request
+    → IsJudged {T = Presented} (presented entry skew moment request).gives (Ok p) → Receives entry skew moment bytes (Ok p)
 unfolding Receives
-received entry skew moment bytes request (Ok p) found x = (request, found, x)
-received entry skew moment bytes request (Err (Krb code)) found x = (request, found, x)
-received entry skew moment bytes request (Err Unreadable) found x = absurd x
-received entry skew moment bytes request (Err Memory) found x = tt
+received entry skew moment bytes request p found x = (request, found, x)
+
+-- and what it is refused for
+pub received_refused : (entry : EntryRecord) (skew moment : ℕ) (bytes : List ℕ) (request : ApReqInner) (e : Refusal) → IsApReq bytes request
+    → IsJudged {T = Presented} (presented entry skew moment request).gives (Err e) → Receives entry skew moment bytes (Err (refused_for e))
+unfolding Receives
+received_refused entry skew moment bytes request (Krb code) found x = (request, found, x)
+received_refused entry skew moment bytes request Memory found x = tt
 
 -- bytes that no request has
 pub received_none : (entry : EntryRecord) (skew moment : ℕ) (bytes : List ℕ) → ((request : ApReqInner) → IsApReq bytes request → ⊥)
-    → Receives entry skew moment bytes (Err Unreadable)
+    → Receives entry skew moment bytes (Err admit.Unreadable)
 unfolding Receives
 received_none entry skew moment bytes none = none
 
 -- where memory runs out nothing is promised
-pub received_wanting : (entry : EntryRecord) (skew moment : ℕ) (bytes : List ℕ) → Receives entry skew moment bytes (Err Memory)
+pub received_wanting : (entry : EntryRecord) (skew moment : ℕ) (bytes : List ℕ) → Receives entry skew moment bytes (Err admit.Memory)
 unfolding Receives
 received_wanting entry skew moment bytes = tt
 
--- a ticket whose times are refused for these, and one whose times count
-pub times_refused : (suite : CipherSuite) (key : List ℕ) (skew moment : ℕ) (encrypted : EncryptedData) (part : EncTicketPartInner) (e : AdmitRefusal)
-    → IsTicketPart suite key encrypted part → IsJudged {T = Unit {0}} (timely skew moment part).gives (Err e)
+-- a ticket that isn't opened is refused for that, and one whose times are refused for these
+pub part_unopened : (suite : CipherSuite) (key : List ℕ) (skew moment : ℕ) (encrypted : EncryptedData) (e : Refusal)
+    → IsJudged {T = EncTicketPartInner} (opened_part suite key encrypted).gives (Err e)
+    → IsJudged {T = EncTicketPartInner} (valid_part suite key skew moment encrypted).gives (Err e)
+part_unopened suite key skew moment encrypted (Krb code) x = inr (code, x, refl)
+part_unopened suite key skew moment encrypted Memory x = tt
+
+pub times_refused : (suite : CipherSuite) (key : List ℕ) (skew moment : ℕ) (encrypted : EncryptedData) (part : EncTicketPartInner) (e : Refusal)
+    → (opened_part suite key encrypted).gives (Ok part) → IsJudged {T = Unit {0}} (timely skew moment part).gives (Err e)
     → IsJudged {T = EncTicketPartInner} (valid_part suite key skew moment encrypted).gives (Err e)
 times_refused suite key skew moment encrypted part (Krb code) found x = inl (part, found, inr (code, x, refl))
-times_refused suite key skew moment encrypted part Unreadable found x = x
 times_refused suite key skew moment encrypted part Memory found x = tt
 
 -- an authenticator that isn't opened is refused for that
-pub unopened : (request : ApReqInner) (part : EncTicketPartInner) (e : AdmitRefusal)
-    → IsJudged {T = CipherSuite × AuthenticatorInner} (opened part.key.0 request.authenticator.0).gives (Err e)
-    → IsJudged {T = Presented} (valid_authenticator request part).gives (Err e)
-unopened request part (Krb code) x = inr (code, x, refl)
-unopened request part Unreadable x = x
-unopened request part Memory x = tt
+pub unopened : (usage : ℕ) (part : EncTicketPartInner) (sealed : EncryptedData) (e : Refusal)
+    → IsJudged {T = CipherSuite × AuthenticatorInner} (opened part.key.0 usage sealed).gives (Err e)
+    → IsJudged {T = Authenticated} (authenticated usage part sealed).gives (Err e)
+unopened usage part sealed (Krb code) x = inr (code, x, refl)
+unopened usage part sealed Memory x = tt
 
 -- and one that tells no such moment for that
-pub untold : (request : ApReqInner) (part : EncTicketPartInner) (found : CipherSuite × AuthenticatorInner) (e : AdmitRefusal)
-    → (opened part.key.0 request.authenticator.0).gives (Ok found) → IsJudged {T = ℕ} (told part found.1).gives (Err e)
-    → IsJudged {T = Presented} (valid_authenticator request part).gives (Err e)
-untold request part found (Krb code) o x = inl (found, o, inr (code, x, refl))
-untold request part found Unreadable o x = x
-untold request part found Memory o x = tt
+pub untold : (usage : ℕ) (part : EncTicketPartInner) (sealed : EncryptedData) (suite : CipherSuite) (authenticator : AuthenticatorInner) (e : Refusal)
+    → (opened part.key.0 usage sealed).gives (Ok (suite, authenticator)) → IsJudged {T = ℕ} (told part authenticator).gives (Err e)
+    → IsJudged {T = Authenticated} (authenticated usage part sealed).gives (Err e)
+untold usage part sealed suite authenticator (Krb code) o x = inl ((suite, authenticator), o, inr (code, x, refl))
+untold usage part sealed suite authenticator Memory o x = tt
 
-pub told_by : (request : ApReqInner) (part : EncTicketPartInner) (found : CipherSuite × AuthenticatorInner) (time : ℕ) (wants : Bool)
-    → (opened part.key.0 request.authenticator.0).gives (Ok found) → (told part found.1).gives (Ok time) → wants ≡ bit_of request.ap_options.0 2
-    → (valid_authenticator request part).gives (Ok (record { part = part; suite = found.0; authenticator = found.1; time = time; wants_reply = wants }))
-told_by request part found time wants o t w =
-    inl (found, o, inl (time, t, ap (λ b. Ok (record { part = part; suite = found.0; authenticator = found.1; time = time; wants_reply = b })) w))
+pub told_by : (usage : ℕ) (part : EncTicketPartInner) (sealed : EncryptedData) (suite : CipherSuite) (authenticator : AuthenticatorInner) (time : ℕ)
+    → (opened part.key.0 usage sealed).gives (Ok (suite, authenticator)) → (told part authenticator).gives (Ok time)
+    → (authenticated usage part sealed).gives (Ok (record { suite = suite; authenticator = authenticator; time = time }))
+told_by usage part sealed suite authenticator time o t = inl ((suite, authenticator), o, inl (time, t, refl))
+
+-- what is presented is refused with its authenticator, or shown by it
+pub authenticator_refused : (request : ApReqInner) (part : EncTicketPartInner) (e : Refusal)
+    → IsJudged {T = Authenticated} (authenticated 11 part request.authenticator.0).gives (Err e)
+    → IsJudged {T = Presented} (valid_authenticator request part).gives (Err e)
+authenticator_refused request part (Krb code) x = inr (code, x, refl)
+authenticator_refused request part Memory x = tt
+
+pub authenticator_shown : (request : ApReqInner) (part : EncTicketPartInner) (a : Authenticated) (p : Presented)
+    → (authenticated 11 part request.authenticator.0).gives (Ok a) → p ≡ presented_with request part a
+    → (valid_authenticator request part).gives (Ok p)
+authenticator_shown request part a p x same = inl (a, x, ap (λ (q : Presented). Ok q) same)

@@ -12,18 +12,18 @@ use Rattle.krb_types.specs.declared.data_types.encrypted_data.EncryptedData.{Enc
 use Rattle.krb_types.specs.declared.data_types.enc_ticket_part.EncTicketPartInner.{EncTicketPartInner}
 use Rattle.picky_krb.specs.declared.messages.ap_req.ApReqInner.{ApReqInner}
 use Rattle.picky_krb.specs.Messages.{ap_req_tree, authenticator-injective, authenticator_tree, enc_ticket_part-injective, enc_ticket_part_tree, sole_ap_req}
-use Rattle.krb_ap.specs.Presents.{Choice, Outer, Presents, Seals, encrypted, request_of}
+use Rattle.krb_ap.specs.Presents.{Choice, Outer, Presents, SealsTo, encrypted, request_of}
 
 -- a ciphertext has one value and one confounder
 one_value : {T : Type 0} (tree : T → Tree) → IsInjective {T = T} tree → (key : List ℕ) (usage : ℕ) (c d : List ℕ) (v w : T) (cipher : List ℕ)
-    → Seals {T = T} tree key usage c v cipher → Seals {T = T} tree key usage d w cipher → (c ≡ d) × (v ≡ w)
+    → SealsTo {T = T} tree key usage c v cipher → SealsTo {T = T} tree key usage d w cipher → (c ≡ d) × (v ≡ w)
 one_value tree injective key usage c d v w cipher x y =
     let same = one_sealed (cipher_number x.suite) (cipher_number y.suite) key usage c x.plain d y.plain cipher (x.suite, refl, x.sealed) (y.suite, refl, y.sealed) in
     (same.0, injective v w x.writes.0 y.writes.0 (sym x.writes.1 ∙ same.1 ∙ y.writes.1))
 
 -- a value and a confounder have one ciphertext
 one_cipher : {T : Type 0} (tree : T → Tree) (key : List ℕ) (usage : ℕ) (confounder : List ℕ) (value : T) (c d : List ℕ)
-    → Seals {T = T} tree key usage confounder value c → Seals {T = T} tree key usage confounder value d → c ≡ d
+    → SealsTo {T = T} tree key usage confounder value c → SealsTo {T = T} tree key usage confounder value d → c ≡ d
 one_cipher tree key usage confounder value c d x y =
     let sized : cipher_key_size x.suite ≡ cipher_key_size y.suite = sym x.sealed.key_sized ∙ y.sealed.key_sized in
     let plain : x.plain ≡ y.plain = x.writes.1 ∙ sym y.writes.1 in
@@ -88,10 +88,10 @@ one_presentation key bytes a b x y =
     let part_cipher : x.part_cipher ≡ y.part_cipher = ap (λ (r : ApReqInner). r.ticket.0.0.enc_part.0.cipher.0) request in
     let cipher : x.cipher ≡ y.cipher = ap (λ (r : ApReqInner). r.authenticator.0.cipher.0) request in
     let part = one_value enc_ticket_part_tree enc_ticket_part-injective key 2 a.part_confounder b.part_confounder a.part b.part y.part_cipher
-    (subst (λ c. Seals {T = EncTicketPartInner} enc_ticket_part_tree key 2 a.part_confounder a.part c) part_cipher x.part) y.part in
-    let under = subst (λ (p : EncTicketPartInner). Seals {T = AuthenticatorInner} authenticator_tree p.key.0.key_value.0 11 a.confounder a.authenticator x.cipher) part.1 x.authenticator in
+    (subst (λ c. SealsTo {T = EncTicketPartInner} enc_ticket_part_tree key 2 a.part_confounder a.part c) part_cipher x.part) y.part in
+    let under = subst (λ (p : EncTicketPartInner). SealsTo {T = AuthenticatorInner} authenticator_tree p.key.0.key_value.0 11 a.confounder a.authenticator x.cipher) part.1 x.authenticator in
     let own = one_value authenticator_tree authenticator-injective b.part.key.0.key_value.0 11 a.confounder b.confounder a.authenticator b.authenticator y.cipher
-    (subst (λ c. Seals {T = AuthenticatorInner} authenticator_tree b.part.key.0.key_value.0 11 a.confounder a.authenticator c) cipher under) y.authenticator in
+    (subst (λ c. SealsTo {T = AuthenticatorInner} authenticator_tree b.part.key.0.key_value.0 11 a.confounder a.authenticator c) cipher under) y.authenticator in
     λ i. record { outer = outer i; part = part.1 i; part_confounder = part.0 i; authenticator = own.1 i; confounder = own.0 i }
 
 pub one_request : (key : List ℕ) (choice : Choice) (a b : List ℕ) → Presents key choice a → Presents key choice b → a ≡ b

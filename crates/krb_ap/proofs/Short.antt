@@ -9,7 +9,7 @@ use Rattle.asn1_trees.specs.Tree.{der}
 use Rattle.asn1_leaves.specs.declared.date.GeneralizedTime.{GeneralizedTime}
 use Rattle.asn1_leaves.specs.Calendar.{days_in_month, two_digits}
 use Rattle.picky_asn1.specs.GeneralizedTime.{time_text}
-use Rattle.picky_asn1.specs.Integer.{integer_content, natural_octets, with_sign}
+use Rattle.picky_asn1.specs.Integer.{integer_content, natural_octets}
 use Rattle.krb_blocks.specs.Bytes.{IsBytes}
 use Rattle.krb_blocks.proofs.States.{IsBytes-append, IsBytes-none}
 use Rattle.krb_types.specs.declared.data_types.authenticator.AuthenticatorInner.{AuthenticatorInner}

@@ -1,5 +1,5 @@
 -- Which choices of a client present something to a service (RFC 4120, section 3.2.3).
-use Rattle.std.specs.Prelude.{◌≡◌, ℕ, true, false, length, Option, Some}
+use Rattle.std.specs.Prelude.{◌≡◌, ℕ, true, false, length, Some}
 use Rattle.std.specs.Option.{option_map_or}
 use Rattle.picky_asn1.specs.BitString.{bit_of}
 use Rattle.picky_asn1.specs.GeneralizedTime.{seconds_of}

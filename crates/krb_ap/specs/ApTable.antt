@@ -1,4 +1,5 @@
--- How a service judges an AP request, in parts of one table: the first case that holds counts (RFC 4120, section 3.2.3).
+-- How an AP request is judged, in parts of one table: the first case that holds counts (RFC 4120, section 3.2.3). The skew
+-- and moments are in microseconds.
 use Rattle.std.specs.Prelude.{ℕ, ◌+◌, ◌*◌, nat_lt, Bool, true, not, ◌&&◌, ◌||◌, List, Result, Ok, Err}
 use Rattle.std.specs.Option.{option_map_or}
 use Rattle.picky_asn1.specs.BitString.{bit_of}
@@ -18,6 +19,7 @@ use Rattle.decision_tables.specs.Tables.{Table, done, ask, and_then, need, refus
 use Rattle.krb_moments.specs.Times.{moment_at}
 use Rattle.krb_ap.specs.Entry.{EntryRecord}
 use Rattle.krb_ap.specs.Messages.{IsAuthenticator, IsTicketPart, sole_authenticator, sole_ticket_part}
+use Rattle.krb_ap.specs.declared.presented.Authenticated.{Authenticated}
 use Rattle.krb_ap.specs.declared.presented.Presented.{Presented}
 
 -- the request and its ticket are of version 5
@@ -32,16 +34,23 @@ is_for realm name ticket = is_same_realm ticket.realm.0 realm && is_same_name (c
 abbrev pub may_be_under : ℕ → EncryptedData → Bool
 may_be_under number encrypted = option_map_or (λ told. is_number number told.0) encrypted.kvno.0 true
 
--- the request's own fields: it is for this service, and sealed as this service can open it
-abbrev pub addressed : List ℕ → List (List ℕ) → CipherSuite → ℕ → ApReqInner → Table (Result (Unit {0}) ℕ)
-addressed realm name suite number request =
-    refuse (bit_of request.ap_options.0 1) 48
-    (refuse (not (is_version_5 request)) 39
+-- the request's own fields: version 5, an AP request, for the service of this realm and this name under its key of this
+-- number
+abbrev pub ap_fields : List ℕ → List (List ℕ) → ℕ → ApReqInner → Table (Result (Unit {0}) ℕ)
+ap_fields realm name number request =
+    refuse (not (is_version_5 request)) 39
     (refuse (not (is_number 14 request.msg_type.0)) 40
     (refuse (not (is_for realm name request.ticket.0.0)) 35
     (refuse (not (may_be_under number request.ticket.0.0.enc_part.0)) 44
-    (refuse (not (is_number (cipher_number suite) request.ticket.0.0.enc_part.0.etype.0)) 45
-    (done (Ok tt)))))))
+    (done (Ok tt)))))
+
+-- the request isn't under a session key, it is for this service, and sealed as this service can open it
+abbrev pub addressed : List ℕ → List (List ℕ) → CipherSuite → ℕ → ApReqInner → Table (Result (Unit {0}) ℕ)
+addressed realm name suite number request =
+    refuse (bit_of request.ap_options.0 1) 48
+    (and_then (ap_fields realm name number request) (λ _.
+    refuse (not (is_number (cipher_number suite) request.ticket.0.0.enc_part.0.etype.0)) 45
+    (done (Ok tt))))
 
 -- the second in which a ticket starts: where it doesn't tell one, that of the client's first ticket
 abbrev pub start_of : EncTicketPartInner → ℕ
@@ -62,10 +71,16 @@ timely skew moment part =
     (refuse (is_late skew moment part) 32
     (done (Ok tt)))
 
+-- the part that the service's key opens
+abbrev pub opened_part : CipherSuite → List ℕ → EncryptedData → Table (Result EncTicketPartInner ℕ)
+opened_part suite key encrypted =
+    ask (IsTicketPart suite key encrypted) (sole_ticket_part suite key encrypted) (done (Err 31)) (λ part.
+    done (Ok part))
+
 -- the part that the service's key opens, of a ticket that counts
 abbrev pub valid_part : CipherSuite → List ℕ → ℕ → ℕ → EncryptedData → Table (Result EncTicketPartInner ℕ)
 valid_part suite key skew moment encrypted =
-    ask (IsTicketPart suite key encrypted) (sole_ticket_part suite key encrypted) (done (Err 31)) (λ part.
+    and_then (opened_part suite key encrypted) (λ part.
     and_then (timely skew moment part) (λ _.
     done (Ok part)))
 
@@ -74,11 +89,11 @@ abbrev pub is_of_client : EncTicketPartInner → AuthenticatorInner → Bool
 is_of_client part authenticator =
     is_same_realm authenticator.crealm.0 part.crealm.0 && is_same_name (components authenticator.cname.0) (components part.cname.0)
 
--- the suite of the ticket's key, and the authenticator that this key opens
-abbrev pub opened : EncryptionKey → EncryptedData → Table (Result (CipherSuite × AuthenticatorInner) ℕ)
-opened key encrypted =
+-- the suite of the ticket's key, and the authenticator that this key opens for the usage
+abbrev pub opened : EncryptionKey → ℕ → EncryptedData → Table (Result (CipherSuite × AuthenticatorInner) ℕ)
+opened key usage encrypted =
     need (suite_of key) 31 (λ suite.
-    ask (IsAuthenticator suite key.key_value.0 encrypted) (sole_authenticator suite key.key_value.0 encrypted) (done (Err 31)) (λ authenticator.
+    ask (IsAuthenticator suite key.key_value.0 usage encrypted) (sole_authenticator suite key.key_value.0 usage encrypted) (done (Err 31)) (λ authenticator.
     done (Ok (suite, authenticator))))
 
 -- the moment that an authenticator of the ticket's client tells
@@ -89,13 +104,29 @@ told part authenticator =
     (need (moment_at (seconds_of authenticator.ctime.0.0) authenticator.cusec.0) 41 (λ time.
     done (Ok time))))
 
--- the authenticator under the ticket's key, with the moment that it tells; a reply is wanted where option 2,
--- mutual-required, is set
+-- the authenticator under the ticket's key, with the key's suite and the moment that it tells; the usage is 11 to a
+-- service, 7 to a ticket-granting service (RFC 4120, section 7.5.1)
+abbrev pub authenticated : ℕ → EncTicketPartInner → EncryptedData → Table (Result Authenticated ℕ)
+authenticated usage part encrypted =
+    and_then (opened part.key.0 usage encrypted) (λ found.
+    and_then (told part found.1) (λ time.
+    done (Ok (record { suite = found.0; authenticator = found.1; time = time }))))
+
+-- what a request presents with this part and this authenticator; a reply is wanted where option 2, mutual-required, is set
+abbrev pub presented_with : ApReqInner → EncTicketPartInner → Authenticated → Presented
+presented_with request part a = record {
+  part = part;
+  suite = a.suite;
+  authenticator = a.authenticator;
+  time = a.time;
+  wants_reply = bit_of request.ap_options.0 2;
+}
+
+-- what the request presents whose ticket has this part
 abbrev pub valid_authenticator : ApReqInner → EncTicketPartInner → Table (Result Presented ℕ)
 valid_authenticator request part =
-    and_then (opened part.key.0 request.authenticator.0) (λ found.
-    and_then (told part found.1) (λ time.
-    done (Ok (record { part = part; suite = found.0; authenticator = found.1; time = time; wants_reply = bit_of request.ap_options.0 2 }))))
+    and_then (authenticated 11 part request.authenticator.0) (λ a.
+    done (Ok (presented_with request part a)))
 
 -- what the request presents to the service of this key at a moment, up to the time that it tells
 unfoldable pub presented : EntryRecord → ℕ → ℕ → ApReqInner → Table (Result Presented ℕ)

@@ -16,10 +16,10 @@ pub sole_ticket_part : (suite : CipherSuite) (key : List ℕ) (encrypted : Encry
 sole_ticket_part suite key encrypted =
     sole_sealed enc_ticket_part_tree enc_ticket_part-injective suite key 2 encrypted
 
--- the data is the authenticator under the session key (usage 11)
-abbrev pub IsAuthenticator : CipherSuite → List ℕ → EncryptedData → AuthenticatorInner → Type 0
-IsAuthenticator suite key encrypted part = IsSealedIn {T = AuthenticatorInner} authenticator_tree suite key 11 encrypted part
+-- the data is the authenticator under the session key, for this usage
+abbrev pub IsAuthenticator : CipherSuite → List ℕ → ℕ → EncryptedData → AuthenticatorInner → Type 0
+IsAuthenticator suite key usage encrypted part = IsSealedIn {T = AuthenticatorInner} authenticator_tree suite key usage encrypted part
 
-pub sole_authenticator : (suite : CipherSuite) (key : List ℕ) (encrypted : EncryptedData) → IsSole (IsAuthenticator suite key encrypted)
-sole_authenticator suite key encrypted =
-    sole_sealed authenticator_tree authenticator-injective suite key 11 encrypted
+pub sole_authenticator : (suite : CipherSuite) (key : List ℕ) (usage : ℕ) (encrypted : EncryptedData) → IsSole (IsAuthenticator suite key usage encrypted)
+sole_authenticator suite key usage encrypted =
+    sole_sealed authenticator_tree authenticator-injective suite key usage encrypted

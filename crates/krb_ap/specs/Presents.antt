@@ -61,7 +61,7 @@ request_of outer part_cipher cipher = record {
 }
 
 -- the value's encoding is sealed to this ciphertext behind the confounder, by the suite that the key fits
-pub record Seals {T : Type 0} (tree : T → Tree) (key : List ℕ) (usage : ℕ) (confounder : List ℕ) (value : T) (cipher : List ℕ) : Type 0 where
+pub record SealsTo {T : Type 0} (tree : T → Tree) (key : List ℕ) (usage : ℕ) (confounder : List ℕ) (value : T) (cipher : List ℕ) : Type 0 where
   pub suite : CipherSuite
   pub plain : List ℕ
   pub writes : Writes tree value plain
@@ -73,8 +73,8 @@ pub record Presents (key : List ℕ) (choice : Choice) (bytes : List ℕ) : Type
   pub part_cipher : List ℕ
   pub cipher : List ℕ
   pub writes : IsApReq bytes (request_of choice.outer part_cipher cipher)
-  pub part : Seals {T = EncTicketPartInner} enc_ticket_part_tree key 2 choice.part_confounder choice.part part_cipher
-  pub authenticator : Seals {T = AuthenticatorInner} authenticator_tree choice.part.key.0.key_value.0 11 choice.confounder choice.authenticator cipher
+  pub part : SealsTo {T = EncTicketPartInner} enc_ticket_part_tree key 2 choice.part_confounder choice.part part_cipher
+  pub authenticator : SealsTo {T = AuthenticatorInner} authenticator_tree choice.part.key.0.key_value.0 11 choice.confounder choice.authenticator cipher
 
 -- the admission tells client and keys as they were chosen
 pub record TellsOf (choice : Choice) (admission : AdmissionRecord) : Type 0 where

@@ -1,5 +1,7 @@
 -- How a service refuses a request.
-use Rattle.std.specs.Prelude.{ℕ, Result, Ok, Err}
+use Rattle.std.specs.Prelude.{ℕ}
+use Rattle.krb_types.specs.declared.refusal.Refusal.{Refusal}
+use Rattle.krb_types.specs.declared.refusal.Refusal.TheVariants as judging
 use Rattle.krb_ap.specs.declared.refusal.AdmitRefusal.{AdmitRefusal}
 use Rattle.krb_ap.specs.declared.refusal.AdmitRefusal.TheVariants.{Unreadable, Krb, Memory}
 
@@ -8,9 +10,7 @@ refusal_number Unreadable = 1
 refusal_number (Krb code) = 2
 refusal_number Memory = 3
 
--- memory aside, what was judged is an outcome of the table's
-abbrev pub IsJudged : {T : Type 0} → (Result T ℕ → Type 0) → Result T AdmitRefusal → Type 0
-IsJudged gives (Ok value) = gives (Ok value)
-IsJudged gives (Err (Krb code)) = gives (Err code)
-IsJudged gives (Err Unreadable) = ⊥
-IsJudged gives (Err Memory) = Unit {0}
+-- what a request is refused for that was read
+abbrev pub refused_for : Refusal → AdmitRefusal
+refused_for (judging.Krb code) = Krb code
+refused_for judging.Memory = Memory

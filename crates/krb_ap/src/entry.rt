@@ -2,14 +2,15 @@
 ghost use Rattle.std.specs.Prelude.{◌≡◌, ◌≤◌};
 ghost use Rattle.krb_ap.specs.ApTable.{presented};
 ghost use Rattle.krb_ap.specs.Received.{Receives};
-ghost use Rattle.krb_ap.specs.Refusal.{IsJudged};
+ghost use Rattle.krb_types.specs.Refusals.{IsJudged};
 
-use crate::judge::{check_address, check_authenticator, check_ticket};
+use crate::judge::{check_address, check_presented, check_ticket};
 use crate::messages::read_ap_req;
 use crate::presented::Presented;
 use crate::refusal::AdmitRefusal;
 use krb_crypto::CipherSuite;
 use krb_moments::Moment;
+use krb_types::Refusal;
 use picky_asn1::wrapper::{GeneralStringAsn1, OctetStringAsn1};
 use picky_krb::messages::ApReqInner;
 use std::alloc::Global;
@@ -75,7 +76,7 @@ impl KeytabEntry {
         let Some(request) = read_ap_req(alloc, bytes)? else {
             return Err(AdmitRefusal::Unreadable);
         };
-        self.judge(alloc, skew, moment, &request)
+        Ok(self.judge(alloc, skew, moment, &request)?)
     }
 
     // Judges a request at a moment.
@@ -85,7 +86,7 @@ impl KeytabEntry {
         skew: u64,
         moment: Moment,
         request: &ApReqInner,
-    ) -> Result<Presented, AdmitRefusal>
+    ) -> Result<Presented, Refusal>
         requires { skew ≤ 86400000000 }
         ensures { IsJudged (presented self.now skew moment request.now).gives result }
     {
@@ -104,6 +105,6 @@ impl KeytabEntry {
             moment,
             &request.ticket.0.0.enc_part.0,
         )?;
-        check_authenticator(alloc, request, part)
+        check_presented(alloc, request, part)
     }
 }

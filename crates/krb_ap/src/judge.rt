@@ -1,23 +1,23 @@
-//! Judging a request: the rows of a service's table, part by part.
+//! Judging a request: the rows of the table, part by part.
 ghost use Rattle.std.specs.Prelude.{◌≡◌, ◌≤◌};
 ghost use Rattle.krb_crypto.specs.Suites.{cipher_number};
 ghost use Rattle.krb_types.specs.Names.{components};
-ghost use Rattle.krb_ap.specs.ApTable.{addressed, is_early, is_for, is_late, is_of_client, is_version_5, may_be_under, opened, start_of, timely, told, valid_authenticator, valid_part};
-ghost use Rattle.krb_ap.specs.Refusal.{IsJudged};
+ghost use Rattle.krb_types.specs.Refusals.{IsJudged};
+ghost use Rattle.krb_ap.specs.ApTable.{addressed, ap_fields, authenticated, is_early, is_for, is_late, is_of_client, is_version_5, may_be_under, opened, opened_part, presented_with, start_of, timely, told, valid_authenticator, valid_part};
 ghost use Rattle.picky_asn1.specs.GeneralizedTime.{seconds_of};
+ghost use Rattle.std.specs.Int.{cast_unsigned, w32};
 
 use crate::messages::{open_authenticator, open_part};
-use crate::presented::Presented;
-use crate::refusal::AdmitRefusal;
+use crate::presented::{Authenticated, Presented};
 use krb_crypto::CipherSuite;
 use krb_moments::{MICROSECONDS_IN_SECOND, Moment, moment_at};
 use krb_opening::suite_of;
-use krb_types::constants::error_codes;
 use krb_types::constants::types::{AP_REQ_MSG_TYPE, KERBEROS_VERSION};
+use krb_types::constants::{error_codes, key_usages};
 use krb_types::data_types::{
     AuthenticatorInner, EncTicketPartInner, EncryptedData, EncryptionKey, TicketInner,
 };
-use krb_types::{is_same_name, is_same_realm};
+use krb_types::{Refusal, is_same_name, is_same_realm};
 use picky_asn1::date::GeneralizedTime;
 use picky_asn1::is_number;
 use picky_asn1::wrapper::GeneralStringAsn1;
@@ -40,27 +40,42 @@ pub(crate) fn check_address(
     suite: CipherSuite,
     number: u32,
     request: &ApReqInner,
-) -> Result<(), AdmitRefusal>
+) -> Result<(), Refusal>
     ensures { IsJudged (addressed realm.now name.now suite number request.now).gives result }
 {
     if request.ap_options.0.bit(USE_SESSION_KEY) {
-        return Err(AdmitRefusal::Krb(error_codes::KRB_AP_ERR_METHOD));
+        return Err(Refusal::Krb(error_codes::KRB_AP_ERR_METHOD));
     }
+    check_fields(realm, name, number, request)?;
+    if !is_number(&request.ticket.0.0.enc_part.0.etype.0, u32::from(&suite)) {
+        return Err(Refusal::Krb(error_codes::KRB_AP_ERR_NOKEY));
+    }
+    Ok(())
+}
+
+/// Judges the request's own fields (RFC 4120, section 3.2.3): request and ticket have to be of version 5 (code 39), it has
+/// to be an AP request (40), its ticket for the service of this realm and this name (35), and under its key of this
+/// number, where one is told (44).
+pub fn check_fields(
+    realm: &GeneralStringAsn1,
+    name: &[GeneralStringAsn1],
+    number: u32,
+    request: &ApReqInner,
+) -> Result<(), Refusal>
+    ensures { IsJudged (ap_fields realm.now name.now number request.now).gives result }
+{
     if !is_version_5(request) {
-        return Err(AdmitRefusal::Krb(error_codes::KRB_AP_ERR_BADVERSION));
+        return Err(Refusal::Krb(error_codes::KRB_AP_ERR_BADVERSION));
     }
     if !is_number(&request.msg_type.0, u32::from(AP_REQ_MSG_TYPE)) {
-        return Err(AdmitRefusal::Krb(error_codes::KRB_AP_ERR_MSG_TYPE));
+        return Err(Refusal::Krb(error_codes::KRB_AP_ERR_MSG_TYPE));
     }
     let ticket = &request.ticket.0.0;
     if !is_for(realm, name, ticket) {
-        return Err(AdmitRefusal::Krb(error_codes::KRB_AP_ERR_NOT_US));
+        return Err(Refusal::Krb(error_codes::KRB_AP_ERR_NOT_US));
     }
     if !may_be_under(number, &ticket.enc_part.0) {
-        return Err(AdmitRefusal::Krb(error_codes::KRB_AP_ERR_BADKEYVER));
-    }
-    if !is_number(&ticket.enc_part.0.etype.0, u32::from(&suite)) {
-        return Err(AdmitRefusal::Krb(error_codes::KRB_AP_ERR_NOKEY));
+        return Err(Refusal::Krb(error_codes::KRB_AP_ERR_BADKEYVER));
     }
     Ok(())
 }
@@ -99,27 +114,41 @@ pub(crate) fn check_ticket(
     skew: u64,
     moment: Moment,
     encrypted: &EncryptedData,
-) -> Result<EncTicketPartInner, AdmitRefusal>
+) -> Result<EncTicketPartInner, Refusal>
     requires { skew ≤ 86400000000 }
     ensures { IsJudged (valid_part suite key.now skew moment encrypted.now).gives result }
 {
-    let Some(part) = open_part(alloc, suite, key, encrypted)? else {
-        return Err(AdmitRefusal::Krb(error_codes::KRB_AP_ERR_BAD_INTEGRITY));
-    };
+    let part = open_ticket(alloc, suite, key, encrypted)?;
     check_times(skew, moment, &part)?;
     Ok(part)
 }
 
-// Judges the times and flags of a ticket's part.
-fn check_times(skew: u64, moment: Moment, part: &EncTicketPartInner) -> Result<(), AdmitRefusal>
+/// The ticket's part, which the service's key has to open (code 31; RFC 4120, section 5.3).
+pub fn open_ticket(
+    alloc: Global,
+    suite: CipherSuite,
+    key: &[u8],
+    encrypted: &EncryptedData,
+) -> Result<EncTicketPartInner, Refusal>
+    ensures { IsJudged (opened_part suite key.now encrypted.now).gives result }
+{
+    let Some(part) = open_part(alloc, suite, key, encrypted)? else {
+        return Err(Refusal::Krb(error_codes::KRB_AP_ERR_BAD_INTEGRITY));
+    };
+    Ok(part)
+}
+
+/// Judges a ticket's times and flags at a moment: it has to have started and be valid (code 33), and must not have ended
+/// (32; RFC 4120, section 3.2.3). The skew is in microseconds, a day at most.
+pub fn check_times(skew: u64, moment: Moment, part: &EncTicketPartInner) -> Result<(), Refusal>
     requires { skew ≤ 86400000000 }
     ensures { IsJudged (timely skew moment part.now).gives result }
 {
     if is_early(skew, moment, part) {
-        return Err(AdmitRefusal::Krb(error_codes::KRB_AP_ERR_TKT_NYV));
+        return Err(Refusal::Krb(error_codes::KRB_AP_ERR_TKT_NYV));
     }
     if is_late(skew, moment, part) {
-        return Err(AdmitRefusal::Krb(error_codes::KRB_AP_ERR_TKT_EXPIRED));
+        return Err(Refusal::Krb(error_codes::KRB_AP_ERR_TKT_EXPIRED));
     }
     Ok(())
 }
@@ -151,46 +180,86 @@ fn is_late(skew: u64, moment: Moment, part: &EncTicketPartInner) -> bool
     part.endtime.0.0.seconds() * MICROSECONDS_IN_SECOND + skew < moment.micros()
 }
 
-/// Opens the request's authenticator under the ticket's key, and judges whose it is and what moment it tells.
-pub(crate) fn check_authenticator(
+/// What a request presents whose ticket has this part.
+pub(crate) fn check_presented(
     alloc: Global,
     request: &ApReqInner,
     part: EncTicketPartInner,
-) -> Result<Presented, AdmitRefusal>
+) -> Result<Presented, Refusal>
     ensures { IsJudged (valid_authenticator request.now part).gives result }
 {
-    let opened = open_under(alloc, &part.key.0, &request.authenticator.0)?;
-    let time = check_told(&part, &opened.1)?;
+    let authenticated = check_authenticator(
+        alloc,
+        key_usages::AP_REQ_AUTHENTICATOR,
+        &part,
+        &request.authenticator.0,
+    )?;
+    Ok(presented_with(request, part, authenticated))
+}
+
+// What a request presents with this part and this authenticator.
+fn presented_with(
+    request: &ApReqInner,
+    part: EncTicketPartInner,
+    authenticated: Authenticated,
+) -> Presented
+    ensures { result ≡ presented_with request.now part authenticated }
+{
     let wants_reply = request.ap_options.0.bit(MUTUAL_REQUIRED);
-    let (suite, authenticator) = opened;
-    Ok(Presented {
+    let Authenticated {
+        suite,
+        authenticator,
+        time,
+    } = authenticated;
+    Presented {
         part,
         suite,
         authenticator,
         time,
         wants_reply,
+    }
+}
+
+/// Opens a request's authenticator under its ticket's key for a usage (code 31), and judges it: it has to be of version 5
+/// (39) and of the ticket's client (36), and its microseconds part of a second (41; RFC 4120, section 3.2.3).
+pub fn check_authenticator(
+    alloc: Global,
+    usage: i32,
+    part: &EncTicketPartInner,
+    encrypted: &EncryptedData,
+) -> Result<Authenticated, Refusal>
+    ensures { IsJudged (authenticated (cast_unsigned w32 usage) part.now encrypted.now).gives result }
+{
+    let (suite, authenticator) = open_under(alloc, &part.key.0, usage, encrypted)?;
+    let time = check_told(part, &authenticator)?;
+    Ok(Authenticated {
+        suite,
+        authenticator,
+        time,
     })
 }
 
-// The suite of the ticket's key, and the authenticator that this key opens.
+// The suite of the ticket's key, and the authenticator that this key opens for the usage.
 fn open_under(
     alloc: Global,
     key: &EncryptionKey,
+    usage: i32,
     encrypted: &EncryptedData,
-) -> Result<(CipherSuite, AuthenticatorInner), AdmitRefusal>
-    ensures { IsJudged (opened key.now encrypted.now).gives result }
+) -> Result<(CipherSuite, AuthenticatorInner), Refusal>
+    ensures { IsJudged (opened key.now (cast_unsigned w32 usage) encrypted.now).gives result }
 {
     let Some(suite) = suite_of(key) else {
-        return Err(AdmitRefusal::Krb(error_codes::KRB_AP_ERR_BAD_INTEGRITY));
+        return Err(Refusal::Krb(error_codes::KRB_AP_ERR_BAD_INTEGRITY));
     };
     let Some(authenticator) = open_authenticator(
         alloc,
         suite,
         key.key_value.0.as_bytes(),
+        usage,
         encrypted,
     )?
     else {
-        return Err(AdmitRefusal::Krb(error_codes::KRB_AP_ERR_BAD_INTEGRITY));
+        return Err(Refusal::Krb(error_codes::KRB_AP_ERR_BAD_INTEGRITY));
     };
     Ok((suite, authenticator))
 }
@@ -199,17 +268,17 @@ fn open_under(
 fn check_told(
     part: &EncTicketPartInner,
     authenticator: &AuthenticatorInner,
-) -> Result<Moment, AdmitRefusal>
+) -> Result<Moment, Refusal>
     ensures { IsJudged (told part.now authenticator.now).gives result }
 {
     if !is_number(&authenticator.authenticator_vno.0, KERBEROS_VERSION) {
-        return Err(AdmitRefusal::Krb(error_codes::KRB_AP_ERR_BADVERSION));
+        return Err(Refusal::Krb(error_codes::KRB_AP_ERR_BADVERSION));
     }
     if !is_of_client(part, authenticator) {
-        return Err(AdmitRefusal::Krb(error_codes::KRB_AP_ERR_BADMATCH));
+        return Err(Refusal::Krb(error_codes::KRB_AP_ERR_BADMATCH));
     }
     let Some(time) = moment_at(authenticator.ctime.0.0, &authenticator.cusec.0) else {
-        return Err(AdmitRefusal::Krb(error_codes::KRB_AP_ERR_MODIFIED));
+        return Err(Refusal::Krb(error_codes::KRB_AP_ERR_MODIFIED));
     };
     Ok(time)
 }

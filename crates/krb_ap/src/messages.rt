@@ -1,5 +1,6 @@
 //! Reading a request, and opening what is sealed in it.
 ghost use Rattle.std.specs.Prelude.{IfOk};
+ghost use Rattle.std.specs.Int.{cast_unsigned, w32};
 ghost use Rattle.picky_krb.specs.Found.{IsFound};
 ghost use Rattle.picky_krb.specs.Messages.{IsApReq};
 ghost use Rattle.krb_ap.specs.Messages.{IsAuthenticator, IsTicketPart};
@@ -15,7 +16,7 @@ use picky_krb::read_whole;
 use std::alloc::{AllocError, Global};
 
 /// The AP request whose one encoding the bytes are, or none (RFC 4120, section 5.5.1).
-pub(crate) fn read_ap_req(alloc: Global, bytes: &[u8]) -> Result<Option<ApReqInner>, AllocError>
+pub fn read_ap_req(alloc: Global, bytes: &[u8]) -> Result<Option<ApReqInner>, AllocError>
     ensures { IfOk result (IsFound (IsApReq bytes.now)) }
 {
     let read: Option<ApReq> = read_whole(alloc, bytes)?;
@@ -47,22 +48,17 @@ pub(crate) fn open_part(
     }
 }
 
-/// The authenticator that the session key opens, or none (RFC 4120, section 5.5.1).
+/// The authenticator that the session key opens for the usage, or none (RFC 4120, section 5.5.1).
 pub(crate) fn open_authenticator(
     alloc: Global,
     suite: CipherSuite,
     key: &[u8],
+    usage: i32,
     encrypted: &EncryptedData,
 ) -> Result<Option<AuthenticatorInner>, AllocError>
-    ensures { IfOk result (IsFound (IsAuthenticator suite key.now encrypted.now)) }
+    ensures { IfOk result (IsFound (IsAuthenticator suite key.now (cast_unsigned w32 usage) encrypted.now)) }
 {
-    let found: Option<Authenticator> = open_sealed(
-        alloc,
-        suite,
-        key,
-        key_usages::AP_REQ_AUTHENTICATOR,
-        encrypted,
-    )?;
+    let found: Option<Authenticator> = open_sealed(alloc, suite, key, usage, encrypted)?;
     match found {
         Some(authenticator) => Ok(Some(authenticator.0)),
         None => Ok(None),

@@ -2,6 +2,7 @@
 ghost use Rattle.std.specs.Prelude.{◌≡◌};
 ghost use Rattle.krb_ap.specs.declared.refusal.AdmitRefusal.TheVariants.{Memory};
 
+use krb_types::Refusal;
 use std::alloc::AllocError;
 use thiserror::Error;
 
@@ -41,5 +42,18 @@ impl From<AllocError> for AdmitRefusal {
 
     fn from(_error: AllocError) -> AdmitRefusal {
         AdmitRefusal::Memory
+    }
+}
+
+impl From<Refusal> for AdmitRefusal {
+    ghost use Rattle.krb_ap.specs.Refusal.{refused_for};
+
+    ghost from_gives = { λ error refusal. refusal ≡ refused_for error };
+
+    fn from(error: Refusal) -> AdmitRefusal {
+        match error {
+            Refusal::Krb(code) => AdmitRefusal::Krb(code),
+            Refusal::Memory => AdmitRefusal::Memory,
+        }
     }
 }

@@ -2,7 +2,7 @@ use Rattle.std.proofs.Common.{Ok, Err, subst}
 use Rattle.std.proofs.lemmas.Result.{err_from_is_err_and}
 use Rattle.krb_ap.specs.ApTable.{presented}
 use Rattle.krb_ap.specs.Entry.{EntryRecord}
-use Rattle.krb_ap.specs.Refusal.{IsJudged}
+use Rattle.krb_types.specs.Refusals.{IsJudged}
 use Rattle.krb_ap.specs.declared.presented.Presented.{Presented}
 use Rattle.krb_ap.proofs.Judged.{address_refused, ticket_at, ticket_held, ticket_refused}
 use Rattle.krb_ap.proofs.entry.KeytabEntry.judge.Goals as goal
@@ -33,5 +33,5 @@ returns c =
     let entry : EntryRecord = record { realm = own.realm; components = own.components.items; suite = own.suite; key = own.key; number = own.number } in
     let address = rw c.as_slice.ensures.value at c.in_ok-check_address.ensures in
     let ticket = ticket_at entry c.args.skew c.args.moment c.args.request.now (Ok c.in_ok-part.part) c.as_bytes.result.now c.as_bytes.ensures c.in_ok-part.ensures in
-    subst (λ (e : EntryRecord). IsJudged {T = Presented} (presented e c.args.skew c.args.moment c.args.request.now).gives c.check_authenticator.result) c.self.view_is
-    (ticket_held entry c.args.skew c.args.moment c.args.request.now c.in_ok-part.part c.check_authenticator.result address ticket c.check_authenticator.ensures)
+    subst (λ (e : EntryRecord). IsJudged {T = Presented} (presented e c.args.skew c.args.moment c.args.request.now).gives c.check_presented.result) c.self.view_is
+    (ticket_held entry c.args.skew c.args.moment c.args.request.now c.in_ok-part.part c.check_presented.result address ticket c.check_presented.ensures)
