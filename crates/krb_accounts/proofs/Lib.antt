@@ -1,3 +1,4 @@
+mod Changing
 mod Parts
 mod Pushing
 mod Search

@@ -1,5 +1,5 @@
 //! An account: what a realm knows of a principal.
-ghost use Rattle.std.specs.Prelude.{◌≡◌, ◌≢◌, ◌≤◌, ◌<◌, ◌+◌, ◌↔◌, length, IfOk, IfErr, None, ◌⊎◌};
+ghost use Rattle.std.specs.Prelude.{◌≡◌, ◌≢◌, ◌≤◌, ◌<◌, ◌+◌, ◌↔◌, length, IfOk, IfErr, MatchResult, Ok, Err, None, ◌⊎◌};
 ghost use Rattle.std.specs.Option.{option_copied};
 ghost use Rattle.krb_crypto.specs.Suites.{cipher_key_size};
 ghost use Rattle.krb_accounts.specs.Passwords.{password_account};
@@ -33,6 +33,9 @@ impl Model for Account {
 }
 
 impl Account {
+    ghost use Rattle.krb_accounts.specs.Accounts.{with_key};
+    ghost use Rattle.krb_accounts.specs.declared.refusal.RealmRefusal.{RealmRefusal};
+
     /// An account with this key.
     pub fn new(
         suite: CipherSuite,
@@ -80,6 +83,29 @@ impl Account {
         let key = suite.generate_key_from_password(alloc, password, &salt)?;
         let salt = OctetStringAsn1::from(salt);
         Ok(Account::new(suite, OctetStringAsn1::from(key), 1, Some(salt)))
+    }
+
+    /// The account with a copy of its next key, with the number that follows and no salt. Where no number follows it is
+    /// refused.
+    pub(crate) fn with_key(
+        &self,
+        alloc: Global,
+        suite: CipherSuite,
+        key: &[u8],
+    ) -> Result<Account, RealmRefusal>
+        requires { length key.now ≡ cipher_key_size suite }
+        ensures made { MatchResult result
+            (λ account. with_key suite key.now self.now ≡ Ok account)
+            (λ refusal. (refusal ≡ RealmRefusal.Memory) ⊎ (with_key suite key.now self.now ≡ Err refusal)) }
+
+        // Want of memory hides no other refusal.
+        ensures first { (refusal : RealmRefusal) → with_key suite key.now self.now ≡ Err refusal → result ≡ Err refusal }
+    {
+        if self.number == u32::MAX {
+            return Err(RealmRefusal::NumberSpent);
+        }
+        let key = OctetStringAsn1::new(alloc, key)?;
+        Ok(Account::new(suite, key, self.number + 1, None))
     }
 
     /// The suite of the key.

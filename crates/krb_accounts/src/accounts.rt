@@ -1,11 +1,12 @@
 //! The accounts of a realm.
-ghost use Rattle.std.specs.Prelude.{◌≡◌, ◌↔◌, IsSome, OnOk, OnErr};
+ghost use Rattle.std.specs.Prelude.{◌≡◌, ◌↔◌, ◌⊎◌, IsSome, Ok, Err, OnOk, OnErr, IfErr};
 ghost use Rattle.std.specs.Option.{option_copied};
 ghost use Rattle.std.specs.FinMap as finite;
 ghost use Rattle.krb_accounts.specs.Names.{parts};
 
 use crate::names::has_components;
 use crate::{Account, RealmRefusal};
+use krb_crypto::{Cipher, CipherSuite};
 use picky_asn1::wrapper::GeneralStringAsn1;
 use std::alloc::Global;
 use std::marker::Model;
@@ -41,8 +42,10 @@ impl Model for Accounts {
 }
 
 impl Accounts {
-    ghost use Rattle.krb_accounts.specs.Accounts.{inserting};
+    ghost use Rattle.krb_accounts.specs.Account.{AccountRecord};
+    ghost use Rattle.krb_accounts.specs.Accounts.{changing, inserting, removing};
     ghost use Rattle.krb_accounts.specs.Refusal.{IsMemoryAside};
+    ghost use Rattle.krb_accounts.specs.declared.refusal.RealmRefusal.{RealmRefusal};
 
     /// No accounts.
     pub fn new(alloc: Global) -> Accounts
@@ -84,11 +87,55 @@ impl Accounts {
         self.entries.push(Entry { name, account })?;
         Ok(())
     }
+
+    /// Takes a name's account away. A name that has none is refused. It takes no memory.
+    pub fn remove(&mut self, name: &[Vec<u8>]) -> Result<(), RealmRefusal>
+        ensures refusal { result ≡ removing self.old (parts name.now) }
+        ensures ok { OnOk result (self.new ≡ finite.remove self.old (parts name.now)) }
+        ensures err { OnErr result (self.new ≡ self.old) }
+    {
+        if !self.contains(name) {
+            return Err(RealmRefusal::Unknown);
+        }
+        self.entries
+            .retain(|entry| !has_components(name, entry.name.as_slice()));
+        Ok(())
+    }
+
+    /// Gives a name's account its next key: a copy of this one, with the number that follows and no salt.
+    ///
+    /// It is refused, in this order: `BadKeyLength`; `Unknown` for a name that has no account; `NumberSpent` where the
+    /// account's number is the greatest; and `Memory` only where it isn't refused so.
+    pub fn change_key(
+        &mut self,
+        alloc: Global,
+        name: &[Vec<u8>],
+        suite: CipherSuite,
+        key: &[u8],
+    ) -> Result<(), RealmRefusal>
+        ensures refusal { IfErr result (λ refusal. (refusal ≡ RealmRefusal.Memory) ⊎ (changing self.old (parts name.now) suite key.now ≡ Err refusal)) }
+
+        // Want of memory hides no other refusal.
+        ensures first { (refusal : RealmRefusal) → changing self.old (parts name.now) suite key.now ≡ Err refusal → result ≡ Err refusal }
+        ensures ok { OnOk result ((account : AccountRecord) × (changing self.old (parts name.now) suite key.now ≡ Ok account)
+            × (self.new ≡ finite.insert self.old (parts name.now) account)) }
+        ensures err { OnErr result (self.new ≡ self.old) }
+    {
+        if key.len() != suite.key_size() {
+            return Err(RealmRefusal::BadKeyLength);
+        }
+        let Some(place) = place_of(self.entries.as_slice(), name) else {
+            return Err(RealmRefusal::Unknown);
+        };
+        let account = self.entries[place].account.with_key(alloc, suite, key)?;
+        self.entries[place].account = account;
+        Ok(())
+    }
 }
 
 ghost use Rattle.std.specs.Prelude.{nat_eq};
 ghost use Rattle.std.specs.Cmp.Lexicographic.{pointwise};
-ghost use Rattle.std.specs.List.{list_any};
+ghost use Rattle.std.specs.List.{list_any, position};
 ghost use Rattle.krb_accounts.specs.Accounts.{name_cmp};
 ghost use Rattle.krb_accounts.specs.Entries.{pairs};
 
@@ -99,6 +146,15 @@ fn has_entry(entries: &[Entry], name: &[Vec<u8>]) -> bool
     entries
         .iter()
         .any(|entry| has_components(name, entry.name.as_slice()))
+}
+
+/// The place of the first entry of that name.
+fn place_of(entries: &[Entry], name: &[Vec<u8>]) -> Option<usize>
+    ensures { result ≡ position (λ entry. pointwise (pointwise nat_eq) (parts name.now) entry.name.items) entries.now }
+{
+    entries
+        .iter()
+        .position(|entry| has_components(name, entry.name.as_slice()))
 }
 
 /// The account of the first entry of that name.

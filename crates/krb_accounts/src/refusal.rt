@@ -6,11 +6,18 @@ use std::alloc::{AllocError, AllocFailed};
 use thiserror::Error;
 
 /// Why settings, a name or an account were refused. A refused command changes nothing.
+///
+/// Where several hold, the first of this order is told: `BadName`, `BadKeyLength`, `BadSetting`, `Exists`, `Unknown`,
+/// `KeptAccount`, `NumberSpent`, `Memory`.
 #[derive(Clone, Copy, Debug, PartialEq, Eq, Hash, Error)]
 pub enum RealmRefusal {
     /// An account has that name already.
     #[error("the account exists already")]
     Exists = 1,
+
+    /// No account has that name.
+    #[error("no such account")]
+    Unknown = 2,
 
     /// The name breaks the rules for the names of realms or of principals.
     #[error("not a name of a realm or a principal")]
@@ -19,6 +26,14 @@ pub enum RealmRefusal {
     /// The key doesn't have as many bytes as its suite's keys.
     #[error("the key's length is not its suite's")]
     BadKeyLength = 4,
+
+    /// The account is the realm's own, of its ticket-granting service, and is kept.
+    #[error("the account of the ticket-granting service is kept")]
+    KeptAccount = 5,
+
+    /// The key's number is the greatest, and none follows.
+    #[error("no key number is left")]
+    NumberSpent = 6,
 
     /// A setting is out of its range.
     #[error("a setting is out of its range")]
@@ -32,8 +47,8 @@ pub enum RealmRefusal {
 impl RealmRefusal {
     ghost use Rattle.krb_accounts.specs.Refusal.{refusal_number};
 
-    /// The refusal's number: 1 for `Exists`, 3 for `BadName`, 4 for `BadKeyLength`, 7 for `BadSetting` and 8 for
-    /// `Memory`.
+    /// The refusal's number: 1 for `Exists`, 2 for `Unknown`, 3 for `BadName`, 4 for `BadKeyLength`, 5 for `KeptAccount`, 6
+    /// for `NumberSpent`, 7 for `BadSetting` and 8 for `Memory`.
     pub fn number(self) -> u8
         ensures { result ≡ refusal_number self }
     {
