@@ -1,15 +1,17 @@
 -- A realm: its name, its settings, and a finite map from component lists to accounts.
-use Rattle.std.specs.Prelude.{ℕ, not, ◌==◌, List, length, None, Result, Ok, Err, if◌then◌else◌}
+use Rattle.std.specs.Prelude.{ℕ, nat_eq, Bool, not, ◌==◌, List, length, None, Result, Ok, Err, if◌then◌else◌}
+use Rattle.std.specs.Cmp.Lexicographic.{pointwise}
 use Rattle.std.specs.FinMap as finite
 use Rattle.krb_crypto.specs.declared.suite.CipherSuite.{CipherSuite}
 use Rattle.krb_crypto.specs.Suites.{cipher_key_size}
 use Rattle.krb_accounts.specs.Account.{AccountRecord}
 use Rattle.krb_accounts.specs.Accounts.{AccountMap}
+use Rattle.krb_accounts.specs.Accounts as map
 use Rattle.krb_accounts.specs.Names.{is_realm_name, are_components}
 use Rattle.krb_accounts.specs.Settings.{SettingsRecord}
 use Rattle.krb_replies.specs.Errors.{krbtgt_of}
 use Rattle.krb_accounts.specs.declared.refusal.RealmRefusal.{RealmRefusal}
-use Rattle.krb_accounts.specs.declared.refusal.RealmRefusal.TheVariants.{BadName, BadKeyLength, Exists}
+use Rattle.krb_accounts.specs.declared.refusal.RealmRefusal.TheVariants.{BadName, BadKeyLength, Exists, KeptAccount, Unknown}
 
 pub record RealmState : Type 0 where
   pub name : List ℕ
@@ -46,3 +48,18 @@ abbrev pub adding_by_password : AccountMap → List (List ℕ) → Result (Unit 
 adding_by_password accounts name =
     if not (are_components name) then Err BadName
     else (if finite.contains_key accounts name then Err Exists else Ok tt)
+
+-- the name is that of the realm's ticket-granting service
+abbrev pub is_krbtgt : List ℕ → List (List ℕ) → Bool
+is_krbtgt realm name = pointwise (pointwise nat_eq) name (krbtgt_of realm)
+
+-- whether an account is taken away, in the order of refusals; that of the ticket-granting service is kept
+abbrev pub removing : RealmState → List (List ℕ) → Result (Unit {0}) RealmRefusal
+removing realm name =
+    if not (are_components name) then Err BadName
+    else (if not (finite.contains_key realm.accounts name) then Err Unknown
+    else (if is_krbtgt realm.name name then Err KeptAccount else Ok tt))
+
+-- what a name's account becomes by a key, in the order of refusals
+abbrev pub changing : AccountMap → List (List ℕ) → CipherSuite → List ℕ → Result AccountRecord RealmRefusal
+changing accounts name suite key = if not (are_components name) then Err BadName else map.changing accounts name suite key

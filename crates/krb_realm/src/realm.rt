@@ -1,10 +1,11 @@
 //! Realms.
-ghost use Rattle.std.specs.Prelude.{◌≡◌, ◌≤◌, ℕ, List, Ok, Err, Some, None, OnOk, OnErr, IfOk, MatchResult, length, ◌⊎◌};
+ghost use Rattle.std.specs.Prelude.{◌≡◌, ◌≤◌, ℕ, List, Ok, Err, Some, None, OnOk, OnErr, IfOk, IfErr, MatchResult, length, ◌⊎◌};
 ghost use Rattle.std.specs.FinMap as finite;
 ghost use Rattle.krb_accounts.specs.Accounts.{look_in};
 ghost use Rattle.krb_accounts.specs.Names.{parts};
 ghost use Rattle.krb_accounts.specs.Refusal.{IsMemoryAside};
 ghost use Rattle.krb_replies.specs.Replies.{Replies};
+ghost use Rattle.krb_realm.specs.Realm.{is_krbtgt};
 
 use krb_accounts::{
     Account, Accounts, RealmRefusal, Settings, are_components, components_of, is_realm_name,
@@ -54,7 +55,8 @@ impl Model for Realm {
 }
 
 impl Realm {
-    ghost use Rattle.krb_realm.specs.Realm.{making, made, adding, adding_by_password, first_key};
+    ghost use Rattle.krb_accounts.specs.Account.{AccountRecord};
+    ghost use Rattle.krb_realm.specs.Realm.{making, made, adding, adding_by_password, changing, first_key, removing};
     ghost use Rattle.krb_accounts.specs.Passwords.{password_account, password_salt};
     ghost use Rattle.krb_accounts.specs.declared.refusal.RealmRefusal.{RealmRefusal};
     ghost use Rattle.krb_realm.specs.Answers.{IsAnswer};
@@ -161,6 +163,53 @@ impl Realm {
         Ok(())
     }
 
+    /// Takes a principal's account away, but never that of the realm's own ticket-granting service `krbtgt/name`. A refused
+    /// command changes nothing. It takes no memory.
+    ///
+    /// It is refused, in this order: `BadName`, `Unknown`, `KeptAccount`.
+    pub fn remove_account(&mut self, name: &[Vec<u8>]) -> Result<(), RealmRefusal>
+        ensures refusal { result ≡ removing self.old (parts name.now) }
+        ensures ok { OnOk result (self.new ≡ record self.old { accounts = finite.remove self.old.accounts (parts name.now) }) }
+        ensures err { OnErr result (self.new ≡ self.old) }
+    {
+        if !are_components(name) {
+            return Err(RealmRefusal::BadName);
+        }
+        if !self.accounts.contains(name) {
+            return Err(RealmRefusal::Unknown);
+        }
+        if is_krbtgt(&self.name, name) {
+            return Err(RealmRefusal::KeptAccount);
+        }
+        self.accounts.remove(name)
+    }
+
+    /// Gives a principal's account its next key: a copy of this one, with the number that follows and no salt (RFC 4120,
+    /// section 5.2.9). A refused command changes nothing.
+    ///
+    /// It is refused, in this order: `BadName`, `BadKeyLength`, `Unknown`, `NumberSpent`; and `Memory` only where it isn't
+    /// refused so.
+    pub fn change_key(
+        &mut self,
+        alloc: Global,
+        name: &[Vec<u8>],
+        suite: CipherSuite,
+        key: &[u8],
+    ) -> Result<(), RealmRefusal>
+        ensures refusal { IfErr result (λ refusal. (refusal ≡ RealmRefusal.Memory) ⊎ (changing self.old.accounts (parts name.now) suite key.now ≡ Err refusal)) }
+
+        // Want of memory hides no other refusal.
+        ensures first { (refusal : RealmRefusal) → changing self.old.accounts (parts name.now) suite key.now ≡ Err refusal → result ≡ Err refusal }
+        ensures ok { OnOk result ((account : AccountRecord) × (changing self.old.accounts (parts name.now) suite key.now ≡ Ok account)
+            × (self.new ≡ record self.old { accounts = finite.insert self.old.accounts (parts name.now) account })) }
+        ensures err { OnErr result (self.new ≡ self.old) }
+    {
+        if !are_components(name) {
+            return Err(RealmRefusal::BadName);
+        }
+        self.accounts.change_key(alloc, name, suite, key)
+    }
+
     /// The reply to a message at a moment, with random bytes of which the first 128 count (RFC 4120, section 3.1).
     ///
     /// `Unreadable` says that the bytes are the one encoding of no AS request and of no TGS request.
@@ -195,4 +244,14 @@ impl Realm {
         }
         Err(AnswerRefusal::Unreadable)
     }
+}
+
+// Whether the name is that of the realm's ticket-granting service.
+fn is_krbtgt(realm: &GeneralStringAsn1, name: &[Vec<u8>]) -> bool
+    ensures { result ≡ is_krbtgt realm.now (parts name.now) }
+{
+    let [first, second] = name else {
+        return false;
+    };
+    first.as_slice() == b"krbtgt".as_slice() && second.as_slice() == realm.as_bytes()
 }
