@@ -1,13 +1,14 @@
--- What is admissible is admitted, what is admitted is admissible, and a call has an outcome.
+-- What is admissible is admitted, what is admitted is admissible and was presented, and a call has an outcome.
 use Rattle.std.proofs.Common.{◌≡◌, ◌≤◌, ℕ, Bool, true, false, List, ◌∷◌, length, Option, Result, Ok, Err, refl, sym, ap, subst, ◌∙◌, inl, inr}
 use Rattle.krb_blocks.specs.Bytes.{IsBytes}
 use Rattle.krb_moments.specs.Skew.{is_far}
-use Rattle.decision_tables.specs.Tables.{Table, and_then, as_made, done, refuse}
+use Rattle.decision_tables.specs.Tables.{Table, and_then, as_made, done, make, refuse}
 use Rattle.decision_tables.proofs.Outcomes.{HasOutcome, has_as_made, has_asked, has_done, has_made, has_refused, has_then, some_of}
 use Rattle.krb_replay_cache.specs.Pair.{PairRecord, is_among}
 use Rattle.picky_krb.specs.declared.messages.ap_req.ApReqInner.{ApReqInner}
 use Rattle.krb_ap.specs.Acceptable.{shown_by}
-use Rattle.krb_ap.specs.Admission.{AdmissionRecord, admission_of}
+use Rattle.krb_types.specs.declared.data_types.enc_ticket_part.EncTicketPartInner.{EncTicketPartInner}
+use Rattle.krb_ap.specs.Admission.{AdmissionRecord, admission_of, subkey_of}
 use Rattle.krb_ap.specs.ApReply.{IsReplyTo, sole_reply_to}
 use Rattle.krb_ap.specs.ApTable.{presented}
 use Rattle.picky_krb.specs.Messages.{IsApReq, sole_ap_req}
@@ -24,15 +25,29 @@ use Rattle.krb_service.specs.Admissible.{IsAdmissible, chosen_pair}
 use Rattle.krb_service.specs.Once.{Admitted, fresh, once, pair_of}
 use Rattle.krb_service.specs.RememberingService.{Outcome, judged, outcome_of, remembering}
 use Rattle.krb_service.specs.Service.{ServiceRecord}
-use Rattle.krb_service.proofs.Admissions.{replied, told_of}
 use Rattle.krb_service.proofs.NewPairs.{first}
 
+-- what follows where a pair is fresh
+abbrev replied : List ℕ → Presented → PairRecord → Table (Result Admitted ℕ)
+replied words p pair =
+    make (IsReplyTo p words) (sole_reply_to p words) (λ reply. done (Ok (record { admission = admission_of p reply; pair = pair })))
+
+-- it tells client and keys as they were chosen
+told_of : (choice : Choice) (p : Presented) (reply : Option (List ℕ)) (admission : AdmissionRecord) → admission ≡ admission_of p reply → p.part ≡ choice.part
+    → p.authenticator ≡ choice.authenticator → TellsOf choice admission
+told_of choice p reply admission whole part authenticator = record {
+  realm = ap (λ (a : AdmissionRecord). a.realm) whole ∙ ap (λ (q : EncTicketPartInner). q.crealm.0) part;
+  client = ap (λ (a : AdmissionRecord). a.client) whole ∙ ap (λ (q : EncTicketPartInner). q.cname.0) part;
+  session = ap (λ (a : AdmissionRecord). a.session) whole ∙ ap (λ (q : EncTicketPartInner). q.key.0) part;
+  subkey = ap (λ (a : AdmissionRecord). a.subkey) whole ∙ ap subkey_of authenticator;
+}
+
 -- what is near and fresh is admitted, with its reply
-made_once : (skew moment : ℕ) (admitted : List PairRecord) (words : List ℕ) (p : Presented) (reply : Option (List ℕ)) → is_far skew moment p.time ≡ false
-    → is_among (pair_of p) admitted ≡ false → IsReplyTo p words reply
-    → (once skew moment admitted words p).gives (Ok (record { admission = admission_of p reply; pair = pair_of p }))
+made_once : (service : ServiceRecord) (moment : ℕ) (admitted : List PairRecord) (words : List ℕ) (p : Presented) (reply : Option (List ℕ))
+    → is_far service.seen.skew moment p.time ≡ false → is_among (pair_of p) admitted ≡ false → IsReplyTo p words reply
+    → (once service.seen.skew moment admitted words p).gives (Ok (record { admission = admission_of p reply; pair = pair_of p }))
 unfolding once
-made_once skew moment admitted words p reply near new x =
+made_once service moment admitted words p reply near new x =
     let own : (fresh admitted p).gives (Ok (pair_of p)) = first admitted p (pair_of p) new refl in
     rw near (inl (pair_of p, own, (reply, x, refl)))
 
@@ -47,15 +62,15 @@ admitted_if_presented service moment admitted bytes words choice x y long words_
     let made : AdmissionRecord = admission_of p reply.0 in
     let whole : Admitted = record { admission = made; pair = pair_of p } in
     let shown = presented_as_chosen service.entry service.seen.skew moment choice y.part_cipher y.cipher x.acceptable y.part y.authenticator in
-    let admits = made_once service.seen.skew moment admitted words p reply.0 x.near x.first reply.1 in (
+    let admits = made_once service moment admitted words p reply.0 x.near x.first reply.1 in (
       made,
       told_of choice p reply.0 made refl refl refl,
       inl (request_of choice.outer y.part_cipher y.cipher, y.writes, (Ok whole, inl (p, shown, admits), refl)),
     )
 
--- what the rows of the second table tell of what was admitted
-record IsMadeOnce (skew moment : ℕ) (admitted : List PairRecord) (words : List ℕ) (p : Presented) (made : Admitted) : Type 0 where
-  near : is_far skew moment p.time ≡ false
+-- what the rows tell of what was admitted that a request presents
+record IsMadeOnce (service : ServiceRecord) (moment : ℕ) (admitted : List PairRecord) (words : List ℕ) (p : Presented) (made : Admitted) : Type 0 where
+  near : is_far service.seen.skew moment p.time ≡ false
   new : is_among (pair_of p) admitted ≡ false
   reply : Option (List ℕ)
   admission : made.admission ≡ admission_of p reply
@@ -65,11 +80,11 @@ passes : {T : Type 0} (case : Bool) (code : ℕ) (rest : Table (Result T ℕ)) (
 passes true code rest value x = absurd (cc (x))
 passes false code rest value x = (refl, x)
 
-once_rows : (skew moment : ℕ) (admitted : List PairRecord) (words : List ℕ) (p : Presented) (made : Admitted) → (once skew moment admitted words p).gives (Ok made)
-    → IsMadeOnce skew moment admitted words p made
-unfolding once
-once_rows skew moment admitted words p made x =
-    let near = passes (is_far skew moment p.time) 37 (and_then (fresh admitted p) (replied words p)) made x in
+once_rows : (service : ServiceRecord) (moment : ℕ) (admitted : List PairRecord) (words : List ℕ) (p : Presented) (made : Admitted)
+    → (once service.seen.skew moment admitted words p).gives (Ok made) → IsMadeOnce service moment admitted words p made
+unfolding once fresh
+once_rows service moment admitted words p made x =
+    let near = passes (is_far service.seen.skew moment p.time) 37 (and_then (fresh admitted p) (replied words p)) made x in
     let own = both (fresh admitted p) (replied words p) made near.1 in
     let end : Table (Result PairRecord ℕ) = done (Ok (pair_of p)) in
     let new = passes (is_among (pair_of p) admitted) 34 end own.0 own.1 in
@@ -92,7 +107,7 @@ IsAdmittedOf service moment admitted bytes admission after =
 
 admitted_of : (service : ServiceRecord) (moment : ℕ) (admitted : List PairRecord) (bytes words : List ℕ) (admission : AdmissionRecord) (after : List PairRecord) (p : Presented) (made : Admitted)
     → admission ≡ made.admission → after ≡ made.pair ∷ admitted → IsReceivedOf service.entry service.seen.skew moment bytes p
-    → IsMadeOnce service.seen.skew moment admitted words p made → IsAdmittedOf service moment admitted bytes admission after
+    → IsMadeOnce service moment admitted words p made → IsAdmittedOf service moment admitted bytes admission after
 admitted_of service moment admitted bytes words admission after p made own later by x =
     let shown : Presented = shown_by by.choice by.acceptable.suite by.acceptable.time in
     let near = subst (λ (q : Presented). is_far service.seen.skew moment q.time ≡ false) by.shown x.near in
@@ -115,7 +130,7 @@ by_judged : (service : ServiceRecord) (moment : ℕ) (admitted : List PairRecord
     → IsAdmittedOf service moment admitted bytes admission after
 by_judged service moment admitted bytes words admission after request made found own later (inl x) =
     admitted_of service moment admitted bytes words admission after x.0 made own later
-    (chosen_as_received service.entry service.seen.skew moment bytes request x.0 found x.1) (once_rows service.seen.skew moment admitted words x.0 made x.2)
+    (chosen_as_received service.entry service.seen.skew moment bytes request x.0 found x.1) (once_rows service moment admitted words x.0 made x.2)
 by_judged service moment admitted bytes words admission after request made found own later (inr x) = absurd (cc (x.2))
 
 pub admissible_if_admitted : (service : ServiceRecord) (moment : ℕ) (admitted : List PairRecord) (bytes words : List ℕ) (admission : AdmissionRecord) (after : List PairRecord)
@@ -129,14 +144,27 @@ admissible_if_admitted service moment admitted bytes words admission after (inl 
 admissible_if_admitted service moment admitted bytes words admission after (inr x) =
     let same = ap (λ (o : Outcome). o.0) x.1 in absurd (cc (same))
 
+-- what is admitted was presented
+pub admitted_as_presented : (service : ServiceRecord) (moment : ℕ) (admitted : List PairRecord) (bytes words : List ℕ) (admission : AdmissionRecord) (after : List PairRecord)
+    → (remembering service moment admitted bytes words).gives (Ok admission, after)
+    → (choice : Choice) × Presents service.entry.key choice bytes × TellsOf choice admission
+admitted_as_presented service moment admitted bytes words admission after x =
+    let by = admissible_if_admitted service moment admitted bytes words admission after x in (by.0, by.2, by.3)
+
 -- what was presented is admitted or refused
-has_once : (skew moment : ℕ) (admitted : List PairRecord) (words : List ℕ) (p : Presented) (reply : Option (List ℕ)) → IsReplyTo p words reply → HasOutcome (once skew moment admitted words p)
-unfolding once
-has_once skew moment admitted words p reply x =
+has_fresh : (admitted : List PairRecord) (p : Presented) → HasOutcome (fresh admitted p)
+unfolding fresh
+has_fresh admitted p =
     let end : Table (Result PairRecord ℕ) = done (Ok (pair_of p)) in
-    has_refused (is_far skew moment p.time) 37 (and_then (fresh admitted p) (replied words p))
+    has_refused (is_among (pair_of p) admitted) 34 end (λ _. has_done (Ok (pair_of p)))
+
+has_once : (service : ServiceRecord) (moment : ℕ) (admitted : List PairRecord) (words : List ℕ) (p : Presented) (reply : Option (List ℕ)) → IsReplyTo p words reply
+    → HasOutcome (once service.seen.skew moment admitted words p)
+unfolding once
+has_once service moment admitted words p reply x =
+    has_refused (is_far service.seen.skew moment p.time) 37 (and_then (fresh admitted p) (replied words p))
     (λ _.
-    has_then (fresh admitted p) (replied words p) (has_refused (is_among (pair_of p) admitted) 34 end (λ _. has_done (Ok (pair_of p))))
+    has_then (fresh admitted p) (replied words p) (has_fresh admitted p)
     (λ pair y.
     let last : Option (List ℕ) → Table (Result Admitted ℕ) = λ told. done (Ok (record { admission = admission_of p told; pair = pair })) in
     has_made (IsReplyTo p words) (sole_reply_to p words) last (some_of (IsReplyTo p words) reply x)
@@ -154,7 +182,7 @@ has_judged service moment admitted bytes words request found long words_bytes =
     has_then (presented service.entry service.seen.skew moment request) (once service.seen.skew moment admitted words) (has_judgement service.entry service.seen.skew moment request)
     (λ p x.
     let reply = reply_of service moment bytes words p long words_bytes (chosen_as_received service.entry service.seen.skew moment bytes request p found x) in
-    has_once service.seen.skew moment admitted words p reply.0 reply.1)
+    has_once service moment admitted words p reply.0 reply.1)
 
 pub has_outcome : (service : ServiceRecord) (moment : ℕ) (admitted : List PairRecord) (bytes words : List ℕ) → 16 ≤ length words → IsBytes words
     → HasOutcome (remembering service moment admitted bytes words)

@@ -1,4 +1,3 @@
 pub mod NewPairs
 pub mod Steps
-pub mod Admissions
 pub mod Admitting

@@ -1,6 +1,5 @@
 -- A call's outcome is that of the remembering service.
 use Rattle.std.proofs.Common.{◌≡◌, ℕ, true, false, List, ◌∷◌, Result, Ok, Err, max, ap, refl, sym, subst, inl, inr, ◌∙◌}
-use Rattle.krb_moments.specs.Skew.{is_far}
 use Rattle.krb_replay_cache.specs.Pair.{PairRecord}
 use Rattle.krb_replay_cache.specs.Seen.{SeenRecord, IsWindow}
 use Rattle.krb_ap.specs.Admission.{AdmissionRecord}
@@ -12,7 +11,6 @@ use Rattle.krb_ap.specs.declared.refusal.AdmitRefusal.TheVariants.{Unreadable, K
 use Rattle.krb_service.specs.Once.{IsOnce, once, pair_of}
 use Rattle.krb_service.specs.RememberingService.{IsStep, remembering}
 use Rattle.krb_service.specs.Service.{ServiceRecord}
-use Rattle.krb_service.proofs.NewPairs.{refused_far}
 
 -- a service's settings for a call: its entry, and what was seen once the moment was raised, with its skew and greatest moment
 pub record AreSettings (old : ServiceRecord) (moment : ℕ) (entry : EntryRecord) (raised : SeenRecord) (skew now : ℕ) : Type 0 where
@@ -64,11 +62,6 @@ held service moment admitted bytes words p (Err (Krb code)) seen x y = (admitted
 held service moment admitted bytes words p (Err Unreadable) seen x y = absurd y
 held service moment admitted bytes words p (Err Memory) seen x y = y
 
-far_once : (skew moment : ℕ) (admitted : List PairRecord) (words : List ℕ) (p : Presented) (seen : SeenRecord) → is_far skew moment p.time ≡ true → IsWindow seen admitted
-    → IsOnce (once skew moment admitted words p).gives admitted (pair_of p) (Err (Krb 37)) seen
-unfolding IsOnce
-far_once skew moment admitted words p seen far w = (refused_far skew moment admitted words p far, w)
-
 -- a request that is refused for what it presents
 pub step_refused : (old : ServiceRecord) (moment : ℕ) (entry : EntryRecord) (raised : SeenRecord) (skew now : ℕ) (admitted : List PairRecord) (bytes words : List ℕ) (e : AdmitRefusal)
     → AreSettings old moment entry raised skew now → Receives entry skew now bytes (Err e) → IsWindow raised admitted
@@ -76,31 +69,14 @@ pub step_refused : (old : ServiceRecord) (moment : ℕ) (entry : EntryRecord) (r
 step_refused old moment entry raised skew now admitted bytes words e same x w =
     refused old (max old.seen.greatest moment) admitted bytes words e raised (moved old moment entry raised skew now bytes (Err e) same x) w
 
--- a request whose time is far from the greatest moment
-pub step_far : (old : ServiceRecord) (moment : ℕ) (entry : EntryRecord) (raised : SeenRecord) (skew now : ℕ) (admitted : List PairRecord) (bytes words : List ℕ) (p : Presented)
-    → AreSettings old moment entry raised skew now → Receives entry skew now bytes (Ok p) → is_far skew now p.time ≡ true → IsWindow raised admitted
-    → IsStep (remembering old (max old.seen.greatest moment) admitted bytes words).gives admitted (Err (Krb 37)) raised
-step_far old moment entry raised skew now admitted bytes words p same x far w =
-    let at : ℕ = max old.seen.greatest moment in
-    let far_at = subst (λ m. is_far old.seen.skew m p.time ≡ true) (same.own_now ∙ same.raised_greatest)
-    (subst (λ n. is_far n now p.time ≡ true) (same.own_skew ∙ same.raised_skew) far) in
-    held old at admitted bytes words p (Err (Krb 37)) raised (moved old moment entry raised skew now bytes (Ok p) same x)
-    (far_once old.seen.skew at admitted words p raised far_at w)
-
--- a time that is near by the settings is near by what was seen
-pub near_seen : (seen : SeenRecord) (skew now time : ℕ) → skew ≡ seen.skew → now ≡ seen.greatest → is_far skew now time ≡ false
-    → is_far seen.skew seen.greatest time ≡ false
-near_seen seen skew now time same_skew same_now near =
-    subst (λ m. is_far seen.skew m time ≡ false) same_now (subst (λ n. is_far n now time ≡ false) same_skew near)
-
 -- a request that presents this
 pub step_held : (old : ServiceRecord) (moment : ℕ) (entry : EntryRecord) (raised : SeenRecord) (skew now : ℕ) (admitted : List PairRecord) (bytes words : List ℕ) (p : Presented)
     (r : Result AdmissionRecord AdmitRefusal) (after : SeenRecord)
     → AreSettings old moment entry raised skew now → Receives entry skew now bytes (Ok p)
-    → IsOnce (once raised.skew raised.greatest admitted words p).gives admitted (pair_of p) r after
+    → IsOnce (once raised.skew now admitted words p).gives admitted (pair_of p) r after
     → IsStep (remembering old (max old.seen.greatest moment) admitted bytes words).gives admitted r after
 step_held old moment entry raised skew now admitted bytes words p r after same x y =
     let at : ℕ = max old.seen.greatest moment in
     held old at admitted bytes words p r after (moved old moment entry raised skew now bytes (Ok p) same x)
-    (subst (λ m. IsOnce (once old.seen.skew m admitted words p).gives admitted (pair_of p) r after) same.raised_greatest
-    (subst (λ n. IsOnce (once n raised.greatest admitted words p).gives admitted (pair_of p) r after) same.raised_skew y))
+    (subst (λ m. IsOnce (once old.seen.skew m admitted words p).gives admitted (pair_of p) r after) (same.own_now ∙ same.raised_greatest)
+    (subst (λ n. IsOnce (once n now admitted words p).gives admitted (pair_of p) r after) same.raised_skew y))

@@ -2,11 +2,13 @@
 use Rattle.std.specs.Prelude.{ℕ, List, ◌∷◌, Result, Ok, Err}
 use Rattle.krb_moments.specs.Skew.{is_far}
 use Rattle.krb_types.specs.Names.{components}
+use Rattle.krb_types.specs.declared.refusal.Refusal.{Refusal}
 use Rattle.decision_tables.specs.Tables.{Table, done, make, refuse, and_then}
 use Rattle.krb_replay_cache.specs.Pair.{PairRecord, is_among}
 use Rattle.krb_replay_cache.specs.Seen.{SeenRecord, IsWindow}
 use Rattle.krb_ap.specs.Admission.{AdmissionRecord, admission_of}
 use Rattle.krb_ap.specs.ApReply.{IsReplyTo, sole_reply_to}
+use Rattle.krb_ap.specs.Refusal.{refused_for}
 use Rattle.krb_ap.specs.declared.presented.Presented.{Presented}
 use Rattle.krb_ap.specs.declared.refusal.AdmitRefusal.{AdmitRefusal}
 use Rattle.krb_ap.specs.declared.refusal.AdmitRefusal.TheVariants.{Unreadable, Krb, Memory}
@@ -25,7 +27,7 @@ pub record Admitted : Type 0 where
   pub pair : PairRecord
 
 -- the pair of what was presented, where it is the first of this client and time
-abbrev pub fresh : List PairRecord → Presented → Table (Result PairRecord ℕ)
+unfoldable pub fresh : List PairRecord → Presented → Table (Result PairRecord ℕ)
 fresh admitted presented = refuse (is_among (pair_of presented) admitted) 34 (done (Ok (pair_of presented)))
 
 -- what was presented is admitted where its time is near and its pair is fresh, with a reply where one is wanted
@@ -44,6 +46,6 @@ IsOnce gives admitted pair (Err Unreadable) seen = ⊥
 IsOnce gives admitted pair (Err Memory) seen = IsWindow seen admitted
 
 -- what was admitted by its reply, or refused
-abbrev pub admitted_by : {R : Type 0} → (R → AdmissionRecord) → Result R AdmitRefusal → Result AdmissionRecord AdmitRefusal
+abbrev pub admitted_by : {R : Type 0} → (R → AdmissionRecord) → Result R Refusal → Result AdmissionRecord AdmitRefusal
 admitted_by admission (Ok reply) = Ok (admission reply)
-admitted_by admission (Err refusal) = Err refusal
+admitted_by admission (Err refusal) = Err (refused_for refusal)

@@ -12,7 +12,6 @@ use krb_ap::{Admission, AdmitRefusal, KeytabEntry};
 use krb_crypto::CipherSuite;
 use krb_moments::Moment;
 use krb_replay_cache::Seen;
-use krb_types::constants::error_codes;
 use picky_asn1::wrapper::OctetStringAsn1;
 use std::alloc::Global;
 use std::marker::Model;
@@ -20,7 +19,8 @@ use std::marker::Model;
 /// The most seconds by which clocks may be allowed to differ: a day.
 const SKEW_LIMIT: u64 = 86_400;
 
-/// A service: its key with its realm and its name, and what it has seen. A contract sees both.
+/// A service: its key with its realm and its name, and what it has seen. A contract sees both. Realm and name are names, the
+/// key has as many bytes as its suite's keys, and its number is 1 or more.
 #[derive(Drop)]
 pub struct Service {
     entry: KeytabEntry,
@@ -28,11 +28,13 @@ pub struct Service {
 }
 
 impl Model for Service {
-    ghost use Rattle.krb_service.specs.Service.{ServiceRecord};
+    ghost use Rattle.krb_service.specs.Service.{IsServiceEntry, ServiceRecord};
 
     ghost Value = { ServiceRecord };
 
     ghost view = { λ s. record { entry = s.entry; seen = s.seen } };
+
+    ghost invariant = { λ s. IsServiceEntry s.entry };
 }
 
 impl Service {
@@ -103,9 +105,6 @@ impl Service {
         let now = self.seen.greatest();
         let skew = self.seen.skew();
         let presented = self.entry.receive(alloc, skew, now, bytes)?;
-        if now.is_far_from(presented.time, skew) {
-            return Err(AdmitRefusal::Krb(error_codes::KRB_AP_ERR_SKEW));
-        }
-        admit_once(&mut self.seen, alloc, presented, words)
+        admit_once(&mut self.seen, alloc, now, presented, words)
     }
 }
