@@ -14,7 +14,6 @@ use Rattle.krb_ap.specs.ApTable.{presented}
 use Rattle.picky_krb.specs.Messages.{IsApReq, sole_ap_req}
 use Rattle.krb_ap.specs.Presents.{Choice, Presents, TellsOf, request_of}
 use Rattle.krb_ap.specs.declared.presented.Presented.{Presented}
-use Rattle.krb_ap.specs.declared.refusal.AdmitRefusal.{AdmitRefusal}
 use Rattle.krb_ap.specs.declared.refusal.AdmitRefusal.TheVariants.{Unreadable}
 use Rattle.krb_ap.proofs.Accepted.{presented_as_chosen}
 use Rattle.krb_ap.proofs.Chosen.{IsReceivedOf, chosen_as_received}
