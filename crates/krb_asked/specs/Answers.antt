@@ -1,16 +1,15 @@
--- Which reply answers an AS request (RFC 4120, section 3.1.5).
+-- Which reply of a KDC answers a request (RFC 4120, sections 3.1.5, 3.3.4).
 use Rattle.std.specs.Prelude.{ℕ, Bool, ◌&&◌, List}
 use Rattle.picky_krb.specs.declared.messages.enc_kdc_rep_part.EncKdcRepPart.{EncKdcRepPart}
 use Rattle.picky_krb.specs.declared.messages.kdc_rep.KdcRep.{KdcRep}
 use Rattle.krb_types.specs.Names.{components, is_same_name, is_same_realm}
 use Rattle.picky_asn1.specs.Numbers.{is_number}
-use Rattle.krb_asked.specs.Asked.{AsAskedRecord}
 
 -- the opened part has the request's nonce, the reply names the client, and the part the service, in the client's realm
-unfoldable pub is_answer : List ℕ → List (List ℕ) → AsAskedRecord → KdcRep → EncKdcRepPart → Bool
-is_answer realm client asked reply part =
-    is_number asked.nonce part.nonce.0
+unfoldable pub is_answer : List ℕ → List (List ℕ) → List (List ℕ) → ℕ → KdcRep → EncKdcRepPart → Bool
+is_answer realm client service nonce reply part =
+    is_number nonce part.nonce.0
     && is_same_realm reply.crealm.0 realm
     && is_same_name (components reply.cname.0) client
     && is_same_realm part.srealm.0 realm
-    && is_same_name (components part.sname.0) asked.service
+    && is_same_name (components part.sname.0) service

@@ -1,4 +1,4 @@
--- What a client remembers of its requests (RFC 4120, sections 3.1, 3.2).
+-- What a client remembers of its requests (RFC 4120, sections 3.1, 3.2, 3.3).
 use Rattle.std.specs.Prelude.{ℕ, List, Option}
 use Rattle.krb_crypto.specs.declared.suite.CipherSuite.{CipherSuite}
 
@@ -7,6 +7,13 @@ pub record AsAskedRecord : Type 0 where
   pub service : List (List ℕ)
   pub nonce : ℕ
   pub moment : ℕ
+
+-- what a client remembers of a TGS request: the service's components, the nonce, and the session's key, by which it asked
+pub record TgsAskedRecord : Type 0 where
+  pub service : List (List ℕ)
+  pub nonce : ℕ
+  pub suite : CipherSuite
+  pub key : List ℕ
 
 -- what a client remembers of an AP request: the session's key, the authenticator's time, and the subkey, if any, which
 -- is of the same suite

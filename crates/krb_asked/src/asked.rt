@@ -1,14 +1,10 @@
 //! What a client remembers of its requests.
 ghost use Rattle.std.specs.Prelude.{◌≡◌};
 ghost use Rattle.std.specs.Option.{option_copied};
-ghost use Rattle.krb_asked.specs.Answers.{is_answer};
 
 use krb_crypto::CipherSuite;
 use krb_moments::Moment;
-use krb_types::{is_same_name, is_same_realm};
-use picky_asn1::is_number;
 use picky_asn1::wrapper::{GeneralStringAsn1, OctetStringAsn1};
-use picky_krb::messages::{EncKdcRepPart, KdcRep};
 use std::marker::Model;
 
 /// What a client remembers of its request to a realm. A contract sees the components of the service's name, the nonce,
@@ -40,34 +36,83 @@ impl AsAsked {
         }
     }
 
-    /// Whether a reply, with its part opened, answers the request of the client of this realm and of these components (RFC
-    /// 4120, section 3.1.5): the part has the request's nonce, the reply names the client, and the part the service.
-    #[tactic(auto, unfolding(crate::specs::Answers::is_answer))]
-    pub fn is_answered(
-        &self,
-        realm: &GeneralStringAsn1,
-        client: &[GeneralStringAsn1],
-        reply: &KdcRep,
-        part: &EncKdcRepPart,
-    ) -> bool
-        ensures { result ≡ is_answer realm.now client.now self.now reply.now part.now }
+    /// The components of the service's name.
+    pub fn service(&self) -> &[GeneralStringAsn1]
+        ensures { result.now ≡ self.now.service }
     {
-        if !is_number(&part.nonce.0, self.nonce) {
-            return false;
+        self.service.as_slice()
+    }
+
+    /// The nonce.
+    pub fn nonce(&self) -> u32
+        ensures { result ≡ self.now.nonce }
+    {
+        self.nonce
+    }
+}
+
+/// What a client remembers of its request for a further ticket. A contract sees the components of the service's name, the
+/// nonce, and the session's key, as its suite and its bytes.
+#[derive(Drop)]
+pub struct TgsAsked {
+    service: Vec<GeneralStringAsn1>,
+    nonce: u32,
+    suite: CipherSuite,
+    key: OctetStringAsn1,
+}
+
+impl Model for TgsAsked {
+    ghost use Rattle.krb_asked.specs.Asked.{TgsAskedRecord};
+
+    ghost Value = { TgsAskedRecord };
+
+    ghost view = { λ a. record { service = a.service.items; nonce = a.nonce; suite = a.suite; key = a.key } };
+}
+
+impl TgsAsked {
+    /// What there is to remember of a request for this service, with this nonce, under a session's key.
+    pub fn new(
+        service: Vec<GeneralStringAsn1>,
+        nonce: u32,
+        suite: CipherSuite,
+        key: OctetStringAsn1,
+    ) -> TgsAsked
+        ensures { result ≡ record { service = service.items; nonce = nonce; suite = suite; key = key } }
+    {
+        TgsAsked {
+            service,
+            nonce,
+            suite,
+            key,
         }
-        if !is_same_realm(&reply.crealm.0, realm) {
-            return false;
-        }
-        if !is_same_name(reply.cname.0.name_string.0.as_slice(), client) {
-            return false;
-        }
-        if !is_same_realm(&part.srealm.0, realm) {
-            return false;
-        }
-        is_same_name(
-            part.sname.0.name_string.0.as_slice(),
-            self.service.as_slice(),
-        )
+    }
+
+    /// The components of the service's name.
+    pub fn service(&self) -> &[GeneralStringAsn1]
+        ensures { result.now ≡ self.now.service }
+    {
+        self.service.as_slice()
+    }
+
+    /// The nonce.
+    pub fn nonce(&self) -> u32
+        ensures { result ≡ self.now.nonce }
+    {
+        self.nonce
+    }
+
+    /// The suite of the session's key.
+    pub fn suite(&self) -> CipherSuite
+        ensures { result ≡ self.now.suite }
+    {
+        self.suite
+    }
+
+    /// The session's key.
+    pub fn key(&self) -> &[u8]
+        ensures { result.now ≡ self.now.key }
+    {
+        self.key.as_bytes()
     }
 }
 

@@ -1,6 +1,8 @@
-//! What a client remembers of its requests, and which reply answers one (RFC 4120, sections 3.1.5 and 3.2).
+//! What a client remembers of its requests, and which reply answers one (RFC 4120, sections 3.1.5, 3.2 and 3.3).
 #![tactic(auto)]
 
+mod answer;
 mod asked;
 
-pub use asked::{ApAsked, AsAsked};
+pub use answer::is_answer;
+pub use asked::{ApAsked, AsAsked, TgsAsked};

@@ -1,21 +1,21 @@
 -- What a table gives by what its first row says.
-use Rattle.std.proofs.Common.{◌≡◌, Bool, true, false, Ok, Err, inl, inr}
+use Rattle.std.proofs.Common.{◌≡◌, Bool, true, false, Result, Ok, Err, inl, inr}
 use Rattle.decision_tables.specs.One.{IsSole}
 use Rattle.decision_tables.specs.Tables.{Table, ask, refuse}
-use Rattle.krb_client.specs.AsReply.{Taken}
 use Rattle.krb_client.specs.Refusals.{IsTaken}
 use Rattle.krb_client.specs.declared.refusal.TakeRefusal.{TakeRefusal}
 use Rattle.krb_client.specs.declared.refusal.TakeRefusal.TheVariants.{Memory, NotAsked, NotSealed, Refused, Unreadable}
 
 -- the case doesn't hold
-pub passed : (case : Bool) (refusal : TakeRefusal) (rest : Table Taken) (taken : Taken) → case ≡ false → IsTaken rest taken → IsTaken (refuse case refusal rest) taken
+pub passed : {T : Type 0} (case : Bool) (refusal : TakeRefusal) (rest : Table (Result T TakeRefusal)) (taken : Result T TakeRefusal)
+    → case ≡ false → IsTaken rest taken → IsTaken (refuse case refusal rest) taken
 passed true refusal rest taken e given = absurd (cc (e))
 passed false refusal rest taken e given = given
 
 -- a value has the property
-pub found : {A : Type 0} (P : A → Type 0) (sole : IsSole P) (otherwise : Table Taken) (rest : A → Table Taken) (taken : Taken) (a : A)
+pub found : {A T : Type 0} (P : A → Type 0) (sole : IsSole P) (otherwise : Table (Result T TakeRefusal)) (rest : A → Table (Result T TakeRefusal)) (taken : Result T TakeRefusal) (a : A)
     → P a → IsTaken (rest a) taken → IsTaken (ask P sole otherwise rest) taken
-found P sole otherwise rest (Ok credential) a p given = inl (a, p, given)
+found P sole otherwise rest (Ok value) a p given = inl (a, p, given)
 found P sole otherwise rest (Err Unreadable) a p given = inl (a, p, given)
 found P sole otherwise rest (Err (Refused code)) a p given = inl (a, p, given)
 found P sole otherwise rest (Err NotSealed) a p given = inl (a, p, given)
@@ -23,9 +23,9 @@ found P sole otherwise rest (Err NotAsked) a p given = inl (a, p, given)
 found P sole otherwise rest (Err Memory) a p given = tt
 
 -- none has
-pub not_found : {A : Type 0} (P : A → Type 0) (sole : IsSole P) (otherwise : Table Taken) (rest : A → Table Taken) (taken : Taken)
+pub not_found : {A T : Type 0} (P : A → Type 0) (sole : IsSole P) (otherwise : Table (Result T TakeRefusal)) (rest : A → Table (Result T TakeRefusal)) (taken : Result T TakeRefusal)
     → ((a : A) → P a → ⊥) → IsTaken otherwise taken → IsTaken (ask P sole otherwise rest) taken
-not_found P sole otherwise rest (Ok credential) none given = inr (none, given)
+not_found P sole otherwise rest (Ok value) none given = inr (none, given)
 not_found P sole otherwise rest (Err Unreadable) none given = inr (none, given)
 not_found P sole otherwise rest (Err (Refused code)) none given = inr (none, given)
 not_found P sole otherwise rest (Err NotSealed) none given = inr (none, given)

@@ -1,7 +1,13 @@
 pub mod Client
 pub mod Refusals
 pub mod Messages
-pub mod Sealing
+pub mod Held
+pub mod Requests
 pub mod AsRequest
-pub mod AsReply
+pub mod Authenticators
 pub mod ApRequest
+pub mod TgsRequest
+pub mod Taking
+pub mod AsReply
+pub mod TgsReply
+pub mod ApReply

@@ -8,8 +8,10 @@ use Rattle.krb_types.specs.declared.data_types.pa_enc_timestamp.PaEncTsEnc.{PaEn
 use Rattle.krb_types.specs.Trees as held
 use Rattle.picky_krb.specs.declared.messages.ap_req.ApReqInner.{ApReqInner}
 use Rattle.picky_krb.specs.declared.messages.kdc_req.KdcReq.{KdcReq}
+use Rattle.picky_krb.specs.declared.messages.kdc_req_body.KdcReqBody.{KdcReqBody}
 use Rattle.picky_krb.specs.declared.messages.krb_error.KrbErrorInner.{KrbErrorInner}
-use Rattle.picky_krb.specs.Messages.{IsKrbError, ap_req_tree, as_req_tree, authenticator_tree, sole_krb_error}
+use Rattle.picky_krb.specs.Messages.{IsKrbError, ap_req_tree, as_req_tree, authenticator_tree, sole_krb_error, tgs_req_tree}
+use Rattle.picky_krb.specs.Trees.{kdc_req_body_tree}
 use Rattle.decision_tables.specs.One.{IsSole}
 
 -- the encoding of a client's time
@@ -23,6 +25,14 @@ encrypted_bytes value = der (held.encrypted_data_tree value)
 -- the encoding of an AS request
 unfoldable pub as_request_bytes : KdcReq → List ℕ
 as_request_bytes request = der (as_req_tree request)
+
+-- the encoding of a TGS request
+unfoldable pub tgs_request_bytes : KdcReq → List ℕ
+tgs_request_bytes request = der (tgs_req_tree request)
+
+-- the encoding of a request's body
+unfoldable pub request_body_bytes : KdcReqBody → List ℕ
+request_body_bytes body = der (kdc_req_body_tree body)
 
 -- the encoding of an authenticator
 unfoldable pub authenticator_bytes : AuthenticatorInner → List ℕ

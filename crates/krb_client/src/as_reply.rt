@@ -1,16 +1,14 @@
 //! Taking the reply to an AS request.
-ghost use Rattle.std.specs.Prelude.{◌≡◌};
-ghost use Rattle.krb_asked.specs.Answers.{is_answer};
-ghost use Rattle.krb_client.specs.AsReply.{takes_as_reply, takes_part, takes_reply};
+ghost use Rattle.krb_client.specs.AsReply.{takes_as_reply, takes_reply};
 ghost use Rattle.krb_client.specs.Refusals.{IsTaken};
 
 use crate::read::{open_as_part, open_tgs_part, read_as_reply, read_error_code};
+use crate::taking::is_of_type;
 use crate::{Client, Credential, TakeRefusal};
 use krb_asked::AsAsked;
-use krb_opening::suite_of;
-use krb_types::constants::types::{AS_REP_MSG_TYPE, KERBEROS_VERSION};
-use picky_asn1::is_number;
-use picky_krb::messages::{EncKdcRepPart, KdcRep};
+use krb_types::constants::key_usages;
+use krb_types::constants::types::AS_REP_MSG_TYPE;
+use picky_krb::messages::KdcRep;
 use std::alloc::Global;
 
 impl Client {
@@ -45,44 +43,17 @@ impl Client {
     ) -> Result<Credential, TakeRefusal>
         ensures { IsTaken (takes_reply self.now asked.now reply.now) result }
     {
-        if !is_number(&reply.pvno.0, KERBEROS_VERSION) {
+        if !is_of_type(AS_REP_MSG_TYPE, &reply.pvno.0, &reply.msg_type.0) {
             return Err(TakeRefusal::Unreadable);
         }
-        if !is_number(&reply.msg_type.0, u32::from(AS_REP_MSG_TYPE)) {
-            return Err(TakeRefusal::Unreadable);
+        let sealed = &reply.enc_part.0;
+        if let Some(part) = open_as_part(alloc, self, sealed)? {
+            return self.take_part(asked.service(), asked.nonce(), reply, &part);
         }
-        if let Some(part) = open_as_part(alloc, self, &reply.enc_part.0)? {
-            return self.take_part(asked, reply, &part);
-        }
-        let Some(part) = open_tgs_part(alloc, self, &reply.enc_part.0)? else {
+        let usage = key_usages::AS_REP;
+        let Some(part) = open_tgs_part(alloc, self.suite(), self.key(), usage, sealed)? else {
             return Err(TakeRefusal::NotSealed);
         };
-        self.take_part(asked, reply, &part)
-    }
-
-    // The same, with the part that was opened.
-    fn take_part(
-        &self,
-        asked: &AsAsked,
-        reply: &KdcRep,
-        part: &EncKdcRepPart,
-    ) -> Result<Credential, TakeRefusal>
-        ensures { IsTaken (takes_part self.now asked.now reply.now part.now) result }
-    {
-        if !self.is_answer(asked, reply, part) {
-            return Err(TakeRefusal::NotAsked);
-        }
-        let Some(suite) = suite_of(&part.key.0) else {
-            return Err(TakeRefusal::NotAsked);
-        };
-        let credential = Credential::of_reply(reply, part, suite)?;
-        Ok(credential)
-    }
-
-    // Whether the reply and its opened part answer the request.
-    fn is_answer(&self, asked: &AsAsked, reply: &KdcRep, part: &EncKdcRepPart) -> bool
-        ensures { result ≡ is_answer self.now.realm self.now.components asked.now reply.now part.now }
-    {
-        asked.is_answered(self.realm(), self.components(), reply, part)
+        self.take_part(asked.service(), asked.nonce(), reply, &part)
     }
 }

@@ -1,10 +1,11 @@
 //! Asking for a first ticket.
 ghost use Rattle.std.specs.Prelude.{◌≡◌, ◌≤◌, ◌↔◌, ◌⊎◌, ℕ, List, length, false, Err, IfErr, IfOk};
 ghost use Rattle.krb_accounts.specs.Names.{are_components, parts};
-ghost use Rattle.krb_client.specs.AsRequest.{AsksAs, IsStamp, as_request_of, no_options, nonce_of, request_body, stamp_data, stamp_of};
+ghost use Rattle.krb_client.specs.AsRequest.{AsksAs, IsStamp, as_request_of, stamp_of};
 ghost use Rattle.krb_client.specs.Messages.{as_request_bytes, stamp_bytes};
+ghost use Rattle.krb_client.specs.Requests.{nonce_of};
 
-use crate::names::principal_name;
+use crate::kdc_request::{entry_of, nonce_of};
 use crate::{AskRefusal, Client};
 use krb_accounts::{are_components, components_of};
 use krb_asked::AsAsked;
@@ -12,22 +13,14 @@ use krb_encoding::{encoding_of, tagged_encoding};
 use krb_moments::Moment;
 use krb_sealing::sealed_data;
 use krb_types::constants::key_usages;
-use krb_types::constants::random_bytes::{CONFOUNDER_SIZE, NONCE, STAMP_CONFOUNDER};
-use krb_types::constants::types::{
-    AS_REQ_MSG_TYPE, KERBEROS_VERSION, NT_PRINCIPAL, NT_SRV_INST, PA_ENC_TIMESTAMP,
-};
-use krb_types::data_types::{EncryptedData, KerberosFlags, PaData, PaEncTsEnc};
+use krb_types::constants::random_bytes::{CONFOUNDER_SIZE, STAMP_CONFOUNDER};
+use krb_types::constants::types::{AS_REQ_MSG_TYPE, PA_ENC_TIMESTAMP};
+use krb_types::data_types::{EncryptedData, PaEncTsEnc};
 use picky_asn1::date::GeneralizedTime;
-use picky_asn1::wrapper::{
-    Asn1SequenceOf, BitStringAsn1, GeneralStringAsn1, GeneralizedTimeAsn1, IntegerAsn1,
-    OctetStringAsn1,
-};
+use picky_asn1::wrapper::{GeneralStringAsn1, GeneralizedTimeAsn1, IntegerAsn1};
 use picky_asn1_der::{ExplicitContextTag, Optional};
-use picky_krb::messages::{KdcReq, KdcReqBody};
+use picky_krb::messages::KdcReq;
 use std::alloc::{AllocError, Global};
-
-/// A nonce has 31 bits, so that it is positive for every reader (RFC 4120, section 5.4.1).
-const NONCES: u32 = 0x8000_0000;
 
 impl Client {
     /// The request for a ticket for a service of the client's realm till a time, with the moment sealed under the
@@ -95,6 +88,7 @@ impl Client {
     }
 
     // The request with its sealed time.
+    #[tactic(auto, unfolding(crate::specs::Messages::encrypted_bytes))]
     fn as_request_of(
         &self,
         alloc: Global,
@@ -105,61 +99,10 @@ impl Client {
     ) -> Result<KdcReq, AllocError>
         ensures { IfOk result (λ request. request ≡ as_request_of self.now service.now till nonce stamp) }
     {
-        let stamp = stamp_data(alloc, stamp)?;
-        let methods = vec![in alloc; stamp]?;
-        let version = IntegerAsn1::from_u64(alloc, u64::from(KERBEROS_VERSION))?;
-        let kind = IntegerAsn1::from_u64(alloc, u64::from(AS_REQ_MSG_TYPE))?;
-        let body = self.request_body(alloc, service, till, nonce)?;
-        Ok(KdcReq {
-            pvno: ExplicitContextTag(version),
-            msg_type: ExplicitContextTag(kind),
-            padata: Optional(Some(ExplicitContextTag(Asn1SequenceOf::from(methods)))),
-            req_body: ExplicitContextTag(body),
-        })
+        let value = encoding_of(alloc, stamp)?;
+        let entry = entry_of(alloc, PA_ENC_TIMESTAMP, value)?;
+        self.request_of(alloc, AS_REQ_MSG_TYPE, entry, service, till, nonce)
     }
-
-    // The body of the request.
-    fn request_body(
-        &self,
-        alloc: Global,
-        service: &[GeneralStringAsn1],
-        till: GeneralizedTime,
-        nonce: u32,
-    ) -> Result<KdcReqBody, AllocError>
-        ensures { IfOk result (λ body. body ≡ request_body self.now service.now till nonce) }
-    {
-        let options = no_options(alloc)?;
-        let nonce = IntegerAsn1::from_u64(alloc, u64::from(nonce))?;
-        let suite = IntegerAsn1::from_u64(alloc, u64::from(u8::from(self.suite())))?;
-        let suites = vec![in alloc; suite]?;
-        let realm = self.realm().clone()?;
-        let client = principal_name(alloc, NT_PRINCIPAL, self.components())?;
-        let service = principal_name(alloc, NT_SRV_INST, service)?;
-        Ok(KdcReqBody {
-            kdc_options: ExplicitContextTag(options),
-            cname: Optional(Some(ExplicitContextTag(client))),
-            realm: ExplicitContextTag(realm),
-            sname: Optional(Some(ExplicitContextTag(service))),
-            from: Optional(None),
-            till: ExplicitContextTag(GeneralizedTimeAsn1(till)),
-            rtime: Optional(None),
-            nonce: ExplicitContextTag(nonce),
-            etype: ExplicitContextTag(Asn1SequenceOf::from(suites)),
-            addresses: Optional(None),
-            enc_authorization_data: Optional(None),
-            additional_tickets: Optional(None),
-        })
-    }
-}
-
-// Four of the random bytes, big-endian, of which 31 bits count.
-fn nonce_of(words: &[u8]) -> u32
-    requires { 96 ≤ length words.now }
-    ensures { result ≡ nonce_of words.now }
-{
-    let mut octets = [0; 4];
-    octets.copy_from_slice(&words[NONCE..NONCE + 4]);
-    u32::from_be_bytes(octets) % NONCES
 }
 
 // The encoding of the client's time.
@@ -178,28 +121,6 @@ fn stamp_bytes(
     };
     let bytes = encoding_of(alloc, stamp)?;
     Ok(bytes)
-}
-
-// The preauthentication data that holds the sealed time.
-#[tactic(auto, unfolding(crate::specs::Messages::encrypted_bytes))]
-fn stamp_data(alloc: Global, stamp: EncryptedData) -> Result<PaData, AllocError>
-    ensures { IfOk result (λ entry. entry ≡ stamp_data stamp) }
-{
-    let kind = IntegerAsn1::from_u64(alloc, u64::from(PA_ENC_TIMESTAMP))?;
-    let value = encoding_of(alloc, stamp)?;
-    Ok(PaData {
-        padata_type: ExplicitContextTag(kind),
-        padata_data: ExplicitContextTag(OctetStringAsn1::from(value)),
-    })
-}
-
-fn no_options(alloc: Global) -> Result<KerberosFlags, AllocError>
-    ensures { IfOk result (λ options. options ≡ no_options) }
-{
-    let Ok(options) = BitStringAsn1::new(alloc, &[0, 0, 0, 0], 0) else {
-        return Err(AllocError);
-    };
-    Ok(options)
 }
 
 // The encoding of the request.

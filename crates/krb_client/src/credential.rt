@@ -2,7 +2,7 @@
 ghost use Rattle.std.specs.Prelude.{◌≡◌, length, Some, IfOk};
 ghost use Rattle.krb_crypto.specs.Suites.{cipher_key_size};
 ghost use Rattle.krb_opening.specs.Keys.{suite_of};
-ghost use Rattle.krb_client.specs.AsReply.{credential_of};
+ghost use Rattle.krb_client.specs.Taking.{credential_of};
 
 use crate::copies::ticket_copy;
 use krb_crypto::CipherSuite;

@@ -1,18 +1,24 @@
-//! A client with a password: it asks a realm for a first ticket, takes the reply, and asks a service by what it was
-//! granted (RFC 4120, sections 3.1 and 3.2).
+//! A client with a password: it asks a realm for a first ticket and for further ones, asks a service by what it was granted,
+//! and takes their replies (RFC 4120, sections 3.1 to 3.3).
 #![tactic(auto)]
 
+mod ap_reply;
 mod ap_request;
 mod as_reply;
 mod as_request;
+mod authenticator;
 mod client;
 mod copies;
 mod credential;
+mod kdc_request;
 mod names;
 mod read;
 mod refusal;
+mod taking;
+mod tgs_reply;
+mod tgs_request;
 
 pub use client::Client;
 pub use credential::Credential;
-pub use krb_asked::{ApAsked, AsAsked};
+pub use krb_asked::{ApAsked, AsAsked, TgsAsked};
 pub use refusal::{AskRefusal, TakeRefusal};

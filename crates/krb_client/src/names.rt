@@ -1,6 +1,6 @@
 //! Names.
 ghost use Rattle.std.specs.Prelude.{◌≡◌, IfOk};
-ghost use Rattle.krb_client.specs.Sealing.{principal_name};
+ghost use Rattle.krb_client.specs.Held.{principal_name};
 
 use krb_types::data_types::PrincipalName;
 use picky_asn1::wrapper::{Asn1SequenceOf, GeneralStringAsn1, IntegerAsn1};

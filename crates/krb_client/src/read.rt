@@ -1,15 +1,22 @@
 //! Reading replies, and opening their sealed parts.
 ghost use Rattle.std.specs.Prelude.{IfOk};
+ghost use Rattle.std.specs.Int.{cast_unsigned, w32};
 ghost use Rattle.krb_opening.specs.Found.{IsFound};
-ghost use Rattle.picky_krb.specs.Messages.{IsAsRep};
+ghost use Rattle.picky_krb.specs.Messages.{IsApRep, IsAsRep, IsTgsRep};
+ghost use Rattle.krb_client.specs.ApReply.{IsApPart};
+ghost use Rattle.krb_client.specs.AsReply.{IsAsPart};
 ghost use Rattle.krb_client.specs.Messages.{IsErrorCode};
-ghost use Rattle.krb_client.specs.AsReply.{IsAsPart, IsTgsPart};
+ghost use Rattle.krb_client.specs.Taking.{IsTgsPart};
 
 use crate::Client;
+use krb_asked::ApAsked;
+use krb_crypto::CipherSuite;
 use krb_opening::{open_sealed, read_whole};
 use krb_types::constants::key_usages;
-use krb_types::data_types::EncryptedData;
-use picky_krb::messages::{AsRep, EncAsRepPart, EncKdcRepPart, EncTgsRepPart, KdcRep, KrbError};
+use krb_types::data_types::{EncApRepPart, EncApRepPartInner, EncryptedData};
+use picky_krb::messages::{
+    ApRep, ApRepInner, AsRep, EncAsRepPart, EncKdcRepPart, EncTgsRepPart, KdcRep, KrbError, TgsRep,
+};
 use std::alloc::{AllocError, Global};
 
 /// The code of the error whose one encoding the bytes are, or none (RFC 4120, section 5.9.1).
@@ -28,6 +35,28 @@ pub(crate) fn read_as_reply(alloc: Global, bytes: &[u8]) -> Result<Option<KdcRep
     ensures { IfOk result (IsFound (IsAsRep bytes.now)) }
 {
     let read: Option<AsRep> = read_whole(alloc, bytes)?;
+    match read {
+        Some(reply) => Ok(Some(reply.0)),
+        None => Ok(None),
+    }
+}
+
+/// The TGS reply whose one encoding the bytes are, or none (RFC 4120, section 5.4.2).
+pub(crate) fn read_tgs_reply(alloc: Global, bytes: &[u8]) -> Result<Option<KdcRep>, AllocError>
+    ensures { IfOk result (IsFound (IsTgsRep bytes.now)) }
+{
+    let read: Option<TgsRep> = read_whole(alloc, bytes)?;
+    match read {
+        Some(reply) => Ok(Some(reply.0)),
+        None => Ok(None),
+    }
+}
+
+/// The AP reply whose one encoding the bytes are, or none (RFC 4120, section 5.5.2).
+pub(crate) fn read_ap_reply(alloc: Global, bytes: &[u8]) -> Result<Option<ApRepInner>, AllocError>
+    ensures { IfOk result (IsFound (IsApRep bytes.now)) }
+{
+    let read: Option<ApRep> = read_whole(alloc, bytes)?;
     match read {
         Some(reply) => Ok(Some(reply.0)),
         None => Ok(None),
@@ -57,21 +86,40 @@ pub(crate) fn open_as_part(
     }
 }
 
-/// The same with the tag of TGS replies, which AS replies of some realms have (RFC 4120, section 5.4.2).
-#[tactic(auto, unfolding(crate::specs::AsReply::IsTgsPart))]
+/// The part of a KDC's reply that is sealed here under the key for the usage, with the tag of TGS replies, which AS replies
+/// of some realms have too (RFC 4120, section 5.4.2), or none.
+#[tactic(auto, unfolding(crate::specs::Taking::IsTgsPart))]
 pub(crate) fn open_tgs_part(
     alloc: Global,
-    client: &Client,
+    suite: CipherSuite,
+    key: &[u8],
+    usage: i32,
     sealed: &EncryptedData,
 ) -> Result<Option<EncKdcRepPart>, AllocError>
-    ensures { IfOk result (IsFound (IsTgsPart client.now sealed.now)) }
+    ensures { IfOk result (IsFound (IsTgsPart suite key.now (cast_unsigned w32 usage) sealed.now)) }
 {
-    let suite = client.suite();
-    let opened: Option<EncTgsRepPart> = open_sealed(
+    let opened: Option<EncTgsRepPart> = open_sealed(alloc, suite, key, usage, sealed)?;
+    match opened {
+        Some(part) => Ok(Some(part.0)),
+        None => Ok(None),
+    }
+}
+
+/// The part of a service's reply that is sealed here under the session's key, or none.
+#[tactic(auto, unfolding(crate::specs::ApReply::IsApPart))]
+pub(crate) fn open_ap_part(
+    alloc: Global,
+    asked: &ApAsked,
+    sealed: &EncryptedData,
+) -> Result<Option<EncApRepPartInner>, AllocError>
+    ensures { IfOk result (IsFound (IsApPart asked.now sealed.now)) }
+{
+    let suite = asked.suite();
+    let opened: Option<EncApRepPart> = open_sealed(
         alloc,
         suite,
-        client.key(),
-        key_usages::AS_REP,
+        asked.key(),
+        key_usages::AP_REP,
         sealed,
     )?;
     match opened {

@@ -50,11 +50,11 @@ pub enum TakeRefusal {
     #[error("refused with code {0}")]
     Refused(u32),
 
-    /// Its part isn't sealed under the client's key.
-    #[error("the reply isn't sealed under the client's key")]
+    /// Its part isn't sealed under the client's key or, where it answers by a ticket, under the session's key.
+    #[error("the reply isn't sealed under the key that it is to be under")]
     NotSealed,
 
-    /// It answers another request, or has a key of no known suite.
+    /// It answers another request, or grants a key of no known suite.
     #[error("the reply answers another request")]
     NotAsked,
 

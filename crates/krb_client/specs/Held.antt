@@ -1,14 +1,9 @@
--- What requests hold: sealed data, names, times and keys (RFC 4120, sections 5.2.2, 5.2.3, 5.2.9).
-use Rattle.std.specs.Prelude.{◌≡◌, ℕ, ◌/◌, List, None, pos}
-use Rattle.std.proofs.Common.{ap, sym, ◌∙◌}
+-- What requests hold: names and times (RFC 4120, sections 5.2.2, 5.2.3).
+use Rattle.std.specs.Prelude.{◌≡◌, ℕ, ◌/◌, List, pos}
+use Rattle.std.proofs.Common.{sym, ◌∙◌}
 use Rattle.asn1_leaves.specs.declared.date.GeneralizedTime.{GeneralizedTime}
 use Rattle.picky_asn1.specs.GeneralizedTime.{seconds_of}
 use Rattle.asn1_leaves.proofs.TimeLemmas.{seconds_of-injective}
-use Rattle.krb_crypto.specs.declared.suite.CipherSuite.{CipherSuite}
-use Rattle.krb_crypto.specs.Suites.{cipher_key_size, cipher_number}
-use Rattle.krb_crypto.specs.Sealing.{IsSealedBy}
-use Rattle.krb_crypto.proofs.SealingLemmas.{one_string}
-use Rattle.krb_types.specs.declared.data_types.encrypted_data.EncryptedData.{EncryptedData}
 use Rattle.krb_types.specs.declared.data_types.principal_name.PrincipalName.{PrincipalName}
 
 -- a name of a type (RFC 4120, section 6.2)

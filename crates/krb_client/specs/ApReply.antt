@@ -1,0 +1,56 @@
+-- What a client takes as a service's reply (RFC 4120, section 3.2.5): the first case that holds counts.
+use Rattle.std.specs.Prelude.{◌≡◌, ℕ, ◌/◌, ◌%◌, ◌==◌, Bool, not, ◌&&◌, List, Result, Ok, Err}
+use Rattle.krb_types.specs.declared.data_types.enc_ap_rep_part.EncApRepPartInner.{EncApRepPartInner}
+use Rattle.krb_types.specs.declared.data_types.encrypted_data.EncryptedData.{EncryptedData}
+use Rattle.picky_krb.specs.declared.messages.ap_rep.ApRepInner.{ApRepInner}
+use Rattle.picky_krb.specs.Messages.{IsApRep, enc_ap_rep_part-injective, enc_ap_rep_part_tree, sole_ap_rep}
+use Rattle.krb_opening.specs.Sealed.{IsSealedIn, sole_sealed}
+use Rattle.picky_asn1.specs.GeneralizedTime.{seconds_of}
+use Rattle.picky_asn1.specs.Numbers.{is_number}
+use Rattle.decision_tables.specs.One.{IsSole}
+use Rattle.decision_tables.specs.Tables.{Table, ask, done, refuse}
+use Rattle.krb_asked.specs.Asked.{ApAskedRecord}
+use Rattle.krb_client.specs.Taking.{is_of_type, takes_message}
+use Rattle.krb_client.specs.declared.refusal.TakeRefusal.{TakeRefusal}
+use Rattle.krb_client.specs.declared.refusal.TakeRefusal.TheVariants.{NotAsked, NotSealed, Unreadable}
+
+-- the part of the reply, sealed under the session's key (usage 12; RFC 4120, section 7.5.1)
+unfoldable pub IsApPart : ApAskedRecord → EncryptedData → EncApRepPartInner → Type 0
+IsApPart asked sealed part = IsSealedIn {T = EncApRepPartInner} enc_ap_rep_part_tree asked.suite asked.key 12 sealed part
+
+pub sole_ap_part : (asked : ApAskedRecord) (sealed : EncryptedData) → IsSole (IsApPart asked sealed)
+unfolding IsApPart
+sole_ap_part asked sealed = sole_sealed enc_ap_rep_part_tree enc_ap_rep_part-injective asked.suite asked.key 12 sealed
+
+-- the part tells the second of the moment, and its microseconds
+abbrev pub tells : ℕ → EncApRepPartInner → Bool
+tells moment part = (seconds_of part.ctime.0.0 == moment / 1000000) && is_number (moment % 1000000) part.cusec.0
+
+-- that the service could open the ticket, or why the client doesn't take it
+abbrev pub Shown : Type 0
+Shown = Result (Unit {0}) TakeRefusal
+
+-- with the part opened: it tells the authenticator's time
+abbrev pub takes_time : ApAskedRecord → EncApRepPartInner → Table Shown
+takes_time asked part =
+    refuse (not (tells asked.time part)) NotAsked
+    (done (Ok tt))
+
+-- with the reply read
+abbrev pub takes_answer : ApAskedRecord → ApRepInner → Table Shown
+takes_answer asked reply =
+    refuse (not (is_of_type 15 reply.pvno.0 reply.msg_type.0)) Unreadable
+    (ask (IsApPart asked reply.enc_part.0) (sole_ap_part asked reply.enc_part.0) (done (Err NotSealed))
+    (takes_time asked))
+
+-- the reply as it comes
+unfoldable pub takes_ap_reply : ApAskedRecord → List ℕ → Table Shown
+takes_ap_reply asked bytes = takes_message bytes (IsApRep bytes) (sole_ap_rep bytes) (takes_answer asked)
+
+-- what a client that asked this takes of the reply
+abbrev pub TakesApReply : ApAskedRecord → List ℕ → Shown → Type 0
+TakesApReply asked bytes taken = (takes_ap_reply asked bytes).gives taken
+
+-- there is one outcome at most
+pub one_showing : (asked : ApAskedRecord) (bytes : List ℕ) (a b : Shown) → TakesApReply asked bytes a → TakesApReply asked bytes b → a ≡ b
+one_showing asked bytes = (takes_ap_reply asked bytes).one

@@ -1,0 +1,82 @@
+-- AP requests (RFC 4120, section 5.5.1), as a service and, inside a TGS request, a KDC are shown them: a ticket, and an
+-- authenticator under the session's key.
+use Rattle.std.specs.Prelude.{◌≡◌, ℕ, ◌%◌, Bool, List, [], ◌∷◌, Option, None, pos, if◌then◌else◌}
+use Rattle.std.specs.Option.{option_map}
+use Rattle.std.proofs.Common.{ap, subst, sym, ◌∙◌}
+use Rattle.picky_asn1.specs.BitString.{Bits}
+use Rattle.asn1_leaves.specs.declared.date.GeneralizedTime.{GeneralizedTime}
+use Rattle.krb_types.specs.declared.data_types.authenticator.AuthenticatorInner.{AuthenticatorInner}
+use Rattle.krb_types.specs.declared.data_types.checksum.Checksum.{Checksum}
+use Rattle.krb_types.specs.declared.data_types.encrypted_data.EncryptedData.{EncryptedData}
+use Rattle.krb_types.specs.declared.data_types.encryption_key.EncryptionKey.{EncryptionKey}
+use Rattle.krb_types.specs.declared.data_types.ticket.TicketInner.{TicketInner}
+use Rattle.picky_krb.specs.declared.messages.ap_req.ApReqInner.{ApReqInner}
+use Rattle.krb_client.specs.Client.{ClientRecord, CredentialRecord}
+use Rattle.krb_client.specs.declared.authenticator.Told.{Told}
+use Rattle.krb_client.specs.Held.{IsSecondOf, principal_name, sole_second}
+use Rattle.krb_client.specs.Messages.{ap_request_bytes, authenticator_bytes}
+use Rattle.krb_sealing.specs.Sealing.{Seals, sole_seals}
+
+-- what an authenticator tells of the client, and of the microseconds of its time
+abbrev pub told_of : ClientRecord → ℕ → Told
+told_of client microsecond = record {
+  version = pos 5;
+  realm = client.realm;
+  name = principal_name 1 client.components;
+  microsecond = pos microsecond;
+}
+
+-- the authenticator that tells this, its time's second, and the checksum and the subkey, where there is one
+abbrev pub authenticator_with : Told → GeneralizedTime → Option Checksum → Option EncryptionKey → AuthenticatorInner
+authenticator_with told second checksum subkey = record {
+  authenticator_vno = record { 0 = told.version };
+  crealm = record { 0 = told.realm };
+  cname = record { 0 = told.name };
+  cksum = record { 0 = option_map (λ sum. record { 0 = sum }) checksum };
+  cusec = record { 0 = told.microsecond };
+  ctime = record { 0 = record { 0 = second } };
+  subkey = record { 0 = option_map (λ key. record { 0 = key }) subkey };
+  seq_number = record { 0 = None };
+  authorization_data = record { 0 = None };
+}
+
+-- the client's authenticator of the moment
+pub record IsAuthenticator (client : ClientRecord) (moment : ℕ) (checksum : Option Checksum) (subkey : Option EncryptionKey) (authenticator : AuthenticatorInner) : Type 0 where
+  pub second : GeneralizedTime
+  pub of_moment : IsSecondOf moment second
+  pub told : authenticator ≡ authenticator_with (told_of client (moment % 1000000)) second checksum subkey
+
+pub sole_authenticator : (client : ClientRecord) (moment : ℕ) (checksum : Option Checksum) (subkey : Option EncryptionKey) (a b : AuthenticatorInner)
+    → IsAuthenticator client moment checksum subkey a → IsAuthenticator client moment checksum subkey b → a ≡ b
+sole_authenticator client moment checksum subkey a b x y =
+    x.told ∙ ap (λ second. authenticator_with (told_of client (moment % 1000000)) second checksum subkey) (sole_second moment x.second y.second x.of_moment y.of_moment) ∙ sym y.told
+
+-- bit 2, mutual-required (RFC 4120, section 5.5.1), where the service is to answer
+abbrev pub options_of : Bool → Bits
+options_of mutual_required = record { octets = (if mutual_required then 0x20 else 0) ∷ 0 ∷ 0 ∷ 0 ∷ []; unused = 0 }
+
+-- the request with its sealed authenticator
+abbrev pub ap_request_of : Bool → TicketInner → EncryptedData → ApReqInner
+ap_request_of mutual_required ticket authenticator = record {
+  pvno = record { 0 = pos 5 };
+  msg_type = record { 0 = pos 14 };
+  ap_options = record { 0 = options_of mutual_required };
+  ticket = record { 0 = record { 0 = ticket } };
+  authenticator = record { 0 = authenticator };
+}
+
+-- the bytes are the request with the credential's ticket and the authenticator, which is sealed under the credential's key,
+-- for the usage, behind the confounder
+pub record IsApRequest (credential : CredentialRecord) (usage : ℕ) (mutual_required : Bool) (authenticator : AuthenticatorInner) (confounder bytes : List ℕ) : Type 0 where
+  pub part : EncryptedData
+  pub sealed : Seals credential.suite credential.key None usage confounder (authenticator_bytes authenticator) part
+  pub encoding : bytes ≡ ap_request_bytes (ap_request_of mutual_required credential.ticket part)
+
+pub sole_presented : (credential : CredentialRecord) (usage : ℕ) (mutual_required : Bool) (confounder : List ℕ) (p q : AuthenticatorInner) (a b : List ℕ)
+    → p ≡ q → IsApRequest credential usage mutual_required p confounder a → IsApRequest credential usage mutual_required q confounder b → a ≡ b
+sole_presented credential usage mutual_required confounder p q a b same x y =
+    let first = subst (λ authenticator. Seals credential.suite credential.key None usage confounder (authenticator_bytes authenticator) x.part) same x.sealed in
+    x.encoding
+    ∙ ap (λ part. ap_request_bytes (ap_request_of mutual_required credential.ticket part))
+    (sole_seals credential.suite credential.key None usage confounder (authenticator_bytes q) x.part y.part first y.sealed)
+    ∙ sym y.encoding

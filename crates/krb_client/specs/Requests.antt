@@ -1,0 +1,56 @@
+-- Requests to a KDC (RFC 4120, section 5.4.1): what those for a first ticket and for further ones have in common.
+use Rattle.std.specs.Prelude.{ℕ, ◌%◌, Bool, List, [], ◌∷◌, Option, None, Some, pos, if◌then◌else◌}
+use Rattle.std.specs.Int.{from_be_bytes, w32}
+use Rattle.picky_asn1.specs.BitString.{Bits}
+use Rattle.picky_asn1_der.specs.declared.wrapper.ExplicitContextTag.{ExplicitContextTag}
+use Rattle.asn1_leaves.specs.declared.date.GeneralizedTime.{GeneralizedTime}
+use Rattle.krb_crypto.specs.Suites.{cipher_number}
+use Rattle.krb_types.specs.declared.data_types.pa_data.PaData.{PaData}
+use Rattle.krb_types.specs.declared.data_types.principal_name.PrincipalName.{PrincipalName}
+use Rattle.krb_types.specs.RandomBytes.{nonce_bytes}
+use Rattle.picky_krb.specs.declared.messages.kdc_req.KdcReq.{KdcReq}
+use Rattle.picky_krb.specs.declared.messages.kdc_req_body.KdcReqBody.{KdcReqBody}
+use Rattle.krb_client.specs.Client.{ClientRecord}
+use Rattle.krb_client.specs.Held.{principal_name}
+
+-- the nonce: four of the random bytes, big-endian, of which 31 bits count
+abbrev pub nonce_of : List ℕ → ℕ
+nonce_of random = from_be_bytes w32 (nonce_bytes random) % 2147483648
+
+-- no option is asked for
+abbrev pub no_options : Bits
+no_options = record { octets = 0 ∷ 0 ∷ 0 ∷ 0 ∷ []; unused = 0 }
+
+-- the client's name, where it is told
+abbrev pub name_where : ClientRecord → Bool → Option (ExplicitContextTag 1 PrincipalName)
+name_where client named = if named then Some (record { 0 = principal_name 1 client.components }) else None
+
+-- the client, where it is named, a service of its realm, the end asked for, the nonce, and the client's suite as the only one
+abbrev pub request_body : ClientRecord → Bool → List (List ℕ) → GeneralizedTime → ℕ → KdcReqBody
+request_body client named service till nonce = record {
+  kdc_options = record { 0 = no_options };
+  cname = record { 0 = name_where client named };
+  realm = record { 0 = client.realm };
+  sname = record { 0 = Some (record { 0 = principal_name 2 service }) };
+  from = record { 0 = None };
+  till = record { 0 = record { 0 = till } };
+  rtime = record { 0 = None };
+  nonce = record { 0 = pos nonce };
+  etype = record { 0 = pos (cipher_number client.suite) ∷ [] };
+  addresses = record { 0 = None };
+  enc_authorization_data = record { 0 = None };
+  additional_tickets = record { 0 = None };
+}
+
+-- preauthentication data of a type (RFC 4120, section 7.5.2)
+abbrev pub entry_of : ℕ → List ℕ → PaData
+entry_of kind value = record { padata_type = record { 0 = pos kind }; padata_data = record { 0 = value } }
+
+-- the request of a type, with one entry of preauthentication data
+abbrev pub request_of : ℕ → PaData → KdcReqBody → KdcReq
+request_of kind entry body = record {
+  pvno = record { 0 = pos 5 };
+  msg_type = record { 0 = pos kind };
+  padata = record { 0 = Some (record { 0 = entry ∷ [] }) };
+  req_body = record { 0 = body };
+}

@@ -1,0 +1,58 @@
+-- What a client takes as a reply (RFC 4120, sections 3.1.5, 3.2.5, 3.3.4): the rules that its kinds have in common. The first
+-- case that holds counts.
+use Rattle.std.specs.Prelude.{ℕ, ℤ, Bool, not, ◌&&◌, List, Result, Ok, Err}
+use Rattle.krb_crypto.specs.declared.suite.CipherSuite.{CipherSuite}
+use Rattle.krb_types.specs.declared.data_types.encrypted_data.EncryptedData.{EncryptedData}
+use Rattle.picky_krb.specs.declared.messages.enc_kdc_rep_part.EncKdcRepPart.{EncKdcRepPart}
+use Rattle.picky_krb.specs.declared.messages.kdc_rep.KdcRep.{KdcRep}
+use Rattle.picky_krb.specs.Messages.{enc_tgs_rep_part-injective, enc_tgs_rep_part_tree}
+use Rattle.krb_opening.specs.Keys.{suite_of}
+use Rattle.krb_opening.specs.Sealed.{IsSealedIn, sole_sealed}
+use Rattle.picky_asn1.specs.Numbers.{is_number}
+use Rattle.decision_tables.specs.One.{IsSole}
+use Rattle.decision_tables.specs.Tables.{Table, ask, done, need, refuse}
+use Rattle.krb_asked.specs.Answers.{is_answer}
+use Rattle.krb_client.specs.Client.{ClientRecord, CredentialRecord}
+use Rattle.krb_client.specs.Messages.{IsErrorCode, sole_error_code}
+use Rattle.krb_client.specs.declared.refusal.TakeRefusal.{TakeRefusal}
+use Rattle.krb_client.specs.declared.refusal.TakeRefusal.TheVariants.{NotAsked, Refused, Unreadable}
+
+-- the bytes as they come: they are an error, or a reply, which the following cases read
+abbrev pub takes_message : {A T : Type 0} (bytes : List ℕ) (IsReply : A → Type 0) → IsSole IsReply → (A → Table (Result T TakeRefusal)) → Table (Result T TakeRefusal)
+takes_message bytes IsReply sole rest =
+    ask (IsErrorCode bytes) (sole_error_code bytes)
+    (ask IsReply sole (done (Err Unreadable)) rest)
+    (λ code. done (Err (Refused code)))
+
+-- the message says that it is of version 5, and of this type (RFC 4120, section 5.10)
+abbrev pub is_of_type : ℕ → ℤ → ℤ → Bool
+is_of_type number version kind = is_number 5 version && is_number number kind
+
+-- the part of a KDC's reply, with the tag of TGS replies, sealed under the key for the usage
+unfoldable pub IsTgsPart : CipherSuite → List ℕ → ℕ → EncryptedData → EncKdcRepPart → Type 0
+IsTgsPart suite key usage sealed part = IsSealedIn {T = EncKdcRepPart} enc_tgs_rep_part_tree suite key usage sealed part
+
+pub sole_tgs_part : (suite : CipherSuite) (key : List ℕ) (usage : ℕ) (sealed : EncryptedData) → IsSole (IsTgsPart suite key usage sealed)
+unfolding IsTgsPart
+sole_tgs_part suite key usage sealed = sole_sealed enc_tgs_rep_part_tree enc_tgs_rep_part-injective suite key usage sealed
+
+-- what a KDC's reply grants, or why the client doesn't take it
+abbrev pub Taken : Type 0
+Taken = Result CredentialRecord TakeRefusal
+
+-- the reply's ticket, with the key, realm and service of its opened part
+abbrev pub credential_of : KdcRep → EncKdcRepPart → CipherSuite → CredentialRecord
+credential_of reply part suite = record {
+  ticket = reply.ticket.0.0;
+  suite = suite;
+  key = part.key.0.key_value.0;
+  realm = part.srealm.0;
+  service = part.sname.0;
+}
+
+-- with the part opened: it answers what the client asked for this service, with the nonce
+abbrev pub takes_part : ClientRecord → List (List ℕ) → ℕ → KdcRep → EncKdcRepPart → Table Taken
+takes_part client service nonce reply part =
+    refuse (not (is_answer client.realm client.components service nonce reply part)) NotAsked
+    (need (suite_of part.key.0) NotAsked (λ suite.
+    done (Ok (credential_of reply part suite))))

@@ -1,0 +1,28 @@
+-- What a client takes as the reply to its TGS request (RFC 4120, section 3.3.4): the first case that holds counts.
+use Rattle.std.specs.Prelude.{◌≡◌, ℕ, not, List, Err}
+use Rattle.picky_krb.specs.declared.messages.kdc_rep.KdcRep.{KdcRep}
+use Rattle.picky_krb.specs.Messages.{IsTgsRep, sole_tgs_rep}
+use Rattle.decision_tables.specs.Tables.{Table, ask, done, refuse}
+use Rattle.krb_asked.specs.Asked.{TgsAskedRecord}
+use Rattle.krb_client.specs.Client.{ClientRecord}
+use Rattle.krb_client.specs.Taking.{IsTgsPart, Taken, is_of_type, sole_tgs_part, takes_message, takes_part}
+use Rattle.krb_client.specs.declared.refusal.TakeRefusal.TheVariants.{NotSealed, Unreadable}
+
+-- with the reply read: its part is under the session's key (usage 8; RFC 4120, section 7.5.1)
+abbrev pub takes_further : ClientRecord → TgsAskedRecord → KdcRep → Table Taken
+takes_further client asked reply =
+    refuse (not (is_of_type 13 reply.pvno.0 reply.msg_type.0)) Unreadable
+    (ask (IsTgsPart asked.suite asked.key 8 reply.enc_part.0) (sole_tgs_part asked.suite asked.key 8 reply.enc_part.0) (done (Err NotSealed))
+    (takes_part client asked.service asked.nonce reply))
+
+-- the reply as it comes
+unfoldable pub takes_tgs_reply : ClientRecord → TgsAskedRecord → List ℕ → Table Taken
+takes_tgs_reply client asked bytes = takes_message bytes (IsTgsRep bytes) (sole_tgs_rep bytes) (takes_further client asked)
+
+-- what a client that asked this takes of the reply
+abbrev pub TakesTgsReply : ClientRecord → TgsAskedRecord → List ℕ → Taken → Type 0
+TakesTgsReply client asked bytes taken = (takes_tgs_reply client asked bytes).gives taken
+
+-- there is one outcome at most
+pub one_further_taking : (client : ClientRecord) (asked : TgsAskedRecord) (bytes : List ℕ) (a b : Taken) → TakesTgsReply client asked bytes a → TakesTgsReply client asked bytes b → a ≡ b
+one_further_taking client asked bytes = (takes_tgs_reply client asked bytes).one

@@ -1,0 +1,65 @@
+-- The request for a further ticket (RFC 4120, sections 3.3.1, 5.4.1): an AP request with a checksum over the body stands as
+-- its preauthentication data.
+use Rattle.std.specs.Prelude.{◌≡◌, ℕ, false, List, None, Some, pos}
+use Rattle.std.proofs.Common.{ap, sym, ◌∙◌}
+use Rattle.asn1_leaves.specs.declared.date.GeneralizedTime.{GeneralizedTime}
+use Rattle.krb_crypto.specs.Sealing.{checksum_of}
+use Rattle.krb_crypto.specs.Suites.{checksum_number, cipher_checksum}
+use Rattle.krb_types.specs.declared.data_types.authenticator.AuthenticatorInner.{AuthenticatorInner}
+use Rattle.krb_types.specs.declared.data_types.checksum.Checksum.{Checksum}
+use Rattle.krb_types.specs.RandomBytes.{authenticator_confounder}
+use Rattle.picky_krb.specs.declared.messages.kdc_req.KdcReq.{KdcReq}
+use Rattle.krb_asked.specs.Asked.{TgsAskedRecord}
+use Rattle.krb_client.specs.Authenticators.{IsApRequest, IsAuthenticator, sole_presented, sole_authenticator}
+use Rattle.krb_client.specs.Client.{ClientRecord, CredentialRecord}
+use Rattle.krb_client.specs.Messages.{request_body_bytes, tgs_request_bytes}
+use Rattle.krb_client.specs.Requests.{entry_of, nonce_of, request_body, request_of}
+
+-- the checksum of the session's suite over a text (usage 6; RFC 4120, section 7.5.1)
+abbrev pub checksum_over : CredentialRecord → List ℕ → Checksum
+checksum_over credential text = record {
+  cksumtype = record { 0 = pos (checksum_number (cipher_checksum credential.suite)) };
+  checksum = record { 0 = checksum_of (cipher_checksum credential.suite) credential.key 6 text };
+}
+
+-- the AP request by which a text is sent: the authenticator has its checksum and no subkey, and is sealed for usage 7
+-- (RFC 4120, section 7.5.1)
+pub record Authenticates (client : ClientRecord) (credential : CredentialRecord) (moment : ℕ) (confounder text request : List ℕ) : Type 0 where
+  pub authenticator : AuthenticatorInner
+  pub authenticates : IsAuthenticator client moment (Some (checksum_over credential text)) None authenticator
+  pub presents : IsApRequest credential 7 false authenticator confounder request
+
+pub sole_authentication : (client : ClientRecord) (credential : CredentialRecord) (moment : ℕ) (confounder text a b : List ℕ)
+    → Authenticates client credential moment confounder text a → Authenticates client credential moment confounder text b → a ≡ b
+sole_authentication client credential moment confounder text a b x y =
+    sole_presented credential 7 false confounder x.authenticator y.authenticator a b
+    (sole_authenticator client moment (Some (checksum_over credential text)) None x.authenticator y.authenticator x.authenticates y.authenticates)
+    x.presents y.presents
+
+-- the request with its AP request, PA-TGS-REQ (RFC 4120, section 7.5.2); the client's name stands in the ticket alone
+abbrev pub tgs_request_of : ClientRecord → List (List ℕ) → GeneralizedTime → ℕ → List ℕ → KdcReq
+tgs_request_of client service till nonce request = request_of 12 (entry_of 1 request) (request_body client false service till nonce)
+
+-- the encoding of the request's body
+abbrev pub tgs_body_bytes : ClientRecord → List (List ℕ) → GeneralizedTime → ℕ → List ℕ
+tgs_body_bytes client service till nonce = request_body_bytes (request_body client false service till nonce)
+
+-- the bytes are the client's request for a ticket for the service till that time, by the credential, at the moment; of the
+-- random bytes the first 16 are the confounder
+pub record AsksTgs (client : ClientRecord) (credential : CredentialRecord) (service : List (List ℕ)) (till : GeneralizedTime) (moment : ℕ) (random bytes : List ℕ) : Type 0 where
+  pub request : List ℕ
+  pub authenticates : Authenticates client credential moment (authenticator_confounder random) (tgs_body_bytes client service till (nonce_of random)) request
+  pub encoding : bytes ≡ tgs_request_bytes (tgs_request_of client service till (nonce_of random) request)
+
+-- what the client remembers of it
+abbrev pub tgs_asked : CredentialRecord → List (List ℕ) → List ℕ → TgsAskedRecord
+tgs_asked credential service random = record { service = service; nonce = nonce_of random; suite = credential.suite; key = credential.key }
+
+-- there is one such request at most
+pub sole_tgs_request : (client : ClientRecord) (credential : CredentialRecord) (service : List (List ℕ)) (till : GeneralizedTime) (moment : ℕ) (random a b : List ℕ)
+    → AsksTgs client credential service till moment random a → AsksTgs client credential service till moment random b → a ≡ b
+sole_tgs_request client credential service till moment random a b x y =
+    x.encoding
+    ∙ ap (λ request. tgs_request_bytes (tgs_request_of client service till (nonce_of random) request))
+    (sole_authentication client credential moment (authenticator_confounder random) (tgs_body_bytes client service till (nonce_of random)) x.request y.request x.authenticates y.authenticates)
+    ∙ sym y.encoding

@@ -1,0 +1,70 @@
+//! Taking a service's reply.
+ghost use Rattle.std.specs.Prelude.{◌≡◌};
+ghost use Rattle.krb_client.specs.ApReply.{takes_answer, takes_ap_reply, takes_time, tells};
+ghost use Rattle.krb_client.specs.Refusals.{IsTaken};
+
+use crate::read::{open_ap_part, read_ap_reply, read_error_code};
+use crate::taking::is_of_type;
+use crate::{Client, TakeRefusal};
+use krb_asked::ApAsked;
+use krb_moments::Moment;
+use krb_types::constants::types::AP_REP_MSG_TYPE;
+use krb_types::data_types::EncApRepPartInner;
+use picky_asn1::is_number;
+use picky_krb::messages::ApRepInner;
+use std::alloc::Global;
+
+impl Client {
+    /// Takes a service's reply (RFC 4120, section 3.2.5), which shows that the service could open the ticket: it is sealed
+    /// under the session's key and tells the authenticator's time.
+    ///
+    /// `Refused` tells an error's code, whatever the error's version and type; the other refusals are in the order in which
+    /// they are looked for.
+    pub fn take_ap_reply(
+        &self,
+        alloc: Global,
+        asked: &ApAsked,
+        reply: &[u8],
+    ) -> Result<(), TakeRefusal>
+        ensures { IsTaken (takes_ap_reply asked.now reply.now) result }
+    {
+        if let Some(code) = read_error_code(alloc, reply)? {
+            return Err(TakeRefusal::Refused(code));
+        }
+        let Some(reply) = read_ap_reply(alloc, reply)? else {
+            return Err(TakeRefusal::Unreadable);
+        };
+        take_answer(alloc, asked, &reply)
+    }
+}
+
+// The same, of the reply that was read.
+fn take_answer(alloc: Global, asked: &ApAsked, reply: &ApRepInner) -> Result<(), TakeRefusal>
+    ensures { IsTaken (takes_answer asked.now reply.now) result }
+{
+    if !is_of_type(AP_REP_MSG_TYPE, &reply.pvno.0, &reply.msg_type.0) {
+        return Err(TakeRefusal::Unreadable);
+    }
+    let Some(part) = open_ap_part(alloc, asked, &reply.enc_part.0)? else {
+        return Err(TakeRefusal::NotSealed);
+    };
+    take_time(asked, &part)
+}
+
+// The same, with the part that was opened.
+fn take_time(asked: &ApAsked, part: &EncApRepPartInner) -> Result<(), TakeRefusal>
+    ensures { IsTaken (takes_time asked.now part.now) result }
+{
+    if !tells(asked.time(), part) {
+        return Err(TakeRefusal::NotAsked);
+    }
+    Ok(())
+}
+
+// Whether the part tells the second of the moment, and its microseconds.
+fn tells(moment: Moment, part: &EncApRepPartInner) -> bool
+    ensures { result ≡ tells moment part.now }
+{
+    part.ctime.0.0.seconds() == moment.second().seconds()
+        && is_number(&part.cusec.0, moment.microsecond())
+}

@@ -1,0 +1,168 @@
+//! AP requests, as services and, inside TGS requests, KDCs are shown them.
+ghost use Rattle.std.specs.Prelude.{◌≡◌, length, IfOk};
+ghost use Rattle.std.specs.Int.{cast_unsigned, w32};
+ghost use Rattle.krb_client.specs.Authenticators.{IsApRequest, IsAuthenticator, ap_request_of, authenticator_with, options_of, told_of};
+ghost use Rattle.krb_client.specs.Messages.{ap_request_bytes, authenticator_bytes};
+
+use crate::copies::ticket_copy;
+use crate::names::principal_name;
+use crate::{Client, Credential};
+use krb_encoding::tagged_encoding;
+use krb_moments::Moment;
+use krb_sealing::sealed_data;
+use krb_types::constants::types::{
+    AP_REQ_MSG_TYPE, AUTHENTICATOR_TYPE, KERBEROS_VERSION, NT_PRINCIPAL,
+};
+use krb_types::data_types::{
+    ApOptions, AuthenticatorInner, Checksum, EncryptedData, EncryptionKey, PrincipalName, Ticket,
+};
+use picky_asn1::date::GeneralizedTime;
+use picky_asn1::wrapper::{BitStringAsn1, GeneralStringAsn1, GeneralizedTimeAsn1, IntegerAsn1};
+use picky_asn1_der::{ExplicitContextTag, Optional};
+use picky_krb::messages::ApReqInner;
+use std::alloc::{AllocError, Global};
+
+/// The option `mutual-required`, bit 2, in the first of the options' octets (RFC 4120, section 5.5.1).
+const MUTUAL_REQUIRED: u8 = 0x20;
+
+// What an authenticator tells of the client, and of the microseconds of its time. It is made at once, so that what makes an
+// authenticator has one way out.
+#[derive(Drop)]
+struct Told {
+    version: IntegerAsn1,
+    realm: GeneralStringAsn1,
+    name: PrincipalName,
+    microsecond: IntegerAsn1,
+}
+
+impl Client {
+    /// The client's authenticator of the moment, with a checksum and a subkey, where they are given.
+    pub(crate) fn authenticator(
+        &self,
+        alloc: Global,
+        moment: Moment,
+        checksum: Option<Checksum>,
+        subkey: Option<EncryptionKey>,
+    ) -> Result<AuthenticatorInner, AllocError>
+        ensures { IfOk result (IsAuthenticator self.now moment checksum subkey) }
+    {
+        let second = moment.second();
+        let told = self.told(alloc, moment.microsecond())?;
+        Ok(authenticator_with(told, second, checksum, subkey))
+    }
+
+    fn told(&self, alloc: Global, microsecond: u32) -> Result<Told, AllocError>
+        ensures { IfOk result (λ told. told ≡ told_of self.now microsecond) }
+    {
+        let version = IntegerAsn1::from_u64(alloc, u64::from(KERBEROS_VERSION))?;
+        let microsecond = IntegerAsn1::from_u64(alloc, u64::from(microsecond))?;
+        let realm = self.realm().clone()?;
+        let name = principal_name(alloc, NT_PRINCIPAL, self.components())?;
+        Ok(Told {
+            version,
+            realm,
+            name,
+            microsecond,
+        })
+    }
+}
+
+fn authenticator_with(
+    told: Told,
+    second: GeneralizedTime,
+    checksum: Option<Checksum>,
+    subkey: Option<EncryptionKey>,
+) -> AuthenticatorInner
+    ensures { result ≡ authenticator_with told second checksum subkey }
+{
+    AuthenticatorInner {
+        authenticator_vno: ExplicitContextTag(told.version),
+        crealm: ExplicitContextTag(told.realm),
+        cname: ExplicitContextTag(told.name),
+        cksum: Optional(checksum.map(ExplicitContextTag)),
+        cusec: ExplicitContextTag(told.microsecond),
+        ctime: ExplicitContextTag(GeneralizedTimeAsn1(second)),
+        subkey: Optional(subkey.map(ExplicitContextTag)),
+        seq_number: Optional(None),
+        authorization_data: Optional(None),
+    }
+}
+
+/// The AP request with the credential's ticket and the authenticator, which is sealed under the session's key for the usage
+/// (RFC 4120, section 5.5.1). The session's key is of its suite's length, so memory is the only refusal.
+pub(crate) fn ap_request(
+    alloc: Global,
+    credential: &Credential,
+    usage: i32,
+    mutual_required: bool,
+    authenticator: AuthenticatorInner,
+    confounder: &[u8],
+) -> Result<Vec<u8>, AllocError>
+    requires { length confounder.now ≡ 16 }
+    ensures { IfOk result (λ bytes. IsApRequest credential.now (cast_unsigned w32 usage) mutual_required authenticator confounder.now bytes.items) }
+{
+    let plain = authenticator_bytes(alloc, authenticator)?;
+    let sealed = sealed_data(
+        alloc,
+        credential.suite(),
+        credential.key(),
+        None,
+        usage,
+        confounder,
+        &plain,
+    )?;
+    let request = ap_request_of(alloc, mutual_required, credential.ticket(), sealed)?;
+    let bytes = ap_request_bytes(alloc, request)?;
+    Ok(bytes)
+}
+
+// The encoding of the authenticator.
+#[tactic(auto, unfolding(crate::specs::Messages::authenticator_bytes))]
+fn authenticator_bytes(alloc: Global, inner: AuthenticatorInner) -> Result<Vec<u8>, AllocError>
+    ensures { IfOk result (λ bytes. bytes.items ≡ authenticator_bytes inner) }
+{
+    let bytes = tagged_encoding::<AuthenticatorInner, AUTHENTICATOR_TYPE>(alloc, inner)?;
+    Ok(bytes)
+}
+
+// The options of the request.
+fn options_of(alloc: Global, mutual_required: bool) -> Result<ApOptions, AllocError>
+    ensures { IfOk result (λ options. options ≡ options_of mutual_required) }
+{
+    let first = if mutual_required { MUTUAL_REQUIRED } else { 0 };
+    let Ok(options) = BitStringAsn1::new(alloc, &[first, 0, 0, 0], 0) else {
+        return Err(AllocError);
+    };
+    Ok(options)
+}
+
+// The request with its sealed authenticator.
+fn ap_request_of(
+    alloc: Global,
+    mutual_required: bool,
+    ticket: &Ticket,
+    authenticator: EncryptedData,
+) -> Result<ApReqInner, AllocError>
+    ensures { IfOk result (λ request. request ≡ ap_request_of mutual_required ticket.now.0 authenticator) }
+{
+    let version = IntegerAsn1::from_u64(alloc, u64::from(KERBEROS_VERSION))?;
+    let kind = IntegerAsn1::from_u64(alloc, u64::from(AP_REQ_MSG_TYPE))?;
+    let options = options_of(alloc, mutual_required)?;
+    let ticket = ticket_copy(ticket)?;
+    Ok(ApReqInner {
+        pvno: ExplicitContextTag(version),
+        msg_type: ExplicitContextTag(kind),
+        ap_options: ExplicitContextTag(options),
+        ticket: ExplicitContextTag(ticket),
+        authenticator: ExplicitContextTag(authenticator),
+    })
+}
+
+// The encoding of the request.
+#[tactic(auto, unfolding(crate::specs::Messages::ap_request_bytes))]
+fn ap_request_bytes(alloc: Global, request: ApReqInner) -> Result<Vec<u8>, AllocError>
+    ensures { IfOk result (λ bytes. bytes.items ≡ ap_request_bytes request) }
+{
+    let bytes = tagged_encoding::<ApReqInner, AP_REQ_MSG_TYPE>(alloc, request)?;
+    Ok(bytes)
+}

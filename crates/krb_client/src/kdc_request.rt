@@ -1,0 +1,126 @@
+//! Requests to a KDC: what those for a first ticket and for further ones have in common.
+ghost use Rattle.std.specs.Prelude.{◌≡◌, ◌≤◌, ◌==◌, length, IfOk};
+ghost use Rattle.krb_client.specs.Requests.{entry_of, name_where, no_options, nonce_of, request_body, request_of};
+
+use crate::Client;
+use crate::names::principal_name;
+use krb_types::constants::random_bytes::NONCE;
+use krb_types::constants::types::{AS_REQ_MSG_TYPE, KERBEROS_VERSION, NT_PRINCIPAL, NT_SRV_INST};
+use krb_types::data_types::{KerberosFlags, PaData, PrincipalName};
+use picky_asn1::date::GeneralizedTime;
+use picky_asn1::wrapper::{
+    Asn1SequenceOf, BitStringAsn1, GeneralStringAsn1, GeneralizedTimeAsn1, IntegerAsn1,
+    OctetStringAsn1,
+};
+use picky_asn1_der::{ExplicitContextTag, ExplicitContextTag1, Optional};
+use picky_krb::messages::{KdcReq, KdcReqBody};
+use std::alloc::{AllocError, Global};
+
+/// A nonce has 31 bits, so that it is positive for every reader (RFC 4120, section 5.4.1).
+const NONCES: u32 = 0x8000_0000;
+
+impl Client {
+    /// The request of this type, with an entry of preauthentication data, for a ticket for a service of the client's realm
+    /// till a time. The client is named in an AS request alone.
+    pub(crate) fn request_of(
+        &self,
+        alloc: Global,
+        kind: u8,
+        entry: PaData,
+        service: &[GeneralStringAsn1],
+        till: GeneralizedTime,
+        nonce: u32,
+    ) -> Result<KdcReq, AllocError>
+        ensures { IfOk result (λ request. request ≡ request_of kind entry (request_body self.now (kind == 10) service.now till nonce)) }
+    {
+        let entries = vec![in alloc; entry]?;
+        let version = IntegerAsn1::from_u64(alloc, u64::from(KERBEROS_VERSION))?;
+        let number = IntegerAsn1::from_u64(alloc, u64::from(kind))?;
+        let body = self.request_body(alloc, kind == AS_REQ_MSG_TYPE, service, till, nonce)?;
+        Ok(KdcReq {
+            pvno: ExplicitContextTag(version),
+            msg_type: ExplicitContextTag(number),
+            padata: Optional(Some(ExplicitContextTag(Asn1SequenceOf::from(entries)))),
+            req_body: ExplicitContextTag(body),
+        })
+    }
+
+    /// The body of the request, in which the client may be named.
+    pub(crate) fn request_body(
+        &self,
+        alloc: Global,
+        named: bool,
+        service: &[GeneralStringAsn1],
+        till: GeneralizedTime,
+        nonce: u32,
+    ) -> Result<KdcReqBody, AllocError>
+        ensures { IfOk result (λ body. body ≡ request_body self.now named service.now till nonce) }
+    {
+        let options = no_options(alloc)?;
+        let nonce = IntegerAsn1::from_u64(alloc, u64::from(nonce))?;
+        let suite = IntegerAsn1::from_u64(alloc, u64::from(u8::from(self.suite())))?;
+        let suites = vec![in alloc; suite]?;
+        let realm = self.realm().clone()?;
+        let client = self.name_where(alloc, named)?;
+        let service = principal_name(alloc, NT_SRV_INST, service)?;
+        Ok(KdcReqBody {
+            kdc_options: ExplicitContextTag(options),
+            cname: Optional(client),
+            realm: ExplicitContextTag(realm),
+            sname: Optional(Some(ExplicitContextTag(service))),
+            from: Optional(None),
+            till: ExplicitContextTag(GeneralizedTimeAsn1(till)),
+            rtime: Optional(None),
+            nonce: ExplicitContextTag(nonce),
+            etype: ExplicitContextTag(Asn1SequenceOf::from(suites)),
+            addresses: Optional(None),
+            enc_authorization_data: Optional(None),
+            additional_tickets: Optional(None),
+        })
+    }
+
+    // The client's name, where it is to be told.
+    fn name_where(
+        &self,
+        alloc: Global,
+        named: bool,
+    ) -> Result<Option<ExplicitContextTag1<PrincipalName>>, AllocError>
+        ensures { IfOk result (λ name. name ≡ name_where self.now named) }
+    {
+        if !named {
+            return Ok(None);
+        }
+        let name = principal_name(alloc, NT_PRINCIPAL, self.components())?;
+        Ok(Some(ExplicitContextTag(name)))
+    }
+}
+
+/// Four of the random bytes, big-endian, of which 31 bits count.
+pub(crate) fn nonce_of(words: &[u8]) -> u32
+    requires { 96 ≤ length words.now }
+    ensures { result ≡ nonce_of words.now }
+{
+    let mut octets = [0; 4];
+    octets.copy_from_slice(&words[NONCE..NONCE + 4]);
+    u32::from_be_bytes(octets) % NONCES
+}
+
+/// Preauthentication data of this type.
+pub(crate) fn entry_of(alloc: Global, kind: u32, value: Vec<u8>) -> Result<PaData, AllocError>
+    ensures { IfOk result (λ entry. entry ≡ entry_of kind value.items) }
+{
+    let kind = IntegerAsn1::from_u64(alloc, u64::from(kind))?;
+    Ok(PaData {
+        padata_type: ExplicitContextTag(kind),
+        padata_data: ExplicitContextTag(OctetStringAsn1::from(value)),
+    })
+}
+
+fn no_options(alloc: Global) -> Result<KerberosFlags, AllocError>
+    ensures { IfOk result (λ options. options ≡ no_options) }
+{
+    let Ok(options) = BitStringAsn1::new(alloc, &[0, 0, 0, 0], 0) else {
+        return Err(AllocError);
+    };
+    Ok(options)
+}

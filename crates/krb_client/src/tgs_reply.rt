@@ -1,0 +1,56 @@
+//! Taking the reply to a TGS request.
+ghost use Rattle.krb_client.specs.Refusals.{IsTaken};
+ghost use Rattle.krb_client.specs.TgsReply.{takes_further, takes_tgs_reply};
+
+use crate::read::{open_tgs_part, read_error_code, read_tgs_reply};
+use crate::taking::is_of_type;
+use crate::{Client, Credential, TakeRefusal};
+use krb_asked::TgsAsked;
+use krb_types::constants::key_usages;
+use krb_types::constants::types::TGS_REP_MSG_TYPE;
+use picky_krb::messages::KdcRep;
+use std::alloc::Global;
+
+impl Client {
+    /// What the reply to a request for a further ticket grants (RFC 4120, section 3.3.4), taken where it is sealed under the
+    /// session's key and answers that request: with its nonce, its client and its service, and with a key of a known suite.
+    ///
+    /// `Refused` tells an error's code, whatever the error's version and type; the other refusals are in the order in which
+    /// they are looked for.
+    pub fn take_tgs_reply(
+        &self,
+        alloc: Global,
+        asked: &TgsAsked,
+        reply: &[u8],
+    ) -> Result<Credential, TakeRefusal>
+        ensures { IsTaken (takes_tgs_reply self.now asked.now reply.now) result }
+    {
+        if let Some(code) = read_error_code(alloc, reply)? {
+            return Err(TakeRefusal::Refused(code));
+        }
+        let Some(reply) = read_tgs_reply(alloc, reply)? else {
+            return Err(TakeRefusal::Unreadable);
+        };
+        self.take_further(alloc, asked, &reply)
+    }
+
+    // The same, of the reply that was read.
+    fn take_further(
+        &self,
+        alloc: Global,
+        asked: &TgsAsked,
+        reply: &KdcRep,
+    ) -> Result<Credential, TakeRefusal>
+        ensures { IsTaken (takes_further self.now asked.now reply.now) result }
+    {
+        if !is_of_type(TGS_REP_MSG_TYPE, &reply.pvno.0, &reply.msg_type.0) {
+            return Err(TakeRefusal::Unreadable);
+        }
+        let usage = key_usages::TGS_REP_SESSION_KEY;
+        let sealed = &reply.enc_part.0;
+        let Some(part) = open_tgs_part(alloc, asked.suite(), asked.key(), usage, sealed)? else {
+            return Err(TakeRefusal::NotSealed);
+        };
+        self.take_part(asked.service(), asked.nonce(), reply, &part)
+    }
+}

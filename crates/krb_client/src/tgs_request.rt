@@ -1,0 +1,183 @@
+//! Asking for a further ticket.
+ghost use Rattle.std.specs.Prelude.{◌≡◌, ◌≤◌, ◌↔◌, ◌⊎◌, ℕ, List, length, false, Err, IfErr, IfOk};
+ghost use Rattle.krb_accounts.specs.Names.{are_components, parts};
+ghost use Rattle.krb_client.specs.Messages.{request_body_bytes, tgs_request_bytes};
+ghost use Rattle.krb_client.specs.Requests.{nonce_of};
+ghost use Rattle.krb_client.specs.TgsRequest.{AsksTgs, Authenticates, checksum_over, tgs_asked, tgs_body_bytes, tgs_request_of};
+
+use crate::authenticator::ap_request;
+use crate::kdc_request::{entry_of, nonce_of};
+use crate::{AskRefusal, Client, Credential};
+use krb_accounts::{are_components, components_of};
+use krb_asked::TgsAsked;
+use krb_crypto::{Checksum as KeyedChecksum, Cipher};
+use krb_encoding::{encoding_of, tagged_encoding};
+use krb_moments::Moment;
+use krb_types::constants::key_usages;
+use krb_types::constants::random_bytes::{AUTHENTICATOR_CONFOUNDER, CONFOUNDER_SIZE};
+use krb_types::constants::types::{PA_TGS_REQ, TGS_REQ_MSG_TYPE};
+use krb_types::data_types::Checksum;
+use picky_asn1::date::GeneralizedTime;
+use picky_asn1::wrapper::{GeneralStringAsn1, IntegerAsn1, OctetStringAsn1};
+use picky_asn1_der::ExplicitContextTag;
+use picky_krb::messages::{KdcReq, KdcReqBody};
+use std::alloc::{AllocError, Global};
+
+impl Client {
+    /// The request for a ticket for a service of the client's realm till a time, by what the realm granted for itself, at the
+    /// moment, and what the client has to remember for the reply (RFC 4120, section 3.3.1).
+    ///
+    /// Of the random bytes 0 to 15 are the confounder, and 16 to 19 the nonce. A name that isn't of 1 to 16 components of
+    /// 1 to 255 characters below 128 is refused.
+    pub fn tgs_request(
+        &self,
+        alloc: Global,
+        credential: &Credential,
+        service: &[Vec<u8>],
+        till: GeneralizedTime,
+        moment: Moment,
+        words: &[u8],
+    ) -> Result<(Vec<u8>, TgsAsked), AskRefusal>
+        requires { 96 ≤ length words.now }
+        ensures asks { IfOk result (λ r.
+            AsksTgs self.now credential.now (parts service.now) till moment words.now r.0.items) }
+        ensures only { IfOk result (λ r. (other : List ℕ)
+            → AsksTgs self.now credential.now (parts service.now) till moment words.now other → other ≡ r.0.items) }
+        ensures asked { IfOk result (λ r. r.1 ≡ tgs_asked credential.now (parts service.now) words.now) }
+        ensures bad_name { (result ≡ Err AskRefusal.BadName) ↔ (are_components (parts service.now) ≡ false) }
+        ensures refusal { IfErr result (λ e. (e ≡ AskRefusal.Memory) ⊎ (e ≡ AskRefusal.BadName)) }
+    {
+        if !are_components(service) {
+            return Err(AskRefusal::BadName);
+        }
+        // It is a name, so memory is the only refusal.
+        let Ok(service) = components_of(alloc, service) else {
+            return Err(AskRefusal::Memory);
+        };
+        let bytes = self.tgs_bytes(alloc, credential, &service, till, moment, words)?;
+        let key = OctetStringAsn1::new(alloc, credential.key())?;
+        let asked = TgsAsked::new(service, nonce_of(words), credential.suite(), key);
+        Ok((bytes, asked))
+    }
+
+    // The encoding of the request.
+    fn tgs_bytes(
+        &self,
+        alloc: Global,
+        credential: &Credential,
+        service: &[GeneralStringAsn1],
+        till: GeneralizedTime,
+        moment: Moment,
+        words: &[u8],
+    ) -> Result<Vec<u8>, AllocError>
+        requires { 96 ≤ length words.now }
+        ensures { IfOk result (λ bytes.
+            AsksTgs self.now credential.now service.now till moment words.now bytes.items) }
+    {
+        let nonce = nonce_of(words);
+        let body = self.tgs_body_bytes(alloc, service, till, nonce)?;
+        let request = self.authenticated(
+            alloc,
+            credential,
+            moment,
+            &words[AUTHENTICATOR_CONFOUNDER..AUTHENTICATOR_CONFOUNDER + CONFOUNDER_SIZE],
+            &body,
+        )?;
+        let message = self.tgs_request_of(alloc, service, till, nonce, request)?;
+        let bytes = tgs_request_bytes(alloc, message)?;
+        Ok(bytes)
+    }
+
+    // The encoding of the request's body, over which the authenticator has a checksum.
+    fn tgs_body_bytes(
+        &self,
+        alloc: Global,
+        service: &[GeneralStringAsn1],
+        till: GeneralizedTime,
+        nonce: u32,
+    ) -> Result<Vec<u8>, AllocError>
+        ensures { IfOk result (λ bytes. bytes.items ≡ tgs_body_bytes self.now service.now till nonce) }
+    {
+        let body = self.request_body(alloc, false, service, till, nonce)?;
+        let bytes = request_body_bytes(alloc, body)?;
+        Ok(bytes)
+    }
+
+    // The AP request by which a text is sent.
+    fn authenticated(
+        &self,
+        alloc: Global,
+        credential: &Credential,
+        moment: Moment,
+        confounder: &[u8],
+        text: &[u8],
+    ) -> Result<Vec<u8>, AllocError>
+        requires { length confounder.now ≡ 16 }
+        ensures { IfOk result (λ request.
+            Authenticates self.now credential.now moment confounder.now text.now request.items) }
+    {
+        let checksum = checksum_over(alloc, credential, text)?;
+        let authenticator = self.authenticator(alloc, moment, Some(checksum), None)?;
+        let request = ap_request(
+            alloc,
+            credential,
+            key_usages::TGS_REQ_AUTHENTICATOR,
+            false,
+            authenticator,
+            confounder,
+        )?;
+        Ok(request)
+    }
+
+    // The request with its AP request.
+    fn tgs_request_of(
+        &self,
+        alloc: Global,
+        service: &[GeneralStringAsn1],
+        till: GeneralizedTime,
+        nonce: u32,
+        request: Vec<u8>,
+    ) -> Result<KdcReq, AllocError>
+        ensures { IfOk result (λ made. made ≡ tgs_request_of self.now service.now till nonce request.items) }
+    {
+        let entry = entry_of(alloc, PA_TGS_REQ, request)?;
+        self.request_of(alloc, TGS_REQ_MSG_TYPE, entry, service, till, nonce)
+    }
+}
+
+// The checksum of the session's suite over a text. The session's key is of its suite's length, so memory is the only refusal.
+fn checksum_over(
+    alloc: Global,
+    credential: &Credential,
+    text: &[u8],
+) -> Result<Checksum, AllocError>
+    ensures { IfOk result (λ sum. sum ≡ checksum_over credential.now text.now) }
+{
+    let suite = Cipher::checksum_type(&credential.suite());
+    let number = IntegerAsn1::from_u64(alloc, u64::from(u8::from(suite)))?;
+    let Ok(sum) = suite.checksum(alloc, credential.key(), key_usages::TGS_REQ_CHECKSUM, text) else {
+        return Err(AllocError);
+    };
+    Ok(Checksum {
+        cksumtype: ExplicitContextTag(number),
+        checksum: ExplicitContextTag(OctetStringAsn1::from(sum)),
+    })
+}
+
+// The encoding of the request's body.
+#[tactic(auto, unfolding(crate::specs::Messages::request_body_bytes))]
+fn request_body_bytes(alloc: Global, body: KdcReqBody) -> Result<Vec<u8>, AllocError>
+    ensures { IfOk result (λ bytes. bytes.items ≡ request_body_bytes body) }
+{
+    let bytes = encoding_of(alloc, body)?;
+    Ok(bytes)
+}
+
+// The encoding of the request.
+#[tactic(auto, unfolding(crate::specs::Messages::tgs_request_bytes))]
+fn tgs_request_bytes(alloc: Global, request: KdcReq) -> Result<Vec<u8>, AllocError>
+    ensures { IfOk result (λ bytes. bytes.items ≡ tgs_request_bytes request) }
+{
+    let bytes = tagged_encoding::<KdcReq, TGS_REQ_MSG_TYPE>(alloc, request)?;
+    Ok(bytes)
+}
