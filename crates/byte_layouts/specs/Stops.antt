@@ -1,7 +1,12 @@
--- What stopped a source before its end.
+-- What stopped a source before its end, or a write before all was written.
 use Rattle.std.specs.Prelude.{◌≡◌, ℕ, Option, Some, MatchOption}
 use Rattle.std.specs.declared.io.ErrorKind.{ErrorKind}
+use Rattle.std.specs.declared.io.ErrorKind.TheVariants.{WriteZero, OutOfMemory}
 use Rattle.devices.specs.Counting.{one_more}
+use Rattle.devices.specs.Whole.{after_whole_fault}
+use Rattle.devices.specs.Faults.{TellsWholeFault}
+use Rattle.devices.specs.declared.exact.WholeFault.{WholeFault}
+use Rattle.devices.specs.declared.exact.WholeFault.TheVariants as whole_fault
 use Rattle.byte_layouts.specs.declared.reading.RestFault.{RestFault}
 use Rattle.byte_layouts.specs.declared.reading.RestFault.TheVariants.{Failed, Memory}
 
@@ -13,3 +18,16 @@ IsRestFault old new last Memory = new ≡ old
 -- the device came to its end and no call failed, or it failed with this kind of fault and counted it
 abbrev pub IsStop : ℕ → ℕ → Option ErrorKind → Option ErrorKind → Type 0
 IsStop old new last fault = MatchOption fault (new ≡ old) (λ kind. (new ≡ one_more old) × (last ≡ Some kind))
+
+-- what a write that stopped is answered by
+abbrev pub stop_kind : WholeFault → ErrorKind
+stop_kind whole_fault.Full = WriteZero
+stop_kind (whole_fault.Failed kind) = kind
+stop_kind whole_fault.Memory = OutOfMemory
+
+-- a write stopped with this fault, and the device counted it and tells its kind
+pub record IsWriteStop (old new : ℕ) (last : Option ErrorKind) (kind : ErrorKind) : Type 0 where
+  pub stop : WholeFault
+  pub answered : kind ≡ stop_kind stop
+  pub counted : new ≡ after_whole_fault old stop
+  pub told : TellsWholeFault last stop

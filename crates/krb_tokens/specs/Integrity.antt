@@ -3,12 +3,8 @@ use Rattle.std.specs.Prelude.{◌≡◌, ℕ, ◌<◌, ◌^◌, List, [], ◌∷
 use Rattle.std.specs.declared.io.ErrorKind.{ErrorKind}
 use Rattle.std.specs.declared.io.ErrorKind.TheVariants.{UnexpectedEof}
 use Rattle.devices.specs.Counting.{one_more}
-use Rattle.devices.specs.Whole.{after_whole_fault}
-use Rattle.devices.specs.Faults.{TellsWholeFault}
-use Rattle.devices.specs.declared.exact.WholeFault.{WholeFault}
 use Rattle.byte_layouts.specs.Parts.{Part, part, IsLaidOut}
 use Rattle.byte_layouts.specs.Numbers.{le32, le32_at}
-use Rattle.krb_tokens.specs.Stops.{kind_of}
 use Rattle.krb_tokens.specs.declared.integrity.LsapTokenInfoIntegrity.{LsapTokenInfoIntegrity}
 
 -- octets 0 to 3 Flags, 4 to 7 TokenIL, 8 to 39 MachineID
@@ -29,13 +25,6 @@ pub record FitsRecord (r : LsapTokenInfoIntegrity) : Type 0 where
 -- the record that is read from the bytes
 abbrev pub record_at : List ℕ → LsapTokenInfoIntegrity
 record_at whole = record { flags = le32_at 0 whole; token_il = le32_at 4 whole; machine_id = take 32 (drop 8 whole) }
-
--- a write stopped with this fault, and the device counted it and tells its kind
-pub record IsWriteStop (old new : ℕ) (last : Option ErrorKind) (kind : ErrorKind) : Type 0 where
-  pub stop : WholeFault
-  pub answered : kind ≡ kind_of stop
-  pub counted : new ≡ after_whole_fault old stop
-  pub told : TellsWholeFault last stop
 
 -- fewer than 40 bytes were left, or the device failed and counted it
 abbrev pub IsReadStop : List ℕ → ℕ → ℕ → Option ErrorKind → ErrorKind → Type 0

@@ -2,5 +2,4 @@ pub mod Faults
 pub mod Integrity
 pub mod Judging
 pub mod Refusals
-pub mod Stops
 pub mod Tokens

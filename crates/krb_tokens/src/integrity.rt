@@ -2,10 +2,10 @@
 ghost use Rattle.std.specs.Prelude.{◌≡◌, ℕ, List, take, Some, IfOk, IfErr, IfSome, MatchResult};
 ghost use Rattle.std.specs.Io.KnownBytes.{Consumes, Appends};
 ghost use Rattle.devices.specs.Counting.{one_more};
-ghost use Rattle.krb_tokens.specs.Stops.{kind_of};
+ghost use Rattle.byte_layouts.specs.Stops.{IsWriteStop};
 
-use byte_layouts::{array_at, put_at, u32_le};
-use devices::{Sink, Source, WholeFault, read_full, write_whole};
+use byte_layouts::{array_at, put_at, u32_le, write_bytes};
+use devices::{Sink, Source, read_full};
 use std::io::ErrorKind;
 
 /// How many bytes name a machine.
@@ -24,19 +24,8 @@ pub struct LsapTokenInfoIntegrity {
     pub machine_id: [u8; MACHINE_ID_LENGTH],
 }
 
-// What a write that stopped is answered by.
-fn stop_kind(fault: WholeFault) -> ErrorKind
-    ensures { result ≡ kind_of fault }
-{
-    match fault {
-        WholeFault::Full => ErrorKind::WriteZero,
-        WholeFault::Failed(kind) => kind,
-        WholeFault::Memory => ErrorKind::OutOfMemory,
-    }
-}
-
 impl LsapTokenInfoIntegrity {
-    ghost use Rattle.krb_tokens.specs.Integrity.{IsIntegrityRecord, FitsRecord, record_at, IsWriteStop, IsReadStop};
+    ghost use Rattle.krb_tokens.specs.Integrity.{IsIntegrityRecord, FitsRecord, record_at, IsReadStop};
 
     // Its 40 bytes.
     fn bytes(&self) -> [u8; RECORD_LEN]
@@ -58,10 +47,7 @@ impl LsapTokenInfoIntegrity {
             (IsWriteStop (W.failed writer.old) (W.failed writer.new) (W.last_fault writer.new)) }
         ensures same { W.through writer.new ≡ W.through writer.old }
     {
-        match write_whole(writer, &self.bytes()) {
-            Ok(()) => Ok(()),
-            Err(fault) => Err(stop_kind(fault)),
-        }
+        write_bytes(writer, &self.bytes())
     }
 
     // The record that these 40 bytes are.

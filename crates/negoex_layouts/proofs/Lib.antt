@@ -1,6 +1,3 @@
-pub mod ElementsPut
-pub mod ElementsRead
 pub mod MessageLaws
-pub mod PairPut
 pub mod SourceLaws
 pub mod WholeFront

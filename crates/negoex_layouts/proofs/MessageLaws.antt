@@ -3,8 +3,8 @@ use Rattle.std.proofs.Common.{◌≡◌, ℕ, List, [], ◌++◌, length, take, 
 use Rattle.std.specs.Prelude.{IfOk}
 use Rattle.std.proofs.lemmas.List.{length-append, take_at, length-take}
 use Rattle.byte_layouts.proofs.NumberLaws.{AreBytes, bytes-cut}
-use Rattle.negoex_layouts.specs.Form.{Layout, Answer, Answers, IsPut, IsWithin}
-use Rattle.negoex_layouts.specs.Laws.{LayoutLaws}
+use Rattle.negoex_forms.specs.Form.{Layout, Answer, Answers, IsPut, IsWithin}
+use Rattle.negoex_forms.specs.Laws.{LayoutLaws}
 use Rattle.negoex_layouts.specs.Messages.{IsMessage, message_bytes, IsTrueOffset, GivesBack, WrittenIsRead}
 
 pub message-written : {V : Type 0} (l : Layout V) → LayoutLaws l → (filler : List ℕ) (v : V) (o : ℕ) → IsTrueOffset l filler o → IsWithin o (l.payload v)

@@ -8,8 +8,8 @@ use Rattle.std.specs.declared.io.ErrorKind.{ErrorKind}
 use Rattle.std.specs.declared.io.ErrorKind.TheVariants.{OutOfMemory, UnexpectedEof}
 use Rattle.devices.specs.Counting.{one_more}
 use Rattle.byte_layouts.proofs.NumberLaws.{AreBytes}
-use Rattle.negoex_layouts.specs.Form.{Layout, Answer, Answers}
-use Rattle.negoex_layouts.specs.Laws.{LayoutLaws}
+use Rattle.negoex_forms.specs.Form.{Layout, Answer, Answers}
+use Rattle.negoex_forms.specs.Laws.{LayoutLaws}
 use Rattle.negoex_layouts.specs.Sources.{IsRefusal, IsGiven}
 
 -- what a device that failed says of its count and its fault

@@ -1,16 +1,5 @@
-pub mod Form
-pub mod Laws
-pub mod LeafLaws
-pub mod Leaves
 pub mod Messages
-pub mod PairLaws
-pub mod Pairs
 pub mod Sources
-pub mod Steps
 pub mod StructLaws
 pub mod Structs
-pub mod TypeLaws
-pub mod Types
-pub mod VectorLaws
-pub mod Vectors
 pub mod Widths

@@ -1,12 +1,9 @@
 -- Whole messages: the header, what fills it up, and the payload (MS-NEGOEX, section 2.2.6).
 use Rattle.std.specs.Prelude.{◌≡◌, ℕ, ◌+◌, ◌⊎◌, List, ◌++◌, length, take, Ok, Option, MatchResult}
 use Rattle.std.specs.declared.io.ErrorKind.{ErrorKind}
-use Rattle.std.specs.declared.io.ErrorKind.TheVariants.{WriteZero, OutOfMemory}
-use Rattle.devices.specs.Whole.{after_whole_fault}
-use Rattle.devices.specs.Faults.{TellsWholeFault}
-use Rattle.devices.specs.declared.exact.WholeFault.{WholeFault}
-use Rattle.devices.specs.declared.exact.WholeFault.TheVariants as whole_fault
-use Rattle.negoex_layouts.specs.Form.{Layout, Answer, IsWithin, IsTooLong}
+use Rattle.std.specs.declared.io.ErrorKind.TheVariants.{OutOfMemory}
+use Rattle.byte_layouts.specs.Stops.{IsWriteStop}
+use Rattle.negoex_forms.specs.Form.{Layout, Answer, IsWithin, IsTooLong}
 
 -- the value stands in the message: its header in front, and its payload where the header says
 abbrev pub IsMessage : {V : Type 0} → Layout V → V → List ℕ → Type 0
@@ -19,19 +16,6 @@ message_bytes l filler v o = l.head v o ++ (filler ++ l.body v o)
 -- the offset is where the payload begins
 abbrev pub IsTrueOffset : {V : Type 0} → Layout V → List ℕ → ℕ → Type 0
 IsTrueOffset l filler o = o ≡ l.width + length filler
-
--- what a write that stopped is answered by
-abbrev pub stop_kind : WholeFault → ErrorKind
-stop_kind whole_fault.Full = WriteZero
-stop_kind (whole_fault.Failed kind) = kind
-stop_kind whole_fault.Memory = OutOfMemory
-
--- a write stopped with this fault, and the device counted it and tells its kind
-pub record IsWriteStop (old new : ℕ) (last : Option ErrorKind) (kind : ErrorKind) : Type 0 where
-  pub stop : WholeFault
-  pub answered : kind ≡ stop_kind stop
-  pub counted : new ≡ after_whole_fault old stop
-  pub told : TellsWholeFault last stop
 
 -- memory was wanting or the payload ends past 32 bits, and no write failed; or a write stopped
 abbrev pub IsEncodeStop : ℕ → ℕ → ℕ → ℕ → Option ErrorKind → ErrorKind → Type 0

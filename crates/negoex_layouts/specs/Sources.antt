@@ -3,7 +3,7 @@ use Rattle.std.specs.Prelude.{◌≡◌, ℕ, ◌⊎◌, List, ◌++◌, take, O
 use Rattle.std.specs.declared.io.ErrorKind.{ErrorKind}
 use Rattle.std.specs.declared.io.ErrorKind.TheVariants.{OutOfMemory, UnexpectedEof}
 use Rattle.devices.specs.Counting.{one_more}
-use Rattle.negoex_layouts.specs.Form.{Layout, Answer}
+use Rattle.negoex_forms.specs.Form.{Layout, Answer}
 
 -- the device failed inside the header: what is wrong before that is answered, and else the device's fault
 pub record IsBroken {V : Type 0} (l : Layout V) (message bytes : List ℕ) (old new : ℕ) (last : Option ErrorKind) (e : ErrorKind) : Type 0 where

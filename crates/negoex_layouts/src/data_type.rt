@@ -1,19 +1,16 @@
 //! The types of which messages are made up, read from and written to devices.
 ghost use Rattle.std.specs.Prelude.{◌≡◌, ℕ, ◌+◌, ◌-◌, ◌^◌, ◌≤◌, ◌⊎◌, List, [], length, min, take, IfOk, IfErr, IfSome, MatchResult};
 ghost use Rattle.std.specs.Io.KnownBytes.{Appends, Consumes};
-ghost use Rattle.negoex_layouts.specs.Form.{IsTooLong};
-ghost use Rattle.negoex_layouts.specs.Messages.{IsMessage, message_bytes, IsTrueOffset, IsWriteStop, IsEncodeStop};
+ghost use Rattle.negoex_forms.specs.Form.{IsTooLong};
+ghost use Rattle.negoex_layouts.specs.Messages.{IsMessage, message_bytes, IsTrueOffset, IsEncodeStop};
+ghost use Rattle.byte_layouts.specs.Stops.{IsWriteStop};
 ghost use Rattle.negoex_layouts.specs.Sources.{IsGiven, IsRefusal};
 
-use crate::checksum::Checksum;
-use crate::extension::Extension;
-use crate::header::MessageHeader;
-use crate::laid::{Laid, Wide};
-use crate::leaves::Guid;
-use crate::message_type::MessageType;
 use crate::reading::read_value;
-use crate::writing::{write_part, write_value};
+use crate::writing::write_value;
+use byte_layouts::write_bytes;
 use devices::{Sink, Source};
+use negoex_forms::{Checksum, Extension, Guid, Laid, MessageHeader, MessageType, Wide};
 use std::alloc::Global;
 use std::io::ErrorKind;
 
@@ -78,8 +75,8 @@ pub trait NegoexDataType: Wide {
         let mut header = Vec::new(alloc);
         let mut body = Vec::new(alloc);
         self.put(alloc, offset, &mut header, &mut body)?;
-        write_part(to, &header)?;
-        write_part(payload, &body)?;
+        write_bytes(to, &header)?;
+        write_bytes(payload, &body)?;
         Ok(body.len())
     }
 

@@ -1,14 +1,11 @@
 //! A token of a scheme (MS-NEGOEX, section 2.2.6.4).
 ghost use Rattle.std.specs.Prelude.{◌≡◌};
 
-use crate::bytes::place_behind;
-use crate::fields::NEGOEXTS_MESSAGE_SIGNATURE;
-use crate::header::MessageHeader;
-use crate::laid::{Laid, Wide};
-use crate::leaves::{AuthScheme, ByteVector, ConversationId};
 use crate::message::NegoexMessage;
-use crate::message_type::MessageType;
-use crate::pairs::put_both;
+use negoex_forms::{
+    AuthScheme, ByteVector, ConversationId, Laid, MessageHeader, MessageType,
+    NEGOEXTS_MESSAGE_SIGNATURE, Wide, place_behind, put_both,
+};
 use std::alloc::Global;
 use std::io::ErrorKind;
 

@@ -1,13 +1,12 @@
 //! Whole messages, written and read.
 ghost use Rattle.std.specs.Prelude.{◌≡◌, ℕ, List, take, Ok, IfOk, IfErr, MatchResult};
 ghost use Rattle.std.specs.Io.KnownBytes.{Appends};
-ghost use Rattle.negoex_layouts.specs.Form.{Answers, IsWithin, IsTooLong};
+ghost use Rattle.negoex_forms.specs.Form.{Answers, IsWithin, IsTooLong};
 ghost use Rattle.negoex_layouts.specs.Messages.{IsMessage, message_bytes, IsTrueOffset, IsEncodeStop, GivesBack, WrittenIsRead};
 
-use crate::bytes::front_of;
-use crate::laid::{Laid, Wide};
 use crate::writing::{bytes_of, write_value};
 use devices::Sink;
+use negoex_forms::{Laid, Wide, front_of};
 use std::alloc::Global;
 use std::io::ErrorKind;
 

@@ -1,15 +1,11 @@
 //! The schemes that a party offers (MS-NEGOEX, section 2.2.6.3).
 ghost use Rattle.std.specs.Prelude.{◌≡◌};
 
-use crate::bytes::place_behind;
-use crate::extension::{Extension, ExtensionVector};
-use crate::fields::{NEGOEXTS_MESSAGE_SIGNATURE, RANDOM_ARRAY_SIZE};
-use crate::header::MessageHeader;
-use crate::laid::{Laid, Wide};
-use crate::leaves::{AuthScheme, AuthSchemeVector, ConversationId};
 use crate::message::NegoexMessage;
-use crate::message_type::MessageType;
-use crate::pairs::put_three;
+use negoex_forms::{
+    AuthScheme, AuthSchemeVector, ConversationId, Extension, ExtensionVector, Laid, MessageHeader,
+    MessageType, NEGOEXTS_MESSAGE_SIGNATURE, RANDOM_ARRAY_SIZE, Wide, place_behind, put_three,
+};
 use std::alloc::Global;
 use std::io::ErrorKind;
 
@@ -34,9 +30,9 @@ pub struct Nego {
 impl Nego {
     ghost use Rattle.std.specs.Prelude.{◌+◌, ◌^◌, ◌≤◌, map, MatchResult};
     ghost use Rattle.std.specs.declared.io.ErrorKind.{ErrorKind};
-    ghost use Rattle.negoex_layouts.specs.Leaves.{guid_layout};
-    ghost use Rattle.negoex_layouts.specs.Structs.{extension_layout};
-    ghost use Rattle.negoex_layouts.specs.Vectors.{vector_layout};
+    ghost use Rattle.negoex_forms.specs.Leaves.{guid_layout};
+    ghost use Rattle.negoex_forms.specs.Structs.{extension_layout};
+    ghost use Rattle.negoex_forms.specs.Vectors.{vector_layout};
 
     /// A message of these schemes and extensions, with its true lengths; `InvalidInput` where it has 2^32 bytes or more.
     pub fn new(
@@ -86,24 +82,6 @@ impl Nego {
 }
 
 type Fixed = (MessageHeader, ([u8; RANDOM_ARRAY_SIZE], u64));
-
-// What stands before the vectors.
-impl Wide for (MessageHeader, ([u8; RANDOM_ARRAY_SIZE], u64)) {
-    fn width() -> usize {
-        80
-    }
-}
-
-// What stands before the extensions.
-impl Wide
-    for (
-        (MessageHeader, ([u8; RANDOM_ARRAY_SIZE], u64)),
-        AuthSchemeVector,
-    ) {
-    fn width() -> usize {
-        88
-    }
-}
 
 impl Laid for Nego {
     ghost use Rattle.std.specs.Prelude.{map};

@@ -2,12 +2,12 @@
 ghost use Rattle.std.specs.Prelude.{◌≡◌, ℕ, ◌≤◌, ◌⊎◌, List, length, IfOk, IfErr, IfSome, MatchOption};
 ghost use Rattle.std.specs.Io.KnownBytes.{Consumes};
 ghost use Rattle.std.specs.declared.io.ErrorKind.{ErrorKind};
-ghost use Rattle.negoex_layouts.specs.Form.{Answers};
+ghost use Rattle.negoex_forms.specs.Form.{Answers};
 ghost use Rattle.negoex_layouts.specs.Sources.{IsRefusal, IsGiven};
 
-use crate::laid::Laid;
 use byte_layouts::read_front;
 use devices::Source;
+use negoex_forms::Laid;
 use std::alloc::Global;
 use std::io::ErrorKind;
 

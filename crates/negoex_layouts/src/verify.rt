@@ -1,15 +1,11 @@
 //! A checksum over all messages so far (MS-NEGOEX, section 2.2.6.5).
 ghost use Rattle.std.specs.Prelude.{◌≡◌};
 
-use crate::bytes::place_behind;
-use crate::checksum::Checksum;
-use crate::fields::{CHECKSUM_SCHEME_RFC3961, NEGOEXTS_MESSAGE_SIGNATURE};
-use crate::header::MessageHeader;
-use crate::laid::{Laid, Wide};
-use crate::leaves::{AuthScheme, ByteVector, ConversationId};
 use crate::message::NegoexMessage;
-use crate::message_type::MessageType;
-use crate::pairs::put_both;
+use negoex_forms::{
+    AuthScheme, ByteVector, CHECKSUM_SCHEME_RFC3961, Checksum, ConversationId, Laid, MessageHeader,
+    MessageType, NEGOEXTS_MESSAGE_SIGNATURE, Wide, place_behind, put_both,
+};
 use std::alloc::Global;
 use std::io::ErrorKind;
 

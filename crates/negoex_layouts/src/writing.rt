@@ -1,39 +1,14 @@
 //! Values written to a device.
 ghost use Rattle.std.specs.Prelude.{◌≡◌, ℕ, List, take, IfOk, MatchResult};
 ghost use Rattle.std.specs.Io.KnownBytes.{Appends};
-ghost use Rattle.negoex_layouts.specs.Form.{IsTooLong};
-ghost use Rattle.negoex_layouts.specs.Messages.{IsMessage, message_bytes, IsTrueOffset, stop_kind, IsWriteStop, IsEncodeStop};
+ghost use Rattle.negoex_forms.specs.Form.{IsTooLong};
+ghost use Rattle.negoex_layouts.specs.Messages.{IsMessage, message_bytes, IsTrueOffset, IsEncodeStop};
 
-use crate::bytes::extend;
-use crate::laid::Laid;
-use devices::{Sink, WholeFault, write_whole};
+use byte_layouts::write_bytes;
+use devices::Sink;
+use negoex_forms::{Laid, extend};
 use std::alloc::Global;
 use std::io::ErrorKind;
-
-// What a write that stopped is answered by.
-fn stopped(fault: WholeFault) -> ErrorKind
-    ensures { result ≡ stop_kind fault }
-{
-    match fault {
-        WholeFault::Full => ErrorKind::WriteZero,
-        WholeFault::Failed(kind) => kind,
-        WholeFault::Memory => ErrorKind::OutOfMemory,
-    }
-}
-
-// Writes all of these bytes; a front of them where the writer stops.
-pub(crate) fn write_part<W: Sink>(to: &mut W, bytes: &[u8]) -> Result<(), ErrorKind>
-    ensures written { MatchResult result (λ _. Appends (W.written to.old) (W.written to.new) bytes.now)
-        (λ _. (n : ℕ) × Appends (W.written to.old) (W.written to.new) (take n bytes.now)) }
-    ensures fault { MatchResult result (λ _. W.failed to.new ≡ W.failed to.old)
-        (IsWriteStop (W.failed to.old) (W.failed to.new) (W.last_fault to.new)) }
-    ensures same { W.through to.new ≡ W.through to.old }
-{
-    match write_whole(to, bytes) {
-        Ok(()) => Ok(()),
-        Err(fault) => Err(stopped(fault)),
-    }
-}
 
 // The header, these bytes and the payload, which is said to begin at `offset`.
 pub(crate) fn bytes_of<T: Laid>(
@@ -73,8 +48,5 @@ pub(crate) fn write_value<T: Laid, W: Sink>(
     ensures same { W.through to.new ≡ W.through to.old }
 {
     let bytes = bytes_of(alloc, value, offset, filler)?;
-    match write_whole(to, &bytes) {
-        Ok(()) => Ok(()),
-        Err(fault) => Err(stopped(fault)),
-    }
+    write_bytes(to, &bytes)
 }

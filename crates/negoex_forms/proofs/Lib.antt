@@ -1,0 +1,3 @@
+pub mod ElementsPut
+pub mod ElementsRead
+pub mod PairPut

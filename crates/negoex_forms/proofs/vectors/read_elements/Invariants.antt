@@ -1,0 +1,10 @@
+use Rattle.std.proofs.Common.{map}
+use Rattle.negoex_forms.proofs.ElementsRead.{IsSoFar}
+use Rattle.negoex_forms.proofs.vectors.read_elements.Given as goal
+
+abbrev pub invariant-elements : goal.invariant-elements
+invariant-elements g l =
+    IsSoFar g.T.Laid.layout l.message l.count l.offset (map g.T.Laid.view l.elements.items) l.left l.place
+
+abbrev pub decreases-elements : goal.decreases-elements
+decreases-elements g l = l.left

@@ -1,0 +1,13 @@
+pub mod Form
+pub mod Laws
+pub mod LeafLaws
+pub mod Leaves
+pub mod PairLaws
+pub mod Pairs
+pub mod Steps
+pub mod StructLaws
+pub mod Structs
+pub mod TypeLaws
+pub mod Types
+pub mod VectorLaws
+pub mod Vectors

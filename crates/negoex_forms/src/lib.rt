@@ -1,0 +1,27 @@
+//! Layouts of NEGOEX (MS-NEGOEX, section 2.2), and the types of which its messages are made up.
+//!
+//! A type has a header of fixed size, in which its fields stand one behind the other, and a payload, to which vectors
+//! in the header point by an offset from the message's start. Pairs of fields and vectors join layouts; a struct is a row
+//! of pairs.
+#![tactic(auto)]
+
+mod bytes;
+mod checksum;
+mod extension;
+mod fields;
+mod header;
+mod laid;
+mod leaves;
+mod message_type;
+mod pairs;
+mod vectors;
+
+pub use bytes::{extend, front_of, place_behind};
+pub use checksum::Checksum;
+pub use extension::{Extension, ExtensionVector};
+pub use fields::{CHECKSUM_SCHEME_RFC3961, NEGOEXTS_MESSAGE_SIGNATURE, RANDOM_ARRAY_SIZE};
+pub use header::MessageHeader;
+pub use laid::{Laid, Wide};
+pub use leaves::{AuthScheme, AuthSchemeVector, ByteVector, ConversationId, Guid};
+pub use message_type::MessageType;
+pub use pairs::{put_both, put_three};

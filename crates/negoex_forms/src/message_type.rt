@@ -1,0 +1,109 @@
+//! The types of messages (MS-NEGOEX, section 2.2.6.1).
+ghost use Rattle.std.specs.Prelude.{◌≡◌};
+
+use crate::bytes::extend;
+use crate::laid::{Laid, Wide};
+use byte_layouts::u32_le;
+use std::alloc::Global;
+use std::io::ErrorKind;
+
+/// What a message is for. The types are numbered from 0 to 7, in this order.
+#[derive(Clone, Copy, Debug, PartialEq, Eq)]
+pub enum MessageType {
+    /// The initiator's schemes.
+    InitiatorNego,
+    /// The acceptor's schemes.
+    AcceptorNego,
+    /// What the initiator tells a scheme before the exchange.
+    InitiatorMetaData,
+    /// What the acceptor tells a scheme before the exchange.
+    AcceptorMetaData,
+    /// A token of the acceptor.
+    Challenge,
+    /// A token of the initiator.
+    ApRequest,
+    /// A checksum over the messages so far.
+    Verify,
+    /// That something is wrong.
+    Alert,
+}
+
+impl MessageType {
+    ghost use Rattle.negoex_forms.specs.Types.{type_number, type_of};
+    ghost use Rattle.negoex_forms.specs.Form.{Answers};
+
+    /// The type's number.
+    pub fn number(&self) -> u32
+        ensures { result ≡ type_number self.now }
+    {
+        match self {
+            MessageType::InitiatorNego => 0,
+            MessageType::AcceptorNego => 1,
+            MessageType::InitiatorMetaData => 2,
+            MessageType::AcceptorMetaData => 3,
+            MessageType::Challenge => 4,
+            MessageType::ApRequest => 5,
+            MessageType::Verify => 6,
+            MessageType::Alert => 7,
+        }
+    }
+
+    /// The type with this number; of another number `InvalidData`.
+    pub fn of_number(number: u32) -> Result<MessageType, ErrorKind>
+        ensures { result ≡ type_of number }
+    {
+        match number {
+            0 => Ok(MessageType::InitiatorNego),
+            1 => Ok(MessageType::AcceptorNego),
+            2 => Ok(MessageType::InitiatorMetaData),
+            3 => Ok(MessageType::AcceptorMetaData),
+            4 => Ok(MessageType::Challenge),
+            5 => Ok(MessageType::ApRequest),
+            6 => Ok(MessageType::Verify),
+            7 => Ok(MessageType::Alert),
+            _ => Err(ErrorKind::InvalidData),
+        }
+    }
+}
+
+impl Laid for MessageType {
+    ghost use Rattle.negoex_forms.specs.Types.{type_layout};
+    ghost use Rattle.negoex_forms.specs.TypeLaws.{type_laws};
+    ghost use Rattle.negoex_forms.specs.declared.message_type.MessageType.{MessageType};
+
+    ghost Value = { MessageType };
+
+    ghost view = { λ t. t };
+
+    ghost layout = { type_layout };
+
+    ghost laws = { type_laws };
+
+    fn from_header(_alloc: Global, header: &[u8], _message: &[u8]) -> Result<Self, ErrorKind> {
+        if header.len() < 4 {
+            return Err(ErrorKind::UnexpectedEof);
+        }
+        MessageType::of_number(u32_le(header, 0))
+    }
+
+    #[tactic(auto, unfolding(byte_layouts::specs::Numbers::le32))]
+    fn put(
+        &self,
+        _alloc: Global,
+        _offset: usize,
+        header: &mut Vec<u8>,
+        _payload: &mut Vec<u8>,
+    ) -> Result<(), ErrorKind> {
+        extend(header, &self.number().to_le_bytes())
+    }
+
+    fn payload_size(&self) -> usize {
+        0
+    }
+}
+
+impl Wide for MessageType {
+    fn width() -> usize {
+        4
+    }
+}
