@@ -1,0 +1,33 @@
+-- The frame of an exchange that changes a password (RFC 3244, section 2).
+use Rattle.std.specs.Prelude.{◌≡◌, ℕ, ◌+◌, List, [], ◌∷◌, ◌++◌, length}
+use Rattle.byte_layouts.specs.Parts.{Part, part, Stands, IsLaidOut}
+use Rattle.byte_layouts.specs.Numbers.{be16}
+
+-- octets 2 and 3 of six the version; the lengths on both sides of it may be any
+abbrev pub IsHeader : List ℕ → Type 0
+IsHeader header = (length header ≡ 6) × Stands (part 2 (be16 1)) header
+
+-- octets 2 and 3 the version, from 6 on the AP message, and right behind it the KRB-PRIV
+abbrev pub frame_parts : List ℕ → List ℕ → List Part
+frame_parts ap private = part 2 (be16 1) ∷ part 6 ap ∷ part (6 + length ap) private ∷ []
+
+-- the parts are laid out in the bytes, and nothing behind them
+pub record IsFramed (ap private whole : List ℕ) : Type 0 where
+  pub parts : IsLaidOut (frame_parts ap private) whole
+  pub size : length whole ≡ 6 + length ap + length private
+
+-- octets 0 and 1 the length of the whole, 4 and 5 that of the AP message
+abbrev pub length_parts : List ℕ → List ℕ → List Part
+length_parts ap private = part 0 (be16 (6 + length ap + length private)) ∷ part 4 (be16 (length ap)) ∷ []
+
+-- the frame with its true lengths is laid out in the bytes
+pub record IsFrame (ap private whole : List ℕ) : Type 0 where
+  pub framed : IsFramed ap private whole
+  pub lengths : IsLaidOut (length_parts ap private) whole
+
+-- a header that tells these lengths, and the parts
+abbrev pub framed : ℕ → ℕ → List ℕ → List ℕ → List ℕ
+framed count size ap private = be16 count ++ (be16 1 ++ (be16 size ++ (ap ++ private)))
+
+abbrev pub frame_bytes : List ℕ → List ℕ → List ℕ
+frame_bytes ap private = framed (6 + length ap + length private) (length ap) ap private
