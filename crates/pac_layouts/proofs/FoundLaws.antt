@@ -1,12 +1,12 @@
 -- A PAC that is read is laid out in the bytes.
-use Rattle.std.proofs.Common.{◌≡◌, ℕ, zero, suc, ◌+◌, ◌-◌, ◌≤◌, Bool, true, false, cond, List, [], ◌∷◌, length, take, drop, Option, None, Some, Result, Ok, Err, find, ok_or, nat_lt, nat_eq, if◌then◌else◌, refl, ap, sym, subst, ◌∙◌, arith}
+use Rattle.std.proofs.Common.{◌≡◌, ℕ, zero, suc, ◌+◌, ◌-◌, ◌≤◌, Bool, true, false, cond, List, [], ◌∷◌, length, take, drop, Option, None, Some, Result, Ok, Err, IfOk, find, ok_or, nat_lt, nat_eq, if◌then◌else◌, refl, ap, sym, subst, ◌∙◌, arith}
 use Rattle.std.proofs.lemmas.Bool.Decides.{nat_tests, Decides-eqb}
 use Rattle.std.proofs.lemmas.List.{length-take-le, length-drop}
 use Rattle.std.specs.declared.io.ErrorKind.{ErrorKind}
 use Rattle.byte_layouts.specs.Parts.{part, Stands, IsLaidOut}
 use Rattle.byte_layouts.specs.Numbers.{le32, le32_at, le64, le64_at}
 use Rattle.byte_layouts.proofs.NumberLaws.{AreBytes, le32-read, le64-read}
-use Rattle.pac_layouts.specs.Buffers.{Buffer, buffer_parts, IsSized, AreSized, IsPac}
+use Rattle.pac_layouts.specs.Buffers.{Buffer, info_parts, buffer_parts, IsSized, AreSized, IsPac}
 use Rattle.pac_layouts.specs.Kinds.{kind_number, kinds, kind_of, kind_judged}
 use Rattle.pac_layouts.specs.Reading.{and_then, head_at, kind_at, fields_at, info_at, content_at, buffer_at, buffers_at, pac_at}
 use Rattle.pac_layouts.specs.declared.kind.PacBufferType.{PacBufferType}
@@ -82,6 +82,25 @@ buffer-read place kind info b whole bytes room number is_info inside is_b =
       content = ap (λ (n : ℕ). take n (drop info.offset whole)) long;
       sized = (sym long, inside);
     }
+
+-- the row, by what was read
+pub info-found : (stop : Option ErrorKind) (place : ℕ) (info : PacInfoBuffer) (whole : List ℕ) → AreBytes whole → info_at stop place whole ≡ Ok info
+    → IsLaidOut (info_parts place info) whole
+info-found stop place info whole bytes is =
+    let (kind, is_kind, is_fields) = then-ok (kind_at stop place whole) _ info is in
+    let (some, judged) = if-ok (nat_lt (length whole - place) 4) _ _ kind is_kind in
+    let (room, made) = fields-found stop kind place info whole is_fields in
+    let number = kind-numbered (le32_at place whole) kind judged in
+    subst (λ (x : PacInfoBuffer). IsLaidOut (info_parts place x) whole) made (
+      subst (λ (n : ℕ). Stands (part place (le32 n)) whole) (sym number) (le32-read place whole bytes (omega arith)),
+      (le32-read (place + 4) whole bytes (omega arith), (le64-read (place + 8) whole bytes (omega arith), tt)),
+    )
+
+pub fields-laid : (stop : Option ErrorKind) (kind : PacBufferType) (place : ℕ) (whole : List ℕ) (r : Result PacInfoBuffer PacError) → AreBytes whole
+    → kind_at stop place whole ≡ Ok kind → r ≡ fields_at stop kind place whole → IfOk r (λ info. IsLaidOut (info_parts place info) whole)
+fields-laid stop kind place whole (Ok info) bytes is_kind is =
+    info-found stop place info whole bytes (ap (λ (r : Result PacBufferType PacError). and_then r (λ k. fields_at stop k place whole)) is_kind ∙ sym is)
+fields-laid stop kind place whole (Err e) bytes is_kind is = tt
 
 buffer-found : (stop : Option ErrorKind) (place : ℕ) (b : Buffer) (whole : List ℕ) → AreBytes whole → buffer_at stop place whole ≡ Ok b → IsBufferAt place b whole
 buffer-found stop place b whole bytes is =

@@ -1,4 +1,5 @@
 pub mod FoundLaws
+pub mod InfoLaws
 pub mod OnlyLaws
 pub mod ReadingLaws
 pub mod RefusalLaws

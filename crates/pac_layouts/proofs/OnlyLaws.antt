@@ -48,7 +48,7 @@ not_few n m many = grind (arith, nat_tests)
 passes : {A : Type 0} (n m : ℕ) (e : PacError) (r : Result A PacError) → m ≤ n → (if nat_lt n m then Err e else r) ≡ r
 passes n m e r many = ap (λ (b : Bool). if b then Err e else r) (not_few n m many)
 
-info-only : (place : ℕ) (info : PacInfoBuffer) (whole : List ℕ) → info.cb_buffer_size < 2 ^ 32 → info.offset < 2 ^ 64
+pub info-only : (place : ℕ) (info : PacInfoBuffer) (whole : List ℕ) → info.cb_buffer_size < 2 ^ 32 → info.offset < 2 ^ 64
     → Stands (part place (le32 (kind_number info.ul_type))) whole → Stands (part (place + 4) (le32 info.cb_buffer_size)) whole
     → Stands (part (place + 8) (le64 info.offset)) whole → info_at None place whole ≡ Ok info
 info-only place info whole small_size small_offset kind_stands size_stands offset_stands =

@@ -9,7 +9,7 @@ use Rattle.byte_layouts.proofs.NumberLaws.{le32_at-append, le64_at-append}
 use Rattle.byte_layouts.specs.Numbers.{le32_at, le64_at}
 use Rattle.pac_layouts.specs.Buffers.{Buffer}
 use Rattle.pac_layouts.specs.Kinds.{kind_judged}
-use Rattle.pac_layouts.specs.Reading.{and_then, head_at, kind_at, fields_at, content_at, buffer_at, buffers_at, pac_at}
+use Rattle.pac_layouts.specs.Reading.{and_then, head_at, kind_at, fields_at, info_at, content_at, buffer_at, buffers_at, pac_at}
 use Rattle.pac_layouts.specs.declared.kind.PacBufferType.{PacBufferType}
 use Rattle.pac_layouts.specs.declared.info.PacInfoBuffer.{PacInfoBuffer}
 use Rattle.pac_layouts.specs.declared.error.PacError.{PacError}
@@ -124,6 +124,11 @@ fields-extends k kind place front rest =
     let size : le32_at (place + 4) (front ++ rest) ≡ le32_at (place + 4) front = le32_at-append (place + 4) front rest (omega arith) in
     let offset : le64_at (place + 8) (front ++ rest) ≡ le64_at (place + 8) front = le64_at-append (place + 8) front rest (omega arith) in
     extends-same k _ _ (λ i. Ok (record { ul_type = kind; cb_buffer_size = size i; offset = offset i })))
+
+pub info-extends : (k : ErrorKind) (place : ℕ) (front rest : List ℕ) → Extends k (info_at (Some k) place front) (info_at None place (front ++ rest))
+info-extends k place front rest =
+    extends-then k (kind_at (Some k) place front) (kind_at None place (front ++ rest)) _ _
+    (kind-extends k place front rest) (λ kind. fields-extends k kind place front rest)
 
 content-extends : (k : ErrorKind) (info : PacInfoBuffer) (front rest : List ℕ)
     → Extends k (content_at (Some k) info front) (content_at None info (front ++ rest))

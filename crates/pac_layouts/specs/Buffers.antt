@@ -23,6 +23,16 @@ abbrev pub info_parts : ℕ → PacInfoBuffer → List Part
 info_parts place info =
     part place (le32 (kind_number info.ul_type)) ∷ part (place + 4) (le32 info.cb_buffer_size) ∷ part (place + 8) (le64 info.offset) ∷ []
 
+-- the row is laid out in sixteen bytes
+pub record IsInfo (info : PacInfoBuffer) (whole : List ℕ) : Type 0 where
+  pub parts : IsLaidOut (info_parts 0 info) whole
+  pub size : length whole ≡ 16
+
+-- each of its numbers is one that its field holds
+pub record FitsInfo (info : PacInfoBuffer) : Type 0 where
+  pub size : info.cb_buffer_size < 2 ^ 32
+  pub offset : info.offset < 2 ^ 64
+
 -- the row at this place, and the content at the row's offset
 abbrev pub one_buffer_parts : ℕ → Buffer → List Part
 one_buffer_parts place b =

@@ -1,12 +1,15 @@
 //! A row of a PAC's table: what a buffer holds, how long it is and where it stands (MS-PAC, section 2.4).
-ghost use Rattle.std.specs.Prelude.{◌≡◌, ◌+◌, ◌≤◌, length, IfOk};
-ghost use Rattle.byte_layouts.specs.Parts.{put_all};
-ghost use Rattle.pac_layouts.specs.Buffers.{info_parts};
+ghost use Rattle.std.specs.Prelude.{◌≡◌, ℕ, ◌+◌, ◌≤◌, ◌⊎◌, List, length, take, None, Err, IfOk, IfErr, IfSome, MatchResult};
+ghost use Rattle.std.specs.Io.KnownBytes.{Consumes, Appends};
+ghost use Rattle.byte_layouts.specs.Parts.{IsLaidOut, put_all};
+ghost use Rattle.pac_layouts.specs.Buffers.{info_parts, IsInfo, FitsInfo};
+ghost use Rattle.pac_layouts.specs.Faults.{IsWriteFault, IsDeviceFault};
 ghost use Rattle.pac_layouts.specs.Reading.{kind_at, fields_at, info_at};
 
-use crate::error::short_fault;
+use crate::error::{short_fault, write_fault};
 use crate::{PacBufferType, PacError};
-use byte_layouts::{put_at, u32_le, u64_le};
+use byte_layouts::{put_at, read_front, u32_le, u64_le};
+use devices::{Sink, Source, write_whole};
 use std::io::ErrorKind;
 
 /// How many bytes a row of the table has.
@@ -90,6 +93,7 @@ impl PacInfoBuffer {
     ) -> Result<PacInfoBuffer, PacError>
         ensures exact { result ≡ info_at stop place bytes.now }
         ensures room { IfOk result (λ _. place + 16 ≤ length bytes.now) }
+        ensures laid { IfOk result (λ info. IsLaidOut (info_parts place info) bytes.now) }
     {
         let kind = read_kind(bytes, place, stop)?;
         read_fields(kind, bytes, place, stop)
@@ -103,5 +107,50 @@ impl PacInfoBuffer {
         put_at(bytes, place, &u32::from(self.ul_type).to_le_bytes());
         put_at(bytes, place + 4, &self.cb_buffer_size.to_le_bytes());
         put_at(bytes, place + 8, &self.offset.to_le_bytes());
+    }
+    // Its 16 bytes.
+    fn bytes(&self) -> [u8; INFO_LEN]
+        ensures { IsInfo self.now result }
+    {
+        let mut bytes = [0; INFO_LEN];
+        self.put(&mut bytes, 0);
+        bytes
+    }
+
+    /// Writes the row's 16 bytes; a front of them where the writer stops.
+    pub fn serialize<W: Sink>(&self, writer: &mut W) -> Result<(), PacError>
+        ensures written { (whole : List ℕ) × IsInfo self.now whole
+            × MatchResult result (λ _. Appends (W.written writer.old) (W.written writer.new) whole)
+            (λ _. (n : ℕ) × Appends (W.written writer.old) (W.written writer.new) (take n whole)) }
+        ensures refused { MatchResult result (λ _. W.failed writer.new ≡ W.failed writer.old)
+            (IsWriteFault (W.failed writer.old) (W.failed writer.new) (W.last_fault writer.new)) }
+        ensures same { W.through writer.new ≡ W.through writer.old }
+    {
+        match write_whole(writer, &self.bytes()) {
+            Ok(()) => Ok(()),
+            Err(fault) => Err(write_fault(fault)),
+        }
+    }
+
+    /// Reads a row of 16 bytes, and leaves what follows it.
+    ///
+    /// Answered is what comes first in the bytes: IoError where they end within the type, PacBufferType, and IoError where
+    /// they end behind it; where the device fails there, its fault.
+    pub fn deserialize<R: Source>(reader: &mut R) -> Result<PacInfoBuffer, PacError>
+        ensures found { IfOk result (λ info. (whole : List ℕ) × IsInfo info whole
+            × Consumes (R.left reader.old) (R.left reader.new) whole) }
+        ensures only { IfSome (R.left reader.old) (λ bytes. (info : PacInfoBuffer) → FitsInfo info → IsInfo info (take 16 bytes)
+            → MatchResult result (λ read. read ≡ info)
+            (IsDeviceFault (R.failed reader.old) (R.failed reader.new) (R.last_fault reader.new))) }
+        ensures refused { IfErr result (λ e. IfSome (R.left reader.old) (λ bytes. (info_at None 0 (take 16 bytes) ≡ Err e)
+            ⊎ IsDeviceFault (R.failed reader.old) (R.failed reader.new) (R.last_fault reader.new) e)) }
+        ensures same { R.through reader.new ≡ R.through reader.old }
+    {
+        let mut bytes = [0; INFO_LEN];
+        let front = read_front(reader, &mut bytes);
+        match PacInfoBuffer::read(&bytes[..front.count], 0, front.fault) {
+            Ok(info) => Ok(info),
+            Err(fault) => Err(fault),
+        }
     }
 }
