@@ -1,3 +1,4 @@
+pub mod CloneLaws
 pub mod Exits
 pub mod NumberLaws
 pub mod PartLaws

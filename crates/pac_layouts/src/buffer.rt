@@ -1,5 +1,5 @@
 //! A buffer of a PAC: its row and its content.
-ghost use Rattle.std.specs.Prelude.{◌≡◌, ◌+◌, ◌≤◌, length, None, Ok, Err, IfOk, IfErr, MatchResult};
+ghost use Rattle.std.specs.Prelude.{◌≡◌, ◌+◌, ◌≤◌, ◌<◌, ◌^◌, length, None, Ok, Err, IfOk, IfErr, MatchResult};
 ghost use Rattle.byte_layouts.specs.Parts.{put_all};
 ghost use Rattle.pac_layouts.specs.Buffers.{buffer_of, one_buffer_parts, IsSized};
 ghost use Rattle.pac_layouts.specs.Writing.{room_of, is_sized, buffer_put};
@@ -9,14 +9,26 @@ use crate::error::range_fault;
 use crate::info::INFO_LEN;
 use crate::{PacError, PacInfoBuffer};
 use byte_layouts::put_at;
-use std::alloc::Global;
+use std::alloc::{AllocError, Global};
 use std::io::ErrorKind;
 
 /// A buffer of a PAC.
-#[derive(Clone, Debug, Drop, PartialEq, Eq)]
+#[derive(Debug, Drop, PartialEq, Eq)]
 pub struct PacBuffer {
     info_buffer: PacInfoBuffer,
     data: Vec<u8>,
+}
+
+impl Clone for PacBuffer {
+    ghost is_clone = { λ buffer copy. buffer_of copy ≡ buffer_of buffer };
+
+    fn clone(&self) -> Result<PacBuffer, AllocError> {
+        let data = self.data.clone()?;
+        Ok(PacBuffer {
+            info_buffer: self.info_buffer,
+            data,
+        })
+    }
 }
 
 // The buffer that this row speaks of. It may end at the last of the bytes; where it ends past them, `stop` says why.
@@ -117,8 +129,11 @@ impl PacBuffer {
 
     // How many bytes of a PAC it takes: its row, and its size rounded up to 8.
     pub(crate) fn room(&self) -> usize
-        ensures { result ≡ room_of (buffer_of self.now) }
+        ensures size { result ≡ room_of (buffer_of self.now) }
+        ensures fit { ((buffer_of self.now).info.cb_buffer_size < 2 ^ 32) × ((buffer_of self.now).info.offset < 2 ^ 64) }
     {
+        // The proof looks into the row here: its numbers are of their types.
+        let _offset = self.info_buffer.offset();
         INFO_LEN + (self.info_buffer.cb_buffer_size() as usize + 7) / 8 * 8
     }
 

@@ -4,7 +4,7 @@ ghost use Rattle.std.specs.List.{list_all};
 ghost use Rattle.byte_layouts.specs.Parts.{part, put, put_all};
 ghost use Rattle.byte_layouts.specs.Numbers.{le32};
 ghost use Rattle.pac_layouts.specs.Reading.{Gives, head_at, pac_at};
-ghost use Rattle.pac_layouts.specs.Buffers.{Buffer, buffer_of, pac_buffers, buffer_parts, AreSized, IsPac, AllFit};
+ghost use Rattle.pac_layouts.specs.Buffers.{Buffer, buffer_of, pac_buffers, buffer_parts, AreSized, IsPac, FieldsFit, AllFit};
 ghost use Rattle.pac_layouts.specs.Writing.{pac_size, is_sized, counted, pac_bytes, pac_written, ArePlaced};
 
 use crate::error::{short_fault, write_fault};
@@ -19,9 +19,18 @@ use std::io::ErrorKind;
 const HEAD_LEN: usize = 8;
 
 /// A PAC.
-#[derive(Clone, Debug, Drop, PartialEq, Eq)]
+#[derive(Debug, Drop, PartialEq, Eq)]
 pub struct Pac {
     buffers: Vec<PacBuffer>,
+}
+
+impl Clone for Pac {
+    ghost is_clone = { λ pac copy. pac_buffers copy ≡ pac_buffers pac };
+
+    fn clone(&self) -> Result<Pac, AllocError> {
+        let buffers = self.buffers.clone()?;
+        Ok(Pac { buffers })
+    }
 }
 
 // How many buffers there are.
@@ -74,7 +83,8 @@ fn read_pac(alloc: Global, bytes: &[u8], stop: Option<ErrorKind>) -> Result<Pac,
 
 // How many bytes a PAC with these buffers has; none where that is past what memory holds.
 fn size_of(buffers: &[PacBuffer]) -> Option<usize>
-    ensures { IfSome result (λ n. n ≡ pac_size (map buffer_of buffers.now)) }
+    ensures size { IfSome result (λ n. n ≡ pac_size (map buffer_of buffers.now)) }
+    ensures fit { IfSome result (λ _. FieldsFit (map buffer_of buffers.now)) }
 {
     let mut size = HEAD_LEN;
     for buffer in buffers {
@@ -158,7 +168,8 @@ impl Pac {
 
     // Its bytes.
     fn bytes(&self, alloc: Global) -> Result<Vec<u8>, PacError>
-        ensures { Gives (λ v. v.items) result (pac_written (pac_buffers self.now)) }
+        ensures exact { Gives (λ v. v.items) result (pac_written (pac_buffers self.now)) }
+        ensures fit { IfOk result (λ _. AllFit (pac_buffers self.now)) }
     {
         let Some(size) = size_of(&self.buffers) else {
             return Err(PacError::Memory);
@@ -179,6 +190,7 @@ impl Pac {
             (λ _. (n : ℕ) × Appends (W.written writer.old) (W.written writer.new) (take n (pac_bytes (pac_buffers self.now)))) }
         ensures laid { IfOk result (λ _. ArePlaced (pac_buffers self.now) → IsPac (pac_buffers self.now) (pac_bytes (pac_buffers self.now))) }
         ensures judged { IfOk result (λ _. pac_written (pac_buffers self.now) ≡ Ok (pac_bytes (pac_buffers self.now))) }
+        ensures fit { IfOk result (λ _. AllFit (pac_buffers self.now)) }
         ensures refused { MatchResult result (λ _. W.failed writer.new ≡ W.failed writer.old)
             (IsWriteRefusal (pac_buffers self.now) (W.failed writer.old) (W.failed writer.new) (W.last_fault writer.new)) }
         ensures same { W.through writer.new ≡ W.through writer.old }

@@ -9,7 +9,7 @@ use Rattle.pac_layouts.proofs.pac.Pac.bytes.Goals as goal
 pub put_parts-requires-clause-room : goal.put_parts-requires-clause-room
 put_parts-requires-clause-room c =
     room-enough _ _
-    (ap length (c.deref_mut.ensures.value ∙ c.in_ok-bytes.ensures) ∙ length-replicate c.in-Some.size 0 ∙ c.in-Some.ensures
+    (ap length (c.deref_mut.ensures.value ∙ c.in_ok-bytes.ensures) ∙ length-replicate c.in-Some.size 0 ∙ c.in-Some.ensures.size
     ∙ ap (λ (l : List PacBuffer). pac_size (map buffer_of l)) (c.deref.ensures.value ∙ sym c.deref-3.ensures.value))
 
 pub put_parts-requires-clause-sized : goal.put_parts-requires-clause-sized
