@@ -1,5 +1,6 @@
 -- The tokens' tables (RFC 4121, sections 4.2.6.1 and 4.2.6.2).
-use Rattle.std.specs.Prelude.{◌≡◌, ℕ, ◌≤◌, List, [], ◌∷◌, length, drop}
+use Rattle.std.specs.Prelude.{◌≡◌, ℕ, ◌≤◌, List, [], ◌∷◌, length, drop, Vec, Option, option_map}
+use Rattle.std.specs.Global.{Global}
 use Rattle.byte_layouts.specs.Parts.{Part, part, IsLaidOut}
 use Rattle.byte_layouts.specs.Numbers.{be16, be64}
 use Rattle.krb_tokens.specs.declared.mic.MicToken.{MicToken}
@@ -47,3 +48,7 @@ mic_of t = record { flags = t.flags; seq_num = t.seq_num; checksum = t.checksum.
 
 abbrev pub wrap_of : WrapToken → WrapFields
 wrap_of t = record { flags = t.flags; ec = t.ec; rrc = t.rrc; seq_num = t.seq_num; checksum = t.checksum.items }
+
+-- a payload's bytes
+abbrev pub payload_of : Option (Vec ℕ Global) → Option (List ℕ)
+payload_of payload = option_map (λ v. v.items) payload

@@ -11,10 +11,10 @@ use crate::kind::{HEADER_LEN, MIC_FILLER, TokenKind, id};
 use crate::token::{read_token, write_token};
 use byte_layouts::{put_at, u64_be};
 use devices::{Sink, Source};
-use std::alloc::Global;
+use std::alloc::{AllocError, Global};
 
 /// What `GSS_GetMIC` makes: a checksum over a payload that travels elsewhere, with a sequence number.
-#[derive(Clone, Debug, Drop, PartialEq, Eq)]
+#[derive(Debug, Drop, PartialEq, Eq)]
 pub struct MicToken {
     /// Whether the acceptor sent it (1), it was sealed (2), and an acceptor's subkey was used (4).
     pub flags: u8,
@@ -24,6 +24,23 @@ pub struct MicToken {
     pub payload: Option<Vec<u8>>,
     /// The checksum.
     pub checksum: Vec<u8>,
+}
+
+impl Clone for MicToken {
+    ghost use Rattle.krb_tokens.specs.Tokens.{mic_of, payload_of};
+
+    ghost is_clone = { λ token copy. (mic_of copy ≡ mic_of token) × (payload_of copy.payload ≡ payload_of token.payload) };
+
+    fn clone(&self) -> Result<MicToken, AllocError> {
+        let payload = self.payload.clone()?;
+        let checksum = self.checksum.clone()?;
+        Ok(MicToken {
+            flags: self.flags,
+            seq_num: self.seq_num,
+            payload,
+            checksum,
+        })
+    }
 }
 
 impl MicToken {

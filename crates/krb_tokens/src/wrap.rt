@@ -11,10 +11,10 @@ use crate::kind::{HEADER_LEN, TokenKind, WRAP_FILLER, id};
 use crate::token::{read_token, write_token};
 use byte_layouts::{put_at, u16_be, u64_be};
 use devices::{Sink, Source};
-use std::alloc::Global;
+use std::alloc::{AllocError, Global};
 
 /// What `GSS_Wrap` makes: a payload, sealed or with a checksum, behind a sequence number.
-#[derive(Clone, Debug, Drop, PartialEq, Eq)]
+#[derive(Debug, Drop, PartialEq, Eq)]
 pub struct WrapToken {
     /// Whether the acceptor sent it (1), it was sealed (2), and an acceptor's subkey was used (4).
     pub flags: u8,
@@ -28,6 +28,25 @@ pub struct WrapToken {
     pub payload: Option<Vec<u8>>,
     /// What stands behind the header, from octet 16 on.
     pub checksum: Vec<u8>,
+}
+
+impl Clone for WrapToken {
+    ghost use Rattle.krb_tokens.specs.Tokens.{wrap_of, payload_of};
+
+    ghost is_clone = { λ token copy. (wrap_of copy ≡ wrap_of token) × (payload_of copy.payload ≡ payload_of token.payload) };
+
+    fn clone(&self) -> Result<WrapToken, AllocError> {
+        let payload = self.payload.clone()?;
+        let checksum = self.checksum.clone()?;
+        Ok(WrapToken {
+            flags: self.flags,
+            ec: self.ec,
+            rrc: self.rrc,
+            seq_num: self.seq_num,
+            payload,
+            checksum,
+        })
+    }
 }
 
 impl WrapToken {

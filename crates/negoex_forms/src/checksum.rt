@@ -5,7 +5,7 @@ use crate::fields::ChecksumScheme;
 use crate::laid::{Laid, Wide};
 use crate::leaves::ByteVector;
 use crate::pairs::put_both;
-use std::alloc::Global;
+use std::alloc::{AllocError, Global};
 use std::io::ErrorKind;
 
 /// A checksum over messages.
@@ -25,6 +25,20 @@ pub struct Checksum {
 impl Wide for (u32, (ChecksumScheme, u32)) {
     fn width() -> usize {
         12
+    }
+}
+
+impl Clone for Checksum {
+    ghost is_clone = { λ checksum copy. ⟦<Checksum as Laid>⟧.view copy ≡ ⟦<Checksum as Laid>⟧.view checksum };
+
+    fn clone(&self) -> Result<Checksum, AllocError> {
+        let checksum_value = self.checksum_value.clone()?;
+        Ok(Checksum {
+            header_len: self.header_len,
+            checksum_scheme: self.checksum_scheme,
+            checksum_type: self.checksum_type,
+            checksum_value,
+        })
     }
 }
 

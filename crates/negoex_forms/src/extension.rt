@@ -4,7 +4,7 @@ ghost use Rattle.std.specs.Prelude.{◌≡◌};
 use crate::laid::{Laid, Wide};
 use crate::leaves::ByteVector;
 use crate::pairs::put_both;
-use std::alloc::Global;
+use std::alloc::{AllocError, Global};
 use std::io::ErrorKind;
 
 /// What extends a message.
@@ -18,6 +18,18 @@ pub struct Extension {
 
 /// Extensions, as an offset and a count.
 pub type ExtensionVector = Vec<Extension>;
+
+impl Clone for Extension {
+    ghost is_clone = { λ extension copy. ⟦<Extension as Laid>⟧.view copy ≡ ⟦<Extension as Laid>⟧.view extension };
+
+    fn clone(&self) -> Result<Extension, AllocError> {
+        let extension_value = self.extension_value.clone()?;
+        Ok(Extension {
+            extension_type: self.extension_type,
+            extension_value,
+        })
+    }
+}
 
 impl Laid for Extension {
     ghost use Rattle.std.specs.Prelude.{map};

@@ -6,7 +6,7 @@ use negoex_forms::{
     AuthScheme, ByteVector, ConversationId, Laid, MessageHeader, MessageType,
     NEGOEXTS_MESSAGE_SIGNATURE, Wide, place_behind, put_both,
 };
-use std::alloc::Global;
+use std::alloc::{AllocError, Global};
 use std::io::ErrorKind;
 
 /// A token of a scheme, or what it tells before the exchange.
@@ -58,6 +58,19 @@ impl Exchange {
                 conversation_id,
             },
             auth_scheme,
+            exchange,
+        })
+    }
+}
+
+impl Clone for Exchange {
+    ghost is_clone = { λ message copy. ⟦<Exchange as Laid>⟧.view copy ≡ ⟦<Exchange as Laid>⟧.view message };
+
+    fn clone(&self) -> Result<Exchange, AllocError> {
+        let exchange = self.exchange.clone()?;
+        Ok(Exchange {
+            header: self.header,
+            auth_scheme: self.auth_scheme,
             exchange,
         })
     }

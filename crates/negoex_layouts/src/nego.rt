@@ -6,7 +6,7 @@ use negoex_forms::{
     AuthScheme, AuthSchemeVector, ConversationId, Extension, ExtensionVector, Laid, MessageHeader,
     MessageType, NEGOEXTS_MESSAGE_SIGNATURE, RANDOM_ARRAY_SIZE, Wide, place_behind, put_three,
 };
-use std::alloc::Global;
+use std::alloc::{AllocError, Global};
 use std::io::ErrorKind;
 
 /// The only version of the protocol (MS-NEGOEX, section 2.2.6.3).
@@ -82,6 +82,22 @@ impl Nego {
 }
 
 type Fixed = (MessageHeader, ([u8; RANDOM_ARRAY_SIZE], u64));
+
+impl Clone for Nego {
+    ghost is_clone = { λ message copy. ⟦<Nego as Laid>⟧.view copy ≡ ⟦<Nego as Laid>⟧.view message };
+
+    fn clone(&self) -> Result<Nego, AllocError> {
+        let auth_schemes = self.auth_schemes.clone()?;
+        let extensions = self.extensions.clone()?;
+        Ok(Nego {
+            header: self.header,
+            random: self.random,
+            protocol_version: self.protocol_version,
+            auth_schemes,
+            extensions,
+        })
+    }
+}
 
 impl Laid for Nego {
     ghost use Rattle.std.specs.Prelude.{map};

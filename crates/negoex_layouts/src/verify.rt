@@ -6,7 +6,7 @@ use negoex_forms::{
     AuthScheme, ByteVector, CHECKSUM_SCHEME_RFC3961, Checksum, ConversationId, Laid, MessageHeader,
     MessageType, NEGOEXTS_MESSAGE_SIGNATURE, Wide, place_behind, put_both,
 };
-use std::alloc::Global;
+use std::alloc::{AllocError, Global};
 use std::io::ErrorKind;
 
 /// A checksum over all messages so far.
@@ -65,6 +65,19 @@ impl Verify {
                 checksum_type,
                 checksum_value,
             },
+        })
+    }
+}
+
+impl Clone for Verify {
+    ghost is_clone = { λ message copy. ⟦<Verify as Laid>⟧.view copy ≡ ⟦<Verify as Laid>⟧.view message };
+
+    fn clone(&self) -> Result<Verify, AllocError> {
+        let checksum = self.checksum.clone()?;
+        Ok(Verify {
+            header: self.header,
+            auth_scheme: self.auth_scheme,
+            checksum,
         })
     }
 }
