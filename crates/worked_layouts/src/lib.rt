@@ -2,10 +2,14 @@
 #![tactic(auto)]
 
 #[cfg(test)]
+mod failing;
+#[cfg(test)]
 mod integrity;
 #[cfg(test)]
 mod negoex;
 #[cfg(test)]
 mod pac;
+#[cfg(test)]
+mod priv_frames;
 #[cfg(test)]
 mod tokens;

@@ -89,6 +89,24 @@ fn read_and_written(rt: HostRuntime) {
     assert!(rt; is_given_back::<Verify>(rt.alloc(), VERIFY));
 }
 
+// Whether a message is read from these bytes, and its copy is written as they are.
+fn is_copied<M: NegoexMessage + Clone + Drop>(alloc: Global, whole: &[u8]) -> bool {
+    match M::decode(alloc, whole) {
+        Ok(message) => match message.clone() {
+            Ok(copy) => is_written(alloc, copy, whole),
+            Err(_) => false,
+        },
+        Err(_) => false,
+    }
+}
+
+#[test]
+fn copies(rt: HostRuntime) {
+    assert!(rt; is_copied::<Nego>(rt.alloc(), NEGO));
+    assert!(rt; is_copied::<Exchange>(rt.alloc(), EXCHANGE));
+    assert!(rt; is_copied::<Verify>(rt.alloc(), VERIFY));
+}
+
 fn verify(alloc: Global, sequence_num: u32, checksum: &[u8]) -> Option<Verify> {
     let value = bytes(alloc, checksum)?;
     Verify::new(

@@ -15,7 +15,7 @@ fn read_and_written(rt: HostRuntime) -> Result<(), Fail> {
     let pac = Pac::deserialize(rt.alloc(), &mut left)?;
     assert_eq!(rt; pac.buffers().len(), 1);
     let mut written = Vec::new(rt.alloc());
-    pac.serialize(rt.alloc(), &mut written)?;
+    pac.clone()?.serialize(rt.alloc(), &mut written)?;
     assert_eq!(rt; written.as_slice(), CLIENT);
     Ok(())
 }

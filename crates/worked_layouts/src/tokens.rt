@@ -30,7 +30,7 @@ fn mic_token(rt: HostRuntime) -> Result<(), Fail> {
     assert_eq!(rt; (token.flags, token.seq_num), (5, 258));
     assert_eq!(rt; token.checksum.as_slice(), b"sum".as_slice());
     let mut written = Vec::new(rt.alloc());
-    token.encode(&mut written)?;
+    token.clone()?.encode(&mut written)?;
     assert_eq!(rt; written.as_slice(), MIC);
     Ok(())
 }
@@ -45,7 +45,7 @@ fn wrap_token(rt: HostRuntime) -> Result<(), Fail> {
     );
     assert_eq!(rt; token.checksum.as_slice(), b"data".as_slice());
     let mut written = Vec::new(rt.alloc());
-    token.encode(&mut written)?;
+    token.clone()?.encode(&mut written)?;
     assert_eq!(rt; written.as_slice(), WRAP);
     Ok(())
 }
