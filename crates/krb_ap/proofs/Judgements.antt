@@ -22,7 +22,7 @@ use Rattle.krb_ap.specs.declared.presented.Authenticated.{Authenticated}
 use Rattle.krb_ap.specs.declared.presented.Presented.{Presented}
 use Rattle.krb_ap.proofs.Shown.{asked, past_address, timed, with_time}
 
-has_fields : (a b c d : Bool) → HasOutcome (refuse {T = Unit {0}} {E = ℕ} a 39 (refuse b 40 (refuse c 35 (refuse d 44 (done (Ok tt))))))
+pub has_fields : (a b c d : Bool) → HasOutcome (refuse {T = Unit {0}} {E = ℕ} a 39 (refuse b 40 (refuse c 35 (refuse d 44 (done (Ok tt))))))
 has_fields true b c d = has_done (Err 39)
 has_fields false true c d = has_done (Err 40)
 has_fields false false true d = has_done (Err 35)
@@ -36,7 +36,7 @@ has_address false etype fields x =
     let end : Table (Result (Unit {0}) ℕ) = done (Ok tt) in
     has_then {A = Unit {0}} fields (λ _. refuse etype 45 end) x (λ _ _. has_refused etype 45 end (λ _. has_done (Ok tt)))
 
-has_times : (early late : Bool) → HasOutcome (refuse {T = Unit {0}} {E = ℕ} early 33 (refuse late 32 (done (Ok tt))))
+pub has_times : (early late : Bool) → HasOutcome (refuse {T = Unit {0}} {E = ℕ} early 33 (refuse late 32 (done (Ok tt))))
 has_times true late = has_done (Err 33)
 has_times false true = has_done (Err 32)
 has_times false false = has_done (Ok tt)
@@ -47,7 +47,7 @@ has_told false true moment = has_done (Err 36)
 has_told false false None = has_done (Err 41)
 has_told false false (Some time) = has_done (Ok time)
 
-has_opened_part : (suite : CipherSuite) (key : List ℕ) (sealed : EncryptedData) → HasOutcome (opened_part suite key sealed)
+pub has_opened_part : (suite : CipherSuite) (key : List ℕ) (sealed : EncryptedData) → HasOutcome (opened_part suite key sealed)
 has_opened_part suite key sealed =
     let none : Table (Result EncTicketPartInner ℕ) = done (Err 31) in
     has_asked (IsTicketPart suite key sealed) (sole_ticket_part suite key sealed) none (λ part. done (Ok part)) (has_done (Err 31)) (λ part x. has_done (Ok part))

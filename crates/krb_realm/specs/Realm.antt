@@ -5,11 +5,12 @@ use Rattle.std.specs.FinMap as finite
 use Rattle.krb_crypto.specs.declared.suite.CipherSuite.{CipherSuite}
 use Rattle.krb_crypto.specs.Suites.{cipher_key_size}
 use Rattle.krb_accounts.specs.Account.{AccountRecord}
-use Rattle.krb_accounts.specs.Accounts.{AccountMap}
+use Rattle.krb_accounts.specs.Accounts.{AccountMap, look_in}
 use Rattle.krb_accounts.specs.Accounts as map
 use Rattle.krb_accounts.specs.Names.{is_realm_name, are_components}
 use Rattle.krb_accounts.specs.Settings.{SettingsRecord}
-use Rattle.krb_replies.specs.Errors.{krbtgt_of}
+use Rattle.krb_as.specs.Call.{CallRecord}
+use Rattle.krb_as.specs.TicketGranting.{krbtgt_of}
 use Rattle.krb_accounts.specs.declared.refusal.RealmRefusal.{RealmRefusal}
 use Rattle.krb_accounts.specs.declared.refusal.RealmRefusal.TheVariants.{BadName, BadKeyLength, Exists, KeptAccount, Unknown}
 
@@ -17,6 +18,16 @@ pub record RealmState : Type 0 where
   pub name : List ℕ
   pub settings : SettingsRecord
   pub accounts : AccountMap
+
+-- a call to the realm at a moment, with random bytes
+abbrev pub call_to : RealmState → ℕ → List ℕ → CallRecord
+call_to realm moment random = record {
+  realm = realm.name;
+  settings = realm.settings;
+  look = look_in realm.accounts;
+  moment = moment;
+  random = random;
+}
 
 -- an account by a first key
 abbrev pub first_key : CipherSuite → List ℕ → AccountRecord

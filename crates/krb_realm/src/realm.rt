@@ -1,11 +1,11 @@
 //! Realms.
 ghost use Rattle.std.specs.Prelude.{◌≡◌, ◌≤◌, ℕ, List, Ok, Err, Some, None, OnOk, OnErr, IfOk, IfErr, MatchResult, length, ◌⊎◌};
 ghost use Rattle.std.specs.FinMap as finite;
-ghost use Rattle.krb_accounts.specs.Accounts.{look_in};
 ghost use Rattle.krb_accounts.specs.Names.{parts};
 ghost use Rattle.krb_accounts.specs.Refusal.{IsMemoryAside};
+ghost use Rattle.krb_as.specs.Call.{call_of};
 ghost use Rattle.krb_replies.specs.Replies.{Replies};
-ghost use Rattle.krb_realm.specs.Realm.{is_krbtgt};
+ghost use Rattle.krb_realm.specs.Realm.{call_to, is_krbtgt};
 
 use krb_accounts::{
     Account, Accounts, RealmRefusal, Settings, are_components, components_of, is_realm_name,
@@ -14,9 +14,8 @@ use krb_accounts::{
 use krb_crypto::CipherSuite;
 use krb_frames::AnswerRefusal;
 use krb_moments::Moment;
-use krb_replies::{answer_as, error_answer, krbtgt_of, named_in, read_as_req, read_tgs_req};
+use krb_replies::{Call, answer_as, answer_tgs, krbtgt_of, read_as_req, read_tgs_req};
 use picky_asn1::wrapper::GeneralStringAsn1;
-use picky_krb::constants::error_codes;
 use std::alloc::Global;
 use std::marker::Model;
 
@@ -210,7 +209,7 @@ impl Realm {
         self.accounts.change_key(alloc, name, suite, key)
     }
 
-    /// The reply to a message at a moment, with random bytes of which the first 128 count (RFC 4120, section 3.1).
+    /// The reply to a message at a moment, with random bytes of which the first 128 count (RFC 4120, sections 3.1 and 3.3).
     ///
     /// `Unreadable` says that the bytes are the one encoding of no AS request and of no TGS request.
     #[tactic(auto, unfolding(krb_replies::specs::Replies::Replies))]
@@ -222,27 +221,31 @@ impl Realm {
         words: &[u8],
     ) -> Result<Vec<u8>, AnswerRefusal>
         requires { 128 ≤ length words.now }
-        ensures { IsAnswer (Replies self.now.name self.now.settings (look_in self.now.accounts) moment words.now request.now) result }
+        ensures { IsAnswer (Replies (call_to self.now moment words.now) request.now) result }
     {
         if let Some(asked) = read_as_req(alloc, request)? {
-            let reply = answer_as(
-                alloc,
-                &self.name,
-                self.settings,
-                &self.accounts,
-                asked,
-                moment,
-                words,
-            )?;
+            let reply = answer_as(alloc, &self.call(moment, words), asked)?;
             return Ok(reply);
         }
         if let Some(asked) = read_tgs_req(alloc, request)? {
-            let service = named_in(asked);
-            let code = error_codes::KRB_ERR_GENERIC;
-            let reply = error_answer(alloc, &self.name, service, moment, code, None)?;
+            let reply = answer_tgs(alloc, &self.call(moment, words), asked)?;
             return Ok(reply);
         }
         Err(AnswerRefusal::Unreadable)
+    }
+
+    // What a request at a moment, with these random bytes, is answered by.
+    fn call<'a>(&'a self, moment: Moment, words: &'a [u8]) -> Call<'a>
+        ensures call { call_of result ≡ call_to self.now moment words.now }
+        ensures random { result.random.now ≡ words.now }
+    {
+        Call {
+            realm: &self.name,
+            settings: self.settings,
+            accounts: &self.accounts,
+            moment,
+            random: words,
+        }
     }
 }
 

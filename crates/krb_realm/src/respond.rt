@@ -6,12 +6,12 @@ use krb_moments::Moment;
 use std::alloc::Global;
 
 impl Responder for Realm {
-    ghost use Rattle.krb_accounts.specs.Accounts.{look_in};
+    ghost use Rattle.krb_realm.specs.Realm.{call_to};
     ghost use Rattle.krb_replies.specs.Replies.{Replies, one_reply};
 
-    ghost replies = { λ realm message moment words reply. Replies realm.name realm.settings (look_in realm.accounts) moment words message reply };
+    ghost replies = { λ realm message moment words reply. Replies (call_to realm moment words) message reply };
 
-    ghost one_reply = { λ realm message moment words. one_reply realm.name realm.settings (look_in realm.accounts) moment words message };
+    ghost one_reply = { λ realm message moment words. one_reply (call_to realm moment words) message };
 
     fn answer(
         &self,

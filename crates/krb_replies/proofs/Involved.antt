@@ -1,13 +1,15 @@
 -- Why a reply rests on the accounts involved alone.
-use Rattle.std.proofs.Common.{◌≡◌, ℕ, List, Option, None, Some, refl, subst, inl, inr}
+use Rattle.std.proofs.Common.{◌≡◌, ℕ, List, Option, None, Some, Result, Ok, Err, refl, subst, inl, inr}
 use Rattle.picky_krb.specs.declared.messages.kdc_req.KdcReq.{KdcReq}
 use Rattle.krb_types.specs.declared.data_types.principal_name.PrincipalName.{PrincipalName}
 use Rattle.krb_accounts.specs.Accounts.{Look}
-use Rattle.krb_accounts.specs.Settings.{SettingsRecord}
 use Rattle.krb_types.specs.Names.{components}
-use Rattle.krb_replies.specs.AsTable.{client_of, service_of}
+use Rattle.krb_as.specs.Call.{CallRecord}
+use Rattle.krb_as.specs.Requests.{account_of, client_of, service_of}
+use Rattle.krb_tgs.specs.ByTicket.{IsInvolvedFurther}
+use Rattle.krb_tgs.proofs.Involved.{same_further}
 use Rattle.krb_replies.specs.Involved.{IsNamed, IsOfInvolvedAlone}
-use Rattle.krb_replies.specs.Replies.{Replies, account_of, as_reply}
+use Rattle.krb_replies.specs.Replies.{Replies, as_reply, tgs_reply}
 
 same_account : (look other : Look) (name : Option PrincipalName) → ((these : List (List ℕ)) → IsNamed name these → look these ≡ other these)
     → account_of look name ≡ account_of other name
@@ -15,22 +17,30 @@ same_account look other None agree = refl
 same_account look other (Some given) agree = agree (components given) (given, refl, refl)
 
 -- the reply to an AS request of accounts that are looked up
-abbrev looked : List ℕ → SettingsRecord → Look → Look → ℕ → List ℕ → KdcReq → Option (List ℕ) → Type 0
-looked realm settings of_client of_service moment words v =
-    (as_reply realm settings (account_of of_client (client_of v.req_body.0)) (account_of of_service (service_of v.req_body.0)) moment words v).gives
+abbrev looked : CallRecord → Look → Look → KdcReq → Option (List ℕ) → Type 0
+looked call of_client of_service v =
+    (as_reply call (account_of of_client (client_of v.req_body.0)) (account_of of_service (service_of v.req_body.0)) v).gives
 
-same_looked : (realm : List ℕ) (settings : SettingsRecord) (look other : Look) (moment : ℕ) (words : List ℕ) (v : KdcReq) (reply : Option (List ℕ))
+same_looked : (call : CallRecord) (look other : Look) (v : KdcReq) (reply : Option (List ℕ))
     → account_of look (client_of v.req_body.0) ≡ account_of other (client_of v.req_body.0)
     → account_of look (service_of v.req_body.0) ≡ account_of other (service_of v.req_body.0)
-    → looked realm settings look look moment words v reply → looked realm settings other other moment words v reply
-same_looked realm settings look other moment words v reply client service given =
-    subst (λ s. (as_reply realm settings (account_of other (client_of v.req_body.0)) s moment words v).gives reply) service
-    (subst (λ c. (as_reply realm settings c (account_of look (service_of v.req_body.0)) moment words v).gives reply) client given)
+    → looked call look look v reply → looked call other other v reply
+same_looked call look other v reply client service given =
+    subst (λ s. (as_reply call (account_of other (client_of v.req_body.0)) s v).gives reply) service
+    (subst (λ c. (as_reply call c (account_of look (service_of v.req_body.0)) v).gives reply) client given)
+
+-- and the reply to a TGS request
+same_reply : (call : CallRecord) (other : Look) (v : KdcReq) → ((these : List (List ℕ)) → IsInvolvedFurther call v these → call.look these ≡ other these)
+    → (reply : Option (List ℕ)) → (tgs_reply call v).gives reply → (tgs_reply (record call { look = other }) v).gives reply
+same_reply call other v agree reply (Ok bytes, given, told) = (Ok bytes, same_further call other v agree (Ok bytes) given, told)
+same_reply call other v agree reply (Err code, given, told) = (Err code, same_further call other v agree (Err code) given, told)
 
 pub of_involved_alone : IsOfInvolvedAlone
 unfolding Replies
-of_involved_alone realm settings look other moment words request agree reply (inl (v, found, given)) =
-    let client = same_account look other (client_of v.req_body.0) (λ these named. agree these (v, found, inl named)) in
-    let service = same_account look other (service_of v.req_body.0) (λ these named. agree these (v, found, inr named)) in
-    inl (v, found, same_looked realm settings look other moment words v reply client service given)
-of_involved_alone realm settings look other moment words request agree reply (inr rest) = inr rest
+of_involved_alone call other request agree reply (inl (v, found, given)) =
+    let client = same_account call.look other (client_of v.req_body.0) (λ these named. agree these (inl (v, found, inl named))) in
+    let service = same_account call.look other (service_of v.req_body.0) (λ these named. agree these (inl (v, found, inr named))) in
+    inl (v, found, same_looked call call.look other v reply client service given)
+of_involved_alone call other request agree reply (inr (none, inl (v, found, given))) =
+    inr (none, inl (v, found, same_reply call other v (λ these involved. agree these (inr (v, found, involved))) reply given))
+of_involved_alone call other request agree reply (inr (none, inr rest)) = inr (none, inr rest)

@@ -1,6 +1,4 @@
 pub mod Errors
 pub mod Involved
-pub mod Seconds
 pub mod HasReply
-mod Granted
-mod Judged
+pub mod Answered

@@ -1,5 +1,5 @@
 -- The error message of a realm (RFC 4120, section 5.9.1).
-use Rattle.std.specs.Prelude.{◌≡◌, ℕ, ◌/◌, List, [], ◌∷◌, Option, None, codes, pos}
+use Rattle.std.specs.Prelude.{◌≡◌, ℕ, ◌/◌, List, Option, None, pos}
 use Rattle.std.specs.Option.{option_map}
 use Rattle.std.proofs.Common.{sym, ◌∙◌}
 use Rattle.asn1_trees.specs.Tree.{der}
@@ -10,12 +10,9 @@ use Rattle.picky_krb.specs.declared.messages.krb_error.KrbErrorInner.{KrbErrorIn
 use Rattle.krb_types.specs.declared.data_types.principal_name.PrincipalName.{PrincipalName}
 use Rattle.decision_tables.specs.One.{IsSole}
 use Rattle.picky_krb.specs.Messages.{krb_error_tree}
+use Rattle.krb_as.specs.TicketGranting.{krbtgt_of}
 
--- the components of a realm's ticket-granting service (RFC 4120, section 7.3)
-abbrev pub krbtgt_of : List ℕ → List (List ℕ)
-krbtgt_of realm = codes "krbtgt" ∷ realm ∷ []
-
--- its name, of type 2
+-- the realm's ticket-granting service by its name, of type 2 (RFC 4120, section 7.3)
 abbrev pub ticket_service : List ℕ → PrincipalName
 ticket_service realm = record {
   name_type = record { 0 = pos 2 };

@@ -1,35 +1,23 @@
--- What is judged of a request.
-use Rattle.std.specs.Prelude.{◌≡◌, ℕ, List, Option, Result, Ok, Err, Vec}
+-- What is judged of a request, with what an error tells.
+use Rattle.std.specs.Prelude.{◌≡◌, ℕ, ◌%◌, List, Option, Result, Ok, Err, Vec}
 use Rattle.std.specs.Global.{Global}
 use Rattle.std.specs.Option.{option_map}
-use Rattle.krb_replies.specs.Grants.{Principals}
-use Rattle.krb_replies.specs.declared.grant.Principals as asked
-use Rattle.krb_replies.specs.declared.refusal.Refusal.{Refusal}
-use Rattle.krb_replies.specs.declared.refusal.Refusal.TheVariants.{Krb, Memory}
-use Rattle.krb_replies.specs.declared.refusal.Told.{Told}
-
--- memory aside, the judgement is an outcome of the table's
-abbrev pub IsJudged : {T : Type 0} → (Result T ℕ → Type 0) → Result T Refusal → Type 0
-IsJudged gives (Ok value) = gives (Ok value)
-IsJudged gives (Err (Krb code)) = gives (Err code)
-IsJudged gives (Err Memory) = Unit {0}
-
--- memory aside, the reply's bytes are an outcome of the table's
-abbrev pub IsGranted : (Result (List ℕ) ℕ → Type 0) → Result (Vec ℕ Global) Refusal → Type 0
-IsGranted gives (Ok bytes) = gives (Ok bytes.items)
-IsGranted gives (Err (Krb code)) = gives (Err code)
-IsGranted gives (Err Memory) = Unit {0}
+use Rattle.asn1_leaves.specs.declared.date.GeneralizedTime.{GeneralizedTime}
+use Rattle.picky_krb.specs.declared.messages.kdc_req.KdcReq.{KdcReq}
+use Rattle.krb_as.specs.Call.{CallRecord}
+use Rattle.krb_as.specs.Requests.{service_of}
+use Rattle.krb_replies.specs.Errors.{IsSecondOf, error_bytes}
+use Rattle.krb_replies.specs.Replies.{named_service}
+use Rattle.krb_replies.specs.declared.told.Told.{Told}
 
 -- the reply's bytes are an outcome of the table's, or the error's code is, with the hint that belongs to it
 abbrev pub IsJudgement : (Result (List ℕ) ℕ → Type 0) → (ℕ → Option (List ℕ)) → Result (Vec ℕ Global) Told → Type 0
 IsJudgement gives hint (Ok bytes) = gives (Ok bytes.items)
 IsJudgement gives hint (Err told) = gives (Err told.code) × (option_map (λ h. h.items) told.hint ≡ hint told.code)
 
--- who asks for whom, as a table sees it
-abbrev pub principals : asked.Principals → Principals
-principals these = record {
-  client_name = these.client_name.now;
-  client = these.client.now;
-  service_name = these.service_name.now;
-  service = these.service.now;
-}
+-- the bytes are what was granted, or the error that tells this about the request's service, in the second of the moment
+abbrev pub IsAnswerWith : CallRecord → KdcReq → Result (Vec ℕ Global) Told → List ℕ → Type 0
+IsAnswerWith call request (Ok ticket) bytes = bytes ≡ ticket.items
+IsAnswerWith call request (Err told) bytes =
+    (time : GeneralizedTime) × IsSecondOf call.moment time
+    × (bytes ≡ error_bytes call.realm time (call.moment % 1000000) (named_service call.realm (service_of request.req_body.0)) told.code (option_map (λ h. h.items) told.hint))

@@ -1,6 +1,4 @@
 pub mod Errors
-pub mod Grants
-pub mod AsTable
 pub mod Replies
 pub mod Involved
 pub mod Calls

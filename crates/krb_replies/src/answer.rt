@@ -1,53 +1,70 @@
-//! The answer to an AS request, and the error that answers a request.
-ghost use Rattle.std.specs.Prelude.{◌≡◌, ◌≤◌, ◌%◌, Some, IfOk, length};
+//! The answers to requests, and the error that answers one.
+ghost use Rattle.std.specs.Prelude.{◌≡◌, ◌≤◌, ◌%◌, None, Some, IfOk, length};
+ghost use Rattle.picky_krb.specs.declared.messages.kdc_req.KdcReq.{KdcReq};
 ghost use Rattle.std.specs.Option.{option_copied, option_map};
 ghost use Rattle.asn1_leaves.specs.declared.date.GeneralizedTime.{GeneralizedTime};
 ghost use Rattle.krb_accounts.specs.Accounts.{look_in};
-ghost use Rattle.krb_replies.specs.AsTable.{as_table, client_of, service_of};
+ghost use Rattle.krb_as.specs.AsTable.{as_table};
+ghost use Rattle.krb_as.specs.Call.{call_of};
+ghost use Rattle.krb_as.specs.Requests.{account_of, client_of, service_of};
+ghost use Rattle.krb_tgs.specs.TgsTable.{tgs_table};
 ghost use Rattle.krb_replies.specs.Errors.{IsSecondOf, error_bytes};
-ghost use Rattle.krb_replies.specs.Judged.{IsGranted, IsJudgement};
-ghost use Rattle.krb_replies.specs.Replies.{account_of, as_reply, hint_of, named_service};
+ghost use Rattle.krb_replies.specs.Judged.{IsAnswerWith, IsJudgement};
+ghost use Rattle.krb_replies.specs.Replies.{as_reply, hint_of, named_service, tgs_reply};
 
 use crate::error::error_reply;
-use crate::grant::{Principals, grant};
-use crate::judge::{
-    account_of, check_address, check_client, check_possible, client_of, entries_of, service_of,
-};
 use crate::names::named_service;
-use crate::refusal::{Refusal, Told};
-use krb_accounts::{Account, Accounts, Settings};
-use krb_moments::Moment;
+use crate::told::Told;
+use krb_accounts::Account;
+use krb_as::{Call, account_of, client_of, judge_as, service_of};
+use krb_tgs::judge_tgs;
 use krb_tickets::method_data;
+use krb_types::Refusal;
 use krb_types::constants::error_codes;
-use picky_asn1::wrapper::GeneralStringAsn1;
 use picky_asn1_der::ExplicitContextTag3;
 use picky_krb::data_types::PrincipalName;
 use picky_krb::messages::KdcReq;
 use std::alloc::{AllocError, Global};
 
-/// The reply to an AS request, by the table of a realm of this name, these settings and these accounts (RFC 4120, section
-/// 3.1): a ticket, or the error with its code. The request is judged by reference, so that few ways out own it.
-pub fn answer_as(
-    alloc: Global,
-    realm: &GeneralStringAsn1,
-    settings: Settings,
-    accounts: &Accounts,
-    request: KdcReq,
-    moment: Moment,
-    words: &[u8],
-) -> Result<Vec<u8>, AllocError>
-    requires { 128 ≤ length words.now }
-    ensures { IfOk result (λ bytes. (as_reply realm.now settings
-        (account_of (look_in accounts.now) (client_of request.req_body.0))
-        (account_of (look_in accounts.now) (service_of request.req_body.0)) moment words.now request).gives (Some bytes.items)) }
+/// The reply to an AS request: a ticket, or the error with its code (RFC 4120, section 3.1). The request is judged by
+/// reference, so that few ways out own it.
+pub fn answer_as(alloc: Global, call: &Call<'_>, request: KdcReq) -> Result<Vec<u8>, AllocError>
+    requires { 128 ≤ length call.now.random.now }
+    ensures { IfOk result (λ bytes. (as_reply (call_of call.now)
+        (account_of (look_in call.now.accounts.now) (client_of request.req_body.0))
+        (account_of (look_in call.now.accounts.now) (service_of request.req_body.0)) request).gives (Some bytes.items)) }
 {
-    let judged = judge(alloc, realm, settings, accounts, &request, moment, words);
+    let judged = judge(alloc, call, &request);
     let service = named_in(request);
     let found = judged?;
-    match found {
+    answer(alloc, call, service, found)
+}
+
+/// The reply to a TGS request: a ticket, or the error with its code (RFC 4120, section 3.3).
+pub fn answer_tgs(alloc: Global, call: &Call<'_>, request: KdcReq) -> Result<Vec<u8>, AllocError>
+    requires { 128 ≤ length call.now.random.now }
+    ensures { IfOk result (λ bytes. (tgs_reply (call_of call.now) request).gives (Some bytes.items)) }
+{
+    let judged = judge_further(alloc, call, &request);
+    let service = named_in(request);
+    let found = judged?;
+    answer(alloc, call, service, found)
+}
+
+// What is granted, or the error that tells this about this service.
+fn answer(
+    alloc: Global,
+    call: &Call<'_>,
+    service: Option<ExplicitContextTag3<PrincipalName>>,
+    judged: Result<Vec<u8>, Told>,
+) -> Result<Vec<u8>, AllocError>
+    ensures { (request : KdcReq) → option_map (λ tagged. tagged.0) service ≡ service_of request.req_body.0
+        → IfOk result (λ bytes. IsAnswerWith (call_of call.now) request judged bytes.items) }
+{
+    match judged {
         Ok(ticket) => Ok(ticket),
         Err(told) => {
-            let reply = error_answer(alloc, realm, service, moment, told.code, told.hint)?;
+            let reply = error_answer(alloc, call, service, told)?;
             Ok(reply)
         }
     }
@@ -56,25 +73,19 @@ pub fn answer_as(
 // The ticket that an AS request is granted, or what the error that answers it tells.
 fn judge(
     alloc: Global,
-    realm: &GeneralStringAsn1,
-    settings: Settings,
-    accounts: &Accounts,
+    call: &Call<'_>,
     request: &KdcReq,
-    moment: Moment,
-    words: &[u8],
 ) -> Result<Result<Vec<u8>, Told>, AllocError>
-    requires { 128 ≤ length words.now }
-    ensures { IfOk result (λ judged. IsJudgement (as_table realm.now settings
-        (account_of (look_in accounts.now) (client_of request.now.req_body.0))
-        (account_of (look_in accounts.now) (service_of request.now.req_body.0)) moment words.now request.now).gives
-        (hint_of (account_of (look_in accounts.now) (client_of request.now.req_body.0))) judged) }
+    requires { 128 ≤ length call.now.random.now }
+    ensures { IfOk result (λ judged. IsJudgement (as_table (call_of call.now)
+        (account_of (look_in call.now.accounts.now) (client_of request.now.req_body.0))
+        (account_of (look_in call.now.accounts.now) (service_of request.now.req_body.0)) request.now).gives
+        (hint_of (account_of (look_in call.now.accounts.now) (client_of request.now.req_body.0))) judged) }
 {
     let body = &request.req_body.0;
-    let client = account_of(accounts, client_of(body));
-    let service = account_of(accounts, service_of(body));
-    match judge_as(
-        alloc, realm, settings, client, service, moment, words, request,
-    ) {
+    let client = account_of(call.accounts, client_of(body));
+    let service = account_of(call.accounts, service_of(body));
+    match judge_as(alloc, call, client, service, request) {
         Ok(reply) => Ok(Ok(reply)),
         Err(Refusal::Memory) => Err(AllocError),
         Err(Refusal::Krb(code)) => {
@@ -84,75 +95,50 @@ fn judge(
     }
 }
 
-// The ticket that an AS request is granted, or its code.
-fn judge_as(
+// The ticket that a TGS request is granted, or what the error that answers it tells.
+fn judge_further(
     alloc: Global,
-    realm: &GeneralStringAsn1,
-    settings: Settings,
-    client: Option<&Account>,
-    service: Option<&Account>,
-    moment: Moment,
-    words: &[u8],
+    call: &Call<'_>,
     request: &KdcReq,
-) -> Result<Vec<u8>, Refusal>
-    requires { 128 ≤ length words.now }
-    ensures { IsGranted (as_table realm.now settings (option_copied client.entry) (option_copied service.entry) moment words.now request.now).gives result }
+) -> Result<Result<Vec<u8>, Told>, AllocError>
+    requires { 128 ≤ length call.now.random.now }
+    ensures { IfOk result (λ judged. IsJudgement (tgs_table (call_of call.now) request.now).gives (λ code. None) judged) }
 {
-    check_address(realm, request)?;
-    let body = &request.req_body.0;
-    let Some(client_name) = client_of(body) else {
-        return Err(Refusal::Krb(error_codes::KDC_ERR_C_PRINCIPAL_UNKNOWN));
-    };
-    let Some(client) = client else {
-        return Err(Refusal::Krb(error_codes::KDC_ERR_C_PRINCIPAL_UNKNOWN));
-    };
-    let Some(service_name) = service_of(body) else {
-        return Err(Refusal::Krb(error_codes::KDC_ERR_S_PRINCIPAL_UNKNOWN));
-    };
-    let Some(service) = service else {
-        return Err(Refusal::Krb(error_codes::KDC_ERR_S_PRINCIPAL_UNKNOWN));
-    };
-    check_possible(settings, client.suite(), moment, body)?;
-    check_client(alloc, settings, client, moment, entries_of(request))?;
-    let asked = Principals {
-        client_name,
-        client,
-        service_name,
-        service,
-    };
-    let reply = grant(alloc, realm, settings, asked, moment, words, body)?;
-    Ok(reply)
+    match judge_tgs(alloc, call, request) {
+        Ok(reply) => Ok(Ok(reply)),
+        Err(Refusal::Memory) => Err(AllocError),
+        Err(Refusal::Krb(code)) => Ok(Err(Told { code, hint: None })),
+    }
 }
 
-/// The error with this code that answers a request for this service.
-pub fn error_answer(
+// The error that tells this, and answers a request for this service.
+fn error_answer(
     alloc: Global,
-    realm: &GeneralStringAsn1,
+    call: &Call<'_>,
     named: Option<ExplicitContextTag3<PrincipalName>>,
-    moment: Moment,
-    code: u32,
-    hint: Option<Vec<u8>>,
+    told: Told,
 ) -> Result<Vec<u8>, AllocError>
-    ensures { IfOk result (λ bytes. (time : GeneralizedTime) × IsSecondOf moment time
-        × (bytes.items ≡ error_bytes realm.now time (moment % 1000000) (named_service realm.now (option_map (λ tagged. tagged.0) named)) code (option_map (λ h. h.items) hint))) }
+    ensures { IfOk result (λ bytes. (time : GeneralizedTime) × IsSecondOf call.now.moment time
+        × (bytes.items ≡ error_bytes call.now.realm.now time (call.now.moment % 1000000)
+        (named_service call.now.realm.now (option_map (λ tagged. tagged.0) named)) told.code (option_map (λ h. h.items) told.hint))) }
 {
-    let service = named_service(alloc, named, realm)?;
-    let realm = realm.clone()?;
-    let time = moment.second();
+    let service = named_service(alloc, named, call.realm)?;
+    let realm = call.realm.clone()?;
+    let time = call.moment.second();
     let reply = error_reply(
         alloc,
         realm,
         time,
-        moment.microsecond(),
+        call.moment.microsecond(),
         service,
-        code,
-        hint,
+        told.code,
+        told.hint,
     )?;
     Ok(reply)
 }
 
-/// The service that a request names, where it names one.
-pub fn named_in(mut request: KdcReq) -> Option<ExplicitContextTag3<PrincipalName>>
+// The service that a request names, where it names one.
+fn named_in(mut request: KdcReq) -> Option<ExplicitContextTag3<PrincipalName>>
     ensures { option_map (λ tagged. tagged.0) result ≡ service_of request.req_body.0 }
 {
     request.req_body.0.sname.0.take()

@@ -1,18 +1,14 @@
-//! What a realm replies: the definitions, reading requests, judging and granting them, and writing errors.
+//! What a realm replies: the definition over whole messages, and its answers to AS and TGS requests.
 //!
-//! `specs/Replies` is the reply as one table over whole messages, a relation with at most one outcome. Each row's code
-//! stands here too.
+//! `specs/Replies` is the reply as one table, a relation with at most one outcome. The rows of an exchange are those of
+//! `krb_as` and `krb_tgs`.
 #![tactic(auto)]
 
 mod answer;
 mod error;
-mod grant;
-mod judge;
 pub mod laws;
 mod names;
-mod refusal;
-mod request;
+mod told;
 
-pub use answer::{answer_as, error_answer, named_in};
-pub use names::krbtgt_of;
-pub use request::{read_as_req, read_tgs_req};
+pub use answer::{answer_as, answer_tgs};
+pub use krb_as::{Call, krbtgt_of, read_as_req, read_tgs_req};

@@ -1,29 +1,15 @@
 //! The name of a realm's ticket-granting service.
-ghost use Rattle.std.specs.Prelude.{◌≡◌, IfOk, codes};
+ghost use Rattle.std.specs.Prelude.{◌≡◌, IfOk};
 ghost use Rattle.std.specs.Option.{option_map};
-ghost use Rattle.krb_replies.specs.Errors.{krbtgt_of, ticket_service};
+ghost use Rattle.krb_replies.specs.Errors.{ticket_service};
 ghost use Rattle.krb_replies.specs.Replies.{named_service};
 
+use krb_as::krbtgt_of;
 use picky_asn1::wrapper::{Asn1SequenceOf, GeneralStringAsn1, IntegerAsn1};
 use picky_asn1_der::{ExplicitContextTag, ExplicitContextTag3};
 use picky_krb::constants::types::NT_SRV_INST;
 use picky_krb::data_types::PrincipalName;
 use std::alloc::{AllocError, Global};
-
-/// The components of the ticket-granting service of a realm (RFC 4120, section 7.3).
-pub fn krbtgt_of(
-    alloc: Global,
-    realm: &GeneralStringAsn1,
-) -> Result<Vec<GeneralStringAsn1>, AllocError>
-    ensures { IfOk result (λ name. name.items ≡ krbtgt_of realm.now) }
-{
-    let first = service_text(alloc)?;
-    let second = realm.clone()?;
-    let mut name = Vec::with_capacity(alloc, 2)?;
-    name.push(first)?;
-    name.push(second)?;
-    Ok(name)
-}
 
 /// The ticket-granting service of a realm, as messages name it (RFC 4120, section 7.3).
 pub(crate) fn ticket_service(
@@ -53,13 +39,4 @@ pub(crate) fn named_service(
     }
     let service = ticket_service(alloc, realm)?;
     Ok(service)
-}
-
-fn service_text(alloc: Global) -> Result<GeneralStringAsn1, AllocError>
-    ensures { IfOk result (λ text. text ≡ codes "krbtgt") }
-{
-    match GeneralStringAsn1::new(alloc, b"krbtgt") {
-        Ok(text) => Ok(text),
-        Err(_) => Err(AllocError),
-    }
 }

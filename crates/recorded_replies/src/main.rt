@@ -18,7 +18,7 @@ fn main(rt: HostRuntime) -> anyhow::Result<()> {
     let bare = bare_realm(rt.alloc())?;
     replay(&rt, &bare, "real_clients.txt")?;
     let realm = realm_of_three(rt.alloc())?;
-    replay(&rt, &realm, "as_exchange.txt")
+    replay(&rt, &realm, "kdc_exchanges.txt")
 }
 
 /// The realm R with no account beside its own service.

@@ -109,3 +109,67 @@ fn are_added_by_password(alloc: Global) -> Option<()> {
 fn accounts_by_password(rt: HostRuntime) {
     assert!(rt; are_added_by_password(rt.alloc()).is_some());
 }
+
+// Whether an account is removed so.
+fn removes(
+    alloc: Global,
+    realm: &mut Realm,
+    components: &[&[u8]],
+    wanted: Result<(), RealmRefusal>,
+) -> Option<()> {
+    let name = name_of(alloc, components)?;
+    let removed = realm.remove_account(&name);
+    if removed == wanted { Some(()) } else { None }
+}
+
+fn are_removed(alloc: Global) -> Option<()> {
+    let mut realm = bare_realm(alloc)?;
+    adds(alloc, &mut realm, &[b"x"], &[1; 16], Ok(()))?;
+    let cases: [(&[&[u8]], Result<(), RealmRefusal>); 4] = [
+        (&[b"x"], Ok(())),
+        (&[b"x"], Err(RealmRefusal::Unknown)),
+        (&[b"krbtgt", b"R"], Err(RealmRefusal::KeptAccount)),
+        (&[], Err(RealmRefusal::BadName)),
+    ];
+    for (components, wanted) in cases {
+        removes(alloc, &mut realm, components, wanted)?;
+    }
+    Some(())
+}
+
+#[test]
+fn removals(rt: HostRuntime) {
+    assert!(rt; are_removed(rt.alloc()).is_some());
+}
+
+// Whether an account's key is changed so.
+fn changes(
+    alloc: Global,
+    realm: &mut Realm,
+    components: &[&[u8]],
+    key: &[u8],
+    wanted: Result<(), RealmRefusal>,
+) -> Option<()> {
+    let name = name_of(alloc, components)?;
+    let changed = realm.change_key(alloc, &name, AES256, key);
+    if changed == wanted { Some(()) } else { None }
+}
+
+fn are_changed(alloc: Global) -> Option<()> {
+    let mut realm = bare_realm(alloc)?;
+    let cases: [(&[&[u8]], &[u8], Result<(), RealmRefusal>); 4] = [
+        (&[b"krbtgt", b"R"], &[2; 32], Ok(())),
+        (&[b"x"], &[2; 32], Err(RealmRefusal::Unknown)),
+        (&[b"x"], &[2; 31], Err(RealmRefusal::BadKeyLength)),
+        (&[], &[2; 31], Err(RealmRefusal::BadName)),
+    ];
+    for (components, key, wanted) in cases {
+        changes(alloc, &mut realm, components, key, wanted)?;
+    }
+    Some(())
+}
+
+#[test]
+fn changed_keys(rt: HostRuntime) {
+    assert!(rt; are_changed(rt.alloc()).is_some());
+}

@@ -9,6 +9,8 @@ mod commands;
 #[cfg(test)]
 mod errors;
 #[cfg(test)]
+mod further;
+#[cfg(test)]
 mod logins;
 #[cfg(test)]
 mod makers;

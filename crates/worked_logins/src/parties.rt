@@ -82,7 +82,7 @@ pub(crate) fn ask(
         .ok()
 }
 
-fn answer_to(alloc: Global, request: &[u8]) -> Option<Vec<u8>> {
+pub(crate) fn answer_to(alloc: Global, request: &[u8]) -> Option<Vec<u8>> {
     let now = Moment::from_text(START)?;
     realm_of(alloc)?.answer(alloc, request, now, &[0; 128]).ok()
 }
@@ -113,7 +113,7 @@ pub(crate) fn request_of(
     request_by(alloc, client, &credential, both, moment)
 }
 
-fn request_by(
+pub(crate) fn request_by(
     alloc: Global,
     client: &Client,
     credential: &Credential,

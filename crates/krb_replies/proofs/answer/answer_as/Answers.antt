@@ -1,23 +1,15 @@
-use Rattle.std.proofs.Common.{◌%◌, Some, Ok, Err, ap, refl, ◌∙◌}
-use Rattle.std.specs.Option.{option_map}
-use Rattle.krb_replies.specs.AsTable.{service_of}
-use Rattle.krb_replies.specs.Errors.{error_bytes}
-use Rattle.krb_replies.specs.Replies.{named_service}
+use Rattle.krb_as.specs.AsTable.{as_table}
+use Rattle.krb_as.specs.Call.{call_of}
+use Rattle.krb_as.specs.Requests.{account_of, client_of, service_of}
+use Rattle.krb_replies.specs.Replies.{hint_of}
+use Rattle.krb_replies.proofs.Answered.{answers_with}
 use Rattle.krb_replies.proofs.answer.answer_as.Goals as goal
 
-pub returns-in-Ok : goal.returns-in-Ok
-returns-in-Ok c = (Ok c.in-Ok.ticket.items, rw c.in-Ok.is at c.in_ok-found.ensures, refl)
-
-pub returns-in_ok-reply-in-Err : goal.returns-in_ok-reply-in-Err
-returns-in_ok-reply-in-Err c =
-    let own = c.args.realm.now in
-    let body = c.args.request.req_body.0 in
-    let micros = c.args.moment % 1000000 in
-    let code = c.in-Err.told.code in
-    let judged = rw c.in-Err.is at c.in_ok-found.ensures in
-    let reply = c.in_ok-reply-in-Err.ensures in
-    let hint = option_map (λ h. h.items) c.in-Err.told.hint in
-    let bytes = reply.2
-    ∙ ap (λ n. error_bytes own reply.0 micros (named_service own n) code hint) c.named_in-service.ensures
-    ∙ ap (λ h. error_bytes own reply.0 micros (named_service own (service_of body)) code h) judged.1 in
-    (Err code, judged.0, (reply.0, reply.1, ap Some bytes))
+pub returns : goal.returns
+returns c =
+    let call = call_of c.args.call.now in
+    let request = c.args.request in
+    let client = account_of call.look (client_of request.req_body.0) in
+    let service = account_of call.look (service_of request.req_body.0) in
+    answers_with call (hint_of client) request (as_table call client service request) c.answer.result c.in_ok-found.found c.in_ok-found.ensures
+    (c.answer.ensures request c.named_in-service.ensures)

@@ -6,13 +6,12 @@ use Rattle.krb_replies.proofs.answer.error_answer.Goals as goal
 pub returns : goal.returns
 returns c =
     let time = c.second-time.result in
-    let code = c.args.code in
-    let hint = option_map (λ h. h.items) c.args.hint in
-    let own = c.args.realm.now in
-    let asked = option_map (λ tagged. tagged.0) c.args.named in
+    let code = c.args.told.code in
+    let hint = option_map (λ h. h.items) c.args.told.hint in
+    let own = c.args.call.now.realm.now in
     let service = c.in_ok-service.service in
     let bytes = c.in_ok-reply.ensures
     ∙ ap (λ realm. error_bytes realm time c.microsecond.result service code hint) c.in_ok-realm.ensures.cases
     ∙ ap (λ micros. error_bytes own time micros service code hint) c.microsecond.ensures.value
-    ∙ ap (λ s. error_bytes own time (c.args.moment % 1000000) s code hint) c.in_ok-service.ensures in
+    ∙ ap (λ s. error_bytes own time (c.args.call.now.moment % 1000000) s code hint) c.in_ok-service.ensures in
     (time, c.second-time.ensures, bytes)

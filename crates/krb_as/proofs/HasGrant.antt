@@ -1,0 +1,83 @@
+-- A ticket has its times, and what grants it has a reply.
+use Rattle.std.proofs.Common.{◌≡◌, ◌≤◌, ◌<◌, ℕ, ◌+◌, min, List, length, take, drop, Option, None, Some, Result, Ok, Err, true, false, refl, sym, subst, arith}
+use Rattle.std.proofs.lemmas.List.{length-drop, length-take-le}
+use Rattle.picky_asn1.specs.GeneralizedTime.{seconds_of}
+use Rattle.krb_blocks.specs.Bytes.{IsBytes}
+use Rattle.krb_blocks.proofs.States.{IsBytes-drop, IsBytes-take}
+use Rattle.krb_moments.specs.Moment.{IsMoment}
+use Rattle.krb_crypto.specs.Suites.{cipher_confounder_size, cipher_key_size}
+use Rattle.krb_crypto.specs.declared.suite.CipherSuite.{CipherSuite}
+use Rattle.krb_crypto.specs.declared.suite.CipherSuite.TheVariants.{Aes128CtsHmacSha196, Aes256CtsHmacSha196}
+use Rattle.krb_crypto.proofs.SealedTexts.{has_sealed}
+use Rattle.krb_accounts.specs.Account.{AccountRecord}
+use Rattle.krb_types.specs.declared.data_types.encrypted_data.EncryptedData.{EncryptedData}
+use Rattle.picky_krb.specs.declared.messages.kdc_req_body.KdcReqBody.{KdcReqBody}
+use Rattle.decision_tables.specs.Tables.{Table, done, refuse}
+use Rattle.decision_tables.proofs.Outcomes.{HasOutcome, has_done, has_made, has_refused, some_of}
+use Rattle.krb_sealing.specs.Sealing.{Seals, encrypted_by}
+use Rattle.krb_tickets.specs.declared.grant.Grant.{Grant}
+use Rattle.krb_tickets.specs.Parts.{kdc_reply_of, reply_part, ticket_of, ticket_part}
+use Rattle.krb_tickets.specs.ReplyKeys.{ReplyKeyRecord}
+use Rattle.krb_tickets.specs.Sealed.{kdc_reply_bytes, reply_part_bytes, ticket_part_bytes}
+use Rattle.krb_tickets.specs.Times.{asked_end, end_of, old_end, start_of}
+use Rattle.krb_grants.specs.Granted.{IsTicketReply, sole_ticket_reply}
+use Rattle.krb_as.specs.Calls.{IsKeyed, IsWritten}
+use Rattle.krb_as.specs.Grants.{replied}
+use Rattle.krb_as.specs.Requests.{IsSpan, is_ended, lasting, sole_span}
+use Rattle.krb_as.specs.declared.span.Span.{Span}
+use Rattle.krb_as.proofs.Seconds.{has_time}
+
+-- sixteen of the random bytes
+block_of : (suite : CipherSuite) (from : ℕ) (random : List ℕ) → from + 16 ≤ length random → length (take 16 (drop from random)) ≡ cipher_confounder_size suite
+block_of Aes128CtsHmacSha196 from random long = length-take-le 16 (drop from random) (omega (arith, length-drop from random))
+block_of Aes256CtsHmacSha196 from random long = length-take-le 16 (drop from random) (omega (arith, length-drop from random))
+
+has_data : (suite : CipherSuite) (key : List ℕ) (number : Option ℕ) (usage from : ℕ) (random plain : List ℕ) → length key ≡ cipher_key_size suite → IsBytes key
+    → from + 16 ≤ length random → IsBytes random → IsBytes plain → (made : EncryptedData) × Seals suite key number usage (take 16 (drop from random)) plain made
+has_data suite key number usage from random plain sized key_bytes long random_bytes plain_bytes =
+    let made = has_sealed suite key usage (take 16 (drop from random)) plain sized key_bytes (block_of suite from random long)
+    (IsBytes-take 16 (drop from random) (IsBytes-drop from random random_bytes)) plain_bytes in
+    (encrypted_by suite number made.0, record { cipher = made.0; seals = made.1; told = refl })
+
+has_ticket_reply : (grant : Grant) (under : ReplyKeyRecord) (service : AccountRecord) (random : List ℕ) → length under.key ≡ cipher_key_size under.suite → IsBytes under.key → IsKeyed service
+    → 128 ≤ length random → IsBytes random → IsWritten under.exchange grant → (bytes : List ℕ) × IsTicketReply grant under service random bytes
+has_ticket_reply grant under service random sized key_bytes service_key long random_bytes written =
+    let ticket = has_data service.suite service.key (Some service.number) 2 32 random (ticket_part_bytes (ticket_part grant)) service_key.sized service_key.bytes (omega arith) random_bytes written.ticket in
+    let reply = has_data under.suite under.key under.number under.usage 48 random (reply_part_bytes under.exchange (reply_part grant)) sized key_bytes (omega arith) random_bytes written.reply in (
+      kdc_reply_bytes under.exchange (kdc_reply_of under.exchange grant (ticket_of grant ticket.0) reply.0),
+      record { ticket_data = ticket.0; ticket_sealed = ticket.1; reply_data = reply.0; reply_sealed = reply.1; encoding = refl },
+    )
+
+pub has_replied : (grant : Grant) (under : ReplyKeyRecord) (service : AccountRecord) (random : List ℕ) → length under.key ≡ cipher_key_size under.suite → IsBytes under.key → IsKeyed service
+    → 128 ≤ length random → IsBytes random → IsWritten under.exchange grant → HasOutcome (replied grant under service random)
+has_replied grant under service random sized key_bytes service_key long random_bytes written =
+    let made = has_ticket_reply grant under service random sized key_bytes service_key long random_bytes written in
+    let end : List ℕ → Table (Result (List ℕ) ℕ) = λ bytes. done (Ok bytes) in
+    has_made (IsTicketReply grant under service random) (sole_ticket_reply grant under service random) end
+    (some_of (IsTicketReply grant under service random) made.0 made.1) (λ bytes y. has_done (Ok bytes))
+
+-- a ticket starts and ends in seconds that times have
+least : (a b c : ℕ) → min a (min b (min c 315569519999)) < 315569520000
+least a b c = grind (arith)
+
+has_span : (lifetime moment : ℕ) (old : Option ℕ) (till : ℕ) → IsMoment moment → (span : Span) × IsSpan lifetime moment old till span
+has_span lifetime moment old till in_time =
+    let start = has_time (start_of moment) (omega arith) in
+    let until = has_time (end_of lifetime (start_of moment) old till) (least (asked_end till) (start_of moment + lifetime) (old_end old)) in
+    (record { start = start.0; until = until.0 }, record { starts = start.1; ends = until.1 })
+
+pub has_lasting : (lifetime moment : ℕ) (old : Option ℕ) (body : KdcReqBody) → IsMoment moment → HasOutcome (lasting lifetime moment old body)
+has_lasting lifetime moment old body in_time =
+    let till : ℕ = seconds_of body.till.0.0 in
+    let own = has_span lifetime moment old till in_time in
+    let rest : Span → Table (Result Span ℕ) = λ span. refuse (is_ended span) 11 (done (Ok span)) in
+    has_made (IsSpan lifetime moment old till) (sole_span lifetime moment old till) rest (some_of (IsSpan lifetime moment old till) own.0 own.1)
+    (λ span x. has_refused {T = Span} (is_ended span) 11 (done (Ok span)) (λ _. has_done (Ok span)))
+
+-- what the table gives for the time of a ticket is a time
+pub lasts : (lifetime moment : ℕ) (old : Option ℕ) (body : KdcReqBody) (span : Span) → (lasting lifetime moment old body).gives (Ok span) → IsSpan lifetime moment old (seconds_of body.till.0.0) span
+lasts lifetime moment old body span (own, is, given) =
+    elim (is_ended own) as (λ b. (refuse {T = Span} {E = ℕ} b 11 (done (Ok own))).gives (Ok span) → IsSpan lifetime moment old (seconds_of body.till.0.0) span) [
+      | true ↦ λ x. absurd (cc (x))
+      | false ↦ λ x. let same : span ≡ own = cc (x) in subst (λ s. IsSpan lifetime moment old (seconds_of body.till.0.0) s) (sym same) is
+    ] given

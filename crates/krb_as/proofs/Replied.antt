@@ -1,0 +1,15 @@
+-- What replies to the ticket that was made is the reply that grants it.
+use Rattle.std.proofs.Common.{◌≡◌, ℕ, List, Result, Ok, Err, refl, subst}
+use Rattle.std.specs.Prelude.{IfOk, Vec}
+use Rattle.std.specs.Global.{Global}
+use Rattle.krb_accounts.specs.Account.{AccountRecord}
+use Rattle.krb_tickets.specs.declared.grant.Grant.{Grant}
+use Rattle.krb_tickets.specs.ReplyKeys.{ReplyKeyRecord}
+use Rattle.krb_grants.specs.Granted.{IsTicketReply}
+use Rattle.krb_as.specs.Grants.{replied}
+
+pub replied_by : {E : Type 0} (r : Result (Vec ℕ Global) E) (made wanted : Grant) (own under : ReplyKeyRecord) (service : AccountRecord) (random : List ℕ) → made ≡ wanted → own ≡ under
+    → IfOk r (λ bytes. IsTicketReply made own service random bytes.items) → IfOk r (λ bytes. (replied wanted under service random).gives (Ok bytes.items))
+replied_by (Ok bytes) made wanted own under service random same key x =
+    (bytes.items, subst (λ g. IsTicketReply g under service random bytes.items) same (subst (λ k. IsTicketReply made k service random bytes.items) key x), refl)
+replied_by (Err e) made wanted own under service random same key x = tt

@@ -1,0 +1,42 @@
+use Rattle.std.proofs.Common.{◌≡◌, ◌*◌, true, false, None, Some, refl, sym, inl, inr, ◌∙◌}
+use Rattle.std.specs.Option.{is_some}
+use Rattle.krb_moments.specs.Skew.{is_far}
+use Rattle.krb_as.specs.Call.{call_of, skew_of}
+use Rattle.krb_preauth.specs.Entries.{first_of}
+use Rattle.krb_preauth.specs.Stamps.{moment_of}
+use Rattle.krb_as.proofs.judge.check_client.Goals as goal
+
+pub returns-in_default-2 : goal.returns-in_default-2
+returns-in_default-2 c =
+    let absent : is_some (first_of 16 c.args.entries.now) ≡ false = sym c.has_entry.ensures ∙ c.if-has_entry.false in
+    let present : first_of 2 c.args.entries.now ≡ Some c.in-Some.entry.now = sym c.in-Some.ensures in
+    let none = rw (c.in_default-2.is, c.as_bytes.ensures) at c.in_ok-stamp.ensures in
+    rw (absent, present) (inr (none, refl))
+
+pub returns-in_default-moment_of : goal.returns-in_default-moment_of
+returns-in_default-moment_of c =
+    let absent : is_some (first_of 16 c.args.entries.now) ≡ false = sym c.has_entry.ensures ∙ c.if-has_entry.false in
+    let present : first_of 2 c.args.entries.now ≡ Some c.in-Some.entry.now = sym c.in-Some.ensures in
+    let found = rw (c.in-Some-2.is, c.as_bytes.ensures) at c.in_ok-stamp.ensures in
+    let time : moment_of c.in-Some-2.stamp ≡ None = sym c.moment_of.ensures ∙ c.in_default-moment_of.is in
+    rw (absent, present) (inl (c.in-Some-2.stamp, found, rw time refl))
+
+pub returns-then-is_far_from : goal.returns-then-is_far_from
+returns-then-is_far_from c =
+    let absent : is_some (first_of 16 c.args.entries.now) ≡ false = sym c.has_entry.ensures ∙ c.if-has_entry.false in
+    let present : first_of 2 c.args.entries.now ≡ Some c.in-Some.entry.now = sym c.in-Some.ensures in
+    let found = rw (c.in-Some-2.is, c.as_bytes.ensures) at c.in_ok-stamp.ensures in
+    let time : moment_of c.in-Some-2.stamp ≡ Some c.in-Some-moment_of.time = sym c.moment_of.ensures ∙ c.in-Some-moment_of.is in
+    let far : is_far (skew_of (call_of c.args.call.now)) c.args.call.now.moment c.in-Some-moment_of.time ≡ true =
+    rw c.skew.ensures.value at (sym c.is_far_from.ensures ∙ c.if-is_far_from.true) in
+    rw (absent, present) (inl (c.in-Some-2.stamp, found, rw (time, far) refl))
+
+pub returns : goal.returns
+returns c =
+    let absent : is_some (first_of 16 c.args.entries.now) ≡ false = sym c.has_entry.ensures ∙ c.if-has_entry.false in
+    let present : first_of 2 c.args.entries.now ≡ Some c.in-Some.entry.now = sym c.in-Some.ensures in
+    let found = rw (c.in-Some-2.is, c.as_bytes.ensures) at c.in_ok-stamp.ensures in
+    let time : moment_of c.in-Some-2.stamp ≡ Some c.in-Some-moment_of.time = sym c.moment_of.ensures ∙ c.in-Some-moment_of.is in
+    let far : is_far (skew_of (call_of c.args.call.now)) c.args.call.now.moment c.in-Some-moment_of.time ≡ false =
+    rw c.skew.ensures.value at (sym c.is_far_from.ensures ∙ c.if-is_far_from.false) in
+    rw (absent, present) (inl (c.in-Some-2.stamp, found, rw (time, far) refl))

@@ -1,0 +1,62 @@
+use Rattle.std.proofs.Common.{Ok, Err, ap, sym, subst}
+use Rattle.std.specs.Option.{option_copied}
+use Rattle.std.proofs.lemmas.Result.{err_from_is_err_and}
+use Rattle.krb_types.specs.Refusals.{IsJudged}
+use Rattle.krb_as.specs.Call.{call_of}
+use Rattle.krb_as.specs.AsTable.{possible, preauthenticated}
+use Rattle.krb_as.proofs.Judged.{given_ticket, refused_client, refused_ticket}
+use Rattle.krb_as.proofs.whole.judge_as.Goals as goal
+
+pub returns-in_err-span : goal.returns-in_err-span
+returns-in_err-span c =
+    let refusal = c.in_err-span.field-0.0 in
+    let body = c.args.request.now.req_body.0 in
+    let exit = err_from_is_err_and c.from_residual-in_err-span.result c.from_residual-in_err-span.ensures.1 in
+    rw (exit.1, exit.2)
+    (refused_ticket (call_of c.args.call.now) (option_copied c.args.client) (option_copied c.args.service) c.args.request.now
+    (record { client_name = c.in-Some.client_name.now; client = c.in-Some-client.client.now; service_name = c.in-Some-service_of.service_name.now; service = c.in-Some-service.service.now })
+    refusal
+    (record {
+      address = c.in_ok-check_address.ensures;
+      client_name = sym c.in-Some.ensures;
+      client = ap (λ o. option_copied o) c.in-Some-client.is;
+      service_name = sym c.in-Some-service_of.ensures;
+      service = ap (λ o. option_copied o) c.in-Some-service.is;
+    })
+    (subst (λ s. IsJudged (possible (call_of c.args.call.now) s body).gives (Err refusal)) c.suite.ensures c.in_err-span.ensures))
+
+pub returns-in_err-check_client : goal.returns-in_err-check_client
+returns-in_err-check_client c =
+    let refusal = c.in_err-check_client.field-0.0 in
+    let body = c.args.request.now.req_body.0 in
+    let exit = err_from_is_err_and c.from_residual-in_err-check_client.result c.from_residual-in_err-check_client.ensures.1 in
+    rw (exit.1, exit.2)
+    (refused_client (call_of c.args.call.now) (option_copied c.args.client) (option_copied c.args.service) c.args.request.now
+    (record { client_name = c.in-Some.client_name.now; client = c.in-Some-client.client.now; service_name = c.in-Some-service_of.service_name.now; service = c.in-Some-service.service.now })
+    c.in_ok-span.span refusal
+    (record {
+      address = c.in_ok-check_address.ensures;
+      client_name = sym c.in-Some.ensures;
+      client = ap (λ o. option_copied o) c.in-Some-client.is;
+      service_name = sym c.in-Some-service_of.ensures;
+      service = ap (λ o. option_copied o) c.in-Some-service.is;
+    })
+    (subst (λ s. IsJudged (possible (call_of c.args.call.now) s body).gives (Ok c.in_ok-span.span)) c.suite.ensures c.in_ok-span.ensures)
+    (subst (λ e. IsJudged (preauthenticated (call_of c.args.call.now) c.in-Some-client.client.now e).gives (Err refusal)) c.entries_of.ensures c.in_err-check_client.ensures))
+
+pub returns : goal.returns
+returns c =
+    let body = c.args.request.now.req_body.0 in
+    given_ticket (call_of c.args.call.now) (option_copied c.args.client) (option_copied c.args.service) c.args.request.now
+    (record { client_name = c.in-Some.client_name.now; client = c.in-Some-client.client.now; service_name = c.in-Some-service_of.service_name.now; service = c.in-Some-service.service.now })
+    c.in_ok-span.span c.in_ok-reply.reply
+    (record {
+      address = c.in_ok-check_address.ensures;
+      client_name = sym c.in-Some.ensures;
+      client = ap (λ o. option_copied o) c.in-Some-client.is;
+      service_name = sym c.in-Some-service_of.ensures;
+      service = ap (λ o. option_copied o) c.in-Some-service.is;
+    })
+    (subst (λ s. IsJudged (possible (call_of c.args.call.now) s body).gives (Ok c.in_ok-span.span)) c.suite.ensures c.in_ok-span.ensures)
+    (subst (λ e. IsJudged (preauthenticated (call_of c.args.call.now) c.in-Some-client.client.now e).gives (Ok tt)) c.entries_of.ensures c.in_ok-check_client.ensures)
+    c.in_ok-reply.ensures

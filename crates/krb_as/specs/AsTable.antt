@@ -1,0 +1,60 @@
+-- What an AS request is answered, in parts of one table, row by row: the first case that holds counts (RFC 4120, section 3.1.3).
+use Rattle.std.specs.Prelude.{ℕ, ◌+◌, ◌*◌, nat_lt, Bool, false, not, List, Option, None, Result, Ok, Err}
+use Rattle.std.specs.List.{list_any}
+use Rattle.std.specs.Option.{is_some, option_map_or}
+use Rattle.picky_asn1.specs.GeneralizedTime.{seconds_of}
+use Rattle.picky_asn1.specs.Numbers.{is_number}
+use Rattle.krb_moments.specs.Skew.{is_far}
+use Rattle.krb_crypto.specs.declared.suite.CipherSuite.{CipherSuite}
+use Rattle.krb_crypto.specs.Suites.{cipher_number}
+use Rattle.krb_accounts.specs.Account.{AccountRecord}
+use Rattle.krb_types.specs.declared.data_types.pa_data.PaData.{PaData}
+use Rattle.picky_krb.specs.declared.messages.kdc_req.KdcReq.{KdcReq}
+use Rattle.picky_krb.specs.declared.messages.kdc_req_body.KdcReqBody.{KdcReqBody}
+use Rattle.decision_tables.specs.Tables.{Table, and_then, ask, done, need, refuse}
+use Rattle.krb_preauth.specs.Entries.{first_of}
+use Rattle.krb_preauth.specs.Stamps.{IsStamp, moment_of, sole_stamp}
+use Rattle.krb_as.specs.Call.{CallRecord, skew_of}
+use Rattle.krb_as.specs.Grants.{granted}
+use Rattle.krb_as.specs.Requests.{addressed, client_of, entries_of, lasting, service_of}
+use Rattle.krb_as.specs.declared.span.Span.{Span}
+
+-- the ticket is to start later than the moment and the skew
+abbrev pub is_later : CallRecord → KdcReqBody → Bool
+is_later call body = option_map_or (λ told. nat_lt (call.moment + skew_of call) (seconds_of told.0.0 * 1000000)) body.from.0 false
+
+-- the client takes the suite
+abbrev pub is_listed : CipherSuite → KdcReqBody → Bool
+is_listed suite body = list_any (λ etype. is_number (cipher_number suite) etype) body.etype.0
+
+-- what the ticket is to be: its times and its suite
+abbrev pub possible : CallRecord → CipherSuite → KdcReqBody → Table (Result Span ℕ)
+possible call suite body =
+    refuse (is_later call body) 10
+    (and_then (lasting call.settings.lifetime call.moment None body) (λ span.
+    refuse (not (is_listed suite body)) 14
+    (done (Ok span))))
+
+-- the client shows that it has its key by a time sealed under it. An entry of type 16, PKINIT, wins over one of type 2,
+-- and finds no anchor
+abbrev pub preauthenticated : CallRecord → AccountRecord → List PaData → Table (Result (Unit {0}) ℕ)
+preauthenticated call client entries =
+    refuse (is_some (first_of 16 entries)) 16
+    (need (first_of 2 entries) 25 (λ entry.
+    ask (IsStamp client entry) (sole_stamp client entry) (done (Err 24)) (λ stamp.
+    need (moment_of stamp) 24 (λ time.
+    refuse (is_far (skew_of call) call.moment time) 37
+    (done (Ok tt))))))
+
+-- the whole table, of the accounts of client and service if they have one
+abbrev pub as_table : CallRecord → Option AccountRecord → Option AccountRecord → KdcReq → Table (Result (List ℕ) ℕ)
+as_table call of_client of_service request =
+    and_then (addressed 10 call.realm request) (λ _.
+    need (client_of request.req_body.0) 6 (λ client_name.
+    need of_client 6 (λ client.
+    need (service_of request.req_body.0) 7 (λ service_name.
+    need of_service 7 (λ service.
+    and_then (possible call client.suite request.req_body.0) (λ span.
+    and_then (preauthenticated call client (entries_of request)) (λ _.
+    granted call (record { client_name = client_name; client = client; service_name = service_name; service = service })
+    span request.req_body.0)))))))

@@ -1,0 +1,7 @@
+pub mod Call
+pub mod TicketGranting
+pub mod Requests
+pub mod Grants
+pub mod AsTable
+pub mod Judged
+pub mod Calls

@@ -1,0 +1,78 @@
+//! Granting a first ticket.
+ghost use Rattle.std.specs.Prelude.{◌≡◌, ◌≤◌, Ok, length, IfOk};
+ghost use Rattle.krb_as.specs.Call.{call_of};
+ghost use Rattle.krb_as.specs.Grants.{first_ticket, granted};
+ghost use Rattle.krb_as.specs.Judged.{principals};
+
+use crate::call::Call;
+use crate::requests::session_key;
+use crate::span::Span;
+use krb_accounts::Account;
+use krb_grants::ticket_reply;
+use krb_tickets::{Grant, ReplyKey, TicketFlags};
+use picky_krb::data_types::PrincipalName;
+use picky_krb::messages::KdcReqBody;
+use std::alloc::{AllocError, Global};
+
+/// Who asks for a ticket for whom, with their accounts.
+#[derive(Clone, Copy, Drop)]
+pub(crate) struct Principals<'a> {
+    /// The client, as it named itself.
+    pub(crate) client_name: &'a PrincipalName,
+    /// Its account.
+    pub(crate) client: &'a Account,
+    /// The service, as the client named it.
+    pub(crate) service_name: &'a PrincipalName,
+    /// Its account.
+    pub(crate) service: &'a Account,
+}
+
+/// The reply with a ticket that lasts so long (RFC 4120, section 3.1.3).
+pub(crate) fn grant(
+    alloc: Global,
+    call: &Call<'_>,
+    asked: Principals,
+    span: Span,
+    body: &KdcReqBody,
+) -> Result<Vec<u8>, AllocError>
+    requires { 128 ≤ length call.now.random.now }
+    ensures { IfOk result (λ bytes. (granted (call_of call.now) (principals asked.entry) span body.now).gives (Ok bytes.items)) }
+{
+    let ticket = first_ticket(alloc, call, asked, span, body)?;
+    let under = ReplyKey::of_client(asked.client);
+    ticket_reply(alloc, &ticket, &under, asked.service, call.random)
+}
+
+// What the ticket is granted with.
+fn first_ticket(
+    alloc: Global,
+    call: &Call<'_>,
+    asked: Principals,
+    span: Span,
+    body: &KdcReqBody,
+) -> Result<Grant, AllocError>
+    requires { 128 ≤ length call.now.random.now }
+    ensures { IfOk result (λ grant. grant ≡ first_ticket (call_of call.now) (principals asked.entry) body.now span) }
+{
+    let suite = asked.client.suite();
+    let session = session_key(alloc, suite, call.random)?;
+    let realm = call.realm.clone()?;
+    let client = asked.client_name.clone()?;
+    let service = asked.service_name.clone()?;
+    let nonce = body.nonce.0.clone()?;
+    Ok(Grant {
+        suite,
+        session,
+        realm,
+        client,
+        service,
+        flags: TicketFlags {
+            initial: true,
+            pre_authenticated: true,
+        },
+        auth_time: span.start,
+        start: span.start,
+        until: span.until,
+        nonce,
+    })
+}

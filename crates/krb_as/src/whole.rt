@@ -1,0 +1,55 @@
+//! Judging an AS request as a whole.
+ghost use Rattle.std.specs.Prelude.{◌≤◌, length};
+ghost use Rattle.std.specs.Option.{option_copied};
+ghost use Rattle.krb_as.specs.AsTable.{as_table};
+ghost use Rattle.krb_as.specs.Call.{call_of};
+ghost use Rattle.krb_as.specs.Judged.{IsGranted};
+
+use crate::call::Call;
+use crate::grant::{Principals, grant};
+use crate::judge::{check_client, check_possible};
+use crate::requests::{check_address, client_of, entries_of, service_of};
+use krb_accounts::Account;
+use krb_types::Refusal;
+use krb_types::constants::error_codes;
+use krb_types::constants::types::AS_REQ_MSG_TYPE;
+use picky_krb::messages::KdcReq;
+use std::alloc::Global;
+
+/// The reply that grants a first ticket, or the code of the error, by the table of the realm that is called, of these
+/// accounts of client and service, if they have one (RFC 4120, section 3.1.3).
+pub fn judge_as(
+    alloc: Global,
+    call: &Call<'_>,
+    client: Option<&Account>,
+    service: Option<&Account>,
+    request: &KdcReq,
+) -> Result<Vec<u8>, Refusal>
+    requires { 128 ≤ length call.now.random.now }
+    ensures { IsGranted (as_table (call_of call.now) (option_copied client.entry) (option_copied service.entry) request.now).gives result }
+{
+    check_address(AS_REQ_MSG_TYPE, call.realm, request)?;
+    let body = &request.req_body.0;
+    let Some(client_name) = client_of(body) else {
+        return Err(Refusal::Krb(error_codes::KDC_ERR_C_PRINCIPAL_UNKNOWN));
+    };
+    let Some(client) = client else {
+        return Err(Refusal::Krb(error_codes::KDC_ERR_C_PRINCIPAL_UNKNOWN));
+    };
+    let Some(service_name) = service_of(body) else {
+        return Err(Refusal::Krb(error_codes::KDC_ERR_S_PRINCIPAL_UNKNOWN));
+    };
+    let Some(service) = service else {
+        return Err(Refusal::Krb(error_codes::KDC_ERR_S_PRINCIPAL_UNKNOWN));
+    };
+    let span = check_possible(call, client.suite(), body)?;
+    check_client(alloc, call, client, entries_of(request))?;
+    let asked = Principals {
+        client_name,
+        client,
+        service_name,
+        service,
+    };
+    let reply = grant(alloc, call, asked, span, body)?;
+    Ok(reply)
+}

@@ -1,0 +1,38 @@
+-- What a judgement is answered with is the reply.
+use Rattle.std.proofs.Common.{◌≡◌, ℕ, ◌%◌, List, Option, Some, Result, Ok, Err, ap, refl, ◌∙◌}
+use Rattle.std.specs.Prelude.{IfOk, Vec}
+use Rattle.std.specs.Global.{Global}
+use Rattle.std.specs.Option.{option_map}
+use Rattle.asn1_leaves.specs.declared.date.GeneralizedTime.{GeneralizedTime}
+use Rattle.krb_types.specs.declared.data_types.principal_name.PrincipalName.{PrincipalName}
+use Rattle.picky_krb.specs.declared.messages.kdc_req.KdcReq.{KdcReq}
+use Rattle.decision_tables.specs.Tables.{Table}
+use Rattle.krb_as.specs.Call.{CallRecord}
+use Rattle.krb_as.specs.Requests.{service_of}
+use Rattle.krb_replies.specs.Errors.{IsSecondOf, error_bytes}
+use Rattle.krb_replies.specs.Judged.{IsAnswerWith, IsJudgement}
+use Rattle.krb_replies.specs.Replies.{answered, named_service}
+use Rattle.krb_replies.specs.declared.told.Told.{Told}
+
+-- the error names the request's service
+pub error_with : (call : CallRecord) (request : KdcReq) (told : Told) (named : Option PrincipalName) (bytes : List ℕ) (time : GeneralizedTime) → named ≡ service_of request.req_body.0
+    → IsSecondOf call.moment time
+    → bytes ≡ error_bytes call.realm time (call.moment % 1000000) (named_service call.realm named) told.code (option_map (λ h. h.items) told.hint) → IsAnswerWith call request (Err told) bytes
+error_with call request told named bytes time service second e =
+    (time, second, e ∙ ap (λ n. error_bytes call.realm time (call.moment % 1000000) (named_service call.realm n) told.code (option_map (λ h. h.items) told.hint)) service)
+
+module _ (call : CallRecord) (hint : ℕ → Option (List ℕ)) (request : KdcReq) (table : Table (Result (List ℕ) ℕ)) where
+  answer_of : (judged : Result (Vec ℕ Global) Told) (bytes : List ℕ) → IsJudgement table.gives hint judged → IsAnswerWith call request judged bytes
+      → (answered call hint request table).gives (Some bytes)
+  answer_of (Ok ticket) bytes x e = (Ok ticket.items, x, ap Some e)
+  answer_of (Err told) bytes x e = (
+    Err told.code,
+    x.0,
+    (e.0, e.1, ap Some (e.2 ∙ ap (λ h. error_bytes call.realm e.0 (call.moment % 1000000) (named_service call.realm (service_of request.req_body.0)) told.code h) x.1)),
+  )
+
+  -- what is answered where a call succeeds is the reply
+  pub answers_with : {E : Type 0} (r : Result (Vec ℕ Global) E) (judged : Result (Vec ℕ Global) Told) → IsJudgement table.gives hint judged
+      → IfOk r (λ bytes. IsAnswerWith call request judged bytes.items) → IfOk r (λ bytes. (answered call hint request table).gives (Some bytes.items))
+  answers_with (Ok bytes) judged x e = answer_of judged bytes.items x e
+  answers_with (Err wanting) judged x e = tt

@@ -1,0 +1,85 @@
+-- What the parts of the table give is of the ticket that the request comes with.
+use Rattle.std.proofs.Common.{◌≡◌, ◌⊎◌, ℕ, Bool, true, false, not, List, Option, None, Some, Result, Ok, Err, refl, sym, subst, inl, inr}
+use Rattle.krb_crypto.specs.declared.suite.CipherSuite.{CipherSuite}
+use Rattle.krb_accounts.specs.Account.{AccountRecord}
+use Rattle.krb_types.specs.Names.{is_same_realm}
+use Rattle.krb_types.specs.declared.data_types.authenticator.AuthenticatorInner.{AuthenticatorInner}
+use Rattle.krb_types.specs.declared.data_types.enc_ticket_part.EncTicketPartInner.{EncTicketPartInner}
+use Rattle.krb_types.specs.declared.data_types.encrypted_data.EncryptedData.{EncryptedData}
+use Rattle.krb_types.specs.declared.data_types.pa_data.PaData.{PaData}
+use Rattle.krb_opening.specs.Keys.{suite_of}
+use Rattle.picky_krb.specs.declared.messages.ap_req.ApReqInner.{ApReqInner}
+use Rattle.picky_krb.specs.Messages.{IsApReq, sole_ap_req}
+use Rattle.decision_tables.specs.Tables.{Table, and_then, ask, done, need, refuse}
+use Rattle.decision_tables.specs.One.{IsSole}
+use Rattle.krb_preauth.specs.Entries.{first_of}
+use Rattle.krb_ap.specs.ApTable.{ap_fields, authenticated, opened, opened_part, told}
+use Rattle.krb_ap.specs.Messages.{IsAuthenticator, IsTicketPart, sole_authenticator, sole_ticket_part}
+use Rattle.krb_ap.specs.declared.presented.Authenticated.{Authenticated}
+use Rattle.krb_as.specs.Call.{CallRecord, skew_of}
+use Rattle.krb_as.specs.TicketGranting.{krbtgt_of}
+use Rattle.krb_moments.specs.Skew.{is_far}
+use Rattle.krb_tgs.specs.ByTicket.{IsShown}
+use Rattle.krb_tgs.specs.TgsTable.{carried, counting, shown_near, ticket_granting}
+
+-- a value that was asked for has the property
+pub asked_for : {A : Type 0} (P : A → Type 0) (sole : IsSole P) (code : ℕ) (a : A) → (ask {T = Result A ℕ} P sole (done (Err code)) (λ v. done (Ok v))).gives (Ok a) → P a
+asked_for P sole code a (inl (v, has, e)) = let same : a ≡ v = cc (e) in subst P (sym same) has
+asked_for P sole code a (inr (none, e)) = absurd (cc (e))
+
+-- a part that doesn't refuse was passed
+pub passed : {A : Type 0} (case : Bool) (code : ℕ) (rest : Table (Result A ℕ)) (a : A) → (refuse {T = A} case code rest).gives (Ok a) → rest.gives (Ok a)
+passed true code rest a x = absurd (cc (x))
+passed false code rest a x = x
+
+abbrev read : List ℕ → Table (Result ApReqInner ℕ)
+read entry = ask (IsApReq entry) (sole_ap_req entry) (done (Err 41)) (λ v. done (Ok v))
+
+pub by_entry : (entries : List PaData) (presented : ApReqInner) → (carried entries).gives (Ok presented) → (entry : List ℕ) × (first_of 1 entries ≡ Some entry) × IsApReq entry presented
+by_entry entries presented x = of_entry (first_of 1 entries) refl x
+  where
+    of_entry : (found : Option (List ℕ)) → first_of 1 entries ≡ found → (need {A = List ℕ} {T = ApReqInner} {E = ℕ} found 16 read).gives (Ok presented)
+        → (entry : List ℕ) × (first_of 1 entries ≡ Some entry) × IsApReq entry presented
+    of_entry None e y = absurd (cc (y))
+    of_entry (Some entry) e y = (entry, e, asked_for (IsApReq entry) (sole_ap_req entry) 41 presented y)
+
+pub by_ticket : (call : CallRecord) (granting : AccountRecord) (presented : ApReqInner) (part : EncTicketPartInner) → (ticket_granting call granting presented).gives (Ok part)
+    → IsTicketPart granting.suite granting.key presented.ticket.0.0.enc_part.0 part
+by_ticket call granting presented part (inl (_, fields, inl (own, opened, inl (_, counts, e)))) =
+    let same : part ≡ own = cc (e) in
+    subst (λ p. IsTicketPart granting.suite granting.key presented.ticket.0.0.enc_part.0 p) (sym same)
+    (asked_for (IsTicketPart granting.suite granting.key presented.ticket.0.0.enc_part.0) (sole_ticket_part granting.suite granting.key presented.ticket.0.0.enc_part.0) 31 own opened)
+by_ticket call granting presented part (inl (_, fields, inl (own, opened, inr (code, counts, e)))) = absurd (cc (e))
+by_ticket call granting presented part (inl (_, fields, inr (code, opened, e))) = absurd (cc (e))
+by_ticket call granting presented part (inr (code, fields, e)) = absurd (cc (e))
+
+-- the suite is that of the ticket's key, and the authenticator is sealed under it
+pub record IsOfKey (presented : ApReqInner) (part : EncTicketPartInner) (shown : Authenticated) : Type 0 where
+  pub suite : suite_of part.key.0 ≡ Some shown.suite
+  pub opens : IsAuthenticator shown.suite part.key.0.key_value.0 7 presented.authenticator.0 shown.authenticator
+
+abbrev under : List ℕ → EncryptedData → CipherSuite → Table (Result (CipherSuite × AuthenticatorInner) ℕ)
+under key sealed suite = ask (IsAuthenticator suite key 7 sealed) (sole_authenticator suite key 7 sealed) (done (Err 31)) (λ authenticator. done (Ok (suite, authenticator)))
+
+of_suite : (key : List ℕ) (sealed : EncryptedData) (found : Option CipherSuite) (pair : CipherSuite × AuthenticatorInner)
+    → (need {A = CipherSuite} {T = CipherSuite × AuthenticatorInner} {E = ℕ} found 31 (under key sealed)).gives (Ok pair) → (found ≡ Some pair.0) × IsAuthenticator pair.0 key 7 sealed pair.1
+of_suite key sealed None pair y = absurd (cc (y))
+of_suite key sealed (Some suite) pair (inl (authenticator, opens, z)) =
+    let same : pair ≡ (suite, authenticator) = cc (z) in
+    subst (λ (p : CipherSuite × AuthenticatorInner). (Some suite ≡ Some p.0) × IsAuthenticator p.0 key 7 sealed p.1) (sym same) (refl, opens)
+of_suite key sealed (Some suite) pair (inr (none, z)) = absurd (cc (z))
+
+of_shown : (presented : ApReqInner) (part : EncTicketPartInner) (own : Authenticated) → (authenticated 7 part presented.authenticator.0).gives (Ok own) → IsOfKey presented part own
+of_shown presented part own (inl (pair, opens, inl (time, tells, e))) =
+    let same : own ≡ record { suite = pair.0; authenticator = pair.1; time = time } = cc (e) in
+    let found = of_suite part.key.0.key_value.0 presented.authenticator.0 (suite_of part.key.0) pair opens in
+    subst (λ s. IsOfKey presented part s) (sym same) (record { suite = found.0; opens = found.1 })
+of_shown presented part own (inl (pair, opens, inr (code, tells, e))) = absurd (cc (e))
+of_shown presented part own (inr (code, opens, e)) = absurd (cc (e))
+
+pub by_authenticator : (call : CallRecord) (part : EncTicketPartInner) (presented : ApReqInner) (shown : Authenticated) → (shown_near call part presented).gives (Ok shown) → IsOfKey presented part shown
+by_authenticator call part presented shown (inl (own, x, y)) =
+    let near = passed (is_far (skew_of call) call.moment own.time) 37 (done (Ok own)) shown y in
+    let same : shown ≡ own = cc (near) in
+    subst (λ s. IsOfKey presented part s) (sym same) (of_shown presented part own x)
+by_authenticator call part presented shown (inr (code, x, e)) = absurd (cc (e))

@@ -1,0 +1,165 @@
+-- The table of TGS requests has an outcome: each part of it has one.
+use Rattle.std.proofs.Common.{◌≡◌, ℕ, Bool, true, false, not, List, length, Option, None, Some, Result, Ok, Err, refl, sym, subst}
+use Rattle.std.specs.Option.{is_some, option_map}
+use Rattle.krb_blocks.specs.Bytes.{IsBytes}
+use Rattle.picky_asn1.specs.GeneralizedTime.{seconds_of}
+use Rattle.picky_asn1.specs.Numbers.{is_number}
+use Rattle.krb_moments.specs.Skew.{is_far}
+use Rattle.krb_crypto.specs.declared.suite.CipherSuite.{CipherSuite}
+use Rattle.krb_crypto.specs.Suites.{checksum_number, cipher_checksum, cipher_key_size}
+use Rattle.krb_accounts.specs.Account.{AccountRecord}
+use Rattle.krb_types.specs.Names.{components, is_same_realm}
+use Rattle.krb_types.specs.declared.data_types.authenticator.AuthenticatorInner.{AuthenticatorInner}
+use Rattle.krb_types.specs.declared.data_types.checksum.Checksum.{Checksum}
+use Rattle.krb_types.specs.declared.data_types.enc_ticket_part.EncTicketPartInner.{EncTicketPartInner}
+use Rattle.krb_types.specs.declared.data_types.encryption_key.EncryptionKey.{EncryptionKey}
+use Rattle.krb_types.specs.declared.data_types.pa_data.PaData.{PaData}
+use Rattle.krb_types.specs.declared.data_types.principal_name.PrincipalName.{PrincipalName}
+use Rattle.krb_opening.specs.Keys.{suite_of}
+use Rattle.picky_krb.specs.declared.messages.ap_req.ApReqInner.{ApReqInner}
+use Rattle.picky_krb.specs.declared.messages.kdc_req.KdcReq.{KdcReq}
+use Rattle.picky_krb.specs.declared.messages.kdc_req_body.KdcReqBody.{KdcReqBody}
+use Rattle.picky_krb.specs.Messages.{IsApReq, sole_ap_req}
+use Rattle.decision_tables.specs.Tables.{Table, and_then, ask, done, need, refuse}
+use Rattle.decision_tables.proofs.Outcomes.{HasOutcome, has_asked, has_done, has_needed, has_refused, has_then}
+use Rattle.krb_preauth.specs.Entries.{first_of}
+use Rattle.krb_tickets.specs.declared.reply.Exchange.TheVariants.{Tgs}
+use Rattle.krb_tickets.specs.ReplyKeys.{ReplyKeyRecord, tgs_reply_key, tgs_subkey_reply_key}
+use Rattle.krb_ap.specs.declared.presented.Authenticated.{Authenticated}
+use Rattle.krb_as.specs.Call.{CallRecord, skew_of}
+use Rattle.krb_as.specs.Calls.{IsCall, IsKeyed, IsWritten}
+use Rattle.krb_as.specs.Grants.{replied}
+use Rattle.krb_as.specs.Requests.{addressed, entries_of, lasting, service_of}
+use Rattle.krb_as.specs.TicketGranting.{krbtgt_of}
+use Rattle.krb_as.specs.declared.span.Span.{Span}
+use Rattle.krb_as.proofs.HasGrant.{has_lasting, has_replied, lasts}
+use Rattle.krb_as.proofs.HasOutcome.{has_address}
+use Rattle.krb_ap.specs.ApTable.{ap_fields, authenticated, is_early, is_for, is_late, is_version_5, may_be_under, opened_part, timely}
+use Rattle.krb_ap.proofs.Accepted.{suite_sized}
+use Rattle.krb_ap.proofs.Judgements.{has_authenticated, has_fields, has_opened_part, has_times}
+use Rattle.krb_tgs.specs.ByTicket.{AreFurtherWritten, IsByTicket}
+use Rattle.krb_tgs.specs.TgsTable.{carried, checksum_in, counting, covered, first_known, further, further_ticket, has_account, is_known_checksum, is_of_body, of_carried, of_shown, of_ticket, reply_key, shown_near, subkey_in, tgs_granted, tgs_table, ticket_granting, to_us}
+use Rattle.krb_tgs.proofs.ByTicket.{IsOfKey, by_authenticator, by_entry, by_ticket}
+
+has_to_us : (realm : List ℕ) (request : KdcReq) → HasOutcome (to_us realm request)
+has_to_us realm request =
+    has_then {A = Unit {0}} (addressed 12 realm request) (λ _. refuse (is_some request.req_body.0.enc_authorization_data.0) 12 (done (Ok tt))) (has_address 12 realm request)
+    (λ _ x. has_refused {T = Unit {0}} (is_some request.req_body.0.enc_authorization_data.0) 12 (done (Ok tt)) (λ _. has_done (Ok tt)))
+
+has_carried : (entries : List PaData) → HasOutcome (carried entries)
+has_carried entries =
+    let none : Table (Result ApReqInner ℕ) = done (Err 41) in
+    let end : ApReqInner → Table (Result ApReqInner ℕ) = λ presented. done (Ok presented) in
+    let read : List ℕ → Table (Result ApReqInner ℕ) = λ entry. ask (IsApReq entry) (sole_ap_req entry) none end in
+    has_needed (first_of 1 entries) 16 read
+    (λ entry e. has_asked (IsApReq entry) (sole_ap_req entry) none end (has_done (Err 41)) (λ presented x. has_done (Ok presented)))
+
+has_counting : (call : CallRecord) (part : EncTicketPartInner) → HasOutcome (counting call part)
+has_counting call part =
+    has_refused {T = Unit {0}} (not (is_same_realm part.crealm.0 call.realm)) 68 (timely (skew_of call) call.moment part) (λ _. has_times (is_early (skew_of call) call.moment part) (is_late (skew_of call) call.moment part))
+
+has_ticket_granting : (call : CallRecord) (granting : AccountRecord) (presented : ApReqInner) → HasOutcome (ticket_granting call granting presented)
+has_ticket_granting call granting presented =
+    let end : EncTicketPartInner → Table (Result EncTicketPartInner ℕ) = λ part. and_then {A = Unit {0}} (counting call part) (λ _. done (Ok part)) in
+    let opened : Table (Result EncTicketPartInner ℕ) = opened_part granting.suite granting.key presented.ticket.0.0.enc_part.0 in
+    has_then {A = Unit {0}} (ap_fields call.realm (krbtgt_of call.realm) granting.number presented) (λ _. and_then opened end)
+    (has_fields (not (is_version_5 presented)) (not (is_number 14 presented.msg_type.0)) (not (is_for call.realm (krbtgt_of call.realm) presented.ticket.0.0))
+    (not (may_be_under granting.number presented.ticket.0.0.enc_part.0)))
+    (λ _ x.
+    has_then opened end (has_opened_part granting.suite granting.key presented.ticket.0.0.enc_part.0)
+    (λ part y. has_then {A = Unit {0}} (counting call part) (λ _. done (Ok part)) (has_counting call part) (λ _ z. has_done (Ok part))))
+
+has_shown : (call : CallRecord) (part : EncTicketPartInner) (presented : ApReqInner) → HasOutcome (shown_near call part presented)
+has_shown call part presented =
+    let rest : Authenticated → Table (Result Authenticated ℕ) = λ shown. refuse (is_far (skew_of call) call.moment shown.time) 37 (done (Ok shown)) in
+    has_then (authenticated 7 part presented.authenticator.0) rest (has_authenticated 7 part presented.authenticator.0)
+    (λ shown x. has_refused {T = Authenticated} (is_far (skew_of call) call.moment shown.time) 37 (done (Ok shown)) (λ _. has_done (Ok shown)))
+
+has_covered : (suite : CipherSuite) (key : List ℕ) (authenticator : AuthenticatorInner) (body : KdcReqBody) → HasOutcome (covered suite key authenticator body)
+has_covered suite key authenticator body =
+    let last : Checksum → Table (Result (Unit {0}) ℕ) = λ told. refuse (not (is_of_body (cipher_checksum suite) key body told)) 41 (done (Ok tt)) in
+    let second : Checksum → Table (Result (Unit {0}) ℕ) = λ told. refuse (not (is_number (checksum_number (cipher_checksum suite)) told.cksumtype.0)) 50 (last told) in
+    let first : Checksum → Table (Result (Unit {0}) ℕ) = λ told. refuse (not (is_known_checksum told.cksumtype.0)) 15 (second told) in
+    has_needed (checksum_in authenticator) 50 first
+    (λ told e.
+    has_refused {T = Unit {0}} (not (is_known_checksum told.cksumtype.0)) 15 (second told)
+    (λ _.
+    has_refused {T = Unit {0}} (not (is_number (checksum_number (cipher_checksum suite)) told.cksumtype.0)) 50 (last told)
+    (λ _. has_refused {T = Unit {0}} (not (is_of_body (cipher_checksum suite) key body told)) 41 (done (Ok tt)) (λ _. has_done (Ok tt)))))
+
+-- the reply's key is one of its suite
+record IsUsable (under : ReplyKeyRecord) : Type 0 where
+  sized : length under.key ≡ cipher_key_size under.suite
+  bytes : IsBytes under.key
+  exchange : under.exchange ≡ Tgs
+
+module _ (call : CallRecord) (request : KdcReq) (is : IsCall call) (written : AreFurtherWritten call request) where
+  abbrev body : KdcReqBody
+  body = request.req_body.0
+
+  usable : (presented : ApReqInner) (part : EncTicketPartInner) (shown : Authenticated) → IsByTicket call request presented part → IsOfKey presented part shown
+      → (subkey : Option EncryptionKey) → subkey_in shown.authenticator ≡ subkey → (under : ReplyKeyRecord) → reply_key shown.suite part.key.0.key_value.0 subkey ≡ Some under → IsUsable under
+  usable presented part shown by of_key None none under e =
+      let same : under ≡ tgs_reply_key shown.suite part.key.0.key_value.0 = cc (e) in
+      subst IsUsable (sym same) (record { sized = suite_sized part.key.0 shown.suite of_key.suite; bytes = of_key.opens.opens.sealed.2.key_bytes; exchange = refl })
+  usable presented part shown by of_key (Some subkey) some under e = by_suite (suite_of subkey) refl e
+    where
+      by_suite : (found : Option CipherSuite) → suite_of subkey ≡ found → option_map (λ suite. tgs_subkey_reply_key suite subkey.key_value.0) found ≡ Some under → IsUsable under
+      by_suite None f e = absurd (cc (e))
+      by_suite (Some suite) f e =
+          let same : under ≡ tgs_subkey_reply_key suite subkey.key_value.0 = cc (e) in
+          subst IsUsable (sym same) (record { sized = suite_sized subkey suite f; bytes = written.subkeys presented part shown.authenticator subkey by (shown.suite, of_key.opens) some; exchange = refl })
+
+  has_further : (presented : ApReqInner) (part : EncTicketPartInner) (shown : Authenticated) (service_name : PrincipalName) (service : AccountRecord)
+      → IsByTicket call request presented part → IsOfKey presented part shown → service_of body ≡ Some service_name → IsKeyed service → HasOutcome (further call part shown service_name service body)
+  has_further presented part shown service_name service by of_key named keyed =
+      let old : Option ℕ = Some (seconds_of part.endtime.0.0) in
+      let to_seal : Span → CipherSuite → ReplyKeyRecord → Table (Result (List ℕ) ℕ) = λ span suite under. replied (further_ticket call part service_name suite body span) under service call.random in
+      let to_key : Span → CipherSuite → Table (Result (List ℕ) ℕ) = λ span suite. need (reply_key shown.suite part.key.0.key_value.0 (subkey_in shown.authenticator)) 31 (to_seal span suite) in
+      let to_suite : Span → Table (Result (List ℕ) ℕ) = λ span. need (first_known body.etype.0) 14 (to_key span) in
+      has_then (lasting call.settings.lifetime call.moment old body) to_suite (has_lasting call.settings.lifetime call.moment old body is.in_time)
+      (λ span given.
+      has_needed (first_known body.etype.0) 14 (to_key span)
+      (λ suite e.
+      has_needed (reply_key shown.suite part.key.0.key_value.0 (subkey_in shown.authenticator)) 31 (to_seal span suite)
+      (λ under f.
+      let ready = usable presented part shown by of_key (subkey_in shown.authenticator) refl under f in
+      let fits = written.grants presented part service_name suite span by named (lasts call.settings.lifetime call.moment old body span given) in
+      has_replied (further_ticket call part service_name suite body span) under service call.random ready.sized ready.bytes keyed is.enough is.bytes
+      (subst (λ exchange. IsWritten exchange (further_ticket call part service_name suite body span)) (sym ready.exchange) fits))))
+
+  has_granted : (presented : ApReqInner) (part : EncTicketPartInner) (shown : Authenticated) → IsByTicket call request presented part → IsOfKey presented part shown → HasOutcome (tgs_granted call part shown body)
+  has_granted presented part shown by of_key =
+      let by_service : PrincipalName → AccountRecord → Table (Result (List ℕ) ℕ) = λ service_name service. further call part shown service_name service body in
+      let by_name : PrincipalName → Table (Result (List ℕ) ℕ) = λ service_name. need (call.look (components service_name)) 7 (by_service service_name) in
+      has_refused {T = List ℕ} (not (has_account call part.cname.0)) 6 (need (service_of body) 7 by_name)
+      (λ _.
+      has_needed (service_of body) 7 by_name
+      (λ service_name b.
+      has_needed (call.look (components service_name)) 7 (by_service service_name)
+      (λ service c. has_further presented part shown service_name service by of_key b (is.keyed (components service_name) service c))))
+
+  has_of_shown : (presented : ApReqInner) (part : EncTicketPartInner) (shown : Authenticated) → IsByTicket call request presented part → IsOfKey presented part shown → HasOutcome (of_shown call body part shown)
+  has_of_shown presented part shown by of_key =
+      has_then {A = Unit {0}} (covered shown.suite part.key.0.key_value.0 shown.authenticator body) (λ _. tgs_granted call part shown body)
+      (has_covered shown.suite part.key.0.key_value.0 shown.authenticator body) (λ _ x. has_granted presented part shown by of_key)
+
+  has_of_ticket : (presented : ApReqInner) (part : EncTicketPartInner) → IsByTicket call request presented part → HasOutcome (of_ticket call body presented part)
+  has_of_ticket presented part by =
+      has_then (shown_near call part presented) (of_shown call body part) (has_shown call part presented)
+      (λ shown x. has_of_shown presented part shown by (by_authenticator call part presented shown x))
+
+  has_of_carried : (entry : List ℕ) (presented : ApReqInner) → first_of 1 (entries_of request) ≡ Some entry → IsApReq entry presented → HasOutcome (of_carried call body presented)
+  has_of_carried entry presented first read =
+      let rest : AccountRecord → Table (Result (List ℕ) ℕ) = λ granting. and_then (ticket_granting call granting presented) (of_ticket call body presented) in
+      has_needed (call.look (krbtgt_of call.realm)) 7 rest
+      (λ granting e.
+      has_then (ticket_granting call granting presented) (of_ticket call body presented) (has_ticket_granting call granting presented)
+      (λ part x. has_of_ticket presented part (record { entry = entry; first = first; read = read; granting = granting; account = e; opens = by_ticket call granting presented part x })))
+
+  pub has_tgs_outcome : HasOutcome (tgs_table call request)
+  has_tgs_outcome =
+      has_then {A = Unit {0}} (to_us call.realm request) (λ _. and_then (carried (entries_of request)) (of_carried call body)) (has_to_us call.realm request)
+      (λ _ x.
+      has_then (carried (entries_of request)) (of_carried call body) (has_carried (entries_of request))
+      (λ presented y. let found = by_entry (entries_of request) presented y in has_of_carried found.0 presented found.1 found.2))

@@ -1,0 +1,78 @@
+-- What the table gives rests on the accounts that are looked up for it.
+use Rattle.std.proofs.Common.{◌≡◌, ◌⊎◌, ℕ, not, List, Option, None, Some, Result, Ok, Err, refl, subst, inl, inr}
+use Rattle.krb_accounts.specs.Account.{AccountRecord}
+use Rattle.krb_accounts.specs.Accounts.{Look}
+use Rattle.krb_types.specs.Names.{components}
+use Rattle.krb_types.specs.declared.data_types.enc_ticket_part.EncTicketPartInner.{EncTicketPartInner}
+use Rattle.krb_types.specs.declared.data_types.principal_name.PrincipalName.{PrincipalName}
+use Rattle.picky_krb.specs.declared.messages.ap_req.ApReqInner.{ApReqInner}
+use Rattle.picky_krb.specs.declared.messages.kdc_req.KdcReq.{KdcReq}
+use Rattle.std.specs.Option.{is_some}
+use Rattle.decision_tables.specs.Tables.{Table, and_then, need, refuse}
+use Rattle.krb_ap.specs.declared.presented.Authenticated.{Authenticated}
+use Rattle.krb_as.specs.Call.{CallRecord}
+use Rattle.krb_as.specs.Requests.{entries_of, service_of}
+use Rattle.krb_as.specs.TicketGranting.{krbtgt_of}
+use Rattle.krb_tgs.specs.ByTicket.{IsByTicket, IsInvolvedFurther}
+use Rattle.krb_tgs.specs.TgsTable.{carried, covered, further, of_carried, of_shown, of_ticket, shown_near, tgs_granted, tgs_table, ticket_granting, to_us}
+use Rattle.krb_tgs.proofs.ByTicket.{by_entry, by_ticket}
+
+-- the value that is needed is the same, and what follows gives the same of it
+same_need : {A : Type 0} (o p : Option A) → o ≡ p → (code : ℕ) (f g : A → Table (Result (List ℕ) ℕ)) (r : Result (List ℕ) ℕ)
+    → ((a : A) → o ≡ Some a → (f a).gives r → (g a).gives r) → (need {A = A} o code f).gives r → (need {A = A} p code g).gives r
+same_need None p e code f g r same x = subst (λ q. (need q code g).gives r) e x
+same_need (Some a) p e code f g r same x = subst (λ q. (need q code g).gives r) e (same a refl x)
+
+same_refuse : (o p : Option AccountRecord) → o ≡ p → (code : ℕ) (t u : Table (Result (List ℕ) ℕ)) (r : Result (List ℕ) ℕ) → (t.gives r → u.gives r)
+    → (refuse {T = List ℕ} (not (is_some o)) code t).gives r → (refuse {T = List ℕ} (not (is_some p)) code u).gives r
+same_refuse o p e code t u r same x = subst (λ q. (refuse {T = List ℕ} (not (is_some q)) code u).gives r) e (of_option o x)
+  where
+    of_option : (q : Option AccountRecord) → (refuse {T = List ℕ} (not (is_some q)) code t).gives r → (refuse {T = List ℕ} (not (is_some q)) code u).gives r
+    of_option None y = y
+    of_option (Some account) y = same y
+
+same_then : {A : Type 0} (t : Table (Result A ℕ)) (f g : A → Table (Result (List ℕ) ℕ)) (r : Result (List ℕ) ℕ)
+    → ((a : A) → t.gives (Ok a) → (f a).gives r → (g a).gives r) → (and_then t f).gives r → (and_then t g).gives r
+same_then t f g r same (inl (a, x, y)) = inl (a, x, same a x y)
+same_then t f g r same (inr refused) = inr refused
+
+module _ (call : CallRecord) (other : Look) (request : KdcReq) (agree : (these : List (List ℕ)) → IsInvolvedFurther call request these → call.look these ≡ other these) (r : Result (List ℕ) ℕ) where
+  abbrev beside : CallRecord
+  beside = record call { look = other }
+
+  same_granted : (presented : ApReqInner) (part : EncTicketPartInner) (shown : Authenticated) → IsByTicket call request presented part
+      → (tgs_granted call part shown request.req_body.0).gives r → (tgs_granted beside part shown request.req_body.0).gives r
+  same_granted presented part shown by =
+      let body = request.req_body.0 in
+      let given : PrincipalName → AccountRecord → Table (Result (List ℕ) ℕ) = λ name service. further call part shown name service body in
+      let by_name : Look → PrincipalName → Table (Result (List ℕ) ℕ) = λ look name. need (look (components name)) 7 (given name) in
+      let to_service : Look → Table (Result (List ℕ) ℕ) = λ look. need (service_of body) 7 (by_name look) in
+      same_refuse (call.look (components part.cname.0)) (other (components part.cname.0)) (agree (components part.cname.0) (inr (inr (presented, part, by, refl)))) 6 (to_service call.look) (to_service other) r
+      (same_need (service_of body) (service_of body) refl 7 (by_name call.look) (by_name other) r
+      (λ name b. same_need (call.look (components name)) (other (components name)) (agree (components name) (inr (inl (name, b, refl)))) 7 (given name) (given name) r (λ service c x. x)))
+
+  same_of_carried : (presented : ApReqInner) → (carried (entries_of request)).gives (Ok presented)
+      → (of_carried call request.req_body.0 presented).gives r → (of_carried beside request.req_body.0 presented).gives r
+  same_of_carried presented x =
+      let found = by_entry (entries_of request) presented x in
+      let body = request.req_body.0 in
+      same_need (call.look (krbtgt_of call.realm)) (other (krbtgt_of call.realm)) (agree (krbtgt_of call.realm) (inl refl)) 7
+      (λ granting. and_then (ticket_granting call granting presented) (of_ticket call body presented))
+      (λ granting. and_then (ticket_granting call granting presented) (of_ticket beside body presented)) r
+      (λ granting e.
+      same_then (ticket_granting call granting presented) (of_ticket call body presented) (of_ticket beside body presented) r
+      (λ part y.
+      same_then (shown_near call part presented) (of_shown call body part) (of_shown beside body part) r
+      (λ shown z.
+      same_then {A = Unit {0}} (covered shown.suite part.key.0.key_value.0 shown.authenticator body) (λ _. tgs_granted call part shown body) (λ _. tgs_granted beside part shown body) r
+      (λ _ w.
+      same_granted presented part shown
+      (record { entry = found.0; first = found.1; read = found.2; granting = granting; account = e; opens = by_ticket call granting presented part y })))))
+
+  pub same_further : (tgs_table call request).gives r → (tgs_table beside request).gives r
+  same_further =
+      same_then {A = Unit {0}} (to_us call.realm request) (λ _. and_then (carried (entries_of request)) (of_carried call request.req_body.0))
+      (λ _. and_then (carried (entries_of request)) (of_carried beside request.req_body.0)) r
+      (λ _ x.
+      same_then (carried (entries_of request)) (of_carried call request.req_body.0) (of_carried beside request.req_body.0) r
+      (λ presented y. same_of_carried presented y))

@@ -1,0 +1,71 @@
+-- What the parts of a TGS request's table give, the table gives.
+use Rattle.std.proofs.Common.{◌≡◌, ℕ, List, Option, None, Some, Result, Ok, Err, refl, sym, subst, inl, inr}
+use Rattle.std.specs.Prelude.{Vec}
+use Rattle.std.specs.Global.{Global}
+use Rattle.krb_crypto.specs.declared.suite.CipherSuite.{CipherSuite}
+use Rattle.krb_accounts.specs.Account.{AccountRecord}
+use Rattle.krb_types.specs.Refusals.{IsJudged}
+use Rattle.krb_types.specs.declared.data_types.enc_ticket_part.EncTicketPartInner.{EncTicketPartInner}
+use Rattle.krb_types.specs.declared.refusal.Refusal.{Refusal}
+use Rattle.picky_krb.specs.declared.messages.ap_req.ApReqInner.{ApReqInner}
+use Rattle.picky_krb.specs.declared.messages.kdc_req_body.KdcReqBody.{KdcReqBody}
+use Rattle.decision_tables.specs.Tables.{Table, and_then, done, need}
+use Rattle.krb_ap.specs.ApTable.{ap_fields, opened_part}
+use Rattle.krb_as.specs.Call.{CallRecord}
+use Rattle.krb_as.specs.Judged.{IsGranted}
+use Rattle.krb_as.specs.TicketGranting.{krbtgt_of}
+use Rattle.krb_as.proofs.Parts.{part_passed, part_refused}
+use Rattle.krb_tgs.specs.TgsTable.{counting, of_carried, of_ticket, ticket_granting}
+
+-- the ticket that a request presents is judged, by equal keys
+module _ (call : CallRecord) (granting : AccountRecord) (presented : ApReqInner) (number : ℕ) (numbered : number ≡ granting.number) where
+  abbrev fields : ℕ → Table (Result (Unit {0}) ℕ)
+  fields n = ap_fields call.realm (krbtgt_of call.realm) n presented
+
+  abbrev opening : CipherSuite → List ℕ → Table (Result EncTicketPartInner ℕ)
+  opening suite key = opened_part suite key presented.ticket.0.0.enc_part.0
+
+  abbrev end : EncTicketPartInner → Table (Result EncTicketPartInner ℕ)
+  end part = and_then {A = Unit {0}} (counting call part) (λ _. done (Ok part))
+
+  abbrev pub judged : Result EncTicketPartInner Refusal → Type 0
+  judged r = IsJudged (ticket_granting call granting presented).gives r
+
+  own : (r : Result (Unit {0}) Refusal) → IsJudged (fields number).gives r → IsJudged (fields granting.number).gives r
+  own r x = subst (λ n. IsJudged (fields n).gives r) numbered x
+
+  -- another service's, or under another key
+  pub fields_refused : (e : Refusal) → IsJudged (fields number).gives (Err e) → judged (Err e)
+  fields_refused e x = part_refused (fields granting.number) (λ _. and_then (opening granting.suite granting.key) end) e (own (Err e) x)
+
+  module _ (suite : CipherSuite) (suited : suite ≡ granting.suite) (key : List ℕ) (keyed : key ≡ granting.key) (x : (fields number).gives (Ok tt)) where
+    opened : (r : Result EncTicketPartInner Refusal) → IsJudged (opening suite key).gives r → IsJudged (opening granting.suite granting.key).gives r
+    opened r y = subst (λ k. IsJudged (opening granting.suite k).gives r) keyed (subst (λ s. IsJudged (opening s key).gives r) suited y)
+
+    further : (r : Result EncTicketPartInner Refusal) → IsJudged (and_then (opening granting.suite granting.key) end).gives r → judged r
+    further r y = part_passed (fields granting.number) (λ _. and_then (opening granting.suite granting.key) end) tt r (own (Ok tt) x) y
+
+    -- it doesn't open
+    pub unopened : (e : Refusal) → IsJudged (opening suite key).gives (Err e) → judged (Err e)
+    unopened e y = further (Err e) (part_refused (opening granting.suite granting.key) end e (opened (Err e) y))
+
+    -- it doesn't count
+    pub uncounted : (part : EncTicketPartInner) (e : Refusal) → (opening suite key).gives (Ok part) → IsJudged (counting call part).gives (Err e) → judged (Err e)
+    uncounted part e y z =
+        further (Err e)
+        (part_passed (opening granting.suite granting.key) end part (Err e) (opened (Ok part) y) (part_refused {A = Unit {0}} (counting call part) (λ _. done (Ok part)) e z))
+
+    pub counted : (part : EncTicketPartInner) → (opening suite key).gives (Ok part) → (counting call part).gives (Ok tt) → judged (Ok part)
+    counted part y z = further (Ok part) (inl (part, opened (Ok part) y, inl (tt, z, refl)))
+
+-- by the account of the ticket-granting service, or where it has none
+module _ (call : CallRecord) (body : KdcReqBody) (presented : ApReqInner) (found : Option AccountRecord) (account : found ≡ call.look (krbtgt_of call.realm)) where
+  abbrev rest : AccountRecord → Table (Result (List ℕ) ℕ)
+  rest granting = and_then (ticket_granting call granting presented) (of_ticket call body presented)
+
+  pub unknown : found ≡ None → (of_carried call body presented).gives (Err 7)
+  unknown none = subst (λ o. (need {A = AccountRecord} o 7 rest).gives (Err 7)) account (subst (λ o. (need {A = AccountRecord} o 7 rest).gives (Err 7)) (sym none) refl)
+
+  pub known : (granting : AccountRecord) (r : Result (Vec ℕ Global) Refusal) → found ≡ Some granting → IsGranted (rest granting).gives r → IsGranted (of_carried call body presented).gives r
+  known granting r some x =
+      subst (λ o. IsGranted (need {A = AccountRecord} o 7 rest).gives r) account (subst (λ o. IsGranted (need {A = AccountRecord} o 7 rest).gives r) (sym some) x)

@@ -1,0 +1,5 @@
+pub mod ByTicket
+pub mod HasOutcome
+pub mod Involved
+mod Granted
+mod Judged

@@ -1,0 +1,29 @@
+use Rattle.std.proofs.lemmas.Result.{err_from_is_err_and}
+use Rattle.krb_as.specs.Call.{call_of}
+use Rattle.krb_tgs.proofs.Judged.{counted, fields_refused, uncounted, unopened}
+use Rattle.krb_tgs.proofs.judge.open_ticket_granting.Goals as goal
+
+pub returns-in_err-check_name : goal.returns-in_err-check_name
+returns-in_err-check_name c =
+    let exit = err_from_is_err_and c.from_residual.result c.from_residual.ensures.1 in
+    rw (exit.1, exit.2)
+    (fields_refused (call_of c.args.call.now) c.args.granting.now c.args.presented.now c.number.result c.number.ensures.value c.in_err-check_name.field-0.0 c.in_err-check_name.ensures)
+
+pub returns-in_err-part : goal.returns-in_err-part
+returns-in_err-part c =
+    let exit = err_from_is_err_and c.from_residual-in_err-part.result c.from_residual-in_err-part.ensures.1 in
+    rw (exit.1, exit.2)
+    (unopened (call_of c.args.call.now) c.args.granting.now c.args.presented.now c.number.result c.number.ensures.value c.suite.result c.suite.ensures c.key.result.now c.key.ensures.value
+    c.in_ok-check_name.ensures c.in_err-part.field-0.0 c.in_err-part.ensures)
+
+pub returns-in_err-check_counting : goal.returns-in_err-check_counting
+returns-in_err-check_counting c =
+    let exit = err_from_is_err_and c.from_residual-in_err-check_counting.result c.from_residual-in_err-check_counting.ensures.1 in
+    rw (exit.1, exit.2)
+    (uncounted (call_of c.args.call.now) c.args.granting.now c.args.presented.now c.number.result c.number.ensures.value c.suite.result c.suite.ensures c.key.result.now c.key.ensures.value
+    c.in_ok-check_name.ensures c.in_ok-part.part c.in_err-check_counting.field-0.0 c.in_ok-part.ensures c.in_err-check_counting.ensures)
+
+pub returns : goal.returns
+returns c =
+    counted (call_of c.args.call.now) c.args.granting.now c.args.presented.now c.number.result c.number.ensures.value c.suite.result c.suite.ensures c.key.result.now c.key.ensures.value
+    c.in_ok-check_name.ensures c.in_ok-part.part c.in_ok-part.ensures c.in_ok-check_counting.ensures

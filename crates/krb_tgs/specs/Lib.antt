@@ -1,0 +1,2 @@
+pub mod TgsTable
+pub mod ByTicket

@@ -1,0 +1,193 @@
+-- What a TGS request is answered, in parts of one table, row by row: the first case that holds counts (RFC 4120, section 3.3.3).
+use Rattle.std.specs.Prelude.{ℕ, Bool, false, not, ◌||◌, List, Option, None, Some, Result, Ok, Err, ℤ, if◌then◌else◌}
+use Rattle.std.specs.Bool.{nat_eq}
+use Rattle.std.specs.Cmp.Lexicographic.{pointwise}
+use Rattle.std.specs.List.{find}
+use Rattle.std.specs.Option.{is_some, option_map}
+use Rattle.asn1_trees.specs.Tree.{der}
+use Rattle.picky_asn1.specs.BitString.{bit_of}
+use Rattle.picky_asn1.specs.GeneralizedTime.{seconds_of}
+use Rattle.picky_asn1.specs.Numbers.{is_number}
+use Rattle.krb_moments.specs.Skew.{is_far}
+use Rattle.krb_crypto.specs.declared.suite.CipherSuite.{CipherSuite}
+use Rattle.krb_crypto.specs.declared.suite.CipherSuite.TheVariants.{Aes128CtsHmacSha196, Aes256CtsHmacSha196}
+use Rattle.krb_crypto.specs.declared.suite.ChecksumSuite.{ChecksumSuite}
+use Rattle.krb_crypto.specs.Sealing.{checksum_of}
+use Rattle.krb_crypto.specs.Suites.{checksum_number, cipher_checksum, cipher_number}
+use Rattle.krb_accounts.specs.Account.{AccountRecord}
+use Rattle.krb_types.specs.Names.{components, is_same_realm}
+use Rattle.krb_types.specs.declared.data_types.authenticator.AuthenticatorInner.{AuthenticatorInner}
+use Rattle.krb_types.specs.declared.data_types.checksum.Checksum.{Checksum}
+use Rattle.krb_types.specs.declared.data_types.enc_ticket_part.EncTicketPartInner.{EncTicketPartInner}
+use Rattle.krb_types.specs.declared.data_types.encryption_key.EncryptionKey.{EncryptionKey}
+use Rattle.krb_types.specs.declared.data_types.pa_data.PaData.{PaData}
+use Rattle.krb_types.specs.declared.data_types.principal_name.PrincipalName.{PrincipalName}
+use Rattle.krb_opening.specs.Keys.{suite_of}
+use Rattle.picky_krb.specs.declared.messages.ap_req.ApReqInner.{ApReqInner}
+use Rattle.picky_krb.specs.declared.messages.kdc_req.KdcReq.{KdcReq}
+use Rattle.picky_krb.specs.declared.messages.kdc_req_body.KdcReqBody.{KdcReqBody}
+use Rattle.picky_krb.specs.Messages.{IsApReq, sole_ap_req}
+use Rattle.picky_krb.specs.Trees.{kdc_req_body_tree}
+use Rattle.decision_tables.specs.Tables.{Table, and_then, ask, done, need, refuse}
+use Rattle.krb_preauth.specs.Entries.{first_of}
+use Rattle.krb_tickets.specs.declared.grant.Grant.{Grant}
+use Rattle.krb_tickets.specs.Parts.{session_key_of}
+use Rattle.krb_tickets.specs.ReplyKeys.{ReplyKeyRecord, tgs_reply_key, tgs_subkey_reply_key}
+use Rattle.krb_ap.specs.ApTable.{ap_fields, authenticated, opened_part, timely}
+use Rattle.krb_ap.specs.declared.presented.Authenticated.{Authenticated}
+use Rattle.krb_as.specs.Call.{CallRecord, skew_of}
+use Rattle.krb_as.specs.Grants.{replied}
+use Rattle.krb_as.specs.Requests.{addressed, entries_of, lasting, service_of}
+use Rattle.krb_as.specs.TicketGranting.{krbtgt_of}
+use Rattle.krb_as.specs.declared.span.Span.{Span}
+
+-- the request is a TGS request to this realm, without sealed authorization data, which no ticket is granted with
+abbrev pub to_us : List ℕ → KdcReq → Table (Result (Unit {0}) ℕ)
+to_us realm request =
+    and_then (addressed 12 realm request) (λ _.
+    refuse (is_some request.req_body.0.enc_authorization_data.0) 12
+    (done (Ok tt)))
+
+-- the AP request that the first entry of type 1 is
+abbrev pub carried : List PaData → Table (Result ApReqInner ℕ)
+carried entries =
+    need (first_of 1 entries) 16 (λ entry.
+    ask (IsApReq entry) (sole_ap_req entry) (done (Err 41)) (λ presented.
+    done (Ok presented)))
+
+-- the ticket is of a client of the realm, and counts at the moment
+abbrev pub counting : CallRecord → EncTicketPartInner → Table (Result (Unit {0}) ℕ)
+counting call part =
+    refuse (not (is_same_realm part.crealm.0 call.realm)) 68
+    (timely (skew_of call) call.moment part)
+
+-- the part of a ticket for the realm's ticket-granting service
+abbrev pub ticket_granting : CallRecord → AccountRecord → ApReqInner → Table (Result EncTicketPartInner ℕ)
+ticket_granting call granting presented =
+    and_then (ap_fields call.realm (krbtgt_of call.realm) granting.number presented) (λ _.
+    and_then (opened_part granting.suite granting.key presented.ticket.0.0.enc_part.0) (λ part.
+    and_then (counting call part) (λ _.
+    done (Ok part))))
+
+-- the authenticator of the ticket's client, of a time near the moment
+abbrev pub shown_near : CallRecord → EncTicketPartInner → ApReqInner → Table (Result Authenticated ℕ)
+shown_near call part presented =
+    and_then (authenticated 7 part presented.authenticator.0) (λ shown.
+    refuse (is_far (skew_of call) call.moment shown.time) 37
+    (done (Ok shown)))
+
+abbrev pub checksum_in : AuthenticatorInner → Option Checksum
+checksum_in authenticator = option_map (λ tagged. tagged.0) authenticator.cksum.0
+
+-- the type is that of a checksum of AES (RFC 3962, section 7)
+abbrev pub is_known_checksum : ℤ → Bool
+is_known_checksum kind = is_number 15 kind || is_number 16 kind
+
+-- the one encoding of a request's body
+unfoldable pub body_bytes : KdcReqBody → List ℕ
+body_bytes body = der (kdc_req_body_tree body)
+
+-- the checksum is that of the body's encoding under the session's key (usage 6; RFC 4120, section 7.5.1)
+abbrev pub is_of_body : ChecksumSuite → List ℕ → KdcReqBody → Checksum → Bool
+is_of_body kind key body told = pointwise nat_eq told.checksum.0 (checksum_of kind key 6 (body_bytes body))
+
+-- the authenticator covers the request's body
+abbrev pub covered : CipherSuite → List ℕ → AuthenticatorInner → KdcReqBody → Table (Result (Unit {0}) ℕ)
+covered suite key authenticator body =
+    need (checksum_in authenticator) 50 (λ told.
+    refuse (not (is_known_checksum told.cksumtype.0)) 15
+    (refuse (not (is_number (checksum_number (cipher_checksum suite)) told.cksumtype.0)) 50
+    (refuse (not (is_of_body (cipher_checksum suite) key body told)) 41
+    (done (Ok tt)))))
+
+-- the suite of a number
+abbrev pub suite_numbered : ℤ → Option CipherSuite
+suite_numbered number =
+    if is_number (cipher_number Aes128CtsHmacSha196) number then Some Aes128CtsHmacSha196
+    else (if is_number (cipher_number Aes256CtsHmacSha196) number then Some Aes256CtsHmacSha196 else None)
+
+-- the first number, in the client's order, that is a suite's
+abbrev pub first_number : List ℤ → Option ℤ
+first_number numbers = find (λ number. is_some (suite_numbered number)) numbers
+
+abbrev pub suite_of_first : Option ℤ → Option CipherSuite
+suite_of_first None = None
+suite_of_first (Some number) = suite_numbered number
+
+-- the first suite that the client takes of those that are known
+abbrev pub first_known : List ℤ → Option CipherSuite
+first_known numbers = suite_of_first (first_number numbers)
+
+abbrev pub subkey_in : AuthenticatorInner → Option EncryptionKey
+subkey_in authenticator = option_map (λ tagged. tagged.0) authenticator.subkey.0
+
+-- a subkey is taken where it is one of a suite
+abbrev pub under_subkey : EncryptionKey → Option ReplyKeyRecord
+under_subkey subkey = option_map (λ suite. tgs_subkey_reply_key suite subkey.key_value.0) (suite_of subkey)
+
+-- what the reply is sealed under: the authenticator's subkey where it has one, else the session's key
+abbrev pub reply_key : CipherSuite → List ℕ → Option EncryptionKey → Option ReplyKeyRecord
+reply_key suite key None = Some (tgs_reply_key suite key)
+reply_key suite key (Some subkey) = under_subkey subkey
+
+-- a further ticket: of the old one its client, the time of the first authentication and whether that was by
+-- preauthentication (flag 10; RFC 4120, section 5.3)
+abbrev pub further_ticket : CallRecord → EncTicketPartInner → PrincipalName → CipherSuite → KdcReqBody → Span → Grant
+further_ticket call part service suite body span = record {
+  suite = suite;
+  session = session_key_of suite call.random;
+  realm = call.realm;
+  client = part.cname.0;
+  service = service;
+  flags = record { initial = false; pre_authenticated = bit_of part.flags.0 10 };
+  auth_time = part.auth_time.0.0;
+  start = span.start;
+  until = span.until;
+  nonce = body.nonce.0;
+}
+
+-- what the ticket is granted with, and the key that the reply is sealed under
+abbrev pub further : CallRecord → EncTicketPartInner → Authenticated → PrincipalName → AccountRecord → KdcReqBody → Table (Result (List ℕ) ℕ)
+further call part shown service_name service body =
+    and_then (lasting call.settings.lifetime call.moment (Some (seconds_of part.endtime.0.0)) body) (λ span.
+    need (first_known body.etype.0) 14 (λ suite.
+    need (reply_key shown.suite part.key.0.key_value.0 (subkey_in shown.authenticator)) 31 (λ under.
+    replied (further_ticket call part service_name suite body span) under service call.random)))
+
+-- the name has an account
+abbrev pub has_account : CallRecord → PrincipalName → Bool
+has_account call name = is_some (call.look (components name))
+
+-- what is granted to the client of a ticket that is shown by an authenticator: client and service still have accounts
+abbrev pub tgs_granted : CallRecord → EncTicketPartInner → Authenticated → KdcReqBody → Table (Result (List ℕ) ℕ)
+tgs_granted call part shown body =
+    refuse (not (has_account call part.cname.0)) 6
+    (need (service_of body) 7 (λ service_name.
+    need (call.look (components service_name)) 7 (λ service.
+    further call part shown service_name service body)))
+
+-- with the authenticator
+abbrev pub of_shown : CallRecord → KdcReqBody → EncTicketPartInner → Authenticated → Table (Result (List ℕ) ℕ)
+of_shown call body part shown =
+    and_then (covered shown.suite part.key.0.key_value.0 shown.authenticator body) (λ _.
+    tgs_granted call part shown body)
+
+-- with the ticket's part
+abbrev pub of_ticket : CallRecord → KdcReqBody → ApReqInner → EncTicketPartInner → Table (Result (List ℕ) ℕ)
+of_ticket call body presented part =
+    and_then (shown_near call part presented)
+    (of_shown call body part)
+
+-- with the AP request; a realm has its ticket-granting service's account, and one without it knows no such service
+abbrev pub of_carried : CallRecord → KdcReqBody → ApReqInner → Table (Result (List ℕ) ℕ)
+of_carried call body presented =
+    need (call.look (krbtgt_of call.realm)) 7 (λ granting.
+    and_then (ticket_granting call granting presented)
+    (of_ticket call body presented))
+
+-- the whole table
+abbrev pub tgs_table : CallRecord → KdcReq → Table (Result (List ℕ) ℕ)
+tgs_table call request =
+    and_then (to_us call.realm request) (λ _.
+    and_then (carried (entries_of request))
+    (of_carried call request.req_body.0))

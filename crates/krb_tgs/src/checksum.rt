@@ -1,0 +1,87 @@
+//! The checksum of a request's body in its authenticator.
+ghost use Rattle.std.specs.Prelude.{◌≡◌, IfOk};
+ghost use Rattle.std.specs.Option.{option_copied};
+ghost use Rattle.krb_tgs.specs.TgsTable.{body_bytes, checksum_in, covered, is_known_checksum, is_of_body};
+ghost use Rattle.krb_types.specs.Refusals.{IsJudged};
+
+use krb_crypto::{Checksum as _, ChecksumSuite, Cipher, CipherSuite};
+use krb_types::Refusal;
+use krb_types::constants::{error_codes, key_usages};
+use krb_types::data_types::{AuthenticatorInner, Checksum};
+use picky_asn1::is_number;
+use picky_asn1::wrapper::IntegerAsn1;
+use picky_asn1_der::to_vec;
+use picky_krb::messages::KdcReqBody;
+use std::alloc::{AllocError, Global};
+
+/// Judges whether an authenticator covers the request's body: by the checksum of the session's suite, under the session's
+/// key, of the body's one encoding (RFC 4120, section 3.3.3).
+pub(crate) fn check_covered(
+    alloc: Global,
+    suite: CipherSuite,
+    key: &[u8],
+    authenticator: &AuthenticatorInner,
+    body: &KdcReqBody,
+) -> Result<(), Refusal>
+    ensures { IsJudged (covered suite key.now authenticator.now body.now).gives result }
+{
+    let Some(told) = checksum_in(authenticator) else {
+        return Err(Refusal::Krb(error_codes::KRB_AP_ERR_INAPP_CKSUM));
+    };
+    if !is_known_checksum(&told.cksumtype.0) {
+        return Err(Refusal::Krb(error_codes::KDC_ERR_SUMTYPE_NOSUPP));
+    }
+    let kind = suite.checksum_type();
+    if !is_number(&told.cksumtype.0, u32::from(&kind)) {
+        return Err(Refusal::Krb(error_codes::KRB_AP_ERR_INAPP_CKSUM));
+    }
+    if !is_of_body(alloc, kind, key, body, told)? {
+        return Err(Refusal::Krb(error_codes::KRB_AP_ERR_MODIFIED));
+    }
+    Ok(())
+}
+
+fn checksum_in(authenticator: &AuthenticatorInner) -> Option<&Checksum>
+    ensures { option_copied result ≡ checksum_in authenticator.now }
+{
+    match &authenticator.cksum.0 {
+        Some(tagged) => Some(&tagged.0),
+        None => None,
+    }
+}
+
+// The type is that of a checksum of AES (RFC 3962, section 7).
+fn is_known_checksum(kind: &IntegerAsn1) -> bool
+    ensures { result ≡ is_known_checksum kind.now }
+{
+    is_number(kind, u32::from(ChecksumSuite::HmacSha196Aes128))
+        || is_number(kind, u32::from(ChecksumSuite::HmacSha196Aes256))
+}
+
+// The checksum is that of the body's encoding. Under a key of the suite's length memory is the only refusal.
+fn is_of_body(
+    alloc: Global,
+    kind: ChecksumSuite,
+    key: &[u8],
+    body: &KdcReqBody,
+    told: &Checksum,
+) -> Result<bool, AllocError>
+    ensures { IfOk result (λ is. is ≡ is_of_body kind key.now body.now told.now) }
+{
+    let bytes = body_bytes(alloc, body)?;
+    let Ok(sum) = kind.checksum(alloc, key, key_usages::TGS_REQ_CHECKSUM, &bytes) else {
+        return Err(AllocError);
+    };
+    Ok(told.checksum.0.as_bytes() == sum.as_slice())
+}
+
+// The body's one encoding.
+#[tactic(auto, unfolding(crate::specs::TgsTable::body_bytes))]
+fn body_bytes(alloc: Global, body: &KdcReqBody) -> Result<Vec<u8>, AllocError>
+    ensures { IfOk result (λ bytes. bytes.items ≡ body_bytes body.now) }
+{
+    let Ok(bytes) = to_vec(alloc, body) else {
+        return Err(AllocError);
+    };
+    Ok(bytes)
+}

@@ -1,0 +1,107 @@
+//! Judging TGS requests: the rows of a realm's table, part by part.
+ghost use Rattle.std.specs.Prelude.{◌≡◌};
+ghost use Rattle.krb_as.specs.Call.{call_of};
+ghost use Rattle.krb_as.specs.TicketGranting.{krbtgt_of};
+ghost use Rattle.krb_ap.specs.ApTable.{ap_fields};
+ghost use Rattle.krb_tgs.specs.TgsTable.{carried, counting, shown_near, ticket_granting, to_us};
+ghost use Rattle.krb_types.specs.Refusals.{IsJudged};
+
+use krb_accounts::Account;
+use krb_ap::{
+    Authenticated, check_authenticator, check_fields, check_times, open_ticket, read_ap_req,
+};
+use krb_as::{Call, check_address, krbtgt_of};
+use krb_preauth::first_of;
+use krb_types::constants::types::{PA_TGS_REQ, TGS_REQ_MSG_TYPE};
+use krb_types::constants::{error_codes, key_usages};
+use krb_types::data_types::EncTicketPartInner;
+use krb_types::{Refusal, is_same_realm};
+use picky_asn1::wrapper::GeneralStringAsn1;
+use picky_krb::data_types::PaData;
+use picky_krb::messages::{ApReqInner, KdcReq};
+use std::alloc::Global;
+
+/// Judges whether it is a TGS request to this realm, and its options.
+pub(crate) fn check_request(realm: &GeneralStringAsn1, request: &KdcReq) -> Result<(), Refusal>
+    ensures { IsJudged (to_us realm.now request.now).gives result }
+{
+    check_address(TGS_REQ_MSG_TYPE, realm, request)?;
+    if request.req_body.0.enc_authorization_data.0.is_some() {
+        return Err(Refusal::Krb(error_codes::KDC_ERR_POLICY));
+    }
+    Ok(())
+}
+
+/// The AP request that the first entry of type 1 is.
+pub(crate) fn carried(alloc: Global, entries: &[PaData]) -> Result<ApReqInner, Refusal>
+    ensures { IsJudged (carried entries.now).gives result }
+{
+    let Some(entry) = first_of(entries, PA_TGS_REQ) else {
+        return Err(Refusal::Krb(error_codes::KDC_ERR_PADATA_TYPE_NOSUPP));
+    };
+    let Some(presented) = read_ap_req(alloc, entry.as_bytes())? else {
+        return Err(Refusal::Krb(error_codes::KRB_AP_ERR_MODIFIED));
+    };
+    Ok(presented)
+}
+
+/// Opens the ticket, and judges whether it is one for this realm's ticket-granting service, of a client of the realm, that
+/// counts at the moment.
+pub(crate) fn open_ticket_granting(
+    alloc: Global,
+    call: &Call<'_>,
+    granting: &Account,
+    presented: &ApReqInner,
+) -> Result<EncTicketPartInner, Refusal>
+    ensures { IsJudged (ticket_granting (call_of call.now) granting.now presented.now).gives result }
+{
+    check_name(alloc, call.realm, granting.number(), presented)?;
+    let sealed = &presented.ticket.0.0.enc_part.0;
+    let part = open_ticket(alloc, granting.suite(), granting.key(), sealed)?;
+    check_counting(call, &part)?;
+    Ok(part)
+}
+
+// Judges whether the request presents a ticket for this realm's ticket-granting service, under its key of this number.
+fn check_name(
+    alloc: Global,
+    realm: &GeneralStringAsn1,
+    number: u32,
+    presented: &ApReqInner,
+) -> Result<(), Refusal>
+    ensures { IsJudged (ap_fields realm.now (krbtgt_of realm.now) number presented.now).gives result }
+{
+    let name = krbtgt_of(alloc, realm)?;
+    check_fields(realm, &name, number, presented)
+}
+
+// Judges whether the ticket is of a client of the realm, and counts at the moment.
+fn check_counting(call: &Call<'_>, part: &EncTicketPartInner) -> Result<(), Refusal>
+    ensures { IsJudged (counting (call_of call.now) part.now).gives result }
+{
+    if !is_same_realm(&part.crealm.0, call.realm) {
+        return Err(Refusal::Krb(error_codes::KDC_ERR_WRONG_REALM));
+    }
+    check_times(call.skew(), call.moment, part)
+}
+
+/// Opens the authenticator of the ticket's client, and judges whether its time is near the moment.
+pub(crate) fn open_shown(
+    alloc: Global,
+    call: &Call<'_>,
+    part: &EncTicketPartInner,
+    presented: &ApReqInner,
+) -> Result<Authenticated, Refusal>
+    ensures { IsJudged (shown_near (call_of call.now) part.now presented.now).gives result }
+{
+    let shown = check_authenticator(
+        alloc,
+        key_usages::TGS_REQ_AUTHENTICATOR,
+        part,
+        &presented.authenticator.0,
+    )?;
+    if call.moment.is_far_from(shown.time, call.skew()) {
+        return Err(Refusal::Krb(error_codes::KRB_AP_ERR_SKEW));
+    }
+    Ok(shown)
+}

@@ -1,0 +1,123 @@
+//! Judging a TGS request as a whole. Each function owns one of the messages that were opened, and lends it to the next.
+ghost use Rattle.std.specs.Prelude.{◌≡◌, ◌≤◌, length, IfOk};
+ghost use Rattle.std.specs.Option.{option_copied};
+ghost use Rattle.krb_as.specs.TicketGranting.{krbtgt_of};
+ghost use Rattle.krb_accounts.specs.Accounts.{look_in};
+ghost use Rattle.krb_as.specs.Call.{call_of};
+ghost use Rattle.krb_as.specs.Judged.{IsGranted};
+ghost use Rattle.krb_tgs.specs.TgsTable.{has_account, of_carried, of_shown, of_ticket, tgs_granted, tgs_table};
+
+use crate::checksum::check_covered;
+use crate::grant::grant;
+use crate::judge::{carried, check_request, open_shown, open_ticket_granting};
+use krb_accounts::{Account, Accounts};
+use krb_ap::Authenticated;
+use krb_as::{Call, entries_of, krbtgt_of, service_of};
+use krb_types::Refusal;
+use krb_types::constants::error_codes;
+use krb_types::data_types::{EncTicketPartInner, PrincipalName};
+use picky_asn1::wrapper::GeneralStringAsn1;
+use picky_krb::messages::{ApReqInner, KdcReq, KdcReqBody};
+use std::alloc::{AllocError, Global};
+
+/// The reply that grants a ticket by an older one, or the code of the error, by the table of the realm that is called (RFC
+/// 4120, section 3.3.3).
+pub fn judge_tgs(alloc: Global, call: &Call<'_>, request: &KdcReq) -> Result<Vec<u8>, Refusal>
+    requires { 128 ≤ length call.now.random.now }
+    ensures { IsGranted (tgs_table (call_of call.now) request.now).gives result }
+{
+    check_request(call.realm, request)?;
+    let presented = carried(alloc, entries_of(request))?;
+    let body = &request.req_body.0;
+    judge_carried(alloc, call, body, &presented)
+}
+
+// With the AP request that it carries.
+fn judge_carried(
+    alloc: Global,
+    call: &Call<'_>,
+    body: &KdcReqBody,
+    presented: &ApReqInner,
+) -> Result<Vec<u8>, Refusal>
+    requires { 128 ≤ length call.now.random.now }
+    ensures { IsGranted (of_carried (call_of call.now) body.now presented.now).gives result }
+{
+    let Some(granting) = granting_account(alloc, call.realm, call.accounts)? else {
+        return Err(Refusal::Krb(error_codes::KDC_ERR_S_PRINCIPAL_UNKNOWN));
+    };
+    let part = open_ticket_granting(alloc, call, granting, presented)?;
+    judge_ticket(alloc, call, body, presented, &part)
+}
+
+// The account of the realm's ticket-granting service.
+fn granting_account<'a>(
+    alloc: Global,
+    realm: &GeneralStringAsn1,
+    accounts: &'a Accounts,
+) -> Result<Option<&'a Account>, AllocError>
+    ensures { IfOk result (λ found. option_copied found ≡ look_in accounts.now (krbtgt_of realm.now)) }
+{
+    let name = krbtgt_of(alloc, realm)?;
+    Ok(accounts.get(&name))
+}
+
+// With the ticket's part.
+fn judge_ticket(
+    alloc: Global,
+    call: &Call<'_>,
+    body: &KdcReqBody,
+    presented: &ApReqInner,
+    part: &EncTicketPartInner,
+) -> Result<Vec<u8>, Refusal>
+    requires { 128 ≤ length call.now.random.now }
+    ensures { IsGranted (of_ticket (call_of call.now) body.now presented.now part.now).gives result }
+{
+    let shown = open_shown(alloc, call, part, presented)?;
+    judge_shown(alloc, call, body, part, &shown)
+}
+
+// With the authenticator.
+fn judge_shown(
+    alloc: Global,
+    call: &Call<'_>,
+    body: &KdcReqBody,
+    part: &EncTicketPartInner,
+    shown: &Authenticated,
+) -> Result<Vec<u8>, Refusal>
+    requires { 128 ≤ length call.now.random.now }
+    ensures { IsGranted (of_shown (call_of call.now) body.now part.now shown.now).gives result }
+{
+    let key = part.key.0.key_value.0.as_bytes();
+    check_covered(alloc, shown.suite, key, &shown.authenticator, body)?;
+    judge_accounts(alloc, call, part, shown, body)
+}
+
+// With a request that its client is shown to have made: client and service still have accounts.
+fn judge_accounts(
+    alloc: Global,
+    call: &Call<'_>,
+    part: &EncTicketPartInner,
+    shown: &Authenticated,
+    body: &KdcReqBody,
+) -> Result<Vec<u8>, Refusal>
+    requires { 128 ≤ length call.now.random.now }
+    ensures { IsGranted (tgs_granted (call_of call.now) part.now shown.now body.now).gives result }
+{
+    if !has_account(call, &part.cname.0) {
+        return Err(Refusal::Krb(error_codes::KDC_ERR_C_PRINCIPAL_UNKNOWN));
+    }
+    let Some(service_name) = service_of(body) else {
+        return Err(Refusal::Krb(error_codes::KDC_ERR_S_PRINCIPAL_UNKNOWN));
+    };
+    let Some(service) = call.accounts.get(service_name.name_string.0.as_slice()) else {
+        return Err(Refusal::Krb(error_codes::KDC_ERR_S_PRINCIPAL_UNKNOWN));
+    };
+    grant(alloc, call, part, shown, service_name, service, body)
+}
+
+// The name has an account.
+fn has_account(call: &Call<'_>, name: &PrincipalName) -> bool
+    ensures { result ≡ has_account (call_of call.now) name.now }
+{
+    call.accounts.get(name.name_string.0.as_slice()).is_some()
+}
