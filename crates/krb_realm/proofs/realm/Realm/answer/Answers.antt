@@ -10,5 +10,5 @@ returns-in-Some c =
 
 pub returns-in-Some-2 : goal.returns-in-Some-2
 returns-in-Some-2 c =
-    tgs_replied (call_of c.call-2.result) (call_to c.args.self.now c.args.moment c.args.words.now) c.call-2.ensures.call c.args.request.now c.in_ok-reply-2.reply.items c.in-Some-2.asked
+    tgs_replied (call_of c.call-in-Some-2.result) (call_to c.args.self.now c.args.moment c.args.words.now) c.call-in-Some-2.ensures.call c.args.request.now c.in_ok-reply-2.reply.items c.in-Some-2.asked
     (rw c.in_default.is at c.in_ok-asked.ensures) (rw c.in-Some-2.is at c.in_ok-asked-2.ensures) c.in_ok-reply-2.ensures
