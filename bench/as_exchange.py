@@ -17,7 +17,7 @@ FRAME = bytes.fromhex(
 # Which crates a function belongs to, by how its name begins.
 PARTS = {
     "sealing": ("krb_blocks", "krb_digests", "krb_crypto", "sha1"),
-    "DER": ("picky_asn1", "asn1_trees", "picky_krb", "krb_types"),
+    "DER": ("picky_asn1", "asn1_trees", "krb_messages", "krb_types"),
     "memory": ("std_alloc", "rattle_", "__rattle", "malloc", "_int_", "free", "realloc", "calloc", "unlink_chunk",
                "__mem", "mem"),
 }

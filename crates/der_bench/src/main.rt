@@ -3,8 +3,8 @@
 #![tactic(auto)]
 
 use anyhow::bail;
+use krb_messages::messages::{ApReq, AsRep, AsReq, KrbError, TgsReq};
 use picky_asn1_der::{Deserialize, from_exact_bytes, to_vec};
-use picky_krb::messages::{ApReq, AsRep, AsReq, KrbError, TgsReq};
 use std::alloc::Global;
 use std::env;
 

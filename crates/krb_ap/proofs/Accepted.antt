@@ -24,7 +24,7 @@ use Rattle.krb_moments.specs.Times.{moment_at}
 use Rattle.krb_ap.specs.Acceptable.{IsAcceptable, shown_by}
 use Rattle.krb_ap.specs.ApTable.{addressed, ap_fields, is_early, is_late, is_of_client, may_be_under, opened, presented, told, valid_authenticator, valid_part}
 use Rattle.krb_ap.specs.Entry.{EntryRecord}
-use Rattle.picky_krb.specs.Messages.{authenticator_tree, enc_ticket_part_tree}
+use Rattle.krb_messages.specs.Messages.{authenticator_tree, enc_ticket_part_tree}
 use Rattle.krb_ap.specs.Messages.{IsAuthenticator}
 use Rattle.krb_ap.specs.Presents.{Choice, Presents, SealsTo, encrypted, request_of}
 use Rattle.krb_ap.specs.Received.{Receives}

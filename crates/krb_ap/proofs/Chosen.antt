@@ -12,7 +12,7 @@ use Rattle.krb_types.specs.declared.data_types.authenticator.AuthenticatorInner.
 use Rattle.krb_types.specs.declared.data_types.encrypted_data.EncryptedData.{EncryptedData}
 use Rattle.krb_types.specs.declared.data_types.encryption_key.EncryptionKey.{EncryptionKey}
 use Rattle.krb_types.specs.declared.data_types.enc_ticket_part.EncTicketPartInner.{EncTicketPartInner}
-use Rattle.picky_krb.specs.declared.messages.ap_req.ApReqInner.{ApReqInner}
+use Rattle.krb_messages.specs.declared.messages.ap_req.ApReqInner.{ApReqInner}
 use Rattle.krb_opening.specs.Keys.{suite_of}
 use Rattle.krb_types.specs.Names.{components, is_same_name, is_same_realm}
 use Rattle.picky_asn1.specs.Numbers.{is_number}
@@ -21,7 +21,7 @@ use Rattle.krb_moments.specs.Times.{moment_at}
 use Rattle.krb_ap.specs.Acceptable.{IsAcceptable, shown_by}
 use Rattle.krb_ap.specs.ApTable.{addressed, ap_fields, authenticated, is_early, is_late, is_of_client, may_be_under, opened, opened_part, presented, presented_with, timely, told, valid_authenticator, valid_part}
 use Rattle.krb_ap.specs.Entry.{EntryRecord}
-use Rattle.picky_krb.specs.Messages.{IsApReq, authenticator_tree, enc_ticket_part_tree}
+use Rattle.krb_messages.specs.Messages.{IsApReq, authenticator_tree, enc_ticket_part_tree}
 use Rattle.krb_ap.specs.Messages.{IsAuthenticator, IsTicketPart}
 use Rattle.krb_ap.specs.Presents.{Choice, Presents}
 use Rattle.krb_ap.specs.Received.{Receives}

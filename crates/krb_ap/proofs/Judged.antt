@@ -4,13 +4,13 @@ use Rattle.krb_crypto.specs.declared.suite.CipherSuite.{CipherSuite}
 use Rattle.krb_types.specs.declared.data_types.authenticator.AuthenticatorInner.{AuthenticatorInner}
 use Rattle.krb_types.specs.declared.data_types.encrypted_data.EncryptedData.{EncryptedData}
 use Rattle.krb_types.specs.declared.data_types.enc_ticket_part.EncTicketPartInner.{EncTicketPartInner}
-use Rattle.picky_krb.specs.declared.messages.ap_req.ApReqInner.{ApReqInner}
+use Rattle.krb_messages.specs.declared.messages.ap_req.ApReqInner.{ApReqInner}
 use Rattle.krb_types.specs.Refusals.{IsJudged}
 use Rattle.krb_types.specs.declared.refusal.Refusal.{Refusal}
 use Rattle.krb_types.specs.declared.refusal.Refusal.TheVariants.{Krb, Memory}
 use Rattle.krb_ap.specs.ApTable.{addressed, authenticated, opened, opened_part, presented, presented_with, timely, told, valid_authenticator, valid_part}
 use Rattle.krb_ap.specs.Entry.{EntryRecord}
-use Rattle.picky_krb.specs.Messages.{IsApReq}
+use Rattle.krb_messages.specs.Messages.{IsApReq}
 use Rattle.krb_ap.specs.Received.{Receives}
 use Rattle.krb_ap.specs.Refusal.{refused_for}
 use Rattle.krb_ap.specs.declared.presented.Authenticated.{Authenticated}

@@ -10,8 +10,8 @@ use Rattle.krb_crypto.proofs.SealingLemmas.{one_sealed, one_string}
 use Rattle.krb_types.specs.declared.data_types.authenticator.AuthenticatorInner.{AuthenticatorInner}
 use Rattle.krb_types.specs.declared.data_types.encrypted_data.EncryptedData.{EncryptedData}
 use Rattle.krb_types.specs.declared.data_types.enc_ticket_part.EncTicketPartInner.{EncTicketPartInner}
-use Rattle.picky_krb.specs.declared.messages.ap_req.ApReqInner.{ApReqInner}
-use Rattle.picky_krb.specs.Messages.{ap_req_tree, authenticator-injective, authenticator_tree, enc_ticket_part-injective, enc_ticket_part_tree, sole_ap_req}
+use Rattle.krb_messages.specs.declared.messages.ap_req.ApReqInner.{ApReqInner}
+use Rattle.krb_messages.specs.Messages.{ap_req_tree, authenticator-injective, authenticator_tree, enc_ticket_part-injective, enc_ticket_part_tree, sole_ap_req}
 use Rattle.krb_ap.specs.Presents.{Choice, Outer, Presents, SealsTo, encrypted, request_of}
 
 -- a ciphertext has one value and one confounder

@@ -17,7 +17,7 @@ use Rattle.krb_ap.specs.Acceptable.{IsAcceptable, shown_by}
 use Rattle.krb_sealing.specs.Sealing.{encrypted_by}
 use Rattle.krb_ap.specs.ApReply.{IsReply, IsReplyTo, ap_rep_of, ap_rep_part}
 use Rattle.krb_ap.specs.Entry.{EntryRecord}
-use Rattle.picky_krb.specs.Messages.{enc_ap_rep_part_tree, ap_rep_tree}
+use Rattle.krb_messages.specs.Messages.{enc_ap_rep_part_tree, ap_rep_tree}
 use Rattle.krb_ap.specs.Presents.{Choice}
 use Rattle.krb_ap.proofs.Accepted.{suite_sized}
 use Rattle.krb_ap.proofs.Short.{part_bytes}

@@ -14,7 +14,7 @@ use Rattle.krb_blocks.specs.Bytes.{IsBytes}
 use Rattle.krb_blocks.proofs.States.{IsBytes-append, IsBytes-none}
 use Rattle.krb_types.specs.declared.data_types.authenticator.AuthenticatorInner.{AuthenticatorInner}
 use Rattle.krb_ap.specs.ApReply.{ap_rep_part}
-use Rattle.picky_krb.specs.Messages.{enc_ap_rep_part_tree}
+use Rattle.krb_messages.specs.Messages.{enc_ap_rep_part_tree}
 
 -- bytes, of which there are so many at most
 record IsShort (n : ℕ) (s : List ℕ) : Type 0 where

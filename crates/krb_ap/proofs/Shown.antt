@@ -8,7 +8,7 @@ use Rattle.krb_types.specs.declared.data_types.authenticator.AuthenticatorInner.
 use Rattle.krb_types.specs.declared.data_types.encrypted_data.EncryptedData.{EncryptedData}
 use Rattle.krb_types.specs.declared.data_types.encryption_key.EncryptionKey.{EncryptionKey}
 use Rattle.krb_types.specs.declared.data_types.enc_ticket_part.EncTicketPartInner.{EncTicketPartInner}
-use Rattle.picky_krb.specs.declared.messages.ap_req.ApReqInner.{ApReqInner}
+use Rattle.krb_messages.specs.declared.messages.ap_req.ApReqInner.{ApReqInner}
 use Rattle.krb_ap.specs.ApTable.{opened_part, told, valid_authenticator, valid_part}
 use Rattle.krb_ap.specs.Entry.{EntryRecord}
 use Rattle.krb_ap.specs.Messages.{IsAuthenticator, IsTicketPart, sole_authenticator}

@@ -6,11 +6,11 @@ use Rattle.krb_crypto.specs.declared.suite.CipherSuite.{CipherSuite}
 use Rattle.krb_types.specs.declared.data_types.authenticator.AuthenticatorInner.{AuthenticatorInner}
 use Rattle.krb_types.specs.declared.data_types.enc_ap_rep_part.EncApRepPartInner.{EncApRepPartInner}
 use Rattle.krb_types.specs.declared.data_types.encrypted_data.EncryptedData.{EncryptedData}
-use Rattle.picky_krb.specs.declared.messages.ap_rep.ApRepInner.{ApRepInner}
+use Rattle.krb_messages.specs.declared.messages.ap_rep.ApRepInner.{ApRepInner}
 use Rattle.decision_tables.specs.One.{IsSole}
 use Rattle.krb_sealing.specs.Sealing.{Seals, sole_seals}
 use Rattle.krb_types.specs.RandomBytes.{ap_reply_confounder}
-use Rattle.picky_krb.specs.Messages.{ap_rep_tree, enc_ap_rep_part_tree}
+use Rattle.krb_messages.specs.Messages.{ap_rep_tree, enc_ap_rep_part_tree}
 use Rattle.krb_ap.specs.declared.presented.Presented.{Presented}
 
 -- the authenticator's time, and nothing optional

@@ -6,7 +6,7 @@ use Rattle.krb_types.specs.declared.data_types.enc_ticket_part.EncTicketPartInne
 use Rattle.krb_types.specs.declared.data_types.authenticator.AuthenticatorInner.{AuthenticatorInner}
 use Rattle.decision_tables.specs.One.{IsSole}
 use Rattle.krb_opening.specs.Sealed.{IsSealedIn, sole_sealed}
-use Rattle.picky_krb.specs.Messages.{authenticator-injective, authenticator_tree, enc_ticket_part-injective, enc_ticket_part_tree}
+use Rattle.krb_messages.specs.Messages.{authenticator-injective, authenticator_tree, enc_ticket_part-injective, enc_ticket_part_tree}
 
 -- the data is the ticket's part under the service's key (usage 2; RFC 4120, section 7.5.1)
 abbrev pub IsTicketPart : CipherSuite → List ℕ → EncryptedData → EncTicketPartInner → Type 0

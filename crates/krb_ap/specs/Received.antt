@@ -1,9 +1,9 @@
 -- What bytes present to a service (RFC 4120, section 3.2.3).
 use Rattle.std.specs.Prelude.{ℕ, List, Result, Ok, Err}
-use Rattle.picky_krb.specs.declared.messages.ap_req.ApReqInner.{ApReqInner}
+use Rattle.krb_messages.specs.declared.messages.ap_req.ApReqInner.{ApReqInner}
 use Rattle.krb_ap.specs.ApTable.{presented}
 use Rattle.krb_ap.specs.Entry.{EntryRecord}
-use Rattle.picky_krb.specs.Messages.{IsApReq}
+use Rattle.krb_messages.specs.Messages.{IsApReq}
 use Rattle.krb_ap.specs.declared.presented.Presented.{Presented}
 use Rattle.krb_ap.specs.declared.refusal.AdmitRefusal.{AdmitRefusal}
 use Rattle.krb_ap.specs.declared.refusal.AdmitRefusal.TheVariants.{Unreadable, Krb, Memory}

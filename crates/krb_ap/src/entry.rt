@@ -9,10 +9,10 @@ use crate::messages::read_ap_req;
 use crate::presented::Presented;
 use crate::refusal::AdmitRefusal;
 use krb_crypto::CipherSuite;
+use krb_messages::messages::ApReqInner;
 use krb_moments::Moment;
 use krb_types::Refusal;
 use picky_asn1::wrapper::{GeneralStringAsn1, OctetStringAsn1};
-use picky_krb::messages::ApReqInner;
 use std::alloc::Global;
 use std::marker::Model;
 

@@ -10,6 +10,7 @@ ghost use Rattle.std.specs.Int.{cast_unsigned, w32};
 use crate::messages::{open_authenticator, open_part};
 use crate::presented::{Authenticated, Presented};
 use krb_crypto::CipherSuite;
+use krb_messages::messages::ApReqInner;
 use krb_moments::{MICROSECONDS_IN_SECOND, Moment, moment_at};
 use krb_opening::suite_of;
 use krb_types::constants::types::{AP_REQ_MSG_TYPE, KERBEROS_VERSION};
@@ -21,7 +22,6 @@ use krb_types::{Refusal, is_same_name, is_same_realm};
 use picky_asn1::date::GeneralizedTime;
 use picky_asn1::is_number;
 use picky_asn1::wrapper::GeneralStringAsn1;
-use picky_krb::messages::ApReqInner;
 use std::alloc::Global;
 
 /// The option use-session-key of an AP request (RFC 4120, section 5.5.1).

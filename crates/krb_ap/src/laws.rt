@@ -9,7 +9,7 @@ ghost use Rattle.krb_ap.specs.Received.{Receives};
 ghost use Rattle.krb_ap.specs.declared.presented.Presented.{Presented};
 ghost use Rattle.krb_blocks.specs.Bytes.{IsBytes};
 ghost use Rattle.decision_tables.specs.Some.{HasSome};
-ghost use Rattle.picky_krb.specs.declared.messages.ap_req.ApReqInner.{ApReqInner};
+ghost use Rattle.krb_messages.specs.declared.messages.ap_req.ApReqInner.{ApReqInner};
 
 /// For a service's key each choice of outer fields, ticket's part, authenticator and confounders presents one string of
 /// bytes at most, and each string is presented by one choice at most. It does nothing when it runs: its contract is the

@@ -1,18 +1,17 @@
 //! Reading a request, and opening what is sealed in it.
 ghost use Rattle.std.specs.Prelude.{IfOk};
 ghost use Rattle.std.specs.Int.{cast_unsigned, w32};
-ghost use Rattle.picky_krb.specs.Found.{IsFound};
-ghost use Rattle.picky_krb.specs.Messages.{IsApReq};
+ghost use Rattle.krb_messages.specs.Found.{IsFound};
+ghost use Rattle.krb_messages.specs.Messages.{IsApReq};
 ghost use Rattle.krb_ap.specs.Messages.{IsAuthenticator, IsTicketPart};
 
 use krb_crypto::CipherSuite;
-use krb_opening::open_sealed;
+use krb_messages::messages::{ApReq, ApReqInner};
+use krb_opening::{open_sealed, read_whole};
 use krb_types::constants::key_usages;
 use krb_types::data_types::{
     Authenticator, AuthenticatorInner, EncTicketPart, EncTicketPartInner, EncryptedData,
 };
-use picky_krb::messages::{ApReq, ApReqInner};
-use picky_krb::read_whole;
 use std::alloc::{AllocError, Global};
 
 /// The AP request whose one encoding the bytes are, or none (RFC 4120, section 5.5.1).

@@ -3,9 +3,10 @@ ghost use Rattle.std.specs.Prelude.{◌≡◌, ◌≤◌, ℕ, List, length, IfO
 ghost use Rattle.asn1_trees.specs.Tree.{der};
 ghost use Rattle.krb_ap.specs.ApReply.{IsReplyUnder, ap_rep_of, ap_rep_part};
 ghost use Rattle.krb_types.specs.RandomBytes.{ap_reply_confounder};
-ghost use Rattle.picky_krb.specs.Messages.{ap_rep_tree, enc_ap_rep_part_tree};
+ghost use Rattle.krb_messages.specs.Messages.{ap_rep_tree, enc_ap_rep_part_tree};
 
 use krb_crypto::CipherSuite;
+use krb_messages::messages::{ApRep, ApRepInner};
 use krb_sealing::sealed_data;
 use krb_types::constants::key_usages;
 use krb_types::constants::random_bytes::{AP_REPLY_CONFOUNDER, CONFOUNDER_SIZE};
@@ -13,7 +14,6 @@ use krb_types::constants::types::{AP_REP_MSG_TYPE, KERBEROS_VERSION};
 use krb_types::data_types::{AuthenticatorInner, EncApRepPart, EncApRepPartInner, EncryptedData};
 use picky_asn1::wrapper::{IntegerAsn1, OctetStringAsn1};
 use picky_asn1_der::{ApplicationTag, ExplicitContextTag, Optional, to_vec};
-use picky_krb::messages::{ApRep, ApRepInner};
 use std::alloc::{AllocError, Global};
 
 /// The encoding of the reply under the session key, with the authenticator's time and nothing optional (RFC 4120,

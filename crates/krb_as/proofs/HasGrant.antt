@@ -11,7 +11,7 @@ use Rattle.krb_crypto.specs.declared.suite.CipherSuite.TheVariants.{Aes128CtsHma
 use Rattle.krb_crypto.proofs.SealedTexts.{has_sealed}
 use Rattle.krb_accounts.specs.Account.{AccountRecord}
 use Rattle.krb_types.specs.declared.data_types.encrypted_data.EncryptedData.{EncryptedData}
-use Rattle.picky_krb.specs.declared.messages.kdc_req_body.KdcReqBody.{KdcReqBody}
+use Rattle.krb_messages.specs.declared.messages.kdc_req_body.KdcReqBody.{KdcReqBody}
 use Rattle.decision_tables.specs.Tables.{Table, done, refuse}
 use Rattle.decision_tables.proofs.Outcomes.{HasOutcome, has_done, has_made, has_refused, some_of}
 use Rattle.krb_sealing.specs.Sealing.{Seals, encrypted_by}

@@ -9,9 +9,9 @@ use crate::requests::session_key;
 use crate::span::Span;
 use krb_accounts::Account;
 use krb_grants::ticket_reply;
+use krb_messages::messages::KdcReqBody;
 use krb_tickets::{Grant, ReplyKey, TicketFlags};
-use picky_krb::data_types::PrincipalName;
-use picky_krb::messages::KdcReqBody;
+use krb_types::data_types::PrincipalName;
 use std::alloc::{AllocError, Global};
 
 /// Who asks for a ticket for whom, with their accounts.

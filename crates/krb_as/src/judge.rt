@@ -11,14 +11,14 @@ use crate::requests::lasting;
 use crate::span::Span;
 use krb_accounts::Account;
 use krb_crypto::CipherSuite;
+use krb_messages::messages::KdcReqBody;
 use krb_moments::MICROSECONDS_IN_SECOND;
 use krb_preauth::{first_of, moment_of, open_stamp};
 use krb_types::Refusal;
 use krb_types::constants::error_codes;
 use krb_types::constants::types::{PA_ENC_TIMESTAMP, PA_PK_AS_REQ};
+use krb_types::data_types::PaData;
 use picky_asn1::is_number;
-use picky_krb::data_types::PaData;
-use picky_krb::messages::KdcReqBody;
 use std::alloc::Global;
 
 /// Judges the ticket's times and its suite.

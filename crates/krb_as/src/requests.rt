@@ -10,17 +10,17 @@ ghost use Rattle.picky_asn1.specs.GeneralizedTime.{seconds_of};
 use crate::span::Span;
 use krb_accounts::{Account, Accounts, Settings};
 use krb_crypto::CipherSuite;
+use krb_messages::messages::{KdcReq, KdcReqBody};
 use krb_moments::Moment;
 use krb_tickets::{end_of, start_of};
 use krb_types::constants::error_codes;
 use krb_types::constants::random_bytes::SESSION_KEY;
 use krb_types::constants::types::KERBEROS_VERSION;
+use krb_types::data_types::{PaData, PrincipalName};
 use krb_types::{Refusal, is_same_realm};
 use picky_asn1::date::GeneralizedTime;
 use picky_asn1::is_number;
 use picky_asn1::wrapper::{BitStringAsn1, GeneralStringAsn1, OctetStringAsn1};
-use picky_krb::data_types::{PaData, PrincipalName};
-use picky_krb::messages::{KdcReq, KdcReqBody};
 use std::alloc::{AllocError, Global};
 
 /// Judges whether a request is of this message type and to this realm, and its options.

@@ -10,10 +10,10 @@ use crate::grant::{Principals, grant};
 use crate::judge::{check_client, check_possible};
 use crate::requests::{check_address, client_of, entries_of, service_of};
 use krb_accounts::Account;
+use krb_messages::messages::KdcReq;
 use krb_types::Refusal;
 use krb_types::constants::error_codes;
 use krb_types::constants::types::AS_REQ_MSG_TYPE;
-use picky_krb::messages::KdcReq;
 use std::alloc::Global;
 
 /// The reply that grants a first ticket, or the code of the error, by the table of the realm that is called, of these

@@ -2,10 +2,10 @@
 ghost use Rattle.std.specs.Prelude.{◌≡◌};
 ghost use Rattle.krb_asked.specs.Answers.{is_answer};
 
+use krb_messages::messages::{EncKdcRepPart, KdcRep};
 use krb_types::{is_same_name, is_same_realm};
 use picky_asn1::is_number;
 use picky_asn1::wrapper::GeneralStringAsn1;
-use picky_krb::messages::{EncKdcRepPart, KdcRep};
 
 /// Whether a reply, with its part opened, answers the request that a client of this realm and of these components made for
 /// the service, with the nonce (RFC 4120, sections 3.1.5 and 3.3.4): the part has the nonce, the reply names the client, and

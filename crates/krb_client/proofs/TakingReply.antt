@@ -1,7 +1,7 @@
 -- What a client takes of a reply, by how it reads and by the tag of its opened part.
 use Rattle.std.proofs.Common.{◌≡◌, true, not, Result, Err, List, ℕ, ℤ, ap, refl}
-use Rattle.picky_krb.specs.declared.messages.enc_kdc_rep_part.EncKdcRepPart.{EncKdcRepPart}
-use Rattle.picky_krb.specs.declared.messages.kdc_rep.KdcRep.{KdcRep}
+use Rattle.krb_messages.specs.declared.messages.enc_kdc_rep_part.EncKdcRepPart.{EncKdcRepPart}
+use Rattle.krb_messages.specs.declared.messages.kdc_rep.KdcRep.{KdcRep}
 use Rattle.decision_tables.specs.One.{IsSole}
 use Rattle.decision_tables.specs.Tables.{Table, ask, done, refuse}
 use Rattle.krb_asked.specs.Asked.{AsAskedRecord}

@@ -2,8 +2,8 @@
 use Rattle.std.specs.Prelude.{◌≡◌, ℕ, ◌/◌, ◌%◌, ◌==◌, Bool, not, ◌&&◌, List, Result, Ok, Err}
 use Rattle.krb_types.specs.declared.data_types.enc_ap_rep_part.EncApRepPartInner.{EncApRepPartInner}
 use Rattle.krb_types.specs.declared.data_types.encrypted_data.EncryptedData.{EncryptedData}
-use Rattle.picky_krb.specs.declared.messages.ap_rep.ApRepInner.{ApRepInner}
-use Rattle.picky_krb.specs.Messages.{IsApRep, enc_ap_rep_part-injective, enc_ap_rep_part_tree, sole_ap_rep}
+use Rattle.krb_messages.specs.declared.messages.ap_rep.ApRepInner.{ApRepInner}
+use Rattle.krb_messages.specs.Messages.{IsApRep, enc_ap_rep_part-injective, enc_ap_rep_part_tree, sole_ap_rep}
 use Rattle.krb_opening.specs.Sealed.{IsSealedIn, sole_sealed}
 use Rattle.picky_asn1.specs.GeneralizedTime.{seconds_of}
 use Rattle.picky_asn1.specs.Numbers.{is_number}

@@ -1,9 +1,9 @@
 -- What a client takes as the reply to its AS request (RFC 4120, section 3.1.5): the first case that holds counts.
 use Rattle.std.specs.Prelude.{◌≡◌, ℕ, not, List, Err}
 use Rattle.krb_types.specs.declared.data_types.encrypted_data.EncryptedData.{EncryptedData}
-use Rattle.picky_krb.specs.declared.messages.enc_kdc_rep_part.EncKdcRepPart.{EncKdcRepPart}
-use Rattle.picky_krb.specs.declared.messages.kdc_rep.KdcRep.{KdcRep}
-use Rattle.picky_krb.specs.Messages.{IsAsRep, enc_as_rep_part-injective, enc_as_rep_part_tree, sole_as_rep}
+use Rattle.krb_messages.specs.declared.messages.enc_kdc_rep_part.EncKdcRepPart.{EncKdcRepPart}
+use Rattle.krb_messages.specs.declared.messages.kdc_rep.KdcRep.{KdcRep}
+use Rattle.krb_messages.specs.Messages.{IsAsRep, enc_as_rep_part-injective, enc_as_rep_part_tree, sole_as_rep}
 use Rattle.krb_opening.specs.Sealed.{IsSealedIn, sole_sealed}
 use Rattle.decision_tables.specs.One.{IsSole}
 use Rattle.decision_tables.specs.Tables.{Table, ask, done, refuse}

@@ -6,12 +6,12 @@ use Rattle.krb_types.specs.declared.data_types.authenticator.AuthenticatorInner.
 use Rattle.krb_types.specs.declared.data_types.encrypted_data.EncryptedData.{EncryptedData}
 use Rattle.krb_types.specs.declared.data_types.pa_enc_timestamp.PaEncTsEnc.{PaEncTsEnc}
 use Rattle.krb_types.specs.Trees as held
-use Rattle.picky_krb.specs.declared.messages.ap_req.ApReqInner.{ApReqInner}
-use Rattle.picky_krb.specs.declared.messages.kdc_req.KdcReq.{KdcReq}
-use Rattle.picky_krb.specs.declared.messages.kdc_req_body.KdcReqBody.{KdcReqBody}
-use Rattle.picky_krb.specs.declared.messages.krb_error.KrbErrorInner.{KrbErrorInner}
-use Rattle.picky_krb.specs.Messages.{IsKrbError, ap_req_tree, as_req_tree, authenticator_tree, sole_krb_error, tgs_req_tree}
-use Rattle.picky_krb.specs.Trees.{kdc_req_body_tree}
+use Rattle.krb_messages.specs.declared.messages.ap_req.ApReqInner.{ApReqInner}
+use Rattle.krb_messages.specs.declared.messages.kdc_req.KdcReq.{KdcReq}
+use Rattle.krb_messages.specs.declared.messages.kdc_req_body.KdcReqBody.{KdcReqBody}
+use Rattle.krb_messages.specs.declared.messages.krb_error.KrbErrorInner.{KrbErrorInner}
+use Rattle.krb_messages.specs.Messages.{IsKrbError, ap_req_tree, as_req_tree, authenticator_tree, sole_krb_error, tgs_req_tree}
+use Rattle.krb_messages.specs.Trees.{kdc_req_body_tree}
 use Rattle.decision_tables.specs.One.{IsSole}
 
 -- the encoding of a client's time

@@ -3,9 +3,9 @@
 use Rattle.std.specs.Prelude.{ℕ, ℤ, Bool, not, ◌&&◌, List, Result, Ok, Err}
 use Rattle.krb_crypto.specs.declared.suite.CipherSuite.{CipherSuite}
 use Rattle.krb_types.specs.declared.data_types.encrypted_data.EncryptedData.{EncryptedData}
-use Rattle.picky_krb.specs.declared.messages.enc_kdc_rep_part.EncKdcRepPart.{EncKdcRepPart}
-use Rattle.picky_krb.specs.declared.messages.kdc_rep.KdcRep.{KdcRep}
-use Rattle.picky_krb.specs.Messages.{enc_tgs_rep_part-injective, enc_tgs_rep_part_tree}
+use Rattle.krb_messages.specs.declared.messages.enc_kdc_rep_part.EncKdcRepPart.{EncKdcRepPart}
+use Rattle.krb_messages.specs.declared.messages.kdc_rep.KdcRep.{KdcRep}
+use Rattle.krb_messages.specs.Messages.{enc_tgs_rep_part-injective, enc_tgs_rep_part_tree}
 use Rattle.krb_opening.specs.Keys.{suite_of}
 use Rattle.krb_opening.specs.Sealed.{IsSealedIn, sole_sealed}
 use Rattle.picky_asn1.specs.Numbers.{is_number}

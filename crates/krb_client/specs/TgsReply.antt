@@ -1,7 +1,7 @@
 -- What a client takes as the reply to its TGS request (RFC 4120, section 3.3.4): the first case that holds counts.
 use Rattle.std.specs.Prelude.{◌≡◌, ℕ, not, List, Err}
-use Rattle.picky_krb.specs.declared.messages.kdc_rep.KdcRep.{KdcRep}
-use Rattle.picky_krb.specs.Messages.{IsTgsRep, sole_tgs_rep}
+use Rattle.krb_messages.specs.declared.messages.kdc_rep.KdcRep.{KdcRep}
+use Rattle.krb_messages.specs.Messages.{IsTgsRep, sole_tgs_rep}
 use Rattle.decision_tables.specs.Tables.{Table, ask, done, refuse}
 use Rattle.krb_asked.specs.Asked.{TgsAskedRecord}
 use Rattle.krb_client.specs.Client.{ClientRecord}

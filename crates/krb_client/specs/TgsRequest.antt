@@ -8,7 +8,7 @@ use Rattle.krb_crypto.specs.Suites.{checksum_number, cipher_checksum}
 use Rattle.krb_types.specs.declared.data_types.authenticator.AuthenticatorInner.{AuthenticatorInner}
 use Rattle.krb_types.specs.declared.data_types.checksum.Checksum.{Checksum}
 use Rattle.krb_types.specs.RandomBytes.{authenticator_confounder}
-use Rattle.picky_krb.specs.declared.messages.kdc_req.KdcReq.{KdcReq}
+use Rattle.krb_messages.specs.declared.messages.kdc_req.KdcReq.{KdcReq}
 use Rattle.krb_asked.specs.Asked.{TgsAskedRecord}
 use Rattle.krb_client.specs.Authenticators.{IsApRequest, IsAuthenticator, sole_presented, sole_authenticator}
 use Rattle.krb_client.specs.Client.{ClientRecord, CredentialRecord}

@@ -7,11 +7,11 @@ use crate::read::{open_ap_part, read_ap_reply, read_error_code};
 use crate::taking::is_of_type;
 use crate::{Client, TakeRefusal};
 use krb_asked::ApAsked;
+use krb_messages::messages::ApRepInner;
 use krb_moments::Moment;
 use krb_types::constants::types::AP_REP_MSG_TYPE;
 use krb_types::data_types::EncApRepPartInner;
 use picky_asn1::is_number;
-use picky_krb::messages::ApRepInner;
 use std::alloc::Global;
 
 impl Client {

@@ -10,6 +10,7 @@ use crate::{AskRefusal, Client};
 use krb_accounts::{are_components, components_of};
 use krb_asked::AsAsked;
 use krb_encoding::{encoding_of, tagged_encoding};
+use krb_messages::messages::KdcReq;
 use krb_moments::Moment;
 use krb_sealing::sealed_data;
 use krb_types::constants::key_usages;
@@ -19,7 +20,6 @@ use krb_types::data_types::{EncryptedData, PaEncTsEnc};
 use picky_asn1::date::GeneralizedTime;
 use picky_asn1::wrapper::{GeneralStringAsn1, GeneralizedTimeAsn1, IntegerAsn1};
 use picky_asn1_der::{ExplicitContextTag, Optional};
-use picky_krb::messages::KdcReq;
 use std::alloc::{AllocError, Global};
 
 impl Client {

@@ -8,6 +8,7 @@ use crate::copies::ticket_copy;
 use crate::names::principal_name;
 use crate::{Client, Credential};
 use krb_encoding::tagged_encoding;
+use krb_messages::messages::ApReqInner;
 use krb_moments::Moment;
 use krb_sealing::sealed_data;
 use krb_types::constants::types::{
@@ -19,7 +20,6 @@ use krb_types::data_types::{
 use picky_asn1::date::GeneralizedTime;
 use picky_asn1::wrapper::{BitStringAsn1, GeneralStringAsn1, GeneralizedTimeAsn1, IntegerAsn1};
 use picky_asn1_der::{ExplicitContextTag, Optional};
-use picky_krb::messages::ApReqInner;
 use std::alloc::{AllocError, Global};
 
 /// The option `mutual-required`, bit 2, in the first of the options' octets (RFC 4120, section 5.5.1).

@@ -6,9 +6,9 @@ ghost use Rattle.krb_client.specs.Taking.{credential_of};
 
 use crate::copies::ticket_copy;
 use krb_crypto::CipherSuite;
+use krb_messages::messages::{EncKdcRepPart, KdcRep};
 use krb_types::data_types::{PrincipalName, Ticket};
 use picky_asn1::wrapper::{GeneralStringAsn1, OctetStringAsn1};
-use picky_krb::messages::{EncKdcRepPart, KdcRep};
 use std::alloc::AllocError;
 use std::marker::Model;
 

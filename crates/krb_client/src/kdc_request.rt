@@ -4,6 +4,7 @@ ghost use Rattle.krb_client.specs.Requests.{entry_of, name_where, no_options, no
 
 use crate::Client;
 use crate::names::principal_name;
+use krb_messages::messages::{KdcReq, KdcReqBody};
 use krb_types::constants::random_bytes::NONCE;
 use krb_types::constants::types::{AS_REQ_MSG_TYPE, KERBEROS_VERSION, NT_PRINCIPAL, NT_SRV_INST};
 use krb_types::data_types::{KerberosFlags, PaData, PrincipalName};
@@ -13,7 +14,6 @@ use picky_asn1::wrapper::{
     OctetStringAsn1,
 };
 use picky_asn1_der::{ExplicitContextTag, ExplicitContextTag1, Optional};
-use picky_krb::messages::{KdcReq, KdcReqBody};
 use std::alloc::{AllocError, Global};
 
 /// A nonce has 31 bits, so that it is positive for every reader (RFC 4120, section 5.4.1).

@@ -2,7 +2,7 @@
 ghost use Rattle.std.specs.Prelude.{IfOk};
 ghost use Rattle.std.specs.Int.{cast_unsigned, w32};
 ghost use Rattle.krb_opening.specs.Found.{IsFound};
-ghost use Rattle.picky_krb.specs.Messages.{IsApRep, IsAsRep, IsTgsRep};
+ghost use Rattle.krb_messages.specs.Messages.{IsApRep, IsAsRep, IsTgsRep};
 ghost use Rattle.krb_client.specs.ApReply.{IsApPart};
 ghost use Rattle.krb_client.specs.AsReply.{IsAsPart};
 ghost use Rattle.krb_client.specs.Messages.{IsErrorCode};
@@ -11,12 +11,12 @@ ghost use Rattle.krb_client.specs.Taking.{IsTgsPart};
 use crate::Client;
 use krb_asked::ApAsked;
 use krb_crypto::CipherSuite;
+use krb_messages::messages::{
+    ApRep, ApRepInner, AsRep, EncAsRepPart, EncKdcRepPart, EncTgsRepPart, KdcRep, KrbError, TgsRep,
+};
 use krb_opening::{open_sealed, read_whole};
 use krb_types::constants::key_usages;
 use krb_types::data_types::{EncApRepPart, EncApRepPartInner, EncryptedData};
-use picky_krb::messages::{
-    ApRep, ApRepInner, AsRep, EncAsRepPart, EncKdcRepPart, EncTgsRepPart, KdcRep, KrbError, TgsRep,
-};
 use std::alloc::{AllocError, Global};
 
 /// The code of the error whose one encoding the bytes are, or none (RFC 4120, section 5.9.1).

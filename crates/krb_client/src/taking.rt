@@ -6,11 +6,11 @@ ghost use Rattle.krb_client.specs.Taking.{is_of_type, takes_part};
 
 use crate::{Client, Credential, TakeRefusal};
 use krb_asked::is_answer;
+use krb_messages::messages::{EncKdcRepPart, KdcRep};
 use krb_opening::suite_of;
 use krb_types::constants::types::KERBEROS_VERSION;
 use picky_asn1::is_number;
 use picky_asn1::wrapper::{GeneralStringAsn1, IntegerAsn1};
-use picky_krb::messages::{EncKdcRepPart, KdcRep};
 
 /// Whether a message says that it is of version 5, and of this type.
 pub(crate) fn is_of_type(number: u8, version: &IntegerAsn1, kind: &IntegerAsn1) -> bool

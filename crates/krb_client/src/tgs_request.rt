@@ -12,6 +12,7 @@ use krb_accounts::{are_components, components_of};
 use krb_asked::TgsAsked;
 use krb_crypto::{Checksum as KeyedChecksum, Cipher};
 use krb_encoding::{encoding_of, tagged_encoding};
+use krb_messages::messages::{KdcReq, KdcReqBody};
 use krb_moments::Moment;
 use krb_types::constants::key_usages;
 use krb_types::constants::random_bytes::{AUTHENTICATOR_CONFOUNDER, CONFOUNDER_SIZE};
@@ -20,7 +21,6 @@ use krb_types::data_types::Checksum;
 use picky_asn1::date::GeneralizedTime;
 use picky_asn1::wrapper::{GeneralStringAsn1, IntegerAsn1, OctetStringAsn1};
 use picky_asn1_der::ExplicitContextTag;
-use picky_krb::messages::{KdcReq, KdcReqBody};
 use std::alloc::{AllocError, Global};
 
 impl Client {

@@ -1,7 +1,7 @@
 -- The reply to a request is the realm's.
 use Rattle.std.proofs.Common.{◌≡◌, ℕ, List, Some, inl, inr, subst}
-use Rattle.picky_krb.specs.declared.messages.kdc_req.KdcReq.{KdcReq}
-use Rattle.picky_krb.specs.Messages.{IsAsReq, IsTgsReq}
+use Rattle.krb_messages.specs.declared.messages.kdc_req.KdcReq.{KdcReq}
+use Rattle.krb_messages.specs.Messages.{IsAsReq, IsTgsReq}
 use Rattle.krb_as.specs.Call.{CallRecord}
 use Rattle.krb_as.specs.Requests.{account_of, client_of, service_of}
 use Rattle.krb_replies.specs.Replies.{Replies, as_reply, tgs_reply}

@@ -17,7 +17,7 @@ pub use krb_crypto::{ChecksumSuite, CipherSuite};
 pub use krb_frames::{AnswerRefusal, Responder, ServeFault, serve, serve_bytes};
 pub use krb_moments::Moment;
 pub use krb_service::Service;
+pub use krb_types::data_types::{EncryptionKey, PrincipalName, Ticket};
 pub use picky_asn1::date::GeneralizedTime;
 pub use picky_asn1::wrapper::{GeneralStringAsn1, OctetStringAsn1};
-pub use picky_krb::data_types::{EncryptionKey, PrincipalName, Ticket};
 pub use realm::{Realm, words_needed};

@@ -5,9 +5,9 @@ use Rattle.std.specs.Option.{option_map}
 use Rattle.asn1_trees.specs.Tree.{der}
 use Rattle.asn1_leaves.specs.declared.date.GeneralizedTime.{GeneralizedTime}
 use Rattle.picky_asn1_der.specs.declared.wrapper.ExplicitContextTag.{ExplicitContextTag}
-use Rattle.picky_krb.specs.declared.messages.krb_error.KrbErrorInner.{KrbErrorInner}
+use Rattle.krb_messages.specs.declared.messages.krb_error.KrbErrorInner.{KrbErrorInner}
 use Rattle.krb_types.specs.declared.data_types.principal_name.PrincipalName.{PrincipalName}
-use Rattle.picky_krb.specs.Messages.{krb_error_tree}
+use Rattle.krb_messages.specs.Messages.{krb_error_tree}
 use Rattle.krb_replies.specs.Errors.{error_bytes}
 
 abbrev pub made : ℤ → ℤ → ℤ → List ℕ → GeneralizedTime → PrincipalName → ℕ → Option (ExplicitContextTag 12 (List ℕ)) → KrbErrorInner

@@ -6,8 +6,8 @@ use Rattle.krb_accounts.specs.Account.{AccountRecord}
 use Rattle.krb_accounts.specs.Accounts.{Look}
 use Rattle.krb_types.specs.Names.{components}
 use Rattle.krb_types.specs.declared.data_types.principal_name.PrincipalName.{PrincipalName}
-use Rattle.picky_krb.specs.declared.messages.kdc_req.KdcReq.{KdcReq}
-use Rattle.picky_krb.specs.Messages.{IsAsReq, IsTgsReq, sole_as_req, sole_tgs_req}
+use Rattle.krb_messages.specs.declared.messages.kdc_req.KdcReq.{KdcReq}
+use Rattle.krb_messages.specs.Messages.{IsAsReq, IsTgsReq, sole_as_req, sole_tgs_req}
 use Rattle.decision_tables.specs.Some.{HasSome}
 use Rattle.decision_tables.specs.Tables.{Table, ask, done, make}
 use Rattle.decision_tables.proofs.Outcomes.{HasOutcome, has_asked, has_done, has_made, some_of}

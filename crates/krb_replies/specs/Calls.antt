@@ -1,8 +1,8 @@
 -- What has to be written of what a realm grants.
 use Rattle.std.specs.Prelude.{◌≡◌, ℕ, List, None, Some}
 use Rattle.picky_asn1.specs.GeneralizedTime.{seconds_of}
-use Rattle.picky_krb.specs.declared.messages.kdc_req.KdcReq.{KdcReq}
-use Rattle.picky_krb.specs.Messages.{IsAsReq, IsTgsReq}
+use Rattle.krb_messages.specs.declared.messages.kdc_req.KdcReq.{KdcReq}
+use Rattle.krb_messages.specs.Messages.{IsAsReq, IsTgsReq}
 use Rattle.krb_tickets.specs.declared.reply.Exchange.TheVariants.{As}
 use Rattle.krb_as.specs.Call.{CallRecord}
 use Rattle.krb_as.specs.Calls.{IsWritten}

@@ -6,10 +6,10 @@ use Rattle.asn1_trees.specs.Tree.{der}
 use Rattle.asn1_leaves.specs.declared.date.GeneralizedTime.{GeneralizedTime}
 use Rattle.picky_asn1.specs.GeneralizedTime.{seconds_of}
 use Rattle.asn1_leaves.proofs.TimeLemmas.{seconds_of-injective}
-use Rattle.picky_krb.specs.declared.messages.krb_error.KrbErrorInner.{KrbErrorInner}
+use Rattle.krb_messages.specs.declared.messages.krb_error.KrbErrorInner.{KrbErrorInner}
 use Rattle.krb_types.specs.declared.data_types.principal_name.PrincipalName.{PrincipalName}
 use Rattle.decision_tables.specs.One.{IsSole}
-use Rattle.picky_krb.specs.Messages.{krb_error_tree}
+use Rattle.krb_messages.specs.Messages.{krb_error_tree}
 use Rattle.krb_as.specs.TicketGranting.{krbtgt_of}
 
 -- the realm's ticket-granting service by its name, of type 2 (RFC 4120, section 7.3)

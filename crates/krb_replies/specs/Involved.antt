@@ -1,10 +1,10 @@
 -- A reply rests on the accounts involved alone.
 use Rattle.std.specs.Prelude.{◌≡◌, ◌⊎◌, ℕ, List, Option, Some}
-use Rattle.picky_krb.specs.declared.messages.kdc_req.KdcReq.{KdcReq}
+use Rattle.krb_messages.specs.declared.messages.kdc_req.KdcReq.{KdcReq}
 use Rattle.krb_types.specs.declared.data_types.principal_name.PrincipalName.{PrincipalName}
 use Rattle.krb_accounts.specs.Accounts.{Look}
 use Rattle.krb_types.specs.Names.{components}
-use Rattle.picky_krb.specs.Messages.{IsAsReq, IsTgsReq}
+use Rattle.krb_messages.specs.Messages.{IsAsReq, IsTgsReq}
 use Rattle.krb_as.specs.Call.{CallRecord}
 use Rattle.krb_as.specs.Requests.{client_of, service_of}
 use Rattle.krb_tgs.specs.ByTicket.{IsInvolvedFurther}

@@ -1,12 +1,12 @@
 -- The reply of a realm, as one table over whole messages.
 use Rattle.std.specs.Prelude.{◌≡◌, ℕ, ◌%◌, ◌==◌, List, Option, None, Some, Result, Ok, Err, if◌then◌else◌}
 use Rattle.std.specs.Option.{option_map}
-use Rattle.picky_krb.specs.declared.messages.kdc_req.KdcReq.{KdcReq}
+use Rattle.krb_messages.specs.declared.messages.kdc_req.KdcReq.{KdcReq}
 use Rattle.krb_types.specs.declared.data_types.principal_name.PrincipalName.{PrincipalName}
 use Rattle.krb_accounts.specs.Account.{AccountRecord}
 use Rattle.decision_tables.specs.Tables.{Table, done, ask, make}
 use Rattle.krb_tickets.specs.MethodData.{method_data_bytes}
-use Rattle.picky_krb.specs.Messages.{IsAsReq, IsTgsReq, sole_as_req, sole_tgs_req}
+use Rattle.krb_messages.specs.Messages.{IsAsReq, IsTgsReq, sole_as_req, sole_tgs_req}
 use Rattle.krb_as.specs.AsTable.{as_table}
 use Rattle.krb_as.specs.Call.{CallRecord}
 use Rattle.krb_as.specs.Requests.{account_of, client_of, service_of}

@@ -1,6 +1,6 @@
 //! The answers to requests, and the error that answers one.
 ghost use Rattle.std.specs.Prelude.{◌≡◌, ◌≤◌, ◌%◌, None, Some, IfOk, length};
-ghost use Rattle.picky_krb.specs.declared.messages.kdc_req.KdcReq.{KdcReq};
+ghost use Rattle.krb_messages.specs.declared.messages.kdc_req.KdcReq.{KdcReq};
 ghost use Rattle.std.specs.Option.{option_copied, option_map};
 ghost use Rattle.asn1_leaves.specs.declared.date.GeneralizedTime.{GeneralizedTime};
 ghost use Rattle.krb_accounts.specs.Accounts.{look_in};
@@ -17,13 +17,13 @@ use crate::names::named_service;
 use crate::told::Told;
 use krb_accounts::Account;
 use krb_as::{Call, account_of, client_of, judge_as, service_of};
+use krb_messages::messages::KdcReq;
 use krb_tgs::judge_tgs;
 use krb_tickets::method_data;
 use krb_types::Refusal;
 use krb_types::constants::error_codes;
+use krb_types::data_types::PrincipalName;
 use picky_asn1_der::ExplicitContextTag3;
-use picky_krb::data_types::PrincipalName;
-use picky_krb::messages::KdcReq;
 use std::alloc::{AllocError, Global};
 
 /// The reply to an AS request: a ticket, or the error with its code (RFC 4120, section 3.1). The request is judged by

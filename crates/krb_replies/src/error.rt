@@ -4,12 +4,12 @@ ghost use Rattle.std.specs.Option.{option_map};
 ghost use Rattle.krb_replies.specs.Errors.{error_bytes};
 
 use krb_encoding::tagged_encoding;
+use krb_messages::messages::KrbErrorInner;
 use krb_types::constants::types::{KERBEROS_VERSION, KRB_ERROR_MSG_TYPE};
 use krb_types::data_types::PrincipalName;
 use picky_asn1::date::GeneralizedTime;
 use picky_asn1::wrapper::{GeneralStringAsn1, GeneralizedTimeAsn1, IntegerAsn1, OctetStringAsn1};
 use picky_asn1_der::{ExplicitContextTag, ExplicitContextTag12, Optional};
-use picky_krb::messages::KrbErrorInner;
 use std::alloc::{AllocError, Global};
 
 /// The encoding of an error with this code, at a time and its microseconds, about a service, with data that belongs to

@@ -5,10 +5,10 @@ ghost use Rattle.krb_replies.specs.Errors.{ticket_service};
 ghost use Rattle.krb_replies.specs.Replies.{named_service};
 
 use krb_as::krbtgt_of;
+use krb_types::constants::types::NT_SRV_INST;
+use krb_types::data_types::PrincipalName;
 use picky_asn1::wrapper::{Asn1SequenceOf, GeneralStringAsn1, IntegerAsn1};
 use picky_asn1_der::{ExplicitContextTag, ExplicitContextTag3};
-use picky_krb::constants::types::NT_SRV_INST;
-use picky_krb::data_types::PrincipalName;
 use std::alloc::{AllocError, Global};
 
 /// The ticket-granting service of a realm, as messages name it (RFC 4120, section 7.3).

@@ -3,7 +3,7 @@ use Rattle.std.proofs.Common.{◌≡◌, ℕ, ◌+◌, ◌<◌, List, [], ◌∷
 use Rattle.std.specs.Borrow.{Bor}
 use Rattle.std.proofs.lemmas.List.{map-append, take_more}
 use Rattle.decision_tables.specs.Tables.{Table, ask, and_then, as_made, done}
-use Rattle.picky_krb.specs.Messages.{IsApReq, sole_ap_req}
+use Rattle.krb_messages.specs.Messages.{IsApReq, sole_ap_req}
 use Rattle.krb_replay_cache.specs.Pair.{PairRecord}
 use Rattle.krb_replay_cache.specs.Seen.{SeenRecord, IsWindow}
 use Rattle.krb_ap.specs.Admission.{AdmissionRecord}

@@ -1,12 +1,12 @@
 -- The service that remembers each pair of client and time that it ever admitted (RFC 4120, section 3.2.3).
 use Rattle.std.specs.Prelude.{ℕ, List, ◌∷◌, Result, Ok, Err}
-use Rattle.picky_krb.specs.declared.messages.ap_req.ApReqInner.{ApReqInner}
+use Rattle.krb_messages.specs.declared.messages.ap_req.ApReqInner.{ApReqInner}
 use Rattle.decision_tables.specs.Tables.{Table, done, ask, as_made, and_then}
 use Rattle.krb_replay_cache.specs.Pair.{PairRecord}
 use Rattle.krb_replay_cache.specs.Seen.{SeenRecord, IsWindow}
 use Rattle.krb_ap.specs.Admission.{AdmissionRecord}
 use Rattle.krb_ap.specs.ApTable.{presented}
-use Rattle.picky_krb.specs.Messages.{IsApReq, sole_ap_req}
+use Rattle.krb_messages.specs.Messages.{IsApReq, sole_ap_req}
 use Rattle.krb_ap.specs.declared.refusal.AdmitRefusal.{AdmitRefusal}
 use Rattle.krb_ap.specs.declared.refusal.AdmitRefusal.TheVariants.{Unreadable, Krb, Memory}
 use Rattle.krb_service.specs.Once.{Admitted, once}

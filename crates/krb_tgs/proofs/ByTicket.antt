@@ -8,8 +8,8 @@ use Rattle.krb_types.specs.declared.data_types.enc_ticket_part.EncTicketPartInne
 use Rattle.krb_types.specs.declared.data_types.encrypted_data.EncryptedData.{EncryptedData}
 use Rattle.krb_types.specs.declared.data_types.pa_data.PaData.{PaData}
 use Rattle.krb_opening.specs.Keys.{suite_of}
-use Rattle.picky_krb.specs.declared.messages.ap_req.ApReqInner.{ApReqInner}
-use Rattle.picky_krb.specs.Messages.{IsApReq, sole_ap_req}
+use Rattle.krb_messages.specs.declared.messages.ap_req.ApReqInner.{ApReqInner}
+use Rattle.krb_messages.specs.Messages.{IsApReq, sole_ap_req}
 use Rattle.decision_tables.specs.Tables.{Table, and_then, ask, done, need, refuse}
 use Rattle.decision_tables.specs.One.{IsSole}
 use Rattle.krb_preauth.specs.Entries.{first_of}

@@ -5,7 +5,7 @@ use Rattle.krb_crypto.specs.declared.suite.CipherSuite.{CipherSuite}
 use Rattle.krb_accounts.specs.Account.{AccountRecord}
 use Rattle.krb_types.specs.declared.data_types.enc_ticket_part.EncTicketPartInner.{EncTicketPartInner}
 use Rattle.krb_types.specs.declared.data_types.principal_name.PrincipalName.{PrincipalName}
-use Rattle.picky_krb.specs.declared.messages.kdc_req_body.KdcReqBody.{KdcReqBody}
+use Rattle.krb_messages.specs.declared.messages.kdc_req_body.KdcReqBody.{KdcReqBody}
 use Rattle.decision_tables.specs.Tables.{Table, need}
 use Rattle.krb_tickets.specs.declared.grant.Grant.{Grant}
 use Rattle.krb_tickets.specs.ReplyKeys.{ReplyKeyRecord}

@@ -5,8 +5,8 @@ use Rattle.krb_accounts.specs.Accounts.{Look}
 use Rattle.krb_types.specs.Names.{components}
 use Rattle.krb_types.specs.declared.data_types.enc_ticket_part.EncTicketPartInner.{EncTicketPartInner}
 use Rattle.krb_types.specs.declared.data_types.principal_name.PrincipalName.{PrincipalName}
-use Rattle.picky_krb.specs.declared.messages.ap_req.ApReqInner.{ApReqInner}
-use Rattle.picky_krb.specs.declared.messages.kdc_req.KdcReq.{KdcReq}
+use Rattle.krb_messages.specs.declared.messages.ap_req.ApReqInner.{ApReqInner}
+use Rattle.krb_messages.specs.declared.messages.kdc_req.KdcReq.{KdcReq}
 use Rattle.std.specs.Option.{is_some}
 use Rattle.decision_tables.specs.Tables.{Table, and_then, need, refuse}
 use Rattle.krb_ap.specs.declared.presented.Authenticated.{Authenticated}

@@ -7,8 +7,8 @@ use Rattle.krb_accounts.specs.Account.{AccountRecord}
 use Rattle.krb_types.specs.Refusals.{IsJudged}
 use Rattle.krb_types.specs.declared.data_types.enc_ticket_part.EncTicketPartInner.{EncTicketPartInner}
 use Rattle.krb_types.specs.declared.refusal.Refusal.{Refusal}
-use Rattle.picky_krb.specs.declared.messages.ap_req.ApReqInner.{ApReqInner}
-use Rattle.picky_krb.specs.declared.messages.kdc_req_body.KdcReqBody.{KdcReqBody}
+use Rattle.krb_messages.specs.declared.messages.ap_req.ApReqInner.{ApReqInner}
+use Rattle.krb_messages.specs.declared.messages.kdc_req_body.KdcReqBody.{KdcReqBody}
 use Rattle.decision_tables.specs.Tables.{Table, and_then, done, need}
 use Rattle.krb_ap.specs.ApTable.{ap_fields, opened_part}
 use Rattle.krb_as.specs.Call.{CallRecord}

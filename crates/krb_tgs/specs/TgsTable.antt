@@ -23,11 +23,11 @@ use Rattle.krb_types.specs.declared.data_types.encryption_key.EncryptionKey.{Enc
 use Rattle.krb_types.specs.declared.data_types.pa_data.PaData.{PaData}
 use Rattle.krb_types.specs.declared.data_types.principal_name.PrincipalName.{PrincipalName}
 use Rattle.krb_opening.specs.Keys.{suite_of}
-use Rattle.picky_krb.specs.declared.messages.ap_req.ApReqInner.{ApReqInner}
-use Rattle.picky_krb.specs.declared.messages.kdc_req.KdcReq.{KdcReq}
-use Rattle.picky_krb.specs.declared.messages.kdc_req_body.KdcReqBody.{KdcReqBody}
-use Rattle.picky_krb.specs.Messages.{IsApReq, sole_ap_req}
-use Rattle.picky_krb.specs.Trees.{kdc_req_body_tree}
+use Rattle.krb_messages.specs.declared.messages.ap_req.ApReqInner.{ApReqInner}
+use Rattle.krb_messages.specs.declared.messages.kdc_req.KdcReq.{KdcReq}
+use Rattle.krb_messages.specs.declared.messages.kdc_req_body.KdcReqBody.{KdcReqBody}
+use Rattle.krb_messages.specs.Messages.{IsApReq, sole_ap_req}
+use Rattle.krb_messages.specs.Trees.{kdc_req_body_tree}
 use Rattle.decision_tables.specs.Tables.{Table, and_then, ask, done, need, refuse}
 use Rattle.krb_preauth.specs.Entries.{first_of}
 use Rattle.krb_tickets.specs.declared.grant.Grant.{Grant}

@@ -5,13 +5,13 @@ ghost use Rattle.krb_tgs.specs.TgsTable.{body_bytes, checksum_in, covered, is_kn
 ghost use Rattle.krb_types.specs.Refusals.{IsJudged};
 
 use krb_crypto::{Checksum as _, ChecksumSuite, Cipher, CipherSuite};
+use krb_messages::messages::KdcReqBody;
 use krb_types::Refusal;
 use krb_types::constants::{error_codes, key_usages};
 use krb_types::data_types::{AuthenticatorInner, Checksum};
 use picky_asn1::is_number;
 use picky_asn1::wrapper::IntegerAsn1;
 use picky_asn1_der::to_vec;
-use picky_krb::messages::KdcReqBody;
 use std::alloc::{AllocError, Global};
 
 /// Judges whether an authenticator covers the request's body: by the checksum of the session's suite, under the session's

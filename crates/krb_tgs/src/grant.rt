@@ -11,6 +11,7 @@ use krb_ap::Authenticated;
 use krb_as::{Call, Span, lasting, session_key};
 use krb_crypto::CipherSuite;
 use krb_grants::ticket_reply;
+use krb_messages::messages::KdcReqBody;
 use krb_opening::suite_of;
 use krb_tickets::{Grant, ReplyKey, TicketFlags};
 use krb_types::Refusal;
@@ -18,7 +19,6 @@ use krb_types::constants::error_codes;
 use krb_types::data_types::{AuthenticatorInner, EncTicketPartInner, EncryptionKey, PrincipalName};
 use picky_asn1::is_number;
 use picky_asn1::wrapper::IntegerAsn1;
-use picky_krb::messages::KdcReqBody;
 use std::alloc::{AllocError, Global};
 
 /// The flag of a ticket whose client authenticated itself before the first one was granted (RFC 4120, section 5.3).

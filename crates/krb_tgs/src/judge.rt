@@ -11,14 +11,13 @@ use krb_ap::{
     Authenticated, check_authenticator, check_fields, check_times, open_ticket, read_ap_req,
 };
 use krb_as::{Call, check_address, krbtgt_of};
+use krb_messages::messages::{ApReqInner, KdcReq};
 use krb_preauth::first_of;
 use krb_types::constants::types::{PA_TGS_REQ, TGS_REQ_MSG_TYPE};
 use krb_types::constants::{error_codes, key_usages};
-use krb_types::data_types::EncTicketPartInner;
+use krb_types::data_types::{EncTicketPartInner, PaData};
 use krb_types::{Refusal, is_same_realm};
 use picky_asn1::wrapper::GeneralStringAsn1;
-use picky_krb::data_types::PaData;
-use picky_krb::messages::{ApReqInner, KdcReq};
 use std::alloc::Global;
 
 /// Judges whether it is a TGS request to this realm, and its options.

@@ -13,11 +13,11 @@ use crate::judge::{carried, check_request, open_shown, open_ticket_granting};
 use krb_accounts::{Account, Accounts};
 use krb_ap::Authenticated;
 use krb_as::{Call, entries_of, krbtgt_of, service_of};
+use krb_messages::messages::{ApReqInner, KdcReq, KdcReqBody};
 use krb_types::Refusal;
 use krb_types::constants::error_codes;
 use krb_types::data_types::{EncTicketPartInner, PrincipalName};
 use picky_asn1::wrapper::GeneralStringAsn1;
-use picky_krb::messages::{ApReqInner, KdcReq, KdcReqBody};
 use std::alloc::{AllocError, Global};
 
 /// The reply that grants a ticket by an older one, or the code of the error, by the table of the realm that is called (RFC

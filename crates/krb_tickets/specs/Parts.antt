@@ -10,8 +10,8 @@ use Rattle.krb_types.specs.declared.data_types.last_req.LastReqInner.{LastReqInn
 use Rattle.krb_types.specs.declared.data_types.ticket.TicketInner.{TicketInner}
 use Rattle.krb_types.specs.declared.data_types.transited_encoding.TransitedEncoding.{TransitedEncoding}
 use Rattle.krb_types.specs.RandomBytes.{session_key_bytes}
-use Rattle.picky_krb.specs.declared.messages.kdc_rep.KdcRep.{KdcRep}
-use Rattle.picky_krb.specs.declared.messages.enc_kdc_rep_part.EncKdcRepPart.{EncKdcRepPart}
+use Rattle.krb_messages.specs.declared.messages.kdc_rep.KdcRep.{KdcRep}
+use Rattle.krb_messages.specs.declared.messages.enc_kdc_rep_part.EncKdcRepPart.{EncKdcRepPart}
 use Rattle.krb_sealing.specs.Sealing.{encryption_key}
 use Rattle.krb_tickets.specs.declared.grant.Grant.{Grant}
 use Rattle.krb_tickets.specs.declared.grant.TicketFlags.{TicketFlags}

@@ -3,6 +3,7 @@ ghost use Rattle.std.specs.Prelude.{◌≡◌, IfOk};
 ghost use Rattle.krb_tickets.specs.Parts.{flags_octet, flags_of, last_requests, no_realms, reply_part, ticket_part};
 
 use crate::grant::{Grant, TicketFlags};
+use krb_messages::messages::EncKdcRepPart;
 use krb_sealing::encryption_key;
 use krb_types::data_types::{
     EncTicketPartInner, KerberosFlags, LastReq, LastReqInner, TransitedEncoding,
@@ -12,7 +13,6 @@ use picky_asn1::wrapper::{
     Asn1SequenceOf, BitStringAsn1, GeneralizedTimeAsn1, IntegerAsn1, OctetStringAsn1,
 };
 use picky_asn1_der::{ExplicitContextTag, Optional};
-use picky_krb::messages::EncKdcRepPart;
 use std::alloc::{AllocError, Global};
 
 /// The flag `initial`, bit 9 of 32, in the second octet (RFC 4120, section 5.3).

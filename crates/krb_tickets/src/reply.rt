@@ -9,6 +9,7 @@ use crate::parts::reply_part;
 use krb_accounts::Account;
 use krb_crypto::CipherSuite;
 use krb_encoding::tagged_encoding;
+use krb_messages::messages::{EncKdcRepPart, KdcRep};
 use krb_sealing::sealed_data;
 use krb_types::constants::key_usages;
 use krb_types::constants::types::{
@@ -18,7 +19,6 @@ use krb_types::constants::types::{
 use krb_types::data_types::EncryptedData;
 use picky_asn1::wrapper::IntegerAsn1;
 use picky_asn1_der::{ApplicationTag, ExplicitContextTag, Optional};
-use picky_krb::messages::{EncKdcRepPart, KdcRep};
 use std::alloc::{AllocError, Global};
 
 /// The exchange that a ticket is granted in (RFC 4120, sections 3.1 and 3.3).

@@ -1,5 +1,5 @@
 -- The trees of what messages hold (RFC 4120, sections 5.2 to 5.5), each of one value; of what stands under an application tag
--- the tree inside it, which picky_krb's Messages put the tag on.
+-- the tree inside it, which krb_messages's Messages put the tag on.
 use Rattle.asn1_trees.specs.Tree.{Tree}
 use Rattle.asn1_trees.specs.Tagged.{tagged_tree}
 use Rattle.asn1_trees.proofs.Spelling.{IsInjective}

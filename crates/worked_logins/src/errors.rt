@@ -1,7 +1,7 @@
 //! How an error prints, and how it is written where memory is set aside.
 
+use krb_messages::messages::KrbError;
 use picky_asn1_der::{Asn1DerError, Serialize, to_bytes};
-use picky_krb::messages::KrbError;
 use std::alloc::Global;
 
 // A KRB-ERROR of code 6 about krbtgt/R, put together by hand from RFC 4120, appendix A.
@@ -18,7 +18,7 @@ fn error_of(alloc: Global, code: u8) -> Option<Vec<u8>> {
 
 fn read(alloc: Global, code: u8) -> Option<KrbError> {
     let bytes = error_of(alloc, code)?;
-    picky_krb::from_bytes::<KrbError>(alloc, &bytes).ok()
+    krb_messages::from_bytes::<KrbError>(alloc, &bytes).ok()
 }
 
 fn is_printed(alloc: Global, code: u8, text: &str) -> Option<bool> {

@@ -3,10 +3,10 @@
 use crate::parties::{
     AES128, AES256, START, TILL, client_of, credential_of, request_of, service_of,
 };
+use krb_messages::messages::ApRep;
 use krb_realm::{Admission, AdmitRefusal, ApAsked, CipherSuite, Credential, Moment, Service};
 use krb_types::data_types::{EncApRepPart, EncryptionKey, PrincipalName};
 use picky_asn1::wrapper::OctetStringAsn1;
-use picky_krb::messages::ApRep;
 use std::alloc::Global;
 
 fn is_named(name: &PrincipalName, wanted: &[u8]) -> bool {
@@ -143,7 +143,7 @@ fn is_full(admission: &Admission) -> bool {
 
 // The sealed bytes of a service's reply.
 fn sealed_of(alloc: Global, reply: &[u8]) -> Option<Vec<u8>> {
-    let reply = picky_krb::from_bytes::<ApRep>(alloc, reply).ok()?;
+    let reply = krb_messages::from_bytes::<ApRep>(alloc, reply).ok()?;
     Vec::from_slice(alloc, reply.0.enc_part.0.cipher.0.as_bytes()).ok()
 }
 
@@ -151,7 +151,7 @@ fn sealed_of(alloc: Global, reply: &[u8]) -> Option<Vec<u8>> {
 // section 7.5.1).
 fn is_at_start(alloc: Global, reply: &[u8]) -> Option<bool> {
     let sealed = sealed_of(alloc, reply)?;
-    match picky_krb::open_part::<EncApRepPart>(alloc, AES128, &[0; 16], 12, &sealed) {
+    match krb_opening::open_part::<EncApRepPart>(alloc, AES128, &[0; 16], 12, &sealed) {
         Ok(part) => Some(tells_start(&part)),
         Err(_) => None,
     }

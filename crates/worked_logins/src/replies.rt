@@ -2,10 +2,10 @@
 
 use crate::parties::{AES256, TILL, ask, client_by, client_of, reply_to};
 use krb_crypto::Cipher;
+use krb_messages::messages::AsRep;
 use krb_realm::{AsAsked, Client, TakeRefusal};
 use picky_asn1::wrapper::OctetStringAsn1;
 use picky_asn1_der::{ExplicitContextTag, to_vec};
-use picky_krb::messages::AsRep;
 use std::alloc::Global;
 
 fn key_of_a(alloc: Global) -> Option<Vec<u8>> {
@@ -31,7 +31,7 @@ fn exchange_tag(part: &mut [u8], first: u8) -> Option<()> {
 }
 
 fn cipher_of(alloc: Global, reply: &[u8]) -> Option<Vec<u8>> {
-    let reply = picky_krb::from_bytes::<AsRep>(alloc, reply).ok()?;
+    let reply = krb_messages::from_bytes::<AsRep>(alloc, reply).ok()?;
     Vec::from_slice(alloc, reply.0.enc_part.0.cipher.0.as_bytes()).ok()
 }
 
@@ -44,7 +44,7 @@ fn with_cipher(alloc: Global, mut reply: AsRep, cipher: Vec<u8>) -> Option<Vec<u
 fn reply_anew(alloc: Global, bytes: &[u8], first: u8) -> Option<Vec<u8>> {
     let cipher = cipher_of(alloc, bytes)?;
     let cipher = sealed_anew(alloc, &cipher, first)?;
-    let reply = picky_krb::from_bytes::<AsRep>(alloc, bytes).ok()?;
+    let reply = krb_messages::from_bytes::<AsRep>(alloc, bytes).ok()?;
     with_cipher(alloc, reply, cipher)
 }
 

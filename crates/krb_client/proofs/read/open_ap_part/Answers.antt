@@ -1,5 +1,5 @@
 use Rattle.krb_client.specs.ApReply.{IsApPart}
-use Rattle.picky_krb.specs.Messages.{enc_ap_rep_part_tree}
+use Rattle.krb_messages.specs.Messages.{enc_ap_rep_part_tree}
 use Rattle.krb_client.proofs.Tagged.{sealed-around, sealed-inside}
 use Rattle.krb_client.proofs.read.open_ap_part.Goals as goal
 

@@ -1,7 +1,7 @@
 use Rattle.std.proofs.Common.{w32, SFits}
 use Rattle.std.proofs.lemmas.Int.{to_z-of_z}
 use Rattle.krb_client.specs.Taking.{IsTgsPart}
-use Rattle.picky_krb.specs.Messages.{enc_tgs_rep_part_tree}
+use Rattle.krb_messages.specs.Messages.{enc_tgs_rep_part_tree}
 use Rattle.krb_client.proofs.Tagged.{sealed-around, sealed-inside}
 use Rattle.krb_client.proofs.read.open_tgs_part.Goals as goal
 

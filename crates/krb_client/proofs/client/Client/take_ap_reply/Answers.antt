@@ -1,5 +1,5 @@
 use Rattle.krb_client.specs.ApReply.{takes_answer, takes_ap_reply}
-use Rattle.picky_krb.specs.Messages.{IsApRep, sole_ap_rep}
+use Rattle.krb_messages.specs.Messages.{IsApRep, sole_ap_rep}
 use Rattle.krb_client.proofs.TakingReply.{refused_by_error, taken_read, unreadable}
 use Rattle.krb_client.proofs.client.Client.take_ap_reply.Goals as goal
 

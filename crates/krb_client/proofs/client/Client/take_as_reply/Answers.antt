@@ -1,5 +1,5 @@
 use Rattle.krb_client.specs.AsReply.{takes_as_reply, takes_reply}
-use Rattle.picky_krb.specs.Messages.{IsAsRep, sole_as_rep}
+use Rattle.krb_messages.specs.Messages.{IsAsRep, sole_as_rep}
 use Rattle.krb_client.proofs.TakingReply.{refused_by_error, taken_read, unreadable}
 use Rattle.krb_client.proofs.client.Client.take_as_reply.Goals as goal
 

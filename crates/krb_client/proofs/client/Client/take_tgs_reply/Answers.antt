@@ -1,5 +1,5 @@
 use Rattle.krb_client.specs.TgsReply.{takes_further, takes_tgs_reply}
-use Rattle.picky_krb.specs.Messages.{IsTgsRep, sole_tgs_rep}
+use Rattle.krb_messages.specs.Messages.{IsTgsRep, sole_tgs_rep}
 use Rattle.krb_client.proofs.TakingReply.{refused_by_error, taken_read, unreadable}
 use Rattle.krb_client.proofs.client.Client.take_tgs_reply.Goals as goal
 

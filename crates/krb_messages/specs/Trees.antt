@@ -3,20 +3,20 @@ use Rattle.asn1_trees.specs.Tree.{Tree}
 use Rattle.asn1_trees.specs.Tagged.{tagged_tree}
 use Rattle.asn1_trees.proofs.Spelling.{IsInjective}
 use Rattle.asn1_trees.proofs.Tagged.{tagged-injective}
-use Rattle.picky_krb.specs.declared.messages.ap_rep.ApRepInner.{ApRepInner}
-use Rattle.picky_krb.specs.declared.messages.ap_req.ApReqInner.{ApReqInner}
-use Rattle.picky_krb.specs.declared.messages.enc_kdc_rep_part.EncKdcRepPart.{EncKdcRepPart}
-use Rattle.picky_krb.specs.declared.messages.kdc_rep.KdcRep.{KdcRep}
-use Rattle.picky_krb.specs.declared.messages.kdc_req.KdcReq.{KdcReq}
-use Rattle.picky_krb.specs.declared.messages.kdc_req_body.KdcReqBody.{KdcReqBody}
-use Rattle.picky_krb.specs.declared.messages.krb_error.KrbErrorInner.{KrbErrorInner}
-use Rattle.picky_krb.specs.contracts.messages.ap_rep.ApRepInnerTagged.TheImpl as ap_rep_impl
-use Rattle.picky_krb.specs.contracts.messages.ap_req.ApReqInnerTagged.TheImpl as ap_req_impl
-use Rattle.picky_krb.specs.contracts.messages.enc_kdc_rep_part.EncKdcRepPartTagged.TheImpl as enc_kdc_rep_part_impl
-use Rattle.picky_krb.specs.contracts.messages.kdc_rep.KdcRepTagged.TheImpl as kdc_rep_impl
-use Rattle.picky_krb.specs.contracts.messages.kdc_req.KdcReqTagged.TheImpl as kdc_req_impl
-use Rattle.picky_krb.specs.contracts.messages.kdc_req_body.KdcReqBodyTagged.TheImpl as kdc_req_body_impl
-use Rattle.picky_krb.specs.contracts.messages.krb_error.KrbErrorInnerTagged.TheImpl as krb_error_impl
+use Rattle.krb_messages.specs.declared.messages.ap_rep.ApRepInner.{ApRepInner}
+use Rattle.krb_messages.specs.declared.messages.ap_req.ApReqInner.{ApReqInner}
+use Rattle.krb_messages.specs.declared.messages.enc_kdc_rep_part.EncKdcRepPart.{EncKdcRepPart}
+use Rattle.krb_messages.specs.declared.messages.kdc_rep.KdcRep.{KdcRep}
+use Rattle.krb_messages.specs.declared.messages.kdc_req.KdcReq.{KdcReq}
+use Rattle.krb_messages.specs.declared.messages.kdc_req_body.KdcReqBody.{KdcReqBody}
+use Rattle.krb_messages.specs.declared.messages.krb_error.KrbErrorInner.{KrbErrorInner}
+use Rattle.krb_messages.specs.contracts.messages.ap_rep.ApRepInnerTagged.TheImpl as ap_rep_impl
+use Rattle.krb_messages.specs.contracts.messages.ap_req.ApReqInnerTagged.TheImpl as ap_req_impl
+use Rattle.krb_messages.specs.contracts.messages.enc_kdc_rep_part.EncKdcRepPartTagged.TheImpl as enc_kdc_rep_part_impl
+use Rattle.krb_messages.specs.contracts.messages.kdc_rep.KdcRepTagged.TheImpl as kdc_rep_impl
+use Rattle.krb_messages.specs.contracts.messages.kdc_req.KdcReqTagged.TheImpl as kdc_req_impl
+use Rattle.krb_messages.specs.contracts.messages.kdc_req_body.KdcReqBodyTagged.TheImpl as kdc_req_body_impl
+use Rattle.krb_messages.specs.contracts.messages.krb_error.KrbErrorInnerTagged.TheImpl as krb_error_impl
 
 abbrev pub ap_rep_inner_tree : ApRepInner → Tree
 ap_rep_inner_tree = tagged_tree 48 ap_rep_impl.ghosts.row_tree ap_rep_impl.ghosts.row_of

@@ -9,13 +9,13 @@ use Rattle.krb_types.specs.declared.data_types.authenticator.AuthenticatorInner.
 use Rattle.krb_types.specs.declared.data_types.enc_ap_rep_part.EncApRepPartInner.{EncApRepPartInner}
 use Rattle.krb_types.specs.declared.data_types.enc_ticket_part.EncTicketPartInner.{EncTicketPartInner}
 use Rattle.krb_types.specs.Trees as held
-use Rattle.picky_krb.specs.declared.messages.ap_rep.ApRepInner.{ApRepInner}
-use Rattle.picky_krb.specs.declared.messages.ap_req.ApReqInner.{ApReqInner}
-use Rattle.picky_krb.specs.declared.messages.enc_kdc_rep_part.EncKdcRepPart.{EncKdcRepPart}
-use Rattle.picky_krb.specs.declared.messages.kdc_rep.KdcRep.{KdcRep}
-use Rattle.picky_krb.specs.declared.messages.kdc_req.KdcReq.{KdcReq}
-use Rattle.picky_krb.specs.declared.messages.krb_error.KrbErrorInner.{KrbErrorInner}
-use Rattle.picky_krb.specs.Trees as messages
+use Rattle.krb_messages.specs.declared.messages.ap_rep.ApRepInner.{ApRepInner}
+use Rattle.krb_messages.specs.declared.messages.ap_req.ApReqInner.{ApReqInner}
+use Rattle.krb_messages.specs.declared.messages.enc_kdc_rep_part.EncKdcRepPart.{EncKdcRepPart}
+use Rattle.krb_messages.specs.declared.messages.kdc_rep.KdcRep.{KdcRep}
+use Rattle.krb_messages.specs.declared.messages.kdc_req.KdcReq.{KdcReq}
+use Rattle.krb_messages.specs.declared.messages.krb_error.KrbErrorInner.{KrbErrorInner}
+use Rattle.krb_messages.specs.Trees as messages
 
 -- [APPLICATION 10]
 abbrev pub as_req_tree : KdcReq → Tree

@@ -1,7 +1,7 @@
 //! Kerberos messages (RFC 4120), read from and written in DER.
 //!
-//! The names, fields and tags are the standard's; [`from_bytes`] reads a message that is all of its input,
-//! `picky_asn1_der::to_vec` writes one, and [`open_part`] opens the sealed part of one.
+//! The names, fields and tags are the standard's; [`from_bytes`] reads a message that is all of its input, and
+//! `picky_asn1_der::to_vec` writes one.
 #![tactic(auto)]
 
 ghost use Rattle.std.specs.Prelude.{◌≡◌};
@@ -9,8 +9,6 @@ ghost use Rattle.asn1_codec.specs.Reads.{ReadsAll};
 
 pub mod messages;
 
-pub use krb_opening::{OpenFault, open_part, open_whole, read_whole};
-pub use krb_types::{constants, data_types};
 use picky_asn1_der::{Asn1DerError, Deserialize, from_exact_bytes};
 use std::alloc::Global;
 
