@@ -1,7 +1,7 @@
 //! Reading a request, and opening what is sealed in it.
 ghost use Rattle.std.specs.Prelude.{IfOk};
 ghost use Rattle.std.specs.Int.{cast_unsigned, w32};
-ghost use Rattle.krb_messages.specs.Found.{IsFound};
+ghost use Rattle.krb_opening.specs.Found.{IsFound};
 ghost use Rattle.krb_messages.specs.Messages.{IsApReq};
 ghost use Rattle.krb_ap.specs.Messages.{IsAuthenticator, IsTicketPart};
 
