@@ -1,3 +1,4 @@
+pub mod Units
 pub mod Calendar
 pub mod Moment
 pub mod Skew

@@ -1,6 +1,7 @@
 -- Clock skew (RFC 4120, sections 1.6, 5.9.1): by how much two clocks that agree may differ.
-use Rattle.std.specs.Prelude.{ℕ, ◌+◌, nat_lt, Bool, ◌||◌}
+use Rattle.std.specs.Prelude.{◌+◌, nat_lt, Bool, ◌||◌}
+use Rattle.krb_moments.specs.Units.{Micros}
 
--- two moments differ by more than the skew; all three are in microseconds
-abbrev pub is_far : ℕ → ℕ → ℕ → Bool
+-- two moments differ by more than the skew
+abbrev pub is_far : Micros → Micros → Micros → Bool
 is_far skew moment other = nat_lt (skew + moment) other || nat_lt (skew + other) moment

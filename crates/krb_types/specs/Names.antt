@@ -1,16 +1,17 @@
 -- Names of realms and principals (RFC 4120, sections 5.2.1, 5.2.2, 6.1, 6.2), which are the same by their characters, in the same
 -- case, and never by their type.
-use Rattle.std.specs.Prelude.{ℕ, Bool, List}
+use Rattle.std.specs.Prelude.{Bool, List}
 use Rattle.std.specs.Bool.{nat_eq}
 use Rattle.std.specs.Cmp.Lexicographic.{pointwise}
+use Rattle.picky_asn1.specs.Bytes.{Bytes}
 use Rattle.krb_types.specs.declared.data_types.principal_name.PrincipalName.{PrincipalName}
 
-abbrev pub is_same_realm : List ℕ → List ℕ → Bool
+abbrev pub is_same_realm : Bytes → Bytes → Bool
 is_same_realm = pointwise nat_eq
 
 -- the components of a name
-abbrev pub components : PrincipalName → List (List ℕ)
+abbrev pub components : PrincipalName → List Bytes
 components name = name.name_string.0
 
-abbrev pub is_same_name : List (List ℕ) → List (List ℕ) → Bool
+abbrev pub is_same_name : List Bytes → List Bytes → Bool
 is_same_name = pointwise (pointwise nat_eq)
