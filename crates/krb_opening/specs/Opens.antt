@@ -1,6 +1,7 @@
 -- Sealed parts of messages (RFC 3961, section 5.3).
-use Rattle.std.specs.Prelude.{◌≡◌, ◌⊎◌, ℕ, List, Result, Ok, Err}
+use Rattle.std.specs.Prelude.{◌≡◌, ◌⊎◌, ℕ, Result, Ok, Err}
 use Rattle.std.proofs.Common.{sym, ◌∙◌}
+use Rattle.picky_asn1.specs.Bytes.{Bytes}
 use Rattle.asn1_trees.specs.Tree.{Tree, Writes}
 use Rattle.asn1_trees.proofs.Spelling.{IsInjective}
 use Rattle.krb_blocks.specs.declared.error.KerberosCryptoError.{KerberosCryptoError}
@@ -14,9 +15,9 @@ use Rattle.krb_opening.specs.declared.open.OpenFault.TheVariants.{Crypto, Der}
 
 -- some confounder seals the value's encoding to these bytes under the key, for the usage, by the suite that has the
 -- number
-pub record Opens {T : Type 0} (tree : T → Tree) (number : ℕ) (key : List ℕ) (usage : ℕ) (bytes : List ℕ) (value : T) : Type 0 where
-  pub conf : List ℕ
-  pub plain : List ℕ
+pub record Opens {T : Type 0} (tree : T → Tree) (number : ℕ) (key : Bytes) (usage : ℕ) (bytes : Bytes) (value : T) : Type 0 where
+  pub conf : Bytes
+  pub plain : Bytes
   pub writes : Writes tree value plain
   pub sealed : IsSealed number key usage conf plain bytes
 
@@ -31,7 +32,7 @@ IsOpened {T} P (Ok value) = P value × ((other : T) → P other → other ≡ va
 IsOpened {T} P (Err fault) = IsWantOfMemory fault ⊎ ((other : T) → P other → ⊥)
 
 -- one value at most is sealed to the bytes
-pub sole_opens : {T : Type 0} (tree : T → Tree) → IsInjective {T = T} tree → (number : ℕ) (key : List ℕ) (usage : ℕ) (bytes : List ℕ) (v w : T)
+pub sole_opens : {T : Type 0} (tree : T → Tree) → IsInjective {T = T} tree → (number : ℕ) (key : Bytes) (usage : ℕ) (bytes : Bytes) (v w : T)
     → Opens {T = T} tree number key usage bytes v → Opens {T = T} tree number key usage bytes w → v ≡ w
 sole_opens tree injective number key usage bytes v w x y =
     let text = (one_sealed number number key usage x.conf x.plain y.conf y.plain bytes x.sealed y.sealed).1 in
