@@ -1,5 +1,5 @@
 -- Sealed data and keys of messages (RFC 4120, section 5.2.9), as they are made.
-use Rattle.std.specs.Prelude.{◌≡◌, ℕ, ℤ, true, List, Option, None, Some, pos, refl}
+use Rattle.std.specs.Prelude.{◌≡◌, ℕ, ℤ, true, Option, None, Some, pos, refl}
 use Rattle.std.proofs.Common.{ap, subst, sym, ◌∙◌}
 use Rattle.asn1_trees.specs.Tree.{Tree, Writes}
 use Rattle.picky_asn1_der.specs.declared.wrapper.ExplicitContextTag.{ExplicitContextTag}
@@ -12,9 +12,10 @@ use Rattle.krb_types.specs.declared.data_types.encrypted_data.EncryptedData.{Enc
 use Rattle.krb_types.specs.declared.data_types.encryption_key.EncryptionKey.{EncryptionKey}
 use Rattle.krb_opening.specs.Sealed.{IsSealedIn}
 use Rattle.picky_asn1.specs.Numbers.{is_number}
+use Rattle.picky_asn1.specs.Bytes.{Bytes}
 
 -- a key with the number of its suite
-abbrev pub encryption_key : CipherSuite → List ℕ → EncryptionKey
+abbrev pub encryption_key : CipherSuite → Bytes → EncryptionKey
 encryption_key suite key = record {
   key_type = record { 0 = pos (cipher_number suite) };
   key_value = record { 0 = key };
@@ -26,7 +27,7 @@ key_number None = None
 key_number (Some number) = Some (record { 0 = pos number })
 
 -- ciphertext with the number of its suite and, where one is told, of the key
-abbrev pub encrypted_by : CipherSuite → Option ℕ → List ℕ → EncryptedData
+abbrev pub encrypted_by : CipherSuite → Option ℕ → Bytes → EncryptedData
 encrypted_by suite number cipher = record {
   etype = record { 0 = pos (cipher_number suite) };
   kvno = record { 0 = key_number number };
@@ -34,13 +35,13 @@ encrypted_by suite number cipher = record {
 }
 
 -- the data is the text, sealed under the key, for the usage, behind the confounder
-pub record Seals (suite : CipherSuite) (key : List ℕ) (number : Option ℕ) (usage : ℕ) (confounder plain : List ℕ) (sealed : EncryptedData) : Type 0 where
-  pub cipher : List ℕ
+pub record Seals (suite : CipherSuite) (key : Bytes) (number : Option ℕ) (usage : ℕ) (confounder plain : Bytes) (sealed : EncryptedData) : Type 0 where
+  pub cipher : Bytes
   pub seals : IsSealedBy suite key usage confounder plain cipher
   pub told : sealed ≡ encrypted_by suite number cipher
 
 -- there is one such at most
-pub sole_seals : (suite : CipherSuite) (key : List ℕ) (number : Option ℕ) (usage : ℕ) (confounder plain : List ℕ) (a b : EncryptedData)
+pub sole_seals : (suite : CipherSuite) (key : Bytes) (number : Option ℕ) (usage : ℕ) (confounder plain : Bytes) (a b : EncryptedData)
     → Seals suite key number usage confounder plain a → Seals suite key number usage confounder plain b → a ≡ b
 sole_seals suite key number usage confounder plain a b x y =
     let same = one_string (cipher_key_size suite) key usage confounder plain x.cipher y.cipher x.seals y.seals in
@@ -51,7 +52,7 @@ is_own_number Aes128CtsHmacSha196 = refl
 is_own_number Aes256CtsHmacSha196 = refl
 
 -- what is sealed opens, as it was sealed
-pub sealed_opens : {T : Type 0} (tree : T → Tree) (value : T) (suite : CipherSuite) (key : List ℕ) (number : Option ℕ) (usage : ℕ) (confounder plain : List ℕ) (sealed : EncryptedData)
+pub sealed_opens : {T : Type 0} (tree : T → Tree) (value : T) (suite : CipherSuite) (key : Bytes) (number : Option ℕ) (usage : ℕ) (confounder plain : Bytes) (sealed : EncryptedData)
     → Writes tree value plain → Seals suite key number usage confounder plain sealed → IsSealedIn {T = T} tree suite key usage sealed value
 sealed_opens {T} tree value suite key number usage confounder plain sealed writes it =
     subst (λ e. IsSealedIn {T = T} tree suite key usage e value) (sym it.told)
