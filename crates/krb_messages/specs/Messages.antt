@@ -1,7 +1,7 @@
 -- What messages are: their trees with the application tags (RFC 4120, section 5.10), and which bytes are one (sections 5.4 to
 -- 5.9). What is sealed in messages stands at the end.
-use Rattle.std.specs.Prelude.{ℕ, List}
 use Rattle.std.proofs.Common.{sym, ◌∙◌}
+use Rattle.picky_asn1.specs.Bytes.{Bytes}
 use Rattle.asn1_trees.specs.Tree.{Tree, Writes, wrapped}
 use Rattle.asn1_trees.proofs.Spelling.{IsInjective, wrapped-injective}
 use Rattle.decision_tables.specs.One.{IsSole}
@@ -22,10 +22,10 @@ abbrev pub as_req_tree : KdcReq → Tree
 as_req_tree request = wrapped 106 (messages.kdc_req_inner_tree request)
 
 -- the bytes are the one encoding of the AS request
-abbrev pub IsAsReq : List ℕ → KdcReq → Type 0
+abbrev pub IsAsReq : Bytes → KdcReq → Type 0
 IsAsReq bytes request = Writes as_req_tree request bytes
 
-pub sole_as_req : (bytes : List ℕ) → IsSole (IsAsReq bytes)
+pub sole_as_req : (bytes : Bytes) → IsSole (IsAsReq bytes)
 sole_as_req bytes v w p q = wrapped-injective 106 messages.kdc_req_inner_tree messages.kdc_req_inner-injective v w p.0 q.0 (sym p.1 ∙ q.1)
 
 -- [APPLICATION 12]
@@ -33,10 +33,10 @@ abbrev pub tgs_req_tree : KdcReq → Tree
 tgs_req_tree request = wrapped 108 (messages.kdc_req_inner_tree request)
 
 -- the bytes are the one encoding of the TGS request
-abbrev pub IsTgsReq : List ℕ → KdcReq → Type 0
+abbrev pub IsTgsReq : Bytes → KdcReq → Type 0
 IsTgsReq bytes request = Writes tgs_req_tree request bytes
 
-pub sole_tgs_req : (bytes : List ℕ) → IsSole (IsTgsReq bytes)
+pub sole_tgs_req : (bytes : Bytes) → IsSole (IsTgsReq bytes)
 sole_tgs_req bytes v w p q = wrapped-injective 108 messages.kdc_req_inner_tree messages.kdc_req_inner-injective v w p.0 q.0 (sym p.1 ∙ q.1)
 
 -- [APPLICATION 11]
@@ -44,10 +44,10 @@ abbrev pub as_rep_tree : KdcRep → Tree
 as_rep_tree reply = wrapped 107 (messages.kdc_rep_inner_tree reply)
 
 -- the bytes are the one encoding of the AS reply
-abbrev pub IsAsRep : List ℕ → KdcRep → Type 0
+abbrev pub IsAsRep : Bytes → KdcRep → Type 0
 IsAsRep bytes reply = Writes as_rep_tree reply bytes
 
-pub sole_as_rep : (bytes : List ℕ) → IsSole (IsAsRep bytes)
+pub sole_as_rep : (bytes : Bytes) → IsSole (IsAsRep bytes)
 sole_as_rep bytes v w p q = wrapped-injective 107 messages.kdc_rep_inner_tree messages.kdc_rep_inner-injective v w p.0 q.0 (sym p.1 ∙ q.1)
 
 -- [APPLICATION 13]
@@ -55,10 +55,10 @@ abbrev pub tgs_rep_tree : KdcRep → Tree
 tgs_rep_tree reply = wrapped 109 (messages.kdc_rep_inner_tree reply)
 
 -- the bytes are the one encoding of the TGS reply
-abbrev pub IsTgsRep : List ℕ → KdcRep → Type 0
+abbrev pub IsTgsRep : Bytes → KdcRep → Type 0
 IsTgsRep bytes reply = Writes tgs_rep_tree reply bytes
 
-pub sole_tgs_rep : (bytes : List ℕ) → IsSole (IsTgsRep bytes)
+pub sole_tgs_rep : (bytes : Bytes) → IsSole (IsTgsRep bytes)
 sole_tgs_rep bytes v w p q = wrapped-injective 109 messages.kdc_rep_inner_tree messages.kdc_rep_inner-injective v w p.0 q.0 (sym p.1 ∙ q.1)
 
 -- [APPLICATION 14]
@@ -66,10 +66,10 @@ abbrev pub ap_req_tree : ApReqInner → Tree
 ap_req_tree request = wrapped 110 (messages.ap_req_inner_tree request)
 
 -- the bytes are the one encoding of the AP request
-abbrev pub IsApReq : List ℕ → ApReqInner → Type 0
+abbrev pub IsApReq : Bytes → ApReqInner → Type 0
 IsApReq bytes request = Writes ap_req_tree request bytes
 
-pub sole_ap_req : (bytes : List ℕ) → IsSole (IsApReq bytes)
+pub sole_ap_req : (bytes : Bytes) → IsSole (IsApReq bytes)
 sole_ap_req bytes v w p q = wrapped-injective 110 messages.ap_req_inner_tree messages.ap_req_inner-injective v w p.0 q.0 (sym p.1 ∙ q.1)
 
 -- [APPLICATION 15]
@@ -77,10 +77,10 @@ abbrev pub ap_rep_tree : ApRepInner → Tree
 ap_rep_tree reply = wrapped 111 (messages.ap_rep_inner_tree reply)
 
 -- the bytes are the one encoding of the AP reply
-abbrev pub IsApRep : List ℕ → ApRepInner → Type 0
+abbrev pub IsApRep : Bytes → ApRepInner → Type 0
 IsApRep bytes reply = Writes ap_rep_tree reply bytes
 
-pub sole_ap_rep : (bytes : List ℕ) → IsSole (IsApRep bytes)
+pub sole_ap_rep : (bytes : Bytes) → IsSole (IsApRep bytes)
 sole_ap_rep bytes v w p q = wrapped-injective 111 messages.ap_rep_inner_tree messages.ap_rep_inner-injective v w p.0 q.0 (sym p.1 ∙ q.1)
 
 -- [APPLICATION 30]
@@ -88,10 +88,10 @@ abbrev pub krb_error_tree : KrbErrorInner → Tree
 krb_error_tree error = wrapped 126 (messages.krb_error_inner_tree error)
 
 -- the bytes are the one encoding of the error
-abbrev pub IsKrbError : List ℕ → KrbErrorInner → Type 0
+abbrev pub IsKrbError : Bytes → KrbErrorInner → Type 0
 IsKrbError bytes error = Writes krb_error_tree error bytes
 
-pub sole_krb_error : (bytes : List ℕ) → IsSole (IsKrbError bytes)
+pub sole_krb_error : (bytes : Bytes) → IsSole (IsKrbError bytes)
 sole_krb_error bytes v w p q = wrapped-injective 126 messages.krb_error_inner_tree messages.krb_error_inner-injective v w p.0 q.0 (sym p.1 ∙ q.1)
 
 -- an authenticator, [APPLICATION 2]
