@@ -1,10 +1,11 @@
 -- What a realm knows of a principal: a name and a secret key (RFC 4120, section 1.5), and how the key came about.
-use Rattle.std.specs.Prelude.{ℕ, List, Option}
+use Rattle.std.specs.Prelude.{ℕ, Option}
+use Rattle.picky_asn1.specs.Bytes.{Bytes}
 use Rattle.krb_crypto.specs.declared.suite.CipherSuite.{CipherSuite}
 
 -- the suite, the key's octets, its number, which counts from 1, and the salt of a password's key
 pub record AccountRecord : Type 0 where
   pub suite : CipherSuite
-  pub key : List ℕ
+  pub key : Bytes
   pub number : ℕ
-  pub salt : Option (List ℕ)
+  pub salt : Option Bytes

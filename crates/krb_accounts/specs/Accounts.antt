@@ -1,10 +1,11 @@
 -- A realm's accounts: a finite map from the components of a name to an account.
-use Rattle.std.specs.Prelude.{◌≡◌, ℕ, ◌+◌, ◌==◌, false, not, List, [], ◌∷◌, length, Option, None, Some, Result, Ok, Err, if◌then◌else◌, codes, refl}
+use Rattle.std.specs.Prelude.{◌≡◌, ◌+◌, ◌==◌, false, not, List, [], ◌∷◌, length, Option, None, Some, Result, Ok, Err, if◌then◌else◌, codes, refl}
 use Rattle.std.specs.Ordering.{nat_cmp, eq_by_cmp}
 use Rattle.std.specs.declared.cmp.Ordering.{Ordering}
 use Rattle.std.specs.Cmp.{IsTotalOrder, nat_cmp_total}
 use Rattle.std.specs.Cmp.Lexicographic.{slice_cmp, lists_total}
 use Rattle.std.specs.FinMap.{FinMap, get, contains_key, IsAntisymmetric, nat_cmp-IsAntisymmetric, slice_cmp-IsAntisymmetric}
+use Rattle.picky_asn1.specs.Bytes.{Bytes}
 use Rattle.krb_crypto.specs.declared.suite.CipherSuite.{CipherSuite}
 use Rattle.krb_crypto.specs.Suites.{cipher_key_size}
 use Rattle.krb_accounts.specs.Account.{AccountRecord}
@@ -12,7 +13,7 @@ use Rattle.krb_accounts.specs.declared.refusal.RealmRefusal.{RealmRefusal}
 use Rattle.krb_accounts.specs.declared.refusal.RealmRefusal.TheVariants.{Exists, Unknown, BadKeyLength, NumberSpent}
 
 -- by the first component that differs, and there by the first character that differs
-abbrev pub name_cmp : List (List ℕ) → List (List ℕ) → Ordering
+abbrev pub name_cmp : List Bytes → List Bytes → Ordering
 name_cmp = slice_cmp (slice_cmp nat_cmp)
 
 abbrev pub AccountMap : Type 0
@@ -20,31 +21,31 @@ AccountMap = FinMap name_cmp AccountRecord
 
 -- what a realm answers of each name: its account, if it has one
 abbrev pub Look : Type 0
-Look = List (List ℕ) → Option AccountRecord
+Look = List Bytes → Option AccountRecord
 
 abbrev pub look_in : AccountMap → Look
 look_in accounts = get accounts
 
 -- a name that has an account gets no other
-abbrev pub inserting : AccountMap → List (List ℕ) → Result (Unit {0}) RealmRefusal
+abbrev pub inserting : AccountMap → List Bytes → Result (Unit {0}) RealmRefusal
 inserting accounts name = if contains_key accounts name then Err Exists else Ok tt
 
 -- a name that has no account loses none
-abbrev pub removing : AccountMap → List (List ℕ) → Result (Unit {0}) RealmRefusal
+abbrev pub removing : AccountMap → List Bytes → Result (Unit {0}) RealmRefusal
 removing accounts name = if contains_key accounts name then Ok tt else Err Unknown
 
 -- the account with its next key, which has the number that follows and no salt; numbers are below 2^32
-abbrev pub with_key : CipherSuite → List ℕ → AccountRecord → Result AccountRecord RealmRefusal
+abbrev pub with_key : CipherSuite → Bytes → AccountRecord → Result AccountRecord RealmRefusal
 with_key suite key account =
     if account.number == 4294967295 then Err NumberSpent
     else Ok (record { suite = suite; key = key; number = account.number + 1; salt = None })
 
 -- what a name's account becomes by a key, in the order of refusals
-abbrev pub rekeyed : CipherSuite → List ℕ → Option AccountRecord → Result AccountRecord RealmRefusal
+abbrev pub rekeyed : CipherSuite → Bytes → Option AccountRecord → Result AccountRecord RealmRefusal
 rekeyed suite key None = Err Unknown
 rekeyed suite key (Some account) = with_key suite key account
 
-abbrev pub changing : AccountMap → List (List ℕ) → CipherSuite → List ℕ → Result AccountRecord RealmRefusal
+abbrev pub changing : AccountMap → List Bytes → CipherSuite → Bytes → Result AccountRecord RealmRefusal
 changing accounts name suite key =
     if not (length key == cipher_key_size suite) then Err BadKeyLength else rekeyed suite key (get accounts name)
 
