@@ -1,15 +1,17 @@
 -- A client and the time of an authenticator, by which a service tells authenticators apart (RFC 4120, section 3.2.3).
-use Rattle.std.specs.Prelude.{ℕ, ◌-◌, nat_le, nat_eq, Bool, ◌&&◌, List}
+use Rattle.std.specs.Prelude.{◌-◌, nat_le, nat_eq, Bool, ◌&&◌, List}
 use Rattle.std.specs.List.{list_any}
 use Rattle.std.specs.Cmp.{IsEquivalence}
 use Rattle.std.specs.Cmp.Lexicographic.{pointwise}
 use Rattle.std.proofs.lemmas.Cmp.{and_equiv, on_equiv, nat_eq_equiv, nat_list_eq_equiv, lists_equiv}
+use Rattle.krb_moments.specs.Units.{Micros}
+use Rattle.picky_asn1.specs.Bytes.{Bytes}
 
--- the client's realm, its name's components and the authenticator's time in microseconds
+-- the client's realm, its name's components and the authenticator's time
 pub record PairRecord : Type 0 where
-  pub realm : List ℕ
-  pub components : List (List ℕ)
-  pub time : ℕ
+  pub realm : Bytes
+  pub components : List Bytes
+  pub time : Micros
 
 abbrev pub is_same_pair : PairRecord → PairRecord → Bool
 is_same_pair p q =
@@ -19,7 +21,7 @@ abbrev pub is_among : PairRecord → List PairRecord → Bool
 is_among pair pairs = list_any (λ p. is_same_pair p pair) pairs
 
 -- the time is at most the skew before the greatest moment; `-` stops at 0
-abbrev pub is_recent : ℕ → ℕ → PairRecord → Bool
+abbrev pub is_recent : Micros → Micros → PairRecord → Bool
 is_recent skew greatest pair = nat_le (greatest - skew) pair.time
 
 -- to be the same pair is an equivalence
