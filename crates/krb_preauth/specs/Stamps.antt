@@ -1,15 +1,17 @@
 -- The time that a client seals under its own key (RFC 4120, section 5.2.7.2).
-use Rattle.std.specs.Prelude.{◌≡◌, ℕ, List, Option, None, Some, ℤ, pos}
+use Rattle.std.specs.Prelude.{◌≡◌, Option, None, Some, ℤ, pos}
 use Rattle.std.specs.Option.{option_map}
 use Rattle.std.proofs.Common.{sym, ◌∙◌, subst}
 use Rattle.asn1_trees.specs.Tree.{Tree, Writes}
 use Rattle.picky_asn1.specs.GeneralizedTime.{seconds_of}
+use Rattle.picky_asn1.specs.Bytes.{Bytes}
 use Rattle.krb_accounts.specs.Account.{AccountRecord}
 use Rattle.krb_types.specs.declared.data_types.encrypted_data.EncryptedData.{EncryptedData}
 use Rattle.krb_types.specs.declared.data_types.pa_enc_timestamp.PaEncTsEnc.{PaEncTsEnc}
 use Rattle.krb_types.specs.Trees as held
 use Rattle.krb_opening.specs.Sealed.{IsSealedIn, sole_sealed}
 use Rattle.krb_moments.specs.Times.{moment_at}
+use Rattle.krb_moments.specs.Units.{Micros}
 
 abbrev pub encrypted_data_tree : EncryptedData → Tree
 encrypted_data_tree = held.encrypted_data_tree
@@ -19,13 +21,13 @@ stamp_tree = held.pa_enc_ts_enc_tree
 
 -- the bytes are the encoding of encrypted data in which the stamp is sealed under the account's key (usage 1; RFC 4120
 -- 7.5.1)
-pub record IsStamp (account : AccountRecord) (bytes : List ℕ) (stamp : PaEncTsEnc) : Type 0 where
+pub record IsStamp (account : AccountRecord) (bytes : Bytes) (stamp : PaEncTsEnc) : Type 0 where
   pub sealed : EncryptedData
   pub writes : Writes encrypted_data_tree sealed bytes
   pub opens : IsSealedIn {T = PaEncTsEnc} stamp_tree account.suite account.key 1 sealed stamp
 
 -- there is one at most
-pub sole_stamp : (account : AccountRecord) (bytes : List ℕ) (v w : PaEncTsEnc) → IsStamp account bytes v → IsStamp account bytes w → v ≡ w
+pub sole_stamp : (account : AccountRecord) (bytes : Bytes) (v w : PaEncTsEnc) → IsStamp account bytes v → IsStamp account bytes w → v ≡ w
 sole_stamp account bytes v w x y =
     let same = held.encrypted_data-injective x.sealed y.sealed x.writes.0 y.writes.0 (sym x.writes.1 ∙ y.writes.1) in
     let first = subst (λ s. IsSealedIn {T = PaEncTsEnc} stamp_tree account.suite account.key 1 s v) same x.opens in
@@ -36,6 +38,6 @@ abbrev pub or_zero : Option ℤ → ℤ
 or_zero None = pos 0
 or_zero (Some micros) = micros
 
--- the moment that the stamp tells, in microseconds, or none where its own are no part of a second
-unfoldable pub moment_of : PaEncTsEnc → Option ℕ
+-- the moment that the stamp tells, or none where its microseconds are no part of a second
+unfoldable pub moment_of : PaEncTsEnc → Option Micros
 moment_of stamp = moment_at (seconds_of stamp.patimestamp.0.0) (or_zero (option_map (λ tagged. tagged.0) stamp.pausec.0))
