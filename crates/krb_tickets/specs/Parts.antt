@@ -1,6 +1,7 @@
 -- What a granted ticket and its reply hold (RFC 4120, sections 3.1.3, 3.3.3, 5.3, 5.4.2).
 use Rattle.std.specs.Prelude.{◌≡◌, ℕ, ◌+◌, List, [], ◌∷◌, None, Some, true, false, pos, refl, if◌then◌else◌}
 use Rattle.picky_asn1.specs.BitString.{Bits}
+use Rattle.picky_asn1.specs.Bytes.{Bytes}
 use Rattle.asn1_leaves.specs.declared.date.GeneralizedTime.{GeneralizedTime}
 use Rattle.krb_crypto.specs.declared.suite.CipherSuite.{CipherSuite}
 use Rattle.krb_crypto.specs.Suites.{cipher_key_size}
@@ -9,7 +10,7 @@ use Rattle.krb_types.specs.declared.data_types.enc_ticket_part.EncTicketPartInne
 use Rattle.krb_types.specs.declared.data_types.last_req.LastReqInner.{LastReqInner}
 use Rattle.krb_types.specs.declared.data_types.ticket.TicketInner.{TicketInner}
 use Rattle.krb_types.specs.declared.data_types.transited_encoding.TransitedEncoding.{TransitedEncoding}
-use Rattle.krb_types.specs.RandomBytes.{session_key_bytes}
+use Rattle.krb_types.specs.RandomBytes.{Random, session_key_bytes}
 use Rattle.krb_messages.specs.declared.messages.kdc_rep.KdcRep.{KdcRep}
 use Rattle.krb_messages.specs.declared.messages.enc_kdc_rep_part.EncKdcRepPart.{EncKdcRepPart}
 use Rattle.krb_sealing.specs.Sealing.{encryption_key}
@@ -19,8 +20,8 @@ use Rattle.krb_tickets.specs.declared.reply.Exchange.{Exchange}
 use Rattle.krb_tickets.specs.declared.reply.Exchange.TheVariants.{As, Tgs}
 
 -- the session's key
-abbrev pub session_key_of : CipherSuite → List ℕ → List ℕ
-session_key_of suite words = session_key_bytes (cipher_key_size suite) words
+abbrev pub session_key_of : CipherSuite → Random → Bytes
+session_key_of suite random = session_key_bytes (cipher_key_size suite) random
 
 -- initial is bit 9 of 32, and preauthenticated bit 10 (RFC 4120, section 5.3)
 abbrev pub flags_octet : TicketFlags → ℕ

@@ -1,6 +1,7 @@
 -- The encodings of what a ticket and its reply hold, and what is sealed under an account's key or the reply key (RFC 4120,
 -- sections 5.2.9, 5.3, 5.4.2).
-use Rattle.std.specs.Prelude.{◌≡◌, ℕ, List, Some}
+use Rattle.std.specs.Prelude.{◌≡◌, ℕ, Some}
+use Rattle.picky_asn1.specs.Bytes.{Bytes}
 use Rattle.asn1_trees.specs.Tree.{Tree, der}
 use Rattle.krb_accounts.specs.Account.{AccountRecord}
 use Rattle.krb_types.specs.declared.data_types.enc_ticket_part.EncTicketPartInner.{EncTicketPartInner}
@@ -14,7 +15,7 @@ use Rattle.krb_tickets.specs.declared.reply.Exchange.TheVariants.{As, Tgs}
 use Rattle.krb_tickets.specs.ReplyKeys.{ReplyKeyRecord}
 
 -- the encoding of the part under the service's key
-unfoldable pub ticket_part_bytes : EncTicketPartInner → List ℕ
+unfoldable pub ticket_part_bytes : EncTicketPartInner → Bytes
 ticket_part_bytes part = der (enc_ticket_part_tree part)
 
 -- that of the part under the reply key, by its exchange
@@ -22,7 +23,7 @@ abbrev pub reply_part_tree : Exchange → EncKdcRepPart → Tree
 reply_part_tree As = enc_as_rep_part_tree
 reply_part_tree Tgs = enc_tgs_rep_part_tree
 
-unfoldable pub reply_part_bytes : Exchange → EncKdcRepPart → List ℕ
+unfoldable pub reply_part_bytes : Exchange → EncKdcRepPart → Bytes
 reply_part_bytes exchange part = der (reply_part_tree exchange part)
 
 -- and that of the reply
@@ -30,23 +31,23 @@ abbrev pub kdc_reply_tree : Exchange → KdcRep → Tree
 kdc_reply_tree As = as_rep_tree
 kdc_reply_tree Tgs = tgs_rep_tree
 
-unfoldable pub kdc_reply_bytes : Exchange → KdcRep → List ℕ
+unfoldable pub kdc_reply_bytes : Exchange → KdcRep → Bytes
 kdc_reply_bytes exchange reply = der (kdc_reply_tree exchange reply)
 
 -- the data is the plaintext, sealed under the account's key for the usage, behind the confounder, with the key's number
-abbrev pub IsSealedData : AccountRecord → ℕ → List ℕ → List ℕ → EncryptedData → Type 0
+abbrev pub IsSealedData : AccountRecord → ℕ → Bytes → Bytes → EncryptedData → Type 0
 IsSealedData account = Seals account.suite account.key (Some account.number)
 
 -- there is one at most
-pub sole_sealed : (account : AccountRecord) (usage : ℕ) (confounder plain : List ℕ) (a b : EncryptedData)
+pub sole_sealed : (account : AccountRecord) (usage : ℕ) (confounder plain : Bytes) (a b : EncryptedData)
     → IsSealedData account usage confounder plain a → IsSealedData account usage confounder plain b → a ≡ b
 sole_sealed account = sole_seals account.suite account.key (Some account.number)
 
 -- the data is the plaintext, sealed under the reply key, behind the confounder
-abbrev pub IsSealedReply : ReplyKeyRecord → List ℕ → List ℕ → EncryptedData → Type 0
+abbrev pub IsSealedReply : ReplyKeyRecord → Bytes → Bytes → EncryptedData → Type 0
 IsSealedReply under = Seals under.suite under.key under.number under.usage
 
 -- there is one at most
-pub sole_sealed_reply : (under : ReplyKeyRecord) (confounder plain : List ℕ) (a b : EncryptedData)
+pub sole_sealed_reply : (under : ReplyKeyRecord) (confounder plain : Bytes) (a b : EncryptedData)
     → IsSealedReply under confounder plain a → IsSealedReply under confounder plain b → a ≡ b
 sole_sealed_reply under = sole_seals under.suite under.key under.number under.usage
