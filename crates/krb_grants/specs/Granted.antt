@@ -1,9 +1,10 @@
 -- The reply that grants a ticket (RFC 4120, sections 3.1.3, 3.3.3, 5.4.2).
-use Rattle.std.specs.Prelude.{◌≡◌, ℕ, List}
+use Rattle.std.specs.Prelude.{◌≡◌}
 use Rattle.std.proofs.Common.{ap, sym, ◌∙◌}
+use Rattle.picky_asn1.specs.Bytes.{Bytes}
 use Rattle.krb_accounts.specs.Account.{AccountRecord}
 use Rattle.krb_types.specs.declared.data_types.encrypted_data.EncryptedData.{EncryptedData}
-use Rattle.krb_types.specs.RandomBytes.{reply_confounder, ticket_confounder}
+use Rattle.krb_types.specs.RandomBytes.{Random, reply_confounder, ticket_confounder}
 use Rattle.krb_tickets.specs.declared.grant.Grant.{Grant}
 use Rattle.krb_tickets.specs.Parts.{kdc_reply_of, reply_part, ticket_of, ticket_part}
 use Rattle.krb_tickets.specs.Sealed.{IsSealedData, IsSealedReply, kdc_reply_bytes, reply_part_bytes, sole_sealed, sole_sealed_reply, ticket_part_bytes}
@@ -11,19 +12,19 @@ pub use Rattle.krb_tickets.specs.ReplyKeys.{ReplyKeyRecord, as_reply_key, reply_
 
 -- the bytes are the encoding of the reply in which the ticket's part is sealed under the service's key (usage 2; RFC 4120,
 -- section 7.5.1), and the reply's part under the reply key
-pub record IsTicketReply (grant : Grant) (under : ReplyKeyRecord) (service : AccountRecord) (words bytes : List ℕ) : Type 0 where
+pub record IsTicketReply (grant : Grant) (under : ReplyKeyRecord) (service : AccountRecord) (random : Random) (bytes : Bytes) : Type 0 where
   pub ticket_data : EncryptedData
-  pub ticket_sealed : IsSealedData service 2 (ticket_confounder words) (ticket_part_bytes (ticket_part grant)) ticket_data
+  pub ticket_sealed : IsSealedData service 2 (ticket_confounder random) (ticket_part_bytes (ticket_part grant)) ticket_data
   pub reply_data : EncryptedData
-  pub reply_sealed : IsSealedReply under (reply_confounder words) (reply_part_bytes under.exchange (reply_part grant)) reply_data
+  pub reply_sealed : IsSealedReply under (reply_confounder random) (reply_part_bytes under.exchange (reply_part grant)) reply_data
   pub encoding : bytes ≡ kdc_reply_bytes under.exchange (kdc_reply_of under.exchange grant (ticket_of grant ticket_data) reply_data)
 
 -- there is one at most
-pub sole_ticket_reply : (grant : Grant) (under : ReplyKeyRecord) (service : AccountRecord) (words a b : List ℕ)
-    → IsTicketReply grant under service words a → IsTicketReply grant under service words b → a ≡ b
-sole_ticket_reply grant under service words a b x y =
-    let ticket = sole_sealed service 2 (ticket_confounder words) (ticket_part_bytes (ticket_part grant)) x.ticket_data y.ticket_data x.ticket_sealed y.ticket_sealed in
-    let reply = sole_sealed_reply under (reply_confounder words) (reply_part_bytes under.exchange (reply_part grant)) x.reply_data y.reply_data x.reply_sealed y.reply_sealed in
+pub sole_ticket_reply : (grant : Grant) (under : ReplyKeyRecord) (service : AccountRecord) (random : Random) (a b : Bytes)
+    → IsTicketReply grant under service random a → IsTicketReply grant under service random b → a ≡ b
+sole_ticket_reply grant under service random a b x y =
+    let ticket = sole_sealed service 2 (ticket_confounder random) (ticket_part_bytes (ticket_part grant)) x.ticket_data y.ticket_data x.ticket_sealed y.ticket_sealed in
+    let reply = sole_sealed_reply under (reply_confounder random) (reply_part_bytes under.exchange (reply_part grant)) x.reply_data y.reply_data x.reply_sealed y.reply_sealed in
     x.encoding
     ∙ ap (λ d. kdc_reply_bytes under.exchange (kdc_reply_of under.exchange grant (ticket_of grant d) x.reply_data)) ticket
     ∙ ap (λ d. kdc_reply_bytes under.exchange (kdc_reply_of under.exchange grant (ticket_of grant y.ticket_data) d)) reply
