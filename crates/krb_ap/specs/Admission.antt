@@ -1,6 +1,7 @@
 -- What a service is told of a client that it admits (RFC 4120, section 3.2.3).
-use Rattle.std.specs.Prelude.{ℕ, List, Option}
+use Rattle.std.specs.Prelude.{Option}
 use Rattle.std.specs.Option.{option_map}
+use Rattle.picky_asn1.specs.Bytes.{Bytes}
 use Rattle.krb_types.specs.declared.data_types.authenticator.AuthenticatorInner.{AuthenticatorInner}
 use Rattle.krb_types.specs.declared.data_types.encryption_key.EncryptionKey.{EncryptionKey}
 use Rattle.krb_types.specs.declared.data_types.principal_name.PrincipalName.{PrincipalName}
@@ -9,16 +10,16 @@ use Rattle.krb_ap.specs.declared.presented.Presented.{Presented}
 -- the client by its realm and its name, the session key, the authenticator's key if it has one, and the reply if one
 -- was asked for
 pub record AdmissionRecord : Type 0 where
-  pub realm : List ℕ
+  pub realm : Bytes
   pub client : PrincipalName
   pub session : EncryptionKey
   pub subkey : Option EncryptionKey
-  pub reply : Option (List ℕ)
+  pub reply : Option Bytes
 
 abbrev pub subkey_of : AuthenticatorInner → Option EncryptionKey
 subkey_of authenticator = option_map (λ told. told.0) authenticator.subkey.0
 
-abbrev pub admission_of : Presented → Option (List ℕ) → AdmissionRecord
+abbrev pub admission_of : Presented → Option Bytes → AdmissionRecord
 admission_of presented reply = record {
   realm = presented.part.crealm.0;
   client = presented.part.cname.0;

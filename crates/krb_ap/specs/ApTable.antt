@@ -1,5 +1,4 @@
--- How an AP request is judged, in parts of one table: the first case that holds counts (RFC 4120, section 3.2.3). The skew
--- and moments are in microseconds.
+-- How an AP request is judged, in parts of one table: the first case that holds counts (RFC 4120, section 3.2.3).
 use Rattle.std.specs.Prelude.{ℕ, ◌+◌, ◌*◌, nat_lt, Bool, true, not, ◌&&◌, ◌||◌, List, Result, Ok, Err}
 use Rattle.std.specs.Option.{option_map_or}
 use Rattle.picky_asn1.specs.BitString.{bit_of}
@@ -14,9 +13,13 @@ use Rattle.krb_types.specs.declared.data_types.ticket.TicketInner.{TicketInner}
 use Rattle.krb_messages.specs.declared.messages.ap_req.ApReqInner.{ApReqInner}
 use Rattle.krb_opening.specs.Keys.{suite_of}
 use Rattle.krb_types.specs.Names.{components, is_same_name, is_same_realm}
+use Rattle.krb_types.specs.Refusals.{Code}
+use Rattle.krb_types.specs.declared.constants.error_codes.TheConstants.{KRB_AP_ERR_BAD_INTEGRITY, KRB_AP_ERR_TKT_EXPIRED, KRB_AP_ERR_TKT_NYV, KRB_AP_ERR_NOT_US, KRB_AP_ERR_BADMATCH, KRB_AP_ERR_BADVERSION, KRB_AP_ERR_MSG_TYPE, KRB_AP_ERR_MODIFIED, KRB_AP_ERR_BADKEYVER, KRB_AP_ERR_NOKEY, KRB_AP_ERR_METHOD}
 use Rattle.picky_asn1.specs.Numbers.{is_number}
+use Rattle.picky_asn1.specs.Bytes.{Bytes}
 use Rattle.decision_tables.specs.Tables.{Table, done, ask, and_then, need, refuse}
 use Rattle.krb_moments.specs.Times.{moment_at}
+use Rattle.krb_moments.specs.Units.{Micros, Seconds}
 use Rattle.krb_ap.specs.Entry.{EntryRecord}
 use Rattle.krb_ap.specs.Messages.{IsAuthenticator, IsTicketPart, sole_authenticator, sole_ticket_part}
 use Rattle.krb_ap.specs.declared.presented.Authenticated.{Authenticated}
@@ -27,7 +30,7 @@ abbrev pub is_version_5 : ApReqInner → Bool
 is_version_5 request = is_number 5 request.pvno.0 && is_number 5 request.ticket.0.0.tkt_vno.0
 
 -- the ticket is for the service of this realm and this name
-abbrev pub is_for : List ℕ → List (List ℕ) → TicketInner → Bool
+abbrev pub is_for : Bytes → List Bytes → TicketInner → Bool
 is_for realm name ticket = is_same_realm ticket.realm.0 realm && is_same_name (components ticket.sname.0) name
 
 -- the data doesn't say that it is under a key of another number
@@ -36,49 +39,49 @@ may_be_under number encrypted = option_map_or (λ told. is_number number told.0)
 
 -- the request's own fields: version 5, an AP request, for the service of this realm and this name under its key of this
 -- number
-abbrev pub ap_fields : List ℕ → List (List ℕ) → ℕ → ApReqInner → Table (Result (Unit {0}) ℕ)
+abbrev pub ap_fields : Bytes → List Bytes → ℕ → ApReqInner → Table (Result (Unit {0}) Code)
 ap_fields realm name number request =
-    refuse (not (is_version_5 request)) 39
-    (refuse (not (is_number 14 request.msg_type.0)) 40
-    (refuse (not (is_for realm name request.ticket.0.0)) 35
-    (refuse (not (may_be_under number request.ticket.0.0.enc_part.0)) 44
+    refuse (not (is_version_5 request)) KRB_AP_ERR_BADVERSION
+    (refuse (not (is_number 14 request.msg_type.0)) KRB_AP_ERR_MSG_TYPE
+    (refuse (not (is_for realm name request.ticket.0.0)) KRB_AP_ERR_NOT_US
+    (refuse (not (may_be_under number request.ticket.0.0.enc_part.0)) KRB_AP_ERR_BADKEYVER
     (done (Ok tt)))))
 
 -- the request isn't under a session key, it is for this service, and sealed as this service can open it
-abbrev pub addressed : List ℕ → List (List ℕ) → CipherSuite → ℕ → ApReqInner → Table (Result (Unit {0}) ℕ)
+abbrev pub addressed : Bytes → List Bytes → CipherSuite → ℕ → ApReqInner → Table (Result (Unit {0}) Code)
 addressed realm name suite number request =
-    refuse (bit_of request.ap_options.0 1) 48
+    refuse (bit_of request.ap_options.0 1) KRB_AP_ERR_METHOD
     (and_then (ap_fields realm name number request) (λ _.
-    refuse (not (is_number (cipher_number suite) request.ticket.0.0.enc_part.0.etype.0)) 45
+    refuse (not (is_number (cipher_number suite) request.ticket.0.0.enc_part.0.etype.0)) KRB_AP_ERR_NOKEY
     (done (Ok tt))))
 
 -- the second in which a ticket starts: where it doesn't tell one, that of the client's first ticket
-abbrev pub start_of : EncTicketPartInner → ℕ
+abbrev pub start_of : EncTicketPartInner → Seconds
 start_of part = option_map_or (λ told. seconds_of told.0.0) part.starttime.0 (seconds_of part.auth_time.0.0)
 
 -- the ticket starts later than the moment and the skew, or isn't valid yet (flag 7; RFC 4120, section 2.2)
-abbrev pub is_early : ℕ → ℕ → EncTicketPartInner → Bool
+abbrev pub is_early : Micros → Micros → EncTicketPartInner → Bool
 is_early skew moment part = nat_lt (moment + skew) (start_of part * 1000000) || bit_of part.flags.0 7
 
 -- the moment is past the ticket's end and the skew
-abbrev pub is_late : ℕ → ℕ → EncTicketPartInner → Bool
+abbrev pub is_late : Micros → Micros → EncTicketPartInner → Bool
 is_late skew moment part = nat_lt (seconds_of part.endtime.0.0 * 1000000 + skew) moment
 
 -- the ticket counts at this moment
-abbrev pub timely : ℕ → ℕ → EncTicketPartInner → Table (Result (Unit {0}) ℕ)
+abbrev pub timely : Micros → Micros → EncTicketPartInner → Table (Result (Unit {0}) Code)
 timely skew moment part =
-    refuse (is_early skew moment part) 33
-    (refuse (is_late skew moment part) 32
+    refuse (is_early skew moment part) KRB_AP_ERR_TKT_NYV
+    (refuse (is_late skew moment part) KRB_AP_ERR_TKT_EXPIRED
     (done (Ok tt)))
 
 -- the part that the service's key opens
-abbrev pub opened_part : CipherSuite → List ℕ → EncryptedData → Table (Result EncTicketPartInner ℕ)
+abbrev pub opened_part : CipherSuite → Bytes → EncryptedData → Table (Result EncTicketPartInner Code)
 opened_part suite key encrypted =
-    ask (IsTicketPart suite key encrypted) (sole_ticket_part suite key encrypted) (done (Err 31)) (λ part.
+    ask (IsTicketPart suite key encrypted) (sole_ticket_part suite key encrypted) (done (Err KRB_AP_ERR_BAD_INTEGRITY)) (λ part.
     done (Ok part))
 
 -- the part that the service's key opens, of a ticket that counts
-abbrev pub valid_part : CipherSuite → List ℕ → ℕ → ℕ → EncryptedData → Table (Result EncTicketPartInner ℕ)
+abbrev pub valid_part : CipherSuite → Bytes → Micros → Micros → EncryptedData → Table (Result EncTicketPartInner Code)
 valid_part suite key skew moment encrypted =
     and_then (opened_part suite key encrypted) (λ part.
     and_then (timely skew moment part) (λ _.
@@ -90,23 +93,23 @@ is_of_client part authenticator =
     is_same_realm authenticator.crealm.0 part.crealm.0 && is_same_name (components authenticator.cname.0) (components part.cname.0)
 
 -- the suite of the ticket's key, and the authenticator that this key opens for the usage
-abbrev pub opened : EncryptionKey → ℕ → EncryptedData → Table (Result (CipherSuite × AuthenticatorInner) ℕ)
+abbrev pub opened : EncryptionKey → ℕ → EncryptedData → Table (Result (CipherSuite × AuthenticatorInner) Code)
 opened key usage encrypted =
-    need (suite_of key) 31 (λ suite.
-    ask (IsAuthenticator suite key.key_value.0 usage encrypted) (sole_authenticator suite key.key_value.0 usage encrypted) (done (Err 31)) (λ authenticator.
+    need (suite_of key) KRB_AP_ERR_BAD_INTEGRITY (λ suite.
+    ask (IsAuthenticator suite key.key_value.0 usage encrypted) (sole_authenticator suite key.key_value.0 usage encrypted) (done (Err KRB_AP_ERR_BAD_INTEGRITY)) (λ authenticator.
     done (Ok (suite, authenticator))))
 
 -- the moment that an authenticator of the ticket's client tells
-abbrev pub told : EncTicketPartInner → AuthenticatorInner → Table (Result ℕ ℕ)
+abbrev pub told : EncTicketPartInner → AuthenticatorInner → Table (Result Micros Code)
 told part authenticator =
-    refuse (not (is_number 5 authenticator.authenticator_vno.0)) 39
-    (refuse (not (is_of_client part authenticator)) 36
-    (need (moment_at (seconds_of authenticator.ctime.0.0) authenticator.cusec.0) 41 (λ time.
+    refuse (not (is_number 5 authenticator.authenticator_vno.0)) KRB_AP_ERR_BADVERSION
+    (refuse (not (is_of_client part authenticator)) KRB_AP_ERR_BADMATCH
+    (need (moment_at (seconds_of authenticator.ctime.0.0) authenticator.cusec.0) KRB_AP_ERR_MODIFIED (λ time.
     done (Ok time))))
 
 -- the authenticator under the ticket's key, with the key's suite and the moment that it tells; the usage is 11 to a
 -- service, 7 to a ticket-granting service (RFC 4120, section 7.5.1)
-abbrev pub authenticated : ℕ → EncTicketPartInner → EncryptedData → Table (Result Authenticated ℕ)
+abbrev pub authenticated : ℕ → EncTicketPartInner → EncryptedData → Table (Result Authenticated Code)
 authenticated usage part encrypted =
     and_then (opened part.key.0 usage encrypted) (λ found.
     and_then (told part found.1) (λ time.
@@ -123,13 +126,13 @@ presented_with request part a = record {
 }
 
 -- what the request presents whose ticket has this part
-abbrev pub valid_authenticator : ApReqInner → EncTicketPartInner → Table (Result Presented ℕ)
+abbrev pub valid_authenticator : ApReqInner → EncTicketPartInner → Table (Result Presented Code)
 valid_authenticator request part =
     and_then (authenticated 11 part request.authenticator.0) (λ a.
     done (Ok (presented_with request part a)))
 
 -- what the request presents to the service of this key at a moment, up to the time that it tells
-unfoldable pub presented : EntryRecord → ℕ → ℕ → ApReqInner → Table (Result Presented ℕ)
+unfoldable pub presented : EntryRecord → Micros → Micros → ApReqInner → Table (Result Presented Code)
 presented entry skew moment request =
     and_then (addressed entry.realm entry.components entry.suite entry.number request) (λ _.
     and_then (valid_part entry.suite entry.key skew moment request.ticket.0.0.enc_part.0) (λ part.

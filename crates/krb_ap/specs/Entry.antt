@@ -1,10 +1,11 @@
 -- The key of a service (RFC 4120, section 1.1): the service's realm and name, and the key with its suite and number.
 use Rattle.std.specs.Prelude.{ℕ, List}
+use Rattle.picky_asn1.specs.Bytes.{Bytes}
 use Rattle.krb_crypto.specs.declared.suite.CipherSuite.{CipherSuite}
 
 pub record EntryRecord : Type 0 where
-  pub realm : List ℕ
-  pub components : List (List ℕ)
+  pub realm : Bytes
+  pub components : List Bytes
   pub suite : CipherSuite
-  pub key : List ℕ
+  pub key : Bytes
   pub number : ℕ

@@ -1,8 +1,9 @@
 -- What an AP request is made of, with what is sealed in it and the confounders (RFC 4120, sections 3.2.2, 5.5.1; RFC 3961, section 5.3).
-use Rattle.std.specs.Prelude.{◌≡◌, ℕ, List, Option, ℤ}
+use Rattle.std.specs.Prelude.{◌≡◌, ℕ, Option, ℤ}
 use Rattle.std.specs.Option.{option_map}
 use Rattle.asn1_trees.specs.Tree.{Tree, Writes}
 use Rattle.picky_asn1.specs.BitString.{Bits}
+use Rattle.picky_asn1.specs.Bytes.{Bytes}
 use Rattle.krb_crypto.specs.declared.suite.CipherSuite.{CipherSuite}
 use Rattle.krb_crypto.specs.Sealing.{IsSealedBy}
 use Rattle.krb_types.specs.declared.data_types.authenticator.AuthenticatorInner.{AuthenticatorInner}
@@ -19,7 +20,7 @@ pub record Outer : Type 0 where
   pub msg_type : ℤ
   pub options : Bits
   pub tkt_vno : ℤ
-  pub realm : List ℕ
+  pub realm : Bytes
   pub service : PrincipalName
   pub part_etype : ℤ
   pub part_kvno : Option ℤ
@@ -30,11 +31,11 @@ pub record Outer : Type 0 where
 pub record Choice : Type 0 where
   pub outer : Outer
   pub part : EncTicketPartInner
-  pub part_confounder : List ℕ
+  pub part_confounder : Bytes
   pub authenticator : AuthenticatorInner
-  pub confounder : List ℕ
+  pub confounder : Bytes
 
-abbrev pub encrypted : ℤ → Option ℤ → List ℕ → EncryptedData
+abbrev pub encrypted : ℤ → Option ℤ → Bytes → EncryptedData
 encrypted etype kvno cipher = record {
   etype = record { 0 = etype };
   kvno = record { 0 = option_map (λ number. record { 0 = number }) kvno };
@@ -42,7 +43,7 @@ encrypted etype kvno cipher = record {
 }
 
 -- the request with these outer fields and these ciphertexts
-abbrev pub request_of : Outer → List ℕ → List ℕ → ApReqInner
+abbrev pub request_of : Outer → Bytes → Bytes → ApReqInner
 request_of outer part_cipher cipher = record {
   pvno = record { 0 = outer.pvno };
   msg_type = record { 0 = outer.msg_type };
@@ -61,17 +62,17 @@ request_of outer part_cipher cipher = record {
 }
 
 -- the value's encoding is sealed to this ciphertext behind the confounder, by the suite that the key fits
-pub record SealsTo {T : Type 0} (tree : T → Tree) (key : List ℕ) (usage : ℕ) (confounder : List ℕ) (value : T) (cipher : List ℕ) : Type 0 where
+pub record SealsTo {T : Type 0} (tree : T → Tree) (key : Bytes) (usage : ℕ) (confounder : Bytes) (value : T) (cipher : Bytes) : Type 0 where
   pub suite : CipherSuite
-  pub plain : List ℕ
+  pub plain : Bytes
   pub writes : Writes tree value plain
   pub sealed : IsSealedBy suite key usage confounder plain cipher
 
 -- the bytes are the one encoding of an AP request with these outer fields, whose ticket seals the part under the
 -- service's key (usage 2), and whose authenticator is sealed under the part's key (usage 11; RFC 4120, section 7.5.1)
-pub record Presents (key : List ℕ) (choice : Choice) (bytes : List ℕ) : Type 0 where
-  pub part_cipher : List ℕ
-  pub cipher : List ℕ
+pub record Presents (key : Bytes) (choice : Choice) (bytes : Bytes) : Type 0 where
+  pub part_cipher : Bytes
+  pub cipher : Bytes
   pub writes : IsApReq bytes (request_of choice.outer part_cipher cipher)
   pub part : SealsTo {T = EncTicketPartInner} enc_ticket_part_tree key 2 choice.part_confounder choice.part part_cipher
   pub authenticator : SealsTo {T = AuthenticatorInner} authenticator_tree choice.part.key.0.key_value.0 11 choice.confounder choice.authenticator cipher

@@ -1,5 +1,7 @@
 -- What bytes present to a service (RFC 4120, section 3.2.3).
-use Rattle.std.specs.Prelude.{ℕ, List, Result, Ok, Err}
+use Rattle.std.specs.Prelude.{Result, Ok, Err}
+use Rattle.krb_moments.specs.Units.{Micros}
+use Rattle.picky_asn1.specs.Bytes.{Bytes}
 use Rattle.krb_messages.specs.declared.messages.ap_req.ApReqInner.{ApReqInner}
 use Rattle.krb_ap.specs.ApTable.{presented}
 use Rattle.krb_ap.specs.Entry.{EntryRecord}
@@ -10,7 +12,7 @@ use Rattle.krb_ap.specs.declared.refusal.AdmitRefusal.TheVariants.{Unreadable, K
 
 -- the bytes are the one encoding of a request, which presents this or is refused for that, or they are of none; or memory
 -- was wanting
-unfoldable pub Receives : EntryRecord → ℕ → ℕ → List ℕ → Result Presented AdmitRefusal → Type 0
+unfoldable pub Receives : EntryRecord → Micros → Micros → Bytes → Result Presented AdmitRefusal → Type 0
 Receives entry skew moment bytes (Ok p) = (request : ApReqInner) × IsApReq bytes request × (presented entry skew moment request).gives (Ok p)
 Receives entry skew moment bytes (Err (Krb code)) = (request : ApReqInner) × IsApReq bytes request × (presented entry skew moment request).gives (Err code)
 Receives entry skew moment bytes (Err Unreadable) = (request : ApReqInner) → IsApReq bytes request → ⊥
