@@ -1,14 +1,17 @@
 -- What an AS request is answered, in parts of one table, row by row: the first case that holds counts (RFC 4120, section 3.1.3).
-use Rattle.std.specs.Prelude.{ℕ, ◌+◌, ◌*◌, nat_lt, Bool, false, not, List, Option, None, Result, Ok, Err}
+use Rattle.std.specs.Prelude.{◌+◌, ◌*◌, nat_lt, Bool, false, not, List, Option, None, Result, Ok, Err}
 use Rattle.std.specs.List.{list_any}
 use Rattle.std.specs.Option.{is_some, option_map_or}
 use Rattle.picky_asn1.specs.GeneralizedTime.{seconds_of}
 use Rattle.picky_asn1.specs.Numbers.{is_number}
+use Rattle.picky_asn1.specs.Bytes.{Bytes}
 use Rattle.krb_moments.specs.Skew.{is_far}
 use Rattle.krb_crypto.specs.declared.suite.CipherSuite.{CipherSuite}
 use Rattle.krb_crypto.specs.Suites.{cipher_number}
 use Rattle.krb_accounts.specs.Account.{AccountRecord}
 use Rattle.krb_types.specs.declared.data_types.pa_data.PaData.{PaData}
+use Rattle.krb_types.specs.Refusals.{Code}
+use Rattle.krb_types.specs.declared.constants.error_codes.TheConstants.{KDC_ERR_C_PRINCIPAL_UNKNOWN, KDC_ERR_S_PRINCIPAL_UNKNOWN, KDC_ERR_CANNOT_POSTDATE, KDC_ERR_ETYPE_NOSUPP, KDC_ERR_PADATA_TYPE_NOSUPP, KDC_ERR_PREAUTH_FAILED, KDC_ERR_PREAUTH_REQUIRED, KRB_AP_ERR_SKEW}
 use Rattle.krb_messages.specs.declared.messages.kdc_req.KdcReq.{KdcReq}
 use Rattle.krb_messages.specs.declared.messages.kdc_req_body.KdcReqBody.{KdcReqBody}
 use Rattle.decision_tables.specs.Tables.{Table, and_then, ask, done, need, refuse}
@@ -28,32 +31,32 @@ abbrev pub is_listed : CipherSuite → KdcReqBody → Bool
 is_listed suite body = list_any (λ etype. is_number (cipher_number suite) etype) body.etype.0
 
 -- what the ticket is to be: its times and its suite
-abbrev pub possible : CallRecord → CipherSuite → KdcReqBody → Table (Result Span ℕ)
+abbrev pub possible : CallRecord → CipherSuite → KdcReqBody → Table (Result Span Code)
 possible call suite body =
-    refuse (is_later call body) 10
+    refuse (is_later call body) KDC_ERR_CANNOT_POSTDATE
     (and_then (lasting call.settings.lifetime call.moment None body) (λ span.
-    refuse (not (is_listed suite body)) 14
+    refuse (not (is_listed suite body)) KDC_ERR_ETYPE_NOSUPP
     (done (Ok span))))
 
 -- the client shows that it has its key by a time sealed under it. An entry of type 16, PKINIT, wins over one of type 2,
 -- and finds no anchor
-abbrev pub preauthenticated : CallRecord → AccountRecord → List PaData → Table (Result (Unit {0}) ℕ)
+abbrev pub preauthenticated : CallRecord → AccountRecord → List PaData → Table (Result (Unit {0}) Code)
 preauthenticated call client entries =
-    refuse (is_some (first_of 16 entries)) 16
-    (need (first_of 2 entries) 25 (λ entry.
-    ask (IsStamp client entry) (sole_stamp client entry) (done (Err 24)) (λ stamp.
-    need (moment_of stamp) 24 (λ time.
-    refuse (is_far (skew_of call) call.moment time) 37
+    refuse (is_some (first_of 16 entries)) KDC_ERR_PADATA_TYPE_NOSUPP
+    (need (first_of 2 entries) KDC_ERR_PREAUTH_REQUIRED (λ entry.
+    ask (IsStamp client entry) (sole_stamp client entry) (done (Err KDC_ERR_PREAUTH_FAILED)) (λ stamp.
+    need (moment_of stamp) KDC_ERR_PREAUTH_FAILED (λ time.
+    refuse (is_far (skew_of call) call.moment time) KRB_AP_ERR_SKEW
     (done (Ok tt))))))
 
 -- the whole table, of the accounts of client and service if they have one
-abbrev pub as_table : CallRecord → Option AccountRecord → Option AccountRecord → KdcReq → Table (Result (List ℕ) ℕ)
+abbrev pub as_table : CallRecord → Option AccountRecord → Option AccountRecord → KdcReq → Table (Result Bytes Code)
 as_table call of_client of_service request =
     and_then (addressed 10 call.realm request) (λ _.
-    need (client_of request.req_body.0) 6 (λ client_name.
-    need of_client 6 (λ client.
-    need (service_of request.req_body.0) 7 (λ service_name.
-    need of_service 7 (λ service.
+    need (client_of request.req_body.0) KDC_ERR_C_PRINCIPAL_UNKNOWN (λ client_name.
+    need of_client KDC_ERR_C_PRINCIPAL_UNKNOWN (λ client.
+    need (service_of request.req_body.0) KDC_ERR_S_PRINCIPAL_UNKNOWN (λ service_name.
+    need of_service KDC_ERR_S_PRINCIPAL_UNKNOWN (λ service.
     and_then (possible call client.suite request.req_body.0) (λ span.
     and_then (preauthenticated call client (entries_of request)) (λ _.
     granted call (record { client_name = client_name; client = client; service_name = service_name; service = service })

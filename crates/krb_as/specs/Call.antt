@@ -1,16 +1,19 @@
 -- What a realm answers a request by.
-use Rattle.std.specs.Prelude.{ℕ, ◌*◌, List}
+use Rattle.std.specs.Prelude.{◌*◌}
+use Rattle.krb_types.specs.RandomBytes.{Random}
+use Rattle.krb_moments.specs.Units.{Micros}
+use Rattle.picky_asn1.specs.Bytes.{Bytes}
 use Rattle.krb_accounts.specs.Accounts.{Look, look_in}
 use Rattle.krb_accounts.specs.Settings.{SettingsRecord}
 use Rattle.krb_as.specs.declared.call.Call as held
 
 -- the realm's name, its settings and its accounts as they are looked up, the moment, and random bytes
 pub record CallRecord : Type 0 where
-  pub realm : List ℕ
+  pub realm : Bytes
   pub settings : SettingsRecord
   pub look : Look
-  pub moment : ℕ
-  pub random : List ℕ
+  pub moment : Micros
+  pub random : Random
 
 abbrev pub call_of : held.Call → CallRecord
 call_of call = record {
@@ -21,6 +24,6 @@ call_of call = record {
   random = call.random.now;
 }
 
--- the skew in microseconds
-abbrev pub skew_of : CallRecord → ℕ
+-- the skew that the settings say
+abbrev pub skew_of : CallRecord → Micros
 skew_of call = call.settings.skew * 1000000

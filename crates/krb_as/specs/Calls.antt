@@ -1,5 +1,6 @@
 -- What a call to a realm's table is, and what has to be written of what the realm grants.
-use Rattle.std.specs.Prelude.{◌≡◌, ◌≤◌, ℕ, List, length, Some}
+use Rattle.std.specs.Prelude.{◌≡◌, ◌≤◌, List, length, Some}
+use Rattle.picky_asn1.specs.Bytes.{Bytes}
 use Rattle.krb_blocks.specs.Bytes.{IsBytes}
 use Rattle.krb_moments.specs.Moment.{IsMoment}
 use Rattle.krb_crypto.specs.Suites.{cipher_key_size}
@@ -20,7 +21,7 @@ pub record IsCall (call : CallRecord) : Type 0 where
   pub in_time : IsMoment call.moment
   pub enough : 128 ≤ length call.random
   pub bytes : IsBytes call.random
-  pub keyed : (name : List (List ℕ)) (account : AccountRecord) → call.look name ≡ Some account → IsKeyed account
+  pub keyed : (name : List Bytes) (account : AccountRecord) → call.look name ≡ Some account → IsKeyed account
 
 -- what is sealed of the grant can be written: the encodings of both parts are bytes
 pub record IsWritten (exchange : Exchange) (grant : Grant) : Type 0 where

@@ -1,7 +1,10 @@
 -- The ticket that a realm grants, for AS and TGS (RFC 4120, sections 3.1.3 and 3.3.3).
-use Rattle.std.specs.Prelude.{◌≡◌, ℕ, true, List, Result, Ok}
+use Rattle.std.specs.Prelude.{◌≡◌, true, Result, Ok}
+use Rattle.picky_asn1.specs.Bytes.{Bytes}
 use Rattle.krb_accounts.specs.Account.{AccountRecord}
 use Rattle.krb_types.specs.declared.data_types.principal_name.PrincipalName.{PrincipalName}
+use Rattle.krb_types.specs.RandomBytes.{Random}
+use Rattle.krb_types.specs.Refusals.{Code}
 use Rattle.krb_messages.specs.declared.messages.kdc_req_body.KdcReqBody.{KdcReqBody}
 use Rattle.decision_tables.specs.Tables.{Table, done, make}
 use Rattle.krb_tickets.specs.declared.grant.Grant.{Grant}
@@ -34,10 +37,10 @@ first_ticket call asked body span = record {
 }
 
 -- the one reply that grants a ticket, its own part sealed under this key
-abbrev pub replied : Grant → ReplyKeyRecord → AccountRecord → List ℕ → Table (Result (List ℕ) ℕ)
+abbrev pub replied : Grant → ReplyKeyRecord → AccountRecord → Random → Table (Result Bytes Code)
 replied grant under service random =
     make (IsTicketReply grant under service random) (sole_ticket_reply grant under service random) (λ bytes.
     done (Ok bytes))
 
-abbrev pub granted : CallRecord → Principals → Span → KdcReqBody → Table (Result (List ℕ) ℕ)
+abbrev pub granted : CallRecord → Principals → Span → KdcReqBody → Table (Result Bytes Code)
 granted call asked span body = replied (first_ticket call asked body span) (as_reply_key asked.client) asked.service call.random
