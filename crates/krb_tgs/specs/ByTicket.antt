@@ -1,7 +1,8 @@
 -- The older ticket that a TGS request comes with (RFC 4120, sections 3.3.1, 5.4.1).
-use Rattle.std.specs.Prelude.{◌≡◌, ◌⊎◌, ℕ, List, Some}
+use Rattle.std.specs.Prelude.{◌≡◌, ◌⊎◌, List, Some}
 use Rattle.krb_blocks.specs.Bytes.{IsBytes}
 use Rattle.picky_asn1.specs.GeneralizedTime.{seconds_of}
+use Rattle.picky_asn1.specs.Bytes.{Bytes}
 use Rattle.krb_crypto.specs.declared.suite.CipherSuite.{CipherSuite}
 use Rattle.krb_accounts.specs.Account.{AccountRecord}
 use Rattle.krb_types.specs.Names.{components}
@@ -24,7 +25,7 @@ use Rattle.krb_tgs.specs.TgsTable.{further_ticket, subkey_in}
 
 -- the request carries a ticket that has this part, sealed under the key of the realm's ticket-granting service
 pub record IsByTicket (call : CallRecord) (request : KdcReq) (presented : ApReqInner) (part : EncTicketPartInner) : Type 0 where
-  pub entry : List ℕ
+  pub entry : Bytes
   pub first : first_of 1 (entries_of request) ≡ Some entry
   pub read : IsApReq entry presented
   pub granting : AccountRecord
@@ -45,7 +46,7 @@ pub record AreFurtherWritten (call : CallRecord) (request : KdcReq) : Type 0 whe
       → IsByTicket call request presented part → IsShown presented part authenticator → subkey_in authenticator ≡ Some subkey → IsBytes subkey.key_value.0
 
 -- the ticket-granting service, the service that the request names, and the client of the ticket that it comes with
-abbrev pub IsInvolvedFurther : CallRecord → KdcReq → List (List ℕ) → Type 0
+abbrev pub IsInvolvedFurther : CallRecord → KdcReq → List Bytes → Type 0
 IsInvolvedFurther call request these =
     (these ≡ krbtgt_of call.realm)
     ⊎ ((name : PrincipalName) × (service_of request.req_body.0 ≡ Some name) × (these ≡ components name))

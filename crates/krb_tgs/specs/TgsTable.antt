@@ -1,5 +1,5 @@
 -- What a TGS request is answered, in parts of one table, row by row: the first case that holds counts (RFC 4120, section 3.3.3).
-use Rattle.std.specs.Prelude.{ℕ, Bool, false, not, ◌||◌, List, Option, None, Some, Result, Ok, Err, ℤ, if◌then◌else◌}
+use Rattle.std.specs.Prelude.{Bool, false, not, ◌||◌, List, Option, None, Some, Result, Ok, Err, ℤ, if◌then◌else◌}
 use Rattle.std.specs.Bool.{nat_eq}
 use Rattle.std.specs.Cmp.Lexicographic.{pointwise}
 use Rattle.std.specs.List.{find}
@@ -8,6 +8,7 @@ use Rattle.asn1_trees.specs.Tree.{der}
 use Rattle.picky_asn1.specs.BitString.{bit_of}
 use Rattle.picky_asn1.specs.GeneralizedTime.{seconds_of}
 use Rattle.picky_asn1.specs.Numbers.{is_number}
+use Rattle.picky_asn1.specs.Bytes.{Bytes}
 use Rattle.krb_moments.specs.Skew.{is_far}
 use Rattle.krb_crypto.specs.declared.suite.CipherSuite.{CipherSuite}
 use Rattle.krb_crypto.specs.declared.suite.CipherSuite.TheVariants.{Aes128CtsHmacSha196, Aes256CtsHmacSha196}
@@ -22,6 +23,8 @@ use Rattle.krb_types.specs.declared.data_types.enc_ticket_part.EncTicketPartInne
 use Rattle.krb_types.specs.declared.data_types.encryption_key.EncryptionKey.{EncryptionKey}
 use Rattle.krb_types.specs.declared.data_types.pa_data.PaData.{PaData}
 use Rattle.krb_types.specs.declared.data_types.principal_name.PrincipalName.{PrincipalName}
+use Rattle.krb_types.specs.Refusals.{Code}
+use Rattle.krb_types.specs.declared.constants.error_codes.TheConstants.{KDC_ERR_C_PRINCIPAL_UNKNOWN, KDC_ERR_S_PRINCIPAL_UNKNOWN, KDC_ERR_POLICY, KDC_ERR_ETYPE_NOSUPP, KDC_ERR_SUMTYPE_NOSUPP, KDC_ERR_PADATA_TYPE_NOSUPP, KRB_AP_ERR_BAD_INTEGRITY, KRB_AP_ERR_SKEW, KRB_AP_ERR_MODIFIED, KRB_AP_ERR_INAPP_CKSUM, KDC_ERR_WRONG_REALM}
 use Rattle.krb_opening.specs.Keys.{suite_of}
 use Rattle.krb_messages.specs.declared.messages.ap_req.ApReqInner.{ApReqInner}
 use Rattle.krb_messages.specs.declared.messages.kdc_req.KdcReq.{KdcReq}
@@ -42,27 +45,27 @@ use Rattle.krb_as.specs.TicketGranting.{krbtgt_of}
 use Rattle.krb_as.specs.declared.span.Span.{Span}
 
 -- the request is a TGS request to this realm, without sealed authorization data, which no ticket is granted with
-abbrev pub to_us : List ℕ → KdcReq → Table (Result (Unit {0}) ℕ)
+abbrev pub to_us : Bytes → KdcReq → Table (Result (Unit {0}) Code)
 to_us realm request =
     and_then (addressed 12 realm request) (λ _.
-    refuse (is_some request.req_body.0.enc_authorization_data.0) 12
+    refuse (is_some request.req_body.0.enc_authorization_data.0) KDC_ERR_POLICY
     (done (Ok tt)))
 
 -- the AP request that the first entry of type 1 is
-abbrev pub carried : List PaData → Table (Result ApReqInner ℕ)
+abbrev pub carried : List PaData → Table (Result ApReqInner Code)
 carried entries =
-    need (first_of 1 entries) 16 (λ entry.
-    ask (IsApReq entry) (sole_ap_req entry) (done (Err 41)) (λ presented.
+    need (first_of 1 entries) KDC_ERR_PADATA_TYPE_NOSUPP (λ entry.
+    ask (IsApReq entry) (sole_ap_req entry) (done (Err KRB_AP_ERR_MODIFIED)) (λ presented.
     done (Ok presented)))
 
 -- the ticket is of a client of the realm, and counts at the moment
-abbrev pub counting : CallRecord → EncTicketPartInner → Table (Result (Unit {0}) ℕ)
+abbrev pub counting : CallRecord → EncTicketPartInner → Table (Result (Unit {0}) Code)
 counting call part =
-    refuse (not (is_same_realm part.crealm.0 call.realm)) 68
+    refuse (not (is_same_realm part.crealm.0 call.realm)) KDC_ERR_WRONG_REALM
     (timely (skew_of call) call.moment part)
 
 -- the part of a ticket for the realm's ticket-granting service
-abbrev pub ticket_granting : CallRecord → AccountRecord → ApReqInner → Table (Result EncTicketPartInner ℕ)
+abbrev pub ticket_granting : CallRecord → AccountRecord → ApReqInner → Table (Result EncTicketPartInner Code)
 ticket_granting call granting presented =
     and_then (ap_fields call.realm (krbtgt_of call.realm) granting.number presented) (λ _.
     and_then (opened_part granting.suite granting.key presented.ticket.0.0.enc_part.0) (λ part.
@@ -70,10 +73,10 @@ ticket_granting call granting presented =
     done (Ok part))))
 
 -- the authenticator of the ticket's client, of a time near the moment
-abbrev pub shown_near : CallRecord → EncTicketPartInner → ApReqInner → Table (Result Authenticated ℕ)
+abbrev pub shown_near : CallRecord → EncTicketPartInner → ApReqInner → Table (Result Authenticated Code)
 shown_near call part presented =
     and_then (authenticated 7 part presented.authenticator.0) (λ shown.
-    refuse (is_far (skew_of call) call.moment shown.time) 37
+    refuse (is_far (skew_of call) call.moment shown.time) KRB_AP_ERR_SKEW
     (done (Ok shown)))
 
 abbrev pub checksum_in : AuthenticatorInner → Option Checksum
@@ -84,20 +87,20 @@ abbrev pub is_known_checksum : ℤ → Bool
 is_known_checksum kind = is_number 15 kind || is_number 16 kind
 
 -- the one encoding of a request's body
-unfoldable pub body_bytes : KdcReqBody → List ℕ
+unfoldable pub body_bytes : KdcReqBody → Bytes
 body_bytes body = der (kdc_req_body_tree body)
 
 -- the checksum is that of the body's encoding under the session's key (usage 6; RFC 4120, section 7.5.1)
-abbrev pub is_of_body : ChecksumSuite → List ℕ → KdcReqBody → Checksum → Bool
+abbrev pub is_of_body : ChecksumSuite → Bytes → KdcReqBody → Checksum → Bool
 is_of_body kind key body told = pointwise nat_eq told.checksum.0 (checksum_of kind key 6 (body_bytes body))
 
 -- the authenticator covers the request's body
-abbrev pub covered : CipherSuite → List ℕ → AuthenticatorInner → KdcReqBody → Table (Result (Unit {0}) ℕ)
+abbrev pub covered : CipherSuite → Bytes → AuthenticatorInner → KdcReqBody → Table (Result (Unit {0}) Code)
 covered suite key authenticator body =
-    need (checksum_in authenticator) 50 (λ told.
-    refuse (not (is_known_checksum told.cksumtype.0)) 15
-    (refuse (not (is_number (checksum_number (cipher_checksum suite)) told.cksumtype.0)) 50
-    (refuse (not (is_of_body (cipher_checksum suite) key body told)) 41
+    need (checksum_in authenticator) KRB_AP_ERR_INAPP_CKSUM (λ told.
+    refuse (not (is_known_checksum told.cksumtype.0)) KDC_ERR_SUMTYPE_NOSUPP
+    (refuse (not (is_number (checksum_number (cipher_checksum suite)) told.cksumtype.0)) KRB_AP_ERR_INAPP_CKSUM
+    (refuse (not (is_of_body (cipher_checksum suite) key body told)) KRB_AP_ERR_MODIFIED
     (done (Ok tt)))))
 
 -- the suite of a number
@@ -126,7 +129,7 @@ abbrev pub under_subkey : EncryptionKey → Option ReplyKeyRecord
 under_subkey subkey = option_map (λ suite. tgs_subkey_reply_key suite subkey.key_value.0) (suite_of subkey)
 
 -- what the reply is sealed under: the authenticator's subkey where it has one, else the session's key
-abbrev pub reply_key : CipherSuite → List ℕ → Option EncryptionKey → Option ReplyKeyRecord
+abbrev pub reply_key : CipherSuite → Bytes → Option EncryptionKey → Option ReplyKeyRecord
 reply_key suite key None = Some (tgs_reply_key suite key)
 reply_key suite key (Some subkey) = under_subkey subkey
 
@@ -147,11 +150,11 @@ further_ticket call part service suite body span = record {
 }
 
 -- what the ticket is granted with, and the key that the reply is sealed under
-abbrev pub further : CallRecord → EncTicketPartInner → Authenticated → PrincipalName → AccountRecord → KdcReqBody → Table (Result (List ℕ) ℕ)
+abbrev pub further : CallRecord → EncTicketPartInner → Authenticated → PrincipalName → AccountRecord → KdcReqBody → Table (Result Bytes Code)
 further call part shown service_name service body =
     and_then (lasting call.settings.lifetime call.moment (Some (seconds_of part.endtime.0.0)) body) (λ span.
-    need (first_known body.etype.0) 14 (λ suite.
-    need (reply_key shown.suite part.key.0.key_value.0 (subkey_in shown.authenticator)) 31 (λ under.
+    need (first_known body.etype.0) KDC_ERR_ETYPE_NOSUPP (λ suite.
+    need (reply_key shown.suite part.key.0.key_value.0 (subkey_in shown.authenticator)) KRB_AP_ERR_BAD_INTEGRITY (λ under.
     replied (further_ticket call part service_name suite body span) under service call.random)))
 
 -- the name has an account
@@ -159,34 +162,34 @@ abbrev pub has_account : CallRecord → PrincipalName → Bool
 has_account call name = is_some (call.look (components name))
 
 -- what is granted to the client of a ticket that is shown by an authenticator: client and service still have accounts
-abbrev pub tgs_granted : CallRecord → EncTicketPartInner → Authenticated → KdcReqBody → Table (Result (List ℕ) ℕ)
+abbrev pub tgs_granted : CallRecord → EncTicketPartInner → Authenticated → KdcReqBody → Table (Result Bytes Code)
 tgs_granted call part shown body =
-    refuse (not (has_account call part.cname.0)) 6
-    (need (service_of body) 7 (λ service_name.
-    need (call.look (components service_name)) 7 (λ service.
+    refuse (not (has_account call part.cname.0)) KDC_ERR_C_PRINCIPAL_UNKNOWN
+    (need (service_of body) KDC_ERR_S_PRINCIPAL_UNKNOWN (λ service_name.
+    need (call.look (components service_name)) KDC_ERR_S_PRINCIPAL_UNKNOWN (λ service.
     further call part shown service_name service body)))
 
 -- with the authenticator
-abbrev pub of_shown : CallRecord → KdcReqBody → EncTicketPartInner → Authenticated → Table (Result (List ℕ) ℕ)
+abbrev pub of_shown : CallRecord → KdcReqBody → EncTicketPartInner → Authenticated → Table (Result Bytes Code)
 of_shown call body part shown =
     and_then (covered shown.suite part.key.0.key_value.0 shown.authenticator body) (λ _.
     tgs_granted call part shown body)
 
 -- with the ticket's part
-abbrev pub of_ticket : CallRecord → KdcReqBody → ApReqInner → EncTicketPartInner → Table (Result (List ℕ) ℕ)
+abbrev pub of_ticket : CallRecord → KdcReqBody → ApReqInner → EncTicketPartInner → Table (Result Bytes Code)
 of_ticket call body presented part =
     and_then (shown_near call part presented)
     (of_shown call body part)
 
 -- with the AP request; a realm has its ticket-granting service's account, and one without it knows no such service
-abbrev pub of_carried : CallRecord → KdcReqBody → ApReqInner → Table (Result (List ℕ) ℕ)
+abbrev pub of_carried : CallRecord → KdcReqBody → ApReqInner → Table (Result Bytes Code)
 of_carried call body presented =
-    need (call.look (krbtgt_of call.realm)) 7 (λ granting.
+    need (call.look (krbtgt_of call.realm)) KDC_ERR_S_PRINCIPAL_UNKNOWN (λ granting.
     and_then (ticket_granting call granting presented)
     (of_ticket call body presented))
 
 -- the whole table
-abbrev pub tgs_table : CallRecord → KdcReq → Table (Result (List ℕ) ℕ)
+abbrev pub tgs_table : CallRecord → KdcReq → Table (Result Bytes Code)
 tgs_table call request =
     and_then (to_us call.realm request) (λ _.
     and_then (carried (entries_of request))
