@@ -1,26 +1,29 @@
 -- The error message of a realm (RFC 4120, section 5.9.1).
-use Rattle.std.specs.Prelude.{◌≡◌, ℕ, ◌/◌, List, Option, None, pos}
+use Rattle.std.specs.Prelude.{◌≡◌, ◌/◌, Option, None, pos}
 use Rattle.std.specs.Option.{option_map}
 use Rattle.std.proofs.Common.{sym, ◌∙◌}
+use Rattle.krb_moments.specs.Units.{Micros}
 use Rattle.asn1_trees.specs.Tree.{der}
 use Rattle.asn1_leaves.specs.declared.date.GeneralizedTime.{GeneralizedTime}
 use Rattle.picky_asn1.specs.GeneralizedTime.{seconds_of}
+use Rattle.picky_asn1.specs.Bytes.{Bytes}
 use Rattle.asn1_leaves.proofs.TimeLemmas.{seconds_of-injective}
 use Rattle.krb_messages.specs.declared.messages.krb_error.KrbErrorInner.{KrbErrorInner}
 use Rattle.krb_types.specs.declared.data_types.principal_name.PrincipalName.{PrincipalName}
+use Rattle.krb_types.specs.Refusals.{Code}
 use Rattle.decision_tables.specs.One.{IsSole}
 use Rattle.krb_messages.specs.Messages.{krb_error_tree}
 use Rattle.krb_as.specs.TicketGranting.{krbtgt_of}
 
 -- the realm's ticket-granting service by its name, of type 2 (RFC 4120, section 7.3)
-abbrev pub ticket_service : List ℕ → PrincipalName
+abbrev pub ticket_service : Bytes → PrincipalName
 ticket_service realm = record {
   name_type = record { 0 = pos 2 };
   name_string = record { 0 = krbtgt_of realm };
 }
 
 -- the error with this code, at a time and its microseconds, about a service; no optional field but the data
-abbrev pub error_of : List ℕ → GeneralizedTime → ℕ → PrincipalName → ℕ → Option (List ℕ) → KrbErrorInner
+abbrev pub error_of : Bytes → GeneralizedTime → Micros → PrincipalName → Code → Option Bytes → KrbErrorInner
 error_of realm time microseconds service code hint = record {
   pvno = record { 0 = pos 5 };
   msg_type = record { 0 = pos 30 };
@@ -37,12 +40,12 @@ error_of realm time microseconds service code hint = record {
   e_data = record { 0 = option_map (λ bytes. record { 0 = bytes }) hint };
 }
 
-abbrev pub error_bytes : List ℕ → GeneralizedTime → ℕ → PrincipalName → ℕ → Option (List ℕ) → List ℕ
+abbrev pub error_bytes : Bytes → GeneralizedTime → Micros → PrincipalName → Code → Option Bytes → Bytes
 error_bytes realm time microseconds service code hint = der (krb_error_tree (error_of realm time microseconds service code hint))
 
 -- the time is the second of the moment
-abbrev pub IsSecondOf : ℕ → GeneralizedTime → Type 0
+abbrev pub IsSecondOf : Micros → GeneralizedTime → Type 0
 IsSecondOf moment time = seconds_of time ≡ moment / 1000000
 
-pub sole_second : (moment : ℕ) → IsSole (IsSecondOf moment)
+pub sole_second : (moment : Micros) → IsSole (IsSecondOf moment)
 sole_second moment t u p q = seconds_of-injective t u (p ∙ sym q)

@@ -1,5 +1,6 @@
 -- A reply rests on the accounts involved alone.
-use Rattle.std.specs.Prelude.{◌≡◌, ◌⊎◌, ℕ, List, Option, Some}
+use Rattle.std.specs.Prelude.{◌≡◌, ◌⊎◌, List, Option, Some}
+use Rattle.picky_asn1.specs.Bytes.{Bytes}
 use Rattle.krb_messages.specs.declared.messages.kdc_req.KdcReq.{KdcReq}
 use Rattle.krb_types.specs.declared.data_types.principal_name.PrincipalName.{PrincipalName}
 use Rattle.krb_accounts.specs.Accounts.{Look}
@@ -11,12 +12,12 @@ use Rattle.krb_tgs.specs.ByTicket.{IsInvolvedFurther}
 use Rattle.krb_replies.specs.Replies.{Replies}
 
 -- the name is given, and has these components
-abbrev pub IsNamed : Option PrincipalName → List (List ℕ) → Type 0
+abbrev pub IsNamed : Option PrincipalName → List Bytes → Type 0
 IsNamed name these = (given : PrincipalName) × (name ≡ Some given) × (these ≡ components given)
 
 -- the bytes are an AS request of this client, or for this service; or a TGS request, and these are the ticket-granting
 -- service, the service, or the client of the ticket that the request comes with
-abbrev pub IsInvolved : CallRecord → List ℕ → List (List ℕ) → Type 0
+abbrev pub IsInvolved : CallRecord → Bytes → List Bytes → Type 0
 IsInvolved call bytes these =
     ((request : KdcReq) × IsAsReq bytes request
     × (IsNamed (client_of request.req_body.0) these ⊎ IsNamed (service_of request.req_body.0) these))
@@ -24,6 +25,6 @@ IsInvolved call bytes these =
 
 -- realms of one name and of the same settings, which agree on the accounts involved, reply equally
 abbrev pub IsOfInvolvedAlone : Type 0
-IsOfInvolvedAlone = (call : CallRecord) (other : Look) (request : List ℕ)
-    → ((these : List (List ℕ)) → IsInvolved call request these → call.look these ≡ other these)
-    → (reply : Option (List ℕ)) → Replies call request reply → Replies (record call { look = other }) request reply
+IsOfInvolvedAlone = (call : CallRecord) (other : Look) (request : Bytes)
+    → ((these : List Bytes) → IsInvolved call request these → call.look these ≡ other these)
+    → (reply : Option Bytes) → Replies call request reply → Replies (record call { look = other }) request reply

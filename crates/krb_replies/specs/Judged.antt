@@ -1,7 +1,9 @@
 -- What is judged of a request, with what an error tells.
-use Rattle.std.specs.Prelude.{◌≡◌, ℕ, ◌%◌, List, Option, Result, Ok, Err, Vec}
+use Rattle.std.specs.Prelude.{◌≡◌, ℕ, ◌%◌, Option, Result, Ok, Err, Vec}
 use Rattle.std.specs.Global.{Global}
 use Rattle.std.specs.Option.{option_map}
+use Rattle.krb_types.specs.Refusals.{Code}
+use Rattle.picky_asn1.specs.Bytes.{Bytes}
 use Rattle.asn1_leaves.specs.declared.date.GeneralizedTime.{GeneralizedTime}
 use Rattle.krb_messages.specs.declared.messages.kdc_req.KdcReq.{KdcReq}
 use Rattle.krb_as.specs.Call.{CallRecord}
@@ -11,12 +13,12 @@ use Rattle.krb_replies.specs.Replies.{named_service}
 use Rattle.krb_replies.specs.declared.told.Told.{Told}
 
 -- the reply's bytes are an outcome of the table's, or the error's code is, with the hint that belongs to it
-abbrev pub IsJudgement : (Result (List ℕ) ℕ → Type 0) → (ℕ → Option (List ℕ)) → Result (Vec ℕ Global) Told → Type 0
+abbrev pub IsJudgement : (Result Bytes Code → Type 0) → (Code → Option Bytes) → Result (Vec ℕ Global) Told → Type 0
 IsJudgement gives hint (Ok bytes) = gives (Ok bytes.items)
 IsJudgement gives hint (Err told) = gives (Err told.code) × (option_map (λ h. h.items) told.hint ≡ hint told.code)
 
 -- the bytes are what was granted, or the error that tells this about the request's service, in the second of the moment
-abbrev pub IsAnswerWith : CallRecord → KdcReq → Result (Vec ℕ Global) Told → List ℕ → Type 0
+abbrev pub IsAnswerWith : CallRecord → KdcReq → Result (Vec ℕ Global) Told → Bytes → Type 0
 IsAnswerWith call request (Ok ticket) bytes = bytes ≡ ticket.items
 IsAnswerWith call request (Err told) bytes =
     (time : GeneralizedTime) × IsSecondOf call.moment time

@@ -1,8 +1,11 @@
 -- The reply of a realm, as one table over whole messages.
-use Rattle.std.specs.Prelude.{◌≡◌, ℕ, ◌%◌, ◌==◌, List, Option, None, Some, Result, Ok, Err, if◌then◌else◌}
+use Rattle.std.specs.Prelude.{◌≡◌, ◌%◌, ◌==◌, Option, None, Some, Result, Ok, Err, if◌then◌else◌}
 use Rattle.std.specs.Option.{option_map}
+use Rattle.picky_asn1.specs.Bytes.{Bytes}
 use Rattle.krb_messages.specs.declared.messages.kdc_req.KdcReq.{KdcReq}
 use Rattle.krb_types.specs.declared.data_types.principal_name.PrincipalName.{PrincipalName}
+use Rattle.krb_types.specs.Refusals.{Code}
+use Rattle.krb_types.specs.declared.constants.error_codes.TheConstants.{KDC_ERR_PREAUTH_REQUIRED}
 use Rattle.krb_accounts.specs.Account.{AccountRecord}
 use Rattle.decision_tables.specs.Tables.{Table, done, ask, make}
 use Rattle.krb_tickets.specs.MethodData.{method_data_bytes}
@@ -14,44 +17,44 @@ use Rattle.krb_tgs.specs.TgsTable.{tgs_table}
 use Rattle.krb_replies.specs.Errors.{ticket_service, error_bytes, IsSecondOf, sole_second}
 
 -- the service that an error names: the request's, or the realm's ticket-granting service
-abbrev pub named_service : List ℕ → Option PrincipalName → PrincipalName
+abbrev pub named_service : Bytes → Option PrincipalName → PrincipalName
 named_service realm None = ticket_service realm
 named_service realm (Some name) = name
 
--- what an error tells beside its code: with 25 how the client authenticates first
-abbrev pub hint_of : Option AccountRecord → ℕ → Option (List ℕ)
-hint_of of_client code = if code == 25 then option_map method_data_bytes of_client else None
+-- what an error tells beside its code: with KDC_ERR_PREAUTH_REQUIRED how the client authenticates first
+abbrev pub hint_of : Option AccountRecord → Code → Option Bytes
+hint_of of_client code = if code == KDC_ERR_PREAUTH_REQUIRED then option_map method_data_bytes of_client else None
 
 -- what a judgement is answered: what is granted, or the error with its code, in the second of the moment
-abbrev pub reply_of : CallRecord → (ℕ → Option (List ℕ)) → KdcReq → Result (List ℕ) ℕ → Table (Option (List ℕ))
+abbrev pub reply_of : CallRecord → (Code → Option Bytes) → KdcReq → Result Bytes Code → Table (Option Bytes)
 reply_of call hint request (Ok bytes) = done (Some bytes)
 reply_of call hint request (Err code) =
     make (IsSecondOf call.moment) (sole_second call.moment) (λ time.
     done (Some (error_bytes call.realm time (call.moment % 1000000) (named_service call.realm (service_of request.req_body.0)) code (hint code))))
 
-abbrev pub answered : CallRecord → (ℕ → Option (List ℕ)) → KdcReq → Table (Result (List ℕ) ℕ) → Table (Option (List ℕ))
+abbrev pub answered : CallRecord → (Code → Option Bytes) → KdcReq → Table (Result Bytes Code) → Table (Option Bytes)
 answered call hint request judged = make judged.gives judged.one (reply_of call hint request)
 
 -- the reply to an AS request, of the accounts of client and service if they have one
-abbrev pub as_reply : CallRecord → Option AccountRecord → Option AccountRecord → KdcReq → Table (Option (List ℕ))
+abbrev pub as_reply : CallRecord → Option AccountRecord → Option AccountRecord → KdcReq → Table (Option Bytes)
 as_reply call of_client of_service request = answered call (hint_of of_client) request (as_table call of_client of_service request)
 
 -- the reply to a TGS request; its errors tell nothing beside their code
-abbrev pub tgs_reply : CallRecord → KdcReq → Table (Option (List ℕ))
+abbrev pub tgs_reply : CallRecord → KdcReq → Table (Option Bytes)
 tgs_reply call request = answered call (λ code. None) request (tgs_table call request)
 
 -- none where the bytes are the one encoding of no AS request and of no TGS request
-abbrev pub replies : CallRecord → List ℕ → Table (Option (List ℕ))
+abbrev pub replies : CallRecord → Bytes → Table (Option Bytes)
 replies call request =
     ask (IsAsReq request) (sole_as_req request)
     (ask (IsTgsReq request) (sole_tgs_req request) (done None) (tgs_reply call))
     (λ v. as_reply call (account_of call.look (client_of v.req_body.0)) (account_of call.look (service_of v.req_body.0)) v)
 
 -- the reply that a realm may give to a message
-unfoldable pub Replies : CallRecord → List ℕ → Option (List ℕ) → Type 0
+unfoldable pub Replies : CallRecord → Bytes → Option Bytes → Type 0
 Replies call request reply = (replies call request).gives reply
 
 -- there is one at most
-pub one_reply : (call : CallRecord) (request : List ℕ) (a b : Option (List ℕ)) → Replies call request a → Replies call request b → a ≡ b
+pub one_reply : (call : CallRecord) (request : Bytes) (a b : Option Bytes) → Replies call request a → Replies call request b → a ≡ b
 unfolding Replies
 one_reply call request = (replies call request).one
