@@ -4,9 +4,10 @@ use Rattle.krb_messages.specs.declared.messages.enc_kdc_rep_part.EncKdcRepPart.{
 use Rattle.krb_messages.specs.declared.messages.kdc_rep.KdcRep.{KdcRep}
 use Rattle.krb_types.specs.Names.{components, is_same_name, is_same_realm}
 use Rattle.picky_asn1.specs.Numbers.{is_number}
+use Rattle.picky_asn1.specs.Bytes.{Bytes}
 
 -- the opened part has the request's nonce, the reply names the client, and the part the service, in the client's realm
-unfoldable pub is_answer : List ℕ → List (List ℕ) → List (List ℕ) → ℕ → KdcRep → EncKdcRepPart → Bool
+unfoldable pub is_answer : Bytes → List Bytes → List Bytes → ℕ → KdcRep → EncKdcRepPart → Bool
 is_answer realm client service nonce reply part =
     is_number nonce part.nonce.0
     && is_same_realm reply.crealm.0 realm

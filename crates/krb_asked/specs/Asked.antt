@@ -1,24 +1,26 @@
 -- What a client remembers of its requests (RFC 4120, sections 3.1, 3.2, 3.3).
 use Rattle.std.specs.Prelude.{ℕ, List, Option}
+use Rattle.krb_moments.specs.Units.{Micros}
+use Rattle.picky_asn1.specs.Bytes.{Bytes}
 use Rattle.krb_crypto.specs.declared.suite.CipherSuite.{CipherSuite}
 
 -- what a client remembers of an AS request: the service's components, the nonce, and the moment
 pub record AsAskedRecord : Type 0 where
-  pub service : List (List ℕ)
+  pub service : List Bytes
   pub nonce : ℕ
-  pub moment : ℕ
+  pub moment : Micros
 
 -- what a client remembers of a TGS request: the service's components, the nonce, and the session's key, by which it asked
 pub record TgsAskedRecord : Type 0 where
-  pub service : List (List ℕ)
+  pub service : List Bytes
   pub nonce : ℕ
   pub suite : CipherSuite
-  pub key : List ℕ
+  pub key : Bytes
 
 -- what a client remembers of an AP request: the session's key, the authenticator's time, and the subkey, if any, which
 -- is of the same suite
 pub record ApAskedRecord : Type 0 where
   pub suite : CipherSuite
-  pub key : List ℕ
-  pub time : ℕ
-  pub subkey : Option (List ℕ)
+  pub key : Bytes
+  pub time : Micros
+  pub subkey : Option Bytes
