@@ -1,5 +1,6 @@
 -- What a client takes as a service's reply (RFC 4120, section 3.2.5): the first case that holds counts.
-use Rattle.std.specs.Prelude.{◌≡◌, ℕ, ◌/◌, ◌%◌, ◌==◌, Bool, not, ◌&&◌, List, Result, Ok, Err}
+use Rattle.std.specs.Prelude.{◌≡◌, ◌/◌, ◌%◌, ◌==◌, Bool, not, ◌&&◌, Result, Ok, Err}
+use Rattle.krb_moments.specs.Units.{Micros}
 use Rattle.krb_types.specs.declared.data_types.enc_ap_rep_part.EncApRepPartInner.{EncApRepPartInner}
 use Rattle.krb_types.specs.declared.data_types.encrypted_data.EncryptedData.{EncryptedData}
 use Rattle.krb_messages.specs.declared.messages.ap_rep.ApRepInner.{ApRepInner}
@@ -7,6 +8,7 @@ use Rattle.krb_messages.specs.Messages.{IsApRep, enc_ap_rep_part-injective, enc_
 use Rattle.krb_opening.specs.Sealed.{IsSealedIn, sole_sealed}
 use Rattle.picky_asn1.specs.GeneralizedTime.{seconds_of}
 use Rattle.picky_asn1.specs.Numbers.{is_number}
+use Rattle.picky_asn1.specs.Bytes.{Bytes}
 use Rattle.decision_tables.specs.One.{IsSole}
 use Rattle.decision_tables.specs.Tables.{Table, ask, done, refuse}
 use Rattle.krb_asked.specs.Asked.{ApAskedRecord}
@@ -23,7 +25,7 @@ unfolding IsApPart
 sole_ap_part asked sealed = sole_sealed enc_ap_rep_part_tree enc_ap_rep_part-injective asked.suite asked.key 12 sealed
 
 -- the part tells the second of the moment, and its microseconds
-abbrev pub tells : ℕ → EncApRepPartInner → Bool
+abbrev pub tells : Micros → EncApRepPartInner → Bool
 tells moment part = (seconds_of part.ctime.0.0 == moment / 1000000) && is_number (moment % 1000000) part.cusec.0
 
 -- that the service could open the ticket, or why the client doesn't take it
@@ -44,13 +46,13 @@ takes_answer asked reply =
     (takes_time asked))
 
 -- the reply as it comes
-unfoldable pub takes_ap_reply : ApAskedRecord → List ℕ → Table Shown
+unfoldable pub takes_ap_reply : ApAskedRecord → Bytes → Table Shown
 takes_ap_reply asked bytes = takes_message bytes (IsApRep bytes) (sole_ap_rep bytes) (takes_answer asked)
 
 -- what a client that asked this takes of the reply
-abbrev pub TakesApReply : ApAskedRecord → List ℕ → Shown → Type 0
+abbrev pub TakesApReply : ApAskedRecord → Bytes → Shown → Type 0
 TakesApReply asked bytes taken = (takes_ap_reply asked bytes).gives taken
 
 -- there is one outcome at most
-pub one_showing : (asked : ApAskedRecord) (bytes : List ℕ) (a b : Shown) → TakesApReply asked bytes a → TakesApReply asked bytes b → a ≡ b
+pub one_showing : (asked : ApAskedRecord) (bytes : Bytes) (a b : Shown) → TakesApReply asked bytes a → TakesApReply asked bytes b → a ≡ b
 one_showing asked bytes = (takes_ap_reply asked bytes).one

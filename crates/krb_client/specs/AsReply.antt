@@ -1,5 +1,6 @@
 -- What a client takes as the reply to its AS request (RFC 4120, section 3.1.5): the first case that holds counts.
-use Rattle.std.specs.Prelude.{◌≡◌, ℕ, not, List, Err}
+use Rattle.std.specs.Prelude.{◌≡◌, not, Err}
+use Rattle.picky_asn1.specs.Bytes.{Bytes}
 use Rattle.krb_types.specs.declared.data_types.encrypted_data.EncryptedData.{EncryptedData}
 use Rattle.krb_messages.specs.declared.messages.enc_kdc_rep_part.EncKdcRepPart.{EncKdcRepPart}
 use Rattle.krb_messages.specs.declared.messages.kdc_rep.KdcRep.{KdcRep}
@@ -34,13 +35,13 @@ takes_reply client asked reply =
     (takes_sealed client asked reply)
 
 -- the reply as it comes
-unfoldable pub takes_as_reply : ClientRecord → AsAskedRecord → List ℕ → Table Taken
+unfoldable pub takes_as_reply : ClientRecord → AsAskedRecord → Bytes → Table Taken
 takes_as_reply client asked bytes = takes_message bytes (IsAsRep bytes) (sole_as_rep bytes) (takes_reply client asked)
 
 -- what a client that asked this takes of the reply
-abbrev pub TakesAsReply : ClientRecord → AsAskedRecord → List ℕ → Taken → Type 0
+abbrev pub TakesAsReply : ClientRecord → AsAskedRecord → Bytes → Taken → Type 0
 TakesAsReply client asked bytes taken = (takes_as_reply client asked bytes).gives taken
 
 -- there is one outcome at most
-pub one_taking : (client : ClientRecord) (asked : AsAskedRecord) (bytes : List ℕ) (a b : Taken) → TakesAsReply client asked bytes a → TakesAsReply client asked bytes b → a ≡ b
+pub one_taking : (client : ClientRecord) (asked : AsAskedRecord) (bytes : Bytes) (a b : Taken) → TakesAsReply client asked bytes a → TakesAsReply client asked bytes b → a ≡ b
 one_taking client asked bytes = (takes_as_reply client asked bytes).one

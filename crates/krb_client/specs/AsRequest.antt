@@ -1,11 +1,13 @@
 -- The request for a first ticket (RFC 4120, sections 3.1.1, 5.4.1), with the client's time sealed under its key (5.2.7.2).
 use Rattle.std.specs.Prelude.{◌≡◌, ℕ, ◌%◌, true, List, None, Some, pos}
 use Rattle.std.proofs.Common.{ap, subst, sym, ◌∙◌}
+use Rattle.krb_moments.specs.Units.{Micros}
+use Rattle.picky_asn1.specs.Bytes.{Bytes}
 use Rattle.asn1_leaves.specs.declared.date.GeneralizedTime.{GeneralizedTime}
 use Rattle.krb_types.specs.declared.data_types.encrypted_data.EncryptedData.{EncryptedData}
 use Rattle.krb_types.specs.declared.data_types.pa_enc_timestamp.PaEncTsEnc.{PaEncTsEnc}
 use Rattle.krb_messages.specs.declared.messages.kdc_req.KdcReq.{KdcReq}
-use Rattle.krb_types.specs.RandomBytes.{stamp_confounder}
+use Rattle.krb_types.specs.RandomBytes.{Random, stamp_confounder}
 use Rattle.krb_client.specs.Client.{ClientRecord}
 use Rattle.krb_client.specs.Held.{IsSecondOf, sole_second}
 use Rattle.krb_client.specs.Messages.{as_request_bytes, encrypted_bytes, stamp_bytes}
@@ -13,30 +15,30 @@ use Rattle.krb_client.specs.Requests.{entry_of, nonce_of, request_body, request_
 use Rattle.krb_sealing.specs.Sealing.{Seals, sole_seals}
 
 -- the client's time, its microseconds always with it
-abbrev pub stamp_of : GeneralizedTime → ℕ → PaEncTsEnc
+abbrev pub stamp_of : GeneralizedTime → Micros → PaEncTsEnc
 stamp_of second microsecond = record {
   patimestamp = record { 0 = record { 0 = second } };
   pausec = record { 0 = Some (record { 0 = pos microsecond }) };
 }
 
 -- the request with its sealed time, PA-ENC-TIMESTAMP (RFC 4120, section 7.5.2)
-abbrev pub as_request_of : ClientRecord → List (List ℕ) → GeneralizedTime → ℕ → EncryptedData → KdcReq
+abbrev pub as_request_of : ClientRecord → List Bytes → GeneralizedTime → ℕ → EncryptedData → KdcReq
 as_request_of client service till nonce stamp = request_of 10 (entry_of 2 (encrypted_bytes stamp)) (request_body client true service till nonce)
 
 -- the moment, sealed under the client's key (usage 1; RFC 4120, section 7.5.1) behind the confounder
-pub record IsStamp (client : ClientRecord) (moment : ℕ) (confounder : List ℕ) (stamp : EncryptedData) : Type 0 where
+pub record IsStamp (client : ClientRecord) (moment : Micros) (confounder : Bytes) (stamp : EncryptedData) : Type 0 where
   pub second : GeneralizedTime
   pub of_moment : IsSecondOf moment second
   pub sealed : Seals client.suite client.key None 1 confounder (stamp_bytes (stamp_of second (moment % 1000000))) stamp
 
 -- the bytes are the client's request for a ticket for the service till that time, at the moment; of the random bytes
 -- the first 16 are the confounder
-pub record AsksAs (client : ClientRecord) (service : List (List ℕ)) (till : GeneralizedTime) (moment : ℕ) (random bytes : List ℕ) : Type 0 where
+pub record AsksAs (client : ClientRecord) (service : List Bytes) (till : GeneralizedTime) (moment : Micros) (random : Random) (bytes : Bytes) : Type 0 where
   pub stamp : EncryptedData
   pub stamped : IsStamp client moment (stamp_confounder random) stamp
   pub encoding : bytes ≡ as_request_bytes (as_request_of client service till (nonce_of random) stamp)
 
-pub sole_stamp : (client : ClientRecord) (moment : ℕ) (confounder : List ℕ) (a b : EncryptedData)
+pub sole_stamp : (client : ClientRecord) (moment : Micros) (confounder : Bytes) (a b : EncryptedData)
     → IsStamp client moment confounder a → IsStamp client moment confounder b → a ≡ b
 sole_stamp client moment confounder a b x y =
     let same = sole_second moment x.second y.second x.of_moment y.of_moment in
@@ -44,7 +46,7 @@ sole_stamp client moment confounder a b x y =
     sole_seals client.suite client.key None 1 confounder (stamp_bytes (stamp_of y.second (moment % 1000000))) a b first y.sealed
 
 -- there is one such request at most
-pub sole_as_request : (client : ClientRecord) (service : List (List ℕ)) (till : GeneralizedTime) (moment : ℕ) (random a b : List ℕ)
+pub sole_as_request : (client : ClientRecord) (service : List Bytes) (till : GeneralizedTime) (moment : Micros) (random : Random) (a b : Bytes)
     → AsksAs client service till moment random a → AsksAs client service till moment random b → a ≡ b
 sole_as_request client service till moment random a b x y =
     x.encoding

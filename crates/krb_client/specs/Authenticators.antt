@@ -1,9 +1,11 @@
 -- AP requests (RFC 4120, section 5.5.1), as a service and, inside a TGS request, a KDC are shown them: a ticket, and an
 -- authenticator under the session's key.
-use Rattle.std.specs.Prelude.{◌≡◌, ℕ, ◌%◌, Bool, List, [], ◌∷◌, Option, None, pos, if◌then◌else◌}
+use Rattle.std.specs.Prelude.{◌≡◌, ℕ, ◌%◌, Bool, [], ◌∷◌, Option, None, pos, if◌then◌else◌}
 use Rattle.std.specs.Option.{option_map}
 use Rattle.std.proofs.Common.{ap, subst, sym, ◌∙◌}
+use Rattle.krb_moments.specs.Units.{Micros}
 use Rattle.picky_asn1.specs.BitString.{Bits}
+use Rattle.picky_asn1.specs.Bytes.{Bytes}
 use Rattle.asn1_leaves.specs.declared.date.GeneralizedTime.{GeneralizedTime}
 use Rattle.krb_types.specs.declared.data_types.authenticator.AuthenticatorInner.{AuthenticatorInner}
 use Rattle.krb_types.specs.declared.data_types.checksum.Checksum.{Checksum}
@@ -18,7 +20,7 @@ use Rattle.krb_client.specs.Messages.{ap_request_bytes, authenticator_bytes}
 use Rattle.krb_sealing.specs.Sealing.{Seals, sole_seals}
 
 -- what an authenticator tells of the client, and of the microseconds of its time
-abbrev pub told_of : ClientRecord → ℕ → Told
+abbrev pub told_of : ClientRecord → Micros → Told
 told_of client microsecond = record {
   version = pos 5;
   realm = client.realm;
@@ -41,12 +43,12 @@ authenticator_with told second checksum subkey = record {
 }
 
 -- the client's authenticator of the moment
-pub record IsAuthenticator (client : ClientRecord) (moment : ℕ) (checksum : Option Checksum) (subkey : Option EncryptionKey) (authenticator : AuthenticatorInner) : Type 0 where
+pub record IsAuthenticator (client : ClientRecord) (moment : Micros) (checksum : Option Checksum) (subkey : Option EncryptionKey) (authenticator : AuthenticatorInner) : Type 0 where
   pub second : GeneralizedTime
   pub of_moment : IsSecondOf moment second
   pub told : authenticator ≡ authenticator_with (told_of client (moment % 1000000)) second checksum subkey
 
-pub sole_authenticator : (client : ClientRecord) (moment : ℕ) (checksum : Option Checksum) (subkey : Option EncryptionKey) (a b : AuthenticatorInner)
+pub sole_authenticator : (client : ClientRecord) (moment : Micros) (checksum : Option Checksum) (subkey : Option EncryptionKey) (a b : AuthenticatorInner)
     → IsAuthenticator client moment checksum subkey a → IsAuthenticator client moment checksum subkey b → a ≡ b
 sole_authenticator client moment checksum subkey a b x y =
     x.told ∙ ap (λ second. authenticator_with (told_of client (moment % 1000000)) second checksum subkey) (sole_second moment x.second y.second x.of_moment y.of_moment) ∙ sym y.told
@@ -67,12 +69,12 @@ ap_request_of mutual_required ticket authenticator = record {
 
 -- the bytes are the request with the credential's ticket and the authenticator, which is sealed under the credential's key,
 -- for the usage, behind the confounder
-pub record IsApRequest (credential : CredentialRecord) (usage : ℕ) (mutual_required : Bool) (authenticator : AuthenticatorInner) (confounder bytes : List ℕ) : Type 0 where
+pub record IsApRequest (credential : CredentialRecord) (usage : ℕ) (mutual_required : Bool) (authenticator : AuthenticatorInner) (confounder bytes : Bytes) : Type 0 where
   pub part : EncryptedData
   pub sealed : Seals credential.suite credential.key None usage confounder (authenticator_bytes authenticator) part
   pub encoding : bytes ≡ ap_request_bytes (ap_request_of mutual_required credential.ticket part)
 
-pub sole_presented : (credential : CredentialRecord) (usage : ℕ) (mutual_required : Bool) (confounder : List ℕ) (p q : AuthenticatorInner) (a b : List ℕ)
+pub sole_presented : (credential : CredentialRecord) (usage : ℕ) (mutual_required : Bool) (confounder : Bytes) (p q : AuthenticatorInner) (a b : Bytes)
     → p ≡ q → IsApRequest credential usage mutual_required p confounder a → IsApRequest credential usage mutual_required q confounder b → a ≡ b
 sole_presented credential usage mutual_required confounder p q a b same x y =
     let first = subst (λ authenticator. Seals credential.suite credential.key None usage confounder (authenticator_bytes authenticator) x.part) same x.sealed in

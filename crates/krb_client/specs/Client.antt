@@ -1,5 +1,6 @@
 -- What clients are, and what they are granted (RFC 4120, sections 3.1, 3.2).
-use Rattle.std.specs.Prelude.{ℕ, not, ◌&&◌, List, Result, Ok, Err, if◌then◌else◌}
+use Rattle.std.specs.Prelude.{not, ◌&&◌, List, Result, Ok, Err, if◌then◌else◌}
+use Rattle.picky_asn1.specs.Bytes.{Bytes}
 use Rattle.krb_crypto.specs.declared.suite.CipherSuite.{CipherSuite}
 use Rattle.krb_crypto.specs.Sealing.{password_key_of}
 use Rattle.krb_accounts.specs.Names.{are_components, is_realm_name}
@@ -11,13 +12,13 @@ use Rattle.krb_client.specs.declared.refusal.AskRefusal.TheVariants.{BadName}
 
 -- a client: its realm, the components of its name, and its key of a suite
 pub record ClientRecord : Type 0 where
-  pub realm : List ℕ
-  pub components : List (List ℕ)
+  pub realm : Bytes
+  pub components : List Bytes
   pub suite : CipherSuite
-  pub key : List ℕ
+  pub key : Bytes
 
 -- the client of a password, or why there is none
-abbrev pub client_of : List ℕ → List (List ℕ) → CipherSuite → List ℕ → Result ClientRecord AskRefusal
+abbrev pub client_of : Bytes → List Bytes → CipherSuite → Bytes → Result ClientRecord AskRefusal
 client_of realm components suite password =
     if not (is_realm_name realm && are_components components) then Err BadName
     else Ok (record {
@@ -31,6 +32,6 @@ client_of realm components suite password =
 pub record CredentialRecord : Type 0 where
   pub ticket : TicketInner
   pub suite : CipherSuite
-  pub key : List ℕ
-  pub realm : List ℕ
+  pub key : Bytes
+  pub realm : Bytes
   pub service : PrincipalName

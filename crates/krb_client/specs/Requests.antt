@@ -2,19 +2,20 @@
 use Rattle.std.specs.Prelude.{ℕ, ◌%◌, Bool, List, [], ◌∷◌, Option, None, Some, pos, if◌then◌else◌}
 use Rattle.std.specs.Int.{from_be_bytes, w32}
 use Rattle.picky_asn1.specs.BitString.{Bits}
+use Rattle.picky_asn1.specs.Bytes.{Bytes}
 use Rattle.picky_asn1_der.specs.declared.wrapper.ExplicitContextTag.{ExplicitContextTag}
 use Rattle.asn1_leaves.specs.declared.date.GeneralizedTime.{GeneralizedTime}
 use Rattle.krb_crypto.specs.Suites.{cipher_number}
 use Rattle.krb_types.specs.declared.data_types.pa_data.PaData.{PaData}
 use Rattle.krb_types.specs.declared.data_types.principal_name.PrincipalName.{PrincipalName}
-use Rattle.krb_types.specs.RandomBytes.{nonce_bytes}
+use Rattle.krb_types.specs.RandomBytes.{Random, nonce_bytes}
 use Rattle.krb_messages.specs.declared.messages.kdc_req.KdcReq.{KdcReq}
 use Rattle.krb_messages.specs.declared.messages.kdc_req_body.KdcReqBody.{KdcReqBody}
 use Rattle.krb_client.specs.Client.{ClientRecord}
 use Rattle.krb_client.specs.Held.{principal_name}
 
 -- the nonce: four of the random bytes, big-endian, of which 31 bits count
-abbrev pub nonce_of : List ℕ → ℕ
+abbrev pub nonce_of : Random → ℕ
 nonce_of random = from_be_bytes w32 (nonce_bytes random) % 2147483648
 
 -- no option is asked for
@@ -26,7 +27,7 @@ abbrev pub name_where : ClientRecord → Bool → Option (ExplicitContextTag 1 P
 name_where client named = if named then Some (record { 0 = principal_name 1 client.components }) else None
 
 -- the client, where it is named, a service of its realm, the end asked for, the nonce, and the client's suite as the only one
-abbrev pub request_body : ClientRecord → Bool → List (List ℕ) → GeneralizedTime → ℕ → KdcReqBody
+abbrev pub request_body : ClientRecord → Bool → List Bytes → GeneralizedTime → ℕ → KdcReqBody
 request_body client named service till nonce = record {
   kdc_options = record { 0 = no_options };
   cname = record { 0 = name_where client named };
@@ -43,7 +44,7 @@ request_body client named service till nonce = record {
 }
 
 -- preauthentication data of a type (RFC 4120, section 7.5.2)
-abbrev pub entry_of : ℕ → List ℕ → PaData
+abbrev pub entry_of : ℕ → Bytes → PaData
 entry_of kind value = record { padata_type = record { 0 = pos kind }; padata_data = record { 0 = value } }
 
 -- the request of a type, with one entry of preauthentication data

@@ -9,6 +9,7 @@ use Rattle.krb_messages.specs.Messages.{enc_tgs_rep_part-injective, enc_tgs_rep_
 use Rattle.krb_opening.specs.Keys.{suite_of}
 use Rattle.krb_opening.specs.Sealed.{IsSealedIn, sole_sealed}
 use Rattle.picky_asn1.specs.Numbers.{is_number}
+use Rattle.picky_asn1.specs.Bytes.{Bytes}
 use Rattle.decision_tables.specs.One.{IsSole}
 use Rattle.decision_tables.specs.Tables.{Table, ask, done, need, refuse}
 use Rattle.krb_asked.specs.Answers.{is_answer}
@@ -18,7 +19,7 @@ use Rattle.krb_client.specs.declared.refusal.TakeRefusal.{TakeRefusal}
 use Rattle.krb_client.specs.declared.refusal.TakeRefusal.TheVariants.{NotAsked, Refused, Unreadable}
 
 -- the bytes as they come: they are an error, or a reply, which the following cases read
-abbrev pub takes_message : {A T : Type 0} (bytes : List ℕ) (IsReply : A → Type 0) → IsSole IsReply → (A → Table (Result T TakeRefusal)) → Table (Result T TakeRefusal)
+abbrev pub takes_message : {A T : Type 0} (bytes : Bytes) (IsReply : A → Type 0) → IsSole IsReply → (A → Table (Result T TakeRefusal)) → Table (Result T TakeRefusal)
 takes_message bytes IsReply sole rest =
     ask (IsErrorCode bytes) (sole_error_code bytes)
     (ask IsReply sole (done (Err Unreadable)) rest)
@@ -29,10 +30,10 @@ abbrev pub is_of_type : ℕ → ℤ → ℤ → Bool
 is_of_type number version kind = is_number 5 version && is_number number kind
 
 -- the part of a KDC's reply, with the tag of TGS replies, sealed under the key for the usage
-unfoldable pub IsTgsPart : CipherSuite → List ℕ → ℕ → EncryptedData → EncKdcRepPart → Type 0
+unfoldable pub IsTgsPart : CipherSuite → Bytes → ℕ → EncryptedData → EncKdcRepPart → Type 0
 IsTgsPart suite key usage sealed part = IsSealedIn {T = EncKdcRepPart} enc_tgs_rep_part_tree suite key usage sealed part
 
-pub sole_tgs_part : (suite : CipherSuite) (key : List ℕ) (usage : ℕ) (sealed : EncryptedData) → IsSole (IsTgsPart suite key usage sealed)
+pub sole_tgs_part : (suite : CipherSuite) (key : Bytes) (usage : ℕ) (sealed : EncryptedData) → IsSole (IsTgsPart suite key usage sealed)
 unfolding IsTgsPart
 sole_tgs_part suite key usage sealed = sole_sealed enc_tgs_rep_part_tree enc_tgs_rep_part-injective suite key usage sealed
 
@@ -51,7 +52,7 @@ credential_of reply part suite = record {
 }
 
 -- with the part opened: it answers what the client asked for this service, with the nonce
-abbrev pub takes_part : ClientRecord → List (List ℕ) → ℕ → KdcRep → EncKdcRepPart → Table Taken
+abbrev pub takes_part : ClientRecord → List Bytes → ℕ → KdcRep → EncKdcRepPart → Table Taken
 takes_part client service nonce reply part =
     refuse (not (is_answer client.realm client.components service nonce reply part)) NotAsked
     (need (suite_of part.key.0) NotAsked (λ suite.

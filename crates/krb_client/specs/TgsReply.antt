@@ -1,5 +1,6 @@
 -- What a client takes as the reply to its TGS request (RFC 4120, section 3.3.4): the first case that holds counts.
-use Rattle.std.specs.Prelude.{◌≡◌, ℕ, not, List, Err}
+use Rattle.std.specs.Prelude.{◌≡◌, not, Err}
+use Rattle.picky_asn1.specs.Bytes.{Bytes}
 use Rattle.krb_messages.specs.declared.messages.kdc_rep.KdcRep.{KdcRep}
 use Rattle.krb_messages.specs.Messages.{IsTgsRep, sole_tgs_rep}
 use Rattle.decision_tables.specs.Tables.{Table, ask, done, refuse}
@@ -16,13 +17,13 @@ takes_further client asked reply =
     (takes_part client asked.service asked.nonce reply))
 
 -- the reply as it comes
-unfoldable pub takes_tgs_reply : ClientRecord → TgsAskedRecord → List ℕ → Table Taken
+unfoldable pub takes_tgs_reply : ClientRecord → TgsAskedRecord → Bytes → Table Taken
 takes_tgs_reply client asked bytes = takes_message bytes (IsTgsRep bytes) (sole_tgs_rep bytes) (takes_further client asked)
 
 -- what a client that asked this takes of the reply
-abbrev pub TakesTgsReply : ClientRecord → TgsAskedRecord → List ℕ → Taken → Type 0
+abbrev pub TakesTgsReply : ClientRecord → TgsAskedRecord → Bytes → Taken → Type 0
 TakesTgsReply client asked bytes taken = (takes_tgs_reply client asked bytes).gives taken
 
 -- there is one outcome at most
-pub one_further_taking : (client : ClientRecord) (asked : TgsAskedRecord) (bytes : List ℕ) (a b : Taken) → TakesTgsReply client asked bytes a → TakesTgsReply client asked bytes b → a ≡ b
+pub one_further_taking : (client : ClientRecord) (asked : TgsAskedRecord) (bytes : Bytes) (a b : Taken) → TakesTgsReply client asked bytes a → TakesTgsReply client asked bytes b → a ≡ b
 one_further_taking client asked bytes = (takes_tgs_reply client asked bytes).one

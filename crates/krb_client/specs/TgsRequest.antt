@@ -2,12 +2,14 @@
 -- its preauthentication data.
 use Rattle.std.specs.Prelude.{◌≡◌, ℕ, false, List, None, Some, pos}
 use Rattle.std.proofs.Common.{ap, sym, ◌∙◌}
+use Rattle.krb_moments.specs.Units.{Micros}
+use Rattle.picky_asn1.specs.Bytes.{Bytes}
 use Rattle.asn1_leaves.specs.declared.date.GeneralizedTime.{GeneralizedTime}
 use Rattle.krb_crypto.specs.Sealing.{checksum_of}
 use Rattle.krb_crypto.specs.Suites.{checksum_number, cipher_checksum}
 use Rattle.krb_types.specs.declared.data_types.authenticator.AuthenticatorInner.{AuthenticatorInner}
 use Rattle.krb_types.specs.declared.data_types.checksum.Checksum.{Checksum}
-use Rattle.krb_types.specs.RandomBytes.{authenticator_confounder}
+use Rattle.krb_types.specs.RandomBytes.{Random, authenticator_confounder}
 use Rattle.krb_messages.specs.declared.messages.kdc_req.KdcReq.{KdcReq}
 use Rattle.krb_asked.specs.Asked.{TgsAskedRecord}
 use Rattle.krb_client.specs.Authenticators.{IsApRequest, IsAuthenticator, sole_presented, sole_authenticator}
@@ -16,7 +18,7 @@ use Rattle.krb_client.specs.Messages.{request_body_bytes, tgs_request_bytes}
 use Rattle.krb_client.specs.Requests.{entry_of, nonce_of, request_body, request_of}
 
 -- the checksum of the session's suite over a text (usage 6; RFC 4120, section 7.5.1)
-abbrev pub checksum_over : CredentialRecord → List ℕ → Checksum
+abbrev pub checksum_over : CredentialRecord → Bytes → Checksum
 checksum_over credential text = record {
   cksumtype = record { 0 = pos (checksum_number (cipher_checksum credential.suite)) };
   checksum = record { 0 = checksum_of (cipher_checksum credential.suite) credential.key 6 text };
@@ -24,12 +26,12 @@ checksum_over credential text = record {
 
 -- the AP request by which a text is sent: the authenticator has its checksum and no subkey, and is sealed for usage 7
 -- (RFC 4120, section 7.5.1)
-pub record Authenticates (client : ClientRecord) (credential : CredentialRecord) (moment : ℕ) (confounder text request : List ℕ) : Type 0 where
+pub record Authenticates (client : ClientRecord) (credential : CredentialRecord) (moment : Micros) (confounder text request : Bytes) : Type 0 where
   pub authenticator : AuthenticatorInner
   pub authenticates : IsAuthenticator client moment (Some (checksum_over credential text)) None authenticator
   pub presents : IsApRequest credential 7 false authenticator confounder request
 
-pub sole_authentication : (client : ClientRecord) (credential : CredentialRecord) (moment : ℕ) (confounder text a b : List ℕ)
+pub sole_authentication : (client : ClientRecord) (credential : CredentialRecord) (moment : Micros) (confounder text a b : Bytes)
     → Authenticates client credential moment confounder text a → Authenticates client credential moment confounder text b → a ≡ b
 sole_authentication client credential moment confounder text a b x y =
     sole_presented credential 7 false confounder x.authenticator y.authenticator a b
@@ -37,26 +39,26 @@ sole_authentication client credential moment confounder text a b x y =
     x.presents y.presents
 
 -- the request with its AP request, PA-TGS-REQ (RFC 4120, section 7.5.2); the client's name stands in the ticket alone
-abbrev pub tgs_request_of : ClientRecord → List (List ℕ) → GeneralizedTime → ℕ → List ℕ → KdcReq
+abbrev pub tgs_request_of : ClientRecord → List Bytes → GeneralizedTime → ℕ → Bytes → KdcReq
 tgs_request_of client service till nonce request = request_of 12 (entry_of 1 request) (request_body client false service till nonce)
 
 -- the encoding of the request's body
-abbrev pub tgs_body_bytes : ClientRecord → List (List ℕ) → GeneralizedTime → ℕ → List ℕ
+abbrev pub tgs_body_bytes : ClientRecord → List Bytes → GeneralizedTime → ℕ → Bytes
 tgs_body_bytes client service till nonce = request_body_bytes (request_body client false service till nonce)
 
 -- the bytes are the client's request for a ticket for the service till that time, by the credential, at the moment; of the
 -- random bytes the first 16 are the confounder
-pub record AsksTgs (client : ClientRecord) (credential : CredentialRecord) (service : List (List ℕ)) (till : GeneralizedTime) (moment : ℕ) (random bytes : List ℕ) : Type 0 where
-  pub request : List ℕ
+pub record AsksTgs (client : ClientRecord) (credential : CredentialRecord) (service : List Bytes) (till : GeneralizedTime) (moment : Micros) (random : Random) (bytes : Bytes) : Type 0 where
+  pub request : Bytes
   pub authenticates : Authenticates client credential moment (authenticator_confounder random) (tgs_body_bytes client service till (nonce_of random)) request
   pub encoding : bytes ≡ tgs_request_bytes (tgs_request_of client service till (nonce_of random) request)
 
 -- what the client remembers of it
-abbrev pub tgs_asked : CredentialRecord → List (List ℕ) → List ℕ → TgsAskedRecord
+abbrev pub tgs_asked : CredentialRecord → List Bytes → Random → TgsAskedRecord
 tgs_asked credential service random = record { service = service; nonce = nonce_of random; suite = credential.suite; key = credential.key }
 
 -- there is one such request at most
-pub sole_tgs_request : (client : ClientRecord) (credential : CredentialRecord) (service : List (List ℕ)) (till : GeneralizedTime) (moment : ℕ) (random a b : List ℕ)
+pub sole_tgs_request : (client : ClientRecord) (credential : CredentialRecord) (service : List Bytes) (till : GeneralizedTime) (moment : Micros) (random : Random) (a b : Bytes)
     → AsksTgs client credential service till moment random a → AsksTgs client credential service till moment random b → a ≡ b
 sole_tgs_request client credential service till moment random a b x y =
     x.encoding
