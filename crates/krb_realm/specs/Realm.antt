@@ -1,7 +1,10 @@
 -- A realm: its name, its settings, and a finite map from component lists to accounts.
-use Rattle.std.specs.Prelude.{ℕ, nat_eq, Bool, not, ◌==◌, List, length, None, Result, Ok, Err, if◌then◌else◌}
+use Rattle.std.specs.Prelude.{nat_eq, Bool, not, ◌==◌, List, length, None, Result, Ok, Err, if◌then◌else◌}
 use Rattle.std.specs.Cmp.Lexicographic.{pointwise}
 use Rattle.std.specs.FinMap as finite
+use Rattle.krb_types.specs.RandomBytes.{Random}
+use Rattle.krb_moments.specs.Units.{Micros}
+use Rattle.picky_asn1.specs.Bytes.{Bytes}
 use Rattle.krb_crypto.specs.declared.suite.CipherSuite.{CipherSuite}
 use Rattle.krb_crypto.specs.Suites.{cipher_key_size}
 use Rattle.krb_accounts.specs.Account.{AccountRecord}
@@ -15,12 +18,12 @@ use Rattle.krb_accounts.specs.declared.refusal.RealmRefusal.{RealmRefusal}
 use Rattle.krb_accounts.specs.declared.refusal.RealmRefusal.TheVariants.{BadName, BadKeyLength, Exists, KeptAccount, Unknown}
 
 pub record RealmState : Type 0 where
-  pub name : List ℕ
+  pub name : Bytes
   pub settings : SettingsRecord
   pub accounts : AccountMap
 
 -- a call to the realm at a moment, with random bytes
-abbrev pub call_to : RealmState → ℕ → List ℕ → CallRecord
+abbrev pub call_to : RealmState → Micros → Random → CallRecord
 call_to realm moment random = record {
   realm = realm.name;
   settings = realm.settings;
@@ -30,17 +33,17 @@ call_to realm moment random = record {
 }
 
 -- an account by a first key
-abbrev pub first_key : CipherSuite → List ℕ → AccountRecord
+abbrev pub first_key : CipherSuite → Bytes → AccountRecord
 first_key suite key = record { suite = suite; key = key; number = 1; salt = None }
 
 -- whether a realm of this name is made with this key, in the order of refusals
-abbrev pub making : List ℕ → CipherSuite → List ℕ → Result (Unit {0}) RealmRefusal
+abbrev pub making : Bytes → CipherSuite → Bytes → Result (Unit {0}) RealmRefusal
 making name suite key =
     if not (is_realm_name name) then Err BadName
     else (if not (length key == cipher_key_size suite) then Err BadKeyLength else Ok tt)
 
 -- the realm with its ticket-granting service's account alone
-abbrev pub made : List ℕ → CipherSuite → List ℕ → SettingsRecord → RealmState
+abbrev pub made : Bytes → CipherSuite → Bytes → SettingsRecord → RealmState
 made name suite key settings = record {
   name = name;
   settings = settings;
@@ -48,29 +51,29 @@ made name suite key settings = record {
 }
 
 -- whether an account is added by a key, in the order of refusals
-abbrev pub adding : AccountMap → List (List ℕ) → CipherSuite → List ℕ → Result (Unit {0}) RealmRefusal
+abbrev pub adding : AccountMap → List Bytes → CipherSuite → Bytes → Result (Unit {0}) RealmRefusal
 adding accounts name suite key =
     if not (are_components name) then Err BadName
     else (if not (length key == cipher_key_size suite) then Err BadKeyLength
     else (if finite.contains_key accounts name then Err Exists else Ok tt))
 
 -- whether an account is added by a password, in the order of refusals
-abbrev pub adding_by_password : AccountMap → List (List ℕ) → Result (Unit {0}) RealmRefusal
+abbrev pub adding_by_password : AccountMap → List Bytes → Result (Unit {0}) RealmRefusal
 adding_by_password accounts name =
     if not (are_components name) then Err BadName
     else (if finite.contains_key accounts name then Err Exists else Ok tt)
 
 -- the name is that of the realm's ticket-granting service
-abbrev pub is_krbtgt : List ℕ → List (List ℕ) → Bool
+abbrev pub is_krbtgt : Bytes → List Bytes → Bool
 is_krbtgt realm name = pointwise (pointwise nat_eq) name (krbtgt_of realm)
 
 -- whether an account is taken away, in the order of refusals; that of the ticket-granting service is kept
-abbrev pub removing : RealmState → List (List ℕ) → Result (Unit {0}) RealmRefusal
+abbrev pub removing : RealmState → List Bytes → Result (Unit {0}) RealmRefusal
 removing realm name =
     if not (are_components name) then Err BadName
     else (if not (finite.contains_key realm.accounts name) then Err Unknown
     else (if is_krbtgt realm.name name then Err KeptAccount else Ok tt))
 
 -- what a name's account becomes by a key, in the order of refusals
-abbrev pub changing : AccountMap → List (List ℕ) → CipherSuite → List ℕ → Result AccountRecord RealmRefusal
+abbrev pub changing : AccountMap → List Bytes → CipherSuite → Bytes → Result AccountRecord RealmRefusal
 changing accounts name suite key = if not (are_components name) then Err BadName else map.changing accounts name suite key
