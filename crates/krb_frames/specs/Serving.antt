@@ -2,6 +2,7 @@
 use Rattle.std.specs.Prelude.{◌≡◌, ℕ, ◌-◌, ◌^◌, ◌<◌, ◌≤◌, ◌⊎◌, min, List, [], ◌∷◌, ◌++◌, length, take, drop, map, Option, Some, None, Result, Ok, Err, MatchResult, ⊤}
 use Rattle.std.specs.Iterator.{Yields, YieldsThen}
 use Rattle.std.specs.List.{concat}
+use Rattle.krb_moments.specs.Units.{Micros}
 use Rattle.krb_frames.specs.declared.fault.ServeFault.{ServeFault}
 use Rattle.krb_frames.specs.declared.fault.ServeFault.TheVariants.{Truncated, FrameTooLong, NoRequest, Read, Write, NoWords, NoMoment, ReplyTooLong, Memory}
 use Rattle.krb_frames.specs.Frames.{Ended, Bad, Whole, announced, frame_room, front_of, framed}
@@ -12,16 +13,16 @@ WhereKnown known P = (bytes : List ℕ) → known ≡ Some bytes → P bytes
 
 -- what is still to be served: the moments, the stream and the random bytes
 pub record Left : Type 0 where
-  pub moments : List ℕ
+  pub moments : List Micros
   pub stream : List ℕ
   pub words : List ℕ
 
-abbrev pub at : List ℕ → List ℕ → List ℕ → Left
+abbrev pub at : List Micros → List ℕ → List ℕ → Left
 at moments stream words = record { moments = moments; stream = stream; words = words }
 
 -- the next frame is whole and takes the next moment; the random bytes aside `new` is left
 abbrev pub TakesMoment : Left → Left → Type 0
-TakesMoment old new = (message : List ℕ) × (moment : ℕ) × (front_of old.stream ≡ Whole message new.stream) × (old.moments ≡ moment ∷ new.moments)
+TakesMoment old new = (message : List ℕ) × (moment : Micros) × (front_of old.stream ≡ Whole message new.stream) × (old.moments ≡ moment ∷ new.moments)
 
 -- and it takes 128 random bytes, which are there
 abbrev pub TakesUp : Left → Left → Type 0
@@ -40,14 +41,14 @@ abbrev pub LacksRoom : Left → Left → Type 0
 LacksRoom old new = (4 ≤ length old.stream) × (announced old.stream ≤ 65536) × (new ≡ at old.moments (drop 4 old.stream) old.words)
 
 -- `replies message moment words answer`: whether a responder may answer so. None is of bytes that are no request
-module _ (replies : List ℕ → ℕ → List ℕ → Option (List ℕ) → Type 0) where
+module _ (replies : List ℕ → Micros → List ℕ → Option (List ℕ) → Type 0) where
   -- 128 random bytes are there, and with them the message may be answered so
-  abbrev pub IsReply : List ℕ → ℕ → List ℕ → Option (List ℕ) → Type 0
+  abbrev pub IsReply : List ℕ → Micros → List ℕ → Option (List ℕ) → Type 0
   IsReply message moment words answer = (128 ≤ length words) × replies message moment (take 128 words) answer
 
   -- the next frame takes the next moment and 128 random bytes, is answered so, and leaves `new`
   abbrev pub Asks : Left → Option (List ℕ) → Left → Type 0
-  Asks old answer new = (message : List ℕ) × (moment : ℕ) × (front_of old.stream ≡ Whole message new.stream)
+  Asks old answer new = (message : List ℕ) × (moment : Micros) × (front_of old.stream ≡ Whole message new.stream)
       × (old.moments ≡ moment ∷ new.moments) × (new.words ≡ drop 128 old.words) × IsReply message moment old.words answer
 
   -- the next frame has this reply, which is short enough for a frame
@@ -83,7 +84,7 @@ module _ (replies : List ℕ → ℕ → List ℕ → Option (List ℕ) → Type
       (λ fault. StopsBy s fault new × (part : List ℕ) × IsPart s fault part × (written ≡ concat (map framed done) ++ part))
 
 -- calls of `next` gave these moments, then none where that is the fault, and left this iterator
-abbrev pub Draws : {M : Type 0} → (M → Option ℕ → M → Type 0) → Result ℕ ServeFault → M → List ℕ → M → Type 0
+abbrev pub Draws : {M : Type 0} → (M → Option Micros → M → Type 0) → Result ℕ ServeFault → M → List Micros → M → Type 0
 Draws gives (Ok _) start taken end = Yields gives start taken end
 Draws gives (Err NoMoment) start taken end = YieldsThen gives start taken None end
 Draws gives (Err _) start taken end = Yields gives start taken end

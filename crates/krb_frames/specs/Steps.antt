@@ -1,6 +1,7 @@
 -- What one step of serving does to its devices.
 use Rattle.std.specs.Prelude.{◌≡◌, ℕ, ◌<◌, ◌≤◌, List, [], ◌++◌, length, take, drop, Option, Some, None, ⊤}
 use Rattle.std.specs.Io.KnownBytes.{Appends, Keeps}
+use Rattle.krb_moments.specs.Units.{Micros}
 use Rattle.devices.specs.Counting.{one_more}
 use Rattle.krb_frames.specs.declared.fault.ServeFault.{ServeFault}
 use Rattle.krb_frames.specs.declared.fault.ServeFault.TheVariants.{Truncated, FrameTooLong, NoRequest, Read, Write, NoWords, ReplyTooLong, Memory}
@@ -91,14 +92,14 @@ IsWrittenPart frame old new Write = (n : ℕ) × Appends old new (take n frame)
 IsWrittenPart frame old new Memory = Keeps old new
 IsWrittenPart frame old new _ = ⊥
 
-module _ (replies : List ℕ → ℕ → List ℕ → Option (List ℕ) → Type 0) where
+module _ (replies : List ℕ → Micros → List ℕ → Option (List ℕ) → Type 0) where
   -- a message was answered: its reply was written in a frame, and 128 random bytes were taken
-  abbrev pub IsAnswered : List ℕ → ℕ → List ℕ → Option (List ℕ) → Option (List ℕ) → Option (List ℕ) → Type 0
+  abbrev pub IsAnswered : List ℕ → Micros → List ℕ → Option (List ℕ) → Option (List ℕ) → Option (List ℕ) → Type 0
   IsAnswered message moment words old new left = (reply : List ℕ) × IsReply replies message moment words (Some reply) × (length reply ≤ 65536)
       × Appends old new (framed reply) × (left ≡ Some (drop 128 words))
 
   -- why a message was not answered, what was written of its reply, and the random bytes that are left
-  abbrev pub IsStepFault : List ℕ → ℕ → List ℕ → Option (List ℕ) → Option (List ℕ) → Option (List ℕ) → ServeFault → Type 0
+  abbrev pub IsStepFault : List ℕ → Micros → List ℕ → Option (List ℕ) → Option (List ℕ) → Option (List ℕ) → ServeFault → Type 0
   IsStepFault message moment words old new left NoWords = (length words < 128) × Keeps old new × (left ≡ Some [])
   IsStepFault message moment words old new left NoRequest = IsReply replies message moment words None × Keeps old new × (left ≡ Some (drop 128 words))
   IsStepFault message moment words old new left ReplyTooLong =
