@@ -22,7 +22,7 @@ use Rattle.decision_tables.specs.Tables.{Table, and_then, done, need, refuse}
 use Rattle.krb_opening.specs.Sealed.{IsSealedIn}
 use Rattle.krb_moments.specs.Times.{moment_at}
 use Rattle.krb_ap.specs.Acceptable.{IsAcceptable, shown_by}
-use Rattle.krb_ap.specs.ApTable.{addressed, ap_fields, is_early, is_late, is_of_client, may_be_under, opened, presented, told, valid_authenticator, valid_part}
+use Rattle.krb_ap.specs.ApTable.{for_service, ap_fields, is_early, is_late, is_of_client, may_be_under, opened, presented, told, valid_authenticator, valid_part}
 use Rattle.krb_ap.specs.Entry.{EntryRecord}
 use Rattle.krb_messages.specs.Messages.{authenticator_tree, enc_ticket_part_tree}
 use Rattle.krb_ap.specs.Messages.{IsAuthenticator}
@@ -52,7 +52,7 @@ address_rows : (method etype : Bool) (fields : Table (Result (Unit {0}) ℕ)) �
 address_rows method etype fields m e x = rw (m, e) (inl (tt, x, refl))
 
 is_addressed : (entry : EntryRecord) (skew moment : ℕ) (choice : Choice) (part_cipher cipher : List ℕ) → IsAcceptable entry skew moment choice
-    → (addressed entry.realm entry.components entry.suite entry.number (request_of choice.outer part_cipher cipher)).gives (Ok tt)
+    → (for_service entry.realm entry.components entry.suite entry.number (request_of choice.outer part_cipher cipher)).gives (Ok tt)
 is_addressed entry skew moment choice part_cipher cipher x =
     let fields = field_rows (is_number 5 choice.outer.pvno) (is_number 5 choice.outer.tkt_vno) (is_number 14 choice.outer.msg_type)
     (is_same_realm choice.outer.realm entry.realm) (is_same_name (components choice.outer.service) entry.components)

@@ -19,7 +19,7 @@ use Rattle.picky_asn1.specs.Numbers.{is_number}
 use Rattle.decision_tables.specs.Tables.{Table, and_then, done, need, refuse}
 use Rattle.krb_moments.specs.Times.{moment_at}
 use Rattle.krb_ap.specs.Acceptable.{IsAcceptable, shown_by}
-use Rattle.krb_ap.specs.ApTable.{addressed, ap_fields, authenticated, is_early, is_late, is_of_client, may_be_under, opened, opened_part, presented, presented_with, timely, told, valid_authenticator, valid_part}
+use Rattle.krb_ap.specs.ApTable.{for_service, ap_fields, authenticated, is_early, is_late, is_of_client, may_be_under, opened, opened_part, presented, presented_with, timely, told, valid_authenticator, valid_part}
 use Rattle.krb_ap.specs.Entry.{EntryRecord}
 use Rattle.krb_messages.specs.Messages.{IsApReq, authenticator_tree, enc_ticket_part_tree}
 use Rattle.krb_ap.specs.Messages.{IsAuthenticator, IsTicketPart}
@@ -60,7 +60,7 @@ past_method false false fields (inl x) = absurd (cc (x.2))
 past_method false true fields (inl x) = (refl, x.1, refl)
 past_method false etype fields (inr x) = absurd (cc (x.2))
 
-passed : (realm : List ℕ) (name : List (List ℕ)) (suite : CipherSuite) (number : ℕ) (request : ApReqInner) → (addressed realm name suite number request).gives (Ok tt)
+passed : (realm : List ℕ) (name : List (List ℕ)) (suite : CipherSuite) (number : ℕ) (request : ApReqInner) → (for_service realm name suite number request).gives (Ok tt)
     → IsPassed (bit_of request.ap_options.0 1) (is_number 5 request.pvno.0) (is_number 5 request.ticket.0.0.tkt_vno.0) (is_number 14 request.msg_type.0)
     (is_same_realm request.ticket.0.0.realm.0 realm) (is_same_name (components request.ticket.0.0.sname.0) name)
     (may_be_under number request.ticket.0.0.enc_part.0) (is_number (cipher_number suite) request.ticket.0.0.enc_part.0.etype.0)
@@ -165,7 +165,7 @@ pub record IsReceivedOf (entry : EntryRecord) (skew moment : ℕ) (bytes : List 
   pub shown : p ≡ shown_by choice acceptable.suite acceptable.time
 
 chosen_of : (entry : EntryRecord) (skew moment : ℕ) (bytes : List ℕ) (request : ApReqInner) (part : EncTicketPartInner) (a : Authenticated) (p : Presented) → IsApReq bytes request
-    → (addressed entry.realm entry.components entry.suite entry.number request).gives (Ok tt)
+    → (for_service entry.realm entry.components entry.suite entry.number request).gives (Ok tt)
     → IsValidSo entry.suite entry.key skew moment request.ticket.0.0.enc_part.0 part
     → IsAuthenticatedSo 11 part request.authenticator.0 a → p ≡ presented_with request part a → IsReceivedOf entry skew moment bytes p
 chosen_of entry skew moment bytes request part a p read address valid x made =
@@ -213,7 +213,7 @@ pub chosen_as_received : (entry : EntryRecord) (skew moment : ℕ) (bytes : List
 unfolding presented
 chosen_as_received entry skew moment bytes request p read x =
     let sealed = request.ticket.0.0.enc_part.0 in
-    let address = both {A = Unit {0}} (addressed entry.realm entry.components entry.suite entry.number request) (λ _. past_address entry skew moment request) p x in
+    let address = both {A = Unit {0}} (for_service entry.realm entry.components entry.suite entry.number request) (λ _. past_address entry skew moment request) p x in
     let ticket = both (valid_part entry.suite entry.key skew moment sealed) (λ part. valid_authenticator request part) p address.2 in
     let last = both (authenticated 11 ticket.0 request.authenticator.0) (λ a. done (Ok (presented_with request ticket.0 a))) p ticket.2 in
     let made : p ≡ presented_with request ticket.0 last.0 = ok_same p (presented_with request ticket.0 last.0) last.2 in

@@ -8,7 +8,7 @@ use Rattle.krb_messages.specs.declared.messages.ap_req.ApReqInner.{ApReqInner}
 use Rattle.krb_types.specs.Refusals.{IsJudged}
 use Rattle.krb_types.specs.declared.refusal.Refusal.{Refusal}
 use Rattle.krb_types.specs.declared.refusal.Refusal.TheVariants.{Krb, Memory}
-use Rattle.krb_ap.specs.ApTable.{addressed, authenticated, opened, opened_part, presented, presented_with, timely, told, valid_authenticator, valid_part}
+use Rattle.krb_ap.specs.ApTable.{for_service, authenticated, opened, opened_part, presented, presented_with, timely, told, valid_authenticator, valid_part}
 use Rattle.krb_ap.specs.Entry.{EntryRecord}
 use Rattle.krb_messages.specs.Messages.{IsApReq}
 use Rattle.krb_ap.specs.Received.{Receives}
@@ -19,7 +19,7 @@ use Rattle.krb_ap.specs.declared.refusal.AdmitRefusal.TheVariants as admit
 
 -- the request is for this service
 abbrev pub IsAddressed : EntryRecord → ApReqInner → Type 0
-IsAddressed entry request = (addressed entry.realm entry.components entry.suite entry.number request).gives (Ok tt)
+IsAddressed entry request = (for_service entry.realm entry.components entry.suite entry.number request).gives (Ok tt)
 
 -- its ticket is judged so
 abbrev pub IsTicketJudged : EntryRecord → ℕ → ℕ → ApReqInner → Result EncTicketPartInner Refusal → Type 0
@@ -34,11 +34,11 @@ ticket_at entry skew moment request r key same x =
 
 -- a request that is for another service is refused for that
 pub address_refused : (entry : EntryRecord) (skew moment : ℕ) (request : ApReqInner) (e : Refusal) (names : List (List ℕ)) → names ≡ entry.components
-    → IsJudged {T = Unit {0}} (addressed entry.realm names entry.suite entry.number request).gives (Err e)
+    → IsJudged {T = Unit {0}} (for_service entry.realm names entry.suite entry.number request).gives (Err e)
     → IsJudged {T = Presented} (presented entry skew moment request).gives (Err e)
 unfolding presented
 address_refused entry skew moment request (Krb code) names same address =
-    let own = subst (λ list. (addressed entry.realm list entry.suite entry.number request).gives (Err code)) same address in inr (code, own, refl)
+    let own = subst (λ list. (for_service entry.realm list entry.suite entry.number request).gives (Err code)) same address in inr (code, own, refl)
 address_refused entry skew moment request Memory names same address = tt
 
 pub ticket_refused : (entry : EntryRecord) (skew moment : ℕ) (request : ApReqInner) (e : Refusal)

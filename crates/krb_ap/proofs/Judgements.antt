@@ -14,7 +14,7 @@ use Rattle.picky_asn1.specs.Numbers.{is_number}
 use Rattle.decision_tables.specs.Tables.{Table, and_then, done, need, refuse}
 use Rattle.krb_moments.specs.Times.{moment_at}
 use Rattle.decision_tables.proofs.Outcomes.{HasOutcome, has_asked, has_done, has_needed, has_refused, has_then}
-use Rattle.krb_ap.specs.ApTable.{addressed, ap_fields, authenticated, is_early, is_late, is_of_client, opened, opened_part, presented, presented_with, timely, told, valid_authenticator, valid_part}
+use Rattle.krb_ap.specs.ApTable.{for_service, ap_fields, authenticated, is_early, is_late, is_of_client, opened, opened_part, presented, presented_with, timely, told, valid_authenticator, valid_part}
 use Rattle.krb_ap.specs.ApTable as rows
 use Rattle.krb_ap.specs.Entry.{EntryRecord}
 use Rattle.krb_ap.specs.Messages.{IsAuthenticator, IsTicketPart, sole_authenticator, sole_ticket_part}
@@ -85,7 +85,7 @@ has_authenticator request part =
 pub has_judgement : (entry : EntryRecord) (skew moment : ℕ) (request : ApReqInner) → HasOutcome (presented entry skew moment request)
 unfolding presented
 has_judgement entry skew moment request =
-    has_then {A = Unit {0}} (addressed entry.realm entry.components entry.suite entry.number request) (λ _. past_address entry skew moment request)
+    has_then {A = Unit {0}} (for_service entry.realm entry.components entry.suite entry.number request) (λ _. past_address entry skew moment request)
     (has_address (bit_of request.ap_options.0 1) (not (is_number (cipher_number entry.suite) request.ticket.0.0.enc_part.0.etype.0))
     (ap_fields entry.realm entry.components entry.number request)
     (has_fields (not (rows.is_version_5 request)) (not (is_number 14 request.msg_type.0))

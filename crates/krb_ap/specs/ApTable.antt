@@ -48,20 +48,20 @@ ap_fields realm name number request =
     (done (Ok tt)))))
 
 -- the request isn't under a session key, it is for this service, and sealed as this service can open it
-abbrev pub addressed : Bytes → List Bytes → CipherSuite → ℕ → ApReqInner → Table (Result (Unit {0}) Code)
-addressed realm name suite number request =
+abbrev pub for_service : Bytes → List Bytes → CipherSuite → ℕ → ApReqInner → Table (Result (Unit {0}) Code)
+for_service realm name suite number request =
     refuse (bit_of request.ap_options.0 1) KRB_AP_ERR_METHOD
     (and_then (ap_fields realm name number request) (λ _.
     refuse (not (is_number (cipher_number suite) request.ticket.0.0.enc_part.0.etype.0)) KRB_AP_ERR_NOKEY
     (done (Ok tt))))
 
 -- the second in which a ticket starts: where it doesn't tell one, that of the client's first ticket
-abbrev pub start_of : EncTicketPartInner → Seconds
-start_of part = option_map_or (λ told. seconds_of told.0.0) part.starttime.0 (seconds_of part.auth_time.0.0)
+abbrev pub ticket_start : EncTicketPartInner → Seconds
+ticket_start part = option_map_or (λ told. seconds_of told.0.0) part.starttime.0 (seconds_of part.auth_time.0.0)
 
 -- the ticket starts later than the moment and the skew, or isn't valid yet (flag 7; RFC 4120, section 2.2)
 abbrev pub is_early : Micros → Micros → EncTicketPartInner → Bool
-is_early skew moment part = nat_lt (moment + skew) (start_of part * 1000000) || bit_of part.flags.0 7
+is_early skew moment part = nat_lt (moment + skew) (ticket_start part * 1000000) || bit_of part.flags.0 7
 
 -- the moment is past the ticket's end and the skew
 abbrev pub is_late : Micros → Micros → EncTicketPartInner → Bool
@@ -134,6 +134,6 @@ valid_authenticator request part =
 -- what the request presents to the service of this key at a moment, up to the time that it tells
 unfoldable pub presented : EntryRecord → Micros → Micros → ApReqInner → Table (Result Presented Code)
 presented entry skew moment request =
-    and_then (addressed entry.realm entry.components entry.suite entry.number request) (λ _.
+    and_then (for_service entry.realm entry.components entry.suite entry.number request) (λ _.
     and_then (valid_part entry.suite entry.key skew moment request.ticket.0.0.enc_part.0) (λ part.
     valid_authenticator request part))

@@ -3,7 +3,7 @@ ghost use Rattle.std.specs.Prelude.{◌≡◌, ◌≤◌};
 ghost use Rattle.krb_crypto.specs.Suites.{cipher_number};
 ghost use Rattle.krb_types.specs.Names.{components};
 ghost use Rattle.krb_types.specs.Refusals.{IsJudged};
-ghost use Rattle.krb_ap.specs.ApTable.{addressed, ap_fields, authenticated, is_early, is_for, is_late, is_of_client, is_version_5, may_be_under, opened, opened_part, presented_with, start_of, timely, told, valid_authenticator, valid_part};
+ghost use Rattle.krb_ap.specs.ApTable.{for_service, ap_fields, authenticated, is_early, is_for, is_late, is_of_client, is_version_5, may_be_under, opened, opened_part, presented_with, ticket_start, timely, told, valid_authenticator, valid_part};
 ghost use Rattle.picky_asn1.specs.GeneralizedTime.{seconds_of};
 ghost use Rattle.std.specs.Int.{cast_unsigned, w32};
 
@@ -41,7 +41,7 @@ pub(crate) fn check_address(
     number: u32,
     request: &ApReqInner,
 ) -> Result<(), Refusal>
-    ensures { IsJudged (addressed realm.now name.now suite number request.now).gives result }
+    ensures { IsJudged (for_service realm.now name.now suite number request.now).gives result }
 {
     if request.ap_options.0.bit(USE_SESSION_KEY) {
         return Err(Refusal::Krb(error_codes::KRB_AP_ERR_METHOD));
@@ -155,7 +155,7 @@ pub fn check_times(skew: u64, moment: Moment, part: &EncTicketPartInner) -> Resu
 
 // The second in which a ticket starts.
 fn start_of(part: &EncTicketPartInner) -> GeneralizedTime
-    ensures { seconds_of result ≡ start_of part.now }
+    ensures { seconds_of result ≡ ticket_start part.now }
 {
     match &part.starttime.0 {
         Some(told) => told.0.0,

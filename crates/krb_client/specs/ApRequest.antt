@@ -9,23 +9,23 @@ use Rattle.krb_types.specs.declared.data_types.authenticator.AuthenticatorInner.
 use Rattle.krb_types.specs.declared.data_types.encryption_key.EncryptionKey.{EncryptionKey}
 use Rattle.krb_types.specs.RandomBytes.{Random, authenticator_confounder, subkey_bytes}
 use Rattle.krb_asked.specs.Asked.{ApAskedRecord}
-use Rattle.krb_client.specs.Authenticators.{IsApRequest, IsAuthenticator, sole_presented, sole_authenticator}
+use Rattle.krb_client.specs.Authenticators.{IsApRequest, IsAuthenticatorOf, sole_presented, sole_authenticator_of}
 use Rattle.krb_client.specs.Client.{ClientRecord, CredentialRecord}
 use Rattle.krb_sealing.specs.Sealing.{encryption_key}
 
 -- the subkey, where one is asked for: random bytes from the thirty-third on, as many as a key of the suite has
-abbrev pub subkey_of : Bool → CipherSuite → Random → Option Bytes
-subkey_of with_subkey suite random = if with_subkey then Some (subkey_bytes (cipher_key_size suite) random) else None
+abbrev pub chosen_subkey : Bool → CipherSuite → Random → Option Bytes
+chosen_subkey with_subkey suite random = if with_subkey then Some (subkey_bytes (cipher_key_size suite) random) else None
 
 -- the subkey with the number of its suite
 abbrev pub subkey_told : Bool → CipherSuite → Random → Option EncryptionKey
-subkey_told with_subkey suite random = option_map (encryption_key suite) (subkey_of with_subkey suite random)
+subkey_told with_subkey suite random = option_map (encryption_key suite) (chosen_subkey with_subkey suite random)
 
 -- the bytes are the client's request, by the credential, at the moment, with or without an answer and a subkey, under usage
 -- 11 (RFC 4120, section 7.5.1); of the random bytes the first 16 are the confounder
 pub record AsksAp (client : ClientRecord) (credential : CredentialRecord) (mutual_required with_subkey : Bool) (moment : Micros) (random : Random) (bytes : Bytes) : Type 0 where
   pub authenticator : AuthenticatorInner
-  pub authenticates : IsAuthenticator client moment None (subkey_told with_subkey credential.suite random) authenticator
+  pub authenticates : IsAuthenticatorOf client moment None (subkey_told with_subkey credential.suite random) authenticator
   pub presents : IsApRequest credential 11 mutual_required authenticator (authenticator_confounder random) bytes
 
 -- what the client remembers of it
@@ -34,7 +34,7 @@ ap_asked credential with_subkey moment random = record {
   suite = credential.suite;
   key = credential.key;
   time = moment;
-  subkey = subkey_of with_subkey credential.suite random;
+  subkey = chosen_subkey with_subkey credential.suite random;
 }
 
 -- there is one such request at most
@@ -42,5 +42,5 @@ pub sole_ap_request : (client : ClientRecord) (credential : CredentialRecord) (m
     → AsksAp client credential mutual_required with_subkey moment random a → AsksAp client credential mutual_required with_subkey moment random b → a ≡ b
 sole_ap_request client credential mutual_required with_subkey moment random a b x y =
     sole_presented credential 11 mutual_required (authenticator_confounder random) x.authenticator y.authenticator a b
-    (sole_authenticator client moment None (subkey_told with_subkey credential.suite random) x.authenticator y.authenticator x.authenticates y.authenticates)
+    (sole_authenticator_of client moment None (subkey_told with_subkey credential.suite random) x.authenticator y.authenticator x.authenticates y.authenticates)
     x.presents y.presents

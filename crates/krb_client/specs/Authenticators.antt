@@ -15,7 +15,8 @@ use Rattle.krb_types.specs.declared.data_types.ticket.TicketInner.{TicketInner}
 use Rattle.krb_messages.specs.declared.messages.ap_req.ApReqInner.{ApReqInner}
 use Rattle.krb_client.specs.Client.{ClientRecord, CredentialRecord}
 use Rattle.krb_client.specs.declared.authenticator.Told.{Told}
-use Rattle.krb_client.specs.Held.{IsSecondOf, principal_name, sole_second}
+use Rattle.krb_client.specs.Held.{principal_name}
+use Rattle.krb_moments.specs.SecondOf.{IsSecondOf, sole_second}
 use Rattle.krb_client.specs.Messages.{ap_request_bytes, authenticator_bytes}
 use Rattle.krb_sealing.specs.Sealing.{Seals, sole_seals}
 
@@ -43,14 +44,14 @@ authenticator_with told second checksum subkey = record {
 }
 
 -- the client's authenticator of the moment
-pub record IsAuthenticator (client : ClientRecord) (moment : Micros) (checksum : Option Checksum) (subkey : Option EncryptionKey) (authenticator : AuthenticatorInner) : Type 0 where
+pub record IsAuthenticatorOf (client : ClientRecord) (moment : Micros) (checksum : Option Checksum) (subkey : Option EncryptionKey) (authenticator : AuthenticatorInner) : Type 0 where
   pub second : GeneralizedTime
   pub of_moment : IsSecondOf moment second
   pub told : authenticator ≡ authenticator_with (told_of client (moment % 1000000)) second checksum subkey
 
-pub sole_authenticator : (client : ClientRecord) (moment : Micros) (checksum : Option Checksum) (subkey : Option EncryptionKey) (a b : AuthenticatorInner)
-    → IsAuthenticator client moment checksum subkey a → IsAuthenticator client moment checksum subkey b → a ≡ b
-sole_authenticator client moment checksum subkey a b x y =
+pub sole_authenticator_of : (client : ClientRecord) (moment : Micros) (checksum : Option Checksum) (subkey : Option EncryptionKey) (a b : AuthenticatorInner)
+    → IsAuthenticatorOf client moment checksum subkey a → IsAuthenticatorOf client moment checksum subkey b → a ≡ b
+sole_authenticator_of client moment checksum subkey a b x y =
     x.told ∙ ap (λ second. authenticator_with (told_of client (moment % 1000000)) second checksum subkey) (sole_second moment x.second y.second x.of_moment y.of_moment) ∙ sym y.told
 
 -- bit 2, mutual-required (RFC 4120, section 5.5.1), where the service is to answer

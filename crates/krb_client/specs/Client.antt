@@ -18,8 +18,8 @@ pub record ClientRecord : Type 0 where
   pub key : Bytes
 
 -- the client of a password, or why there is none
-abbrev pub client_of : Bytes → List Bytes → CipherSuite → Bytes → Result ClientRecord AskRefusal
-client_of realm components suite password =
+abbrev pub client_by_password : Bytes → List Bytes → CipherSuite → Bytes → Result ClientRecord AskRefusal
+client_by_password realm components suite password =
     if not (is_realm_name realm && are_components components) then Err BadName
     else Ok (record {
       realm = realm;

@@ -48,8 +48,8 @@ abbrev pub entry_of : ℕ → Bytes → PaData
 entry_of kind value = record { padata_type = record { 0 = pos kind }; padata_data = record { 0 = value } }
 
 -- the request of a type, with one entry of preauthentication data
-abbrev pub request_of : ℕ → PaData → KdcReqBody → KdcReq
-request_of kind entry body = record {
+abbrev pub kdc_request_of : ℕ → PaData → KdcReqBody → KdcReq
+kdc_request_of kind entry body = record {
   pvno = record { 0 = pos 5 };
   msg_type = record { 0 = pos kind };
   padata = record { 0 = Some (record { 0 = entry ∷ [] }) };

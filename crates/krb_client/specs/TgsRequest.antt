@@ -12,10 +12,10 @@ use Rattle.krb_types.specs.declared.data_types.checksum.Checksum.{Checksum}
 use Rattle.krb_types.specs.RandomBytes.{Random, authenticator_confounder}
 use Rattle.krb_messages.specs.declared.messages.kdc_req.KdcReq.{KdcReq}
 use Rattle.krb_asked.specs.Asked.{TgsAskedRecord}
-use Rattle.krb_client.specs.Authenticators.{IsApRequest, IsAuthenticator, sole_presented, sole_authenticator}
+use Rattle.krb_client.specs.Authenticators.{IsApRequest, IsAuthenticatorOf, sole_presented, sole_authenticator_of}
 use Rattle.krb_client.specs.Client.{ClientRecord, CredentialRecord}
 use Rattle.krb_client.specs.Messages.{request_body_bytes, tgs_request_bytes}
-use Rattle.krb_client.specs.Requests.{entry_of, nonce_of, request_body, request_of}
+use Rattle.krb_client.specs.Requests.{entry_of, nonce_of, request_body, kdc_request_of}
 
 -- the checksum of the session's suite over a text (usage 6; RFC 4120, section 7.5.1)
 abbrev pub checksum_over : CredentialRecord → Bytes → Checksum
@@ -28,19 +28,19 @@ checksum_over credential text = record {
 -- (RFC 4120, section 7.5.1)
 pub record Authenticates (client : ClientRecord) (credential : CredentialRecord) (moment : Micros) (confounder text request : Bytes) : Type 0 where
   pub authenticator : AuthenticatorInner
-  pub authenticates : IsAuthenticator client moment (Some (checksum_over credential text)) None authenticator
+  pub authenticates : IsAuthenticatorOf client moment (Some (checksum_over credential text)) None authenticator
   pub presents : IsApRequest credential 7 false authenticator confounder request
 
 pub sole_authentication : (client : ClientRecord) (credential : CredentialRecord) (moment : Micros) (confounder text a b : Bytes)
     → Authenticates client credential moment confounder text a → Authenticates client credential moment confounder text b → a ≡ b
 sole_authentication client credential moment confounder text a b x y =
     sole_presented credential 7 false confounder x.authenticator y.authenticator a b
-    (sole_authenticator client moment (Some (checksum_over credential text)) None x.authenticator y.authenticator x.authenticates y.authenticates)
+    (sole_authenticator_of client moment (Some (checksum_over credential text)) None x.authenticator y.authenticator x.authenticates y.authenticates)
     x.presents y.presents
 
 -- the request with its AP request, PA-TGS-REQ (RFC 4120, section 7.5.2); the client's name stands in the ticket alone
 abbrev pub tgs_request_of : ClientRecord → List Bytes → GeneralizedTime → ℕ → Bytes → KdcReq
-tgs_request_of client service till nonce request = request_of 12 (entry_of 1 request) (request_body client false service till nonce)
+tgs_request_of client service till nonce request = kdc_request_of 12 (entry_of 1 request) (request_body client false service till nonce)
 
 -- the encoding of the request's body
 abbrev pub tgs_body_bytes : ClientRecord → List Bytes → GeneralizedTime → ℕ → Bytes

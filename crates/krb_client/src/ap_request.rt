@@ -1,7 +1,7 @@
 //! Asking a service.
 ghost use Rattle.std.specs.Prelude.{◌≡◌, ◌≤◌, ℕ, List, length, IfErr, IfOk};
 ghost use Rattle.std.specs.Option.{option_map};
-ghost use Rattle.krb_client.specs.ApRequest.{AsksAp, ap_asked, subkey_of};
+ghost use Rattle.krb_client.specs.ApRequest.{AsksAp, ap_asked, chosen_subkey};
 ghost use Rattle.krb_sealing.specs.Sealing.{encryption_key};
 
 use crate::authenticator::ap_request;
@@ -63,7 +63,7 @@ fn subkey_of(
     words: &[u8],
 ) -> Result<Option<OctetStringAsn1>, AllocError>
     requires { 96 ≤ length words.now }
-    ensures { IfOk result (λ subkey. subkey ≡ subkey_of with_subkey suite words.now) }
+    ensures { IfOk result (λ subkey. subkey ≡ chosen_subkey with_subkey suite words.now) }
 {
     if !with_subkey {
         return Ok(None);

@@ -1,7 +1,7 @@
 //! Asking for a first ticket.
 ghost use Rattle.std.specs.Prelude.{◌≡◌, ◌≤◌, ◌↔◌, ◌⊎◌, ℕ, List, length, false, Err, IfErr, IfOk};
 ghost use Rattle.krb_accounts.specs.Names.{are_components, parts};
-ghost use Rattle.krb_client.specs.AsRequest.{AsksAs, IsStamp, as_request_of, stamp_of};
+ghost use Rattle.krb_client.specs.AsRequest.{AsksAs, IsSealedTime, as_request_of, stamp_of};
 ghost use Rattle.krb_client.specs.Messages.{as_request_bytes, stamp_bytes};
 ghost use Rattle.krb_client.specs.Requests.{nonce_of};
 
@@ -71,7 +71,7 @@ impl Client {
         confounder: &[u8],
     ) -> Result<EncryptedData, AllocError>
         requires { length confounder.now ≡ 16 }
-        ensures { IfOk result (IsStamp self.now moment confounder.now) }
+        ensures { IfOk result (IsSealedTime self.now moment confounder.now) }
     {
         let second = moment.second();
         let plain = stamp_bytes(alloc, second, moment.microsecond())?;

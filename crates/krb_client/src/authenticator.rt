@@ -1,7 +1,7 @@
 //! AP requests, as services and, inside TGS requests, KDCs are shown them.
 ghost use Rattle.std.specs.Prelude.{◌≡◌, length, IfOk};
 ghost use Rattle.std.specs.Int.{cast_unsigned, w32};
-ghost use Rattle.krb_client.specs.Authenticators.{IsApRequest, IsAuthenticator, ap_request_of, authenticator_with, options_of, told_of};
+ghost use Rattle.krb_client.specs.Authenticators.{IsApRequest, IsAuthenticatorOf, ap_request_of, authenticator_with, options_of, told_of};
 ghost use Rattle.krb_client.specs.Messages.{ap_request_bytes, authenticator_bytes};
 
 use crate::copies::ticket_copy;
@@ -44,7 +44,7 @@ impl Client {
         checksum: Option<Checksum>,
         subkey: Option<EncryptionKey>,
     ) -> Result<AuthenticatorInner, AllocError>
-        ensures { IfOk result (IsAuthenticator self.now moment checksum subkey) }
+        ensures { IfOk result (IsAuthenticatorOf self.now moment checksum subkey) }
     {
         let second = moment.second();
         let told = self.told(alloc, moment.microsecond())?;

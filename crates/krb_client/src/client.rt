@@ -33,7 +33,7 @@ impl Model for Client {
 }
 
 impl Client {
-    ghost use Rattle.krb_client.specs.Client.{client_of};
+    ghost use Rattle.krb_client.specs.Client.{client_by_password};
     ghost use Rattle.krb_client.specs.Refusals.{IsMemoryAside};
 
     /// The client with this password. Its key is that of the password and a salt, which is the realm and behind it the
@@ -47,7 +47,7 @@ impl Client {
         suite: CipherSuite,
         password: &[u8],
     ) -> Result<Client, AskRefusal>
-        ensures { IsMemoryAside result (client_of realm.now (parts name.now) suite password.now) }
+        ensures { IsMemoryAside result (client_by_password realm.now (parts name.now) suite password.now) }
     {
         if !is_realm_name(realm) {
             return Err(AskRefusal::BadName);

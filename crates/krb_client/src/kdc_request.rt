@@ -1,6 +1,6 @@
 //! Requests to a KDC: what those for a first ticket and for further ones have in common.
 ghost use Rattle.std.specs.Prelude.{◌≡◌, ◌≤◌, ◌==◌, length, IfOk};
-ghost use Rattle.krb_client.specs.Requests.{entry_of, name_where, no_options, nonce_of, request_body, request_of};
+ghost use Rattle.krb_client.specs.Requests.{entry_of, name_where, no_options, nonce_of, request_body, kdc_request_of};
 
 use crate::Client;
 use crate::names::principal_name;
@@ -31,7 +31,7 @@ impl Client {
         till: GeneralizedTime,
         nonce: u32,
     ) -> Result<KdcReq, AllocError>
-        ensures { IfOk result (λ request. request ≡ request_of kind entry (request_body self.now (kind == 10) service.now till nonce)) }
+        ensures { IfOk result (λ request. request ≡ kdc_request_of kind entry (request_body self.now (kind == 10) service.now till nonce)) }
     {
         let entries = vec![in alloc; entry]?;
         let version = IntegerAsn1::from_u64(alloc, u64::from(KERBEROS_VERSION))?;

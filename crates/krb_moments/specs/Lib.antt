@@ -3,3 +3,4 @@ pub mod Calendar
 pub mod Moment
 pub mod Skew
 pub mod Times
+pub mod SecondOf

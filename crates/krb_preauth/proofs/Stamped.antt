@@ -7,7 +7,8 @@ use Rattle.krb_types.specs.declared.data_types.pa_enc_timestamp.PaEncTsEnc.{PaEn
 use Rattle.krb_types.specs.Trees as held
 use Rattle.krb_opening.specs.Found.{IsFound}
 use Rattle.krb_opening.specs.Sealed.{IsSealedIn}
-use Rattle.krb_preauth.specs.Stamps.{IsStamp, encrypted_data_tree, stamp_tree}
+use Rattle.krb_preauth.specs.Stamps.{IsStamp, stamp_tree}
+use Rattle.krb_types.specs.Trees.{encrypted_data_tree}
 
 pub stamp_found : (account : AccountRecord) (bytes : List ℕ) (sealed : EncryptedData) (found : Option PaEncTsEnc)
     → Writes encrypted_data_tree sealed bytes → IsFound (IsSealedIn {T = PaEncTsEnc} stamp_tree account.suite account.key 1 sealed) found

@@ -13,17 +13,14 @@ use Rattle.krb_opening.specs.Sealed.{IsSealedIn, sole_sealed}
 use Rattle.krb_moments.specs.Times.{moment_at}
 use Rattle.krb_moments.specs.Units.{Micros}
 
-abbrev pub encrypted_data_tree : EncryptedData → Tree
-encrypted_data_tree = held.encrypted_data_tree
-
 abbrev pub stamp_tree : PaEncTsEnc → Tree
 stamp_tree = held.pa_enc_ts_enc_tree
 
--- the bytes are the encoding of encrypted data in which the stamp is sealed under the account's key (usage 1; RFC 4120
--- 7.5.1)
+-- the bytes are the encoding of encrypted data in which the stamp is sealed under the account's key (usage 1; RFC 4120,
+-- section 7.5.1)
 pub record IsStamp (account : AccountRecord) (bytes : Bytes) (stamp : PaEncTsEnc) : Type 0 where
   pub sealed : EncryptedData
-  pub writes : Writes encrypted_data_tree sealed bytes
+  pub writes : Writes held.encrypted_data_tree sealed bytes
   pub opens : IsSealedIn {T = PaEncTsEnc} stamp_tree account.suite account.key 1 sealed stamp
 
 -- there is one at most

@@ -9,7 +9,8 @@ use Rattle.krb_messages.specs.declared.messages.kdc_req.KdcReq.{KdcReq}
 use Rattle.decision_tables.specs.Tables.{Table}
 use Rattle.krb_as.specs.Call.{CallRecord}
 use Rattle.krb_as.specs.Requests.{service_of}
-use Rattle.krb_replies.specs.Errors.{IsSecondOf, error_bytes}
+use Rattle.krb_replies.specs.Errors.{error_bytes}
+use Rattle.krb_moments.specs.SecondOf.{IsSecondOf}
 use Rattle.krb_replies.specs.Judged.{IsAnswerWith, IsJudgement}
 use Rattle.krb_replies.specs.Replies.{answered, named_service}
 use Rattle.krb_replies.specs.declared.told.Told.{Told}

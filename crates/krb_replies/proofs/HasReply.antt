@@ -20,7 +20,8 @@ use Rattle.krb_as.proofs.Seconds.{has_time}
 use Rattle.krb_tgs.specs.TgsTable.{tgs_table}
 use Rattle.krb_tgs.proofs.HasOutcome.{has_tgs_outcome}
 use Rattle.krb_replies.specs.Calls.{AreWritten}
-use Rattle.krb_replies.specs.Errors.{IsSecondOf, error_bytes, sole_second}
+use Rattle.krb_replies.specs.Errors.{error_bytes}
+use Rattle.krb_moments.specs.SecondOf.{IsSecondOf, sole_second}
 use Rattle.krb_replies.specs.Replies.{Replies, answered, as_reply, hint_of, named_service, reply_of, tgs_reply}
 
 has_told : (call : CallRecord) (hint : ℕ → Option (List ℕ)) (request : KdcReq) → IsMoment call.moment → (r : Result (List ℕ) ℕ) → HasOutcome (reply_of call hint request r)

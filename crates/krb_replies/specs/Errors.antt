@@ -1,17 +1,13 @@
 -- The error message of a realm (RFC 4120, section 5.9.1).
-use Rattle.std.specs.Prelude.{◌≡◌, ◌/◌, Option, None, pos}
+use Rattle.std.specs.Prelude.{Option, None, pos}
 use Rattle.std.specs.Option.{option_map}
-use Rattle.std.proofs.Common.{sym, ◌∙◌}
 use Rattle.krb_moments.specs.Units.{Micros}
 use Rattle.asn1_trees.specs.Tree.{der}
 use Rattle.asn1_leaves.specs.declared.date.GeneralizedTime.{GeneralizedTime}
-use Rattle.picky_asn1.specs.GeneralizedTime.{seconds_of}
 use Rattle.picky_asn1.specs.Bytes.{Bytes}
-use Rattle.asn1_leaves.proofs.TimeLemmas.{seconds_of-injective}
 use Rattle.krb_messages.specs.declared.messages.krb_error.KrbErrorInner.{KrbErrorInner}
 use Rattle.krb_types.specs.declared.data_types.principal_name.PrincipalName.{PrincipalName}
 use Rattle.krb_types.specs.Refusals.{Code}
-use Rattle.decision_tables.specs.One.{IsSole}
 use Rattle.krb_messages.specs.Messages.{krb_error_tree}
 use Rattle.krb_as.specs.TicketGranting.{krbtgt_of}
 
@@ -42,10 +38,3 @@ error_of realm time microseconds service code hint = record {
 
 abbrev pub error_bytes : Bytes → GeneralizedTime → Micros → PrincipalName → Code → Option Bytes → Bytes
 error_bytes realm time microseconds service code hint = der (krb_error_tree (error_of realm time microseconds service code hint))
-
--- the time is the second of the moment
-abbrev pub IsSecondOf : Micros → GeneralizedTime → Type 0
-IsSecondOf moment time = seconds_of time ≡ moment / 1000000
-
-pub sole_second : (moment : Micros) → IsSole (IsSecondOf moment)
-sole_second moment t u p q = seconds_of-injective t u (p ∙ sym q)

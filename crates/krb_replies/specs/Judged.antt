@@ -8,7 +8,8 @@ use Rattle.asn1_leaves.specs.declared.date.GeneralizedTime.{GeneralizedTime}
 use Rattle.krb_messages.specs.declared.messages.kdc_req.KdcReq.{KdcReq}
 use Rattle.krb_as.specs.Call.{CallRecord}
 use Rattle.krb_as.specs.Requests.{service_of}
-use Rattle.krb_replies.specs.Errors.{IsSecondOf, error_bytes}
+use Rattle.krb_replies.specs.Errors.{error_bytes}
+use Rattle.krb_moments.specs.SecondOf.{IsSecondOf}
 use Rattle.krb_replies.specs.Replies.{named_service}
 use Rattle.krb_replies.specs.declared.told.Told.{Told}
 

@@ -14,7 +14,8 @@ use Rattle.krb_as.specs.AsTable.{as_table}
 use Rattle.krb_as.specs.Call.{CallRecord}
 use Rattle.krb_as.specs.Requests.{account_of, client_of, service_of}
 use Rattle.krb_tgs.specs.TgsTable.{tgs_table}
-use Rattle.krb_replies.specs.Errors.{ticket_service, error_bytes, IsSecondOf, sole_second}
+use Rattle.krb_replies.specs.Errors.{ticket_service, error_bytes}
+use Rattle.krb_moments.specs.SecondOf.{IsSecondOf, sole_second}
 
 -- the service that an error names: the request's, or the realm's ticket-granting service
 abbrev pub named_service : Bytes → Option PrincipalName → PrincipalName

@@ -8,7 +8,8 @@ ghost use Rattle.krb_as.specs.AsTable.{as_table};
 ghost use Rattle.krb_as.specs.Call.{call_of};
 ghost use Rattle.krb_as.specs.Requests.{account_of, client_of, service_of};
 ghost use Rattle.krb_tgs.specs.TgsTable.{tgs_table};
-ghost use Rattle.krb_replies.specs.Errors.{IsSecondOf, error_bytes};
+ghost use Rattle.krb_replies.specs.Errors.{error_bytes};
+ghost use Rattle.krb_moments.specs.SecondOf.{IsSecondOf};
 ghost use Rattle.krb_replies.specs.Judged.{IsAnswerWith, IsJudgement};
 ghost use Rattle.krb_replies.specs.Replies.{as_reply, hint_of, named_service, tgs_reply};
 

@@ -39,9 +39,9 @@ abbrev pub IsSealedData : AccountRecord → ℕ → Bytes → Bytes → Encrypte
 IsSealedData account = Seals account.suite account.key (Some account.number)
 
 -- there is one at most
-pub sole_sealed : (account : AccountRecord) (usage : ℕ) (confounder plain : Bytes) (a b : EncryptedData)
+pub sole_sealed_data : (account : AccountRecord) (usage : ℕ) (confounder plain : Bytes) (a b : EncryptedData)
     → IsSealedData account usage confounder plain a → IsSealedData account usage confounder plain b → a ≡ b
-sole_sealed account = sole_seals account.suite account.key (Some account.number)
+sole_sealed_data account = sole_seals account.suite account.key (Some account.number)
 
 -- the data is the plaintext, sealed under the reply key, behind the confounder
 abbrev pub IsSealedReply : ReplyKeyRecord → Bytes → Bytes → EncryptedData → Type 0
