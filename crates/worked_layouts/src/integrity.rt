@@ -1,6 +1,6 @@
 //! The record of an integrity level, by the table of MS-KILE, section 2.2.5.
 
-use krb_tokens::LsapTokenInfoIntegrity;
+use picky_krb::data_types::LsapTokenInfoIntegrity;
 
 // Flags 1 (a restricted token), a medium level (0x2000), and the machine's name.
 const RECORD: &[u8] = b"\x01\x00\x00\x00\x00\x20\x00\x00machine-machine-machine-machine-";

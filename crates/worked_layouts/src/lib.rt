@@ -12,4 +12,6 @@ mod pac;
 #[cfg(test)]
 mod priv_frames;
 #[cfg(test)]
+mod priv_messages;
+#[cfg(test)]
 mod tokens;

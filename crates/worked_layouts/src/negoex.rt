@@ -1,6 +1,6 @@
 //! Messages of NEGOEX, by the tables of MS-NEGOEX, section 2.2, and by messages of a stock peer.
 
-use negoex_layouts::{
+use picky_krb::negoex::{
     Checksum, Exchange, Extension, MessageHeader, MessageType, Nego, NegoexDataType, NegoexMessage,
     Verify,
 };

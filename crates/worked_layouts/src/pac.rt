@@ -1,6 +1,6 @@
 //! PACs, by the tables of MS-PAC, sections 2.3 and 2.4.
 
-use pac_layouts::{Pac, PacBuffer, PacBufferType, PacError, PacInfoBuffer};
+use picky_krb::pac::{Pac, PacBuffer, PacBufferType, PacError, PacInfoBuffer};
 use std::alloc::Global;
 use std::io::ErrorKind;
 use std::test::Fail;

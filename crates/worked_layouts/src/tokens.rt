@@ -1,6 +1,6 @@
 //! Tokens: headers, whole tokens and refusals, by the tables of RFC 4121, section 4.2.6.
 
-use krb_tokens::{MicToken, WrapToken};
+use picky_krb::gss_api::{MicToken, WrapToken};
 use std::alloc::Global;
 use std::test::Fail;
 
