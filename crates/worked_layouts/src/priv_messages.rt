@@ -1,12 +1,13 @@
 //! The exchange that changes a password (RFC 3244, section 2): its messages by their productions (RFC 4120, sections 5.2.9,
 //! 5.3, 5.5 and 5.7.1), under the paths of the front.
 
+use krb_priv_frames::KrbPrivFrame;
 use picky_asn1::is_number;
 use picky_asn1_der::{Deserialize, Serialize, to_vec};
 use picky_krb::constants::types::{KERBEROS_VERSION, KRB_PRIV};
 use picky_krb::crypto::CipherSuite;
 use picky_krb::data_types::EncKrbPrivPart;
-use picky_krb::messages::{ApMessage, KrbPriv, KrbPrivMessage};
+use picky_krb::messages::{ApMessage, ApRep, ApReq, KrbPriv, KrbPrivMessage};
 use picky_krb::{OpenFault, from_bytes, open_part, open_whole, read_whole};
 use std::alloc::Global;
 use std::io::ErrorKind;
@@ -49,7 +50,11 @@ const KEY: &[u8] = &[7; 32];
 
 const SUITE: CipherSuite = CipherSuite::Aes256CtsHmacSha196;
 
-fn is_written(alloc: Global, message: KrbPrivMessage, wanted: &[u8]) -> bool {
+fn is_written<A: Serialize + Drop, P: Serialize + Drop>(
+    alloc: Global,
+    message: KrbPrivFrame<A, P>,
+    wanted: &[u8],
+) -> bool {
     let mut written = Vec::new(alloc);
     message.serialize(alloc, &mut written).is_ok() && written.as_slice() == wanted
 }
@@ -69,21 +74,6 @@ fn read_and_written(rt: HostRuntime) {
     assert!(rt; is_given_back(rt.alloc(), REPLY));
 }
 
-// Whether the AP message is a request.
-fn is_request(alloc: Global, bytes: &[u8]) -> Option<bool> {
-    let mut left = bytes;
-    match KrbPrivMessage::deserialize(alloc, &mut left) {
-        Ok(message) => Some(matches!(message.ap_message, ApMessage::ApReq(_))),
-        Err(_) => None,
-    }
-}
-
-#[test]
-fn told_by_the_tag(rt: HostRuntime) {
-    assert!(rt; is_request(rt.alloc(), REQUEST) == Some(true));
-    assert!(rt; is_request(rt.alloc(), REPLY) == Some(false));
-}
-
 fn is_private(message: KrbPriv) -> bool {
     let inner = message.0;
     is_number(&inner.pvno.0, KERBEROS_VERSION)
@@ -99,16 +89,27 @@ fn fields(rt: HostRuntime) {
     assert!(rt; is_private(message));
 }
 
-fn fault_of(alloc: Global, bytes: &[u8]) -> Option<ErrorKind> {
+fn fault_of<A: Deserialize, P: Deserialize>(alloc: Global, bytes: &[u8]) -> Option<ErrorKind> {
     let mut left = bytes;
-    KrbPrivMessage::deserialize(alloc, &mut left).err()
+    KrbPrivFrame::<A, P>::deserialize(alloc, &mut left).err()
+}
+
+// An AP message of either kind is read, and each is what its frame says.
+#[test]
+fn told_by_the_tag(rt: HostRuntime) {
+    let wrong = Some(ErrorKind::InvalidData);
+    for (bytes, as_request, as_reply) in [(REQUEST, None, wrong), (REPLY, wrong, None)] {
+        assert!(rt; fault_of::<ApMessage, KrbPriv>(rt.alloc(), bytes).is_none());
+        assert!(rt; fault_of::<ApReq, KrbPriv>(rt.alloc(), bytes) == as_request);
+        assert!(rt; fault_of::<ApRep, KrbPriv>(rt.alloc(), bytes) == as_reply);
+    }
 }
 
 // What a reply is refused by where one octet of it is another.
 fn fault_at(alloc: Global, place: usize, octet: u8) -> Option<Option<ErrorKind>> {
     let mut bytes = Vec::from_slice(alloc, REPLY).ok()?;
     *bytes.get_mut(place)? = octet;
-    Some(fault_of(alloc, &bytes))
+    Some(fault_of::<ApMessage, KrbPriv>(alloc, &bytes))
 }
 
 #[test]
@@ -142,7 +143,7 @@ fn cut(rt: HostRuntime) {
             ErrorKind::InvalidData
         };
         assert!(rt;
-            fault_of(rt.alloc(), &REPLY[..size]) == Some(wanted),
+            fault_of::<ApMessage, KrbPriv>(rt.alloc(), &REPLY[..size]) == Some(wanted),
             "at {size}"
         );
     }
@@ -195,15 +196,18 @@ fn is_wrong_key(alloc: Global) -> bool {
     )
 }
 
-fn is_nothing(alloc: Global, usage: i32) -> Option<bool> {
-    let opened = open_whole::<EncKrbPrivPart>(alloc, SUITE, KEY, usage, SEALED).ok()?;
-    Some(opened.is_none())
+// Whether nothing is sealed here for this usage.
+fn is_nothing<T: Deserialize>(alloc: Global, usage: i32) -> Option<bool> {
+    match open_whole::<T>(alloc, SUITE, KEY, usage, SEALED) {
+        Ok(opened) => Some(opened.is_none()),
+        Err(_) => None,
+    }
 }
 
 #[test]
 fn opened(rt: HostRuntime) {
     assert!(rt; is_opened(rt.alloc(), 13));
     assert!(rt; is_wrong_key(rt.alloc()));
-    assert!(rt; is_nothing(rt.alloc(), 13) == Some(false));
-    assert!(rt; is_nothing(rt.alloc(), 14) == Some(true));
+    assert!(rt; is_nothing::<EncKrbPrivPart>(rt.alloc(), 13) == Some(false));
+    assert!(rt; is_nothing::<EncKrbPrivPart>(rt.alloc(), 14) == Some(true));
 }
