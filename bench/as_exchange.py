@@ -1,9 +1,7 @@
 """Measures AS exchanges of the program that is given."""
-import os, shutil, subprocess, sys, tempfile
+import sys
 
-from program import timed
-
-PROGRAM = sys.argv[1]
+from exchanges import measure
 
 # A frame: an AS request of client krbtgt/R for krbtgt/R, with a time sealed under a key of 32 zero bytes.
 FRAME = bytes.fromhex(
@@ -14,51 +12,4 @@ FRAME = bytes.fromhex(
     "02011102011402011302011002011702011902011a"
 )
 
-# Which crates a function belongs to, by how its name begins.
-PARTS = {
-    "sealing": ("krb_blocks", "krb_digests", "krb_crypto", "sha1"),
-    "DER": ("picky_asn1", "asn1_trees", "krb_messages", "krb_types"),
-    "memory": ("std_alloc", "rattle_", "__rattle", "malloc", "_int_", "free", "realloc", "calloc", "unlink_chunk",
-               "__mem", "mem"),
-}
-
-
-def part_of(function):
-    for part, beginnings in PARTS.items():
-        if function.startswith(beginnings):
-            return part
-    return "rest"
-
-
-def instructions(count):
-    """How many instructions each part takes for this many frames."""
-    with tempfile.TemporaryDirectory() as folder:
-        out = os.path.join(folder, "callgrind.out")
-        words = ["valgrind", "--tool=callgrind", "--callgrind-out-file=" + out, PROGRAM]
-        subprocess.run(words, input=FRAME * count, stdout=subprocess.DEVNULL, stderr=subprocess.DEVNULL, check=True)
-        listed = subprocess.run(["callgrind_annotate", "--threshold=100", "--auto=no", out],
-                                capture_output=True, text=True, check=True).stdout
-    taken = dict.fromkeys([*PARTS, "rest"], 0)
-    for line in listed.splitlines():
-        columns = line.split()
-        if len(columns) >= 3 and columns[1].startswith("(") and ":" in line:
-            place = line.split(")", 1)[1].strip().split(" [")[0]
-            taken[part_of(place.split(":", 1)[1])] += int(columns[0].replace(",", ""))
-    return taken
-
-
-# The reply is a ticket's, an AS-REP (first byte 6B behind the frame's length), and each frame gets the same.
-reply = subprocess.run([PROGRAM], input=FRAME, stdout=subprocess.PIPE, check=True).stdout
-assert reply[4] == 0x6B, "no ticket was given"
-for count in (20_000, 100_000):
-    seconds, used, whole = timed(PROGRAM, FRAME, reply, count)
-    print(f"{count} AS exchanges: {count / seconds:.0f} a second, {used / count * 1e6:.1f} microseconds of processor "
-          f"each, replies {'whole' if whole else 'WRONG'}")
-
-if shutil.which("valgrind"):
-    # What starting takes is in both runs.
-    fewer, more = instructions(200), instructions(1200)
-    each = {part: (more[part] - fewer[part]) / 1000 for part in more}
-    total = sum(each.values())
-    shares = ", ".join(f"{part} {100 * taken / total:.0f}" for part, taken in each.items())
-    print(f"{total:.0f} instructions each, of a hundred: {shares}")
+measure("AS", sys.argv[1], FRAME, 0x6B)

@@ -1,7 +1,7 @@
 #!/bin/sh
-# A stock kinit gets a ticket from the program over TCP. socat stands in front of the program as inetd would, one process
+# A stock kinit gets a ticket from the program over TCP, and a stock kvno by it a further one. socat stands in front of the program as inetd would, one process
 # for each connection; kinit's clock is set to the moment of the stored run, and it asks as krbtgt/R, whose key has 32
-# zero bytes. It needs kinit and klist (MIT), socat and faketime: on Debian krb5-user, socat and faketime.
+# zero bytes. It needs kinit, kvno and klist (MIT), socat and faketime: on Debian krb5-user, socat and faketime.
 set -e
 top=$(cd "$(dirname "$0")/.." && pwd)
 port=${1:-8888}
@@ -34,4 +34,7 @@ CONF
 
 export KRB5_CONFIG="$work/krb5.conf" KRB5CCNAME="FILE:$work/tickets" TZ=UTC
 faketime -f '@2000-01-01 00:00:00' kinit -k -t "$work/keytab" krbtgt/R@R
+# By a TGS request: the session key is to be of another suite than that of the ticket at hand, which so doesn't do. kvno opens
+# the ticket that it gets by the keytab's key.
+faketime -f '@2000-01-01 00:00:00' kvno -e aes128-cts -k "$work/keytab" krbtgt/R@R
 faketime -f '@2000-01-01 00:00:00' klist -e -f
