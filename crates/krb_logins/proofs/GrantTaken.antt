@@ -1,0 +1,90 @@
+-- What a client takes of a realm's reply whose part is opened, for AS and TGS.
+use Rattle.std.proofs.Common.{◌≡◌, ◌≤◌, ℕ, true, not, ◌&&◌, List, length, None, Some, Ok, refl, sym, ap, subst, arith}
+use Rattle.std.proofs.lemmas.Bool.{and_from, eq-eqb}
+use Rattle.std.proofs.lemmas.List.{length-take-le}
+use Rattle.std.specs.Prelude.{if◌then◌else◌, pos}
+use Rattle.picky_asn1.specs.Bytes.{Bytes}
+use Rattle.picky_asn1.specs.Numbers.{is_number}
+use Rattle.krb_crypto.specs.declared.suite.CipherSuite.{CipherSuite}
+use Rattle.krb_crypto.specs.declared.suite.CipherSuite.TheVariants.{Aes128CtsHmacSha196, Aes256CtsHmacSha196}
+use Rattle.krb_crypto.specs.Suites.{cipher_key_size}
+use Rattle.krb_types.specs.Names.{components, is_same_name, is_same_realm}
+use Rattle.krb_types.specs.RandomBytes.{Random, ticket_confounder}
+use Rattle.krb_types.specs.declared.data_types.encrypted_data.EncryptedData.{EncryptedData}
+use Rattle.krb_messages.specs.declared.messages.kdc_rep.KdcRep.{KdcRep}
+use Rattle.krb_accounts.specs.Account.{AccountRecord}
+use Rattle.decision_tables.specs.Tables.{Table, done, need}
+use Rattle.krb_opening.specs.Keys.{suite_of}
+use Rattle.krb_sealing.specs.Sealing.{encryption_key}
+use Rattle.krb_tickets.specs.declared.grant.Grant.{Grant}
+use Rattle.krb_tickets.specs.declared.reply.Exchange.{Exchange}
+use Rattle.krb_tickets.specs.Parts.{kdc_reply_of, reply_part, session_key_of, ticket_of, ticket_part}
+use Rattle.krb_tickets.specs.Sealed.{IsSealedData, ticket_part_bytes}
+use Rattle.krb_asked.specs.Answers.{is_answer}
+use Rattle.krb_client.specs.Client.{ClientRecord, CredentialRecord}
+use Rattle.krb_client.specs.Taking.{Taken, credential_of, takes_part}
+use Rattle.krb_client.specs.declared.refusal.TakeRefusal.{TakeRefusal}
+use Rattle.krb_client.specs.declared.refusal.TakeRefusal.TheVariants.{NotAsked}
+use Rattle.krb_logins.specs.Held.{IsHeld}
+use Rattle.krb_logins.proofs.Names.{same_name, same_realm}
+use Rattle.krb_logins.proofs.Passing.{past_need, past_refuse}
+
+-- a session's key has the length of its suite's keys
+pub session_key_sized : (suite : CipherSuite) (random : Random) → 128 ≤ length random → length (session_key_of suite random) ≡ cipher_key_size suite
+session_key_sized Aes128CtsHmacSha196 random enough = length-take-le 16 random (omega (arith, enough))
+session_key_sized Aes256CtsHmacSha196 random enough = length-take-le 32 random (omega (arith, enough))
+
+-- so it is one of the suite
+pub suite_of_key : (suite : CipherSuite) (key : Bytes) → length key ≡ cipher_key_size suite → suite_of (encryption_key suite key) ≡ Some suite
+suite_of_key Aes128CtsHmacSha196 key sized = ap (λ b. if b then Some Aes128CtsHmacSha196 else None) (eq-eqb (length key) 16 sized)
+suite_of_key Aes256CtsHmacSha196 key sized = ap (λ b. if b then Some Aes256CtsHmacSha196 else None) (eq-eqb (length key) 32 sized)
+
+-- the grant is what the client asked for
+pub record IsAskedFor (client : ClientRecord) (asked : List Bytes) (number : ℕ) (grant : Grant) : Type 0 where
+  pub nonce : grant.nonce ≡ pos number
+  pub realm : grant.realm ≡ client.realm
+  pub name : components grant.client ≡ client.components
+  pub service : components grant.service ≡ asked
+
+module _ (client : ClientRecord) (asked : List Bytes) (number : ℕ) (exchange : Exchange) (grant : Grant) (ticket sealed : EncryptedData) where
+  abbrev reply : KdcRep
+  reply = kdc_reply_of exchange grant (ticket_of grant ticket) sealed
+
+  answered : IsAskedFor client asked number grant → is_answer client.realm client.components asked number reply (reply_part grant) ≡ true
+  unfolding is_answer kdc_reply_of reply_part
+  answered is =
+      let nonce = is_number number grant.nonce in
+      let realm = is_same_realm grant.realm client.realm in
+      let name = is_same_name (components grant.client) client.components in
+      and_from (nonce && realm && name && realm) (is_same_name (components grant.service) asked)
+      (and_from (nonce && realm && name) realm
+      (and_from (nonce && realm) name
+      (and_from nonce realm (subst (λ n. is_number number n ≡ true) (sym is.nonce) (eq-eqb number number refl)) (same_realm grant.realm client.realm is.realm))
+      (same_name (components grant.client) client.components is.name))
+      (same_realm grant.realm client.realm is.realm))
+      (same_name (components grant.service) asked is.service)
+
+  part_suite : length grant.session ≡ cipher_key_size grant.suite → suite_of (reply_part grant).key.0 ≡ Some grant.suite
+  unfolding reply_part
+  part_suite sized = suite_of_key grant.suite grant.session sized
+
+  held : (account : AccountRecord) (random : Random) → IsSealedData account 2 (ticket_confounder random) (ticket_part_bytes (ticket_part grant)) ticket
+      → IsHeld account random grant (credential_of reply (reply_part grant) grant.suite)
+  unfolding kdc_reply_of reply_part
+  held account random it = record { part = ticket; sealed = it; ticket = refl; suite = refl; key = refl; realm = refl; service = refl }
+
+  abbrev with_suite : CipherSuite → Table Taken
+  with_suite suite = done (Ok (credential_of reply (reply_part grant) suite))
+
+  -- it is held
+  pub taken_held : (account : AccountRecord) (random : Random) (taken : Taken) → IsAskedFor client asked number grant → length grant.session ≡ cipher_key_size grant.suite
+      → IsSealedData account 2 (ticket_confounder random) (ticket_part_bytes (ticket_part grant)) ticket
+      → (takes_part client asked number reply (reply_part grant)).gives taken
+      → (credential : CredentialRecord) × (taken ≡ Ok credential) × IsHeld account random grant credential
+  taken_held account random taken is sized it x =
+      let answers = past_refuse {T = CredentialRecord} {E = TakeRefusal} (not (is_answer client.realm client.components asked number reply (reply_part grant))) NotAsked
+      (need (suite_of (reply_part grant).key.0) NotAsked with_suite) taken (ap not (answered is)) x in (
+        credential_of reply (reply_part grant) grant.suite,
+        past_need {T = CredentialRecord} {E = TakeRefusal} (suite_of (reply_part grant).key.0) NotAsked with_suite grant.suite taken (part_suite sized) answers,
+        held account random it,
+      )

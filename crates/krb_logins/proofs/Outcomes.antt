@@ -1,0 +1,62 @@
+-- What is admissible and was presented is admitted: whatever a service answers, it answers that.
+use Rattle.std.proofs.Common.{◌≡◌, false, List, ◌∷◌, Option, Result, Ok, Err, refl, sym, ap, subst, ◌∙◌}
+use Rattle.picky_asn1.specs.Bytes.{Bytes}
+use Rattle.krb_moments.specs.Skew.{is_far}
+use Rattle.krb_moments.specs.Units.{Micros}
+use Rattle.krb_types.specs.RandomBytes.{Random}
+use Rattle.krb_types.specs.Refusals.{Code}
+use Rattle.krb_types.specs.declared.constants.error_codes.TheConstants.{KRB_AP_ERR_REPEAT, KRB_AP_ERR_SKEW}
+use Rattle.krb_messages.specs.declared.messages.ap_req.ApReqInner.{ApReqInner}
+use Rattle.krb_messages.specs.Messages.{IsApReq, sole_ap_req}
+use Rattle.decision_tables.specs.Tables.{Table, and_then, as_made, done, make, refuse}
+use Rattle.krb_replay_cache.specs.Pair.{PairRecord, is_among}
+use Rattle.krb_ap.proofs.Accepted.{presented_as_chosen}
+use Rattle.krb_ap.specs.Acceptable.{shown}
+use Rattle.krb_ap.specs.Admission.{admission_of}
+use Rattle.krb_ap.specs.ApReply.{IsReplyTo, sole_reply_to}
+use Rattle.krb_ap.specs.ApTable.{presented}
+use Rattle.krb_ap.specs.Presents.{Choice, Presents, request_of}
+use Rattle.krb_ap.specs.declared.presented.Presented.{Presented}
+use Rattle.krb_ap.specs.declared.refusal.AdmitRefusal.TheVariants.{Unreadable}
+use Rattle.krb_service.specs.Admissible.{IsAdmissible}
+use Rattle.krb_service.specs.Once.{Admitted, fresh, once, pair_of}
+use Rattle.krb_service.specs.RememberingService.{Outcome, judged, outcome_of, remembering}
+use Rattle.krb_service.specs.Service.{ServiceRecord}
+use Rattle.krb_logins.proofs.Passing.{past_ask, past_refuse, past_then}
+
+abbrev admitted_by : Presented → Option Bytes → Admitted
+admitted_by p reply = record { admission = admission_of p reply; pair = pair_of p }
+
+abbrev replied : Random → Presented → PairRecord → Table (Result Admitted Code)
+replied random p pair = make (IsReplyTo p random) (sole_reply_to p random) (λ reply. done (Ok (record { admission = admission_of p reply; pair = pair })))
+
+-- a fresh pair is that
+own_pair : (admitted : List PairRecord) (p : Presented) → is_among (pair_of p) admitted ≡ false → (fresh admitted p).gives (Ok (pair_of p))
+unfolding fresh
+own_pair admitted p new = subst (λ b. (refuse {T = PairRecord} {E = Code} b KRB_AP_ERR_REPEAT (done (Ok (pair_of p)))).gives (Ok (pair_of p))) (sym new) refl
+
+-- what is near and fresh is admitted, with the reply to it
+admitted_once : (skew moment : Micros) (admitted : List PairRecord) (random : Random) (p : Presented) (r : Result Admitted Code) → is_far skew moment p.time ≡ false → is_among (pair_of p) admitted ≡ false
+    → (once skew moment admitted random p).gives r → (reply : Option Bytes) × IsReplyTo p random reply × (r ≡ Ok (admitted_by p reply))
+unfolding once
+admitted_once skew moment admitted random p r near new x =
+    let past = past_refuse (is_far skew moment p.time) KRB_AP_ERR_SKEW (and_then (fresh admitted p) (replied random p)) r near x in
+    past_then (fresh admitted p) (replied random p) (pair_of p) r (own_pair admitted p new) past
+
+module _ (service : ServiceRecord) (moment : Micros) (admitted : List PairRecord) (bytes : Bytes) (random : Random) (choice : Choice) (x : IsAdmissible service moment admitted choice)
+    (y : Presents service.entry.key choice bytes) where
+  abbrev own_shown : Presented
+  own_shown = shown service.entry service.seen.skew moment choice x.acceptable
+
+  abbrev own_request : ApReqInner
+  own_request = request_of choice.outer y.part_cipher y.cipher
+
+  pub admits : (outcome : Outcome) → (remembering service moment admitted bytes random).gives outcome
+      → (reply : Option Bytes) × IsReplyTo own_shown random reply × (outcome ≡ (Ok (admission_of own_shown reply), pair_of own_shown ∷ admitted))
+  unfolding remembering
+  admits outcome given =
+      let read = past_ask (IsApReq bytes) (sole_ap_req bytes) (done (Err Unreadable, admitted)) (λ request. as_made (outcome_of admitted) (judged service moment admitted request random)) own_request outcome y.writes given in
+      let shows = presented_as_chosen service.entry service.seen.skew moment choice y.part_cipher y.cipher x.acceptable y.part y.authenticator in
+      let past = past_then (presented service.entry service.seen.skew moment own_request) (once service.seen.skew moment admitted random) own_shown read.0 shows read.1 in
+      let made = admitted_once service.seen.skew moment admitted random own_shown read.0 x.near x.first past in
+      (made.0, made.1, read.2 ∙ ap (outcome_of admitted) made.2)

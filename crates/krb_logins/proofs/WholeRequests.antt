@@ -1,0 +1,88 @@
+-- The requests of clients can be written: nothing is missing in their trees.
+use Rattle.std.proofs.Common.{◌≡◌, ℕ, Bool, true, List, [], ◌∷◌, None, Some, Option, refl, sym, subst}
+use Rattle.std.proofs.lemmas.Bool.{and_parts}
+use Rattle.asn1_trees.specs.Tree.{AreWhole, IsWhole, Tree, Writes, leaf, trees_of}
+use Rattle.asn1_trees.proofs.Spelling.{whole-wrapped}
+use Rattle.asn1_leaves.specs.CharSets.{is_general_string}
+use Rattle.asn1_leaves.specs.declared.date.GeneralizedTime.{GeneralizedTime}
+use Rattle.picky_asn1.specs.Bytes.{Bytes}
+use Rattle.krb_types.specs.Trees as held
+use Rattle.krb_types.specs.declared.data_types.encrypted_data.EncryptedData.{EncryptedData}
+use Rattle.krb_types.specs.declared.data_types.pa_enc_timestamp.PaEncTsEnc.{PaEncTsEnc}
+use Rattle.krb_messages.specs.Messages.{IsAsReq, as_req_tree}
+use Rattle.krb_client.specs.AsRequest.{as_request_of}
+use Rattle.krb_client.specs.Client.{ClientRecord}
+use Rattle.krb_client.specs.Messages.{as_request_bytes, encrypted_bytes, stamp_bytes}
+use Rattle.krb_logins.proofs.Names.{are_texts}
+
+pub whole_text : (first : ℕ) (text : Bytes) → is_general_string text ≡ true → IsWhole (leaf (is_general_string text) first text)
+whole_text first text e = subst (λ b. IsWhole (leaf b first text)) (sym e) tt
+
+pub whole_texts : (first : ℕ) (texts : List Bytes) → are_texts texts ≡ true → AreWhole (trees_of (λ text. leaf (is_general_string text) first text) texts)
+whole_texts first [] all = tt
+whole_texts first (text ∷ texts) all =
+    let parts = and_parts (is_general_string text) (are_texts texts) all in
+    (whole_text first text parts.0, whole_texts first texts parts.1)
+
+-- encrypted data, with a key's number or without
+pub whole_encrypted : (encrypted : EncryptedData) → IsWhole (held.encrypted_data_tree encrypted)
+whole_encrypted encrypted =
+    elim encrypted.kvno.0 as (λ o. IsWhole (held.encrypted_data_tree (record { etype = encrypted.etype; kvno = record { 0 = o }; cipher = encrypted.cipher }))) [
+      | None ↦ ((tt, tt), ((tt, tt), tt))
+      | Some number ↦ ((tt, tt), ((tt, tt), ((tt, tt), tt)))
+    ]
+
+pub writes_encrypted : (encrypted : EncryptedData) → Writes held.encrypted_data_tree encrypted (encrypted_bytes encrypted)
+unfolding encrypted_bytes
+writes_encrypted encrypted = (whole_encrypted encrypted, refl)
+
+-- a client's time
+whole_stamp : (stamp : PaEncTsEnc) → IsWhole (held.pa_enc_ts_enc_tree stamp)
+whole_stamp stamp =
+    elim stamp.pausec.0 as (λ o. IsWhole (held.pa_enc_ts_enc_tree (record { patimestamp = stamp.patimestamp; pausec = record { 0 = o } }))) [
+      | None ↦ ((tt, tt), tt)
+      | Some micros ↦ ((tt, tt), ((tt, tt), tt))
+    ]
+
+pub writes_stamp : (stamp : PaEncTsEnc) → Writes held.pa_enc_ts_enc_tree stamp (stamp_bytes stamp)
+unfolding stamp_bytes
+writes_stamp stamp = (whole_stamp stamp, refl)
+
+-- the request for a first ticket
+whole_as_request : (client : ClientRecord) (service : List Bytes) (till : GeneralizedTime) (nonce : ℕ) (stamp : EncryptedData)
+    → is_general_string client.realm ≡ true → are_texts client.components ≡ true → are_texts service ≡ true
+    → IsWhole (as_req_tree (as_request_of client service till nonce stamp))
+whole_as_request client service till nonce stamp realm name of_service = (
+  (
+    (tt, tt),
+    (
+      (tt, tt),
+      (
+        ((((tt, tt), ((tt, tt), tt)), tt), tt),
+        (
+          (
+            (
+              (tt, tt),
+              (
+                (((tt, tt), ((whole_texts 27 client.components name, tt), tt)), tt),
+                (
+                  whole-wrapped 162 (leaf (is_general_string client.realm) 27 client.realm) (whole_text 27 client.realm realm),
+                  ((((tt, tt), ((whole_texts 27 service of_service, tt), tt)), tt), ((tt, tt), ((tt, tt), (((tt, tt), tt), tt)))),
+                ),
+              ),
+            ),
+            tt,
+          ),
+          tt,
+        ),
+      ),
+    ),
+  ),
+  tt,
+)
+
+pub as_request_written : (client : ClientRecord) (service : List Bytes) (till : GeneralizedTime) (nonce : ℕ) (stamp : EncryptedData) (bytes : Bytes)
+    → is_general_string client.realm ≡ true → are_texts client.components ≡ true → are_texts service ≡ true
+    → bytes ≡ as_request_bytes (as_request_of client service till nonce stamp) → IsAsReq bytes (as_request_of client service till nonce stamp)
+unfolding as_request_bytes
+as_request_written client service till nonce stamp bytes realm name of_service e = (whole_as_request client service till nonce stamp realm name of_service, e)

@@ -1,0 +1,70 @@
+-- What the realm grants in a login, and what the client then holds (RFC 4120, sections 3.1.3, 3.1.5, 3.3.3, 3.3.4).
+use Rattle.std.specs.Prelude.{◌≡◌, ℕ, true, false, List, None, Some, Option, pos}
+use Rattle.asn1_leaves.specs.declared.date.GeneralizedTime.{GeneralizedTime}
+use Rattle.picky_asn1.specs.Bytes.{Bytes}
+use Rattle.picky_asn1.specs.GeneralizedTime.{seconds_of}
+use Rattle.krb_moments.specs.Units.{Micros, Seconds}
+use Rattle.krb_types.specs.RandomBytes.{Random, ticket_confounder}
+use Rattle.krb_types.specs.declared.data_types.encrypted_data.EncryptedData.{EncryptedData}
+use Rattle.krb_accounts.specs.Account.{AccountRecord}
+use Rattle.krb_tickets.specs.declared.grant.Grant.{Grant}
+use Rattle.krb_tickets.specs.Parts.{session_key_of, ticket_of, ticket_part}
+use Rattle.krb_tickets.specs.Sealed.{IsSealedData, ticket_part_bytes}
+use Rattle.krb_as.specs.Requests.{IsSpan}
+use Rattle.krb_as.specs.TicketGranting.{krbtgt_of}
+use Rattle.krb_as.specs.declared.span.Span.{Span}
+use Rattle.krb_client.specs.Client.{ClientRecord, CredentialRecord}
+use Rattle.krb_client.specs.Held.{principal_name}
+use Rattle.krb_client.specs.Requests.{nonce_of}
+use Rattle.krb_logins.specs.Parties.{LoginRecord, RealmRecord}
+
+-- the first ticket, for the realm's ticket-granting service: a session key of the client's suite from the realm's random bytes
+abbrev pub first_grant : ClientRecord → RealmRecord → LoginRecord → Span → Grant
+first_grant client realm login span = record {
+  suite = client.suite;
+  session = session_key_of client.suite login.realm_random_as;
+  realm = realm.name;
+  client = principal_name 1 client.components;
+  service = principal_name 2 (krbtgt_of client.realm);
+  flags = record { initial = true; pre_authenticated = true };
+  auth_time = span.start;
+  start = span.start;
+  until = span.until;
+  nonce = pos (nonce_of login.random_as);
+}
+
+-- it lasts from the second of the realm's moment on
+abbrev pub IsFirstSpan : RealmRecord → LoginRecord → Span → Type 0
+IsFirstSpan realm login span = IsSpan realm.settings.lifetime login.realm_as None (seconds_of login.till) span
+
+-- the further ticket, for the service: of the first one the client, the time of the authentication, and that it was by
+-- preauthentication
+abbrev pub further_grant : ClientRecord → RealmRecord → LoginRecord → Span → Span → Grant
+further_grant client realm login first span = record {
+  suite = client.suite;
+  session = session_key_of client.suite login.realm_random_tgs;
+  realm = realm.name;
+  client = principal_name 1 client.components;
+  service = principal_name 2 login.service;
+  flags = record { initial = false; pre_authenticated = true };
+  auth_time = first.start;
+  start = span.start;
+  until = span.until;
+  nonce = pos (nonce_of login.random_tgs);
+}
+
+-- it doesn't last longer than the first one
+abbrev pub IsFurtherSpan : RealmRecord → LoginRecord → Span → Span → Type 0
+IsFurtherSpan realm login first span =
+    IsSpan realm.settings.lifetime login.realm_tgs (Some (seconds_of first.until)) (seconds_of login.till) span
+
+-- the client holds what was granted: the ticket, whose part is sealed under the service's key (usage 2; RFC 4120, section
+-- 7.5.1), its session key, and the service that it is for
+pub record IsHeld (account : AccountRecord) (random : Random) (grant : Grant) (credential : CredentialRecord) : Type 0 where
+  pub part : EncryptedData
+  pub sealed : IsSealedData account 2 (ticket_confounder random) (ticket_part_bytes (ticket_part grant)) part
+  pub ticket : credential.ticket ≡ ticket_of grant part
+  pub suite : credential.suite ≡ grant.suite
+  pub key : credential.key ≡ grant.session
+  pub realm : credential.realm ≡ grant.realm
+  pub service : credential.service ≡ grant.service

@@ -1,0 +1,22 @@
+-- The input of a login as definitions see it.
+use Rattle.krb_accounts.specs.Names.{parts}
+use Rattle.krb_logins.specs.Parties.{LoginRecord}
+use Rattle.krb_logins.specs.declared.input.LoginInput as held
+
+abbrev pub login_of : held.LoginInput → LoginRecord
+login_of input = record {
+  service = parts input.service.now;
+  till = input.till;
+  client_as = input.moments.client_as;
+  realm_as = input.moments.realm_as;
+  client_tgs = input.moments.client_tgs;
+  realm_tgs = input.moments.realm_tgs;
+  client_ap = input.moments.client_ap;
+  service_ap = input.moments.service_ap;
+  random_as = input.words_as.now;
+  random_tgs = input.words_tgs.now;
+  random_ap = input.words_ap.now;
+  realm_random_as = input.realm_words_as.now;
+  realm_random_tgs = input.realm_words_tgs.now;
+  service_random = input.service_words.now;
+}

@@ -1,0 +1,85 @@
+-- What holds of honest logins, step by step, over the definitions alone: of a suite's cipher they use that what is sealed
+-- opens to one value, and that keys have their length.
+use Rattle.std.specs.Prelude.{◌≡◌, ℕ, false, true, List, ◌∷◌, Option, None, Some, Result, Ok, Err}
+use Rattle.picky_asn1.specs.Bytes.{Bytes}
+use Rattle.krb_types.specs.Names.{components}
+use Rattle.krb_sealing.specs.Sealing.{encryption_key}
+use Rattle.krb_replay_cache.specs.Pair.{PairRecord}
+use Rattle.krb_tickets.specs.Parts.{session_key_of}
+use Rattle.krb_tickets.specs.ReplyKeys.{as_reply_key, tgs_reply_key}
+use Rattle.krb_grants.specs.Granted.{IsTicketReply}
+use Rattle.krb_as.specs.TicketGranting.{krbtgt_of}
+use Rattle.krb_as.specs.declared.span.Span.{Span}
+use Rattle.krb_replies.specs.Replies.{Replies}
+use Rattle.krb_ap.specs.Admission.{AdmissionRecord}
+use Rattle.krb_ap.specs.declared.refusal.AdmitRefusal.{AdmitRefusal}
+use Rattle.krb_client.specs.ApReply.{TakesApReply}
+use Rattle.krb_client.specs.ApRequest.{AsksAp, ap_asked}
+use Rattle.krb_client.specs.AsReply.{TakesAsReply}
+use Rattle.krb_client.specs.AsRequest.{AsksAs}
+use Rattle.krb_client.specs.Client.{ClientRecord, CredentialRecord}
+use Rattle.krb_client.specs.Taking.{Taken}
+use Rattle.krb_client.specs.TgsReply.{TakesTgsReply}
+use Rattle.krb_client.specs.TgsRequest.{AsksTgs, tgs_asked}
+use Rattle.krb_client.specs.declared.refusal.TakeRefusal.{TakeRefusal}
+use Rattle.krb_service.specs.RememberingService.{Outcome, remembering}
+use Rattle.krb_service.specs.Service.{ServiceRecord}
+use Rattle.krb_logins.specs.Held.{IsFirstSpan, IsFurtherSpan, IsHeld, first_grant, further_grant}
+use Rattle.krb_logins.specs.Honest.{AreEnough, AreParties, IsGranting, IsHonestLogin, clock_of, login_pair}
+use Rattle.krb_logins.specs.Parties.{LoginRecord, RealmRecord, RememberedRecord, call_at}
+use Rattle.krb_logins.specs.Steps.{as_asked, reply_bytes}
+
+-- an honest login of parties as they are made, to a realm that has its ticket-granting service
+pub record IsMet (client : ClientRecord) (realm : RealmRecord) (service : ServiceRecord) (before : RememberedRecord) (login : LoginRecord) : Type 0 where
+  pub parties : AreParties client service
+  pub enough : AreEnough login
+  pub granting : IsGranting realm
+  pub honest : IsHonestLogin client realm service before login
+
+module _ (client : ClientRecord) (realm : RealmRecord) (service : ServiceRecord) (before : RememberedRecord) (login : LoginRecord) (met : IsMet client realm service before login) where
+  -- the realm grants the first ticket that the client asks for
+  unfoldable pub IsFirstGranted : Type 0
+  IsFirstGranted = (request : Bytes) (reply : Option Bytes)
+      → AsksAs client (krbtgt_of client.realm) login.till login.client_as login.random_as request
+      → Replies (call_at realm login.realm_as login.realm_random_as) request reply
+      → (span : Span) × IsFirstSpan realm login span × ((granted : Bytes) × (reply ≡ Some granted)
+      × IsTicketReply (first_grant client realm login span) (as_reply_key met.honest.client.account) met.granting.account login.realm_random_as granted)
+
+  -- the client takes what was granted
+  unfoldable pub IsFirstTaken : Type 0
+  IsFirstTaken = (span : Span) (granted : Bytes) (taken : Taken)
+      → IsTicketReply (first_grant client realm login span) (as_reply_key met.honest.client.account) met.granting.account login.realm_random_as granted
+      → TakesAsReply client (as_asked (krbtgt_of client.realm) login.client_as login.random_as) granted taken
+      → (credential : CredentialRecord) × (taken ≡ Ok credential)
+      × IsHeld met.granting.account login.realm_random_as (first_grant client realm login span) credential
+
+  -- by the first ticket the realm grants the one for the service
+  unfoldable pub IsFurtherGranted : Type 0
+  IsFurtherGranted = (first : Span) (granting : CredentialRecord) (request : Bytes) (reply : Option Bytes)
+      → IsFirstSpan realm login first
+      → IsHeld met.granting.account login.realm_random_as (first_grant client realm login first) granting
+      → AsksTgs client granting login.service login.till login.client_tgs login.random_tgs request
+      → Replies (call_at realm login.realm_tgs login.realm_random_tgs) request reply
+      → (span : Span) × IsFurtherSpan realm login first span × ((granted : Bytes) × (reply ≡ Some granted)
+      × IsTicketReply (further_grant client realm login first span) (tgs_reply_key client.suite (session_key_of client.suite login.realm_random_as)) met.honest.service.account login.realm_random_tgs granted)
+
+  -- the client takes what was granted
+  unfoldable pub IsFurtherTaken : Type 0
+  IsFurtherTaken = (first span : Span) (granting : CredentialRecord) (granted : Bytes) (taken : Taken)
+      → IsHeld met.granting.account login.realm_random_as (first_grant client realm login first) granting
+      → IsTicketReply (further_grant client realm login first span) (tgs_reply_key client.suite (session_key_of client.suite login.realm_random_as)) met.honest.service.account login.realm_random_tgs granted
+      → TakesTgsReply client (tgs_asked granting login.service login.random_tgs) granted taken
+      → (credential : CredentialRecord) × (taken ≡ Ok credential)
+      × IsHeld met.honest.service.account login.realm_random_tgs (further_grant client realm login first span) credential
+
+  -- the service admits the client by it: it tells the session's key and the client, and it replies
+  unfoldable pub IsClientAdmitted : Type 0
+  IsClientAdmitted = (first span : Span) (credential : CredentialRecord) (request : Bytes) (outcome : Outcome)
+      → IsFirstSpan realm login first → IsFurtherSpan realm login first span
+      → IsHeld met.honest.service.account login.realm_random_tgs (further_grant client realm login first span) credential
+      → AsksAp client credential true false login.client_ap login.random_ap request
+      → (remembering service (clock_of before login) before.admitted request login.service_random).gives outcome
+      → (admission : AdmissionRecord) × (outcome ≡ (Ok admission, login_pair client login ∷ before.admitted))
+      × (admission.session ≡ encryption_key client.suite (session_key_of client.suite login.realm_random_tgs))
+      × (admission.realm ≡ client.realm) × (components admission.client ≡ client.components)
+      × ((taken : Result (Unit {0}) TakeRefusal) → TakesApReply (ap_asked credential false login.client_ap login.random_ap) (reply_bytes admission.reply) taken → taken ≡ Ok tt)

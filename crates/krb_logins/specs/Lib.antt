@@ -1,0 +1,7 @@
+pub mod Parties
+pub mod Input
+pub mod Steps
+pub mod LoginRun
+pub mod Honest
+pub mod Held
+pub mod Laws

@@ -1,0 +1,84 @@
+-- A whole login by password (RFC 4120, sections 3.1, 3.3, 3.2): a ticket for the ticket-granting service, by it a ticket for
+-- the service, and by that one admission. Each step takes the bytes of the one before it, and the first refusal ends the login.
+use Rattle.std.specs.Prelude.{◌≡◌, ◌⊎◌, ℕ, List, max, Result, Ok, Err}
+use Rattle.picky_asn1.specs.Bytes.{Bytes}
+use Rattle.krb_crypto.specs.declared.suite.CipherSuite.{CipherSuite}
+use Rattle.krb_types.specs.declared.data_types.encryption_key.EncryptionKey.{EncryptionKey}
+use Rattle.krb_sealing.specs.Sealing.{encryption_key}
+use Rattle.krb_replay_cache.specs.Pair.{PairRecord}
+use Rattle.krb_as.specs.TicketGranting.{krbtgt_of}
+use Rattle.krb_ap.specs.Admission.{AdmissionRecord}
+use Rattle.krb_ap.specs.declared.refusal.AdmitRefusal.{AdmitRefusal}
+use Rattle.krb_asked.specs.Asked.{ApAskedRecord}
+use Rattle.krb_client.specs.ApReply.{takes_ap_reply}
+use Rattle.krb_client.specs.AsReply.{takes_as_reply}
+use Rattle.krb_client.specs.Client.{ClientRecord, CredentialRecord}
+use Rattle.krb_client.specs.Refusals.{IsTaken}
+use Rattle.krb_client.specs.TgsReply.{takes_tgs_reply}
+use Rattle.krb_client.specs.declared.refusal.AskRefusal.{AskRefusal}
+use Rattle.krb_service.specs.RememberingService.{remembering}
+use Rattle.krb_service.specs.Runs as runs
+use Rattle.krb_service.specs.Service.{ServiceRecord}
+use Rattle.krb_logins.specs.Parties.{LoginRecord, RealmRecord, RememberedRecord, call_at}
+use Rattle.krb_logins.specs.Steps.{IsAnswered, IsApAsked, IsAsAsked, IsTgsAsked, reply_bytes}
+use Rattle.krb_logins.specs.declared.refusal.LoginRefusal.{LoginRefusal}
+use Rattle.krb_logins.specs.declared.refusal.LoginRefusal.TheVariants.{Admitted, Answered, Asked, Taken}
+
+-- what a step makes, which the steps behind it take, or its refusal, told as this one, which ends the login
+abbrev pub followed : {A E T : Type 0} → (Result A E → Type 0) → (E → LoginRefusal) → (A → Result T LoginRefusal → Type 0) → Result T LoginRefusal → Type 0
+followed {A} {E} does told rest result =
+    ((made : A) × does (Ok made) × rest made result)
+    ⊎ ((refusal : E) × does (Err refusal) × (result ≡ Err (told refusal)))
+
+-- what the last step makes
+abbrev pub ended : {A : Type 0} → A → Result A LoginRefusal → Type 0
+ended made result = result ≡ Ok made
+
+-- the AS exchange: a ticket for the ticket-granting service of the client's realm
+unfoldable pub AsExchange : ClientRecord → RealmRecord → LoginRecord → Result CredentialRecord LoginRefusal → Type 0
+AsExchange client realm login =
+    followed (IsAsAsked client (krbtgt_of client.realm) login.till login.client_as login.random_as) Asked (λ sent.
+    followed (IsAnswered (call_at realm login.realm_as login.realm_random_as) sent.0) Answered (λ reply.
+    followed (IsTaken (takes_as_reply client sent.1 reply)) Taken ended))
+
+-- the TGS exchange: by that ticket one for the service
+unfoldable pub TgsExchange : ClientRecord → RealmRecord → LoginRecord → CredentialRecord → Result CredentialRecord LoginRefusal → Type 0
+TgsExchange client realm login granting =
+    followed (IsTgsAsked client granting login.service login.till login.client_tgs login.random_tgs) Asked (λ sent.
+    followed (IsAnswered (call_at realm login.realm_tgs login.realm_random_tgs) sent.0) Answered (λ reply.
+    followed (IsTaken (takes_tgs_reply client sent.1 reply)) Taken ended))
+
+-- both: the ticket for the service, with its session key
+unfoldable pub Exchanges : ClientRecord → RealmRecord → LoginRecord → Result CredentialRecord LoginRefusal → Type 0
+Exchanges client realm login result =
+    ((granting : CredentialRecord) × AsExchange client realm login (Ok granting) × TgsExchange client realm login granting result)
+    ⊎ ((refusal : LoginRefusal) × AsExchange client realm login (Err refusal) × (result ≡ Err refusal))
+
+-- the client's key, and what the service was told of the client
+abbrev pub Login : Type 0
+Login = EncryptionKey × AdmissionRecord
+
+-- the client takes the service's reply
+abbrev pub shown : ApAskedRecord → Result AdmissionRecord AdmitRefusal → Result Login LoginRefusal → Type 0
+shown asked (Ok admission) = followed (IsTaken (takes_ap_reply asked (reply_bytes admission.reply))) Taken (λ _. ended (encryption_key asked.suite asked.key, admission))
+shown asked (Err refusal) = λ result. result ≡ Err (Admitted refusal)
+
+-- a service that remembered the one remembers the other after a call that is answered so (RFC 4120, section 3.2.3)
+unfoldable pub IsAdmitted : ServiceRecord → LoginRecord → Bytes → RememberedRecord → Result AdmissionRecord AdmitRefusal → RememberedRecord → Type 0
+IsAdmitted service login request before answer after =
+    (after.greatest ≡ max before.greatest login.service_ap)
+    × runs.IsAnswered (remembering service after.greatest before.admitted request login.service_random).gives before.admitted answer after.admitted
+
+-- the AP exchange: by the ticket for the service the client is admitted, and the service shows that it could open the ticket
+unfoldable pub ApExchange : ClientRecord → ServiceRecord → LoginRecord → CredentialRecord → RememberedRecord → Result Login LoginRefusal → RememberedRecord → Type 0
+ApExchange client service login credential before result after =
+    ((sent : Bytes × ApAskedRecord) × IsApAsked client credential login.client_ap login.random_ap (Ok sent)
+    × ((answer : Result AdmissionRecord AdmitRefusal) × IsAdmitted service login sent.0 before answer after × shown sent.1 answer result))
+    ⊎ ((refusal : AskRefusal) × IsApAsked client credential login.client_ap login.random_ap (Err refusal) × (result ≡ Err (Asked refusal)) × (after ≡ before))
+
+-- what a login answers, and what the service remembers after it; a login that is refused before the service is asked leaves
+-- what it remembers
+unfoldable pub LoginRun : ClientRecord → RealmRecord → ServiceRecord → LoginRecord → RememberedRecord → Result Login LoginRefusal → RememberedRecord → Type 0
+LoginRun client realm service login before result after =
+    ((credential : CredentialRecord) × Exchanges client realm login (Ok credential) × ApExchange client service login credential before result after)
+    ⊎ ((refusal : LoginRefusal) × Exchanges client realm login (Err refusal) × (result ≡ Err refusal) × (after ≡ before))

@@ -1,0 +1,49 @@
+-- Who takes part in a login, and what it is done with.
+use Rattle.std.specs.Prelude.{List}
+use Rattle.asn1_leaves.specs.declared.date.GeneralizedTime.{GeneralizedTime}
+use Rattle.picky_asn1.specs.Bytes.{Bytes}
+use Rattle.krb_moments.specs.Units.{Micros}
+use Rattle.krb_types.specs.RandomBytes.{Random}
+use Rattle.krb_accounts.specs.Accounts.{Look}
+use Rattle.krb_accounts.specs.Settings.{SettingsRecord}
+use Rattle.krb_replay_cache.specs.Pair.{PairRecord}
+use Rattle.krb_as.specs.Call.{CallRecord}
+
+-- a realm: its name, its settings, and its accounts as they are looked up
+pub record RealmRecord : Type 0 where
+  pub name : Bytes
+  pub settings : SettingsRecord
+  pub look : Look
+
+-- a call to the realm at a moment, with random bytes
+abbrev pub call_at : RealmRecord → Micros → Random → CallRecord
+call_at realm moment random = record {
+  realm = realm.name;
+  settings = realm.settings;
+  look = realm.look;
+  moment = moment;
+  random = random;
+}
+
+-- what a service goes by: all pairs of client and time that it ever admitted, and the greatest moment that it was handed
+pub record RememberedRecord : Type 0 where
+  pub admitted : List PairRecord
+  pub greatest : Micros
+
+-- what a login is for, and what it is done with: the moments are those of client and realm in the AS exchange, of both in the
+-- TGS exchange, and of client and service in the AP exchange, each by the clock of who acts
+pub record LoginRecord : Type 0 where
+  pub service : List Bytes
+  pub till : GeneralizedTime
+  pub client_as : Micros
+  pub realm_as : Micros
+  pub client_tgs : Micros
+  pub realm_tgs : Micros
+  pub client_ap : Micros
+  pub service_ap : Micros
+  pub random_as : Random
+  pub random_tgs : Random
+  pub random_ap : Random
+  pub realm_random_as : Random
+  pub realm_random_tgs : Random
+  pub service_random : Random

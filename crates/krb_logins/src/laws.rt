@@ -1,0 +1,30 @@
+//! What holds of every honest login, step by step. Each is a function that does nothing when it runs: its contract is the
+//! law.
+ghost use Rattle.krb_client.specs.Client.{ClientRecord};
+ghost use Rattle.krb_service.specs.Service.{ServiceRecord};
+ghost use Rattle.krb_logins.specs.Laws.{IsClientAdmitted, IsFirstGranted, IsFirstTaken, IsFurtherTaken, IsMet};
+ghost use Rattle.krb_logins.specs.Parties.{LoginRecord, RealmRecord, RememberedRecord};
+
+/// A realm grants the first ticket that the client of an honest login asks for.
+pub fn first_granted()
+    ensures { (client : ClientRecord) (realm : RealmRecord) (service : ServiceRecord) (before : RememberedRecord) (login : LoginRecord) (met : IsMet client realm service before login)
+        → IsFirstGranted client realm service before login met }
+{}
+
+/// The client takes the first ticket.
+pub fn first_taken()
+    ensures { (client : ClientRecord) (realm : RealmRecord) (service : ServiceRecord) (before : RememberedRecord) (login : LoginRecord) (met : IsMet client realm service before login)
+        → IsFirstTaken client realm service before login met }
+{}
+
+/// The client takes the ticket for the service.
+pub fn further_taken()
+    ensures { (client : ClientRecord) (realm : RealmRecord) (service : ServiceRecord) (before : RememberedRecord) (login : LoginRecord) (met : IsMet client realm service before login)
+        → IsFurtherTaken client realm service before login met }
+{}
+
+/// The service admits the client by it, and the client takes the service's reply.
+pub fn client_admitted()
+    ensures { (client : ClientRecord) (realm : RealmRecord) (service : ServiceRecord) (before : RememberedRecord) (login : LoginRecord) (met : IsMet client realm service before login)
+        → IsClientAdmitted client realm service before login met }
+{}

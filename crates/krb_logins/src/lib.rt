@@ -1,0 +1,9 @@
+//! Whole logins by password (RFC 4120, sections 3.1, 3.2, 3.3): what a login is, and what holds of every honest one.
+#![tactic(auto)]
+
+mod input;
+pub mod laws;
+mod refusal;
+
+pub use input::{LoginInput, LoginMoments};
+pub use refusal::LoginRefusal;
