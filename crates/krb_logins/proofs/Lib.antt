@@ -17,3 +17,4 @@ mod Presenting
 mod ReplyTaken
 mod Outcomes
 mod Admitted
+mod FurtherGranted

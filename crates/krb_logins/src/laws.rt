@@ -2,7 +2,7 @@
 //! law.
 ghost use Rattle.krb_client.specs.Client.{ClientRecord};
 ghost use Rattle.krb_service.specs.Service.{ServiceRecord};
-ghost use Rattle.krb_logins.specs.Laws.{IsClientAdmitted, IsFirstGranted, IsFirstTaken, IsFurtherTaken, IsMet};
+ghost use Rattle.krb_logins.specs.Laws.{IsClientAdmitted, IsFirstGranted, IsFirstTaken, IsFurtherGranted, IsFurtherTaken, IsMet};
 ghost use Rattle.krb_logins.specs.Parties.{LoginRecord, RealmRecord, RememberedRecord};
 
 /// A realm grants the first ticket that the client of an honest login asks for.
@@ -15,6 +15,12 @@ pub fn first_granted()
 pub fn first_taken()
     ensures { (client : ClientRecord) (realm : RealmRecord) (service : ServiceRecord) (before : RememberedRecord) (login : LoginRecord) (met : IsMet client realm service before login)
         → IsFirstTaken client realm service before login met }
+{}
+
+/// By the first ticket the realm grants one for the service.
+pub fn further_granted()
+    ensures { (client : ClientRecord) (realm : RealmRecord) (service : ServiceRecord) (before : RememberedRecord) (login : LoginRecord) (met : IsMet client realm service before login)
+        → IsFurtherGranted client realm service before login met }
 {}
 
 /// The client takes the ticket for the service.

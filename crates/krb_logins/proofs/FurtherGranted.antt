@@ -1,0 +1,455 @@
+-- The realm grants the ticket for the service by the first one: each row of the TGS table is passed.
+use Rattle.std.proofs.Common.{◌≡◌, ◌<◌, ◌≤◌, ℕ, ◌+◌, ◌*◌, ◌/◌, ◌%◌, true, false, not, ◌&&◌, ◌||◌, min, List, [], ◌∷◌, Option, None, Some, Result, Ok, Err, inl, inr, refl, sym, ap, subst, ◌∙◌, get_or, arith}
+use Rattle.std.proofs.lemmas.Bool.{and_from, eq-eqb, lt-leb}
+use Rattle.std.specs.Option.{is_some}
+use Rattle.std.specs.Prelude.{pos}
+use Rattle.asn1_trees.specs.Length.{element}
+use Rattle.asn1_trees.specs.Tree.{IsWhole, leaf}
+use Rattle.asn1_trees.proofs.Spelling.{whole-wrapped}
+use Rattle.asn1_leaves.specs.CharSets.{is_general_string}
+use Rattle.asn1_leaves.specs.declared.date.GeneralizedTime.{GeneralizedTime}
+use Rattle.picky_asn1.specs.Bytes.{Bytes}
+use Rattle.picky_asn1.specs.GeneralizedTime.{seconds_of}
+use Rattle.picky_asn1.specs.Numbers.{is_number}
+use Rattle.krb_moments.specs.Skew.{is_far}
+use Rattle.krb_moments.specs.Times.{moment_at}
+use Rattle.krb_moments.specs.Units.{Micros, Seconds}
+use Rattle.krb_crypto.specs.declared.suite.CipherSuite.{CipherSuite}
+use Rattle.krb_crypto.specs.declared.suite.CipherSuite.TheVariants.{Aes128CtsHmacSha196, Aes256CtsHmacSha196}
+use Rattle.krb_crypto.specs.Sealing.{IsSealedBy, checksum_of}
+use Rattle.krb_crypto.specs.Suites.{checksum_number, cipher_checksum, cipher_number}
+use Rattle.krb_types.specs.Names.{components, is_same_name, is_same_realm}
+use Rattle.krb_types.specs.RandomBytes.{Random, authenticator_confounder, ticket_confounder}
+use Rattle.krb_types.specs.Refusals.{Code}
+use Rattle.krb_types.specs.declared.data_types.authenticator.AuthenticatorInner.{AuthenticatorInner}
+use Rattle.krb_types.specs.declared.data_types.checksum.Checksum.{Checksum}
+use Rattle.krb_types.specs.declared.data_types.enc_ticket_part.EncTicketPartInner.{EncTicketPartInner}
+use Rattle.krb_types.specs.declared.data_types.encrypted_data.EncryptedData.{EncryptedData}
+use Rattle.krb_types.specs.declared.data_types.pa_data.PaData.{PaData}
+use Rattle.krb_types.specs.declared.data_types.principal_name.PrincipalName.{PrincipalName}
+use Rattle.krb_messages.specs.declared.messages.ap_req.ApReqInner.{ApReqInner}
+use Rattle.krb_messages.specs.declared.messages.kdc_req.KdcReq.{KdcReq}
+use Rattle.krb_messages.specs.declared.messages.kdc_req_body.KdcReqBody.{KdcReqBody}
+use Rattle.krb_messages.specs.Messages.{IsApReq, IsAsReq, IsTgsReq, authenticator_tree, enc_ticket_part_tree, sole_ap_req, sole_as_req, sole_tgs_req, tgs_req_tree}
+use Rattle.krb_accounts.specs.Account.{AccountRecord}
+use Rattle.decision_tables.specs.Tables.{Table, and_then, ask, done, need, refuse}
+use Rattle.krb_opening.specs.Keys.{suite_of}
+use Rattle.krb_sealing.specs.Sealing.{encrypted_by, encryption_key, sealed_opens}
+use Rattle.krb_preauth.specs.Entries.{first_entry, first_of}
+use Rattle.krb_tickets.specs.declared.grant.Grant.{Grant}
+use Rattle.krb_tickets.specs.Parts.{session_key_of, ticket_part}
+use Rattle.krb_tickets.specs.ReplyKeys.{ReplyKeyRecord, tgs_reply_key}
+use Rattle.krb_tickets.specs.Sealed.{ticket_part_bytes}
+use Rattle.krb_tickets.specs.Times.{asked_end, end_of, last_second, start_of}
+use Rattle.krb_grants.specs.Granted.{IsTicketReply}
+use Rattle.krb_ap.specs.ApTable.{ap_fields, authenticated, is_early, is_for, is_late, is_of_client, may_be_under, opened, opened_part, timely, told}
+use Rattle.krb_ap.specs.Entry.{EntryRecord}
+use Rattle.krb_ap.specs.Messages.{IsAuthenticator, IsTicketPart, sole_authenticator, sole_ticket_part}
+use Rattle.krb_ap.specs.Presents.{request_of}
+use Rattle.krb_ap.specs.declared.presented.Authenticated.{Authenticated}
+use Rattle.krb_as.specs.Call.{CallRecord, skew_of}
+use Rattle.krb_as.specs.Grants.{replied}
+use Rattle.krb_as.specs.Requests.{IsSpan, account_of, client_of, entries_of, is_ended, lasting, service_of}
+use Rattle.krb_as.specs.TicketGranting.{krbtgt_of}
+use Rattle.krb_as.specs.declared.span.Span.{Span}
+use Rattle.krb_tgs.specs.TgsTable as table
+use Rattle.krb_tgs.specs.TgsTable.{body_bytes, carried, counting, covered, further, further_ticket, has_account, is_known_checksum, is_of_body, of_carried, of_shown, of_ticket, shown_near, tgs_granted, tgs_table, ticket_granting, to_us}
+use Rattle.krb_replies.specs.Replies.{Replies, as_reply, reply_of, tgs_reply}
+use Rattle.krb_client.specs.Authenticators.{IsApRequest, authenticator_with, told_of}
+use Rattle.krb_client.specs.Client.{ClientRecord, CredentialRecord}
+use Rattle.krb_client.specs.Held.{principal_name}
+use Rattle.krb_client.specs.Messages.{authenticator_bytes, request_body_bytes, tgs_request_bytes}
+use Rattle.krb_client.specs.Requests.{entry_of, nonce_of, request_body}
+use Rattle.krb_client.specs.TgsRequest.{checksum_over, tgs_body_bytes, tgs_request_of}
+use Rattle.krb_service.specs.Service.{ServiceRecord}
+use Rattle.krb_logins.specs.Held.{IsFirstSpan, IsFurtherSpan, IsHeld, first_grant, further_grant}
+use Rattle.krb_logins.specs.Honest.{common_skew}
+use Rattle.krb_logins.specs.Laws.{IsFurtherGranted, IsMet}
+use Rattle.krb_logins.specs.Parties.{LoginRecord, RealmRecord, RememberedRecord, call_at}
+use Rattle.krb_logins.proofs.FirstGranted.{found_lasting}
+use Rattle.krb_logins.proofs.Giving.{by_ask, by_need, by_refuse, past_found}
+use Rattle.krb_logins.proofs.GrantTaken.{session_key_sized, suite_of_key}
+use Rattle.krb_logins.proofs.Names.{are_texts, component_texts, granting_texts, own_name, own_realm, realm_text, same_name, same_realm}
+use Rattle.krb_logins.proofs.Passing.{past_ask, past_need, past_none, past_refuse, past_then}
+use Rattle.krb_logins.proofs.Presenting.{choice_of, written}
+use Rattle.krb_logins.proofs.TicketTimes.{has_begun, not_early, not_late, reaches_asked, reaches_first, reaches_lifetime}
+use Rattle.krb_logins.proofs.Times.{a_second, asked_below, least_of, lesser, moment_told, near}
+use Rattle.krb_logins.proofs.LastSecond.{second_below}
+use Rattle.krb_logins.proofs.WholePresented.{whole_authenticator, whole_part}
+use Rattle.krb_logins.proofs.WholeRequests.{whole_text, whole_texts}
+
+-- a TGS request is no AS request
+no_as_request : (content bytes : Bytes) → bytes ≡ element 108 content → (request : KdcReq) → IsAsReq bytes request → ⊥
+unfolding element
+no_as_request content bytes e request is = let first = ap (λ b. get_or b 0 0) (sym e ∙ is.1) in omega (arith, first)
+
+-- a ticket that is granted by an older one lasts where that one does
+further_lasts : (lifetime : Seconds) (moment : Micros) (old : Seconds) (till : GeneralizedTime) (span : Span) → moment < asked_end (seconds_of till) * 1000000 → 1 ≤ lifetime
+    → moment / 1000000 < old → IsSpan lifetime moment (Some old) (seconds_of till) span → is_ended span ≡ false
+further_lasts lifetime moment old till span before long later is =
+    let last : asked_end (seconds_of till) ≤ last_second = asked_below (seconds_of till) (omega (arith, second_below till)) in
+    let asked : moment / 1000000 < asked_end (seconds_of till) = omega (arith, before) in
+    let end : moment / 1000000 < end_of lifetime (start_of moment) (Some old) (seconds_of till) =
+    least_of (asked_end (seconds_of till)) (min (moment / 1000000 + lifetime) (min old last_second)) (moment / 1000000) asked
+    (least_of (moment / 1000000 + lifetime) (min old last_second) (moment / 1000000) (omega (arith, long))
+    (least_of old last_second (moment / 1000000) later (omega (arith, asked, last)))) in
+    lt-leb (seconds_of span.until) (seconds_of span.start) (omega (arith, is.starts, is.ends, end))
+
+-- the first ticket lasts past the second of each later moment of the login that lies before the end that is asked for
+first_outlasts : (start skew lifetime granted later : ℕ) (till : GeneralizedTime) (span : Span) → start ≤ granted → later ≤ start + skew → skew + 1000000 ≤ lifetime * 1000000
+    → later < asked_end (seconds_of till) * 1000000 → IsSpan lifetime granted None (seconds_of till) span → later / 1000000 < seconds_of span.until
+first_outlasts start skew lifetime granted later till span begun near_by longer before is =
+    let last : asked_end (seconds_of till) ≤ last_second = asked_below (seconds_of till) (omega (arith, second_below till)) in
+    let asked : later / 1000000 < asked_end (seconds_of till) = omega (arith, before) in
+    let end : later / 1000000 < end_of lifetime (start_of granted) None (seconds_of till) =
+    least_of (asked_end (seconds_of till)) (min (granted / 1000000 + lifetime) (min last_second last_second)) (later / 1000000) asked
+    (least_of (granted / 1000000 + lifetime) (min last_second last_second) (later / 1000000) (omega (arith, begun, near_by, longer))
+    (least_of last_second last_second (later / 1000000) (omega (arith, asked, last)) (omega (arith, asked, last)))) in
+    omega (arith, end, is.ends)
+
+-- the request's type and options are as they are to be, and its realm is this one
+for_realm : (client : ClientRecord) (service : List Bytes) (till : GeneralizedTime) (nonce : ℕ) (shown : Bytes) (realm : Bytes) → client.realm ≡ realm
+    → (to_us realm (tgs_request_of client service till nonce shown)).gives (Ok tt)
+for_realm client service till nonce shown realm same =
+    inl (tt, by_refuse {T = Unit {0}} {E = ℕ} (not (is_same_realm client.realm realm)) 68 (done (Ok tt)) (Ok tt) (ap not (same_realm client.realm realm same)) refl, refl)
+
+-- the AP request is the first entry
+own_entry : (value : Bytes) → first_of 1 (entry_of 1 value ∷ []) ≡ Some value
+unfolding first_of first_entry
+own_entry value = refl
+
+abbrev read_in : ApReqInner → Table (Result ApReqInner ℕ)
+read_in presented = done (Ok presented)
+
+abbrev entry_row : Bytes → Table (Result ApReqInner ℕ)
+entry_row entry = ask (IsApReq entry) (sole_ap_req entry) (done (Err 41)) read_in
+
+is_carried : (value : Bytes) (presented : ApReqInner) → IsApReq value presented → (carried (entry_of 1 value ∷ [])).gives (Ok presented)
+is_carried value presented is =
+    by_need {T = ApReqInner} {E = ℕ} (first_of 1 (entry_of 1 value ∷ [])) 16 entry_row value (Ok presented) (own_entry value)
+    (by_ask (IsApReq value) (sole_ap_req value) (done (Err 41)) read_in presented (Ok presented) is refl)
+
+-- checksums of AES are known, each by its number
+known_checksum : (suite : CipherSuite) → is_known_checksum (pos (checksum_number (cipher_checksum suite))) ≡ true
+known_checksum Aes128CtsHmacSha196 = refl
+known_checksum Aes256CtsHmacSha196 = refl
+
+own_number : (number : ℕ) → is_number number (pos number) ≡ true
+own_number number = eq-eqb number number refl
+
+-- the checksum covers the body
+abbrev checksum_by : CipherSuite → Bytes → Bytes → Checksum
+checksum_by suite key text = record {
+  cksumtype = record { 0 = pos (checksum_number (cipher_checksum suite)) };
+  checksum = record { 0 = checksum_of (cipher_checksum suite) key 6 text };
+}
+
+module _ (suite : CipherSuite) (key : Bytes) (body : KdcReqBody) (authenticator : AuthenticatorInner) where
+  abbrev sum_rows : Checksum → Table (Result (Unit {0}) ℕ)
+  sum_rows sum =
+      refuse (not (is_known_checksum sum.cksumtype.0)) 15
+      (refuse (not (is_number (checksum_number (cipher_checksum suite)) sum.cksumtype.0)) 50
+      (refuse (not (is_of_body (cipher_checksum suite) key body sum)) 41
+      (done (Ok tt))))
+
+  covers_by : (sum : Checksum) → sum ≡ checksum_by suite key (request_body_bytes body) → (sum_rows sum).gives (Ok tt)
+  unfolding request_body_bytes body_bytes
+  covers_by sum is =
+      subst (λ s. (sum_rows s).gives (Ok tt)) (sym is)
+      (by_refuse {T = Unit {0}} {E = ℕ} (not (is_known_checksum (pos (checksum_number (cipher_checksum suite))))) 15
+      (refuse (not (is_number (checksum_number (cipher_checksum suite)) (pos (checksum_number (cipher_checksum suite))))) 50
+      (refuse (not (is_of_body (cipher_checksum suite) key body (checksum_by suite key (body_bytes body)))) 41 (done (Ok tt)))) (Ok tt) (ap not (known_checksum suite))
+      (by_refuse {T = Unit {0}} {E = ℕ} (not (is_number (checksum_number (cipher_checksum suite)) (pos (checksum_number (cipher_checksum suite))))) 50
+      (refuse (not (is_of_body (cipher_checksum suite) key body (checksum_by suite key (body_bytes body)))) 41 (done (Ok tt))) (Ok tt) (ap not (own_number (checksum_number (cipher_checksum suite))))
+      (by_refuse {T = Unit {0}} {E = ℕ} (not (is_of_body (cipher_checksum suite) key body (checksum_by suite key (body_bytes body)))) 41 (done (Ok tt)) (Ok tt)
+      (ap not (own_realm (checksum_of (cipher_checksum suite) key 6 (body_bytes body)))) refl)))
+
+  covers : (sum : Checksum) → sum ≡ checksum_by suite key (request_body_bytes body) → table.checksum_in authenticator ≡ Some sum → (covered suite key authenticator body).gives (Ok tt)
+  covers sum is has = by_need {T = Unit {0}} {E = ℕ} (table.checksum_in authenticator) 50 sum_rows sum (Ok tt) has (covers_by sum is)
+
+-- the client's request can be written
+whole_tgs_request : (client : ClientRecord) (service : List Bytes) (till : GeneralizedTime) (nonce : ℕ) (shown : Bytes)
+    → is_general_string client.realm ≡ true → are_texts service ≡ true → IsWhole (tgs_req_tree (tgs_request_of client service till nonce shown))
+whole_tgs_request client service till nonce shown realm of_service = (
+  (
+    (tt, tt),
+    (
+      (tt, tt),
+      (
+        ((((tt, tt), ((tt, tt), tt)), tt), tt),
+        (
+          (
+            (
+              (tt, tt),
+              (
+                whole-wrapped 162 (leaf (is_general_string client.realm) 27 client.realm) (whole_text 27 client.realm realm),
+                ((((tt, tt), ((whole_texts 27 service of_service, tt), tt)), tt), ((tt, tt), ((tt, tt), (((tt, tt), tt), tt)))),
+              ),
+            ),
+            tt,
+          ),
+          tt,
+        ),
+      ),
+    ),
+  ),
+  tt,
+)
+
+tgs_request_written : (client : ClientRecord) (service : List Bytes) (till : GeneralizedTime) (nonce : ℕ) (shown bytes : Bytes)
+    → is_general_string client.realm ≡ true → are_texts service ≡ true
+    → bytes ≡ tgs_request_bytes (tgs_request_of client service till nonce shown) → IsTgsReq bytes (tgs_request_of client service till nonce shown)
+unfolding tgs_request_bytes
+tgs_request_written client service till nonce shown bytes realm of_service e = (whole_tgs_request client service till nonce shown realm of_service, e)
+
+-- the client's suite is the first that is known
+own_first : (suite : CipherSuite) → table.first_known (pos (cipher_number suite) ∷ []) ≡ Some suite
+own_first Aes128CtsHmacSha196 = refl
+own_first Aes256CtsHmacSha196 = refl
+
+-- a realm replies to a TGS request by its table
+replied_to : (call : CallRecord) (bytes : Bytes) (reply : Option Bytes) (request : KdcReq) → IsTgsReq bytes request → ((other : KdcReq) → IsAsReq bytes other → ⊥)
+    → Replies call bytes reply → (tgs_reply call request).gives reply
+unfolding Replies
+replied_to call bytes reply request is none x =
+    past_ask (IsTgsReq bytes) (sole_tgs_req bytes) (done None) (tgs_reply call) request reply is
+    (past_none (IsAsReq bytes) (sole_as_req bytes) (ask (IsTgsReq bytes) (sole_tgs_req bytes) (done None) (tgs_reply call))
+    (λ v. as_reply call (account_of call.look (client_of v.req_body.0)) (account_of call.look (service_of v.req_body.0)) v) reply none x)
+
+module _ (client : ClientRecord) (realm : RealmRecord) (service : ServiceRecord) (before : RememberedRecord) (login : LoginRecord) (met : IsMet client realm service before login)
+    (first : Span) (first_is : IsFirstSpan realm login first) where
+  abbrev call : CallRecord
+  call = call_at realm login.realm_tgs login.realm_random_tgs
+
+  abbrev old : Grant
+  old = first_grant client realm login first
+
+  abbrev session : Bytes
+  session = session_key_of client.suite login.realm_random_as
+
+  -- the account of the ticket-granting service, as a service has it
+  abbrev entry : EntryRecord
+  entry = record {
+    realm = realm.name;
+    components = krbtgt_of realm.name;
+    suite = met.granting.account.suite;
+    key = met.granting.account.key;
+    number = met.granting.account.number;
+  }
+
+  abbrev body : KdcReqBody
+  body = request_body client false login.service login.till (nonce_of login.random_tgs)
+
+  least : common_skew realm service ≤ skew_of call
+  least = lesser (realm.settings.skew * 1000000) service.seen.skew
+
+  realm_is : is_general_string realm.name ≡ true
+  realm_is = subst (λ name. is_general_string name ≡ true) met.honest.named.client (realm_text client.realm met.parties.realm)
+
+  -- the first ticket counts
+  counts : (counting call (ticket_part old)).gives (Ok tt)
+  unfolding ticket_part
+  counts =
+      let begun =
+      has_begun met.honest.near.start (common_skew realm service) (skew_of call) login.realm_as login.realm_tgs met.honest.near.realm_as met.honest.near.realm_tgs
+      least (seconds_of first.start) first_is.starts in
+      let reaches =
+      reaches_first (skew_of call) login.realm_tgs realm.settings.lifetime login.realm_as login.till first first_is
+      (reaches_asked met.honest.near.start (common_skew realm service) (skew_of call) login.realm_as login.realm_tgs met.honest.near.realm_as met.honest.near.realm_tgs
+      least (asked_end (seconds_of login.till)) met.honest.lasting.first)
+      (reaches_lifetime met.honest.near.start (common_skew realm service) (skew_of call) login.realm_as login.realm_tgs met.honest.near.realm_as met.honest.near.realm_tgs
+      least realm.settings.lifetime met.honest.lasting.lifetime) in
+      by_refuse {T = Unit {0}} {E = ℕ} (not (is_same_realm realm.name realm.name)) 68 (timely (skew_of call) login.realm_tgs (ticket_part old)) (Ok tt) (ap not (own_realm realm.name))
+      (by_refuse {T = Unit {0}} {E = ℕ} (is_early (skew_of call) login.realm_tgs (ticket_part old)) 33 (refuse (is_late (skew_of call) login.realm_tgs (ticket_part old)) 32 (done (Ok tt))) (Ok tt)
+      (not_early old (skew_of call) login.realm_tgs begun)
+      (by_refuse {T = Unit {0}} {E = ℕ} (is_late (skew_of call) login.realm_tgs (ticket_part old)) 32 (done (Ok tt)) (Ok tt) (not_late old (skew_of call) login.realm_tgs reaches) refl))
+
+  -- the further ticket isn't ended
+  not_ended : (span : Span) → IsFurtherSpan realm login first span → is_ended span ≡ false
+  not_ended span is =
+      further_lasts realm.settings.lifetime login.realm_tgs (seconds_of first.until) login.till span met.honest.lasting.further
+      (a_second (common_skew realm service) realm.settings.lifetime met.honest.lasting.lifetime)
+      (first_outlasts met.honest.near.start (common_skew realm service) realm.settings.lifetime login.realm_as login.realm_tgs login.till first
+      met.honest.near.realm_as.begun met.honest.near.realm_tgs.lasts met.honest.lasting.lifetime met.honest.lasting.further first_is) is
+
+  module _ (granting : CredentialRecord) (held : IsHeld met.granting.account login.realm_random_as old granting)
+      (second : GeneralizedTime) (of_moment : seconds_of second ≡ login.client_tgs / 1000000) (shown_bytes : Bytes) where
+    abbrev text : Bytes
+    text = tgs_body_bytes client login.service login.till (nonce_of login.random_tgs)
+
+    abbrev sum : Checksum
+    sum = checksum_over granting text
+
+    abbrev authenticator : AuthenticatorInner
+    authenticator = authenticator_with (told_of client (login.client_tgs % 1000000)) second (Some sum) None
+
+    abbrev shown : Authenticated
+    shown = record { suite = client.suite; authenticator = authenticator; time = login.client_tgs }
+
+    module _ (asks : IsApRequest granting 7 false authenticator (authenticator_confounder login.random_tgs) shown_bytes) where
+      abbrev presented : ApReqInner
+      presented = request_of (choice_of false entry old authenticator (ticket_confounder login.realm_random_as) (authenticator_confounder login.random_tgs)).outer held.sealed.cipher asks.sealed.cipher
+
+      is_presented : IsApReq shown_bytes presented
+      is_presented =
+          written 7 false entry old granting authenticator (ticket_confounder login.realm_random_as) (authenticator_confounder login.random_tgs) shown_bytes held.part
+          held.sealed held.ticket held.suite held.key asks realm_is (granting_texts client.realm met.parties.realm)
+
+      -- the ticket is for the ticket-granting service, which opens it
+      for_us : (ap_fields realm.name (krbtgt_of realm.name) entry.number presented).gives (Ok tt)
+      for_us =
+          by_refuse {T = Unit {0}} {E = ℕ} (not (is_for realm.name (krbtgt_of realm.name) presented.ticket.0.0)) 35
+          (refuse (not (may_be_under entry.number presented.ticket.0.0.enc_part.0)) 44 (done (Ok tt))) (Ok tt)
+          (ap not (and_from (is_same_realm realm.name realm.name) (is_same_name (krbtgt_of client.realm) (krbtgt_of realm.name)) (own_realm realm.name)
+          (same_name (krbtgt_of client.realm) (krbtgt_of realm.name) (ap krbtgt_of met.honest.named.client))))
+          (by_refuse {T = Unit {0}} {E = ℕ} (not (may_be_under entry.number presented.ticket.0.0.enc_part.0)) 44 (done (Ok tt)) (Ok tt) (ap not (own_number entry.number)) refl)
+
+      is_part : IsTicketPart entry.suite entry.key presented.ticket.0.0.enc_part.0 (ticket_part old)
+      unfolding ticket_part_bytes
+      is_part =
+          sealed_opens {T = EncTicketPartInner} enc_ticket_part_tree (ticket_part old) entry.suite entry.key (Some entry.number) 2 (ticket_confounder login.realm_random_as)
+          (ticket_part_bytes (ticket_part old)) presented.ticket.0.0.enc_part.0
+          (whole_part old realm_is (component_texts client.components met.parties.name), refl)
+          (record { cipher = held.sealed.cipher; seals = held.sealed.seals; told = refl })
+
+      opens : (opened_part entry.suite entry.key presented.ticket.0.0.enc_part.0).gives (Ok (ticket_part old))
+      opens =
+          by_ask (IsTicketPart entry.suite entry.key presented.ticket.0.0.enc_part.0) (sole_ticket_part entry.suite entry.key presented.ticket.0.0.enc_part.0) (done (Err 31)) (λ part. done (Ok part))
+          (ticket_part old) (Ok (ticket_part old)) is_part refl
+
+      of_granting : (ticket_granting call met.granting.account presented).gives (Ok (ticket_part old))
+      of_granting = inl (tt, for_us, inl (ticket_part old, opens, inl (tt, counts, refl)))
+
+      -- the authenticator is under the session's key, and of the ticket's client
+      is_authenticator : IsAuthenticator client.suite session 7 presented.authenticator.0 authenticator
+      unfolding authenticator_bytes
+      is_authenticator = record {
+        numbered = own_number (cipher_number client.suite);
+        opens = record {
+          conf = authenticator_confounder login.random_tgs;
+          plain = authenticator_bytes authenticator;
+          writes = (whole_authenticator client (login.client_tgs % 1000000) second (Some sum) (realm_text client.realm met.parties.realm) (component_texts client.components met.parties.name), refl);
+          sealed = (
+            granting.suite,
+            ap cipher_number held.suite,
+            subst (λ k. IsSealedBy granting.suite k 7 (authenticator_confounder login.random_tgs) (authenticator_bytes authenticator) asks.sealed.cipher) held.key asks.sealed.seals,
+          );
+        };
+      }
+
+      abbrev found : AuthenticatorInner → Table (Result (CipherSuite × AuthenticatorInner) ℕ)
+      found it = done (Ok (client.suite, it))
+
+      abbrev by_suite : CipherSuite → Table (Result (CipherSuite × AuthenticatorInner) ℕ)
+      by_suite suite =
+          ask (IsAuthenticator suite session 7 presented.authenticator.0) (sole_authenticator suite session 7 presented.authenticator.0) (done (Err 31)) (λ it. done (Ok (suite, it)))
+
+      shown_opens : (opened (ticket_part old).key.0 7 presented.authenticator.0).gives (Ok (client.suite, authenticator))
+      unfolding ticket_part
+      shown_opens =
+          by_need {T = CipherSuite × AuthenticatorInner} {E = ℕ} (suite_of (encryption_key client.suite session)) 31 by_suite client.suite (Ok (client.suite, authenticator))
+          (suite_of_key client.suite session (session_key_sized client.suite login.realm_random_as met.enough.realm_as))
+          (by_ask (IsAuthenticator client.suite session 7 presented.authenticator.0) (sole_authenticator client.suite session 7 presented.authenticator.0) (done (Err 31)) found authenticator
+          (Ok (client.suite, authenticator)) is_authenticator refl)
+
+      abbrev at_time : ℕ → Table (Result ℕ ℕ)
+      at_time time = done (Ok time)
+
+      shown_told : (told (ticket_part old) authenticator).gives (Ok login.client_tgs)
+      unfolding ticket_part
+      shown_told =
+          by_refuse {T = ℕ} {E = ℕ} (not (is_same_realm client.realm realm.name && is_same_name client.components client.components)) 36
+          (need (moment_at (seconds_of second) (pos (login.client_tgs % 1000000))) 41 at_time) (Ok login.client_tgs)
+          (ap not (and_from (is_same_realm client.realm realm.name) (is_same_name client.components client.components) (same_realm client.realm realm.name met.honest.named.client) (own_name client.components)))
+          (by_need {T = ℕ} {E = ℕ} (moment_at (seconds_of second) (pos (login.client_tgs % 1000000))) 41 at_time login.client_tgs (Ok login.client_tgs)
+          (moment_told login.client_tgs (seconds_of second) of_moment) refl)
+
+      is_shown : (shown_near call (ticket_part old) presented).gives (Ok shown)
+      is_shown = inl (
+        shown,
+        inl ((client.suite, authenticator), shown_opens, inl (login.client_tgs, shown_told, refl)),
+        by_refuse {T = Authenticated} {E = ℕ} (is_far (skew_of call) login.realm_tgs login.client_tgs) 37 (done (Ok shown)) (Ok shown)
+            (near met.honest.near.start (common_skew realm service) (skew_of call) login.realm_tgs login.client_tgs met.honest.near.realm_tgs met.honest.near.client_tgs least) refl,
+      )
+
+      -- its checksum covers the body
+      covers_body : (covered client.suite session authenticator body).gives (Ok tt)
+      covers_body = covers client.suite session body authenticator sum (λ i. checksum_by (held.suite i) (held.key i) text) refl
+
+      abbrev request : KdcReq
+      request = tgs_request_of client login.service login.till (nonce_of login.random_tgs) shown_bytes
+
+      -- what the table gives
+      abbrev IsGrantedBy : Result Bytes ℕ → Type 0
+      IsGrantedBy r =
+          (span : Span) × IsFurtherSpan realm login first span × ((bytes : Bytes)
+          × IsTicketReply (further_grant client realm login first span) (tgs_reply_key client.suite session) met.honest.service.account login.realm_random_tgs bytes × (r ≡ Ok bytes))
+
+      abbrev under_key : Span → CipherSuite → ReplyKeyRecord → Table (Result Bytes ℕ)
+      under_key span suite under = replied (further_ticket call (ticket_part old) (principal_name 2 login.service) suite body span) under met.honest.service.account call.random
+
+      abbrev in_suite : Span → CipherSuite → Table (Result Bytes ℕ)
+      in_suite span suite =
+          need (table.reply_key client.suite (ticket_part old).key.0.key_value.0 (table.subkey_in authenticator)) 31 (under_key span suite)
+
+      abbrev in_span : Span → Table (Result Bytes ℕ)
+      in_span span = need (table.first_known body.etype.0) 14 (in_suite span)
+
+      abbrev to_service : AccountRecord → Table (Result Bytes ℕ)
+      to_service account = further call (ticket_part old) shown (principal_name 2 login.service) account body
+
+      abbrev by_name : PrincipalName → Table (Result Bytes ℕ)
+      by_name name = need (call.look (components name)) 7 (λ account. further call (ticket_part old) shown name account body)
+
+      service_found : realm.look login.service ≡ Some met.honest.service.account
+      service_found = ap realm.look met.honest.named.asked ∙ met.honest.service.found
+
+      grants_further : (r : Result Bytes ℕ) → (tgs_granted call (ticket_part old) shown body).gives r → IsGrantedBy r
+      unfolding ticket_part
+      grants_further r x =
+          let a = past_refuse {T = Bytes} {E = ℕ} (not (is_some (realm.look client.components))) 6 (need (service_of body) 7 by_name) r (ap (λ o. not (is_some o)) met.honest.client.found) x in
+          let b = past_need {T = Bytes} {E = ℕ} (service_of body) 7 by_name (principal_name 2 login.service) r refl a in
+          let c = past_need {T = Bytes} {E = ℕ} (realm.look login.service) 7 to_service met.honest.service.account r service_found b in
+          let d = past_found {A = Span} {T = Bytes} (IsFurtherSpan realm login first) (lasting realm.settings.lifetime login.realm_tgs (Some (seconds_of first.until)) body) in_span r
+          (found_lasting realm.settings.lifetime login.realm_tgs (Some (seconds_of first.until)) body not_ended) c in
+          let e = past_need {T = Bytes} {E = ℕ} (table.first_known (pos (cipher_number client.suite) ∷ [])) 14 (in_suite d.0) client.suite r (own_first client.suite) d.2 in
+          (d.0, d.1, (e.0, e.1, e.2))
+
+      abbrev by_account : AccountRecord → Table (Result Bytes ℕ)
+      by_account account = and_then (ticket_granting call account presented) (of_ticket call body presented)
+
+      abbrev then_granted : Table (Result Bytes ℕ)
+      then_granted = tgs_granted call (ticket_part old) shown body
+
+      shown_grants : (r : Result Bytes ℕ) → (of_shown call body (ticket_part old) shown).gives r → then_granted.gives r
+      unfolding ticket_part
+      shown_grants r x = past_then {A = Unit {0}} {T = Bytes} (covered client.suite session authenticator body) (λ _. then_granted) tt r covers_body x
+
+      table_grants : (r : Result Bytes ℕ) → (tgs_table call request).gives r → IsGrantedBy r
+      table_grants r x =
+          let a = past_then {A = Unit {0}} {T = Bytes} (to_us realm.name request) (λ _. and_then (carried (entries_of request)) (of_carried call body)) tt r
+          (for_realm client login.service login.till (nonce_of login.random_tgs) shown_bytes realm.name met.honest.named.client) x in
+          let b = past_then {A = ApReqInner} {T = Bytes} (carried (entries_of request)) (of_carried call body) presented r (is_carried shown_bytes presented is_presented) a in
+          let c = past_need {T = Bytes} {E = ℕ} (realm.look (krbtgt_of realm.name)) 7 by_account met.granting.account r met.granting.found b in
+          let d = past_then {A = EncTicketPartInner} {T = Bytes} (ticket_granting call met.granting.account presented) (of_ticket call body presented) (ticket_part old) r of_granting c in
+          let e = past_then {A = Authenticated} {T = Bytes} (shown_near call (ticket_part old) presented) (of_shown call body (ticket_part old)) shown r is_shown d in
+          grants_further r (shown_grants r e)
+
+      granted : (bytes : Bytes) (reply : Option Bytes) → bytes ≡ tgs_request_bytes request → Replies call bytes reply
+          → (span : Span) × IsFurtherSpan realm login first span × ((made : Bytes) × (reply ≡ Some made)
+          × IsTicketReply (further_grant client realm login first span) (tgs_reply_key client.suite session) met.honest.service.account login.realm_random_tgs made)
+      granted bytes reply e x =
+          let asked = subst (λ n. are_texts n ≡ true) (sym met.honest.named.asked) (component_texts service.entry.components met.parties.entry.1) in
+          let is = tgs_request_written client login.service login.till (nonce_of login.random_tgs) shown_bytes bytes (realm_text client.realm met.parties.realm) asked e in
+          let judged = replied_to call bytes reply request is (no_as_request _ bytes is.1) x in
+          let made = table_grants judged.0 judged.1 in
+          (made.0, made.1, (made.2.0, subst (λ r. (reply_of call (λ code. None) request r).gives reply) made.2.2 judged.2, made.2.1))
+
+-- by the first ticket the realm grants the one for the service
+pub further_granted : (client : ClientRecord) (realm : RealmRecord) (service : ServiceRecord) (before : RememberedRecord) (login : LoginRecord) (met : IsMet client realm service before login)
+    → IsFurtherGranted client realm service before login met
+unfolding IsFurtherGranted
+further_granted client realm service before login met first granting request reply first_is held asks replied =
+    let shown = asks.authenticates in
+    let presents = subst (λ a. IsApRequest granting 7 false a (authenticator_confounder login.random_tgs) asks.request) shown.authenticates.told shown.presents in
+    granted client realm service before login met first first_is granting held shown.authenticates.second shown.authenticates.of_moment asks.request presents request reply asks.encoding replied
