@@ -18,3 +18,4 @@ mod ReplyTaken
 mod Outcomes
 mod Admitted
 mod FurtherGranted
+mod OneKey

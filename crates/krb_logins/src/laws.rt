@@ -1,9 +1,13 @@
 //! What holds of every honest login, step by step. Each is a function that does nothing when it runs: its contract is the
 //! law.
+ghost use Rattle.std.specs.Prelude.{Result};
 ghost use Rattle.krb_client.specs.Client.{ClientRecord};
 ghost use Rattle.krb_service.specs.Service.{ServiceRecord};
+ghost use Rattle.krb_logins.specs.Honest.{IsOneKey};
 ghost use Rattle.krb_logins.specs.Laws.{IsClientAdmitted, IsFirstGranted, IsFirstTaken, IsFurtherGranted, IsFurtherTaken, IsMet};
+ghost use Rattle.krb_logins.specs.LoginRun.{Login, LoginRun};
 ghost use Rattle.krb_logins.specs.Parties.{LoginRecord, RealmRecord, RememberedRecord};
+ghost use Rattle.krb_logins.specs.declared.refusal.LoginRefusal.{LoginRefusal};
 
 /// A realm grants the first ticket that the client of an honest login asks for.
 pub fn first_granted()
@@ -33,4 +37,10 @@ pub fn further_taken()
 pub fn client_admitted()
     ensures { (client : ClientRecord) (realm : RealmRecord) (service : ServiceRecord) (before : RememberedRecord) (login : LoginRecord) (met : IsMet client realm service before login)
         → IsClientAdmitted client realm service before login met }
+{}
+
+/// Every honest login ends with one session key on both sides, under the client's name; or with want of memory.
+pub fn one_key()
+    ensures { (client : ClientRecord) (realm : RealmRecord) (service : ServiceRecord) (before : RememberedRecord) (login : LoginRecord) (result : Result Login LoginRefusal) (after : RememberedRecord)
+        → IsMet client realm service before login → LoginRun client realm service login before result after → IsOneKey client result }
 {}

@@ -1,0 +1,300 @@
+-- Every honest login leaves client and service with one key: its steps in a row, by what holds of each.
+use Rattle.std.proofs.Common.{◌≡◌, ◌&&◌, ℕ, Bool, true, false, List, ◌∷◌, Option, None, Some, Result, Ok, Err, inl, inr, refl, sym, subst, ap, ◌∙◌}
+use Rattle.picky_asn1.specs.Bytes.{Bytes}
+use Rattle.krb_accounts.specs.Names.{are_components, is_realm_name}
+use Rattle.krb_types.specs.Names.{components}
+use Rattle.krb_sealing.specs.Sealing.{encryption_key}
+use Rattle.decision_tables.specs.Tables.{Table}
+use Rattle.krb_frames.specs.declared.fault.AnswerRefusal.{AnswerRefusal}
+use Rattle.krb_frames.specs.declared.fault.AnswerRefusal.TheVariants as answer_refusal
+use Rattle.krb_tickets.specs.Parts.{session_key_of}
+use Rattle.krb_as.specs.Call.{CallRecord}
+use Rattle.krb_as.specs.TicketGranting.{krbtgt_of}
+use Rattle.krb_as.specs.declared.span.Span.{Span}
+use Rattle.krb_replies.specs.Replies.{Replies}
+use Rattle.krb_ap.specs.Admission.{AdmissionRecord}
+use Rattle.krb_ap.specs.declared.refusal.AdmitRefusal.{AdmitRefusal}
+use Rattle.krb_ap.specs.declared.refusal.AdmitRefusal.TheVariants as admit_refusal
+use Rattle.krb_asked.specs.Asked.{ApAskedRecord, AsAskedRecord, TgsAskedRecord}
+use Rattle.krb_client.specs.ApReply.{takes_ap_reply}
+use Rattle.krb_client.specs.ApRequest.{ap_asked}
+use Rattle.krb_client.specs.AsReply.{TakesAsReply, takes_as_reply}
+use Rattle.krb_client.specs.Client.{ClientRecord, CredentialRecord}
+use Rattle.krb_client.specs.Refusals.{IsTaken}
+use Rattle.krb_client.specs.TgsReply.{TakesTgsReply, takes_tgs_reply}
+use Rattle.krb_client.specs.TgsRequest.{tgs_asked}
+use Rattle.krb_client.specs.declared.refusal.AskRefusal.{AskRefusal}
+use Rattle.krb_client.specs.declared.refusal.AskRefusal.TheVariants as ask_refusal
+use Rattle.krb_client.specs.declared.refusal.TakeRefusal.{TakeRefusal}
+use Rattle.krb_client.specs.declared.refusal.TakeRefusal.TheVariants as take_refusal
+use Rattle.krb_service.specs.RememberingService.{Outcome, remembering}
+use Rattle.krb_service.specs.Service.{ServiceRecord}
+use Rattle.krb_logins.specs.Held.{IsFirstSpan, IsFurtherSpan, IsHeld, first_grant, further_grant}
+use Rattle.krb_logins.specs.Honest.{IsOneKey, IsWantOfMemory, clock_of, login_pair}
+use Rattle.krb_logins.specs.Laws.{IsClientAdmitted, IsFirstGranted, IsFirstTaken, IsFurtherGranted, IsFurtherTaken, IsMet}
+use Rattle.krb_logins.specs.LoginRun.{ApExchange, AsExchange, Exchanges, IsAdmitted, Login, LoginRun, TgsExchange, ended, followed, shown}
+use Rattle.krb_logins.specs.Parties.{LoginRecord, RealmRecord, RememberedRecord, call_at}
+use Rattle.krb_logins.specs.Steps.{IsAnswered, IsApAsked, IsAsAsked, IsTgsAsked, IsUnasked, as_asked, reply_bytes}
+use Rattle.krb_logins.specs.declared.refusal.LoginRefusal.{LoginRefusal}
+use Rattle.krb_logins.specs.declared.refusal.LoginRefusal.TheVariants.{Answered, Asked, Taken}
+
+-- it makes something of which this holds, or memory is wanting
+abbrev pub Ends : {T : Type 0} → (T → Type 0) → Result T LoginRefusal → Type 0
+Ends P (Ok made) = P made
+Ends P (Err refusal) = IsWantOfMemory refusal
+
+-- a step, and those behind it
+followed_ends : {A E T : Type 0} (does : Result A E → Type 0) (told : E → LoginRefusal) (rest : A → Result T LoginRefusal → Type 0) (P : T → Type 0) (result : Result T LoginRefusal)
+    → ((made : A) → does (Ok made) → rest made result → Ends P result)
+    → ((refusal : E) → does (Err refusal) → IsWantOfMemory (told refusal))
+    → followed does told rest result → Ends P result
+followed_ends does told rest P result go stop (inl x) = go x.0 x.1 x.2
+followed_ends does told rest P result go stop (inr x) = subst (Ends P) (sym x.2) (stop x.0 x.1)
+
+-- a value is no refusal, and a reply is one
+abbrev IsValue : {T E : Type 0} → Result T E → Type 0
+IsValue (Ok value) = Unit {0}
+IsValue (Err refusal) = ⊥
+
+no_refusal : {T E : Type 0} (refusal : E) (value : T) → Err refusal ≡ Ok value → ⊥
+no_refusal refusal value e = subst IsValue (sym e) tt
+
+abbrev IsThis : {T E : Type 0} → T → Result T E → Type 0
+IsThis value (Ok other) = value ≡ other
+IsThis value (Err refusal) = ⊥
+
+one_value : {T E : Type 0} (value other : T) → ◌≡◌ {A = Result T E} (Ok value) (Ok other) → value ≡ other
+one_value {T} {E} value other e = subst (IsThis {T = T} {E = E} value) e refl
+
+abbrev IsThisReply : Bytes → Option Bytes → Type 0
+IsThisReply reply (Some other) = reply ≡ other
+IsThisReply reply None = ⊥
+
+one_reply : (reply other : Bytes) → Some reply ≡ Some other → reply ≡ other
+one_reply reply other e = subst (IsThisReply reply) e refl
+
+no_reply : (reply : Bytes) → None ≡ Some reply → ⊥
+no_reply reply e = subst (IsThisReply reply) (sym e) refl
+
+abbrev IsTrueName : Bool → Type 0
+IsTrueName true = Unit {0}
+IsTrueName false = ⊥
+
+-- a name is asked for, memory aside
+asked_memory : (service : List Bytes) (refusal : AskRefusal) → are_components service ≡ true → IsUnasked service refusal → refusal ≡ ask_refusal.Memory
+asked_memory service refusal named (inl x) = x
+asked_memory service refusal named (inr x) = absurd (subst IsTrueName (sym named ∙ x.1) tt)
+
+-- what is given by a table that gives values alone is taken, memory aside
+taken_memory : {T : Type 0} (table : Table (Result T TakeRefusal)) (refusal : TakeRefusal) → ((taken : Result T TakeRefusal) → table.gives taken → (value : T) × (taken ≡ Ok value))
+    → IsTaken table (Err refusal) → refusal ≡ take_refusal.Memory
+taken_memory table take_refusal.Memory values x = refl
+taken_memory table take_refusal.Unreadable values x = absurd (no_refusal _ _ (values (Err take_refusal.Unreadable) x).1)
+taken_memory table (take_refusal.Refused code) values x = absurd (no_refusal _ _ (values (Err (take_refusal.Refused code)) x).1)
+taken_memory table take_refusal.NotSealed values x = absurd (no_refusal _ _ (values (Err take_refusal.NotSealed) x).1)
+taken_memory table take_refusal.NotAsked values x = absurd (no_refusal _ _ (values (Err take_refusal.NotAsked) x).1)
+
+-- what is replied to with a reply is answered, memory aside
+answered_memory : (call : CallRecord) (request : Bytes) (refusal : AnswerRefusal) → ((reply : Option Bytes) → Replies call request reply → (granted : Bytes) × (reply ≡ Some granted))
+    → IsAnswered call request (Err refusal) → refusal ≡ answer_refusal.Memory
+unfolding IsAnswered
+answered_memory call request answer_refusal.Memory replies x = refl
+answered_memory call request answer_refusal.Unreadable replies x = absurd (no_reply _ (replies None x).1)
+
+answered_reply : (call : CallRecord) (request reply : Bytes) → IsAnswered call request (Ok reply) → Replies call request (Some reply)
+unfolding IsAnswered
+answered_reply call request reply x = x
+
+-- the ticket-granting service has a name
+granting_name : (realm : Bytes) → is_realm_name realm ≡ true → are_components (krbtgt_of realm) ≡ true
+granting_name realm named = ap (λ b. b && true) named
+
+-- what holds of the steps
+pub record AreLaws (client : ClientRecord) (realm : RealmRecord) (service : ServiceRecord) (before : RememberedRecord) (login : LoginRecord) (met : IsMet client realm service before login) : Type 0 where
+  pub first_granted : IsFirstGranted client realm service before login met
+  pub first_taken : IsFirstTaken client realm service before login met
+  pub further_granted : IsFurtherGranted client realm service before login met
+  pub further_taken : IsFurtherTaken client realm service before login met
+  pub client_admitted : IsClientAdmitted client realm service before login met
+
+module _ (client : ClientRecord) (realm : RealmRecord) (service : ServiceRecord) (before : RememberedRecord) (login : LoginRecord) (met : IsMet client realm service before login) (laws : AreLaws client realm service before login met) where
+  -- the client holds the first ticket
+  abbrev HoldsFirst : CredentialRecord → Type 0
+  HoldsFirst credential = (first : Span) × IsFirstSpan realm login first × IsHeld met.granting.account login.realm_random_as (first_grant client realm login first) credential
+
+  abbrev as_call : CallRecord
+  as_call = call_at realm login.realm_as login.realm_random_as
+
+  module _ (sent : Bytes × AsAskedRecord) (asked : IsAsAsked client (krbtgt_of client.realm) login.till login.client_as login.random_as (Ok sent)) where
+    as_granted : (reply : Option Bytes) → Replies as_call sent.0 reply → (granted : Bytes) × (reply ≡ Some granted)
+    unfolding IsAsAsked IsFirstGranted
+    as_granted reply replied = let it = laws.first_granted sent.0 reply asked.0 replied in (it.2.0, it.2.1)
+
+    as_value : (reply : Bytes) (taken : Result CredentialRecord TakeRefusal) → Replies as_call sent.0 (Some reply) → (takes_as_reply client sent.1 reply).gives taken
+        → (credential : CredentialRecord) × (taken ≡ Ok credential) × HoldsFirst credential
+    unfolding IsAsAsked IsFirstGranted IsFirstTaken
+    as_value reply taken replied x =
+        let granted = laws.first_granted sent.0 (Some reply) asked.0 replied in
+        let own = subst (λ a. TakesAsReply client a reply taken) asked.1 x in
+        let same = subst (λ r. TakesAsReply client (as_asked (krbtgt_of client.realm) login.client_as login.random_as) r taken) (one_reply reply granted.2.0 granted.2.1) own in
+        let it = laws.first_taken granted.0 granted.2.0 taken granted.2.2 same in
+        (it.0, it.1, (granted.0, granted.1, it.2))
+
+    as_taken : (result : Result CredentialRecord LoginRefusal) (reply : Bytes) → Replies as_call sent.0 (Some reply)
+        → followed (IsTaken (takes_as_reply client sent.1 reply)) Taken ended result → Ends HoldsFirst result
+    as_taken result reply replied =
+        followed_ends (IsTaken (takes_as_reply client sent.1 reply)) Taken ended HoldsFirst result
+        (λ credential taken same.
+        let it = as_value reply (Ok credential) replied taken in
+        subst (Ends HoldsFirst) (sym same) (subst HoldsFirst (sym (one_value credential it.0 it.1)) it.2))
+        (λ refusal. taken_memory (takes_as_reply client sent.1 reply) refusal (λ taken x. let it = as_value reply taken replied x in (it.0, it.1)))
+
+    as_answered : (result : Result CredentialRecord LoginRefusal)
+        → followed (IsAnswered as_call sent.0) Answered (λ reply. followed (IsTaken (takes_as_reply client sent.1 reply)) Taken ended) result → Ends HoldsFirst result
+    as_answered result =
+        followed_ends (IsAnswered as_call sent.0) Answered (λ reply. followed (IsTaken (takes_as_reply client sent.1 reply)) Taken ended) HoldsFirst result
+        (λ reply answered. as_taken result reply (answered_reply as_call sent.0 reply answered))
+        (λ refusal. answered_memory as_call sent.0 refusal as_granted)
+
+  as_unasked : (refusal : AskRefusal) → IsAsAsked client (krbtgt_of client.realm) login.till login.client_as login.random_as (Err refusal) → refusal ≡ ask_refusal.Memory
+  unfolding IsAsAsked
+  as_unasked refusal = asked_memory (krbtgt_of client.realm) refusal (granting_name client.realm met.parties.realm)
+
+  as_ends : (result : Result CredentialRecord LoginRefusal) → AsExchange client realm login result → Ends HoldsFirst result
+  unfolding AsExchange
+  as_ends result =
+      followed_ends (IsAsAsked client (krbtgt_of client.realm) login.till login.client_as login.random_as) Asked
+      (λ sent. followed (IsAnswered as_call sent.0) Answered (λ reply. followed (IsTaken (takes_as_reply client sent.1 reply)) Taken ended)) HoldsFirst result
+      (λ sent asked. as_answered sent asked result)
+      as_unasked
+
+  -- the client holds the ticket for the service
+  abbrev HoldsFurther : CredentialRecord → Type 0
+  HoldsFurther credential =
+      (first : Span) × IsFirstSpan realm login first × ((span : Span) × IsFurtherSpan realm login first span
+      × IsHeld met.honest.service.account login.realm_random_tgs (further_grant client realm login first span) credential)
+
+  abbrev tgs_call : CallRecord
+  tgs_call = call_at realm login.realm_tgs login.realm_random_tgs
+
+  module _ (granting : CredentialRecord) (holds : HoldsFirst granting) (sent : Bytes × TgsAskedRecord) (asked : IsTgsAsked client granting login.service login.till login.client_tgs login.random_tgs (Ok sent)) where
+    tgs_granted : (reply : Option Bytes) → Replies tgs_call sent.0 reply → (granted : Bytes) × (reply ≡ Some granted)
+    unfolding IsTgsAsked IsFurtherGranted
+    tgs_granted reply replied = let it = laws.further_granted holds.0 granting sent.0 reply holds.1 holds.2 asked.0 replied in (it.2.0, it.2.1)
+
+    tgs_value : (reply : Bytes) (taken : Result CredentialRecord TakeRefusal) → Replies tgs_call sent.0 (Some reply) → (takes_tgs_reply client sent.1 reply).gives taken
+        → (credential : CredentialRecord) × (taken ≡ Ok credential) × HoldsFurther credential
+    unfolding IsTgsAsked IsFurtherGranted IsFurtherTaken
+    tgs_value reply taken replied x =
+        let granted = laws.further_granted holds.0 granting sent.0 (Some reply) holds.1 holds.2 asked.0 replied in
+        let own = subst (λ a. TakesTgsReply client a reply taken) asked.1 x in
+        let same = subst (λ r. TakesTgsReply client (tgs_asked granting login.service login.random_tgs) r taken) (one_reply reply granted.2.0 granted.2.1) own in
+        let it = laws.further_taken holds.0 granted.0 granting granted.2.0 taken holds.2 granted.2.2 same in
+        (it.0, it.1, (holds.0, holds.1, (granted.0, granted.1, it.2)))
+
+    tgs_taken : (result : Result CredentialRecord LoginRefusal) (reply : Bytes) → Replies tgs_call sent.0 (Some reply)
+        → followed (IsTaken (takes_tgs_reply client sent.1 reply)) Taken ended result → Ends HoldsFurther result
+    tgs_taken result reply replied =
+        followed_ends (IsTaken (takes_tgs_reply client sent.1 reply)) Taken ended HoldsFurther result
+        (λ credential taken same.
+        let it = tgs_value reply (Ok credential) replied taken in
+        subst (Ends HoldsFurther) (sym same) (subst HoldsFurther (sym (one_value credential it.0 it.1)) it.2))
+        (λ refusal. taken_memory (takes_tgs_reply client sent.1 reply) refusal (λ taken x. let it = tgs_value reply taken replied x in (it.0, it.1)))
+
+    tgs_answered : (result : Result CredentialRecord LoginRefusal)
+        → followed (IsAnswered tgs_call sent.0) Answered (λ reply. followed (IsTaken (takes_tgs_reply client sent.1 reply)) Taken ended) result → Ends HoldsFurther result
+    tgs_answered result =
+        followed_ends (IsAnswered tgs_call sent.0) Answered (λ reply. followed (IsTaken (takes_tgs_reply client sent.1 reply)) Taken ended) HoldsFurther result
+        (λ reply answered. tgs_taken result reply (answered_reply tgs_call sent.0 reply answered))
+        (λ refusal. answered_memory tgs_call sent.0 refusal tgs_granted)
+
+  -- the service's name is the one that is asked for
+  service_name : are_components login.service ≡ true
+  service_name = subst (λ name. are_components name ≡ true) (sym met.honest.named.asked) met.parties.entry.1
+
+  tgs_unasked : (granting : CredentialRecord) (refusal : AskRefusal) → IsTgsAsked client granting login.service login.till login.client_tgs login.random_tgs (Err refusal) → refusal ≡ ask_refusal.Memory
+  unfolding IsTgsAsked
+  tgs_unasked granting refusal = asked_memory login.service refusal service_name
+
+  tgs_ends : (granting : CredentialRecord) (result : Result CredentialRecord LoginRefusal) → HoldsFirst granting → TgsExchange client realm login granting result → Ends HoldsFurther result
+  unfolding TgsExchange
+  tgs_ends granting result holds =
+      followed_ends (IsTgsAsked client granting login.service login.till login.client_tgs login.random_tgs) Asked
+      (λ sent. followed (IsAnswered tgs_call sent.0) Answered (λ reply. followed (IsTaken (takes_tgs_reply client sent.1 reply)) Taken ended)) HoldsFurther result
+      (λ sent asked. tgs_answered granting holds sent asked result)
+      (tgs_unasked granting)
+
+  exchanges_end : (result : Result CredentialRecord LoginRefusal) → Exchanges client realm login result → Ends HoldsFurther result
+  unfolding Exchanges
+  exchanges_end result (inl x) = tgs_ends x.0 result (as_ends (Ok x.0) x.1) x.2
+  exchanges_end result (inr x) = subst (Ends HoldsFurther) (sym x.2) (as_ends (Err x.0) x.1)
+
+  -- client and service have one key, and the service was told the client's name
+  abbrev HaveOneKey : Login → Type 0
+  HaveOneKey made = (made.0 ≡ made.1.session) × (made.1.realm ≡ client.realm) × (components made.1.client ≡ client.components)
+
+  module _ (credential : CredentialRecord) (holds : HoldsFurther credential) (sent : Bytes × ApAskedRecord) (asked : IsApAsked client credential login.client_ap login.random_ap (Ok sent)) where
+    -- the outcome is that the client is admitted
+    abbrev IsIn : Outcome → AdmissionRecord → Type 0
+    IsIn outcome admission =
+        (outcome ≡ (Ok admission, login_pair client login ∷ before.admitted))
+        × (admission.session ≡ encryption_key client.suite (session_key_of client.suite login.realm_random_tgs))
+        × (admission.realm ≡ client.realm) × (components admission.client ≡ client.components)
+        × ((taken : Result (Unit {0}) TakeRefusal) → (takes_ap_reply (ap_asked credential false login.client_ap login.random_ap) (reply_bytes admission.reply)).gives taken → taken ≡ Ok tt)
+
+    outcome_is : (greatest : ℕ) (outcome : Outcome) → greatest ≡ clock_of before login → (remembering service greatest before.admitted sent.0 login.service_random).gives outcome
+        → (admission : AdmissionRecord) × IsIn outcome admission
+    unfolding IsApAsked IsClientAdmitted
+    outcome_is greatest outcome clock x =
+        let judged = subst (λ g. (remembering service g before.admitted sent.0 login.service_random).gives outcome) clock x in
+        let it = laws.client_admitted holds.0 holds.2.0 credential sent.0 outcome holds.1 holds.2.1 holds.2.2 asked.0 judged in
+        (it.0, (it.1, it.2, it.3, it.4, it.5))
+
+    -- the client's key is that of the admission
+    one_key_of : (outcome : Outcome) (admission : AdmissionRecord) → IsIn outcome admission → encryption_key sent.1.suite sent.1.key ≡ admission.session
+    unfolding IsApAsked
+    one_key_of outcome admission is =
+        let suited = ap (λ a. a.suite) asked.1 ∙ holds.2.2.suite in
+        let keyed = ap (λ a. a.key) asked.1 ∙ holds.2.2.key in
+        (λ i. encryption_key (suited i) (keyed i)) ∙ sym is.1
+
+    admitted_so : (admission : AdmissionRecord) (outcome : Outcome) (result : Result Login LoginRefusal) → IsIn outcome admission → shown sent.1 (Ok admission) result → Ends HaveOneKey result
+    unfolding IsApAsked
+    admitted_so admission outcome result is =
+        followed_ends (IsTaken (takes_ap_reply sent.1 (reply_bytes admission.reply))) Taken (λ _. ended (encryption_key sent.1.suite sent.1.key, admission)) HaveOneKey result
+        (λ shown taken same. subst (Ends HaveOneKey) (sym same) (one_key_of outcome admission is, is.2, is.3))
+        (λ refusal. taken_memory (takes_ap_reply sent.1 (reply_bytes admission.reply)) refusal
+        (λ taken x. (tt, is.4 taken (subst (λ a. (takes_ap_reply a (reply_bytes admission.reply)).gives taken) asked.1 x))))
+
+    served : (answer : Result AdmissionRecord AdmitRefusal) (after : RememberedRecord) (result : Result Login LoginRefusal) → IsAdmitted service login sent.0 before answer after
+        → shown sent.1 answer result → Ends HaveOneKey result
+    unfolding IsAdmitted
+    served (Ok admission) after result x y =
+        let it = outcome_is after.greatest (Ok admission, after.admitted) x.0 x.1 in
+        let same = one_value admission it.0 (ap (λ o. o.0) it.1.0) in
+        admitted_so admission (Ok admission, after.admitted) result (subst (IsIn (Ok admission, after.admitted)) (sym same) it.1) y
+    served (Err admit_refusal.Memory) after result x y = subst (Ends HaveOneKey) (sym y) refl
+    served (Err admit_refusal.Unreadable) after result x y = absurd (no_refusal _ _ (ap (λ o. o.0) (outcome_is after.greatest (Err admit_refusal.Unreadable, after.admitted) x.0 x.1).1.0))
+    served (Err (admit_refusal.Krb code)) after result x y = absurd (no_refusal _ _ (ap (λ o. o.0) (outcome_is after.greatest (Err (admit_refusal.Krb code), after.admitted) x.0 x.1).1.0))
+
+  ap_unasked : (credential : CredentialRecord) (refusal : AskRefusal) → IsApAsked client credential login.client_ap login.random_ap (Err refusal) → refusal ≡ ask_refusal.Memory
+  unfolding IsApAsked
+  ap_unasked credential refusal x = x
+
+  ap_ends : (credential : CredentialRecord) (result : Result Login LoginRefusal) (after : RememberedRecord) → HoldsFurther credential
+      → ApExchange client service login credential before result after → Ends HaveOneKey result
+  unfolding ApExchange
+  ap_ends credential result after holds (inl x) = served credential holds x.0 x.1 x.2.0 after result x.2.1 x.2.2
+  ap_ends credential result after holds (inr x) = subst (Ends HaveOneKey) (sym x.2) (ap_unasked credential x.0 x.1)
+
+  login_ends : (result : Result Login LoginRefusal) (after : RememberedRecord) → LoginRun client realm service login before result after → Ends HaveOneKey result
+  unfolding LoginRun
+  login_ends result after (inl x) = ap_ends x.0 result after (exchanges_end (Ok x.0) x.1) x.2
+  login_ends result after (inr x) = subst (Ends HaveOneKey) (sym x.2) (exchanges_end (Err x.0) x.1)
+
+  is_one_key : (result : Result Login LoginRefusal) → Ends HaveOneKey result → IsOneKey client result
+  is_one_key (Ok made) x = x
+  is_one_key (Err refusal) x = x
+
+  pub one_key : (result : Result Login LoginRefusal) (after : RememberedRecord) → LoginRun client realm service login before result after → IsOneKey client result
+  one_key result after run = is_one_key result (login_ends result after run)
