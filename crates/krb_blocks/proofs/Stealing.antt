@@ -322,13 +322,17 @@ module _ (size : ℕ) (E D : List ℕ → List ℕ) (pair : IsBlockCipher size E
   opened_chain : IsChained size E p (swapped size (c ++ drop (length c - size * (block_count size (length c) - 2 + 1)) completed.under))
   opened_chain = rw (turned, completed.appended) at chained
 
-  pub opened_stolen : IsStolen size E (take (length c) p) c
+  opened_stolen : IsStolen size E (take (length c) p) c
   opened_stolen =
       (stolen_back size E D pair p c completed.under (length c) (block_count size (length c) - 2) p_bytes c_bytes refl more (last_two size (length c) (block_count size (length c) - 2) pair.some more refl) completed.under_block completed.stands opened_chain).1
 
-  pub opened_only : (q : List ℕ) → IsBytes q → length q ≡ length c → IsStolen size E q c → q ≡ take (length c) p
+  opened_only : (q : List ℕ) → IsBytes q → length q ≡ length c → IsStolen size E q c → q ≡ take (length c) p
   opened_only q q_bytes sized stolen =
       stolen_only size E D pair p q c completed.under (length c) (block_count size (length c) - 2) p_bytes q_bytes sized (last_two size (length c) (block_count size (length c) - 2) pair.some more refl) completed.under_block completed.stands opened_chain stolen
+
+  -- what was opened is stolen to the cipher text, and no other text of its length is
+  pub opened : IsStolen size E (take (length c) p) c × ((q : List ℕ) → IsBytes q → length q ≡ length c → IsStolen size E q c → q ≡ take (length c) p)
+  opened = (opened_stolen, opened_only)
 
 pub text_bytes : (p a b : List ℕ) → IsBytes p → IsBytes (a ++ b) → IsBytes (p ++ a ++ b)
 text_bytes p a b first rest = rw (append_assoc p a b) (IsBytes-append p (a ++ b) first rest)

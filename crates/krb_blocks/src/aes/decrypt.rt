@@ -110,10 +110,9 @@ fn decrypt_stolen(
 ) -> KerberosCryptoResult<Vec<u8>>
     requires key_length { length key.now ≡ key_length_of aes_size.now }
     requires more { 16 < length cipher_data.now }
-    ensures stolen { IfOk result (λ p. IsStolen 16 (aes_cipher key.now) p.items cipher_data.now) }
+    ensures text { IfOk result (λ p. IsStolen 16 (aes_cipher key.now) p.items cipher_data.now
+        × ((q : List ℕ) → IsBytes q → length q ≡ length cipher_data.now → IsStolen 16 (aes_cipher key.now) q cipher_data.now → q ≡ p.items)) }
     ensures bytes { IfOk result (λ p. IsBytes p.items) }
-    ensures only { IfOk result (λ p. (q : List ℕ) → IsBytes q → length q ≡ length cipher_data.now
-        → IsStolen 16 (aes_cipher key.now) q cipher_data.now → q ≡ p.items) }
     ensures same_length { IfOk result (λ p. vec_len p ≡ length cipher_data.now) }
     ensures memory { IfErr result (λ e. e ≡ Memory) }
 {

@@ -15,4 +15,4 @@ returns-then-cipher_data-le-AES_BLOCK_SIZE-clause-only c =
 pub returns-clause-only : goal.returns-clause-only
 returns-clause-only c =
     λ q bytes many stolen.
-    c.in_ok-text-2.ensures.only q bytes (sym (length-stolen 16 (aes_cipher c.args.key.now) q c.args.cipher_data.now (lit< tt) many stolen)) stolen
+    c.in_ok-text-2.ensures.text.1 q bytes (sym (length-stolen 16 (aes_cipher c.args.key.now) q c.args.cipher_data.now (lit< tt) many stolen)) stolen
