@@ -7,13 +7,6 @@ use Rattle.devices.specs.Whole.{after_whole_fault}
 use Rattle.devices.specs.Faults.{TellsWholeFault}
 use Rattle.devices.specs.declared.exact.WholeFault.{WholeFault}
 use Rattle.devices.specs.declared.exact.WholeFault.TheVariants as whole_fault
-use Rattle.byte_layouts.specs.declared.reading.RestFault.{RestFault}
-use Rattle.byte_layouts.specs.declared.reading.RestFault.TheVariants.{Failed, Memory}
-
--- the device failed with its own kind of fault, and counted it; or memory was wanting, and no call failed
-abbrev pub IsRestFault : ℕ → ℕ → Option ErrorKind → RestFault → Type 0
-IsRestFault old new last (Failed kind) = (new ≡ one_more old) × (last ≡ Some kind)
-IsRestFault old new last Memory = new ≡ old
 
 -- the device came to its end and no call failed, or it failed with this kind of fault and counted it
 abbrev pub IsStop : ℕ → ℕ → Option ErrorKind → Option ErrorKind → Type 0

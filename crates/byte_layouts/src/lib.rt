@@ -9,5 +9,5 @@ mod reading;
 mod writing;
 
 pub use numbers::{array_at, u16_be, u32_le, u64_be, u64_le};
-pub use reading::{Came, Front, RestFault, read_front, read_rest, read_to_stop};
+pub use reading::{Came, Front, read_front, read_to_stop};
 pub use writing::{put_at, write_bytes};

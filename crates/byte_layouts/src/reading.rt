@@ -1,7 +1,7 @@
 //! Reading from a source as far as it gives bytes.
 ghost use Rattle.std.specs.Prelude.{◌≡◌, ℕ, ◌<◌, ◌≤◌, List, length, take, None, IfOk, IfSome, MatchResult};
 ghost use Rattle.std.specs.Io.KnownBytes.{Consumes, IsAtEnd};
-ghost use Rattle.byte_layouts.specs.Stops.{IsRestFault, IsStop};
+ghost use Rattle.byte_layouts.specs.Stops.{IsStop};
 
 use devices::Source;
 use std::alloc::{AllocError, Global};
@@ -14,15 +14,6 @@ pub struct Front {
     pub count: usize,
     /// The fault of the device, where it failed before all was read.
     pub fault: Option<ErrorKind>,
-}
-
-/// Why the rest of a source was not read.
-#[derive(Clone, Copy, Debug)]
-pub enum RestFault {
-    /// The device failed.
-    Failed(ErrorKind),
-    /// The memory could not grow.
-    Memory,
 }
 
 /// Fills `buffer` from `reader` up to its end or its first fault.
@@ -87,21 +78,4 @@ pub fn read_to_stop<R: Source>(alloc: Global, reader: &mut R) -> Result<Came, Al
     }
     // So many reads gave a byte each, which no vector holds.
     Err(AllocError)
-}
-
-/// Reads all that `reader` still gives. Room is made only for what was read.
-pub fn read_rest<R: Source>(alloc: Global, reader: &mut R) -> Result<Vec<u8>, RestFault>
-    ensures bytes { IfOk result (λ rest. Consumes (R.left reader.old) (R.left reader.new) rest.items) }
-    ensures end { IfOk result (λ _. IsAtEnd (R.left reader.new)) }
-    ensures front { MatchResult result (λ _. R.failed reader.new ≡ R.failed reader.old)
-        (IsRestFault (R.failed reader.old) (R.failed reader.new) (R.last_fault reader.new)) }
-    ensures same { R.through reader.new ≡ R.through reader.old }
-{
-    let Ok(came) = read_to_stop(alloc, reader) else {
-        return Err(RestFault::Memory);
-    };
-    match came.fault {
-        None => Ok(came.bytes),
-        Some(kind) => Err(RestFault::Failed(kind)),
-    }
 }

@@ -17,12 +17,12 @@ use Rattle.krb_tokens.proofs.TokenLaws.{mic_read, wrap_read, mic-fine, mic-only,
 all-consumed : (whole rest bytes : List ℕ) → Consumes (Some whole) (Some rest) bytes → IsAtEnd (Some rest) → whole ≡ bytes
 all-consumed whole rest bytes given ends = given ∙ ap (λ (l : List ℕ). bytes ++ l) ends ∙ append-nil bytes
 
-pub mic-excused : (left : Option (List ℕ)) (r : Result MicToken GssApiMessageError) (e : GssApiMessageError) (old new : ℕ) (last : Option ErrorKind)
-    → IsErrAnd r (λ y. y ≡ e) → IfSome left (λ whole. IsRefusal Mic whole old new last e)
-    → IfSome left (λ whole. (m : MicFields) → m.seq_num < 2 ^ 64 → IsMicToken m whole → MatchResult r (λ t. mic_of t ≡ m) (IsExcuse Mic whole old new last))
-mic-excused None r e old new last exit refusal = tt
-mic-excused (Some whole) r e old new last exit refusal =
-    λ m fits is. at-exit r e (λ t. mic_of t ≡ m) (IsExcuse Mic whole old new last) exit (refusal-excuse Mic whole last old new e (mic-fine m whole is) refusal)
+pub mic-excused : (left after : Option (List ℕ)) (r : Result MicToken GssApiMessageError) (e : GssApiMessageError) (old new : ℕ) (last : Option ErrorKind)
+    → IsErrAnd r (λ y. y ≡ e) → IfSome left (λ whole. IsRefusal Mic whole after old new last e)
+    → IfSome left (λ whole. (m : MicFields) → m.seq_num < 2 ^ 64 → IsMicToken m whole → MatchResult r (λ t. mic_of t ≡ m) (IsExcuse Mic whole after old new last))
+mic-excused None after r e old new last exit refusal = tt
+mic-excused (Some whole) after r e old new last exit refusal =
+    λ m fits is. at-exit r e (λ t. mic_of t ≡ m) (IsExcuse Mic whole after old new last) exit (refusal-excuse Mic whole after last old new e (mic-fine m whole is) refusal)
 
 pub mic-given : (left after : Option (List ℕ)) (header checksum : List ℕ) (n : ℕ) → length header ≡ 16 → n ≡ be64_at 8 header
     → Consumes left after (header ++ checksum) → IsAtEnd after
@@ -32,14 +32,14 @@ mic-given (Some whole) None header checksum n size read given ends = absurd give
 mic-given (Some whole) (Some rest) header checksum n size read given ends =
     λ m fits is. mic-only m header checksum n size read fits (subst (IsMicToken m) (all-consumed whole rest (header ++ checksum) given ends) is)
 
-pub wrap-excused : (left : Option (List ℕ)) (r : Result WrapToken GssApiMessageError) (e : GssApiMessageError) (old new : ℕ) (last : Option ErrorKind)
-    → IsErrAnd r (λ y. y ≡ e) → IfSome left (λ whole. IsRefusal Wrap whole old new last e)
+pub wrap-excused : (left after : Option (List ℕ)) (r : Result WrapToken GssApiMessageError) (e : GssApiMessageError) (old new : ℕ) (last : Option ErrorKind)
+    → IsErrAnd r (λ y. y ≡ e) → IfSome left (λ whole. IsRefusal Wrap whole after old new last e)
     → IfSome left (λ whole. (w : WrapFields) → w.ec < 2 ^ 16 → w.rrc < 2 ^ 16 → w.seq_num < 2 ^ 64 → IsWrapToken w whole
-    → MatchResult r (λ t. wrap_of t ≡ w) (IsExcuse Wrap whole old new last))
-wrap-excused None r e old new last exit refusal = tt
-wrap-excused (Some whole) r e old new last exit refusal =
-    λ w fits_ec fits_rrc fits is. at-exit r e (λ t. wrap_of t ≡ w) (IsExcuse Wrap whole old new last) exit
-    (refusal-excuse Wrap whole last old new e (wrap-fine w whole is) refusal)
+    → MatchResult r (λ t. wrap_of t ≡ w) (IsExcuse Wrap whole after old new last))
+wrap-excused None after r e old new last exit refusal = tt
+wrap-excused (Some whole) after r e old new last exit refusal =
+    λ w fits_ec fits_rrc fits is. at-exit r e (λ t. wrap_of t ≡ w) (IsExcuse Wrap whole after old new last) exit
+    (refusal-excuse Wrap whole after last old new e (wrap-fine w whole is) refusal)
 
 pub wrap-given : (left after : Option (List ℕ)) (header checksum : List ℕ) (e r n : ℕ) → length header ≡ 16
     → e ≡ be16_at 4 header → r ≡ be16_at 6 header → n ≡ be64_at 8 header → Consumes left after (header ++ checksum) → IsAtEnd after

@@ -39,7 +39,7 @@ told-good : (good : Bool) (fault : GssApiMessageError) → told good fault ≡ O
 told-good true fault fine = refl
 told-good false fault fine = cc
 
-id-settled : (kind : TokenKind) (front rest : List ℕ) → 2 ≤ length front → id_judged kind (front ++ rest) ≡ id_judged kind front
+pub id-settled : (kind : TokenKind) (front rest : List ℕ) → 2 ≤ length front → id_judged kind (front ++ rest) ≡ id_judged kind front
 id-settled kind front rest there =
     let more : 2 ≤ length (front ++ rest) = omega (arith, length-append front rest) in
     piece-there 2 (front ++ rest) _ _ more
@@ -63,7 +63,7 @@ wrap_filler-settled front rest there =
     ∙ ap (λ (n : ℕ). told (nat_eq n 255) (InvalidWrapFiller n)) (get_or_append_left front rest 0 3 (omega arith))
     ∙ sym (piece-there 4 front _ _ there)
 
-filler-settled : (kind : TokenKind) (front rest : List ℕ) → 8 ≤ length front → filler_judged kind (front ++ rest) ≡ filler_judged kind front
+pub filler-settled : (kind : TokenKind) (front rest : List ℕ) → 8 ≤ length front → filler_judged kind (front ++ rest) ≡ filler_judged kind front
 filler-settled Mic front rest there = mic_filler-settled front rest there
 filler-settled Wrap front rest there = wrap_filler-settled front rest (omega arith)
 

@@ -1,5 +1,6 @@
 -- The faults of tokens, and what of devices they tell.
-use Rattle.std.specs.Prelude.{◌≡◌, ℕ, Option, Some, ◌⊎◌}
+use Rattle.std.specs.Prelude.{◌≡◌, ℕ, List, Option, Some, ◌⊎◌}
+use Rattle.std.specs.Io.KnownBytes.{Consumes}
 use Rattle.std.specs.declared.io.ErrorKind.{ErrorKind}
 use Rattle.std.specs.declared.io.ErrorKind.TheVariants.{WriteZero}
 use Rattle.devices.specs.declared.exact.WholeFault.{WholeFault}
@@ -40,6 +41,7 @@ pub record IsDeviceFault (old new : ℕ) (last : Option ErrorKind) (fault : GssA
   pub counted : new ≡ one_more old
   pub told : last ≡ Some cause
 
--- memory was wanting, or the device failed
-abbrev pub IsRestFault : ℕ → ℕ → Option ErrorKind → GssApiMessageError → Type 0
-IsRestFault old new last fault = ((fault ≡ Memory) × (new ≡ old)) ⊎ IsDeviceFault old new last fault
+-- memory was wanting, or the device failed behind some bytes
+abbrev pub IsRestFault : Option (List ℕ) → Option (List ℕ) → ℕ → ℕ → Option ErrorKind → GssApiMessageError → Type 0
+IsRestFault left after old new last fault =
+    ((fault ≡ Memory) × (new ≡ old)) ⊎ (IsDeviceFault old new last fault × (came : List ℕ) × Consumes left after came)

@@ -1,5 +1,6 @@
 -- Why a token was not read from a device.
-use Rattle.std.specs.Prelude.{◌≡◌, ℕ, List, ◌++◌, Option, Ok, Err, ◌⊎◌}
+use Rattle.std.specs.Prelude.{◌≡◌, ℕ, List, Option, Some, Ok, Err, ◌⊎◌}
+use Rattle.std.specs.Io.KnownBytes.{Consumes}
 use Rattle.std.specs.declared.io.ErrorKind.{ErrorKind}
 use Rattle.std.specs.declared.io.ErrorKind.TheVariants.{UnexpectedEof}
 use Rattle.krb_tokens.specs.declared.kind.TokenKind.{TokenKind}
@@ -8,20 +9,19 @@ use Rattle.krb_tokens.specs.declared.error.GssApiMessageError.TheVariants.{Memor
 use Rattle.krb_tokens.specs.Faults.{IsDeviceFault}
 use Rattle.krb_tokens.specs.Judging.{id_judged, filler_judged, judged}
 
--- the device failed behind bytes in which nothing is wrong
-pub record IsBroken (kind : TokenKind) (whole : List ℕ) (old new : ℕ) (last : Option ErrorKind) (fault : GssApiMessageError) : Type 0 where
+-- the device failed, and in all the bytes that came before nothing is wrong
+pub record IsBroken (kind : TokenKind) (whole : List ℕ) (after : Option (List ℕ)) (old new : ℕ) (last : Option ErrorKind) (fault : GssApiMessageError) : Type 0 where
   pub device : IsDeviceFault old new last fault
-  pub front : List ℕ
-  pub rest : List ℕ
-  pub cut : whole ≡ front ++ rest
-  pub id : id_judged kind front ≡ Ok tt
-  pub filler : filler_judged kind front ≡ Ok tt
+  pub came : List ℕ
+  pub taken : Consumes (Some whole) after came
+  pub id : id_judged kind came ≡ Ok tt
+  pub filler : filler_judged kind came ≡ Ok tt
 
 -- memory was wanting, or the device failed
-abbrev pub IsExcuse : TokenKind → List ℕ → ℕ → ℕ → Option ErrorKind → GssApiMessageError → Type 0
-IsExcuse kind whole old new last fault = (fault ≡ Memory) ⊎ IsBroken kind whole old new last fault
+abbrev pub IsExcuse : TokenKind → List ℕ → Option (List ℕ) → ℕ → ℕ → Option ErrorKind → GssApiMessageError → Type 0
+IsExcuse kind whole after old new last fault = (fault ≡ Memory) ⊎ IsBroken kind whole after old new last fault
 
--- the bytes are no token, by this fault; or there is an excuse
-abbrev pub IsRefusal : TokenKind → List ℕ → ℕ → ℕ → Option ErrorKind → GssApiMessageError → Type 0
-IsRefusal kind whole old new last fault =
-    (judged kind UnexpectedEof whole ≡ Err fault) ⊎ IsExcuse kind whole old new last fault
+-- the bytes are no token, by this fault; or there is an excuse. `after` is what is left behind what came
+abbrev pub IsRefusal : TokenKind → List ℕ → Option (List ℕ) → ℕ → ℕ → Option ErrorKind → GssApiMessageError → Type 0
+IsRefusal kind whole after old new last fault =
+    (judged kind UnexpectedEof whole ≡ Err fault) ⊎ IsExcuse kind whole after old new last fault

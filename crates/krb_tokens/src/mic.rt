@@ -141,9 +141,9 @@ impl MicToken {
         ensures payload { IfOk result (λ t. t.payload ≡ None) }
         ensures only { IfSome (R.left reader.old) (λ whole. (m : MicFields) → m.seq_num < 2 ^ 64 → IsMicToken m whole
             → MatchResult result (λ t. mic_of t ≡ m)
-            (IsExcuse TokenKind.Mic whole (R.failed reader.old) (R.failed reader.new) (R.last_fault reader.new))) }
+            (IsExcuse TokenKind.Mic whole (R.left reader.new) (R.failed reader.old) (R.failed reader.new) (R.last_fault reader.new))) }
         ensures refused { IfErr result (λ e. IfSome (R.left reader.old) (λ whole.
-            IsRefusal TokenKind.Mic whole (R.failed reader.old) (R.failed reader.new) (R.last_fault reader.new) e)) }
+            IsRefusal TokenKind.Mic whole (R.left reader.new) (R.failed reader.old) (R.failed reader.new) (R.last_fault reader.new) e)) }
         ensures same { R.through reader.new ≡ R.through reader.old }
     {
         let token = read_token(alloc, TokenKind::Mic, reader)?;

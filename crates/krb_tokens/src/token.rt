@@ -9,7 +9,7 @@ ghost use Rattle.krb_tokens.specs.Refusals.{IsRefusal};
 use crate::GssApiMessageError;
 use crate::error::write_fault;
 use crate::kind::{HEADER_LEN, TokenKind, judge};
-use byte_layouts::{RestFault, read_front, read_rest};
+use byte_layouts::{read_front, read_to_stop};
 use devices::{Sink, Source, write_whole};
 use std::alloc::Global;
 use std::io::ErrorKind;
@@ -25,7 +25,7 @@ pub(crate) fn read_header<R: Source>(
     ensures bytes { IfOk result (λ header. Consumes (R.left reader.old) (R.left reader.new) header) }
     ensures count { IfOk result (λ _. R.failed reader.new ≡ R.failed reader.old) }
     ensures refused { IfErr result (λ e. IfSome (R.left reader.old) (λ whole.
-        IsRefusal kind whole (R.failed reader.old) (R.failed reader.new) (R.last_fault reader.new) e)) }
+        IsRefusal kind whole (R.left reader.new) (R.failed reader.old) (R.failed reader.new) (R.last_fault reader.new) e)) }
     ensures same { R.through reader.new ≡ R.through reader.old }
 {
     let mut header = [0; HEADER_LEN];
@@ -45,13 +45,15 @@ pub(crate) fn read_checksum<R: Source>(
     ensures bytes { IfOk result (λ checksum. Consumes (R.left reader.old) (R.left reader.new) checksum.items) }
     ensures end { IfOk result (λ _. IsAtEnd (R.left reader.new)) }
     ensures count { MatchResult result (λ _. R.failed reader.new ≡ R.failed reader.old)
-        (IsRestFault (R.failed reader.old) (R.failed reader.new) (R.last_fault reader.new)) }
+        (IsRestFault (R.left reader.old) (R.left reader.new) (R.failed reader.old) (R.failed reader.new) (R.last_fault reader.new)) }
     ensures same { R.through reader.new ≡ R.through reader.old }
 {
-    match read_rest(alloc, reader) {
-        Ok(checksum) => Ok(checksum),
-        Err(RestFault::Failed(kind)) => Err(GssApiMessageError::IoError(kind)),
-        Err(RestFault::Memory) => Err(GssApiMessageError::Memory),
+    let Ok(came) = read_to_stop(alloc, reader) else {
+        return Err(GssApiMessageError::Memory);
+    };
+    match came.fault {
+        None => Ok(came.bytes),
+        Some(kind) => Err(GssApiMessageError::IoError(kind)),
     }
 }
 
@@ -73,7 +75,7 @@ pub(crate) fn read_token<R: Source>(
     ensures bytes { IfOk result (λ t. Consumes (R.left reader.old) (R.left reader.new) (t.header ++ t.checksum.items)) }
     ensures end { IfOk result (λ _. IsAtEnd (R.left reader.new)) }
     ensures refused { IfErr result (λ e. IfSome (R.left reader.old) (λ whole.
-        IsRefusal kind whole (R.failed reader.old) (R.failed reader.new) (R.last_fault reader.new) e)) }
+        IsRefusal kind whole (R.left reader.new) (R.failed reader.old) (R.failed reader.new) (R.last_fault reader.new) e)) }
     ensures same { R.through reader.new ≡ R.through reader.old }
 {
     let header = read_header(kind, reader)?;

@@ -127,9 +127,9 @@ impl WrapToken {
         ensures payload { IfOk result (λ t. t.payload ≡ None) }
         ensures only { IfSome (R.left reader.old) (λ whole. (w : WrapFields) → w.ec < 2 ^ 16 → w.rrc < 2 ^ 16 → w.seq_num < 2 ^ 64 → IsWrapToken w whole
             → MatchResult result (λ t. wrap_of t ≡ w)
-            (IsExcuse TokenKind.Wrap whole (R.failed reader.old) (R.failed reader.new) (R.last_fault reader.new))) }
+            (IsExcuse TokenKind.Wrap whole (R.left reader.new) (R.failed reader.old) (R.failed reader.new) (R.last_fault reader.new))) }
         ensures refused { IfErr result (λ e. IfSome (R.left reader.old) (λ whole.
-            IsRefusal TokenKind.Wrap whole (R.failed reader.old) (R.failed reader.new) (R.last_fault reader.new) e)) }
+            IsRefusal TokenKind.Wrap whole (R.left reader.new) (R.failed reader.old) (R.failed reader.new) (R.last_fault reader.new) e)) }
         ensures same { R.through reader.new ≡ R.through reader.old }
     {
         let token = read_token(alloc, TokenKind::Wrap, reader)?;

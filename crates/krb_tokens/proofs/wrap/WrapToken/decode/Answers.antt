@@ -5,7 +5,7 @@ use Rattle.krb_tokens.proofs.wrap.WrapToken.decode.Goals as goal
 
 pub returns-in_err-token-clause-only : goal.returns-in_err-token-clause-only
 returns-in_err-token-clause-only g c =
-    wrap-excused (g.R.Source.left c.args.reader.now) c.from_residual.result c.in_err-token.field-0.0 _ _ _
+    wrap-excused (g.R.Source.left c.args.reader.now) _ c.from_residual.result c.in_err-token.field-0.0 _ _ _
     c.from_residual.ensures.1 c.in_err-token.ensures.refused
 
 pub returns-clause-found : goal.returns-clause-found
