@@ -1,19 +1,18 @@
 -- One row of the table, read from a device and written to one.
-use Rattle.std.proofs.Common.{◌≡◌, ℕ, ◌+◌, ◌-◌, ◌<◌, ◌≤◌, List, [], ◌++◌, length, take, replicate, Option, None, Some, IfSome, Result, Ok, Err, ◌⊎◌, inl, inr, refl, ap, sym, subst, ◌∙◌, append-nil, arith}
+use Rattle.std.proofs.Common.{◌≡◌, ℕ, ◌+◌, ◌-◌, ◌<◌, ◌≤◌, List, [], ◌++◌, length, take, Option, None, Some, IfSome, Result, Ok, Err, ◌⊎◌, inl, inr, refl, ap, sym, subst, ◌∙◌, append-nil, arith}
 use Rattle.std.proofs.lemmas.Bool.{cases_lt}
-use Rattle.std.proofs.lemmas.List.{length-take, length-replicate, take_all, take_at}
+use Rattle.std.proofs.lemmas.List.{length-take, take_all, take_at}
 use Rattle.std.proofs.Math.Seq.{take-append-add}
 use Rattle.std.specs.Io.KnownBytes.{Consumes, IsAtEnd}
 use Rattle.std.specs.declared.io.ErrorKind.{ErrorKind}
 use Rattle.byte_layouts.specs.Parts.{put_all, IsLaidOut, AreInside}
-use Rattle.byte_layouts.specs.Numbers.{le32, le64}
 use Rattle.byte_layouts.specs.Stops.{IsStop}
 use Rattle.byte_layouts.proofs.PartLaws.{put_all-laid, length-put_all, order-apart}
 use Rattle.byte_layouts.proofs.NumberLaws.{length-le32, length-le64}
 use Rattle.pac_layouts.specs.Buffers.{info_parts, IsInfo, FitsInfo}
-use Rattle.pac_layouts.specs.Faults.{IsDeviceFault}
 use Rattle.pac_layouts.specs.Kinds.{kind_number}
 use Rattle.pac_layouts.specs.Reading.{info_at}
+use Rattle.pac_layouts.specs.Refusals.{IsRowBroken, IsRowRefusal}
 use Rattle.pac_layouts.specs.declared.info.PacInfoBuffer.{PacInfoBuffer}
 use Rattle.pac_layouts.specs.declared.error.PacError.{PacError}
 use Rattle.pac_layouts.specs.declared.error.PacError.TheVariants.{IoError}
@@ -33,8 +32,8 @@ info-laid info whole size =
     }
 
 -- sixteen bytes at most came, and they are the front of what was left
-came : (front rest : List ℕ) → length front ≤ 16 → take 16 (front ++ rest) ≡ front ++ take (16 - length front) rest
-came front rest few =
+came-front : (front rest : List ℕ) → length front ≤ 16 → take 16 (front ++ rest) ≡ front ++ take (16 - length front) rest
+came-front front rest few =
     let all : length front + (16 - length front) ≡ 16 = omega arith in
     ap (λ (n : ℕ). take n (front ++ rest)) (sym all) ∙ take-append-add front rest (16 - length front)
 
@@ -46,23 +45,19 @@ came-all front rest few ends =
       | inr full ↦ take_at front rest 16 (omega arith)
     ]
 
--- what is first wrong with the sixteen bytes, or that the device failed
-abbrev pub IsWrong : List ℕ → ℕ → ℕ → Option ErrorKind → PacError → Type 0
-IsWrong bytes old new last e = (info_at None 0 (take 16 bytes) ≡ Err e) ⊎ IsDeviceFault old new last e
-
 pub info-refused : (left after : Option (List ℕ)) (fault last : Option ErrorKind) (old new count m : ℕ) (buffer : List ℕ) (e : PacError)
     → m ≡ count → length buffer ≡ 16 → count ≤ length buffer
     → Consumes left after (take count buffer) → (fault ≡ None → count < length buffer → IsAtEnd after) → IsStop old new last fault
     → info_at fault 0 (take m buffer) ≡ Err e
-    → IfSome left (λ bytes. IsWrong bytes old new last e)
+    → IfSome left (λ bytes. IsRowRefusal bytes after old new last e)
 info-refused None after fault last old new count m buffer e same size within given ends stopped wrong = tt
 info-refused (Some bytes) None fault last old new count m buffer e same size within given ends stopped wrong = absurd given
 info-refused (Some bytes) (Some rest) None last old new count m buffer e same size within given ends stopped wrong =
     let front = take count buffer in
     let few : length front ≤ 16 = omega (arith, length-take count buffer) in
     let front_is : take 16 (front ++ rest) ≡ front = came-all front rest few (λ fewer. ends refl (omega (arith, length-take count buffer))) in
-    subst (λ (l : List ℕ). IsWrong l old new last e) (sym given)
-    (inl (ap (info_at None 0) front_is ∙ ap (λ (n : ℕ). info_at None 0 (take n buffer)) (sym same) ∙ wrong))
+    inl (ap (λ (l : List ℕ). info_at None 0 (take 16 l)) given ∙ ap (info_at None 0) front_is
+    ∙ ap (λ (n : ℕ). info_at None 0 (take n buffer)) (sym same) ∙ wrong)
 info-refused (Some bytes) (Some rest) (Some k) last old new count m buffer e same size within given ends stopped wrong =
     let front = take count buffer in
     let few : length front ≤ 16 = omega (arith, length-take count buffer) in
@@ -70,19 +65,22 @@ info-refused (Some bytes) (Some rest) (Some k) last old new count m buffer e sam
     let more = take (16 - length front) rest in
     let extends : (e ≡ IoError k) ⊎ (info_at None 0 (front ++ more) ≡ Err e) =
     subst (λ (r : Result PacInfoBuffer PacError). Extends k r (info_at None 0 (front ++ more))) wrong_front (info-extends k 0 front more) in
-    let result : IsWrong (front ++ rest) old new last e =
     elim extends [
-      | inl cut ↦ inr record { cause = k; answered = cut; counted = stopped.0; told = stopped.1 }
-      | inr told ↦ inl (ap (info_at None 0) (came front rest few) ∙ told)
-    ] in
-    subst (λ (l : List ℕ). IsWrong l old new last e) (sym given) result
+      | inl cut ↦ inr record {
+        device = record { cause = k; answered = cut; counted = stopped.0; told = stopped.1 };
+        came = front;
+        taken = given;
+        fine = wrong_front;
+      }
+      | inr told ↦ inl (ap (λ (l : List ℕ). info_at None 0 (take 16 l)) given ∙ ap (info_at None 0) (came-front front rest few) ∙ told)
+    ]
 
 -- a row that is laid out in the sixteen bytes, and what was refused
-pub refused-info : (left : Option (List ℕ)) (old new : ℕ) (last : Option ErrorKind) (e : PacError)
-    → IfSome left (λ bytes. IsWrong bytes old new last e)
-    → IfSome left (λ bytes. (info : PacInfoBuffer) → FitsInfo info → IsInfo info (take 16 bytes) → IsDeviceFault old new last e)
-refused-info None old new last e refused = tt
-refused-info (Some bytes) old new last e refused = λ info fits is.
+pub refused-info : (left after : Option (List ℕ)) (old new : ℕ) (last : Option ErrorKind) (e : PacError)
+    → IfSome left (λ bytes. IsRowRefusal bytes after old new last e)
+    → IfSome left (λ bytes. (info : PacInfoBuffer) → FitsInfo info → IsInfo info (take 16 bytes) → IsRowBroken bytes after old new last e)
+refused-info None after old new last e refused = tt
+refused-info (Some bytes) after old new last e refused = λ info fits is.
     let read : info_at None 0 (take 16 bytes) ≡ Ok info =
     info-only 0 info (take 16 bytes) fits.size fits.offset is.parts.0 is.parts.1.0 is.parts.1.1.0 in
     elim refused [ inl wrong ↦ absurd (cc (wrong, read)) | inr failed ↦ failed ]

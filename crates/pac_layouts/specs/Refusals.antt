@@ -1,23 +1,34 @@
--- Why a PAC was not read from a device.
-use Rattle.std.specs.Prelude.{◌≡◌, ℕ, List, ◌++◌, Option, None, Some, ⊤, Err, MatchResult, ◌⊎◌}
+-- Why a PAC, or a row of its table, was not read from a device. `after` is what is left behind what came.
+use Rattle.std.specs.Prelude.{◌≡◌, ℕ, List, take, Option, None, Some, ⊤, Err, MatchResult, ◌⊎◌}
+use Rattle.std.specs.Io.KnownBytes.{Consumes}
 use Rattle.std.specs.declared.io.ErrorKind.{ErrorKind}
 use Rattle.pac_layouts.specs.declared.error.PacError.{PacError}
 use Rattle.pac_layouts.specs.declared.error.PacError.TheVariants.{Memory}
 use Rattle.pac_layouts.specs.Faults.{IsDeviceFault}
-use Rattle.pac_layouts.specs.Reading.{pac_at}
+use Rattle.pac_layouts.specs.Reading.{info_at, pac_at}
 
--- the device failed behind bytes in which nothing else is wrong
-pub record IsBroken (whole : List ℕ) (old new : ℕ) (last : Option ErrorKind) (fault : PacError) : Type 0 where
+-- the device failed, and in all the bytes that came before nothing else is wrong
+pub record IsBroken (whole : List ℕ) (after : Option (List ℕ)) (old new : ℕ) (last : Option ErrorKind) (fault : PacError) : Type 0 where
   pub device : IsDeviceFault old new last fault
-  pub front : List ℕ
-  pub rest : List ℕ
-  pub cut : whole ≡ front ++ rest
-  pub fine : MatchResult (pac_at (Some device.cause) front) (λ _. ⊤) (λ e. e ≡ fault)
+  pub came : List ℕ
+  pub taken : Consumes (Some whole) after came
+  pub fine : MatchResult (pac_at (Some device.cause) came) (λ _. ⊤) (λ e. e ≡ fault)
 
 -- memory was wanting, or the device failed
-abbrev pub IsExcuse : List ℕ → ℕ → ℕ → Option ErrorKind → PacError → Type 0
-IsExcuse whole old new last fault = (fault ≡ Memory) ⊎ IsBroken whole old new last fault
+abbrev pub IsExcuse : List ℕ → Option (List ℕ) → ℕ → ℕ → Option ErrorKind → PacError → Type 0
+IsExcuse whole after old new last fault = (fault ≡ Memory) ⊎ IsBroken whole after old new last fault
 
 -- this is first wrong with the bytes as a PAC; or there is an excuse
-abbrev pub IsRefusal : List ℕ → ℕ → ℕ → Option ErrorKind → PacError → Type 0
-IsRefusal whole old new last fault = (pac_at None whole ≡ Err fault) ⊎ IsExcuse whole old new last fault
+abbrev pub IsRefusal : List ℕ → Option (List ℕ) → ℕ → ℕ → Option ErrorKind → PacError → Type 0
+IsRefusal whole after old new last fault = (pac_at None whole ≡ Err fault) ⊎ IsExcuse whole after old new last fault
+
+-- the device failed inside a row, and in what came of it nothing else is wrong
+pub record IsRowBroken (bytes : List ℕ) (after : Option (List ℕ)) (old new : ℕ) (last : Option ErrorKind) (fault : PacError) : Type 0 where
+  pub device : IsDeviceFault old new last fault
+  pub came : List ℕ
+  pub taken : Consumes (Some bytes) after came
+  pub fine : info_at (Some device.cause) 0 came ≡ Err fault
+
+-- this is first wrong with sixteen bytes as a row, or the device failed
+abbrev pub IsRowRefusal : List ℕ → Option (List ℕ) → ℕ → ℕ → Option ErrorKind → PacError → Type 0
+IsRowRefusal bytes after old new last fault = (info_at None 0 (take 16 bytes) ≡ Err fault) ⊎ IsRowBroken bytes after old new last fault

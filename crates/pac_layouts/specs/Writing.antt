@@ -51,10 +51,14 @@ pub record ArePlaced (bs : List Buffer) : Type 0 where
   pub behind : AreBehind (8 + 16 * length bs) bs
   pub apart : AreAllApart (map content_part bs)
 
--- nothing was written, for want of memory or since no bytes are this PAC; or a write stopped
-abbrev pub IsWriteRefusal : List Buffer → ℕ → ℕ → Option ErrorKind → PacError → Type 0
-IsWriteRefusal bs old new last fault =
-    ((new ≡ old) × ((fault ≡ Memory) ⊎ (pac_written bs ≡ Err fault))) ⊎ IsWriteFault old new last fault
+-- memory was wanting, or no bytes are this PAC
+abbrev pub IsUnwritten : List Buffer → PacError → Type 0
+IsUnwritten bs fault = (fault ≡ Memory) ⊎ (pac_written bs ≡ Err fault)
+
+-- nothing was written and no write failed, since there are no bytes to write; or a write stopped
+abbrev pub IsWriteRefusal : List Buffer → Option (List ℕ) → Option (List ℕ) → ℕ → ℕ → Option ErrorKind → PacError → Type 0
+IsWriteRefusal bs before after old new last fault =
+    (IsUnwritten bs fault × (after ≡ before) × (new ≡ old)) ⊎ IsWriteFault old new last fault
 
 -- the bytes with one buffer put into them, its row at this place; or that the row ends past them, or the content does or isn't of its size
 abbrev pub buffer_put : ℕ → Buffer → List ℕ → Result (List ℕ) PacError

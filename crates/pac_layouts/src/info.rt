@@ -3,8 +3,9 @@ ghost use Rattle.std.specs.Prelude.{◌≡◌, ℕ, ◌+◌, ◌≤◌, ◌⊎�
 ghost use Rattle.std.specs.Io.KnownBytes.{Consumes, Appends};
 ghost use Rattle.byte_layouts.specs.Parts.{IsLaidOut, put_all};
 ghost use Rattle.pac_layouts.specs.Buffers.{info_parts, IsInfo, FitsInfo};
-ghost use Rattle.pac_layouts.specs.Faults.{IsWriteFault, IsDeviceFault};
+ghost use Rattle.pac_layouts.specs.Faults.{IsWriteFault};
 ghost use Rattle.pac_layouts.specs.Reading.{kind_at, fields_at, info_at};
+ghost use Rattle.pac_layouts.specs.Refusals.{IsRowBroken, IsRowRefusal};
 
 use crate::error::{short_fault, write_fault};
 use crate::{PacBufferType, PacError};
@@ -141,9 +142,9 @@ impl PacInfoBuffer {
             × Consumes (R.left reader.old) (R.left reader.new) whole) }
         ensures only { IfSome (R.left reader.old) (λ bytes. (info : PacInfoBuffer) → FitsInfo info → IsInfo info (take 16 bytes)
             → MatchResult result (λ read. read ≡ info)
-            (IsDeviceFault (R.failed reader.old) (R.failed reader.new) (R.last_fault reader.new))) }
-        ensures refused { IfErr result (λ e. IfSome (R.left reader.old) (λ bytes. (info_at None 0 (take 16 bytes) ≡ Err e)
-            ⊎ IsDeviceFault (R.failed reader.old) (R.failed reader.new) (R.last_fault reader.new) e)) }
+            (IsRowBroken bytes (R.left reader.new) (R.failed reader.old) (R.failed reader.new) (R.last_fault reader.new))) }
+        ensures refused { IfErr result (λ e. IfSome (R.left reader.old) (λ bytes.
+            IsRowRefusal bytes (R.left reader.new) (R.failed reader.old) (R.failed reader.new) (R.last_fault reader.new) e)) }
         ensures same { R.through reader.new ≡ R.through reader.old }
     {
         let mut bytes = [0; INFO_LEN];

@@ -183,7 +183,7 @@ impl Pac {
     /// Writes the PAC; a front of it where the writer stops. Its buffers' rows are written in turn, and each content at
     /// its row's offset, into zeros: 8 bytes, 16 for each buffer, and each size rounded up to 8.
     ///
-    /// A size other than the content's, and a buffer that ends past those bytes, is InvalidRange.
+    /// A size other than the content's, and a buffer that ends past those bytes, is InvalidRange, and nothing is written.
     pub fn serialize<W: Sink>(&self, alloc: Global, writer: &mut W) -> Result<(), PacError>
         ensures written { MatchResult result
             (λ _. Appends (W.written writer.old) (W.written writer.new) (pac_bytes (pac_buffers self.now)))
@@ -192,7 +192,8 @@ impl Pac {
         ensures judged { IfOk result (λ _. pac_written (pac_buffers self.now) ≡ Ok (pac_bytes (pac_buffers self.now))) }
         ensures fit { IfOk result (λ _. AllFit (pac_buffers self.now)) }
         ensures refused { MatchResult result (λ _. W.failed writer.new ≡ W.failed writer.old)
-            (IsWriteRefusal (pac_buffers self.now) (W.failed writer.old) (W.failed writer.new) (W.last_fault writer.new)) }
+            (IsWriteRefusal (pac_buffers self.now) (W.written writer.old) (W.written writer.new)
+            (W.failed writer.old) (W.failed writer.new) (W.last_fault writer.new)) }
         ensures same { W.through writer.new ≡ W.through writer.old }
     {
         let bytes = self.bytes(alloc)?;
@@ -213,9 +214,9 @@ impl Pac {
         ensures end { IfOk result (λ _. IsAtEnd (R.left reader.new)) }
         ensures only { IfSome (R.left reader.old) (λ whole. (bs : List Buffer) → AllFit bs → IsPac bs whole
             → MatchResult result (λ p. pac_buffers p ≡ bs)
-            (IsExcuse whole (R.failed reader.old) (R.failed reader.new) (R.last_fault reader.new))) }
+            (IsExcuse whole (R.left reader.new) (R.failed reader.old) (R.failed reader.new) (R.last_fault reader.new))) }
         ensures refused { IfErr result (λ e. IfSome (R.left reader.old) (λ whole.
-            IsRefusal whole (R.failed reader.old) (R.failed reader.new) (R.last_fault reader.new) e)) }
+            IsRefusal whole (R.left reader.new) (R.failed reader.old) (R.failed reader.new) (R.last_fault reader.new) e)) }
         ensures same { R.through reader.new ≡ R.through reader.old }
     {
         let came = read_to_stop(alloc, reader)?;

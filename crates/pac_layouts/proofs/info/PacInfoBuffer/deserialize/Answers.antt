@@ -19,4 +19,4 @@ returns-in-Err-clause-refused g c =
     c.read_front-front.ensures.fault (sym c.in-Err.ensures.exact)
 
 pub returns-in-Err-clause-only : goal.returns-in-Err-clause-only
-returns-in-Err-clause-only g c = refused-info _ _ _ _ _ (returns-in-Err-clause-refused g c)
+returns-in-Err-clause-only g c = refused-info (g.R.Source.left c.args.reader.now) _ _ _ _ _ (returns-in-Err-clause-refused g c)

@@ -6,16 +6,16 @@ use Rattle.pac_layouts.proofs.pac.Pac.deserialize.Goals as goal
 
 pub returns-in_err-pac-clause-only : goal.returns-in_err-pac-clause-only
 returns-in_err-pac-clause-only g c =
-    refused-only (g.R.Source.left c.args.reader.now) c.from_residual-in_err-pac.result _ _ _ c.in_err-pac.field-0.0
+    refused-only (g.R.Source.left c.args.reader.now) (g.R.Source.left c.read_to_stop.new.reader) c.from_residual-in_err-pac.result _ _ _ c.in_err-pac.field-0.0
     c.from_residual-in_err-pac.ensures.1
-    (pac-refused _ _ c.in_ok-came.came.fault _ _ _ c.deref.result.now _
+    (pac-refused (g.R.Source.left c.args.reader.now) (g.R.Source.left c.read_to_stop.new.reader) c.in_ok-came.came.fault _ _ _ c.deref.result.now _
     (subst (Consumes (g.R.Source.left c.args.reader.now) (g.R.Source.left c.read_to_stop.new.reader)) (sym c.deref.ensures.value) c.in_ok-came.ensures.bytes)
     c.in_ok-came.ensures.end c.in_ok-came.ensures.fault c.in_err-pac.ensures.exact)
 
 pub returns-in_err-pac-clause-refused : goal.returns-in_err-pac-clause-refused
 returns-in_err-pac-clause-refused g c =
     at-exit _ _ _ _ c.from_residual-in_err-pac.ensures.1
-    (pac-refused (g.R.Source.left c.args.reader.now) _ c.in_ok-came.came.fault _ _ _ c.deref.result.now _
+    (pac-refused (g.R.Source.left c.args.reader.now) (g.R.Source.left c.read_to_stop.new.reader) c.in_ok-came.came.fault _ _ _ c.deref.result.now _
     (subst (Consumes (g.R.Source.left c.args.reader.now) (g.R.Source.left c.read_to_stop.new.reader)) (sym c.deref.ensures.value) c.in_ok-came.ensures.bytes)
     c.in_ok-came.ensures.end c.in_ok-came.ensures.fault c.in_err-pac.ensures.exact)
 
@@ -27,14 +27,14 @@ returns-in-None-clause-only g c =
 
 pub returns-clause-only : goal.returns-clause-only
 returns-clause-only g c =
-    excused-only (g.R.Source.left c.args.reader.now) _ _ _ _
+    excused-only (g.R.Source.left c.args.reader.now) (g.R.Source.left c.read_to_stop.new.reader) _ _ _ _
     (pac-broken (g.R.Source.left c.args.reader.now) (g.R.Source.left c.read_to_stop.new.reader) c.in_ok-came.came.fault _ _ _ c.deref.result.now c.in-Some.kind _
     (subst (Consumes (g.R.Source.left c.args.reader.now) (g.R.Source.left c.read_to_stop.new.reader)) (sym c.deref.ensures.value) c.in_ok-came.ensures.bytes)
     c.in-Some.is c.in_ok-came.ensures.fault c.in_ok-pac.ensures.exact)
 
 pub returns-clause-refused : goal.returns-clause-refused
 returns-clause-refused g c =
-    excused-refused (g.R.Source.left c.args.reader.now) _ _ _ _
+    excused-refused (g.R.Source.left c.args.reader.now) (g.R.Source.left c.read_to_stop.new.reader) _ _ _ _
     (pac-broken (g.R.Source.left c.args.reader.now) (g.R.Source.left c.read_to_stop.new.reader) c.in_ok-came.came.fault _ _ _ c.deref.result.now c.in-Some.kind _
     (subst (Consumes (g.R.Source.left c.args.reader.now) (g.R.Source.left c.read_to_stop.new.reader)) (sym c.deref.ensures.value) c.in_ok-came.ensures.bytes)
     c.in-Some.is c.in_ok-came.ensures.fault c.in_ok-pac.ensures.exact)
