@@ -5,20 +5,20 @@ use Rattle.std.proofs.lemmas.Bool.{cases_lt}
 use Rattle.std.proofs.lemmas.List.{take_at, take_all, length-take}
 use Rattle.std.specs.Io.KnownBytes.{Consumes, IsAtEnd}
 use Rattle.std.specs.declared.io.ErrorKind.{ErrorKind}
-use Rattle.std.specs.declared.io.ErrorKind.TheVariants.{OutOfMemory, UnexpectedEof}
+use Rattle.std.specs.declared.io.ErrorKind.TheVariants.{OutOfMemory}
 use Rattle.devices.specs.Counting.{one_more}
 use Rattle.byte_layouts.proofs.NumberLaws.{AreBytes}
 use Rattle.negoex_forms.specs.Form.{Layout, Answer, Answers}
 use Rattle.negoex_forms.specs.Laws.{LayoutLaws}
-use Rattle.negoex_layouts.specs.Sources.{IsRefusal, IsGiven}
+use Rattle.negoex_layouts.specs.Sources.{IsCutShort, IsRefusal, IsGiven}
 
 -- what a device that failed says of its count and its fault
 abbrev pub Counted : Option ErrorKind → ℕ → ℕ → Option ErrorKind → Type 0
 Counted fault old new last = MatchOption fault (new ≡ old) (λ kind. (new ≡ one_more old) × (last ≡ Some kind))
 
--- a header that ends too soon is answered by the device's fault, if it failed
-abbrev pub IsCutShort : ErrorKind → Option ErrorKind → ErrorKind → Type 0
-IsCutShort kind fault e = MatchOption fault (e ≡ kind) (λ cause. ((kind ≡ UnexpectedEof) × (e ≡ cause)) ⊎ (e ≡ kind))
+-- what a header that ends too soon is answered by
+abbrev pub IsAnswer : ErrorKind → Option ErrorKind → ErrorKind → Type 0
+IsAnswer kind fault e = MatchOption fault (e ≡ kind) (λ cause. IsCutShort cause kind e)
 
 -- all that is there of the header was read
 front-all : (width count : ℕ) (buffer bytes rest : List ℕ) → length buffer ≡ width → count ≤ width → bytes ≡ take count buffer ++ rest
@@ -35,8 +35,8 @@ front-all width count buffer bytes rest size few is ends =
 
 pub header-refused : {V : Type 0} (l : Layout V) (left after : Option (List ℕ)) (fault last : Option ErrorKind) (old new count : ℕ) (buffer message : List ℕ) (kind e : ErrorKind)
     → length buffer ≡ l.width → count ≤ length buffer → Consumes left after (take count buffer) → (fault ≡ None → count < length buffer → IsAtEnd after)
-    → Counted fault old new last → (kind ≡ OutOfMemory) ⊎ (l.read (take count buffer) message ≡ Err kind) → IsCutShort kind fault e
-    → IfSome left (λ bytes. IsRefusal l message bytes old new last e)
+    → Counted fault old new last → (kind ≡ OutOfMemory) ⊎ (l.read (take count buffer) message ≡ Err kind) → IsAnswer kind fault e
+    → IfSome left (λ bytes. IsRefusal l message bytes after old new last e)
 header-refused l None after fault last old new count buffer message kind e size few given ends counted told is = tt
 header-refused l (Some bytes) None fault last old new count buffer message kind e size few given ends counted told is = absurd given
 header-refused l (Some bytes) (Some rest) None last old new count buffer message kind e size few given ends counted (inl memory) is = inl (is ∙ memory)
@@ -44,26 +44,17 @@ header-refused l (Some bytes) (Some rest) None last old new count buffer message
     let front = front-all l.width count buffer bytes rest size (omega arith) given (λ less. ends refl (omega arith)) in
     inr (inl (ap (λ (h : List ℕ). l.read h message) (sym front) ∙ wrong ∙ ap Err (sym is)))
 header-refused l (Some bytes) (Some rest) (Some cause) last old new count buffer message kind e size few given ends counted (inl memory) (inl short) = cc (memory, short.0)
-header-refused l (Some bytes) (Some rest) (Some cause) last old new count buffer message kind e size few given ends counted (inl memory) (inr same) = inl (same ∙ memory)
-header-refused l (Some bytes) (Some rest) (Some cause) last old new count buffer message kind e size few given ends counted (inr wrong) (inl short) =
+header-refused l (Some bytes) (Some rest) (Some cause) last old new count buffer message kind e size few given ends counted (inl memory) (inr same) = inl (same.1 ∙ memory)
+header-refused l (Some bytes) (Some rest) (Some cause) last old new count buffer message kind e size few given ends counted (inr wrong) is =
     inr (inr record {
       cause = cause;
       counted = counted.0;
       told = counted.1;
-      front = take count buffer;
-      rest = rest;
-      parted = given;
-      fault = inr (wrong ∙ ap Err short.0, short.1);
-    })
-header-refused l (Some bytes) (Some rest) (Some cause) last old new count buffer message kind e size few given ends counted (inr wrong) (inr same) =
-    inr (inr record {
-      cause = cause;
-      counted = counted.0;
-      told = counted.1;
-      front = take count buffer;
-      rest = rest;
-      parted = given;
-      fault = inl (wrong ∙ ap Err (sym same));
+      came = take count buffer;
+      taken = given;
+      kind = kind;
+      wrong = wrong;
+      answered = is;
     })
 
 -- what was read of some bytes stands there
@@ -78,7 +69,7 @@ given-same r v w e f = cc (e, f)
 -- what was read is what stands there
 pub header-given : {T V : Type 0} (view : T → V) (l : Layout V) → LayoutLaws l → (t : T) (left after : Option (List ℕ)) (last : Option ErrorKind) (old new count : ℕ) (buffer message : List ℕ)
     → Consumes left after (take count buffer) → l.read (take count buffer) message ≡ Ok (view t) → l.IsLaid (view t) (take count buffer) message
-    → IfSome left (λ bytes. IsGiven view l message bytes old new last (Ok t))
+    → IfSome left (λ bytes. IsGiven view l message bytes after old new last (Ok t))
 header-given view l laws t None after last old new count buffer message given read laid = tt
 header-given view l laws t (Some whole) None last old new count buffer message given read laid = absurd given
 header-given view l laws t (Some whole) (Some rest) last old new count buffer message given read laid =
@@ -88,10 +79,10 @@ header-given view l laws t (Some whole) (Some rest) last old new count buffer me
     λ v fits is. given-same (l.read front message) (view t) v read (ap (λ (h : List ℕ). l.read h message) (sym same) ∙ laws.given v (take l.width whole) message fits is)
 
 -- what is no refusal of the bytes is want of memory or the device's
-pub header-excused : {T V : Type 0} (view : T → V) (l : Layout V) → LayoutLaws l → (left last_bytes : Option (List ℕ)) (last : Option ErrorKind) (old new : ℕ) (message : List ℕ) (e : ErrorKind)
-    → IfSome left (λ bytes. IsRefusal l message bytes old new last e) → IfSome left (λ bytes. IsGiven {T = T} view l message bytes old new last (Err e))
-header-excused view l laws None last_bytes last old new message e refusal = tt
-header-excused view l laws (Some whole) last_bytes last old new message e (inl memory) = λ v fits is. inl memory
-header-excused view l laws (Some whole) last_bytes last old new message e (inr (inl wrong)) =
+pub header-excused : {T V : Type 0} (view : T → V) (l : Layout V) → LayoutLaws l → (left after : Option (List ℕ)) (last : Option ErrorKind) (old new : ℕ) (message : List ℕ) (e : ErrorKind)
+    → IfSome left (λ bytes. IsRefusal l message bytes after old new last e) → IfSome left (λ bytes. IsGiven {T = T} view l message bytes after old new last (Err e))
+header-excused view l laws None after last old new message e refusal = tt
+header-excused view l laws (Some whole) after last old new message e (inl memory) = λ v fits is. inl memory
+header-excused view l laws (Some whole) after last old new message e (inr (inl wrong)) =
     λ v fits is. let given = laws.given v (take l.width whole) message fits is in cc (wrong, given)
-header-excused view l laws (Some whole) last_bytes last old new message e (inr (inr broken)) = λ v fits is. inr broken
+header-excused view l laws (Some whole) after last old new message e (inr (inr broken)) = λ v fits is. inr broken

@@ -17,9 +17,10 @@ message_bytes l filler v o = l.head v o ++ (filler ++ l.body v o)
 abbrev pub IsTrueOffset : {V : Type 0} → Layout V → List ℕ → ℕ → Type 0
 IsTrueOffset l filler o = o ≡ l.width + length filler
 
--- memory was wanting or the payload ends past 32 bits, and no write failed; or a write stopped
-abbrev pub IsEncodeStop : ℕ → ℕ → ℕ → ℕ → Option ErrorKind → ErrorKind → Type 0
-IsEncodeStop o n old new last kind = (IsTooLong o n kind × (new ≡ old)) ⊎ IsWriteStop old new last kind
+-- memory was wanting or the payload ends past 32 bits, and nothing was written and no write failed; or a write stopped
+abbrev pub IsEncodeStop : ℕ → ℕ → Option (List ℕ) → Option (List ℕ) → ℕ → ℕ → Option ErrorKind → ErrorKind → Type 0
+IsEncodeStop o n before after old new last kind =
+    (IsTooLong o n kind × (after ≡ before) × (new ≡ old)) ⊎ IsWriteStop old new last kind
 
 -- memory aside
 abbrev pub GivesBack : {T V : Type 0} → (T → V) → V → Answer T → Type 0

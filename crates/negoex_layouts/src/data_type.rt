@@ -46,7 +46,8 @@ pub trait NegoexDataType: Wide {
         ensures laid { IfOk result (λ _. IsTrueOffset Self.layout [] (place self.now)
             → IsMessage Self.layout (Self.view self.now) (message_bytes Self.layout [] (Self.view self.now) (place self.now))) }
         ensures fault { MatchResult result (λ _. W.failed to.new ≡ W.failed to.old)
-            (IsEncodeStop (place self.now) (Self.layout.payload (Self.view self.now)) (W.failed to.old) (W.failed to.new) (W.last_fault to.new)) }
+            (IsEncodeStop (place self.now) (Self.layout.payload (Self.view self.now)) (W.written to.old) (W.written to.new)
+            (W.failed to.old) (W.failed to.new) (W.last_fault to.new)) }
         ensures same { W.through to.new ≡ W.through to.old }
     {
         write_value(alloc, self, self.payload_offset(), &[], to)
@@ -68,9 +69,15 @@ pub trait NegoexDataType: Wide {
             (λ _. Appends (D.written payload.old) (D.written payload.new) (Self.layout.body (Self.view self.now) offset))
             (λ _. (n : ℕ) × Appends (D.written payload.old) (D.written payload.new) (take n (Self.layout.body (Self.view self.now) offset))) }
         ensures count { IfOk result (λ n. n ≡ Self.layout.payload (Self.view self.now)) }
-        ensures fault { IfErr result (λ e. IsTooLong offset (Self.layout.payload (Self.view self.now)) e
-            ⊎ (IsWriteStop (W.failed to.old) (W.failed to.new) (W.last_fault to.new) e
-            ⊎ IsWriteStop (D.failed payload.old) (D.failed payload.new) (D.last_fault payload.new) e)) }
+        ensures fault { MatchResult result
+            (λ _. (W.failed to.new ≡ W.failed to.old) × (D.failed payload.new ≡ D.failed payload.old))
+            (λ e. (IsTooLong offset (Self.layout.payload (Self.view self.now)) e
+            × (W.written to.new ≡ W.written to.old) × (W.failed to.new ≡ W.failed to.old)
+            × (D.written payload.new ≡ D.written payload.old) × (D.failed payload.new ≡ D.failed payload.old))
+            ⊎ ((IsWriteStop (W.failed to.old) (W.failed to.new) (W.last_fault to.new) e
+            × (D.written payload.new ≡ D.written payload.old) × (D.failed payload.new ≡ D.failed payload.old))
+            ⊎ (IsWriteStop (D.failed payload.old) (D.failed payload.new) (D.last_fault payload.new) e × (W.failed to.new ≡ W.failed to.old)))) }
+        ensures same { (W.through to.new ≡ W.through to.old) × (D.through payload.new ≡ D.through payload.old) }
     {
         let mut header = Vec::new(alloc);
         let mut body = Vec::new(alloc);
@@ -88,9 +95,9 @@ pub trait NegoexDataType: Wide {
         ensures found { IfOk result (λ t. (header : List ℕ) × Self.layout.IsLaid (Self.view t) header message.now
             × Consumes (R.left from.old) (R.left from.new) header) }
         ensures only { IfSome (R.left from.old) (λ bytes.
-            IsGiven Self.view Self.layout message.now bytes (R.failed from.old) (R.failed from.new) (R.last_fault from.new) result) }
+            IsGiven Self.view Self.layout message.now bytes (R.left from.new) (R.failed from.old) (R.failed from.new) (R.last_fault from.new) result) }
         ensures refused { IfErr result (λ e. IfSome (R.left from.old) (λ bytes.
-            IsRefusal Self.layout message.now bytes (R.failed from.old) (R.failed from.new) (R.last_fault from.new) e)) }
+            IsRefusal Self.layout message.now bytes (R.left from.new) (R.failed from.old) (R.failed from.new) (R.last_fault from.new) e)) }
         ensures same { R.through from.new ≡ R.through from.old }
     {
         let mut buffer = [0; 40];

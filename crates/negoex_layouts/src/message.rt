@@ -50,7 +50,8 @@ pub trait NegoexMessage: Wide {
         bytes_of(alloc, self, self.payload_offset(), Self::filling())
     }
 
-    /// Writes the message; a front of it where the writer stops.
+    /// Writes the message; a front of it where the writer stops. Nothing is written where the payload ends past 32 bits,
+    /// which is `InvalidInput`.
     fn encode<W: Sink>(&self, alloc: Global, to: &mut W) -> Result<(), ErrorKind>
         ensures written { MatchResult result
             (λ _. Appends (W.written to.old) (W.written to.new) (message_bytes Self.layout filler (Self.view self.now) (offset self.now)))
@@ -59,7 +60,8 @@ pub trait NegoexMessage: Wide {
         ensures laid { IfOk result (λ _. IsTrueOffset Self.layout filler (offset self.now)
             → IsMessage Self.layout (Self.view self.now) (message_bytes Self.layout filler (Self.view self.now) (offset self.now))) }
         ensures fault { MatchResult result (λ _. W.failed to.new ≡ W.failed to.old)
-            (IsEncodeStop (offset self.now) (Self.layout.payload (Self.view self.now)) (W.failed to.old) (W.failed to.new) (W.last_fault to.new)) }
+            (IsEncodeStop (offset self.now) (Self.layout.payload (Self.view self.now)) (W.written to.old) (W.written to.new)
+            (W.failed to.old) (W.failed to.new) (W.last_fault to.new)) }
         ensures same { W.through to.new ≡ W.through to.old }
     {
         write_value(alloc, self, self.payload_offset(), Self::filling(), to)

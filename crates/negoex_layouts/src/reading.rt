@@ -1,9 +1,8 @@
 //! Headers read from a device.
-ghost use Rattle.std.specs.Prelude.{◌≡◌, ℕ, ◌≤◌, ◌⊎◌, List, length, IfOk, IfErr, IfSome, MatchOption};
+ghost use Rattle.std.specs.Prelude.{◌≡◌, ℕ, ◌≤◌, List, length, IfOk, IfErr, IfSome, MatchOption};
 ghost use Rattle.std.specs.Io.KnownBytes.{Consumes};
-ghost use Rattle.std.specs.declared.io.ErrorKind.{ErrorKind};
 ghost use Rattle.negoex_forms.specs.Form.{Answers};
-ghost use Rattle.negoex_layouts.specs.Sources.{IsRefusal, IsGiven};
+ghost use Rattle.negoex_layouts.specs.Sources.{IsCutShort, IsRefusal, IsGiven};
 
 use byte_layouts::read_front;
 use devices::Source;
@@ -13,7 +12,7 @@ use std::io::ErrorKind;
 
 // A header that ends too soon is answered by the device's fault, if it failed.
 fn cut_short(kind: ErrorKind, fault: Option<ErrorKind>) -> ErrorKind
-    ensures { MatchOption fault (result ≡ kind) (λ cause. ((kind ≡ ErrorKind.UnexpectedEof) × (result ≡ cause)) ⊎ (result ≡ kind)) }
+    ensures { MatchOption fault (result ≡ kind) (λ cause. IsCutShort cause kind result) }
 {
     let Some(cause) = fault else {
         return kind;
@@ -43,9 +42,10 @@ pub(crate) fn read_value<T: Laid, R: Source>(
     requires { length buffer.old ≡ T.layout.width }
     ensures found { IfOk result (λ t. (header : List ℕ) × T.layout.IsLaid (T.view t) header message.now
         × Consumes (R.left from.old) (R.left from.new) header) }
-    ensures only { IfSome (R.left from.old) (λ bytes. IsGiven T.view T.layout message.now bytes (R.failed from.old) (R.failed from.new) (R.last_fault from.new) result) }
+    ensures only { IfSome (R.left from.old) (λ bytes.
+        IsGiven T.view T.layout message.now bytes (R.left from.new) (R.failed from.old) (R.failed from.new) (R.last_fault from.new) result) }
     ensures refused { IfErr result (λ e. IfSome (R.left from.old) (λ bytes.
-        IsRefusal T.layout message.now bytes (R.failed from.old) (R.failed from.new) (R.last_fault from.new) e)) }
+        IsRefusal T.layout message.now bytes (R.left from.new) (R.failed from.old) (R.failed from.new) (R.last_fault from.new) e)) }
     ensures same { R.through from.new ≡ R.through from.old }
 {
     let front = read_front(from, buffer);

@@ -44,7 +44,8 @@ pub(crate) fn write_value<T: Laid, W: Sink>(
     ensures laid { IfOk result (λ _. IsTrueOffset T.layout filler.now offset
         → IsMessage T.layout (T.view value.now) (message_bytes T.layout filler.now (T.view value.now) offset)) }
     ensures fault { MatchResult result (λ _. W.failed to.new ≡ W.failed to.old)
-        (IsEncodeStop offset (T.layout.payload (T.view value.now)) (W.failed to.old) (W.failed to.new) (W.last_fault to.new)) }
+        (IsEncodeStop offset (T.layout.payload (T.view value.now)) (W.written to.old) (W.written to.new)
+        (W.failed to.old) (W.failed to.new) (W.last_fault to.new)) }
     ensures same { W.through to.new ≡ W.through to.old }
 {
     let bytes = bytes_of(alloc, value, offset, filler)?;

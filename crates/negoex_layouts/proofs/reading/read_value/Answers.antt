@@ -9,7 +9,7 @@ returns-in-Ok-clause-found g c =
 pub returns-in-Ok-clause-only : goal.returns-in-Ok-clause-only
 returns-in-Ok-clause-only g c =
     let t = g.T.Laid in
-    header-given t.view t.layout t.laws _ (g.R.Source.left c.args.from.now) _
+    header-given t.view t.layout t.laws _ (g.R.Source.left c.args.from.now) (g.R.Source.left c.read_front-front.new.reader)
     (g.R.Source.last_fault c.read_front-front.new.reader) (g.R.Source.failed c.args.from.now) (g.R.Source.failed c.read_front-front.new.reader)
     c.read_front-front.result.count c.read_front-front.new.buffer c.args.message.now c.read_front-front.ensures.bytes c.in-Ok.ensures.exact c.in-Ok.ensures.found
 
@@ -17,11 +17,11 @@ pub returns-in-Err-clause-refused : goal.returns-in-Err-clause-refused
 returns-in-Err-clause-refused g c =
     let t = g.T.Laid in
     let buffer = c.read_front-front.new.buffer in
-    header-refused t.layout (g.R.Source.left c.args.from.now) _ c.read_front-front.result.fault _ _ _ c.read_front-front.result.count buffer c.args.message.now _ _
+    header-refused t.layout (g.R.Source.left c.args.from.now) (g.R.Source.left c.read_front-front.new.reader) c.read_front-front.result.fault _ _ _ c.read_front-front.result.count buffer c.args.message.now _ _
     (omega (arith, c.requires)) c.read_front-front.ensures.bound c.read_front-front.ensures.bytes c.read_front-front.ensures.end c.read_front-front.ensures.fault
     c.in-Err.ensures.exact c.cut_short.ensures
 
 pub returns-in-Err-clause-only : goal.returns-in-Err-clause-only
 returns-in-Err-clause-only g c =
     let t = g.T.Laid in
-    header-excused t.view t.layout t.laws (g.R.Source.left c.args.from.now) (g.R.Source.left c.args.from.now) _ _ _ c.args.message.now _ (returns-in-Err-clause-refused g c)
+    header-excused t.view t.layout t.laws (g.R.Source.left c.args.from.now) (g.R.Source.left c.read_front-front.new.reader) _ _ _ c.args.message.now _ (returns-in-Err-clause-refused g c)
