@@ -25,5 +25,5 @@ pub use fields::{Deviates, SpelledFields, SpelledItem};
 pub use front::read_front;
 pub use implied::{Implied, Implies};
 pub use list::Many;
-pub use sequence::read_fields;
+pub use sequence::{content_of, read_fields};
 pub use spelled::Spelled;

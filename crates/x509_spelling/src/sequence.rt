@@ -25,8 +25,8 @@ pub fn read_fields<F: SpelledFields>(
     F::read_content(alloc, content)
 }
 
-// The content of the one element that the bytes are.
-fn content_of(first: u8, bytes: &[u8]) -> Result<&[u8], X509Fault>
+/// The content of the one element with the identifier octet `first` that the bytes are.
+pub fn content_of(first: u8, bytes: &[u8]) -> Result<&[u8], X509Fault>
     requires { has_low_number first ≡ true }
     ensures { MatchResult result
         (λ content. bytes.now ≡ element first content.now)
