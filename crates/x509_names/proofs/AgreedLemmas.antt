@@ -1,0 +1,19 @@
+-- Fields that don't agree are those of no value.
+use Rattle.std.proofs.Common.{◌≡◌, ℕ, List, [], ◌++◌, Option, None, Some, MatchOption, refl, sym, ap, ◌∙◌}
+use Rattle.asn1_trees.specs.Tree.{Trees, AreWhole, ders}
+use Rattle.asn1_trees.specs.Length.{element}
+use Rattle.asn1_trees.specs.Tagged.{sequence}
+use Rattle.asn1_trees.proofs.Rows.{AreInjective}
+use Rattle.asn1_trees.proofs.Elements.{element-one}
+use Rattle.asn1_codec.specs.Reading.{IsSpelling}
+
+pub none_there : {A : Type 0} (o : Option A) (P : Type 0) (Q : A → Type 0) → MatchOption o P Q → ((x : A) → o ≡ Some x → ⊥) → P
+none_there None P Q p isnt = p
+none_there (Some x) P Q q isnt = absurd (isnt x refl)
+
+pub no_value : {R T : Type 0} (trees : R → Trees) → AreInjective trees → (row_of : T → R) (tag : ℕ) (fields : R) → ((v : T) → row_of v ≡ fields → ⊥)
+    → AreWhole (trees fields) → (bytes rest more : List ℕ) → IsSpelling (λ v. sequence trees tag (row_of v)) bytes
+    → bytes ++ rest ≡ element tag (ders (trees fields)) ++ more → ⊥
+no_value trees one row_of tag fields none whole bytes rest more p split =
+    let parts = element-one tag tag (ders (trees (row_of p.0))) (ders (trees fields)) rest more (ap (λ (l : List ℕ). l ++ rest) (sym p.1.1) ∙ split) in
+    none p.0 (one (row_of p.0) fields p.1.0 whole parts.1)

@@ -1,0 +1,3 @@
+pub mod AttributeLaws
+pub mod Attributes
+pub mod GeneralNames

@@ -1,0 +1,192 @@
+//! Attributes of names.
+ghost use Rattle.x509_names.specs.Attributes.{value_raw, is_value_of, directory_raw, is_directory_text, is_string_content, is_email_content};
+ghost use Rattle.x509_names.specs.declared.attribute_type_and_value.AttributeValue.{AttributeValue};
+ghost use Rattle.x509_parts.specs.declared.directory_string.DirectoryString.{DirectoryString};
+ghost use Rattle.asn1_leaves.specs.CharSets.{is_general_string};
+ghost use Rattle.asn1_leaves.specs.ObjectIdentifier.{oid_content};
+ghost use Rattle.std.specs.Prelude.{◌≡◌, ◌==◌, ℕ, List, true, IsTrue, IfOk, MatchOption, MatchResult};
+
+use crate::agreed::{Agreed, read_agreed};
+use devices::{Sink, Source};
+use picky_asn1::oid::ObjectIdentifier;
+use picky_asn1::wrapper::{
+    BmpStringAsn1, IA5StringAsn1, ObjectIdentifierAsn1, PrintableStringAsn1, Utf8StringAsn1,
+};
+use picky_asn1_der::{Asn1DerError, Deserializer, Fields, RawElement, Row2, Serializer, Tagged};
+use std::alloc::{AllocError, Global};
+use x509_parts::DirectoryString;
+use x509_spelling::Exact;
+
+/// The value of an attribute.
+#[derive(Drop)]
+pub enum AttributeValue {
+    /// A string of a name.
+    Directory(DirectoryString),
+    /// An address of electronic mail.
+    Email(IA5StringAsn1),
+    /// An element of any type.
+    Custom(RawElement),
+}
+
+/// An attribute of a name, and its value.
+///
+/// ```text
+/// AttributeTypeAndValue ::= SEQUENCE {
+///      type     AttributeType,
+///      value    AttributeValue }
+///
+/// AttributeType ::= OBJECT IDENTIFIER
+///
+/// AttributeValue ::= ANY -- DEFINED BY AttributeType
+/// ```
+#[derive(Drop)]
+pub struct AttributeTypeAndValue {
+    ty: ObjectIdentifierAsn1,
+    value: AttributeValue,
+    pub ghost of_its_type: { IsTrue (is_value_of ty.0 value) },
+}
+
+type AttributeRow = Row2<ObjectIdentifierAsn1, RawElement>;
+
+impl AttributeTypeAndValue {
+    /// The attribute's identifier.
+    pub fn ty(&self) -> &ObjectIdentifierAsn1
+        ensures { result.now ≡ self.now.ty }
+    {
+        &self.ty
+    }
+}
+
+impl Agreed for AttributeTypeAndValue {
+    ghost use Rattle.x509_names.specs.Attributes.{value_raw};
+
+    type Row = AttributeRow;
+
+    ghost row_of = { λ v. (v.ty, (value_raw v.value, tt)) };
+
+    fn of_fields(alloc: Global, fields: AttributeRow) -> Result<Option<Self>, AllocError> {
+        let (ty, (raw, ())) = fields;
+        let Some(value) = value_of(alloc, &ty.0, raw)? else {
+            return Ok(None);
+        };
+        Ok(Some(AttributeTypeAndValue { ty, value }))
+    }
+}
+
+impl Tagged for AttributeTypeAndValue {
+    ghost use Rattle.std.proofs.Common.{ap, refl, true};
+    ghost use Rattle.asn1_trees.specs.Tagged.{sequence};
+    ghost use Rattle.asn1_trees.proofs.Tagged.{sequence_laws};
+    ghost use Rattle.x509_names.specs.Attributes.{value_raw};
+    ghost use Rattle.x509_names.specs.AttributeLaws.{same_attribute, held_tag_laws};
+
+    type Row = AttributeTypeAndValue;
+
+    const FIRST: u8 = 48;
+
+    ghost FIRST = { 48 };
+
+    ghost row_tree = { λ octet v. sequence ⟦<AttributeRow as Fields>⟧.trees octet (v.ty, (value_raw v.value, tt)) };
+
+    ghost row_laws = { held_tag_laws (sequence ⟦<AttributeRow as Fields>⟧.trees) (sequence_laws ⟦<AttributeRow as Fields>⟧.trees (⟦<AttributeRow as Fields>⟧.injective (refl {a = true})))
+        (λ v. (v.ty, (value_raw v.value, tt))) same_attribute };
+
+    ghost row_of = { λ v. v };
+
+    ghost one_row = { λ v w e. e };
+
+    fn read_row<R: Source>(tag: u8, from: &mut Deserializer<R>) -> Result<Self, Asn1DerError> {
+        read_agreed(tag, from)
+    }
+
+    fn of_row(row: Self) -> Self {
+        row
+    }
+
+    fn write_row<W: Sink>(&self, tag: u8, to: &mut Serializer<W>) -> Result<usize, Asn1DerError> {
+        match &self.value {
+            AttributeValue::Directory(string) => to.list(tag, &(&self.ty, (string, ()))),
+            AttributeValue::Email(address) => to.list(tag, &(&self.ty, (address, ()))),
+            AttributeValue::Custom(raw) => to.list(tag, &(&self.ty, (raw, ()))),
+        }
+    }
+}
+
+impl Exact for AttributeTypeAndValue {}
+
+// The value that the element is, of the type that the identifier decides; none where it isn't of that type.
+fn value_of(
+    alloc: Global,
+    oid: &ObjectIdentifier,
+    raw: RawElement,
+) -> Result<Option<AttributeValue>, AllocError>
+    ensures { IfOk result (λ read. MatchOption read
+        ((value : AttributeValue) → IsTrue (is_value_of oid.now value) → value_raw value ≡ raw → ⊥)
+        (λ value. IsTrue (is_value_of oid.now value) × (value_raw value ≡ raw))) }
+{
+    if is_string_attribute(oid) {
+        let Some(string) = directory_of(alloc, &raw)? else {
+            return Ok(None);
+        };
+        return Ok(Some(AttributeValue::Directory(string)));
+    }
+    if is_email_address(oid) {
+        let Some(address) = email_of(alloc, &raw)? else {
+            return Ok(None);
+        };
+        return Ok(Some(AttributeValue::Email(address)));
+    }
+    Ok(Some(AttributeValue::Custom(raw)))
+}
+
+// Whether this is an attribute that has a string of a name.
+fn is_string_attribute(oid: &ObjectIdentifier) -> bool
+    ensures { result ≡ is_string_content (oid_content oid.now) }
+{
+    let [first, second, number] = oid.as_bytes() else {
+        return false;
+    };
+    *first == 0x55 && *second == 4 && matches!(*number, 3..=11 | 20 | 42)
+}
+
+// Whether this is emailAddress.
+fn is_email_address(oid: &ObjectIdentifier) -> bool
+    ensures { result ≡ is_email_content (oid_content oid.now) }
+{
+    oid.as_bytes() == [0x2A, 0x86, 0x48, 0x86, 0xF7, 0x0D, 1, 9, 1].as_slice()
+}
+
+// The address that the element is, none where it is none.
+fn email_of(alloc: Global, raw: &RawElement) -> Result<Option<IA5StringAsn1>, AllocError>
+    ensures { IfOk result (λ read. MatchOption read
+        ((address : List ℕ) → IsTrue (is_general_string address) → record { first = 22; content = address } ≡ raw.now → ⊥)
+        (λ address. IsTrue (is_general_string address) × (record { first = 22; content = address } ≡ raw.now))) }
+{
+    if raw.first() != 22 {
+        return Ok(None);
+    }
+    IA5StringAsn1::from_content(alloc, raw.content())
+}
+
+// The string that the element is, none where it is none of a name.
+fn directory_of(alloc: Global, raw: &RawElement) -> Result<Option<DirectoryString>, AllocError>
+    ensures { IfOk result (λ read. MatchOption read
+        ((string : DirectoryString) → IsTrue (is_directory_text string) → directory_raw string ≡ raw.now → ⊥)
+        (λ string. IsTrue (is_directory_text string) × (directory_raw string ≡ raw.now))) }
+{
+    match raw.first() {
+        19 => {
+            let string = PrintableStringAsn1::from_content(alloc, raw.content())?;
+            Ok(string.map(DirectoryString::PrintableString))
+        }
+        12 => {
+            let string = Utf8StringAsn1::from_content(alloc, raw.content())?;
+            Ok(string.map(DirectoryString::Utf8String))
+        }
+        30 => {
+            let string = BmpStringAsn1::from_content(alloc, raw.content())?;
+            Ok(string.map(DirectoryString::BmpString))
+        }
+        _ => Ok(None),
+    }
+}

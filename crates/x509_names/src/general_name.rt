@@ -1,0 +1,175 @@
+//! Names of a certificate's holder and issuer (RFC 5280, section 4.2.1.6).
+ghost use Rattle.std.specs.Prelude.{◌≡◌, MatchResult};
+ghost use Rattle.x509_names.specs.GeneralNames.{general_choice};
+
+use crate::edi_party_name::EdiPartyName;
+use crate::name::Name;
+use crate::other_name::OtherName;
+use devices::{Sink, Source};
+use picky_asn1::wrapper::{
+    Asn1SequenceOf, ExplicitContextTag, ExplicitContextTag4, IA5StringAsn1, ImplicitContextTag,
+    ImplicitContextTag0, ImplicitContextTag1, ImplicitContextTag2, ImplicitContextTag5,
+    ImplicitContextTag6, ImplicitContextTag7, ImplicitContextTag8, ObjectIdentifierAsn1,
+    OctetStringAsn1,
+};
+use picky_asn1_der::{
+    Alternatives, Asn1DerError, Choice, Deserialize, Deserializer, Last, Serialize, Serializer,
+    Tagged,
+};
+use x509_spelling::Exact;
+
+/// A name of any of eight kinds.
+///
+/// ```text
+/// GeneralName ::= CHOICE {
+///      otherName                       [0]     OtherName,
+///      rfc822Name                      [1]     IA5String,
+///      dNSName                         [2]     IA5String,
+///      x400Address                     [3]     ORAddress,
+///      directoryName                   [4]     Name,
+///      ediPartyName                    [5]     EDIPartyName,
+///      uniformResourceIdentifier       [6]     IA5String,
+///      iPAddress                       [7]     OCTET STRING,
+///      registeredID                    [8]     OBJECT IDENTIFIER }
+/// ```
+///
+/// Of X.400 none is read.
+#[derive(Drop)]
+pub enum GeneralName {
+    /// A name of another kind.
+    OtherName(OtherName),
+    /// An address of electronic mail.
+    Rfc822Name(IA5StringAsn1),
+    /// A name of a host.
+    DnsName(IA5StringAsn1),
+    /// A name of a directory.
+    DirectoryName(Name),
+    /// A partner of electronic data interchange.
+    EdiPartyName(EdiPartyName),
+    /// A uniform resource identifier.
+    Uri(IA5StringAsn1),
+    /// An address of the Internet Protocol.
+    IpAddress(OctetStringAsn1),
+    /// An object identifier.
+    RegisteredId(ObjectIdentifierAsn1),
+}
+
+/// Names of any kind.
+///
+/// ```text
+/// GeneralNames ::= SEQUENCE SIZE (1..MAX) OF GeneralName
+/// ```
+pub type GeneralNames = Asn1SequenceOf<GeneralName>;
+
+type LaterChoice = Choice<
+    ImplicitContextTag5<EdiPartyName>,
+    Choice<
+        ImplicitContextTag6<IA5StringAsn1>,
+        Choice<
+            ImplicitContextTag7<OctetStringAsn1>,
+            Last<ImplicitContextTag8<ObjectIdentifierAsn1>>,
+        >,
+    >,
+>;
+
+type GeneralNameChoice = Choice<
+    ImplicitContextTag0<OtherName>,
+    Choice<
+        ImplicitContextTag1<IA5StringAsn1>,
+        Choice<ImplicitContextTag2<IA5StringAsn1>, Choice<ExplicitContextTag4<Name>, LaterChoice>>,
+    >,
+>;
+
+impl From<Name> for GeneralName {
+    ghost use Rattle.x509_names.specs.declared.general_name.GeneralName.TheVariants.{DirectoryName};
+
+    ghost from_gives = { λ name made. made ≡ DirectoryName name };
+
+    fn from(name: Name) -> GeneralName {
+        GeneralName::DirectoryName(name)
+    }
+}
+
+impl Serialize for GeneralName {
+    ghost use Rattle.std.proofs.Common.{refl, true};
+    ghost use Rattle.asn1_trees.proofs.Choices.{injective_as};
+    ghost use Rattle.x509_names.specs.GeneralNames.{general_choice, general_made, general_back};
+
+    ghost tree = { λ v. ⟦<GeneralNameChoice as Alternatives>⟧.tree (general_choice v) };
+
+    ghost firsts = { ⟦<GeneralNameChoice as Alternatives>⟧.firsts };
+
+    ghost begins = { λ v. ⟦<GeneralNameChoice as Alternatives>⟧.begins (general_choice v) };
+
+    ghost injective = { injective_as ⟦<GeneralNameChoice as Alternatives>⟧.tree (⟦<GeneralNameChoice as Alternatives>⟧.injective (refl {a = true})) general_choice general_made general_back };
+
+    fn serialize<W: Sink>(&self, to: &mut Serializer<W>) -> Result<usize, Asn1DerError> {
+        match self {
+            GeneralName::OtherName(name) => name.write_row(160, to),
+            GeneralName::Rfc822Name(address) => address.write_row(129, to),
+            GeneralName::DnsName(host) => host.write_row(130, to),
+            GeneralName::DirectoryName(name) => to.wrapped(164, name),
+            GeneralName::EdiPartyName(name) => name.write_row(165, to),
+            GeneralName::Uri(uri) => uri.write_row(134, to),
+            GeneralName::IpAddress(address) => address.write_row(135, to),
+            GeneralName::RegisteredId(oid) => oid.write_row(136, to),
+        }
+    }
+}
+
+impl Deserialize for GeneralName {
+    fn may_start(first: u8) -> bool {
+        GeneralNameChoice::may_start_any(first)
+    }
+
+    fn deserialize<R: Source>(from: &mut Deserializer<R>) -> Result<Self, Asn1DerError> {
+        let choice: GeneralNameChoice = Alternatives::read_one(from)?;
+        Ok(general_of(choice))
+    }
+}
+
+impl Exact for GeneralName {}
+
+// The name that the alternative is.
+fn general_of(choice: GeneralNameChoice) -> GeneralName
+    ensures { general_choice result ≡ choice }
+{
+    match choice {
+        Choice::This(ImplicitContextTag(value)) => GeneralName::OtherName(value),
+        Choice::Other(Choice::This(ImplicitContextTag(value))) => GeneralName::Rfc822Name(value),
+        Choice::Other(Choice::Other(Choice::This(ImplicitContextTag(value)))) =>
+            GeneralName::DnsName(value),
+        Choice::Other(Choice::Other(Choice::Other(Choice::This(ExplicitContextTag(value))))) =>
+            GeneralName::DirectoryName(value),
+        Choice::Other(
+            Choice::Other(Choice::Other(Choice::Other(Choice::This(ImplicitContextTag(value))))),
+        ) => GeneralName::EdiPartyName(value),
+        Choice::Other(
+            Choice::Other(
+                Choice::Other(
+                    Choice::Other(Choice::Other(Choice::This(ImplicitContextTag(value)))),
+                ),
+            ),
+        ) => GeneralName::Uri(value),
+        Choice::Other(
+            Choice::Other(
+                Choice::Other(
+                    Choice::Other(
+                        Choice::Other(Choice::Other(Choice::This(ImplicitContextTag(value)))),
+                    ),
+                ),
+            ),
+        ) => GeneralName::IpAddress(value),
+        Choice::Other(
+            Choice::Other(
+                Choice::Other(
+                    Choice::Other(
+                        Choice::Other(
+                            Choice::Other(Choice::Other(Last(ImplicitContextTag(value)))),
+                        ),
+                    ),
+                ),
+            ),
+        ) => GeneralName::RegisteredId(value),
+    }
+}

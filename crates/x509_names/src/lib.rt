@@ -1,0 +1,16 @@
+//! Names of X.509 (RFC 5280, sections 4.1.2.4 and 4.2.1.6), which are spelled in one way.
+#![tactic(auto)]
+
+mod agreed;
+mod attribute_type_and_value;
+mod edi_party_name;
+mod general_name;
+mod name;
+mod other_name;
+
+pub use agreed::{Agreed, read_agreed};
+pub use attribute_type_and_value::{AttributeTypeAndValue, AttributeValue};
+pub use edi_party_name::EdiPartyName;
+pub use general_name::{GeneralName, GeneralNames};
+pub use name::{DirectoryName, Name, RdnSequence, RelativeDistinguishedName};
+pub use other_name::OtherName;
