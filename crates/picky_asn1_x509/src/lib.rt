@@ -1,0 +1,16 @@
+//! X.509 values under the names and paths of the ported crate.
+//!
+//! [`from_bytes`] reads a value from every spelling that is accepted for it, [`deviations`] counts what deviates there,
+//! [`to_vec`] writes the strict spelling, and [`encoded_len`] tells its length.
+#![tactic(auto)]
+
+pub use picky_asn1::oid;
+pub use x509_names::{
+    AttributeTypeAndValue, AttributeValue, DirectoryName, EdiPartyName, GeneralName, GeneralNames,
+    Name, OtherName, RdnSequence, RelativeDistinguishedName,
+};
+pub use x509_oids as oids;
+pub use x509_parts::{
+    BasicConstraints, DirectoryString, RawAlgorithmIdentifier, Time, Validity, Version,
+};
+pub use x509_spelling::{Spelled, X509Fault, deviations, encoded_len, from_bytes, to_vec};
