@@ -1,0 +1,86 @@
+-- The fields of the tables of a settings file, and what each may hold.
+use Rattle.std.specs.Prelude.{ℕ, nat_eq, pos, Bool, if◌then◌else◌, List, [], ◌∷◌, codes, Option, None, Some, Result, Ok, Err}
+use Rattle.std.specs.List.{list_any, list_all}
+use Rattle.std.specs.Cmp.Lexicographic.{pointwise}
+use Rattle.hex.specs.Hex.{decode_of}
+use Rattle.toml.specs.Data.{Data, string, integer, array, Items, Members, no_members, member, get_member}
+use Rattle.krb_crypto.specs.declared.suite.CipherSuite.{CipherSuite}
+use Rattle.krb_crypto.specs.declared.suite.CipherSuite.TheVariants.{Aes128CtsHmacSha196, Aes256CtsHmacSha196}
+use Rattle.krb_settings.specs.Steps.{◌>>=◌}
+use Rattle.krb_settings.specs.declared.field.Field.{Field}
+use Rattle.krb_settings.specs.declared.field.Field.TheVariants.{Account, Key, Lifetime, Name, Password, Realm, Skew, Suite}
+use Rattle.krb_settings.specs.declared.fault.TableFault.{TableFault}
+use Rattle.krb_settings.specs.declared.fault.TableFault.TheVariants.{UnknownKey, Missing, WrongType, UnknownSuite, BadDigits}
+
+abbrev pub field_name : Field → List ℕ
+field_name Account = codes "account"
+field_name Key = codes "key"
+field_name Lifetime = codes "lifetime"
+field_name Name = codes "name"
+field_name Password = codes "password"
+field_name Realm = codes "realm"
+field_name Skew = codes "skew"
+field_name Suite = codes "suite"
+
+-- the key is the name of one of the fields
+abbrev pub is_among : List Field → List ℕ → Bool
+is_among fields key = list_any (λ field. pointwise nat_eq key (field_name field)) fields
+
+-- the keys of a table
+abbrev pub keys_in : Members → List (List ℕ)
+keys_in no_members = []
+keys_in (member key value rest) = key ∷ keys_in rest
+
+-- each key of a table is the name of one of the fields
+abbrev pub has_only : List Field → Members → Bool
+has_only fields document = list_all (is_among fields) (keys_in document)
+
+abbrev pub only : List Field → Members → Result (Unit {0}) TableFault
+only fields document = if has_only fields document then Ok tt else Err UnknownKey
+
+-- what a field holds, where the table has it
+abbrev pub present : Field → Option Data → Result Data TableFault
+present field None = Err (Missing field)
+present field (Some value) = Ok value
+
+abbrev pub value_at : Field → Members → Result Data TableFault
+value_at field document = present field (get_member (field_name field) document)
+
+-- a text, a whole number that isn't negative, a list
+abbrev pub text_of : Field → Data → Result (List ℕ) TableFault
+text_of field (string text) = Ok text
+text_of field _ = Err (WrongType field)
+
+abbrev pub natural_of : Field → Data → Result ℕ TableFault
+natural_of field (integer (pos n)) = Ok n
+natural_of field _ = Err (WrongType field)
+
+abbrev pub list_of : Field → Data → Result Items TableFault
+list_of field (array items) = Ok items
+list_of field _ = Err (WrongType field)
+
+abbrev pub text_at : Field → Members → Result (List ℕ) TableFault
+text_at field document = value_at field document >>= text_of field
+
+abbrev pub natural_at : Field → Members → Result ℕ TableFault
+natural_at field document = value_at field document >>= natural_of field
+
+-- the suites by their names (RFC 3962, section 7)
+abbrev pub suite_named : List ℕ → Result CipherSuite TableFault
+suite_named name =
+    if pointwise nat_eq name (codes "aes128-cts-hmac-sha1-96") then Ok Aes128CtsHmacSha196
+    else (if pointwise nat_eq name (codes "aes256-cts-hmac-sha1-96") then Ok Aes256CtsHmacSha196 else Err UnknownSuite)
+
+abbrev pub suite_at : Members → Result CipherSuite TableFault
+suite_at document = text_at Suite document >>= suite_named
+
+-- the bytes that hexadecimal digits write, two a byte
+abbrev pub digits_told : {E : Type 0} → Result (List ℕ) E → Result (List ℕ) TableFault
+digits_told (Ok bytes) = Ok bytes
+digits_told (Err _) = Err BadDigits
+
+abbrev pub bytes_of : List ℕ → Result (List ℕ) TableFault
+bytes_of digits = digits_told (decode_of digits)
+
+abbrev pub key_at : Members → Result (List ℕ) TableFault
+key_at document = text_at Key document >>= bytes_of

@@ -1,0 +1,29 @@
+-- Settings files: TOML texts of at most 1,048,576 bytes.
+use Rattle.std.specs.Prelude.{◌≡◌, ℕ, ◌≤◌, ◌<◌, ◌⊎◌, IsUtf8, List, length, Some, Ok, Err}
+use Rattle.toml.specs.Data.{Members}
+use Rattle.toml.specs.Parse.{parse_document}
+use Rattle.krb_settings.specs.Realms.{realm_of}
+use Rattle.krb_settings.specs.Written.{WrittenRealm}
+use Rattle.krb_settings.specs.declared.fault.SettingsFault.{SettingsFault}
+use Rattle.krb_settings.specs.declared.fault.SettingsFault.TheVariants.{NotToml, TooLong, Memory}
+
+-- the bytes are a text of this document
+pub record IsDocument (text : List ℕ) (document : Members) : Type 0 where
+  pub short : length text ≤ 1048576
+  pub utf8 : IsUtf8 text
+  pub parsed : parse_document text ≡ Some document
+
+-- the bytes write this realm
+abbrev pub IsRealmText : List ℕ → WrittenRealm → Type 0
+IsRealmText text realm = (document : Members) × IsDocument text document × (realm_of document ≡ Ok realm)
+
+-- the bytes have no document, and this is why
+abbrev pub IsUnread : List ℕ → SettingsFault → Type 0
+IsUnread text TooLong = 1048576 < length text
+IsUnread text (NotToml _) = (document : Members) → ¬ IsDocument text document
+IsUnread text _ = ⊥
+
+-- the bytes have this fault. Want of memory says nothing of them
+abbrev pub HasFault : List ℕ → SettingsFault → Type 0
+HasFault text fault =
+    (fault ≡ Memory) ⊎ IsUnread text fault ⊎ ((document : Members) × IsDocument text document × (realm_of document ≡ Err fault))
