@@ -1,0 +1,4 @@
+pub mod Clock
+pub mod Devices
+pub mod Moments
+pub mod Outcomes
