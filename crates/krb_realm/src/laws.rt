@@ -7,3 +7,4 @@ pub use krb_replies::laws::{has_reply, of_involved_alone, one_reply};
 pub use krb_service::laws::{
     admissible_if_admitted, admitted_as_presented, admitted_if_presented, has_outcome, one_outcome,
 };
+pub use krb_tgs::laws::body_is_part;

@@ -1,3 +1,4 @@
+mod BodyPart
 pub mod ByTicket
 pub mod HasOutcome
 pub mod Involved

@@ -7,6 +7,7 @@
 mod checksum;
 mod grant;
 mod judge;
+pub mod laws;
 mod whole;
 
 pub use whole::judge_tgs;

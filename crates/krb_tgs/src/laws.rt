@@ -1,0 +1,17 @@
+//! What holds of every TGS request.
+ghost use Rattle.std.specs.Prelude.{◌≡◌, List, [], ◌∷◌, IsSome};
+ghost use Rattle.krb_messages.specs.Messages.{IsTgsReq};
+ghost use Rattle.krb_messages.specs.declared.messages.kdc_req.KdcReq.{KdcReq};
+ghost use Rattle.krb_tgs.specs.TgsTable.{body_bytes};
+ghost use Rattle.picky_asn1.specs.Bytes.{Bytes};
+ghost use Rattle.picky_asn1_der.specs.Parts.{IsPart};
+
+/// What a request's checksum is computed over, the one encoding of its body, stands in the request's own bytes, and its place
+/// leads to nothing else: inside the application tag, where preauthentication data is there, the SEQUENCE's element number 3,
+/// counted from 0, and what its tag holds (RFC 4120, section 5.4.1). It does nothing when it runs: its contract is the law.
+pub fn body_is_part()
+    ensures part { (bytes : Bytes) (request : KdcReq) → IsTgsReq bytes request → IsSome request.padata.0
+        → IsPart bytes (0 ∷ 3 ∷ 0 ∷ []) (body_bytes request.req_body.0) }
+    ensures one { (bytes part : Bytes) (request : KdcReq) → IsTgsReq bytes request → IsSome request.padata.0
+        → IsPart bytes (0 ∷ 3 ∷ 0 ∷ []) part → part ≡ body_bytes request.req_body.0 }
+{}
