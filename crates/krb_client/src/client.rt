@@ -1,6 +1,6 @@
 //! Clients.
 ghost use Rattle.std.specs.Prelude.{◌≡◌, length};
-ghost use Rattle.krb_accounts.specs.Names.{parts};
+ghost use Rattle.krb_accounts.specs.Names.{AreComponents, IsRealmName, parts};
 ghost use Rattle.krb_crypto.specs.Suites.{cipher_key_size};
 
 use crate::AskRefusal;
@@ -74,8 +74,19 @@ impl Client {
         })
     }
 
+    /// Realm and name are names, and the key has as many bytes as its suite's keys. It does nothing when it runs, and tells it
+    /// of a client that a caller was handed.
+    pub fn is_well_formed(&self)
+        ensures realm { IsRealmName self.now.realm }
+        ensures name { AreComponents self.now.components }
+        ensures key { length self.now.key ≡ cipher_key_size self.now.suite }
+    {
+        // The clauses are of the fields: the proof sees them where one is read.
+        let _suite = self.suite;
+    }
+
     /// The realm.
-    pub(crate) fn realm(&self) -> &GeneralStringAsn1
+    pub fn realm(&self) -> &GeneralStringAsn1
         ensures { result.now ≡ self.now.realm }
     {
         &self.realm

@@ -4,7 +4,7 @@ ghost use Rattle.krb_accounts.specs.Names.{parts};
 ghost use Rattle.krb_replay_cache.specs.Pair.{PairRecord};
 ghost use Rattle.krb_replay_cache.specs.Seen.{IsWindow};
 ghost use Rattle.krb_service.specs.RememberingService.{IsStep, remembering};
-ghost use Rattle.krb_service.specs.Service.{made, making};
+ghost use Rattle.krb_service.specs.Service.{IsServiceEntry, made, making};
 
 use crate::once::admit_once;
 use krb_accounts::{RealmRefusal, are_components, components_of, is_realm_name, realm_name_of};
@@ -73,6 +73,15 @@ impl Service {
             entry: KeytabEntry::new(realm, components, suite, key, number),
             seen: Seen::new(alloc, skew),
         })
+    }
+
+    /// The service's realm and name are names, its key has as many bytes as its suite's keys, and its number is 1 or more. It
+    /// does nothing when it runs, and tells it of a service that a caller was handed.
+    pub fn is_well_formed(&self)
+        ensures { IsServiceEntry self.now.entry }
+    {
+        // The clause is of the fields: the proof sees them where one is read.
+        let _entry = &self.entry;
     }
 
     /// What the service holds is the window of a list of admitted pairs: of those that it holds. It does nothing when it
