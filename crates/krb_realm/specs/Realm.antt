@@ -14,6 +14,7 @@ use Rattle.krb_accounts.specs.Names.{is_realm_name, are_components}
 use Rattle.krb_accounts.specs.Settings.{SettingsRecord}
 use Rattle.krb_as.specs.Call.{CallRecord}
 use Rattle.krb_as.specs.TicketGranting.{krbtgt_of}
+use Rattle.krb_logins.specs.Parties.{RealmRecord}
 use Rattle.krb_accounts.specs.declared.refusal.RealmRefusal.{RealmRefusal}
 use Rattle.krb_accounts.specs.declared.refusal.RealmRefusal.TheVariants.{BadName, BadKeyLength, Exists, KeptAccount, Unknown}
 
@@ -21,6 +22,10 @@ pub record RealmState : Type 0 where
   pub name : Bytes
   pub settings : SettingsRecord
   pub accounts : AccountMap
+
+-- the realm as logins see it
+abbrev pub realm_of : RealmState → RealmRecord
+realm_of realm = record { name = realm.name; settings = realm.settings; look = look_in realm.accounts }
 
 -- a call to the realm at a moment, with random bytes
 abbrev pub call_to : RealmState → Micros → Random → CallRecord
@@ -66,6 +71,10 @@ adding_by_password accounts name =
 -- the name is that of the realm's ticket-granting service
 abbrev pub is_krbtgt : Bytes → List Bytes → Bool
 is_krbtgt realm name = pointwise (pointwise nat_eq) name (krbtgt_of realm)
+
+-- the accounts have that of the ticket-granting service of the realm of this name
+abbrev pub has_krbtgt : Bytes → AccountMap → Bool
+has_krbtgt name accounts = finite.contains_key accounts (krbtgt_of name)
 
 -- whether an account is taken away, in the order of refusals; that of the ticket-granting service is kept
 abbrev pub removing : RealmState → List Bytes → Result (Unit {0}) RealmRefusal

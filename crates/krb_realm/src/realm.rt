@@ -26,7 +26,8 @@ pub fn words_needed() -> usize
     128
 }
 
-/// A realm: a name, settings, and the accounts of its principals. A contract sees the three.
+/// A realm: a name, settings, and the accounts of its principals, of which its ticket-granting service's is always one. A
+/// contract sees the three.
 #[derive(Drop)]
 pub struct Realm {
     name: GeneralStringAsn1,
@@ -35,13 +36,13 @@ pub struct Realm {
 }
 
 impl Model for Realm {
-    ghost use Rattle.std.specs.Prelude.{ℕ, List, refl};
+    ghost use Rattle.std.specs.Prelude.{ℕ, List, IsTrue, refl};
     ghost use Rattle.std.specs.Coded.{code_by, coded×, coded_list, coded_ℕ};
     ghost use Rattle.krb_accounts.specs.Settings.{SettingsRecord};
     ghost use Rattle.krb_accounts.specs.Accounts.{AccountMap};
     ghost use Rattle.krb_accounts.specs.contracts.accounts.Accounts as account_map;
     ghost use Rattle.krb_accounts.specs.contracts.settings.Settings as realm_settings;
-    ghost use Rattle.krb_realm.specs.Realm.{RealmState};
+    ghost use Rattle.krb_realm.specs.Realm.{RealmState, has_krbtgt};
 
     ghost Value = { RealmState };
 
@@ -51,13 +52,16 @@ impl Model for Realm {
         (λ p. record { name = p.0; settings = p.1.0; accounts = p.1.1 }) (λ _. refl) };
 
     ghost view = { λ r. record { name = r.name; settings = r.settings; accounts = r.accounts } };
+
+    ghost invariant = { λ r. IsTrue (has_krbtgt r.name r.accounts) };
 }
 
 impl Realm {
     ghost use Rattle.krb_accounts.specs.Account.{AccountRecord};
-    ghost use Rattle.krb_realm.specs.Realm.{making, made, adding, adding_by_password, changing, first_key, removing};
+    ghost use Rattle.krb_realm.specs.Realm.{making, made, adding, adding_by_password, changing, first_key, realm_of, removing};
     ghost use Rattle.krb_accounts.specs.Passwords.{password_account, password_salt};
     ghost use Rattle.krb_accounts.specs.declared.refusal.RealmRefusal.{RealmRefusal};
+    ghost use Rattle.krb_logins.specs.Honest.{IsGranting};
     ghost use Rattle.krb_realm.specs.Answers.{IsAnswer};
 
     /// A realm of this name, whose ticket-granting service `krbtgt/name` has this key (RFC 4120, section 7.3).
@@ -91,6 +95,14 @@ impl Realm {
             settings,
             accounts,
         })
+    }
+
+    /// What every realm has: the account of its ticket-granting service. It does nothing when it runs.
+    pub fn is_granting(&self)
+        ensures { IsGranting (realm_of self.now) }
+    {
+        // The clause is of the fields: the proof sees them where one is read.
+        let _settings = self.settings;
     }
 
     /// Gives a principal its account, by its first key. A refused command changes nothing.
