@@ -1,2 +1,4 @@
 mod Answered
+mod Exchanges
+mod Admitting
 mod Granting

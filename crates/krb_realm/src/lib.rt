@@ -6,6 +6,7 @@
 #![tactic(auto)]
 
 pub mod laws;
+mod login;
 mod realm;
 mod respond;
 
@@ -15,9 +16,11 @@ pub use krb_ap::{Admission, AdmitRefusal};
 pub use krb_client::{ApAsked, AsAsked, AskRefusal, Client, Credential, TakeRefusal, TgsAsked};
 pub use krb_crypto::{ChecksumSuite, CipherSuite};
 pub use krb_frames::{AnswerRefusal, Responder, ServeFault, serve, serve_bytes};
+pub use krb_logins::{LoginInput, LoginMoments, LoginRefusal};
 pub use krb_moments::Moment;
 pub use krb_service::Service;
 pub use krb_types::data_types::{EncryptionKey, PrincipalName, Ticket};
+pub use login::login_by_password;
 pub use picky_asn1::date::GeneralizedTime;
 pub use picky_asn1::wrapper::{GeneralStringAsn1, OctetStringAsn1};
 pub use realm::{Realm, words_needed};

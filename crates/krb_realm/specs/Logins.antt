@@ -1,0 +1,76 @@
+-- The steps of a login by a client, a realm and a service as they are held: what each call makes, or why the login ends there.
+use Rattle.std.specs.Prelude.{◌≡◌, ℕ, Vec, List, Result, Ok, Err}
+use Rattle.std.specs.Global.{Global}
+use Rattle.picky_asn1.specs.Bytes.{Bytes}
+use Rattle.krb_types.specs.declared.data_types.encryption_key.EncryptionKey.{EncryptionKey}
+use Rattle.krb_sealing.specs.Sealing.{encryption_key}
+use Rattle.krb_replay_cache.specs.Pair.{PairRecord}
+use Rattle.krb_replay_cache.specs.Seen.{SeenRecord, IsWindow}
+use Rattle.krb_as.specs.Call.{CallRecord}
+use Rattle.krb_as.specs.TicketGranting.{krbtgt_of}
+use Rattle.krb_ap.specs.Admission.{AdmissionRecord}
+use Rattle.krb_ap.specs.declared.refusal.AdmitRefusal.{AdmitRefusal}
+use Rattle.krb_asked.specs.Asked.{ApAskedRecord, AsAskedRecord, TgsAskedRecord}
+use Rattle.krb_client.specs.ApReply.{takes_ap_reply}
+use Rattle.krb_client.specs.AsReply.{takes_as_reply}
+use Rattle.krb_client.specs.Client.{ClientRecord, CredentialRecord}
+use Rattle.krb_client.specs.Refusals.{IsTaken}
+use Rattle.krb_client.specs.TgsReply.{takes_tgs_reply}
+use Rattle.krb_client.specs.declared.refusal.TakeRefusal.{TakeRefusal}
+use Rattle.krb_service.specs.Service.{ServiceRecord}
+use Rattle.krb_logins.specs.LoginRun.{IsAdmitted}
+use Rattle.krb_logins.specs.Parties.{LoginRecord, RememberedRecord}
+use Rattle.krb_logins.specs.Steps.{IsAnswered, IsApAsked, IsAsAsked, IsTgsAsked, reply_bytes}
+use Rattle.krb_logins.specs.declared.refusal.LoginRefusal.{LoginRefusal}
+use Rattle.krb_logins.specs.declared.refusal.LoginRefusal.TheVariants.{Admitted, Answered, Asked, Taken}
+
+-- bytes as a call makes them
+abbrev pub Made : Type 0
+Made = Vec ℕ Global
+
+-- what a step makes, as definitions see it; or its refusal, told as the login's
+abbrev pub told : {V A E : Type 0} → (V → A) → (Result A E → Type 0) → (E → LoginRefusal) → Result V LoginRefusal → Type 0
+told seen does own (Ok made) = does (Ok (seen made))
+told {E = E} seen does own (Err refusal) = (cause : E) × does (Err cause) × (refusal ≡ own cause)
+
+-- a request, with what the client remembers of it
+abbrev pub sent_as : {A : Type 0} → Made × A → Bytes × A
+sent_as sent = (sent.0.items, sent.1)
+
+unfoldable pub AsAsk : ClientRecord → LoginRecord → Result (Made × AsAskedRecord) LoginRefusal → Type 0
+AsAsk client login = told sent_as (IsAsAsked client (krbtgt_of client.realm) login.till login.client_as login.random_as) Asked
+
+unfoldable pub TgsAsk : ClientRecord → LoginRecord → CredentialRecord → Result (Made × TgsAskedRecord) LoginRefusal → Type 0
+TgsAsk client login granting = told sent_as (IsTgsAsked client granting login.service login.till login.client_tgs login.random_tgs) Asked
+
+unfoldable pub ApAsk : ClientRecord → LoginRecord → CredentialRecord → Result (Made × ApAskedRecord) LoginRefusal → Type 0
+ApAsk client login credential = told sent_as (IsApAsked client credential login.client_ap login.random_ap) Asked
+
+unfoldable pub Answer : CallRecord → Bytes → Result Made LoginRefusal → Type 0
+Answer call request = told (λ reply. reply.items) (IsAnswered call request) Answered
+
+unfoldable pub AsTake : ClientRecord → AsAskedRecord → Bytes → Result CredentialRecord LoginRefusal → Type 0
+AsTake client asked reply = told (λ credential. credential) (IsTaken (takes_as_reply client asked reply)) Taken
+
+unfoldable pub TgsTake : ClientRecord → TgsAskedRecord → Bytes → Result CredentialRecord LoginRefusal → Type 0
+TgsTake client asked reply = told (λ credential. credential) (IsTaken (takes_tgs_reply client asked reply)) Taken
+
+-- what a service that admitted these pairs goes by
+abbrev pub remembered : ServiceRecord → List PairRecord → RememberedRecord
+remembered service admitted = record { admitted = admitted; greatest = service.seen.greatest }
+
+-- so the service did, and what it has seen is what it then remembers
+abbrev pub Remembers : SeenRecord → (RememberedRecord → Type 0) → Type 0
+Remembers seen did = (after : RememberedRecord) × did after × IsWindow seen after.admitted × (seen.greatest ≡ after.greatest)
+
+-- the service admits the client, or tells why not
+unfoldable pub Admit : ServiceRecord → LoginRecord → Bytes → RememberedRecord → Result AdmissionRecord LoginRefusal → SeenRecord → Type 0
+Admit service login request before (Ok admission) seen = Remembers seen (IsAdmitted service login request before (Ok admission))
+Admit service login request before (Err refusal) seen =
+    (cause : AdmitRefusal) × Remembers seen (IsAdmitted service login request before (Err cause)) × (refusal ≡ Admitted cause)
+
+-- the client takes the service's reply, and has the session's key
+unfoldable pub Show : ApAskedRecord → AdmissionRecord → Result EncryptionKey LoginRefusal → Type 0
+Show asked admission (Ok key) = IsTaken (takes_ap_reply asked (reply_bytes admission.reply)) (Ok tt) × (key ≡ encryption_key asked.suite asked.key)
+Show asked admission (Err refusal) =
+    (cause : TakeRefusal) × IsTaken (takes_ap_reply asked (reply_bytes admission.reply)) (Err cause) × (refusal ≡ Taken cause)

@@ -1,0 +1,330 @@
+//! Whole logins by password.
+ghost use Rattle.std.specs.Prelude.{◌≡◌, ◌≤◌, List, length, IfOk, Result};
+ghost use Rattle.krb_accounts.specs.Names.{parts};
+ghost use Rattle.krb_as.specs.TicketGranting.{krbtgt_of};
+ghost use Rattle.krb_logins.specs.Input.{login_of};
+ghost use Rattle.krb_logins.specs.Honest.{AreEnough, IsHonestLogin, IsOneKey};
+ghost use Rattle.krb_logins.specs.LoginRun.{ApExchange, AsExchange, Exchanges, Login, LoginRun, TgsExchange};
+ghost use Rattle.krb_logins.specs.Parties.{RememberedRecord, call_at};
+ghost use Rattle.krb_logins.specs.Steps.{reply_bytes};
+ghost use Rattle.krb_replay_cache.specs.Pair.{PairRecord};
+ghost use Rattle.krb_replay_cache.specs.Seen.{IsWindow};
+ghost use Rattle.krb_realm.specs.Logins.{Admit, Answer, ApAsk, AsAsk, AsTake, Remembers, Show, TgsAsk, TgsTake, remembered};
+ghost use Rattle.krb_realm.specs.Realm.{realm_of};
+ghost use Rattle.krb_sealing.specs.Sealing.{encryption_key};
+
+use crate::Realm;
+use krb_ap::Admission;
+use krb_client::{ApAsked, AsAsked, AskRefusal, Client, Credential, TakeRefusal, TgsAsked};
+use krb_logins::laws::one_key;
+use krb_logins::{LoginInput, LoginRefusal};
+use krb_moments::Moment;
+use krb_sealing::encryption_key;
+use krb_service::Service;
+use krb_types::data_types::EncryptionKey;
+use picky_asn1::wrapper::{GeneralStringAsn1, OctetStringAsn1};
+use std::alloc::{AllocError, Global};
+
+/// Logs a client in at a service by its password: the client asks the realm for a first ticket and by it for one for the
+/// service, and by that it is admitted (RFC 4120, sections 3.1, 3.3, 3.2). Each step takes the bytes of the one before it, and
+/// the first refusal ends the login. It tells the client's key of the session, and what the service was told: if the login is
+/// honest, that key is the one that the service was told, and the client is named.
+pub fn login_by_password(
+    alloc: Global,
+    client: &Client,
+    realm: &Realm,
+    service: &mut Service,
+    input: &LoginInput<'_>,
+) -> Result<(EncryptionKey, Admission), LoginRefusal>
+    requires client_as { 96 ≤ length input.now.words_as.now }
+    requires client_tgs { 96 ≤ length input.now.words_tgs.now }
+    requires client_ap { 96 ≤ length input.now.words_ap.now }
+    requires realm_as { 128 ≤ length input.now.realm_words_as.now }
+    requires realm_tgs { 128 ≤ length input.now.realm_words_tgs.now }
+    requires service { 16 ≤ length input.now.service_words.now }
+    ensures run { (admitted : List PairRecord) → IsWindow service.old.seen admitted
+        → Remembers service.new.seen (LoginRun client.now (realm_of realm.now) service.old (login_of input.now) (remembered service.old admitted) result) }
+    ensures rest { service.new ≡ record service.old { seen = service.new.seen } }
+    ensures skew { service.new.seen.skew ≡ service.old.seen.skew }
+
+    // An honest login ends with one key on both sides.
+    ensures honest { (admitted : List PairRecord) → IsWindow service.old.seen admitted
+        → IsHonestLogin client.now (realm_of realm.now) service.old (remembered service.old admitted) (login_of input.now) → IsOneKey client.now result }
+{
+    ends_with_one_key(client, realm, service, input);
+    let credential = exchange(alloc, client, realm, input)?;
+    ap_exchange(alloc, client, service, &credential, input)
+}
+
+// Every honest login by parties as they are held ends with one key. It does nothing when it runs.
+fn ends_with_one_key(client: &Client, realm: &Realm, service: &Service, input: &LoginInput<'_>)
+    requires { AreEnough (login_of input.now) }
+    ensures { (before : RememberedRecord) (result : Result Login LoginRefusal) (after : RememberedRecord)
+        → IsHonestLogin client.now (realm_of realm.now) service.now before (login_of input.now)
+        → LoginRun client.now (realm_of realm.now) service.now (login_of input.now) before result after → IsOneKey client.now result }
+{
+    client.is_well_formed();
+    realm.is_granting();
+    service.is_well_formed();
+    one_key();
+}
+
+// Both exchanges with the realm: the ticket for the service.
+fn exchange(
+    alloc: Global,
+    client: &Client,
+    realm: &Realm,
+    input: &LoginInput<'_>,
+) -> Result<Credential, LoginRefusal>
+    requires client_as { 96 ≤ length input.now.words_as.now }
+    requires client_tgs { 96 ≤ length input.now.words_tgs.now }
+    requires realm_as { 128 ≤ length input.now.realm_words_as.now }
+    requires realm_tgs { 128 ≤ length input.now.realm_words_tgs.now }
+    ensures { Exchanges client.now (realm_of realm.now) (login_of input.now) result }
+{
+    let granting = as_exchange(alloc, client, realm, input)?;
+    tgs_exchange(alloc, client, realm, &granting, input)
+}
+
+// The AS exchange: the ticket for the realm's ticket-granting service.
+fn as_exchange(
+    alloc: Global,
+    client: &Client,
+    realm: &Realm,
+    input: &LoginInput<'_>,
+) -> Result<Credential, LoginRefusal>
+    requires client { 96 ≤ length input.now.words_as.now }
+    requires realm { 128 ≤ length input.now.realm_words_as.now }
+    ensures { AsExchange client.now (realm_of realm.now) (login_of input.now) result }
+{
+    let (request, asked) = ask_as(alloc, client, input)?;
+    let reply = answer(
+        alloc,
+        realm,
+        &request,
+        input.moments.realm_as,
+        input.realm_words_as,
+    )?;
+    take_as(alloc, client, &asked, &reply)
+}
+
+// The TGS exchange: by that ticket the one for the service.
+fn tgs_exchange(
+    alloc: Global,
+    client: &Client,
+    realm: &Realm,
+    granting: &Credential,
+    input: &LoginInput<'_>,
+) -> Result<Credential, LoginRefusal>
+    requires client { 96 ≤ length input.now.words_tgs.now }
+    requires realm { 128 ≤ length input.now.realm_words_tgs.now }
+    ensures { TgsExchange client.now (realm_of realm.now) (login_of input.now) granting.now result }
+{
+    let (request, asked) = ask_tgs(alloc, client, granting, input)?;
+    let reply = answer(
+        alloc,
+        realm,
+        &request,
+        input.moments.realm_tgs,
+        input.realm_words_tgs,
+    )?;
+    take_tgs(alloc, client, &asked, &reply)
+}
+
+// The AP exchange: by the ticket for the service the client is admitted.
+fn ap_exchange(
+    alloc: Global,
+    client: &Client,
+    service: &mut Service,
+    credential: &Credential,
+    input: &LoginInput<'_>,
+) -> Result<(EncryptionKey, Admission), LoginRefusal>
+    requires client { 96 ≤ length input.now.words_ap.now }
+    requires service { 16 ≤ length input.now.service_words.now }
+    ensures run { (admitted : List PairRecord) → IsWindow service.old.seen admitted
+        → Remembers service.new.seen (ApExchange client.now service.old (login_of input.now) credential.now (remembered service.old admitted) result) }
+    ensures rest { service.new ≡ record service.old { seen = service.new.seen } }
+    ensures skew { service.new.seen.skew ≡ service.old.seen.skew }
+{
+    let (request, asked) = ask_ap(alloc, client, credential, input)?;
+    let admission = admit(alloc, service, &request, input)?;
+    let key = show(alloc, client, &asked, &admission)?;
+    Ok((key, admission))
+}
+
+// The client asks for a first ticket.
+#[tactic(auto, unfolding(crate::specs::Logins::AsAsk, krb_logins::specs::Steps::IsAsAsked))]
+fn ask_as(
+    alloc: Global,
+    client: &Client,
+    input: &LoginInput<'_>,
+) -> Result<(Vec<u8>, AsAsked), LoginRefusal>
+    requires { 96 ≤ length input.now.words_as.now }
+    ensures { AsAsk client.now (login_of input.now) result }
+{
+    let Ok(service) = granting_service(alloc, client.realm()) else {
+        return Err(LoginRefusal::Asked(AskRefusal::Memory));
+    };
+    let moment = input.moments.client_as;
+    match client.as_request(alloc, &service, input.till, moment, input.words_as) {
+        Ok(sent) => Ok(sent),
+        Err(refusal) => Err(LoginRefusal::Asked(refusal)),
+    }
+}
+
+// The components of a realm's ticket-granting service (RFC 4120, section 7.3).
+fn granting_service(alloc: Global, realm: &GeneralStringAsn1) -> Result<Vec<Vec<u8>>, AllocError>
+    ensures { IfOk result (λ name. parts name.items ≡ krbtgt_of realm.now) }
+{
+    let first = Vec::from_slice(alloc, b"krbtgt")?;
+    let second = Vec::from_slice(alloc, realm.as_bytes())?;
+    let name = vec![in alloc; first, second]?;
+    Ok(name)
+}
+
+// By a ticket it asks for a further one.
+#[tactic(auto, unfolding(crate::specs::Logins::TgsAsk, krb_logins::specs::Steps::IsTgsAsked))]
+fn ask_tgs(
+    alloc: Global,
+    client: &Client,
+    granting: &Credential,
+    input: &LoginInput<'_>,
+) -> Result<(Vec<u8>, TgsAsked), LoginRefusal>
+    requires { 96 ≤ length input.now.words_tgs.now }
+    ensures { TgsAsk client.now (login_of input.now) granting.now result }
+{
+    let moment = input.moments.client_tgs;
+    let words = input.words_tgs;
+    match client.tgs_request(alloc, granting, input.service, input.till, moment, words) {
+        Ok(sent) => Ok(sent),
+        Err(refusal) => Err(LoginRefusal::Asked(refusal)),
+    }
+}
+
+// It asks the service, which is to reply, and chooses no subkey.
+#[tactic(auto, unfolding(crate::specs::Logins::ApAsk, krb_logins::specs::Steps::IsApAsked))]
+fn ask_ap(
+    alloc: Global,
+    client: &Client,
+    credential: &Credential,
+    input: &LoginInput<'_>,
+) -> Result<(Vec<u8>, ApAsked), LoginRefusal>
+    requires { 96 ≤ length input.now.words_ap.now }
+    ensures { ApAsk client.now (login_of input.now) credential.now result }
+{
+    let moment = input.moments.client_ap;
+    match client.ap_request(alloc, credential, true, false, moment, input.words_ap) {
+        Ok(sent) => Ok(sent),
+        Err(refusal) => Err(LoginRefusal::Asked(refusal)),
+    }
+}
+
+// The realm answers.
+#[tactic(auto, unfolding(crate::specs::Logins::Answer, krb_logins::specs::Steps::IsAnswered))]
+fn answer(
+    alloc: Global,
+    realm: &Realm,
+    request: &[u8],
+    moment: Moment,
+    words: &[u8],
+) -> Result<Vec<u8>, LoginRefusal>
+    requires { 128 ≤ length words.now }
+    ensures { Answer (call_at (realm_of realm.now) moment words.now) request.now result }
+{
+    match realm.answer(alloc, request, moment, words) {
+        Ok(reply) => Ok(reply),
+        Err(refusal) => Err(LoginRefusal::Answered(refusal)),
+    }
+}
+
+// The client takes the reply to its request for a first ticket.
+#[tactic(auto, unfolding(crate::specs::Logins::AsTake))]
+fn take_as(
+    alloc: Global,
+    client: &Client,
+    asked: &AsAsked,
+    reply: &[u8],
+) -> Result<Credential, LoginRefusal>
+    ensures { AsTake client.now asked.now reply.now result }
+{
+    match client.take_as_reply(alloc, asked, reply) {
+        Ok(credential) => Ok(credential),
+        Err(refusal) => Err(LoginRefusal::Taken(refusal)),
+    }
+}
+
+// It takes the reply to that for a further one.
+#[tactic(auto, unfolding(crate::specs::Logins::TgsTake))]
+fn take_tgs(
+    alloc: Global,
+    client: &Client,
+    asked: &TgsAsked,
+    reply: &[u8],
+) -> Result<Credential, LoginRefusal>
+    ensures { TgsTake client.now asked.now reply.now result }
+{
+    match client.take_tgs_reply(alloc, asked, reply) {
+        Ok(credential) => Ok(credential),
+        Err(refusal) => Err(LoginRefusal::Taken(refusal)),
+    }
+}
+
+// The service admits the client.
+fn admit(
+    alloc: Global,
+    service: &mut Service,
+    request: &[u8],
+    input: &LoginInput<'_>,
+) -> Result<Admission, LoginRefusal>
+    requires { 16 ≤ length input.now.service_words.now }
+    ensures admits { (admitted : List PairRecord) → IsWindow service.old.seen admitted
+        → Admit service.old (login_of input.now) request.now (remembered service.old admitted) result service.new.seen }
+    ensures rest { service.new ≡ record service.old { seen = service.new.seen } }
+    ensures skew { service.new.seen.skew ≡ service.old.seen.skew }
+{
+    match service.admit(
+        alloc,
+        request,
+        input.moments.service_ap,
+        input.service_words,
+    ) {
+        Ok(admission) => Ok(admission),
+        Err(refusal) => Err(LoginRefusal::Admitted(refusal)),
+    }
+}
+
+// The client takes the service's reply, and tells the session's key.
+fn show(
+    alloc: Global,
+    client: &Client,
+    asked: &ApAsked,
+    admission: &Admission,
+) -> Result<EncryptionKey, LoginRefusal>
+    ensures { Show asked.now admission.now result }
+{
+    if let Err(refusal) = client.take_ap_reply(alloc, asked, reply_of(admission)) {
+        return Err(LoginRefusal::Taken(refusal));
+    }
+    let Ok(key) = session_key(alloc, asked) else {
+        return Err(LoginRefusal::Taken(TakeRefusal::Memory));
+    };
+    Ok(key)
+}
+
+// The bytes of the service's reply, of which there are none where there is no reply.
+fn reply_of(admission: &Admission) -> &[u8]
+    ensures { result.now ≡ reply_bytes admission.now.reply }
+{
+    match &admission.reply {
+        Some(reply) => reply,
+        None => &[],
+    }
+}
+
+// The session's key with the number of its suite.
+fn session_key(alloc: Global, asked: &ApAsked) -> Result<EncryptionKey, AllocError>
+    ensures { IfOk result (λ key. key ≡ encryption_key asked.now.suite asked.now.key) }
+{
+    let key = OctetStringAsn1::new(alloc, asked.key())?;
+    encryption_key(alloc, asked.suite(), &key)
+}
