@@ -1,3 +1,5 @@
 pub mod AttributeLaws
+pub mod AttributeMade
 pub mod Attributes
 pub mod GeneralNames
+pub mod NameAttrs

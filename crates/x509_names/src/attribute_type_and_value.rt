@@ -7,6 +7,7 @@ ghost use Rattle.asn1_leaves.specs.ObjectIdentifier.{oid_content};
 ghost use Rattle.std.specs.Prelude.{◌≡◌, ◌==◌, ℕ, List, true, IsTrue, IfOk, MatchOption, MatchResult};
 
 use crate::agreed::{Agreed, read_agreed};
+use crate::name_attr::NameAttr;
 use devices::{Sink, Source};
 use picky_asn1::oid::ObjectIdentifier;
 use picky_asn1::wrapper::{
@@ -49,11 +50,129 @@ pub struct AttributeTypeAndValue {
 type AttributeRow = Row2<ObjectIdentifierAsn1, RawElement>;
 
 impl AttributeTypeAndValue {
+    ghost use Rattle.x509_names.specs.AttributeMade.{IsOfAttribute};
+
     /// The attribute's identifier.
     pub fn ty(&self) -> &ObjectIdentifierAsn1
         ensures { result.now ≡ self.now.ty }
     {
         &self.ty
+    }
+
+    /// An attribute that has a string of a name.
+    pub fn of_string(
+        alloc: Global,
+        name: NameAttr,
+        value: DirectoryString,
+    ) -> Result<Self, AllocError>
+        ensures { IfOk result (λ made. IsOfAttribute name value made) }
+    {
+        let oid = name.identifier(alloc)?;
+        look_at_text(&value);
+        Ok(AttributeTypeAndValue {
+            ty: ObjectIdentifierAsn1(oid),
+            value: AttributeValue::Directory(value),
+        })
+    }
+
+    /// The name of the thing itself.
+    pub fn new_common_name(alloc: Global, value: DirectoryString) -> Result<Self, AllocError>
+        ensures { IfOk result (λ made. IsOfAttribute NameAttr.CommonName value made) }
+    {
+        AttributeTypeAndValue::of_string(alloc, NameAttr::CommonName, value)
+    }
+
+    /// A family's name.
+    pub fn new_surname(alloc: Global, value: DirectoryString) -> Result<Self, AllocError>
+        ensures { IfOk result (λ made. IsOfAttribute NameAttr.Surname value made) }
+    {
+        AttributeTypeAndValue::of_string(alloc, NameAttr::Surname, value)
+    }
+
+    /// A number that tells devices or people apart.
+    pub fn new_serial_number(alloc: Global, value: DirectoryString) -> Result<Self, AllocError>
+        ensures { IfOk result (λ made. IsOfAttribute NameAttr.SerialNumber value made) }
+    {
+        AttributeTypeAndValue::of_string(alloc, NameAttr::SerialNumber, value)
+    }
+
+    /// A country, by two letters.
+    pub fn new_country_name(alloc: Global, value: DirectoryString) -> Result<Self, AllocError>
+        ensures { IfOk result (λ made. IsOfAttribute NameAttr.CountryName value made) }
+    {
+        AttributeTypeAndValue::of_string(alloc, NameAttr::CountryName, value)
+    }
+
+    /// A place.
+    pub fn new_locality_name(alloc: Global, value: DirectoryString) -> Result<Self, AllocError>
+        ensures { IfOk result (λ made. IsOfAttribute NameAttr.LocalityName value made) }
+    {
+        AttributeTypeAndValue::of_string(alloc, NameAttr::LocalityName, value)
+    }
+
+    /// A state or province.
+    pub fn new_state_or_province_name(
+        alloc: Global,
+        value: DirectoryString,
+    ) -> Result<Self, AllocError>
+        ensures { IfOk result (λ made. IsOfAttribute NameAttr.StateOrProvinceName value made) }
+    {
+        AttributeTypeAndValue::of_string(alloc, NameAttr::StateOrProvinceName, value)
+    }
+
+    /// A street.
+    pub fn new_street_name(alloc: Global, value: DirectoryString) -> Result<Self, AllocError>
+        ensures { IfOk result (λ made. IsOfAttribute NameAttr.StreetName value made) }
+    {
+        AttributeTypeAndValue::of_string(alloc, NameAttr::StreetName, value)
+    }
+
+    /// An organization.
+    pub fn new_organization_name(alloc: Global, value: DirectoryString) -> Result<Self, AllocError>
+        ensures { IfOk result (λ made. IsOfAttribute NameAttr.OrganizationName value made) }
+    {
+        AttributeTypeAndValue::of_string(alloc, NameAttr::OrganizationName, value)
+    }
+
+    /// A part of an organization.
+    pub fn new_organizational_unit_name(
+        alloc: Global,
+        value: DirectoryString,
+    ) -> Result<Self, AllocError>
+        ensures { IfOk result (λ made. IsOfAttribute NameAttr.OrganizationalUnitName value made) }
+    {
+        AttributeTypeAndValue::of_string(alloc, NameAttr::OrganizationalUnitName, value)
+    }
+
+    /// A person's given names.
+    pub fn new_given_name(alloc: Global, value: DirectoryString) -> Result<Self, AllocError>
+        ensures { IfOk result (λ made. IsOfAttribute NameAttr.GivenName value made) }
+    {
+        AttributeTypeAndValue::of_string(alloc, NameAttr::GivenName, value)
+    }
+
+    /// A telephone number.
+    pub fn new_phone(alloc: Global, value: DirectoryString) -> Result<Self, AllocError>
+        ensures { IfOk result (λ made. IsOfAttribute NameAttr.Phone value made) }
+    {
+        AttributeTypeAndValue::of_string(alloc, NameAttr::Phone, value)
+    }
+}
+
+// A string of a name holds a text of its type.
+fn look_at_text(string: &DirectoryString)
+    ensures { IsTrue (is_directory_text string.now) }
+{
+    match string {
+        DirectoryString::PrintableString(text) => {
+            let _octets = text.as_bytes();
+        }
+        DirectoryString::Utf8String(text) => {
+            let _octets = text.as_bytes();
+        }
+        DirectoryString::BmpString(text) => {
+            let _octets = text.as_bytes();
+        }
     }
 }
 

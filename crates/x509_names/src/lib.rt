@@ -6,6 +6,7 @@ mod attribute_type_and_value;
 mod edi_party_name;
 mod general_name;
 mod name;
+mod name_attr;
 mod other_name;
 
 pub use agreed::{Agreed, read_agreed};
@@ -13,4 +14,5 @@ pub use attribute_type_and_value::{AttributeTypeAndValue, AttributeValue};
 pub use edi_party_name::EdiPartyName;
 pub use general_name::{GeneralName, GeneralNames};
 pub use name::{DirectoryName, Name, RdnSequence, RelativeDistinguishedName};
+pub use name_attr::NameAttr;
 pub use other_name::OtherName;

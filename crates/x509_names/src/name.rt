@@ -1,10 +1,12 @@
 //! Names (RFC 5280, section 4.1.2.4).
-ghost use Rattle.std.specs.Prelude.{◌≡◌, MatchResult};
+ghost use Rattle.std.specs.Prelude.{◌≡◌, IfOk, MatchResult};
 
 use crate::attribute_type_and_value::AttributeTypeAndValue;
 use devices::{Sink, Source};
 use picky_asn1::wrapper::{Asn1SequenceOf, Asn1SetOf};
 use picky_asn1_der::{Asn1DerError, Deserializer, Elements, Serializer, Tagged};
+use std::alloc::{AllocError, Global};
+use x509_parts::DirectoryString;
 use x509_spelling::Exact;
 
 /// Attributes that tell an entry from its siblings. Their order is kept as given.
@@ -31,6 +33,30 @@ pub struct Name(pub RdnSequence);
 
 /// A name of a directory, as a certificate's issuer and subject are.
 pub type DirectoryName = Name;
+
+impl Name {
+    ghost use Rattle.std.specs.Prelude.{[], ◌∷◌};
+    ghost use Rattle.x509_names.specs.declared.name_attr.NameAttr.TheVariants.{CommonName};
+    ghost use Rattle.x509_names.specs.declared.attribute_type_and_value.AttributeTypeAndValue.{AttributeTypeAndValue};
+    ghost use Rattle.x509_names.specs.AttributeMade.{IsOfAttribute};
+
+    /// The empty name.
+    pub fn new(alloc: Global) -> Name
+        ensures { result.0 ≡ [] }
+    {
+        Name(RdnSequence::from(Vec::new(alloc)))
+    }
+
+    /// The name of one attribute, a common name.
+    pub fn new_common_name(alloc: Global, name: DirectoryString) -> Result<Name, AllocError>
+        ensures { IfOk result (λ made. (only : AttributeTypeAndValue) × IsOfAttribute CommonName name only × (made.0 ≡ (only ∷ []) ∷ [])) }
+    {
+        let attribute = AttributeTypeAndValue::new_common_name(alloc, name)?;
+        let attributes = vec![in alloc; attribute]?;
+        let sets = vec![in alloc; RelativeDistinguishedName::from(attributes)]?;
+        Ok(Name(RdnSequence::from(sets)))
+    }
+}
 
 impl Tagged for Name {
     type Row = Elements<RelativeDistinguishedName>;
