@@ -7,7 +7,7 @@
 pub use picky_asn1::oid;
 pub use x509_names::{
     AttributeTypeAndValue, AttributeValue, DirectoryName, EdiPartyName, GeneralName, GeneralNames,
-    Name, OtherName, RdnSequence, RelativeDistinguishedName,
+    Name, NameAttr, OtherName, RdnSequence, RelativeDistinguishedName,
 };
 pub use x509_oids as oids;
 pub use x509_parts::{

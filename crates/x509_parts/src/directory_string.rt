@@ -6,6 +6,7 @@ use picky_asn1::wrapper::{BmpStringAsn1, PrintableStringAsn1, Utf8StringAsn1};
 use picky_asn1_der::{
     Alternatives, Asn1DerError, Choice, Deserialize, Deserializer, Last, Serialize, Serializer,
 };
+use std::alloc::{AllocError, Global};
 use x509_spelling::Exact;
 
 /// A string of a name.
@@ -34,6 +35,17 @@ type StringChoice = Choice<PrintableStringAsn1, Choice<Utf8StringAsn1, Last<BmpS
 
 impl DirectoryString {
     ghost use Rattle.x509_parts.specs.DirectoryStrings.{string_octets};
+    ghost use Rattle.x509_parts.specs.declared.directory_string.DirectoryString.TheVariants as kind;
+
+    /// The text as a UTF8String.
+    pub fn from_text(alloc: Global, text: &str) -> Result<DirectoryString, AllocError>
+        ensures { IfOk result (λ string. string ≡ kind.Utf8String text.now) }
+    {
+        match Utf8StringAsn1::from_content(alloc, text.as_bytes())? {
+            Some(string) => Ok(DirectoryString::Utf8String(string)),
+            None => unreachable!(),
+        }
+    }
 
     /// The content octets.
     pub fn as_bytes(&self) -> &[u8]
@@ -44,6 +56,36 @@ impl DirectoryString {
             DirectoryString::Utf8String(string) => string.as_bytes(),
             DirectoryString::BmpString(string) => string.as_bytes(),
         }
+    }
+}
+
+impl From<PrintableStringAsn1> for DirectoryString {
+    ghost use Rattle.x509_parts.specs.declared.directory_string.DirectoryString.TheVariants.{PrintableString};
+
+    ghost from_gives = { λ content string. string ≡ PrintableString content };
+
+    fn from(content: PrintableStringAsn1) -> DirectoryString {
+        DirectoryString::PrintableString(content)
+    }
+}
+
+impl From<Utf8StringAsn1> for DirectoryString {
+    ghost use Rattle.x509_parts.specs.declared.directory_string.DirectoryString.TheVariants.{Utf8String};
+
+    ghost from_gives = { λ content string. string ≡ Utf8String content };
+
+    fn from(content: Utf8StringAsn1) -> DirectoryString {
+        DirectoryString::Utf8String(content)
+    }
+}
+
+impl From<BmpStringAsn1> for DirectoryString {
+    ghost use Rattle.x509_parts.specs.declared.directory_string.DirectoryString.TheVariants.{BmpString};
+
+    ghost from_gives = { λ content string. string ≡ BmpString content };
+
+    fn from(content: BmpStringAsn1) -> DirectoryString {
+        DirectoryString::BmpString(content)
     }
 }
 
