@@ -14,3 +14,4 @@ pub use x509_parts::{
     BasicConstraints, DirectoryString, RawAlgorithmIdentifier, Time, Validity, Version,
 };
 pub use x509_spelling::{Spelled, X509Fault, deviations, encoded_len, from_bytes, to_vec};
+pub use x509_usages::{ExtendedKeyUsage, KeyUsage};

@@ -4,8 +4,8 @@
 
 use anyhow::{Context, bail};
 use picky_asn1_x509::{
-    BasicConstraints, GeneralNames, Name, RawAlgorithmIdentifier, Spelled, Validity, X509Fault,
-    deviations, encoded_len, from_bytes, to_vec,
+    BasicConstraints, ExtendedKeyUsage, GeneralNames, KeyUsage, Name, RawAlgorithmIdentifier,
+    Spelled, Validity, X509Fault, deviations, encoded_len, from_bytes, to_vec,
 };
 use std::alloc::Global;
 use std::fs;
@@ -26,7 +26,13 @@ struct Wanted {
 }
 
 fn main(rt: HostRuntime) -> anyhow::Result<()> {
-    let text = fs::read_to_string(&rt, "spellings.txt")?;
+    replay(&rt, "standards.txt")?;
+    replay(&rt, "spellings.txt")
+}
+
+/// Reads the spellings of a file, and prints how many of them were read otherwise than is wanted.
+fn replay(rt: &HostRuntime, file: &str) -> anyhow::Result<()> {
+    let text = fs::read_to_string(rt, file)?;
     let mut read = 0u64;
     let mut differing = 0u64;
     for line in text.lines() {
@@ -37,10 +43,10 @@ fn main(rt: HostRuntime) -> anyhow::Result<()> {
         read = read.saturating_add(1);
         if !agrees(rt.alloc(), &recorded)? {
             differing = differing.saturating_add(1);
-            println!(rt; "otherwise: {line}")?;
+            println!(rt; "{file}: otherwise: {line}")?;
         }
     }
-    println!(rt; "{read} spellings, {differing} read otherwise")?;
+    println!(rt; "{file}: {read} spellings, {differing} read otherwise")?;
     Ok(())
 }
 
@@ -78,7 +84,9 @@ fn wanted_of(alloc: Global, count: &str, strict: &str) -> anyhow::Result<Wanted>
 fn agrees(alloc: Global, recorded: &Recorded<'_>) -> anyhow::Result<bool> {
     let answer = match recorded.type_name {
         "BasicConstraints" => is_told::<BasicConstraints>(alloc, recorded),
+        "ExtendedKeyUsage" => is_told::<ExtendedKeyUsage>(alloc, recorded),
         "GeneralNames" => is_told::<GeneralNames>(alloc, recorded),
+        "KeyUsage" => is_told::<KeyUsage>(alloc, recorded),
         "Name" => is_told::<Name>(alloc, recorded),
         "RawAlgorithmIdentifier" => is_told::<RawAlgorithmIdentifier>(alloc, recorded),
         "Validity" => is_told::<Validity>(alloc, recorded),

@@ -1,8 +1,6 @@
 -- Fields of which an object identifier in front of them decides the kind.
-use Rattle.std.specs.Prelude.{◌≡◌, ℕ, ◌+◌, Bool, not, ◌&&◌, List, Option}
-use Rattle.asn1_trees.specs.Tree.{Tree, Trees, more}
-use Rattle.picky_asn1.specs.declared.wrapper.ObjectIdentifierAsn1.{ObjectIdentifierAsn1}
-use Rattle.x509_spelling.specs.Spellings.{Joins}
+use Rattle.std.specs.Prelude.{ℕ, Bool, not, ◌&&◌, List, Option}
+use Rattle.asn1_trees.specs.Tree.{Trees}
 use Rattle.x509_kinds.specs.declared.kinds.KindOf.{KindOf}
 use Rattle.x509_kinds.specs.declared.kinds.KindOf.TheVariants.{This, Other}
 

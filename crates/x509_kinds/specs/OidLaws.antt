@@ -1,5 +1,5 @@
 -- An object identifier is spelled in one way.
-use Rattle.std.proofs.Common.{◌≡◌, true, refl}
+use Rattle.std.proofs.Common.{true}
 use Rattle.asn1_trees.specs.Tree.{Tree}
 use Rattle.asn1_trees.specs.Firsts.{only}
 use Rattle.asn1_trees.specs.Tagged.{leaf_as, tagged_tree}

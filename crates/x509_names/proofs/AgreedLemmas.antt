@@ -1,5 +1,5 @@
 -- Fields that don't agree are those of no value.
-use Rattle.std.proofs.Common.{◌≡◌, ℕ, List, [], ◌++◌, Option, None, Some, MatchOption, refl, sym, ap, ◌∙◌}
+use Rattle.std.proofs.Common.{◌≡◌, ℕ, List, ◌++◌, Option, None, Some, MatchOption, refl, sym, ap, ◌∙◌}
 use Rattle.asn1_trees.specs.Tree.{Trees, AreWhole, ders}
 use Rattle.asn1_trees.specs.Length.{element}
 use Rattle.asn1_trees.specs.Tagged.{sequence}

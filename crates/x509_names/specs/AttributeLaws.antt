@@ -1,8 +1,7 @@
 -- An attribute is told by its identifier and the element that its value is written as.
-use Rattle.std.proofs.Common.{◌≡◌, ℕ, Bool, true, false, List, [], ◌∷◌, refl, sym, ap, ◌∙◌, subst, arith}
+use Rattle.std.proofs.Common.{◌≡◌, ℕ, Bool, true, false, List, sym, ap, subst, arith}
 use Rattle.std.proofs.Props.{props}
-use Rattle.std.specs.Prelude.{◌&&◌, ◌||◌, ◌==◌, not, IsTrue, ⊤}
-use Rattle.std.proofs.lemmas.Bool.{and_parts}
+use Rattle.std.specs.Prelude.{◌&&◌, ◌||◌, not, IsTrue, ⊤}
 use mathlib.Core.HLevel.{is_prop→PathP}
 use Rattle.asn1_trees.specs.Tree.{Tree}
 use Rattle.asn1_trees.proofs.Tagged.{TagLaws}

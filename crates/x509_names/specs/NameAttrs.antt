@@ -1,6 +1,5 @@
 -- The attributes that have a string of a name, as arcs behind id-at (X.520, section 6).
 use Rattle.std.specs.Prelude.{◌≡◌, ℕ, List, [], ◌∷◌, true, refl}
-use Rattle.std.proofs.Common.{sym}
 use Rattle.std.specs.Prelude.{Bool, ◌&&◌, IsTrue}
 use Rattle.asn1_leaves.specs.ObjectIdentifier.{oid_content, subidentifier}
 use Rattle.x509_parts.specs.declared.directory_string.DirectoryString.{DirectoryString}
