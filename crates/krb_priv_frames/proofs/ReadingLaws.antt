@@ -1,6 +1,7 @@
 -- What was read as a frame, and why none was read, from what its parts were refused for.
 use Rattle.std.proofs.Common.{◌≡◌, ℕ, ◌≤◌, ◌<◌, List, [], ◌++◌, length, take, drop, Option, None, Some, IfSome, IsErrAnd, Result, MatchResult, unwrap_or, refl, ap, sym, subst, ◌∙◌, inl, inr, append_assoc, append-nil, arith}
 use Rattle.std.specs.Prelude.{◌⊎◌}
+use Rattle.std.proofs.lemmas.Bool.{cases_lt}
 use Rattle.std.proofs.lemmas.List.{length-append, length-take, append_cancel_left, drop_at}
 use Rattle.std.proofs.KnownBytes.{Consumes-trans}
 use Rattle.std.specs.Io.KnownBytes.{Consumes, IsAtEnd}
@@ -16,41 +17,44 @@ use Rattle.byte_layouts.specs.Stops.{IsStop}
 use Rattle.byte_layouts.proofs.Exits.{at-exit}
 use Rattle.byte_layouts.proofs.NumberLaws.{be16-again, be16_at-append}
 use Rattle.krb_priv_frames.specs.Frames.{IsHeader}
-use Rattle.krb_priv_frames.specs.Reading.{HasOtherVersion, IsHeadless, IsDeviceFault, IsExcuse, der_kind, IsFramedAs, BeginsFramed, IsUnframed}
+use Rattle.krb_priv_frames.specs.Reading.{HasOtherVersion, HasNoParts, IsHeaderFault, IsHeaderRefusal, IsDeviceFault, IsExcuse, IsRefusal, der_kind, IsFramedAs, BeginsFramed, IsUnframed}
 use Rattle.krb_priv_frames.proofs.FrameLaws.{frame-joined, frame-split}
 
--- bytes with another version begin with no header
-other-headless : (front rest : List ℕ) → HasOtherVersion front → IsHeadless (front ++ rest)
-other-headless front rest (there, other) header more (long, version) is =
-    let one : be16_at 2 header ≡ 1 = be16-again 2 1 header (omega arith) version in
-    let here : be16_at 2 (front ++ rest) ≡ be16_at 2 front = be16_at-append 2 front rest there in
-    let again : be16_at 2 (header ++ more) ≡ be16_at 2 header = be16_at-append 2 header more (omega arith) in
-    other (sym here ∙ ap (be16_at 2) is ∙ again ∙ one)
+-- another version that came is the bytes'
+other-more : (front rest : List ℕ) → HasOtherVersion front → HasOtherVersion (front ++ rest)
+other-more front rest (there, other) =
+    (omega (arith, length-append front rest), λ one. other (sym (be16_at-append 2 front rest there) ∙ one))
 
--- fewer than six bytes are no header
-short-headless : (bytes : List ℕ) → length bytes < 6 → IsHeadless bytes
-short-headless bytes few header more (long, version) is =
-    let size : length bytes ≡ length (header ++ more) = ap length is in
-    omega (arith, length-append header more)
+-- another version of the bytes came, or fewer than four bytes did
+other-came : (front rest : List ℕ) → (HasOtherVersion front → ⊥) → HasOtherVersion (front ++ rest) → length front < 4
+other-came front rest fine (there, other) =
+    elim (cases_lt (length front) 4) [
+      | inl few ↦ few
+      | inr long ↦ absurd (fine (long, λ one. other (be16_at-append 2 front rest long ∙ one)))
+    ]
 
 pub header-refused : (short : ErrorKind) (left after : Option (List ℕ)) (fault last : Option ErrorKind) (old new count m : ℕ) (buffer : List ℕ) (e : ErrorKind)
     → m ≡ count → length buffer ≡ 6 → short ≡ unwrap_or fault UnexpectedEof
     → Consumes left after (take count buffer) → (fault ≡ None → count < length buffer → IsAtEnd after) → IsStop old new last fault
-    → ((e ≡ InvalidData) × HasOtherVersion (take m buffer)) ⊎ ((e ≡ short) × (length (take m buffer) < 6))
-    → IsDeviceFault old new last e ⊎ IfSome left IsHeadless
-header-refused short None after fault last old new count m buffer e same size is_short given ends stopped why = inr tt
+    → ((e ≡ InvalidData) × HasOtherVersion (take m buffer)) ⊎ ((e ≡ short) × (length (take m buffer) < 6) × (HasOtherVersion (take m buffer) → ⊥))
+    → IfSome left (λ bytes. IsHeaderRefusal bytes after old new last e)
+header-refused short None after fault last old new count m buffer e same size is_short given ends stopped why = tt
 header-refused short (Some whole) None fault last old new count m buffer e same size is_short given ends stopped why = absurd given
 header-refused short (Some whole) (Some rest) fault last old new count m buffer e same size is_short given ends stopped (inl (is, other)) =
     let there : HasOtherVersion (take count buffer) = subst (λ (n : ℕ). HasOtherVersion (take n buffer)) same other in
-    inr (subst IsHeadless (sym given) (other-headless (take count buffer) rest there))
-header-refused short (Some whole) (Some rest) (Some k) last old new count m buffer e same size is_short given ends stopped (inr (is, few)) =
-    inl (stopped.0, stopped.1 ∙ ap Some (sym (is ∙ is_short)))
-header-refused short (Some whole) (Some rest) None last old new count m buffer e same size is_short given ends stopped (inr (is, few)) =
+    inr (inl (is, subst HasOtherVersion (sym given) (other-more (take count buffer) rest there)))
+header-refused short (Some whole) (Some rest) (Some k) last old new count m buffer e same size is_short given ends stopped (inr (is, few, fine)) =
+    let fine_here : HasOtherVersion (take count buffer) → ⊥ = subst (λ (n : ℕ). HasOtherVersion (take n buffer) → ⊥) same fine in
+    inl record {
+      device = (stopped.0, stopped.1 ∙ ap Some (sym (is ∙ is_short)));
+      early = λ other. (take count buffer, given, other-came (take count buffer) rest fine_here (subst HasOtherVersion given other));
+    }
+header-refused short (Some whole) (Some rest) None last old new count m buffer e same size is_short given ends stopped (inr (is, few, fine)) =
     let fewer : count < length buffer = omega (arith, length-take m buffer) in
     let none : rest ≡ [] = ends refl fewer in
-    let all : whole ≡ take count buffer = given ∙ ap (λ (l : List ℕ). take count buffer ++ l) none ∙ append-nil (take count buffer) in
-    let small : length whole < 6 = omega (arith, ap length all, length-take count buffer, length-take m buffer) in
-    inr (short-headless whole small)
+    let all : whole ≡ take m buffer =
+    given ∙ ap (λ (l : List ℕ). take count buffer ++ l) none ∙ append-nil (take count buffer) ∙ ap (λ (n : ℕ). take n buffer) (sym same) in
+    inr (inr (is ∙ is_short, omega (arith, ap length all), λ other. fine (subst HasOtherVersion all other)))
 
 -- a header that is whole was read without a fault
 pub header-counted : (fault last : Option ErrorKind) (old new count m : ℕ) (buffer : List ℕ)
@@ -62,16 +66,21 @@ header-counted (Some k) last old new count m buffer same size few stopped long =
 -- a part that wasn't read
 pub part-refused : {T : Type 0} (reads : T → List ℕ → Type 0) (left : Option (List ℕ)) (fault : Asn1DerError) (old new : ℕ) (last : Option ErrorKind) (e : ErrorKind)
     → MissesNext reads 10240 left fault → new ≡ faults_after fault old → TellsKind fault last → e ≡ der_kind fault
-    → IsExcuse old new last e ⊎ IsNotNext (IsReadBy reads) left 10240
-part-refused reads left fault old new last e (inr missing) count kind is = inr missing
-part-refused reads left der.Memory old new last e (inl excuse) count kind is = inl (inl is)
-part-refused reads left (der.Other k) old new last e (inl excuse) count kind is = inl (inr (count, kind ∙ ap Some (sym is)))
+    → IsExcuse old new last e ⊎ ((e ≡ InvalidData) × IsNotNext (IsReadBy reads) left 10240)
+part-refused reads left der.Memory old new last e why count kind is = inl (inl is)
+part-refused reads left (der.Other k) old new last e why count kind is = inl (inr (count, kind ∙ ap Some (sym is)))
 part-refused reads left der.TruncatedData old new last e (inl excuse) count kind is = absurd excuse
+part-refused reads left der.TruncatedData old new last e (inr missing) count kind is = inr (is, missing)
 part-refused reads left der.InvalidData old new last e (inl excuse) count kind is = absurd excuse
+part-refused reads left der.InvalidData old new last e (inr missing) count kind is = inr (is, missing)
 part-refused reads left der.UnsupportedValue old new last e (inl excuse) count kind is = absurd excuse
+part-refused reads left der.UnsupportedValue old new last e (inr missing) count kind is = inr (is, missing)
 part-refused reads left der.UnsupportedType old new last e (inl excuse) count kind is = absurd excuse
+part-refused reads left der.UnsupportedType old new last e (inr missing) count kind is = inr (is, missing)
 part-refused reads left der.InvalidSink old new last e (inl excuse) count kind is = absurd excuse
+part-refused reads left der.InvalidSink old new last e (inr missing) count kind is = inr (is, missing)
 part-refused reads left (der.Message rule) old new last e (inl excuse) count kind is = absurd excuse
+part-refused reads left (der.Message rule) old new last e (inr missing) count kind is = inr (is, missing)
 
 -- a frame's bytes are a header, and its parts
 begun : {A P : Type 0} (ra : A → List ℕ → Type 0) (rp : P → List ℕ → Type 0) (a : A) (p : P) (bytes : List ℕ) (begins : BeginsFramed ra rp a p bytes)
@@ -89,17 +98,29 @@ same_behind : (header other x y : List ℕ) → length header ≡ 6 → length o
 same_behind header other x y long also is =
     sym (drop_at header x 6 long) ∙ ap (drop 6) is ∙ drop_at other y 6 also
 
-headless-unframed : {A P : Type 0} (ra : A → List ℕ → Type 0) (rp : P → List ℕ → Type 0) (bytes : List ℕ) → IsHeadless bytes → IsUnframed ra rp bytes
-headless-unframed ra rp bytes none a p begins =
+-- what a header in front says of the bytes
+headed : (header more : List ℕ) → IsHeader header → (6 ≤ length (header ++ more)) × (be16_at 2 (header ++ more) ≡ 1)
+headed header more (long, version) =
+    (omega (arith, length-append header more), be16_at-append 2 header more (omega arith) ∙ be16-again 2 1 header (omega arith) version)
+
+-- the same of bytes that begin with one
+headed-bytes : (bytes header more : List ℕ) → bytes ≡ header ++ more → IsHeader header → (6 ≤ length bytes) × (be16_at 2 bytes ≡ 1)
+headed-bytes bytes header more given is = subst (λ (l : List ℕ). (6 ≤ length l) × (be16_at 2 l ≡ 1)) (sym given) (headed header more is)
+
+fault-unframed : {A P : Type 0} (ra : A → List ℕ → Type 0) (rp : P → List ℕ → Type 0) (bytes : List ℕ) (e : ErrorKind) → IsHeaderFault bytes e → IsUnframed ra rp bytes
+fault-unframed ra rp bytes e (inl (is, (there, other))) a p begins =
     let split = begun ra rp a p bytes begins in
-    none _ _ split.0 split.1
+    other (headed-bytes bytes _ _ split.1 split.0).1
+fault-unframed ra rp bytes e (inr (is, few, fine)) a p begins =
+    let split = begun ra rp a p bytes begins in
+    let long = (headed-bytes bytes _ _ split.1 split.0).0 in
+    omega arith
 
 -- no frame since there is no header
-pub no-header : {A P : Type 0} (ra : A → List ℕ → Type 0) (rp : P → List ℕ → Type 0) (left : Option (List ℕ)) (old new : ℕ) (last : Option ErrorKind) (e : ErrorKind)
-    → IsDeviceFault old new last e ⊎ IfSome left IsHeadless → IsExcuse old new last e ⊎ IfSome left (IsUnframed ra rp)
-no-header ra rp left old new last e (inl failed) = inl (inr failed)
-no-header ra rp None old new last e (inr none) = inr tt
-no-header ra rp (Some bytes) old new last e (inr none) = inr (headless-unframed ra rp bytes none)
+pub no-header : {A P : Type 0} (ra : A → List ℕ → Type 0) (rp : P → List ℕ → Type 0) (left after : Option (List ℕ)) (old new : ℕ) (last : Option ErrorKind) (e : ErrorKind)
+    → IfSome left (λ bytes. IsHeaderRefusal bytes after old new last e) → IfSome left (λ bytes. IsRefusal ra rp bytes after old new last e)
+no-header ra rp None after old new last e why = tt
+no-header ra rp (Some bytes) after old new last e why = inr (inl why)
 
 -- no frame since no AP message is behind the header
 no-ap : {A P : Type 0} (ra : A → List ℕ → Type 0) (rp : P → List ℕ → Type 0) (left after : Option (List ℕ)) (header : List ℕ)
@@ -163,35 +184,64 @@ one-frame ra rp one_a one_p (Some bytes) (Some rest) v w (whole, is, took) = λ 
     (ap (λ (l : List ℕ). l ++ (is.private ++ rest)) (sym both.1) ∙ behind) in
     (both.0, (one_p w p is.private frame.private rest begins.1 is.private_read frame.private_read last).0)
 
--- an excuse where the count of faults was still the first
-excused-from : (old mid new : ℕ) (last : Option ErrorKind) (e : ErrorKind) → mid ≡ old → IsExcuse mid new last e → IsExcuse old new last e
-excused-from old mid new last e same excuse = subst (λ (n : ℕ). IsExcuse n new last e) same excuse
+-- an excuse behind a header
+excused : {A P : Type 0} (ra : A → List ℕ → Type 0) (rp : P → List ℕ → Type 0) (bytes header more : List ℕ) (after : Option (List ℕ)) (old mid new : ℕ) (last : Option ErrorKind) (e : ErrorKind)
+    → bytes ≡ header ++ more → IsHeader header → mid ≡ old → IsExcuse mid new last e → IsRefusal ra rp bytes after old new last e
+excused ra rp bytes header more after old mid new last e given is same (inl memory) = inl memory
+excused ra rp bytes header more after old mid new last e given is same (inr device) =
+    inr (inl (inl record {
+      device = subst (λ (n : ℕ). IsDeviceFault n new last e) same device;
+      early = λ other. absurd (other.1 (headed-bytes bytes header more given is).1);
+    }))
 
-pub ap-refused : {A P : Type 0} (ra : A → List ℕ → Type 0) (rp : P → List ℕ → Type 0) (left first : Option (List ℕ)) (old mid new : ℕ) (last : Option ErrorKind) (e : ErrorKind)
+-- no frame, and a header is in front
+partless : {A P : Type 0} (ra : A → List ℕ → Type 0) (rp : P → List ℕ → Type 0) (bytes header more : List ℕ) → bytes ≡ header ++ more → IsHeader header
+    → IsUnframed ra rp bytes → HasNoParts ra rp bytes
+partless ra rp bytes header more given is none =
+    let both = headed-bytes bytes header more given is in
+    record { long = both.0; version = both.1; none = none }
+
+pub ap-refused : {A P : Type 0} (ra : A → List ℕ → Type 0) (rp : P → List ℕ → Type 0) (left first after : Option (List ℕ)) (old mid new : ℕ) (last : Option ErrorKind) (e : ErrorKind)
     → mid ≡ old → (header : List ℕ) × IsHeader header × Consumes left first header
-    → IsExcuse mid new last e ⊎ IsNotNext (IsReadBy ra) first 10240
-    → IsExcuse old new last e ⊎ IfSome left (IsUnframed ra rp)
-ap-refused ra rp left first old mid new last e same headed (inl excuse) = inl (excused-from old mid new last e same excuse)
-ap-refused ra rp left first old mid new last e same (header, is, took) (inr none) = inr (no-ap ra rp left first header is took none)
+    → IsExcuse mid new last e ⊎ ((e ≡ InvalidData) × IsNotNext (IsReadBy ra) first 10240)
+    → IfSome left (λ bytes. IsRefusal ra rp bytes after old new last e)
+ap-refused ra rp None first after old mid new last e same headed why = tt
+ap-refused ra rp (Some bytes) None after old mid new last e same (header, is, took) why = absurd took
+ap-refused ra rp (Some bytes) (Some more) after old mid new last e same (header, is, took) (inl excuse) =
+    excused ra rp bytes header more after old mid new last e took is same excuse
+ap-refused ra rp (Some bytes) (Some more) after old mid new last e same (header, is, took) (inr (wrong, none)) =
+    inr (inr (wrong, partless ra rp bytes header more took is (no-ap ra rp (Some bytes) (Some more) header is took none)))
 
 pub private-refused : {A P : Type 0} (ra : A → List ℕ → Type 0) (rp : P → List ℕ → Type 0) → IsOneValue ra
-    → (left first second : Option (List ℕ)) (old mid later new : ℕ) (last : Option ErrorKind) (e : ErrorKind) (v : A)
+    → (left first second after : Option (List ℕ)) (old mid later new : ℕ) (last : Option ErrorKind) (e : ErrorKind) (v : A)
     → mid ≡ old → later ≡ mid → (header : List ℕ) × IsHeader header × Consumes left first header → TakesNext ra 10240 first second v
-    → IsExcuse later new last e ⊎ IsNotNext (IsReadBy rp) second 10240
-    → IsExcuse old new last e ⊎ IfSome left (IsUnframed ra rp)
-private-refused ra rp one left first second old mid later new last e v same also headed taken (inl excuse) =
-    inl (excused-from old later new last e (also ∙ same) excuse)
-private-refused ra rp one left first second old mid later new last e v same also (header, is, took) (x, read, fits, then) (inr none) =
-    inr (no-private ra rp one left first second header x v is took read then none)
+    → IsExcuse later new last e ⊎ ((e ≡ InvalidData) × IsNotNext (IsReadBy rp) second 10240)
+    → IfSome left (λ bytes. IsRefusal ra rp bytes after old new last e)
+private-refused ra rp one None first second after old mid later new last e v same also headed taken why = tt
+private-refused ra rp one (Some bytes) None second after old mid later new last e v same also (header, is, took) taken why = absurd took
+private-refused ra rp one (Some bytes) (Some more) second after old mid later new last e v same also (header, is, took) taken (inl excuse) =
+    excused ra rp bytes header more after old later new last e took is (also ∙ same) excuse
+private-refused ra rp one (Some bytes) (Some more) second after old mid later new last e v same also (header, is, took) (x, read, fits, then) (inr (wrong, none)) =
+    inr (inr (wrong, partless ra rp bytes header more took is (no-private ra rp one (Some bytes) (Some more) second header x v is took read then none)))
 
 -- what is answered where some frame stands there
+excuse-of : {A P : Type 0} (ra : A → List ℕ → Type 0) (rp : P → List ℕ → Type 0) (bytes : List ℕ) (after : Option (List ℕ)) (old new : ℕ) (last : Option ErrorKind) (e : ErrorKind)
+    → IsRefusal ra rp bytes after old new last e → IsExcuse old new last e ⊎ IsUnframed ra rp bytes
+excuse-of ra rp bytes after old new last e (inl memory) = inl (inl memory)
+excuse-of ra rp bytes after old new last e (inr (inl (inl broken))) = inl (inr broken.device)
+excuse-of ra rp bytes after old new last e (inr (inl (inr fault))) = inr (fault-unframed ra rp bytes e fault)
+excuse-of ra rp bytes after old new last e (inr (inr (wrong, partless))) = inr partless.none
+
 pub refused-only : {T A P : Type 0} (ra : A → List ℕ → Type 0) (rp : P → List ℕ → Type 0) (fa : T → A) (fp : T → P)
-    (left : Option (List ℕ)) (r : Result T ErrorKind) (e : ErrorKind) (old new : ℕ) (last : Option ErrorKind)
-    → IsErrAnd r (λ y. y ≡ e) → IsExcuse old new last e ⊎ IfSome left (IsUnframed ra rp)
+    (left after : Option (List ℕ)) (r : Result T ErrorKind) (e : ErrorKind) (old new : ℕ) (last : Option ErrorKind)
+    → IsErrAnd r (λ y. y ≡ e) → IfSome left (λ bytes. IsRefusal ra rp bytes after old new last e)
     → IfSome left (λ bytes. (m : T) → BeginsFramed ra rp (fa m) (fp m) bytes → MatchResult r (λ read. read ≡ m) (IsExcuse old new last))
-refused-only ra rp fa fp None r e old new last is why = tt
-refused-only ra rp fa fp (Some bytes) r e old new last is (inl excuse) = λ m begins. at-exit r e _ _ is excuse
-refused-only ra rp fa fp (Some bytes) r e old new last is (inr none) = λ m begins. absurd (none (fa m) (fp m) begins)
+refused-only ra rp fa fp None after r e old new last is why = tt
+refused-only ra rp fa fp (Some bytes) after r e old new last is why = λ m begins.
+    elim (excuse-of ra rp bytes after old new last e why) [
+      | inl excuse ↦ at-exit r e _ _ is excuse
+      | inr none ↦ absurd (none (fa m) (fp m) begins)
+    ]
 
 pub read-only : {T A P : Type 0} (ra : A → List ℕ → Type 0) (rp : P → List ℕ → Type 0) (fa : T → A) (fp : T → P) → IsOneValue ra → IsOneValue rp
     → (left after : Option (List ℕ)) (made : T) → ((m : T) → fa made ≡ fa m → fp made ≡ fp m → made ≡ m)

@@ -4,7 +4,7 @@ ghost use Rattle.std.specs.Io.KnownBytes.{Consumes, Appends};
 ghost use Rattle.asn1_trees.specs.Tree.{der, IsWhole, Writes};
 ghost use Rattle.byte_layouts.specs.Stops.{IsWriteStop};
 ghost use Rattle.krb_priv_frames.specs.Frames.{framed, frame_bytes, IsFrame};
-ghost use Rattle.krb_priv_frames.specs.Reading.{IsFramedAs, BeginsFramed, IsUnframed, IsExcuse};
+ghost use Rattle.krb_priv_frames.specs.Reading.{IsFramedAs, BeginsFramed, IsExcuse, IsRefusal};
 ghost use Rattle.krb_priv_frames.specs.Writing.{IsTooLong, IsUnframable};
 ghost use Rattle.asn1_codec.specs.Refusals.{refusal_of};
 
@@ -32,8 +32,8 @@ impl<A: FromDer, P: FromDer> KrbPrivFrame<A, P> {
     /// Reads a frame, and leaves what follows it. Its lengths aren't judged: each part is as long as its DER says, and of at
     /// most 10,240 bytes.
     ///
-    /// Answered is what comes first in the bytes: `InvalidData` for a wrong version and for a part that is no DER of its
-    /// type, `UnexpectedEof` for fewer than six bytes, a fault of the device; or `OutOfMemory`.
+    /// Answered is what comes first in the bytes: `InvalidData` for a wrong version, `UnexpectedEof` for fewer than six
+    /// bytes, and `InvalidData` for a part that is no DER of its type; or a fault of the device, or `OutOfMemory`.
     pub fn deserialize<R: Source>(
         alloc: Global,
         reader: &mut R,
@@ -42,8 +42,8 @@ impl<A: FromDer, P: FromDer> KrbPrivFrame<A, P> {
             × Consumes (R.left reader.old) (R.left reader.new) whole) }
         ensures only { IfSome (R.left reader.old) (λ bytes. (m : KrbPrivFrame A P) → BeginsFramed A.reads P.reads m.ap_message m.krb_priv bytes
             → MatchResult result (λ read. read ≡ m) (IsExcuse (R.failed reader.old) (R.failed reader.new) (R.last_fault reader.new))) }
-        ensures refused { IfErr result (λ e. IsExcuse (R.failed reader.old) (R.failed reader.new) (R.last_fault reader.new) e
-            ⊎ IfSome (R.left reader.old) (IsUnframed A.reads P.reads)) }
+        ensures refused { IfErr result (λ e. IfSome (R.left reader.old) (λ bytes.
+            IsRefusal A.reads P.reads bytes (R.left reader.new) (R.failed reader.old) (R.failed reader.new) (R.last_fault reader.new) e)) }
         ensures same { R.through reader.new ≡ R.through reader.old }
     {
         read_header(reader)?;
@@ -132,7 +132,8 @@ impl<A: Serialize, P: Serialize> KrbPrivFrame<A, P> {
             (frame_bytes (der (A.tree self.now.ap_message)) (der (P.tree self.now.krb_priv)))) }
         ensures stop { MatchResult result (λ _. W.failed writer.new ≡ W.failed writer.old)
             (λ e. (IsUnframable (refusal_of A.refusal self.now.ap_message) (refusal_of P.refusal self.now.krb_priv)
-            (der (A.tree self.now.ap_message)) (der (P.tree self.now.krb_priv)) e × (W.failed writer.new ≡ W.failed writer.old))
+            (der (A.tree self.now.ap_message)) (der (P.tree self.now.krb_priv)) e
+            × (W.written writer.new ≡ W.written writer.old) × (W.failed writer.new ≡ W.failed writer.old))
             ⊎ IsWriteStop (W.failed writer.old) (W.failed writer.new) (W.last_fault writer.new) e) }
         ensures same { W.through writer.new ≡ W.through writer.old }
     {

@@ -5,7 +5,7 @@ ghost use Rattle.std.specs.declared.io.ErrorKind.{ErrorKind};
 ghost use Rattle.byte_layouts.specs.Parts.{part, Stands};
 ghost use Rattle.byte_layouts.specs.Numbers.{be16};
 ghost use Rattle.krb_priv_frames.specs.Frames.{IsHeader};
-ghost use Rattle.krb_priv_frames.specs.Reading.{HasOtherVersion, IsDeviceFault, IsHeadless};
+ghost use Rattle.krb_priv_frames.specs.Reading.{HasOtherVersion, IsHeaderRefusal};
 
 use byte_layouts::{read_front, u16_be};
 use devices::Source;
@@ -18,7 +18,7 @@ pub(crate) const VERSION: u16 = 1;
 // Whether a header begins with these bytes; where they end inside it, `short` says why. The lengths aren't judged.
 fn judge_header(bytes: &[u8], short: ErrorKind) -> Result<(), ErrorKind>
     ensures fine { IfOk result (λ _. Stands (part 2 (be16 1)) bytes.now × (6 ≤ length bytes.now)) }
-    ensures wrong { IfErr result (λ e. ((e ≡ ErrorKind.InvalidData) × HasOtherVersion bytes.now) ⊎ ((e ≡ short) × (length bytes.now < 6))) }
+    ensures wrong { IfErr result (λ e. ((e ≡ ErrorKind.InvalidData) × HasOtherVersion bytes.now) ⊎ ((e ≡ short) × (length bytes.now < 6) × (HasOtherVersion bytes.now → ⊥))) }
 {
     if bytes.len() < 4 {
         return Err(short);
@@ -36,8 +36,8 @@ fn judge_header(bytes: &[u8], short: ErrorKind) -> Result<(), ErrorKind>
 pub(crate) fn read_header<R: Source>(reader: &mut R) -> Result<(), ErrorKind>
     ensures found { IfOk result (λ _. (header : List ℕ) × IsHeader header × Consumes (R.left reader.old) (R.left reader.new) header) }
     ensures count { IfOk result (λ _. R.failed reader.new ≡ R.failed reader.old) }
-    ensures refused { IfErr result (λ e. IsDeviceFault (R.failed reader.old) (R.failed reader.new) (R.last_fault reader.new) e
-        ⊎ IfSome (R.left reader.old) IsHeadless) }
+    ensures refused { IfErr result (λ e. IfSome (R.left reader.old) (λ bytes.
+        IsHeaderRefusal bytes (R.left reader.new) (R.failed reader.old) (R.failed reader.new) (R.last_fault reader.new) e)) }
     ensures same { R.through reader.new ≡ R.through reader.old }
 {
     let mut header = [0; HEADER_LEN];

@@ -1,5 +1,6 @@
 //! The two parts: values in DER.
 ghost use Rattle.std.specs.Prelude.{◌≡◌, ◌⊎◌, IfOk, IfErr, MatchResult};
+ghost use Rattle.std.specs.declared.io.ErrorKind.{ErrorKind};
 ghost use Rattle.asn1_trees.specs.Tree.{der};
 ghost use Rattle.asn1_codec.specs.Cuts.{TakesNext};
 ghost use Rattle.asn1_codec.specs.Refusals.{refusal_of};
@@ -31,7 +32,7 @@ pub(crate) fn read_part<T: FromDer, R: Source>(
     ensures taken { IfOk result (TakesNext T.reads 10240 (R.left reader.old) (R.left reader.new)) }
     ensures count { IfOk result (λ _. R.failed reader.new ≡ R.failed reader.old) }
     ensures refused { IfErr result (λ e. IsExcuse (R.failed reader.old) (R.failed reader.new) (R.last_fault reader.new) e
-        ⊎ IsNotNext (IsReadBy T.reads) (R.left reader.old) 10240) }
+        ⊎ ((e ≡ ErrorKind.InvalidData) × IsNotNext (IsReadBy T.reads) (R.left reader.old) 10240)) }
     ensures same { R.through reader.new ≡ R.through reader.old }
 {
     match from_reader::<T, R>(alloc, reader) {
