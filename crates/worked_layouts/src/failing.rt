@@ -134,8 +134,8 @@ fn pac_kind(fault: &PacError) -> ErrorKind {
     }
 }
 
-fn pac_fault(alloc: Global, count: usize) -> Option<ErrorKind> {
-    match Pac::deserialize(alloc, &mut trickle_of(PAC, count)) {
+fn pac_fault(alloc: Global, bytes: &[u8], count: usize) -> Option<ErrorKind> {
+    match Pac::deserialize(alloc, &mut trickle_of(bytes, count)) {
         Ok(_) => None,
         Err(fault) => Some(pac_kind(&fault)),
     }
@@ -148,12 +148,38 @@ fn row_fault(bytes: &[u8], count: usize) -> Option<ErrorKind> {
     }
 }
 
+// Of version 1, and then of a type that is none.
+const VERSION_1: &[u8] = b"\x01\x00\x00\x00\x01\x00\x00\x00\x0a\x00\x00\x00";
+
+const TYPE_3: &[u8] = b"\x01\x00\x00\x00\x00\x00\x00\x00\x03\x00\x00\x00";
+
+// What is wrong in the bytes that came is answered before the device's fault.
+#[test]
+fn wrong_pacs(rt: HostRuntime) {
+    for (bytes, size) in [(VERSION_1, 8), (TYPE_3, 12)] {
+        for count in 0..13 {
+            let wanted = if count < size {
+                ErrorKind::ConnectionReset
+            } else {
+                ErrorKind::InvalidData
+            };
+            assert!(rt;
+                pac_fault(rt.alloc(), bytes, count) == Some(wanted),
+                "behind {count}"
+            );
+        }
+    }
+}
+
 // A PAC is read to the end of its reader, and a row of its table is not. A type that is none is answered once it came.
 #[test]
 fn pacs(rt: HostRuntime) {
     let reset = Some(ErrorKind::ConnectionReset);
     for count in 0..33 {
-        assert!(rt; pac_fault(rt.alloc(), count) == reset, "behind {count}");
+        assert!(rt;
+            pac_fault(rt.alloc(), PAC, count) == reset,
+            "behind {count}"
+        );
     }
     for count in 0..16 {
         assert!(rt; row_fault(&PAC[8..24], count) == reset, "behind {count}");

@@ -8,6 +8,8 @@ mod integrity;
 #[cfg(test)]
 mod negoex;
 #[cfg(test)]
+mod negoex_types;
+#[cfg(test)]
 mod pac;
 #[cfg(test)]
 mod priv_frames;

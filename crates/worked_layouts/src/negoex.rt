@@ -1,8 +1,8 @@
 //! Messages of NEGOEX, by the tables of MS-NEGOEX, section 2.2, and by messages of a stock peer.
 
 use picky_krb::negoex::{
-    Checksum, Exchange, Extension, MessageHeader, MessageType, Nego, NegoexDataType, NegoexMessage,
-    Verify,
+    CHECKSUM_SCHEME_RFC3961, Checksum, Exchange, Extension, MessageHeader, MessageType,
+    NEGOEXTS_MESSAGE_SIGNATURE, Nego, NegoexMessage, PROTOCOL_VERSION, Verify,
 };
 use std::alloc::Global;
 use std::io::ErrorKind;
@@ -67,26 +67,89 @@ fn bytes(alloc: Global, content: &[u8]) -> Option<Vec<u8>> {
     Some(made)
 }
 
-// Whether the message is written as these bytes.
-fn is_written<M: NegoexMessage + Drop>(alloc: Global, message: M, wanted: &[u8]) -> bool {
-    let mut written = Vec::new(alloc);
-    message.encode(alloc, &mut written).is_ok() && written.as_slice() == wanted
+fn header(
+    message_type: MessageType,
+    sequence_num: u32,
+    header_len: u32,
+    message_len: u32,
+) -> MessageHeader {
+    MessageHeader {
+        signature: NEGOEXTS_MESSAGE_SIGNATURE,
+        message_type,
+        sequence_num,
+        header_len,
+        message_len,
+        conversation_id: conversation(),
+    }
 }
 
-// Whether a message is read from these bytes and written as they are.
-fn is_given_back<M: NegoexMessage + Drop>(alloc: Global, whole: &[u8]) -> bool {
-    match M::decode(alloc, whole) {
-        Ok(message) => is_written(alloc, message, whole),
-        Err(_) => false,
+// The initiator's offer.
+fn offer(alloc: Global) -> Option<Nego> {
+    let mut random = [0; 32];
+    random.copy_from_slice(NEGO.get(40..72)?);
+    let mut auth_schemes = Vec::new(alloc);
+    auth_schemes.push(scheme()).ok()?;
+    Some(Nego {
+        header: header(MessageType::InitiatorNego, 0, 96, 112),
+        random,
+        protocol_version: PROTOCOL_VERSION,
+        auth_schemes,
+        extensions: Vec::new(alloc),
+    })
+}
+
+// A message of the scheme around what stands from octet 64 on.
+fn exchange(alloc: Global, header: MessageHeader, message: &[u8]) -> Option<Exchange> {
+    let exchange = bytes(alloc, message.get(64..)?)?;
+    Some(Exchange {
+        header,
+        auth_scheme: scheme(),
+        exchange,
+    })
+}
+
+// A checksum of type 16 over the messages so far.
+fn checked(alloc: Global, header: MessageHeader, value: &[u8]) -> Option<Verify> {
+    let checksum_value = bytes(alloc, value)?;
+    Some(Verify {
+        header,
+        auth_scheme: scheme(),
+        checksum: Checksum {
+            header_len: 20,
+            checksum_scheme: CHECKSUM_SCHEME_RFC3961,
+            checksum_type: 16,
+            checksum_value,
+        },
+    })
+}
+
+// Whether these bytes are this message's: it is read from them, and written as them.
+fn is_spelled<M: NegoexMessage + PartialEq + Drop>(
+    alloc: Global,
+    message: Option<M>,
+    whole: &[u8],
+) -> bool {
+    match (message, M::decode(alloc, whole)) {
+        (Some(wanted), Ok(read)) => read == wanted && is_written(alloc, wanted, whole),
+        _ => false,
     }
 }
 
 #[test]
-fn read_and_written(rt: HostRuntime) {
-    assert!(rt; is_given_back::<Nego>(rt.alloc(), NEGO));
-    assert!(rt; is_given_back::<Exchange>(rt.alloc(), EXCHANGE));
-    assert!(rt; is_given_back::<Exchange>(rt.alloc(), META_DATA));
-    assert!(rt; is_given_back::<Verify>(rt.alloc(), VERIFY));
+fn values(rt: HostRuntime) {
+    assert!(rt; is_spelled(rt.alloc(), offer(rt.alloc()), NEGO));
+    let told = header(MessageType::AcceptorMetaData, 3, 64, 238);
+    assert!(rt; is_spelled(rt.alloc(), exchange(rt.alloc(), told, EXCHANGE), EXCHANGE));
+    let told = header(MessageType::InitiatorMetaData, 1, 64, 297);
+    assert!(rt; is_spelled(rt.alloc(), exchange(rt.alloc(), told, META_DATA), META_DATA));
+    let told = header(MessageType::Verify, 7, 80, 92);
+    assert!(rt; is_spelled(rt.alloc(), checked(rt.alloc(), told, &VERIFY[80..]), VERIFY));
+}
+
+// Whether the message is written as these bytes.
+fn is_written<M: NegoexMessage + Drop>(alloc: Global, message: M, wanted: &[u8]) -> bool {
+    let mut written = Vec::new(alloc);
+    message.encode(alloc, &mut written).is_ok() && written.as_slice() == wanted
 }
 
 // Whether a message is read from these bytes, and its copy is written as they are.
@@ -163,38 +226,60 @@ fn two_extensions(alloc: Global) -> Option<Vec<Extension>> {
 const EXTENSIONS: &[u8] = b"\x00\x00\x00\x00\x00\x00\x00\x00\x60\x00\x00\x00\x02\x00\x00\x00\
     \x01\x00\x00\x00\x78\x00\x00\x00\x01\x00\x00\x00\x02\x00\x00\x00\x79\x00\x00\x00\x02\x00\x00\x00\xaa\xbb\xcc";
 
-fn nego(alloc: Global) -> Option<Vec<u8>> {
-    let extensions = two_extensions(alloc)?;
-    let none = Vec::new(alloc);
-    let made = Nego::new(
+fn offer_of(
+    alloc: Global,
+    auth_schemes: Vec<Uuid>,
+    extensions: Option<Vec<Extension>>,
+) -> Option<Nego> {
+    Nego::new(
         MessageType::InitiatorNego,
         conversation(),
         0,
         [7; 32],
-        none,
-        extensions,
+        auth_schemes,
+        extensions?,
     )
-    .ok()?;
-    made.to_bytes(alloc).ok()
+    .ok()
 }
 
-fn are_extensions(alloc: Global) -> bool {
-    match nego(alloc) {
-        Some(whole) => {
-            let all = whole.as_slice();
-            all.len() == 123
-                && &all[20..24] == b"\x7b\x00\x00\x00".as_slice()
-                && &all[80..] == EXTENSIONS
-                && is_given_back::<Nego>(alloc, all)
-        }
-        None => false,
-    }
+// Whether the message has so many bytes, of which these are the last, and is what is read from them.
+fn ends_in(alloc: Global, message: Option<Nego>, size: u8, end: &[u8]) -> Option<bool> {
+    let wanted = message?;
+    let whole = wanted.to_bytes(alloc).ok()?;
+    let read = Nego::decode(alloc, &whole).ok()?;
+    let all = whole.as_slice();
+    Some(
+        all.len() == size as usize
+            && all.get(20..24)? == [size, 0, 0, 0].as_slice()
+            && all.get(80..)? == end
+            && read == wanted,
+    )
 }
 
 // 123 bytes: an empty vector at offset 0, and two extensions whose values stand behind both headers.
 #[test]
 fn extensions(rt: HostRuntime) {
-    assert!(rt; are_extensions(rt.alloc()));
+    let message = offer_of(rt.alloc(), Vec::new(rt.alloc()), two_extensions(rt.alloc()));
+    assert!(rt; ends_in(rt.alloc(), message, 123, EXTENSIONS) == Some(true));
+}
+
+// Schemes at 96, extensions at 112, and the value of one at 124.
+const BOTH: &[u8] = b"\x60\x00\x00\x00\x01\x00\x00\x00\x70\x00\x00\x00\x01\x00\x00\x00\
+    \x5c3S\x0d\xea\xf9\x0dM\xb2\xecJ\xe3xn\xc3\x08\
+    \x03\x00\x00\x00\x7c\x00\x00\x00\x02\x00\x00\x00\xaa\xbb";
+
+fn one_of_each(alloc: Global) -> Option<Nego> {
+    let mut schemes = Vec::new(alloc);
+    schemes.push(scheme()).ok()?;
+    let mut extensions = Vec::new(alloc);
+    extensions.push(extension(alloc, 3, b"\xaa\xbb")?).ok()?;
+    offer_of(alloc, schemes, Some(extensions))
+}
+
+// The second vector stands behind the first.
+#[test]
+fn schemes_and_extensions(rt: HostRuntime) {
+    assert!(rt; ends_in(rt.alloc(), one_of_each(rt.alloc()), 126, BOTH) == Some(true));
 }
 
 // Why a message with other bytes at a place is refused: none where it isn't.
@@ -231,43 +316,28 @@ fn refused_exchanges(rt: HostRuntime) {
     }
 }
 
+// What is read where a message of 64 bytes tells so many bytes at offset 65: how many, or why none are.
+fn counted(alloc: Global, count: u8) -> Option<Result<usize, ErrorKind>> {
+    let mut whole = bytes(alloc, &EXCHANGE[..64])?;
+    *whole.get_mut(56)? = 65;
+    *whole.get_mut(60)? = count;
+    match Exchange::decode(alloc, &whole) {
+        Ok(message) => Some(Ok(message.exchange.len())),
+        Err(kind) => Some(Err(kind)),
+    }
+}
+
+// An offset one past the end is wrong, but where nothing is counted.
+#[test]
+fn offsets_past_the_end(rt: HostRuntime) {
+    assert!(rt; counted(rt.alloc(), 1) == Some(Err(ErrorKind::InvalidData)));
+    assert!(rt; counted(rt.alloc(), 0) == Some(Ok(0)));
+}
+
 #[test]
 fn other_refusals(rt: HostRuntime) {
-    let none = changed::<Exchange>(rt.alloc(), &EXCHANGE[..64], 56, [65, 0, 0, 0]);
-    assert!(rt; none == Some(ErrorKind::InvalidData));
     let scheme = changed::<Verify>(rt.alloc(), VERIFY, 60, [2, 0, 0, 0]);
     assert!(rt; scheme == Some(ErrorKind::InvalidInput));
     let short = changed::<Nego>(rt.alloc(), &NEGO[..79], 0, *b"NEGO");
     assert!(rt; short == Some(ErrorKind::UnexpectedEof));
-}
-
-// Whether a type is read from these bytes and written as they are.
-fn is_type_given_back<T: NegoexDataType + Drop>(alloc: Global, whole: &[u8]) -> bool {
-    let mut left = whole;
-    match T::decode(alloc, &mut left, whole) {
-        Ok(value) => {
-            let mut written = Vec::new(alloc);
-            value.encode(alloc, &mut written).is_ok() && written.as_slice() == whole
-        }
-        Err(_) => false,
-    }
-}
-
-#[test]
-fn types(rt: HostRuntime) {
-    assert!(rt; is_type_given_back::<Uuid>(rt.alloc(), &VERIFY[40..56]));
-    assert!(rt; is_type_given_back::<MessageType>(rt.alloc(), b"\x05\x00\x00\x00"));
-    assert!(rt; is_type_given_back::<MessageHeader>(rt.alloc(), &NEGO[..40]));
-    assert!(rt;
-        is_type_given_back::<Extension>(
-            rt.alloc(),
-            b"\x03\x00\x00\x00\x0c\x00\x00\x00\x06\x00\x00\x00\x01\x02\x03\x04\x05\x06",
-        )
-    );
-    assert!(rt;
-        is_type_given_back::<Checksum>(
-            rt.alloc(),
-            b"\x14\x00\x00\x00\x01\x00\x00\x00\x10\x00\x00\x00\x14\x00\x00\x00\x0c\x00\x00\x00\xe4\xa7\x70\x94\x17\x83\xcc\x0c\x0d\x24\x3a\x57",
-        )
-    );
 }

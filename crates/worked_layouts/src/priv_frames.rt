@@ -63,17 +63,31 @@ fn refused(rt: HostRuntime) {
     }
 }
 
-fn broken_fault(alloc: Global, count: usize) -> Option<ErrorKind> {
-    Frame::deserialize(alloc, &mut trickle_of(FRAME, count)).err()
+fn broken_fault(alloc: Global, bytes: &[u8], count: usize) -> Option<ErrorKind> {
+    Frame::deserialize(alloc, &mut trickle_of(bytes, count)).err()
 }
 
 #[test]
 fn failing_reader(rt: HostRuntime) {
     for count in 0..19 {
-        let fault = broken_fault(rt.alloc(), count);
+        let fault = broken_fault(rt.alloc(), FRAME, count);
         assert!(rt; fault == Some(ErrorKind::ConnectionReset), "behind {count}");
     }
-    assert!(rt; broken_fault(rt.alloc(), 19).is_none());
+    assert!(rt; broken_fault(rt.alloc(), FRAME, 19).is_none());
+}
+
+// Another version is answered once it came.
+#[test]
+fn failing_behind_another_version(rt: HostRuntime) {
+    for count in 0..7 {
+        let wanted = if count < 4 {
+            ErrorKind::ConnectionReset
+        } else {
+            ErrorKind::InvalidData
+        };
+        let fault = broken_fault(rt.alloc(), b"\x00\x13\x00\x02\x00\x02\x6e", count);
+        assert!(rt; fault == Some(wanted), "behind {count}");
+    }
 }
 
 // The frame of these two elements.
