@@ -1,5 +1,5 @@
 -- The AP exchange of a login, and the login, by the steps of one call.
-use Rattle.std.proofs.Common.{◌≡◌, ℕ, max, List, Result, Ok, Err, inl, inr, subst, ap, refl, ◌∙◌}
+use Rattle.std.proofs.Common.{◌≡◌, ℕ, max, List, Result, Ok, Err, inl, inr, subst, sym, ap, refl, ◌∙◌}
 use Rattle.picky_asn1.specs.Bytes.{Bytes}
 use Rattle.krb_types.specs.declared.data_types.encryption_key.EncryptionKey.{EncryptionKey}
 use Rattle.krb_sealing.specs.Sealing.{encryption_key}
@@ -21,7 +21,7 @@ use Rattle.krb_logins.specs.Parties.{LoginRecord, RealmRecord, RememberedRecord}
 use Rattle.krb_logins.specs.Steps.{reply_bytes}
 use Rattle.krb_logins.specs.declared.refusal.LoginRefusal.{LoginRefusal}
 use Rattle.krb_logins.specs.declared.refusal.LoginRefusal.TheVariants.{Admitted, Taken}
-use Rattle.krb_realm.specs.Logins.{Admit, ApAsk, Made, Remembers, Show, remembered}
+use Rattle.krb_realm.specs.Logins.{Admit, ApAsk, Keyed, Made, Remembers, Show, remembered}
 
 -- the service's step
 module _ (service : ServiceRecord) (login : LoginRecord) (request : Bytes) (admitted : List PairRecord) (seen : SeenRecord) (raised : seen.greatest ≡ max service.seen.greatest login.service_ap) where
@@ -63,6 +63,16 @@ module _ (asked : ApAskedRecord) (admission : AdmissionRecord) (reply : Bytes) (
   unfolding Show
   was_shown key x same = (subst (λ bytes. IsTaken (takes_ap_reply asked bytes) (Ok tt)) replied x, same)
 
+-- with what the service was told
+pub no_key : (asked : ApAskedRecord) (admission : AdmissionRecord) (result : Result Login LoginRefusal) (refusal : LoginRefusal) → Show asked admission (Err refusal) → result ≡ Err refusal
+    → Keyed asked admission result
+unfolding Keyed
+no_key asked admission result refusal x same = subst (Keyed asked admission) (sym same) x
+
+pub key_told : (asked : ApAskedRecord) (admission : AdmissionRecord) (key : EncryptionKey) → Show asked admission (Ok key) → Keyed asked admission (Ok (key, admission))
+unfolding Keyed
+key_told asked admission key x = (x, refl)
+
 -- the AP exchange
 module _ (client : ClientRecord) (service : ServiceRecord) (login : LoginRecord) (credential : CredentialRecord) (before : RememberedRecord) (seen : SeenRecord) where
   abbrev HasExchanged : Result Login LoginRefusal → Type 0
@@ -80,9 +90,9 @@ module _ (client : ClientRecord) (service : ServiceRecord) (login : LoginRecord)
         (x.1.0, inl ((request.items, asked), asks, (Err x.0, subst (λ bytes. IsAdmitted service login bytes before (Err x.0) x.1.0) is_sent x.1.1, same ∙ ap Err x.2)), x.1.2, x.1.3)
 
     module _ (admission : AdmissionRecord) (admits : Admit service login lent before (Ok admission) seen) where
-      pub ap_not_shown : (result : Result Login LoginRefusal) (refusal : LoginRefusal) → Show asked admission (Err refusal) → result ≡ Err refusal → HasExchanged result
-      unfolding ApAsk Admit Show ApExchange
-      ap_not_shown result refusal x same = (
+      pub ap_keyed : (result : Result Login LoginRefusal) → Keyed asked admission result → HasExchanged result
+      unfolding ApAsk Admit Keyed Show ApExchange
+      ap_keyed (Ok made) x = (
         admits.0,
         inl (
           (request.items, asked),
@@ -90,16 +100,13 @@ module _ (client : ClientRecord) (service : ServiceRecord) (login : LoginRecord)
           (
             Ok admission,
             subst (λ bytes. IsAdmitted service login bytes before (Ok admission) admits.0) is_sent admits.1,
-            inr (x.0, x.1, same ∙ ap Err x.2),
+            inl (tt, x.0.0, λ i. Ok (x.0.1 i, x.1 i)),
           ),
         ),
         admits.2,
         admits.3,
       )
-
-      pub ap_shown : (key : EncryptionKey) → Show asked admission (Ok key) → HasExchanged (Ok (key, admission))
-      unfolding ApAsk Admit Show ApExchange
-      ap_shown key x = (
+      ap_keyed (Err refusal) x = (
         admits.0,
         inl (
           (request.items, asked),
@@ -107,7 +114,7 @@ module _ (client : ClientRecord) (service : ServiceRecord) (login : LoginRecord)
           (
             Ok admission,
             subst (λ bytes. IsAdmitted service login bytes before (Ok admission) admits.0) is_sent admits.1,
-            inl (tt, x.0, ap (λ k. Ok (k, admission)) x.1),
+            inr (x.0, x.1, ap Err x.2),
           ),
         ),
         admits.2,

@@ -18,7 +18,7 @@ use Rattle.krb_client.specs.Refusals.{IsTaken}
 use Rattle.krb_client.specs.TgsReply.{takes_tgs_reply}
 use Rattle.krb_client.specs.declared.refusal.TakeRefusal.{TakeRefusal}
 use Rattle.krb_service.specs.Service.{ServiceRecord}
-use Rattle.krb_logins.specs.LoginRun.{IsAdmitted}
+use Rattle.krb_logins.specs.LoginRun.{IsAdmitted, Login}
 use Rattle.krb_logins.specs.Parties.{LoginRecord, RememberedRecord}
 use Rattle.krb_logins.specs.Steps.{IsAnswered, IsApAsked, IsAsAsked, IsTgsAsked, reply_bytes}
 use Rattle.krb_logins.specs.declared.refusal.LoginRefusal.{LoginRefusal}
@@ -74,3 +74,8 @@ unfoldable pub Show : ApAskedRecord → AdmissionRecord → Result EncryptionKey
 Show asked admission (Ok key) = IsTaken (takes_ap_reply asked (reply_bytes admission.reply)) (Ok tt) × (key ≡ encryption_key asked.suite asked.key)
 Show asked admission (Err refusal) =
     (cause : TakeRefusal) × IsTaken (takes_ap_reply asked (reply_bytes admission.reply)) (Err cause) × (refusal ≡ Taken cause)
+
+-- that key, with what the service was told
+unfoldable pub Keyed : ApAskedRecord → AdmissionRecord → Result Login LoginRefusal → Type 0
+Keyed asked admission (Ok login) = Show asked admission (Ok login.0) × (login.1 ≡ admission)
+Keyed asked admission (Err refusal) = Show asked admission (Err refusal)

@@ -9,7 +9,7 @@ ghost use Rattle.krb_logins.specs.Parties.{RememberedRecord, call_at};
 ghost use Rattle.krb_logins.specs.Steps.{reply_bytes};
 ghost use Rattle.krb_replay_cache.specs.Pair.{PairRecord};
 ghost use Rattle.krb_replay_cache.specs.Seen.{IsWindow};
-ghost use Rattle.krb_realm.specs.Logins.{Admit, Answer, ApAsk, AsAsk, AsTake, Remembers, Show, TgsAsk, TgsTake, remembered};
+ghost use Rattle.krb_realm.specs.Logins.{Admit, Answer, ApAsk, AsAsk, AsTake, Keyed, Remembers, Show, TgsAsk, TgsTake, remembered};
 ghost use Rattle.krb_realm.specs.Realm.{realm_of};
 ghost use Rattle.krb_sealing.specs.Sealing.{encryption_key};
 
@@ -148,8 +148,7 @@ fn ap_exchange(
 {
     let (request, asked) = ask_ap(alloc, client, credential, input)?;
     let admission = admit(alloc, service, &request, input)?;
-    let key = show(alloc, client, &asked, &admission)?;
-    Ok((key, admission))
+    keyed(alloc, client, &asked, admission)
 }
 
 // The client asks for a first ticket.
@@ -291,6 +290,19 @@ fn admit(
         Ok(admission) => Ok(admission),
         Err(refusal) => Err(LoginRefusal::Admitted(refusal)),
     }
+}
+
+// What the service was told, with the client's key: a function of its own, since it owns the admission where it may fail.
+fn keyed(
+    alloc: Global,
+    client: &Client,
+    asked: &ApAsked,
+    admission: Admission,
+) -> Result<(EncryptionKey, Admission), LoginRefusal>
+    ensures { Keyed asked.now admission result }
+{
+    let key = show(alloc, client, asked, &admission)?;
+    Ok((key, admission))
 }
 
 // The client takes the service's reply, and tells the session's key.

@@ -1,7 +1,7 @@
 use Rattle.std.proofs.Common.{refl}
 use Rattle.krb_logins.specs.Input.{login_of}
 use Rattle.krb_realm.specs.Logins.{remembered}
-use Rattle.krb_realm.proofs.Admitting.{ap_not_shown, ap_refused, ap_shown, ap_unasked}
+use Rattle.krb_realm.proofs.Admitting.{ap_keyed, ap_refused, ap_unasked}
 use Rattle.krb_realm.proofs.Exchanges.{exit_of}
 use Rattle.krb_realm.proofs.login.ap_exchange.Goals as goal
 
@@ -18,17 +18,8 @@ returns-in_err-admission-clause-run c = λ admitted window.
     c.from_residual-in_err-admission.result c.in_err-admission.field-0.0 (c.in_err-admission.ensures.admits admitted window)
     (exit_of c.from_residual-in_err-admission.result c.in_err-admission.field-0.0 c.from_residual-in_err-admission.ensures.1)
 
-pub returns-in_err-key-clause-run : goal.returns-in_err-key-clause-run
-returns-in_err-key-clause-run c = λ admitted window.
-    ap_not_shown c.args.client.now c.args.service.now (login_of c.args.input.now) c.args.credential.now (remembered c.args.service.now admitted) c.admit.new.service.seen
-    c.in_ok-request.request c.in_ok-request.asked c.deref.result.now c.in_ok-request.ensures c.deref.ensures.value
-    c.in_ok-admission.admission (c.in_ok-admission.ensures.admits admitted window)
-    c.from_residual-in_err-key.result c.in_err-key.field-0.0 c.in_err-key.ensures
-    (exit_of c.from_residual-in_err-key.result c.in_err-key.field-0.0 c.from_residual-in_err-key.ensures.1)
-
 pub returns-clause-run : goal.returns-clause-run
 returns-clause-run c = λ admitted window.
-    ap_shown c.args.client.now c.args.service.now (login_of c.args.input.now) c.args.credential.now (remembered c.args.service.now admitted) c.admit.new.service.seen
+    ap_keyed c.args.client.now c.args.service.now (login_of c.args.input.now) c.args.credential.now (remembered c.args.service.now admitted) c.admit.new.service.seen
     c.in_ok-request.request c.in_ok-request.asked c.deref.result.now c.in_ok-request.ensures c.deref.ensures.value
-    c.in_ok-admission.admission (c.in_ok-admission.ensures.admits admitted window)
-    c.in_ok-key.key c.in_ok-key.ensures
+    c.in_ok-admission.admission (c.in_ok-admission.ensures.admits admitted window) c.keyed.result c.keyed.ensures
