@@ -1,15 +1,18 @@
 //! The program `krb_realm`: answers the frames of standard input on standard output.
 //!
-//! It serves the stored run: the realm `R` with no account beside its own service, whose key has 32 zero
-//! bytes, at one fixed moment and with zero words. An argument is refused, since there is no other run yet.
+//! `krb_realm SETTINGS WORDS MOMENT` serves the realm of a settings file, with the random bytes of the file WORDS, and each
+//! message at the moment `now` or `YYYYMMDDHHMMSSZ`. Without arguments it serves the stored run: the realm `R` with no
+//! account beside its own service, whose key has 32 zero bytes, at one fixed moment and with zero words.
 #![tactic(auto)]
 
 use devices::Watched;
-use krb_realm::{CipherSuite, Moment, Realm, RealmRefusal, ServeFault, Settings, serve};
+use krb_kdc::{Outcome, Stop, run_with_arguments};
+use krb_realm::{CipherSuite, Moment, Realm, ServeFault, Settings, Sink, Source};
+use krb_runs::serve_at;
+use std::alloc::Global;
+use std::env;
 use std::io::{self, BufReader, ErrorKind};
 use std::process::ExitCode;
-use std::{env, iter};
-use thiserror::Error;
 
 /// How many seconds clocks may differ in the stored run.
 const SKEW: u64 = 300;
@@ -20,94 +23,74 @@ const LIFETIME: u64 = 36_000;
 /// The moment of the stored run.
 const MOMENT: &[u8; 15] = b"20000101000000Z";
 
-/// Why the program stops before the end of its input.
-#[derive(Debug, Drop, Error)]
-enum Stop {
-    /// There is an argument.
-    #[error("bad arguments")]
-    BadArguments,
-    /// The stored run is no realm's.
-    #[error("{0}")]
-    Realm(RealmRefusal),
-    /// Serving stopped.
-    #[error("{0}")]
-    Fault(ServeFault),
-}
-
-impl Stop {
-    /// The status that the program ends with.
-    fn status(&self) -> u8 {
-        match self {
-            Stop::BadArguments => 1,
-            Stop::Realm(_) | Stop::Fault(_) => 2,
-        }
-    }
-}
-
-impl From<RealmRefusal> for Stop {
-    fn from(refusal: RealmRefusal) -> Stop {
-        match refusal {
-            RealmRefusal::Memory => Stop::Fault(ServeFault::Memory),
-            other => Stop::Realm(other),
-        }
-    }
-}
-
-impl From<ServeFault> for Stop {
-    fn from(fault: ServeFault) -> Stop {
-        Stop::Fault(fault)
-    }
-}
-
-impl From<io::Error> for Stop {
-    fn from(fault: io::Error) -> Stop {
-        match fault.kind() {
-            ErrorKind::OutOfMemory => Stop::Fault(ServeFault::Memory),
-            _ => Stop::Fault(ServeFault::Read),
-        }
-    }
-}
-
 fn main(rt: HostRuntime) -> ExitCode {
-    let Err(stop) = run(&rt) else {
-        return ExitCode::SUCCESS;
+    let outcome = match run(&rt) {
+        Ok(outcome) => outcome,
+        Err(stop) => Outcome::of(Err(stop)),
     };
-    // Where standard error takes nothing, the status still tells.
-    let _ = eprintln!(rt; "krb_realm: {stop}");
-    ExitCode::from(stop.status())
-}
-
-/// Serves standard input to its end, and gives how many frames were answered.
-fn run(rt: &HostRuntime) -> Result<u64, Stop> {
-    refuse_arguments(rt)?;
-    let settings = Settings::new(SKEW, LIFETIME)?;
-    let suite = CipherSuite::Aes256CtsHmacSha196;
-    let realm = Realm::new(rt.alloc(), b"R", suite, &[0; 32], settings)?;
-    let Some(moment) = Moment::from_text(MOMENT) else {
-        return Err(Stop::Realm(RealmRefusal::BadSetting));
-    };
-    let mut reader = Watched::new(BufReader::new(rt.alloc(), rt.stdin())?);
-    let mut writer = Watched::new(rt.stdout());
-    let mut words = Watched::new(io::repeat(0));
-    let moments = iter::repeat_n(moment, usize::MAX);
-    let answered = serve(
-        rt.alloc(),
-        &realm,
-        &mut reader,
-        &mut writer,
-        moments,
-        &mut words,
-    )?;
-    Ok(answered)
-}
-
-/// Refuses an argument behind the program's name, also one that is no text.
-fn refuse_arguments(rt: &HostRuntime) -> Result<(), Stop> {
-    match env::args(rt) {
-        Ok(arguments) if arguments.len() <= 1 => Ok(()),
-        Err(fault) if fault.kind() == ErrorKind::OutOfMemory => Err(Stop::Fault(
-            ServeFault::Memory,
-        )),
-        _ => Err(Stop::BadArguments),
+    if !outcome.line.is_empty() {
+        // Where standard error takes nothing, the status still tells.
+        let _ = eprintln!(rt; "{}", outcome.line);
     }
+    ExitCode::from(outcome.status)
+}
+
+/// Serves standard input, as the arguments say.
+fn run(rt: &HostRuntime) -> Result<Outcome, Stop> {
+    let arguments = arguments_of(rt)?;
+    let Ok(input) = BufReader::new(rt.alloc(), rt.stdin()) else {
+        return Err(Stop::Fault(ServeFault::Memory));
+    };
+    let mut reader = Watched::new(input);
+    let mut writer = Watched::new(rt.stdout());
+    if arguments.is_empty() {
+        return Ok(Outcome::of(serve_stored(rt.alloc(), &mut reader, &mut writer)));
+    }
+    Ok(run_with_arguments(rt, &arguments, &mut reader, &mut writer))
+}
+
+/// The arguments behind the program's name. One that is no text is refused.
+fn arguments_of(rt: &HostRuntime) -> Result<Vec<String>, Stop> {
+    let given = match env::args(rt) {
+        Ok(given) => given,
+        Err(fault) if fault.kind() == ErrorKind::OutOfMemory => {
+            return Err(Stop::Fault(ServeFault::Memory));
+        }
+        Err(_) => return Err(Stop::BadArguments),
+    };
+    let mut arguments = Vec::new(rt.alloc());
+    for argument in given.skip(1) {
+        if arguments.push(argument).is_err() {
+            return Err(Stop::Fault(ServeFault::Memory));
+        }
+    }
+    Ok(arguments)
+}
+
+/// Serves the stored run, and gives how many frames were answered.
+fn serve_stored<R: Source, W: Sink>(
+    alloc: Global,
+    reader: &mut R,
+    writer: &mut W,
+) -> Result<u64, Stop> {
+    // Its name, key, settings and moment are a realm's, so memory is the only refusal.
+    let memory = Stop::Fault(ServeFault::Memory);
+    let Ok(settings) = Settings::new(SKEW, LIFETIME) else {
+        return Err(memory);
+    };
+    let Ok(realm) = Realm::new(
+        alloc,
+        b"R",
+        CipherSuite::Aes256CtsHmacSha196,
+        &[0; 32],
+        settings,
+    ) else {
+        return Err(memory);
+    };
+    let Some(moment) = Moment::from_text(MOMENT) else {
+        return Err(memory);
+    };
+    let mut words = Watched::new(io::repeat(0));
+    let answered = serve_at(alloc, &realm, moment, &mut words, reader, writer)?;
+    Ok(answered)
 }

@@ -1,0 +1,31 @@
+-- How a run with settings ends.
+use Rattle.std.specs.Prelude.{◌⊎◌, ℕ, List, Option, Result, Ok, Err}
+use Rattle.krb_moments.specs.Units.{Micros}
+use Rattle.krb_frames.specs.declared.fault.ServeFault.{ServeFault}
+use Rattle.krb_frames.specs.declared.fault.ServeFault.TheVariants as serve_fault
+use Rattle.krb_realm.specs.Realm.{RealmState, call_to}
+use Rattle.krb_replies.specs.Replies.{Replies}
+use Rattle.krb_runs.specs.Devices.{Devices, Serves}
+use Rattle.krb_runs.specs.declared.outcome.Stop.{Stop}
+use Rattle.krb_runs.specs.declared.outcome.Stop.TheVariants.{BadArguments, BadSettings, Fault}
+use Rattle.krb_kdc.specs.Files.{IsRealmFile}
+use Rattle.krb_kdc.specs.declared.fault.KdcFault.{KdcFault}
+use Rattle.krb_kdc.specs.declared.fault.KdcFault.TheVariants.{Memory}
+
+-- why a program stops by a fault of its file
+abbrev pub stop_of : KdcFault → Stop
+stop_of Memory = Fault serve_fault.Memory
+stop_of _ = BadSettings
+
+-- the file writes a realm, and the stream is served as that realm's
+abbrev pub ServesFile : List ℕ → Micros → Devices → Devices → Result ℕ ServeFault → Type 0
+ServesFile text moment old new served = (realm : RealmState) × IsRealmFile text realm
+    × Serves (λ message moment words reply. Replies (call_to realm moment words) message reply) moment old new served
+
+-- `Untouched`: no device was read from or written to. A file that writes no realm leaves them so, and want of memory may, before serving
+abbrev pub IsEnd : Type 0 → List ℕ → Micros → Devices → Devices → Result ℕ Stop → Type 0
+IsEnd Untouched text moment old new (Ok count) = ServesFile text moment old new (Ok count)
+IsEnd Untouched text moment old new (Err BadArguments) = ⊥
+IsEnd Untouched text moment old new (Err BadSettings) = Untouched × ((realm : RealmState) → ¬ IsRealmFile text realm)
+IsEnd Untouched text moment old new (Err (Fault serve_fault.Memory)) = Untouched ⊎ ServesFile text moment old new (Err serve_fault.Memory)
+IsEnd Untouched text moment old new (Err (Fault fault)) = ServesFile text moment old new (Err fault)
