@@ -1,0 +1,192 @@
+//! A realm: its settings, its commands, and what it answers.
+
+use crate::stage::Stage;
+use crate::told::{digits_of, done, ok, refused};
+use crate::words::{bytes_of, name_of, suite_of};
+use anyhow::bail;
+use krb_accounts::{Account, Accounts, components_of};
+use krb_realm::{
+    CipherSuite, OctetStringAsn1, Realm, ServeFault, Settings, serve_bytes, words_needed,
+};
+use std::alloc::Global;
+
+const AES256: CipherSuite = CipherSuite::Aes256CtsHmacSha196;
+
+pub(crate) fn told_by_words(
+    stage: &mut Stage,
+    alloc: Global,
+    step: &str,
+    words: &[&str],
+) -> anyhow::Result<String> {
+    match step {
+        "settings" => settings(alloc, words),
+        "realm" => realm(stage, alloc, words),
+        "add_by_key" => add_by_key(stage, alloc, words),
+        "add_by_password" => add_by_password(stage, alloc, words),
+        "remove" => remove(stage, alloc, words),
+        "change_key" => change_key(stage, alloc, words),
+        "answer" => answer(stage, alloc),
+        "reply" => digits_of(alloc, &stage.reply),
+        "serve" => serve(stage, alloc),
+        "cut_reply" => cut_reply(stage, alloc),
+        "spend_number" => spend_number(alloc, words),
+        "words_needed" => Ok(format!(in alloc; "{}", words_needed())?),
+        _ => bail!("no such step"),
+    }
+}
+
+fn settings(alloc: Global, words: &[&str]) -> anyhow::Result<String> {
+    let [skew, lifetime] = words else {
+        bail!("settings SKEW LIFETIME");
+    };
+    match Settings::new(skew.parse::<u64>()?, lifetime.parse::<u64>()?) {
+        Ok(_) => ok(alloc),
+        Err(refusal) => refused(alloc, &refusal),
+    }
+}
+
+/// Makes a realm without accounts beside its own, with 300 seconds of skew and 36,000 of lifetime. Its name is given in
+/// hexadecimal.
+fn realm(stage: &mut Stage, alloc: Global, words: &[&str]) -> anyhow::Result<String> {
+    let [name, key] = words else {
+        bail!("realm NAME KEY");
+    };
+    let name = bytes_of(alloc, name)?;
+    let key = bytes_of(alloc, key)?;
+    make_realm(stage, alloc, &name, &key)
+}
+
+fn make_realm(stage: &mut Stage, alloc: Global, name: &[u8], key: &[u8]) -> anyhow::Result<String> {
+    let settings = Settings::new(300, 36_000)?;
+    match Realm::new(alloc, name, AES256, key, settings) {
+        Ok(realm) => {
+            stage.realm = Some(realm);
+            ok(alloc)
+        }
+        Err(refusal) => refused(alloc, &refusal),
+    }
+}
+
+fn add_by_key(stage: &mut Stage, alloc: Global, words: &[&str]) -> anyhow::Result<String> {
+    let [name, suite, key] = words else {
+        bail!("add_by_key NAME SUITE KEY");
+    };
+    let suite = suite_of(suite)?;
+    let name = name_of(alloc, name)?;
+    let key = bytes_of(alloc, key)?;
+    let added = stage
+        .realm_mut()?
+        .add_account_by_key(alloc, &name, suite, &key);
+    done(alloc, added)
+}
+
+fn add_by_password(stage: &mut Stage, alloc: Global, words: &[&str]) -> anyhow::Result<String> {
+    let [name, suite, password] = words else {
+        bail!("add_by_password NAME SUITE PASSWORD");
+    };
+    let suite = suite_of(suite)?;
+    let name = name_of(alloc, name)?;
+    let added = stage
+        .realm_mut()?
+        .add_account_by_password(alloc, &name, suite, password.as_bytes());
+    done(alloc, added)
+}
+
+fn remove(stage: &mut Stage, alloc: Global, words: &[&str]) -> anyhow::Result<String> {
+    let [name] = words else {
+        bail!("remove NAME");
+    };
+    let name = name_of(alloc, name)?;
+    let removed = stage.realm_mut()?.remove_account(&name);
+    done(alloc, removed)
+}
+
+fn change_key(stage: &mut Stage, alloc: Global, words: &[&str]) -> anyhow::Result<String> {
+    let [name, suite, key] = words else {
+        bail!("change_key NAME SUITE KEY");
+    };
+    let suite = suite_of(suite)?;
+    let name = name_of(alloc, name)?;
+    let key = bytes_of(alloc, key)?;
+    let changed = stage.realm_mut()?.change_key(alloc, &name, suite, &key);
+    done(alloc, changed)
+}
+
+/// Changes the key of an account whose key has this number.
+fn spend_number(alloc: Global, words: &[&str]) -> anyhow::Result<String> {
+    let [number] = words else {
+        bail!("spend_number NUMBER");
+    };
+    let number = number.parse::<u32>()?;
+    let name = name_of(alloc, "x")?;
+    let mut accounts = Accounts::new(alloc);
+    add_of_number(alloc, &mut accounts, &name, number)?;
+    done(alloc, accounts.change_key(alloc, &name, AES256, &[2; 32]))
+}
+
+fn add_of_number(
+    alloc: Global,
+    accounts: &mut Accounts,
+    name: &[Vec<u8>],
+    number: u32,
+) -> anyhow::Result<()> {
+    if number == 0 {
+        bail!("numbers count from 1");
+    }
+    let name = components_of(alloc, name)?;
+    let key = OctetStringAsn1::new(alloc, &[1; 32])?;
+    accounts.insert_new(name, Account::new(AES256, key, number, None))?;
+    Ok(())
+}
+
+/// Answers the last request, and keeps the reply.
+fn answer(stage: &mut Stage, alloc: Global) -> anyhow::Result<String> {
+    let at = stage.conditions;
+    match stage
+        .realm()?
+        .answer(alloc, &stage.request, at.moment, &at.random.bytes())
+    {
+        Ok(reply) => {
+            stage.reply = reply;
+            digits_of(alloc, &stage.reply)
+        }
+        Err(refusal) => refused(alloc, &refusal),
+    }
+}
+
+/// Serves the stream at the moment, and tells how it ends and what is written.
+fn serve(stage: &Stage, alloc: Global) -> anyhow::Result<String> {
+    let at = stage.conditions;
+    let words = at.random.bytes();
+    let realm = stage.realm()?;
+    let mut written = Vec::new(alloc);
+    let end = serve_bytes(
+        alloc,
+        realm,
+        &stage.request,
+        &[at.moment],
+        &words,
+        &mut written,
+    );
+    served_text(alloc, end, &written)
+}
+
+fn served_text(
+    alloc: Global,
+    end: Result<u64, ServeFault>,
+    written: &[u8],
+) -> anyhow::Result<String> {
+    let written = digits_of(alloc, written)?;
+    let text = format!(in alloc; "{end:?} {written}")?;
+    Ok(text)
+}
+
+/// Takes the first byte of the reply away.
+fn cut_reply(stage: &mut Stage, alloc: Global) -> anyhow::Result<String> {
+    let cut = match stage.reply.split_first() {
+        Some((_, rest)) => Vec::from_slice(alloc, rest)?,
+        None => bail!("no reply"),
+    };
+    stage.reply = cut;
+    Ok(String::new(alloc))
+}

@@ -1,0 +1,97 @@
+//! A service, and what it admits.
+
+use crate::stage::Stage;
+use crate::told::{admission_text, ok, refused};
+use crate::words::{bytes_of, name_of};
+use anyhow::{Context, bail};
+use krb_realm::{Admission, AdmitRefusal, CipherSuite, Moment, Service};
+use std::alloc::Global;
+
+/// Makes the service `h`.
+pub(crate) fn service(stage: &mut Stage, alloc: Global, words: &[&str]) -> anyhow::Result<String> {
+    let [realm, key, number, skew] = words else {
+        bail!("service REALM KEY NUMBER SKEW");
+    };
+    let realm = bytes_of(alloc, realm)?;
+    let key = bytes_of(alloc, key)?;
+    let number = number.parse::<u32>()?;
+    let skew = skew.parse::<u64>()?;
+    make_service(stage, alloc, &realm, &key, number, skew)
+}
+
+fn make_service(
+    stage: &mut Stage,
+    alloc: Global,
+    realm: &[u8],
+    key: &[u8],
+    number: u32,
+    skew: u64,
+) -> anyhow::Result<String> {
+    let name = name_of(alloc, "h")?;
+    let suite = CipherSuite::Aes256CtsHmacSha196;
+    match Service::new(alloc, realm, &name, suite, key, number, skew) {
+        Ok(service) => {
+            stage.service = Some(service);
+            ok(alloc)
+        }
+        Err(refusal) => refused(alloc, &refusal),
+    }
+}
+
+/// Presents the last request, and keeps the reply.
+pub(crate) fn admit(stage: &mut Stage, alloc: Global) -> anyhow::Result<String> {
+    let at = stage.conditions;
+    let service = stage.service.as_mut().context("no service")?;
+    match service.admit(alloc, &stage.request, at.moment, &at.random.bytes()) {
+        Ok(admission) => admitted(stage, alloc, admission),
+        Err(refusal) => refused(alloc, &refusal),
+    }
+}
+
+fn admitted(stage: &mut Stage, alloc: Global, admission: Admission) -> anyhow::Result<String> {
+    let text = admission_text(alloc, &admission);
+    keep_reply(stage, admission);
+    text
+}
+
+fn keep_reply(stage: &mut Stage, admission: Admission) {
+    let Admission { reply, .. } = admission;
+    if let Some(reply) = reply {
+        stage.reply = reply;
+    }
+}
+
+/// Presents no bytes.
+pub(crate) fn admit_nothing(stage: &mut Stage, alloc: Global) -> anyhow::Result<String> {
+    let at = stage.conditions;
+    let service = stage.service.as_mut().context("no service")?;
+    match service.admit(alloc, &[], at.moment, &at.random.bytes()) {
+        Ok(_) => bail!("no bytes are admitted"),
+        Err(refusal) => refused(alloc, &refusal),
+    }
+}
+
+/// Presents the last request twice in one call.
+pub(crate) fn admit_twice(stage: &mut Stage, alloc: Global) -> anyhow::Result<String> {
+    let at = stage.conditions;
+    let words = at.random.bytes();
+    let service = stage.service.as_mut().context("no service")?;
+    let request: &[u8] = &stage.request;
+    let calls: [(&[u8], Moment, &[u8]); 2] = [
+        (request, at.moment, &words),
+        (request, at.moment, &words),
+    ];
+    let answers = service.admit_all(alloc, &calls)?;
+    answers_text(alloc, &answers)
+}
+
+/// That the first is admitted, and how the second is refused.
+fn answers_text(
+    alloc: Global,
+    answers: &[Result<Admission, AdmitRefusal>],
+) -> anyhow::Result<String> {
+    match answers {
+        [Ok(_), Err(refusal)] => Ok(format!(in alloc; "admitted, {refusal:?}")?),
+        _ => bail!("other than one admission and one refusal"),
+    }
+}
