@@ -1,17 +1,20 @@
 //! A KDC as an administrator runs it: the realm of a settings file answers the frames of a stream.
 //!
 //! [`run_settings`] is a whole run of the program `krb_realm` but for its arguments, the clock and the opening of files,
-//! which [`run_with_arguments`] adds.
+//! which [`run_with_arguments`] adds; [`run_process`] is the program itself.
 #![tactic(auto)]
 
 mod console;
 mod fault;
 pub mod laws;
+mod process;
 mod realm;
 mod run;
 
 pub use console::{read_file, run_with_arguments};
 pub use fault::KdcFault;
+pub use krb_realm::Moment;
 pub use krb_runs::{Outcome, Stop};
+pub use process::run_process;
 pub use realm::{read_realm, realm_of};
 pub use run::run_settings;

@@ -4,6 +4,7 @@
 
 mod ask;
 mod line;
+mod login;
 mod parts;
 mod realms;
 mod services;

@@ -2,7 +2,7 @@
 
 use crate::line::Line;
 use crate::words::bytes_of;
-use crate::{ask, parts, realms, services, take};
+use crate::{ask, login, parts, realms, services, take};
 use anyhow::{Context, bail};
 use krb_realm::{
     ApAsked, AsAsked, Client, Credential, GeneralizedTime, Moment, Realm, Service, TgsAsked,
@@ -141,6 +141,7 @@ fn told_by_words(
         "admit" => services::admit(stage, alloc),
         "admit_nothing" => services::admit_nothing(stage, alloc),
         "admit_twice" => services::admit_twice(stage, alloc),
+        "login" => login::login(stage, alloc, words),
         "exchange_tag" => parts::exchange_tag(stage, alloc, words),
         "print_error" => parts::print_error(stage, alloc),
         "write_error" => parts::write_error(stage, alloc),

@@ -46,6 +46,18 @@ pub(crate) fn admission_text(alloc: Global, admission: &Admission) -> anyhow::Re
     Ok(text)
 }
 
+/// The client's key, and what the service was told.
+pub(crate) fn login_text(
+    alloc: Global,
+    key: &EncryptionKey,
+    admission: &Admission,
+) -> anyhow::Result<String> {
+    let key = key_text(alloc, key)?;
+    let admitted = admission_text(alloc, admission)?;
+    let text = format!(in alloc; "key {key} admitted {admitted}")?;
+    Ok(text)
+}
+
 fn client_text(alloc: Global, admission: &Admission) -> anyhow::Result<String> {
     let client = sole_component(&admission.client)?;
     let realm = str::from_utf8(admission.realm.as_bytes())?;

@@ -5,6 +5,10 @@
 #![tactic(auto)]
 
 pub use picky_asn1::oid;
+pub use x509_extensions::{
+    AuthorityKeyIdentifier, Extension, ExtensionValue, ExtensionView, Extensions, IssuerAltName,
+    KeyIdentifier, SubjectAltName, SubjectKeyIdentifier,
+};
 pub use x509_names::{
     AttributeTypeAndValue, AttributeValue, DirectoryName, EdiPartyName, GeneralName, GeneralNames,
     Name, NameAttr, OtherName, RdnSequence, RelativeDistinguishedName,

@@ -9,19 +9,67 @@ pub use krb_opening::{OpenFault, open_part, open_whole, read_whole};
 
 /// Numbers of the standards.
 pub mod constants {
-    pub use krb_types::constants::{error_codes, key_usages};
+    pub use krb_constants::{cksum_types, cred_ssp, etypes, gss_api, key_usages, krb_priv};
 
-    /// The version, message types, application tags, name types, and types of preauthentication data.
+    /// Codes of a KRB-ERROR.
+    pub mod error_codes {
+        pub use krb_constants::error_codes::{
+            KDC_ERR_C_OLD_MAST_KVNO, KDC_ERR_CANT_VERIFY_CERTIFICATE, KDC_ERR_CERTIFICATE_MISMATCH,
+            KDC_ERR_CLIENT_NAME_MISMATCH, KDC_ERR_CLIENT_NOTYET, KDC_ERR_CLIENT_REVOKED,
+            KDC_ERR_INVALID_CERTIFICATE, KDC_ERR_KDC_NAME_MISMATCH, KDC_ERR_KEY_EXPIRED,
+            KDC_ERR_KEY_TOO_WEAK, KDC_ERR_MUST_USE_USER2USER, KDC_ERR_NAME_EXP, KDC_ERR_NONE,
+            KDC_ERR_NULL_KEY, KDC_ERR_PATH_NOT_ACCEPTED, KDC_ERR_PRINCIPAL_NOT_UNIQUE,
+            KDC_ERR_REVOCATION_STATUS_UNAVAILABLE, KDC_ERR_REVOCATION_STATUS_UNKNOWN,
+            KDC_ERR_REVOKED_CERTIFICATE, KDC_ERR_S_OLD_MAST_KVNO, KDC_ERR_SERVER_NOMATCH,
+            KDC_ERR_SERVICE_EXP, KDC_ERR_SERVICE_NOTYET, KDC_ERR_SERVICE_REVOKED,
+            KDC_ERR_SVC_UNAVAILABLE, KDC_ERR_TGT_REVOKED, KDC_ERR_TRTYPE_NOSUPP,
+            KDC_ERROR_CLIENT_NOT_TRUSTED, KDC_ERROR_INVALID_SIG, KDC_ERROR_KDC_NOT_TRUSTED,
+            KRB_AP_ERR_BADADDR, KRB_AP_ERR_BADDIRECTION, KRB_AP_ERR_BADORDER, KRB_AP_ERR_BADSEQ,
+            KRB_AP_ERR_IAKERB_KDC_NO_RESPONSE, KRB_AP_ERR_IAKERB_KDC_NOT_FOUND,
+            KRB_AP_ERR_MUT_FAIL, KRB_AP_ERR_NO_TGT, KRB_AP_ERR_USER_TO_USER_REQUIRED,
+            KRB_AP_PATH_NOT_ACCEPTED, KRB_ERR_FIELD_TOOLONG, KRB_ERR_RESPONSE_TOO_BIG,
+        };
+        pub use krb_types::constants::error_codes::{
+            KDC_ERR_BAD_PVNO, KDC_ERR_BADOPTION, KDC_ERR_C_PRINCIPAL_UNKNOWN,
+            KDC_ERR_CANNOT_POSTDATE, KDC_ERR_ETYPE_NOSUPP, KDC_ERR_NEVER_VALID,
+            KDC_ERR_PADATA_TYPE_NOSUPP, KDC_ERR_POLICY, KDC_ERR_PREAUTH_FAILED,
+            KDC_ERR_PREAUTH_REQUIRED, KDC_ERR_S_PRINCIPAL_UNKNOWN, KDC_ERR_SUMTYPE_NOSUPP,
+            KDC_ERR_WRONG_REALM, KRB_AP_ERR_BAD_INTEGRITY, KRB_AP_ERR_BADKEYVER,
+            KRB_AP_ERR_BADMATCH, KRB_AP_ERR_BADVERSION, KRB_AP_ERR_INAPP_CKSUM, KRB_AP_ERR_METHOD,
+            KRB_AP_ERR_MODIFIED, KRB_AP_ERR_MSG_TYPE, KRB_AP_ERR_NOKEY, KRB_AP_ERR_NOT_US,
+            KRB_AP_ERR_REPEAT, KRB_AP_ERR_SKEW, KRB_AP_ERR_TKT_EXPIRED, KRB_AP_ERR_TKT_NYV,
+            KRB_ERR_GENERIC,
+        };
+    }
+
+    /// The version, message types, application tags, types of names, of addresses and of data.
     pub mod types {
+        pub use krb_constants::types::{
+            AD_AUTH_DATA_AP_OPTION_TYPE, APPLETALK_DDP_ADDR_TYPE, CHAOS_NET_ADDR_TYPE,
+            DECNET_PHASE_IV_ADDR_TYPE, DIRECTIONAL_ADDR_TYPE, ENC_KRB_CRED_PART_TYPE,
+            IP_V4_ADDR_TYPE, IP_V6_ADDR_TYPE, ISO_ADDR_TYPE, KERB_AP_OPTIONS_CBT,
+            KRB_CRED_MSG_TYPE, NET_BIOS_ADDR_TYPE, NT_ENTERPRISE, NT_SMTP_NAME, NT_SRV_HST,
+            NT_SRV_XHST, NT_UID, NT_UNKNOWN, NT_X500_PRINCIPAL, PA_ENC_TIMESTAMP,
+            PA_ENC_TIMESTAMP_KEY_USAGE, PA_ETYPE_INFO2_TYPE, PA_PAC_OPTIONS_TYPE,
+            PA_PAC_REQUEST_TYPE, PA_PK_AS_REP, PA_PK_AS_REQ, PA_TGS_REQ_TYPE, TGT_REP_MSG_TYPE,
+            TGT_REQ_MSG_TYPE, XNS_ADDR_TYPE,
+        };
         pub use krb_priv_messages::constants::types::{KRB_PRIV, KRB_PRIV_ENC_PART};
         pub use krb_types::constants::types::{
             AP_REP_MSG_TYPE, AP_REQ_MSG_TYPE, AS_REP_MSG_TYPE, AS_REQ_MSG_TYPE, AUTHENTICATOR_TYPE,
             ENC_AP_REP_PART_TYPE, ENC_AS_REP_PART_TYPE, ENC_TGS_REP_PART_TYPE,
             ENC_TICKET_PART_TYPE, KERBEROS_VERSION, KRB_ERROR_MSG_TYPE, NT_PRINCIPAL, NT_SRV_INST,
-            PA_ENC_TIMESTAMP, PA_ETYPE_INFO2, PA_PK_AS_REQ, PA_TGS_REQ, TGS_REP_MSG_TYPE,
-            TGS_REQ_MSG_TYPE, TICKET_TYPE,
+            TGS_REP_MSG_TYPE, TGS_REQ_MSG_TYPE, TICKET_TYPE,
         };
     }
+}
+
+/// Credentials that CredSSP delegates (MS-CSSP).
+pub mod credssp {
+    pub use credssp_messages::{
+        TsCredentials, TsCspDataDetail, TsPasswordCreds, TsRemoteGuardCreds,
+        TsRemoteGuardPackageCred, TsSmartCardCreds,
+    };
 }
 
 /// The suites: keys, sealing, checksums (RFC 3961, RFC 3962).
@@ -35,6 +83,10 @@ pub mod crypto {
 
 /// What messages hold, and the record of a process's integrity level.
 pub mod data_types {
+    pub use krb_credentials::{
+        ChangePasswdData, EncKrbCredPart, EncKrbCredPartInner, KerbAdRestrictionEntry,
+        KerbErrorData, KerbPaPacRequest, KrbCredInfo, KrbResult, PaPacOptions, ResultExt,
+    };
     pub use krb_priv_messages::{EncKrbPrivPart, EncKrbPrivPartInner};
     pub use krb_tokens::{LsapTokenInfoIntegrity, MACHINE_ID_LENGTH};
     pub use krb_types::data_types::{
@@ -47,13 +99,18 @@ pub mod data_types {
     };
 }
 
-/// Tokens of the GSS-API mechanism (RFC 4121).
+/// Tokens of the GSS-API mechanism (RFC 4121), and those by which a mechanism is negotiated (RFC 4178).
 pub mod gss_api {
+    pub use gss_messages::{
+        ApplicationTag0, GssApiNegInit, MechType, MechTypeList, NegTokenInit, NegTokenTarg,
+        NegTokenTarg1,
+    };
     pub use krb_tokens::{GssApiMessageError, MicToken, WrapToken};
 }
 
 /// Messages (RFC 4120, section 5), and the exchange that changes a password (RFC 3244).
 pub mod messages {
+    pub use krb_credentials::{KdcProxyMessage, KrbCred, KrbCredInner, TgtRep, TgtReq};
     pub use krb_messages::messages::{
         ApRep, ApRepInner, ApReq, ApReqInner, AsRep, AsReq, EncAsRepPart, EncKdcRepPart,
         EncTgsRepPart, KdcRep, KdcReq, KdcReqBody, KrbError, KrbErrorInner, TgsRep, TgsReq,
@@ -64,11 +121,22 @@ pub mod messages {
 /// Messages of NEGOEX (MS-NEGOEX).
 pub mod negoex {
     pub use negoex_layouts::{
-        AuthScheme, AuthSchemeVector, ByteVector, CHECKSUM_SCHEME_RFC3961, Checksum,
-        ConversationId, Exchange, Extension, ExtensionVector, Guid, Laid, MessageHeader,
-        MessageType, NEGOEXTS_MESSAGE_SIGNATURE, Nego, NegoexDataType, NegoexMessage,
-        PROTOCOL_VERSION, RANDOM_ARRAY_SIZE, Verify, Wide, written_is_read,
+        CHECKSUM_SCHEME_RFC3961, Laid, NEGOEXTS_MESSAGE_SIGNATURE, NegoexDataType, NegoexMessage,
+        PROTOCOL_VERSION, RANDOM_ARRAY_SIZE, Wide, written_is_read,
     };
+
+    /// What messages hold (MS-NEGOEX, section 2.2.5).
+    pub mod data_types {
+        pub use negoex_layouts::{
+            AuthScheme, AuthSchemeVector, ByteVector, Checksum, ConversationId, Extension,
+            ExtensionVector, Guid, MessageHeader, MessageType,
+        };
+    }
+
+    /// Its messages (MS-NEGOEX, section 2.2.6).
+    pub mod messages {
+        pub use negoex_layouts::{Exchange, Nego, Verify};
+    }
 }
 
 /// PACs (MS-PAC).

@@ -4,8 +4,9 @@
 
 use anyhow::{Context, bail};
 use picky_asn1_x509::{
-    BasicConstraints, ExtendedKeyUsage, GeneralNames, KeyUsage, Name, RawAlgorithmIdentifier,
-    Spelled, Validity, X509Fault, deviations, encoded_len, from_bytes, to_vec,
+    AuthorityKeyIdentifier, BasicConstraints, ExtendedKeyUsage, Extension, Extensions,
+    GeneralNames, KeyUsage, Name, RawAlgorithmIdentifier, Spelled, Validity, X509Fault, deviations,
+    encoded_len, from_bytes, to_vec,
 };
 use std::alloc::Global;
 use std::fs;
@@ -83,8 +84,11 @@ fn wanted_of(alloc: Global, count: &str, strict: &str) -> anyhow::Result<Wanted>
 
 fn agrees(alloc: Global, recorded: &Recorded<'_>) -> anyhow::Result<bool> {
     let answer = match recorded.type_name {
+        "AuthorityKeyIdentifier" => is_told::<AuthorityKeyIdentifier>(alloc, recorded),
         "BasicConstraints" => is_told::<BasicConstraints>(alloc, recorded),
         "ExtendedKeyUsage" => is_told::<ExtendedKeyUsage>(alloc, recorded),
+        "Extension" => is_told::<Extension>(alloc, recorded),
+        "Extensions" => is_told::<Extensions>(alloc, recorded),
         "GeneralNames" => is_told::<GeneralNames>(alloc, recorded),
         "KeyUsage" => is_told::<KeyUsage>(alloc, recorded),
         "Name" => is_told::<Name>(alloc, recorded),

@@ -1,9 +1,9 @@
-//! Derives keys from passwords, or seals a megabyte, as often as the arguments say, so that the time can be taken from
-//! outside (bench/sealing.sh). What it prints is the same each time.
+//! Derives keys from passwords, or seals or opens a megabyte, as often as the arguments say, so that the time can be taken
+//! from outside (bench/sealing.sh). What it prints is the same each time.
 #![tactic(auto)]
 
 use anyhow::bail;
-use krb_blocks::{AesSize, encrypt_aes_cts};
+use krb_blocks::{AesSize, decrypt_aes_cts, encrypt_aes_cts};
 use krb_digests::pbkdf2_hmac_sha1;
 use std::alloc::Global;
 use std::env;
@@ -13,13 +13,14 @@ const KEY: [u8; 16] = *b"a key of AES-128";
 fn main(rt: HostRuntime) -> anyhow::Result<()> {
     let mut words = env::args(&rt)?.skip(1);
     let (Some(task), Some(times)) = (words.next(), words.next()) else {
-        bail!("usage: sealing_bench key|cts TIMES");
+        bail!("usage: sealing_bench key|cts|open TIMES");
     };
     let times = times.parse::<u32>()?;
     let last = match task.as_str() {
         "key" => derived(rt.alloc(), times)?,
         "cts" => sealed(rt.alloc(), times)?,
-        _ => bail!("neither key nor cts: {task}"),
+        "open" => opened(rt.alloc(), times)?,
+        _ => bail!("neither key nor cts nor open: {task}"),
     };
     let end = &last[last.len().saturating_sub(32)..];
     println!(rt; "{}", hex::encode(rt.alloc(), end)?)?;
@@ -40,6 +41,15 @@ fn sealed(alloc: Global, times: u32) -> anyhow::Result<Vec<u8>> {
     let mut text = vec![in alloc; 0u8; 1_000_000]?;
     for _ in 0..times {
         text = encrypt_aes_cts(alloc, &KEY, &text, &AesSize::Aes128)?;
+    }
+    Ok(text)
+}
+
+/// A megabyte of zeros opened by AES-128 with ciphertext stealing, the outcome opened again, and so on.
+fn opened(alloc: Global, times: u32) -> anyhow::Result<Vec<u8>> {
+    let mut text = vec![in alloc; 0u8; 1_000_000]?;
+    for _ in 0..times {
+        text = decrypt_aes_cts(alloc, &KEY, &text, &AesSize::Aes128)?;
     }
     Ok(text)
 }

@@ -1,8 +1,9 @@
 //! Messages of NEGOEX, by the tables of MS-NEGOEX, section 2.2, and by messages of a stock peer.
 
+use picky_krb::negoex::data_types::{Checksum, Extension, MessageHeader, MessageType};
+use picky_krb::negoex::messages::{Exchange, Nego, Verify};
 use picky_krb::negoex::{
-    CHECKSUM_SCHEME_RFC3961, Checksum, Exchange, Extension, MessageHeader, MessageType,
-    NEGOEXTS_MESSAGE_SIGNATURE, Nego, NegoexMessage, PROTOCOL_VERSION, Verify,
+    CHECKSUM_SCHEME_RFC3961, NEGOEXTS_MESSAGE_SIGNATURE, NegoexMessage, PROTOCOL_VERSION,
 };
 use std::alloc::Global;
 use std::io::ErrorKind;

@@ -1,9 +1,7 @@
 //! Types of which messages of NEGOEX are made up, by the tables of MS-NEGOEX, section 2.2.
 
-use picky_krb::negoex::{
-    CHECKSUM_SCHEME_RFC3961, Checksum, Extension, MessageHeader, MessageType,
-    NEGOEXTS_MESSAGE_SIGNATURE, NegoexDataType,
-};
+use picky_krb::negoex::data_types::{Checksum, Extension, MessageHeader, MessageType};
+use picky_krb::negoex::{CHECKSUM_SCHEME_RFC3961, NEGOEXTS_MESSAGE_SIGNATURE, NegoexDataType};
 use std::alloc::Global;
 use uuid::Uuid;
 

@@ -3,8 +3,7 @@
 #![tactic(auto)]
 
 use anyhow::{Context, bail};
-use krb_kdc::{Outcome, Stop, read_realm, run_settings, run_with_arguments};
-use krb_realm::Moment;
+use krb_kdc::{Moment, Outcome, Stop, read_realm, run_settings, run_with_arguments};
 use std::alloc::Global;
 use std::fs;
 

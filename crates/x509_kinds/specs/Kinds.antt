@@ -1,5 +1,5 @@
 -- Fields of which an object identifier in front of them decides the kind.
-use Rattle.std.specs.Prelude.{ℕ, Bool, not, ◌&&◌, List, Option}
+use Rattle.std.specs.Prelude.{◌≡◌, ℕ, ◌+◌, Bool, not, ◌&&◌, List, Option}
 use Rattle.asn1_trees.specs.Tree.{Trees}
 use Rattle.x509_kinds.specs.declared.kinds.KindOf.{KindOf}
 use Rattle.x509_kinds.specs.declared.kinds.KindOf.TheVariants.{This, Other}
@@ -20,3 +20,7 @@ CaseSpells spells others (Other fields) bytes n = others fields bytes n
 abbrev pub case_refusal : {A B C : Type 0} → (A → Option C) → (B → Option C) → KindOf A B → Option C
 case_refusal refusal others (This fields) = refusal fields
 case_refusal refusal others (Other fields) = others fields
+
+-- the bytes are a spelling of what makes the value, in which there may be deviations of its own
+abbrev pub MadeOf : {R T : Type 0} → (R → List ℕ → ℕ → Type 0) → (R → T) → (R → ℕ) → T → List ℕ → ℕ → Type 0
+MadeOf {R} spells value_of own_count value bytes n = (read : R) × (m : ℕ) × spells read bytes m × (value_of read ≡ value) × (n ≡ m + own_count read)

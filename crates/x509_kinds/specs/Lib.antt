@@ -1,3 +1,4 @@
+pub mod HeldLaws
 pub mod KindLaws
 pub mod Kinds
 pub mod OidLaws

@@ -2,8 +2,12 @@
 //! algorithms' parameters.
 #![tactic(auto)]
 
+mod enclosed;
 mod identified;
 mod kinds;
+mod told_by;
 
+pub use enclosed::{Enclosed, Explicit, read_held};
 pub use identified::read_identified;
 pub use kinds::{Kind, KindOf, Kinds, LastKind, Lent};
+pub use told_by::{Identifiers, ToldBy};

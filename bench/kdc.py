@@ -1,0 +1,191 @@
+"""Measures AS exchanges of the program that is given, behind a bridge and in one pipe, and of MIT's krb5kdc."""
+import os, resource, shutil, socket, subprocess, sys, tempfile, time
+
+TICKET = 0x6B  # the first octet of an AS reply
+ASKED = 0x6A  # that of an AS request
+PASSWORD = b"correct horse battery staple"
+SUITE = "aes256-cts-hmac-sha1-96"
+HELD = []
+
+
+def free_port():
+    with socket.socket() as probe:
+        probe.bind(("127.0.0.1", 0))
+        return probe.getsockname()[1]
+
+
+def run(words, **options):
+    return subprocess.run(words, check=True, capture_output=True, **options)
+
+
+def start(words, **options):
+    HELD.append(subprocess.Popen(words, stdout=subprocess.DEVNULL, stderr=subprocess.DEVNULL, **options))
+    time.sleep(1)
+    return HELD[-1].pid
+
+
+def processor_seconds(process):
+    """Of a process and of the children that it has waited for: user and system."""
+    fields = [int(field) for field in open(f"/proc/{process}/stat").read().rsplit(")", 1)[1].split()[11:15]]
+    return (fields[0] + fields[2]) / os.sysconf("SC_CLK_TCK"), (fields[1] + fields[3]) / os.sysconf("SC_CLK_TCK")
+
+
+def write_settings(path, key):
+    with open(path, "w") as settings:
+        settings.write(f'realm = "R"\nsuite = "{SUITE}"\nkey = "{os.urandom(32).hex()}"\nskew = 300\nlifetime = 36000\n'
+                       f'[[account]]\nname = ["a"]\nsuite = "{SUITE}"\nkey = "{key}"\n')
+
+
+def write_keytab(path, environment):
+    """A keytab of a's password, and its key."""
+    command = f"addent -password -p a@R -k 1 -e {SUITE}\n".encode() + PASSWORD + f"\nwkt {path}\nquit\n".encode()
+    run(["ktutil"], input=command, env=environment)
+    listed = run(["klist", "-k", "-K", path], env=environment).stdout.decode()
+    return listed.rsplit("(0x", 1)[1].split(")")[0]
+
+
+def configure(folder, port):
+    path = os.path.join(folder, f"{port}.conf")
+    with open(path, "w") as configuration:
+        configuration.write("[libdefaults]\n default_realm = R\n dns_lookup_kdc = false\n udp_preference_limit = 1\n"
+                            f"[realms]\n R = {{\n  kdc = 127.0.0.1:{port}\n }}\n")
+    return dict(os.environ, KRB5_CONFIG=path, KRB5CCNAME="FILE:" + os.path.join(folder, "tickets"), TZ="UTC")
+
+
+def request_of_kinit(folder, to, keytab):
+    """The last request of a kinit to the KDC of this port, taken by a tap."""
+    port, taken, tap = free_port(), os.path.join(folder, "taken"), os.path.join(folder, "tap")
+    open(taken, "w").close()
+    with open(tap, "w") as script:
+        script.write(f"#!/bin/sh\ntee -a {taken} | socat - TCP:127.0.0.1:{to}\n")
+    os.chmod(tap, 0o755)
+    start(["socat", f"TCP-LISTEN:{port},fork,reuseaddr,bind=127.0.0.1", "EXEC:" + tap])
+    run(["kinit", "-k", "-t", keytab, "a"], env=configure(folder, port))
+    stream, request = open(taken, "rb").read(), b""
+    while stream:
+        end = 4 + int.from_bytes(stream[:4], "big")
+        request, stream = stream[4:end], stream[end:]
+    return request
+
+
+def numbered(request, count):
+    """The request so many times, with another nonce each: krb5kdc keeps its last replies."""
+    nonce = request.rfind(bytes.fromhex("a7060204")) + 4
+    assert nonce > 4, "a nonce of other than four bytes"
+    return [request[:nonce] + (0x01000000 + number).to_bytes(4, "big") + request[nonce + 4:] for number in range(count)]
+
+
+def framed(request):
+    return len(request).to_bytes(4, "big") + request
+
+
+def over_tcp(port, request, kind=TICKET):
+    """Whether what comes back on a connection of its own begins with this octet."""
+    with socket.create_connection(("127.0.0.1", port)) as connection:
+        connection.sendall(framed(request))
+        reply = connection.makefile("rb").read(5)
+    return reply[4:5] == bytes([kind])
+
+
+def tell(name, count, answered, seconds, used):
+    """Prints it, and gives the microseconds of processor of each."""
+    user, system = (part / count * 1e6 for part in used)
+    print(f"{name}: {count} exchanges, {count / seconds:.0f} a second, {user:.0f} microseconds of processor each, "
+          f"and {system:.0f} of the system's", flush=True)
+    assert answered == count, f"{count - answered} requests had no ticket"
+    return user + system
+
+
+def measure(name, process, requests, ask):
+    before, began = processor_seconds(process), time.monotonic()
+    answered = sum(ask(request) for request in requests)
+    seconds = time.monotonic() - began
+    time.sleep(1)  # the last children are waited for
+    used = [now - then for now, then in zip(processor_seconds(process), before)]
+    return tell(name, len(requests), answered, seconds, used)
+
+
+def measure_pipe(words, requests):
+    """From a file into a file, as one stream of one process."""
+    with tempfile.TemporaryFile() as asked, tempfile.TemporaryFile() as told:
+        asked.write(b"".join(map(framed, requests)))
+        asked.seek(0)
+        before, began = resource.getrusage(resource.RUSAGE_CHILDREN), time.monotonic()
+        subprocess.run(words, stdin=asked, stdout=told, check=True)
+        seconds, after = time.monotonic() - began, resource.getrusage(resource.RUSAGE_CHILDREN)
+        told.seek(0)
+        stream, tickets, place = told.read(), 0, 0
+        while place < len(stream):
+            tickets += stream[place + 4] == TICKET
+            place += 4 + int.from_bytes(stream[place:place + 4], "big")
+    return tell("krb_realm, one pipe", len(requests), tickets, seconds, used_between(before, after))
+
+
+def used_between(before, after):
+    return [after.ru_utime - before.ru_utime, after.ru_stime - before.ru_stime]
+
+
+def bridge_to(words):
+    """The port of a bridge that starts this program for each connection, and the bridge's process."""
+    port = free_port()
+    return port, start(["socat", f"TCP-LISTEN:{port},fork,reuseaddr,bind=127.0.0.1", "EXEC:" + " ".join(words)])
+
+
+def measure_program(folder, program):
+    keytab, settings = os.path.join(folder, "keytab"), os.path.join(folder, "settings.toml")
+    write_settings(settings, write_keytab(keytab, configure(folder, 1)))
+    words = [program, settings, "/dev/urandom", "now"]
+    port, bridge = bridge_to(words)
+    requests = numbered(request_of_kinit(folder, port, keytab), 50_000)
+    bridged = measure("krb_realm behind socat, TCP", bridge, requests[:1000], lambda asked: over_tcp(port, asked))
+    bare_port, bare = bridge_to(["cat"])
+    alone = measure("cat behind socat, TCP", bare, requests[:1000], lambda asked: over_tcp(bare_port, asked, ASKED))
+    piped = measure_pipe(words, requests)
+    bound = "socat and starting a process" if 2 * alone > bridged else "the program's own start and answer"
+    print(f"what bounds it behind socat: {bound}, since of {bridged:.0f} microseconds there are {alone:.0f} with cat in the program's "
+          f"place, and an answer takes {piped:.0f}", flush=True)
+    return keytab
+
+
+def start_stock(folder, port):
+    with open(os.path.join(folder, "kdc.conf"), "w") as configuration:
+        configuration.write(
+            f"[kdcdefaults]\n kdc_listen = 127.0.0.1:{port}\n kdc_tcp_listen = 127.0.0.1:{port}\n"
+            f"[realms]\n R = {{\n  key_stash_file = {folder}/stash\n  supported_enctypes = {SUITE}:normal\n"
+            f"  master_key_type = {SUITE}\n }}\n"
+            f"[dbmodules]\n R = {{\n  db_library = db2\n  database_name = {folder}/principal\n  disable_last_success = true\n"
+            "  disable_lockout = true\n }\n")
+    environment = dict(configure(folder, port), KRB5_KDC_PROFILE=os.path.join(folder, "kdc.conf"))
+    run(["kdb5_util", "create", "-r", "R", "-s", "-P", "master"], env=environment)
+    run(["kadmin.local", "-r", "R", "-q", "addprinc +requires_preauth -pw \"" + PASSWORD.decode() + "\" a"], env=environment)
+    return start(["krb5kdc", "-n", "-r", "R"], env=environment)
+
+
+def measure_stock(folder, keytab):
+    port = free_port()
+    process = start_stock(folder, port)
+    requests = numbered(request_of_kinit(folder, port, keytab), 22_000)
+    measure("krb5kdc, TCP", process, requests[:2000], lambda asked: over_tcp(port, asked))
+    with socket.socket(socket.AF_INET, socket.SOCK_DGRAM) as kdc:
+        kdc.connect(("127.0.0.1", port))
+
+        def over_udp(asked):
+            kdc.send(asked)
+            return kdc.recv(65535)[0] == TICKET
+
+        measure("krb5kdc, UDP", process, requests[2000:], over_udp)
+
+
+def main():
+    with tempfile.TemporaryDirectory() as folder:
+        try:
+            keytab = measure_program(folder, sys.argv[1])
+            if shutil.which("krb5kdc"):
+                measure_stock(folder, keytab)
+        finally:
+            for held in HELD:
+                held.terminate()
+                held.wait()
+
+
+main()

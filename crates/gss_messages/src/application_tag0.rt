@@ -1,0 +1,42 @@
+//! What the GSS-API puts in front of a first token.
+ghost use Rattle.std.specs.Prelude.{◌≡◌};
+
+use devices::{Sink, Source};
+use picky_asn1_der::{Asn1DerError, Deserializer, Serializer, Tagged};
+
+/// A value under the constructed application tag 0 in place of its own (RFC 2743, section 3.1): what the value holds stands right
+/// behind the tag. Its first octet is 0x60.
+#[derive(Debug, Drop, PartialEq, Eq)]
+pub struct ApplicationTag0<T>(pub T);
+
+impl<T: Tagged> Tagged for ApplicationTag0<T> {
+    type Row = T::Row;
+
+    const FIRST: u8 = 0x60;
+
+    ghost FIRST = { 96 };
+
+    ghost row_tree = { T.row_tree };
+
+    ghost row_laws = { T.row_laws };
+
+    ghost row_of = { λ value. T.row_of value.0 };
+
+    ghost use Rattle.asn1_codec.specs.Refusals.{part_refusal};
+
+    ghost refuses = { part_refusal (λ value. value.0) T.refuses };
+
+    ghost one_row = { λ v w e. let same = T.one_row v.0 w.0 e in λ i. record { 0 = same i } };
+
+    fn read_row<R: Source>(tag: u8, from: &mut Deserializer<R>) -> Result<Self::Row, Asn1DerError> {
+        T::read_row(tag, from)
+    }
+
+    fn of_row(row: Self::Row) -> Self {
+        ApplicationTag0(T::of_row(row))
+    }
+
+    fn write_row<W: Sink>(&self, tag: u8, to: &mut Serializer<W>) -> Result<usize, Asn1DerError> {
+        self.0.write_row(tag, to)
+    }
+}

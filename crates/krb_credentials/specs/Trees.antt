@@ -1,0 +1,8 @@
+-- The tree of a message to a proxy of KDCs (MS-KKDCP, section 2.2.2).
+use Rattle.asn1_trees.specs.Tree.{Tree}
+use Rattle.asn1_trees.specs.Tagged.{tagged_tree}
+use Rattle.krb_credentials.specs.declared.kdc_proxy_message.KdcProxyMessage.{KdcProxyMessage}
+use Rattle.krb_credentials.specs.contracts.kdc_proxy_message.KdcProxyMessageTagged.TheImpl as kdc_proxy_message_impl
+
+abbrev pub kdc_proxy_message_tree : KdcProxyMessage → Tree
+kdc_proxy_message_tree = tagged_tree 48 kdc_proxy_message_impl.ghosts.row_tree kdc_proxy_message_impl.ghosts.row_of

@@ -1,0 +1,50 @@
+//! Whole logins by password.
+
+use crate::stage::Stage;
+use crate::told::{login_text, refused};
+use crate::words::name_of;
+use anyhow::{Context, bail};
+use krb_realm::{LoginInput, LoginMoments, Moment, login_by_password};
+use std::alloc::Global;
+
+pub(crate) fn login(stage: &mut Stage, alloc: Global, words: &[&str]) -> anyhow::Result<String> {
+    let [service] = words else {
+        bail!("login SERVICE");
+    };
+    log_in(stage, alloc, &name_of(alloc, service)?)
+}
+
+fn log_in(stage: &mut Stage, alloc: Global, name: &[Vec<u8>]) -> anyhow::Result<String> {
+    let at = stage.conditions;
+    let random = at.random.bytes();
+    let client = stage.client.as_ref().context("no client")?;
+    let realm = stage.realm.as_ref().context("no realm")?;
+    let service = stage.service.as_mut().context("no service")?;
+    // All steps have one moment and the same random bytes.
+    let input = LoginInput {
+        service: name,
+        till: at.till,
+        moments: moments_of(at.moment),
+        words_as: &random,
+        words_tgs: &random,
+        words_ap: &random,
+        realm_words_as: &random,
+        realm_words_tgs: &random,
+        service_words: &random,
+    };
+    match login_by_password(alloc, client, realm, service, &input) {
+        Ok((key, admission)) => login_text(alloc, &key, &admission),
+        Err(refusal) => refused(alloc, &refusal),
+    }
+}
+
+fn moments_of(moment: Moment) -> LoginMoments {
+    LoginMoments {
+        client_as: moment,
+        realm_as: moment,
+        client_tgs: moment,
+        realm_tgs: moment,
+        client_ap: moment,
+        service_ap: moment,
+    }
+}

@@ -1,0 +1,5 @@
+pub mod AuthorityFields
+pub mod AuthorityLaws
+pub mod ExtensionLaws
+pub mod ExtensionValues
+pub mod ExtensionViews

@@ -1,0 +1,306 @@
+//! Identifiers of the key that signed a certificate (RFC 5280, section 4.2.1.1).
+ghost use Rattle.std.specs.Prelude.{◌≡◌, ℕ, Bool, List, Option, None, Some, MatchOption, MatchResult};
+ghost use Rattle.x509_extensions.specs.AuthorityFields.{stands, nothing, before, gathered_onto, implicit, explicit};
+ghost use Rattle.x509_extensions.specs.AuthorityFields as fields;
+
+use crate::authority_field::AuthorityField;
+use devices::{Sink, Source};
+use picky_asn1::wrapper::{
+    ExplicitContextTag, ExplicitContextTag1, ImplicitContextTag, ImplicitContextTag0,
+    ImplicitContextTag2, IntegerAsn1, OctetStringAsn1, Optional,
+};
+use picky_asn1_der::{
+    Asn1DerError, Deserializer, Fields, Row3, Serializer, Tagged, fields_of, from_fields,
+    read_sequence,
+};
+use std::alloc::Global;
+use x509_names::GeneralName;
+use x509_spelling::{Counted, Many, Spelled, SpelledFields, X509Fault, read_fields, sum_of};
+
+/// Which key signed a certificate.
+///
+/// ```text
+/// AuthorityKeyIdentifier ::= SEQUENCE {
+///      keyIdentifier             [0] KeyIdentifier           OPTIONAL,
+///      authorityCertIssuer       [1] GeneralNames            OPTIONAL,
+///      authorityCertSerialNumber [2] CertificateSerialNumber OPTIONAL }
+/// ```
+///
+/// One name is read as the issuer. Fields out of order and fields that stand again, of which the last counts, deviate.
+#[derive(Drop)]
+pub struct AuthorityKeyIdentifier {
+    key_identifier: Optional<Option<ImplicitContextTag0<OctetStringAsn1>>>,
+    authority_cert_issuer: Optional<Option<ExplicitContextTag1<GeneralName>>>,
+    authority_cert_serial_number: Optional<Option<ImplicitContextTag2<IntegerAsn1>>>,
+}
+
+/// What some fields make, and what deviates among them.
+#[derive(Drop)]
+pub struct Gathered {
+    value: AuthorityKeyIdentifier,
+    is_disordered: bool,
+    repeats: usize,
+}
+
+type AuthorityRow = Row3<
+    Optional<Option<ImplicitContextTag0<OctetStringAsn1>>>,
+    Optional<Option<ExplicitContextTag1<GeneralName>>>,
+    Optional<Option<ImplicitContextTag2<IntegerAsn1>>>,
+>;
+
+impl AuthorityKeyIdentifier {
+    /// The identifier of these fields.
+    pub fn new(
+        key_identifier: Option<OctetStringAsn1>,
+        authority_cert_issuer: Option<GeneralName>,
+        authority_cert_serial_number: Option<IntegerAsn1>,
+    ) -> AuthorityKeyIdentifier
+        ensures { (result.key_identifier.0 ≡ implicit 0 key_identifier)
+            × (result.authority_cert_issuer.0 ≡ explicit 1 authority_cert_issuer)
+            × (result.authority_cert_serial_number.0 ≡ implicit 2 authority_cert_serial_number) }
+    {
+        AuthorityKeyIdentifier {
+            key_identifier: Optional(under_implicit(key_identifier)),
+            authority_cert_issuer: Optional(under_explicit(authority_cert_issuer)),
+            authority_cert_serial_number: Optional(under_implicit(authority_cert_serial_number)),
+        }
+    }
+
+    /// What tells the key apart.
+    pub fn key_identifier(&self) -> Option<&OctetStringAsn1>
+        ensures { MatchOption result
+            (self.now.key_identifier.0 ≡ None)
+            (λ key. self.now.key_identifier.0 ≡ Some (record { 0 = key.now })) }
+    {
+        match &self.key_identifier.0 {
+            Some(key) => Some(&key.0),
+            None => None,
+        }
+    }
+
+    /// The issuer of the key's certificate.
+    pub fn authority_cert_issuer(&self) -> Option<&GeneralName>
+        ensures { MatchOption result
+            (self.now.authority_cert_issuer.0 ≡ None)
+            (λ issuer. self.now.authority_cert_issuer.0 ≡ Some (record { 0 = issuer.now })) }
+    {
+        match &self.authority_cert_issuer.0 {
+            Some(issuer) => Some(&issuer.0),
+            None => None,
+        }
+    }
+
+    /// The serial number of the key's certificate.
+    pub fn authority_cert_serial_number(&self) -> Option<&IntegerAsn1>
+        ensures { MatchOption result
+            (self.now.authority_cert_serial_number.0 ≡ None)
+            (λ number. self.now.authority_cert_serial_number.0 ≡ Some (record { 0 = number.now })) }
+    {
+        match &self.authority_cert_serial_number.0 {
+            Some(number) => Some(&number.0),
+            None => None,
+        }
+    }
+}
+
+impl Tagged for AuthorityKeyIdentifier {
+    ghost use Rattle.std.proofs.Common.{ap, refl, true};
+    ghost use Rattle.asn1_trees.specs.Tagged.{sequence};
+    ghost use Rattle.asn1_trees.proofs.Tagged.{sequence_laws};
+
+    type Row = AuthorityRow;
+
+    const FIRST: u8 = 48;
+
+    ghost FIRST = { 48 };
+
+    ghost row_tree = { sequence ⟦<AuthorityRow as Fields>⟧.trees };
+
+    ghost row_laws = { sequence_laws ⟦<AuthorityRow as Fields>⟧.trees (⟦<AuthorityRow as Fields>⟧.injective (refl {a = true})) };
+
+    ghost row_of = { λ v. (v.key_identifier, (v.authority_cert_issuer, (v.authority_cert_serial_number, tt))) };
+
+    ghost one_row = { λ v w e. ap (λ f. record { key_identifier = f.0; authority_cert_issuer = f.1.0; authority_cert_serial_number = f.1.1.0 }) e };
+
+    fn read_row<R: Source>(tag: u8, from: &mut Deserializer<R>) -> Result<Self::Row, Asn1DerError> {
+        read_sequence(tag, from)
+    }
+
+    fn of_row(row: Self::Row) -> Self {
+        from_fields![row; key_identifier, authority_cert_issuer, authority_cert_serial_number]
+    }
+
+    fn write_row<W: Sink>(&self, tag: u8, to: &mut Serializer<W>) -> Result<usize, Asn1DerError> {
+        to.list(
+            tag,
+            &fields_of![self; key_identifier, authority_cert_issuer, authority_cert_serial_number],
+        )
+    }
+}
+
+impl Spelled for AuthorityKeyIdentifier {
+    ghost use Rattle.std.proofs.Common.{refl, true};
+    ghost use Rattle.asn1_trees.specs.Tree.{constructed};
+    ghost use Rattle.asn1_trees.specs.Tagged.{sequence};
+    ghost use Rattle.asn1_trees.specs.Firsts.{only};
+    ghost use Rattle.x509_spelling.specs.Spellings.{Holds};
+    ghost use Rattle.x509_spelling.specs.RowLaws.{sequence_laws};
+    ghost use Rattle.x509_kinds.specs.Kinds.{MadeOf};
+    ghost use Rattle.x509_kinds.specs.HeldLaws.{made_laws};
+    ghost use Rattle.x509_extensions.specs.AuthorityFields.{fields_of, authority_of, authority_count};
+    ghost use Rattle.x509_extensions.specs.AuthorityLaws.{authority_back, authority_uncounted, authority_only, authority_whole, authority_trees};
+
+    ghost spells = { MadeOf (Holds 48 ⟦<Many<AuthorityField> as SpelledFields>⟧.spells) authority_of authority_count };
+
+    ghost written = { λ v. sequence ⟦<Many<AuthorityField> as SpelledFields>⟧.row_trees 48 (fields_of v) };
+
+    ghost begun = { only 48 };
+
+    ghost has_low_tags = { true };
+
+    ghost laws = { made_laws true (only 48) (sequence ⟦<Many<AuthorityField> as SpelledFields>⟧.row_trees 48) (Holds 48 ⟦<Many<AuthorityField> as SpelledFields>⟧.spells)
+        (sequence_laws 48 refl ⟦<Many<AuthorityField> as SpelledFields>⟧.row_firsts ⟦<Many<AuthorityField> as SpelledFields>⟧.row_trees
+        ⟦<Many<AuthorityField> as SpelledFields>⟧.spells (⟦<Many<AuthorityField> as SpelledFields>⟧.row_laws (refl {a = true})))
+        authority_of authority_count fields_of authority_back authority_uncounted authority_only (authority_whole ⟦<AuthorityField as Spelled>⟧.written) };
+
+    fn may_begin_with(first: u8) -> bool {
+        first == 48
+    }
+
+    fn read_counted(alloc: Global, bytes: &[u8]) -> Result<Counted<Self>, X509Fault> {
+        let read: Counted<Many<AuthorityField>> = read_fields(alloc, 48, bytes)?;
+        let held = read.count;
+        let gathered = gather(read.into_value().into_vec())?;
+        let own = sum_of(usize::from(gathered.is_disordered), gathered.repeats)?;
+        let count = sum_of(held, own)?;
+        Ok(Counted {
+            value: gathered.value,
+            count,
+        })
+    }
+
+    ghost written_is = { λ i v. constructed 48 (authority_trees ⟦<AuthorityField as Spelled>⟧.written v i) };
+}
+
+// What the fields make, taken from the last of them to the first.
+fn gather(fields: Vec<AuthorityField>) -> Result<Gathered, X509Fault>
+    ensures { MatchResult result
+        (λ made. made ≡ gathered_onto nothing fields.items)
+        (λ fault. fault ≡ X509Fault.Memory) }
+{
+    let mut fields = fields;
+    let mut made = Gathered {
+        value: AuthorityKeyIdentifier {
+            key_identifier: Optional(None),
+            authority_cert_issuer: Optional(None),
+            authority_cert_serial_number: Optional(None),
+        },
+        is_disordered: false,
+        repeats: 0,
+    };
+    'fields: while let Some(field) = fields.pop() {
+        made = with_front(field, made)?;
+    }
+    Ok(made)
+}
+
+// What is made with a field in front.
+fn with_front(field: AuthorityField, made: Gathered) -> Result<Gathered, X509Fault>
+    ensures { MatchResult result
+        (λ more. more ≡ before field made)
+        (λ fault. fault ≡ X509Fault.Memory) }
+{
+    let Gathered {
+        value,
+        is_disordered,
+        repeats,
+    } = made;
+    let has_key = is_there(&value.key_identifier.0);
+    let has_issuer = is_there(&value.authority_cert_issuer.0);
+    let AuthorityKeyIdentifier {
+        key_identifier,
+        authority_cert_issuer,
+        authority_cert_serial_number,
+    } = value;
+    match field {
+        AuthorityField::KeyIdentifier(key) => {
+            let repeats = sum_of(repeats, usize::from(has_key))?;
+            Ok(Gathered {
+                value: AuthorityKeyIdentifier {
+                    key_identifier: Optional(kept(key_identifier.0, key)),
+                    authority_cert_issuer,
+                    authority_cert_serial_number,
+                },
+                is_disordered,
+                repeats,
+            })
+        }
+        AuthorityField::Issuer(issuer) => {
+            let repeats = sum_of(repeats, usize::from(has_issuer))?;
+            Ok(Gathered {
+                value: AuthorityKeyIdentifier {
+                    key_identifier,
+                    authority_cert_issuer: Optional(kept(authority_cert_issuer.0, issuer)),
+                    authority_cert_serial_number,
+                },
+                is_disordered: has_key || is_disordered,
+                repeats,
+            })
+        }
+        AuthorityField::SerialNumber(number) => {
+            let has_number = is_there(&authority_cert_serial_number.0);
+            let repeats = sum_of(repeats, usize::from(has_number))?;
+            Ok(Gathered {
+                value: AuthorityKeyIdentifier {
+                    key_identifier,
+                    authority_cert_issuer,
+                    authority_cert_serial_number: Optional(kept(
+                        authority_cert_serial_number.0,
+                        number,
+                    )),
+                },
+                is_disordered: has_key || has_issuer || is_disordered,
+                repeats,
+            })
+        }
+    }
+}
+
+fn is_there<T>(field: &Option<T>) -> bool
+    ensures { result ≡ stands field.now }
+{
+    match field {
+        Some(_) => true,
+        None => false,
+    }
+}
+
+// The field that stands behind, where one does.
+fn kept<T>(behind: Option<T>, field: T) -> Option<T>
+where
+    T: Drop,
+    ensures { result ≡ fields.kept behind field }
+{
+    match behind {
+        Some(behind) => Some(behind),
+        None => Some(field),
+    }
+}
+
+fn under_implicit<const N: u8, T: Drop>(field: Option<T>) -> Option<ImplicitContextTag<N, T>>
+    ensures { result ≡ implicit N field }
+{
+    match field {
+        Some(field) => Some(ImplicitContextTag(field)),
+        None => None,
+    }
+}
+
+fn under_explicit<const N: u8, T: Drop>(field: Option<T>) -> Option<ExplicitContextTag<N, T>>
+    ensures { result ≡ explicit N field }
+{
+    match field {
+        Some(field) => Some(ExplicitContextTag(field)),
+        None => None,
+    }
+}

@@ -1,0 +1,64 @@
+//! Whether an extension is critical (RFC 5280, section 4.2).
+ghost use Rattle.std.specs.Prelude.{◌≡◌, MatchResult, IsTrue, IfOk};
+
+use devices::{Sink, Source};
+use picky_asn1_der::{Asn1DerError, Deserializer, HasDefault, Serializer, Tagged};
+use std::alloc::{AllocError, Global};
+use x509_spelling::{Deviates, Exact};
+
+/// Whether who doesn't know an extension has to refuse its certificate: FALSE by default.
+#[derive(Clone, Copy, Debug, PartialEq, Eq)]
+pub struct Critical(pub bool);
+
+impl Tagged for Critical {
+    type Row = bool;
+
+    const FIRST: u8 = 1;
+
+    ghost FIRST = { 1 };
+
+    ghost row_tree = { ⟦<bool as Tagged>⟧.row_tree };
+
+    ghost row_laws = { ⟦<bool as Tagged>⟧.row_laws };
+
+    ghost row_of = { λ v. v.0 };
+
+    ghost one_row = { λ v w e. λ i. record { 0 = e i } };
+
+    fn read_row<R: Source>(tag: u8, from: &mut Deserializer<R>) -> Result<bool, Asn1DerError> {
+        bool::read_row(tag, from)
+    }
+
+    fn of_row(row: bool) -> Self {
+        Critical(row)
+    }
+
+    fn write_row<W: Sink>(&self, tag: u8, to: &mut Serializer<W>) -> Result<usize, Asn1DerError> {
+        self.0.write_row(tag, to)
+    }
+}
+
+impl Exact for Critical {}
+
+impl HasDefault for Critical {
+    ghost use Rattle.std.specs.Prelude.{not};
+    ghost use Rattle.x509_parts.specs.Defaults.{one_false};
+
+    ghost is_default_value = { λ flag. not flag.0 };
+
+    ghost one_default = { λ v w a b. let same = one_false v.0 w.0 a b in λ i. record { 0 = same i } };
+
+    fn is_default(&self) -> bool {
+        !self.0
+    }
+
+    fn default_value(_alloc: Global) -> Result<Self, AllocError> {
+        Ok(Critical(false))
+    }
+}
+
+impl Deviates for Critical {
+    ghost use Rattle.x509_spelling.specs.Deviations.{critical_false_spelled};
+
+    ghost deviation = { critical_false_spelled };
+}

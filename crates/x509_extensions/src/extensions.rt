@@ -1,0 +1,101 @@
+//! Lists of extensions (RFC 5280, section 4.1).
+ghost use Rattle.std.specs.Prelude.{◌≡◌, MatchResult};
+
+use crate::extension::Extension;
+use devices::Sink;
+use picky_asn1_der::{Asn1DerError, Serialize, Serializer};
+use std::alloc::Global;
+use std::marker::Model;
+use x509_spelling::{Counted, Many, Spelled, SpelledFields, X509Fault, read_fields};
+
+/// The extensions of a certificate, in their order. A contract sees the list of them.
+///
+/// ```text
+/// Extensions  ::=  SEQUENCE SIZE (1..MAX) OF Extension
+/// ```
+///
+/// An empty list is read too.
+#[derive(Drop)]
+pub struct Extensions {
+    items: Vec<Extension>,
+}
+
+impl Model for Extensions {
+    ghost use Rattle.std.specs.Prelude.{List};
+    ghost use Rattle.x509_extensions.specs.declared.extension.Extension.{Extension};
+
+    ghost Value = { List Extension };
+
+    ghost view = { λ extensions. extensions.items.items };
+}
+
+impl Extensions {
+    /// The extensions.
+    pub fn as_slice(&self) -> &[Extension]
+        ensures { result.now ≡ self.now }
+    {
+        self.items.as_slice()
+    }
+}
+
+impl From<Vec<Extension>> for Extensions {
+    ghost from_gives = { λ items made. made ≡ items.items };
+
+    fn from(items: Vec<Extension>) -> Self {
+        Extensions { items }
+    }
+}
+
+impl Serialize for Extensions {
+    ghost use Rattle.std.proofs.Common.{refl, true};
+    ghost use Rattle.asn1_trees.specs.Tagged.{sequence};
+    ghost use Rattle.asn1_trees.specs.Firsts.{only};
+    ghost use Rattle.asn1_trees.proofs.Spelling.{may_begin-only};
+    ghost use Rattle.asn1_trees.proofs.Rows.{many-injective};
+    ghost use Rattle.asn1_trees.proofs.Tagged.{sequence_laws};
+
+    ghost tree = { sequence ⟦<Many<Extension> as SpelledFields>⟧.row_trees 48 };
+
+    ghost firsts = { only 48 };
+
+    ghost begins = { λ _. may_begin-only 48 };
+
+    ghost injective = { (sequence_laws ⟦<Many<Extension> as SpelledFields>⟧.row_trees (many-injective _ ⟦<Extension as Serialize>⟧.tree ⟦<Extension as Serialize>⟧.injective)).injective 48 };
+
+    fn serialize<W: Sink>(&self, to: &mut Serializer<W>) -> Result<usize, Asn1DerError> {
+        let items = self.as_slice();
+        to.list(48, &items)
+    }
+}
+
+impl Spelled for Extensions {
+    ghost use Rattle.std.proofs.Common.{refl, true};
+    ghost use Rattle.asn1_trees.specs.Tagged.{sequence};
+    ghost use Rattle.asn1_trees.specs.Firsts.{only};
+    ghost use Rattle.x509_spelling.specs.Spellings.{Holds};
+    ghost use Rattle.x509_spelling.specs.RowLaws.{sequence_laws};
+
+    ghost spells = { Holds 48 ⟦<Many<Extension> as SpelledFields>⟧.spells };
+
+    ghost written = { sequence ⟦<Many<Extension> as SpelledFields>⟧.row_trees 48 };
+
+    ghost begun = { only 48 };
+
+    ghost has_low_tags = { true };
+
+    ghost laws = { sequence_laws 48 refl ⟦<Many<Extension> as SpelledFields>⟧.row_firsts ⟦<Many<Extension> as SpelledFields>⟧.row_trees
+        ⟦<Many<Extension> as SpelledFields>⟧.spells (⟦<Many<Extension> as SpelledFields>⟧.row_laws (refl {a = true})) };
+
+    fn may_begin_with(first: u8) -> bool {
+        first == 48
+    }
+
+    fn read_counted(alloc: Global, bytes: &[u8]) -> Result<Counted<Self>, X509Fault> {
+        let read: Counted<Many<Extension>> = read_fields(alloc, 48, bytes)?;
+        let count = read.count;
+        let value = Extensions::from(read.into_value().into_vec());
+        Ok(Counted { value, count })
+    }
+
+    ghost written_is = { refl };
+}

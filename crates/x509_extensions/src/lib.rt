@@ -1,0 +1,20 @@
+//! Extensions of certificates (RFC 5280, sections 4.1.2.9 and 4.2), each with its spellings.
+#![tactic(auto)]
+
+mod authority_field;
+mod authority_key_identifier;
+mod critical;
+mod extension;
+mod extension_value;
+mod extension_view;
+mod extensions;
+
+pub use authority_field::AuthorityField;
+pub use authority_key_identifier::AuthorityKeyIdentifier;
+pub use critical::Critical;
+pub use extension::Extension;
+pub use extension_value::{
+    ExtensionValue, IssuerAltName, KeyIdentifier, SubjectAltName, SubjectKeyIdentifier,
+};
+pub use extension_view::ExtensionView;
+pub use extensions::Extensions;

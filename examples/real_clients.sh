@@ -1,0 +1,221 @@
+#!/bin/sh
+# Stock clients of MIT and Heimdal log in to the realm of examples/settings.toml, with keys made anew, behind socat on 127.0.0.1: by
+# password and by keytab, with a further ticket for a service, which opens it and takes a message, and each refused as it should be
+# with a wrong password, an unknown name and a clock that is 10 minutes off. Prints what each gave; the status is 1 where one differs
+# from what it should, and 2 where a tool is missing. All files stand in a temporary folder, and what is started is ended.
+#
+# Heimdal's clients are those on the path (Debian: heimdal-clients), or those unpacked in the folder HEIMDAL, or else they are
+# downloaded by apt-get and unpacked in the temporary folder, so that they can stand beside MIT's.
+set -u
+top=$(cd "$(dirname "$0")/.." && pwd)
+work=$(mktemp -d)
+bridge= server=
+trap 'kill $bridge $server 2>/dev/null; rm -rf "$work"' EXIT
+trap 'exit 1' INT TERM
+missing=0 failed=0 passed=0
+
+# need COMMAND PACKAGE
+need() {
+    if ! command -v "$1" >/dev/null; then
+        echo "real_clients: $1 is missing (Debian: $2)" >&2
+        missing=1
+    fi
+}
+
+# try NAME WANTED TEXT COMMAND..: the command's status is 0 (WANTED is yes) or isn't (no), and it says TEXT.
+try() {
+    name=$1 wanted=$2 text=$3
+    shift 3
+    "$@" >"$work/said" 2>&1
+    status=$?
+    gave=yes
+    [ "$status" -eq 0 ] || gave=no
+    if [ "$gave" = "$wanted" ] && { [ -z "$text" ] || grep -q -e "$text" "$work/said"; }; then
+        echo "right: $name"
+        passed=$((passed + 1))
+    else
+        echo "WRONG: $name: status $status, which should be success: $wanted, and it should say '$text'"
+        failed=$((failed + 1))
+    fi
+    sed 's/^/    /' "$work/said"
+}
+
+# listen COMMAND..: starts it with a free port for PORT; sets port and started.
+listen() {
+    port=$((8800 + $$ % 1000))
+    while [ "$port" -lt 9900 ]; do
+        (
+            for word in "$@"; do
+                shift
+                set -- "$@" "$(echo "$word" | sed "s|PORT|$port|")"
+            done
+            exec "$@"
+        ) >>"$work/log" 2>&1 &
+        started=$!
+        sleep 0.5
+        kill -0 "$started" 2>/dev/null && return
+        port=$((port + 1))
+    done
+    echo "real_clients: no free port" >&2
+    exit 2
+}
+
+mit() {
+    KRB5_CONFIG=$work/mit.conf KRB5CCNAME=FILE:$work/mit.tickets TZ=UTC "$@"
+}
+
+# By the client's own clock: it isn't to put right by the realm's error what its clock says.
+mit_late() {
+    KRB5_CONFIG=$work/mit_late.conf KRB5CCNAME=FILE:$work/mit.tickets TZ=UTC faketime -f +10m "$@"
+}
+
+heimdal() {
+    KRB5_CONFIG=$work/heimdal.conf KRB5CCNAME=FILE:$work/heimdal.tickets TZ=UTC LD_LIBRARY_PATH=$libraries "$@"
+}
+
+heimdal_late() {
+    heimdal faketime -f +10m "$@"
+}
+
+# A kinit of Heimdal takes the realm's time from its error 37 and asks again, however it is configured. So the realm's replies show
+# that the first request was refused (error-code [6] of RFC 4120, section 5.9.1, with 37).
+heimdal_told() {
+    : >"$work/replies"
+    heimdal_late kinit.heimdal "--password-file=$work/password" user@EXAMPLE.COM || return 1
+    if od -An -v -tx1 "$work/replies" | tr -d ' \n' | grep -q a603020125; then
+        echo "refused with code 37, then a ticket"
+    fi
+}
+
+typed() {
+    told=$1
+    shift
+    echo "$told" | "$@"
+}
+
+# One line at a time, as from a terminal: ktutil takes what it is given at once for one answer.
+ktutil_lines() {
+    for line in "$@"; do
+        echo "$line"
+        sleep 0.5
+    done | mit ktutil
+    echo
+}
+
+# What a client sends to the service and gets back, by the tickets of KRB5CCNAME. The service has the keytab alone.
+gss() {
+    listen gss-server -port PORT -once -verbose -keytab "$work/host.keytab" "host@$host"
+    server=$started
+    KRB5_CONFIG=$work/mit.conf KRB5CCNAME=FILE:$work/$1.tickets gss-client -port "$port" localhost "host@$host" "a message" || return 1
+    wait "$server"
+    server=
+}
+
+need socat socat
+need kinit krb5-user
+need kvno krb5-user
+need ktutil krb5-user
+need gss-client krb5-gss-samples
+need gss-server krb5-gss-samples
+need faketime faketime
+need openssl openssl
+heimdal_folder=${HEIMDAL:-}
+if [ -z "$heimdal_folder" ] && ! command -v kinit.heimdal >/dev/null; then
+    need apt-get "apt, or install heimdal-clients"
+    need dpkg "dpkg, or install heimdal-clients"
+fi
+[ "$missing" -eq 0 ] || exit 2
+
+# Heimdal's clients, and the libraries that are its own.
+if [ -z "$heimdal_folder" ] && ! command -v kinit.heimdal >/dev/null; then
+    heimdal_folder=$work/heimdal
+    mkdir "$heimdal_folder"
+    packages=$(apt-cache depends --recurse --no-recommends --no-suggests --no-conflicts --no-breaks --no-replaces --no-enhances heimdal-clients | grep -E '^lib[a-z0-9-]*-heimdal$')
+    (cd "$heimdal_folder" && apt-get download heimdal-clients $packages) >"$work/log" 2>&1
+    for package in "$heimdal_folder"/*.deb; do
+        dpkg -x "$package" "$heimdal_folder" || exit 2
+    done
+    if [ ! -x "$heimdal_folder/usr/bin/kinit.heimdal" ]; then
+        echo "real_clients: heimdal-clients is missing, and apt-get can't download it (apt-get update, or set HEIMDAL)" >&2
+        exit 2
+    fi
+fi
+libraries=$(dirname "$(find "$heimdal_folder/usr/lib" -name 'libkrb5.so.26' 2>/dev/null | head -n 1)")
+PATH=$PATH:$heimdal_folder/usr/bin
+
+# The realm: the settings of examples/, each key made as they say.
+"$top/krb_realm" </dev/null || exit 2
+program=$top/crates/krb_realmd/out/krb_realmd
+awk '/^key = / { "openssl rand -hex 32" | getline key; close("openssl rand -hex 32"); print "key = \"" key "\""; next } { print }' \
+    "$top/examples/settings.toml" >"$work/settings.toml"
+chmod 600 "$work/settings.toml"
+password='correct horse battery staple'
+host=server.example.com
+host_key=$(sed -n 's/^key = "\(.*\)"/\1/p' "$work/settings.toml" | tail -n 1)
+suite=aes256-cts-hmac-sha1-96
+printf '#!/bin/sh\n%s %s/settings.toml /dev/urandom now | tee -a %s/replies\n' "$program" "$work" "$work" >"$work/realm"
+chmod +x "$work/realm"
+listen socat "TCP-LISTEN:PORT,bind=127.0.0.1,fork,reuseaddr" "EXEC:$work/realm"
+bridge=$started
+
+# configuration KDC FURTHER
+configuration() {
+    cat <<CONF
+[libdefaults]
+    default_realm = EXAMPLE.COM
+    dns_lookup_kdc = false
+    dns_lookup_realm = false
+    dns_canonicalize_hostname = false
+    rdns = false
+    udp_preference_limit = 1
+    $2
+[realms]
+    EXAMPLE.COM = {
+        kdc = $1
+    }
+[domain_realm]
+    .example.com = EXAMPLE.COM
+CONF
+}
+configuration "127.0.0.1:$port" "" >"$work/mit.conf"
+configuration "127.0.0.1:$port" "kdc_timesync = 0" >"$work/mit_late.conf"
+# Heimdal asks over UDP first where it isn't told.
+configuration "tcp/127.0.0.1:$port" "kdc_timesync = false" >"$work/heimdal.conf"
+
+echo "$password" >"$work/password"
+echo "wrong" >"$work/wrong"
+
+echo "== MIT: $(dpkg-query -W -f '${Version}' krb5-user 2>/dev/null)"
+try "keytab of the service, of its key" yes "" ktutil_lines "addent -key -p host/$host@EXAMPLE.COM -k 1 -e $suite" "$host_key" "wkt $work/host.keytab"
+try "keytab of the user, of its password" yes "" ktutil_lines "addent -password -p user@EXAMPLE.COM -k 1 -e $suite" "$password" "wkt $work/user.keytab"
+try "the service's keytab holds its key" yes "$host_key" mit klist -k -e -K "$work/host.keytab"
+try "kinit by password" yes "" typed "$password" mit kinit user
+try "klist" yes "krbtgt/EXAMPLE.COM@EXAMPLE.COM" mit klist -e -f
+try "kinit by password, asking for a ticket to be forwarded, proxied and renewed" yes "" typed "$password" mit kinit -f -p -r 7d user
+try "kinit by keytab" yes "" mit kinit -k -t "$work/user.keytab" user
+try "kvno: clock 10 minutes off" no "Clock skew too great" mit_late kvno "host/$host"
+try "kvno: a ticket for the service, which its keytab opens" yes "kvno = 1, keytab entry valid" mit kvno -k "$work/host.keytab" "host/$host"
+try "klist" yes "host/$host@EXAMPLE.COM" mit klist -e -f
+try "gss-client to gss-server" yes "Signature verified" gss mit
+try "kvno: an unknown service" no "not found in Kerberos database" mit kvno "host/nobody.example.com"
+try "kinit: wrong password" no "Password incorrect" typed wrong mit kinit user
+try "kinit: unknown client" no "not found in Kerberos database" typed wrong mit kinit nobody
+try "kinit: clock 10 minutes off" no "Clock skew too great" mit_late kinit -k -t "$work/user.keytab" user
+
+echo "== Heimdal: $(heimdal kinit.heimdal --version 2>&1 | head -n 1)"
+try "keytab of the user, of its password" yes "" heimdal ktutil.heimdal -k "$work/heimdal.keytab" add -p user@EXAMPLE.COM -V 1 -e $suite -w "$password"
+try "kinit by password" yes "" heimdal kinit.heimdal "--password-file=$work/password" user@EXAMPLE.COM
+try "klist" yes "krbtgt/EXAMPLE.COM@EXAMPLE.COM" heimdal heimtools klist -v
+try "kinit by keytab" yes "" heimdal kinit.heimdal -k -t "$work/heimdal.keytab" user@EXAMPLE.COM
+try "kinit by MIT's keytab" yes "" heimdal kinit.heimdal -k -t "$work/user.keytab" user@EXAMPLE.COM
+try "kgetcred: clock 10 minutes off" no "skew" heimdal_late kgetcred "host/$host@EXAMPLE.COM"
+try "kgetcred: a ticket for the service" yes "" heimdal kgetcred "host/$host@EXAMPLE.COM"
+try "klist" yes "host/$host@EXAMPLE.COM" heimdal heimtools klist -v
+try "gss-client of MIT to gss-server, by Heimdal's tickets" yes "Signature verified" gss heimdal
+try "kgetcred: an unknown service" no "unknown" heimdal kgetcred "host/nobody.example.com@EXAMPLE.COM"
+try "kinit: wrong password" no "Password incorrect" heimdal kinit.heimdal "--password-file=$work/wrong" user@EXAMPLE.COM
+try "kinit: unknown client" no "unknown" heimdal kinit.heimdal "--password-file=$work/wrong" nobody@EXAMPLE.COM
+try "kinit: clock 10 minutes off, which the realm tells, and it then goes by the realm's" yes "refused with code 37" heimdal_told
+
+echo "$passed right, $failed wrong"
+[ "$failed" -eq 0 ]
