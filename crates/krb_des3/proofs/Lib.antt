@@ -1,0 +1,2 @@
+pub mod DerivationLemmas
+pub mod SealingLemmas
