@@ -1,5 +1,5 @@
 -- Iterated ciphers as a chain over zeros.
-use Rattle.std.proofs.Common.{◌≡◌, ◌<◌, ◌-◌, ◌*◌, ℕ, zero, suc, List, [], ◌++◌, length, take, drop, replicate, refl, sym, ap, ◌∙◌, codes, arith, lit<}
+use Rattle.std.proofs.Common.{◌≡◌, ◌<◌, ◌-◌, ◌*◌, ℕ, suc, List, ◌++◌, length, take, drop, replicate, sym, ap, ◌∙◌, codes, arith, lit<}
 use Rattle.std.proofs.lemmas.List.{append_assoc, append-nil, drop-drop, drop_at, length-append, length-drop, length-replicate, length-take-le, take_all, take_at}
 use Rattle.krb_blocks.specs.Bytes.{sum_of_bytes}
 use Rattle.krb_blocks.specs.Chains.{IsChained, before, block_at}

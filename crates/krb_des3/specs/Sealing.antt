@@ -46,10 +46,14 @@ pub record IsDes3Opening (key : List ℕ) (usage : ℕ) (plain bytes : List ℕ)
 abbrev pub IsNothingDes3Sealed : List ℕ → ℕ → List ℕ → Type 0
 IsNothingDes3Sealed key usage bytes = (c p : List ℕ) → IsDes3Sealed key usage c p bytes → ⊥
 
+-- a key of 24 bytes, and behind whole blocks, of which the first is the confounder, a checksum of 20 bytes
+abbrev pub HasDes3Lengths : ℕ → ℕ → Type 0
+HasDes3Lengths key_bytes bytes = (key_bytes ≡ 24) × (28 ≤ bytes) × ((bytes - 20) % 8 ≡ 0)
+
 -- what opening refuses with, by the bytes of the key and of what is opened: a key of another length comes before fewer than
 -- 28 bytes, these before an encrypted text that isn't whole blocks, and this before a checksum that isn't the text's
 pub record IsDes3OpeningRefusal (key_bytes bytes : ℕ) (e : KerberosCryptoError) : Type 0 where
   pub keyed : key_bytes ≢ 24 → e ≡ KeyLength key_bytes 24
   pub short : key_bytes ≡ 24 → bytes < 28 → e ≡ CipherLength bytes 28
   pub ragged : key_bytes ≡ 24 → 28 ≤ bytes → (bytes - 20) % 8 ≢ 0 → e ≡ CipherUnpad
-  pub judged : key_bytes ≡ 24 → 28 ≤ bytes → (bytes - 20) % 8 ≡ 0 → (e ≡ Memory) ⊎ (e ≡ IntegrityCheck)
+  pub judged : HasDes3Lengths key_bytes bytes → (e ≡ Memory) ⊎ (e ≡ IntegrityCheck)

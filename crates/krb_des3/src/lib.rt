@@ -13,6 +13,4 @@ pub use krb_des::{
     DES3_BLOCK_SIZE, DES3_KEY_SIZE, DES3_MAC_SIZE, DES3_SEED_LEN, decrypt_des, encrypt_des,
     random_to_key,
 };
-pub use opening::{decrypt_message, decrypt_message_no_checksum};
-pub use sealing::{encrypt_message, encrypt_message_no_checksum};
 pub use suite::{Des3CbcSha1Kd, HmacSha1Des3Kd};

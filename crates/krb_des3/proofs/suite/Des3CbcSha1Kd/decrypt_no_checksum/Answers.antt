@@ -1,39 +1,41 @@
-use Rattle.std.proofs.Common.{◌-◌, ◌++◌, ◌∙◌, List, ℕ, ap, inl, length, sym, take, w32, SFits, arith}
+use Rattle.std.proofs.Common.{◌≡◌, ◌≤◌, ◌-◌, ◌%◌, ◌∙◌, ap, drop, length, take, w32, SFits, arith}
 use Rattle.std.proofs.lemmas.Int.{to_z-of_z}
-use Rattle.std.proofs.lemmas.List.{length-drop, take-append-drop}
-use Rattle.std.proofs.lemmas.Result.{err_from_is_err_and}
+use Rattle.std.proofs.lemmas.List.{take-append-drop, take_rest}
 use Rattle.std.specs.Int.{cast_unsigned}
-use Rattle.krb_des3.proofs.SealingLemmas.{encrypted_from_chain, refused_unless_memory}
+use Rattle.krb_blocks.proofs.States.{IsBytes-drop, IsBytes-take}
+use Rattle.krb_blocks.proofs.Stealing.{zero_filled-bytes}
+use Rattle.krb_des3.specs.Derivation.{des3_derived_key_of}
+use Rattle.krb_des3.specs.Sealing.{des3_filled}
+use Rattle.krb_des3.proofs.SealingLemmas.{encrypted_from_chain}
 use Rattle.krb_des3.proofs.suite.Des3CbcSha1Kd.decrypt_no_checksum.Goals as goal
-
-pub returns-in_err-decrypted-clause-refused : goal.returns-in_err-decrypted-clause-refused
-returns-in_err-decrypted-clause-refused c =
-    let p = err_from_is_err_and c.from_residual.result c.from_residual.ensures.1 in
-    rw (p.1, p.2) (refused_unless_memory c.args.key.now (cast_unsigned w32 c.args.key_usage) c.args.cipher_data.now _ c.in_err-decrypted.ensures.memory)
-
-pub returns-in_err-decrypted-clause-refusals : goal.returns-in_err-decrypted-clause-refusals
-returns-in_err-decrypted-clause-refusals c =
-    let p = err_from_is_err_and c.from_residual.result c.from_residual.ensures.1 in
-    rw (p.1, p.2)
-    (record {
-      keyed = λ other. let e = c.in_err-decrypted.ensures.key_length other in cc;
-      short = λ same few. let e = c.in_err-decrypted.ensures.short same few in cc;
-      ragged = λ same long odd. let e = c.in_err-decrypted.ensures.ragged same long odd in cc;
-      judged = λ same long whole. inl (c.in_err-decrypted.ensures.memory same long whole);
-    })
 
 pub returns-clause-decrypted : goal.returns-clause-decrypted
 returns-clause-decrypted c =
+    let text = c.in_ok-text.text.items in
+    let bytes = c.args.cipher_data.now in
+    let front = c.in_ok-confounder.ensures.items ∙ ap (take 8) c.deref-2.ensures.value in
+    let back = c.in_ok-plaintext.ensures.items ∙ take_rest c.deref-3.result.now 8 ∙ ap (drop 8) c.deref-3.ensures.value in
     let fits : SFits w32 c.args.key_usage = c.ranges.key_usage in
-    let bytes = c.args.cipher_data.now in
-    let made = c.in_ok-decrypted.ensures in
-    let front : List ℕ = take (length bytes - 20) bytes in
-    let parts = sym (take-append-drop (length bytes - 20) bytes) ∙ ap (λ (t : List ℕ). front ++ t) (sym made.checksum) in
-    let decrypted = simp to_z-of_z at made.decrypted in
-    (front, parts, encrypted_from_chain _ _ _ bytes made.lengths.1 made.lengths.2 decrypted)
+    let constant = simp to_z-of_z at c.usage_ke.ensures in
+    let ke = c.deref.ensures.value ∙ c.in_ok-ke.ensures.derived ∙ ap (des3_derived_key_of c.args.key.now) constant in
+    let long : 28 ≤ length c.args.cipher_data.now = omega arith in
+    let whole : (length c.args.cipher_data.now - 20) % 8 ≡ 0 = omega arith in
+    rw (front, back, take-append-drop 8 text)
+    (encrypted_from_chain c.args.key.now (cast_unsigned w32 c.args.key_usage) text bytes long whole (rw (ke, c.split_at.ensures.front) at c.in_ok-text.ensures.chained))
 
-pub returns-clause-checksum : goal.returns-clause-checksum
-returns-clause-checksum c =
-    let bytes = c.args.cipher_data.now in
-    let made = c.in_ok-decrypted.ensures in
-    c.in_ok-decrypted.decrypted.checksum.ok.0 ∙ ap length made.checksum ∙ length-drop (length bytes - 20) bytes ∙ omega (arith, made.lengths.1)
+pub returns-clause-only : goal.returns-clause-only
+returns-clause-only c = λ q bytes encrypted.
+    let text = c.in_ok-text.text.items in
+    let front = c.in_ok-confounder.ensures.items ∙ ap (take 8) c.deref-2.ensures.value in
+    let back = c.in_ok-plaintext.ensures.items ∙ take_rest c.deref-3.result.now 8 ∙ ap (drop 8) c.deref-3.ensures.value in
+    let fits : SFits w32 c.args.key_usage = c.ranges.key_usage in
+    let constant = simp to_z-of_z at c.usage_ke.ensures in
+    let ke = c.deref.ensures.value ∙ c.in_ok-ke.ensures.derived ∙ ap (des3_derived_key_of c.args.key.now) constant in
+    rw (front, back, take-append-drop 8 text) (c.in_ok-text.ensures.only (des3_filled q) (zero_filled-bytes 8 q bytes) (rw (ke, c.split_at.ensures.front) encrypted))
+
+pub returns-clause-bytes : goal.returns-clause-bytes
+returns-clause-bytes c =
+    let text = c.in_ok-text.text.items in
+    let front = c.in_ok-confounder.ensures.items ∙ ap (take 8) c.deref-2.ensures.value in
+    let back = c.in_ok-plaintext.ensures.items ∙ take_rest c.deref-3.result.now 8 ∙ ap (drop 8) c.deref-3.ensures.value in
+    (rw front (IsBytes-take 8 text c.in_ok-text.ensures.bytes), rw back (IsBytes-drop 8 text c.in_ok-text.ensures.bytes))
