@@ -79,6 +79,15 @@ pub mod crypto {
         EncryptWithoutChecksum, KERBEROS, KerberosCryptoError, KerberosCryptoResult, aes,
         hmac_sha1, n_fold, usage_kc, usage_ke, usage_ki,
     };
+
+    /// The suite of triple DES (RFC 3961, section 6.3).
+    pub mod des {
+        pub use krb_des3::{
+            DES3_BLOCK_SIZE, DES3_KEY_SIZE, DES3_MAC_SIZE, DES3_SEED_LEN, Des3CbcSha1Kd,
+            HmacSha1Des3Kd, decrypt_des, derive_key, derive_key_from_password, encrypt_des,
+            random_to_key,
+        };
+    }
 }
 
 /// What messages hold, and the record of a process's integrity level.

@@ -1,10 +1,13 @@
-//! What triple DES makes.
+//! What triple DES and its suite make.
 
 use crate::is;
 use crate::row::Row;
-use krb_des::{decrypt_des, encrypt_des, random_to_key};
-use krb_digests::n_fold;
+use krb_des3::{
+    Des3CbcSha1Kd, HmacSha1Des3Kd, decrypt_des, derive_key, encrypt_des, random_to_key,
+};
 use std::alloc::Global;
+
+const SUITE: Des3CbcSha1Kd = Des3CbcSha1Kd;
 
 /// Key, text, what it is enciphered to, and what that is deciphered to.
 pub(crate) fn is_chained(alloc: Global, row: &Row<'_>) -> bool {
@@ -26,41 +29,59 @@ fn is_stretched(seed: &[u8], key: &[u8]) -> bool {
     seed.len() >= 21 && random_to_key(seed).as_slice() == key
 }
 
-/// Key, usage, the octets that they make, and the key made from these.
+/// Key, constant, the octets that they make, and the key made from these.
 pub(crate) fn is_derived(alloc: Global, row: &Row<'_>) -> bool {
-    let [key, usage, octets, derived] = row.columns.as_slice() else {
+    let [key, constant, octets, derived] = row.columns.as_slice() else {
         return false;
     };
-    is_stretched(octets, derived) && octets_of(alloc, key, usage).as_ref() == Some(octets)
+    !constant.is_empty()
+        && is_stretched(octets, derived)
+        && is(derive_key(alloc, key, constant), derived)
 }
 
-/// The octets that a key makes of a usage: the cipher again and again, which a chain over zeros is (RFC 3961, section 5.1).
-fn octets_of(alloc: Global, key: &[u8], usage: &[u8]) -> Option<Vec<u8>> {
-    if usage.is_empty() {
-        return None;
-    }
-    let mut start = n_fold(alloc, usage, 64).ok()?;
-    start.extend_from_slice(&[0; 16]).ok()?;
-    let mut octets = encrypt_des(alloc, key, &start).ok()?;
-    octets.truncate(21);
-    Some(octets)
-}
-
-/// Password with salt, and key (RFC 3961, section 6.3.1).
-pub(crate) fn is_password_key(alloc: Global, row: &Row<'_>) -> bool {
-    let [text, key] = row.columns.as_slice() else {
+/// Password, salt and key.
+pub(crate) fn is_key(alloc: Global, row: &Row<'_>) -> bool {
+    let [password, salt, key] = row.columns.as_slice() else {
         return false;
     };
-    password_octets(alloc, text).is_some_and(|octets| is_stretched(&octets, key))
+    is(SUITE.generate_key_from_password(alloc, password, salt), key)
 }
 
-fn password_octets(alloc: Global, text: &[u8]) -> Option<Vec<u8>> {
-    if text.is_empty() {
-        return None;
+/// Key, confounder, text and what they are sealed to, which is opened to the filled text.
+pub(crate) fn is_sealed(alloc: Global, row: &Row<'_>) -> bool {
+    let [key, confounder, text, sealed] = row.columns.as_slice() else {
+        return false;
+    };
+    confounder.len() == SUITE.confounder_size()
+        && is(
+            SUITE.encrypt(alloc, key, row.usage, text, confounder),
+            sealed,
+        )
+        && is_opened(alloc, row.usage, key, sealed, text)
+}
+
+fn is_opened(alloc: Global, usage: i32, key: &[u8], sealed: &[u8], text: &[u8]) -> bool {
+    match SUITE.decrypt(alloc, key, usage, sealed) {
+        Ok(opened) => is_filled(&opened, text),
+        Err(_) => false,
     }
-    let seed = n_fold(alloc, text, 168).ok()?;
-    if seed.len() < 21 {
-        return None;
+}
+
+/// Whether fewer than eight bytes, all zeros, stand behind a text.
+fn is_filled(opened: &[u8], text: &[u8]) -> bool {
+    match opened.strip_prefix(text) {
+        Some(fill) => fill.len() < 8 && fill.iter().all(|byte| *byte == 0),
+        None => false,
     }
-    octets_of(alloc, &random_to_key(&seed), b"kerberos")
+}
+
+/// Key, text and checksum.
+pub(crate) fn is_checksum(alloc: Global, row: &Row<'_>) -> bool {
+    let [key, text, checksum] = row.columns.as_slice() else {
+        return false;
+    };
+    is(
+        HmacSha1Des3Kd.checksum(alloc, key, row.usage, text),
+        checksum,
+    )
 }

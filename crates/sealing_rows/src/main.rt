@@ -10,9 +10,13 @@ use row::{Row, row_of};
 use std::alloc::Global;
 use std::fs;
 
+/// The number of triple DES's suite.
+const DES3: usize = 16;
+
 fn main(rt: HostRuntime) -> anyhow::Result<()> {
     replay(&rt, "standards.txt")?;
-    replay(&rt, "sealing_aes.txt")
+    replay(&rt, "sealing_aes.txt")?;
+    replay(&rt, "sealing_des3.txt")
 }
 
 /// Replays a file, and prints how many of its lines say something else than what is made.
@@ -40,8 +44,11 @@ fn agrees(alloc: Global, row: &Row<'_>) -> bool {
     match row.kind {
         "cbc" => aes::is_chained(alloc, row),
         "cts" => aes::is_stolen(alloc, row),
+        "key" if row.size == DES3 => des::is_key(alloc, row),
         "key" => aes::is_key(alloc, row),
+        "seal" if row.size == DES3 => des::is_sealed(alloc, row),
         "seal" => aes::is_sealed(alloc, row),
+        "checksum" if row.size == DES3 => des::is_checksum(alloc, row),
         "checksum" => aes::is_checksum(alloc, row),
         "mac" => digests::is_code(row),
         "hmac" => digests::is_fitted_code(alloc, row),
@@ -50,7 +57,6 @@ fn agrees(alloc: Global, row: &Row<'_>) -> bool {
         "des3" => des::is_chained(alloc, row),
         "des3-seed" => des::is_seeded(row),
         "des3-derive" => des::is_derived(alloc, row),
-        "des3-password" => des::is_password_key(alloc, row),
         _ => false,
     }
 }
