@@ -8,6 +8,8 @@ import sys
 PROGRAM = sys.argv[1]
 KEYS = 40
 MEGABYTES = 40
+DES3_MEGABYTES = 4
+DES3_KEY = b"the 24 bytes of this key"
 ROUNDS_OF_ALL = 5
 
 
@@ -64,6 +66,28 @@ def cryptography_opening():
     return text[-32:].hex()
 
 
+def des3_runs(of_cipher):
+    from cryptography.hazmat.primitives.ciphers import Cipher, modes
+
+    try:
+        from cryptography.hazmat.decrepit.ciphers.algorithms import TripleDES
+    except ImportError:
+        from cryptography.hazmat.primitives.ciphers.algorithms import TripleDES
+    text = bytes(1_000_000)
+    for _ in range(DES3_MEGABYTES):
+        run = of_cipher(Cipher(TripleDES(DES3_KEY), modes.CBC(bytes(8))))
+        text = run.update(text) + run.finalize()
+    return text[-32:].hex()
+
+
+def cryptography_des3():
+    return des3_runs(lambda cipher: cipher.encryptor())
+
+
+def cryptography_des3_opening():
+    return des3_runs(lambda cipher: cipher.decryptor())
+
+
 def at_hand(work):
     """The time and outcome of work by the package cryptography, or nothing where the package isn't there."""
     try:
@@ -90,6 +114,12 @@ def main():
     for done, task, theirs in (("sealed", "cts", cryptography_cts), ("opened", "open", cryptography_opening)):
         name = f"AES-128 CTS, 1 MB {done}"
         same = row(name, "MB/s", MEGABYTES, program(task, MEGABYTES), at_hand(theirs), "cryptography") and same
+    for done, task, theirs in (
+        ("sealed", "des3", cryptography_des3),
+        ("opened", "des3-open", cryptography_des3_opening),
+    ):
+        name = f"triple DES, 1 MB {done}"
+        same = row(name, "MB/s", DES3_MEGABYTES, program(task, DES3_MEGABYTES), at_hand(theirs), "cryptography") and same
     return 0 if same else 1
 
 

@@ -4,23 +4,28 @@
 
 use anyhow::bail;
 use krb_blocks::{AesSize, decrypt_aes_cts, encrypt_aes_cts};
+use krb_des::{decrypt_des, encrypt_des};
 use krb_digests::pbkdf2_hmac_sha1;
 use std::alloc::Global;
 use std::env;
 
 const KEY: [u8; 16] = *b"a key of AES-128";
 
+const DES3_KEY: [u8; 24] = *b"the 24 bytes of this key";
+
 fn main(rt: HostRuntime) -> anyhow::Result<()> {
     let mut words = env::args(&rt)?.skip(1);
     let (Some(task), Some(times)) = (words.next(), words.next()) else {
-        bail!("usage: sealing_bench key|cts|open TIMES");
+        bail!("usage: sealing_bench key|cts|open|des3|des3-open TIMES");
     };
     let times = times.parse::<u32>()?;
     let last = match task.as_str() {
         "key" => derived(rt.alloc(), times)?,
         "cts" => sealed(rt.alloc(), times)?,
         "open" => opened(rt.alloc(), times)?,
-        _ => bail!("neither key nor cts nor open: {task}"),
+        "des3" => sealed_by_des(rt.alloc(), times)?,
+        "des3-open" => opened_by_des(rt.alloc(), times)?,
+        _ => bail!("no task: {task}"),
     };
     let end = &last[last.len().saturating_sub(32)..];
     println!(rt; "{}", hex::encode(rt.alloc(), end)?)?;
@@ -50,6 +55,24 @@ fn opened(alloc: Global, times: u32) -> anyhow::Result<Vec<u8>> {
     let mut text = vec![in alloc; 0u8; 1_000_000]?;
     for _ in 0..times {
         text = decrypt_aes_cts(alloc, &KEY, &text, &AesSize::Aes128)?;
+    }
+    Ok(text)
+}
+
+/// A megabyte of zeros sealed by triple DES in a chain, the outcome sealed again, and so on.
+fn sealed_by_des(alloc: Global, times: u32) -> anyhow::Result<Vec<u8>> {
+    let mut text = vec![in alloc; 0u8; 1_000_000]?;
+    for _ in 0..times {
+        text = encrypt_des(alloc, &DES3_KEY, &text)?;
+    }
+    Ok(text)
+}
+
+/// A megabyte of zeros opened by triple DES in a chain, the outcome opened again, and so on.
+fn opened_by_des(alloc: Global, times: u32) -> anyhow::Result<Vec<u8>> {
+    let mut text = vec![in alloc; 0u8; 1_000_000]?;
+    for _ in 0..times {
+        text = decrypt_des(alloc, &DES3_KEY, &text)?;
     }
     Ok(text)
 }
