@@ -1,5 +1,5 @@
 -- Worked values of the suite of triple DES.
-use Rattle.std.specs.Prelude.{◌≡◌, ℕ, List, [], ◌∷◌, refl}
+use Rattle.std.specs.Prelude.{◌≡◌, [], ◌∷◌, refl}
 use Rattle.krb_blocks.specs.Bytes.{sum_of_bytes}
 use Rattle.krb_digests.specs.NFold.{copied_bit, first_factor, folded, n_fold_of, number_at, sum_of_numbers}
 use Rattle.krb_crypto.specs.Derivation.{derived_octets_of, iterated_ciphers}
