@@ -1,0 +1,48 @@
+//! Algorithms that aren't known here.
+ghost use Rattle.std.specs.Prelude.{◌≡◌};
+
+use crate::sha_variant::ShaVariant;
+use picky_asn1::wrapper::ObjectIdentifierAsn1;
+use std::fmt;
+use thiserror::Error;
+
+/// An algorithm that isn't supported where it was given.
+#[derive(Debug, Drop, Error)]
+#[error("unsupported algorithm:  {algorithm}")]
+pub struct UnsupportedAlgorithmError {
+    algorithm: Algorithm,
+}
+
+/// An algorithm, by its name or its identifier.
+#[derive(Debug, Drop)]
+pub(crate) enum Algorithm {
+    /// A hash.
+    Hash(ShaVariant),
+    /// An identifier.
+    Identifier(ObjectIdentifierAsn1),
+}
+
+impl UnsupportedAlgorithmError {
+    /// The hash isn't supported.
+    pub fn of_hash(hash: ShaVariant) -> UnsupportedAlgorithmError {
+        UnsupportedAlgorithmError {
+            algorithm: Algorithm::Hash(hash),
+        }
+    }
+
+    /// The identifier isn't a supported algorithm's.
+    pub fn of_identifier(oid: ObjectIdentifierAsn1) -> UnsupportedAlgorithmError {
+        UnsupportedAlgorithmError {
+            algorithm: Algorithm::Identifier(oid),
+        }
+    }
+}
+
+impl fmt::Display for Algorithm {
+    fn fmt<W: fmt::Write>(&self, f: &mut fmt::Formatter<W>) -> fmt::Result {
+        match self {
+            Algorithm::Hash(hash) => write!(f, "{hash:?}"),
+            Algorithm::Identifier(oid) => write!(f, "{}", oid.0),
+        }
+    }
+}
