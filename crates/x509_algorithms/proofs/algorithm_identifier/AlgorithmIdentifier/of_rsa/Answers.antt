@@ -1,0 +1,9 @@
+use Rattle.std.proofs.Common.{ℕ, List, sym, subst}
+use Rattle.std.specs.Prelude.{IsTrue}
+use Rattle.x509_algorithms.specs.declared.algorithm_kinds.AlgorithmIdentifierParameters.TheVariants as kind
+use Rattle.x509_algorithms.specs.AlgorithmKinds.{is_parameters_of}
+use Rattle.x509_algorithms.specs.Named.{rsa_has_null}
+use Rattle.x509_algorithms.proofs.algorithm_identifier.AlgorithmIdentifier.of_rsa.Goals as goal
+
+pub of_parts-requires : goal.of_parts-requires
+of_parts-requires c = subst (λ (arcs : List ℕ). IsTrue (is_parameters_of arcs kind.Null)) (sym c.in_ok-oid.ensures) (rsa_has_null c.args.algorithm)

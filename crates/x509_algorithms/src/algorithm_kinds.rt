@@ -1,0 +1,83 @@
+//! Parameters of algorithms (RFC 5280, section 4.1.1.2), and the kinds that an identifier decides.
+ghost use Rattle.std.specs.Prelude.{◌≡◌, IsTrue};
+ghost use Rattle.x509_kinds.specs.declared.kinds.KindOf.TheVariants as kind;
+ghost use Rattle.x509_algorithms.specs.AlgorithmKinds.{kinds_of, belongs};
+
+use crate::algorithm_class::{
+    AesCiphers, CurveKeys, Hashes, PlainAlgorithms, PssSignatures, RsaAlgorithms, Signatures,
+};
+use picky_asn1::oid::ObjectIdentifier;
+use picky_asn1_der::DefaultField;
+use x509_kinds::{KindOf, LastKind, ToldBy};
+use x509_parameters::{AesParameters, EcParameters, NoNull, Null, RsaNull, RsassaPssParams};
+use x509_spelling::Implied;
+
+/// The parameters of an algorithm. The algorithm's identifier decides their kind.
+#[derive(Drop)]
+pub enum AlgorithmIdentifierParameters {
+    /// None.
+    None,
+    /// NULL.
+    Null,
+    /// Those of AES.
+    Aes(AesParameters),
+    /// An elliptic curve.
+    Ec(EcParameters),
+    /// Those of an RSASSA-PSS signature.
+    RsassaPss(RsassaPssParams),
+}
+
+type LaterKinds = KindOf<
+    ToldBy<PlainAlgorithms, ()>,
+    KindOf<
+        ToldBy<CurveKeys, (EcParameters, ())>,
+        KindOf<
+            ToldBy<PssSignatures, (RsassaPssParams, ())>,
+            LastKind<ToldBy<AesCiphers, (AesParameters, ())>>,
+        >,
+    >,
+>;
+
+/// The kinds of parameters, in the order in which an identifier is asked for them.
+pub type AlgorithmKinds = KindOf<
+    ToldBy<RsaAlgorithms, (Implied<Null<RsaNull>>, ())>,
+    KindOf<
+        ToldBy<Hashes, ((), ())>,
+        KindOf<ToldBy<Signatures, (DefaultField<Null<NoNull>>, ())>, LaterKinds>,
+    >,
+>;
+
+/// The parameters that are of this kind, which the identifier decides.
+pub fn of_kinds(oid: &ObjectIdentifier, kinds: AlgorithmKinds) -> AlgorithmIdentifierParameters
+    requires { IsTrue (belongs oid.now kinds) }
+    ensures { kinds_of oid.now result ≡ kinds }
+{
+    match kinds {
+        KindOf::This(_) => AlgorithmIdentifierParameters::Null,
+        KindOf::Other(KindOf::This(_)) => AlgorithmIdentifierParameters::Null,
+        KindOf::Other(KindOf::Other(KindOf::This(_))) => AlgorithmIdentifierParameters::None,
+        KindOf::Other(KindOf::Other(KindOf::Other(later))) => of_later(oid, later),
+    }
+}
+
+// The parameters that are of one of the later kinds.
+fn of_later(oid: &ObjectIdentifier, kinds: LaterKinds) -> AlgorithmIdentifierParameters
+    requires { IsTrue (belongs oid.now (kind.Other (kind.Other (kind.Other kinds)))) }
+    ensures { kinds_of oid.now result ≡ kind.Other (kind.Other (kind.Other kinds)) }
+{
+    match kinds {
+        KindOf::This(_) => AlgorithmIdentifierParameters::None,
+        KindOf::Other(KindOf::This(told)) => {
+            let (curve, ()) = told.into_fields();
+            AlgorithmIdentifierParameters::Ec(curve)
+        }
+        KindOf::Other(KindOf::Other(KindOf::This(told))) => {
+            let (params, ()) = told.into_fields();
+            AlgorithmIdentifierParameters::RsassaPss(params)
+        }
+        KindOf::Other(KindOf::Other(KindOf::Other(LastKind(told)))) => {
+            let (params, ()) = told.into_fields();
+            AlgorithmIdentifierParameters::Aes(params)
+        }
+    }
+}
