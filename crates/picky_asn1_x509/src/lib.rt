@@ -5,6 +5,7 @@
 #![tactic(auto)]
 
 pub use picky_asn1::oid;
+pub use x509_algorithms::{AlgorithmIdentifier, AlgorithmIdentifierParameters, DigestInfo};
 pub use x509_extensions::{
     AuthorityKeyIdentifier, Extension, ExtensionValue, ExtensionView, Extensions, IssuerAltName,
     KeyIdentifier, SubjectAltName, SubjectKeyIdentifier,
@@ -14,6 +15,10 @@ pub use x509_names::{
     Name, NameAttr, OtherName, RdnSequence, RelativeDistinguishedName,
 };
 pub use x509_oids as oids;
+pub use x509_parameters::{
+    AesAuthEncParams, AesMode, AesParameters, EcParameters, HashAlgorithm, MaskGenAlgorithm,
+    RsassaPssParams, ShaVariant, UnsupportedAlgorithmError,
+};
 pub use x509_parts::{
     BasicConstraints, DirectoryString, RawAlgorithmIdentifier, Time, Validity, Version,
 };

@@ -4,9 +4,9 @@
 
 use anyhow::{Context, bail};
 use picky_asn1_x509::{
-    AuthorityKeyIdentifier, BasicConstraints, ExtendedKeyUsage, Extension, Extensions,
-    GeneralNames, KeyUsage, Name, RawAlgorithmIdentifier, Spelled, Validity, X509Fault, deviations,
-    encoded_len, from_bytes, to_vec,
+    AlgorithmIdentifier, AuthorityKeyIdentifier, BasicConstraints, DigestInfo, ExtendedKeyUsage,
+    Extension, Extensions, GeneralNames, KeyUsage, Name, RawAlgorithmIdentifier, Spelled, Validity,
+    X509Fault, deviations, encoded_len, from_bytes, to_vec,
 };
 use std::alloc::Global;
 use std::fs;
@@ -84,8 +84,10 @@ fn wanted_of(alloc: Global, count: &str, strict: &str) -> anyhow::Result<Wanted>
 
 fn agrees(alloc: Global, recorded: &Recorded<'_>) -> anyhow::Result<bool> {
     let answer = match recorded.type_name {
+        "AlgorithmIdentifier" => is_told::<AlgorithmIdentifier>(alloc, recorded),
         "AuthorityKeyIdentifier" => is_told::<AuthorityKeyIdentifier>(alloc, recorded),
         "BasicConstraints" => is_told::<BasicConstraints>(alloc, recorded),
+        "DigestInfo" => is_told::<DigestInfo>(alloc, recorded),
         "ExtendedKeyUsage" => is_told::<ExtendedKeyUsage>(alloc, recorded),
         "Extension" => is_told::<Extension>(alloc, recorded),
         "Extensions" => is_told::<Extensions>(alloc, recorded),
