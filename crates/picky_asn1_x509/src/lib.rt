@@ -6,6 +6,9 @@
 
 pub use picky_asn1::oid;
 pub use x509_algorithms::{AlgorithmIdentifier, AlgorithmIdentifierParameters, DigestInfo};
+pub use x509_attributes::{
+    AnyValues, Attribute, AttributeValues, Attributes, OpenSslAttributes, RequestedExtensions,
+};
 pub use x509_extensions::{
     AuthorityKeyIdentifier, Extension, ExtensionValue, ExtensionView, Extensions, IssuerAltName,
     KeyIdentifier, SubjectAltName, SubjectKeyIdentifier,

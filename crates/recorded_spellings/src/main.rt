@@ -4,9 +4,10 @@
 
 use anyhow::{Context, bail};
 use picky_asn1_x509::{
-    AlgorithmIdentifier, AuthorityKeyIdentifier, BasicConstraints, DigestInfo, ExtendedKeyUsage,
-    Extension, Extensions, GeneralNames, KeyUsage, Name, RawAlgorithmIdentifier, Spelled, Validity,
-    X509Fault, deviations, encoded_len, from_bytes, to_vec,
+    AlgorithmIdentifier, Attribute, Attributes, AuthorityKeyIdentifier, BasicConstraints,
+    DigestInfo, ExtendedKeyUsage, Extension, Extensions, GeneralNames, KeyUsage, Name,
+    OpenSslAttributes, RawAlgorithmIdentifier, Spelled, Validity, X509Fault, deviations,
+    encoded_len, from_bytes, to_vec,
 };
 use std::alloc::Global;
 use std::fs;
@@ -85,6 +86,8 @@ fn wanted_of(alloc: Global, count: &str, strict: &str) -> anyhow::Result<Wanted>
 fn agrees(alloc: Global, recorded: &Recorded<'_>) -> anyhow::Result<bool> {
     let answer = match recorded.type_name {
         "AlgorithmIdentifier" => is_told::<AlgorithmIdentifier>(alloc, recorded),
+        "Attribute" => is_told::<Attribute>(alloc, recorded),
+        "Attributes" => is_told::<Attributes>(alloc, recorded),
         "AuthorityKeyIdentifier" => is_told::<AuthorityKeyIdentifier>(alloc, recorded),
         "BasicConstraints" => is_told::<BasicConstraints>(alloc, recorded),
         "DigestInfo" => is_told::<DigestInfo>(alloc, recorded),
@@ -94,6 +97,7 @@ fn agrees(alloc: Global, recorded: &Recorded<'_>) -> anyhow::Result<bool> {
         "GeneralNames" => is_told::<GeneralNames>(alloc, recorded),
         "KeyUsage" => is_told::<KeyUsage>(alloc, recorded),
         "Name" => is_told::<Name>(alloc, recorded),
+        "OpenSslAttributes" => is_told::<OpenSslAttributes>(alloc, recorded),
         "RawAlgorithmIdentifier" => is_told::<RawAlgorithmIdentifier>(alloc, recorded),
         "Validity" => is_told::<Validity>(alloc, recorded),
         other => bail!("no type {other}"),

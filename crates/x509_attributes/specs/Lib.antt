@@ -1,0 +1,3 @@
+pub mod AttributeLaws
+pub mod AttributeMade
+pub mod AttributeValues

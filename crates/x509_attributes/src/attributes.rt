@@ -1,0 +1,98 @@
+//! Lists of attributes (RFC 2986, section 4.1).
+ghost use Rattle.std.specs.Prelude.{◌≡◌, MatchResult};
+
+use crate::attribute::Attribute;
+use devices::Sink;
+use picky_asn1_der::{Asn1DerError, Serialize, Serializer};
+use std::alloc::Global;
+use std::marker::Model;
+use x509_spelling::{Counted, Many, Spelled, SpelledFields, X509Fault, read_fields};
+
+/// Attributes, in their order. A contract sees the list of them.
+///
+/// ```text
+/// SEQUENCE OF Attribute
+/// ```
+#[derive(Drop)]
+pub struct Attributes {
+    items: Vec<Attribute>,
+}
+
+impl Model for Attributes {
+    ghost use Rattle.std.specs.Prelude.{List};
+    ghost use Rattle.x509_attributes.specs.declared.attribute.Attribute.{Attribute};
+
+    ghost Value = { List Attribute };
+
+    ghost view = { λ attributes. attributes.items.items };
+}
+
+impl Attributes {
+    /// The attributes.
+    pub fn as_slice(&self) -> &[Attribute]
+        ensures { result.now ≡ self.now }
+    {
+        self.items.as_slice()
+    }
+}
+
+impl From<Vec<Attribute>> for Attributes {
+    ghost from_gives = { λ items made. made ≡ items.items };
+
+    fn from(items: Vec<Attribute>) -> Self {
+        Attributes { items }
+    }
+}
+
+impl Serialize for Attributes {
+    ghost use Rattle.asn1_trees.specs.Tagged.{sequence};
+    ghost use Rattle.asn1_trees.specs.Firsts.{only};
+    ghost use Rattle.asn1_trees.proofs.Spelling.{may_begin-only};
+    ghost use Rattle.asn1_trees.proofs.Rows.{many-injective};
+    ghost use Rattle.asn1_trees.proofs.Tagged.{sequence_laws};
+
+    ghost tree = { sequence ⟦<Many<Attribute> as SpelledFields>⟧.row_trees 48 };
+
+    ghost firsts = { only 48 };
+
+    ghost begins = { λ _. may_begin-only 48 };
+
+    ghost injective = { (sequence_laws ⟦<Many<Attribute> as SpelledFields>⟧.row_trees (many-injective _ ⟦<Attribute as Serialize>⟧.tree ⟦<Attribute as Serialize>⟧.injective)).injective 48 };
+
+    fn serialize<W: Sink>(&self, to: &mut Serializer<W>) -> Result<usize, Asn1DerError> {
+        let items = self.as_slice();
+        to.list(48, &items)
+    }
+}
+
+impl Spelled for Attributes {
+    ghost use Rattle.std.proofs.Common.{refl, true};
+    ghost use Rattle.asn1_trees.specs.Tagged.{sequence};
+    ghost use Rattle.asn1_trees.specs.Firsts.{only};
+    ghost use Rattle.x509_spelling.specs.Spellings.{Holds};
+    ghost use Rattle.x509_spelling.specs.RowLaws.{sequence_laws};
+
+    ghost spells = { Holds 48 ⟦<Many<Attribute> as SpelledFields>⟧.spells };
+
+    ghost written = { sequence ⟦<Many<Attribute> as SpelledFields>⟧.row_trees 48 };
+
+    ghost begun = { only 48 };
+
+    ghost has_low_tags = { true };
+
+    ghost laws = { sequence_laws 48 refl ⟦<Many<Attribute> as SpelledFields>⟧.row_firsts ⟦<Many<Attribute> as SpelledFields>⟧.row_trees
+        ⟦<Many<Attribute> as SpelledFields>⟧.spells (⟦<Many<Attribute> as SpelledFields>⟧.row_laws (refl {a = true})) };
+
+    fn may_begin_with(first: u8) -> bool {
+        first == 48
+    }
+
+    fn read_counted(alloc: Global, bytes: &[u8]) -> Result<Counted<Self>, X509Fault> {
+        let read: Counted<Many<Attribute>> = read_fields(alloc, 48, bytes)?;
+        let count = read.count;
+        let value = Attributes::from(read.into_value().into_vec());
+        Ok(Counted { value, count })
+    }
+
+    ghost written_is = { refl };
+}

@@ -1,0 +1,17 @@
+//! Attributes of certification requests and signed data (RFC 2985, section 5; RFC 2986, section 4; RFC 5652, section 11),
+//! each with its spellings.
+#![tactic(auto)]
+
+mod any_values;
+mod attribute;
+mod attribute_values;
+mod attributes;
+mod open_ssl_attributes;
+mod requested_extensions;
+
+pub use any_values::AnyValues;
+pub use attribute::Attribute;
+pub use attribute_values::AttributeValues;
+pub use attributes::Attributes;
+pub use open_ssl_attributes::OpenSslAttributes;
+pub use requested_extensions::RequestedExtensions;

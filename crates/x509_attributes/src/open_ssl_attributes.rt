@@ -1,0 +1,86 @@
+//! Attributes as a certification request has them (RFC 2986, section 4.1).
+ghost use Rattle.std.specs.Prelude.{◌≡◌, MatchResult};
+
+use crate::attribute::Attribute;
+use crate::attributes::Attributes;
+use devices::Sink;
+use picky_asn1_der::{Asn1DerError, Serialize, Serializer};
+use std::alloc::Global;
+use x509_spelling::{Counted, Many, Spelled, SpelledFields, X509Fault, read_fields};
+
+/// The attributes of a certification request. Their order is kept as given.
+///
+/// ```text
+/// attributes    [0] Attributes
+///
+/// Attributes ::= SET OF Attribute
+/// ```
+#[derive(Drop)]
+pub struct OpenSslAttributes(pub Attributes);
+
+impl OpenSslAttributes {
+    /// The attributes.
+    pub fn as_slice(&self) -> &[Attribute]
+        ensures { result.now ≡ self.now.0 }
+    {
+        self.0.as_slice()
+    }
+}
+
+impl Serialize for OpenSslAttributes {
+    ghost use Rattle.asn1_trees.specs.Tagged.{sequence};
+    ghost use Rattle.asn1_trees.specs.Firsts.{only};
+    ghost use Rattle.asn1_trees.proofs.Spelling.{may_begin-only};
+    ghost use Rattle.asn1_trees.proofs.Rows.{many-injective};
+    ghost use Rattle.asn1_trees.proofs.Tagged.{sequence_laws};
+
+    ghost tree = { λ v. sequence ⟦<Many<Attribute> as SpelledFields>⟧.row_trees 160 v.0 };
+
+    ghost firsts = { only 160 };
+
+    ghost begins = { λ _. may_begin-only 160 };
+
+    ghost injective = { λ v w whole also e.
+        let laws = sequence_laws ⟦<Many<Attribute> as SpelledFields>⟧.row_trees (many-injective _ ⟦<Attribute as Serialize>⟧.tree ⟦<Attribute as Serialize>⟧.injective) in
+        let same = laws.injective 160 v.0 w.0 whole also e
+        in λ i. record { 0 = same i } };
+
+    fn serialize<W: Sink>(&self, to: &mut Serializer<W>) -> Result<usize, Asn1DerError> {
+        let items = self.as_slice();
+        to.list(160, &items)
+    }
+}
+
+impl Spelled for OpenSslAttributes {
+    ghost use Rattle.std.proofs.Common.{refl, true};
+    ghost use Rattle.asn1_trees.specs.Tagged.{sequence};
+    ghost use Rattle.asn1_trees.specs.Firsts.{only};
+    ghost use Rattle.x509_spelling.specs.Spellings.{Holds};
+    ghost use Rattle.x509_spelling.specs.RowLaws.{struct_laws};
+
+    ghost spells = { λ v. Holds 160 ⟦<Many<Attribute> as SpelledFields>⟧.spells v.0 };
+
+    ghost written = { λ v. sequence ⟦<Many<Attribute> as SpelledFields>⟧.row_trees 160 v.0 };
+
+    ghost begun = { only 160 };
+
+    ghost has_low_tags = { true };
+
+    ghost laws = { struct_laws 160 refl ⟦<Many<Attribute> as SpelledFields>⟧.row_firsts ⟦<Many<Attribute> as SpelledFields>⟧.row_trees
+        ⟦<Many<Attribute> as SpelledFields>⟧.spells (⟦<Many<Attribute> as SpelledFields>⟧.row_laws (refl {a = true}))
+        (λ v. v.0) (λ v w e. λ i. record { 0 = e i }) };
+
+    fn may_begin_with(first: u8) -> bool {
+        first == 160
+    }
+
+    fn read_counted(alloc: Global, bytes: &[u8]) -> Result<Counted<Self>, X509Fault> {
+        let read: Counted<Many<Attribute>> = read_fields(alloc, 160, bytes)?;
+        let count = read.count;
+        let attributes = Attributes::from(read.into_value().into_vec());
+        let value = OpenSslAttributes(attributes);
+        Ok(Counted { value, count })
+    }
+
+    ghost written_is = { refl };
+}

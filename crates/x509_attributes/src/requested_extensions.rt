@@ -1,0 +1,105 @@
+//! Extensions that a certificate is requested with (RFC 2985, section 5.4.2).
+ghost use Rattle.std.specs.Prelude.{◌≡◌, MatchResult};
+
+use devices::Sink;
+use picky_asn1_der::{Asn1DerError, Serialize, Serializer};
+use std::alloc::Global;
+use std::marker::Model;
+use x509_extensions::Extensions;
+use x509_spelling::{Counted, Many, Spelled, SpelledFields, X509Fault, read_fields};
+
+/// The values of an extension request, each a list of extensions. A contract sees the list of them.
+///
+/// ```text
+/// extensionRequest ATTRIBUTE ::= {
+///         WITH SYNTAX ExtensionRequest
+///         SINGLE VALUE TRUE
+///         ID pkcs-9-at-extensionRequest }
+///
+/// ExtensionRequest ::= Extensions
+/// ```
+///
+/// Any number of them is read.
+#[derive(Drop)]
+pub struct RequestedExtensions {
+    items: Vec<Extensions>,
+}
+
+impl Model for RequestedExtensions {
+    ghost use Rattle.std.specs.Prelude.{List};
+    ghost use Rattle.x509_extensions.specs.declared.extension.Extension.{Extension};
+
+    ghost Value = { List (List Extension) };
+
+    ghost view = { λ requested. requested.items.items };
+}
+
+impl RequestedExtensions {
+    /// The lists of extensions.
+    pub fn as_slice(&self) -> &[Extensions]
+        ensures { result.now ≡ self.now }
+    {
+        self.items.as_slice()
+    }
+}
+
+impl From<Vec<Extensions>> for RequestedExtensions {
+    ghost from_gives = { λ items made. made ≡ items.items };
+
+    fn from(items: Vec<Extensions>) -> Self {
+        RequestedExtensions { items }
+    }
+}
+
+impl Serialize for RequestedExtensions {
+    ghost use Rattle.asn1_trees.specs.Tagged.{sequence};
+    ghost use Rattle.asn1_trees.specs.Firsts.{only};
+    ghost use Rattle.asn1_trees.proofs.Spelling.{may_begin-only};
+    ghost use Rattle.asn1_trees.proofs.Rows.{many-injective};
+    ghost use Rattle.asn1_trees.proofs.Tagged.{sequence_laws};
+
+    ghost tree = { sequence ⟦<Many<Extensions> as SpelledFields>⟧.row_trees 49 };
+
+    ghost firsts = { only 49 };
+
+    ghost begins = { λ _. may_begin-only 49 };
+
+    ghost injective = { (sequence_laws ⟦<Many<Extensions> as SpelledFields>⟧.row_trees (many-injective _ ⟦<Extensions as Serialize>⟧.tree ⟦<Extensions as Serialize>⟧.injective)).injective 49 };
+
+    fn serialize<W: Sink>(&self, to: &mut Serializer<W>) -> Result<usize, Asn1DerError> {
+        let items = self.as_slice();
+        to.list(49, &items)
+    }
+}
+
+impl Spelled for RequestedExtensions {
+    ghost use Rattle.std.proofs.Common.{refl, true};
+    ghost use Rattle.asn1_trees.specs.Tagged.{sequence};
+    ghost use Rattle.asn1_trees.specs.Firsts.{only};
+    ghost use Rattle.x509_spelling.specs.Spellings.{Holds};
+    ghost use Rattle.x509_spelling.specs.RowLaws.{sequence_laws};
+
+    ghost spells = { Holds 49 ⟦<Many<Extensions> as SpelledFields>⟧.spells };
+
+    ghost written = { sequence ⟦<Many<Extensions> as SpelledFields>⟧.row_trees 49 };
+
+    ghost begun = { only 49 };
+
+    ghost has_low_tags = { true };
+
+    ghost laws = { sequence_laws 49 refl ⟦<Many<Extensions> as SpelledFields>⟧.row_firsts ⟦<Many<Extensions> as SpelledFields>⟧.row_trees
+        ⟦<Many<Extensions> as SpelledFields>⟧.spells (⟦<Many<Extensions> as SpelledFields>⟧.row_laws (refl {a = true})) };
+
+    fn may_begin_with(first: u8) -> bool {
+        first == 49
+    }
+
+    fn read_counted(alloc: Global, bytes: &[u8]) -> Result<Counted<Self>, X509Fault> {
+        let read: Counted<Many<Extensions>> = read_fields(alloc, 49, bytes)?;
+        let count = read.count;
+        let value = RequestedExtensions::from(read.into_value().into_vec());
+        Ok(Counted { value, count })
+    }
+
+    ghost written_is = { refl };
+}
