@@ -110,6 +110,7 @@ pub mod data_types {
 
 /// Tokens of the GSS-API mechanism (RFC 4121), and those by which a mechanism is negotiated (RFC 4178).
 pub mod gss_api {
+    pub use gss_context_tokens::{IAKerbProxyMessage, KrbMessage};
     pub use gss_messages::{
         ApplicationTag0, GssApiNegInit, MechType, MechTypeList, NegTokenInit, NegTokenTarg,
         NegTokenTarg1,
@@ -119,6 +120,7 @@ pub mod gss_api {
 
 /// Messages (RFC 4120, section 5), and the exchange that changes a password (RFC 3244).
 pub mod messages {
+    pub use gss_context_tokens::{IAKerbCookie, IAKerbHeader};
     pub use krb_credentials::{KdcProxyMessage, KrbCred, KrbCredInner, TgtRep, TgtReq};
     pub use krb_messages::messages::{
         ApRep, ApRepInner, ApReq, ApReqInner, AsRep, AsReq, EncAsRepPart, EncKdcRepPart,

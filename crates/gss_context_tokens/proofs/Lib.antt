@@ -1,0 +1,5 @@
+pub mod HeaderReading
+pub mod MessageLaws
+pub mod TokenLaws
+pub mod Unread
+pub mod Written

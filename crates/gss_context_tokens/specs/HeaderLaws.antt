@@ -1,0 +1,45 @@
+-- A content is read as one header.
+use Rattle.std.proofs.Common.{◌≡◌, ℕ, List, ◌++◌, Option, None, Some, refl, sym, ap, subst, ◌∙◌}
+use Rattle.asn1_trees.specs.Tree.{Tree, Writes}
+use Rattle.asn1_trees.specs.Firsts.{Firsts}
+use Rattle.asn1_trees.specs.Length.{element}
+use Rattle.asn1_trees.proofs.Spelling.{IsInjective, one_spelling}
+use Rattle.asn1_trees.proofs.Elements.{element-one}
+use Rattle.gss_context_tokens.specs.Fronts.{Leads, LeadsOptional}
+use Rattle.asn1_codec.specs.Reads.{IsOneValue}
+use Rattle.gss_context_tokens.specs.Headers.{LeadFields, IsHeaderOf}
+
+-- bytes are led by one value, with one rest
+pub leads-one : {T : Type 0} (tree : T → Tree) → IsInjective tree → (v w : T) (bytes x y : List ℕ) → Leads (Writes tree) v bytes x → Leads (Writes tree) w bytes y → (v ≡ w) × (x ≡ y)
+leads-one tree injective v w bytes x y (a, a_read, a_is) (b, b_read, b_is) =
+    let same = one_spelling tree injective v w a b x y a_read b_read (sym a_is ∙ b_is) in (same.0, same.2)
+
+pub leads_optional-one : {T : Type 0} (firsts : Firsts) (tree : T → Tree) → IsInjective tree → (v w : Option T) (bytes x y : List ℕ)
+    → LeadsOptional firsts (Writes tree) v bytes x → LeadsOptional firsts (Writes tree) w bytes y → (v ≡ w) × (x ≡ y)
+leads_optional-one firsts tree injective None None bytes x y (none, is) (also, same) = (refl, is ∙ sym same)
+leads_optional-one firsts tree injective None (Some w) bytes x y (none, is) (there, leads) = absurd (cc (none, there))
+leads_optional-one firsts tree injective (Some v) None bytes x y (there, leads) (none, is) = absurd (cc (none, there))
+leads_optional-one firsts tree injective (Some v) (Some w) bytes x y (there, leads) (also, other) =
+    let same = leads-one tree injective v w bytes x y leads other in (ap Some same.0, same.1)
+
+pub fields-one : {A B C : Type 0} (ta : A → Tree) → IsInjective ta → (fb : Firsts) (tb : B → Tree) → IsInjective tb → (fc : Firsts) (tc : C → Tree) → IsInjective tc
+    → (a d : A) (b e : Option B) (c f : Option C) (content : List ℕ) → LeadFields ta fb tb fc tc a b c content → LeadFields ta fb tb fc tc d e f content
+    → (a ≡ d) × (b ≡ e) × (c ≡ f)
+fields-one ta ja fb tb jb fc tc jc a d b e c f content (x, y, z, first, second, third) (k, l, m, one, two, three) =
+    let p = leads-one ta ja a d content x k first one in
+    let two_here = subst (λ (r : List ℕ). LeadsOptional fb (Writes tb) e r l) (sym p.1) two in
+    let q = leads_optional-one fb tb jb b e x y l second two_here in
+    let three_here = subst (λ (r : List ℕ). LeadsOptional fc (Writes tc) f r m) (sym q.1) three in
+    let r = leads_optional-one fc tc jc c f y z m third three_here in
+    (p.0, q.0, r.0)
+
+-- the bytes of a header are read as one
+pub header-one : {H A B C : Type 0} (ta : A → Tree) → IsInjective ta → (fb : Firsts) (tb : B → Tree) → IsInjective tb → (fc : Firsts) (tc : C → Tree) → IsInjective tc
+    → (a_of : H → A) (b_of : H → Option B) (c_of : H → Option C) → ((v w : H) → a_of v ≡ a_of w → b_of v ≡ b_of w → c_of v ≡ c_of w → v ≡ w)
+    → IsOneValue (IsHeaderOf ta fb tb fc tc a_of b_of c_of)
+header-one ta ja fb tb jb fc tc jc a_of b_of c_of join v w a b x y (k, a_is, first) (l, b_is, other) e =
+    let texts : element 48 k ++ x ≡ element 48 l ++ y = sym (ap (λ (t : List ℕ). t ++ x) a_is) ∙ e ∙ ap (λ (t : List ℕ). t ++ y) b_is in
+    let same : k ≡ l = (element-one 48 48 k l x y texts).1 in
+    let there = subst (λ (c : List ℕ). LeadFields ta fb tb fc tc (a_of w) (b_of w) (c_of w) c) (sym same) other in
+    let parts = fields-one ta ja fb tb jb fc tc jc (a_of v) (a_of w) (b_of v) (b_of w) (c_of v) (c_of w) k first there in
+    (join v w parts.0 parts.1 parts.2, a_is ∙ ap (element 48) same ∙ sym b_is)

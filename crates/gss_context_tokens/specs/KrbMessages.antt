@@ -1,0 +1,37 @@
+-- Messages of Kerberos as tokens of a mechanism (RFC 4121, section 4.1), alone and through a service (draft-ietf-kitten-iakerb-03,
+-- section 3).
+use Rattle.std.specs.Prelude.{◌≡◌, ℕ, List, ◌++◌, length}
+use Rattle.asn1_trees.specs.Tree.{Tree, der, IsWhole}
+use Rattle.gss_context_tokens.specs.declared.krb_message.KrbMessage.{KrbMessage}
+use Rattle.gss_context_tokens.specs.declared.iakerb_proxy_message.IAKerbProxyMessage.{IAKerbProxyMessage}
+use Rattle.gss_context_tokens.specs.contracts.iakerb_header.IAKerbHeaderSerialize.TheImpl as header_writing
+use Rattle.gss_context_tokens.specs.contracts.iakerb_header.IAKerbHeaderFromDer.TheImpl as header_reading
+use Rattle.gss_context_tokens.specs.Fronts.{Leads}
+use Rattle.gss_context_tokens.specs.Tokens.{mechanism_tree, IsOfMechanism, IsTold, IsProxied, iakerb, proxy_id, told_content}
+
+-- the bytes begin with the token of this message, and nothing stands behind it in the token
+abbrev pub BeginsKrbMessage : {T : Type 0} → (T → List ℕ → Type 0) → KrbMessage T → List ℕ → Type 0
+BeginsKrbMessage reads m bytes =
+    (inner message : List ℕ) × IsOfMechanism bytes m.krb5_oid inner × IsTold inner m.krb5_token_id message × reads m.krb_msg message
+
+-- the same of a message behind its header
+abbrev pub BeginsProxyMessage : {T : Type 0} → (T → List ℕ → Type 0) → IAKerbProxyMessage T → List ℕ → Type 0
+BeginsProxyMessage reads m bytes =
+    (message body : List ℕ) × IsProxied bytes message × Leads header_reading.ghosts.reads m.header message body × reads m.krb_msg body
+
+-- what is written of each, inside its token
+abbrev pub krb_message_content : {T : Type 0} → (T → Tree) → KrbMessage T → List ℕ
+krb_message_content tree m = told_content m.krb5_oid m.krb5_token_id (der (tree m.krb_msg))
+
+abbrev pub proxy_message_content : {T : Type 0} → (T → Tree) → IAKerbProxyMessage T → List ℕ
+proxy_message_content tree m = told_content iakerb proxy_id (der (header_writing.ghosts.tree m.header) ++ der (tree m.krb_msg))
+
+-- a message of which each part has a spelling
+pub record IsWholeMessage {T : Type 0} (tree : T → Tree) (m : KrbMessage T) : Type 0 where
+  pub mechanism : IsWhole (mechanism_tree m.krb5_oid)
+  pub id : length m.krb5_token_id ≡ 2
+  pub message : IsWhole (tree m.krb_msg)
+
+pub record IsWholeProxyMessage {T : Type 0} (tree : T → Tree) (m : IAKerbProxyMessage T) : Type 0 where
+  pub header : IsWhole (header_writing.ghosts.tree m.header)
+  pub message : IsWhole (tree m.krb_msg)

@@ -1,0 +1,6 @@
+pub mod Fronts
+pub mod HeaderLaws
+pub mod Headers
+pub mod KrbMessages
+pub mod Refusals
+pub mod Tokens

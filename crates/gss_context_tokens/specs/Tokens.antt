@@ -1,0 +1,45 @@
+-- Tokens of the GSS-API: an element with the tag `[APPLICATION 0]` that holds a mechanism's OBJECT IDENTIFIER and, behind it,
+-- what the mechanism says (RFC 2743, section 3.1). A mechanism of Kerberos says two octets that tell the message, and then it
+-- (RFC 4121, section 4.1).
+use Rattle.std.specs.Prelude.{◌≡◌, ℕ, List, [], ◌∷◌, ◌++◌, length}
+use Rattle.asn1_trees.specs.Tree.{Tree, der, Writes}
+use Rattle.asn1_trees.specs.Length.{element}
+use Rattle.asn1_trees.specs.Tagged.{leaf_as, tagged_tree}
+use Rattle.asn1_leaves.specs.ObjectIdentifier.{is_object_identifier, oid_content}
+use Rattle.picky_asn1.specs.declared.wrapper.ObjectIdentifierAsn1.{ObjectIdentifierAsn1}
+use Rattle.x509_oids.specs.Identifiers.{iakerb5}
+use Rattle.gss_context_tokens.specs.Fronts.{Leads}
+
+-- an OBJECT IDENTIFIER (X.690, section 8.19)
+abbrev pub mechanism_tree : ObjectIdentifierAsn1 → Tree
+mechanism_tree = tagged_tree 6 (leaf_as (λ oid. is_object_identifier oid.0) (λ oid. oid_content oid.0)) (λ oid. oid)
+
+-- the bytes begin with a token that has this content
+abbrev pub BeginsToken : List ℕ → List ℕ → Type 0
+BeginsToken content bytes = (rest : List ℕ) × (bytes ≡ element 96 content ++ rest)
+
+-- the bytes begin with a token of this mechanism, and this stands in it behind the mechanism
+abbrev pub IsOfMechanism : List ℕ → ObjectIdentifierAsn1 → List ℕ → Type 0
+IsOfMechanism bytes mechanism inner = (content : List ℕ) × BeginsToken content bytes × Leads (Writes mechanism_tree) mechanism content inner
+
+-- two octets stand in front of the message
+abbrev pub IsTold : List ℕ → List ℕ → List ℕ → Type 0
+IsTold inner id message = (inner ≡ id ++ message) × (length id ≡ 2)
+
+-- the mechanism IAKERB (draft-ietf-kitten-iakerb-03, section 2), and the octets that tell its message (section 3)
+abbrev pub iakerb : ObjectIdentifierAsn1
+iakerb = record { 0 = iakerb5 }
+
+abbrev pub proxy_id : List ℕ
+proxy_id = 5 ∷ 1 ∷ []
+
+-- the bytes begin with a token of IAKERB, and this stands behind its id
+abbrev pub IsProxied : List ℕ → List ℕ → Type 0
+IsProxied bytes message = (inner : List ℕ) × IsOfMechanism bytes iakerb inner × IsTold inner proxy_id message
+
+-- the content of a token, and the token
+abbrev pub told_content : ObjectIdentifierAsn1 → List ℕ → List ℕ → List ℕ
+told_content mechanism id message = der (mechanism_tree mechanism) ++ (id ++ message)
+
+abbrev pub token_bytes : List ℕ → List ℕ
+token_bytes content = element 96 content

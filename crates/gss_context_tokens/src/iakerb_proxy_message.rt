@@ -1,0 +1,152 @@
+//! A message of Kerberos that goes through a service.
+ghost use Rattle.std.specs.Prelude.{◌≡◌, MatchResult};
+ghost use Rattle.asn1_codec.specs.Refusals.{refusal_of};
+ghost use Rattle.gss_context_tokens.specs.Tokens.{IsProxied, iakerb, proxy_id};
+ghost use Rattle.gss_context_tokens.specs.Refusals.{IsOtherMechanism, IsProxyRefusal};
+
+use crate::content::{front_value, mechanism_of, split_id, whole_value};
+use crate::iakerb_header::IAKerbHeader;
+use crate::writing::{put_out, put_value, token_of, told};
+use devices::Sink;
+use gss_messages::ApplicationTag0;
+use krb_constants::gss_api::IAKERB_PROXY_TOKEN_ID;
+use krb_tokens::GssApiMessageError;
+use picky_asn1::wrapper::ObjectIdentifierAsn1;
+use picky_asn1_der::{FromDer, Serialize};
+use std::alloc::Global;
+use x509_oids::iakerb5;
+
+/// A message on its way from a client to a KDC, or back, through a service (draft-ietf-kitten-iakerb-03, section 3): what stands inside a
+/// token of the mechanism IAKERB behind 05 01, under the tag of [`ApplicationTag0`].
+#[derive(Debug, Drop, PartialEq, Eq, Clone)]
+pub struct IAKerbProxyMessage<T> {
+    /// Where the message is to go.
+    pub header: IAKerbHeader,
+    /// The message.
+    pub krb_msg: T,
+}
+
+impl<T: FromDer> IAKerbProxyMessage<T> {
+    ghost use Rattle.gss_context_tokens.specs.KrbMessages.{BeginsProxyMessage};
+
+    /// Reads the token that begins the bytes. What stands behind it is left.
+    ///
+    /// Answered is `InvalidMechanismOid` where a token of another mechanism stands there, `InvalidId` where other octets tell its
+    /// message, and elsewhere, where there is no such token, `Asn1Error`, or `IoError` where its content ends before the message; or want
+    /// of memory.
+    pub fn decode_application_iakerb_proxy_message(
+        alloc: Global,
+        bytes: &[u8],
+    ) -> Result<ApplicationTag0<IAKerbProxyMessage<T>>, GssApiMessageError>
+        ensures { MatchResult result
+            (λ token. BeginsProxyMessage T.reads token.0 bytes.now)
+            (IsProxyRefusal (λ (m : IAKerbProxyMessage T). BeginsProxyMessage T.reads m bytes.now) bytes.now) }
+    {
+        let message = proxied(alloc, bytes)?;
+        let (header, body) = front_value(alloc, message)?;
+        let krb_msg = whole_value(alloc, body)?;
+        Ok(ApplicationTag0(IAKerbProxyMessage { header, krb_msg }))
+    }
+}
+
+/// What a service is handed to be handed on: what stands behind mechanism and id of the token that begins the bytes.
+fn proxied(alloc: Global, bytes: &[u8]) -> Result<&[u8], GssApiMessageError>
+    ensures { MatchResult result
+        (λ message. IsProxied bytes.now message.now)
+        (IsProxyRefusal (IsProxied bytes.now) bytes.now) }
+{
+    let (mechanism, inner) = mechanism_of(alloc, bytes)?;
+    check_mechanism(alloc, &mechanism)?;
+    let (id, message) = split_id(inner)?;
+    check_id(id)?;
+    Ok(message)
+}
+
+/// Refuses another mechanism than IAKERB.
+fn check_mechanism(
+    alloc: Global,
+    mechanism: &ObjectIdentifierAsn1,
+) -> Result<(), GssApiMessageError>
+    ensures { MatchResult result (λ _. mechanism.now ≡ iakerb) (IsOtherMechanism mechanism.now) }
+{
+    let Ok(wanted) = iakerb5(alloc) else {
+        return Err(GssApiMessageError::Memory);
+    };
+    if mechanism.0 == wanted {
+        return Ok(());
+    }
+    match (wanted.to_text(), mechanism.0.to_text()) {
+        (Ok(wanted), Ok(there)) => Err(GssApiMessageError::InvalidMechanismOid(wanted, there)),
+        _ => Err(GssApiMessageError::Memory),
+    }
+}
+
+/// Refuses another id than that of such a message.
+fn check_id(id: [u8; 2]) -> Result<(), GssApiMessageError>
+    ensures { MatchResult result (λ _. id ≡ proxy_id)
+        (λ fault. (fault ≡ GssApiMessageError.InvalidId proxy_id id) × (id ≡ proxy_id → ⊥)) }
+{
+    if id != IAKERB_PROXY_TOKEN_ID {
+        return Err(GssApiMessageError::InvalidId(IAKERB_PROXY_TOKEN_ID, id));
+    }
+    Ok(())
+}
+
+impl<T: Serialize> IAKerbProxyMessage<T> {
+    ghost use Rattle.gss_context_tokens.specs.KrbMessages.{proxy_message_content};
+    ghost use Rattle.gss_context_tokens.specs.Tokens.{token_bytes};
+    ghost use Rattle.gss_context_tokens.specs.Refusals.{IsUnwritten, IsWritten};
+
+    /// What stands inside the token.
+    fn content(&self, alloc: Global) -> Result<Vec<u8>, GssApiMessageError>
+        ensures { MatchResult result
+            (λ bytes. bytes.items ≡ proxy_message_content T.tree self.now)
+            (IsUnwritten (refusal_of T.refusal self.now.krb_msg)) }
+    {
+        let Ok(mechanism) = iakerb5(alloc) else {
+            return Err(GssApiMessageError::Memory);
+        };
+        let mut content = told(
+            alloc,
+            &ObjectIdentifierAsn1(mechanism),
+            &IAKERB_PROXY_TOKEN_ID,
+        )?;
+        put_value(&self.header, &mut content)?;
+        put_value(&self.krb_msg, &mut content)?;
+        Ok(content)
+    }
+
+    /// Writes what stands inside the token; a front of it where the writer stops.
+    pub fn encode<W: Sink>(&self, alloc: Global, writer: &mut W) -> Result<(), GssApiMessageError>
+        ensures written { IsWritten (refusal_of T.refusal self.now.krb_msg) (proxy_message_content T.tree self.now)
+            (W.written writer.old) (W.written writer.new) (W.failed writer.old) (W.failed writer.new) (W.last_fault writer.new) result }
+        ensures same { W.through writer.new ≡ W.through writer.old }
+    {
+        let content = self.content(alloc)?;
+        put_out(&content, writer)
+    }
+
+    /// The whole token.
+    fn token(&self, alloc: Global) -> Result<Vec<u8>, GssApiMessageError>
+        ensures { MatchResult result
+            (λ bytes. bytes.items ≡ token_bytes (proxy_message_content T.tree self.now))
+            (IsUnwritten (refusal_of T.refusal self.now.krb_msg)) }
+    {
+        let content = self.content(alloc)?;
+        token_of(alloc, content)
+    }
+
+    /// Writes the whole token; a front of it where the writer stops.
+    pub fn encode_application_iakerb_proxy_message<W: Sink>(
+        &self,
+        alloc: Global,
+        writer: &mut W,
+    ) -> Result<(), GssApiMessageError>
+        ensures written { IsWritten (refusal_of T.refusal self.now.krb_msg) (token_bytes (proxy_message_content T.tree self.now))
+            (W.written writer.old) (W.written writer.new) (W.failed writer.old) (W.failed writer.new) (W.last_fault writer.new) result }
+        ensures same { W.through writer.new ≡ W.through writer.old }
+    {
+        let token = self.token(alloc)?;
+        put_out(&token, writer)
+    }
+}

@@ -1,0 +1,101 @@
+//! A message of Kerberos as a token.
+ghost use Rattle.std.specs.Prelude.{◌≡◌, MatchResult};
+ghost use Rattle.asn1_codec.specs.Refusals.{refusal_of};
+
+use crate::content::{mechanism_of, split_id, whole_value};
+use crate::writing::{put_out, put_value, token_of, told};
+use devices::Sink;
+use gss_messages::ApplicationTag0;
+use krb_tokens::GssApiMessageError;
+use picky_asn1::wrapper::ObjectIdentifierAsn1;
+use picky_asn1_der::{FromDer, Serialize};
+use std::alloc::Global;
+
+/// A message with the two octets that tell it, behind its mechanism (RFC 4121, section 4.1): what stands inside a first token, under the
+/// tag of [`ApplicationTag0`]. Neither mechanism nor octets are judged.
+#[derive(Debug, Drop, PartialEq, Eq, Clone)]
+pub struct KrbMessage<T> {
+    /// The mechanism.
+    pub krb5_oid: ObjectIdentifierAsn1,
+    /// Which message it is (RFC 4121, section 4.1).
+    pub krb5_token_id: [u8; 2],
+    /// The message.
+    pub krb_msg: T,
+}
+
+impl<T: FromDer> KrbMessage<T> {
+    ghost use Rattle.gss_context_tokens.specs.KrbMessages.{BeginsKrbMessage};
+    ghost use Rattle.gss_context_tokens.specs.Refusals.{IsUnread};
+
+    /// Reads the token that begins the bytes. What stands behind it is left.
+    ///
+    /// Answered is `Asn1Error` where there is no such token, and `IoError` where its content ends before the message; or want of memory.
+    pub fn decode_application_krb_message(
+        alloc: Global,
+        bytes: &[u8],
+    ) -> Result<ApplicationTag0<KrbMessage<T>>, GssApiMessageError>
+        ensures { MatchResult result
+            (λ token. BeginsKrbMessage T.reads token.0 bytes.now)
+            (IsUnread (λ (m : KrbMessage T). BeginsKrbMessage T.reads m bytes.now)) }
+    {
+        let (krb5_oid, inner) = mechanism_of(alloc, bytes)?;
+        let (krb5_token_id, message) = split_id(inner)?;
+        let krb_msg = whole_value(alloc, message)?;
+        Ok(ApplicationTag0(KrbMessage {
+            krb5_oid,
+            krb5_token_id,
+            krb_msg,
+        }))
+    }
+}
+
+impl<T: Serialize> KrbMessage<T> {
+    ghost use Rattle.gss_context_tokens.specs.KrbMessages.{krb_message_content};
+    ghost use Rattle.gss_context_tokens.specs.Tokens.{token_bytes};
+    ghost use Rattle.gss_context_tokens.specs.Refusals.{IsUnwritten, IsWritten};
+
+    /// What stands inside the token.
+    fn content(&self, alloc: Global) -> Result<Vec<u8>, GssApiMessageError>
+        ensures { MatchResult result
+            (λ bytes. bytes.items ≡ krb_message_content T.tree self.now)
+            (IsUnwritten (refusal_of T.refusal self.now.krb_msg)) }
+    {
+        let mut content = told(alloc, &self.krb5_oid, &self.krb5_token_id)?;
+        put_value(&self.krb_msg, &mut content)?;
+        Ok(content)
+    }
+
+    /// Writes what stands inside the token; a front of it where the writer stops.
+    pub fn encode<W: Sink>(&self, alloc: Global, writer: &mut W) -> Result<(), GssApiMessageError>
+        ensures written { IsWritten (refusal_of T.refusal self.now.krb_msg) (krb_message_content T.tree self.now)
+            (W.written writer.old) (W.written writer.new) (W.failed writer.old) (W.failed writer.new) (W.last_fault writer.new) result }
+        ensures same { W.through writer.new ≡ W.through writer.old }
+    {
+        let content = self.content(alloc)?;
+        put_out(&content, writer)
+    }
+
+    /// The whole token.
+    fn token(&self, alloc: Global) -> Result<Vec<u8>, GssApiMessageError>
+        ensures { MatchResult result
+            (λ bytes. bytes.items ≡ token_bytes (krb_message_content T.tree self.now))
+            (IsUnwritten (refusal_of T.refusal self.now.krb_msg)) }
+    {
+        let content = self.content(alloc)?;
+        token_of(alloc, content)
+    }
+
+    /// Writes the whole token; a front of it where the writer stops.
+    pub fn encode_application_krb_message<W: Sink>(
+        &self,
+        alloc: Global,
+        writer: &mut W,
+    ) -> Result<(), GssApiMessageError>
+        ensures written { IsWritten (refusal_of T.refusal self.now.krb_msg) (token_bytes (krb_message_content T.tree self.now))
+            (W.written writer.old) (W.written writer.new) (W.failed writer.old) (W.failed writer.new) (W.last_fault writer.new) result }
+        ensures same { W.through writer.new ≡ W.through writer.old }
+    {
+        let token = self.token(alloc)?;
+        put_out(&token, writer)
+    }
+}

@@ -1,0 +1,30 @@
+//! What is written is read again, and a token is read in one way, as laws.
+ghost use Rattle.std.specs.Prelude.{◌≡◌, ℕ, List, ◌++◌};
+ghost use Rattle.asn1_trees.specs.Tree.{Writes};
+ghost use Rattle.gss_context_tokens.specs.declared.krb_message.KrbMessage.{KrbMessage};
+ghost use Rattle.gss_context_tokens.specs.declared.iakerb_proxy_message.IAKerbProxyMessage.{IAKerbProxyMessage};
+ghost use Rattle.gss_context_tokens.specs.Tokens.{token_bytes};
+ghost use Rattle.gss_context_tokens.specs.KrbMessages.{BeginsKrbMessage, BeginsProxyMessage, IsWholeMessage, IsWholeProxyMessage, krb_message_content, proxy_message_content};
+
+use picky_asn1_der::{Deserialize, FromDer};
+
+/// The law that bytes begin with the token of one message at most. It does nothing when it runs: its contract is the law.
+pub fn one_krb_message<T: FromDer>()
+    ensures { (m n : KrbMessage T) (bytes : List ℕ) → BeginsKrbMessage T.reads m bytes → BeginsKrbMessage T.reads n bytes → m ≡ n }
+{}
+
+/// The same of messages that go through a service. It does nothing.
+pub fn one_proxy_message<T: FromDer>()
+    ensures { (m n : IAKerbProxyMessage T) (bytes : List ℕ) → BeginsProxyMessage T.reads m bytes → BeginsProxyMessage T.reads n bytes → m ≡ n }
+{}
+
+/// The law that what is written is read again, of messages that have a spelling, and that a message is read where its token is as it is
+/// written; of a header more may be ignored. It does nothing.
+pub fn written_is_read<T: Deserialize>()
+    ensures message { (m : KrbMessage T) (rest : List ℕ) → IsWholeMessage T.tree m
+        → BeginsKrbMessage (Writes T.tree) m (token_bytes (krb_message_content T.tree m) ++ rest) }
+    ensures only { (m : KrbMessage T) (bytes : List ℕ) → BeginsKrbMessage (Writes T.tree) m bytes
+        → IsWholeMessage T.tree m × (rest : List ℕ) × (bytes ≡ token_bytes (krb_message_content T.tree m) ++ rest) }
+    ensures proxied { (m : IAKerbProxyMessage T) (rest : List ℕ) → IsWholeProxyMessage T.tree m
+        → BeginsProxyMessage (Writes T.tree) m (token_bytes (proxy_message_content T.tree m) ++ rest) }
+{}

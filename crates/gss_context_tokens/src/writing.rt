@@ -1,0 +1,83 @@
+//! How tokens are written.
+ghost use Rattle.std.specs.Prelude.{◌≡◌, ◌++◌, MatchResult};
+ghost use Rattle.std.specs.Io.KnownBytes.{Appends};
+ghost use Rattle.asn1_trees.specs.Tree.{der};
+ghost use Rattle.asn1_codec.specs.Refusals.{refusal_of};
+ghost use Rattle.gss_context_tokens.specs.Tokens.{mechanism_tree, token_bytes};
+ghost use Rattle.gss_context_tokens.specs.Refusals.{IsUnwritten, IsStopped};
+ghost use Rattle.gss_context_tokens.specs.Refusals as faults;
+
+use crate::content::{TOKEN, token_fault};
+use byte_layouts::write_bytes;
+use devices::Sink;
+use krb_tokens::GssApiMessageError;
+use picky_asn1::wrapper::{ObjectIdentifierAsn1, OctetStringAsn1};
+use picky_asn1_der::{Retagged, Serialize, to_byte_buf, to_vec};
+use std::alloc::Global;
+use std::io::ErrorKind;
+
+/// Puts the spelling of a value behind what stands there.
+pub(crate) fn put_value<T: Serialize>(value: &T, to: &mut Vec<u8>) -> Result<(), GssApiMessageError>
+    ensures { MatchResult result
+        (λ _. to.new.items ≡ to.old.items ++ der (T.tree value.now))
+        (IsUnwritten (refusal_of T.refusal value.now)) }
+{
+    match to_byte_buf(value, to) {
+        Ok(_) => Ok(()),
+        Err(fault) => Err(token_fault(fault)),
+    }
+}
+
+/// A mechanism, and the two octets that tell a message.
+pub(crate) fn told(
+    alloc: Global,
+    mechanism: &ObjectIdentifierAsn1,
+    id: &[u8; 2],
+) -> Result<Vec<u8>, GssApiMessageError>
+    ensures { MatchResult result
+        (λ bytes. bytes.items ≡ der (mechanism_tree mechanism.now) ++ id.now)
+        (λ fault. fault ≡ GssApiMessageError.Memory) }
+{
+    let mut front = Vec::new(alloc);
+    if put_value(mechanism, &mut front).is_err() || front.extend_from_slice(id).is_err() {
+        return Err(GssApiMessageError::Memory);
+    }
+    Ok(front)
+}
+
+/// The token that has this content.
+pub(crate) fn token_of(alloc: Global, content: Vec<u8>) -> Result<Vec<u8>, GssApiMessageError>
+    ensures { MatchResult result
+        (λ bytes. bytes.items ≡ token_bytes content.items)
+        (λ fault. fault ≡ GssApiMessageError.Memory) }
+{
+    let octets = OctetStringAsn1::from(content);
+    let token: Retagged<TOKEN, OctetStringAsn1> = Retagged(octets);
+    match to_vec(alloc, &token) {
+        Ok(bytes) => Ok(bytes),
+        Err(_) => Err(GssApiMessageError::Memory),
+    }
+}
+
+/// What a write that stopped is answered by.
+fn stop_fault(kind: ErrorKind) -> GssApiMessageError
+    ensures { result ≡ faults.stop_fault kind }
+{
+    match kind {
+        ErrorKind::OutOfMemory => GssApiMessageError::Memory,
+        other => GssApiMessageError::IoError(other),
+    }
+}
+
+/// Writes the bytes; a front of them where the writer stops.
+pub(crate) fn put_out<W: Sink>(bytes: &[u8], writer: &mut W) -> Result<(), GssApiMessageError>
+    ensures written { MatchResult result
+        (λ _. Appends (W.written writer.old) (W.written writer.new) bytes.now × (W.failed writer.new ≡ W.failed writer.old))
+        (IsStopped bytes.now (W.written writer.old) (W.written writer.new) (W.failed writer.old) (W.failed writer.new) (W.last_fault writer.new)) }
+    ensures same { W.through writer.new ≡ W.through writer.old }
+{
+    match write_bytes(writer, bytes) {
+        Ok(()) => Ok(()),
+        Err(kind) => Err(stop_fault(kind)),
+    }
+}
