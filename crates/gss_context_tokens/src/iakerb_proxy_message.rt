@@ -116,16 +116,6 @@ impl<T: Serialize> IAKerbProxyMessage<T> {
         Ok(content)
     }
 
-    /// Writes what stands inside the token; a front of it where the writer stops.
-    pub fn encode<W: Sink>(&self, alloc: Global, writer: &mut W) -> Result<(), GssApiMessageError>
-        ensures written { IsWritten (refusal_of T.refusal self.now.krb_msg) (proxy_message_content T.tree self.now)
-            (W.written writer.old) (W.written writer.new) (W.failed writer.old) (W.failed writer.new) (W.last_fault writer.new) result }
-        ensures same { W.through writer.new ≡ W.through writer.old }
-    {
-        let content = self.content(alloc)?;
-        put_out(&content, writer)
-    }
-
     /// The whole token.
     fn token(&self, alloc: Global) -> Result<Vec<u8>, GssApiMessageError>
         ensures { MatchResult result
@@ -134,6 +124,16 @@ impl<T: Serialize> IAKerbProxyMessage<T> {
     {
         let content = self.content(alloc)?;
         token_of(alloc, content)
+    }
+
+    /// Writes what stands inside the token; a front of it where the writer stops.
+    pub fn encode<W: Sink>(&self, alloc: Global, writer: &mut W) -> Result<(), GssApiMessageError>
+        ensures written { IsWritten (refusal_of T.refusal self.now.krb_msg) (proxy_message_content T.tree self.now)
+            (W.written writer.old) (W.written writer.new) (W.failed writer.old) (W.failed writer.new) (W.last_fault writer.new) result }
+        ensures same { W.through writer.new ≡ W.through writer.old }
+    {
+        let inside = self.content(alloc)?;
+        put_out(&inside, writer)
     }
 
     /// Writes the whole token; a front of it where the writer stops.
