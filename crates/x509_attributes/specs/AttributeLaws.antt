@@ -4,7 +4,6 @@ use Rattle.std.proofs.Props.{props}
 use Rattle.std.specs.Prelude.{IsTrue}
 use mathlib.Core.HLevel.{is_prop→PathP}
 use Rattle.picky_asn1.specs.declared.wrapper.ObjectIdentifierAsn1.{ObjectIdentifierAsn1}
-use Rattle.x509_attributes.specs.declared.attribute_values.AttributeValues.{AttributeValues}
 use Rattle.x509_attributes.specs.declared.attribute.Attribute.{Attribute}
 use Rattle.x509_attributes.specs.AttributeValues.{AttributeKinds, kinds_of, values_made, values_back, is_value_of}
 
