@@ -13,6 +13,11 @@ pub use x509_extensions::{
     AuthorityKeyIdentifier, Extension, ExtensionValue, ExtensionView, Extensions, IssuerAltName,
     KeyIdentifier, SubjectAltName, SubjectKeyIdentifier,
 };
+pub use x509_keys::{
+    ECPrivateKey, EcPoint, EncapsulatedEcPoint, EncapsulatedEcSecret, EncapsulatedMldsaPublicKey,
+    EncapsulatedRsaPublicKey, PRIVATE_KEY_INFO_VERSION_1, PRIVATE_KEY_INFO_VERSION_2,
+    PrivateKeyInfo, PrivateKeyValue, PublicKey, RsaPrivateKey, RsaPublicKey, SubjectPublicKeyInfo,
+};
 pub use x509_names::{
     AttributeTypeAndValue, AttributeValue, DirectoryName, EdiPartyName, GeneralName, GeneralNames,
     Name, NameAttr, OtherName, RdnSequence, RelativeDistinguishedName,

@@ -6,8 +6,8 @@ use anyhow::{Context, bail};
 use picky_asn1_x509::{
     AlgorithmIdentifier, Attribute, Attributes, AuthorityKeyIdentifier, BasicConstraints,
     DigestInfo, ExtendedKeyUsage, Extension, Extensions, GeneralNames, KeyUsage, Name,
-    OpenSslAttributes, RawAlgorithmIdentifier, Spelled, Validity, X509Fault, deviations,
-    encoded_len, from_bytes, to_vec,
+    OpenSslAttributes, PrivateKeyInfo, RawAlgorithmIdentifier, Spelled, SubjectPublicKeyInfo,
+    Validity, X509Fault, deviations, encoded_len, from_bytes, to_vec,
 };
 use std::alloc::Global;
 use std::fs;
@@ -98,7 +98,9 @@ fn agrees(alloc: Global, recorded: &Recorded<'_>) -> anyhow::Result<bool> {
         "KeyUsage" => is_told::<KeyUsage>(alloc, recorded),
         "Name" => is_told::<Name>(alloc, recorded),
         "OpenSslAttributes" => is_told::<OpenSslAttributes>(alloc, recorded),
+        "PrivateKeyInfo" => is_told::<PrivateKeyInfo>(alloc, recorded),
         "RawAlgorithmIdentifier" => is_told::<RawAlgorithmIdentifier>(alloc, recorded),
+        "SubjectPublicKeyInfo" => is_told::<SubjectPublicKeyInfo>(alloc, recorded),
         "Validity" => is_told::<Validity>(alloc, recorded),
         other => bail!("no type {other}"),
     };

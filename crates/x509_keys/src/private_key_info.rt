@@ -1,0 +1,113 @@
+//! Private keys with their algorithms (RFC 5958, section 2).
+ghost use Rattle.std.specs.Prelude.{◌≡◌, ◌==◌, ℕ, List, true, IsTrue, IfOk, MatchResult};
+ghost use Rattle.x509_keys.specs.PrivateKeys.{version_with};
+
+use crate::agreeing::read_agreeing;
+use crate::private_key_fields::PrivateKeyFields;
+use crate::private_key_value::PrivateKeyValue;
+use devices::Sink;
+use picky_asn1::wrapper::BitStringAsn1;
+use picky_asn1_der::{Asn1DerError, Serialize, Serializer};
+use std::alloc::Global;
+use x509_algorithms::AlgorithmIdentifier;
+use x509_spelling::{Counted, Spelled, X509Fault};
+
+/// The version without a public key.
+pub const PRIVATE_KEY_INFO_VERSION_1: u8 = 0;
+
+/// The version with a public key.
+pub const PRIVATE_KEY_INFO_VERSION_2: u8 = 1;
+
+/// A private key, the algorithm that it is for, and perhaps the public key that goes with it.
+///
+/// ```text
+/// OneAsymmetricKey ::= SEQUENCE {
+///      version                   Version,
+///      privateKeyAlgorithm       PrivateKeyAlgorithmIdentifier,
+///      privateKey                PrivateKey,
+///      attributes            [0] Attributes OPTIONAL,
+///      ...,
+///      [[2: publicKey        [1] PublicKey OPTIONAL ]],
+///      ...
+/// }
+/// ```
+///
+/// The version is v2 where there is a public key, and else v1. Attributes aren't read.
+#[derive(Drop)]
+pub struct PrivateKeyInfo {
+    fields: PrivateKeyFields,
+    pub ghost of_its_version: { IsTrue (fields.version == version_with fields.public_key.0) },
+}
+
+impl PrivateKeyInfo {
+    /// The version.
+    pub fn version(&self) -> u8
+        ensures { result ≡ self.now.fields.version }
+    {
+        self.fields.version
+    }
+
+    /// The algorithm.
+    pub fn private_key_algorithm(&self) -> &AlgorithmIdentifier
+        ensures { result.now ≡ self.now.fields.private_key_algorithm }
+    {
+        &self.fields.private_key_algorithm
+    }
+
+    /// The private key.
+    pub fn private_key(&self) -> &PrivateKeyValue
+        ensures { result.now ≡ self.now.fields.private_key }
+    {
+        &self.fields.private_key
+    }
+}
+
+impl Serialize for PrivateKeyInfo {
+    ghost use Rattle.asn1_trees.specs.Firsts.{only};
+    ghost use Rattle.x509_keys.specs.PrivateInfoLaws.{same_info};
+
+    ghost tree = { λ v. ⟦<PrivateKeyFields as Serialize>⟧.tree v.fields };
+
+    ghost firsts = { only 48 };
+
+    ghost begins = { λ v. ⟦<PrivateKeyFields as Serialize>⟧.begins v.fields };
+
+    ghost injective = { λ v w whole also e. same_info v w (⟦<PrivateKeyFields as Serialize>⟧.injective v.fields w.fields whole also e) };
+
+    fn serialize<W: Sink>(&self, to: &mut Serializer<W>) -> Result<usize, Asn1DerError> {
+        self.fields.serialize(to)
+    }
+}
+
+impl Spelled for PrivateKeyInfo {
+    ghost use Rattle.std.proofs.Common.{refl, true};
+    ghost use Rattle.asn1_trees.specs.Firsts.{only};
+    ghost use Rattle.x509_spelling.specs.Laws.{held_laws};
+    ghost use Rattle.x509_keys.specs.PrivateInfoLaws.{same_info};
+
+    ghost spells = { λ v. ⟦<PrivateKeyFields as Spelled>⟧.spells v.fields };
+
+    ghost written = { λ v. ⟦<PrivateKeyFields as Spelled>⟧.written v.fields };
+
+    ghost begun = { only 48 };
+
+    ghost has_low_tags = { true };
+
+    ghost laws = { held_laws true (only 48) ⟦<PrivateKeyFields as Spelled>⟧.written ⟦<PrivateKeyFields as Spelled>⟧.spells ⟦<PrivateKeyFields as Spelled>⟧.laws
+        (λ v. v.fields) same_info };
+
+    fn may_begin_with(first: u8) -> bool {
+        first == 48
+    }
+
+    fn read_counted(alloc: Global, bytes: &[u8]) -> Result<Counted<Self>, X509Fault> {
+        let read: Counted<PrivateKeyFields> = read_agreeing(alloc, bytes)?;
+        let count = read.count;
+        let value = PrivateKeyInfo {
+            fields: read.into_value(),
+        };
+        Ok(Counted { value, count })
+    }
+
+    ghost written_is = { refl };
+}

@@ -1,0 +1,193 @@
+//! Public keys with their algorithms (RFC 5280, section 4.1.2.7).
+ghost use Rattle.std.specs.Prelude.{◌≡◌, ℕ, List, true, false, IsTrue, IfOk, MatchResult};
+ghost use Rattle.x509_keys.specs.PublicKeys.{is_key_of, kinds_of};
+ghost use Rattle.x509_parameters.specs.declared.ec_parameters.EcParameters.TheVariants.{NamedCurve};
+
+use crate::ahead::Ahead;
+use crate::chosen::{Identified, read_chosen_in};
+use crate::public_key::{EncapsulatedEcPoint, PublicKey, PublicKinds, is_of, of_kinds};
+use crate::rsa_public_key::RsaPublicKey;
+use devices::Sink;
+use picky_asn1::oid::ObjectIdentifier;
+use picky_asn1::wrapper::{BitStringAsn1Container, IntegerAsn1};
+use picky_asn1_der::{Asn1DerError, Serialize, Serializer};
+use std::alloc::{AllocError, Global};
+use x509_algorithms::AlgorithmIdentifier;
+use x509_kinds::Kinds;
+use x509_parameters::EcParameters;
+use x509_spelling::{Counted, Spelled, SpelledItem, X509Fault};
+
+/// A public key, and the algorithm that it is for.
+///
+/// ```text
+/// SubjectPublicKeyInfo  ::=  SEQUENCE  {
+///      algorithm            AlgorithmIdentifier,
+///      subjectPublicKey     BIT STRING  }
+/// ```
+#[derive(Drop)]
+pub struct SubjectPublicKeyInfo {
+    algorithm: AlgorithmIdentifier,
+    subject_public_key: PublicKey,
+    pub ghost of_its_algorithm: { IsTrue (is_key_of algorithm.algorithm.0 subject_public_key) },
+}
+
+impl SubjectPublicKeyInfo {
+    ghost use Rattle.x509_oids.specs.Identifiers as oids;
+    ghost use Rattle.x509_algorithms.specs.AlgorithmsMade.{IsMade};
+    ghost use Rattle.x509_algorithms.specs.declared.algorithm_kinds.AlgorithmIdentifierParameters.TheVariants as params;
+    ghost use Rattle.x509_keys.specs.declared.public_key.PublicKey.TheVariants as kind;
+
+    /// The algorithm.
+    pub fn algorithm(&self) -> &AlgorithmIdentifier
+        ensures { result.now ≡ self.now.algorithm }
+    {
+        &self.algorithm
+    }
+
+    /// The key.
+    pub fn subject_public_key(&self) -> &PublicKey
+        ensures { result.now ≡ self.now.subject_public_key }
+    {
+        &self.subject_public_key
+    }
+
+    /// The key for an algorithm, or `Meaning` where the algorithm's identifier doesn't decide this kind of key.
+    pub fn new(
+        algorithm: AlgorithmIdentifier,
+        key: PublicKey,
+    ) -> Result<SubjectPublicKeyInfo, X509Fault>
+        ensures { MatchResult result
+            (λ made. (made.algorithm ≡ algorithm) × (made.subject_public_key ≡ key))
+            (λ fault. (fault ≡ X509Fault.Meaning) × (is_key_of algorithm.algorithm.0 key ≡ false)) }
+    {
+        if !is_of(algorithm.oid(), &key) {
+            return Err(X509Fault::Meaning);
+        }
+        Ok(SubjectPublicKeyInfo {
+            algorithm,
+            subject_public_key: key,
+        })
+    }
+
+    /// A key of RSA.
+    pub fn new_rsa_key(
+        alloc: Global,
+        modulus: IntegerAsn1,
+        public_exponent: IntegerAsn1,
+    ) -> Result<SubjectPublicKeyInfo, AllocError>
+        ensures { IfOk result (λ made. IsMade oids.rsa_encryption params.Null made.algorithm
+            × (made.subject_public_key ≡ kind.Rsa (record { 0 = record { modulus = modulus; public_exponent = public_exponent } }))) }
+    {
+        let algorithm = AlgorithmIdentifier::new_rsa_encryption(alloc)?;
+        let key = RsaPublicKey {
+            modulus,
+            public_exponent,
+        };
+        Ok(SubjectPublicKeyInfo {
+            algorithm,
+            subject_public_key: PublicKey::Rsa(BitStringAsn1Container(key)),
+        })
+    }
+
+    /// A point of the curve that has the identifier.
+    pub fn new_ec_key(
+        alloc: Global,
+        curve: ObjectIdentifier,
+        point: EncapsulatedEcPoint,
+    ) -> Result<SubjectPublicKeyInfo, AllocError>
+        ensures { IfOk result (λ made. IsMade oids.ec_public_key (params.Ec (NamedCurve (record { 0 = curve }))) made.algorithm
+            × (made.subject_public_key ≡ kind.Ec point)) }
+    {
+        let algorithm = AlgorithmIdentifier::new_elliptic_curve(alloc, EcParameters::from(curve))?;
+        Ok(SubjectPublicKeyInfo {
+            algorithm,
+            subject_public_key: PublicKey::Ec(point),
+        })
+    }
+
+    /// A key of Ed25519, Ed448, X25519 or X448, or `Meaning` where the algorithm is none of these.
+    pub fn new_ed_key(
+        algorithm: AlgorithmIdentifier,
+        key: EncapsulatedEcPoint,
+    ) -> Result<SubjectPublicKeyInfo, X509Fault>
+        ensures { MatchResult result
+            (λ made. (made.algorithm ≡ algorithm) × (made.subject_public_key ≡ kind.Ed key))
+            (λ fault. (fault ≡ X509Fault.Meaning) × (is_key_of algorithm.algorithm.0 (kind.Ed key) ≡ false)) }
+    {
+        SubjectPublicKeyInfo::new(algorithm, PublicKey::Ed(key))
+    }
+}
+
+impl Serialize for SubjectPublicKeyInfo {
+    ghost use Rattle.std.proofs.Common.{refl, true};
+    ghost use Rattle.asn1_trees.specs.Tagged.{sequence};
+    ghost use Rattle.asn1_trees.specs.Firsts.{only};
+    ghost use Rattle.asn1_trees.proofs.Spelling.{may_begin-only};
+    ghost use Rattle.x509_kinds.specs.HeldLaws.{laws_injective};
+    ghost use Rattle.x509_spelling.specs.Spellings.{Holds, Joins};
+    ghost use Rattle.x509_keys.specs.ChosenLaws.{chosen_info_laws};
+    ghost use Rattle.x509_keys.specs.KeyInfoLaws.{public_row, same_public};
+
+    ghost tree = { λ v. sequence (λ f. ⟦<AlgorithmIdentifier as SpelledItem>⟧.place f.0 (⟦<PublicKinds as Kinds>⟧.row_trees f.1)) 48 (public_row v) };
+
+    ghost firsts = { only 48 };
+
+    ghost begins = { λ _. may_begin-only 48 };
+
+    ghost injective = { laws_injective true (only 48) (λ v. sequence (λ f. ⟦<AlgorithmIdentifier as SpelledItem>⟧.place f.0 (⟦<PublicKinds as Kinds>⟧.row_trees f.1)) 48 (public_row v))
+        (λ v. Holds 48 (λ f. Joins ⟦<AlgorithmIdentifier as SpelledItem>⟧.leads ⟦<PublicKinds as Kinds>⟧.spells f.0 f.1) (public_row v))
+        (chosen_info_laws ⟦<AlgorithmIdentifier as SpelledItem>⟧.before ⟦<AlgorithmIdentifier as SpelledItem>⟧.is_told ⟦<AlgorithmIdentifier as SpelledItem>⟧.place
+        ⟦<AlgorithmIdentifier as SpelledItem>⟧.leads ⟦<AlgorithmIdentifier as SpelledItem>⟧.field_laws
+        ⟦<PublicKinds as Kinds>⟧.belongs ⟦<PublicKinds as Kinds>⟧.row_firsts ⟦<PublicKinds as Kinds>⟧.row_trees ⟦<PublicKinds as Kinds>⟧.spells
+        (⟦<PublicKinds as Kinds>⟧.kind_laws (refl {a = true})) (refl {a = true}) ⟦<AlgorithmIdentifier as Identified>⟧.arcs_of public_row same_public (λ v. v.of_its_algorithm)) };
+
+    fn serialize<W: Sink>(&self, to: &mut Serializer<W>) -> Result<usize, Asn1DerError> {
+        let algorithm = &self.algorithm;
+        match &self.subject_public_key {
+            PublicKey::Rsa(key) => to.list(48, &Ahead(algorithm, (key, ()))),
+            PublicKey::Ec(key) => to.list(48, &Ahead(algorithm, (key, ()))),
+            PublicKey::Ed(key) => to.list(48, &Ahead(algorithm, (key, ()))),
+            PublicKey::Mldsa(key) => to.list(48, &Ahead(algorithm, (key, ()))),
+        }
+    }
+}
+
+impl Spelled for SubjectPublicKeyInfo {
+    ghost use Rattle.std.proofs.Common.{refl, true};
+    ghost use Rattle.asn1_trees.specs.Tagged.{sequence};
+    ghost use Rattle.asn1_trees.specs.Firsts.{only};
+    ghost use Rattle.x509_spelling.specs.Spellings.{Holds, Joins};
+    ghost use Rattle.x509_keys.specs.ChosenLaws.{chosen_info_laws};
+    ghost use Rattle.x509_keys.specs.KeyInfoLaws.{public_row, same_public};
+
+    ghost spells = { λ v. Holds 48 (λ f. Joins ⟦<AlgorithmIdentifier as SpelledItem>⟧.leads ⟦<PublicKinds as Kinds>⟧.spells f.0 f.1) (public_row v) };
+
+    ghost written = { λ v. sequence (λ f. ⟦<AlgorithmIdentifier as SpelledItem>⟧.place f.0 (⟦<PublicKinds as Kinds>⟧.row_trees f.1)) 48 (public_row v) };
+
+    ghost begun = { only 48 };
+
+    ghost has_low_tags = { true };
+
+    ghost laws = { chosen_info_laws ⟦<AlgorithmIdentifier as SpelledItem>⟧.before ⟦<AlgorithmIdentifier as SpelledItem>⟧.is_told ⟦<AlgorithmIdentifier as SpelledItem>⟧.place
+        ⟦<AlgorithmIdentifier as SpelledItem>⟧.leads ⟦<AlgorithmIdentifier as SpelledItem>⟧.field_laws
+        ⟦<PublicKinds as Kinds>⟧.belongs ⟦<PublicKinds as Kinds>⟧.row_firsts ⟦<PublicKinds as Kinds>⟧.row_trees ⟦<PublicKinds as Kinds>⟧.spells
+        (⟦<PublicKinds as Kinds>⟧.kind_laws (refl {a = true})) (refl {a = true}) ⟦<AlgorithmIdentifier as Identified>⟧.arcs_of public_row same_public (λ v. v.of_its_algorithm) };
+
+    fn may_begin_with(first: u8) -> bool {
+        first == 48
+    }
+
+    fn read_counted(alloc: Global, bytes: &[u8]) -> Result<Counted<Self>, X509Fault> {
+        let read: Counted<(AlgorithmIdentifier, PublicKinds)> = read_chosen_in(alloc, 48, bytes)?;
+        let count = read.count;
+        let (algorithm, kinds) = read.into_value();
+        let subject_public_key = of_kinds(kinds);
+        let value = SubjectPublicKeyInfo {
+            algorithm,
+            subject_public_key,
+        };
+        Ok(Counted { value, count })
+    }
+
+    ghost written_is = { refl };
+}
