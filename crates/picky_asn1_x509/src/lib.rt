@@ -19,8 +19,9 @@ pub use x509_keys::{
     PrivateKeyInfo, PrivateKeyValue, PublicKey, RsaPrivateKey, RsaPublicKey, SubjectPublicKeyInfo,
 };
 pub use x509_names::{
-    AttributeTypeAndValue, AttributeValue, DirectoryName, EdiPartyName, GeneralName, GeneralNames,
-    Name, NameAttr, OtherName, RdnSequence, RelativeDistinguishedName,
+    AttributeTypeAndValue, AttributeTypeAndValueParameters, AttributeValue, DirectoryName,
+    EdiPartyName, GeneralName, GeneralNames, Name, NameAttr, NamePrettyFormatter, OtherName,
+    RdnSequence, RelativeDistinguishedName,
 };
 pub use x509_oids as oids;
 pub use x509_parameters::{

@@ -1,12 +1,11 @@
 -- The values of extensions (RFC 5280, section 4.2.1): an identifier behind id-ce decides which.
 use Rattle.std.specs.Prelude.{◌≡◌, ℕ, ℤ, Bool, true, false, ◌&&◌, ◌||◌, ◌==◌, nat_le, List, [], ◌∷◌, ⊤, refl, IsTrue}
 use Rattle.asn1_leaves.specs.ObjectIdentifier.{oid_content, subidentifier}
-use Rattle.picky_asn1.specs.BitString.{Bits}
+use Rattle.picky_asn1.specs.declared.wrapper.ObjectIdentifierAsn1.{ObjectIdentifierAsn1}
 use Rattle.x509_oids.specs.Identifiers as oids
 use Rattle.x509_names.specs.declared.general_name.GeneralName.{GeneralName}
 use Rattle.x509_parts.specs.declared.basic_constraints.BasicConstraints.{BasicConstraints}
 use Rattle.x509_usages.specs.declared.key_usage.KeyUsage.{KeyUsage}
-use Rattle.x509_usages.specs.declared.extended_key_usage.ExtendedKeyUsage.{ExtendedKeyUsage}
 use Rattle.x509_kinds.specs.declared.enclosed.Enclosed.{Enclosed}
 use Rattle.x509_kinds.specs.declared.kinds.KindOf.{KindOf}
 use Rattle.x509_kinds.specs.declared.kinds.KindOf.TheVariants.{This, Other}
@@ -39,7 +38,7 @@ Held T = Enclosed T × ⊤
 abbrev pub ExtensionKinds : Type 0
 ExtensionKinds =
     KindOf (Held AuthorityKeyIdentifier) (KindOf (Held (List ℕ)) (KindOf (Held KeyUsage) (KindOf (Held (List GeneralName)) (KindOf (Held (List GeneralName))
-    (KindOf (Held BasicConstraints) (KindOf (Held ExtendedKeyUsage) (KindOf (Held ℤ) (LastKind (List ℕ × ⊤)))))))))
+    (KindOf (Held BasicConstraints) (KindOf (Held (List ObjectIdentifierAsn1)) (KindOf (Held ℤ) (LastKind (List ℕ × ⊤)))))))))
 
 abbrev held : {T : Type 0} → OctetStringContainer T → Held T
 held container = (record { 0 = container.0 }, tt)
@@ -117,7 +116,7 @@ pub belongs_constraints : (value : OctetStringContainer BasicConstraints) → Is
 unfolding oid_content subidentifier
 belongs_constraints value = refl
 
-pub belongs_purposes : (value : OctetStringContainer ExtendedKeyUsage) → IsTrue (is_value_of oids.extended_key_usage (kind.ExtendedKeyUsage value))
+pub belongs_purposes : (value : OctetStringContainer (List ObjectIdentifierAsn1)) → IsTrue (is_value_of oids.extended_key_usage (kind.ExtendedKeyUsage value))
 unfolding oid_content subidentifier
 belongs_purposes value = refl
 

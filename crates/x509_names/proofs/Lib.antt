@@ -1,1 +1,2 @@
 pub mod AgreedLemmas
+mod NameLemmas

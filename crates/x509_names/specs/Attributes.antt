@@ -1,5 +1,5 @@
 -- Attributes of names (RFC 5280, section 4.1.2.4; X.520, section 6): an identifier, and a value whose type it decides.
-use Rattle.std.specs.Prelude.{◌≡◌, ℕ, Bool, false, not, ◌&&◌, ◌||◌, ◌==◌, nat_le, List, [], ◌∷◌, refl}
+use Rattle.std.specs.Prelude.{◌≡◌, ℕ, Bool, false, true, IsTrue, not, ◌&&◌, ◌||◌, ◌==◌, nat_le, List, [], ◌∷◌, refl}
 use Rattle.std.specs.Bool.{nat_eq}
 use Rattle.std.specs.Cmp.Lexicographic.{pointwise}
 use Rattle.std.specs.Str.{is_utf8}
@@ -61,3 +61,16 @@ abbrev pub is_value_of : List ℕ → AttributeValue → Bool
 is_value_of arcs (Directory string) = is_string_content (oid_content arcs) && is_directory_text string
 is_value_of arcs (Email octets) = is_email_content (oid_content arcs) && is_general_string octets
 is_value_of arcs (Custom raw) = not (is_string_content (oid_content arcs) || is_email_content (oid_content arcs)) && has_low_number raw.first
+
+both_true : (a b : Bool) → a ≡ true → b ≡ true → IsTrue (a && b)
+both_true true true left right = refl
+both_true false b left right = absurd (cc (left))
+both_true true false left right = absurd (cc (right))
+
+-- an address is a value of emailAddress
+email_told : is_email_content (oid_content oids.email_address) ≡ true
+unfolding oid_content subidentifier
+email_told = refl
+
+pub address_value_of : (address : List ℕ) → IsTrue (is_general_string address) → IsTrue (is_value_of oids.email_address (Email address))
+address_value_of address text = both_true (is_email_content (oid_content oids.email_address)) (is_general_string address) email_told text

@@ -8,13 +8,13 @@ use Rattle.x509_names.specs.declared.general_name.GeneralName.TheVariants as kin
 use Rattle.picky_asn1_der.specs.declared.wrapper.ExplicitContextTag.{ExplicitContextTag}
 use Rattle.picky_asn1_der.specs.declared.implicit_tag.ImplicitContextTag.{ImplicitContextTag}
 use Rattle.picky_asn1.specs.declared.wrapper.ObjectIdentifierAsn1.{ObjectIdentifierAsn1}
-use Rattle.x509_names.specs.declared.name.Name.{Name}
+use Rattle.x509_names.specs.declared.attribute_type_and_value.AttributeTypeAndValue.{AttributeTypeAndValue}
 use Rattle.x509_names.specs.declared.other_name.OtherName.{OtherName}
 use Rattle.x509_names.specs.declared.edi_party_name.EdiPartyName.{EdiPartyName}
 
 abbrev pub GeneralChoice : Type 0
 GeneralChoice =
-    Choice (ImplicitContextTag 0 OtherName) (Choice (ImplicitContextTag 1 (List ℕ)) (Choice (ImplicitContextTag 2 (List ℕ)) (Choice (ExplicitContextTag 4 Name)
+    Choice (ImplicitContextTag 0 OtherName) (Choice (ImplicitContextTag 1 (List ℕ)) (Choice (ImplicitContextTag 2 (List ℕ)) (Choice (ExplicitContextTag 4 (List (List AttributeTypeAndValue)))
     (Choice (ImplicitContextTag 5 EdiPartyName) (Choice (ImplicitContextTag 6 (List ℕ)) (Choice (ImplicitContextTag 7 (List ℕ)) (Last (ImplicitContextTag 8 ObjectIdentifierAsn1))))))))
 
 abbrev pub general_choice : GeneralName → GeneralChoice

@@ -1,12 +1,14 @@
 //! Attributes of names.
+ghost use Rattle.x509_names.specs.NameAttrs.{attribute_content, is_common_content, string_number};
 ghost use Rattle.x509_names.specs.Attributes.{value_raw, is_value_of, directory_raw, is_directory_text, is_string_content, is_email_content};
 ghost use Rattle.x509_names.specs.declared.attribute_type_and_value.AttributeValue.{AttributeValue};
 ghost use Rattle.x509_parts.specs.declared.directory_string.DirectoryString.{DirectoryString};
 ghost use Rattle.asn1_leaves.specs.CharSets.{is_general_string};
 ghost use Rattle.asn1_leaves.specs.ObjectIdentifier.{oid_content};
-ghost use Rattle.std.specs.Prelude.{◌≡◌, ◌==◌, ℕ, List, true, IsTrue, IfOk, MatchOption, MatchResult};
+ghost use Rattle.std.specs.Prelude.{◌≡◌, ◌==◌, ℕ, List, None, Some, true, IsTrue, IfOk, MatchOption, MatchResult};
 
 use crate::agreed::{Agreed, read_agreed};
+use crate::attribute_parameters::AttributeTypeAndValueParameters;
 use crate::name_attr::NameAttr;
 use devices::{Sink, Source};
 use picky_asn1::oid::ObjectIdentifier;
@@ -50,13 +52,44 @@ pub struct AttributeTypeAndValue {
 type AttributeRow = Row2<ObjectIdentifierAsn1, RawElement>;
 
 impl AttributeTypeAndValue {
-    ghost use Rattle.x509_names.specs.AttributeMade.{IsOfAttribute};
+    ghost use Rattle.x509_names.specs.AttributeMade.{IsOfAttribute, IsOfAddress};
+    ghost use Rattle.x509_names.specs.Parameters.{IsViewOf, common_name_of};
 
     /// The attribute's identifier.
     pub fn ty(&self) -> &ObjectIdentifierAsn1
         ensures { result.now ≡ self.now.ty }
     {
         &self.ty
+    }
+
+    /// The value, as the identifier names it.
+    pub fn value(&self) -> AttributeTypeAndValueParameters<'_>
+        ensures { IsViewOf result self.now }
+    {
+        match &self.value {
+            AttributeValue::Directory(string) => name_of(&self.ty.0).with_string(string),
+            AttributeValue::Email(address) => AttributeTypeAndValueParameters::EmailAddress(
+                address,
+            ),
+            AttributeValue::Custom(raw) => AttributeTypeAndValueParameters::Custom(raw),
+        }
+    }
+
+    /// The value, by its type.
+    pub fn typed_value(&self) -> &AttributeValue
+        ensures { result.now ≡ self.now.value }
+    {
+        &self.value
+    }
+
+    /// The common name that this is, where it is one.
+    pub fn common_name(&self) -> Option<&DirectoryString>
+        ensures { MatchOption result (common_name_of self.now ≡ None) (λ name. common_name_of self.now ≡ Some name.now) }
+    {
+        match &self.value {
+            AttributeValue::Directory(string) if is_common_name(&self.ty.0) => Some(string),
+            _ => None,
+        }
     }
 
     /// An attribute that has a string of a name.
@@ -156,6 +189,18 @@ impl AttributeTypeAndValue {
         ensures { IfOk result (λ made. IsOfAttribute NameAttr.Phone value made) }
     {
         AttributeTypeAndValue::of_string(alloc, NameAttr::Phone, value)
+    }
+
+    /// An address of electronic mail.
+    pub fn new_email_address(alloc: Global, address: IA5StringAsn1) -> Result<Self, AllocError>
+        ensures { IfOk result (λ made. IsOfAddress address made) }
+    {
+        let oid = x509_oids::email_address(alloc)?;
+        let _octets = address.as_bytes();
+        Ok(AttributeTypeAndValue {
+            ty: ObjectIdentifierAsn1(oid),
+            value: AttributeValue::Email(address),
+        })
     }
 }
 
@@ -266,6 +311,44 @@ fn is_string_attribute(oid: &ObjectIdentifier) -> bool
         return false;
     };
     *first == 0x55 && *second == 4 && matches!(*number, 3..=11 | 20 | 42)
+}
+
+// The attribute that has this identifier.
+#[tactic(auto, using(crate::specs::NameAttrs::number_told))]
+fn name_of(oid: &ObjectIdentifier) -> NameAttr
+    requires { IsTrue (is_string_content (oid_content oid.now)) }
+    ensures { oid_content oid.now ≡ attribute_content result }
+{
+    match string_number(oid) {
+        3 => NameAttr::CommonName,
+        4 => NameAttr::Surname,
+        5 => NameAttr::SerialNumber,
+        6 => NameAttr::CountryName,
+        7 => NameAttr::LocalityName,
+        8 => NameAttr::StateOrProvinceName,
+        9 => NameAttr::StreetName,
+        10 => NameAttr::OrganizationName,
+        11 => NameAttr::OrganizationalUnitName,
+        42 => NameAttr::GivenName,
+        _ => NameAttr::Phone,
+    }
+}
+
+// The arc behind id-at, 0 where there is none.
+fn string_number(oid: &ObjectIdentifier) -> u8
+    ensures { result ≡ string_number (oid_content oid.now) }
+{
+    match oid.as_bytes() {
+        [_, _, number] => *number,
+        _ => 0,
+    }
+}
+
+// Whether this is commonName.
+fn is_common_name(oid: &ObjectIdentifier) -> bool
+    ensures { result ≡ is_common_content (oid_content oid.now) }
+{
+    oid.as_bytes() == [0x55, 4, 3].as_slice()
 }
 
 // Whether this is emailAddress.

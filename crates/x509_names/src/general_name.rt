@@ -10,12 +10,13 @@ use picky_asn1::wrapper::{
     Asn1SequenceOf, ExplicitContextTag, ExplicitContextTag4, IA5StringAsn1, ImplicitContextTag,
     ImplicitContextTag0, ImplicitContextTag1, ImplicitContextTag2, ImplicitContextTag5,
     ImplicitContextTag6, ImplicitContextTag7, ImplicitContextTag8, ObjectIdentifierAsn1,
-    OctetStringAsn1,
+    OctetStringAsn1, Optional,
 };
 use picky_asn1_der::{
     Alternatives, Asn1DerError, Choice, Deserialize, Deserializer, Last, Serialize, Serializer,
     Tagged,
 };
+use x509_parts::DirectoryString;
 use x509_spelling::Exact;
 
 /// A name of any of eight kinds.
@@ -87,6 +88,28 @@ impl From<Name> for GeneralName {
 
     fn from(name: Name) -> GeneralName {
         GeneralName::DirectoryName(name)
+    }
+}
+
+impl GeneralName {
+    ghost use Rattle.x509_names.specs.EdiNames.{edi_name};
+    ghost use Rattle.x509_names.specs.declared.general_name.GeneralName.TheVariants as kind;
+
+    /// A partner of electronic data interchange, and who assigned its name.
+    pub fn new_edi_party_name(
+        party_name: DirectoryString,
+        name_assigner: Option<DirectoryString>,
+    ) -> GeneralName
+        ensures { result ≡ kind.EdiPartyName (edi_name party_name name_assigner) }
+    {
+        let name_assigner = match name_assigner {
+            Some(name) => Some(ExplicitContextTag(name)),
+            None => None,
+        };
+        GeneralName::EdiPartyName(EdiPartyName {
+            name_assigner: Optional(name_assigner),
+            party_name: ExplicitContextTag(party_name),
+        })
     }
 }
 

@@ -2,17 +2,21 @@
 #![tactic(auto)]
 
 mod agreed;
+mod attribute_parameters;
 mod attribute_type_and_value;
 mod edi_party_name;
 mod general_name;
 mod name;
 mod name_attr;
+mod name_text;
 mod other_name;
 
 pub use agreed::{Agreed, read_agreed};
+pub use attribute_parameters::AttributeTypeAndValueParameters;
 pub use attribute_type_and_value::{AttributeTypeAndValue, AttributeValue};
 pub use edi_party_name::EdiPartyName;
 pub use general_name::{GeneralName, GeneralNames};
 pub use name::{DirectoryName, Name, RdnSequence, RelativeDistinguishedName};
 pub use name_attr::NameAttr;
+pub use name_text::NamePrettyFormatter;
 pub use other_name::OtherName;

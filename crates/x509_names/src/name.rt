@@ -1,11 +1,16 @@
 //! Names (RFC 5280, section 4.1.2.4).
-ghost use Rattle.std.specs.Prelude.{◌≡◌, IfOk, MatchResult};
+ghost use Rattle.std.specs.Prelude.{◌≡◌, ◌++◌, None, Some, IfOk, MatchOption, MatchResult};
+ghost use Rattle.x509_names.specs.Parameters.{common_name_among, first_common_name};
 
 use crate::attribute_type_and_value::AttributeTypeAndValue;
+use crate::name_attr::NameAttr;
 use devices::{Sink, Source};
-use picky_asn1::wrapper::{Asn1SequenceOf, Asn1SetOf};
-use picky_asn1_der::{Asn1DerError, Deserializer, Elements, Serializer, Tagged};
+use picky_asn1::wrapper::{Asn1SequenceOf, Asn1SetOf, IA5StringAsn1};
+use picky_asn1_der::{
+    Asn1DerError, Deserializer, Elements, Serialize, Serializer, Tagged, read_sequence,
+};
 use std::alloc::{AllocError, Global};
+use std::marker::Model;
 use x509_parts::DirectoryString;
 use x509_spelling::Exact;
 
@@ -23,13 +28,24 @@ pub type RelativeDistinguishedName = Asn1SetOf<AttributeTypeAndValue>;
 /// ```
 pub type RdnSequence = Asn1SequenceOf<RelativeDistinguishedName>;
 
-/// A name of a directory. An empty one is read too.
+/// A name of a directory. An empty one is read too. A contract sees the list of its sets of attributes.
 ///
 /// ```text
 /// Name ::= CHOICE { rdnSequence  RDNSequence }
 /// ```
 #[derive(Drop)]
-pub struct Name(pub RdnSequence);
+pub struct Name {
+    sets: Vec<RelativeDistinguishedName>,
+}
+
+impl Model for Name {
+    ghost use Rattle.std.specs.Prelude.{List};
+    ghost use Rattle.x509_names.specs.declared.attribute_type_and_value.AttributeTypeAndValue.{AttributeTypeAndValue};
+
+    ghost Value = { List (List AttributeTypeAndValue) };
+
+    ghost view = { λ name. name.sets.items };
+}
 
 /// A name of a directory, as a certificate's issuer and subject are.
 pub type DirectoryName = Name;
@@ -38,51 +54,143 @@ impl Name {
     ghost use Rattle.std.specs.Prelude.{[], ◌∷◌};
     ghost use Rattle.x509_names.specs.declared.name_attr.NameAttr.TheVariants.{CommonName};
     ghost use Rattle.x509_names.specs.declared.attribute_type_and_value.AttributeTypeAndValue.{AttributeTypeAndValue};
-    ghost use Rattle.x509_names.specs.AttributeMade.{IsOfAttribute};
+    ghost use Rattle.x509_names.specs.AttributeMade.{IsOfAttribute, IsOfAddress};
 
     /// The empty name.
     pub fn new(alloc: Global) -> Name
-        ensures { result.0 ≡ [] }
+        ensures { result ≡ [] }
     {
-        Name(RdnSequence::from(Vec::new(alloc)))
+        Name {
+            sets: Vec::new(alloc),
+        }
     }
 
     /// The name of one attribute, a common name.
     pub fn new_common_name(alloc: Global, name: DirectoryString) -> Result<Name, AllocError>
-        ensures { IfOk result (λ made. (only : AttributeTypeAndValue) × IsOfAttribute CommonName name only × (made.0 ≡ (only ∷ []) ∷ [])) }
+        ensures { IfOk result (λ made. (only : AttributeTypeAndValue) × IsOfAttribute CommonName name only × (made ≡ (only ∷ []) ∷ [])) }
     {
         let attribute = AttributeTypeAndValue::new_common_name(alloc, name)?;
         let attributes = vec![in alloc; attribute]?;
         let sets = vec![in alloc; RelativeDistinguishedName::from(attributes)]?;
-        Ok(Name(RdnSequence::from(sets)))
+        Ok(Name { sets })
+    }
+
+    /// The sets of attributes, in order.
+    pub fn as_slice(&self) -> &[RelativeDistinguishedName]
+        ensures { result.now ≡ self.now }
+    {
+        self.sets.as_slice()
+    }
+
+    /// The first common name among the attributes.
+    pub fn find_common_name(&self) -> Option<&DirectoryString>
+        ensures { MatchOption result (first_common_name self.now ≡ None) (λ name. first_common_name self.now ≡ Some name.now) }
+    {
+        let mut rest = self.as_slice();
+        'sets: while let [set, more @ ..] = rest {
+            let found = common_name_in(set.as_slice());
+            if found.is_some() {
+                return found;
+            }
+            rest = more;
+        }
+        None
+    }
+
+    /// Adds an attribute that has a string, alone in its set.
+    pub fn add_attr(
+        &mut self,
+        alloc: Global,
+        attr: NameAttr,
+        value: DirectoryString,
+    ) -> Result<(), AllocError>
+        ensures { MatchResult result
+            (λ _. (last : AttributeTypeAndValue) × IsOfAttribute attr value last × (self.new ≡ self.old ++ (last ∷ []) ∷ []))
+            (λ _. self.new ≡ self.old) }
+    {
+        let attribute = AttributeTypeAndValue::of_string(alloc, attr, value)?;
+        self.add_alone(alloc, attribute)
+    }
+
+    /// Adds an address of electronic mail, alone in its set.
+    pub fn add_email(&mut self, alloc: Global, address: IA5StringAsn1) -> Result<(), AllocError>
+        ensures { MatchResult result
+            (λ _. (last : AttributeTypeAndValue) × IsOfAddress address last × (self.new ≡ self.old ++ (last ∷ []) ∷ []))
+            (λ _. self.new ≡ self.old) }
+    {
+        let attribute = AttributeTypeAndValue::new_email_address(alloc, address)?;
+        self.add_alone(alloc, attribute)
+    }
+
+    // Adds a set of this attribute alone.
+    fn add_alone(
+        &mut self,
+        alloc: Global,
+        attribute: AttributeTypeAndValue,
+    ) -> Result<(), AllocError>
+        ensures { MatchResult result (λ _. self.new ≡ self.old ++ (attribute ∷ []) ∷ []) (λ _. self.new ≡ self.old) }
+    {
+        let attributes = vec![in alloc; attribute]?;
+        self.sets.push(RelativeDistinguishedName::from(attributes))?;
+        Ok(())
     }
 }
 
+impl From<Vec<RelativeDistinguishedName>> for Name {
+    ghost from_gives = { λ sets made. made ≡ sets.items };
+
+    fn from(sets: Vec<RelativeDistinguishedName>) -> Name {
+        Name { sets }
+    }
+}
+
+// The first common name among some attributes.
+fn common_name_in(attributes: &[AttributeTypeAndValue]) -> Option<&DirectoryString>
+    ensures { MatchOption result (common_name_among attributes.now ≡ None) (λ name. common_name_among attributes.now ≡ Some name.now) }
+{
+    let mut rest = attributes;
+    'attributes: while let [attribute, more @ ..] = rest {
+        let found = attribute.common_name();
+        if found.is_some() {
+            return found;
+        }
+        rest = more;
+    }
+    None
+}
+
 impl Tagged for Name {
+    ghost use Rattle.asn1_trees.specs.Tree.{trees_of};
+    ghost use Rattle.asn1_trees.proofs.Rows.{many-injective};
+    ghost use Rattle.asn1_trees.specs.Tagged.{sequence};
+    ghost use Rattle.asn1_trees.proofs.Tagged.{sequence_laws};
+
     type Row = Elements<RelativeDistinguishedName>;
 
     const FIRST: u8 = 48;
 
     ghost FIRST = { 48 };
 
-    ghost row_tree = { ⟦<RdnSequence as Tagged>⟧.row_tree };
+    ghost row_tree = { sequence (trees_of ⟦<RelativeDistinguishedName as Serialize>⟧.tree) };
 
-    ghost row_laws = { ⟦<RdnSequence as Tagged>⟧.row_laws };
+    ghost row_laws = { sequence_laws (trees_of ⟦<RelativeDistinguishedName as Serialize>⟧.tree)
+        (many-injective _ ⟦<RelativeDistinguishedName as Serialize>⟧.tree ⟦<RelativeDistinguishedName as Serialize>⟧.injective) };
 
-    ghost row_of = { λ v. v.0 };
+    ghost row_of = { λ v. v };
 
-    ghost one_row = { λ v w e. λ i. record { 0 = e i } };
+    ghost one_row = { λ v w e. e };
 
     fn read_row<R: Source>(tag: u8, from: &mut Deserializer<R>) -> Result<Self::Row, Asn1DerError> {
-        RdnSequence::read_row(tag, from)
+        read_sequence(tag, from)
     }
 
     fn of_row(row: Self::Row) -> Self {
-        Name(RdnSequence::of_row(row))
+        Name::from(row.into_vec())
     }
 
     fn write_row<W: Sink>(&self, tag: u8, to: &mut Serializer<W>) -> Result<usize, Asn1DerError> {
-        self.0.write_row(tag, to)
+        let sets = self.as_slice();
+        to.list(tag, &sets)
     }
 }
 

@@ -1,9 +1,12 @@
 //! Attributes that have a string of a name.
 ghost use Rattle.std.specs.Prelude.{◌≡◌, IfOk};
 ghost use Rattle.x509_names.specs.NameAttrs.{attribute_arcs};
+ghost use Rattle.x509_names.specs.Parameters.{IsStringView};
 
+use crate::attribute_parameters::AttributeTypeAndValueParameters;
 use picky_asn1::oid::ObjectIdentifier;
 use std::alloc::{AllocError, Global};
+use x509_parts::DirectoryString;
 
 /// An attribute of a name, of which the value is a string.
 #[derive(Clone, Copy, Debug, PartialEq, Eq)]
@@ -49,6 +52,28 @@ impl NameAttr {
             NameAttr::OrganizationalUnitName => x509_oids::at_organisational_unit_name(alloc),
             NameAttr::GivenName => x509_oids::at_givenname(alloc),
             NameAttr::Phone => x509_oids::at_phone(alloc),
+        }
+    }
+
+    /// A string as the value of this attribute.
+    pub fn with_string(self, string: &DirectoryString) -> AttributeTypeAndValueParameters<'_>
+        ensures { IsStringView result self string.now }
+    {
+        match self {
+            NameAttr::CommonName => AttributeTypeAndValueParameters::CommonName(string),
+            NameAttr::Surname => AttributeTypeAndValueParameters::Surname(string),
+            NameAttr::SerialNumber => AttributeTypeAndValueParameters::SerialNumber(string),
+            NameAttr::CountryName => AttributeTypeAndValueParameters::CountryName(string),
+            NameAttr::LocalityName => AttributeTypeAndValueParameters::LocalityName(string),
+            NameAttr::StateOrProvinceName => AttributeTypeAndValueParameters::StateOrProvinceName(
+                string,
+            ),
+            NameAttr::StreetName => AttributeTypeAndValueParameters::StreetName(string),
+            NameAttr::OrganizationName => AttributeTypeAndValueParameters::OrganizationName(string),
+            NameAttr::OrganizationalUnitName =>
+                AttributeTypeAndValueParameters::OrganizationalUnitName(string),
+            NameAttr::GivenName => AttributeTypeAndValueParameters::GivenName(string),
+            NameAttr::Phone => AttributeTypeAndValueParameters::Phone(string),
         }
     }
 }

@@ -1,5 +1,8 @@
 -- A string of a name as one of three alternatives.
-use Rattle.std.specs.Prelude.{◌≡◌, ℕ, List, refl}
+use Rattle.std.specs.Prelude.{◌≡◌, ℕ, ◌+◌, ◌*◌, List, [], ◌∷◌, refl}
+use Rattle.std.specs.Str.{encode_utf8_all}
+use Rattle.std.specs.Str.Lossy.{utf8_lossy}
+use Rattle.std.specs.Char.Utf16.{utf16_lossy_chars}
 use Rattle.picky_asn1_der.specs.declared.choice.Choice.{Choice}
 use Rattle.picky_asn1_der.specs.declared.choice.Choice.TheVariants.{This, Other}
 use Rattle.picky_asn1_der.specs.declared.choice.Last.{Last}
@@ -26,3 +29,15 @@ pub string_back : (v : DirectoryString) → string_made (string_choice v) ≡ v
 string_back (PrintableString octets) = refl
 string_back (Utf8String octets) = refl
 string_back (BmpString octets) = refl
+
+-- two octets a unit, the higher first
+abbrev pub utf16_units : List ℕ → List ℕ
+utf16_units [] = []
+utf16_units (octet ∷ []) = []
+utf16_units (high ∷ low ∷ octets) = (high * 256 + low) ∷ utf16_units octets
+
+-- the text, with U+FFFD for what is none: in a BMPString half a pair of surrogates
+abbrev pub lossy_text : DirectoryString → List ℕ
+lossy_text (PrintableString octets) = utf8_lossy octets
+lossy_text (Utf8String octets) = octets
+lossy_text (BmpString octets) = encode_utf8_all (utf16_lossy_chars (utf16_units octets))

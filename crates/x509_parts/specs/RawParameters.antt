@@ -1,5 +1,5 @@
 -- Parameters of any type, which are none where they are NULL.
-use Rattle.std.proofs.Common.{◌≡◌, ℕ, true, List, [], ◌∷◌, length, refl, sym, ◌∙◌, subst, arith}
+use Rattle.std.proofs.Common.{◌≡◌, ℕ, true, List, [], ◌∷◌, length, Option, None, Some, refl, sym, ◌∙◌, subst, arith}
 use Rattle.std.specs.Prelude.{Bool, ◌&&◌, ◌==◌, IsTrue}
 use Rattle.std.proofs.lemmas.Bool.{and_parts, eqb-true}
 use Rattle.asn1_trees.specs.Tree.{IsWhole, Writes}
@@ -16,6 +16,14 @@ use Rattle.x509_parts.specs.declared.raw_algorithm_identifier.RawParameters.{Raw
 -- NULL (X.690, section 8.8)
 abbrev pub is_null : Raw → Bool
 is_null raw = (raw.first == 5) && (length raw.content == 0)
+
+abbrev pub null : Raw
+null = record { first = 5; content = [] }
+
+-- the element that parameters are written as
+abbrev pub parameters_of : Option Raw → Raw
+parameters_of None = null
+parameters_of (Some raw) = raw
 
 empty : (content : List ℕ) → length content ≡ 0 → content ≡ []
 empty [] e = refl

@@ -1,5 +1,6 @@
 //! Strings of names (RFC 5280, section 4.1.2.4).
 ghost use Rattle.std.specs.Prelude.{◌≡◌, MatchResult, IfOk};
+ghost use Rattle.x509_parts.specs.DirectoryStrings.{utf16_units};
 
 use devices::{Sink, Source};
 use picky_asn1::wrapper::{BmpStringAsn1, PrintableStringAsn1, Utf8StringAsn1};
@@ -7,6 +8,8 @@ use picky_asn1_der::{
     Alternatives, Asn1DerError, Choice, Deserialize, Deserializer, Last, Serialize, Serializer,
 };
 use std::alloc::{AllocError, Global};
+use std::fmt;
+use std::fmt::Write;
 use x509_spelling::Exact;
 
 /// A string of a name.
@@ -34,7 +37,8 @@ pub enum DirectoryString {
 type StringChoice = Choice<PrintableStringAsn1, Choice<Utf8StringAsn1, Last<BmpStringAsn1>>>;
 
 impl DirectoryString {
-    ghost use Rattle.x509_parts.specs.DirectoryStrings.{string_octets};
+    ghost use Rattle.std.specs.String.{string_bytes};
+    ghost use Rattle.x509_parts.specs.DirectoryStrings.{string_octets, lossy_text};
     ghost use Rattle.x509_parts.specs.declared.directory_string.DirectoryString.TheVariants as kind;
 
     /// The text as a UTF8String.
@@ -56,6 +60,70 @@ impl DirectoryString {
             DirectoryString::Utf8String(string) => string.as_bytes(),
             DirectoryString::BmpString(string) => string.as_bytes(),
         }
+    }
+
+    /// The text. Half a pair of surrogates is U+FFFD there.
+    pub fn to_utf8_lossy(&self, alloc: Global) -> Result<String, AllocError>
+        ensures { IfOk result (λ text. string_bytes text ≡ lossy_text self.now) }
+    {
+        match self {
+            DirectoryString::PrintableString(string) => String::from_utf8_lossy(
+                alloc,
+                string.as_bytes(),
+            ),
+            DirectoryString::Utf8String(string) => String::from_str(alloc, string.as_str()),
+            DirectoryString::BmpString(string) => {
+                let units = units_of(alloc, string.as_bytes())?;
+                String::from_utf16_lossy(alloc, units.as_slice())
+            }
+        }
+    }
+}
+
+// The characters of a BMPString, two octets each.
+fn units_of(alloc: Global, octets: &[u8]) -> Result<Vec<u16>, AllocError>
+    ensures { IfOk result (λ units. units.items ≡ utf16_units octets.now) }
+{
+    let mut units = Vec::new(alloc);
+    let mut rest = octets;
+    'units: while let [high, low, more @ ..] = rest {
+        units.push(u16::from_be_bytes([*high, *low]))?;
+        rest = more;
+    }
+    Ok(units)
+}
+
+impl fmt::Display for DirectoryString {
+    fn fmt<W: fmt::Write>(&self, f: &mut fmt::Formatter<W>) -> fmt::Result {
+        match self {
+            DirectoryString::PrintableString(string) => write_octets(string.as_bytes(), f),
+            DirectoryString::Utf8String(string) => f.write_str(string.as_str()),
+            DirectoryString::BmpString(string) => write_units(string.as_bytes(), f),
+        }
+    }
+}
+
+// Writes octets as characters.
+fn write_octets<W: fmt::Write>(octets: &[u8], f: &mut fmt::Formatter<W>) -> fmt::Result {
+    for octet in octets {
+        f.write_char(char::from(*octet))?;
+    }
+    Ok(())
+}
+
+// Writes the characters of a BMPString.
+fn write_units<W: fmt::Write>(octets: &[u8], f: &mut fmt::Formatter<W>) -> fmt::Result {
+    let units = octets.chunks_exact(2).map(unit_of);
+    for character in char::decode_utf16(units) {
+        f.write_char(character.unwrap_or(char::REPLACEMENT_CHARACTER))?;
+    }
+    Ok(())
+}
+
+fn unit_of(octets: &[u8]) -> u16 {
+    match octets {
+        [high, low] => u16::from_be_bytes([*high, *low]),
+        _ => 0,
     }
 }
 

@@ -1,5 +1,6 @@
 //! Algorithm identifiers of which nothing is known (RFC 5280, section 4.1.1.2).
-ghost use Rattle.std.specs.Prelude.{◌≡◌, ℕ, List, MatchResult, IsTrue, IfOk};
+ghost use Rattle.std.specs.Prelude.{◌≡◌, ℕ, List, MatchOption, MatchResult, IsFalse, IsTrue, IfOk};
+ghost use Rattle.x509_parts.specs.RawParameters.{is_null, null, parameters_of};
 
 use devices::{Sink, Source};
 use picky_asn1::wrapper::ObjectIdentifierAsn1;
@@ -86,10 +87,7 @@ impl HasDefault for RawParameters {
     }
 
     fn default_value(alloc: Global) -> Result<Self, AllocError> {
-        match RawElement::new(5, Vec::new(alloc)) {
-            Some(raw) => Ok(RawParameters(raw)),
-            None => unreachable!(),
-        }
+        Ok(null_parameters(alloc))
     }
 }
 
@@ -103,6 +101,16 @@ impl Implies for RawParameters {
     ghost use Rattle.x509_parts.specs.RawParameters.{null_whole};
 
     ghost default_is_whole = { λ v null. null_whole v.0 null };
+}
+
+// No parameters.
+fn null_parameters(alloc: Global) -> RawParameters
+    ensures { result.0 ≡ null }
+{
+    match RawElement::new(5, Vec::new(alloc)) {
+        Some(raw) => RawParameters(raw),
+        None => unreachable!(),
+    }
 }
 
 /// An algorithm by its identifier, with parameters of any type.
@@ -132,8 +140,29 @@ impl RawAlgorithmIdentifier {
         &self.algorithm
     }
 
+    /// The algorithm with these parameters, NULL where there are none.
+    pub fn from_parts(
+        alloc: Global,
+        algorithm: ObjectIdentifierAsn1,
+        parameters: Option<RawElement>,
+    ) -> RawAlgorithmIdentifier
+        ensures { (result.algorithm ≡ algorithm) × (result.parameters.0 ≡ parameters_of parameters) }
+    {
+        let parameters = match parameters {
+            Some(parameters) => RawParameters(parameters),
+            None => null_parameters(alloc),
+        };
+        RawAlgorithmIdentifier {
+            algorithm,
+            parameters,
+        }
+    }
+
     /// The parameters, none where they are NULL.
-    pub fn parameters(&self) -> Option<&RawElement> {
+    pub fn parameters(&self) -> Option<&RawElement>
+        ensures { MatchOption result (IsTrue (is_null self.now.parameters.0))
+            (λ parameters. IsFalse (is_null self.now.parameters.0) × (parameters.now ≡ self.now.parameters.0)) }
+    {
         if self.parameters.is_default() {
             None
         } else {

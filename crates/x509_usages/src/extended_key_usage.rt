@@ -1,12 +1,21 @@
 //! Purposes of keys (RFC 5280, section 4.2.1.12).
 ghost use Rattle.std.specs.Prelude.{◌≡◌, MatchResult};
+ghost use Rattle.std.specs.Bool.{nat_eq};
+ghost use Rattle.std.specs.Cmp.Lexicographic.{pointwise};
+ghost use Rattle.std.specs.List.{list_any};
+ghost use Rattle.std.specs.Slice.Iter.{iter_rest};
 
 use devices::{Sink, Source};
-use picky_asn1::wrapper::{Asn1SequenceOf, ObjectIdentifierAsn1};
-use picky_asn1_der::{Asn1DerError, Deserializer, Elements, Serializer, Tagged};
+use picky_asn1::oid::ObjectIdentifier;
+use picky_asn1::wrapper::ObjectIdentifierAsn1;
+use picky_asn1_der::{
+    Asn1DerError, Deserializer, Elements, Serialize, Serializer, Tagged, read_sequence,
+};
+use std::marker::Model;
+use std::slice::Iter;
 use x509_spelling::Exact;
 
-/// The purposes that a key may serve.
+/// The purposes that a key may serve, in their order. A contract sees the list of them.
 ///
 /// ```text
 /// ExtKeyUsageSyntax ::= SEQUENCE SIZE (1..MAX) OF KeyPurposeId
@@ -16,52 +25,89 @@ use x509_spelling::Exact;
 ///
 /// An empty list is read too.
 #[derive(Drop)]
-pub struct ExtendedKeyUsage(Asn1SequenceOf<ObjectIdentifierAsn1>);
+pub struct ExtendedKeyUsage {
+    purposes: Vec<ObjectIdentifierAsn1>,
+}
 
-type Purposes = Asn1SequenceOf<ObjectIdentifierAsn1>;
+impl Model for ExtendedKeyUsage {
+    ghost use Rattle.std.specs.Prelude.{List};
+    ghost use Rattle.picky_asn1.specs.declared.wrapper.ObjectIdentifierAsn1.{ObjectIdentifierAsn1};
+
+    ghost Value = { List ObjectIdentifierAsn1 };
+
+    ghost view = { λ usage. usage.purposes.items };
+}
 
 impl ExtendedKeyUsage {
-    /// The purposes, in order.
-    pub fn as_slice(&self) -> &[ObjectIdentifierAsn1]
-        ensures { result.now ≡ self.now.0 }
+    /// These purposes.
+    pub fn new(purposes: Vec<ObjectIdentifierAsn1>) -> ExtendedKeyUsage
+        ensures { result ≡ purposes.items }
     {
-        self.0.as_slice()
+        ExtendedKeyUsage { purposes }
+    }
+
+    /// The purposes.
+    pub fn as_slice(&self) -> &[ObjectIdentifierAsn1]
+        ensures { result.now ≡ self.now }
+    {
+        self.purposes.as_slice()
+    }
+
+    /// The purposes, one after another.
+    pub fn iter(&self) -> Iter<'_, ObjectIdentifierAsn1>
+        ensures { iter_rest result ≡ self.now }
+    {
+        self.as_slice().iter()
+    }
+
+    /// Whether this is one of the purposes.
+    pub fn contains(&self, purpose: &ObjectIdentifier) -> bool
+        ensures { result ≡ list_any (λ one. pointwise nat_eq one.0 purpose.now) self.now }
+    {
+        self.as_slice().iter().any(|one| one.0 == *purpose)
     }
 }
 
 impl From<Vec<ObjectIdentifierAsn1>> for ExtendedKeyUsage {
-    ghost from_gives = { λ purposes made. made.0 ≡ purposes.items };
+    ghost from_gives = { λ purposes made. made ≡ purposes.items };
 
     fn from(purposes: Vec<ObjectIdentifierAsn1>) -> ExtendedKeyUsage {
-        ExtendedKeyUsage(Asn1SequenceOf::from(purposes))
+        ExtendedKeyUsage { purposes }
     }
 }
 
 impl Tagged for ExtendedKeyUsage {
+    ghost use Rattle.asn1_trees.specs.Tree.{trees_of};
+    ghost use Rattle.asn1_trees.proofs.Rows.{many-injective};
+    ghost use Rattle.asn1_trees.specs.Tagged.{sequence};
+    ghost use Rattle.asn1_trees.proofs.Tagged.{sequence_laws};
+
     type Row = Elements<ObjectIdentifierAsn1>;
 
     const FIRST: u8 = 48;
 
     ghost FIRST = { 48 };
 
-    ghost row_tree = { ⟦<Purposes as Tagged>⟧.row_tree };
+    ghost row_tree = { sequence (trees_of ⟦<ObjectIdentifierAsn1 as Serialize>⟧.tree) };
 
-    ghost row_laws = { ⟦<Purposes as Tagged>⟧.row_laws };
+    ghost row_laws = { sequence_laws (trees_of ⟦<ObjectIdentifierAsn1 as Serialize>⟧.tree)
+        (many-injective _ ⟦<ObjectIdentifierAsn1 as Serialize>⟧.tree ⟦<ObjectIdentifierAsn1 as Serialize>⟧.injective) };
 
-    ghost row_of = { λ v. v.0 };
+    ghost row_of = { λ v. v };
 
-    ghost one_row = { λ v w e. λ i. record { 0 = e i } };
+    ghost one_row = { λ v w e. e };
 
     fn read_row<R: Source>(tag: u8, from: &mut Deserializer<R>) -> Result<Self::Row, Asn1DerError> {
-        Purposes::read_row(tag, from)
+        read_sequence(tag, from)
     }
 
     fn of_row(row: Self::Row) -> Self {
-        ExtendedKeyUsage(Purposes::of_row(row))
+        ExtendedKeyUsage::new(row.into_vec())
     }
 
     fn write_row<W: Sink>(&self, tag: u8, to: &mut Serializer<W>) -> Result<usize, Asn1DerError> {
-        self.0.write_row(tag, to)
+        let purposes = self.as_slice();
+        to.list(tag, &purposes)
     }
 }
 

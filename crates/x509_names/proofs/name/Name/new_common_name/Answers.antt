@@ -6,7 +6,5 @@ pub returns : goal.returns
 returns c = (
   c.in_ok-attribute.attribute,
   c.in_ok-attribute.ensures,
-  c.from-2.ensures
-      ∙ c.in_ok-sets.ensures.items
-      ∙ ap (λ (set : List AttributeTypeAndValue). set ∷ []) (c.from.ensures ∙ c.in_ok-attributes.ensures.items),
+  c.in_ok-sets.ensures.items ∙ ap (λ (set : List AttributeTypeAndValue). set ∷ []) (c.from.ensures ∙ c.in_ok-attributes.ensures.items),
 )
