@@ -2,6 +2,7 @@
 #![tactic(auto)]
 
 mod aes;
+mod agreement;
 mod des;
 mod digests;
 mod row;
@@ -53,6 +54,7 @@ fn agrees(alloc: Global, row: &Row<'_>) -> bool {
         "mac" => digests::is_code(row),
         "hmac" => digests::is_fitted_code(alloc, row),
         "pbkdf2" => digests::is_password_key(alloc, row),
+        "agree" => agreement::is_agreed(alloc, row),
         "nfold" => digests::is_folded(alloc, row),
         "des3" => des::is_chained(alloc, row),
         "des3-seed" => des::is_seeded(row),
