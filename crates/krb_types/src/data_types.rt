@@ -34,19 +34,46 @@ pub use ticket::{Ticket, TicketInner};
 pub use transited_encoding::TransitedEncoding;
 
 /// A string (RFC 4120, section 5.2.1).
+///
+/// ```text
+/// KerberosString ::= GeneralString (IA5String)
+/// ```
 pub type KerberosStringAsn1 = GeneralStringAsn1;
 
 /// The name of a realm (RFC 4120, section 5.2.2).
+///
+/// ```text
+/// Realm ::= KerberosString
+/// ```
 pub type Realm = KerberosStringAsn1;
 
 /// A time to the second (RFC 4120, section 5.2.3).
+///
+/// ```text
+/// KerberosTime ::= GeneralizedTime
+/// ```
 pub type KerberosTime = GeneralizedTimeAsn1;
 
 /// Microseconds (RFC 4120, section 5.2.4): any number is read, since the rules that judge one say where.
+///
+/// ```text
+/// Microseconds ::= INTEGER (0..999999)
+/// ```
 pub type Microseconds = IntegerAsn1;
 
 /// Flags (RFC 4120, section 5.2.8): bits that are missing are 0.
+///
+/// ```text
+/// KerberosFlags ::= BIT STRING (SIZE (32..MAX))
+/// ```
 pub type KerberosFlags = BitStringAsn1;
 
 /// The options of a request to a service (RFC 4120, section 5.5.1).
+///
+/// ```text
+/// APOptions ::= KerberosFlags
+///      -- reserved(0),
+///      -- use-session-key(1),
+///      -- mutual-required(2)
+/// ```
 pub type ApOptions = KerberosFlags;

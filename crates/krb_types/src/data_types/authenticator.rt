@@ -11,9 +11,24 @@ use picky_asn1_der::{
     ExplicitContextTag6, ExplicitContextTag7, ExplicitContextTag8, Fields, Optional, Row9,
     Serializer, Tagged, fields_of, from_fields, read_sequence,
 };
+use record_copies::{LentFields, RecordFields};
+use std::alloc::AllocError;
 
 /// What an authenticator holds (RFC 4120, section 5.5.1).
-#[derive(Debug, Drop)]
+///
+/// ```text
+/// Authenticator ::= [APPLICATION 2] SEQUENCE {
+///      authenticator-vno    [0] INTEGER (5),
+///      crealm               [1] Realm,
+///      cname                [2] PrincipalName,
+///      cksum                [3] Checksum OPTIONAL,
+///      cusec                [4] Microseconds,
+///      ctime                [5] KerberosTime,
+///      subkey               [6] EncryptionKey OPTIONAL,
+///      seq-number           [7] UInt32 OPTIONAL,
+///      authorization-data   [8] AuthorizationData OPTIONAL }
+/// ```
+#[derive(Debug, Drop, PartialEq, Eq)]
 pub struct AuthenticatorInner {
     /// The version, 5.
     pub authenticator_vno: ExplicitContextTag0<IntegerAsn1>,
@@ -49,6 +64,16 @@ type AuthenticatorInnerRow = Row9<
     Optional<Option<ExplicitContextTag7<IntegerAsn1>>>,
     Optional<Option<ExplicitContextTag8<AuthorizationData>>>,
 >;
+
+impl Clone for AuthenticatorInner {
+    ghost is_clone = { λ value copy. ⟦<AuthenticatorInnerRow as RecordFields>⟧.are_copies (⟦<AuthenticatorInner as Tagged>⟧.row_of value) (⟦<AuthenticatorInner as Tagged>⟧.row_of copy) };
+
+    fn clone(&self) -> Result<AuthenticatorInner, AllocError> {
+        let fields =
+            fields_of![self; authenticator_vno, crealm, cname, cksum, cusec, ctime, subkey, seq_number, authorization_data].copied()?;
+        Ok(AuthenticatorInner::of_row(fields))
+    }
+}
 
 impl Tagged for AuthenticatorInner {
     ghost use Rattle.std.proofs.Common.{ap, refl, true};

@@ -7,7 +7,7 @@ use picky_asn1_der::{
 };
 
 /// One entry of authorization data (RFC 4120, section 5.2.6).
-#[derive(Debug, Drop)]
+#[derive(Debug, Drop, PartialEq, Eq, Clone)]
 pub struct AuthorizationDataInner {
     /// What the entry holds (RFC 4120, section 7.5.4); a negative type is for use within one site.
     pub ad_type: ExplicitContextTag0<IntegerAsn1>,
@@ -16,6 +16,12 @@ pub struct AuthorizationDataInner {
 }
 
 /// Authorization data (RFC 4120, section 5.2.6): entries that narrow what a ticket grants.
+///
+/// ```text
+/// AuthorizationData ::= SEQUENCE OF SEQUENCE {
+///      ad-type   [0] Int32,
+///      ad-data   [1] OCTET STRING }
+/// ```
 pub type AuthorizationData = Asn1SequenceOf<AuthorizationDataInner>;
 
 type AuthorizationDataInnerRow = Row2<

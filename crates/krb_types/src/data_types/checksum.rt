@@ -7,7 +7,13 @@ use picky_asn1_der::{
 };
 
 /// A checksum (RFC 4120, section 5.2.9).
-#[derive(Debug, Drop)]
+///
+/// ```text
+/// Checksum ::= SEQUENCE {
+///      cksumtype   [0] Int32,
+///      checksum    [1] OCTET STRING }
+/// ```
+#[derive(Debug, Drop, PartialEq, Eq, Clone)]
 pub struct Checksum {
     /// The checksum type (RFC 3961, section 8).
     pub cksumtype: ExplicitContextTag0<IntegerAsn1>,

@@ -8,9 +8,19 @@ use picky_asn1_der::{
     ExplicitContextTag2, ExplicitContextTag3, Fields, Optional, Row4, Serializer, Tagged,
     fields_of, from_fields, read_sequence,
 };
+use record_copies::{LentFields, RecordFields};
+use std::alloc::AllocError;
 
 /// What a service's reply holds under the session key (RFC 4120, section 5.5.2).
-#[derive(Debug, Drop)]
+///
+/// ```text
+/// EncAPRepPart ::= [APPLICATION 27] SEQUENCE {
+///      ctime        [0] KerberosTime,
+///      cusec        [1] Microseconds,
+///      subkey       [2] EncryptionKey OPTIONAL,
+///      seq-number   [3] UInt32 OPTIONAL }
+/// ```
+#[derive(Debug, Drop, PartialEq, Eq)]
 pub struct EncApRepPartInner {
     /// The client's time, as the authenticator has it.
     pub ctime: ExplicitContextTag0<KerberosTime>,
@@ -31,6 +41,15 @@ type EncApRepPartInnerRow = Row4<
     Optional<Option<ExplicitContextTag2<EncryptionKey>>>,
     Optional<Option<ExplicitContextTag3<IntegerAsn1>>>,
 >;
+
+impl Clone for EncApRepPartInner {
+    ghost is_clone = { λ value copy. ⟦<EncApRepPartInnerRow as RecordFields>⟧.are_copies (⟦<EncApRepPartInner as Tagged>⟧.row_of value) (⟦<EncApRepPartInner as Tagged>⟧.row_of copy) };
+
+    fn clone(&self) -> Result<EncApRepPartInner, AllocError> {
+        let fields = fields_of![self; ctime, cusec, subkey, seq_number].copied()?;
+        Ok(EncApRepPartInner::of_row(fields))
+    }
+}
 
 impl Tagged for EncApRepPartInner {
     ghost use Rattle.std.proofs.Common.{ap, refl, true};

@@ -10,11 +10,28 @@ use picky_asn1_der::{
     ExplicitContextTag2, ExplicitContextTag3, ExplicitContextTag4, ExplicitContextTag5,
     ExplicitContextTag6, ExplicitContextTag7, ExplicitContextTag8, ExplicitContextTag9,
     ExplicitContextTag10, Fields, Optional, Row11, Serializer, Tagged, fields_of, from_fields,
-    read_sequence,
+    read_sequence, row,
 };
+use record_copies::{LentFields, RecordFields};
+use std::alloc::AllocError;
 
 /// What a ticket holds under the service's key (RFC 4120, section 5.3).
-#[derive(Debug, Drop)]
+///
+/// ```text
+/// EncTicketPart ::= [APPLICATION 3] SEQUENCE {
+///      flags                [0] TicketFlags,
+///      key                  [1] EncryptionKey,
+///      crealm               [2] Realm,
+///      cname                [3] PrincipalName,
+///      transited            [4] TransitedEncoding,
+///      authtime             [5] KerberosTime,
+///      starttime            [6] KerberosTime OPTIONAL,
+///      endtime              [7] KerberosTime,
+///      renew-till           [8] KerberosTime OPTIONAL,
+///      caddr                [9] HostAddresses OPTIONAL,
+///      authorization-data   [10] AuthorizationData OPTIONAL }
+/// ```
+#[derive(Debug, Drop, PartialEq, Eq)]
 pub struct EncTicketPartInner {
     /// The flags of the ticket (RFC 4120, section 5.3, TicketFlags).
     pub flags: ExplicitContextTag0<KerberosFlags>,
@@ -56,6 +73,31 @@ type EncTicketPartInnerRow = Row11<
     Optional<Option<ExplicitContextTag9<HostAddresses>>>,
     Optional<Option<ExplicitContextTag10<AuthorizationData>>>,
 >;
+
+impl Clone for EncTicketPartInner {
+    ghost is_clone = { λ value copy. ⟦<EncTicketPartInnerRow as RecordFields>⟧.are_copies (⟦<EncTicketPartInner as Tagged>⟧.row_of value) (⟦<EncTicketPartInner as Tagged>⟧.row_of copy) };
+
+    fn clone(&self) -> Result<EncTicketPartInner, AllocError> {
+        let row![flags, key, crealm, cname] = fields_of![self; flags, key, crealm, cname].copied()?;
+        let row![transited, auth_time, starttime, endtime] =
+            fields_of![self; transited, auth_time, starttime, endtime].copied()?;
+        let row![renew_till, caddr, authorization_data] =
+            fields_of![self; renew_till, caddr, authorization_data].copied()?;
+        Ok(EncTicketPartInner {
+            flags,
+            key,
+            crealm,
+            cname,
+            transited,
+            auth_time,
+            starttime,
+            endtime,
+            renew_till,
+            caddr,
+            authorization_data,
+        })
+    }
+}
 
 impl Tagged for EncTicketPartInner {
     ghost use Rattle.std.proofs.Common.{ap, refl, true};

@@ -7,7 +7,14 @@ use picky_asn1_der::{
 };
 
 /// Encrypted data (RFC 4120, section 5.2.9).
-#[derive(Debug, Drop)]
+///
+/// ```text
+/// EncryptedData ::= SEQUENCE {
+///      etype    [0] Int32 -- EncryptionType --,
+///      kvno     [1] UInt32 OPTIONAL,
+///      cipher   [2] OCTET STRING -- ciphertext -- }
+/// ```
+#[derive(Debug, Drop, PartialEq, Eq, Clone)]
 pub struct EncryptedData {
     /// The encryption type.
     pub etype: ExplicitContextTag0<IntegerAsn1>,

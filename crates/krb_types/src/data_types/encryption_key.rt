@@ -7,7 +7,13 @@ use picky_asn1_der::{
 };
 
 /// A key (RFC 4120, section 5.2.9). `Debug` prints it.
-#[derive(Debug, Drop)]
+///
+/// ```text
+/// EncryptionKey ::= SEQUENCE {
+///      keytype    [0] Int32,
+///      keyvalue   [1] OCTET STRING }
+/// ```
+#[derive(Debug, Drop, PartialEq, Eq, Clone)]
 pub struct EncryptionKey {
     /// The encryption type that the key is for (RFC 3961, section 8).
     pub key_type: ExplicitContextTag0<IntegerAsn1>,

@@ -8,7 +8,14 @@ use picky_asn1_der::{
 };
 
 /// How a key of one encryption type is made of a password (RFC 4120, section 5.2.7.5).
-#[derive(Debug, Drop)]
+///
+/// ```text
+/// ETYPE-INFO2-ENTRY ::= SEQUENCE {
+///      etype       [0] Int32,
+///      salt        [1] KerberosString OPTIONAL,
+///      s2kparams   [2] OCTET STRING OPTIONAL }
+/// ```
+#[derive(Debug, Drop, PartialEq, Eq, Clone)]
 pub struct EtypeInfo2Entry {
     /// The encryption type.
     pub etype: ExplicitContextTag0<IntegerAsn1>,
@@ -20,6 +27,11 @@ pub struct EtypeInfo2Entry {
 
 /// Such entries, those that the KDC prefers first (RFC 4120, section 5.2.7.5). The standard's are never empty; an empty list is read
 /// and written.
+///
+/// ```text
+/// ETYPE-INFO2 ::= SEQUENCE SIZE (1..MAX)
+///      OF ETYPE-INFO2-ENTRY
+/// ```
 pub type EtypeInfo2 = Asn1SequenceOf<EtypeInfo2Entry>;
 
 type EtypeInfo2EntryRow = Row3<

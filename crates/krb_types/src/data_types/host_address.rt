@@ -7,7 +7,13 @@ use picky_asn1_der::{
 };
 
 /// An address of a host (RFC 4120, section 5.2.5).
-#[derive(Debug, Drop)]
+///
+/// ```text
+/// HostAddress ::= SEQUENCE {
+///      addr-type   [0] Int32,
+///      address     [1] OCTET STRING }
+/// ```
+#[derive(Debug, Drop, PartialEq, Eq, Clone)]
 pub struct HostAddress {
     /// The address type (RFC 4120, section 7.5.3).
     pub addr_type: ExplicitContextTag0<IntegerAsn1>,
@@ -16,6 +22,10 @@ pub struct HostAddress {
 }
 
 /// A list of addresses (RFC 4120, section 5.2.5).
+///
+/// ```text
+/// HostAddresses ::= SEQUENCE OF HostAddress
+/// ```
 pub type HostAddresses = Asn1SequenceOf<HostAddress>;
 
 type HostAddressRow = Row2<ExplicitContextTag0<IntegerAsn1>, ExplicitContextTag1<OctetStringAsn1>>;

@@ -8,7 +8,7 @@ use picky_asn1_der::{
 };
 
 /// A time of a last request (RFC 4120, section 5.4.2).
-#[derive(Debug, Drop)]
+#[derive(Debug, Drop, PartialEq, Eq, Clone)]
 pub struct LastReqInner {
     /// Which request the time is of; 0 means that the time says nothing.
     pub lr_type: ExplicitContextTag0<IntegerAsn1>,
@@ -17,6 +17,12 @@ pub struct LastReqInner {
 }
 
 /// The times of a client's last requests (RFC 4120, section 5.4.2).
+///
+/// ```text
+/// LastReq ::= SEQUENCE OF SEQUENCE {
+///      lr-type    [0] Int32,
+///      lr-value   [1] KerberosTime }
+/// ```
 pub type LastReq = Asn1SequenceOf<LastReqInner>;
 
 type LastReqInnerRow = Row2<ExplicitContextTag0<IntegerAsn1>, ExplicitContextTag1<KerberosTime>>;

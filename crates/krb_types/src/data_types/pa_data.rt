@@ -7,7 +7,14 @@ use picky_asn1_der::{
 };
 
 /// One entry of preauthentication data (RFC 4120, section 5.2.7).
-#[derive(Debug, Drop)]
+///
+/// ```text
+/// PA-DATA ::= SEQUENCE {
+///      -- NOTE: first tag is [1], not [0]
+///      padata-type    [1] Int32,
+///      padata-value   [2] OCTET STRING }
+/// ```
+#[derive(Debug, Drop, PartialEq, Eq, Clone)]
 pub struct PaData {
     /// What the entry holds (RFC 4120, section 7.5.2).
     pub padata_type: ExplicitContextTag1<IntegerAsn1>,

@@ -7,7 +7,13 @@ use picky_asn1_der::{
 };
 
 /// The time that a client seals under its own key (RFC 4120, section 5.2.7.2).
-#[derive(Debug, Drop)]
+///
+/// ```text
+/// PA-ENC-TS-ENC ::= SEQUENCE {
+///      patimestamp   [0] KerberosTime,
+///      pausec        [1] Microseconds OPTIONAL }
+/// ```
+#[derive(Debug, Drop, PartialEq, Eq, Clone)]
 pub struct PaEncTsEnc {
     /// The client's time.
     pub patimestamp: ExplicitContextTag0<KerberosTime>,
@@ -16,6 +22,10 @@ pub struct PaEncTsEnc {
 }
 
 /// A sealed [`PaEncTsEnc`] (RFC 4120, section 5.2.7.2).
+///
+/// ```text
+/// PA-ENC-TIMESTAMP ::= EncryptedData
+/// ```
 pub type PaEncTimestamp = EncryptedData;
 
 type PaEncTsEncRow = Row2<

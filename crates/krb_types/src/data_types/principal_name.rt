@@ -11,7 +11,13 @@ use picky_asn1_der::{
 use std::alloc::AllocError;
 
 /// A name of a principal (RFC 4120, section 5.2.2): its type, which is a hint alone, and its components.
-#[derive(Debug, Drop)]
+///
+/// ```text
+/// PrincipalName ::= SEQUENCE {
+///      name-type     [0] Int32,
+///      name-string   [1] SEQUENCE OF KerberosString }
+/// ```
+#[derive(Debug, Drop, PartialEq, Eq)]
 pub struct PrincipalName {
     /// The name type (RFC 4120, section 6.2).
     pub name_type: ExplicitContextTag0<IntegerAsn1>,

@@ -8,9 +8,19 @@ use picky_asn1_der::{
     ExplicitContextTag2, ExplicitContextTag3, Fields, Row4, Serializer, Tagged, fields_of,
     from_fields, read_sequence,
 };
+use record_copies::{LentFields, RecordFields};
+use std::alloc::AllocError;
 
 /// What a ticket holds (RFC 4120, section 5.3).
-#[derive(Debug, Drop)]
+///
+/// ```text
+/// Ticket ::= [APPLICATION 1] SEQUENCE {
+///      tkt-vno    [0] INTEGER (5),
+///      realm      [1] Realm,
+///      sname      [2] PrincipalName,
+///      enc-part   [3] EncryptedData -- EncTicketPart -- }
+/// ```
+#[derive(Debug, Drop, PartialEq, Eq)]
 pub struct TicketInner {
     /// The version, 5.
     pub tkt_vno: ExplicitContextTag0<IntegerAsn1>,
@@ -31,6 +41,15 @@ type TicketInnerRow = Row4<
     ExplicitContextTag2<PrincipalName>,
     ExplicitContextTag3<EncryptedData>,
 >;
+
+impl Clone for TicketInner {
+    ghost is_clone = { λ value copy. ⟦<TicketInnerRow as RecordFields>⟧.are_copies (⟦<TicketInner as Tagged>⟧.row_of value) (⟦<TicketInner as Tagged>⟧.row_of copy) };
+
+    fn clone(&self) -> Result<TicketInner, AllocError> {
+        let fields = fields_of![self; tkt_vno, realm, sname, enc_part].copied()?;
+        Ok(TicketInner::of_row(fields))
+    }
+}
 
 impl Tagged for TicketInner {
     ghost use Rattle.std.proofs.Common.{ap, refl, true};

@@ -7,7 +7,13 @@ use picky_asn1_der::{
 };
 
 /// The realms that took part in the authentication of a client (RFC 4120, section 5.3).
-#[derive(Debug, Drop)]
+///
+/// ```text
+/// TransitedEncoding ::= SEQUENCE {
+///      tr-type    [0] Int32 -- must be registered --,
+///      contents   [1] OCTET STRING }
+/// ```
+#[derive(Debug, Drop, PartialEq, Eq, Clone)]
 pub struct TransitedEncoding {
     /// How the contents are spelled (RFC 4120, section 7.5.5): 1 is DOMAIN-X500-COMPRESS.
     pub tr_type: ExplicitContextTag0<IntegerAsn1>,
