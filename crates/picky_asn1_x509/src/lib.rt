@@ -14,9 +14,8 @@ pub use x509_extensions::{
     KeyIdentifier, SubjectAltName, SubjectKeyIdentifier,
 };
 pub use x509_keys::{
-    ECPrivateKey, EcPoint, EncapsulatedEcPoint, EncapsulatedEcSecret, EncapsulatedMldsaPublicKey,
-    EncapsulatedRsaPublicKey, PRIVATE_KEY_INFO_VERSION_1, PRIVATE_KEY_INFO_VERSION_2,
-    PrivateKeyInfo, PrivateKeyValue, PublicKey, RsaPrivateKey, RsaPublicKey, SubjectPublicKeyInfo,
+    EcPoint, EncapsulatedEcPoint, EncapsulatedMldsaPublicKey, EncapsulatedRsaPublicKey, PublicKey,
+    RsaPublicKey, SubjectPublicKeyInfo,
 };
 pub use x509_names::{
     AttributeTypeAndValue, AttributeTypeAndValueParameters, AttributeValue, DirectoryName,
@@ -30,6 +29,10 @@ pub use x509_parameters::{
 };
 pub use x509_parts::{
     BasicConstraints, DirectoryString, RawAlgorithmIdentifier, Time, Validity, Version,
+};
+pub use x509_private_keys::{
+    ECPrivateKey, EncapsulatedEcSecret, PRIVATE_KEY_INFO_VERSION_1, PRIVATE_KEY_INFO_VERSION_2,
+    PrivateKeyInfo, PrivateKeyValue, RsaPrivateKey,
 };
 pub use x509_spelling::{Spelled, X509Fault, deviations, encoded_len, from_bytes, to_vec};
 pub use x509_usages::{ExtendedKeyUsage, KeyUsage};

@@ -1,18 +1,12 @@
 -- Private keys with their algorithms are told by their fields.
 use Rattle.std.proofs.Common.{◌≡◌, ℕ, ap, sym, ◌∙◌}
-use Rattle.std.specs.Prelude.{IsTrue, Option}
+use Rattle.std.specs.Prelude.{IsTrue}
 use mathlib.Core.HLevel.{is_prop→PathP}
-use Rattle.asn1_codec.specs.declared.optional.Optional.{Optional}
-use Rattle.picky_asn1.specs.BitString.{Bits}
-use Rattle.picky_asn1_der.specs.declared.implicit_tag.ImplicitContextTag.{ImplicitContextTag}
 use Rattle.x509_algorithms.specs.declared.algorithm_identifier.AlgorithmIdentifier.{AlgorithmIdentifier}
 use Rattle.x509_keys.specs.ChosenLaws.{one_truth}
-use Rattle.x509_keys.specs.PrivateKeys.{PrivateKinds, private_kinds, private_made, behind_made, private_back, behind_back, is_private_of}
-use Rattle.x509_keys.specs.declared.strict.Strict.{Strict}
-use Rattle.x509_keys.specs.declared.private_key_fields.PrivateKeyFields.{PrivateKeyFields}
-
-abbrev pub PublicKeyField : Type 0
-PublicKeyField = Optional (Option (Strict (ImplicitContextTag 1 Bits)))
+use Rattle.x509_private_keys.specs.PrivateKeys.{PrivateKinds, private_kinds, private_made, behind_made, private_back, behind_back, is_private_of}
+use Rattle.x509_private_keys.specs.PublicKeyFields.{PublicKeyField}
+use Rattle.x509_private_keys.specs.declared.private_key_fields.PrivateKeyFields.{PrivateKeyFields}
 
 abbrev pub PrivateRow : Type 0
 PrivateRow = ℕ × (AlgorithmIdentifier × PrivateKinds PublicKeyField)

@@ -8,10 +8,10 @@ use Rattle.x509_kinds.specs.declared.kinds.KindOf.TheVariants.{This, Other}
 use Rattle.x509_kinds.specs.declared.kinds.LastKind.{LastKind}
 use Rattle.x509_kinds.specs.Kinds.{case_belongs}
 use Rattle.x509_keys.specs.KeyIdentifiers.{is_rsa, is_elliptic, is_named_curve}
-use Rattle.x509_keys.specs.declared.rsa_private_key.RsaPrivateKey.{RsaPrivateKey}
-use Rattle.x509_keys.specs.declared.ec_private_key.ECPrivateKey.{ECPrivateKey}
-use Rattle.x509_keys.specs.declared.private_key_value.PrivateKeyValue.{PrivateKeyValue}
-use Rattle.x509_keys.specs.declared.private_key_value.PrivateKeyValue.TheVariants as kind
+use Rattle.x509_private_keys.specs.declared.rsa_private_key.RsaPrivateKey.{RsaPrivateKey}
+use Rattle.x509_private_keys.specs.declared.ec_private_key.ECPrivateKey.{ECPrivateKey}
+use Rattle.x509_private_keys.specs.declared.private_key_value.PrivateKeyValue.{PrivateKeyValue}
+use Rattle.x509_private_keys.specs.declared.private_key_value.PrivateKeyValue.TheVariants as kind
 
 -- a private key in an octet string, and what stands behind it
 abbrev pub Held : Type 0 → Type 0 → Type 0

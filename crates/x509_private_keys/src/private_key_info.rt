@@ -1,15 +1,16 @@
 //! Private keys with their algorithms (RFC 5958, section 2).
-ghost use Rattle.std.specs.Prelude.{◌≡◌, ◌==◌, ℕ, List, true, IsTrue, IfOk, MatchResult};
-ghost use Rattle.x509_keys.specs.PrivateKeys.{version_with};
+ghost use Rattle.std.specs.Prelude.{◌≡◌, ◌==◌, ℕ, List, true, None, Some, IsTrue, IfOk, MatchOption, MatchResult};
+ghost use Rattle.x509_private_keys.specs.PrivateKeys.{version_with, is_private_of};
+ghost use Rattle.x509_private_keys.specs.PublicKeyFields.{field_of_key, key_of_field};
 
-use crate::agreeing::read_agreeing;
 use crate::private_key_fields::PrivateKeyFields;
-use crate::private_key_value::PrivateKeyValue;
+use crate::private_key_value::{PrivateKeyValue, as_field, in_field};
 use devices::Sink;
 use picky_asn1::wrapper::BitStringAsn1;
 use picky_asn1_der::{Asn1DerError, Serialize, Serializer};
 use std::alloc::Global;
 use x509_algorithms::AlgorithmIdentifier;
+use x509_keys::read_agreeing;
 use x509_spelling::{Counted, Spelled, X509Fault};
 
 /// The version without a public key.
@@ -30,6 +31,8 @@ pub const PRIVATE_KEY_INFO_VERSION_2: u8 = 1;
 ///      [[2: publicKey        [1] PublicKey OPTIONAL ]],
 ///      ...
 /// }
+///
+/// Version ::= INTEGER { v1(0), v2(1) } (v1, ..., v2)
 /// ```
 ///
 /// The version is v2 where there is a public key, and else v1. Attributes aren't read.
@@ -40,6 +43,32 @@ pub struct PrivateKeyInfo {
 }
 
 impl PrivateKeyInfo {
+    ghost use Rattle.x509_private_keys.specs.MadeKeys.{AreParts};
+
+    /// The private key for an algorithm that decides its kind, and the public key that goes with it.
+    pub(crate) fn of_parts(
+        algorithm: AlgorithmIdentifier,
+        private_key: PrivateKeyValue,
+        public_key: Option<BitStringAsn1>,
+    ) -> PrivateKeyInfo
+        requires { IsTrue (is_private_of algorithm.algorithm.0 private_key (field_of_key public_key)) }
+        ensures { AreParts algorithm private_key public_key result.fields }
+    {
+        let version = match &public_key {
+            Some(_) => PRIVATE_KEY_INFO_VERSION_2,
+            None => PRIVATE_KEY_INFO_VERSION_1,
+        };
+        let public_key = as_field(public_key);
+        PrivateKeyInfo {
+            fields: PrivateKeyFields {
+                version,
+                private_key_algorithm: algorithm,
+                private_key,
+                public_key,
+            },
+        }
+    }
+
     /// The version.
     pub fn version(&self) -> u8
         ensures { result ≡ self.now.fields.version }
@@ -60,11 +89,20 @@ impl PrivateKeyInfo {
     {
         &self.fields.private_key
     }
+
+    /// The public key that goes with the private one.
+    pub fn public_key(&self) -> Option<&BitStringAsn1>
+        ensures { MatchOption result
+            (key_of_field self.now.fields.public_key ≡ None)
+            (λ key. key_of_field self.now.fields.public_key ≡ Some key.now) }
+    {
+        in_field(&self.fields.public_key)
+    }
 }
 
 impl Serialize for PrivateKeyInfo {
     ghost use Rattle.asn1_trees.specs.Firsts.{only};
-    ghost use Rattle.x509_keys.specs.PrivateInfoLaws.{same_info};
+    ghost use Rattle.x509_private_keys.specs.PrivateInfoLaws.{same_info};
 
     ghost tree = { λ v. ⟦<PrivateKeyFields as Serialize>⟧.tree v.fields };
 
@@ -83,7 +121,7 @@ impl Spelled for PrivateKeyInfo {
     ghost use Rattle.std.proofs.Common.{refl, true};
     ghost use Rattle.asn1_trees.specs.Firsts.{only};
     ghost use Rattle.x509_spelling.specs.Laws.{held_laws};
-    ghost use Rattle.x509_keys.specs.PrivateInfoLaws.{same_info};
+    ghost use Rattle.x509_private_keys.specs.PrivateInfoLaws.{same_info};
 
     ghost spells = { λ v. ⟦<PrivateKeyFields as Spelled>⟧.spells v.fields };
 

@@ -1,15 +1,13 @@
 //! Private keys with their algorithms, without the rule on their version (RFC 5958, section 2).
 ghost use Rattle.std.specs.Prelude.{◌≡◌, ◌==◌, ℕ, List, true, IsTrue, MatchResult};
-ghost use Rattle.x509_keys.specs.PrivateKeys.{is_private_of, private_kinds, version_with};
+ghost use Rattle.x509_private_keys.specs.PrivateKeys.{is_private_of, private_kinds, version_with};
 
-use crate::agreeing::Agreeing;
-use crate::ahead::Ahead;
-use crate::chosen::{Identified, read_chosen_behind};
 use crate::private_key_value::{PrivateKeyValue, PrivateKinds, PublicKeyField, parts_of};
 use devices::Sink;
 use picky_asn1_der::{Asn1DerError, Serialize, Serializer};
 use std::alloc::Global;
 use x509_algorithms::AlgorithmIdentifier;
+use x509_keys::{Agreeing, Ahead, Identified, read_chosen_behind};
 use x509_kinds::Kinds;
 use x509_spelling::{Counted, Spelled, SpelledItem, X509Fault};
 
@@ -46,7 +44,7 @@ impl Serialize for PrivateKeyFields {
     ghost use Rattle.x509_kinds.specs.HeldLaws.{laws_injective};
     ghost use Rattle.x509_spelling.specs.Spellings.{Holds, Joins, Leads};
     ghost use Rattle.x509_keys.specs.BehindLaws.{behind_laws};
-    ghost use Rattle.x509_keys.specs.PrivateLaws.{private_row, same_private};
+    ghost use Rattle.x509_private_keys.specs.PrivateLaws.{private_row, same_private};
 
     ghost tree = { λ v. sequence (λ f. more (⟦<u8 as Spelled>⟧.written f.0) (⟦<AlgorithmIdentifier as SpelledItem>⟧.place f.1.0 (⟦<PrivateKinds as Kinds>⟧.row_trees f.1.1))) 48 (private_row v) };
 
@@ -89,7 +87,7 @@ impl Spelled for PrivateKeyFields {
     ghost use Rattle.asn1_trees.specs.Firsts.{only};
     ghost use Rattle.x509_spelling.specs.Spellings.{Holds, Joins, Leads};
     ghost use Rattle.x509_keys.specs.BehindLaws.{behind_laws};
-    ghost use Rattle.x509_keys.specs.PrivateLaws.{private_row, same_private};
+    ghost use Rattle.x509_private_keys.specs.PrivateLaws.{private_row, same_private};
 
     ghost spells = { λ v. Holds 48 (λ f. Joins (Leads ⟦<u8 as Spelled>⟧.spells) (λ g. Joins ⟦<AlgorithmIdentifier as SpelledItem>⟧.leads ⟦<PrivateKinds as Kinds>⟧.spells g.0 g.1) f.0 f.1) (private_row v) };
 

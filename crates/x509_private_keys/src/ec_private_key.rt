@@ -1,19 +1,23 @@
 //! Private keys on elliptic curves (RFC 5915, section 3).
 ghost use Rattle.std.specs.Prelude.{◌≡◌};
 
-use crate::fixed_number::FixedNumber;
+use crate::lent::{Lent, lent_under, plain};
 use devices::{Sink, Source};
 use picky_asn1::wrapper::{
     BitStringAsn1, ExplicitContextTag0, ExplicitContextTag1, OctetStringAsn1, Optional,
 };
-use picky_asn1_der::{
-    Asn1DerError, Deserializer, Fields, Row4, Serializer, Tagged, fields_of, from_fields,
-    read_sequence,
-};
+use picky_asn1_der::{Asn1DerError, Deserializer, Fields, Row4, Serializer, Tagged, read_sequence};
+use x509_keys::FixedNumber;
 use x509_parameters::EcParameters;
 use x509_spelling::Exact;
 
-/// A private key on an elliptic curve, as octets (RFC 5915, section 3; RFC 8410, section 7).
+/// A private key on an elliptic curve, as octets.
+///
+/// ```text
+/// CurvePrivateKey ::= OCTET STRING
+/// ```
+///
+/// RFC 8410, section 7, has it for the curves of Edwards and Montgomery; in an `ECPrivateKey` it is `privateKey`.
 pub type EncapsulatedEcSecret = OctetStringAsn1;
 
 /// A private key on an elliptic curve.
@@ -32,9 +36,9 @@ pub struct ECPrivateKey {
     /// The key.
     pub private_key: EncapsulatedEcSecret,
     /// The curve.
-    pub parameters: Optional<Option<ExplicitContextTag0<EcParameters>>>,
+    pub parameters: Option<EcParameters>,
     /// The public key that goes with it.
-    pub public_key: Optional<Option<ExplicitContextTag1<BitStringAsn1>>>,
+    pub public_key: Option<BitStringAsn1>,
 }
 
 type ECPrivateKeyRow = Row4<
@@ -45,9 +49,10 @@ type ECPrivateKeyRow = Row4<
 >;
 
 impl Tagged for ECPrivateKey {
-    ghost use Rattle.std.proofs.Common.{ap, refl, true};
+    ghost use Rattle.std.proofs.Common.{refl, true};
     ghost use Rattle.asn1_trees.specs.Tagged.{sequence};
     ghost use Rattle.asn1_trees.proofs.Tagged.{sequence_laws};
+    ghost use Rattle.x509_private_keys.specs.EcRows.{ec_row, same_ec};
 
     type Row = ECPrivateKeyRow;
 
@@ -59,22 +64,37 @@ impl Tagged for ECPrivateKey {
 
     ghost row_laws = { sequence_laws ⟦<ECPrivateKeyRow as Fields>⟧.trees (⟦<ECPrivateKeyRow as Fields>⟧.injective (refl {a = true})) };
 
-    ghost row_of = { λ v. (v.version, (v.private_key, (v.parameters, (v.public_key, tt)))) };
+    ghost row_of = { ec_row };
 
-    ghost one_row = { λ v w e. ap (λ f. record { version = f.0; private_key = f.1.0; parameters = f.1.1.0; public_key = f.1.1.1.0 }) e };
+    ghost one_row = { same_ec };
 
     fn read_row<R: Source>(tag: u8, from: &mut Deserializer<R>) -> Result<Self::Row, Asn1DerError> {
         read_sequence(tag, from)
     }
 
     fn of_row(row: Self::Row) -> Self {
-        from_fields![row; version, private_key, parameters, public_key]
+        let (version, (private_key, (parameters, (public_key, ())))) = row;
+        ECPrivateKey {
+            version,
+            private_key,
+            parameters: plain(parameters),
+            public_key: plain(public_key),
+        }
     }
 
     fn write_row<W: Sink>(&self, tag: u8, to: &mut Serializer<W>) -> Result<usize, Asn1DerError> {
+        let parameters: Optional<Option<ExplicitContextTag0<Lent<'_, EcParameters>>>> = lent_under(
+            &self.parameters,
+        );
+        let public_key: Optional<Option<ExplicitContextTag1<Lent<'_, BitStringAsn1>>>> = lent_under(
+            &self.public_key,
+        );
         to.list(
             tag,
-            &fields_of![self; version, private_key, parameters, public_key],
+            &(
+                &self.version,
+                (&self.private_key, (&parameters, (&public_key, ()))),
+            ),
         )
     }
 }

@@ -1,7 +1,7 @@
 use Rattle.std.proofs.Common.{inl, inr}
 use Rattle.asn1_codec.proofs.Chain.{at-exit}
-use Rattle.x509_keys.specs.PrivateLaws.{private_row}
-use Rattle.x509_keys.proofs.private_key_fields.PrivateKeyFieldsSpelled.read_counted.Goals as goal
+use Rattle.x509_private_keys.specs.PrivateLaws.{private_row}
+use Rattle.x509_private_keys.proofs.private_key_fields.PrivateKeyFieldsSpelled.read_counted.Goals as goal
 
 pub returns-in_err-read : goal.returns-in_err-read
 returns-in_err-read c =

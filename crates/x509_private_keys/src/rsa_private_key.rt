@@ -1,13 +1,13 @@
 //! Private keys of RSA (RFC 8017, appendix A.1.2).
 ghost use Rattle.std.specs.Prelude.{◌≡◌};
 
-use crate::fixed_number::FixedNumber;
 use devices::{Sink, Source};
 use picky_asn1::wrapper::IntegerAsn1;
 use picky_asn1_der::{
     Asn1DerError, Deserializer, Fields, Row9, Serializer, Tagged, fields_of, from_fields,
     read_sequence,
 };
+use x509_keys::FixedNumber;
 use x509_spelling::Exact;
 
 /// A private key of RSA, with two primes.
