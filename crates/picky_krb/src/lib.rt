@@ -80,6 +80,13 @@ pub mod crypto {
         hmac_sha1, n_fold, usage_kc, usage_ke, usage_ki,
     };
 
+    /// Keys that a Diffie-Hellman exchange agrees on (RFC 4556, section 3.2.3.1).
+    pub mod diffie_hellman {
+        pub use krb_agreement::{
+            DhNonce, DiffieHellmanError, DiffieHellmanResult, generate_key_from_shared_secret,
+        };
+    }
+
     /// The suite of triple DES (RFC 3961, section 6.3).
     pub mod des {
         pub use krb_des3::{
