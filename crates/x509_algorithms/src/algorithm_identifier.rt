@@ -6,13 +6,14 @@ ghost use Rattle.std.specs.Cmp.Lexicographic.{pointwise};
 ghost use Rattle.x509_algorithms.specs.AlgorithmKinds.{is_parameters_of, kinds_of};
 
 use crate::algorithm_kinds::{AlgorithmIdentifierParameters, AlgorithmKinds, of_kinds};
-use devices::Sink;
+use devices::{Sink, Source};
 use picky_asn1::oid::ObjectIdentifier;
 use picky_asn1::wrapper::ObjectIdentifierAsn1;
-use picky_asn1_der::{Asn1DerError, Serialize, Serializer};
+use picky_asn1_der::{Asn1DerError, Deserialize, Deserializer, Serialize, Serializer};
 use std::alloc::Global;
 use x509_kinds::{Kinds, read_identified};
 use x509_spelling::{Counted, Spelled, SpelledItem, X509Fault};
+use x509_strict::read_strict;
 
 /// An algorithm, and parameters of the kind that its identifier decides.
 ///
@@ -22,7 +23,8 @@ use x509_spelling::{Counted, Spelled, SpelledItem, X509Fault};
 ///      parameters              ANY DEFINED BY algorithm OPTIONAL  }
 /// ```
 ///
-/// Algorithms that aren't known here aren't read.
+/// Algorithms that aren't known here aren't read. Inside a message of another kind, as one of Kerberos, the strict spelling alone is
+/// read.
 #[derive(Drop)]
 pub struct AlgorithmIdentifier {
     algorithm: ObjectIdentifierAsn1,
@@ -121,6 +123,16 @@ impl Serialize for AlgorithmIdentifier {
             AlgorithmIdentifierParameters::Ec(curve) => to.list(48, &(id, (curve, ()))),
             AlgorithmIdentifierParameters::RsassaPss(params) => to.list(48, &(id, (params, ()))),
         }
+    }
+}
+
+impl Deserialize for AlgorithmIdentifier {
+    fn may_start(first: u8) -> bool {
+        first == 48
+    }
+
+    fn deserialize<R: Source>(from: &mut Deserializer<R>) -> Result<Self, Asn1DerError> {
+        read_strict(from)
     }
 }
 
