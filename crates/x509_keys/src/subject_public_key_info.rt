@@ -7,17 +7,19 @@ use crate::ahead::Ahead;
 use crate::chosen::{Identified, read_chosen_in};
 use crate::public_key::{EncapsulatedEcPoint, PublicKey, PublicKinds, is_of, of_kinds};
 use crate::rsa_public_key::RsaPublicKey;
-use devices::Sink;
+use devices::{Sink, Source};
 use picky_asn1::oid::ObjectIdentifier;
 use picky_asn1::wrapper::{BitStringAsn1Container, IntegerAsn1};
-use picky_asn1_der::{Asn1DerError, Serialize, Serializer};
+use picky_asn1_der::{Asn1DerError, Deserialize, Deserializer, Serialize, Serializer};
 use std::alloc::{AllocError, Global};
 use x509_algorithms::AlgorithmIdentifier;
 use x509_kinds::Kinds;
 use x509_parameters::EcParameters;
 use x509_spelling::{Counted, Spelled, SpelledItem, X509Fault};
+use x509_strict::read_strict;
 
-/// A public key, and the algorithm that it is for.
+/// A public key, and the algorithm that it is for. Inside a message of another kind, as one of Kerberos, the strict spelling alone is
+/// read.
 ///
 /// ```text
 /// SubjectPublicKeyInfo  ::=  SEQUENCE  {
@@ -149,6 +151,16 @@ impl Serialize for SubjectPublicKeyInfo {
             PublicKey::Ed(key) => to.list(48, &Ahead(algorithm, (key, ()))),
             PublicKey::Mldsa(key) => to.list(48, &Ahead(algorithm, (key, ()))),
         }
+    }
+}
+
+impl Deserialize for SubjectPublicKeyInfo {
+    fn may_start(first: u8) -> bool {
+        first == 48
+    }
+
+    fn deserialize<R: Source>(from: &mut Deserializer<R>) -> Result<Self, Asn1DerError> {
+        read_strict(from)
     }
 }
 
