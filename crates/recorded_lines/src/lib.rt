@@ -3,6 +3,8 @@
 
 mod columns;
 mod files;
+mod round_trip;
 
 pub use columns::{Recorded, Wanted, recorded_of};
 pub use files::{Lines, replay};
+pub use round_trip::{are_wanted, is_refused, is_told, is_written};

@@ -1,0 +1,40 @@
+//! One message, read and written back.
+use crate::columns::{Recorded, Wanted};
+use picky_asn1_der::{Asn1DerError, FromDer, Serialize, from_exact_bytes, to_vec};
+use std::alloc::Global;
+
+/// Whether a message is read and written as is wanted.
+pub fn is_told<T: FromDer + Serialize>(
+    alloc: Global,
+    recorded: &Recorded<'_>,
+) -> Result<bool, Asn1DerError> {
+    match from_exact_bytes::<T>(alloc, &recorded.bytes) {
+        Ok(value) => is_written(alloc, &value, recorded),
+        Err(Asn1DerError::Memory) => Err(Asn1DerError::Memory),
+        Err(_) => Ok(is_refused(recorded)),
+    }
+}
+
+/// Whether a value is written as is wanted.
+pub fn is_written<T: Serialize>(
+    alloc: Global,
+    value: &T,
+    recorded: &Recorded<'_>,
+) -> Result<bool, Asn1DerError> {
+    let written = to_vec(alloc, value)?;
+    Ok(are_wanted(&written, recorded))
+}
+
+/// Whether these bytes are wanted of what is written.
+pub fn are_wanted(written: &[u8], recorded: &Recorded<'_>) -> bool {
+    match &recorded.wanted {
+        Wanted::Itself => written == recorded.bytes.as_slice(),
+        Wanted::Other(bytes) => written == bytes.as_slice(),
+        Wanted::Held(_) | Wanted::Refused => false,
+    }
+}
+
+/// Whether a refusal is wanted.
+pub fn is_refused(recorded: &Recorded<'_>) -> bool {
+    matches!(recorded.wanted, Wanted::Refused)
+}
