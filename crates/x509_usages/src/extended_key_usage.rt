@@ -3,7 +3,8 @@ ghost use Rattle.std.specs.Prelude.{◌≡◌, MatchResult};
 ghost use Rattle.std.specs.Bool.{nat_eq};
 ghost use Rattle.std.specs.Cmp.Lexicographic.{pointwise};
 ghost use Rattle.std.specs.List.{list_any};
-ghost use Rattle.std.specs.Slice.Iter.{iter_rest};
+ghost use Rattle.std.specs.Slice.Iter.{iter_rest, iter_mut_rest};
+ghost use Rattle.std.specs.Borrow.{sem};
 
 use devices::{Sink, Source};
 use picky_asn1::oid::ObjectIdentifier;
@@ -12,7 +13,7 @@ use picky_asn1_der::{
     Asn1DerError, Deserializer, Elements, Serialize, Serializer, Tagged, read_sequence,
 };
 use std::marker::Model;
-use std::slice::Iter;
+use std::slice::{Iter, IterMut};
 use x509_spelling::Exact;
 
 /// The purposes that a key may serve, in their order. A contract sees the list of them.
@@ -39,6 +40,8 @@ impl Model for ExtendedKeyUsage {
 }
 
 impl ExtendedKeyUsage {
+    ghost use Rattle.x509_usages.specs.Lent.{LendsPurposes};
+
     /// These purposes.
     pub fn new(purposes: Vec<ObjectIdentifierAsn1>) -> ExtendedKeyUsage
         ensures { result ≡ purposes.items }
@@ -58,6 +61,14 @@ impl ExtendedKeyUsage {
         ensures { iter_rest result ≡ self.now }
     {
         self.as_slice().iter()
+    }
+
+    /// The purposes, one after another, each to be written in place. Their number stays.
+    pub fn iter_mut(&mut self) -> IterMut<'_, ObjectIdentifierAsn1>
+        ensures* writes_back { sem 𝓛 (LendsPurposes self.entry result) }
+        ensures purposes { iter_mut_rest result ≡ self.old }
+    {
+        self.purposes.as_mut_slice().iter_mut()
     }
 
     /// Whether this is one of the purposes.
