@@ -4,7 +4,7 @@ ghost use Rattle.std.specs.Prelude.{◌≡◌, ℕ, IfOk, IsTrue, MatchOption};
 use devices::Sink;
 use picky_asn1_der::{Asn1DerError, HasDefault, Leaf, Rule, Serializer};
 use std::alloc::{AllocError, Global};
-use x509_spelling::Deviates;
+use x509_spelling::{Deviates, Exact};
 
 /// A certificate's version.
 ///
@@ -81,6 +81,8 @@ impl Leaf for Version {
         to.element(tag, &[self.number()])
     }
 }
+
+impl Exact for Version {}
 
 impl HasDefault for Version {
     ghost use Rattle.std.specs.Prelude.{◌==◌};
