@@ -4,7 +4,7 @@ use picky_asn1_der::RawElement;
 use x509_parts::DirectoryString;
 
 /// The value of an attribute, as the attribute's identifier names it.
-#[derive(Drop)]
+#[derive(Clone, Copy)]
 pub enum AttributeTypeAndValueParameters<'a> {
     /// The name of the thing itself.
     CommonName(&'a DirectoryString),
