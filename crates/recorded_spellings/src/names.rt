@@ -1,0 +1,28 @@
+//! Spellings of names and times, by the names of their types. Each type has a function of its own, since one match over all
+//! of them is dear to prove.
+use crate::columns::Recorded;
+use crate::told::{Answer, is_told};
+use picky_asn1_x509::{GeneralNames, Name, Validity};
+use std::alloc::Global;
+
+/// Whether a spelling of such a type is read, counted and rewritten as is wanted; none for any other type.
+pub fn agrees(alloc: Global, recorded: &Recorded<'_>) -> Option<Answer> {
+    match recorded.type_name {
+        "GeneralNames" => Some(general_names(alloc, recorded)),
+        "Name" => Some(name(alloc, recorded)),
+        "Validity" => Some(validity(alloc, recorded)),
+        _ => None,
+    }
+}
+
+fn general_names(alloc: Global, recorded: &Recorded<'_>) -> Answer {
+    is_told::<GeneralNames>(alloc, recorded)
+}
+
+fn name(alloc: Global, recorded: &Recorded<'_>) -> Answer {
+    is_told::<Name>(alloc, recorded)
+}
+
+fn validity(alloc: Global, recorded: &Recorded<'_>) -> Answer {
+    is_told::<Validity>(alloc, recorded)
+}
