@@ -1,0 +1,24 @@
+-- The first value of a kind among some extensions (RFC 5280, section 4.2.1).
+use Rattle.std.specs.Prelude.{ℕ, List, [], ◌∷◌, Option, None, Some}
+use Rattle.x509_extensions.specs.declared.authority_key_identifier.AuthorityKeyIdentifier.{AuthorityKeyIdentifier}
+use Rattle.x509_extensions.specs.declared.extension.Extension.{Extension}
+use Rattle.x509_extensions.specs.declared.extension_value.ExtensionValue.{ExtensionValue}
+use Rattle.x509_extensions.specs.declared.extension_value.ExtensionValue.TheVariants as kind
+use Rattle.x509_names.specs.Parameters.{or_else}
+use Rattle.x509_parts.specs.declared.basic_constraints.BasicConstraints.{BasicConstraints}
+
+abbrev pub first_among : {T : Type 0} → (ExtensionValue → Option T) → List Extension → Option T
+first_among held_by [] = None
+first_among held_by (extension ∷ extensions) = or_else (held_by extension.extn_value) (first_among held_by extensions)
+
+abbrev pub key_held : ExtensionValue → Option (List ℕ)
+key_held (kind.SubjectKeyIdentifier held) = Some held.0
+key_held other = None
+
+abbrev pub authority_held : ExtensionValue → Option AuthorityKeyIdentifier
+authority_held (kind.AuthorityKeyIdentifier held) = Some held.0
+authority_held other = None
+
+abbrev pub constraints_held : ExtensionValue → Option BasicConstraints
+constraints_held (kind.BasicConstraints held) = Some held.0
+constraints_held other = None

@@ -1,0 +1,4 @@
+pub mod Certificates
+pub mod ExtensionsFields
+pub mod ExtensionsHeld
+pub mod ExtensionsLaws

@@ -1,0 +1,154 @@
+//! What a certificate's issuer signs (RFC 5280, section 4.1).
+ghost use Rattle.std.specs.Prelude.{◌≡◌, MatchResult};
+ghost use Rattle.x509_certificates.specs.Certificates.{tbs_row};
+
+use crate::certificate_extensions::CertificateExtensions;
+use crate::version_field::VersionField;
+use devices::Sink;
+use picky_asn1::wrapper::IntegerAsn1;
+use picky_asn1_der::{Asn1DerError, DefaultField, ExplicitContextTag, Serialize, Serializer};
+use std::alloc::Global;
+use x509_algorithms::AlgorithmIdentifier;
+use x509_keys::{Ahead, SubjectPublicKeyInfo};
+use x509_names::Name;
+use x509_parts::{Validity, Version};
+use x509_spelling::{Counted, Spelled, SpelledFields, X509Fault, read_fields};
+
+/// What a certificate's issuer signs.
+///
+/// ```text
+/// TBSCertificate  ::=  SEQUENCE  {
+///      version         [0]  EXPLICIT Version DEFAULT v1,
+///      serialNumber         CertificateSerialNumber,
+///      signature            AlgorithmIdentifier,
+///      issuer               Name,
+///      validity             Validity,
+///      subject              Name,
+///      subjectPublicKeyInfo SubjectPublicKeyInfo,
+///      issuerUniqueID  [1]  IMPLICIT UniqueIdentifier OPTIONAL,
+///      subjectUniqueID [2]  IMPLICIT UniqueIdentifier OPTIONAL,
+///      extensions      [3]  EXPLICIT Extensions OPTIONAL }
+/// ```
+///
+/// Certificates with unique identifiers are refused, and so is an empty list of extensions.
+#[derive(Drop)]
+pub struct TbsCertificate {
+    /// The version. That v1 is spelled out is a deviation.
+    pub version: Version,
+    /// The issuer's number for the certificate.
+    pub serial_number: IntegerAsn1,
+    /// With which algorithm the issuer signs.
+    pub signature: AlgorithmIdentifier,
+    /// Who signs.
+    pub issuer: Name,
+    /// When the certificate is valid.
+    pub validity: Validity,
+    /// Whose key it is.
+    pub subject: Name,
+    /// The key.
+    pub subject_public_key_info: SubjectPublicKeyInfo,
+    /// The extensions.
+    pub extensions: CertificateExtensions,
+}
+
+type TbsRow = (
+    DefaultField<VersionField>,
+    (
+        IntegerAsn1,
+        (
+            AlgorithmIdentifier,
+            (
+                Name,
+                (
+                    Validity,
+                    (Name, (SubjectPublicKeyInfo, CertificateExtensions)),
+                ),
+            ),
+        ),
+    ),
+);
+
+impl Serialize for TbsCertificate {
+    ghost use Rattle.std.proofs.Common.{refl, true};
+    ghost use Rattle.asn1_trees.specs.Tagged.{sequence};
+    ghost use Rattle.asn1_trees.specs.Firsts.{only};
+    ghost use Rattle.asn1_trees.proofs.Spelling.{may_begin-only};
+    ghost use Rattle.x509_spelling.specs.Spellings.{Holds};
+    ghost use Rattle.x509_spelling.specs.RowLaws.{struct_laws};
+    ghost use Rattle.x509_kinds.specs.HeldLaws.{laws_injective};
+    ghost use Rattle.x509_certificates.specs.Certificates.{tbs_row, one_tbs};
+
+    ghost tree = { λ v. sequence ⟦<TbsRow as SpelledFields>⟧.row_trees 48 (tbs_row v) };
+
+    ghost firsts = { only 48 };
+
+    ghost begins = { λ _. may_begin-only 48 };
+
+    ghost injective = { laws_injective true (only 48) (λ v. sequence ⟦<TbsRow as SpelledFields>⟧.row_trees 48 (tbs_row v)) (λ v. Holds 48 ⟦<TbsRow as SpelledFields>⟧.spells (tbs_row v))
+        (struct_laws 48 refl ⟦<TbsRow as SpelledFields>⟧.row_firsts ⟦<TbsRow as SpelledFields>⟧.row_trees ⟦<TbsRow as SpelledFields>⟧.spells
+        (⟦<TbsRow as SpelledFields>⟧.row_laws (refl {a = true})) tbs_row one_tbs) };
+
+    fn serialize<W: Sink>(&self, to: &mut Serializer<W>) -> Result<usize, Asn1DerError> {
+        let version = DefaultField(VersionField(ExplicitContextTag(self.version)));
+        let key = (&self.subject_public_key_info, (&self.extensions.tagged, ()));
+        let names = (&self.issuer, (&self.validity, (&self.subject, key)));
+        to.list(
+            48,
+            &(
+                &version,
+                (&self.serial_number, Ahead(&self.signature, names)),
+            ),
+        )
+    }
+}
+
+impl Spelled for TbsCertificate {
+    ghost use Rattle.std.proofs.Common.{refl, true};
+    ghost use Rattle.asn1_trees.specs.Tagged.{sequence};
+    ghost use Rattle.asn1_trees.specs.Firsts.{only};
+    ghost use Rattle.x509_spelling.specs.Spellings.{Holds};
+    ghost use Rattle.x509_spelling.specs.RowLaws.{struct_laws};
+    ghost use Rattle.x509_certificates.specs.Certificates.{tbs_row, one_tbs};
+
+    ghost spells = { λ v. Holds 48 ⟦<TbsRow as SpelledFields>⟧.spells (tbs_row v) };
+
+    ghost written = { λ v. sequence ⟦<TbsRow as SpelledFields>⟧.row_trees 48 (tbs_row v) };
+
+    ghost begun = { only 48 };
+
+    ghost has_low_tags = { true };
+
+    ghost laws = { struct_laws 48 refl ⟦<TbsRow as SpelledFields>⟧.row_firsts ⟦<TbsRow as SpelledFields>⟧.row_trees ⟦<TbsRow as SpelledFields>⟧.spells
+        (⟦<TbsRow as SpelledFields>⟧.row_laws (refl {a = true})) tbs_row one_tbs };
+
+    fn may_begin_with(first: u8) -> bool {
+        first == 48
+    }
+
+    fn read_counted(alloc: Global, bytes: &[u8]) -> Result<Counted<Self>, X509Fault> {
+        let read: Counted<TbsRow> = read_fields(alloc, 48, bytes)?;
+        let count = read.count;
+        let value = of_row(read.into_value());
+        Ok(Counted { value, count })
+    }
+
+    ghost written_is = { refl };
+}
+
+// The value with these fields.
+fn of_row(row: TbsRow) -> TbsCertificate
+    ensures { tbs_row result ≡ row }
+{
+    let (DefaultField(version), (serial_number, (signature, (issuer, names)))) = row;
+    let (validity, (subject, (subject_public_key_info, extensions))) = names;
+    TbsCertificate {
+        version: version.0.0,
+        serial_number,
+        signature,
+        issuer,
+        validity,
+        subject,
+        subject_public_key_info,
+        extensions,
+    }
+}
