@@ -1,3 +1,4 @@
 pub mod AttributeLaws
 pub mod AttributeMade
 pub mod AttributeValues
+pub mod NoAttributes

@@ -1,10 +1,10 @@
 //! Lists of attributes (RFC 2986, section 4.1).
-ghost use Rattle.std.specs.Prelude.{◌≡◌, MatchResult};
+ghost use Rattle.std.specs.Prelude.{◌≡◌, [], ◌∷◌, ◌++◌, MatchResult};
 
 use crate::attribute::Attribute;
 use devices::Sink;
 use picky_asn1_der::{Asn1DerError, Serialize, Serializer};
-use std::alloc::Global;
+use std::alloc::{AllocError, Global};
 use std::marker::Model;
 use x509_spelling::{Counted, Many, Spelled, SpelledFields, X509Fault, read_fields};
 
@@ -33,6 +33,14 @@ impl Attributes {
         ensures { result.now ≡ self.now }
     {
         self.items.as_slice()
+    }
+
+    /// Adds an attribute behind the others.
+    pub fn push(&mut self, attribute: Attribute) -> Result<(), AllocError>
+        ensures { MatchResult result (λ _. self.new ≡ self.old ++ (attribute ∷ [])) (λ _. self.new ≡ self.old) }
+    {
+        self.items.push(attribute)?;
+        Ok(())
     }
 }
 

@@ -1,14 +1,17 @@
 //! Attributes as a certification request has them (RFC 2986, section 4.1).
-ghost use Rattle.std.specs.Prelude.{◌≡◌, MatchResult};
+ghost use Rattle.std.specs.Prelude.{◌≡◌, MatchResult, IsTrue, IfOk};
 
 use crate::attribute::Attribute;
 use crate::attributes::Attributes;
 use devices::Sink;
-use picky_asn1_der::{Asn1DerError, Serialize, Serializer};
-use std::alloc::Global;
-use x509_spelling::{Counted, Many, Spelled, SpelledFields, X509Fault, read_fields};
+use picky_asn1_der::{Asn1DerError, HasDefault, Serialize, Serializer};
+use std::alloc::{AllocError, Global};
+use x509_spelling::{
+    Counted, Deviates, Implies, Many, Spelled, SpelledFields, X509Fault, read_fields,
+};
 
-/// The attributes of a certification request. Their order is kept as given.
+/// The attributes of a certification request. Their order is kept as given. Where a request has no such field, which is a
+/// deviation, there are none.
 ///
 /// ```text
 /// attributes    [0] Attributes
@@ -83,4 +86,36 @@ impl Spelled for OpenSslAttributes {
     }
 
     ghost written_is = { refl };
+}
+
+impl HasDefault for OpenSslAttributes {
+    ghost use Rattle.std.specs.Prelude.{length, ◌==◌};
+    ghost use Rattle.x509_attributes.specs.NoAttributes.{one_empty};
+
+    ghost is_default_value = { λ attributes. length attributes.0 == 0 };
+
+    ghost one_default = { λ v w left right.
+        let same = one_empty v.0 w.0 left right
+        in λ i. record { 0 = same i } };
+
+    fn is_default(&self) -> bool {
+        self.as_slice().is_empty()
+    }
+
+    fn default_value(alloc: Global) -> Result<Self, AllocError> {
+        let none = Vec::new(alloc);
+        Ok(OpenSslAttributes(Attributes::from(none)))
+    }
+}
+
+impl Deviates for OpenSslAttributes {
+    ghost use Rattle.x509_spelling.specs.Deviations.{attributes_missing};
+
+    ghost deviation = { attributes_missing };
+}
+
+impl Implies for OpenSslAttributes {
+    ghost use Rattle.x509_attributes.specs.NoAttributes.{empty_whole};
+
+    ghost default_is_whole = { λ attributes none. empty_whole ⟦<Attribute as Spelled>⟧.written 160 attributes.0 none };
 }
