@@ -18,6 +18,12 @@ use x509_oids::iakerb5;
 
 /// A message on its way from a client to a KDC, or back, through a service (draft-ietf-kitten-iakerb-03, section 3): what stands inside a
 /// token of the mechanism IAKERB behind 05 01, under the tag of [`ApplicationTag0`].
+///
+/// ```text
+/// GSSAPI-Token ::= [APPLICATION 0] IMPLICIT SEQUENCE {
+///      thisMech     MechType,
+///      innerToken   ANY DEFINED BY thisMech -- here 05 01, an IAKERB-HEADER and the message -- }
+/// ```
 #[derive(Debug, Drop, PartialEq, Eq, Clone)]
 pub struct IAKerbProxyMessage<T> {
     /// Where the message is to go.

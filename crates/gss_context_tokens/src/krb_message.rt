@@ -13,6 +13,12 @@ use std::alloc::Global;
 
 /// A message with the two octets that tell it, behind its mechanism (RFC 4121, section 4.1): what stands inside a first token, under the
 /// tag of [`ApplicationTag0`]. Neither mechanism nor octets are judged.
+///
+/// ```text
+/// GSSAPI-Token ::= [APPLICATION 0] IMPLICIT SEQUENCE {
+///      thisMech     MechType,
+///      innerToken   ANY DEFINED BY thisMech -- here the two octets and the message -- }
+/// ```
 #[derive(Debug, Drop, PartialEq, Eq, Clone)]
 pub struct KrbMessage<T> {
     /// The mechanism.
