@@ -1,35 +1,57 @@
 #!/bin/sh
 # Tells of each item of items.txt in which crate it stands, or why it stands in none. Ends with 1 where the front doesn't name an
-# item that has no reason, or names one that has.
+# item that has no reason, or names one that has. With `table` it writes the same as rows of DIFFERENCES.md, one for the items of a
+# module that stand in one crate.
 cd "$(dirname "$0")/.." || exit 1
 front=crates/picky_krb/src/lib.rt
 crates="$(sed -n 's/^picky_krb: //p' crates.txt) krb_priv_frames negoex_forms"
-status=0
-while read -r path dash reason; do
-    case $path in '#'*) continue ;; esac
-    name=${path##*::}
-    above=${path%::*}
-    module=${above##*::}
-    home=
-    for crate in $crates; do
-        if grep -rqE "^ *pub (struct|enum|type|trait|const|fn) $name\b" "crates/$crate/src"; then
-            home=$crate
-            if grep -qE "pub use $crate(::.*)?\b($name|$module)\b" "$front"; then break; fi
+
+# One line for each item: its path, and the crate or the reason.
+places() {
+    status=0
+    while read -r path dash reason; do
+        case $path in '#'*) continue ;; esac
+        name=${path##*::}
+        above=${path%::*}
+        module=${above##*::}
+        home=
+        for crate in $crates; do
+            if grep -rqE "^ *pub (struct|enum|type|trait|const|fn) $name\b" "crates/$crate/src"; then
+                home=$crate
+                if grep -qE "pub use $crate(::.*)?\b($name|$module)\b" "$front"; then break; fi
+            fi
+        done
+        handed=no
+        if grep -qw "$name" "$front"; then handed=yes; fi
+        case $path in
+            constants::*) if grep -qE "pub use krb_constants::\{.*\b$module\b" "$front"; then handed=yes; fi ;;
+        esac
+        if [ -n "$dash" ]; then
+            echo "$path | absent: $reason"
+            if [ $handed = yes ]; then status=1; fi
+        elif [ -n "$home" ] && [ $handed = yes ]; then
+            echo "$path | $home"
+        else
+            echo "$path | nowhere"
+            status=1
         fi
-    done
-    handed=no
-    if grep -qw "$name" "$front"; then handed=yes; fi
-    case $path in
-        constants::*) if grep -qE "pub use krb_constants::\{.*\b$module\b" "$front"; then handed=yes; fi ;;
-    esac
-    if [ -n "$dash" ]; then
-        echo "$path | absent: $reason"
-        if [ $handed = yes ]; then status=1; fi
-    elif [ -n "$home" ] && [ $handed = yes ]; then
-        echo "$path | $home"
-    else
-        echo "$path | nowhere"
-        status=1
-    fi
-done <docs/items.txt
-exit $status
+    done <docs/items.txt
+    return $status
+}
+
+# The same as a table, the modules in their order.
+table() {
+    echo '| Module | Items | Where |'
+    echo '|---|---|---|'
+    awk -F ' [|] ' '{
+        name = $1; sub(/.*::/, "", name); module = $1; sub(/::[^:]*$/, "", module); row = module " " $2
+        if (!(row in items)) { order[++rows] = row; of[row] = module; at[row] = $2 }
+        items[row] = items[row] (items[row] == "" ? "" : ", ") "`" name "`"
+    } END { for (i = 1; i <= rows; i++) print "| `" of[order[i]] "` | " items[order[i]] " | " (at[order[i]] ~ /^(absent|nowhere)/ ? "" : "`") at[order[i]] (at[order[i]] ~ /^(absent|nowhere)/ ? "" : "`") " |" }'
+}
+
+if [ "$1" = table ]; then
+    places | table
+else
+    places
+fi
