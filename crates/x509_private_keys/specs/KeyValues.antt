@@ -1,5 +1,5 @@
 -- Private keys as octet strings that hold them, each kind told from the others (RFC 5958, section 2).
-use Rattle.std.proofs.Common.{◌≡◌, ℕ, List, [], ◌∷◌, ◌++◌, refl, sym, ap, ◌∙◌, arith}
+use Rattle.std.proofs.Common.{◌≡◌, ℕ, List, [], ◌∷◌, ◌++◌, refl, sym, ◌∙◌, arith}
 use Rattle.asn1_trees.specs.Length.{element}
 use Rattle.asn1_trees.specs.Tree.{Tree, Trees, primitive, constructed, absent, none, more, bare, der, ders, IsWhole, wrapped}
 use Rattle.asn1_trees.specs.Firsts.{only, BeginsAmong}

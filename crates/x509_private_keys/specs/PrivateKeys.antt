@@ -1,5 +1,5 @@
 -- Private keys, of which the identifier of the algorithm decides the kind (RFC 5958, section 2).
-use Rattle.std.specs.Prelude.{◌≡◌, ℕ, Bool, ◌==◌, List, Option, None, Some, ⊤, refl}
+use Rattle.std.specs.Prelude.{◌≡◌, ℕ, Bool, List, Option, None, Some, ⊤, refl}
 use Rattle.asn1_leaves.specs.ObjectIdentifier.{oid_content}
 use Rattle.picky_asn1_der.specs.declared.container.OctetStringContainer.{OctetStringContainer}
 use Rattle.x509_kinds.specs.declared.enclosed.Enclosed.{Enclosed}
