@@ -1,0 +1,2 @@
+pub mod AttributesAdded
+pub mod Requests
