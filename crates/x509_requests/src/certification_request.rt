@@ -32,7 +32,10 @@ pub struct CertificationRequest {
     pub signature: BitStringAsn1,
 }
 
-type RequestRow = (CertificationRequestInfo, (AlgorithmIdentifier, (BitStringAsn1, ())));
+type RequestRow = (
+    CertificationRequestInfo,
+    (AlgorithmIdentifier, (BitStringAsn1, ())),
+);
 
 impl CertificationRequest {
     /// The request of which the whole input is a spelling, with any count of deviations, and the bytes that its

@@ -62,7 +62,10 @@ impl CertificationRequestInfo {
     }
 
     /// The request with an attribute behind the others.
-    pub fn with_attribute(self, attribute: Attribute) -> Result<CertificationRequestInfo, AllocError>
+    pub fn with_attribute(
+        self,
+        attribute: Attribute,
+    ) -> Result<CertificationRequestInfo, AllocError>
         ensures { IfOk result (λ made. IsAdded self attribute made) }
     {
         let mut info = self;
