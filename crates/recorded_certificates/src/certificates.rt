@@ -1,0 +1,39 @@
+//! Certificates, by the names of their types. Each type has a function of its own, since one match over all of them is dear to prove.
+use crate::recorded::Recorded;
+use crate::told::{Answer, is_told};
+use anyhow::bail;
+use std::alloc::Global;
+use x509_certificates::{Certificate, TbsCertificate};
+use x509_spelling::X509Fault;
+
+/// Whether a spelling is read, counted and rewritten as is wanted.
+pub fn agrees(alloc: Global, recorded: &Recorded<'_>) -> anyhow::Result<bool> {
+    let answer = match recorded.type_name {
+        "Certificate" => certificate(alloc, recorded),
+        "TbsCertificate" => tbs_certificate(alloc, recorded),
+        other => bail!("no type {other}"),
+    };
+    Ok(answer?)
+}
+
+/// Of a certificate the signed part is lent too.
+fn certificate(alloc: Global, recorded: &Recorded<'_>) -> Answer {
+    let lent = Certificate::with_signed_part(alloc, &recorded.bytes);
+    if !is_lent(recorded, lent)? {
+        return Ok(false);
+    }
+    is_told::<Certificate>(alloc, recorded)
+}
+
+fn tbs_certificate(alloc: Global, recorded: &Recorded<'_>) -> Answer {
+    is_told::<TbsCertificate>(alloc, recorded)
+}
+
+/// Whether the part that is lent is the one of which the line tells the place.
+fn is_lent<T: Drop>(recorded: &Recorded<'_>, lent: Result<(T, &[u8]), X509Fault>) -> Answer {
+    match lent {
+        Ok((_, part)) => Ok(recorded.has_signed(part)),
+        Err(X509Fault::Memory) => Err(X509Fault::Memory),
+        Err(_) => Ok(recorded.wanted.is_none()),
+    }
+}
