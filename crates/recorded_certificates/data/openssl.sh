@@ -1,6 +1,6 @@
 #!/bin/bash
-# Writes openssl.txt: certificates that openssl makes, and the same in looser spellings, signed as they stand
-# there. A line of a certificate comes only where openssl verifies the part whose place is the last column with the
+# Writes openssl.txt: certificates and requests that openssl makes, and the same in looser spellings, signed as they stand
+# there. A line of a certificate or a request comes only where openssl verifies the part whose place is the last column with the
 # signer's key, and, where the strict bytes are others, refuses the part of those. Keys are new at each run.
 cd "$(dirname "$0")" || exit 1
 here=$PWD
@@ -68,7 +68,7 @@ verifies() {
     esac >"$folder/said" 2>&1
 }
 
-# The content octets of the signature at the end of a certificate.
+# The content octets of the signature at the end of a certificate or a request.
 signature() {
     binary "$1" >"$folder/whole"
     start=$(openssl asn1parse -inform DER -in "$folder/whole" | awk -F: '/d=1/ { start = $1 + 0 } END { print start }')
@@ -93,7 +93,7 @@ strict() {
     line "$1" "$2" "$3" "$4" 0 "$4"
 }
 
-# The fields inside a certificate's first element, each as hexadecimal digits, one a line.
+# The fields inside a certificate's or a request's first element, each as hexadecimal digits, one a line.
 fields() {
     binary "$1" >"$folder/whole"
     openssl asn1parse -inform DER -in "$folder/whole" |
@@ -120,7 +120,7 @@ public() {
 
 cd "$folder" || exit 1
 cp "$here/openssl.cnf" .
-echo "# Certificates by $(openssl version | cut -d' ' -f1,2) (openssl.sh, of openssl.cnf), and a published one."
+echo "# Certificates and requests by $(openssl version | cut -d' ' -f1,2) (openssl.sh, of openssl.cnf), and a published one."
 echo '# Type | bytes | deviations in them | strict bytes | place of the signed part, its start and its length, which openssl verifies.'
 for kind in rsa ec ED25519; do
     key $kind $kind && public $kind
@@ -152,6 +152,12 @@ openssl req -new -config openssl.cnf -key rsa -out request || exit 1
 openssl x509 -req -in request -signkey rsa -days 365 -out plain 2>said || exit 1
 plain=$(der openssl x509 -in plain)
 strict Certificate rsa rsa.public "$plain"
+for kind in rsa ec ED25519; do
+    openssl req -new -config openssl.cnf -key $kind -out $kind.request || exit 1
+    strict CertificationRequest $kind $kind.public "$(der openssl req -in $kind.request)"
+    openssl req -new -config openssl.cnf -reqexts asked -key $kind -out request || exit 1
+    strict CertificationRequest $kind $kind.public "$(der openssl req -in request)"
+done
 # The strict bytes of what is spelled more loosely have the loose one's signature.
 loosely() {
     bits=$(element 03 "00$(signature "$4")")
@@ -202,6 +208,19 @@ done <<EXTENSIONS
 1 300f0603551d23040830068201058001aa 300f0603551d23040830068001aa820105
 1 300f0603551d23040830068001aa8001bb 300c0603551d23040530038001bb
 EXTENSIONS
+# A request with no attributes at all, and with no NULL beside it.
+for kind in rsa ec; do
+    held=$(fields "$(der openssl req -in $kind.request)" | grep -v '^a0' | tr -d '\n')
+    case $kind in rsa) algorithm=$null ;; *) algorithm=$ecdsa ;; esac
+    loosely CertificationRequest $kind $kind.public "$(signed $kind $kind "$held" $algorithm)" 1 "${held}a000" $algorithm
+done
+held=$(fields "$(der openssl req -in rsa.request)" | grep -v '^a0' | tr -d '\n')
+loosely CertificationRequest rsa rsa.public "$(signed rsa rsa "$held" $none)" 2 "${held}a000" $null
+inside CertificationRequestInfo "$held" 1 "${held}a000"
+inside CertificationRequestInfo "${held}a000" 0 "${held}a000"
+# A request of another version, and one with further fields.
+echo "CertificationRequestInfo | $(element 30 "$(echo "${held}a000" | sed 's/^020100/020101/')") | refused"
+echo "CertificationRequestInfo | $(element 30 "${held}a0000500") | refused"
 # The certificate of RFC 8410, section 10.2: critical FALSE twice and cA FALSE, spelled out, under the key of section 10.1.
 published=$(openssl x509 -in "$here/published.pem" -outform DER | hexadecimal)
 held=$(fields "$published" | grep -v '^a3' | tr -d '\n')$(extensions "300c0603551d130101ff04023000\

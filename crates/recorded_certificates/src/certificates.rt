@@ -1,15 +1,18 @@
-//! Certificates, by the names of their types. Each type has a function of its own, since one match over all of them is dear to prove.
+//! Certificates and requests, by the names of their types. Each type has a function of its own, since one match over all of them is dear to prove.
 use crate::recorded::Recorded;
 use crate::told::{Answer, is_told};
 use anyhow::bail;
 use std::alloc::Global;
 use x509_certificates::{Certificate, TbsCertificate};
+use x509_requests::{CertificationRequest, CertificationRequestInfo};
 use x509_spelling::X509Fault;
 
 /// Whether a spelling is read, counted and rewritten as is wanted.
 pub fn agrees(alloc: Global, recorded: &Recorded<'_>) -> anyhow::Result<bool> {
     let answer = match recorded.type_name {
         "Certificate" => certificate(alloc, recorded),
+        "CertificationRequest" => certification_request(alloc, recorded),
+        "CertificationRequestInfo" => certification_request_info(alloc, recorded),
         "TbsCertificate" => tbs_certificate(alloc, recorded),
         other => bail!("no type {other}"),
     };
@@ -23,6 +26,19 @@ fn certificate(alloc: Global, recorded: &Recorded<'_>) -> Answer {
         return Ok(false);
     }
     is_told::<Certificate>(alloc, recorded)
+}
+
+/// Of a request too.
+fn certification_request(alloc: Global, recorded: &Recorded<'_>) -> Answer {
+    let lent = CertificationRequest::with_signed_part(alloc, &recorded.bytes);
+    if !is_lent(recorded, lent)? {
+        return Ok(false);
+    }
+    is_told::<CertificationRequest>(alloc, recorded)
+}
+
+fn certification_request_info(alloc: Global, recorded: &Recorded<'_>) -> Answer {
+    is_told::<CertificationRequestInfo>(alloc, recorded)
 }
 
 fn tbs_certificate(alloc: Global, recorded: &Recorded<'_>) -> Answer {
