@@ -163,3 +163,16 @@ pub mod pac {
         Pac, PacBuffer, PacBufferType, PacError, PacInfoBuffer, written_is_read,
     };
 }
+
+/// Preauthentication by certificate (RFC 4556), and PKU2U, which negotiates on certificates between peers.
+pub mod pkinit {
+    pub use pkinit_auth_packs::{AuthPack, ClientPublicValue, DhAuthPack, EcAuthPack};
+    pub use pkinit_messages::{
+        DhDomainParameters, DhNonce, DhRepInfo, DhReqInfo, DhReqKeyInfo,
+        ExternalPrincipalIdentifier, KdcDhKeyInfo, PaPkAsRep, PaPkAsReq, PkAuthenticator,
+        ValidationParams,
+    };
+    pub use pku2u_messages::{
+        KrbFinished, Pku2uNegoBody, Pku2uNegoRep, Pku2uNegoReq, Pku2uNegoReqMetadata,
+    };
+}
