@@ -1,5 +1,5 @@
 -- A value alone in a struct takes as many bytes as without it.
-use Rattle.std.proofs.Common.{◌≡◌, ℕ, ◌+◌, ◌<◌, ◌%◌, ◌^◌, sym, subst, refl, arith}
+use Rattle.std.proofs.Common.{◌≡◌, ℕ, ◌+◌, ◌<◌, ◌%◌, ◌^◌, sym, subst, arith}
 use prog.Memory.{size, align, up}
 use prog.Align.{align_w, align-bytes, align_size, dv→}
 use mir.Syntax.{Ty, Width, w8, w16, w32, w64, w128}

@@ -16,7 +16,8 @@ use x509_keys::SubjectPublicKeyInfo;
 /// ```text
 /// AuthPack ::= SEQUENCE {
 ///      pkAuthenticator    [0] PKAuthenticator,
-///      clientPublicValue  [1] SubjectPublicKeyInfo OPTIONAL,
+///      clientPublicValue  [1] SubjectPublicKeyInfo
+///                             OPTIONAL,
 ///      supportedCMSTypes  [2] SEQUENCE OF
 ///                             AlgorithmIdentifier OPTIONAL,
 ///      clientDHNonce      [3] DHNonce OPTIONAL,
