@@ -13,7 +13,7 @@ use picky_asn1_der::{
 ///      credType      [0] INTEGER,
 ///      credentials   [1] OCTET STRING }
 /// ```
-#[derive(Debug, Drop, PartialEq, Eq)]
+#[derive(Debug, Drop, PartialEq, Eq, Clone)]
 pub struct TsCredentials {
     /// The kind: 1 by password, 2 by smart card, 6 of remote guard.
     pub cred_type: ExplicitContextTag0<IntegerAsn1>,

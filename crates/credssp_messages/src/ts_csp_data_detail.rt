@@ -17,7 +17,7 @@ use picky_asn1_der::{
 ///      containerName   [3] OCTET STRING OPTIONAL,
 ///      cspName         [4] OCTET STRING OPTIONAL }
 /// ```
-#[derive(Debug, Drop, PartialEq, Eq)]
+#[derive(Debug, Drop, PartialEq, Eq, Clone)]
 pub struct TsCspDataDetail {
     /// What the key is for: 1 to exchange keys, 2 to sign.
     pub key_spec: ExplicitContextTag0<IntegerAsn1>,

@@ -14,7 +14,7 @@ use picky_asn1_der::{
 ///      userName     [1] OCTET STRING,
 ///      password     [2] OCTET STRING }
 /// ```
-#[derive(Debug, Drop, PartialEq, Eq)]
+#[derive(Debug, Drop, PartialEq, Eq, Clone)]
 pub struct TsPasswordCreds {
     /// The user's domain, in UTF-16.
     pub domain_name: ExplicitContextTag0<OctetStringAsn1>,

@@ -14,7 +14,7 @@ use picky_asn1_der::{
 ///      logonCred           [0] TSRemoteGuardPackageCred,
 ///      supplementalCreds   [1] SEQUENCE OF TSRemoteGuardPackageCred OPTIONAL }
 /// ```
-#[derive(Debug, Drop, PartialEq, Eq)]
+#[derive(Debug, Drop, PartialEq, Eq, Clone)]
 pub struct TsRemoteGuardCreds {
     /// The login's credentials.
     pub logon_cred: ExplicitContextTag0<TsRemoteGuardPackageCred>,

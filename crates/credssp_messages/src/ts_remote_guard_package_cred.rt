@@ -13,7 +13,7 @@ use picky_asn1_der::{
 ///      packageName   [0] OCTET STRING,
 ///      credBuffer    [1] OCTET STRING }
 /// ```
-#[derive(Debug, Drop, PartialEq, Eq)]
+#[derive(Debug, Drop, PartialEq, Eq, Clone)]
 pub struct TsRemoteGuardPackageCred {
     /// The package, in UTF-16.
     pub package_name: ExplicitContextTag0<OctetStringAsn1>,

@@ -17,7 +17,7 @@ use picky_asn1_der::{
 ///      userHint     [2] OCTET STRING OPTIONAL,
 ///      domainHint   [3] OCTET STRING OPTIONAL }
 /// ```
-#[derive(Debug, Drop, PartialEq, Eq)]
+#[derive(Debug, Drop, PartialEq, Eq, Clone)]
 pub struct TsSmartCardCreds {
     /// The card's number, in UTF-16.
     pub pin: ExplicitContextTag0<OctetStringAsn1>,
