@@ -9,7 +9,14 @@ use picky_asn1_der::{
 };
 
 /// What a reply of a service holds (RFC 4120, section 5.5.2).
-#[derive(Debug, Drop)]
+///
+/// ```text
+/// AP-REP ::= [APPLICATION 15] SEQUENCE {
+///      pvno       [0] INTEGER (5),
+///      msg-type   [1] INTEGER (15),
+///      enc-part   [2] EncryptedData -- EncAPRepPart -- }
+/// ```
+#[derive(Debug, Drop, PartialEq, Eq, Clone)]
 pub struct ApRepInner {
     /// The version, 5.
     pub pvno: ExplicitContextTag0<IntegerAsn1>,

@@ -8,9 +8,20 @@ use picky_asn1_der::{
     ExplicitContextTag2, ExplicitContextTag3, ExplicitContextTag4, Fields, Row5, Serializer,
     Tagged, fields_of, from_fields, read_sequence,
 };
+use record_copies::{LentFields, RecordFields};
+use std::alloc::AllocError;
 
 /// What a request to a service holds (RFC 4120, section 5.5.1).
-#[derive(Debug, Drop)]
+///
+/// ```text
+/// AP-REQ ::= [APPLICATION 14] SEQUENCE {
+///      pvno            [0] INTEGER (5),
+///      msg-type        [1] INTEGER (14),
+///      ap-options      [2] APOptions,
+///      ticket          [3] Ticket,
+///      authenticator   [4] EncryptedData -- Authenticator -- }
+/// ```
+#[derive(Debug, Drop, PartialEq, Eq)]
 pub struct ApReqInner {
     /// The version, 5.
     pub pvno: ExplicitContextTag0<IntegerAsn1>,
@@ -34,6 +45,15 @@ type ApReqInnerRow = Row5<
     ExplicitContextTag3<Ticket>,
     ExplicitContextTag4<EncryptedData>,
 >;
+
+impl Clone for ApReqInner {
+    ghost is_clone = { λ value copy. ⟦<ApReqInnerRow as RecordFields>⟧.are_copies (⟦<ApReqInner as Tagged>⟧.row_of value) (⟦<ApReqInner as Tagged>⟧.row_of copy) };
+
+    fn clone(&self) -> Result<ApReqInner, AllocError> {
+        let fields = fields_of![self; pvno, msg_type, ap_options, ticket, authenticator].copied()?;
+        Ok(ApReqInner::of_row(fields))
+    }
+}
 
 impl Tagged for ApReqInner {
     ghost use Rattle.std.proofs.Common.{ap, refl, true};

@@ -11,11 +11,30 @@ use picky_asn1_der::{
     ExplicitContextTag2, ExplicitContextTag3, ExplicitContextTag4, ExplicitContextTag5,
     ExplicitContextTag6, ExplicitContextTag7, ExplicitContextTag8, ExplicitContextTag9,
     ExplicitContextTag10, ExplicitContextTag11, ExplicitContextTag12, Fields, Optional, Row13,
-    Serializer, Tagged, fields_of, from_fields, read_sequence,
+    Serializer, Tagged, fields_of, from_fields, read_sequence, row,
 };
+use record_copies::{LentFields, RecordFields};
+use std::alloc::AllocError;
 
 /// What a reply of a KDC holds under a key that the client knows (RFC 4120, section 5.4.2).
-#[derive(Debug, Drop)]
+///
+/// ```text
+/// EncKDCRepPart ::= SEQUENCE {
+///      key                 [0] EncryptionKey,
+///      last-req            [1] LastReq,
+///      nonce               [2] UInt32,
+///      key-expiration      [3] KerberosTime OPTIONAL,
+///      flags               [4] TicketFlags,
+///      authtime            [5] KerberosTime,
+///      starttime           [6] KerberosTime OPTIONAL,
+///      endtime             [7] KerberosTime,
+///      renew-till          [8] KerberosTime OPTIONAL,
+///      srealm              [9] Realm,
+///      sname               [10] PrincipalName,
+///      caddr               [11] HostAddresses OPTIONAL,
+///      encrypted-pa-data   [12] SEQUENCE OF PA-DATA OPTIONAL }
+/// ```
+#[derive(Debug, Drop, PartialEq, Eq)]
 pub struct EncKdcRepPart {
     /// The session key, which client and service share.
     pub key: ExplicitContextTag0<EncryptionKey>,
@@ -46,9 +65,19 @@ pub struct EncKdcRepPart {
 }
 
 /// The sealed part of a reply with a first ticket (RFC 4120, section 5.4.2).
+///
+/// ```text
+/// EncASRepPart ::=
+///      [APPLICATION 25] EncKDCRepPart
+/// ```
 pub type EncAsRepPart = ApplicationTag<EncKdcRepPart, ENC_AS_REP_PART_TYPE>;
 
 /// The sealed part of a reply with a further ticket (RFC 4120, section 5.4.2).
+///
+/// ```text
+/// EncTGSRepPart ::=
+///      [APPLICATION 26] EncKDCRepPart
+/// ```
 pub type EncTgsRepPart = ApplicationTag<EncKdcRepPart, ENC_TGS_REP_PART_TYPE>;
 
 type EncKdcRepPartRow = Row13<
@@ -66,6 +95,34 @@ type EncKdcRepPartRow = Row13<
     Optional<Option<ExplicitContextTag11<HostAddresses>>>,
     Optional<Option<ExplicitContextTag12<Asn1SequenceOf<PaData>>>>,
 >;
+
+impl Clone for EncKdcRepPart {
+    ghost is_clone = { λ value copy. ⟦<EncKdcRepPartRow as RecordFields>⟧.are_copies (⟦<EncKdcRepPart as Tagged>⟧.row_of value) (⟦<EncKdcRepPart as Tagged>⟧.row_of copy) };
+
+    fn clone(&self) -> Result<EncKdcRepPart, AllocError> {
+        let row![key, last_req, nonce, key_expiration] =
+            fields_of![self; key, last_req, nonce, key_expiration].copied()?;
+        let row![flags, auth_time, start_time, end_time] =
+            fields_of![self; flags, auth_time, start_time, end_time].copied()?;
+        let row![renew_till, srealm, sname, caddr, encrypted_pa_data] =
+            fields_of![self; renew_till, srealm, sname, caddr, encrypted_pa_data].copied()?;
+        Ok(EncKdcRepPart {
+            key,
+            last_req,
+            nonce,
+            key_expiration,
+            flags,
+            auth_time,
+            start_time,
+            end_time,
+            renew_till,
+            srealm,
+            sname,
+            caddr,
+            encrypted_pa_data,
+        })
+    }
+}
 
 impl Tagged for EncKdcRepPart {
     ghost use Rattle.std.proofs.Common.{ap, refl, true};

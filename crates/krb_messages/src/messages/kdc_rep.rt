@@ -9,9 +9,22 @@ use picky_asn1_der::{
     ExplicitContextTag6, Fields, Optional, Row7, Serializer, Tagged, fields_of, from_fields,
     read_sequence,
 };
+use record_copies::{LentFields, RecordFields};
+use std::alloc::AllocError;
 
 /// A reply of a KDC (RFC 4120, section 5.4.2).
-#[derive(Debug, Drop)]
+///
+/// ```text
+/// KDC-REP ::= SEQUENCE {
+///      pvno       [0] INTEGER (5),
+///      msg-type   [1] INTEGER (11 | 13),
+///      padata     [2] SEQUENCE OF PA-DATA OPTIONAL -- NOTE: not empty --,
+///      crealm     [3] Realm,
+///      cname      [4] PrincipalName,
+///      ticket     [5] Ticket,
+///      enc-part   [6] EncryptedData -- EncASRepPart or EncTGSRepPart, as appropriate -- }
+/// ```
+#[derive(Debug, Drop, PartialEq, Eq)]
 pub struct KdcRep {
     /// The version, 5.
     pub pvno: ExplicitContextTag0<IntegerAsn1>,
@@ -30,9 +43,17 @@ pub struct KdcRep {
 }
 
 /// A reply with a first ticket (RFC 4120, section 5.4.2).
+///
+/// ```text
+/// AS-REP ::= [APPLICATION 11] KDC-REP
+/// ```
 pub type AsRep = ApplicationTag<KdcRep, AS_REP_MSG_TYPE>;
 
 /// A reply with a further ticket (RFC 4120, section 5.4.2).
+///
+/// ```text
+/// TGS-REP ::= [APPLICATION 13] KDC-REP
+/// ```
 pub type TgsRep = ApplicationTag<KdcRep, TGS_REP_MSG_TYPE>;
 
 type KdcRepRow = Row7<
@@ -44,6 +65,16 @@ type KdcRepRow = Row7<
     ExplicitContextTag5<Ticket>,
     ExplicitContextTag6<EncryptedData>,
 >;
+
+impl Clone for KdcRep {
+    ghost is_clone = { λ value copy. ⟦<KdcRepRow as RecordFields>⟧.are_copies (⟦<KdcRep as Tagged>⟧.row_of value) (⟦<KdcRep as Tagged>⟧.row_of copy) };
+
+    fn clone(&self) -> Result<KdcRep, AllocError> {
+        let fields =
+            fields_of![self; pvno, msg_type, padata, crealm, cname, ticket, enc_part].copied()?;
+        Ok(KdcRep::of_row(fields))
+    }
+}
 
 impl Tagged for KdcRep {
     ghost use Rattle.std.proofs.Common.{ap, refl, true};

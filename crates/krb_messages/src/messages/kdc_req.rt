@@ -9,9 +9,20 @@ use picky_asn1_der::{
     ExplicitContextTag3, ExplicitContextTag4, Fields, Optional, Row4, Serializer, Tagged,
     fields_of, from_fields, read_sequence,
 };
+use record_copies::{LentFields, RecordFields};
+use std::alloc::AllocError;
 
 /// A request to a KDC (RFC 4120, section 5.4.1).
-#[derive(Debug, Drop)]
+///
+/// ```text
+/// KDC-REQ ::= SEQUENCE {
+///      -- NOTE: first tag is [1], not [0]
+///      pvno       [1] INTEGER (5),
+///      msg-type   [2] INTEGER (10 | 12),
+///      padata     [3] SEQUENCE OF PA-DATA OPTIONAL -- NOTE: not empty --,
+///      req-body   [4] KDC-REQ-BODY }
+/// ```
+#[derive(Debug, Drop, PartialEq, Eq)]
 pub struct KdcReq {
     /// The version, 5.
     pub pvno: ExplicitContextTag1<IntegerAsn1>,
@@ -24,9 +35,17 @@ pub struct KdcReq {
 }
 
 /// A request for a first ticket (RFC 4120, section 5.4.1).
+///
+/// ```text
+/// AS-REQ ::= [APPLICATION 10] KDC-REQ
+/// ```
 pub type AsReq = ApplicationTag<KdcReq, AS_REQ_MSG_TYPE>;
 
 /// A request for a further ticket (RFC 4120, section 5.4.1).
+///
+/// ```text
+/// TGS-REQ ::= [APPLICATION 12] KDC-REQ
+/// ```
 pub type TgsReq = ApplicationTag<KdcReq, TGS_REQ_MSG_TYPE>;
 
 type KdcReqRow = Row4<
@@ -35,6 +54,15 @@ type KdcReqRow = Row4<
     Optional<Option<ExplicitContextTag3<Asn1SequenceOf<PaData>>>>,
     ExplicitContextTag4<KdcReqBody>,
 >;
+
+impl Clone for KdcReq {
+    ghost is_clone = { λ value copy. ⟦<KdcReqRow as RecordFields>⟧.are_copies (⟦<KdcReq as Tagged>⟧.row_of value) (⟦<KdcReq as Tagged>⟧.row_of copy) };
+
+    fn clone(&self) -> Result<KdcReq, AllocError> {
+        let fields = fields_of![self; pvno, msg_type, padata, req_body].copied()?;
+        Ok(KdcReq::of_row(fields))
+    }
+}
 
 impl Tagged for KdcReq {
     ghost use Rattle.std.proofs.Common.{ap, refl, true};

@@ -9,11 +9,29 @@ use picky_asn1_der::{
     ExplicitContextTag3, ExplicitContextTag4, ExplicitContextTag5, ExplicitContextTag6,
     ExplicitContextTag7, ExplicitContextTag8, ExplicitContextTag9, ExplicitContextTag10,
     ExplicitContextTag11, Fields, Optional, Row12, Serializer, Tagged, fields_of, from_fields,
-    read_sequence,
+    read_sequence, row,
 };
+use record_copies::{LentFields, RecordFields};
+use std::alloc::AllocError;
 
 /// The body of a request to a KDC (RFC 4120, section 5.4.1).
-#[derive(Debug, Drop)]
+///
+/// ```text
+/// KDC-REQ-BODY ::= SEQUENCE {
+///      kdc-options              [0] KDCOptions,
+///      cname                    [1] PrincipalName OPTIONAL -- Used only in AS-REQ --,
+///      realm                    [2] Realm -- Server's realm, also client's in AS-REQ --,
+///      sname                    [3] PrincipalName OPTIONAL,
+///      from                     [4] KerberosTime OPTIONAL,
+///      till                     [5] KerberosTime,
+///      rtime                    [6] KerberosTime OPTIONAL,
+///      nonce                    [7] UInt32,
+///      etype                    [8] SEQUENCE OF Int32 -- EncryptionType, in preference order --,
+///      addresses                [9] HostAddresses OPTIONAL,
+///      enc-authorization-data   [10] EncryptedData OPTIONAL -- AuthorizationData --,
+///      additional-tickets       [11] SEQUENCE OF Ticket OPTIONAL -- NOTE: not empty -- }
+/// ```
+#[derive(Debug, Drop, PartialEq, Eq)]
 pub struct KdcReqBody {
     /// The options that are asked for.
     pub kdc_options: ExplicitContextTag0<KerberosFlags>,
@@ -55,6 +73,32 @@ type KdcReqBodyRow = Row12<
     Optional<Option<ExplicitContextTag10<EncryptedData>>>,
     Optional<Option<ExplicitContextTag11<Asn1SequenceOf<Ticket>>>>,
 >;
+
+impl Clone for KdcReqBody {
+    ghost is_clone = { λ value copy. ⟦<KdcReqBodyRow as RecordFields>⟧.are_copies (⟦<KdcReqBody as Tagged>⟧.row_of value) (⟦<KdcReqBody as Tagged>⟧.row_of copy) };
+
+    fn clone(&self) -> Result<KdcReqBody, AllocError> {
+        let row![kdc_options, cname, realm, sname] =
+            fields_of![self; kdc_options, cname, realm, sname].copied()?;
+        let row![from, till, rtime, nonce] = fields_of![self; from, till, rtime, nonce].copied()?;
+        let row![etype, addresses, enc_authorization_data, additional_tickets] =
+            fields_of![self; etype, addresses, enc_authorization_data, additional_tickets].copied()?;
+        Ok(KdcReqBody {
+            kdc_options,
+            cname,
+            realm,
+            sname,
+            from,
+            till,
+            rtime,
+            nonce,
+            etype,
+            addresses,
+            enc_authorization_data,
+            additional_tickets,
+        })
+    }
+}
 
 impl Tagged for KdcReqBody {
     ghost use Rattle.std.proofs.Common.{ap, refl, true};

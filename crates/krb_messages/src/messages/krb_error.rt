@@ -8,12 +8,31 @@ use picky_asn1_der::{
     ExplicitContextTag2, ExplicitContextTag3, ExplicitContextTag4, ExplicitContextTag5,
     ExplicitContextTag6, ExplicitContextTag7, ExplicitContextTag8, ExplicitContextTag9,
     ExplicitContextTag10, ExplicitContextTag11, ExplicitContextTag12, Fields, Optional, Row13,
-    Serializer, Tagged, fields_of, from_fields, read_sequence,
+    Serializer, Tagged, fields_of, from_fields, read_sequence, row,
 };
+use record_copies::{LentFields, RecordFields};
+use std::alloc::AllocError;
 use std::fmt;
 
 /// What an error message holds (RFC 4120, section 5.9.1).
-#[derive(Debug, Drop)]
+///
+/// ```text
+/// KRB-ERROR ::= [APPLICATION 30] SEQUENCE {
+///      pvno         [0] INTEGER (5),
+///      msg-type     [1] INTEGER (30),
+///      ctime        [2] KerberosTime OPTIONAL,
+///      cusec        [3] Microseconds OPTIONAL,
+///      stime        [4] KerberosTime,
+///      susec        [5] Microseconds,
+///      error-code   [6] Int32,
+///      crealm       [7] Realm OPTIONAL,
+///      cname        [8] PrincipalName OPTIONAL,
+///      realm        [9] Realm -- service realm --,
+///      sname        [10] PrincipalName -- service name --,
+///      e-text       [11] KerberosString OPTIONAL,
+///      e-data       [12] OCTET STRING OPTIONAL }
+/// ```
+#[derive(Debug, Drop, PartialEq, Eq)]
 pub struct KrbErrorInner {
     /// The version, 5.
     pub pvno: ExplicitContextTag0<IntegerAsn1>,
@@ -69,6 +88,34 @@ type KrbErrorInnerRow = Row13<
     Optional<Option<ExplicitContextTag11<KerberosStringAsn1>>>,
     Optional<Option<ExplicitContextTag12<OctetStringAsn1>>>,
 >;
+
+impl Clone for KrbErrorInner {
+    ghost is_clone = { λ value copy. ⟦<KrbErrorInnerRow as RecordFields>⟧.are_copies (⟦<KrbErrorInner as Tagged>⟧.row_of value) (⟦<KrbErrorInner as Tagged>⟧.row_of copy) };
+
+    fn clone(&self) -> Result<KrbErrorInner, AllocError> {
+        let row![pvno, msg_type, ctime, cusec] =
+            fields_of![self; pvno, msg_type, ctime, cusec].copied()?;
+        let row![stime, susec, error_code, crealm] =
+            fields_of![self; stime, susec, error_code, crealm].copied()?;
+        let row![cname, realm, sname, e_text, e_data] =
+            fields_of![self; cname, realm, sname, e_text, e_data].copied()?;
+        Ok(KrbErrorInner {
+            pvno,
+            msg_type,
+            ctime,
+            cusec,
+            stime,
+            susec,
+            error_code,
+            crealm,
+            cname,
+            realm,
+            sname,
+            e_text,
+            e_data,
+        })
+    }
+}
 
 impl Tagged for KrbErrorInner {
     ghost use Rattle.std.proofs.Common.{ap, refl, true};
