@@ -15,7 +15,7 @@ use picky_asn1_der::{
 ///      targname    [1] PrincipalName OPTIONAL,
 ///      targrealm   [2] Realm OPTIONAL }
 /// ```
-#[derive(Debug, Drop)]
+#[derive(Debug, Drop, PartialEq, Eq, Clone)]
 pub struct ChangePasswdData {
     /// The password.
     pub new_passwd: ExplicitContextTag0<OctetStringAsn1>,

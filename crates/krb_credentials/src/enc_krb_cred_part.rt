@@ -9,6 +9,8 @@ use picky_asn1_der::{
     ExplicitContextTag2, ExplicitContextTag3, ExplicitContextTag4, ExplicitContextTag5, Fields,
     Optional, Row6, Serializer, Tagged, fields_of, from_fields, read_sequence,
 };
+use record_copies::{LentFields, RecordFields};
+use std::alloc::AllocError;
 
 /// What a message that hands tickets on holds under a key that both sides know (RFC 4120, section 5.8.1).
 ///
@@ -21,7 +23,7 @@ use picky_asn1_der::{
 ///      s-address     [4] HostAddress OPTIONAL,
 ///      r-address     [5] HostAddress OPTIONAL }
 /// ```
-#[derive(Debug, Drop)]
+#[derive(Debug, Drop, PartialEq, Eq)]
 pub struct EncKrbCredPartInner {
     /// What is told of each ticket, in the tickets' order.
     pub ticket_info: ExplicitContextTag0<Asn1SequenceOf<KrbCredInfo>>,
@@ -48,6 +50,16 @@ type EncKrbCredPartInnerRow = Row6<
     Optional<Option<ExplicitContextTag4<HostAddress>>>,
     Optional<Option<ExplicitContextTag5<HostAddress>>>,
 >;
+
+impl Clone for EncKrbCredPartInner {
+    ghost is_clone = { λ value copy. ⟦<EncKrbCredPartInnerRow as RecordFields>⟧.are_copies (⟦<EncKrbCredPartInner as Tagged>⟧.row_of value) (⟦<EncKrbCredPartInner as Tagged>⟧.row_of copy) };
+
+    fn clone(&self) -> Result<EncKrbCredPartInner, AllocError> {
+        let fields =
+            fields_of![self; ticket_info, nonce, timestamp, usec, s_address, r_address].copied()?;
+        Ok(EncKrbCredPartInner::of_row(fields))
+    }
+}
 
 impl Tagged for EncKrbCredPartInner {
     ghost use Rattle.std.proofs.Common.{ap, refl, true};

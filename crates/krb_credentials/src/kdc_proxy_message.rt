@@ -21,7 +21,7 @@ use std::alloc::Global;
 ///      target-domain    [1] KERB-REALM OPTIONAL,
 ///      dclocator-hint   [2] INTEGER OPTIONAL }
 /// ```
-#[derive(Debug, Drop, PartialEq, Eq)]
+#[derive(Debug, Drop, PartialEq, Eq, Clone)]
 pub struct KdcProxyMessage {
     /// The message behind its length in four octets, as it goes over TCP.
     pub kerb_message: ExplicitContextTag0<OctetStringAsn1>,

@@ -13,7 +13,7 @@ use picky_asn1_der::{
 ///      restriction-type   [0] Int32,
 ///      restriction        [1] OCTET STRING }
 /// ```
-#[derive(Debug, Drop, PartialEq, Eq)]
+#[derive(Debug, Drop, PartialEq, Eq, Clone)]
 pub struct KerbAdRestrictionEntry {
     /// The type, 0.
     pub restriction_type: ExplicitContextTag0<IntegerAsn1>,

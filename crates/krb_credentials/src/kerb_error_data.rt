@@ -13,7 +13,7 @@ use picky_asn1_der::{
 ///      data-type    [1] INTEGER,
 ///      data-value   [2] OCTET STRING OPTIONAL }
 /// ```
-#[derive(Debug, Drop, PartialEq, Eq)]
+#[derive(Debug, Drop, PartialEq, Eq, Clone)]
 pub struct KerbErrorData {
     /// What the data is.
     pub data_type: ExplicitContextTag1<IntegerAsn1>,

@@ -11,7 +11,7 @@ use picky_asn1_der::{
 /// KERB-PA-PAC-REQUEST ::= SEQUENCE {
 ///      include-pac   [0] BOOLEAN }
 /// ```
-#[derive(Debug, Drop, PartialEq, Eq)]
+#[derive(Debug, Drop, PartialEq, Eq, Clone)]
 pub struct KerbPaPacRequest {
     /// Whether it does.
     pub include_pac: ExplicitContextTag0<bool>,

@@ -8,6 +8,8 @@ use picky_asn1_der::{
     ExplicitContextTag2, ExplicitContextTag3, Fields, Row4, Serializer, Tagged, fields_of,
     from_fields, read_sequence,
 };
+use record_copies::{LentFields, RecordFields};
+use std::alloc::AllocError;
 
 /// What a message that hands tickets on holds (RFC 4120, section 5.8.1).
 ///
@@ -18,7 +20,7 @@ use picky_asn1_der::{
 ///      tickets    [2] SEQUENCE OF Ticket,
 ///      enc-part   [3] EncryptedData -- EncKrbCredPart }
 /// ```
-#[derive(Debug, Drop)]
+#[derive(Debug, Drop, PartialEq, Eq)]
 pub struct KrbCredInner {
     /// The version, 5.
     pub pvno: ExplicitContextTag0<IntegerAsn1>,
@@ -39,6 +41,15 @@ type KrbCredInnerRow = Row4<
     ExplicitContextTag2<Asn1SequenceOf<Ticket>>,
     ExplicitContextTag3<EncryptedData>,
 >;
+
+impl Clone for KrbCredInner {
+    ghost is_clone = { λ value copy. ⟦<KrbCredInnerRow as RecordFields>⟧.are_copies (⟦<KrbCredInner as Tagged>⟧.row_of value) (⟦<KrbCredInner as Tagged>⟧.row_of copy) };
+
+    fn clone(&self) -> Result<KrbCredInner, AllocError> {
+        let fields = fields_of![self; pvno, msg_type, tickets, enc_part].copied()?;
+        Ok(KrbCredInner::of_row(fields))
+    }
+}
 
 impl Tagged for KrbCredInner {
     ghost use Rattle.std.proofs.Common.{ap, refl, true};

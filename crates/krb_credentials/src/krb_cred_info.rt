@@ -7,8 +7,10 @@ use picky_asn1_der::{
     Asn1DerError, Deserializer, ExplicitContextTag0, ExplicitContextTag1, ExplicitContextTag2,
     ExplicitContextTag3, ExplicitContextTag4, ExplicitContextTag5, ExplicitContextTag6,
     ExplicitContextTag7, ExplicitContextTag8, ExplicitContextTag9, ExplicitContextTag10, Fields,
-    Optional, Row11, Serializer, Tagged, fields_of, from_fields, read_sequence,
+    Optional, Row11, Serializer, Tagged, fields_of, from_fields, read_sequence, row,
 };
+use record_copies::{LentFields, RecordFields};
+use std::alloc::AllocError;
 
 /// What is told of a ticket that is handed on (RFC 4120, section 5.8.1).
 ///
@@ -26,7 +28,7 @@ use picky_asn1_der::{
 ///      sname        [9] PrincipalName OPTIONAL,
 ///      caddr        [10] HostAddresses OPTIONAL }
 /// ```
-#[derive(Debug, Drop)]
+#[derive(Debug, Drop, PartialEq, Eq)]
 pub struct KrbCredInfo {
     /// The session key.
     pub key: ExplicitContextTag0<EncryptionKey>,
@@ -65,6 +67,30 @@ type KrbCredInfoRow = Row11<
     Optional<Option<ExplicitContextTag9<PrincipalName>>>,
     Optional<Option<ExplicitContextTag10<HostAddresses>>>,
 >;
+
+impl Clone for KrbCredInfo {
+    ghost is_clone = { λ value copy. ⟦<KrbCredInfoRow as RecordFields>⟧.are_copies (⟦<KrbCredInfo as Tagged>⟧.row_of value) (⟦<KrbCredInfo as Tagged>⟧.row_of copy) };
+
+    fn clone(&self) -> Result<KrbCredInfo, AllocError> {
+        let row![key, prealm, pname, flags] = fields_of![self; key, prealm, pname, flags].copied()?;
+        let row![auth_time, start_time, end_time, renew_till] =
+            fields_of![self; auth_time, start_time, end_time, renew_till].copied()?;
+        let row![srealm, sname, caddr] = fields_of![self; srealm, sname, caddr].copied()?;
+        Ok(KrbCredInfo {
+            key,
+            prealm,
+            pname,
+            flags,
+            auth_time,
+            start_time,
+            end_time,
+            renew_till,
+            srealm,
+            sname,
+            caddr,
+        })
+    }
+}
 
 impl Tagged for KrbCredInfo {
     ghost use Rattle.std.proofs.Common.{ap, refl, true};

@@ -12,7 +12,7 @@ use picky_asn1_der::{
 /// PA-PAC-OPTIONS ::= SEQUENCE {
 ///      flags   [0] KerberosFlags }
 /// ```
-#[derive(Debug, Drop, PartialEq, Eq)]
+#[derive(Debug, Drop, PartialEq, Eq, Clone)]
 pub struct PaPacOptions {
     /// Claims, branch awareness, forwarding to a full domain controller, constrained delegation by resource.
     pub flags: ExplicitContextTag0<KerberosFlags>,

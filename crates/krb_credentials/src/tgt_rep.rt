@@ -15,7 +15,7 @@ use picky_asn1_der::{
 ///      msg-type   [1] INTEGER,
 ///      ticket     [2] Ticket }
 /// ```
-#[derive(Debug, Drop)]
+#[derive(Debug, Drop, PartialEq, Eq, Clone)]
 pub struct TgtRep {
     /// The version, 5.
     pub pvno: ExplicitContextTag0<IntegerAsn1>,

@@ -16,7 +16,7 @@ use picky_asn1_der::{
 ///      server-name   [2] PrincipalName OPTIONAL,
 ///      realm         [3] Realm OPTIONAL }
 /// ```
-#[derive(Debug, Drop)]
+#[derive(Debug, Drop, PartialEq, Eq, Clone)]
 pub struct TgtReq {
     /// The version, 5.
     pub pvno: ExplicitContextTag0<IntegerAsn1>,

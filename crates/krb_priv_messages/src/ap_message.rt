@@ -6,7 +6,7 @@ use picky_asn1_der::{
 };
 
 /// An AP request or an AP reply (RFC 4120, section 5.5), told by the application tag.
-#[derive(Debug, Drop)]
+#[derive(Debug, Drop, PartialEq, Eq, Clone)]
 pub enum ApMessage {
     /// A request, of which the first octet is 0x6E.
     ApReq(ApReq),

@@ -8,6 +8,8 @@ use picky_asn1_der::{
     ExplicitContextTag2, ExplicitContextTag3, ExplicitContextTag4, ExplicitContextTag5, Fields,
     Optional, Row6, Serializer, Tagged, fields_of, from_fields, read_sequence,
 };
+use record_copies::{LentFields, RecordFields};
+use std::alloc::AllocError;
 
 /// What a private message holds under a key that both sides know (RFC 4120, section 5.7.1).
 ///
@@ -20,7 +22,7 @@ use picky_asn1_der::{
 ///      s-address    [4] HostAddress -- sender's addr --,
 ///      r-address    [5] HostAddress OPTIONAL -- recip's addr }
 /// ```
-#[derive(Debug, Drop)]
+#[derive(Debug, Drop, PartialEq, Eq)]
 pub struct EncKrbPrivPartInner {
     /// What the program above sends.
     pub user_data: ExplicitContextTag0<OctetStringAsn1>,
@@ -47,6 +49,16 @@ type EncKrbPrivPartInnerRow = Row6<
     ExplicitContextTag4<HostAddress>,
     Optional<Option<ExplicitContextTag5<HostAddress>>>,
 >;
+
+impl Clone for EncKrbPrivPartInner {
+    ghost is_clone = { λ value copy. ⟦<EncKrbPrivPartInnerRow as RecordFields>⟧.are_copies (⟦<EncKrbPrivPartInner as Tagged>⟧.row_of value) (⟦<EncKrbPrivPartInner as Tagged>⟧.row_of copy) };
+
+    fn clone(&self) -> Result<EncKrbPrivPartInner, AllocError> {
+        let fields =
+            fields_of![self; user_data, timestamp, usec, seq_number, s_address, r_address].copied()?;
+        Ok(EncKrbPrivPartInner::of_row(fields))
+    }
+}
 
 impl Tagged for EncKrbPrivPartInner {
     ghost use Rattle.std.proofs.Common.{ap, refl, true};

@@ -17,7 +17,7 @@ use picky_asn1_der::{
 ///      -- NOTE: there is no [2] tag
 ///      enc-part   [3] EncryptedData -- EncKrbPrivPart }
 /// ```
-#[derive(Debug, Drop)]
+#[derive(Debug, Drop, PartialEq, Eq, Clone)]
 pub struct KrbPrivInner {
     /// The version, 5.
     pub pvno: ExplicitContextTag0<IntegerAsn1>,

@@ -1,119 +1,26 @@
-//! Credentials that CredSSP delegates, by the names of their types.
-use crate::columns::{Recorded, Wanted};
-use crate::round_trip::is_told;
-use picky_asn1::wrapper::{ExplicitContextTag, IntegerAsn1, OctetStringAsn1, Optional};
-use picky_asn1_der::{Asn1DerError, Deserialize, from_exact_bytes, to_vec};
-use picky_krb::credssp::{
-    TsCredentials, TsCspDataDetail, TsPasswordCreds, TsRemoteGuardCreds, TsRemoteGuardPackageCred,
-    TsSmartCardCreds,
+//! Messages that hand credentials on, and what Windows sends beside messages, by the names of their types.
+use picky_asn1_der::Asn1DerError;
+use picky_krb::data_types::{
+    EncKrbCredPart, EncKrbCredPartInner, KerbAdRestrictionEntry, KerbErrorData, KerbPaPacRequest,
+    KrbCredInfo, PaPacOptions,
 };
+use picky_krb::messages::{KdcProxyMessage, KrbCred, KrbCredInner};
+use recorded_lines::{Recorded, is_told};
 use std::alloc::Global;
 
-/// Whether credentials of such a type are read and written as is wanted; none for any other type.
+/// Whether such a message is read and written as is wanted; none for any other type.
 pub fn agrees(alloc: Global, recorded: &Recorded<'_>) -> Option<Result<bool, Asn1DerError>> {
     match recorded.type_name {
-        "TsCredentials" => Some(is_held::<TsCredentials>(alloc, recorded)),
-        "TsCspDataDetail" => Some(is_held::<TsCspDataDetail>(alloc, recorded)),
-        "TsPasswordCreds" => Some(is_held::<TsPasswordCreds>(alloc, recorded)),
-        "TsRemoteGuardCreds" => Some(is_told::<TsRemoteGuardCreds>(alloc, recorded)),
-        "TsRemoteGuardPackageCred" => Some(is_held::<TsRemoteGuardPackageCred>(alloc, recorded)),
-        "TsSmartCardCreds" => Some(is_told::<TsSmartCardCreds>(alloc, recorded)),
+        "EncKrbCredPart" => Some(is_told::<EncKrbCredPart>(alloc, recorded)),
+        "EncKrbCredPartInner" => Some(is_told::<EncKrbCredPartInner>(alloc, recorded)),
+        "KdcProxyMessage" => Some(is_told::<KdcProxyMessage>(alloc, recorded)),
+        "KerbAdRestrictionEntry" => Some(is_told::<KerbAdRestrictionEntry>(alloc, recorded)),
+        "KerbErrorData" => Some(is_told::<KerbErrorData>(alloc, recorded)),
+        "KerbPaPacRequest" => Some(is_told::<KerbPaPacRequest>(alloc, recorded)),
+        "KrbCred" => Some(is_told::<KrbCred>(alloc, recorded)),
+        "KrbCredInfo" => Some(is_told::<KrbCredInfo>(alloc, recorded)),
+        "KrbCredInner" => Some(is_told::<KrbCredInner>(alloc, recorded)),
+        "PaPacOptions" => Some(is_told::<PaPacOptions>(alloc, recorded)),
         _ => None,
-    }
-}
-
-/// A type whose value is told by octets, field by field.
-trait Held: Deserialize + PartialEq {
-    /// The value with these fields, none where there can't be one.
-    fn of_parts(alloc: Global, parts: &[Option<Vec<u8>>]) -> Result<Option<Self>, Asn1DerError>;
-}
-
-/// Whether credentials are read as what they are to hold, and written back.
-fn is_held<T: Held>(alloc: Global, recorded: &Recorded<'_>) -> Result<bool, Asn1DerError> {
-    let Wanted::Held(parts) = &recorded.wanted else {
-        return is_told::<T>(alloc, recorded);
-    };
-    let Some(wanted) = T::of_parts(alloc, parts)? else {
-        return Ok(false);
-    };
-    let value = from_exact_bytes::<T>(alloc, &recorded.bytes)?;
-    let written = to_vec(alloc, &value)?;
-    Ok(value == wanted && written == recorded.bytes)
-}
-
-fn octets(alloc: Global, part: &[u8]) -> Result<OctetStringAsn1, Asn1DerError> {
-    match OctetStringAsn1::new(alloc, part) {
-        Ok(octets) => Ok(octets),
-        Err(_) => Err(Asn1DerError::Memory),
-    }
-}
-
-fn number(alloc: Global, part: &[u8]) -> Result<IntegerAsn1, Asn1DerError> {
-    match IntegerAsn1::new(alloc, part) {
-        Ok(number) => Ok(number),
-        Err(_) => Err(Asn1DerError::InvalidData),
-    }
-}
-
-fn optional<const N: u8>(
-    alloc: Global,
-    part: &Option<Vec<u8>>,
-) -> Result<Optional<Option<ExplicitContextTag<N, OctetStringAsn1>>>, Asn1DerError> {
-    let Some(part) = part else {
-        return Ok(Optional(None));
-    };
-    let octets = octets(alloc, part)?;
-    Ok(Optional(Some(ExplicitContextTag(octets))))
-}
-
-impl Held for TsCredentials {
-    fn of_parts(alloc: Global, parts: &[Option<Vec<u8>>]) -> Result<Option<Self>, Asn1DerError> {
-        let [Some(cred_type), Some(credentials)] = parts else {
-            return Ok(None);
-        };
-        Ok(Some(TsCredentials {
-            cred_type: ExplicitContextTag(number(alloc, cred_type)?),
-            credentials: ExplicitContextTag(octets(alloc, credentials)?),
-        }))
-    }
-}
-
-impl Held for TsPasswordCreds {
-    fn of_parts(alloc: Global, parts: &[Option<Vec<u8>>]) -> Result<Option<Self>, Asn1DerError> {
-        let [Some(domain_name), Some(user_name), Some(password)] = parts else {
-            return Ok(None);
-        };
-        Ok(Some(TsPasswordCreds {
-            domain_name: ExplicitContextTag(octets(alloc, domain_name)?),
-            user_name: ExplicitContextTag(octets(alloc, user_name)?),
-            password: ExplicitContextTag(octets(alloc, password)?),
-        }))
-    }
-}
-
-impl Held for TsRemoteGuardPackageCred {
-    fn of_parts(alloc: Global, parts: &[Option<Vec<u8>>]) -> Result<Option<Self>, Asn1DerError> {
-        let [Some(package_name), Some(cred_buffer)] = parts else {
-            return Ok(None);
-        };
-        Ok(Some(TsRemoteGuardPackageCred {
-            package_name: ExplicitContextTag(octets(alloc, package_name)?),
-            cred_buffer: ExplicitContextTag(octets(alloc, cred_buffer)?),
-        }))
-    }
-}
-
-impl Held for TsCspDataDetail {
-    fn of_parts(alloc: Global, parts: &[Option<Vec<u8>>]) -> Result<Option<Self>, Asn1DerError> {
-        let [Some(key_spec), card, reader, container, provider] = parts else {
-            return Ok(None);
-        };
-        Ok(Some(TsCspDataDetail {
-            key_spec: ExplicitContextTag(number(alloc, key_spec)?),
-            card_name: optional(alloc, card)?,
-            reader_name: optional(alloc, reader)?,
-            container_name: optional(alloc, container)?,
-            csp_name: optional(alloc, provider)?,
-        }))
     }
 }

@@ -1,53 +1,51 @@
-//! Reads recorded messages as their types, compares them with what stands beside them, and writes them back.
+//! Reads recorded messages of Kerberos as their types, and writes them back.
 #![tactic(auto)]
 
-mod columns;
 mod credentials;
-mod gss;
+mod names;
 mod odd;
-mod round_trip;
+mod private;
+mod replies;
+mod requests;
+mod sealed;
+mod tickets;
 
 use anyhow::bail;
-use columns::{Recorded, recorded_of};
+use recorded_lines::{Lines, Recorded, recorded_of, replay};
 use std::alloc::Global;
-use std::fs;
 
-fn main(rt: HostRuntime) -> anyhow::Result<()> {
-    replay(&rt, "openssl.txt")?;
-    replay(&rt, "published.txt")?;
-    replay(&rt, "odd.txt")
+/// Messages, and what they hold.
+struct Messages;
+
+impl Lines for Messages {
+    const NAME: &'static str = "messages";
+
+    fn agrees(&self, alloc: Global, line: &str) -> anyhow::Result<bool> {
+        let recorded = recorded_of(alloc, line)?;
+        agrees(alloc, &recorded)
+    }
 }
 
-/// Reads the messages of a file, and prints how many of them were read otherwise than is wanted.
-fn replay(rt: &HostRuntime, file: &str) -> anyhow::Result<()> {
-    let text = fs::read_to_string(rt, file)?;
-    let mut read = 0u64;
-    let mut differing = 0u64;
-    for line in text.lines() {
-        if line.starts_with('#') {
-            continue;
-        }
-        let recorded = recorded_of(rt.alloc(), line)?;
-        read = read.saturating_add(1);
-        if !agrees(rt.alloc(), &recorded)? {
-            differing = differing.saturating_add(1);
-            println!(rt; "{file}: otherwise: {line}")?;
-        }
-    }
-    println!(rt; "{file}: {read} messages, {differing} read otherwise")?;
-    Ok(())
+fn main(rt: HostRuntime) -> anyhow::Result<()> {
+    replay(&rt, &Messages, "openssl.txt")?;
+    replay(&rt, &Messages, "clients.txt")?;
+    replay(&rt, &Messages, "odd.txt")
 }
 
 /// Whether a message is read as is wanted, and written back.
 fn agrees(alloc: Global, recorded: &Recorded<'_>) -> anyhow::Result<bool> {
-    if let Some(answer) = gss::agrees(alloc, recorded) {
-        return Ok(answer?);
-    }
-    if let Some(answer) = credentials::agrees(alloc, recorded) {
-        return Ok(answer?);
-    }
-    if let Some(answer) = odd::agrees(alloc, recorded) {
-        return Ok(answer?);
-    }
-    bail!("no type {}", recorded.type_name)
+    let answers = [
+        names::agrees(alloc, recorded),
+        sealed::agrees(alloc, recorded),
+        tickets::agrees(alloc, recorded),
+        requests::agrees(alloc, recorded),
+        replies::agrees(alloc, recorded),
+        private::agrees(alloc, recorded),
+        credentials::agrees(alloc, recorded),
+        odd::agrees(alloc, recorded),
+    ];
+    let Some(answer) = answers.iter().flatten().next() else {
+        bail!("no type {}", recorded.type_name);
+    };
+    Ok((*answer)?)
 }

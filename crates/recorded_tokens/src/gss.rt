@@ -1,12 +1,11 @@
 //! Tokens, by the names of their types.
-use crate::columns::Recorded;
-use crate::round_trip::{are_wanted, is_refused, is_told};
 use picky_asn1_der::{Asn1DerError, FromDer, Serialize};
 use picky_krb::gss_api::{
-    ApplicationTag0, GssApiNegInit, IAKerbProxyMessage, KrbMessage, MechTypeList, MicToken,
-    NegTokenInit, NegTokenTarg, NegTokenTarg1, WrapToken,
+    ApplicationTag0, GssApiNegInit, IAKerbProxyMessage, KrbMessage, MechType, MechTypeList,
+    MicToken, NegTokenInit, NegTokenTarg, NegTokenTarg1, WrapToken,
 };
-use picky_krb::messages::{AsReq, TgtRep};
+use picky_krb::messages::{AsReq, IAKerbHeader, TgtRep};
+use recorded_lines::{Recorded, are_wanted, is_refused, is_told};
 use std::alloc::Global;
 
 /// Whether a token of such a type is read and written as is wanted; none for any other type.
@@ -16,8 +15,10 @@ pub fn agrees(alloc: Global, recorded: &Recorded<'_>) -> Option<Result<bool, Asn
             alloc, recorded,
         )),
         "GssApiNegInit" => Some(is_told::<GssApiNegInit>(alloc, recorded)),
+        "IAKerbHeader" => Some(is_told::<IAKerbHeader>(alloc, recorded)),
         "IAKerbProxyMessage<AsReq>" => Some(Ok(is_proxied::<AsReq>(alloc, recorded))),
         "KrbMessage<TgtRep>" => Some(Ok(is_message::<TgtRep>(alloc, recorded))),
+        "MechType" => Some(is_told::<MechType>(alloc, recorded)),
         "MechTypeList" => Some(is_told::<MechTypeList>(alloc, recorded)),
         "MicToken" => Some(Ok(is_mic(alloc, recorded))),
         "NegTokenInit" => Some(is_told::<NegTokenInit>(alloc, recorded)),

@@ -1,0 +1,39 @@
+//! Reads recorded tokens of the GSS-API and credentials of CredSSP as their types, compares them with what stands beside them, and
+//! writes them back.
+#![tactic(auto)]
+
+mod credssp;
+mod gss;
+
+use anyhow::bail;
+use recorded_lines::{Lines, Recorded, recorded_of, replay};
+use std::alloc::Global;
+
+/// Tokens and credentials.
+struct Tokens;
+
+impl Lines for Tokens {
+    const NAME: &'static str = "tokens";
+
+    fn agrees(&self, alloc: Global, line: &str) -> anyhow::Result<bool> {
+        let recorded = recorded_of(alloc, line)?;
+        agrees(alloc, &recorded)
+    }
+}
+
+fn main(rt: HostRuntime) -> anyhow::Result<()> {
+    replay(&rt, &Tokens, "openssl.txt")?;
+    replay(&rt, &Tokens, "published.txt")?;
+    replay(&rt, &Tokens, "odd.txt")
+}
+
+/// Whether a token is read as is wanted, and written back.
+fn agrees(alloc: Global, recorded: &Recorded<'_>) -> anyhow::Result<bool> {
+    if let Some(answer) = gss::agrees(alloc, recorded) {
+        return Ok(answer?);
+    }
+    if let Some(answer) = credssp::agrees(alloc, recorded) {
+        return Ok(answer?);
+    }
+    bail!("no type {}", recorded.type_name)
+}
