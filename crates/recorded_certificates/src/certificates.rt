@@ -1,7 +1,6 @@
 //! Certificates and requests, by the names of their types. Each type has a function of its own, since one match over all of them is dear to prove.
-use crate::recorded::Recorded;
-use crate::told::{Answer, is_told};
 use anyhow::bail;
+use recorded_x509::{Answer, Recorded, is_told};
 use std::alloc::Global;
 use x509_certificates::{Certificate, TbsCertificate};
 use x509_requests::{CertificationRequest, CertificationRequestInfo};

@@ -1,11 +1,10 @@
 //! Spellings of extensions and attributes, and of what stands in them, by the names of their types. Each type has a function
 //! of its own, since one match over all of them is dear to prove.
-use crate::columns::Recorded;
-use crate::told::{Answer, is_told};
 use picky_asn1_x509::{
     Attribute, Attributes, AuthorityKeyIdentifier, BasicConstraints, ExtendedKeyUsage, Extension,
     Extensions, KeyUsage, OpenSslAttributes,
 };
+use recorded_x509::{Answer, Recorded, is_told};
 use std::alloc::Global;
 
 /// Whether a spelling of such a type is read, counted and rewritten as is wanted; none for any other type.

@@ -1,8 +1,7 @@
 //! Spellings of keys, by the names of their types. Each type has a function of its own, since one match over all of them is
 //! dear to prove.
-use crate::columns::Recorded;
-use crate::told::{Answer, is_told};
 use picky_asn1_x509::{PrivateKeyInfo, SubjectPublicKeyInfo};
+use recorded_x509::{Answer, Recorded, is_told};
 use std::alloc::Global;
 
 /// Whether a spelling of such a type is read, counted and rewritten as is wanted; none for any other type.

@@ -1,8 +1,7 @@
 //! Values that calls make, beside recorded spellings of the same.
-use crate::columns::Recorded;
-use crate::told::{Answer, is_told};
 use picky_asn1::wrapper::IntegerAsn1;
 use picky_asn1_x509::{AlgorithmIdentifier, KeyUsage, Spelled, SubjectPublicKeyInfo, to_vec};
+use recorded_x509::{Answer, Recorded, is_told};
 use std::alloc::Global;
 
 /// Whether a value that such a call makes is spelled as is wanted; none for any other call.

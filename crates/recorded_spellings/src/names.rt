@@ -1,8 +1,7 @@
-//! Spellings of names and times, by the names of their types. Each type has a function of its own, since one match over all
+//! Spellings of names, times and versions, by the names of their types. Each type has a function of its own, since one match over all
 //! of them is dear to prove.
-use crate::columns::Recorded;
-use crate::told::{Answer, is_told};
-use picky_asn1_x509::{GeneralNames, Name, Validity};
+use picky_asn1_x509::{GeneralNames, Name, Validity, Version};
+use recorded_x509::{Answer, Recorded, is_told};
 use std::alloc::Global;
 
 /// Whether a spelling of such a type is read, counted and rewritten as is wanted; none for any other type.
@@ -11,6 +10,7 @@ pub fn agrees(alloc: Global, recorded: &Recorded<'_>) -> Option<Answer> {
         "GeneralNames" => Some(general_names(alloc, recorded)),
         "Name" => Some(name(alloc, recorded)),
         "Validity" => Some(validity(alloc, recorded)),
+        "Version" => Some(version(alloc, recorded)),
         _ => None,
     }
 }
@@ -25,4 +25,8 @@ fn name(alloc: Global, recorded: &Recorded<'_>) -> Answer {
 
 fn validity(alloc: Global, recorded: &Recorded<'_>) -> Answer {
     is_told::<Validity>(alloc, recorded)
+}
+
+fn version(alloc: Global, recorded: &Recorded<'_>) -> Answer {
+    is_told::<Version>(alloc, recorded)
 }

@@ -1,11 +1,11 @@
 //! Values as text.
-use crate::told::Answer;
 use anyhow::{Context, bail};
 use picky_asn1::wrapper::ObjectIdentifierAsn1;
 use picky_asn1_x509::{
     AlgorithmIdentifier, DirectoryString, Name, NamePrettyFormatter, ShaVariant,
     UnsupportedAlgorithmError, X509Fault, from_bytes,
 };
+use recorded_x509::Answer;
 use std::alloc::{AllocError, Global};
 use std::fmt;
 

@@ -1,5 +1,5 @@
 //! One spelling, read, counted and rewritten.
-use crate::recorded::{Recorded, Wanted};
+use crate::line::{Recorded, Wanted};
 use std::alloc::Global;
 use x509_spelling::{Spelled, X509Fault, deviations, encoded_len, from_bytes, to_vec};
 

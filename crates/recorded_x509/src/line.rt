@@ -20,31 +20,17 @@ pub struct Wanted {
     pub count: usize,
     /// The strict spelling of its value.
     pub strict: Vec<u8>,
-    /// Where the part stands that is signed, in what has one.
-    pub signed: Option<Place>,
+    signed: Option<Place>,
 }
 
-/// A place among some bytes.
+// Where the part stands that is signed.
 #[derive(Clone, Copy, PartialEq, Eq)]
-pub struct Place {
+struct Place {
     start: usize,
     len: usize,
 }
 
 impl<'a> Recorded<'a> {
-    /// Reads a line: type, bytes, and the word `refused` or count, strict bytes and perhaps the place of the signed part.
-    pub fn of_line(alloc: Global, line: &'a str) -> anyhow::Result<Recorded<'a>> {
-        let (type_name, rest) = line.split_once(" | ").context("a line of one column")?;
-        let (digits, told) = rest.split_once(" | ").context("a line of two columns")?;
-        let bytes = hex::decode(alloc, digits)?;
-        let wanted = wanted_of(alloc, told)?;
-        Ok(Recorded {
-            type_name,
-            bytes,
-            wanted,
-        })
-    }
-
     /// Whether these are the bytes at the place of the signed part.
     pub fn has_signed(&self, part: &[u8]) -> bool {
         let Some(wanted) = &self.wanted else {
@@ -60,6 +46,20 @@ impl<'a> Recorded<'a> {
 fn bytes_at(bytes: &[u8], place: Place) -> Option<&[u8]> {
     let end = place.start.checked_add(place.len)?;
     bytes.get(place.start..end)
+}
+
+/// Reads a line: type, bytes, and the word `refused` or count, strict bytes and perhaps the place of the signed part, its start
+/// and its length.
+pub fn recorded_of(alloc: Global, line: &str) -> anyhow::Result<Recorded<'_>> {
+    let (type_name, rest) = line.split_once(" | ").context("a line of one column")?;
+    let (digits, told) = rest.split_once(" | ").context("a line of two columns")?;
+    let bytes = hex::decode(alloc, digits)?;
+    let wanted = wanted_of(alloc, told)?;
+    Ok(Recorded {
+        type_name,
+        bytes,
+        wanted,
+    })
 }
 
 fn wanted_of(alloc: Global, told: &str) -> anyhow::Result<Option<Wanted>> {
