@@ -4,7 +4,8 @@
 # module that stand in one crate.
 cd "$(dirname "$0")/.." || exit 1
 front=crates/picky_krb/src/lib.rt
-crates="$(sed -n 's/^picky_krb: //p' crates.txt) krb_priv_frames negoex_forms"
+all="$(sed -n 's/^picky_krb: //p' crates.txt) krb_priv_frames negoex_forms"
+others=$(echo "$all" | tr ' ' '\n' | grep -vE '^krb_(crypto|des3|agreement)$')
 
 # One line for each item: its path, and the crate or the reason.
 places() {
@@ -15,6 +16,12 @@ places() {
         above=${path%::*}
         module=${above##*::}
         home=
+        case $path in
+            crypto::diffie_hellman::*) crates=krb_agreement ;;
+            crypto::des::*) crates='krb_des3 krb_des' ;;
+            crypto::*) crates='krb_crypto krb_blocks krb_digests' ;;
+            *) crates=$others ;;
+        esac
         for crate in $crates; do
             if grep -rqE "^ *pub (struct|enum|type|trait|const|fn) $name\b" "crates/$crate/src"; then
                 home=$crate
@@ -24,6 +31,7 @@ places() {
         handed=no
         if grep -qw "$name" "$front"; then handed=yes; fi
         case $path in
+            crypto::aes::*) if grep -qw "$name" crates/krb_crypto/src/aes.rt; then handed=yes; fi ;;
             constants::*) if grep -qE "pub use krb_constants::\{.*\b$module\b" "$front"; then handed=yes; fi ;;
         esac
         if [ -n "$dash" ]; then
