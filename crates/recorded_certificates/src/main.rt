@@ -9,6 +9,7 @@ use recorded_x509::recorded_of;
 use std::alloc::Global;
 
 fn main(rt: HostRuntime) -> anyhow::Result<()> {
+    replay(&rt, &Spellings, "standards.txt")?;
     replay(&rt, &Spellings, "spellings.txt")?;
     replay(&rt, &Spellings, "openssl.txt")
 }
