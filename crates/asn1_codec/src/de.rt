@@ -214,7 +214,8 @@ impl<R: Source> Deserializer<R> {
         }
     }
 
-    /// Takes `count` octets.
+    /// Takes `count` octets. It stays out of line, since most contents are short.
+    #[inline(never)]
     fn take_octets(&mut self, count: usize) -> Result<Vec<u8>, Asn1DerError>
         requires room { count ≤ self.old.limit }
         requires unlooked { self.old.looked ≡ false }
@@ -342,6 +343,7 @@ impl<R: Source> Deserializer<R> {
 
     /// Takes an element with the identifier octet `tag`, and gives its content, which takes no memory where it is
     /// short (X.690, section 8.1).
+    #[inline(always)]
     pub fn short_content(&mut self, tag: u8) -> Result<Content, Asn1DerError>
         ensures { MatchResult result
             (λ content. Took (element tag content) self.old self.new)

@@ -16,9 +16,6 @@ use devices::{Sink, Space, WholeFault, write_whole};
 use std::alloc::Global;
 use std::marker::Model;
 
-// How many octets of content are written together with what stands in front of them.
-const FEW_OCTETS: usize = 30;
-
 /// A value with a DER spelling.
 ///
 /// `tree` is the value as a tree, `firsts` the identifier octets that its values begin with, and no two
@@ -207,6 +204,18 @@ impl<W: Sink> Serializer<W> {
             self.put(&[tag, count as u8])?;
             return Ok(2 + count);
         }
+        self.long_header(tag, count)
+    }
+
+    /// Writes the octets before a content of this length, as `header` does. It stays out of line, since most lengths are one
+    /// octet.
+    #[inline(never)]
+    fn long_header(&mut self, tag: u8, count: usize) -> Result<usize, Asn1DerError>
+        requires { self.old.failed ≡ false }
+        ensures { MatchResult result
+            (λ whole. Wrote (tag ∷ length_octets count) self.old self.new × (whole ≡ 1 + length (length_octets count) + count))
+            (λ fault. (content : List ℕ) → length content ≡ count → NotWrote None (element tag content) self.old self.new fault) }
+    {
         let octets = LengthOctets::of(count);
         let whole = self.sum(1 + octets.as_bytes().len(), count)?;
         self.put(&[tag])?;
@@ -220,27 +229,9 @@ impl<W: Sink> Serializer<W> {
             (WroteValue None (element tag content.now) self.old self.new)
             (NotWroteValue None (element tag content.now) self.old self.new) }
     {
-        if !self.measures && content.len() <= FEW_OCTETS {
-            return self.short_element(tag, content);
-        }
         let whole = self.header(tag, content.len())?;
         self.put(content)?;
         Ok(whole)
-    }
-
-    /// Writes one element whose content is few octets, all at once.
-    fn short_element(&mut self, tag: u8, content: &[u8]) -> Result<usize, Asn1DerError>
-        requires { length content.now ≤ FEW_OCTETS }
-        ensures { MatchResult result
-            (WroteValue None (element tag content.now) self.old self.new)
-            (NotWroteValue None (element tag content.now) self.old self.new) }
-    {
-        let count = content.len();
-        let mut octets = [0u8; 2 + FEW_OCTETS];
-        octets[0] = tag;
-        octets[1] = count as u8;
-        octets[2..2 + count].copy_from_slice(content);
-        self.octets(&octets[..2 + count])
     }
 
     /// Writes one element whose content is `lead` and then `content`, as a BIT STRING's is (X.690, section 8.6.2).

@@ -1,6 +1,5 @@
-use Rattle.std.proofs.Common.{◌∙◌}
 use Rattle.asn1_codec.proofs.Chain.{at-exit}
-use Rattle.asn1_codec.proofs.Writes.{header-too_long, header-first, header-rest, header-short, wrote-short}
+use Rattle.asn1_codec.proofs.Writes.{header-short, wrote-short}
 use Rattle.asn1_codec.proofs.ser.Serializer.header.Goals as goal
 
 pub returns-in_err-put : goal.returns-in_err-put
@@ -10,20 +9,3 @@ returns-in_err-put g c =
 
 pub returns-then-count-lt128 : goal.returns-then-count-lt128
 returns-then-count-lt128 g c = wrote-short c.args.tag c.args.count _ _ c.if-count-lt128.true c.in_ok-put.ensures
-
-pub returns-in_err-whole : goal.returns-in_err-whole
-returns-in_err-whole g c =
-    at-exit _ _ _ _ c.from_residual-in_err-whole.ensures.1
-    (λ content size. header-too_long c.args.tag c.args.count content _ _ _ _ c.in_ok-ready.ensures (c.as_bytes.ensures ∙ c.of-octets.ensures) size
-    c.in_err-whole.ensures.1 c.in_err-whole.ensures.2 c.in_err-whole.ensures.0)
-
-pub returns-in_err-put-2 : goal.returns-in_err-put-2
-returns-in_err-put-2 g c =
-    at-exit _ _ _ _ c.from_residual-in_err-put-2.ensures.1
-    (λ content size. header-first c.args.tag content _ _ _ _ c.in_ok-whole.ensures.1 c.in_err-put-2.ensures)
-
-pub returns-in_err-put-3 : goal.returns-in_err-put-3
-returns-in_err-put-3 g c =
-    at-exit _ _ _ _ c.from_residual-in_err-put-3.ensures.1
-    (λ content size. header-rest c.args.tag c.args.count content _ _ _ _ _ _ c.in_ok-whole.ensures.1 c.in_ok-put-2.ensures (c.as_bytes-2.ensures ∙ c.of-octets.ensures) size
-    c.in_err-put-3.ensures)
