@@ -384,25 +384,12 @@ impl<R: Source> Deserializer<R> {
     {
         let count = self.open(tag)?;
         let rest = self.enter(count);
-        let value = self.last();
-        if value.is_err() {
-            return value;
-        }
-        self.leave(rest);
-        value
-    }
-
-    /// Takes a value, which is all that is left up to the limit.
-    fn last<T: Deserialize>(&mut self) -> Result<T, Asn1DerError>
-        ensures { MatchResult result
-            (λ value. TookFields (λ v. more (T.tree v) none) value self.old self.new)
-            (λ fault. Refused (AreFields (λ v. more (T.tree v) none) self.old.limit) self.old self.new fault) }
-    {
         let value = T::deserialize(self);
         if value.is_err() {
             return value;
         }
         self.finish()?;
+        self.leave(rest);
         value
     }
 
