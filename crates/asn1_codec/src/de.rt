@@ -322,12 +322,17 @@ impl<R: Source> Deserializer<R> {
         outside
     }
 
-    /// Raises the limit to `outside`, from which `enter` lowered it.
+    /// Raises the limit to `outside`, from which `enter` lowered it, unless a call was refused.
+    ///
+    /// What was read is handed on as it stands then, be it a value or a fault: each way on copies a big one.
     pub(crate) fn leave(&mut self, outside: usize)
-        requires { self.old.looked ≡ false }
-        ensures { self.new ≡ within outside self.old }
+        requires { self.old.failed ≡ false → self.old.looked ≡ false }
+        ensures sound { self.old.failed ≡ false → self.new ≡ within outside self.old }
+        ensures refused { self.old.failed ≡ true → self.new ≡ self.old }
     {
-        self.limit = outside;
+        if !self.failed {
+            self.limit = outside;
+        }
     }
 
     /// Takes an element with the identifier octet `tag`, and gives its content (X.690, section 8.1).
@@ -369,9 +374,6 @@ impl<R: Source> Deserializer<R> {
         let count = self.open(tag)?;
         let outside = self.enter(count);
         let fields = F::read(self);
-        if fields.is_err() {
-            return fields;
-        }
         self.leave(outside);
         fields
     }

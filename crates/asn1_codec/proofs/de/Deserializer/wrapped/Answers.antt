@@ -89,5 +89,5 @@ returns g c =
       took-as _ (der (wrapped c.args.tag t)) _ _
           (ap (λ n. (c.args.tag ∷ length_octets n) ++ content) (sym size) ∙ sym (element-split c.args.tag content) ∙ sym (der-wrapped c.args.tag t parts.0))
           (took-within (c.args.tag ∷ length_octets count) content count c.enter-rest.result _ _ _ _ _ c.in_ok-count.ensures.0
-          c.enter-rest.ensures.inside c.enter-rest.ensures.outside second finished.2 (c.leave.ensures ∙ ap (within c.enter-rest.result) finished.0)),
+          c.enter-rest.ensures.inside c.enter-rest.ensures.outside second finished.2 (c.leave.ensures.sound (ap (λ r. r.failed) finished.0 ∙ finished.1) ∙ ap (within c.enter-rest.result) finished.0)),
     ))

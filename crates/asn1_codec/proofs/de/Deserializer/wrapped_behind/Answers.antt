@@ -64,5 +64,5 @@ returns g c =
       took-as _ (der (behind c.args.lead (wrapped c.args.tag t))) _ _
           (ap (λ n. (c.args.tag ∷ length_octets n) ++ content) (sym size) ∙ sym (element-split c.args.tag content) ∙ spelled c.args.tag c.args.lead t whole)
           (took-within (c.args.tag ∷ length_octets c.in_ok-count.count) content c.in_ok-count.count c.enter-rest.result _ _ _ _ _ header
-          c.enter-rest.ensures.inside c.enter-rest.ensures.outside second parts.2 c.leave.ensures),
+          c.enter-rest.ensures.inside c.enter-rest.ensures.outside second parts.2 (c.leave.ensures.sound second.sound_after)),
     ))
