@@ -27,7 +27,7 @@ def show(name, text):
 
 
 def main():
-    request, reply = recorded("as_exchange.txt", "as honest")
+    request, reply = recorded("kdc_exchanges.txt", "as honest")
     _, error = recorded("real_clients.txt", "real client 1")
     for name, text in (("AS request", request), ("AS reply", reply), ("error", error)):
         show(name, text)
