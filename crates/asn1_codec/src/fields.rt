@@ -30,7 +30,7 @@ pub trait WriteFields {
 }
 
 /// Fields that are read.
-pub trait Fields: Sized + Drop {
+pub trait Fields: Sized {
     ghost use Rattle.asn1_codec.specs.Reading.{Reading, TookFields, AreFields, Refused};
 
     ghost trees: { Self → Trees };

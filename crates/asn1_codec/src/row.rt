@@ -40,7 +40,7 @@ pub trait WriteItem {
 }
 
 /// A field that is read, in front of others.
-pub trait Item: Sized + Drop {
+pub trait Item: Sized {
     ghost use Rattle.asn1_trees.proofs.Rows.{StartAmong, AreInjective};
     ghost use Rattle.asn1_codec.specs.Reading.{Reading, TookFields, AreFields, Refused};
 

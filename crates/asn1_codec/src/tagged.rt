@@ -24,7 +24,7 @@ pub trait Tagged: Sized + Drop {
     ghost use Rattle.asn1_codec.specs.Writing.{Writing, WroteValue, NotWroteValue};
 
     /// What a value holds.
-    type Row: Drop;
+    type Row;
 
     /// The identifier octet (X.690, section 8.1.2).
     const FIRST: u8;

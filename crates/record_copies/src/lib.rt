@@ -9,7 +9,9 @@ ghost use Rattle.std.specs.Prelude.{IfOk};
 use std::alloc::AllocError;
 
 /// The fields of a record: `()`, or the first and those behind it.
-pub trait RecordFields: Sized + Drop {
+///
+/// It says nothing of what is done with them, and stands in an `is_clone` alone.
+pub trait RecordFields {
     ghost are_copies: { Self → Self → Type 0 };
 }
 
@@ -17,38 +19,33 @@ impl RecordFields for () {
     ghost are_copies = { λ _ _. Unit {0} };
 }
 
-impl<A: Clone + Drop, B: RecordFields> RecordFields for (A, B) {
+impl<A: Clone, B: RecordFields> RecordFields for (A, B) {
     ghost are_copies = { λ fields copies. A.is_clone fields.0 copies.0 × B.are_copies fields.1 copies.1 };
 }
 
-/// The fields of a record, lent.
-pub trait LentFields {
-    /// The fields themselves.
-    type Fields: RecordFields;
-
-    ghost fields: { Self → Self.Fields };
+/// The fields of a record, lent, of which `Fields` are copies.
+///
+/// They are a parameter, since an associated type's bound would be spelled anew for each field and those behind it.
+pub trait LentFields<Fields> {
+    ghost are_copies: { Self → Fields → Type 0 };
 
     /// Copies each field by its own `clone`, in order.
-    fn copied(&self) -> Result<Self::Fields, AllocError>
-        ensures { IfOk result (λ copies. Self.Fields.are_copies (fields self.now) copies) };
+    fn copied(&self) -> Result<Fields, AllocError>
+        ensures { IfOk result (λ copies. are_copies self.now copies) };
 }
 
-impl LentFields for () {
-    type Fields = ();
-
-    ghost fields = { λ _. tt };
+impl LentFields<()> for () {
+    ghost are_copies = { λ _ _. Unit {0} };
 
     fn copied(&self) -> Result<(), AllocError> {
         Ok(())
     }
 }
 
-impl<'a, A: Clone + Drop, B: LentFields> LentFields for (&'a A, B) {
-    type Fields = (A, B::Fields);
+impl<'a, A: Clone + Drop, B: LentFields<Fields>, Fields> LentFields<(A, Fields)> for (&'a A, B) {
+    ghost are_copies = { λ lent copies. A.is_clone lent.0.now copies.0 × B.are_copies lent.1 copies.1 };
 
-    ghost fields = { λ lent. (lent.0.now, B.fields lent.1) };
-
-    fn copied(&self) -> Result<(A, B::Fields), AllocError> {
+    fn copied(&self) -> Result<(A, Fields), AllocError> {
         let first = self.0.clone()?;
         let others = self.1.copied()?;
         Ok((first, others))

@@ -9,12 +9,3 @@ read_sequence-requires-room-F-Fields-2 g c κs within = room _ g.met.V.ClientPub
 
 pub read_sequence-requires-room-F-Fields-3 : goal.read_sequence-requires-room-F-Fields-3
 read_sequence-requires-room-F-Fields-3 g c κs within = room _ g.met.V.ClientPublicValue.fits
-
-pub read_sequence-requires-room-F-Fields-4 : goal.read_sequence-requires-room-F-Fields-4
-read_sequence-requires-room-F-Fields-4 g c κs within = room _ g.met.V.ClientPublicValue.fits
-
-pub read_sequence-requires-room-F-Fields-5 : goal.read_sequence-requires-room-F-Fields-5
-read_sequence-requires-room-F-Fields-5 g c κs within = room _ g.met.V.ClientPublicValue.fits
-
-pub read_sequence-requires-room-F-Destruct : goal.read_sequence-requires-room-F-Destruct
-read_sequence-requires-room-F-Destruct g c κs within = room _ g.met.V.ClientPublicValue.fits
