@@ -17,7 +17,7 @@ use x509_spelling::{Counted, Spelled, X509Fault, content_of};
 pub struct Enclosed<T>(pub T);
 
 /// A value whose spelling stands under the explicit context tag `N`, which is below 16.
-#[derive(Drop)]
+#[derive(Clone, Copy, Debug, Drop, PartialEq, Eq)]
 pub struct Explicit<const N: u8, T>(pub T);
 
 impl<T: Serialize> Serialize for Enclosed<T> {
