@@ -7,6 +7,7 @@ use picky_asn1_der::{
     Alternatives, Asn1DerError, Choice, Deserialize, Deserializer, Fields, Last, Row2, Serialize,
     Serializer, Tagged, fields_of, from_fields, read_sequence,
 };
+use std::alloc::AllocError;
 use x509_spelling::Exact;
 
 /// How AES is used on more than a block.
@@ -31,7 +32,7 @@ pub enum AesMode {
 }
 
 /// Parameters of AES, told by their first octet.
-#[derive(Drop)]
+#[derive(Debug, Drop, PartialEq, Eq)]
 pub enum AesParameters {
     /// None, written as NULL.
     Null,
@@ -50,10 +51,35 @@ pub enum AesParameters {
 /// ```
 ///
 /// The length is always written, and parameters without it aren't read.
-#[derive(Drop)]
+#[derive(Debug, Drop, PartialEq, Eq)]
 pub struct AesAuthEncParams {
     nonce: OctetStringAsn1,
     icv_len: IntegerAsn1,
+}
+
+impl Clone for AesParameters {
+    ghost is_clone = { λ params copy. copy ≡ params };
+
+    fn clone(&self) -> Result<AesParameters, AllocError> {
+        Ok(match self {
+            AesParameters::Null => AesParameters::Null,
+            AesParameters::InitializationVector(vector) => AesParameters::InitializationVector(
+                vector.clone()?,
+            ),
+            AesParameters::AuthenticatedEncryptionParameters(params) =>
+                AesParameters::AuthenticatedEncryptionParameters(params.clone()?),
+        })
+    }
+}
+
+impl Clone for AesAuthEncParams {
+    ghost is_clone = { λ params copy. copy ≡ params };
+
+    fn clone(&self) -> Result<AesAuthEncParams, AllocError> {
+        let nonce = self.nonce.clone()?;
+        let icv_len = self.icv_len.clone()?;
+        Ok(AesAuthEncParams { nonce, icv_len })
+    }
 }
 
 type AuthEncRow = Row2<OctetStringAsn1, IntegerAsn1>;

@@ -16,7 +16,7 @@ use x509_spelling::Exact;
 ///      -- specifiedCurve  SpecifiedECDomain
 /// }
 /// ```
-#[derive(Debug, Drop, PartialEq, Eq)]
+#[derive(Debug, Drop, PartialEq, Eq, Clone)]
 pub enum EcParameters {
     /// A curve by its identifier.
     NamedCurve(ObjectIdentifierAsn1),

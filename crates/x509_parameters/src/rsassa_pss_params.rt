@@ -22,7 +22,7 @@ use x509_spelling::{Counted, Spelled, SpelledFields, X509Fault, read_fields};
 /// ```
 ///
 /// The first three are always written. Parameters without one of them, or with a trailer field, aren't read.
-#[derive(Drop)]
+#[derive(Debug, Drop, PartialEq, Eq)]
 pub struct RsassaPssParams {
     /// The hash of the message.
     pub hash_algorithm: Explicit<0, HashAlgorithm>,
@@ -30,6 +30,19 @@ pub struct RsassaPssParams {
     pub mask_gen_algorithm: Explicit<1, MaskGenAlgorithm>,
     /// How many octets the salt has.
     pub salt_length: Explicit<2, IntegerAsn1>,
+}
+
+impl Clone for RsassaPssParams {
+    ghost is_clone = { λ params copy. copy ≡ params };
+
+    fn clone(&self) -> Result<RsassaPssParams, AllocError> {
+        let salt_length = self.salt_length.0.clone()?;
+        Ok(RsassaPssParams {
+            hash_algorithm: self.hash_algorithm,
+            mask_gen_algorithm: self.mask_gen_algorithm,
+            salt_length: Explicit(salt_length),
+        })
+    }
 }
 
 type PssRow = Row3<
