@@ -10,7 +10,7 @@ use devices::{Sink, Source};
 use picky_asn1::oid::ObjectIdentifier;
 use picky_asn1::wrapper::ObjectIdentifierAsn1;
 use picky_asn1_der::{Asn1DerError, Deserialize, Deserializer, Serialize, Serializer};
-use std::alloc::Global;
+use std::alloc::{AllocError, Global};
 use x509_kinds::{Kinds, read_identified};
 use x509_spelling::{Counted, Spelled, SpelledItem, X509Fault};
 use x509_strict::read_strict;
@@ -25,7 +25,7 @@ use x509_strict::read_strict;
 ///
 /// Algorithms that aren't known here aren't read. Inside a message of another kind, as one of Kerberos, the strict spelling alone is
 /// read.
-#[derive(Drop)]
+#[derive(Debug, Drop, PartialEq, Eq)]
 pub struct AlgorithmIdentifier {
     algorithm: ObjectIdentifierAsn1,
     parameters: AlgorithmIdentifierParameters,
@@ -82,6 +82,19 @@ impl AlgorithmIdentifier {
             algorithm: ObjectIdentifierAsn1(oid),
             parameters,
         }
+    }
+}
+
+impl Clone for AlgorithmIdentifier {
+    ghost is_clone = { λ identifier copy. copy ≡ identifier };
+
+    fn clone(&self) -> Result<AlgorithmIdentifier, AllocError> {
+        let algorithm = self.algorithm.clone()?;
+        let parameters = self.parameters.clone()?;
+        Ok(AlgorithmIdentifier {
+            algorithm,
+            parameters,
+        })
     }
 }
 

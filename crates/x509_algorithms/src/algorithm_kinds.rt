@@ -8,12 +8,13 @@ use crate::algorithm_class::{
 };
 use picky_asn1::oid::ObjectIdentifier;
 use picky_asn1_der::DefaultField;
+use std::alloc::AllocError;
 use x509_kinds::{KindOf, LastKind, ToldBy};
 use x509_parameters::{AesParameters, EcParameters, NoNull, Null, RsaNull, RsassaPssParams};
 use x509_spelling::Implied;
 
 /// The parameters of an algorithm. The algorithm's identifier decides their kind.
-#[derive(Drop)]
+#[derive(Debug, Drop, PartialEq, Eq)]
 pub enum AlgorithmIdentifierParameters {
     /// None.
     None,
@@ -25,6 +26,25 @@ pub enum AlgorithmIdentifierParameters {
     Ec(EcParameters),
     /// Those of an RSASSA-PSS signature.
     RsassaPss(RsassaPssParams),
+}
+
+impl Clone for AlgorithmIdentifierParameters {
+    ghost is_clone = { λ params copy. copy ≡ params };
+
+    fn clone(&self) -> Result<AlgorithmIdentifierParameters, AllocError> {
+        Ok(match self {
+            AlgorithmIdentifierParameters::None => AlgorithmIdentifierParameters::None,
+            AlgorithmIdentifierParameters::Null => AlgorithmIdentifierParameters::Null,
+            AlgorithmIdentifierParameters::Aes(params) => AlgorithmIdentifierParameters::Aes(
+                params.clone()?,
+            ),
+            AlgorithmIdentifierParameters::Ec(curve) => AlgorithmIdentifierParameters::Ec(
+                curve.clone()?,
+            ),
+            AlgorithmIdentifierParameters::RsassaPss(params) =>
+                AlgorithmIdentifierParameters::RsassaPss(params.clone()?),
+        })
+    }
 }
 
 type LaterKinds = KindOf<
