@@ -16,6 +16,7 @@ use std::alloc::Global;
 
 fn main(rt: HostRuntime) -> anyhow::Result<()> {
     replay(&rt, &Spellings, "standards.txt")?;
+    replay(&rt, &Spellings, "published.txt")?;
     replay(&rt, &Spellings, "deviations.txt")?;
     replay(&rt, &Spellings, "spellings.txt")?;
     replay(&rt, &Spellings, "printed.txt")
