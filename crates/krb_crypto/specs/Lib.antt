@@ -1,3 +1,2 @@
-pub mod Derivation
 pub mod Sealing
 pub mod Suites

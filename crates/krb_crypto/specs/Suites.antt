@@ -1,44 +1,68 @@
+-- The suites, their numbers and sizes.
 use Rattle.std.specs.Prelude.{◌≡◌, ◌≢◌, ℕ, ◌*◌, List, [], ◌∷◌, length, Result, MatchResult}
 use Rattle.krb_blocks.specs.declared.error.KerberosCryptoError.{KerberosCryptoError}
 use Rattle.krb_blocks.specs.declared.error.KerberosCryptoError.TheVariants.{AlgorithmIdentifier, AlgorithmIdentifierData}
+use Rattle.krb_profile.specs.Profile.{Profile}
+use Rattle.krb_aes.specs.Suites.{aes128_profile, aes256_profile}
+use Rattle.krb_des3.specs.Suite.{des3_profile}
 use Rattle.krb_crypto.specs.declared.suite.CipherSuite.{CipherSuite}
-use Rattle.krb_crypto.specs.declared.suite.CipherSuite.TheVariants.{Aes128CtsHmacSha196, Aes256CtsHmacSha196}
+use Rattle.krb_crypto.specs.declared.suite.CipherSuite.TheVariants.{Aes128CtsHmacSha196, Aes256CtsHmacSha196, Des3CbcSha1Kd}
 use Rattle.krb_crypto.specs.declared.suite.ChecksumSuite.{ChecksumSuite}
-use Rattle.krb_crypto.specs.declared.suite.ChecksumSuite.TheVariants.{HmacSha196Aes128, HmacSha196Aes256}
+use Rattle.krb_crypto.specs.declared.suite.ChecksumSuite.TheVariants.{HmacSha196Aes128, HmacSha196Aes256, HmacSha1Des3Kd}
 
--- the number that names a suite as `etype` (RFC 3962, section 7)
+-- what tells a suite from the others: every word of sealing is one of its profile
+abbrev pub cipher_profile : CipherSuite → Profile
+cipher_profile Aes128CtsHmacSha196 = aes128_profile
+cipher_profile Aes256CtsHmacSha196 = aes256_profile
+cipher_profile Des3CbcSha1Kd = des3_profile
+
+-- the number that names a suite as `etype` (RFC 3962, section 7; RFC 3961, section 8)
 abbrev pub cipher_number : CipherSuite → ℕ
 cipher_number Aes128CtsHmacSha196 = 17
 cipher_number Aes256CtsHmacSha196 = 18
+cipher_number Des3CbcSha1Kd = 16
 
--- how many bytes a suite's key has (RFC 3962, section 6)
+-- how many bytes a suite's key has
 abbrev pub cipher_key_size : CipherSuite → ℕ
-cipher_key_size Aes128CtsHmacSha196 = 16
-cipher_key_size Aes256CtsHmacSha196 = 32
+cipher_key_size suite = (cipher_profile suite).key_size
 
--- the number that names a checksum as `cksumtype` (RFC 3962, section 7)
-abbrev pub checksum_number : ChecksumSuite → ℕ
-checksum_number HmacSha196Aes128 = 15
-checksum_number HmacSha196Aes256 = 16
+-- how many bytes a suite's key is made from
+abbrev pub cipher_seed_size : CipherSuite → ℕ
+cipher_seed_size suite = (cipher_profile suite).seed_size
 
--- how many bits a suite's key is made from (RFC 3962, section 6)
+-- how many bits a suite's key is made from
 abbrev pub cipher_seed_bits : CipherSuite → ℕ
-cipher_seed_bits suite = 8 * cipher_key_size suite
+cipher_seed_bits suite = 8 * cipher_seed_size suite
 
 -- how many bytes a suite's confounder has: a block (RFC 3961, section 5.3)
 abbrev pub cipher_confounder_size : CipherSuite → ℕ
-cipher_confounder_size Aes128CtsHmacSha196 = 16
-cipher_confounder_size Aes256CtsHmacSha196 = 16
+cipher_confounder_size suite = (cipher_profile suite).confounder_size
 
--- the checksum that belongs to a suite (RFC 3962, section 7)
+-- how many bytes the checksum behind what is encrypted has
+abbrev pub cipher_tag_size : CipherSuite → ℕ
+cipher_tag_size suite = (cipher_profile suite).tag_size
+
+-- the suite of a checksum's keys (RFC 3962, section 7; RFC 3961, section 6.3)
+abbrev pub checksum_cipher : ChecksumSuite → CipherSuite
+checksum_cipher HmacSha196Aes128 = Aes128CtsHmacSha196
+checksum_cipher HmacSha196Aes256 = Aes256CtsHmacSha196
+checksum_cipher HmacSha1Des3Kd = Des3CbcSha1Kd
+
+-- the number that names a checksum as `cksumtype` (RFC 3962, section 7; RFC 3961, section 8)
+abbrev pub checksum_number : ChecksumSuite → ℕ
+checksum_number HmacSha196Aes128 = 15
+checksum_number HmacSha196Aes256 = 16
+checksum_number HmacSha1Des3Kd = 12
+
+-- the checksum that belongs to a suite (RFC 3962, section 7; RFC 3961, section 6.3)
 abbrev pub cipher_checksum : CipherSuite → ChecksumSuite
 cipher_checksum Aes128CtsHmacSha196 = HmacSha196Aes128
 cipher_checksum Aes256CtsHmacSha196 = HmacSha196Aes256
+cipher_checksum Des3CbcSha1Kd = HmacSha1Des3Kd
 
--- how many bytes a checksum's key has (RFC 3962, section 6)
+-- how many bytes a checksum's key has
 abbrev pub checksum_key_size : ChecksumSuite → ℕ
-checksum_key_size HmacSha196Aes128 = 16
-checksum_key_size HmacSha196Aes256 = 32
+checksum_key_size suite = cipher_key_size (checksum_cipher suite)
 
 -- the suite that has a number, or the refusal of a number that none has
 abbrev pub IsCipherOf : ℕ → Result CipherSuite KerberosCryptoError → Type 0

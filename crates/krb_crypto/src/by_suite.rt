@@ -1,19 +1,16 @@
 //! The suites as a `Cipher` and a `Checksum`.
 
 ghost use Rattle.std.specs.Prelude.{◌≡◌, length};
-ghost use Rattle.krb_blocks.specs.AesSize.{key_length_of};
-ghost use Rattle.krb_crypto.specs.Sealing.{IsEncryptedBy, IsOpeningRefusal, IsSealedBy, checksum_of, encryption_checksum_of, integrity_key_of, password_key_of};
-ghost use Rattle.krb_crypto.specs.Suites.{checksum_key_size, cipher_checksum, cipher_confounder_size, cipher_key_size, cipher_seed_bits};
+ghost use Rattle.krb_crypto.specs.Sealing.{IsEncryptedBy, IsOpeningRefusal, IsRefusedPassword, IsSealedBy, checksum_of, cipher_filled, encryption_checksum_of, integrity_key_of, password_key_of, seed_key_of};
+ghost use Rattle.krb_crypto.specs.Suites.{checksum_key_size, cipher_checksum, cipher_confounder_size, cipher_key_size, cipher_seed_bits, cipher_tag_size};
 
-use crate::aes::{
-    AES_BLOCK_SIZE, AesSize, checksum_sha_aes, decrypt_message, decrypt_message_no_checksum,
-    derive_key_from_password, encrypt_message, encrypt_message_no_checksum, encryption_checksum,
-    random_to_key,
-};
 use crate::cipher::{Checksum, Cipher};
 use crate::suite::{ChecksumSuite, CipherSuite};
-use crate::unchecked::{DecryptWithoutChecksum, EncryptWithoutChecksum};
-use krb_blocks::KerberosCryptoResult;
+use krb_aes::checksum_sha_aes;
+use krb_blocks::{AES_BLOCK_SIZE, AesSize, KerberosCryptoResult};
+use krb_des::{DES3_BLOCK_SIZE, DES3_SEED_LEN};
+use krb_des3::{checksum_sha_des3, key_of_seed};
+use krb_profile::{DecryptWithoutChecksum, EncryptWithoutChecksum};
 use std::alloc::Global;
 
 impl CipherSuite {
@@ -22,17 +19,6 @@ impl CipherSuite {
         ensures { result.now ≡ self.now }
     {
         self
-    }
-
-    // Which AES encrypts by this suite.
-    fn aes_size(&self) -> AesSize
-        ensures key { key_length_of result ≡ cipher_key_size self.now }
-        ensures confounder { cipher_confounder_size self.now ≡ 16 }
-    {
-        match self {
-            CipherSuite::Aes128CtsHmacSha196 => AesSize::Aes128,
-            CipherSuite::Aes256CtsHmacSha196 => AesSize::Aes256,
-        }
     }
 }
 
@@ -43,19 +29,9 @@ impl ChecksumSuite {
     {
         self
     }
-
-    // Which AES derives the keys of this checksum.
-    fn aes_size(&self) -> AesSize
-        ensures { key_length_of result ≡ checksum_key_size self.now }
-    {
-        match self {
-            ChecksumSuite::HmacSha196Aes128 => AesSize::Aes128,
-            ChecksumSuite::HmacSha196Aes256 => AesSize::Aes256,
-        }
-    }
 }
 
-// A confounder as one block.
+// A confounder as one block of AES.
 fn block_of(confounder: &[u8]) -> [u8; AES_BLOCK_SIZE]
     requires { length confounder.now ≡ 16 }
     ensures { result ≡ confounder.now }
@@ -76,7 +52,11 @@ impl Cipher for CipherSuite {
 
     ghost confounder_bytes = { cipher_confounder_size };
 
+    ghost tag_bytes = { cipher_tag_size };
+
     ghost seals = { IsSealedBy };
+
+    ghost filled = { cipher_filled };
 
     ghost refuses = { IsOpeningRefusal };
 
@@ -88,18 +68,27 @@ impl Cipher for CipherSuite {
 
     ghost password_key = { password_key_of };
 
+    ghost refuses_password = { IsRefusedPassword };
+
+    ghost seed_key = { seed_key_of };
+
     fn key_size(&self) -> usize {
-        self.aes_size().key_length()
+        CipherSuite::key_size(*self)
     }
 
     fn seed_bit_len(&self) -> usize {
-        self.aes_size().seed_bit_len()
+        match self {
+            CipherSuite::Aes128CtsHmacSha196 => AesSize::Aes128.seed_bit_len(),
+            CipherSuite::Aes256CtsHmacSha196 => AesSize::Aes256.seed_bit_len(),
+            CipherSuite::Des3CbcSha1Kd => 8 * DES3_SEED_LEN,
+        }
     }
 
     fn confounder_size(&self) -> usize {
         match self {
             CipherSuite::Aes128CtsHmacSha196 => AES_BLOCK_SIZE,
             CipherSuite::Aes256CtsHmacSha196 => AES_BLOCK_SIZE,
+            CipherSuite::Des3CbcSha1Kd => DES3_BLOCK_SIZE,
         }
     }
 
@@ -111,6 +100,7 @@ impl Cipher for CipherSuite {
         match self {
             CipherSuite::Aes128CtsHmacSha196 => ChecksumSuite::HmacSha196Aes128,
             CipherSuite::Aes256CtsHmacSha196 => ChecksumSuite::HmacSha196Aes256,
+            CipherSuite::Des3CbcSha1Kd => ChecksumSuite::HmacSha1Des3Kd,
         }
     }
 
@@ -122,10 +112,11 @@ impl Cipher for CipherSuite {
         payload: &[u8],
         confounder: &[u8],
     ) -> KerberosCryptoResult<Vec<u8>> {
-        let size = self.aes_size();
-        let block = block_of(confounder);
-        let sealed = encrypt_message(alloc, key, key_usage, payload, &size, block)?;
-        Ok(sealed)
+        match self {
+            CipherSuite::Aes128CtsHmacSha196 => krb_aes::encrypt_message(alloc, key, key_usage, payload, &AesSize::Aes128, block_of(confounder)),
+            CipherSuite::Aes256CtsHmacSha196 => krb_aes::encrypt_message(alloc, key, key_usage, payload, &AesSize::Aes256, block_of(confounder)),
+            CipherSuite::Des3CbcSha1Kd => krb_des3::encrypt_message(alloc, key, key_usage, payload, confounder),
+        }
     }
 
     fn decrypt(
@@ -135,9 +126,11 @@ impl Cipher for CipherSuite {
         key_usage: i32,
         cipher_data: &[u8],
     ) -> KerberosCryptoResult<Vec<u8>> {
-        let size = self.aes_size();
-        let opened = decrypt_message(alloc, key, key_usage, cipher_data, &size)?;
-        Ok(opened)
+        match self {
+            CipherSuite::Aes128CtsHmacSha196 => krb_aes::decrypt_message(alloc, key, key_usage, cipher_data, &AesSize::Aes128),
+            CipherSuite::Aes256CtsHmacSha196 => krb_aes::decrypt_message(alloc, key, key_usage, cipher_data, &AesSize::Aes256),
+            CipherSuite::Des3CbcSha1Kd => krb_des3::decrypt_message(alloc, key, key_usage, cipher_data),
+        }
     }
 
     fn encrypt_no_checksum(
@@ -148,10 +141,11 @@ impl Cipher for CipherSuite {
         payload: &[u8],
         confounder: &[u8],
     ) -> KerberosCryptoResult<EncryptWithoutChecksum> {
-        let size = self.aes_size();
-        let block = block_of(confounder);
-        let encrypted = encrypt_message_no_checksum(alloc, key, key_usage, payload, &size, block)?;
-        Ok(encrypted)
+        match self {
+            CipherSuite::Aes128CtsHmacSha196 => krb_aes::encrypt_message_no_checksum(alloc, key, key_usage, payload, &AesSize::Aes128, block_of(confounder)),
+            CipherSuite::Aes256CtsHmacSha196 => krb_aes::encrypt_message_no_checksum(alloc, key, key_usage, payload, &AesSize::Aes256, block_of(confounder)),
+            CipherSuite::Des3CbcSha1Kd => krb_des3::encrypt_message_no_checksum(alloc, key, key_usage, payload, confounder),
+        }
     }
 
     fn decrypt_no_checksum(
@@ -161,9 +155,11 @@ impl Cipher for CipherSuite {
         key_usage: i32,
         cipher_data: &[u8],
     ) -> KerberosCryptoResult<DecryptWithoutChecksum> {
-        let size = self.aes_size();
-        let decrypted = decrypt_message_no_checksum(alloc, key, key_usage, cipher_data, &size)?;
-        Ok(decrypted)
+        match self {
+            CipherSuite::Aes128CtsHmacSha196 => krb_aes::decrypt_message_no_checksum(alloc, key, key_usage, cipher_data, &AesSize::Aes128),
+            CipherSuite::Aes256CtsHmacSha196 => krb_aes::decrypt_message_no_checksum(alloc, key, key_usage, cipher_data, &AesSize::Aes256),
+            CipherSuite::Des3CbcSha1Kd => krb_des3::decrypt_message_no_checksum(alloc, key, key_usage, cipher_data),
+        }
     }
 
     fn encryption_checksum(
@@ -173,9 +169,11 @@ impl Cipher for CipherSuite {
         key_usage: i32,
         payload: &[u8],
     ) -> KerberosCryptoResult<Vec<u8>> {
-        let size = self.aes_size();
-        let checksum = encryption_checksum(alloc, key, key_usage, payload, &size)?;
-        Ok(checksum)
+        match self {
+            CipherSuite::Aes128CtsHmacSha196 => krb_aes::encryption_checksum(alloc, key, key_usage, payload, &AesSize::Aes128),
+            CipherSuite::Aes256CtsHmacSha196 => krb_aes::encryption_checksum(alloc, key, key_usage, payload, &AesSize::Aes256),
+            CipherSuite::Des3CbcSha1Kd => krb_des3::encryption_checksum(alloc, key, key_usage, payload),
+        }
     }
 
     fn generate_key_from_password(
@@ -184,13 +182,19 @@ impl Cipher for CipherSuite {
         password: &[u8],
         salt: &[u8],
     ) -> KerberosCryptoResult<Vec<u8>> {
-        let size = self.aes_size();
-        let key = derive_key_from_password(alloc, password, salt, &size)?;
-        Ok(key)
+        match self {
+            CipherSuite::Aes128CtsHmacSha196 => krb_aes::derive_key_from_password(alloc, password, salt, &AesSize::Aes128),
+            CipherSuite::Aes256CtsHmacSha196 => krb_aes::derive_key_from_password(alloc, password, salt, &AesSize::Aes256),
+            CipherSuite::Des3CbcSha1Kd => krb_des3::derive_key_from_password(alloc, password, salt),
+        }
     }
 
     fn random_to_key(&self, alloc: Global, seed: &[u8]) -> KerberosCryptoResult<Vec<u8>> {
-        let key = random_to_key(alloc, seed)?;
+        let key = match self {
+            CipherSuite::Aes128CtsHmacSha196 => krb_aes::random_to_key(alloc, seed)?,
+            CipherSuite::Aes256CtsHmacSha196 => krb_aes::random_to_key(alloc, seed)?,
+            CipherSuite::Des3CbcSha1Kd => key_of_seed(alloc, seed)?,
+        };
         Ok(key)
     }
 }
@@ -213,8 +217,10 @@ impl Checksum for ChecksumSuite {
         key_usage: i32,
         payload: &[u8],
     ) -> KerberosCryptoResult<Vec<u8>> {
-        let size = self.aes_size();
-        let checksum = checksum_sha_aes(alloc, key, key_usage, payload, &size)?;
-        Ok(checksum)
+        match self {
+            ChecksumSuite::HmacSha196Aes128 => checksum_sha_aes(alloc, key, key_usage, payload, &AesSize::Aes128),
+            ChecksumSuite::HmacSha196Aes256 => checksum_sha_aes(alloc, key, key_usage, payload, &AesSize::Aes256),
+            ChecksumSuite::HmacSha1Des3Kd => checksum_sha_des3(alloc, key, key_usage, payload),
+        }
     }
 }

@@ -1,6 +1,6 @@
 //! What every cipher suite can do.
 
-ghost use Rattle.std.specs.Prelude.{◌≡◌, ◌≢◌, ◌⊎◌, ℕ, ◌+◌, ◌*◌, ◌<◌, ◌≤◌, List, ◌++◌, length, vec_len, Err, IfOk, IfErr};
+ghost use Rattle.std.specs.Prelude.{◌≡◌, ◌≢◌, ◌⊎◌, ℕ, ◌+◌, ◌*◌, ◌<◌, ◌≤◌, List, ◌++◌, length, vec_len, Err, IfOk, IfErr, OnOk};
 ghost use Rattle.std.specs.Int.{cast_unsigned, w32};
 ghost use Rattle.krb_blocks.specs.declared.error.KerberosCryptoError.{KerberosCryptoError};
 ghost use Rattle.krb_blocks.specs.declared.error.KerberosCryptoError.TheVariants.{KeyLength, Memory};
@@ -19,12 +19,15 @@ pub trait Cipher {
 
     ghost checksum_suite: { Self → ChecksumSuite };
 
-    // The bytes of a key, the bits of the seed that it is made from, and the bytes of a confounder.
+    // The bytes of a key, the bits of the seed that it is made from, and the bytes of a confounder and of the checksum
+    // behind what is encrypted.
     ghost key_bytes: { Self → ℕ };
 
     ghost seed_bits: { Self → ℕ };
 
     ghost confounder_bytes: { Self → ℕ };
+
+    ghost tag_bytes: { Self → ℕ };
 
     // Under this key, for this usage, confounder and plaintext are sealed to these bytes.
     ghost seals: { Self → List ℕ → ℕ → List ℕ → List ℕ → List ℕ → Type 0 };
@@ -43,9 +46,12 @@ pub trait Cipher {
 
     ghost tag: { Self → List ℕ → ℕ → List ℕ → List ℕ };
 
-    // The key of a password and a salt, and that of a seed: for some suites the seed itself.
+    // The key of a password and a salt, and which of them have none: some suites refuse two that are empty.
     ghost password_key: { Self → List ℕ → List ℕ → List ℕ };
 
+    ghost refuses_password: { Self → List ℕ → List ℕ → Type 0 };
+
+    // The key of a seed: for some suites the seed itself.
     ghost seed_key: { Self → List ℕ → List ℕ } = { λ _ seed. seed };
 
     /// The bytes of a key.
@@ -141,6 +147,9 @@ pub trait Cipher {
             × encrypts self.now key.now (cast_unsigned w32 key_usage) (d.confounder.items ++ d.plaintext.items) front) }
         ensures confounder { IfOk result (λ d. vec_len d.confounder ≡ confounder_bytes self.now) }
         ensures ki { IfOk result (λ d. d.ki.items ≡ integrity_key self.now key.now (cast_unsigned w32 key_usage)) }
+        ensures checksum { IfOk result (λ d. vec_len d.checksum ≡ tag_bytes self.now) }
+        ensures key_sized { OnOk result (length key.now ≡ key_bytes self.now) }
+        ensures long { OnOk result (confounder_bytes self.now + tag_bytes self.now ≤ length cipher_data.now) }
 
         // The refusals: where it isn't memory, nothing is sealed here.
         ensures refusals { IfErr result (λ e. refuses self.now (length key.now) (length cipher_data.now) e) }
@@ -173,13 +182,18 @@ pub trait Cipher {
         ensures derived { IfOk result (λ k. k.items ≡ password_key self.now password.now salt.now) }
         ensures sized { IfOk result (λ k. vec_len k ≡ key_bytes self.now) }
 
-        // Some suites refuse a password and a salt that are both empty.
+        // The refusals. No suite refuses a password or a salt that isn't empty.
+        ensures empty { refuses_password self.now password.now salt.now → result ≡ Err (KeyLength 0 1) }
+        ensures taken { (refuses_password self.now password.now salt.now → ⊥) → IfErr result (λ e. e ≡ Memory) }
         ensures memory { 0 < length password.now + length salt.now → IfErr result (λ e. e ≡ Memory) };
 
     /// The key of random bytes, of which there are at least as many as the seed has.
     fn random_to_key(&self, alloc: Global, seed: &[u8]) -> KerberosCryptoResult<Vec<u8>>
         requires { seed_bits self.now ≤ 8 * length seed.now }
         ensures made { IfOk result (λ k. k.items ≡ seed_key self.now seed.now) }
+
+        // A seed of just its bits makes a key of its length.
+        ensures sized { 8 * length seed.now ≡ seed_bits self.now → IfOk result (λ k. vec_len k ≡ key_bytes self.now) }
         ensures memory { IfErr result (λ e. e ≡ Memory) };
 }
 

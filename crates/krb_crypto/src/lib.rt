@@ -4,17 +4,16 @@
 pub mod aes;
 mod by_suite;
 mod cipher;
+pub mod des;
+mod fill;
 pub mod laws;
 mod suite;
-mod unchecked;
-mod usage;
+mod suites;
 
 pub use cipher::{Checksum, Cipher};
 pub use krb_blocks::{KerberosCryptoError, KerberosCryptoResult};
 pub use krb_digests::{hmac_sha1, n_fold};
+pub use krb_profile::{
+    DecryptWithoutChecksum, EncryptWithoutChecksum, KERBEROS, usage_kc, usage_ke, usage_ki,
+};
 pub use suite::{ChecksumSuite, CipherSuite};
-pub use unchecked::{DecryptWithoutChecksum, EncryptWithoutChecksum};
-pub use usage::{usage_kc, usage_ke, usage_ki};
-
-/// The constant of keys that are made from passwords (RFC 3962, section 4).
-pub const KERBEROS: &[u8; 8] = b"kerberos";

@@ -5,7 +5,7 @@ ghost use Rattle.krb_crypto.specs.Suites.{IsChecksumOf, IsCipherOf, IsCipherOfBy
 
 use krb_blocks::KerberosCryptoError;
 
-/// The ways to encrypt (RFC 3962, section 7).
+/// The ways to encrypt (RFC 3962, section 7; RFC 3961, section 6.3).
 #[derive(Clone, Copy, Debug, PartialEq, Eq)]
 pub enum CipherSuite {
     /// AES with 128-bit keys in CBC mode with ciphertext stealing, and HMAC-SHA1 cut to 96 bits.
@@ -13,21 +13,25 @@ pub enum CipherSuite {
 
     /// AES with 256-bit keys in CBC mode with ciphertext stealing, and HMAC-SHA1 cut to 96 bits.
     Aes256CtsHmacSha196,
+
+    /// Triple DES in CBC mode, and HMAC-SHA1.
+    Des3CbcSha1Kd,
 }
 
 impl CipherSuite {
-    /// How many bytes a key of this suite has (RFC 3962, section 6).
+    /// How many bytes a key of this suite has (RFC 3962, section 6; RFC 3961, section 6.3).
     pub fn key_size(self) -> usize
         ensures { result ≡ cipher_key_size self }
     {
         match self {
             CipherSuite::Aes128CtsHmacSha196 => 16,
             CipherSuite::Aes256CtsHmacSha196 => 32,
+            CipherSuite::Des3CbcSha1Kd => 24,
         }
     }
 }
 
-/// The suite's number, as `etype` in a message (RFC 3962, section 7).
+/// The suite's number, as `etype` in a message (RFC 3962, section 7; RFC 3961, section 8).
 impl From<CipherSuite> for u8 {
     ghost from_gives = { λ suite number. number ≡ cipher_number suite };
 
@@ -35,11 +39,12 @@ impl From<CipherSuite> for u8 {
         match suite {
             CipherSuite::Aes128CtsHmacSha196 => 17,
             CipherSuite::Aes256CtsHmacSha196 => 18,
+            CipherSuite::Des3CbcSha1Kd => 16,
         }
     }
 }
 
-/// The suite's number, as `etype` in a message (RFC 3962, section 7).
+/// The suite's number, as `etype` in a message (RFC 3962, section 7; RFC 3961, section 8).
 impl From<CipherSuite> for usize {
     ghost from_gives = { λ suite number. number ≡ cipher_number suite };
 
@@ -48,7 +53,7 @@ impl From<CipherSuite> for usize {
     }
 }
 
-/// The suite's number, as `etype` in a message (RFC 3962, section 7).
+/// The suite's number, as `etype` in a message (RFC 3962, section 7; RFC 3961, section 8).
 impl From<&CipherSuite> for u8 {
     ghost from_gives = { λ suite number. number ≡ cipher_number suite.now };
 
@@ -57,7 +62,7 @@ impl From<&CipherSuite> for u8 {
     }
 }
 
-/// The suite's number, as `etype` in a message (RFC 3962, section 7).
+/// The suite's number, as `etype` in a message (RFC 3962, section 7; RFC 3961, section 8).
 impl From<&CipherSuite> for u32 {
     ghost from_gives = { λ suite number. number ≡ cipher_number suite.now };
 
@@ -74,6 +79,7 @@ impl TryFrom<usize> for CipherSuite {
 
     fn try_from(number: usize) -> Result<CipherSuite, KerberosCryptoError> {
         match number {
+            16 => Ok(CipherSuite::Des3CbcSha1Kd),
             17 => Ok(CipherSuite::Aes128CtsHmacSha196),
             18 => Ok(CipherSuite::Aes256CtsHmacSha196),
             _ => Err(KerberosCryptoError::AlgorithmIdentifier(number)),
@@ -89,6 +95,7 @@ impl TryFrom<&[u8]> for CipherSuite {
 
     fn try_from(bytes: &[u8]) -> Result<CipherSuite, KerberosCryptoError> {
         match bytes {
+            [16] => Ok(CipherSuite::Des3CbcSha1Kd),
             [17] => Ok(CipherSuite::Aes128CtsHmacSha196),
             [18] => Ok(CipherSuite::Aes256CtsHmacSha196),
             _ => Err(KerberosCryptoError::AlgorithmIdentifierData(bytes.len())),
@@ -96,7 +103,7 @@ impl TryFrom<&[u8]> for CipherSuite {
     }
 }
 
-/// The keyed checksums (RFC 3962, section 7).
+/// The keyed checksums (RFC 3962, section 7; RFC 3961, section 6.3).
 #[derive(Clone, Copy, Debug, PartialEq, Eq)]
 pub enum ChecksumSuite {
     /// HMAC-SHA1 cut to 96 bits, with a 128-bit key.
@@ -104,9 +111,12 @@ pub enum ChecksumSuite {
 
     /// HMAC-SHA1 cut to 96 bits, with a 256-bit key.
     HmacSha196Aes256,
+
+    /// HMAC-SHA1, with a key of triple DES.
+    HmacSha1Des3Kd,
 }
 
-/// The suite's number, as `cksumtype` in a message (RFC 3962, section 7).
+/// The suite's number, as `cksumtype` in a message (RFC 3962, section 7; RFC 3961, section 8).
 impl From<ChecksumSuite> for u8 {
     ghost from_gives = { λ suite number. number ≡ checksum_number suite };
 
@@ -114,11 +124,12 @@ impl From<ChecksumSuite> for u8 {
         match suite {
             ChecksumSuite::HmacSha196Aes128 => 15,
             ChecksumSuite::HmacSha196Aes256 => 16,
+            ChecksumSuite::HmacSha1Des3Kd => 12,
         }
     }
 }
 
-/// The suite's number, as `cksumtype` in a message (RFC 3962, section 7).
+/// The suite's number, as `cksumtype` in a message (RFC 3962, section 7; RFC 3961, section 8).
 impl From<ChecksumSuite> for usize {
     ghost from_gives = { λ suite number. number ≡ checksum_number suite };
 
@@ -127,7 +138,7 @@ impl From<ChecksumSuite> for usize {
     }
 }
 
-/// The suite's number, as `cksumtype` in a message (RFC 3962, section 7).
+/// The suite's number, as `cksumtype` in a message (RFC 3962, section 7; RFC 3961, section 8).
 impl From<ChecksumSuite> for u32 {
     ghost from_gives = { λ suite number. number ≡ checksum_number suite };
 
@@ -136,7 +147,7 @@ impl From<ChecksumSuite> for u32 {
     }
 }
 
-/// The suite's number, as `cksumtype` in a message (RFC 3962, section 7).
+/// The suite's number, as `cksumtype` in a message (RFC 3962, section 7; RFC 3961, section 8).
 impl From<&ChecksumSuite> for u8 {
     ghost from_gives = { λ suite number. number ≡ checksum_number suite.now };
 
@@ -145,7 +156,7 @@ impl From<&ChecksumSuite> for u8 {
     }
 }
 
-/// The suite's number, as `cksumtype` in a message (RFC 3962, section 7).
+/// The suite's number, as `cksumtype` in a message (RFC 3962, section 7; RFC 3961, section 8).
 impl From<&ChecksumSuite> for u32 {
     ghost from_gives = { λ suite number. number ≡ checksum_number suite.now };
 
@@ -162,6 +173,7 @@ impl TryFrom<usize> for ChecksumSuite {
 
     fn try_from(number: usize) -> Result<ChecksumSuite, KerberosCryptoError> {
         match number {
+            12 => Ok(ChecksumSuite::HmacSha1Des3Kd),
             15 => Ok(ChecksumSuite::HmacSha196Aes128),
             16 => Ok(ChecksumSuite::HmacSha196Aes256),
             _ => Err(KerberosCryptoError::AlgorithmIdentifier(number)),

@@ -2,20 +2,17 @@
 
 ghost use Rattle.std.specs.Prelude.{◌≡◌, ◌≢◌, ◌≤◌, ℕ, List, ◌++◌, length, vec_len, Err, IfOk, IfErr};
 ghost use Rattle.std.specs.Int.{cast_unsigned, w32};
-ghost use Rattle.krb_blocks.specs.Aes.{aes_cipher};
 ghost use Rattle.krb_blocks.specs.AesSize.{key_length_of};
-ghost use Rattle.krb_blocks.specs.Bytes.{IsBytes};
-ghost use Rattle.krb_blocks.specs.Chains.{IsStolen};
 ghost use Rattle.krb_blocks.specs.declared.error.KerberosCryptoError.TheVariants.{KeyLength, Memory};
-ghost use Rattle.krb_crypto.specs.Derivation.{aes_kc_of, aes_ke_of, aes_ki_of};
-ghost use Rattle.krb_crypto.specs.Sealing.{IsAesSealed, aes_tag_of};
+ghost use Rattle.krb_profile.specs.Profile.{ki_of};
+ghost use Rattle.krb_profile.specs.Sealing.{IsEncryptedAs, IsSealedAs, encryption_tag_of, tag_alone_of};
+ghost use Rattle.krb_aes.specs.Suites.{aes_profile, aes_tag_of};
 
-use super::AES_MAC_SIZE;
-use super::derivation::derive_key;
-use crate::unchecked::EncryptWithoutChecksum;
-use crate::usage::{usage_kc, usage_ke, usage_ki};
+use crate::AES_MAC_SIZE;
+use crate::derivation::derive_key;
 use krb_blocks::{AES_BLOCK_SIZE, AesSize, KerberosCryptoResult, encrypt_aes_cts};
 use krb_digests::hmac_sha1;
+use krb_profile::{EncryptWithoutChecksum, joined, usage_kc, usage_ke, usage_ki};
 use std::alloc::{AllocError, Global};
 
 /// The message, encrypted behind the confounder, and the checksum of both: 28 bytes more than the message. Refused is a
@@ -29,14 +26,14 @@ pub fn encrypt_message(
     confounder: [u8; AES_BLOCK_SIZE],
 ) -> KerberosCryptoResult<Vec<u8>>
     ensures sealed { IfOk result (λ c.
-        IsAesSealed (key_length_of aes_size.now) key.now (cast_unsigned w32 key_usage) confounder payload.now c.items) }
+        IsSealedAs (aes_profile aes_size.now) key.now (cast_unsigned w32 key_usage) confounder payload.now c.items) }
     ensures only { IfOk result (λ c. (b : List ℕ)
-        → IsAesSealed (key_length_of aes_size.now) key.now (cast_unsigned w32 key_usage) confounder payload.now b
+        → IsSealedAs (aes_profile aes_size.now) key.now (cast_unsigned w32 key_usage) confounder payload.now b
         → b ≡ c.items) }
 
     // No other confounder or message is sealed to the same bytes.
     ensures one_text { IfOk result (λ c. (d q : List ℕ)
-        → IsAesSealed (key_length_of aes_size.now) key.now (cast_unsigned w32 key_usage) d q c.items
+        → IsSealedAs (aes_profile aes_size.now) key.now (cast_unsigned w32 key_usage) d q c.items
         → (d ≡ confounder) × (q ≡ payload.now)) }
 
     // The refusals.
@@ -66,11 +63,10 @@ pub fn encrypt_message_no_checksum(
     aes_size: &AesSize,
     confounder: [u8; AES_BLOCK_SIZE],
 ) -> KerberosCryptoResult<EncryptWithoutChecksum>
-    ensures encrypted { IfOk result (λ e.
-        IsStolen 16 (aes_cipher (aes_ke_of key.now (cast_unsigned w32 key_usage))) (confounder ++ payload.now)
-        e.encrypted.items) }
+    ensures encrypted { IfOk result (λ e. IsEncryptedAs (aes_profile aes_size.now) key.now
+        (cast_unsigned w32 key_usage) (confounder ++ payload.now) e.encrypted.items) }
     ensures confounder { IfOk result (λ e. e.confounder.items ≡ confounder) }
-    ensures ki { IfOk result (λ e. e.ki.items ≡ aes_ki_of key.now (cast_unsigned w32 key_usage)) }
+    ensures ki { IfOk result (λ e. e.ki.items ≡ ki_of (aes_profile aes_size.now) key.now (cast_unsigned w32 key_usage)) }
     ensures ki_sized { IfOk result (λ e. vec_len e.ki ≡ key_length_of aes_size.now) }
 
     // The refusals.
@@ -90,8 +86,8 @@ pub fn encrypt_message_no_checksum(
     })
 }
 
-/// The checksum that belongs behind an encrypted text.
-pub(crate) fn encryption_checksum(
+/// The checksum that belongs behind an encrypted text, 12 bytes. Refused is a key of another length (`KeyLength`).
+pub fn encryption_checksum(
     alloc: Global,
     key: &[u8],
     key_usage: i32,
@@ -99,7 +95,7 @@ pub(crate) fn encryption_checksum(
     aes_size: &AesSize,
 ) -> KerberosCryptoResult<Vec<u8>>
     ensures checksum { IfOk result
-        (λ c. c.items ≡ aes_tag_of (aes_ki_of key.now (cast_unsigned w32 key_usage)) payload.now) }
+        (λ c. c.items ≡ encryption_tag_of (aes_profile aes_size.now) key.now (cast_unsigned w32 key_usage) payload.now) }
 
     // The refusals.
     ensures key_length { length key.now ≢ key_length_of aes_size.now
@@ -120,7 +116,7 @@ pub fn checksum_sha_aes(
     aes_size: &AesSize,
 ) -> KerberosCryptoResult<Vec<u8>>
     ensures checksum { IfOk result
-        (λ c. c.items ≡ aes_tag_of (aes_kc_of key.now (cast_unsigned w32 key_usage)) payload.now) }
+        (λ c. c.items ≡ tag_alone_of (aes_profile aes_size.now) key.now (cast_unsigned w32 key_usage) payload.now) }
 
     // The refusals.
     ensures key_length { length key.now ≢ key_length_of aes_size.now
@@ -139,13 +135,4 @@ pub(crate) fn tag_of_text(alloc: Global, key: &[u8], text: &[u8]) -> Result<Vec<
 {
     let tag = hmac_sha1(alloc, key, text, AES_MAC_SIZE)?;
     Ok(tag)
-}
-
-// Two strings, one behind the other.
-pub(crate) fn joined(alloc: Global, front: &[u8], back: &[u8]) -> Result<Vec<u8>, AllocError>
-    ensures { IfOk result (λ v. v.items ≡ front.now ++ back.now) }
-{
-    let mut both = Vec::from_slice(alloc, front)?;
-    both.extend_from_slice(back)?;
-    Ok(both)
 }

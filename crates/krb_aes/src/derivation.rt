@@ -3,13 +3,13 @@
 ghost use Rattle.std.specs.Prelude.{◌≡◌, ◌≢◌, ◌<◌, length, vec_len, Err, IfOk, IfErr};
 ghost use Rattle.krb_blocks.specs.AesSize.{key_length_of};
 ghost use Rattle.krb_blocks.specs.declared.error.KerberosCryptoError.TheVariants.{KeyLength, Memory};
-ghost use Rattle.krb_crypto.specs.Derivation.{aes_derived_key_of, aes_password_key_of};
+ghost use Rattle.krb_aes.specs.Derivation.{aes_derived_key_of, aes_password_key_of};
 
-use crate::KERBEROS;
 use krb_blocks::{
     AES_BLOCK_SIZE, AesSize, KerberosCryptoError, KerberosCryptoResult, encrypt_aes_cbc,
 };
 use krb_digests::{n_fold, pbkdf2_hmac_sha1};
+use krb_profile::KERBEROS;
 use std::alloc::{AllocError, Global};
 
 // The rounds of PBKDF2 where no others are asked for (RFC 3962, section 4).

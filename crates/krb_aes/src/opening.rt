@@ -1,23 +1,21 @@
 //! Opening a message that AES seals (RFC 3961, section 5.3; RFC 3962).
 
-ghost use Rattle.std.specs.Prelude.{◌≡◌, ◌≢◌, ◌⊎◌, ◌↔◌, ◌-◌, ◌<◌, ◌≤◌, ℕ, List, ◌++◌, length, take, drop, vec_len, Err, IfOk, IfErr, OnOk, IsTrue};
+ghost use Rattle.std.specs.Prelude.{◌≡◌, ◌≢◌, ◌⊎◌, ◌-◌, ◌<◌, ◌≤◌, ℕ, List, ◌++◌, length, take, drop, vec_len, Err, IfOk, IfErr, OnOk};
 ghost use Rattle.std.specs.Int.{cast_unsigned, w32};
-ghost use Rattle.krb_blocks.specs.Aes.{aes_cipher};
 ghost use Rattle.krb_blocks.specs.AesSize.{key_length_of};
 ghost use Rattle.krb_blocks.specs.Bytes.{IsBytes};
-ghost use Rattle.krb_blocks.specs.Chains.{IsStolen};
-ghost use Rattle.krb_blocks.specs.declared.error.KerberosCryptoError.TheVariants.{CipherLength, IntegrityCheck, KeyLength, Memory};
-ghost use Rattle.krb_crypto.specs.Derivation.{aes_ke_of, aes_ki_of};
-ghost use Rattle.krb_crypto.specs.Sealing.{IsAesOpening, IsNothingAesSealed};
+ghost use Rattle.krb_blocks.specs.declared.error.KerberosCryptoError.TheVariants.{CipherLength, KeyLength, Memory};
+ghost use Rattle.krb_profile.specs.Profile.{ki_of};
+ghost use Rattle.krb_profile.specs.Sealing.{IsEncryptedAs, IsNothingSealedAs, IsOpeningAs};
+ghost use Rattle.krb_aes.specs.Suites.{IsAesRefusal, aes_profile};
 
-use super::AES_MAC_SIZE;
-use super::derivation::derive_key;
-use super::sealing::{joined, tag_of_text};
-use crate::unchecked::DecryptWithoutChecksum;
-use crate::usage::{usage_ke, usage_ki};
+use crate::AES_MAC_SIZE;
+use crate::derivation::derive_key;
+use crate::sealing::tag_of_text;
 use krb_blocks::{
     AES_BLOCK_SIZE, AesSize, KerberosCryptoError, KerberosCryptoResult, decrypt_aes_cts,
 };
+use krb_profile::{DecryptWithoutChecksum, joined, same_bytes, usage_ke, usage_ki};
 use std::alloc::Global;
 
 /// The message that is sealed here, 28 bytes shorter. Refused are fewer than 28 bytes (`CipherLength`), then a key of
@@ -30,18 +28,13 @@ pub fn decrypt_message(
     aes_size: &AesSize,
 ) -> KerberosCryptoResult<Vec<u8>>
     ensures opened { IfOk result (λ p.
-        IsAesOpening (key_length_of aes_size.now) key.now (cast_unsigned w32 key_usage) p.items cipher_data.now) }
-
-    // The refusals, the first that holds.
-    ensures short { length cipher_data.now < 28 → result ≡ Err (CipherLength (length cipher_data.now) 28) }
-    ensures key_length { 28 ≤ length cipher_data.now → length key.now ≢ key_length_of aes_size.now
-        → result ≡ Err (KeyLength (length key.now) (key_length_of aes_size.now)) }
-    ensures integrity { 28 ≤ length cipher_data.now → length key.now ≡ key_length_of aes_size.now
-        → IfErr result (λ e. (e ≡ Memory) ⊎ (e ≡ IntegrityCheck)) }
+        IsOpeningAs (aes_profile aes_size.now) key.now (cast_unsigned w32 key_usage) p.items cipher_data.now) }
+    ensures refusals { IfErr result
+        (λ e. IsAesRefusal (key_length_of aes_size.now) (length key.now) (length cipher_data.now) e) }
 
     // Where it isn't memory, nothing is sealed here.
     ensures refused { IfErr result (λ e. (e ≡ Memory)
-        ⊎ IsNothingAesSealed (key_length_of aes_size.now) key.now (cast_unsigned w32 key_usage) cipher_data.now) }
+        ⊎ IsNothingSealedAs (aes_profile aes_size.now) key.now (cast_unsigned w32 key_usage) cipher_data.now) }
 {
     let opened = decrypt_message_no_checksum(alloc, key, key_usage, cipher_data, aes_size)?;
     let DecryptWithoutChecksum {
@@ -67,17 +60,17 @@ pub fn decrypt_message_no_checksum(
     cipher_data: &[u8],
     aes_size: &AesSize,
 ) -> KerberosCryptoResult<DecryptWithoutChecksum>
-    ensures decrypted { IfOk result (λ d.
-        IsStolen 16 (aes_cipher (aes_ke_of key.now (cast_unsigned w32 key_usage)))
+    ensures decrypted { IfOk result (λ d. IsEncryptedAs (aes_profile aes_size.now) key.now (cast_unsigned w32 key_usage)
         (d.confounder.items ++ d.plaintext.items) (take (length cipher_data.now - 12) cipher_data.now)) }
     ensures only { IfOk result (λ d. (q : List ℕ) → IsBytes q → 16 ≤ length q
-        → IsStolen 16 (aes_cipher (aes_ke_of key.now (cast_unsigned w32 key_usage))) q
+        → IsEncryptedAs (aes_profile aes_size.now) key.now (cast_unsigned w32 key_usage) q
         (take (length cipher_data.now - 12) cipher_data.now)
         → q ≡ d.confounder.items ++ d.plaintext.items) }
-    ensures sized { IfOk result (λ d. (vec_len d.confounder ≡ 16) × (vec_len d.plaintext ≡ length cipher_data.now - 28)) }
+    ensures sized { IfOk result (λ d. (vec_len d.confounder ≡ 16) × (vec_len d.plaintext ≡ length cipher_data.now - 28)
+        × (vec_len d.checksum ≡ 12)) }
     ensures bytes { IfOk result (λ d. IsBytes d.confounder.items × IsBytes d.plaintext.items) }
     ensures checksum { IfOk result (λ d. d.checksum.items ≡ drop (length cipher_data.now - 12) cipher_data.now) }
-    ensures ki { IfOk result (λ d. d.ki.items ≡ aes_ki_of key.now (cast_unsigned w32 key_usage)) }
+    ensures ki { IfOk result (λ d. d.ki.items ≡ ki_of (aes_profile aes_size.now) key.now (cast_unsigned w32 key_usage)) }
     ensures ki_sized { IfOk result (λ d. vec_len d.ki ≡ key_length_of aes_size.now) }
     ensures key_sized { OnOk result (length key.now ≡ key_length_of aes_size.now) }
     ensures long { OnOk result (28 ≤ length cipher_data.now) }
@@ -106,10 +99,4 @@ pub fn decrypt_message_no_checksum(
         checksum,
         ki,
     })
-}
-
-fn same_bytes(a: &[u8], b: &[u8]) -> bool
-    ensures { IsTrue result ↔ (a.now ≡ b.now) }
-{
-    a == b
 }
