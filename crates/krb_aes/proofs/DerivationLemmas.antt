@@ -10,7 +10,8 @@ use Rattle.krb_blocks.specs.declared.aes.AesSize.TheVariants.{Aes128, Aes256}
 use Rattle.krb_blocks.proofs.Stealing.{alone}
 use Rattle.krb_digests.specs.NFold.{n_fold_of}
 use Rattle.krb_digests.specs.Pbkdf2.{pbkdf2_hmac_sha1_of}
-use Rattle.krb_crypto.specs.Derivation.{aes_derived_key_of, aes_password_key_of, derived_octets_of, iterated_ciphers}
+use Rattle.krb_profile.specs.Derivation.{derived_octets_of, iterated_ciphers}
+use Rattle.krb_aes.specs.Derivation.{aes_derived_key_of, aes_password_key_of}
 
 -- one block more is enciphered
 pub iterated_ciphers-more : (E : List ℕ → List ℕ) (done x next rest : List ℕ) (left n : ℕ) → left ≡ n + 1 → next ≡ E x

@@ -1,4 +1,2 @@
-pub mod DerivationLemmas
-pub mod DerivedKeys
 pub mod SealingLemmas
 pub mod SealedTexts

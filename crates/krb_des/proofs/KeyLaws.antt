@@ -1,15 +1,19 @@
 -- Keys from random bytes have bytes of odd parity, and no part of them is weak.
-use Rattle.std.proofs.Common.{◌≡◌, ◌==◌, ◌<◌, ◌+◌, ◌*◌, ◌%◌, ℕ, zero, suc, Bool, true, false, not, List, [], ◌∷◌, ◌++◌, length, get_or, drop, slice_index, slice_set, bit_xor, if◌then◌else◌, IsTrue, All, refl, sym, ap, ◌∙◌, ◌⊎◌, ◌&&◌, ◌||◌, inl, inr, arith, lit<}
+use Rattle.std.proofs.Common.{◌≡◌, ◌==◌, ◌<◌, ◌+◌, ◌*◌, ◌%◌, ℕ, zero, suc, Bool, true, false, not, List, [], ◌∷◌, ◌++◌, length, get_or, drop, slice_index, slice_set, bit_xor, if◌then◌else◌, IsTrue, All, length-set, refl, sym, ap, ◌∙◌, ◌⊎◌, ◌&&◌, ◌||◌, inl, inr, arith, lit<}
 use Rattle.std.specs.Prelude.{sum}
 use Rattle.std.specs.List.{list_all, list_any}
 use Rattle.std.specs.Str.{bytes_eq}
-use Rattle.std.proofs.lemmas.Bool.{eqb-true, false≢true}
-use Rattle.std.proofs.lemmas.List.{append_assoc, append-nil, take_at, drop_at, length-append, length-take-le, length-drop}
+use Rattle.std.proofs.lemmas.Bool.{cases_eq, cases_lt, eqb-true, false≢true}
+use Rattle.std.proofs.lemmas.Grind.{get_or-set_at}
+use Rattle.std.proofs.lemmas.Nat.{xor_lt}
+use Rattle.std.proofs.lemmas.List.{append_assoc, append-nil, get_or-set_other, get_or_past, take_at, drop_at, length-append, length-take-le, length-drop}
 use Rattle.std.proofs.lemmas.List.FromFn.{get_or-map-range_with_len}
 use Rattle.std.proofs.lemmas.List.Elements.{All-append, All-set, All-from_get_or}
 use Rattle.std.proofs.lemmas.List.Sums.{sum_by_push}
 use Rattle.std.proofs.lemmas.Slice.Eq.{bytes_eq-Decides}
+use Rattle.krb_blocks.specs.Bytes.{IsBytes}
 use Rattle.krb_blocks.specs.Chains.{block_at}
+use Rattle.krb_blocks.proofs.States.{IsBytes-append, IsBytes-from_below}
 use Rattle.krb_blocks.proofs.AllBytes.{all_below, all_below_at}
 use Rattle.krb_des.specs.Bits.{low_bits, bits_of_bytes, permuted}
 use Rattle.krb_des.specs.Des.{part}
@@ -130,13 +134,13 @@ with_odd_parity-lt s bits =
     let long : length (s ++ (sum s + 1) % 2 ∷ []) ≡ 8 = length-append s ((sum s + 1) % 2 ∷ []) ∙ ap (λ (n : ℕ). n + 1) bits.sized in
     rw long at (number-lt (s ++ (sum s + 1) % 2 ∷ []) (AreBits-append s ((sum s + 1) % 2 ∷ []) bits.bits last))
 
-stretched-lt : (s : List ℕ) → slice_index (stretched s) 7 < 256
-stretched-lt s = rw (get_or-stretched s 7 (lit< tt)) (with_odd_parity-lt (block_at 7 (permuted stretching (bits_of_bytes s)) 7) (seven_of s 7 (lit< tt)))
+stretched-lt : (s : List ℕ) (i : ℕ) → i < 8 → slice_index (stretched s) i < 256
+stretched-lt s i few = rw (get_or-stretched s i few) (with_odd_parity-lt (block_at 7 (permuted stretching (bits_of_bytes s)) i) (seven_of s i few))
 
 made-odd : (seed : List ℕ) (i : ℕ) → All HasOddParity (made seed i)
 unfolding made
 made-odd seed i =
-    mended-odd (stretched (block_at 7 seed i)) (length-stretched (block_at 7 seed i)) (stretched-lt (block_at 7 seed i)) (stretched-odd (block_at 7 seed i))
+    mended-odd (stretched (block_at 7 seed i)) (length-stretched (block_at 7 seed i)) (stretched-lt (block_at 7 seed i) 7 (lit< tt)) (stretched-odd (block_at 7 seed i))
 
 pub random_to_key-odd : (seed key : List ℕ) → key ≡ random_to_key seed → All HasOddParity key
 random_to_key-odd seed key is =
@@ -157,3 +161,31 @@ pub random_to_key-strong : (seed key : List ℕ) (i : ℕ) → key ≡ random_to
 random_to_key-strong seed key i is few weak =
     let strong : is_weak (made seed i) ≡ false = made-strong seed i in
     false≢true (sym strong ∙ (rw (is, part_made seed i few) at weak))
+
+-- a key is 24 bytes
+pub length-random_to_key : (seed : List ℕ) → length (random_to_key seed) ≡ 24
+length-random_to_key seed =
+    rw (three_made seed, append-nil (made seed 2))
+    (omega (arith, length-append (made seed 0) (made seed 1 ++ made seed 2), length-append (made seed 1) (made seed 2), length-made seed 0, length-made seed 1, length-made seed 2))
+
+mended_bytes_cases : (b : Bool) (key : List ℕ) → IsBytes key → IsBytes (if b then slice_set key 7 (bit_xor (slice_index key 7) 0xf0) else key)
+mended_bytes_cases true key bytes i =
+    elim (cases_eq i 7) [
+      | inl same ↦ elim (cases_lt 7 (length key)) [
+        | inl inside ↦ rw (get_or-set_at key 7 i (bit_xor (slice_index key 7) 0xf0) 0 same inside) (xor_lt 8 (slice_index key 7) 0xf0 (bytes 7) (lit< tt))
+        | inr past ↦ rw (get_or_past (slice_set key 7 (bit_xor (slice_index key 7) 0xf0)) i 0 (omega (arith, length-set key 7 (bit_xor (slice_index key 7) 0xf0)))) (lit< tt)
+      ]
+      | inr other ↦ rw (get_or-set_other key 7 i (bit_xor (slice_index key 7) 0xf0) 0 other) (bytes i)
+    ]
+mended_bytes_cases false key bytes i = bytes i
+
+made-bytes : (seed : List ℕ) (i : ℕ) → IsBytes (made seed i)
+unfolding made mended
+made-bytes seed i =
+    let s : List ℕ = block_at 7 seed i in
+    mended_bytes_cases (is_weak (stretched s)) (stretched s) (IsBytes-from_below (stretched s) 8 (length-stretched s) (λ k h. stretched-lt s k h))
+
+pub random_to_key-bytes : (seed : List ℕ) → IsBytes (random_to_key seed)
+random_to_key-bytes seed =
+    rw (three_made seed, append-nil (made seed 2))
+    (IsBytes-append (made seed 0) (made seed 1 ++ made seed 2) (made-bytes seed 0) (IsBytes-append (made seed 1) (made seed 2) (made-bytes seed 1) (made-bytes seed 2)))

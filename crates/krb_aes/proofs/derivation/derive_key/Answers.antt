@@ -1,7 +1,7 @@
 use Rattle.std.proofs.Common.{◌≡◌, ◌+◌, ◌-◌, ◌/◌, ◌%◌, ◌∙◌, length, ap, arith}
 use Rattle.krb_blocks.specs.Aes.{aes_cipher}
-use Rattle.krb_crypto.proofs.DerivationLemmas.{chained_block, derived_whole, iterated_ciphers-end, iterated_ciphers-more, key_length_of-whole}
-use Rattle.krb_crypto.proofs.aes.derivation.derive_key.Goals as goal
+use Rattle.krb_aes.proofs.DerivationLemmas.{chained_block, derived_whole, iterated_ciphers-end, iterated_ciphers-more, key_length_of-whole}
+use Rattle.krb_aes.proofs.derivation.derive_key.Goals as goal
 
 pub loop-preserved : goal.loop-preserved
 loop-preserved c =

@@ -2,8 +2,8 @@ use Rattle.std.proofs.Common.{◌≡◌, ◌-◌, ◌*◌, ◌++◌, length, vec
 use Rattle.krb_blocks.specs.Aes.{aes_cipher}
 use Rattle.krb_blocks.specs.AesSize.{key_length_of}
 use Rattle.krb_digests.specs.NFold.{n_fold_of}
-use Rattle.krb_crypto.specs.Derivation.{iterated_ciphers}
-use Rattle.krb_crypto.proofs.aes.derivation.derive_key.Given as goal
+use Rattle.krb_profile.specs.Derivation.{iterated_ciphers}
+use Rattle.krb_aes.proofs.derivation.derive_key.Given as goal
 
 abbrev pub invariant-loop : goal.invariant-loop
 invariant-loop l = record {

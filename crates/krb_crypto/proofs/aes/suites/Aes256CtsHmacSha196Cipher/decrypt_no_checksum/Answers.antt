@@ -1,8 +1,0 @@
-use Rattle.std.proofs.Common.{w32, SFits}
-use Rattle.std.proofs.lemmas.Int.{to_z-of_z}
-use Rattle.krb_crypto.proofs.aes.suites.Aes256CtsHmacSha196Cipher.decrypt_no_checksum.Goals as goal
-
-pub returns-clause-refused : goal.returns-clause-refused
-returns-clause-refused c =
-    let fits : SFits w32 c.args.key_usage = c.ranges.key_usage in
-    simp to_z-of_z at c.decrypt_no_checksum.ensures.refused
