@@ -1,2 +1,4 @@
 pub mod SealingLemmas
 pub mod SealedTexts
+mod Unchecked
+mod Fill

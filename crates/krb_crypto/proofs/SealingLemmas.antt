@@ -28,6 +28,9 @@ one_opening suite = by_profile.one_opening (cipher_profile suite) (suite_laws su
 pub sealed_with_fill : (suite : CipherSuite) (key : List ℕ) (usage : ℕ) (conf plain bytes : List ℕ) → IsSealedBy suite key usage conf plain bytes → IsSealedBy suite key usage conf (cipher_filled suite plain) bytes
 sealed_with_fill suite = by_profile.sealed_with_fill (cipher_profile suite) (suite_laws suite)
 
+pub sealed_without_fill : (suite : CipherSuite) (key : List ℕ) (usage : ℕ) (conf plain bytes : List ℕ) → IsSealedBy suite key usage conf (cipher_filled suite plain) bytes → IsSealedBy suite key usage conf plain bytes
+sealed_without_fill suite = by_profile.sealed_without_fill (cipher_profile suite) (suite_laws suite)
+
 -- the fill stands behind the text
 pub filled_front : (suite : CipherSuite) (text : List ℕ) → (rest : List ℕ) × (cipher_filled suite text ≡ text ++ rest)
 filled_front suite = (suite_laws suite).filled_front

@@ -113,9 +113,25 @@ impl Cipher for CipherSuite {
         confounder: &[u8],
     ) -> KerberosCryptoResult<Vec<u8>> {
         match self {
-            CipherSuite::Aes128CtsHmacSha196 => krb_aes::encrypt_message(alloc, key, key_usage, payload, &AesSize::Aes128, block_of(confounder)),
-            CipherSuite::Aes256CtsHmacSha196 => krb_aes::encrypt_message(alloc, key, key_usage, payload, &AesSize::Aes256, block_of(confounder)),
-            CipherSuite::Des3CbcSha1Kd => krb_des3::encrypt_message(alloc, key, key_usage, payload, confounder),
+            CipherSuite::Aes128CtsHmacSha196 => krb_aes::encrypt_message(
+                alloc,
+                key,
+                key_usage,
+                payload,
+                &AesSize::Aes128,
+                block_of(confounder),
+            ),
+            CipherSuite::Aes256CtsHmacSha196 => krb_aes::encrypt_message(
+                alloc,
+                key,
+                key_usage,
+                payload,
+                &AesSize::Aes256,
+                block_of(confounder),
+            ),
+            CipherSuite::Des3CbcSha1Kd => krb_des3::encrypt_message(
+                alloc, key, key_usage, payload, confounder,
+            ),
         }
     }
 
@@ -127,9 +143,26 @@ impl Cipher for CipherSuite {
         cipher_data: &[u8],
     ) -> KerberosCryptoResult<Vec<u8>> {
         match self {
-            CipherSuite::Aes128CtsHmacSha196 => krb_aes::decrypt_message(alloc, key, key_usage, cipher_data, &AesSize::Aes128),
-            CipherSuite::Aes256CtsHmacSha196 => krb_aes::decrypt_message(alloc, key, key_usage, cipher_data, &AesSize::Aes256),
-            CipherSuite::Des3CbcSha1Kd => krb_des3::decrypt_message(alloc, key, key_usage, cipher_data),
+            CipherSuite::Aes128CtsHmacSha196 => krb_aes::decrypt_message(
+                alloc,
+                key,
+                key_usage,
+                cipher_data,
+                &AesSize::Aes128,
+            ),
+            CipherSuite::Aes256CtsHmacSha196 => krb_aes::decrypt_message(
+                alloc,
+                key,
+                key_usage,
+                cipher_data,
+                &AesSize::Aes256,
+            ),
+            CipherSuite::Des3CbcSha1Kd => krb_des3::decrypt_message(
+                alloc,
+                key,
+                key_usage,
+                cipher_data,
+            ),
         }
     }
 
@@ -142,9 +175,25 @@ impl Cipher for CipherSuite {
         confounder: &[u8],
     ) -> KerberosCryptoResult<EncryptWithoutChecksum> {
         match self {
-            CipherSuite::Aes128CtsHmacSha196 => krb_aes::encrypt_message_no_checksum(alloc, key, key_usage, payload, &AesSize::Aes128, block_of(confounder)),
-            CipherSuite::Aes256CtsHmacSha196 => krb_aes::encrypt_message_no_checksum(alloc, key, key_usage, payload, &AesSize::Aes256, block_of(confounder)),
-            CipherSuite::Des3CbcSha1Kd => krb_des3::encrypt_message_no_checksum(alloc, key, key_usage, payload, confounder),
+            CipherSuite::Aes128CtsHmacSha196 => krb_aes::encrypt_message_no_checksum(
+                alloc,
+                key,
+                key_usage,
+                payload,
+                &AesSize::Aes128,
+                block_of(confounder),
+            ),
+            CipherSuite::Aes256CtsHmacSha196 => krb_aes::encrypt_message_no_checksum(
+                alloc,
+                key,
+                key_usage,
+                payload,
+                &AesSize::Aes256,
+                block_of(confounder),
+            ),
+            CipherSuite::Des3CbcSha1Kd => krb_des3::encrypt_message_no_checksum(
+                alloc, key, key_usage, payload, confounder,
+            ),
         }
     }
 
@@ -156,9 +205,26 @@ impl Cipher for CipherSuite {
         cipher_data: &[u8],
     ) -> KerberosCryptoResult<DecryptWithoutChecksum> {
         match self {
-            CipherSuite::Aes128CtsHmacSha196 => krb_aes::decrypt_message_no_checksum(alloc, key, key_usage, cipher_data, &AesSize::Aes128),
-            CipherSuite::Aes256CtsHmacSha196 => krb_aes::decrypt_message_no_checksum(alloc, key, key_usage, cipher_data, &AesSize::Aes256),
-            CipherSuite::Des3CbcSha1Kd => krb_des3::decrypt_message_no_checksum(alloc, key, key_usage, cipher_data),
+            CipherSuite::Aes128CtsHmacSha196 => krb_aes::decrypt_message_no_checksum(
+                alloc,
+                key,
+                key_usage,
+                cipher_data,
+                &AesSize::Aes128,
+            ),
+            CipherSuite::Aes256CtsHmacSha196 => krb_aes::decrypt_message_no_checksum(
+                alloc,
+                key,
+                key_usage,
+                cipher_data,
+                &AesSize::Aes256,
+            ),
+            CipherSuite::Des3CbcSha1Kd => krb_des3::decrypt_message_no_checksum(
+                alloc,
+                key,
+                key_usage,
+                cipher_data,
+            ),
         }
     }
 
@@ -170,9 +236,23 @@ impl Cipher for CipherSuite {
         payload: &[u8],
     ) -> KerberosCryptoResult<Vec<u8>> {
         match self {
-            CipherSuite::Aes128CtsHmacSha196 => krb_aes::encryption_checksum(alloc, key, key_usage, payload, &AesSize::Aes128),
-            CipherSuite::Aes256CtsHmacSha196 => krb_aes::encryption_checksum(alloc, key, key_usage, payload, &AesSize::Aes256),
-            CipherSuite::Des3CbcSha1Kd => krb_des3::encryption_checksum(alloc, key, key_usage, payload),
+            CipherSuite::Aes128CtsHmacSha196 => krb_aes::encryption_checksum(
+                alloc,
+                key,
+                key_usage,
+                payload,
+                &AesSize::Aes128,
+            ),
+            CipherSuite::Aes256CtsHmacSha196 => krb_aes::encryption_checksum(
+                alloc,
+                key,
+                key_usage,
+                payload,
+                &AesSize::Aes256,
+            ),
+            CipherSuite::Des3CbcSha1Kd => krb_des3::encryption_checksum(
+                alloc, key, key_usage, payload,
+            ),
         }
     }
 
@@ -183,8 +263,18 @@ impl Cipher for CipherSuite {
         salt: &[u8],
     ) -> KerberosCryptoResult<Vec<u8>> {
         match self {
-            CipherSuite::Aes128CtsHmacSha196 => krb_aes::derive_key_from_password(alloc, password, salt, &AesSize::Aes128),
-            CipherSuite::Aes256CtsHmacSha196 => krb_aes::derive_key_from_password(alloc, password, salt, &AesSize::Aes256),
+            CipherSuite::Aes128CtsHmacSha196 => krb_aes::derive_key_from_password(
+                alloc,
+                password,
+                salt,
+                &AesSize::Aes128,
+            ),
+            CipherSuite::Aes256CtsHmacSha196 => krb_aes::derive_key_from_password(
+                alloc,
+                password,
+                salt,
+                &AesSize::Aes256,
+            ),
             CipherSuite::Des3CbcSha1Kd => krb_des3::derive_key_from_password(alloc, password, salt),
         }
     }
@@ -218,8 +308,20 @@ impl Checksum for ChecksumSuite {
         payload: &[u8],
     ) -> KerberosCryptoResult<Vec<u8>> {
         match self {
-            ChecksumSuite::HmacSha196Aes128 => checksum_sha_aes(alloc, key, key_usage, payload, &AesSize::Aes128),
-            ChecksumSuite::HmacSha196Aes256 => checksum_sha_aes(alloc, key, key_usage, payload, &AesSize::Aes256),
+            ChecksumSuite::HmacSha196Aes128 => checksum_sha_aes(
+                alloc,
+                key,
+                key_usage,
+                payload,
+                &AesSize::Aes128,
+            ),
+            ChecksumSuite::HmacSha196Aes256 => checksum_sha_aes(
+                alloc,
+                key,
+                key_usage,
+                payload,
+                &AesSize::Aes256,
+            ),
             ChecksumSuite::HmacSha1Des3Kd => checksum_sha_des3(alloc, key, key_usage, payload),
         }
     }

@@ -182,7 +182,8 @@ impl<T: CipherType> Cipher for T {
         payload: &[u8],
         confounder: &[u8],
     ) -> KerberosCryptoResult<Vec<u8>> {
-        self.suite().encrypt(alloc, key, key_usage, payload, confounder)
+        self.suite()
+            .encrypt(alloc, key, key_usage, payload, confounder)
     }
 
     fn decrypt(
@@ -203,7 +204,8 @@ impl<T: CipherType> Cipher for T {
         payload: &[u8],
         confounder: &[u8],
     ) -> KerberosCryptoResult<EncryptWithoutChecksum> {
-        self.suite().encrypt_no_checksum(alloc, key, key_usage, payload, confounder)
+        self.suite()
+            .encrypt_no_checksum(alloc, key, key_usage, payload, confounder)
     }
 
     fn decrypt_no_checksum(
@@ -213,7 +215,8 @@ impl<T: CipherType> Cipher for T {
         key_usage: i32,
         cipher_data: &[u8],
     ) -> KerberosCryptoResult<DecryptWithoutChecksum> {
-        self.suite().decrypt_no_checksum(alloc, key, key_usage, cipher_data)
+        self.suite()
+            .decrypt_no_checksum(alloc, key, key_usage, cipher_data)
     }
 
     fn encryption_checksum(
@@ -223,7 +226,8 @@ impl<T: CipherType> Cipher for T {
         key_usage: i32,
         payload: &[u8],
     ) -> KerberosCryptoResult<Vec<u8>> {
-        self.suite().encryption_checksum(alloc, key, key_usage, payload)
+        self.suite()
+            .encryption_checksum(alloc, key, key_usage, payload)
     }
 
     fn generate_key_from_password(
@@ -232,7 +236,8 @@ impl<T: CipherType> Cipher for T {
         password: &[u8],
         salt: &[u8],
     ) -> KerberosCryptoResult<Vec<u8>> {
-        self.suite().generate_key_from_password(alloc, password, salt)
+        self.suite()
+            .generate_key_from_password(alloc, password, salt)
     }
 
     fn random_to_key(&self, alloc: Global, seed: &[u8]) -> KerberosCryptoResult<Vec<u8>> {

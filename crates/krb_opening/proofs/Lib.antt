@@ -1,3 +1,4 @@
 pub mod Opening
+mod Filled
 pub mod Reading
 mod Opened

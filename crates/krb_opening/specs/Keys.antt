@@ -1,7 +1,7 @@
 -- Keys of messages (RFC 4120, section 5.2.9).
 use Rattle.std.specs.Prelude.{Bool, ◌==◌, ◌&&◌, length, Option, None, Some, if◌then◌else◌}
 use Rattle.krb_crypto.specs.declared.suite.CipherSuite.{CipherSuite}
-use Rattle.krb_crypto.specs.declared.suite.CipherSuite.TheVariants.{Aes128CtsHmacSha196, Aes256CtsHmacSha196}
+use Rattle.krb_crypto.specs.declared.suite.CipherSuite.TheVariants.{Aes128CtsHmacSha196, Aes256CtsHmacSha196, Des3CbcSha1Kd}
 use Rattle.krb_crypto.specs.Suites.{cipher_key_size, cipher_number}
 use Rattle.krb_types.specs.declared.data_types.encryption_key.EncryptionKey.{EncryptionKey}
 use Rattle.picky_asn1.specs.Numbers.{is_number}
@@ -14,4 +14,5 @@ is_key_of suite key = is_number (cipher_number suite) key.key_type.0 && (length 
 abbrev pub suite_of : EncryptionKey → Option CipherSuite
 suite_of key =
     if is_key_of Aes128CtsHmacSha196 key then Some Aes128CtsHmacSha196
-    else (if is_key_of Aes256CtsHmacSha196 key then Some Aes256CtsHmacSha196 else None)
+    else (if is_key_of Aes256CtsHmacSha196 key then Some Aes256CtsHmacSha196
+    else (if is_key_of Des3CbcSha1Kd key then Some Des3CbcSha1Kd else None))

@@ -1,3 +1,4 @@
+pub mod Filled
 pub mod Found
 pub mod Opens
 pub mod Keys

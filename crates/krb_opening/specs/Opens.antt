@@ -3,11 +3,12 @@ use Rattle.std.specs.Prelude.{◌≡◌, ◌⊎◌, ℕ, Result, Ok, Err}
 use Rattle.std.proofs.Common.{sym, ◌∙◌}
 use Rattle.picky_asn1.specs.Bytes.{Bytes}
 use Rattle.asn1_trees.specs.Tree.{Tree, Writes}
-use Rattle.asn1_trees.proofs.Spelling.{IsInjective}
+use Rattle.asn1_trees.proofs.Spelling.{IsInjective, one_spelling}
 use Rattle.krb_blocks.specs.declared.error.KerberosCryptoError.{KerberosCryptoError}
 use Rattle.krb_blocks.specs.declared.error.KerberosCryptoError.TheVariants as crypto
 use Rattle.krb_crypto.specs.Sealing.{IsSealed}
-use Rattle.krb_crypto.proofs.SealingLemmas.{one_sealed}
+use Rattle.krb_crypto.specs.declared.suite.CipherSuite.{CipherSuite}
+use Rattle.krb_crypto.proofs.SealingLemmas.{filled_front, one_sealed}
 use Rattle.asn1_octets.specs.declared.error.Asn1DerError.{Asn1DerError}
 use Rattle.asn1_octets.specs.declared.error.Asn1DerError.TheVariants as der_fault
 use Rattle.krb_opening.specs.declared.open.OpenFault.{OpenFault}
@@ -31,9 +32,12 @@ abbrev pub IsOpened : {T : Type 0} → (T → Type 0) → Result T OpenFault →
 IsOpened {T} P (Ok value) = P value × ((other : T) → P other → other ≡ value)
 IsOpened {T} P (Err fault) = IsWantOfMemory fault ⊎ ((other : T) → P other → ⊥)
 
--- one value at most is sealed to the bytes
+-- one value at most is sealed to the bytes: an encoding tells where it ends, so no other one has the same fill behind it
 pub sole_opens : {T : Type 0} (tree : T → Tree) → IsInjective {T = T} tree → (number : ℕ) (key : Bytes) (usage : ℕ) (bytes : Bytes) (v w : T)
     → Opens {T = T} tree number key usage bytes v → Opens {T = T} tree number key usage bytes w → v ≡ w
-sole_opens tree injective number key usage bytes v w x y =
-    let text = (one_sealed number number key usage x.conf x.plain y.conf y.plain bytes x.sealed y.sealed).1 in
-    injective v w x.writes.0 y.writes.0 (sym x.writes.1 ∙ text ∙ y.writes.1)
+sole_opens {T} tree injective number key usage bytes v w x y =
+    let suite : CipherSuite = x.sealed.0 in
+    let text = (one_sealed number key usage x.conf x.plain y.conf y.plain bytes x.sealed y.sealed).1 in
+    let first = filled_front suite x.plain in
+    let second = filled_front suite y.plain in
+    (one_spelling {T = T} tree injective v w x.plain y.plain first.0 second.0 x.writes y.writes (sym first.1 ∙ text ∙ second.1)).0

@@ -16,6 +16,9 @@ pub fn suite_of(key: &EncryptionKey) -> Option<CipherSuite>
     if is_key_of(CipherSuite::Aes256CtsHmacSha196, key) {
         return Some(CipherSuite::Aes256CtsHmacSha196);
     }
+    if is_key_of(CipherSuite::Des3CbcSha1Kd, key) {
+        return Some(CipherSuite::Des3CbcSha1Kd);
+    }
     None
 }
 

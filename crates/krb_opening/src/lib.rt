@@ -1,6 +1,7 @@
 //! Opening the sealed parts of messages (RFC 3961, section 5.3), and reading what is all of its input.
 #![tactic(auto)]
 
+mod filled;
 mod find;
 mod keys;
 mod open;

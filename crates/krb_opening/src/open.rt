@@ -4,7 +4,8 @@ ghost use Rattle.std.specs.Int.{cast_unsigned, w32};
 ghost use Rattle.krb_crypto.specs.Suites.{cipher_number};
 ghost use Rattle.krb_opening.specs.Opens.{IsOpened, Opens};
 
-use asn1_codec::{Asn1DerError, Deserialize, from_exact_bytes};
+use crate::filled::read_filled;
+use asn1_codec::{Asn1DerError, Deserialize};
 use krb_crypto::{Cipher, CipherSuite, KerberosCryptoError};
 use std::alloc::Global;
 use thiserror::Error;
@@ -20,7 +21,8 @@ pub enum OpenFault {
     Der(Asn1DerError),
 }
 
-/// The value whose encoding is sealed here under this key, for this usage, with nothing behind it (RFC 3961, section 5.3).
+/// The value whose encoding is sealed here under this key, for this usage, with nothing behind it but the suite's fill (RFC 3961,
+/// section 5.3).
 pub fn open_part<T: Deserialize>(
     alloc: Global,
     suite: CipherSuite,
@@ -34,7 +36,7 @@ pub fn open_part<T: Deserialize>(
         Ok(plain) => plain,
         Err(fault) => return Err(OpenFault::Crypto(fault)),
     };
-    match from_exact_bytes(alloc, &plain) {
+    match read_filled(alloc, suite, &plain) {
         Ok(value) => Ok(value),
         Err(fault) => Err(OpenFault::Der(fault)),
     }

@@ -2,7 +2,7 @@
 use Rattle.std.proofs.Common.{◌≡◌, ◌+◌, ◌-◌, ◌≤◌, ℕ, List, ◌++◌, length, take, drop, refl, sym, ap, ◌∙◌, subst, arith}
 use Rattle.std.proofs.lemmas.List.{drop_at, length-append, take-append-drop, take_at}
 use Rattle.krb_blocks.specs.Bytes.{IsBytes}
-use Rattle.krb_blocks.proofs.States.{IsBytes-append}
+use Rattle.krb_blocks.proofs.States.{IsBytes-append, IsBytes-take}
 use Rattle.krb_profile.specs.Profile.{Profile, ke_of, ki_of}
 use Rattle.krb_profile.specs.Sealing.{IsEncryptedAs, IsNothingSealedAs, IsOpeningAs, IsSealedAs, encryption_tag_of}
 use Rattle.krb_profile.proofs.Laws.{HasLaws}
@@ -70,9 +70,9 @@ module _ (profile : Profile) (laws : HasLaws profile) where
   pub opening_from_parts : (key : List ℕ) (usage : ℕ) (conf plain bytes : List ℕ) → length key ≡ profile.key_size → IsBytes key → length conf ≡ profile.confounder_size → IsBytes conf → IsBytes plain
       → profile.filled (conf ++ plain) ≡ conf ++ plain → IsEncryptedAs profile key usage (conf ++ plain) (front_of profile bytes) → IsOnlyText profile key usage (conf ++ plain) bytes
       → tag_behind profile key usage (conf ++ plain) (front_of profile bytes) ≡ drop (length bytes - profile.tag_size) bytes → IsOpeningAs profile key usage plain bytes
-  opening_from_parts key usage conf plain bytes key_sized key_bytes conf_sized conf_bytes plain_bytes whole encrypted only tag = record {
-    conf = conf;
-    sealed = record {
+  opening_from_parts key usage conf plain bytes key_sized key_bytes conf_sized conf_bytes plain_bytes whole encrypted only tag = (
+    conf,
+    record {
       key_sized = key_sized;
       key_bytes = key_bytes;
       conf_sized = conf_sized;
@@ -82,12 +82,12 @@ module _ (profile : Profile) (laws : HasLaws profile) where
       encrypted = encrypted;
       tagged = sym (take-append-drop (length bytes - profile.tag_size) bytes)
       ∙ ap (λ (t : List ℕ). front_of profile bytes ++ t) (sym tag ∙ ap (λ (t : List ℕ). tag_behind profile key usage t (front_of profile bytes)) (sym whole));
-    };
-    only = λ c p x.
+    },
+    λ c p x.
         let split = sealed_split key usage c p bytes x in
         let same = only (c ++ p) split.text_bytes split.text_long split.encrypted in
-        apart profile.confounder_size c (profile.filled p) conf plain x.conf_sized conf_sized (sym (laws.filled_behind c p x.conf_sized) ∙ same);
-  }
+        apart profile.confounder_size c (profile.filled p) conf plain x.conf_sized conf_sized (sym (laws.filled_behind c p x.conf_sized) ∙ same),
+  )
 
   -- a string is sealed from one confounder, and one text up to its fill
   pub one_opening : (key : List ℕ) (usage : ℕ) (c p d q bytes : List ℕ)
@@ -114,9 +114,23 @@ module _ (profile : Profile) (laws : HasLaws profile) where
         tagged = x.tagged ∙ ap (λ (t : List ℕ). x.cipher ++ tag_behind profile key usage t x.cipher) same;
       }
 
-  -- what opens is filled
-  pub opened_filled : (key : List ℕ) (usage : ℕ) (plain bytes : List ℕ) → IsOpeningAs profile key usage plain bytes → profile.filled plain ≡ plain
-  opened_filled key usage plain bytes x = (x.only x.conf plain x.sealed).1
+  -- and what is sealed to the same as the filled text is the text
+  pub sealed_without_fill : (key : List ℕ) (usage : ℕ) (conf plain bytes : List ℕ) → IsSealedAs profile key usage conf (profile.filled plain) bytes → IsSealedAs profile key usage conf plain bytes
+  sealed_without_fill key usage conf plain bytes x =
+      let front = laws.filled_front plain in
+      let cut : take (length plain) (profile.filled plain) ≡ plain = ap (take (length plain)) front.1 ∙ take_at plain front.0 (length plain) refl in
+      let same : profile.filled (conf ++ profile.filled plain) ≡ profile.filled (conf ++ plain) =
+      laws.filled_behind conf (profile.filled plain) x.conf_sized ∙ ap (λ (t : List ℕ). conf ++ t) (laws.filled_again plain) ∙ sym (laws.filled_behind conf plain x.conf_sized) in
+      record {
+        key_sized = x.key_sized;
+        key_bytes = x.key_bytes;
+        conf_sized = x.conf_sized;
+        conf_bytes = x.conf_bytes;
+        plain_bytes = subst IsBytes cut (IsBytes-take (length plain) (profile.filled plain) x.plain_bytes);
+        cipher = x.cipher;
+        encrypted = subst (λ (t : List ℕ). profile.encrypts (ke_of profile key usage) t x.cipher) same x.encrypted;
+        tagged = x.tagged ∙ ap (λ (t : List ℕ). x.cipher ++ tag_behind profile key usage t x.cipher) same;
+      }
 
   -- each text of bytes is sealed to some bytes, behind each confounder
   pub has_sealed : (key : List ℕ) (usage : ℕ) (conf plain : List ℕ) → length key ≡ profile.key_size → IsBytes key → length conf ≡ profile.confounder_size → IsBytes conf → IsBytes plain

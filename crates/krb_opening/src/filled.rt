@@ -1,0 +1,28 @@
+//! Reading a value behind whose encoding a suite's fill may stand.
+ghost use Rattle.krb_opening.specs.Filled.{ReadsFilled};
+
+use asn1_codec::{Asn1DerError, Deserialize, from_reader_with_max_len};
+use krb_crypto::CipherSuite;
+use std::alloc::Global;
+
+/// The value whose encoding, as the suite fills it, is the text.
+pub(crate) fn read_filled<T: Deserialize>(
+    alloc: Global,
+    suite: CipherSuite,
+    text: &[u8],
+) -> Result<T, Asn1DerError>
+    ensures { ReadsFilled T.tree suite text.now result }
+{
+    let mut rest = text;
+    match from_reader_with_max_len(alloc, &mut rest, text.len()) {
+        Ok(value) => {
+            let (encoding, fill) = text.split_at(text.len() - rest.len());
+            if suite.is_fill(encoding, fill) {
+                Ok(value)
+            } else {
+                Err(Asn1DerError::InvalidData)
+            }
+        }
+        Err(fault) => Err(fault),
+    }
+}
