@@ -5,7 +5,7 @@
 cd "$(dirname "$0")/.." || exit 1
 front=crates/picky_krb/src/lib.rt
 all="$(sed -n 's/^picky_krb: //p' crates.txt) krb_priv_frames negoex_forms"
-others=$(echo "$all" | tr ' ' '\n' | grep -vE '^krb_(crypto|des3|agreement)$')
+others=$(echo "$all" | tr ' ' '\n' | grep -vE '^krb_(crypto|agreement)$')
 
 # One line for each item: its path, and the crate or the reason.
 places() {
@@ -18,8 +18,9 @@ places() {
         home=
         case $path in
             crypto::diffie_hellman::*) crates=krb_agreement ;;
-            crypto::des::*) crates='krb_des3 krb_des' ;;
-            crypto::*) crates='krb_crypto krb_blocks krb_digests' ;;
+            crypto::des::*) crates='krb_crypto krb_des3 krb_des' ;;
+            crypto::aes::*) crates='krb_crypto krb_aes krb_blocks' ;;
+            crypto::*) crates='krb_crypto krb_profile krb_blocks krb_digests' ;;
             *) crates=$others ;;
         esac
         for crate in $crates; do
@@ -31,7 +32,7 @@ places() {
         handed=no
         if grep -qw "$name" "$front"; then handed=yes; fi
         case $path in
-            crypto::aes::*) if grep -qw "$name" crates/krb_crypto/src/aes.rt; then handed=yes; fi ;;
+            crypto::aes::* | crypto::des::*) if grep -qw "$name" "crates/krb_crypto/src/$module.rt"; then handed=yes; fi ;;
             constants::*) if grep -qE "pub use krb_constants::\{.*\b$module\b" "$front"; then handed=yes; fi ;;
         esac
         if [ -n "$dash" ]; then

@@ -1,4 +1,4 @@
 pub mod Opening
-mod Filled
+mod FilledTexts
 pub mod Reading
 mod Opened

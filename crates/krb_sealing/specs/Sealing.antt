@@ -4,8 +4,8 @@ use Rattle.std.proofs.Common.{ap, subst, sym, ◌∙◌}
 use Rattle.asn1_trees.specs.Tree.{Tree, Writes}
 use Rattle.picky_asn1_der.specs.declared.wrapper.ExplicitContextTag.{ExplicitContextTag}
 use Rattle.krb_crypto.specs.declared.suite.CipherSuite.{CipherSuite}
-use Rattle.krb_crypto.specs.declared.suite.CipherSuite.TheVariants.{Aes128CtsHmacSha196, Aes256CtsHmacSha196}
-use Rattle.krb_crypto.specs.Suites.{cipher_key_size, cipher_number}
+use Rattle.krb_crypto.specs.declared.suite.CipherSuite.TheVariants.{Aes128CtsHmacSha196, Aes256CtsHmacSha196, Des3CbcSha1Kd}
+use Rattle.krb_crypto.specs.Suites.{cipher_number}
 use Rattle.krb_crypto.specs.Sealing.{IsSealedBy}
 use Rattle.krb_crypto.proofs.SealingLemmas.{one_string}
 use Rattle.krb_types.specs.declared.data_types.encrypted_data.EncryptedData.{EncryptedData}
@@ -44,12 +44,13 @@ pub record Seals (suite : CipherSuite) (key : Bytes) (number : Option ℕ) (usag
 pub sole_seals : (suite : CipherSuite) (key : Bytes) (number : Option ℕ) (usage : ℕ) (confounder plain : Bytes) (a b : EncryptedData)
     → Seals suite key number usage confounder plain a → Seals suite key number usage confounder plain b → a ≡ b
 sole_seals suite key number usage confounder plain a b x y =
-    let same = one_string (cipher_key_size suite) key usage confounder plain x.cipher y.cipher x.seals y.seals in
+    let same = one_string suite key usage confounder plain x.cipher y.cipher x.seals y.seals in
     x.told ∙ ap (encrypted_by suite number) same ∙ sym y.told
 
 is_own_number : (suite : CipherSuite) → is_number (cipher_number suite) (pos (cipher_number suite)) ≡ true
 is_own_number Aes128CtsHmacSha196 = refl
 is_own_number Aes256CtsHmacSha196 = refl
+is_own_number Des3CbcSha1Kd = refl
 
 -- what is sealed opens, as it was sealed
 pub sealed_opens : {T : Type 0} (tree : T → Tree) (value : T) (suite : CipherSuite) (key : Bytes) (number : Option ℕ) (usage : ℕ) (confounder plain : Bytes) (sealed : EncryptedData)

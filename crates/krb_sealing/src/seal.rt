@@ -1,6 +1,7 @@
 //! Sealed data.
 ghost use Rattle.std.specs.Prelude.{◌≡◌, length, IfOk};
 ghost use Rattle.std.specs.Int.{cast_unsigned, w32};
+ghost use Rattle.krb_crypto.specs.Suites.{cipher_confounder_size};
 ghost use Rattle.krb_sealing.specs.Sealing.{Seals, encrypted_by, key_number};
 
 use krb_crypto::{Cipher, CipherSuite};
@@ -9,8 +10,8 @@ use picky_asn1::wrapper::{IntegerAsn1, OctetStringAsn1};
 use picky_asn1_der::{ExplicitContextTag, ExplicitContextTag1, Optional};
 use std::alloc::{AllocError, Global};
 
-/// The text, sealed under the key for the usage behind the confounder of 16 bytes, with the number of the suite and, where
-/// it is given, that of the key (RFC 4120, section 5.2.9). Under a key of the suite's length memory is the only refusal.
+/// The text, sealed under the key for the usage behind the confounder, with the number of the suite and, where it is given,
+/// that of the key (RFC 4120, section 5.2.9). Under a key of the suite's length memory is the only refusal.
 pub fn sealed_data(
     alloc: Global,
     suite: CipherSuite,
@@ -20,7 +21,7 @@ pub fn sealed_data(
     confounder: &[u8],
     plain: &[u8],
 ) -> Result<EncryptedData, AllocError>
-    requires { length confounder.now ≡ 16 }
+    requires { length confounder.now ≡ cipher_confounder_size suite }
     ensures { IfOk result (Seals suite key.now number (cast_unsigned w32 usage) confounder.now plain.now) }
 {
     let Ok(cipher) = suite.encrypt(alloc, key, usage, plain, confounder) else {

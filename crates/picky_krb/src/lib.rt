@@ -72,11 +72,11 @@ pub mod credssp {
     };
 }
 
-/// The suites: keys, sealing, checksums (RFC 3961, RFC 3962).
+/// The suites: keys, sealing, checksums (RFC 3961, RFC 3962); `des` is that of triple DES.
 pub mod crypto {
     pub use krb_crypto::{
         Checksum, ChecksumSuite, Cipher, CipherSuite, DecryptWithoutChecksum,
-        EncryptWithoutChecksum, KERBEROS, KerberosCryptoError, KerberosCryptoResult, aes,
+        EncryptWithoutChecksum, KERBEROS, KerberosCryptoError, KerberosCryptoResult, aes, des,
         hmac_sha1, n_fold, usage_kc, usage_ke, usage_ki,
     };
 
@@ -84,15 +84,6 @@ pub mod crypto {
     pub mod diffie_hellman {
         pub use krb_agreement::{
             DhNonce, DiffieHellmanError, DiffieHellmanResult, generate_key_from_shared_secret,
-        };
-    }
-
-    /// The suite of triple DES (RFC 3961, section 6.3).
-    pub mod des {
-        pub use krb_des3::{
-            DES3_BLOCK_SIZE, DES3_KEY_SIZE, DES3_MAC_SIZE, DES3_SEED_LEN, Des3CbcSha1Kd,
-            HmacSha1Des3Kd, decrypt_des, derive_key, derive_key_from_password, encrypt_des,
-            random_to_key,
         };
     }
 }

@@ -6,13 +6,11 @@ mod agreement;
 mod des;
 mod digests;
 mod row;
+mod suites;
 
 use row::{Row, row_of};
 use std::alloc::Global;
 use std::fs;
-
-/// The number of triple DES's suite.
-const DES3: usize = 16;
 
 fn main(rt: HostRuntime) -> anyhow::Result<()> {
     replay(&rt, "standards.txt")?;
@@ -45,12 +43,9 @@ fn agrees(alloc: Global, row: &Row<'_>) -> bool {
     match row.kind {
         "cbc" => aes::is_chained(alloc, row),
         "cts" => aes::is_stolen(alloc, row),
-        "key" if row.size == DES3 => des::is_key(alloc, row),
-        "key" => aes::is_key(alloc, row),
-        "seal" if row.size == DES3 => des::is_sealed(alloc, row),
-        "seal" => aes::is_sealed(alloc, row),
-        "checksum" if row.size == DES3 => des::is_checksum(alloc, row),
-        "checksum" => aes::is_checksum(alloc, row),
+        "key" => suites::is_key(alloc, row),
+        "seal" => suites::is_sealed(alloc, row),
+        "checksum" => suites::is_checksum(alloc, row),
         "mac" => digests::is_code(row),
         "hmac" => digests::is_fitted_code(alloc, row),
         "pbkdf2" => digests::is_password_key(alloc, row),
