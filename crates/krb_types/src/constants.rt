@@ -181,11 +181,9 @@ pub mod error_codes {
     pub const KDC_ERR_WRONG_REALM: u32 = 68;
 }
 
-/// Where each thing begins in the random bytes of a call. No two things of one message share a byte.
+/// Where each thing begins in the random bytes of a call. A confounder has a place of 16 bytes and a seed one of 32, of which
+/// a suite takes as many from the front as it wants (RFC 3961, section 3). No two things of one message share a byte.
 pub mod random_bytes {
-    /// How many bytes a confounder has: a block of the cipher (RFC 3962, section 6).
-    pub const CONFOUNDER_SIZE: usize = 16;
-
     /// The confounder of an AS request's stamp.
     pub const STAMP_CONFOUNDER: usize = 0;
 
@@ -195,11 +193,11 @@ pub mod random_bytes {
     /// The confounder of the authenticator of an AP or a TGS request.
     pub const AUTHENTICATOR_CONFOUNDER: usize = 0;
 
-    /// The subkey of an AP request, as long as a key of its suite.
-    pub const SUBKEY: usize = 32;
+    /// The seed of an AP request's subkey.
+    pub const SUBKEY_SEED: usize = 32;
 
-    /// The session's key in a realm's reply, as long as a key of its suite.
-    pub const SESSION_KEY: usize = 0;
+    /// The seed of the session's key in a realm's reply.
+    pub const SESSION_SEED: usize = 0;
 
     /// The confounder of the ticket in a realm's reply.
     pub const TICKET_CONFOUNDER: usize = 32;
