@@ -48,6 +48,26 @@ impl From<GeneralizedTime> for Time {
     }
 }
 
+impl From<UTCTimeAsn1> for Time {
+    ghost use Rattle.x509_parts.specs.declared.time.Time.TheVariants.{Utc};
+
+    ghost from_gives = { λ moment time. time ≡ Utc moment };
+
+    fn from(moment: UTCTimeAsn1) -> Time {
+        Time::Utc(moment)
+    }
+}
+
+impl From<GeneralizedTimeAsn1> for Time {
+    ghost use Rattle.x509_parts.specs.declared.time.Time.TheVariants.{Generalized};
+
+    ghost from_gives = { λ moment time. time ≡ Generalized moment };
+
+    fn from(moment: GeneralizedTimeAsn1) -> Time {
+        Time::Generalized(moment)
+    }
+}
+
 impl Serialize for Time {
     ghost use Rattle.std.proofs.Common.{refl, true};
     ghost use Rattle.asn1_trees.proofs.Choices.{injective_as};

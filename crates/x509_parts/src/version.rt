@@ -50,6 +50,16 @@ impl Version {
     }
 }
 
+impl Default for Version {
+    ghost use Rattle.x509_parts.specs.declared.version.Version.TheVariants.{V1};
+
+    ghost is_default = { λ version. version ≡ V1 };
+
+    fn default() -> Version {
+        Version::V1
+    }
+}
+
 impl Leaf for Version {
     ghost use Rattle.std.specs.Prelude.{true};
     ghost use Rattle.x509_parts.specs.Versions.{version_content, version_content-injective};
@@ -97,7 +107,7 @@ impl HasDefault for Version {
     }
 
     fn default_value(_alloc: Global) -> Result<Self, AllocError> {
-        Ok(Version::V1)
+        Ok(Version::default())
     }
 }
 
