@@ -122,12 +122,13 @@ impl HashAlgorithm {
 
 impl TryFrom<ObjectIdentifierAsn1> for HashAlgorithm {
     ghost use Rattle.x509_parameters.specs.declared.hash_algorithm.HashAlgorithm.{HashAlgorithm};
+    ghost use Rattle.x509_parameters.specs.declared.unsupported.Algorithm.TheVariants.{Identifier};
 
     type Error = UnsupportedAlgorithmError;
 
     ghost try_from_gives = { λ oid result. MatchResult result
         (λ hash. hash_arcs hash ≡ oid.0)
-        (λ _. (hash : HashAlgorithm) → hash_arcs hash ≡ oid.0 → ⊥) };
+        (λ refusal. (refusal.algorithm ≡ Identifier oid) × ((hash : HashAlgorithm) → hash_arcs hash ≡ oid.0 → ⊥)) };
 
     fn try_from(oid: ObjectIdentifierAsn1) -> Result<HashAlgorithm, UnsupportedAlgorithmError> {
         match HashAlgorithm::of_content(oid.0.as_bytes()) {

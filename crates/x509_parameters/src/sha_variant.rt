@@ -103,12 +103,13 @@ impl ShaVariant {
 
 impl TryFrom<ObjectIdentifierAsn1> for ShaVariant {
     ghost use Rattle.x509_parameters.specs.declared.sha_variant.ShaVariant.{ShaVariant};
+    ghost use Rattle.x509_parameters.specs.declared.unsupported.Algorithm.TheVariants.{Identifier};
 
     type Error = UnsupportedAlgorithmError;
 
     ghost try_from_gives = { λ oid result. MatchResult result
         (λ hash. sha_arcs hash ≡ oid.0)
-        (λ _. (hash : ShaVariant) → sha_arcs hash ≡ oid.0 → ⊥) };
+        (λ refusal. (refusal.algorithm ≡ Identifier oid) × ((hash : ShaVariant) → sha_arcs hash ≡ oid.0 → ⊥)) };
 
     fn try_from(oid: ObjectIdentifierAsn1) -> Result<ShaVariant, UnsupportedAlgorithmError> {
         match ShaVariant::of_content(oid.0.as_bytes()) {

@@ -23,15 +23,21 @@ pub(crate) enum Algorithm {
 }
 
 impl UnsupportedAlgorithmError {
+    ghost use Rattle.x509_parameters.specs.declared.unsupported.Algorithm.TheVariants.{Hash, Identifier};
+
     /// The hash isn't supported.
-    pub fn of_hash(hash: ShaVariant) -> UnsupportedAlgorithmError {
+    pub fn of_hash(hash: ShaVariant) -> UnsupportedAlgorithmError
+        ensures { result.algorithm ≡ Hash hash }
+    {
         UnsupportedAlgorithmError {
             algorithm: Algorithm::Hash(hash),
         }
     }
 
     /// The identifier isn't a supported algorithm's.
-    pub fn of_identifier(oid: ObjectIdentifierAsn1) -> UnsupportedAlgorithmError {
+    pub fn of_identifier(oid: ObjectIdentifierAsn1) -> UnsupportedAlgorithmError
+        ensures { result.algorithm ≡ Identifier oid }
+    {
         UnsupportedAlgorithmError {
             algorithm: Algorithm::Identifier(oid),
         }

@@ -10,4 +10,4 @@ returns-in-Some c =
     (sha_content_is c.in-Some.hash ∙ c.in-Some.ensures ∙ c.as_bytes.ensures.value)
 
 pub returns-in-None : goal.returns-in-None
-returns-in-None c = λ h e. c.in-None.ensures h (sym (sha_content_is h) ∙ ap oid_content e ∙ sym c.as_bytes.ensures.value)
+returns-in-None c = (c.of_identifier.ensures, λ h e. c.in-None.ensures h (sym (sha_content_is h) ∙ ap oid_content e ∙ sym c.as_bytes.ensures.value))
