@@ -6,7 +6,8 @@ use crate::key_identifiers::{EcIdentifiers, EdIdentifiers, MldsaIdentifiers, Rsa
 use crate::rsa_public_key::EncapsulatedRsaPublicKey;
 use crate::strict::Strict;
 use picky_asn1::oid::ObjectIdentifier;
-use picky_asn1::wrapper::{BitStringAsn1, OctetStringAsn1};
+use picky_asn1::wrapper::{BitStringAsn1, BitStringAsn1Container, OctetStringAsn1};
+use std::alloc::AllocError;
 use x509_kinds::{Identifiers, KindOf, LastKind, ToldBy};
 
 /// A point of an elliptic curve, as octets (RFC 5480, section 2.2).
@@ -19,7 +20,7 @@ pub type EncapsulatedEcPoint = BitStringAsn1;
 pub type EncapsulatedMldsaPublicKey = BitStringAsn1;
 
 /// A public key. The identifier of its algorithm decides its kind.
-#[derive(Drop)]
+#[derive(Debug, Drop, PartialEq, Eq)]
 pub enum PublicKey {
     /// A key of RSA.
     Rsa(EncapsulatedRsaPublicKey),
@@ -29,6 +30,19 @@ pub enum PublicKey {
     Ed(EncapsulatedEcPoint),
     /// A key of ML-DSA.
     Mldsa(EncapsulatedMldsaPublicKey),
+}
+
+impl Clone for PublicKey {
+    ghost is_clone = { λ key copy. copy ≡ key };
+
+    fn clone(&self) -> Result<PublicKey, AllocError> {
+        Ok(match self {
+            PublicKey::Rsa(key) => PublicKey::Rsa(BitStringAsn1Container(key.0.clone()?)),
+            PublicKey::Ec(point) => PublicKey::Ec(point.clone()?),
+            PublicKey::Ed(point) => PublicKey::Ed(point.clone()?),
+            PublicKey::Mldsa(key) => PublicKey::Mldsa(key.clone()?),
+        })
+    }
 }
 
 type RsaKind = ToldBy<RsaIdentifiers, (Strict<EncapsulatedRsaPublicKey>, ())>;

@@ -1,10 +1,13 @@
 //! Public keys of RSA (RFC 8017, appendix A.1.1).
+ghost use Rattle.std.specs.Prelude.{◌≡◌};
+
 use devices::{Sink, Source};
 use picky_asn1::wrapper::{BitStringAsn1Container, IntegerAsn1};
 use picky_asn1_der::{
     Asn1DerError, Deserializer, Fields, Row2, Serializer, Tagged, fields_of, from_fields,
     read_sequence,
 };
+use std::alloc::AllocError;
 use x509_spelling::Exact;
 
 /// A public key of RSA.
@@ -14,7 +17,7 @@ use x509_spelling::Exact;
 ///     modulus           INTEGER,  -- n
 ///     publicExponent    INTEGER   -- e }
 /// ```
-#[derive(Drop)]
+#[derive(Debug, Drop, PartialEq, Eq)]
 pub struct RsaPublicKey {
     /// The modulus n.
     pub modulus: IntegerAsn1,
@@ -26,6 +29,19 @@ pub struct RsaPublicKey {
 pub type EncapsulatedRsaPublicKey = BitStringAsn1Container<RsaPublicKey>;
 
 type RsaPublicKeyRow = Row2<IntegerAsn1, IntegerAsn1>;
+
+impl Clone for RsaPublicKey {
+    ghost is_clone = { λ key copy. copy ≡ key };
+
+    fn clone(&self) -> Result<RsaPublicKey, AllocError> {
+        let modulus = self.modulus.clone()?;
+        let public_exponent = self.public_exponent.clone()?;
+        Ok(RsaPublicKey {
+            modulus,
+            public_exponent,
+        })
+    }
+}
 
 impl Tagged for RsaPublicKey {
     ghost use Rattle.std.proofs.Common.{ap, refl, true};

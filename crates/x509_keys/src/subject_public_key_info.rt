@@ -26,7 +26,7 @@ use x509_strict::read_strict;
 ///      algorithm            AlgorithmIdentifier,
 ///      subjectPublicKey     BIT STRING  }
 /// ```
-#[derive(Drop)]
+#[derive(Debug, Drop, PartialEq, Eq)]
 pub struct SubjectPublicKeyInfo {
     algorithm: AlgorithmIdentifier,
     subject_public_key: PublicKey,
@@ -117,6 +117,19 @@ impl SubjectPublicKeyInfo {
             (λ fault. (fault ≡ X509Fault.Meaning) × (is_key_of algorithm.algorithm.0 (kind.Ed key) ≡ false)) }
     {
         SubjectPublicKeyInfo::new(algorithm, PublicKey::Ed(key))
+    }
+}
+
+impl Clone for SubjectPublicKeyInfo {
+    ghost is_clone = { λ info copy. copy ≡ info };
+
+    fn clone(&self) -> Result<SubjectPublicKeyInfo, AllocError> {
+        let algorithm = self.algorithm.clone()?;
+        let subject_public_key = self.subject_public_key.clone()?;
+        Ok(SubjectPublicKeyInfo {
+            algorithm,
+            subject_public_key,
+        })
     }
 }
 
