@@ -2,6 +2,8 @@
 #![tactic(auto)]
 
 #[cfg(test)]
+mod des;
+#[cfg(test)]
 mod digests;
 #[cfg(test)]
 mod refusals;
