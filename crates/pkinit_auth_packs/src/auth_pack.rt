@@ -8,6 +8,8 @@ use picky_asn1_der::{
     fields_of, from_fields, read_sequence,
 };
 use pkinit_messages::{DhNonce, DhReqInfo, PkAuthenticator};
+use record_copies::{LentFields, RecordFields};
+use std::alloc::AllocError;
 use x509_algorithms::AlgorithmIdentifier;
 use x509_keys::SubjectPublicKeyInfo;
 
@@ -23,7 +25,7 @@ use x509_keys::SubjectPublicKeyInfo;
 ///      clientDHNonce      [3] DHNonce OPTIONAL,
 ///      ... }
 /// ```
-#[derive(Drop)]
+#[derive(Debug, Drop, PartialEq, Eq)]
 pub struct AuthPack<V: ClientPublicValue> {
     /// What binds the signature to the request.
     pub pk_authenticator: ExplicitContextTag0<PkAuthenticator>,
@@ -49,6 +51,20 @@ type AuthPackRow<V> = Row4<
     Optional<Option<ExplicitContextTag2<Asn1SequenceOf<AlgorithmIdentifier>>>>,
     Optional<Option<ExplicitContextTag3<DhNonce>>>,
 >;
+
+impl<V: ClientPublicValue + Clone> Clone for AuthPack<V> {
+    ghost is_clone = { λ pack copy. ⟦<AuthPackRow<V> as RecordFields>⟧.are_copies
+        (pack.pk_authenticator, (pack.client_public_value, (pack.supported_cms_types, (pack.client_dh_nonce, tt))))
+        (copy.pk_authenticator, (copy.client_public_value, (copy.supported_cms_types, (copy.client_dh_nonce, tt)))) };
+
+    fn clone(&self) -> Result<AuthPack<V>, AllocError> {
+        let fields =
+            fields_of![self; pk_authenticator, client_public_value, supported_cms_types, client_dh_nonce].copied()?;
+        Ok(
+            from_fields![fields; pk_authenticator, client_public_value, supported_cms_types, client_dh_nonce],
+        )
+    }
+}
 
 impl<V: Deserialize + ClientPublicValue> Tagged for AuthPack<V> {
     ghost use Rattle.std.proofs.Common.{ap, refl, true, None, Some};

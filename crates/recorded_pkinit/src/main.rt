@@ -23,7 +23,8 @@ impl Lines for Messages {
 }
 
 fn main(rt: HostRuntime) -> anyhow::Result<()> {
-    replay(&rt, &Messages, "openssl.txt")
+    replay(&rt, &Messages, "openssl.txt")?;
+    auth_packs::print_first(&rt, "openssl.txt")
 }
 
 /// Whether a message is read as is wanted, and written back.
