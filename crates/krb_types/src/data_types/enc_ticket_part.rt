@@ -10,7 +10,7 @@ use picky_asn1_der::{
     ExplicitContextTag2, ExplicitContextTag3, ExplicitContextTag4, ExplicitContextTag5,
     ExplicitContextTag6, ExplicitContextTag7, ExplicitContextTag8, ExplicitContextTag9,
     ExplicitContextTag10, Fields, Optional, Row11, Serializer, Tagged, fields_of, from_fields,
-    read_sequence, row,
+    read_sequence,
 };
 use record_copies::{LentFields, RecordFields};
 use std::alloc::AllocError;
@@ -78,24 +78,9 @@ impl Clone for EncTicketPartInner {
     ghost is_clone = { λ value copy. ⟦<EncTicketPartInnerRow as RecordFields>⟧.are_copies (⟦<EncTicketPartInner as Tagged>⟧.row_of value) (⟦<EncTicketPartInner as Tagged>⟧.row_of copy) };
 
     fn clone(&self) -> Result<EncTicketPartInner, AllocError> {
-        let row![flags, key, crealm, cname] = fields_of![self; flags, key, crealm, cname].copied()?;
-        let row![transited, auth_time, starttime, endtime] =
-            fields_of![self; transited, auth_time, starttime, endtime].copied()?;
-        let row![renew_till, caddr, authorization_data] =
-            fields_of![self; renew_till, caddr, authorization_data].copied()?;
-        Ok(EncTicketPartInner {
-            flags,
-            key,
-            crealm,
-            cname,
-            transited,
-            auth_time,
-            starttime,
-            endtime,
-            renew_till,
-            caddr,
-            authorization_data,
-        })
+        let fields =
+            fields_of![self; flags, key, crealm, cname, transited, auth_time, starttime, endtime, renew_till, caddr, authorization_data].copied()?;
+        Ok(EncTicketPartInner::of_row(fields))
     }
 }
 
