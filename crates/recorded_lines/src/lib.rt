@@ -7,4 +7,4 @@ mod round_trip;
 
 pub use columns::{Recorded, Wanted, recorded_of};
 pub use files::{Lines, replay};
-pub use round_trip::{are_wanted, is_refused, is_told, is_written};
+pub use round_trip::{Answer, are_wanted, is_read_told, is_refused, is_told, is_written};

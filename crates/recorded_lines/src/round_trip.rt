@@ -1,13 +1,19 @@
 //! One message, read and written back.
 use crate::columns::{Recorded, Wanted};
-use picky_asn1_der::{Asn1DerError, FromDer, Serialize, from_exact_bytes, to_vec};
+use picky_asn1_der::{Asn1DerError, Deserialize, FromDer, Serialize, from_exact_bytes, to_vec};
 use std::alloc::Global;
 
-/// Whether a message is read and written as is wanted.
-pub fn is_told<T: FromDer + Serialize>(
-    alloc: Global,
-    recorded: &Recorded<'_>,
-) -> Result<bool, Asn1DerError> {
+/// Whether a message is read and written as is wanted, memory aside.
+pub type Answer = Result<bool, Asn1DerError>;
+
+/// Whether a message of this type is read and written as is wanted. One bound stands for reading and writing, since a call at a
+/// message's own type spells each bound's impl out.
+pub fn is_told<T: Deserialize>(alloc: Global, recorded: &Recorded<'_>) -> Answer {
+    is_read_told::<T>(alloc, recorded)
+}
+
+/// The same of a type that is read in a way of its own.
+pub fn is_read_told<T: FromDer + Serialize>(alloc: Global, recorded: &Recorded<'_>) -> Answer {
     match from_exact_bytes::<T>(alloc, &recorded.bytes) {
         Ok(value) => is_written(alloc, &value, recorded),
         Err(Asn1DerError::Memory) => Err(Asn1DerError::Memory),
@@ -16,11 +22,7 @@ pub fn is_told<T: FromDer + Serialize>(
 }
 
 /// Whether a value is written as is wanted.
-pub fn is_written<T: Serialize>(
-    alloc: Global,
-    value: &T,
-    recorded: &Recorded<'_>,
-) -> Result<bool, Asn1DerError> {
+pub fn is_written<T: Serialize>(alloc: Global, value: &T, recorded: &Recorded<'_>) -> Answer {
     let written = to_vec(alloc, value)?;
     Ok(are_wanted(&written, recorded))
 }

@@ -1,21 +1,39 @@
-//! What a client and a KDC send each other, by the names of the types.
-use picky_asn1_der::Asn1DerError;
+//! What a client and a KDC send each other, by the names of the types. Each type has a function of its own, since one match over
+//! all of them is dear to prove.
 use pkinit_messages::{
     DhRepInfo, ExternalPrincipalIdentifier, PaPkAsRep, PaPkAsReq, PkAuthenticator,
 };
-use recorded_lines::{Recorded, is_told};
+use recorded_lines::{Answer, Recorded, is_told};
 use std::alloc::Global;
 
 /// Whether a value of such a type is read and written as is wanted; none for any other type.
-pub fn agrees(alloc: Global, recorded: &Recorded<'_>) -> Option<Result<bool, Asn1DerError>> {
+pub fn agrees(alloc: Global, recorded: &Recorded<'_>) -> Option<Answer> {
     match recorded.type_name {
-        "DhRepInfo" => Some(is_told::<DhRepInfo>(alloc, recorded)),
-        "ExternalPrincipalIdentifier" => {
-            Some(is_told::<ExternalPrincipalIdentifier>(alloc, recorded))
-        }
-        "PaPkAsRep" => Some(is_told::<PaPkAsRep>(alloc, recorded)),
-        "PaPkAsReq" => Some(is_told::<PaPkAsReq>(alloc, recorded)),
-        "PkAuthenticator" => Some(is_told::<PkAuthenticator>(alloc, recorded)),
+        "DhRepInfo" => Some(dh_rep_info(alloc, recorded)),
+        "ExternalPrincipalIdentifier" => Some(external_principal_identifier(alloc, recorded)),
+        "PaPkAsRep" => Some(pa_pk_as_rep(alloc, recorded)),
+        "PaPkAsReq" => Some(pa_pk_as_req(alloc, recorded)),
+        "PkAuthenticator" => Some(pk_authenticator(alloc, recorded)),
         _ => None,
     }
+}
+
+fn dh_rep_info(alloc: Global, recorded: &Recorded<'_>) -> Answer {
+    is_told::<DhRepInfo>(alloc, recorded)
+}
+
+fn external_principal_identifier(alloc: Global, recorded: &Recorded<'_>) -> Answer {
+    is_told::<ExternalPrincipalIdentifier>(alloc, recorded)
+}
+
+fn pa_pk_as_rep(alloc: Global, recorded: &Recorded<'_>) -> Answer {
+    is_told::<PaPkAsRep>(alloc, recorded)
+}
+
+fn pa_pk_as_req(alloc: Global, recorded: &Recorded<'_>) -> Answer {
+    is_told::<PaPkAsReq>(alloc, recorded)
+}
+
+fn pk_authenticator(alloc: Global, recorded: &Recorded<'_>) -> Answer {
+    is_told::<PkAuthenticator>(alloc, recorded)
 }

@@ -1,24 +1,49 @@
-//! Credentials that CredSSP delegates, by the names of their types.
+//! Credentials that CredSSP delegates, by the names of their types. Each type has a function of its own, since one match over all
+//! of them is dear to prove.
 use picky_asn1::wrapper::{ExplicitContextTag, IntegerAsn1, OctetStringAsn1, Optional};
 use picky_asn1_der::{Asn1DerError, Deserialize, from_exact_bytes, to_vec};
 use picky_krb::credssp::{
     TsCredentials, TsCspDataDetail, TsPasswordCreds, TsRemoteGuardCreds, TsRemoteGuardPackageCred,
     TsSmartCardCreds,
 };
-use recorded_lines::{Recorded, Wanted, is_told};
+use recorded_lines::{Answer, Recorded, Wanted, is_told};
 use std::alloc::Global;
 
 /// Whether credentials of such a type are read and written as is wanted; none for any other type.
-pub fn agrees(alloc: Global, recorded: &Recorded<'_>) -> Option<Result<bool, Asn1DerError>> {
+pub fn agrees(alloc: Global, recorded: &Recorded<'_>) -> Option<Answer> {
     match recorded.type_name {
-        "TsCredentials" => Some(is_held::<TsCredentials>(alloc, recorded)),
-        "TsCspDataDetail" => Some(is_held::<TsCspDataDetail>(alloc, recorded)),
-        "TsPasswordCreds" => Some(is_held::<TsPasswordCreds>(alloc, recorded)),
-        "TsRemoteGuardCreds" => Some(is_told::<TsRemoteGuardCreds>(alloc, recorded)),
-        "TsRemoteGuardPackageCred" => Some(is_held::<TsRemoteGuardPackageCred>(alloc, recorded)),
-        "TsSmartCardCreds" => Some(is_told::<TsSmartCardCreds>(alloc, recorded)),
+        "TsCredentials" => Some(ts_credentials(alloc, recorded)),
+        "TsCspDataDetail" => Some(ts_csp_data_detail(alloc, recorded)),
+        "TsPasswordCreds" => Some(ts_password_creds(alloc, recorded)),
+        "TsRemoteGuardCreds" => Some(ts_remote_guard_creds(alloc, recorded)),
+        "TsRemoteGuardPackageCred" => Some(ts_remote_guard_package_cred(alloc, recorded)),
+        "TsSmartCardCreds" => Some(ts_smart_card_creds(alloc, recorded)),
         _ => None,
     }
+}
+
+fn ts_credentials(alloc: Global, recorded: &Recorded<'_>) -> Answer {
+    is_held::<TsCredentials>(alloc, recorded)
+}
+
+fn ts_csp_data_detail(alloc: Global, recorded: &Recorded<'_>) -> Answer {
+    is_held::<TsCspDataDetail>(alloc, recorded)
+}
+
+fn ts_password_creds(alloc: Global, recorded: &Recorded<'_>) -> Answer {
+    is_held::<TsPasswordCreds>(alloc, recorded)
+}
+
+fn ts_remote_guard_creds(alloc: Global, recorded: &Recorded<'_>) -> Answer {
+    is_told::<TsRemoteGuardCreds>(alloc, recorded)
+}
+
+fn ts_remote_guard_package_cred(alloc: Global, recorded: &Recorded<'_>) -> Answer {
+    is_held::<TsRemoteGuardPackageCred>(alloc, recorded)
+}
+
+fn ts_smart_card_creds(alloc: Global, recorded: &Recorded<'_>) -> Answer {
+    is_told::<TsSmartCardCreds>(alloc, recorded)
 }
 
 /// A type whose value is told by octets, field by field.
@@ -28,7 +53,7 @@ trait Held: Deserialize + PartialEq {
 }
 
 /// Whether credentials are read as what they are to hold, and written back.
-fn is_held<T: Held>(alloc: Global, recorded: &Recorded<'_>) -> Result<bool, Asn1DerError> {
+fn is_held<T: Held>(alloc: Global, recorded: &Recorded<'_>) -> Answer {
     let Wanted::Held(parts) = &recorded.wanted else {
         return is_told::<T>(alloc, recorded);
     };

@@ -1,32 +1,70 @@
-//! Tokens, by the names of their types.
-use picky_asn1_der::{Asn1DerError, FromDer, Serialize};
+//! Tokens, by the names of their types. Each type has a function of its own, since one match over all of them is dear to prove.
+use picky_asn1_der::{FromDer, Serialize};
 use picky_krb::gss_api::{
     ApplicationTag0, GssApiNegInit, IAKerbProxyMessage, KrbMessage, MechType, MechTypeList,
     MicToken, NegTokenInit, NegTokenTarg, NegTokenTarg1, WrapToken,
 };
 use picky_krb::messages::{AsReq, IAKerbHeader, TgtRep};
-use recorded_lines::{Recorded, are_wanted, is_refused, is_told};
+use recorded_lines::{Answer, Recorded, are_wanted, is_read_told, is_refused, is_told};
 use std::alloc::Global;
 
 /// Whether a token of such a type is read and written as is wanted; none for any other type.
-pub fn agrees(alloc: Global, recorded: &Recorded<'_>) -> Option<Result<bool, Asn1DerError>> {
+pub fn agrees(alloc: Global, recorded: &Recorded<'_>) -> Option<Answer> {
     match recorded.type_name {
-        "ApplicationTag0<GssApiNegInit>" => Some(is_told::<ApplicationTag0<GssApiNegInit>>(
-            alloc, recorded,
-        )),
-        "GssApiNegInit" => Some(is_told::<GssApiNegInit>(alloc, recorded)),
-        "IAKerbHeader" => Some(is_told::<IAKerbHeader>(alloc, recorded)),
-        "IAKerbProxyMessage<AsReq>" => Some(Ok(is_proxied::<AsReq>(alloc, recorded))),
-        "KrbMessage<TgtRep>" => Some(Ok(is_message::<TgtRep>(alloc, recorded))),
-        "MechType" => Some(is_told::<MechType>(alloc, recorded)),
-        "MechTypeList" => Some(is_told::<MechTypeList>(alloc, recorded)),
+        "ApplicationTag0<GssApiNegInit>" => Some(application_tag0(alloc, recorded)),
+        "GssApiNegInit" => Some(gss_api_neg_init(alloc, recorded)),
+        "IAKerbHeader" => Some(ia_kerb_header(alloc, recorded)),
+        "IAKerbProxyMessage<AsReq>" => Some(proxied_as_req(alloc, recorded)),
+        "KrbMessage<TgtRep>" => Some(krb_message(alloc, recorded)),
+        "MechType" => Some(mech_type(alloc, recorded)),
+        "MechTypeList" => Some(mech_type_list(alloc, recorded)),
         "MicToken" => Some(Ok(is_mic(alloc, recorded))),
-        "NegTokenInit" => Some(is_told::<NegTokenInit>(alloc, recorded)),
-        "NegTokenTarg" => Some(is_told::<NegTokenTarg>(alloc, recorded)),
-        "NegTokenTarg1" => Some(is_told::<NegTokenTarg1>(alloc, recorded)),
+        "NegTokenInit" => Some(neg_token_init(alloc, recorded)),
+        "NegTokenTarg" => Some(neg_token_targ(alloc, recorded)),
+        "NegTokenTarg1" => Some(neg_token_targ1(alloc, recorded)),
         "WrapToken" => Some(Ok(is_wrap(alloc, recorded))),
         _ => None,
     }
+}
+
+fn application_tag0(alloc: Global, recorded: &Recorded<'_>) -> Answer {
+    is_told::<ApplicationTag0<GssApiNegInit>>(alloc, recorded)
+}
+
+fn gss_api_neg_init(alloc: Global, recorded: &Recorded<'_>) -> Answer {
+    is_told::<GssApiNegInit>(alloc, recorded)
+}
+
+fn ia_kerb_header(alloc: Global, recorded: &Recorded<'_>) -> Answer {
+    is_read_told::<IAKerbHeader>(alloc, recorded)
+}
+
+fn mech_type(alloc: Global, recorded: &Recorded<'_>) -> Answer {
+    is_told::<MechType>(alloc, recorded)
+}
+
+fn mech_type_list(alloc: Global, recorded: &Recorded<'_>) -> Answer {
+    is_told::<MechTypeList>(alloc, recorded)
+}
+
+fn neg_token_init(alloc: Global, recorded: &Recorded<'_>) -> Answer {
+    is_told::<NegTokenInit>(alloc, recorded)
+}
+
+fn neg_token_targ(alloc: Global, recorded: &Recorded<'_>) -> Answer {
+    is_told::<NegTokenTarg>(alloc, recorded)
+}
+
+fn neg_token_targ1(alloc: Global, recorded: &Recorded<'_>) -> Answer {
+    is_told::<NegTokenTarg1>(alloc, recorded)
+}
+
+fn proxied_as_req(alloc: Global, recorded: &Recorded<'_>) -> Answer {
+    Ok(is_proxied::<AsReq>(alloc, recorded))
+}
+
+fn krb_message(alloc: Global, recorded: &Recorded<'_>) -> Answer {
+    Ok(is_message::<TgtRep>(alloc, recorded))
 }
 
 fn is_message<T: FromDer + Serialize>(alloc: Global, recorded: &Recorded<'_>) -> bool {
