@@ -39,7 +39,7 @@ fn not_split(rt: HostRuntime) {
 
 const RAW: &[u8] = &[0xA0, 3, 2, 1, 7];
 
-fn raw_of(alloc: Global, bytes: &[u8]) -> Result<Asn1RawDer, Asn1DerError> {
+pub(crate) fn raw_of(alloc: Global, bytes: &[u8]) -> Result<Asn1RawDer, Asn1DerError> {
     match Vec::from_slice(alloc, bytes) {
         Ok(bytes) => Asn1RawDer::new(bytes),
         Err(_) => Err(Asn1DerError::Memory),

@@ -1,12 +1,13 @@
 //! Octets that are looked at, a SEQUENCE that is written value after value, and raw elements by their bytes.
-use devices::{Source, Watched};
-use picky_asn1_der::misc::{PeekableReader, ReadExt, Sequence};
+use crate::elements::raw_of;
+use devices::{Sink, Source, Watched};
+use picky_asn1_der::misc::{PeekableReader, PeekedContent, ReadExt, Sequence, SequenceWriter};
 use picky_asn1_der::{Asn1DerError, Asn1RawDer, Serializer};
+use std::alloc::Global;
 use std::cmp::Ordering;
 use std::hash::{DefaultHasher, Hash, Hasher};
 use std::io;
 use std::io::Read;
-use std::test::Fail;
 
 // Gives a byte a read.
 #[derive(Drop)]
@@ -25,43 +26,67 @@ impl Read for Trickle<'_> {
     }
 }
 
+// Whether these octets are looked at, and are the content's own.
+fn are_next<R: Source>(reader: &mut PeekableReader<R>, octets: &[u8]) -> bool {
+    match reader.peek_buffer() {
+        Ok(content) => are_held(content, octets),
+        Err(_) => false,
+    }
+}
+
+// Whether a content has these octets until it is taken.
+fn are_held(mut content: PeekedContent, octets: &[u8]) -> bool {
+    content.len() == octets.len()
+        && content.buffer().get(..octets.len()) == Some(octets)
+        && content.take().len() == octets.len()
+        && content.len() == 0
+}
+
+fn are_given<R: Source>(reader: &mut PeekableReader<R>, octets: &[u8]) -> bool {
+    for octet in octets {
+        if reader.read_one() != Ok(*octet) {
+            return false;
+        }
+    }
+    true
+}
+
+const OCTETS: [u8; 12] = [2, 1, 7, 5, 0, 4, 2, 8, 9, 5, 0, 6];
+
 // What is looked at is given once, in its order, however the source cuts.
 #[test]
-fn peeked(rt: HostRuntime) -> Result<(), Fail> {
-    let bytes = [2u8, 1, 7, 5, 0, 4, 2, 8, 9, 5, 0, 6];
-    let mut reader = PeekableReader::new(Watched::new(Trickle(&bytes)));
-    assert_eq!(rt; reader.peek_one(), Ok(2));
-    let mut content = reader.peek_buffer()?;
-    assert_eq!(rt; content.len(), 10);
-    assert_eq!(rt; content.buffer().as_slice(), &bytes[..10]);
-    assert_eq!(rt; content.take().len(), 10);
-    assert_eq!(rt; content.len(), 0);
-    assert_eq!(rt; reader.pos(), 0);
-    for octet in bytes {
-        assert_eq!(rt; reader.read_one(), Ok(octet));
+fn peeked(rt: HostRuntime) {
+    let mut reader = PeekableReader::new(Watched::new(Trickle(&OCTETS)));
+    assert!(rt; reader.peek_one() == Ok(2));
+    assert!(rt; are_next(&mut reader, &OCTETS[..10]));
+    assert!(rt; reader.pos() == 0);
+    assert!(rt; are_given(&mut reader, &OCTETS));
+    assert!(rt; reader.pos() == 12);
+    assert!(rt; are_next(&mut reader, &[]));
+    assert!(rt; reader.peek_one() == Err(Asn1DerError::TruncatedData));
+    assert!(rt; reader.failures() == 0);
+}
+
+// The INTEGER 8 is more than is left of the content.
+fn are_written<W: Sink>(content: &mut SequenceWriter, to: &mut Serializer<W>) -> bool {
+    content.serialize_element(&7u32, to) == Ok(3)
+        && content.serialize_element(&8u32, to) == Err(Asn1DerError::InvalidSink)
+        && content.serialize_element(&(), to) == Ok(2)
+}
+
+fn is_sequence_written<W: Sink>(to: &mut Serializer<W>) -> bool {
+    match Sequence::serialize_lazy(0x30, 5, to) {
+        Ok(mut content) => are_written(&mut content, to) && content.end() == Ok(()),
+        Err(_) => false,
     }
-    assert_eq!(rt; reader.pos(), 12);
-    assert_eq!(rt; reader.peek_buffer()?.len(), 0);
-    assert_eq!(rt; reader.peek_one(), Err(Asn1DerError::TruncatedData));
-    assert_eq!(rt; reader.failures(), 0);
-    Ok(())
 }
 
 // The SEQUENCE of the INTEGER 7 and of NULL.
 #[test]
-fn written_in_turn(rt: HostRuntime) -> Result<(), Fail> {
+fn written_in_turn(rt: HostRuntime) {
     let mut bytes = Vec::new(rt.alloc());
-    let mut to = Serializer::new_to_byte_buf(&mut bytes);
-    let mut content = Sequence::serialize_lazy(0x30, 5, &mut to)?;
-    assert_eq!(rt; content.serialize_element(&7u32, &mut to), Ok(3));
-    assert_eq!(rt;
-        content.serialize_element(&8u32, &mut to),
-        Err(Asn1DerError::InvalidSink)
-    );
-    assert_eq!(rt; content.serialize_element(&(), &mut to), Ok(2));
-    assert_eq!(rt; content.end(), Ok(()));
-    assert_eq!(rt; bytes.as_slice(), [0x30, 5, 2, 1, 7, 5, 0].as_slice());
-    Ok(())
+    assert!(rt; is_sequence_written(&mut Serializer::new_to_byte_buf(&mut bytes)));
+    assert!(rt; bytes.as_slice() == [0x30, 5, 2, 1, 7, 5, 0].as_slice());
 }
 
 fn hash_of(element: &Asn1RawDer) -> u64 {
@@ -70,13 +95,18 @@ fn hash_of(element: &Asn1RawDer) -> u64 {
     state.finish()
 }
 
+fn are_alike(element: &Asn1RawDer, other: &Asn1RawDer) -> bool {
+    element == other && hash_of(element) == hash_of(other)
+}
+
+fn are_by_bytes(alloc: Global) -> Option<bool> {
+    let null = raw_of(alloc, &[5, 0]).ok()?;
+    let again = raw_of(alloc, &[5, 0]).ok()?;
+    let octets = raw_of(alloc, &[4, 1, 9]).ok()?;
+    Some(are_alike(&null, &again) && null.cmp(&octets) == Ordering::Greater)
+}
+
 #[test]
-fn raw_by_bytes(rt: HostRuntime) -> Result<(), Fail> {
-    let null = Asn1RawDer::new(vec![in rt.alloc(); 5, 0]?)?;
-    let again = Asn1RawDer::new(vec![in rt.alloc(); 5, 0]?)?;
-    let octets = Asn1RawDer::new(vec![in rt.alloc(); 4, 1, 9]?)?;
-    assert!(rt; null == again);
-    assert_eq!(rt; hash_of(&null), hash_of(&again));
-    assert_eq!(rt; null.cmp(&octets), Ordering::Greater);
-    Ok(())
+fn raw_by_bytes(rt: HostRuntime) {
+    assert!(rt; are_by_bytes(rt.alloc()) == Some(true));
 }
