@@ -1,3 +1,4 @@
+pub mod KeySizes
 pub mod Opening
 mod FilledTexts
 pub mod Reading

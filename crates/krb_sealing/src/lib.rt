@@ -2,7 +2,9 @@
 #![tactic(auto)]
 
 mod key;
+mod random;
 mod seal;
 
 pub use key::encryption_key;
+pub use random::{confounder_at, key_at};
 pub use seal::sealed_data;
