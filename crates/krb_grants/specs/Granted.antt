@@ -2,6 +2,7 @@
 use Rattle.std.specs.Prelude.{◌≡◌}
 use Rattle.std.proofs.Common.{ap, sym, ◌∙◌}
 use Rattle.picky_asn1.specs.Bytes.{Bytes}
+use Rattle.krb_crypto.specs.Suites.{cipher_confounder_size}
 use Rattle.krb_accounts.specs.Account.{AccountRecord}
 use Rattle.krb_types.specs.declared.data_types.encrypted_data.EncryptedData.{EncryptedData}
 use Rattle.krb_types.specs.RandomBytes.{Random, reply_confounder, ticket_confounder}
@@ -14,17 +15,17 @@ pub use Rattle.krb_tickets.specs.ReplyKeys.{ReplyKeyRecord, as_reply_key, reply_
 -- section 7.5.1), and the reply's part under the reply key
 pub record IsTicketReply (grant : Grant) (under : ReplyKeyRecord) (service : AccountRecord) (random : Random) (bytes : Bytes) : Type 0 where
   pub ticket_data : EncryptedData
-  pub ticket_sealed : IsSealedData service 2 (ticket_confounder random) (ticket_part_bytes (ticket_part grant)) ticket_data
+  pub ticket_sealed : IsSealedData service 2 (ticket_confounder (cipher_confounder_size service.suite) random) (ticket_part_bytes (ticket_part grant)) ticket_data
   pub reply_data : EncryptedData
-  pub reply_sealed : IsSealedReply under (reply_confounder random) (reply_part_bytes under.exchange (reply_part grant)) reply_data
+  pub reply_sealed : IsSealedReply under (reply_confounder (cipher_confounder_size under.suite) random) (reply_part_bytes under.exchange (reply_part grant)) reply_data
   pub encoding : bytes ≡ kdc_reply_bytes under.exchange (kdc_reply_of under.exchange grant (ticket_of grant ticket_data) reply_data)
 
 -- there is one at most
 pub sole_ticket_reply : (grant : Grant) (under : ReplyKeyRecord) (service : AccountRecord) (random : Random) (a b : Bytes)
     → IsTicketReply grant under service random a → IsTicketReply grant under service random b → a ≡ b
 sole_ticket_reply grant under service random a b x y =
-    let ticket = sole_sealed_data service 2 (ticket_confounder random) (ticket_part_bytes (ticket_part grant)) x.ticket_data y.ticket_data x.ticket_sealed y.ticket_sealed in
-    let reply = sole_sealed_reply under (reply_confounder random) (reply_part_bytes under.exchange (reply_part grant)) x.reply_data y.reply_data x.reply_sealed y.reply_sealed in
+    let ticket = sole_sealed_data service 2 (ticket_confounder (cipher_confounder_size service.suite) random) (ticket_part_bytes (ticket_part grant)) x.ticket_data y.ticket_data x.ticket_sealed y.ticket_sealed in
+    let reply = sole_sealed_reply under (reply_confounder (cipher_confounder_size under.suite) random) (reply_part_bytes under.exchange (reply_part grant)) x.reply_data y.reply_data x.reply_sealed y.reply_sealed in
     x.encoding
     ∙ ap (λ d. kdc_reply_bytes under.exchange (kdc_reply_of under.exchange grant (ticket_of grant d) x.reply_data)) ticket
     ∙ ap (λ d. kdc_reply_bytes under.exchange (kdc_reply_of under.exchange grant (ticket_of grant y.ticket_data) d)) reply

@@ -5,8 +5,9 @@ ghost use Rattle.std.specs.Prelude.{◌≤◌, length, IfOk};
 ghost use Rattle.krb_grants.specs.Granted.{IsTicketReply, reply_key_of};
 
 use krb_accounts::Account;
+use krb_sealing::confounder_at;
 use krb_tickets::{Grant, ReplyKey, reply_bytes, sealed_reply, sealed_ticket};
-use krb_types::constants::random_bytes::{CONFOUNDER_SIZE, REPLY_CONFOUNDER, TICKET_CONFOUNDER};
+use krb_types::constants::random_bytes::{REPLY_CONFOUNDER, TICKET_CONFOUNDER};
 use std::alloc::{AllocError, Global};
 
 /// The reply with the ticket (RFC 4120, section 5.4.2): the ticket's part under the service's key, with its number, and the
@@ -22,18 +23,10 @@ pub fn ticket_reply(
     requires { 128 ≤ length words.now }
     ensures { IfOk result (λ bytes. IsTicketReply grant.now (reply_key_of under.now) service.now words.now bytes.items) }
 {
-    let ticket = sealed_ticket(
-        alloc,
-        grant,
-        service,
-        &words[TICKET_CONFOUNDER..TICKET_CONFOUNDER + CONFOUNDER_SIZE],
-    )?;
-    let part = sealed_reply(
-        alloc,
-        grant,
-        under,
-        &words[REPLY_CONFOUNDER..REPLY_CONFOUNDER + CONFOUNDER_SIZE],
-    )?;
+    let confounder = confounder_at(service.suite(), words, TICKET_CONFOUNDER);
+    let ticket = sealed_ticket(alloc, grant, service, confounder)?;
+    let confounder = confounder_at(under.suite, words, REPLY_CONFOUNDER);
+    let part = sealed_reply(alloc, grant, under, confounder)?;
     let bytes = reply_bytes(alloc, under.exchange, grant, ticket, part)?;
     Ok(bytes)
 }

@@ -5,7 +5,7 @@ use Rattle.std.specs.Cmp.Lexicographic.{pointwise}
 use Rattle.hex.specs.Hex.{decode_of}
 use Rattle.toml.specs.Data.{Data, string, integer, array, Items, Members, no_members, member, get_member}
 use Rattle.krb_crypto.specs.declared.suite.CipherSuite.{CipherSuite}
-use Rattle.krb_crypto.specs.declared.suite.CipherSuite.TheVariants.{Aes128CtsHmacSha196, Aes256CtsHmacSha196}
+use Rattle.krb_crypto.specs.declared.suite.CipherSuite.TheVariants.{Aes128CtsHmacSha196, Aes256CtsHmacSha196, Des3CbcSha1Kd}
 use Rattle.krb_settings.specs.Steps.{◌>>=◌}
 use Rattle.krb_settings.specs.declared.field.Field.{Field}
 use Rattle.krb_settings.specs.declared.field.Field.TheVariants.{Account, Key, Lifetime, Name, Password, Realm, Skew, Suite}
@@ -65,11 +65,12 @@ text_at field document = value_at field document >>= text_of field
 abbrev pub natural_at : Field → Members → Result ℕ TableFault
 natural_at field document = value_at field document >>= natural_of field
 
--- the suites by their names (RFC 3962, section 7)
+-- the suites by their names (RFC 3961, section 6.3; RFC 3962, section 7)
 abbrev pub suite_named : List ℕ → Result CipherSuite TableFault
 suite_named name =
     if pointwise nat_eq name (codes "aes128-cts-hmac-sha1-96") then Ok Aes128CtsHmacSha196
-    else (if pointwise nat_eq name (codes "aes256-cts-hmac-sha1-96") then Ok Aes256CtsHmacSha196 else Err UnknownSuite)
+    else (if pointwise nat_eq name (codes "aes256-cts-hmac-sha1-96") then Ok Aes256CtsHmacSha196
+    else (if pointwise nat_eq name (codes "des3-cbc-sha1-kd") then Ok Des3CbcSha1Kd else Err UnknownSuite))
 
 abbrev pub suite_at : Members → Result CipherSuite TableFault
 suite_at document = text_at Suite document >>= suite_named

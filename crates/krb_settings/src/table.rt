@@ -98,7 +98,7 @@ pub(crate) fn natural_at(table: &Table, field: Field) -> Result<u64, TableFault>
     natural_of(field, value_at(table, field)?)
 }
 
-// The suite of this name (RFC 3962, section 7).
+// The suite of this name (RFC 3961, section 6.3; RFC 3962, section 7).
 fn suite_named(name: &str) -> Result<CipherSuite, TableFault>
     ensures { result ≡ suite_named name.now }
 {
@@ -107,6 +107,9 @@ fn suite_named(name: &str) -> Result<CipherSuite, TableFault>
     }
     if name == "aes256-cts-hmac-sha1-96" {
         return Ok(CipherSuite::Aes256CtsHmacSha196);
+    }
+    if name == "des3-cbc-sha1-kd" {
+        return Ok(CipherSuite::Des3CbcSha1Kd);
     }
     Err(TableFault::UnknownSuite)
 }

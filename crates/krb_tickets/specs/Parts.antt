@@ -4,13 +4,14 @@ use Rattle.picky_asn1.specs.BitString.{Bits}
 use Rattle.picky_asn1.specs.Bytes.{Bytes}
 use Rattle.asn1_leaves.specs.declared.date.GeneralizedTime.{GeneralizedTime}
 use Rattle.krb_crypto.specs.declared.suite.CipherSuite.{CipherSuite}
-use Rattle.krb_crypto.specs.Suites.{cipher_key_size}
+use Rattle.krb_crypto.specs.Sealing.{seed_key_of}
+use Rattle.krb_crypto.specs.Suites.{cipher_seed_size}
 use Rattle.krb_types.specs.declared.data_types.encrypted_data.EncryptedData.{EncryptedData}
 use Rattle.krb_types.specs.declared.data_types.enc_ticket_part.EncTicketPartInner.{EncTicketPartInner}
 use Rattle.krb_types.specs.declared.data_types.last_req.LastReqInner.{LastReqInner}
 use Rattle.krb_types.specs.declared.data_types.ticket.TicketInner.{TicketInner}
 use Rattle.krb_types.specs.declared.data_types.transited_encoding.TransitedEncoding.{TransitedEncoding}
-use Rattle.krb_types.specs.RandomBytes.{Random, session_key_bytes}
+use Rattle.krb_types.specs.RandomBytes.{Random, session_seed}
 use Rattle.krb_messages.specs.declared.messages.kdc_rep.KdcRep.{KdcRep}
 use Rattle.krb_messages.specs.declared.messages.enc_kdc_rep_part.EncKdcRepPart.{EncKdcRepPart}
 use Rattle.krb_sealing.specs.Sealing.{encryption_key}
@@ -19,9 +20,9 @@ use Rattle.krb_tickets.specs.declared.grant.TicketFlags.{TicketFlags}
 use Rattle.krb_tickets.specs.declared.reply.Exchange.{Exchange}
 use Rattle.krb_tickets.specs.declared.reply.Exchange.TheVariants.{As, Tgs}
 
--- the session's key
+-- the session's key: that of a seed
 abbrev pub session_key_of : CipherSuite → Random → Bytes
-session_key_of suite random = session_key_bytes (cipher_key_size suite) random
+session_key_of suite random = seed_key_of suite (session_seed (cipher_seed_size suite) random)
 
 -- initial is bit 9 of 32, and preauthenticated bit 10 (RFC 4120, section 5.3)
 abbrev pub flags_octet : TicketFlags → ℕ

@@ -1,5 +1,6 @@
 //! What a ticket is granted with, and the sealed ticket.
 ghost use Rattle.std.specs.Prelude.{◌≡◌, length, IfOk};
+ghost use Rattle.krb_crypto.specs.Suites.{cipher_confounder_size};
 ghost use Rattle.krb_tickets.specs.Sealed.{IsSealedData, ticket_part_bytes};
 ghost use Rattle.krb_tickets.specs.Parts.{ticket_of, ticket_part};
 
@@ -50,14 +51,14 @@ pub struct TicketFlags {
     pub pre_authenticated: bool,
 }
 
-/// The ticket's part under the service's key, behind the confounder of 16 bytes.
+/// The ticket's part under the service's key, behind the confounder.
 pub fn sealed_ticket(
     alloc: Global,
     grant: &Grant,
     service: &Account,
     confounder: &[u8],
 ) -> Result<EncryptedData, AllocError>
-    requires { length confounder.now ≡ 16 }
+    requires { length confounder.now ≡ cipher_confounder_size service.now.suite }
     ensures { IfOk result (IsSealedData service.now 2 confounder.now (ticket_part_bytes (ticket_part grant.now))) }
 {
     let part = ticket_part(alloc, grant)?;

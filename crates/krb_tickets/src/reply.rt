@@ -1,5 +1,6 @@
 //! The reply that a ticket is granted by, and the key that its own part is sealed under.
 ghost use Rattle.std.specs.Prelude.{◌≡◌, length, pos, IfOk};
+ghost use Rattle.krb_crypto.specs.Suites.{cipher_confounder_size};
 ghost use Rattle.krb_tickets.specs.Sealed.{IsSealedReply, kdc_reply_bytes, reply_part_bytes};
 ghost use Rattle.krb_tickets.specs.Parts.{kdc_reply_of, reply_part, reply_type, ticket_of};
 ghost use Rattle.krb_tickets.specs.ReplyKeys.{reply_key_of};
@@ -88,7 +89,7 @@ impl<'a> ReplyKey<'a> {
     }
 }
 
-/// The reply's part under the reply key, behind the confounder of 16 bytes. Under a key of the suite's length memory is the
+/// The reply's part under the reply key, behind the confounder. Under a key of the suite's length memory is the
 /// only refusal.
 pub fn sealed_reply(
     alloc: Global,
@@ -96,7 +97,7 @@ pub fn sealed_reply(
     under: &ReplyKey<'_>,
     confounder: &[u8],
 ) -> Result<EncryptedData, AllocError>
-    requires { length confounder.now ≡ 16 }
+    requires { length confounder.now ≡ cipher_confounder_size under.now.suite }
     ensures { IfOk result (IsSealedReply (reply_key_of under.now) confounder.now
         (reply_part_bytes under.now.exchange (reply_part grant.now))) }
 {
