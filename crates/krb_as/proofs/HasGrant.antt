@@ -7,9 +7,10 @@ use Rattle.krb_blocks.proofs.States.{IsBytes-drop, IsBytes-take}
 use Rattle.krb_moments.specs.Moment.{IsMoment}
 use Rattle.krb_crypto.specs.Suites.{cipher_confounder_size, cipher_key_size}
 use Rattle.krb_crypto.specs.declared.suite.CipherSuite.{CipherSuite}
-use Rattle.krb_crypto.specs.declared.suite.CipherSuite.TheVariants.{Aes128CtsHmacSha196, Aes256CtsHmacSha196}
+use Rattle.krb_crypto.specs.declared.suite.CipherSuite.TheVariants.{Aes128CtsHmacSha196, Aes256CtsHmacSha196, Des3CbcSha1Kd}
 use Rattle.krb_crypto.proofs.SealedTexts.{has_sealed}
 use Rattle.krb_accounts.specs.Account.{AccountRecord}
+use Rattle.krb_types.specs.RandomBytes.{random_part}
 use Rattle.krb_types.specs.declared.data_types.encrypted_data.EncryptedData.{EncryptedData}
 use Rattle.krb_messages.specs.declared.messages.kdc_req_body.KdcReqBody.{KdcReqBody}
 use Rattle.decision_tables.specs.Tables.{Table, done, refuse}
@@ -27,16 +28,18 @@ use Rattle.krb_as.specs.Requests.{IsSpan, is_ended, lasting, sole_span}
 use Rattle.krb_as.specs.declared.span.Span.{Span}
 use Rattle.krb_as.proofs.Seconds.{has_time}
 
--- sixteen of the random bytes
-block_of : (suite : CipherSuite) (from : ℕ) (random : List ℕ) → from + 16 ≤ length random → length (take 16 (drop from random)) ≡ cipher_confounder_size suite
+-- the front of a place of sixteen of the random bytes
+block_of : (suite : CipherSuite) (from : ℕ) (random : List ℕ) → from + 16 ≤ length random → length (random_part from (cipher_confounder_size suite) random) ≡ cipher_confounder_size suite
 block_of Aes128CtsHmacSha196 from random long = length-take-le 16 (drop from random) (omega (arith, length-drop from random))
 block_of Aes256CtsHmacSha196 from random long = length-take-le 16 (drop from random) (omega (arith, length-drop from random))
+block_of Des3CbcSha1Kd from random long = length-take-le 8 (drop from random) (omega (arith, length-drop from random))
 
 has_data : (suite : CipherSuite) (key : List ℕ) (number : Option ℕ) (usage from : ℕ) (random plain : List ℕ) → length key ≡ cipher_key_size suite → IsBytes key
-    → from + 16 ≤ length random → IsBytes random → IsBytes plain → (made : EncryptedData) × Seals suite key number usage (take 16 (drop from random)) plain made
+    → from + 16 ≤ length random → IsBytes random → IsBytes plain → (made : EncryptedData) × Seals suite key number usage (random_part from (cipher_confounder_size suite) random) plain made
 has_data suite key number usage from random plain sized key_bytes long random_bytes plain_bytes =
-    let made = has_sealed suite key usage (take 16 (drop from random)) plain sized key_bytes (block_of suite from random long)
-    (IsBytes-take 16 (drop from random) (IsBytes-drop from random random_bytes)) plain_bytes in
+    let size = cipher_confounder_size suite in
+    let made = has_sealed suite key usage (random_part from size random) plain sized key_bytes (block_of suite from random long)
+    (IsBytes-take size (drop from random) (IsBytes-drop from random random_bytes)) plain_bytes in
     (encrypted_by suite number made.0, record { cipher = made.0; seals = made.1; told = refl })
 
 has_ticket_reply : (grant : Grant) (under : ReplyKeyRecord) (service : AccountRecord) (random : List ℕ) → length under.key ≡ cipher_key_size under.suite → IsBytes under.key → IsKeyed service

@@ -12,9 +12,10 @@ use krb_accounts::{Account, Accounts, Settings};
 use krb_crypto::CipherSuite;
 use krb_messages::messages::{KdcReq, KdcReqBody};
 use krb_moments::Moment;
+use krb_sealing::key_at;
 use krb_tickets::{end_of, start_of};
 use krb_types::constants::error_codes;
-use krb_types::constants::random_bytes::SESSION_KEY;
+use krb_types::constants::random_bytes::SESSION_SEED;
 use krb_types::constants::types::KERBEROS_VERSION;
 use krb_types::data_types::{PaData, PrincipalName};
 use krb_types::{Refusal, is_same_realm};
@@ -125,7 +126,7 @@ fn is_ended(span: Span) -> bool
     span.until.seconds() <= span.start.seconds()
 }
 
-/// The key of a session, of this suite: random bytes in their place.
+/// The key of a session, of this suite: that of its seed among the random bytes.
 pub fn session_key(
     alloc: Global,
     suite: CipherSuite,
@@ -134,6 +135,5 @@ pub fn session_key(
     requires { 128 ≤ length words.now }
     ensures { IfOk result (λ key. key ≡ session_key_of suite words.now) }
 {
-    let key = Vec::from_slice(alloc, &words[SESSION_KEY..SESSION_KEY + suite.key_size()])?;
-    Ok(OctetStringAsn1::from(key))
+    key_at(alloc, suite, words, SESSION_SEED)
 }

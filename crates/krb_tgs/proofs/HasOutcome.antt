@@ -35,7 +35,7 @@ use Rattle.krb_as.specs.declared.span.Span.{Span}
 use Rattle.krb_as.proofs.HasGrant.{has_lasting, has_replied, lasts}
 use Rattle.krb_as.proofs.HasOutcome.{has_address}
 use Rattle.krb_ap.specs.ApTable.{ap_fields, authenticated, is_early, is_for, is_late, is_version_5, may_be_under, opened_part, timely}
-use Rattle.krb_ap.proofs.Accepted.{suite_sized}
+use Rattle.krb_opening.proofs.KeySizes.{suite_sized}
 use Rattle.krb_ap.proofs.Judgements.{has_authenticated, has_fields, has_opened_part, has_times}
 use Rattle.krb_tgs.specs.ByTicket.{AreFurtherWritten, IsByTicket}
 use Rattle.krb_tgs.specs.TgsTable.{carried, checksum_in, counting, covered, first_known, further, further_ticket, has_account, is_known_checksum, is_of_body, of_carried, of_shown, of_ticket, reply_key, shown_near, subkey_in, tgs_granted, tgs_table, ticket_granting, to_us}

@@ -11,7 +11,7 @@ use Rattle.picky_asn1.specs.Numbers.{is_number}
 use Rattle.picky_asn1.specs.Bytes.{Bytes}
 use Rattle.krb_moments.specs.Skew.{is_far}
 use Rattle.krb_crypto.specs.declared.suite.CipherSuite.{CipherSuite}
-use Rattle.krb_crypto.specs.declared.suite.CipherSuite.TheVariants.{Aes128CtsHmacSha196, Aes256CtsHmacSha196}
+use Rattle.krb_crypto.specs.declared.suite.CipherSuite.TheVariants.{Aes128CtsHmacSha196, Aes256CtsHmacSha196, Des3CbcSha1Kd}
 use Rattle.krb_crypto.specs.declared.suite.ChecksumSuite.{ChecksumSuite}
 use Rattle.krb_crypto.specs.Sealing.{checksum_of}
 use Rattle.krb_crypto.specs.Suites.{checksum_number, cipher_checksum, cipher_number}
@@ -82,9 +82,9 @@ shown_near call part presented =
 abbrev pub checksum_in : AuthenticatorInner → Option Checksum
 checksum_in authenticator = option_map (λ tagged. tagged.0) authenticator.cksum.0
 
--- the type is that of a checksum of AES (RFC 3962, section 7)
+-- the type is that of a suite's checksum: of triple DES (RFC 3961, section 6.3.2), or of AES (RFC 3962, section 7)
 abbrev pub is_known_checksum : ℤ → Bool
-is_known_checksum kind = is_number 15 kind || is_number 16 kind
+is_known_checksum kind = is_number 12 kind || is_number 15 kind || is_number 16 kind
 
 -- the one encoding of a request's body
 unfoldable pub body_bytes : KdcReqBody → Bytes
@@ -107,7 +107,8 @@ covered suite key authenticator body =
 abbrev pub suite_numbered : ℤ → Option CipherSuite
 suite_numbered number =
     if is_number (cipher_number Aes128CtsHmacSha196) number then Some Aes128CtsHmacSha196
-    else (if is_number (cipher_number Aes256CtsHmacSha196) number then Some Aes256CtsHmacSha196 else None)
+    else (if is_number (cipher_number Aes256CtsHmacSha196) number then Some Aes256CtsHmacSha196
+    else (if is_number (cipher_number Des3CbcSha1Kd) number then Some Des3CbcSha1Kd else None))
 
 -- the first number, in the client's order, that is a suite's
 abbrev pub first_number : List ℤ → Option ℤ

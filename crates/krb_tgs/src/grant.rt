@@ -81,13 +81,17 @@ fn is_suite(number: &IntegerAsn1) -> bool
 fn suite_numbered(number: &IntegerAsn1) -> Option<CipherSuite>
     ensures { result ≡ suite_numbered number.now }
 {
-    let short = CipherSuite::Aes128CtsHmacSha196;
-    if is_number(number, u32::from(&short)) {
-        return Some(short);
+    let aes128 = CipherSuite::Aes128CtsHmacSha196;
+    if is_number(number, u32::from(&aes128)) {
+        return Some(aes128);
     }
-    let long = CipherSuite::Aes256CtsHmacSha196;
-    if is_number(number, u32::from(&long)) {
-        return Some(long);
+    let aes256 = CipherSuite::Aes256CtsHmacSha196;
+    if is_number(number, u32::from(&aes256)) {
+        return Some(aes256);
+    }
+    let des3 = CipherSuite::Des3CbcSha1Kd;
+    if is_number(number, u32::from(&des3)) {
+        return Some(des3);
     }
     None
 }
