@@ -2,20 +2,19 @@
 use Rattle.std.proofs.Common.{◌≡◌, ℕ, Bool, true, false, not, ◌&&◌, List, length, Option, None, Some, Result, Ok, refl, sym, ap, subst, ◌∙◌, inl, if◌then◌else◌}
 use Rattle.std.specs.Prelude.{ℤ}
 use Rattle.std.specs.Option.{option_map, option_map_or}
-use Rattle.std.proofs.lemmas.Bool.{and_parts, eqb-true}
 use Rattle.asn1_trees.specs.Tree.{Tree}
 use Rattle.picky_asn1_der.specs.declared.wrapper.ExplicitContextTag.{ExplicitContextTag}
 use Rattle.picky_asn1.specs.BitString.{bit_of}
 use Rattle.picky_asn1.specs.GeneralizedTime.{seconds_of}
-use Rattle.krb_crypto.specs.Sealing.{IsAesSealed}
+use Rattle.krb_crypto.specs.Sealing.{IsSealedBy}
 use Rattle.krb_crypto.specs.Suites.{cipher_key_size, cipher_number}
 use Rattle.krb_crypto.specs.declared.suite.CipherSuite.{CipherSuite}
-use Rattle.krb_crypto.specs.declared.suite.CipherSuite.TheVariants.{Aes128CtsHmacSha196, Aes256CtsHmacSha196}
 use Rattle.krb_types.specs.declared.data_types.authenticator.AuthenticatorInner.{AuthenticatorInner}
 use Rattle.krb_types.specs.declared.data_types.encrypted_data.EncryptedData.{EncryptedData}
 use Rattle.krb_types.specs.declared.data_types.encryption_key.EncryptionKey.{EncryptionKey}
 use Rattle.krb_types.specs.declared.data_types.enc_ticket_part.EncTicketPartInner.{EncTicketPartInner}
-use Rattle.krb_opening.specs.Keys.{is_key_of, suite_of}
+use Rattle.krb_opening.specs.Keys.{suite_of}
+use Rattle.krb_opening.proofs.KeySizes.{suite_sized}
 use Rattle.krb_types.specs.Names.{components, is_same_name, is_same_realm}
 use Rattle.picky_asn1.specs.Numbers.{is_number}
 use Rattle.decision_tables.specs.Tables.{Table, and_then, done, need, refuse}
@@ -30,6 +29,7 @@ use Rattle.krb_ap.specs.Presents.{Choice, Presents, SealsTo, encrypted, request_
 use Rattle.krb_ap.specs.Received.{Receives}
 use Rattle.krb_ap.specs.declared.presented.Authenticated.{Authenticated}
 use Rattle.krb_ap.proofs.Shown.{asked}
+use Rattle.krb_ap.proofs.Suites.{suite_by_size}
 
 -- a key's number by its tagged form, and the other way
 under_number : (number : ℕ) (etype : ℤ) (kvno : Option ℤ) (cipher : List ℕ) → may_be_under number (encrypted etype kvno cipher) ≡ option_map_or (is_number number) kvno true
@@ -62,7 +62,7 @@ is_addressed entry skew moment choice part_cipher cipher x =
     address_rows (bit_of choice.outer.options 1) (is_number (cipher_number entry.suite) choice.outer.part_etype)
     (ap_fields entry.realm entry.components entry.number (request_of choice.outer part_cipher cipher)) x.method x.part_etype fields
 
--- what is sealed by the suite that the key fits is sealed by the suite of this size
+-- what is sealed by the suite that the key fits is sealed by this suite, which it fits
 own_suite : {T : Type 0} (tree : T → Tree) (suite : CipherSuite) (key : List ℕ) (usage : ℕ) (confounder : List ℕ) (value : T) (etype : ℤ) (kvno : Option ℤ) (cipher : List ℕ)
     → length key ≡ cipher_key_size suite → is_number (cipher_number suite) etype ≡ true → SealsTo {T = T} tree key usage confounder value cipher
     → IsSealedIn {T = T} tree suite key usage (encrypted etype kvno cipher) value
@@ -72,24 +72,9 @@ own_suite tree suite key usage confounder value etype kvno cipher sized numbered
     conf = confounder;
     plain = x.plain;
     writes = x.writes;
-    sealed = (suite, refl, subst (λ n. IsAesSealed n key usage confounder x.plain cipher) (sym x.sealed.key_sized ∙ sized) x.sealed);
+    sealed = (suite, refl, subst (λ s. IsSealedBy s key usage confounder x.plain cipher) (suite_by_size x.suite suite (sym x.sealed.key_sized ∙ sized)) x.sealed);
   };
 }
-
--- a key of a suite has as many bytes as the suite's keys
-sized_if : (short long : Bool) (n : ℕ) (suite : CipherSuite) → (short ≡ true → n ≡ 16) → (long ≡ true → n ≡ 32)
-    → (let found : Option CipherSuite = if short then Some Aes128CtsHmacSha196 else (if long then Some Aes256CtsHmacSha196 else None) in found ≡ Some suite) → n ≡ cipher_key_size suite
-sized_if true long n suite f g e = let same : Aes128CtsHmacSha196 ≡ suite = cc (e) in f refl ∙ ap cipher_key_size same
-sized_if false true n suite f g e = let same : Aes256CtsHmacSha196 ≡ suite = cc (e) in g refl ∙ ap cipher_key_size same
-sized_if false false n suite f g e = absurd (cc (e))
-
-has_size : (suite : CipherSuite) (key : EncryptionKey) → is_key_of suite key ≡ true → length key.key_value.0 ≡ cipher_key_size suite
-has_size suite key e = eqb-true (length key.key_value.0) (cipher_key_size suite) ((and_parts _ _ e).1)
-
-pub suite_sized : (key : EncryptionKey) (suite : CipherSuite) → suite_of key ≡ Some suite → length key.key_value.0 ≡ cipher_key_size suite
-suite_sized key suite e =
-    sized_if (is_key_of Aes128CtsHmacSha196 key) (is_key_of Aes256CtsHmacSha196 key) (length key.key_value.0) suite
-    (has_size Aes128CtsHmacSha196 key) (has_size Aes256CtsHmacSha196 key) e
 
 -- past a value that is there
 needed_is : {A T : Type 0} (option : Option A) (code : ℕ) (rest : A → Table (Result T ℕ)) (a : A) (r : Result T ℕ) → option ≡ Some a → (rest a).gives r

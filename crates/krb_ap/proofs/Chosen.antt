@@ -7,7 +7,7 @@ use Rattle.picky_asn1.specs.BitString.{bit_of}
 use Rattle.picky_asn1.specs.GeneralizedTime.{seconds_of}
 use Rattle.krb_crypto.specs.Suites.{cipher_key_size, cipher_number}
 use Rattle.krb_crypto.specs.declared.suite.CipherSuite.{CipherSuite}
-use Rattle.krb_crypto.specs.declared.suite.CipherSuite.TheVariants.{Aes128CtsHmacSha196, Aes256CtsHmacSha196}
+use Rattle.krb_crypto.proofs.SealingLemmas.{same_suite}
 use Rattle.krb_types.specs.declared.data_types.authenticator.AuthenticatorInner.{AuthenticatorInner}
 use Rattle.krb_types.specs.declared.data_types.encrypted_data.EncryptedData.{EncryptedData}
 use Rattle.krb_types.specs.declared.data_types.encryption_key.EncryptionKey.{EncryptionKey}
@@ -105,13 +105,6 @@ number_under : (number : ℕ) (kvno : Option (ExplicitContextTag 1 ℤ))
 number_under number None = refl
 number_under number (Some tagged) = refl
 
--- what a suite's number names has one size of keys
-one_size : (s t : CipherSuite) → cipher_number s ≡ cipher_number t → cipher_key_size s ≡ cipher_key_size t
-one_size Aes128CtsHmacSha196 Aes128CtsHmacSha196 e = refl
-one_size Aes128CtsHmacSha196 Aes256CtsHmacSha196 e = absurd (omega (arith, e))
-one_size Aes256CtsHmacSha196 Aes128CtsHmacSha196 e = absurd (omega (arith, e))
-one_size Aes256CtsHmacSha196 Aes256CtsHmacSha196 e = refl
-
 -- what a ticket's part has that counts
 record IsValidSo (suite : CipherSuite) (key : List ℕ) (skew moment : ℕ) (sealed : EncryptedData) (part : EncTicketPartInner) : Type 0 where
   found : IsTicketPart suite key sealed part
@@ -186,7 +179,7 @@ chosen_of entry skew moment bytes request part a p read address valid x made =
         authenticator = seals authenticator_tree a.suite part.key.0.key_value.0 11 request.authenticator.0 a.authenticator x.found;
       };
       acceptable = record {
-        keyed = valid.found.opens.sealed.2.key_sized ∙ one_size valid.found.opens.sealed.0 entry.suite valid.found.opens.sealed.1;
+        keyed = valid.found.opens.sealed.2.key_sized ∙ ap cipher_key_size (same_suite valid.found.opens.sealed.0 entry.suite valid.found.opens.sealed.1);
         method = rows.method_is;
         version = rows.version_is;
         ticket_version = rows.ticket_is;

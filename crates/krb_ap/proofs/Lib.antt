@@ -1,5 +1,6 @@
 pub mod Tagged
 pub mod Judged
+mod Suites
 pub mod Presentations
 pub mod Shown
 pub mod Short

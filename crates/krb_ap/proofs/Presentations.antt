@@ -4,32 +4,42 @@ use Rattle.std.specs.Prelude.{ℤ}
 use Rattle.std.specs.Option.{option_map}
 use Rattle.asn1_trees.specs.Tree.{Tree, der}
 use Rattle.asn1_trees.proofs.Spelling.{IsInjective}
-use Rattle.krb_crypto.specs.Sealing.{IsAesSealed}
-use Rattle.krb_crypto.specs.Suites.{cipher_key_size, cipher_number}
-use Rattle.krb_crypto.proofs.SealingLemmas.{one_sealed, one_string}
+use Rattle.krb_crypto.specs.Sealing.{IsSealedBy}
+use Rattle.krb_crypto.specs.Suites.{cipher_number}
+use Rattle.krb_crypto.proofs.SealingLemmas.{one_opening, one_string}
+use Rattle.krb_opening.specs.Opens.{Opens, sole_opens}
 use Rattle.krb_types.specs.declared.data_types.authenticator.AuthenticatorInner.{AuthenticatorInner}
 use Rattle.krb_types.specs.declared.data_types.encrypted_data.EncryptedData.{EncryptedData}
 use Rattle.krb_types.specs.declared.data_types.enc_ticket_part.EncTicketPartInner.{EncTicketPartInner}
 use Rattle.krb_messages.specs.declared.messages.ap_req.ApReqInner.{ApReqInner}
 use Rattle.krb_messages.specs.Messages.{ap_req_tree, authenticator-injective, authenticator_tree, enc_ticket_part-injective, enc_ticket_part_tree, sole_ap_req}
+use Rattle.krb_ap.proofs.Suites.{suite_by_size}
 use Rattle.krb_ap.specs.Presents.{Choice, Outer, Presents, SealsTo, encrypted, request_of}
 
--- a ciphertext has one value and one confounder
-one_value : {T : Type 0} (tree : T → Tree) → IsInjective {T = T} tree → (key : List ℕ) (usage : ℕ) (c d : List ℕ) (v w : T) (cipher : List ℕ)
-    → SealsTo {T = T} tree key usage c v cipher → SealsTo {T = T} tree key usage d w cipher → (c ≡ d) × (v ≡ w)
-one_value tree injective key usage c d v w cipher x y =
-    let same = one_sealed (cipher_number x.suite) (cipher_number y.suite) key usage c x.plain d y.plain cipher (x.suite, refl, x.sealed) (y.suite, refl, y.sealed) in
-    (same.0, injective v w x.writes.0 y.writes.0 (sym x.writes.1 ∙ same.1 ∙ y.writes.1))
+module _ {T : Type 0} (tree : T → Tree) (key : List ℕ) (usage : ℕ) where
+  -- what one key seals is sealed by one suite
+  by_one_suite : (c d : List ℕ) (v w : T) (a b : List ℕ) (x : SealsTo {T = T} tree key usage c v a) (y : SealsTo {T = T} tree key usage d w b)
+      → IsSealedBy y.suite key usage c x.plain a
+  by_one_suite c d v w a b x y =
+      subst (λ suite. IsSealedBy suite key usage c x.plain a) (suite_by_size x.suite y.suite (sym x.sealed.key_sized ∙ y.sealed.key_sized)) x.sealed
 
--- a value and a confounder have one ciphertext
-one_cipher : {T : Type 0} (tree : T → Tree) (key : List ℕ) (usage : ℕ) (confounder : List ℕ) (value : T) (c d : List ℕ)
-    → SealsTo {T = T} tree key usage confounder value c → SealsTo {T = T} tree key usage confounder value d → c ≡ d
-one_cipher tree key usage confounder value c d x y =
-    let sized : cipher_key_size x.suite ≡ cipher_key_size y.suite = sym x.sealed.key_sized ∙ y.sealed.key_sized in
-    let plain : x.plain ≡ y.plain = x.writes.1 ∙ sym y.writes.1 in
-    let first = subst (λ n. IsAesSealed n key usage confounder x.plain c) sized x.sealed in
-    let moved = subst (λ p. IsAesSealed (cipher_key_size y.suite) key usage confounder p c) plain first in
-    one_string (cipher_key_size y.suite) key usage confounder y.plain c d moved y.sealed
+  -- a ciphertext has one value and one confounder
+  one_value : IsInjective {T = T} tree → (c d : List ℕ) (v w : T) (cipher : List ℕ)
+      → SealsTo {T = T} tree key usage c v cipher → SealsTo {T = T} tree key usage d w cipher → (c ≡ d) × (v ≡ w)
+  one_value injective c d v w cipher x y =
+      let number : ℕ = cipher_number y.suite in
+      let moved = by_one_suite c d v w cipher cipher x y in
+      let first : Opens {T = T} tree number key usage cipher v = record { conf = c; plain = x.plain; writes = x.writes; sealed = (y.suite, refl, moved) } in
+      let second : Opens {T = T} tree number key usage cipher w = record { conf = d; plain = y.plain; writes = y.writes; sealed = (y.suite, refl, y.sealed) } in
+      ((one_opening y.suite key usage c x.plain d y.plain cipher moved y.sealed).0, sole_opens {T = T} tree injective number key usage cipher v w first second)
+
+  -- a value and a confounder have one ciphertext
+  one_cipher : (confounder : List ℕ) (value : T) (c d : List ℕ)
+      → SealsTo {T = T} tree key usage confounder value c → SealsTo {T = T} tree key usage confounder value d → c ≡ d
+  one_cipher confounder value c d x y =
+      let plain : x.plain ≡ y.plain = x.writes.1 ∙ sym y.writes.1 in
+      let moved = subst (λ p. IsSealedBy y.suite key usage confounder p c) plain (by_one_suite confounder confounder value value c d x y) in
+      one_string y.suite key usage confounder y.plain c d moved y.sealed
 
 -- a key's number as it is told
 abbrev pub told : EncryptedData → Option ℤ
@@ -87,10 +97,10 @@ one_presentation key bytes a b x y =
     let outer : a.outer ≡ b.outer = sym (outer-request a.outer x.part_cipher x.cipher) ∙ ap outer_of request ∙ outer-request b.outer y.part_cipher y.cipher in
     let part_cipher : x.part_cipher ≡ y.part_cipher = ap (λ (r : ApReqInner). r.ticket.0.0.enc_part.0.cipher.0) request in
     let cipher : x.cipher ≡ y.cipher = ap (λ (r : ApReqInner). r.authenticator.0.cipher.0) request in
-    let part = one_value enc_ticket_part_tree enc_ticket_part-injective key 2 a.part_confounder b.part_confounder a.part b.part y.part_cipher
+    let part = one_value enc_ticket_part_tree key 2 enc_ticket_part-injective a.part_confounder b.part_confounder a.part b.part y.part_cipher
     (subst (λ c. SealsTo {T = EncTicketPartInner} enc_ticket_part_tree key 2 a.part_confounder a.part c) part_cipher x.part) y.part in
     let under = subst (λ (p : EncTicketPartInner). SealsTo {T = AuthenticatorInner} authenticator_tree p.key.0.key_value.0 11 a.confounder a.authenticator x.cipher) part.1 x.authenticator in
-    let own = one_value authenticator_tree authenticator-injective b.part.key.0.key_value.0 11 a.confounder b.confounder a.authenticator b.authenticator y.cipher
+    let own = one_value authenticator_tree b.part.key.0.key_value.0 11 authenticator-injective a.confounder b.confounder a.authenticator b.authenticator y.cipher
     (subst (λ c. SealsTo {T = AuthenticatorInner} authenticator_tree b.part.key.0.key_value.0 11 a.confounder a.authenticator c) cipher under) y.authenticator in
     λ i. record { outer = outer i; part = part.1 i; part_confounder = part.0 i; authenticator = own.1 i; confounder = own.0 i }
 

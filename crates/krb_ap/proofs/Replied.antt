@@ -9,7 +9,7 @@ use Rattle.krb_blocks.specs.Bytes.{IsBytes}
 use Rattle.krb_blocks.proofs.States.{IsBytes-take}
 use Rattle.krb_crypto.specs.Suites.{cipher_confounder_size, cipher_key_size}
 use Rattle.krb_crypto.specs.declared.suite.CipherSuite.{CipherSuite}
-use Rattle.krb_crypto.specs.declared.suite.CipherSuite.TheVariants.{Aes128CtsHmacSha196, Aes256CtsHmacSha196}
+use Rattle.krb_crypto.specs.declared.suite.CipherSuite.TheVariants.{Aes128CtsHmacSha196, Aes256CtsHmacSha196, Des3CbcSha1Kd}
 use Rattle.krb_crypto.proofs.SealedTexts.{has_sealed}
 use Rattle.krb_types.specs.declared.data_types.authenticator.AuthenticatorInner.{AuthenticatorInner}
 use Rattle.krb_moments.specs.Times.{moment_at}
@@ -19,7 +19,7 @@ use Rattle.krb_ap.specs.ApReply.{IsReply, IsReplyTo, ap_rep_of, ap_rep_part}
 use Rattle.krb_ap.specs.Entry.{EntryRecord}
 use Rattle.krb_messages.specs.Messages.{enc_ap_rep_part_tree, ap_rep_tree}
 use Rattle.krb_ap.specs.Presents.{Choice}
-use Rattle.krb_ap.proofs.Accepted.{suite_sized}
+use Rattle.krb_opening.proofs.KeySizes.{suite_sized}
 use Rattle.krb_ap.proofs.Short.{part_bytes}
 
 -- the microseconds of a time are part of a second
@@ -31,15 +31,18 @@ micros_of second (pos micros) time e =
       | inr many ↦ (let past : nat_lt micros 1000000 ≡ false = grind (arith, many) in let none = rw past at e in absurd (cc (none)))
     ]
 
-first_block : (suite : CipherSuite) (words : List ℕ) → 16 ≤ length words → length (take 16 words) ≡ cipher_confounder_size suite
+-- the first of sixteen random bytes
+first_block : (suite : CipherSuite) (words : List ℕ) → 16 ≤ length words → length (take (cipher_confounder_size suite) words) ≡ cipher_confounder_size suite
 first_block Aes128CtsHmacSha196 words long = length-take-le 16 words long
 first_block Aes256CtsHmacSha196 words long = length-take-le 16 words long
+first_block Des3CbcSha1Kd words long = length-take-le 8 words (omega (arith, long))
 
 has_wanted : (wanted : Bool) (words : List ℕ) (suite : CipherSuite) (key : List ℕ) (authenticator : AuthenticatorInner) → length key ≡ cipher_key_size suite → IsBytes key
     → 16 ≤ length words → IsBytes words → IsBytes (der (enc_ap_rep_part_tree (ap_rep_part authenticator))) → (reply : Option (List ℕ)) × IsReply wanted words suite key authenticator reply
 has_wanted false words suite key authenticator sized key_bytes long words_bytes part = (None, refl)
 has_wanted true words suite key authenticator sized key_bytes long words_bytes part =
-    let made = has_sealed suite key 12 (take 16 words) (der (enc_ap_rep_part_tree (ap_rep_part authenticator))) sized key_bytes (first_block suite words long) (IsBytes-take 16 words words_bytes) part in
+    let size = cipher_confounder_size suite in
+    let made = has_sealed suite key 12 (take size words) (der (enc_ap_rep_part_tree (ap_rep_part authenticator))) sized key_bytes (first_block suite words long) (IsBytes-take size words words_bytes) part in
     let part = encrypted_by suite None made.0 in
     (Some (der (ap_rep_tree (ap_rep_of part))), record { part = part; sealed = record { cipher = made.0; seals = made.1; told = refl }; encoding = refl })
 

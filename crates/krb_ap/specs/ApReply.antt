@@ -3,6 +3,7 @@ use Rattle.std.specs.Prelude.{◌≡◌, Bool, true, false, Option, None, Some, 
 use Rattle.std.proofs.Common.{ap, sym, ◌∙◌}
 use Rattle.picky_asn1.specs.Bytes.{Bytes}
 use Rattle.asn1_trees.specs.Tree.{der}
+use Rattle.krb_crypto.specs.Suites.{cipher_confounder_size}
 use Rattle.krb_crypto.specs.declared.suite.CipherSuite.{CipherSuite}
 use Rattle.krb_types.specs.declared.data_types.authenticator.AuthenticatorInner.{AuthenticatorInner}
 use Rattle.krb_types.specs.declared.data_types.enc_ap_rep_part.EncApRepPartInner.{EncApRepPartInner}
@@ -42,18 +43,18 @@ sole_reply_under suite key confounder authenticator a b x y =
     let same = sole_seals suite key None 12 confounder (der (enc_ap_rep_part_tree (ap_rep_part authenticator))) x.part y.part x.sealed y.sealed in
     x.encoding ∙ ap (λ part. der (ap_rep_tree (ap_rep_of part))) same ∙ sym y.encoding
 
--- the reply where one is wanted, with the first 16 of the random bytes as confounder
+-- the reply where one is wanted, with the first of the random bytes as confounder
 abbrev pub IsReply : Bool → Random → CipherSuite → Bytes → AuthenticatorInner → Option Bytes → Type 0
 IsReply false random suite key authenticator reply = reply ≡ None
 IsReply true random suite key authenticator None = ⊥
-IsReply true random suite key authenticator (Some bytes) = IsReplyUnder suite key (ap_reply_confounder random) authenticator bytes
+IsReply true random suite key authenticator (Some bytes) = IsReplyUnder suite key (ap_reply_confounder (cipher_confounder_size suite) random) authenticator bytes
 
 pub sole_reply : (wanted : Bool) (random : Random) (suite : CipherSuite) (key : Bytes) (authenticator : AuthenticatorInner)
     → IsSole (IsReply wanted random suite key authenticator)
 sole_reply false random suite key authenticator a b p q = p ∙ sym q
 sole_reply true random suite key authenticator None b p q = absurd p
 sole_reply true random suite key authenticator (Some a) None p q = absurd q
-sole_reply true random suite key authenticator (Some a) (Some b) p q = ap Some (sole_reply_under suite key (ap_reply_confounder random) authenticator a b p q)
+sole_reply true random suite key authenticator (Some a) (Some b) p q = ap Some (sole_reply_under suite key (ap_reply_confounder (cipher_confounder_size suite) random) authenticator a b p q)
 
 -- the reply to what was presented, under the session key
 abbrev pub IsReplyTo : Presented → Random → Option Bytes → Type 0

@@ -1,15 +1,16 @@
 //! The reply to a client that asks for one.
 ghost use Rattle.std.specs.Prelude.{◌≡◌, ◌≤◌, ℕ, List, length, IfOk};
 ghost use Rattle.asn1_trees.specs.Tree.{der};
+ghost use Rattle.krb_crypto.specs.Suites.{cipher_confounder_size};
 ghost use Rattle.krb_ap.specs.ApReply.{IsReplyUnder, ap_rep_of, ap_rep_part};
 ghost use Rattle.krb_types.specs.RandomBytes.{ap_reply_confounder};
 ghost use Rattle.krb_messages.specs.Messages.{ap_rep_tree, enc_ap_rep_part_tree};
 
 use krb_crypto::CipherSuite;
 use krb_messages::messages::{ApRep, ApRepInner};
-use krb_sealing::sealed_data;
+use krb_sealing::{confounder_at, sealed_data};
 use krb_types::constants::key_usages;
-use krb_types::constants::random_bytes::{AP_REPLY_CONFOUNDER, CONFOUNDER_SIZE};
+use krb_types::constants::random_bytes::AP_REPLY_CONFOUNDER;
 use krb_types::constants::types::{AP_REP_MSG_TYPE, KERBEROS_VERSION};
 use krb_types::data_types::{AuthenticatorInner, EncApRepPart, EncApRepPartInner, EncryptedData};
 use picky_asn1::wrapper::{IntegerAsn1, OctetStringAsn1};
@@ -17,7 +18,7 @@ use picky_asn1_der::{ApplicationTag, ExplicitContextTag, Optional, to_vec};
 use std::alloc::{AllocError, Global};
 
 /// The encoding of the reply under the session key, with the authenticator's time and nothing optional (RFC 4120,
-/// section 5.5.2). The first 16 of the random bytes are the confounder.
+/// section 5.5.2). The first of the random bytes are the confounder.
 pub(crate) fn ap_reply(
     alloc: Global,
     suite: CipherSuite,
@@ -26,10 +27,10 @@ pub(crate) fn ap_reply(
     words: &[u8],
 ) -> Result<Vec<u8>, AllocError>
     requires { 16 ≤ length words.now }
-    ensures { IfOk result (λ bytes. IsReplyUnder suite key.now (ap_reply_confounder words.now) authenticator.now bytes.items) }
+    ensures { IfOk result (λ bytes. IsReplyUnder suite key.now (ap_reply_confounder (cipher_confounder_size suite) words.now) authenticator.now bytes.items) }
 {
     let plain = part_bytes(alloc, authenticator)?;
-    let confounder = &words[AP_REPLY_CONFOUNDER..AP_REPLY_CONFOUNDER + CONFOUNDER_SIZE];
+    let confounder = confounder_at(suite, words, AP_REPLY_CONFOUNDER);
     let part = sealed_data(
         alloc,
         suite,

@@ -4,29 +4,30 @@ use Rattle.std.specs.Option.{option_map}
 use Rattle.krb_moments.specs.Units.{Micros}
 use Rattle.picky_asn1.specs.Bytes.{Bytes}
 use Rattle.krb_crypto.specs.declared.suite.CipherSuite.{CipherSuite}
-use Rattle.krb_crypto.specs.Suites.{cipher_key_size}
+use Rattle.krb_crypto.specs.Sealing.{seed_key_of}
+use Rattle.krb_crypto.specs.Suites.{cipher_confounder_size, cipher_seed_size}
 use Rattle.krb_types.specs.declared.data_types.authenticator.AuthenticatorInner.{AuthenticatorInner}
 use Rattle.krb_types.specs.declared.data_types.encryption_key.EncryptionKey.{EncryptionKey}
-use Rattle.krb_types.specs.RandomBytes.{Random, authenticator_confounder, subkey_bytes}
+use Rattle.krb_types.specs.RandomBytes.{Random, authenticator_confounder, subkey_seed}
 use Rattle.krb_asked.specs.Asked.{ApAskedRecord}
 use Rattle.krb_client.specs.Authenticators.{IsApRequest, IsAuthenticatorOf, sole_presented, sole_authenticator_of}
 use Rattle.krb_client.specs.Client.{ClientRecord, CredentialRecord}
 use Rattle.krb_sealing.specs.Sealing.{encryption_key}
 
--- the subkey, where one is asked for: random bytes from the thirty-third on, as many as a key of the suite has
+-- the subkey, where one is asked for: that of a seed, which are random bytes from the thirty-third on
 abbrev pub chosen_subkey : Bool → CipherSuite → Random → Option Bytes
-chosen_subkey with_subkey suite random = if with_subkey then Some (subkey_bytes (cipher_key_size suite) random) else None
+chosen_subkey with_subkey suite random = if with_subkey then Some (seed_key_of suite (subkey_seed (cipher_seed_size suite) random)) else None
 
 -- the subkey with the number of its suite
 abbrev pub subkey_told : Bool → CipherSuite → Random → Option EncryptionKey
 subkey_told with_subkey suite random = option_map (encryption_key suite) (chosen_subkey with_subkey suite random)
 
 -- the bytes are the client's request, by the credential, at the moment, with or without an answer and a subkey, under usage
--- 11 (RFC 4120, section 7.5.1); of the random bytes the first 16 are the confounder
+-- 11 (RFC 4120, section 7.5.1); of the random bytes the first are the confounder
 pub record AsksAp (client : ClientRecord) (credential : CredentialRecord) (mutual_required with_subkey : Bool) (moment : Micros) (random : Random) (bytes : Bytes) : Type 0 where
   pub authenticator : AuthenticatorInner
   pub authenticates : IsAuthenticatorOf client moment None (subkey_told with_subkey credential.suite random) authenticator
-  pub presents : IsApRequest credential 11 mutual_required authenticator (authenticator_confounder random) bytes
+  pub presents : IsApRequest credential 11 mutual_required authenticator (authenticator_confounder (cipher_confounder_size credential.suite) random) bytes
 
 -- what the client remembers of it
 abbrev pub ap_asked : CredentialRecord → Bool → Micros → Random → ApAskedRecord
@@ -41,6 +42,6 @@ ap_asked credential with_subkey moment random = record {
 pub sole_ap_request : (client : ClientRecord) (credential : CredentialRecord) (mutual_required with_subkey : Bool) (moment : Micros) (random : Random) (a b : Bytes)
     → AsksAp client credential mutual_required with_subkey moment random a → AsksAp client credential mutual_required with_subkey moment random b → a ≡ b
 sole_ap_request client credential mutual_required with_subkey moment random a b x y =
-    sole_presented credential 11 mutual_required (authenticator_confounder random) x.authenticator y.authenticator a b
+    sole_presented credential 11 mutual_required (authenticator_confounder (cipher_confounder_size credential.suite) random) x.authenticator y.authenticator a b
     (sole_authenticator_of client moment None (subkey_told with_subkey credential.suite random) x.authenticator y.authenticator x.authenticates y.authenticates)
     x.presents y.presents

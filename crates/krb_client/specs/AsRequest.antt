@@ -4,6 +4,7 @@ use Rattle.std.proofs.Common.{ap, subst, sym, ◌∙◌}
 use Rattle.krb_moments.specs.Units.{Micros}
 use Rattle.picky_asn1.specs.Bytes.{Bytes}
 use Rattle.asn1_leaves.specs.declared.date.GeneralizedTime.{GeneralizedTime}
+use Rattle.krb_crypto.specs.Suites.{cipher_confounder_size}
 use Rattle.krb_types.specs.declared.data_types.encrypted_data.EncryptedData.{EncryptedData}
 use Rattle.krb_types.specs.declared.data_types.pa_enc_timestamp.PaEncTsEnc.{PaEncTsEnc}
 use Rattle.krb_messages.specs.declared.messages.kdc_req.KdcReq.{KdcReq}
@@ -32,10 +33,10 @@ pub record IsSealedTime (client : ClientRecord) (moment : Micros) (confounder : 
   pub sealed : Seals client.suite client.key None 1 confounder (stamp_bytes (stamp_of second (moment % 1000000))) stamp
 
 -- the bytes are the client's request for a ticket for the service till that time, at the moment; of the random bytes
--- the first 16 are the confounder
+-- the first are the confounder
 pub record AsksAs (client : ClientRecord) (service : List Bytes) (till : GeneralizedTime) (moment : Micros) (random : Random) (bytes : Bytes) : Type 0 where
   pub stamp : EncryptedData
-  pub stamped : IsSealedTime client moment (stamp_confounder random) stamp
+  pub stamped : IsSealedTime client moment (stamp_confounder (cipher_confounder_size client.suite) random) stamp
   pub encoding : bytes ≡ as_request_bytes (as_request_of client service till (nonce_of random) stamp)
 
 pub sole_sealed_time : (client : ClientRecord) (moment : Micros) (confounder : Bytes) (a b : EncryptedData)
@@ -50,5 +51,5 @@ pub sole_as_request : (client : ClientRecord) (service : List Bytes) (till : Gen
     → AsksAs client service till moment random a → AsksAs client service till moment random b → a ≡ b
 sole_as_request client service till moment random a b x y =
     x.encoding
-    ∙ ap (λ stamp. as_request_bytes (as_request_of client service till (nonce_of random) stamp)) (sole_sealed_time client moment (stamp_confounder random) x.stamp y.stamp x.stamped y.stamped)
+    ∙ ap (λ stamp. as_request_bytes (as_request_of client service till (nonce_of random) stamp)) (sole_sealed_time client moment (stamp_confounder (cipher_confounder_size client.suite) random) x.stamp y.stamp x.stamped y.stamped)
     ∙ sym y.encoding

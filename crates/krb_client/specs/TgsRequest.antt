@@ -6,7 +6,7 @@ use Rattle.krb_moments.specs.Units.{Micros}
 use Rattle.picky_asn1.specs.Bytes.{Bytes}
 use Rattle.asn1_leaves.specs.declared.date.GeneralizedTime.{GeneralizedTime}
 use Rattle.krb_crypto.specs.Sealing.{checksum_of}
-use Rattle.krb_crypto.specs.Suites.{checksum_number, cipher_checksum}
+use Rattle.krb_crypto.specs.Suites.{checksum_number, cipher_checksum, cipher_confounder_size}
 use Rattle.krb_types.specs.declared.data_types.authenticator.AuthenticatorInner.{AuthenticatorInner}
 use Rattle.krb_types.specs.declared.data_types.checksum.Checksum.{Checksum}
 use Rattle.krb_types.specs.RandomBytes.{Random, authenticator_confounder}
@@ -47,10 +47,10 @@ abbrev pub tgs_body_bytes : ClientRecord → List Bytes → GeneralizedTime → 
 tgs_body_bytes client service till nonce = request_body_bytes (request_body client false service till nonce)
 
 -- the bytes are the client's request for a ticket for the service till that time, by the credential, at the moment; of the
--- random bytes the first 16 are the confounder
+-- random bytes the first are the confounder
 pub record AsksTgs (client : ClientRecord) (credential : CredentialRecord) (service : List Bytes) (till : GeneralizedTime) (moment : Micros) (random : Random) (bytes : Bytes) : Type 0 where
   pub request : Bytes
-  pub authenticates : Authenticates client credential moment (authenticator_confounder random) (tgs_body_bytes client service till (nonce_of random)) request
+  pub authenticates : Authenticates client credential moment (authenticator_confounder (cipher_confounder_size credential.suite) random) (tgs_body_bytes client service till (nonce_of random)) request
   pub encoding : bytes ≡ tgs_request_bytes (tgs_request_of client service till (nonce_of random) request)
 
 -- what the client remembers of it
@@ -63,5 +63,5 @@ pub sole_tgs_request : (client : ClientRecord) (credential : CredentialRecord) (
 sole_tgs_request client credential service till moment random a b x y =
     x.encoding
     ∙ ap (λ request. tgs_request_bytes (tgs_request_of client service till (nonce_of random) request))
-    (sole_authentication client credential moment (authenticator_confounder random) (tgs_body_bytes client service till (nonce_of random)) x.request y.request x.authenticates y.authenticates)
+    (sole_authentication client credential moment (authenticator_confounder (cipher_confounder_size credential.suite) random) (tgs_body_bytes client service till (nonce_of random)) x.request y.request x.authenticates y.authenticates)
     ∙ sym y.encoding

@@ -7,11 +7,11 @@ ghost use Rattle.krb_sealing.specs.Sealing.{encryption_key};
 use crate::authenticator::ap_request;
 use crate::{AskRefusal, Client, Credential};
 use krb_asked::ApAsked;
-use krb_crypto::{Cipher, CipherSuite};
+use krb_crypto::CipherSuite;
 use krb_moments::Moment;
-use krb_sealing::encryption_key;
+use krb_sealing::{confounder_at, encryption_key, key_at};
 use krb_types::constants::key_usages;
-use krb_types::constants::random_bytes::{AUTHENTICATOR_CONFOUNDER, CONFOUNDER_SIZE, SUBKEY};
+use krb_types::constants::random_bytes::{AUTHENTICATOR_CONFOUNDER, SUBKEY_SEED};
 use krb_types::data_types::EncryptionKey;
 use picky_asn1::wrapper::OctetStringAsn1;
 use std::alloc::{AllocError, Global};
@@ -20,7 +20,7 @@ impl Client {
     /// The request to a service by what a realm granted, at the moment, and what the client has to remember for the reply
     /// (RFC 4120, section 3.2.2); `mutual_required` asks for a reply, and `with_subkey` chooses a key for what follows.
     ///
-    /// Of the random bytes 0 to 15 are the confounder, and the subkey begins with 32. Memory is the only refusal.
+    /// Of the random bytes the first are the confounder, and the subkey is that of 32 to 63. Memory is the only refusal.
     pub fn ap_request(
         &self,
         alloc: Global,
@@ -42,20 +42,21 @@ impl Client {
         let subkey = subkey_of(alloc, with_subkey, suite, words)?;
         let told = told_key(alloc, suite, &subkey)?;
         let authenticator = self.authenticator(alloc, moment, None, told)?;
+        let confounder = confounder_at(suite, words, AUTHENTICATOR_CONFOUNDER);
         let bytes = ap_request(
             alloc,
             credential,
             key_usages::AP_REQ_AUTHENTICATOR,
             mutual_required,
             authenticator,
-            &words[AUTHENTICATOR_CONFOUNDER..AUTHENTICATOR_CONFOUNDER + CONFOUNDER_SIZE],
+            confounder,
         )?;
         let key = OctetStringAsn1::new(alloc, credential.key())?;
         Ok((bytes, ApAsked::new(suite, key, moment, subkey)))
     }
 }
 
-// The subkey, where one is chosen: random bytes, as many as a key of the suite has.
+// The subkey, where one is chosen: the key of the suite of its seed among the random bytes.
 fn subkey_of(
     alloc: Global,
     with_subkey: bool,
@@ -68,7 +69,7 @@ fn subkey_of(
     if !with_subkey {
         return Ok(None);
     }
-    let subkey = OctetStringAsn1::new(alloc, &words[SUBKEY..SUBKEY + suite.key_size()])?;
+    let subkey = key_at(alloc, suite, words, SUBKEY_SEED)?;
     Ok(Some(subkey))
 }
 

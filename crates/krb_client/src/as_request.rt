@@ -4,6 +4,7 @@ ghost use Rattle.krb_accounts.specs.Names.{are_components, parts};
 ghost use Rattle.krb_client.specs.AsRequest.{AsksAs, IsSealedTime, as_request_of, stamp_of};
 ghost use Rattle.krb_client.specs.Messages.{as_request_bytes, stamp_bytes};
 ghost use Rattle.krb_client.specs.Requests.{nonce_of};
+ghost use Rattle.krb_crypto.specs.Suites.{cipher_confounder_size};
 
 use crate::kdc_request::{entry_of, nonce_of};
 use crate::{AskRefusal, Client};
@@ -12,9 +13,9 @@ use krb_asked::AsAsked;
 use krb_encoding::{encoding_of, tagged_encoding};
 use krb_messages::messages::KdcReq;
 use krb_moments::Moment;
-use krb_sealing::sealed_data;
+use krb_sealing::{confounder_at, sealed_data};
 use krb_types::constants::key_usages;
-use krb_types::constants::random_bytes::{CONFOUNDER_SIZE, STAMP_CONFOUNDER};
+use krb_types::constants::random_bytes::STAMP_CONFOUNDER;
 use krb_types::constants::types::{AS_REQ_MSG_TYPE, PA_ENC_TIMESTAMP};
 use krb_types::data_types::{EncryptedData, PaEncTsEnc};
 use picky_asn1::date::GeneralizedTime;
@@ -26,7 +27,7 @@ impl Client {
     /// The request for a ticket for a service of the client's realm till a time, with the moment sealed under the
     /// client's key, and what the client has to remember for the reply (RFC 4120, section 3.1.1).
     ///
-    /// Of the random bytes 0 to 15 are the confounder, and 16 to 19 the nonce. A name that isn't of 1 to 16 components of
+    /// Of the random bytes the first are the confounder, and 16 to 19 the nonce. A name that isn't of 1 to 16 components of
     /// 1 to 255 characters below 128 is refused.
     pub fn as_request(
         &self,
@@ -53,11 +54,8 @@ impl Client {
             return Err(AskRefusal::Memory);
         };
         let nonce = nonce_of(words);
-        let stamp = self.stamp(
-            alloc,
-            moment,
-            &words[STAMP_CONFOUNDER..STAMP_CONFOUNDER + CONFOUNDER_SIZE],
-        )?;
+        let confounder = confounder_at(self.suite(), words, STAMP_CONFOUNDER);
+        let stamp = self.stamp(alloc, moment, confounder)?;
         let request = self.as_request_of(alloc, &service, till, nonce, stamp)?;
         let bytes = as_request_bytes(alloc, request)?;
         Ok((bytes, AsAsked::new(service, nonce, moment)))
@@ -70,7 +68,7 @@ impl Client {
         moment: Moment,
         confounder: &[u8],
     ) -> Result<EncryptedData, AllocError>
-        requires { length confounder.now ≡ 16 }
+        requires { length confounder.now ≡ cipher_confounder_size self.now.suite }
         ensures { IfOk result (IsSealedTime self.now moment confounder.now) }
     {
         let second = moment.second();

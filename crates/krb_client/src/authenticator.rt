@@ -2,6 +2,7 @@
 ghost use Rattle.std.specs.Prelude.{◌≡◌, length, IfOk};
 ghost use Rattle.std.specs.Int.{cast_unsigned, w32};
 ghost use Rattle.krb_client.specs.Authenticators.{IsApRequest, IsAuthenticatorOf, ap_request_of, authenticator_with, options_of, told_of};
+ghost use Rattle.krb_crypto.specs.Suites.{cipher_confounder_size};
 ghost use Rattle.krb_client.specs.Messages.{ap_request_bytes, authenticator_bytes};
 
 use crate::copies::ticket_copy;
@@ -98,7 +99,7 @@ pub(crate) fn ap_request(
     authenticator: AuthenticatorInner,
     confounder: &[u8],
 ) -> Result<Vec<u8>, AllocError>
-    requires { length confounder.now ≡ 16 }
+    requires { length confounder.now ≡ cipher_confounder_size credential.now.suite }
     ensures { IfOk result (λ bytes. IsApRequest credential.now (cast_unsigned w32 usage) mutual_required authenticator confounder.now bytes.items) }
 {
     let plain = authenticator_bytes(alloc, authenticator)?;

@@ -3,6 +3,7 @@ ghost use Rattle.std.specs.Prelude.{◌≡◌, ◌≤◌, ◌↔◌, ◌⊎◌, 
 ghost use Rattle.krb_accounts.specs.Names.{are_components, parts};
 ghost use Rattle.krb_client.specs.Messages.{request_body_bytes, tgs_request_bytes};
 ghost use Rattle.krb_client.specs.Requests.{nonce_of};
+ghost use Rattle.krb_crypto.specs.Suites.{cipher_confounder_size};
 ghost use Rattle.krb_client.specs.TgsRequest.{AsksTgs, Authenticates, checksum_over, tgs_asked, tgs_body_bytes, tgs_request_of};
 
 use crate::authenticator::ap_request;
@@ -14,8 +15,9 @@ use krb_crypto::{Checksum as KeyedChecksum, Cipher};
 use krb_encoding::{encoding_of, tagged_encoding};
 use krb_messages::messages::{KdcReq, KdcReqBody};
 use krb_moments::Moment;
+use krb_sealing::confounder_at;
 use krb_types::constants::key_usages;
-use krb_types::constants::random_bytes::{AUTHENTICATOR_CONFOUNDER, CONFOUNDER_SIZE};
+use krb_types::constants::random_bytes::AUTHENTICATOR_CONFOUNDER;
 use krb_types::constants::types::{PA_TGS_REQ, TGS_REQ_MSG_TYPE};
 use krb_types::data_types::Checksum;
 use picky_asn1::date::GeneralizedTime;
@@ -27,7 +29,7 @@ impl Client {
     /// The request for a ticket for a service of the client's realm till a time, by what the realm granted for itself, at the
     /// moment, and what the client has to remember for the reply (RFC 4120, section 3.3.1).
     ///
-    /// Of the random bytes 0 to 15 are the confounder, and 16 to 19 the nonce. A name that isn't of 1 to 16 components of
+    /// Of the random bytes the first are the confounder, and 16 to 19 the nonce. A name that isn't of 1 to 16 components of
     /// 1 to 255 characters below 128 is refused.
     pub fn tgs_request(
         &self,
@@ -76,13 +78,8 @@ impl Client {
     {
         let nonce = nonce_of(words);
         let body = self.tgs_body_bytes(alloc, service, till, nonce)?;
-        let request = self.authenticated(
-            alloc,
-            credential,
-            moment,
-            &words[AUTHENTICATOR_CONFOUNDER..AUTHENTICATOR_CONFOUNDER + CONFOUNDER_SIZE],
-            &body,
-        )?;
+        let confounder = confounder_at(credential.suite(), words, AUTHENTICATOR_CONFOUNDER);
+        let request = self.authenticated(alloc, credential, moment, confounder, &body)?;
         let message = self.tgs_request_of(alloc, service, till, nonce, request)?;
         let bytes = tgs_request_bytes(alloc, message)?;
         Ok(bytes)
@@ -112,7 +109,7 @@ impl Client {
         confounder: &[u8],
         text: &[u8],
     ) -> Result<Vec<u8>, AllocError>
-        requires { length confounder.now ≡ 16 }
+        requires { length confounder.now ≡ cipher_confounder_size credential.now.suite }
         ensures { IfOk result (λ request.
             Authenticates self.now credential.now moment confounder.now text.now request.items) }
     {

@@ -7,7 +7,7 @@ use Rattle.asn1_leaves.specs.declared.date.GeneralizedTime.{GeneralizedTime}
 use Rattle.picky_asn1.specs.Bytes.{Bytes}
 use Rattle.picky_asn1.specs.GeneralizedTime.{seconds_of}
 use Rattle.picky_asn1.specs.Numbers.{is_number}
-use Rattle.krb_crypto.specs.Suites.{cipher_number}
+use Rattle.krb_crypto.specs.Suites.{cipher_confounder_size, cipher_number}
 use Rattle.krb_types.specs.Names.{components, is_same_name, is_same_realm}
 use Rattle.krb_types.specs.RandomBytes.{authenticator_confounder, ticket_confounder}
 use Rattle.krb_types.specs.declared.data_types.authenticator.AuthenticatorInner.{AuthenticatorInner}
@@ -91,8 +91,15 @@ module _ (client : ClientRecord) (realm : RealmRecord) (service : ServiceRecord)
       abbrev authenticator : AuthenticatorInner
       authenticator = authenticator_with (told_of client (login.client_ap % 1000000)) second None None
 
+      -- the confounders of the ticket's part, and of the authenticator
+      abbrev for_part : Bytes
+      for_part = ticket_confounder (cipher_confounder_size met.honest.service.account.suite) login.realm_random_tgs
+
+      abbrev for_authenticator : Bytes
+      for_authenticator = authenticator_confounder (cipher_confounder_size client.suite) login.random_ap
+
       abbrev choice : Choice
-      choice = choice_of true service.entry grant authenticator (ticket_confounder login.realm_random_tgs) (authenticator_confounder login.random_ap)
+      choice = choice_of true service.entry grant authenticator for_part for_authenticator
 
       acceptable : IsAcceptable service.entry service.seen.skew (clock_of before login) choice
       unfolding ticket_part
@@ -134,14 +141,14 @@ module _ (client : ClientRecord) (realm : RealmRecord) (service : ServiceRecord)
       }
 
       module _ (credential : CredentialRecord) (held : IsHeld met.honest.service.account login.realm_random_tgs grant credential) where
-        shows : (bytes : Bytes) → IsApRequest credential 11 true authenticator (authenticator_confounder login.random_ap) bytes → Presents service.entry.key choice bytes
+        shows : (bytes : Bytes) → IsApRequest credential 11 true authenticator for_authenticator bytes → Presents service.entry.key choice bytes
         shows bytes asks =
             let account = met.honest.service.account in
             let plain : Bytes = ticket_part_bytes (ticket_part grant) in
-            let sealed = under_entry account service.entry 2 (ticket_confounder login.realm_random_tgs) plain held.part met.honest.service.suite met.honest.service.key met.honest.service.number held.sealed in
+            let sealed = under_entry account service.entry 2 for_part plain held.part met.honest.service.suite met.honest.service.key met.honest.service.number held.sealed in
             let names = component_texts client.components met.parties.name in
             let asked = subst (λ n. are_texts n ≡ true) (sym met.honest.named.asked) (component_texts service.entry.components met.parties.entry.1) in
-            presents true service.entry grant credential authenticator (ticket_confounder login.realm_random_tgs) (authenticator_confounder login.random_ap) bytes held.part
+            presents true service.entry grant credential authenticator for_part for_authenticator bytes held.part
             sealed held.ticket held.suite held.key asks realm_is asked (whole_part grant realm_is names)
             (whole_authenticator client (login.client_ap % 1000000) second None (realm_text client.realm met.parties.realm) names)
 
@@ -154,7 +161,7 @@ module _ (client : ClientRecord) (realm : RealmRecord) (service : ServiceRecord)
             (sym held.suite) (sym held.key) of_moment refl x y
 
         -- and the service tells key and client
-        admitted : (bytes : Bytes) (outcome : Outcome) → IsApRequest credential 11 true authenticator (authenticator_confounder login.random_ap) bytes
+        admitted : (bytes : Bytes) (outcome : Outcome) → IsApRequest credential 11 true authenticator for_authenticator bytes
             → (remembering service (clock_of before login) before.admitted bytes login.service_random).gives outcome
             → (admission : AdmissionRecord) × (outcome ≡ (Ok admission, login_pair client login ∷ before.admitted))
             × (admission.session ≡ encryption_key client.suite (session_key_of client.suite login.realm_random_tgs))
@@ -177,5 +184,6 @@ module _ (client : ClientRecord) (realm : RealmRecord) (service : ServiceRecord)
   client_admitted first span credential request outcome first_is further_is held asks given =
       let second = asks.authenticates.second in
       let of_moment = asks.authenticates.of_moment in
-      let presents_so = subst (λ a. IsApRequest credential 11 true a (authenticator_confounder login.random_ap) request) asks.authenticates.told asks.presents in
+      let own = subst (λ suite. IsApRequest credential 11 true asks.authenticator (authenticator_confounder (cipher_confounder_size suite) login.random_ap) request) held.suite asks.presents in
+      let presents_so = subst (λ a. IsApRequest credential 11 true a (authenticator_confounder (cipher_confounder_size client.suite) login.random_ap) request) asks.authenticates.told own in
       admitted first span first_is further_is second of_moment credential held request outcome presents_so given

@@ -9,8 +9,8 @@ use Rattle.picky_asn1.specs.GeneralizedTime.{seconds_of}
 use Rattle.krb_moments.specs.Skew.{is_far}
 use Rattle.krb_moments.specs.Units.{Micros, Seconds}
 use Rattle.krb_crypto.specs.declared.suite.CipherSuite.{CipherSuite}
-use Rattle.krb_crypto.specs.declared.suite.CipherSuite.TheVariants.{Aes128CtsHmacSha196, Aes256CtsHmacSha196}
-use Rattle.krb_crypto.specs.Suites.{cipher_number}
+use Rattle.krb_crypto.specs.declared.suite.CipherSuite.TheVariants.{Aes128CtsHmacSha196, Aes256CtsHmacSha196, Des3CbcSha1Kd}
+use Rattle.krb_crypto.specs.Suites.{cipher_confounder_size, cipher_number}
 use Rattle.picky_asn1.specs.Numbers.{is_number}
 use Rattle.krb_types.specs.Names.{is_same_realm}
 use Rattle.krb_types.specs.RandomBytes.{stamp_confounder}
@@ -182,6 +182,7 @@ module _ (call : CallRecord) (of_client of_service : Option AccountRecord) (requ
 own_suite : (suite : CipherSuite) → is_number (cipher_number suite) (pos (cipher_number suite)) ≡ true
 own_suite Aes128CtsHmacSha196 = refl
 own_suite Aes256CtsHmacSha196 = refl
+own_suite Des3CbcSha1Kd = refl
 
 listed : (client : ClientRecord) (service : List Bytes) (till : GeneralizedTime) (nonce : ℕ) (suite : CipherSuite) → suite ≡ client.suite
     → is_listed suite (request_body client true service till nonce) ≡ true
@@ -246,14 +247,14 @@ module _ (client : ClientRecord) (realm : RealmRecord) (service : ServiceRecord)
       near met.honest.near.start (common_skew realm service) (skew_of call) login.realm_as login.client_as met.honest.near.realm_as met.honest.near.client_as
       (lesser (realm.settings.skew * 1000000) service.seen.skew)
 
-  shown : (sealed : EncryptedData) → IsSealedTime client login.client_as (stamp_confounder login.random_as) sealed
+  shown : (sealed : EncryptedData) → IsSealedTime client login.client_as (stamp_confounder (cipher_confounder_size client.suite) login.random_as) sealed
       → (preauthenticated call asked.client (entries_of (request_with sealed))).gives (Ok tt)
   shown sealed it =
       shown_in_time call asked.client (encrypted_bytes sealed) (stamp_of it.second (login.client_as % 1000000)) login.client_as
-      (stamp_opens client asked.client login.client_as (stamp_confounder login.random_as) sealed met.honest.client.suite met.honest.client.key it)
+      (stamp_opens client asked.client login.client_as (stamp_confounder (cipher_confounder_size client.suite) login.random_as) sealed met.honest.client.suite met.honest.client.key it)
       (stamp_told it.second login.client_as it.of_moment) in_time
 
-  grants : (sealed : EncryptedData) → IsSealedTime client login.client_as (stamp_confounder login.random_as) sealed
+  grants : (sealed : EncryptedData) → IsSealedTime client login.client_as (stamp_confounder (cipher_confounder_size client.suite) login.random_as) sealed
       → (r : Result Bytes ℕ) → (as_table call (realm.look client.components) (realm.look (krbtgt_of client.realm)) (request_with sealed)).gives r → IsGrantedBy call asked body r
   grants sealed it r x =
       granted_by call (realm.look client.components) (realm.look (krbtgt_of client.realm)) (request_with sealed) asked r

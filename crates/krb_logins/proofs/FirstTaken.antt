@@ -2,7 +2,7 @@
 use Rattle.std.proofs.Common.{◌≡◌, true, not, Some, Ok, Err, refl, sym, ap, subst, length, arith}
 use Rattle.picky_asn1.specs.Bytes.{Bytes}
 use Rattle.asn1_leaves.specs.CharSets.{is_general_string}
-use Rattle.krb_crypto.specs.Suites.{cipher_key_size}
+use Rattle.krb_crypto.specs.Suites.{cipher_confounder_size, cipher_key_size}
 use Rattle.krb_types.specs.RandomBytes.{Random, reply_confounder}
 use Rattle.krb_types.specs.declared.data_types.encrypted_data.EncryptedData.{EncryptedData}
 use Rattle.krb_messages.specs.Messages.{IsAsRep, enc_as_rep_part_tree, sole_as_rep}
@@ -83,7 +83,7 @@ taken_of client account service asked grant random granted taken suite key texts
     let reply = kdc_reply_of As grant (ticket_of grant it.ticket_data) it.reply_data in
     let as_read = read client asked granted reply taken (reply_written As grant it.ticket_data it.reply_data granted texts it.encoding) x in
     let as_opened = opened client asked reply (reply_part grant) taken (typed grant it.ticket_data it.reply_data)
-    (part_opened client account grant (reply_confounder random) it.ticket_data it.reply_data suite key texts it.reply_sealed) as_read in
+    (part_opened client account grant (reply_confounder (cipher_confounder_size account.suite) random) it.ticket_data it.reply_data suite key texts it.reply_sealed) as_read in
     taken_held client asked.service asked.nonce As grant it.ticket_data it.reply_data service random taken is sized it.ticket_sealed as_opened
 
 pub first_taken : (client : ClientRecord) (realm : RealmRecord) (service : ServiceRecord) (before : RememberedRecord) (login : LoginRecord) (met : IsMet client realm service before login)

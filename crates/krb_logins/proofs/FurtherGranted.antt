@@ -15,9 +15,9 @@ use Rattle.krb_moments.specs.Skew.{is_far}
 use Rattle.krb_moments.specs.Times.{moment_at}
 use Rattle.krb_moments.specs.Units.{Micros, Seconds}
 use Rattle.krb_crypto.specs.declared.suite.CipherSuite.{CipherSuite}
-use Rattle.krb_crypto.specs.declared.suite.CipherSuite.TheVariants.{Aes128CtsHmacSha196, Aes256CtsHmacSha196}
+use Rattle.krb_crypto.specs.declared.suite.CipherSuite.TheVariants.{Aes128CtsHmacSha196, Aes256CtsHmacSha196, Des3CbcSha1Kd}
 use Rattle.krb_crypto.specs.Sealing.{IsSealedBy, checksum_of}
-use Rattle.krb_crypto.specs.Suites.{checksum_number, cipher_checksum, cipher_number}
+use Rattle.krb_crypto.specs.Suites.{checksum_number, cipher_checksum, cipher_confounder_size, cipher_number}
 use Rattle.krb_types.specs.Names.{components, is_same_name, is_same_realm}
 use Rattle.krb_types.specs.RandomBytes.{Random, authenticator_confounder, ticket_confounder}
 use Rattle.krb_types.specs.Refusals.{Code}
@@ -129,10 +129,11 @@ is_carried value presented is =
     by_need {T = ApReqInner} {E = ℕ} (first_of 1 (entry_of 1 value ∷ [])) 16 entry_row value (Ok presented) (own_entry value)
     (by_ask (IsApReq value) (sole_ap_req value) (done (Err 41)) read_in presented (Ok presented) is refl)
 
--- checksums of AES are known, each by its number
+-- the suites' checksums are known, each by its number
 known_checksum : (suite : CipherSuite) → is_known_checksum (pos (checksum_number (cipher_checksum suite))) ≡ true
 known_checksum Aes128CtsHmacSha196 = refl
 known_checksum Aes256CtsHmacSha196 = refl
+known_checksum Des3CbcSha1Kd = refl
 
 own_number : (number : ℕ) → is_number number (pos number) ≡ true
 own_number number = eq-eqb number number refl
@@ -206,6 +207,7 @@ tgs_request_written client service till nonce shown bytes realm of_service e = (
 own_first : (suite : CipherSuite) → table.first_known (pos (cipher_number suite) ∷ []) ≡ Some suite
 own_first Aes128CtsHmacSha196 = refl
 own_first Aes256CtsHmacSha196 = refl
+own_first Des3CbcSha1Kd = refl
 
 -- a realm replies to a TGS request by its table
 replied_to : (call : CallRecord) (bytes : Bytes) (reply : Option Bytes) (request : KdcReq) → IsTgsReq bytes request → ((other : KdcReq) → IsAsReq bytes other → ⊥)
@@ -286,13 +288,13 @@ module _ (client : ClientRecord) (realm : RealmRecord) (service : ServiceRecord)
     abbrev shown : Authenticated
     shown = record { suite = client.suite; authenticator = authenticator; time = login.client_tgs }
 
-    module _ (asks : IsApRequest granting 7 false authenticator (authenticator_confounder login.random_tgs) shown_bytes) where
+    module _ (asks : IsApRequest granting 7 false authenticator (authenticator_confounder (cipher_confounder_size granting.suite) login.random_tgs) shown_bytes) where
       abbrev presented : ApReqInner
-      presented = request_of (choice_of false entry old authenticator (ticket_confounder login.realm_random_as) (authenticator_confounder login.random_tgs)).outer held.sealed.cipher asks.sealed.cipher
+      presented = request_of (choice_of false entry old authenticator (ticket_confounder (cipher_confounder_size entry.suite) login.realm_random_as) (authenticator_confounder (cipher_confounder_size granting.suite) login.random_tgs)).outer held.sealed.cipher asks.sealed.cipher
 
       is_presented : IsApReq shown_bytes presented
       is_presented =
-          written 7 false entry old granting authenticator (ticket_confounder login.realm_random_as) (authenticator_confounder login.random_tgs) shown_bytes held.part
+          written 7 false entry old granting authenticator (ticket_confounder (cipher_confounder_size entry.suite) login.realm_random_as) (authenticator_confounder (cipher_confounder_size granting.suite) login.random_tgs) shown_bytes held.part
           held.sealed held.ticket held.suite held.key asks realm_is (granting_texts client.realm met.parties.realm)
 
       -- the ticket is for the ticket-granting service, which opens it
@@ -307,7 +309,7 @@ module _ (client : ClientRecord) (realm : RealmRecord) (service : ServiceRecord)
       is_part : IsTicketPart entry.suite entry.key presented.ticket.0.0.enc_part.0 (ticket_part old)
       unfolding ticket_part_bytes
       is_part =
-          sealed_opens {T = EncTicketPartInner} enc_ticket_part_tree (ticket_part old) entry.suite entry.key (Some entry.number) 2 (ticket_confounder login.realm_random_as)
+          sealed_opens {T = EncTicketPartInner} enc_ticket_part_tree (ticket_part old) entry.suite entry.key (Some entry.number) 2 (ticket_confounder (cipher_confounder_size entry.suite) login.realm_random_as)
           (ticket_part_bytes (ticket_part old)) presented.ticket.0.0.enc_part.0
           (whole_part old realm_is (component_texts client.components met.parties.name), refl)
           (record { cipher = held.sealed.cipher; seals = held.sealed.seals; told = refl })
@@ -326,13 +328,13 @@ module _ (client : ClientRecord) (realm : RealmRecord) (service : ServiceRecord)
       is_authenticator = record {
         numbered = own_number (cipher_number client.suite);
         opens = record {
-          conf = authenticator_confounder login.random_tgs;
+          conf = authenticator_confounder (cipher_confounder_size granting.suite) login.random_tgs;
           plain = authenticator_bytes authenticator;
           writes = (whole_authenticator client (login.client_tgs % 1000000) second (Some sum) (realm_text client.realm met.parties.realm) (component_texts client.components met.parties.name), refl);
           sealed = (
             granting.suite,
             ap cipher_number held.suite,
-            subst (λ k. IsSealedBy granting.suite k 7 (authenticator_confounder login.random_tgs) (authenticator_bytes authenticator) asks.sealed.cipher) held.key asks.sealed.seals,
+            subst (λ k. IsSealedBy granting.suite k 7 (authenticator_confounder (cipher_confounder_size granting.suite) login.random_tgs) (authenticator_bytes authenticator) asks.sealed.cipher) held.key asks.sealed.seals,
           );
         };
       }
@@ -451,5 +453,5 @@ pub further_granted : (client : ClientRecord) (realm : RealmRecord) (service : S
 unfolding IsFurtherGranted
 further_granted client realm service before login met first granting request reply first_is held asks replied =
     let shown = asks.authenticates in
-    let presents = subst (λ a. IsApRequest granting 7 false a (authenticator_confounder login.random_tgs) asks.request) shown.authenticates.told shown.presents in
+    let presents = subst (λ a. IsApRequest granting 7 false a (authenticator_confounder (cipher_confounder_size granting.suite) login.random_tgs) asks.request) shown.authenticates.told shown.presents in
     granted client realm service before login met first first_is granting held shown.authenticates.second shown.authenticates.of_moment asks.request presents request reply asks.encoding replied

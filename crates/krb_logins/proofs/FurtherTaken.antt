@@ -3,7 +3,7 @@ use Rattle.std.proofs.Common.{◌≡◌, true, not, None, Ok, Err, refl, sym, ap
 use Rattle.picky_asn1.specs.Bytes.{Bytes}
 use Rattle.asn1_leaves.specs.CharSets.{is_general_string}
 use Rattle.krb_crypto.specs.declared.suite.CipherSuite.{CipherSuite}
-use Rattle.krb_crypto.specs.Suites.{cipher_key_size}
+use Rattle.krb_crypto.specs.Suites.{cipher_confounder_size, cipher_key_size}
 use Rattle.krb_types.specs.RandomBytes.{Random, reply_confounder}
 use Rattle.krb_types.specs.declared.data_types.encrypted_data.EncryptedData.{EncryptedData}
 use Rattle.krb_messages.specs.Messages.{IsTgsRep, enc_tgs_rep_part_tree, sole_tgs_rep}
@@ -85,7 +85,7 @@ taken_of client suite key account asked grant random granted taken same_suite sa
     let reply = kdc_reply_of Tgs grant (ticket_of grant it.ticket_data) it.reply_data in
     let as_read = read client asked granted reply taken (reply_written Tgs grant it.ticket_data it.reply_data granted texts it.encoding) x in
     let as_opened = opened client asked reply (reply_part grant) taken (typed grant it.ticket_data it.reply_data)
-    (part_opened suite asked.suite key asked.key grant (reply_confounder random) it.ticket_data it.reply_data same_suite same_key texts it.reply_sealed) as_read in
+    (part_opened suite asked.suite key asked.key grant (reply_confounder (cipher_confounder_size suite) random) it.ticket_data it.reply_data same_suite same_key texts it.reply_sealed) as_read in
     taken_held client asked.service asked.nonce Tgs grant it.ticket_data it.reply_data account random taken is sized it.ticket_sealed as_opened
 
 pub further_taken : (client : ClientRecord) (realm : RealmRecord) (service : ServiceRecord) (before : RememberedRecord) (login : LoginRecord) (met : IsMet client realm service before login)

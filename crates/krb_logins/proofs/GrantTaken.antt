@@ -6,10 +6,11 @@ use Rattle.std.specs.Prelude.{if◌then◌else◌, pos}
 use Rattle.picky_asn1.specs.Bytes.{Bytes}
 use Rattle.picky_asn1.specs.Numbers.{is_number}
 use Rattle.krb_crypto.specs.declared.suite.CipherSuite.{CipherSuite}
-use Rattle.krb_crypto.specs.declared.suite.CipherSuite.TheVariants.{Aes128CtsHmacSha196, Aes256CtsHmacSha196}
-use Rattle.krb_crypto.specs.Suites.{cipher_key_size}
+use Rattle.krb_crypto.specs.declared.suite.CipherSuite.TheVariants.{Aes128CtsHmacSha196, Aes256CtsHmacSha196, Des3CbcSha1Kd}
+use Rattle.krb_crypto.specs.Suites.{cipher_confounder_size, cipher_key_size, cipher_seed_size}
+use Rattle.krb_crypto.proofs.SealedTexts.{seed_key_sized}
 use Rattle.krb_types.specs.Names.{components, is_same_name, is_same_realm}
-use Rattle.krb_types.specs.RandomBytes.{Random, ticket_confounder}
+use Rattle.krb_types.specs.RandomBytes.{Random, session_seed, ticket_confounder}
 use Rattle.krb_types.specs.declared.data_types.encrypted_data.EncryptedData.{EncryptedData}
 use Rattle.krb_messages.specs.declared.messages.kdc_rep.KdcRep.{KdcRep}
 use Rattle.krb_accounts.specs.Account.{AccountRecord}
@@ -29,15 +30,21 @@ use Rattle.krb_logins.specs.Held.{IsHeld}
 use Rattle.krb_logins.proofs.Names.{same_name, same_realm}
 use Rattle.krb_logins.proofs.Passing.{past_need, past_refuse}
 
+seed_fits : (suite : CipherSuite) → cipher_seed_size suite ≤ 128
+seed_fits Aes128CtsHmacSha196 = let fits : 16 ≤ 128 = omega arith in fits
+seed_fits Aes256CtsHmacSha196 = let fits : 32 ≤ 128 = omega arith in fits
+seed_fits Des3CbcSha1Kd = let fits : 21 ≤ 128 = omega arith in fits
+
 -- a session's key has the length of its suite's keys
 pub session_key_sized : (suite : CipherSuite) (random : Random) → 128 ≤ length random → length (session_key_of suite random) ≡ cipher_key_size suite
-session_key_sized Aes128CtsHmacSha196 random enough = length-take-le 16 random (omega (arith, enough))
-session_key_sized Aes256CtsHmacSha196 random enough = length-take-le 32 random (omega (arith, enough))
+session_key_sized suite random enough =
+    seed_key_sized suite (session_seed (cipher_seed_size suite) random) (length-take-le (cipher_seed_size suite) random (omega (arith, enough, seed_fits suite)))
 
 -- so it is one of the suite
 pub suite_of_key : (suite : CipherSuite) (key : Bytes) → length key ≡ cipher_key_size suite → suite_of (encryption_key suite key) ≡ Some suite
 suite_of_key Aes128CtsHmacSha196 key sized = ap (λ b. if b then Some Aes128CtsHmacSha196 else None) (eq-eqb (length key) 16 sized)
 suite_of_key Aes256CtsHmacSha196 key sized = ap (λ b. if b then Some Aes256CtsHmacSha196 else None) (eq-eqb (length key) 32 sized)
+suite_of_key Des3CbcSha1Kd key sized = ap (λ b. if b then Some Des3CbcSha1Kd else None) (eq-eqb (length key) 24 sized)
 
 -- the grant is what the client asked for
 pub record IsAskedFor (client : ClientRecord) (asked : List Bytes) (number : ℕ) (grant : Grant) : Type 0 where
@@ -68,7 +75,7 @@ module _ (client : ClientRecord) (asked : List Bytes) (number : ℕ) (exchange :
   unfolding reply_part
   part_suite sized = suite_of_key grant.suite grant.session sized
 
-  held : (account : AccountRecord) (random : Random) → IsSealedData account 2 (ticket_confounder random) (ticket_part_bytes (ticket_part grant)) ticket
+  held : (account : AccountRecord) (random : Random) → IsSealedData account 2 (ticket_confounder (cipher_confounder_size account.suite) random) (ticket_part_bytes (ticket_part grant)) ticket
       → IsHeld account random grant (credential_of reply (reply_part grant) grant.suite)
   unfolding kdc_reply_of reply_part
   held account random it = record { part = ticket; sealed = it; ticket = refl; suite = refl; key = refl; realm = refl; service = refl }
@@ -78,7 +85,7 @@ module _ (client : ClientRecord) (asked : List Bytes) (number : ℕ) (exchange :
 
   -- it is held
   pub taken_held : (account : AccountRecord) (random : Random) (taken : Taken) → IsAskedFor client asked number grant → length grant.session ≡ cipher_key_size grant.suite
-      → IsSealedData account 2 (ticket_confounder random) (ticket_part_bytes (ticket_part grant)) ticket
+      → IsSealedData account 2 (ticket_confounder (cipher_confounder_size account.suite) random) (ticket_part_bytes (ticket_part grant)) ticket
       → (takes_part client asked number reply (reply_part grant)).gives taken
       → (credential : CredentialRecord) × (taken ≡ Ok credential) × IsHeld account random grant credential
   taken_held account random taken is sized it x =

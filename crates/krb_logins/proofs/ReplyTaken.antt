@@ -7,6 +7,7 @@ use Rattle.picky_asn1.specs.Bytes.{Bytes}
 use Rattle.picky_asn1.specs.GeneralizedTime.{seconds_of}
 use Rattle.picky_asn1.specs.Numbers.{is_number}
 use Rattle.krb_crypto.specs.declared.suite.CipherSuite.{CipherSuite}
+use Rattle.krb_crypto.specs.Suites.{cipher_confounder_size}
 use Rattle.krb_moments.specs.Units.{Micros}
 use Rattle.krb_types.specs.declared.data_types.authenticator.AuthenticatorInner.{AuthenticatorInner}
 use Rattle.krb_types.specs.declared.data_types.enc_ap_rep_part.EncApRepPartInner.{EncApRepPartInner}
@@ -79,4 +80,4 @@ pub wanted_taken : (asked : ApAskedRecord) (random : Random) (suite : CipherSuit
     → IsReply true random suite key authenticator reply → TakesApReply asked (reply_bytes reply) taken → taken ≡ Ok tt
 wanted_taken asked random suite key authenticator None taken same_suite same_key second micros x y = absurd x
 wanted_taken asked random suite key authenticator (Some bytes) taken same_suite same_key second micros x y =
-    reply_taken asked suite key (ap_reply_confounder random) bytes authenticator taken same_suite same_key second micros x y
+    reply_taken asked suite key (ap_reply_confounder (cipher_confounder_size suite) random) bytes authenticator taken same_suite same_key second micros x y

@@ -4,6 +4,7 @@ use Rattle.asn1_leaves.specs.declared.date.GeneralizedTime.{GeneralizedTime}
 use Rattle.picky_asn1.specs.Bytes.{Bytes}
 use Rattle.picky_asn1.specs.GeneralizedTime.{seconds_of}
 use Rattle.krb_moments.specs.Units.{Micros, Seconds}
+use Rattle.krb_crypto.specs.Suites.{cipher_confounder_size}
 use Rattle.krb_types.specs.RandomBytes.{Random, ticket_confounder}
 use Rattle.krb_types.specs.declared.data_types.encrypted_data.EncryptedData.{EncryptedData}
 use Rattle.krb_accounts.specs.Account.{AccountRecord}
@@ -62,7 +63,7 @@ IsFurtherSpan realm login first span =
 -- 7.5.1), its session key, and the service that it is for
 pub record IsHeld (account : AccountRecord) (random : Random) (grant : Grant) (credential : CredentialRecord) : Type 0 where
   pub part : EncryptedData
-  pub sealed : IsSealedData account 2 (ticket_confounder random) (ticket_part_bytes (ticket_part grant)) part
+  pub sealed : IsSealedData account 2 (ticket_confounder (cipher_confounder_size account.suite) random) (ticket_part_bytes (ticket_part grant)) part
   pub ticket : credential.ticket ≡ ticket_of grant part
   pub suite : credential.suite ≡ grant.suite
   pub key : credential.key ≡ grant.session
