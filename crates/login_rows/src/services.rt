@@ -7,7 +7,7 @@ use anyhow::{Context, bail};
 use krb_realm::{Admission, AdmitRefusal, CipherSuite, Moment, Service};
 use std::alloc::Global;
 
-/// Makes the service `h`.
+/// Makes the service `h`. Its suite is triple DES where the key has 24 bytes, and AES-256 else.
 pub(crate) fn service(stage: &mut Stage, alloc: Global, words: &[&str]) -> anyhow::Result<String> {
     let [realm, key, number, skew] = words else {
         bail!("service REALM KEY NUMBER SKEW");
@@ -28,7 +28,10 @@ fn make_service(
     skew: u64,
 ) -> anyhow::Result<String> {
     let name = name_of(alloc, "h")?;
-    let suite = CipherSuite::Aes256CtsHmacSha196;
+    let suite = match key.len() {
+        24 => CipherSuite::Des3CbcSha1Kd,
+        _ => CipherSuite::Aes256CtsHmacSha196,
+    };
     match Service::new(alloc, realm, &name, suite, key, number, skew) {
         Ok(service) => {
             stage.service = Some(service);
