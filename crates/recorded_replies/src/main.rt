@@ -17,7 +17,7 @@ struct Recorded<'a> {
 fn main(rt: HostRuntime) -> anyhow::Result<()> {
     let bare = bare_realm(rt.alloc())?;
     replay(&rt, &bare, "real_clients.txt")?;
-    let realm = realm_of_three(rt.alloc())?;
+    let realm = realm_of_four(rt.alloc())?;
     replay(&rt, &realm, "kdc_exchanges.txt")
 }
 
@@ -29,14 +29,16 @@ fn bare_realm(alloc: Global) -> anyhow::Result<Realm> {
     Ok(realm)
 }
 
-/// The realm R with the accounts `a`, `h` and `b`.
-fn realm_of_three(alloc: Global) -> anyhow::Result<Realm> {
+/// The realm R with the accounts `a`, `h`, `b` and `d`.
+fn realm_of_four(alloc: Global) -> anyhow::Result<Realm> {
     let mut realm = bare_realm(alloc)?;
     let aes256 = CipherSuite::Aes256CtsHmacSha196;
     let aes128 = CipherSuite::Aes128CtsHmacSha196;
+    let des3 = CipherSuite::Des3CbcSha1Kd;
     realm.add_account_by_password(alloc, &name_of(alloc, b"a")?, aes256, b"pw")?;
     realm.add_account_by_key(alloc, &name_of(alloc, b"h")?, aes256, &[1; 32])?;
     realm.add_account_by_password(alloc, &name_of(alloc, b"b")?, aes128, b"pw")?;
+    realm.add_account_by_password(alloc, &name_of(alloc, b"d")?, des3, b"pw")?;
     Ok(realm)
 }
 
