@@ -5,7 +5,7 @@ pub returns-clause-asks : goal.returns-clause-asks
 returns-clause-asks c = record {
   authenticator = c.in_ok-authenticator.authenticator;
   authenticates = rw (c.in_ok-told.ensures, c.in_ok-subkey.ensures, c.suite-suite.ensures) at c.in_ok-authenticator.ensures;
-  presents = c.in_ok-bytes.ensures;
+  presents = rw (c.confounder_at-confounder.ensures.part, c.suite-suite.ensures) at c.in_ok-bytes.ensures;
 }
 
 pub returns-clause-only : goal.returns-clause-only
