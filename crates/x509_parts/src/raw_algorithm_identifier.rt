@@ -6,7 +6,7 @@ use devices::{Sink, Source};
 use picky_asn1::wrapper::ObjectIdentifierAsn1;
 use picky_asn1_der::{
     Asn1DerError, Deserialize, Deserializer, Fields, HasDefault, RawElement, Row2, Serialize,
-    Serializer, Tagged, fields_of, from_fields, read_sequence,
+    Serializer, fields_of, read_sequence,
 };
 use std::alloc::{AllocError, Global};
 use x509_spelling::{
@@ -171,35 +171,40 @@ impl RawAlgorithmIdentifier {
     }
 }
 
-impl Tagged for RawAlgorithmIdentifier {
+impl Serialize for RawAlgorithmIdentifier {
     ghost use Rattle.std.proofs.Common.{ap, refl, true};
-    ghost use Rattle.asn1_trees.specs.Tagged.{sequence};
-    ghost use Rattle.asn1_trees.proofs.Tagged.{sequence_laws};
+    ghost use Rattle.asn1_trees.specs.Tagged.{sequence, tagged_tree};
+    ghost use Rattle.asn1_trees.specs.Firsts.{only};
+    ghost use Rattle.asn1_trees.proofs.Spelling.{may_begin-only};
+    ghost use Rattle.asn1_trees.proofs.Tagged.{sequence_laws, tagged-injective};
 
-    type Row = RawAlgorithmRow;
+    ghost tree = { tagged_tree 48 (sequence ⟦<RawAlgorithmRow as Fields>⟧.trees) (λ v. (v.algorithm, (v.parameters, tt))) };
 
-    const FIRST: u8 = 48;
+    ghost firsts = { only 48 };
 
-    ghost FIRST = { 48 };
+    ghost begins = { λ _. may_begin-only 48 };
 
-    ghost row_tree = { sequence ⟦<RawAlgorithmRow as Fields>⟧.trees };
+    ghost injective = { tagged-injective 48 (sequence ⟦<RawAlgorithmRow as Fields>⟧.trees)
+        (sequence_laws ⟦<RawAlgorithmRow as Fields>⟧.trees (⟦<RawAlgorithmRow as Fields>⟧.injective (refl {a = true})))
+        (λ v. (v.algorithm, (v.parameters, tt))) (λ v w e. ap (λ f. record { algorithm = f.0; parameters = f.1.0 }) e) };
 
-    ghost row_laws = { sequence_laws ⟦<RawAlgorithmRow as Fields>⟧.trees (⟦<RawAlgorithmRow as Fields>⟧.injective (refl {a = true})) };
+    fn serialize<W: Sink>(&self, to: &mut Serializer<W>) -> Result<usize, Asn1DerError> {
+        to.list(48, &fields_of![self; algorithm, parameters])
+    }
+}
 
-    ghost row_of = { λ v. (v.algorithm, (v.parameters, tt)) };
-
-    ghost one_row = { λ v w e. ap (λ f. record { algorithm = f.0; parameters = f.1.0 }) e };
-
-    fn read_row<R: Source>(tag: u8, from: &mut Deserializer<R>) -> Result<Self::Row, Asn1DerError> {
-        read_sequence(tag, from)
+impl Deserialize for RawAlgorithmIdentifier {
+    fn may_start(first: u8) -> bool {
+        first == 48
     }
 
-    fn of_row(row: Self::Row) -> Self {
-        from_fields![row; algorithm, parameters]
-    }
-
-    fn write_row<W: Sink>(&self, tag: u8, to: &mut Serializer<W>) -> Result<usize, Asn1DerError> {
-        to.list(tag, &fields_of![self; algorithm, parameters])
+    fn deserialize<R: Source>(from: &mut Deserializer<R>) -> Result<Self, Asn1DerError> {
+        let row: RawAlgorithmRow = read_sequence(48, from)?;
+        let (algorithm, (parameters, ())) = row;
+        Ok(RawAlgorithmIdentifier {
+            algorithm,
+            parameters,
+        })
     }
 }
 
