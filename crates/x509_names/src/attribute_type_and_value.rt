@@ -221,10 +221,8 @@ fn look_at_text(string: &DirectoryString)
     }
 }
 
-impl Agreed for AttributeTypeAndValue {
+impl Agreed<AttributeRow> for AttributeTypeAndValue {
     ghost use Rattle.x509_names.specs.Attributes.{value_raw};
-
-    type Row = AttributeRow;
 
     ghost row_of = { λ v. (v.ty, (value_raw v.value, tt)) };
 
@@ -260,7 +258,7 @@ impl Tagged for AttributeTypeAndValue {
     ghost one_row = { λ v w e. e };
 
     fn read_row<R: Source>(tag: u8, from: &mut Deserializer<R>) -> Result<Self, Asn1DerError> {
-        read_agreed(tag, from)
+        read_agreed::<AttributeTypeAndValue, AttributeRow, R>(tag, from)
     }
 
     fn of_row(row: Self) -> Self {
