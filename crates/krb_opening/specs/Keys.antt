@@ -1,7 +1,9 @@
 -- Keys of messages (RFC 4120, section 5.2.9).
+use Rattle.std.specs.Option.{option_map}
 use Rattle.std.specs.Prelude.{Bool, ◌==◌, ◌&&◌, length, Option, None, Some, if◌then◌else◌}
 use Rattle.krb_crypto.specs.declared.suite.CipherSuite.{CipherSuite}
 use Rattle.krb_crypto.specs.declared.suite.CipherSuite.TheVariants.{Aes128CtsHmacSha196, Aes256CtsHmacSha196, Des3CbcSha1Kd}
+use Rattle.krb_crypto.specs.Keys.{KeyRecord}
 use Rattle.krb_crypto.specs.Suites.{cipher_key_size, cipher_number}
 use Rattle.krb_types.specs.declared.data_types.encryption_key.EncryptionKey.{EncryptionKey}
 use Rattle.picky_asn1.specs.Numbers.{is_number}
@@ -16,3 +18,7 @@ suite_of key =
     if is_key_of Aes128CtsHmacSha196 key then Some Aes128CtsHmacSha196
     else (if is_key_of Aes256CtsHmacSha196 key then Some Aes256CtsHmacSha196
     else (if is_key_of Des3CbcSha1Kd key then Some Des3CbcSha1Kd else None))
+
+-- the key of that suite
+abbrev pub key_in : EncryptionKey → Option KeyRecord
+key_in key = option_map (λ suite. record { suite = suite; bytes = key.key_value.0 }) (suite_of key)

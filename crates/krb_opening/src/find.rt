@@ -8,7 +8,7 @@ ghost use Rattle.krb_opening.specs.Opens.{IsWantOfMemory, Opens};
 
 use crate::open::{OpenFault, open_part};
 use asn1_codec::{Asn1DerError, Deserialize, from_exact_bytes};
-use krb_crypto::{CipherSuite, KerberosCryptoError};
+use krb_crypto::{Key, KerberosCryptoError};
 use std::alloc::{AllocError, Global};
 
 impl OpenFault {
@@ -38,18 +38,17 @@ pub fn read_whole<T: Deserialize>(alloc: Global, bytes: &[u8]) -> Result<Option<
     }
 }
 
-/// The value that is sealed here, or none (see [`open_part`]).
+/// The value that is sealed here under the key, or none (see [`open_part`]).
 pub fn open_whole<T: Deserialize>(
     alloc: Global,
-    suite: CipherSuite,
-    key: &[u8],
+    key: &Key,
     usage: i32,
     bytes: &[u8],
 ) -> Result<Option<T>, AllocError>
     ensures { IfOk result
-        (IsFound (Opens T.tree (cipher_number suite) key.now (cast_unsigned w32 usage) bytes.now)) }
+        (IsFound (Opens T.tree (cipher_number key.now.suite) key.now.bytes (cast_unsigned w32 usage) bytes.now)) }
 {
-    match open_part(alloc, suite, key, usage, bytes) {
+    match open_part(alloc, key.suite(), key.as_bytes(), usage, bytes) {
         Ok(value) => Ok(Some(value)),
         Err(fault) => {
             if fault.is_memory() {

@@ -1,8 +1,9 @@
 //! Keys of messages.
-ghost use Rattle.std.specs.Prelude.{◌≡◌};
+ghost use Rattle.std.specs.Prelude.{◌≡◌, Option, None, Some};
+ghost use Rattle.krb_opening.specs.Keys.{key_in};
 ghost use Rattle.krb_opening.specs.Keys.{is_key_of, suite_of};
 
-use krb_crypto::{Cipher, CipherSuite};
+use krb_crypto::{Cipher, CipherSuite, Key};
 use krb_types::data_types::EncryptionKey;
 use picky_asn1::is_number;
 
@@ -20,6 +21,14 @@ pub fn suite_of(key: &EncryptionKey) -> Option<CipherSuite>
         return Some(CipherSuite::Des3CbcSha1Kd);
     }
     None
+}
+
+/// The key of the suite that it is one of, or none.
+pub fn key_of(key: &EncryptionKey) -> Option<Key>
+    ensures { result ≡ key_in key.now }
+{
+    let suite = suite_of(key)?;
+    Key::new(suite, key.key_value.0.as_bytes()).ok()
 }
 
 fn is_key_of(suite: CipherSuite, key: &EncryptionKey) -> bool

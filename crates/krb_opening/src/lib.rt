@@ -8,6 +8,6 @@ mod open;
 mod sealed;
 
 pub use find::{open_whole, read_whole};
-pub use keys::suite_of;
+pub use keys::{key_of, suite_of};
 pub use open::{OpenFault, open_part};
 pub use sealed::open_sealed;

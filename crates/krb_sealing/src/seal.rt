@@ -4,30 +4,27 @@ ghost use Rattle.std.specs.Int.{cast_unsigned, w32};
 ghost use Rattle.krb_crypto.specs.Suites.{cipher_confounder_size};
 ghost use Rattle.krb_sealing.specs.Sealing.{Seals, encrypted_by, key_number};
 
-use krb_crypto::{Cipher, CipherSuite};
+use krb_crypto::{CipherSuite, Key};
 use krb_types::data_types::EncryptedData;
 use picky_asn1::wrapper::{IntegerAsn1, OctetStringAsn1};
 use picky_asn1_der::{ExplicitContextTag, ExplicitContextTag1, Optional};
 use std::alloc::{AllocError, Global};
 
 /// The text, sealed under the key for the usage behind the confounder, with the number of the suite and, where it is given,
-/// that of the key (RFC 4120, section 5.2.9). Under a key of the suite's length memory is the only refusal.
+/// that of the key (RFC 4120, section 5.2.9). Memory is the only refusal.
 pub fn sealed_data(
     alloc: Global,
-    suite: CipherSuite,
-    key: &[u8],
+    key: &Key,
     number: Option<u32>,
     usage: i32,
     confounder: &[u8],
     plain: &[u8],
 ) -> Result<EncryptedData, AllocError>
-    requires { length confounder.now ≡ cipher_confounder_size suite }
-    ensures { IfOk result (Seals suite key.now number (cast_unsigned w32 usage) confounder.now plain.now) }
+    requires { length confounder.now ≡ cipher_confounder_size key.now.suite }
+    ensures { IfOk result (Seals key.now.suite key.now.bytes number (cast_unsigned w32 usage) confounder.now plain.now) }
 {
-    let Ok(cipher) = suite.encrypt(alloc, key, usage, plain, confounder) else {
-        return Err(AllocError);
-    };
-    let sealed = encrypted_by(alloc, suite, number, cipher)?;
+    let cipher = key.encrypt(alloc, usage, plain, confounder)?;
+    let sealed = encrypted_by(alloc, key.suite(), number, cipher)?;
     Ok(sealed)
 }
 
