@@ -8,7 +8,7 @@ ghost use Rattle.krb_opening.specs.Opens.{IsWantOfMemory, Opens};
 
 use crate::open::{OpenFault, open_part};
 use asn1_codec::{Asn1DerError, Deserialize, from_exact_bytes};
-use krb_crypto::{Key, KerberosCryptoError};
+use krb_crypto::{KerberosCryptoError, Key};
 use std::alloc::{AllocError, Global};
 
 impl OpenFault {

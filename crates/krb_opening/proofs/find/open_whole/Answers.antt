@@ -6,4 +6,4 @@ use Rattle.krb_opening.proofs.find.open_whole.Goals as goal
 pub returns-else-is_memory : goal.returns-else-is_memory
 returns-else-is_memory g c =
     let fits : SFits w32 c.args.usage = c.ranges.usage in
-    not_first _ c.is_memory.ensures c.if-is_memory.false (simp to_z-of_z at c.in-Err.ensures)
+    rw (c.suite.ensures, c.as_bytes.ensures.value) at (not_first _ c.is_memory.ensures c.if-is_memory.false (simp to_z-of_z at c.in-Err.ensures))
