@@ -159,6 +159,11 @@ pub chained_by_aes : (key w p c : List ℕ) (n : ℕ) → w ≡ key_schedule key
 unfolding aes_cipher
 chained_by_aes key w p c n words count chained = rw (words, count) at chained
 
+-- and so is the cipher of a block
+pub ciphered_by_aes : (key w s : List ℕ) (n : ℕ) → w ≡ key_schedule key → n ≡ round_count key → cipher w n s ≡ aes_cipher key s
+unfolding aes_cipher
+ciphered_by_aes key w s n words count = rw (words, count) refl
+
 pub completed_by_aes : (key w c v : List ℕ) (n m : ℕ) → w ≡ key_schedule key → n ≡ round_count key → IsCompleted 16 m (cipher w n) c v → IsCompleted 16 m (aes_cipher key) c v
 unfolding aes_cipher
 completed_by_aes key w c v n m words count completed = rw (words, count) at completed

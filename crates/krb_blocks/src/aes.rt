@@ -16,6 +16,7 @@ mod schedule;
 use crate::error::{KerberosCryptoError, KerberosCryptoResult};
 pub use decrypt::{decrypt_aes_cbc, decrypt_aes_cts};
 pub use encrypt::{encrypt_aes_cbc, encrypt_aes_cts};
+pub use schedule::KeySchedule;
 
 /// The bytes of a block (RFC 3962, section 6).
 pub const AES_BLOCK_SIZE: usize = 16;

@@ -1,12 +1,12 @@
 //! AES (FIPS 197), and cipher block chaining with ciphertext stealing over it (RFC 3962, section 5).
-//! The calls of `aes` take the key; the cipher of single blocks is reached through its chains alone.
+//! The calls of `aes` take the key; the cipher of single blocks is reached through its chains and its round keys.
 #![tactic(auto)]
 
 pub mod aes;
 pub mod error;
 
 pub use aes::{
-    AES_BLOCK_SIZE, AES128_KEY_SIZE, AES256_KEY_SIZE, AesSize, decrypt_aes_cbc, decrypt_aes_cts,
-    encrypt_aes_cbc, encrypt_aes_cts, swap_two_last_blocks,
+    AES_BLOCK_SIZE, AES128_KEY_SIZE, AES256_KEY_SIZE, AesSize, KeySchedule, decrypt_aes_cbc,
+    decrypt_aes_cts, encrypt_aes_cbc, encrypt_aes_cts, swap_two_last_blocks,
 };
 pub use error::{KerberosCryptoError, KerberosCryptoResult};

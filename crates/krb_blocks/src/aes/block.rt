@@ -1,6 +1,6 @@
 //! The cipher and its inverse on one block (FIPS 197, sections 5.1 and 5.3), and the sum of two blocks.
 
-ghost use Rattle.std.specs.Prelude.{◌≡◌};
+ghost use Rattle.std.specs.Prelude.{◌≡◌, ℕ, List};
 ghost use Rattle.krb_blocks.specs.Bytes.{IsBytes, sum_of_bytes};
 ghost use Rattle.krb_blocks.specs.Aes.{cipher, inv_cipher};
 ghost use Rattle.krb_blocks.specs.Words.{schedule_of};
@@ -9,9 +9,13 @@ use super::columns::Columns;
 use super::schedule::{InverseSchedule, KeySchedule, round_key};
 
 impl KeySchedule {
+    ghost use Rattle.krb_blocks.specs.Aes.{aes_cipher};
+    ghost use Rattle.krb_blocks.specs.Expanded.{IsScheduleOf};
+
     /// The cipher of a block. Out of line its state stays in four registers, whatever the caller does.
     #[inline(never)]
-    pub(crate) fn encrypt_block(&self, block: &[u8; 16]) -> [u8; 16]
+    pub fn encrypt_block(&self, block: &[u8; 16]) -> [u8; 16]
+        ensures under { (key : List ℕ) → IsScheduleOf self.now key → result ≡ aes_cipher key block.now }
         ensures is_cipher { result ≡ cipher (schedule_of self.now.rounds self.now.words) self.now.rounds block.now }
         ensures undone { inv_cipher (schedule_of self.now.rounds self.now.words) self.now.rounds result ≡ block.now }
     {

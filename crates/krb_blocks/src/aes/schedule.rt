@@ -1,14 +1,15 @@
 //! The key expansion (FIPS 197, section 5.2), and the round keys of the equivalent inverse cipher (5.3.5).
 
-ghost use Rattle.std.specs.Prelude.{◌≡◌, ◌⊎◌, ◌+◌, ◌*◌, ◌/◌, ◌<◌, ◌≤◌, length, take};
+ghost use Rattle.std.specs.Prelude.{◌≡◌, ◌≢◌, ◌⊎◌, ◌+◌, ◌*◌, ◌/◌, ◌<◌, ◌≤◌, length, take, Err, IfOk, IsOk, OnOk};
 ghost use Rattle.std.specs.Int.{w32, to_be_bytes};
 ghost use Rattle.krb_blocks.specs.Aes.{IsAesKey, key_schedule, round_count, round_key, turned_word};
 ghost use Rattle.krb_blocks.specs.Words.{IsUnmixed, block_of, bytes_of, schedule_of};
 
-use super::AES128_KEY_SIZE;
 use super::bytes::substituted_word;
 use super::columns::{Columns, word_at};
 use super::mixing::unmixed_key;
+use super::{AES128_KEY_SIZE, AesSize, check_key_length};
+use crate::error::KerberosCryptoResult;
 
 /// The round constants as words, from the first on (FIPS 197, section 5.2).
 const ROUND_CONSTANTS: [u32; 10] = [
@@ -29,7 +30,7 @@ const MOST_WORDS: usize = 60;
 
 /// The round keys of one key: four words before the first round, and four for each round, in front.
 #[derive(Drop)]
-pub(crate) struct KeySchedule {
+pub struct KeySchedule {
     pub(crate) words: [u32; MOST_WORDS],
     pub(crate) rounds: usize,
     ghost some: { 0 < rounds },
@@ -37,6 +38,24 @@ pub(crate) struct KeySchedule {
 }
 
 impl KeySchedule {
+    ghost use Rattle.krb_blocks.specs.AesSize.{key_length_of};
+    ghost use Rattle.krb_blocks.specs.Expanded.{IsScheduleOf};
+    ghost use Rattle.krb_blocks.specs.declared.error.KerberosCryptoError.TheVariants.{KeyLength};
+
+    /// The round keys of a key of this size. Refused is a key of another length (`KeyLength`).
+    pub fn of_size(key: &[u8], aes_size: &AesSize) -> KerberosCryptoResult<KeySchedule>
+        ensures made { IfOk result (λ keys. IsScheduleOf keys key.now) }
+        ensures sized { OnOk result (length key.now ≡ key_length_of aes_size.now) }
+
+        // The refusal.
+        ensures right { length key.now ≡ key_length_of aes_size.now → IsOk result }
+        ensures key_length { length key.now ≢ key_length_of aes_size.now
+            → result ≡ Err (KeyLength (length key.now) (key_length_of aes_size.now)) }
+    {
+        check_key_length(key, aes_size)?;
+        Ok(KeySchedule::new(key))
+    }
+
     /// The round keys of a key of 16 or 32 bytes.
     pub(crate) fn new(key: &[u8]) -> KeySchedule
         requires sized { IsAesKey key.now }

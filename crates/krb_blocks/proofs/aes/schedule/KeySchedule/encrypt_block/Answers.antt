@@ -1,7 +1,7 @@
 use Rattle.std.proofs.Common.{◌≡◌, ◌∙◌, refl, arith}
 use Rattle.krb_blocks.specs.Aes.{rounds, cipher}
 use Rattle.krb_blocks.specs.Words.{schedule_of}
-use Rattle.krb_blocks.proofs.Rounds.{rounds_more, cipher_written, inv_cipher-cipher}
+use Rattle.krb_blocks.proofs.Rounds.{ciphered_by_aes, rounds_more, cipher_written, inv_cipher-cipher}
 use Rattle.krb_blocks.proofs.Unmixed.{keyed}
 use Rattle.krb_blocks.proofs.WordBytes.{IsBytes-bytes_of, length-schedule_of}
 use Rattle.krb_blocks.proofs.aes.schedule.KeySchedule.encrypt_block.Goals as goal
@@ -31,3 +31,7 @@ returns-clause-undone c =
     let is_cipher : c.bytes.result ≡ cipher w k.rounds c.args.block.now = returns-clause-is_cipher c in
     rw is_cipher
     (inv_cipher-cipher w (IsBytes-bytes_of _) k.rounds (omega (arith, length-schedule_of k.rounds k.words (omega arith))) c.args.block.now (record { sized = c.told-block; bytes = c.fits-block }))
+
+pub returns-clause-under : goal.returns-clause-under
+returns-clause-under c = λ key made.
+    returns-clause-is_cipher c ∙ ciphered_by_aes key _ c.args.block.now _ made.words made.rounds
