@@ -206,8 +206,5 @@ changed accounts entries name found i entry account held is some own =
 pub same_refusal : {A B : Type 0} (answer : Result A RealmRefusal) (e f : RealmRefusal) → answer ≡ Err e → answer ≡ Err f → (let own : Result B RealmRefusal = Err e in own ≡ Err f)
 same_refusal answer e f x y = let both = sym x ∙ y in ap Err (cc (both))
 
-pub moved_refusal : {A B : Type 0} (e f : RealmRefusal) → (let own : Result A RealmRefusal = Err e in own ≡ Err f) → (let other : Result B RealmRefusal = Err e in other ≡ Err f)
-moved_refusal e f x = ap Err (cc (x))
-
 pub no_refusal : {A B : Type 0} (answer : Result A RealmRefusal) (value : A) (e : RealmRefusal) (other : Result B RealmRefusal) → answer ≡ Ok value → answer ≡ Err e → other ≡ Err e
 no_refusal answer value e other x y = let both = sym x ∙ y in absurd (cc (both))

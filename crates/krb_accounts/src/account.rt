@@ -1,73 +1,56 @@
 //! An account: what a realm knows of a principal.
-ghost use Rattle.std.specs.Prelude.{◌≡◌, ◌≢◌, ◌≤◌, ◌<◌, ◌+◌, ◌↔◌, length, IfOk, IfErr, MatchResult, Ok, Err, None, ◌⊎◌};
+ghost use Rattle.std.specs.Prelude.{◌≡◌, ◌≢◌, ◌≤◌, ◌<◌, ◌+◌, ◌↔◌, length, IfOk, IfErr, Err, None};
 ghost use Rattle.std.specs.Option.{option_copied};
 ghost use Rattle.krb_crypto.specs.Suites.{cipher_key_size};
 ghost use Rattle.krb_accounts.specs.Passwords.{password_account};
+ghost use Rattle.krb_accounts.specs.declared.refusal.RealmRefusal.{RealmRefusal};
 
 use crate::RealmRefusal;
-use krb_crypto::{Cipher, CipherSuite, KerberosCryptoError};
+use krb_crypto::{CipherSuite, KerberosCryptoError, Key};
 use picky_asn1::wrapper::OctetStringAsn1;
 use std::alloc::Global;
 use std::marker::Model;
 
-/// What a realm knows of a principal: a suite, a key of that suite, the key's number, which counts from
-/// 1, and the salt with which the key was made of a password, if it was. A contract sees these four.
+/// What a realm knows of a principal: a key, its number, which counts from 1, and the salt with which the key was made of a
+/// password, if it was. A contract sees these, of the key its suite and its octets.
 #[derive(Drop)]
 pub struct Account {
-    suite: CipherSuite,
-    key: OctetStringAsn1,
+    key: Key,
     number: u32,
     salt: Option<OctetStringAsn1>,
 }
 
 impl Model for Account {
-    ghost use Rattle.std.specs.Prelude.{◌≡◌, ◌≤◌, length};
-    ghost use Rattle.krb_crypto.specs.Suites.{cipher_key_size};
+    ghost use Rattle.std.specs.Prelude.{◌≤◌};
     ghost use Rattle.krb_accounts.specs.Account.{AccountRecord};
 
     ghost Value = { AccountRecord };
 
-    ghost view = { λ a. record { suite = a.suite; key = a.key; number = a.number; salt = a.salt } };
+    ghost view = { λ a. record { suite = a.key.suite; key = a.key.bytes; number = a.number; salt = a.salt } };
 
-    ghost invariant = { λ a. (length a.key ≡ cipher_key_size a.suite) × (1 ≤ a.number) };
+    ghost invariant = { λ a. 1 ≤ a.number };
 }
 
 impl Account {
     ghost use Rattle.krb_accounts.specs.Accounts.{with_key};
-    ghost use Rattle.krb_accounts.specs.declared.refusal.RealmRefusal.{RealmRefusal};
 
     /// An account with this key.
-    pub fn new(
-        suite: CipherSuite,
-        key: OctetStringAsn1,
-        number: u32,
-        salt: Option<OctetStringAsn1>,
-    ) -> Account
-        requires key_size { length key ≡ cipher_key_size suite }
-        requires from_one { 1 ≤ number }
-        ensures { result ≡ record { suite = suite; key = key; number = number; salt = salt } }
+    pub fn new(key: Key, number: u32, salt: Option<OctetStringAsn1>) -> Account
+        requires { 1 ≤ number }
+        ensures { result ≡ record { suite = key.suite; key = key.bytes; number = number; salt = salt } }
     {
-        Account {
-            suite,
-            key,
-            number,
-            salt,
-        }
+        Account { key, number, salt }
     }
 
-    /// An account with a copy of this first key and no salt. A key that isn't of the suite's length is
-    /// refused.
-    pub fn by_key(alloc: Global, suite: CipherSuite, key: &[u8]) -> Result<Account, RealmRefusal>
+    /// An account with this first key and no salt. A key that isn't of the suite's length is refused.
+    pub fn by_key(suite: CipherSuite, key: &[u8]) -> Result<Account, RealmRefusal>
         ensures ok { IfOk result (λ a. a ≡ record { suite = suite; key = key.now; number = 1; salt = None }) }
         ensures key_size { IfOk result (λ _. length key.now ≡ cipher_key_size suite) }
         ensures bad_length { (result ≡ Err RealmRefusal.BadKeyLength) ↔ (length key.now ≢ cipher_key_size suite) }
-        ensures refusal { IfErr result (λ e. (e ≡ RealmRefusal.Memory) ⊎ (e ≡ RealmRefusal.BadKeyLength)) }
+        ensures refusal { IfErr result (λ e. e ≡ RealmRefusal.BadKeyLength) }
     {
-        if key.len() != suite.key_size() {
-            return Err(RealmRefusal::BadKeyLength);
-        }
-        let key = OctetStringAsn1::new(alloc, key)?;
-        Ok(Account::new(suite, key, 1, None))
+        let key = key_of(suite, key)?;
+        Ok(Account::new(key, 1, None))
     }
 
     /// An account with the first key of a password and a salt (RFC 3962, section 4).
@@ -80,47 +63,33 @@ impl Account {
         ensures ok { IfOk result (λ a. a ≡ password_account suite password.now salt.items) }
         ensures memory { 0 < length password.now + length salt.items → IfErr result (λ e. e ≡ KerberosCryptoError.Memory) }
     {
-        let key = suite.generate_key_from_password(alloc, password, &salt)?;
+        let key = Key::of_password(alloc, suite, password, &salt)?;
         let salt = OctetStringAsn1::from(salt);
-        Ok(Account::new(suite, OctetStringAsn1::from(key), 1, Some(salt)))
+        Ok(Account::new(key, 1, Some(salt)))
     }
 
-    /// The account with a copy of its next key, with the number that follows and no salt. Where no number follows it is
-    /// refused.
-    pub(crate) fn with_key(
-        &self,
-        alloc: Global,
-        suite: CipherSuite,
-        key: &[u8],
-    ) -> Result<Account, RealmRefusal>
-        requires { length key.now ≡ cipher_key_size suite }
-        ensures made { MatchResult result
-            (λ account. with_key suite key.now self.now ≡ Ok account)
-            (λ refusal. (refusal ≡ RealmRefusal.Memory) ⊎ (with_key suite key.now self.now ≡ Err refusal)) }
-
-        // Want of memory hides no other refusal.
-        ensures first { (refusal : RealmRefusal) → with_key suite key.now self.now ≡ Err refusal → result ≡ Err refusal }
+    /// The account with its next key, with the number that follows and no salt. Where no number follows it is refused.
+    pub(crate) fn with_key(&self, key: Key) -> Result<Account, RealmRefusal>
+        ensures { result ≡ with_key key.suite key.bytes self.now }
     {
         if self.number == u32::MAX {
             return Err(RealmRefusal::NumberSpent);
         }
-        let key = OctetStringAsn1::new(alloc, key)?;
-        Ok(Account::new(suite, key, self.number + 1, None))
+        Ok(Account::new(key, self.number + 1, None))
     }
 
     /// The suite of the key.
     pub fn suite(&self) -> CipherSuite
         ensures { result ≡ self.now.suite }
     {
-        self.suite
+        self.key.suite()
     }
 
     /// The key.
-    pub fn key(&self) -> &[u8]
-        ensures value { result.now ≡ self.now.key }
-        ensures size { length result.now ≡ cipher_key_size self.now.suite }
+    pub fn key(&self) -> &Key
+        ensures { result.now ≡ record { suite = self.now.suite; bytes = self.now.key } }
     {
-        self.key.as_bytes()
+        &self.key
     }
 
     /// The key's number (RFC 4120, section 5.2.9, `kvno`).
@@ -137,4 +106,18 @@ impl Account {
     {
         self.salt.as_ref()
     }
+}
+
+/// The key of the suite that these octets are. Octets of another length are refused.
+pub(crate) fn key_of(suite: CipherSuite, octets: &[u8]) -> Result<Key, RealmRefusal>
+    ensures ok { IfOk result (λ key. key ≡ record { suite = suite; bytes = octets.now }) }
+    ensures size { IfOk result (λ _. length octets.now ≡ cipher_key_size suite) }
+    ensures bad_length { (result ≡ Err RealmRefusal.BadKeyLength) ↔ (length octets.now ≢ cipher_key_size suite) }
+    ensures refusal { IfErr result (λ e. e ≡ RealmRefusal.BadKeyLength) }
+{
+    let Ok(key) = Key::new(suite, octets) else {
+        return Err(RealmRefusal::BadKeyLength);
+    };
+    key.is_well_formed();
+    Ok(key)
 }

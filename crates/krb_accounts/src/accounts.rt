@@ -1,12 +1,13 @@
 //! The accounts of a realm.
-ghost use Rattle.std.specs.Prelude.{◌≡◌, ◌↔◌, ◌⊎◌, IsSome, Ok, Err, OnOk, OnErr, IfErr};
+ghost use Rattle.std.specs.Prelude.{◌≡◌, ◌↔◌, IsSome, Ok, Err, OnOk, OnErr, IfErr};
 ghost use Rattle.std.specs.Option.{option_copied};
 ghost use Rattle.std.specs.FinMap as finite;
 ghost use Rattle.krb_accounts.specs.Names.{parts};
 
+use crate::account::key_of;
 use crate::names::has_components;
 use crate::{Account, RealmRefusal};
-use krb_crypto::{Cipher, CipherSuite};
+use krb_crypto::CipherSuite;
 use picky_asn1::wrapper::GeneralStringAsn1;
 use std::alloc::Global;
 use std::marker::Model;
@@ -102,32 +103,27 @@ impl Accounts {
         Ok(())
     }
 
-    /// Gives a name's account its next key: a copy of this one, with the number that follows and no salt.
+    /// Gives a name's account its next key, with the number that follows and no salt. It takes no memory.
     ///
-    /// It is refused, in this order: `BadKeyLength`; `Unknown` for a name that has no account; `NumberSpent` where the
-    /// account's number is the greatest; and `Memory` only where it isn't refused so.
+    /// It is refused, in this order: `BadKeyLength`; `Unknown` for a name that has no account; and `NumberSpent` where the
+    /// account's number is the greatest.
     pub fn change_key(
         &mut self,
-        alloc: Global,
         name: &[Vec<u8>],
         suite: CipherSuite,
         key: &[u8],
     ) -> Result<(), RealmRefusal>
-        ensures refusal { IfErr result (λ refusal. (refusal ≡ RealmRefusal.Memory) ⊎ (changing self.old (parts name.now) suite key.now ≡ Err refusal)) }
-
-        // Want of memory hides no other refusal.
-        ensures first { (refusal : RealmRefusal) → changing self.old (parts name.now) suite key.now ≡ Err refusal → result ≡ Err refusal }
+        ensures refusal { IfErr result (λ refusal. changing self.old (parts name.now) suite key.now ≡ Err refusal) }
+        ensures refuses { (refusal : RealmRefusal) → changing self.old (parts name.now) suite key.now ≡ Err refusal → result ≡ Err refusal }
         ensures ok { OnOk result ((account : AccountRecord) × (changing self.old (parts name.now) suite key.now ≡ Ok account)
             × (self.new ≡ finite.insert self.old (parts name.now) account)) }
         ensures err { OnErr result (self.new ≡ self.old) }
     {
-        if key.len() != suite.key_size() {
-            return Err(RealmRefusal::BadKeyLength);
-        }
+        let key = key_of(suite, key)?;
         let Some(place) = place_of(self.entries.as_slice(), name) else {
             return Err(RealmRefusal::Unknown);
         };
-        let account = self.entries[place].account.with_key(alloc, suite, key)?;
+        let account = self.entries[place].account.with_key(key)?;
         self.entries[place].account = account;
         Ok(())
     }
