@@ -22,13 +22,7 @@ pub fn open_stamp(
     let Some(sealed) = read else {
         return Ok(None);
     };
-    let stamp = open_sealed(
-        alloc,
-        account.suite(),
-        account.key(),
-        key_usages::PA_ENC_TIMESTAMP,
-        &sealed,
-    )?;
+    let stamp = open_sealed(alloc, account.key(), key_usages::PA_ENC_TIMESTAMP, &sealed)?;
     Ok(stamp)
 }
 
