@@ -2,7 +2,7 @@
 ghost use Rattle.std.specs.Prelude.{◌≡◌};
 ghost use Rattle.std.specs.Option.{option_copied};
 
-use krb_crypto::CipherSuite;
+use krb_crypto::{CipherSuite, Key};
 use krb_moments::Moment;
 use picky_asn1::wrapper::{GeneralStringAsn1, OctetStringAsn1};
 use std::marker::Model;
@@ -57,8 +57,7 @@ impl AsAsked {
 pub struct TgsAsked {
     service: Vec<GeneralStringAsn1>,
     nonce: u32,
-    suite: CipherSuite,
-    key: OctetStringAsn1,
+    key: Key,
 }
 
 impl Model for TgsAsked {
@@ -66,23 +65,17 @@ impl Model for TgsAsked {
 
     ghost Value = { TgsAskedRecord };
 
-    ghost view = { λ a. record { service = a.service.items; nonce = a.nonce; suite = a.suite; key = a.key } };
+    ghost view = { λ a. record { service = a.service.items; nonce = a.nonce; suite = a.key.suite; key = a.key.bytes } };
 }
 
 impl TgsAsked {
     /// What there is to remember of a request for this service, with this nonce, under a session's key.
-    pub fn new(
-        service: Vec<GeneralStringAsn1>,
-        nonce: u32,
-        suite: CipherSuite,
-        key: OctetStringAsn1,
-    ) -> TgsAsked
-        ensures { result ≡ record { service = service.items; nonce = nonce; suite = suite; key = key } }
+    pub fn new(service: Vec<GeneralStringAsn1>, nonce: u32, key: Key) -> TgsAsked
+        ensures { result ≡ record { service = service.items; nonce = nonce; suite = key.suite; key = key.bytes } }
     {
         TgsAsked {
             service,
             nonce,
-            suite,
             key,
         }
     }
@@ -101,18 +94,11 @@ impl TgsAsked {
         self.nonce
     }
 
-    /// The suite of the session's key.
-    pub fn suite(&self) -> CipherSuite
-        ensures { result ≡ self.now.suite }
-    {
-        self.suite
-    }
-
     /// The session's key.
-    pub fn key(&self) -> &[u8]
-        ensures { result.now ≡ self.now.key }
+    pub fn key(&self) -> &Key
+        ensures { result.now ≡ record { suite = self.now.suite; bytes = self.now.key } }
     {
-        self.key.as_bytes()
+        &self.key
     }
 }
 
@@ -120,8 +106,7 @@ impl TgsAsked {
 /// one was chosen, which is of the same suite. A contract sees these, the key as its suite and its bytes.
 #[derive(Drop)]
 pub struct ApAsked {
-    suite: CipherSuite,
-    key: OctetStringAsn1,
+    key: Key,
     time: Moment,
     subkey: Option<OctetStringAsn1>,
 }
@@ -131,39 +116,29 @@ impl Model for ApAsked {
 
     ghost Value = { ApAskedRecord };
 
-    ghost view = { λ a. record { suite = a.suite; key = a.key; time = a.time; subkey = a.subkey } };
+    ghost view = { λ a. record { suite = a.key.suite; key = a.key.bytes; time = a.time; subkey = a.subkey } };
 }
 
 impl ApAsked {
     /// What there is to remember of a request under a session's key, with this time and subkey.
-    pub fn new(
-        suite: CipherSuite,
-        key: OctetStringAsn1,
-        time: Moment,
-        subkey: Option<OctetStringAsn1>,
-    ) -> ApAsked
-        ensures { result ≡ record { suite = suite; key = key; time = time; subkey = subkey } }
+    pub fn new(key: Key, time: Moment, subkey: Option<OctetStringAsn1>) -> ApAsked
+        ensures { result ≡ record { suite = key.suite; key = key.bytes; time = time; subkey = subkey } }
     {
-        ApAsked {
-            suite,
-            key,
-            time,
-            subkey,
-        }
+        ApAsked { key, time, subkey }
     }
 
     /// The suite of the session's key, and of the subkey.
     pub fn suite(&self) -> CipherSuite
         ensures { result ≡ self.now.suite }
     {
-        self.suite
+        self.key.suite()
     }
 
     /// The session's key.
-    pub fn key(&self) -> &[u8]
-        ensures { result.now ≡ self.now.key }
+    pub fn key(&self) -> &Key
+        ensures { result.now ≡ record { suite = self.now.suite; bytes = self.now.key } }
     {
-        self.key.as_bytes()
+        &self.key
     }
 
     /// The authenticator's time.
