@@ -26,20 +26,15 @@ abbrev pub IsTicketJudged : EntryRecord → ℕ → ℕ → ApReqInner → Resul
 IsTicketJudged entry skew moment request r =
     IsJudged (valid_part entry.suite entry.key skew moment request.ticket.0.0.enc_part.0).gives r
 
--- as it is by an equal key
-pub ticket_at : (entry : EntryRecord) (skew moment : ℕ) (request : ApReqInner) (r : Result EncTicketPartInner Refusal) (key : List ℕ) → key ≡ entry.key
-    → IsJudged (valid_part entry.suite key skew moment request.ticket.0.0.enc_part.0).gives r → IsTicketJudged entry skew moment request r
-ticket_at entry skew moment request r key same x =
-    subst (λ k. IsJudged (valid_part entry.suite k skew moment request.ticket.0.0.enc_part.0).gives r) same x
-
 -- a request that is for another service is refused for that
-pub address_refused : (entry : EntryRecord) (skew moment : ℕ) (request : ApReqInner) (e : Refusal) (names : List (List ℕ)) → names ≡ entry.components
-    → IsJudged {T = Unit {0}} (for_service entry.realm names entry.suite entry.number request).gives (Err e)
+pub address_refused : (entry : EntryRecord) (skew moment : ℕ) (request : ApReqInner) (e : Refusal) (names : List (List ℕ)) (suite : CipherSuite) → names ≡ entry.components → suite ≡ entry.suite
+    → IsJudged {T = Unit {0}} (for_service entry.realm names suite entry.number request).gives (Err e)
     → IsJudged {T = Presented} (presented entry skew moment request).gives (Err e)
 unfolding presented
-address_refused entry skew moment request (Krb code) names same address =
-    let own = subst (λ list. (for_service entry.realm list entry.suite entry.number request).gives (Err code)) same address in inr (code, own, refl)
-address_refused entry skew moment request Memory names same address = tt
+address_refused entry skew moment request (Krb code) names suite named keyed address =
+    let so_named = subst (λ list. (for_service entry.realm list suite entry.number request).gives (Err code)) named address in
+    let own = subst (λ s. (for_service entry.realm entry.components s entry.number request).gives (Err code)) keyed so_named in inr (code, own, refl)
+address_refused entry skew moment request Memory names suite named keyed address = tt
 
 pub ticket_refused : (entry : EntryRecord) (skew moment : ℕ) (request : ApReqInner) (e : Refusal)
     → IsAddressed entry request → IsTicketJudged entry skew moment request (Err e) → IsJudged {T = Presented} (presented entry skew moment request).gives (Err e)

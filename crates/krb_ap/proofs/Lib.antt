@@ -1,4 +1,5 @@
 pub mod Tagged
+pub mod FoundKeys
 pub mod Judged
 mod Suites
 pub mod Presentations

@@ -6,6 +6,7 @@ ghost use Rattle.krb_ap.specs.ApReply.{IsReplyTo};
 
 use crate::presented::Presented;
 use crate::reply::ap_reply;
+use krb_crypto::Key;
 use krb_types::data_types::{
     AuthenticatorInner, EncTicketPartInner, EncryptionKey, PrincipalName, Realm,
 };
@@ -111,7 +112,11 @@ pub fn reply_to(
     if !presented.wants_reply {
         return Ok(None);
     }
-    let key = presented.part.key.0.key_value.0.as_bytes();
-    let bytes = ap_reply(alloc, presented.suite, key, &presented.authenticator, words)?;
+    let session = presented.part.key.0.key_value.0.as_bytes();
+    // The authenticator was opened under this key, so it is one.
+    let Ok(key) = Key::new(presented.suite, session) else {
+        return Err(AllocError);
+    };
+    let bytes = ap_reply(alloc, &key, &presented.authenticator, words)?;
     Ok(Some(bytes))
 }

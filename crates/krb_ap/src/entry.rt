@@ -8,11 +8,11 @@ use crate::judge::{check_address, check_presented, check_ticket};
 use crate::messages::read_ap_req;
 use crate::presented::Presented;
 use crate::refusal::AdmitRefusal;
-use krb_crypto::CipherSuite;
+use krb_crypto::Key;
 use krb_messages::messages::ApReqInner;
 use krb_moments::Moment;
 use krb_types::Refusal;
-use picky_asn1::wrapper::{GeneralStringAsn1, OctetStringAsn1};
+use picky_asn1::wrapper::GeneralStringAsn1;
 use std::alloc::Global;
 use std::marker::Model;
 
@@ -22,8 +22,7 @@ use std::marker::Model;
 pub struct KeytabEntry {
     realm: GeneralStringAsn1,
     components: Vec<GeneralStringAsn1>,
-    suite: CipherSuite,
-    key: OctetStringAsn1,
+    key: Key,
     number: u32,
 }
 
@@ -35,8 +34,8 @@ impl Model for KeytabEntry {
     ghost view = { λ e. record {
       realm = e.realm;
       components = e.components.items;
-      suite = e.suite;
-      key = e.key;
+      suite = e.key.suite;
+      key = e.key.bytes;
       number = e.number;
     } };
 }
@@ -46,16 +45,14 @@ impl KeytabEntry {
     pub fn new(
         realm: GeneralStringAsn1,
         components: Vec<GeneralStringAsn1>,
-        suite: CipherSuite,
-        key: OctetStringAsn1,
+        key: Key,
         number: u32,
     ) -> KeytabEntry
-        ensures { result ≡ record { realm = realm; components = components.items; suite = suite; key = key; number = number } }
+        ensures { result ≡ record { realm = realm; components = components.items; suite = key.suite; key = key.bytes; number = number } }
     {
         KeytabEntry {
             realm,
             components,
-            suite,
             key,
             number,
         }
@@ -93,14 +90,13 @@ impl KeytabEntry {
         check_address(
             &self.realm,
             self.components.as_slice(),
-            self.suite,
+            self.key.suite(),
             self.number,
             request,
         )?;
         let part = check_ticket(
             alloc,
-            self.suite,
-            self.key.as_bytes(),
+            &self.key,
             skew,
             moment,
             &request.ticket.0.0.enc_part.0,

@@ -9,10 +9,10 @@ ghost use Rattle.std.specs.Int.{cast_unsigned, w32};
 
 use crate::messages::{open_authenticator, open_part};
 use crate::presented::{Authenticated, Presented};
-use krb_crypto::CipherSuite;
+use krb_crypto::{CipherSuite, Key};
 use krb_messages::messages::ApReqInner;
 use krb_moments::{MICROSECONDS_IN_SECOND, Moment, moment_at};
-use krb_opening::suite_of;
+use krb_opening::key_of;
 use krb_types::constants::types::{AP_REQ_MSG_TYPE, KERBEROS_VERSION};
 use krb_types::constants::{error_codes, key_usages};
 use krb_types::data_types::{
@@ -109,16 +109,15 @@ fn may_be_under(number: u32, encrypted: &EncryptedData) -> bool
 /// Opens the ticket's part, and judges its times and flags at a moment. The skew is in microseconds, a day at most.
 pub(crate) fn check_ticket(
     alloc: Global,
-    suite: CipherSuite,
-    key: &[u8],
+    key: &Key,
     skew: u64,
     moment: Moment,
     encrypted: &EncryptedData,
 ) -> Result<EncTicketPartInner, Refusal>
     requires { skew ≤ 86400000000 }
-    ensures { IsJudged (valid_part suite key.now skew moment encrypted.now).gives result }
+    ensures { IsJudged (valid_part key.now.suite key.now.bytes skew moment encrypted.now).gives result }
 {
-    let part = open_ticket(alloc, suite, key, encrypted)?;
+    let part = open_ticket(alloc, key, encrypted)?;
     check_times(skew, moment, &part)?;
     Ok(part)
 }
@@ -126,13 +125,12 @@ pub(crate) fn check_ticket(
 /// The ticket's part, which the service's key has to open (code 31; RFC 4120, section 5.3).
 pub fn open_ticket(
     alloc: Global,
-    suite: CipherSuite,
-    key: &[u8],
+    key: &Key,
     encrypted: &EncryptedData,
 ) -> Result<EncTicketPartInner, Refusal>
-    ensures { IsJudged (opened_part suite key.now encrypted.now).gives result }
+    ensures { IsJudged (opened_part key.now.suite key.now.bytes encrypted.now).gives result }
 {
-    let Some(part) = open_part(alloc, suite, key, encrypted)? else {
+    let Some(part) = open_part(alloc, key, encrypted)? else {
         return Err(Refusal::Krb(error_codes::KRB_AP_ERR_BAD_INTEGRITY));
     };
     Ok(part)
@@ -248,20 +246,13 @@ fn open_under(
 ) -> Result<(CipherSuite, AuthenticatorInner), Refusal>
     ensures { IsJudged (opened key.now (cast_unsigned w32 usage) encrypted.now).gives result }
 {
-    let Some(suite) = suite_of(key) else {
+    let Some(own) = key_of(key) else {
         return Err(Refusal::Krb(error_codes::KRB_AP_ERR_BAD_INTEGRITY));
     };
-    let Some(authenticator) = open_authenticator(
-        alloc,
-        suite,
-        key.key_value.0.as_bytes(),
-        usage,
-        encrypted,
-    )?
-    else {
+    let Some(authenticator) = open_authenticator(alloc, &own, usage, encrypted)? else {
         return Err(Refusal::Krb(error_codes::KRB_AP_ERR_BAD_INTEGRITY));
     };
-    Ok((suite, authenticator))
+    Ok((own.suite(), authenticator))
 }
 
 // Judges whose the authenticator is, and what moment it tells.

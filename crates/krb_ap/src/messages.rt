@@ -5,7 +5,7 @@ ghost use Rattle.krb_opening.specs.Found.{IsFound};
 ghost use Rattle.krb_messages.specs.Messages.{IsApReq};
 ghost use Rattle.krb_ap.specs.Messages.{IsAuthenticator, IsTicketPart};
 
-use krb_crypto::CipherSuite;
+use krb_crypto::Key;
 use krb_messages::messages::{ApReq, ApReqInner};
 use krb_opening::{open_sealed, read_whole};
 use krb_types::constants::key_usages;
@@ -28,19 +28,12 @@ pub fn read_ap_req(alloc: Global, bytes: &[u8]) -> Result<Option<ApReqInner>, Al
 /// The ticket's part that the service's key opens, or none (RFC 4120, section 5.3).
 pub(crate) fn open_part(
     alloc: Global,
-    suite: CipherSuite,
-    key: &[u8],
+    key: &Key,
     encrypted: &EncryptedData,
 ) -> Result<Option<EncTicketPartInner>, AllocError>
-    ensures { IfOk result (IsFound (IsTicketPart suite key.now encrypted.now)) }
+    ensures { IfOk result (IsFound (IsTicketPart key.now.suite key.now.bytes encrypted.now)) }
 {
-    let found: Option<EncTicketPart> = open_sealed(
-        alloc,
-        suite,
-        key,
-        key_usages::TICKET,
-        encrypted,
-    )?;
+    let found: Option<EncTicketPart> = open_sealed(alloc, key, key_usages::TICKET, encrypted)?;
     match found {
         Some(part) => Ok(Some(part.0)),
         None => Ok(None),
@@ -50,14 +43,13 @@ pub(crate) fn open_part(
 /// The authenticator that the session key opens for the usage, or none (RFC 4120, section 5.5.1).
 pub(crate) fn open_authenticator(
     alloc: Global,
-    suite: CipherSuite,
-    key: &[u8],
+    key: &Key,
     usage: i32,
     encrypted: &EncryptedData,
 ) -> Result<Option<AuthenticatorInner>, AllocError>
-    ensures { IfOk result (IsFound (IsAuthenticator suite key.now (cast_unsigned w32 usage) encrypted.now)) }
+    ensures { IfOk result (IsFound (IsAuthenticator key.now.suite key.now.bytes (cast_unsigned w32 usage) encrypted.now)) }
 {
-    let found: Option<Authenticator> = open_sealed(alloc, suite, key, usage, encrypted)?;
+    let found: Option<Authenticator> = open_sealed(alloc, key, usage, encrypted)?;
     match found {
         Some(authenticator) => Ok(Some(authenticator.0)),
         None => Ok(None),

@@ -6,7 +6,7 @@ ghost use Rattle.krb_ap.specs.ApReply.{IsReplyUnder, ap_rep_of, ap_rep_part};
 ghost use Rattle.krb_types.specs.RandomBytes.{ap_reply_confounder};
 ghost use Rattle.krb_messages.specs.Messages.{ap_rep_tree, enc_ap_rep_part_tree};
 
-use krb_crypto::CipherSuite;
+use krb_crypto::Key;
 use krb_messages::messages::{ApRep, ApRepInner};
 use krb_sealing::{confounder_at, sealed_data};
 use krb_types::constants::key_usages;
@@ -21,25 +21,16 @@ use std::alloc::{AllocError, Global};
 /// section 5.5.2). The first of the random bytes are the confounder.
 pub(crate) fn ap_reply(
     alloc: Global,
-    suite: CipherSuite,
-    key: &[u8],
+    key: &Key,
     authenticator: &AuthenticatorInner,
     words: &[u8],
 ) -> Result<Vec<u8>, AllocError>
     requires { 16 ≤ length words.now }
-    ensures { IfOk result (λ bytes. IsReplyUnder suite key.now (ap_reply_confounder (cipher_confounder_size suite) words.now) authenticator.now bytes.items) }
+    ensures { IfOk result (λ bytes. IsReplyUnder key.now.suite key.now.bytes (ap_reply_confounder (cipher_confounder_size key.now.suite) words.now) authenticator.now bytes.items) }
 {
     let plain = part_bytes(alloc, authenticator)?;
-    let confounder = confounder_at(suite, words, AP_REPLY_CONFOUNDER);
-    let part = sealed_data(
-        alloc,
-        suite,
-        key,
-        None,
-        key_usages::AP_REP,
-        confounder,
-        &plain,
-    )?;
+    let confounder = confounder_at(key.suite(), words, AP_REPLY_CONFOUNDER);
+    let part = sealed_data(alloc, key, None, key_usages::AP_REP, confounder, &plain)?;
     let bytes = reply_bytes(alloc, part)?;
     Ok(bytes)
 }
