@@ -20,8 +20,8 @@ pub record ReplyKeyRecord : Type 0 where
 abbrev pub reply_key_of : held.ReplyKey → ReplyKeyRecord
 reply_key_of this = record {
   exchange = this.exchange;
-  suite = this.suite;
-  key = this.key.now;
+  suite = this.key.now.suite;
+  key = this.key.now.bytes;
   number = this.number;
   usage = cast_unsigned w32 this.usage;
 }

@@ -8,7 +8,7 @@ ghost use Rattle.krb_tickets.specs.ReplyKeys.{reply_key_of};
 use crate::grant::{Grant, ticket_of};
 use crate::parts::reply_part;
 use krb_accounts::Account;
-use krb_crypto::CipherSuite;
+use krb_crypto::Key;
 use krb_encoding::tagged_encoding;
 use krb_messages::messages::{EncKdcRepPart, KdcRep};
 use krb_sealing::sealed_data;
@@ -36,10 +36,8 @@ pub enum Exchange {
 pub struct ReplyKey<'a> {
     /// The exchange that is replied in.
     pub exchange: Exchange,
-    /// The suite of the key.
-    pub suite: CipherSuite,
     /// The key.
-    pub key: &'a [u8],
+    pub key: &'a Key,
     /// The key's number, where it is told.
     pub number: Option<u32>,
     /// What the key is used for (RFC 4120, section 7.5.1).
@@ -55,7 +53,6 @@ impl<'a> ReplyKey<'a> {
     {
         ReplyKey {
             exchange: Exchange::As,
-            suite: client.suite(),
             key: client.key(),
             number: Some(client.number()),
             usage: key_usages::AS_REP,
@@ -63,12 +60,11 @@ impl<'a> ReplyKey<'a> {
     }
 
     /// The old ticket's session key, by which its client is replied to in a TGS exchange without a subkey.
-    pub fn of_session(suite: CipherSuite, key: &'a [u8]) -> ReplyKey<'a>
-        ensures { reply_key_of result ≡ tgs_reply_key suite key.now }
+    pub fn of_session(key: &'a Key) -> ReplyKey<'a>
+        ensures { reply_key_of result ≡ tgs_reply_key key.now.suite key.now.bytes }
     {
         ReplyKey {
             exchange: Exchange::Tgs,
-            suite,
             key,
             number: None,
             usage: key_usages::TGS_REP_SESSION_KEY,
@@ -76,12 +72,11 @@ impl<'a> ReplyKey<'a> {
     }
 
     /// The authenticator's subkey, by which its client is replied to in a TGS exchange.
-    pub fn of_subkey(suite: CipherSuite, key: &'a [u8]) -> ReplyKey<'a>
-        ensures { reply_key_of result ≡ tgs_subkey_reply_key suite key.now }
+    pub fn of_subkey(key: &'a Key) -> ReplyKey<'a>
+        ensures { reply_key_of result ≡ tgs_subkey_reply_key key.now.suite key.now.bytes }
     {
         ReplyKey {
             exchange: Exchange::Tgs,
-            suite,
             key,
             number: None,
             usage: key_usages::TGS_REP_SUBKEY,
@@ -89,15 +84,14 @@ impl<'a> ReplyKey<'a> {
     }
 }
 
-/// The reply's part under the reply key, behind the confounder. Under a key of the suite's length memory is the
-/// only refusal.
+/// The reply's part under the reply key, behind the confounder. Memory is the only refusal.
 pub fn sealed_reply(
     alloc: Global,
     grant: &Grant,
     under: &ReplyKey<'_>,
     confounder: &[u8],
 ) -> Result<EncryptedData, AllocError>
-    requires { length confounder.now ≡ cipher_confounder_size under.now.suite }
+    requires { length confounder.now ≡ cipher_confounder_size under.now.key.now.suite }
     ensures { IfOk result (IsSealedReply (reply_key_of under.now) confounder.now
         (reply_part_bytes under.now.exchange (reply_part grant.now))) }
 {
@@ -105,7 +99,6 @@ pub fn sealed_reply(
     let plain = reply_part_bytes(alloc, under.exchange, part)?;
     let sealed = sealed_data(
         alloc,
-        under.suite,
         under.key,
         under.number,
         under.usage,
