@@ -11,8 +11,8 @@ use krb_types::constants::random_bytes::{REPLY_CONFOUNDER, TICKET_CONFOUNDER};
 use std::alloc::{AllocError, Global};
 
 /// The reply with the ticket (RFC 4120, section 5.4.2): the ticket's part under the service's key, with its number, and the
-/// reply's part under the reply key. The ticket's confounder and the reply's are random bytes in their places. Under keys
-/// of their suites' lengths memory is the only refusal.
+/// reply's part under the reply key. The ticket's confounder and the reply's are random bytes in their places. Memory is the
+/// only refusal.
 pub fn ticket_reply(
     alloc: Global,
     grant: &Grant,
@@ -25,7 +25,7 @@ pub fn ticket_reply(
 {
     let confounder = confounder_at(service.suite(), words, TICKET_CONFOUNDER);
     let ticket = sealed_ticket(alloc, grant, service, confounder)?;
-    let confounder = confounder_at(under.suite, words, REPLY_CONFOUNDER);
+    let confounder = confounder_at(under.key.suite(), words, REPLY_CONFOUNDER);
     let part = sealed_reply(alloc, grant, under, confounder)?;
     let bytes = reply_bytes(alloc, under.exchange, grant, ticket, part)?;
     Ok(bytes)
