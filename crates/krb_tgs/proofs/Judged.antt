@@ -3,6 +3,7 @@ use Rattle.std.proofs.Common.{◌≡◌, ℕ, List, Option, None, Some, Result, 
 use Rattle.std.specs.Prelude.{Vec}
 use Rattle.std.specs.Global.{Global}
 use Rattle.krb_crypto.specs.declared.suite.CipherSuite.{CipherSuite}
+use Rattle.krb_crypto.specs.Keys.{KeyRecord}
 use Rattle.krb_accounts.specs.Account.{AccountRecord}
 use Rattle.krb_types.specs.Refusals.{IsJudged}
 use Rattle.krb_types.specs.declared.data_types.enc_ticket_part.EncTicketPartInner.{EncTicketPartInner}
@@ -38,24 +39,24 @@ module _ (call : CallRecord) (granting : AccountRecord) (presented : ApReqInner)
   pub fields_refused : (e : Refusal) → IsJudged (fields number).gives (Err e) → judged (Err e)
   fields_refused e x = part_refused (fields granting.number) (λ _. and_then (opening granting.suite granting.key) end) e (own (Err e) x)
 
-  module _ (suite : CipherSuite) (suited : suite ≡ granting.suite) (key : List ℕ) (keyed : key ≡ granting.key) (x : (fields number).gives (Ok tt)) where
-    opened : (r : Result EncTicketPartInner Refusal) → IsJudged (opening suite key).gives r → IsJudged (opening granting.suite granting.key).gives r
-    opened r y = subst (λ k. IsJudged (opening granting.suite k).gives r) keyed (subst (λ s. IsJudged (opening s key).gives r) suited y)
+  module _ (key : KeyRecord) (keyed : key ≡ record { suite = granting.suite; bytes = granting.key }) (x : (fields number).gives (Ok tt)) where
+    opened : (r : Result EncTicketPartInner Refusal) → IsJudged (opening key.suite key.bytes).gives r → IsJudged (opening granting.suite granting.key).gives r
+    opened r y = subst (λ (k : KeyRecord). IsJudged (opening k.suite k.bytes).gives r) keyed y
 
     further : (r : Result EncTicketPartInner Refusal) → IsJudged (and_then (opening granting.suite granting.key) end).gives r → judged r
     further r y = part_passed (fields granting.number) (λ _. and_then (opening granting.suite granting.key) end) tt r (own (Ok tt) x) y
 
     -- it doesn't open
-    pub unopened : (e : Refusal) → IsJudged (opening suite key).gives (Err e) → judged (Err e)
+    pub unopened : (e : Refusal) → IsJudged (opening key.suite key.bytes).gives (Err e) → judged (Err e)
     unopened e y = further (Err e) (part_refused (opening granting.suite granting.key) end e (opened (Err e) y))
 
     -- it doesn't count
-    pub uncounted : (part : EncTicketPartInner) (e : Refusal) → (opening suite key).gives (Ok part) → IsJudged (counting call part).gives (Err e) → judged (Err e)
+    pub uncounted : (part : EncTicketPartInner) (e : Refusal) → (opening key.suite key.bytes).gives (Ok part) → IsJudged (counting call part).gives (Err e) → judged (Err e)
     uncounted part e y z =
         further (Err e)
         (part_passed (opening granting.suite granting.key) end part (Err e) (opened (Ok part) y) (part_refused {A = Unit {0}} (counting call part) (λ _. done (Ok part)) e z))
 
-    pub counted : (part : EncTicketPartInner) → (opening suite key).gives (Ok part) → (counting call part).gives (Ok tt) → judged (Ok part)
+    pub counted : (part : EncTicketPartInner) → (opening key.suite key.bytes).gives (Ok part) → (counting call part).gives (Ok tt) → judged (Ok part)
     counted part y z = further (Ok part) (inl (part, opened (Ok part) y, inl (tt, z, refl)))
 
 -- by the account of the ticket-granting service, or where it has none

@@ -1,2 +1,3 @@
 pub mod TgsTable
+pub mod Shown
 pub mod ByTicket

@@ -1,10 +1,11 @@
 //! The checksum of a request's body in its authenticator.
 ghost use Rattle.std.specs.Prelude.{◌≡◌, IfOk};
 ghost use Rattle.std.specs.Option.{option_copied};
+ghost use Rattle.krb_crypto.specs.Suites.{cipher_checksum};
 ghost use Rattle.krb_tgs.specs.TgsTable.{body_bytes, checksum_in, covered, is_known_checksum, is_of_body};
 ghost use Rattle.krb_types.specs.Refusals.{IsJudged};
 
-use krb_crypto::{Checksum as _, ChecksumSuite, Cipher, CipherSuite};
+use krb_crypto::{ChecksumSuite, Cipher, Key};
 use krb_messages::messages::KdcReqBody;
 use krb_types::Refusal;
 use krb_types::constants::{error_codes, key_usages};
@@ -18,12 +19,11 @@ use std::alloc::{AllocError, Global};
 /// key, of the body's one encoding (RFC 4120, section 3.3.3).
 pub(crate) fn check_covered(
     alloc: Global,
-    suite: CipherSuite,
-    key: &[u8],
+    key: &Key,
     authenticator: &AuthenticatorInner,
     body: &KdcReqBody,
 ) -> Result<(), Refusal>
-    ensures { IsJudged (covered suite key.now authenticator.now body.now).gives result }
+    ensures { IsJudged (covered key.now.suite key.now.bytes authenticator.now body.now).gives result }
 {
     let Some(told) = checksum_in(authenticator) else {
         return Err(Refusal::Krb(error_codes::KRB_AP_ERR_INAPP_CKSUM));
@@ -31,11 +31,11 @@ pub(crate) fn check_covered(
     if !is_known_checksum(&told.cksumtype.0) {
         return Err(Refusal::Krb(error_codes::KDC_ERR_SUMTYPE_NOSUPP));
     }
-    let kind = suite.checksum_type();
+    let kind = key.suite().checksum_type();
     if !is_number(&told.cksumtype.0, u32::from(&kind)) {
         return Err(Refusal::Krb(error_codes::KRB_AP_ERR_INAPP_CKSUM));
     }
-    if !is_of_body(alloc, kind, key, body, told)? {
+    if !is_of_body(alloc, key, body, told)? {
         return Err(Refusal::Krb(error_codes::KRB_AP_ERR_MODIFIED));
     }
     Ok(())
@@ -59,20 +59,17 @@ fn is_known_checksum(kind: &IntegerAsn1) -> bool
         || is_number(kind, u32::from(ChecksumSuite::HmacSha196Aes256))
 }
 
-// The checksum is that of the body's encoding. Under a key of the suite's length memory is the only refusal.
+// The checksum is that of the body's encoding. Memory is the only refusal.
 fn is_of_body(
     alloc: Global,
-    kind: ChecksumSuite,
-    key: &[u8],
+    key: &Key,
     body: &KdcReqBody,
     told: &Checksum,
 ) -> Result<bool, AllocError>
-    ensures { IfOk result (λ is. is ≡ is_of_body kind key.now body.now told.now) }
+    ensures { IfOk result (λ is. is ≡ is_of_body (cipher_checksum key.now.suite) key.now.bytes body.now told.now) }
 {
     let bytes = body_bytes(alloc, body)?;
-    let Ok(sum) = kind.checksum(alloc, key, key_usages::TGS_REQ_CHECKSUM, &bytes) else {
-        return Err(AllocError);
-    };
+    let sum = key.checksum(alloc, key_usages::TGS_REQ_CHECKSUM, &bytes)?;
     Ok(told.checksum.0.as_bytes() == sum.as_slice())
 }
 

@@ -4,15 +4,17 @@ ghost use Rattle.std.specs.Option.{is_some, option_copied, option_map};
 ghost use Rattle.krb_as.specs.Call.{call_of};
 ghost use Rattle.krb_as.specs.Judged.{IsGranted};
 ghost use Rattle.krb_tickets.specs.ReplyKeys.{reply_key_of};
+ghost use Rattle.krb_crypto.specs.Keys.{KeyRecord};
+ghost use Rattle.krb_tgs.specs.Shown.{IsShownUnder, under};
 ghost use Rattle.krb_tgs.specs.TgsTable.{first_known, first_number, further, further_ticket, reply_key, subkey_in, suite_numbered};
 
 use krb_accounts::Account;
 use krb_ap::Authenticated;
 use krb_as::{Call, Span, lasting, session_key};
-use krb_crypto::CipherSuite;
+use krb_crypto::{CipherSuite, Key};
 use krb_grants::ticket_reply;
 use krb_messages::messages::KdcReqBody;
-use krb_opening::suite_of;
+use krb_opening::key_of;
 use krb_tickets::{Grant, ReplyKey, TicketFlags};
 use krb_types::Refusal;
 use krb_types::constants::error_codes;
@@ -24,30 +26,39 @@ use std::alloc::{AllocError, Global};
 /// The flag of a ticket whose client authenticated itself before the first one was granted (RFC 4120, section 5.3).
 const PRE_AUTHENTICATED: usize = 10;
 
-/// The reply with a ticket for the service, by the ticket of which this is the part (RFC 4120, section 3.3.3).
+/// What the client of an older ticket shows: the ticket's part, its session key, and the authenticator under this key.
+#[derive(Clone, Copy, Drop)]
+pub(crate) struct Shown<'a> {
+    /// The ticket's part.
+    pub(crate) part: &'a EncTicketPartInner,
+    /// The session's key.
+    pub(crate) key: &'a Key,
+    /// The authenticator.
+    pub(crate) authenticated: &'a Authenticated,
+}
+
+/// The reply with a ticket for the service, by the ticket that is shown (RFC 4120, section 3.3.3).
 pub(crate) fn grant(
     alloc: Global,
     call: &Call<'_>,
-    part: &EncTicketPartInner,
-    shown: &Authenticated,
+    shown: &Shown<'_>,
     service_name: &PrincipalName,
     service: &Account,
     body: &KdcReqBody,
 ) -> Result<Vec<u8>, Refusal>
-    requires { 128 ≤ length call.now.random.now }
-    ensures { IsGranted (further (call_of call.now) part.now shown.now service_name.now service.now body.now).gives result }
+    requires random { 128 ≤ length call.now.random.now }
+    requires key { IsShownUnder shown.now }
+    ensures { IsGranted (further (call_of call.now) shown.now.part.now shown.now.authenticated.now service_name.now service.now body.now).gives result }
 {
+    let part = shown.part;
     let span = lasting(call.settings, call.moment, Some(part.endtime.0.0), body)?;
     let Some(suite) = first_known(body.etype.0.as_slice()) else {
         return Err(Refusal::Krb(error_codes::KDC_ERR_ETYPE_NOSUPP));
     };
-    let Some(under) = reply_key(
-        shown.suite,
-        part.key.0.key_value.0.as_bytes(),
-        subkey_in(&shown.authenticator),
-    ) else {
+    let Some(subkey) = subkey_of(&shown.authenticated.authenticator) else {
         return Err(Refusal::Krb(error_codes::KRB_AP_ERR_BAD_INTEGRITY));
     };
+    let under = reply_key(shown.key, &subkey);
     let ticket = further_ticket(alloc, call, part, service_name, suite, body, span)?;
     let reply = ticket_reply(alloc, &ticket, &under, service, call.random)?;
     Ok(reply)
@@ -105,19 +116,25 @@ fn subkey_in(authenticator: &AuthenticatorInner) -> Option<&EncryptionKey>
     }
 }
 
-// What the reply is sealed under: the subkey, where there is one, else the session's key.
-fn reply_key<'a>(
-    suite: CipherSuite,
-    key: &'a [u8],
-    subkey: Option<&'a EncryptionKey>,
-) -> Option<ReplyKey<'a>>
-    ensures { option_map reply_key_of result ≡ reply_key suite key.now (option_copied subkey.entry) }
+// The authenticator's subkey, where it has one; and none at all where it has one that is of no suite.
+fn subkey_of(authenticator: &AuthenticatorInner) -> Option<Option<Key>>
+    ensures { (session : KeyRecord) → reply_key session.suite session.bytes (subkey_in authenticator.now) ≡ option_map (under session) result }
 {
-    let Some(subkey) = subkey else {
-        return Some(ReplyKey::of_session(suite, key));
+    let Some(subkey) = subkey_in(authenticator) else {
+        return Some(None);
     };
-    let suite = suite_of(subkey)?;
-    Some(ReplyKey::of_subkey(suite, subkey.key_value.0.as_bytes()))
+    let key = key_of(subkey)?;
+    Some(Some(key))
+}
+
+// What the reply is sealed under: the subkey, where there is one, else the session's key.
+fn reply_key<'a>(session: &'a Key, subkey: &'a Option<Key>) -> ReplyKey<'a>
+    ensures { reply_key_of result ≡ under session.now subkey.now }
+{
+    match subkey {
+        Some(key) => ReplyKey::of_subkey(key),
+        None => ReplyKey::of_session(session),
+    }
 }
 
 // What the ticket is granted with.

@@ -56,7 +56,7 @@ pub(crate) fn open_ticket_granting(
 {
     check_name(alloc, call.realm, granting.number(), presented)?;
     let sealed = &presented.ticket.0.0.enc_part.0;
-    let part = open_ticket(alloc, granting.suite(), granting.key(), sealed)?;
+    let part = open_ticket(alloc, granting.key(), sealed)?;
     check_counting(call, &part)?;
     Ok(part)
 }

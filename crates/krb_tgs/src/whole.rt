@@ -1,18 +1,21 @@
 //! Judging a TGS request as a whole. Each function owns one of the messages that were opened, and lends it to the next.
-ghost use Rattle.std.specs.Prelude.{◌≡◌, ◌≤◌, length, IfOk};
+ghost use Rattle.std.specs.Prelude.{◌≡◌, ◌≤◌, length, IfOk, Some};
 ghost use Rattle.std.specs.Option.{option_copied};
 ghost use Rattle.krb_as.specs.TicketGranting.{krbtgt_of};
 ghost use Rattle.krb_accounts.specs.Accounts.{look_in};
 ghost use Rattle.krb_as.specs.Call.{call_of};
 ghost use Rattle.krb_as.specs.Judged.{IsGranted};
+ghost use Rattle.krb_opening.specs.Keys.{suite_of};
+ghost use Rattle.krb_tgs.specs.Shown.{IsShownUnder};
 ghost use Rattle.krb_tgs.specs.TgsTable.{has_account, of_carried, of_shown, of_ticket, tgs_granted, tgs_table};
 
 use crate::checksum::check_covered;
-use crate::grant::grant;
+use crate::grant::{Shown, grant};
 use crate::judge::{carried, check_request, open_shown, open_ticket_granting};
 use krb_accounts::{Account, Accounts};
 use krb_ap::Authenticated;
 use krb_as::{Call, entries_of, krbtgt_of, service_of};
+use krb_crypto::Key;
 use krb_messages::messages::{ApReqInner, KdcReq, KdcReqBody};
 use krb_types::Refusal;
 use krb_types::constants::error_codes;
@@ -84,26 +87,43 @@ fn judge_shown(
     part: &EncTicketPartInner,
     shown: &Authenticated,
 ) -> Result<Vec<u8>, Refusal>
-    requires { 128 ≤ length call.now.random.now }
+    requires random { 128 ≤ length call.now.random.now }
+    requires suite { suite_of part.now.key.0 ≡ Some shown.now.suite }
     ensures { IsGranted (of_shown (call_of call.now) body.now part.now shown.now).gives result }
 {
-    let key = part.key.0.key_value.0.as_bytes();
-    check_covered(alloc, shown.suite, key, &shown.authenticator, body)?;
-    judge_accounts(alloc, call, part, shown, body)
+    let key = session_key(part, shown);
+    check_covered(alloc, &key, &shown.authenticator, body)?;
+    let shown = Shown {
+        part,
+        key: &key,
+        authenticated: shown,
+    };
+    judge_accounts(alloc, call, &shown, body)
+}
+
+// The session's key, of the suite that the authenticator was opened by.
+fn session_key(part: &EncTicketPartInner, shown: &Authenticated) -> Key
+    requires { suite_of part.now.key.0 ≡ Some shown.now.suite }
+    ensures { result ≡ record { suite = shown.now.suite; bytes = part.now.key.0.key_value.0 } }
+{
+    match Key::new(shown.suite, part.key.0.key_value.0.as_bytes()) {
+        Ok(key) => key,
+        Err(_) => unreachable!(),
+    }
 }
 
 // With a request that its client is shown to have made: client and service still have accounts.
 fn judge_accounts(
     alloc: Global,
     call: &Call<'_>,
-    part: &EncTicketPartInner,
-    shown: &Authenticated,
+    shown: &Shown<'_>,
     body: &KdcReqBody,
 ) -> Result<Vec<u8>, Refusal>
-    requires { 128 ≤ length call.now.random.now }
-    ensures { IsGranted (tgs_granted (call_of call.now) part.now shown.now body.now).gives result }
+    requires random { 128 ≤ length call.now.random.now }
+    requires key { IsShownUnder shown.now }
+    ensures { IsGranted (tgs_granted (call_of call.now) shown.now.part.now shown.now.authenticated.now body.now).gives result }
 {
-    if !has_account(call, &part.cname.0) {
+    if !has_account(call, &shown.part.cname.0) {
         return Err(Refusal::Krb(error_codes::KDC_ERR_C_PRINCIPAL_UNKNOWN));
     }
     let Some(service_name) = service_of(body) else {
@@ -112,7 +132,7 @@ fn judge_accounts(
     let Some(service) = call.accounts.get(service_name.name_string.0.as_slice()) else {
         return Err(Refusal::Krb(error_codes::KDC_ERR_S_PRINCIPAL_UNKNOWN));
     };
-    grant(alloc, call, part, shown, service_name, service, body)
+    grant(alloc, call, shown, service_name, service, body)
 }
 
 // The name has an account.

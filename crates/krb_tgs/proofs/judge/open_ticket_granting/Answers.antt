@@ -13,17 +13,17 @@ pub returns-in_err-part : goal.returns-in_err-part
 returns-in_err-part c =
     let exit = err_from_is_err_and c.from_residual-in_err-part.result c.from_residual-in_err-part.ensures.1 in
     rw (exit.1, exit.2)
-    (unopened (call_of c.args.call.now) c.args.granting.now c.args.presented.now c.number.result c.number.ensures.value c.suite.result c.suite.ensures c.key.result.now c.key.ensures.value
+    (unopened (call_of c.args.call.now) c.args.granting.now c.args.presented.now c.number.result c.number.ensures.value c.key.result.now c.key.ensures
     c.in_ok-check_name.ensures c.in_err-part.field-0.0 c.in_err-part.ensures)
 
 pub returns-in_err-check_counting : goal.returns-in_err-check_counting
 returns-in_err-check_counting c =
     let exit = err_from_is_err_and c.from_residual-in_err-check_counting.result c.from_residual-in_err-check_counting.ensures.1 in
     rw (exit.1, exit.2)
-    (uncounted (call_of c.args.call.now) c.args.granting.now c.args.presented.now c.number.result c.number.ensures.value c.suite.result c.suite.ensures c.key.result.now c.key.ensures.value
+    (uncounted (call_of c.args.call.now) c.args.granting.now c.args.presented.now c.number.result c.number.ensures.value c.key.result.now c.key.ensures
     c.in_ok-check_name.ensures c.in_ok-part.part c.in_err-check_counting.field-0.0 c.in_ok-part.ensures c.in_err-check_counting.ensures)
 
 pub returns : goal.returns
 returns c =
-    counted (call_of c.args.call.now) c.args.granting.now c.args.presented.now c.number.result c.number.ensures.value c.suite.result c.suite.ensures c.key.result.now c.key.ensures.value
+    counted (call_of c.args.call.now) c.args.granting.now c.args.presented.now c.number.result c.number.ensures.value c.key.result.now c.key.ensures
     c.in_ok-check_name.ensures c.in_ok-part.part c.in_ok-part.ensures c.in_ok-check_counting.ensures

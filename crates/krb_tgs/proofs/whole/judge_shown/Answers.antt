@@ -1,5 +1,6 @@
 use Rattle.std.proofs.Common.{Ok, Err, subst}
 use Rattle.std.proofs.lemmas.Result.{err_from_is_err_and}
+use Rattle.krb_crypto.specs.Keys.{KeyRecord}
 use Rattle.krb_types.specs.Refusals.{IsJudged}
 use Rattle.krb_as.specs.Call.{call_of}
 use Rattle.krb_as.proofs.Parts.{grant_passed, grant_refused}
@@ -15,7 +16,7 @@ returns-in_err-check_covered c =
     let exit = err_from_is_err_and c.from_residual.result c.from_residual.ensures.1 in
     rw (exit.1, exit.2)
     (grant_refused {A = Unit {0}} (covered shown.suite part.key.0.key_value.0 shown.authenticator c.args.body.now) (λ _. tgs_granted call part shown c.args.body.now) refusal
-    (subst (λ key. IsJudged (covered shown.suite key shown.authenticator c.args.body.now).gives (Err refusal)) c.as_bytes-key.ensures c.in_err-check_covered.ensures))
+    (subst (λ (key : KeyRecord). IsJudged (covered key.suite key.bytes shown.authenticator c.args.body.now).gives (Err refusal)) c.session_key-key.ensures c.in_err-check_covered.ensures))
 
 pub returns : goal.returns
 returns c =
@@ -23,4 +24,4 @@ returns c =
     let shown = c.args.shown.now in
     let part = c.args.part.now in
     grant_passed {A = Unit {0}} (covered shown.suite part.key.0.key_value.0 shown.authenticator c.args.body.now) (λ _. tgs_granted call part shown c.args.body.now) tt c.judge_accounts.result
-    (subst (λ key. (covered shown.suite key shown.authenticator c.args.body.now).gives (Ok tt)) c.as_bytes-key.ensures c.in_ok-check_covered.ensures) c.judge_accounts.ensures
+    (subst (λ (key : KeyRecord). (covered key.suite key.bytes shown.authenticator c.args.body.now).gives (Ok tt)) c.session_key-key.ensures c.in_ok-check_covered.ensures) c.judge_accounts.ensures

@@ -2,6 +2,7 @@ use Rattle.std.proofs.lemmas.Result.{err_from_is_err_and}
 use Rattle.krb_as.specs.Call.{call_of}
 use Rattle.krb_as.proofs.Parts.{grant_passed, grant_refused}
 use Rattle.krb_tgs.specs.TgsTable.{of_shown, shown_near}
+use Rattle.krb_tgs.proofs.ByTicket.{by_authenticator}
 use Rattle.krb_tgs.proofs.whole.judge_ticket.Goals as goal
 
 pub returns-in_err-shown : goal.returns-in_err-shown
@@ -15,3 +16,7 @@ pub returns : goal.returns
 returns c =
     let call = call_of c.args.call.now in
     grant_passed (shown_near call c.args.part.now c.args.presented.now) (of_shown call c.args.body.now c.args.part.now) c.in_ok-shown.shown c.judge_shown.result c.in_ok-shown.ensures c.judge_shown.ensures
+
+pub judge_shown-requires-clause-suite : goal.judge_shown-requires-clause-suite
+judge_shown-requires-clause-suite c =
+    (by_authenticator (call_of c.args.call.now) c.args.part.now c.args.presented.now c.in_ok-shown.shown c.in_ok-shown.ensures).suite
