@@ -26,6 +26,13 @@ pub of_type_opened : {A T : Type 0} (number : ℕ) (version kind : ℤ) (IsPart 
 of_type_opened number version kind IsPart sole rest taken part is opened given =
     of_type number version kind (ask IsPart sole (done (Err NotSealed)) rest) taken is (found IsPart sole (done (Err NotSealed)) rest taken part opened given)
 
+-- with the right version and type, and nothing that opens
+pub of_type_unopened : {A T : Type 0} (number : ℕ) (version kind : ℤ) (IsPart : A → Type 0) (sole : IsSole IsPart) (rest : A → Table (Result T TakeRefusal))
+    → is_of_type number version kind ≡ true → ((part : A) → IsPart part → ⊥)
+    → IsTaken (refuse (not (is_of_type number version kind)) Unreadable (ask IsPart sole (done (Err NotSealed)) rest)) (Err NotSealed)
+of_type_unopened number version kind IsPart sole rest is none =
+    of_type number version kind (ask IsPart sole (done (Err NotSealed)) rest) (Err NotSealed) is (not_found IsPart sole (done (Err NotSealed)) rest (Err NotSealed) none refl)
+
 -- the part that a TGS reply's tag is opened by
 by_tgs_tag : ClientRecord → AsAskedRecord → KdcRep → Table Taken
 by_tgs_tag client asked reply =
@@ -44,6 +51,15 @@ unfolding by_tgs_tag
 taken_by_tgs_tag client asked reply part taken none opened given =
     not_found (IsAsPart client reply.enc_part.0) (sole_as_part client reply.enc_part.0) (by_tgs_tag client asked reply) (takes_part client asked.service asked.nonce reply) taken none
     (found (IsTgsPart client.suite client.key 3 reply.enc_part.0) (sole_tgs_part client.suite client.key 3 reply.enc_part.0) (done (Err NotSealed)) (takes_part client asked.service asked.nonce reply) taken part opened given)
+
+-- it opens by neither tag
+pub taken_by_no_tag : (client : ClientRecord) (asked : AsAskedRecord) (reply : KdcRep)
+    → ((part : EncKdcRepPart) → IsAsPart client reply.enc_part.0 part → ⊥) → ((part : EncKdcRepPart) → IsTgsPart client.suite client.key 3 reply.enc_part.0 part → ⊥)
+    → IsTaken (takes_sealed client asked reply) (Err NotSealed)
+unfolding by_tgs_tag
+taken_by_no_tag client asked reply none neither =
+    not_found (IsAsPart client reply.enc_part.0) (sole_as_part client reply.enc_part.0) (by_tgs_tag client asked reply) (takes_part client asked.service asked.nonce reply) (Err NotSealed) none
+    (not_found (IsTgsPart client.suite client.key 3 reply.enc_part.0) (sole_tgs_part client.suite client.key 3 reply.enc_part.0) (done (Err NotSealed)) (takes_part client asked.service asked.nonce reply) (Err NotSealed) neither refl)
 
 -- the bytes are a reply
 pub taken_read : {A T : Type 0} (bytes : List ℕ) (IsReply : A → Type 0) (sole : IsSole IsReply) (rest : A → Table (Result T TakeRefusal)) (taken : Result T TakeRefusal) (reply : A)

@@ -51,8 +51,8 @@ impl Client {
             authenticator,
             confounder,
         )?;
-        let key = OctetStringAsn1::new(alloc, credential.key())?;
-        Ok((bytes, ApAsked::new(suite, key, moment, subkey)))
+        let key = credential.key().copied();
+        Ok((bytes, ApAsked::new(key, moment, subkey)))
     }
 }
 

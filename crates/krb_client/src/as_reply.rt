@@ -51,7 +51,7 @@ impl Client {
             return self.take_part(asked.service(), asked.nonce(), reply, &part);
         }
         let usage = key_usages::AS_REP;
-        let Some(part) = open_tgs_part(alloc, self.suite(), self.key(), usage, sealed)? else {
+        let Some(part) = open_tgs_part(alloc, self.key(), usage, sealed)? else {
             return Err(TakeRefusal::NotSealed);
         };
         self.take_part(asked.service(), asked.nonce(), reply, &part)

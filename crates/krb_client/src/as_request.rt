@@ -73,15 +73,8 @@ impl Client {
     {
         let second = moment.second();
         let plain = stamp_bytes(alloc, second, moment.microsecond())?;
-        let sealed = sealed_data(
-            alloc,
-            self.suite(),
-            self.key(),
-            None,
-            key_usages::PA_ENC_TIMESTAMP,
-            confounder,
-            &plain,
-        )?;
+        let usage = key_usages::PA_ENC_TIMESTAMP;
+        let sealed = sealed_data(alloc, self.key(), None, usage, confounder, &plain)?;
         Ok(sealed)
     }
 

@@ -90,7 +90,7 @@ fn authenticator_with(
 }
 
 /// The AP request with the credential's ticket and the authenticator, which is sealed under the session's key for the usage
-/// (RFC 4120, section 5.5.1). The session's key is of its suite's length, so memory is the only refusal.
+/// (RFC 4120, section 5.5.1). Memory is the only refusal.
 pub(crate) fn ap_request(
     alloc: Global,
     credential: &Credential,
@@ -103,15 +103,7 @@ pub(crate) fn ap_request(
     ensures { IfOk result (λ bytes. IsApRequest credential.now (cast_unsigned w32 usage) mutual_required authenticator confounder.now bytes.items) }
 {
     let plain = authenticator_bytes(alloc, authenticator)?;
-    let sealed = sealed_data(
-        alloc,
-        credential.suite(),
-        credential.key(),
-        None,
-        usage,
-        confounder,
-        &plain,
-    )?;
+    let sealed = sealed_data(alloc, credential.key(), None, usage, confounder, &plain)?;
     let request = ap_request_of(alloc, mutual_required, credential.ticket(), sealed)?;
     let bytes = ap_request_bytes(alloc, request)?;
     Ok(bytes)

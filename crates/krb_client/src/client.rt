@@ -5,8 +5,8 @@ ghost use Rattle.krb_crypto.specs.Suites.{cipher_key_size};
 
 use crate::AskRefusal;
 use krb_accounts::{are_components, components_of, is_realm_name, password_salt, realm_name_of};
-use krb_crypto::{Cipher, CipherSuite};
-use picky_asn1::wrapper::{GeneralStringAsn1, OctetStringAsn1};
+use krb_crypto::{CipherSuite, Key};
+use picky_asn1::wrapper::GeneralStringAsn1;
 use std::alloc::Global;
 use std::marker::Model;
 
@@ -15,21 +15,19 @@ use std::marker::Model;
 pub struct Client {
     realm: GeneralStringAsn1,
     name: Vec<GeneralStringAsn1>,
-    suite: CipherSuite,
-    key: OctetStringAsn1,
+    key: Key,
 }
 
 impl Model for Client {
-    ghost use Rattle.std.specs.Prelude.{◌≡◌, length, IsTrue};
+    ghost use Rattle.std.specs.Prelude.{IsTrue};
     ghost use Rattle.krb_accounts.specs.Names.{are_components, is_realm_name};
-    ghost use Rattle.krb_crypto.specs.Suites.{cipher_key_size};
     ghost use Rattle.krb_client.specs.Client.{ClientRecord};
 
     ghost Value = { ClientRecord };
 
-    ghost view = { λ c. record { realm = c.realm; components = c.name.items; suite = c.suite; key = c.key } };
+    ghost view = { λ c. record { realm = c.realm; components = c.name.items; suite = c.key.suite; key = c.key.bytes } };
 
-    ghost invariant = { λ c. (length c.key ≡ cipher_key_size c.suite) × IsTrue (is_realm_name c.realm) × IsTrue (are_components c.name.items) };
+    ghost invariant = { λ c. IsTrue (is_realm_name c.realm) × IsTrue (are_components c.name.items) };
 }
 
 impl Client {
@@ -57,7 +55,7 @@ impl Client {
         }
         let salt = password_salt(alloc, realm, name)?;
         // The salt isn't empty, and both names are names, so memory is the only refusal.
-        let Ok(key) = suite.generate_key_from_password(alloc, password, &salt) else {
+        let Ok(key) = Key::of_password(alloc, suite, password, &salt) else {
             return Err(AskRefusal::Memory);
         };
         let Ok(realm) = realm_name_of(alloc, realm) else {
@@ -66,12 +64,7 @@ impl Client {
         let Ok(name) = components_of(alloc, name) else {
             return Err(AskRefusal::Memory);
         };
-        Ok(Client {
-            realm,
-            name,
-            suite,
-            key: OctetStringAsn1::from(key),
-        })
+        Ok(Client { realm, name, key })
     }
 
     /// Realm and name are names, and the key has as many bytes as its suite's keys. It does nothing when it runs, and tells it
@@ -81,8 +74,7 @@ impl Client {
         ensures name { AreComponents self.now.components }
         ensures key { length self.now.key ≡ cipher_key_size self.now.suite }
     {
-        // The clauses are of the fields: the proof sees them where one is read.
-        let _suite = self.suite;
+        self.key.is_well_formed();
     }
 
     /// The realm.
@@ -103,14 +95,13 @@ impl Client {
     pub(crate) fn suite(&self) -> CipherSuite
         ensures { result ≡ self.now.suite }
     {
-        self.suite
+        self.key.suite()
     }
 
     /// The key.
-    pub(crate) fn key(&self) -> &[u8]
-        ensures value { result.now ≡ self.now.key }
-        ensures size { length result.now ≡ cipher_key_size self.now.suite }
+    pub(crate) fn key(&self) -> &Key
+        ensures { result.now ≡ record { suite = self.now.suite; bytes = self.now.key } }
     {
-        self.key.as_bytes()
+        &self.key
     }
 }

@@ -1,14 +1,13 @@
 //! What a client is granted.
-ghost use Rattle.std.specs.Prelude.{◌≡◌, length, Some, IfOk};
-ghost use Rattle.krb_crypto.specs.Suites.{cipher_key_size};
-ghost use Rattle.krb_opening.specs.Keys.{suite_of};
+ghost use Rattle.std.specs.Prelude.{◌≡◌, Some, IfOk};
+ghost use Rattle.krb_opening.specs.Keys.{key_in};
 ghost use Rattle.krb_client.specs.Taking.{credential_of};
 
 use crate::copies::ticket_copy;
-use krb_crypto::CipherSuite;
+use krb_crypto::{CipherSuite, Key};
 use krb_messages::messages::{EncKdcRepPart, KdcRep};
 use krb_types::data_types::{PrincipalName, Ticket};
-use picky_asn1::wrapper::{GeneralStringAsn1, OctetStringAsn1};
+use picky_asn1::wrapper::GeneralStringAsn1;
 use std::alloc::AllocError;
 use std::marker::Model;
 
@@ -17,41 +16,34 @@ use std::marker::Model;
 #[derive(Drop)]
 pub struct Credential {
     ticket: Ticket,
-    suite: CipherSuite,
-    key: OctetStringAsn1,
+    key: Key,
     realm: GeneralStringAsn1,
     service: PrincipalName,
 }
 
 impl Model for Credential {
-    ghost use Rattle.std.specs.Prelude.{◌≡◌, length};
-    ghost use Rattle.krb_crypto.specs.Suites.{cipher_key_size};
     ghost use Rattle.krb_client.specs.Client.{CredentialRecord};
 
     ghost Value = { CredentialRecord };
 
-    ghost view = { λ c. record { ticket = c.ticket.0; suite = c.suite; key = c.key; realm = c.realm; service = c.service } };
-
-    ghost invariant = { λ c. length c.key ≡ cipher_key_size c.suite };
+    ghost view = { λ c. record { ticket = c.ticket.0; suite = c.key.suite; key = c.key.bytes; realm = c.realm; service = c.service } };
 }
 
 impl Credential {
-    /// The credential of a reply and its opened part, whose key is of this suite.
+    /// The credential of a reply and its opened part, in which this key is.
     pub(crate) fn of_reply(
         reply: &KdcRep,
         part: &EncKdcRepPart,
-        suite: CipherSuite,
+        key: Key,
     ) -> Result<Credential, AllocError>
-        requires { suite_of part.now.key.0 ≡ Some suite }
-        ensures { IfOk result (λ credential. credential ≡ credential_of reply.now part.now suite) }
+        requires { key_in part.now.key.0 ≡ Some key }
+        ensures { IfOk result (λ credential. credential ≡ credential_of reply.now part.now key.suite) }
     {
-        let key = part.key.0.key_value.0.clone()?;
         let realm = part.srealm.0.clone()?;
         let service = part.sname.0.clone()?;
         let ticket = ticket_copy(&reply.ticket.0)?; // the largest is copied last, so that no way out drops it
         Ok(Credential {
             ticket,
-            suite,
             key,
             realm,
             service,
@@ -69,15 +61,14 @@ impl Credential {
     pub fn suite(&self) -> CipherSuite
         ensures { result ≡ self.now.suite }
     {
-        self.suite
+        self.key.suite()
     }
 
     /// The session's key.
-    pub fn key(&self) -> &[u8]
-        ensures value { result.now ≡ self.now.key }
-        ensures size { length result.now ≡ cipher_key_size self.now.suite }
+    pub fn key(&self) -> &Key
+        ensures { result.now ≡ record { suite = self.now.suite; bytes = self.now.key } }
     {
-        self.key.as_bytes()
+        &self.key
     }
 
     /// The service's realm.

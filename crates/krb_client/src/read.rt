@@ -10,7 +10,7 @@ ghost use Rattle.krb_client.specs.Taking.{IsTgsPart};
 
 use crate::Client;
 use krb_asked::ApAsked;
-use krb_crypto::CipherSuite;
+use krb_crypto::Key;
 use krb_messages::messages::{
     ApRep, ApRepInner, AsRep, EncAsRepPart, EncKdcRepPart, EncTgsRepPart, KdcRep, KrbError, TgsRep,
 };
@@ -72,10 +72,8 @@ pub(crate) fn open_as_part(
 ) -> Result<Option<EncKdcRepPart>, AllocError>
     ensures { IfOk result (IsFound (IsAsPart client.now sealed.now)) }
 {
-    let suite = client.suite();
     let opened: Option<EncAsRepPart> = open_sealed(
         alloc,
-        suite,
         client.key(),
         key_usages::AS_REP,
         sealed,
@@ -91,14 +89,13 @@ pub(crate) fn open_as_part(
 #[tactic(auto, unfolding(crate::specs::Taking::IsTgsPart))]
 pub(crate) fn open_tgs_part(
     alloc: Global,
-    suite: CipherSuite,
-    key: &[u8],
+    key: &Key,
     usage: i32,
     sealed: &EncryptedData,
 ) -> Result<Option<EncKdcRepPart>, AllocError>
-    ensures { IfOk result (IsFound (IsTgsPart suite key.now (cast_unsigned w32 usage) sealed.now)) }
+    ensures { IfOk result (IsFound (IsTgsPart key.now.suite key.now.bytes (cast_unsigned w32 usage) sealed.now)) }
 {
-    let opened: Option<EncTgsRepPart> = open_sealed(alloc, suite, key, usage, sealed)?;
+    let opened: Option<EncTgsRepPart> = open_sealed(alloc, key, usage, sealed)?;
     match opened {
         Some(part) => Ok(Some(part.0)),
         None => Ok(None),
@@ -114,14 +111,7 @@ pub(crate) fn open_ap_part(
 ) -> Result<Option<EncApRepPartInner>, AllocError>
     ensures { IfOk result (IsFound (IsApPart asked.now sealed.now)) }
 {
-    let suite = asked.suite();
-    let opened: Option<EncApRepPart> = open_sealed(
-        alloc,
-        suite,
-        asked.key(),
-        key_usages::AP_REP,
-        sealed,
-    )?;
+    let opened: Option<EncApRepPart> = open_sealed(alloc, asked.key(), key_usages::AP_REP, sealed)?;
     match opened {
         Some(part) => Ok(Some(part.0)),
         None => Ok(None),

@@ -7,7 +7,7 @@ ghost use Rattle.krb_client.specs.Taking.{is_of_type, takes_part};
 use crate::{Client, Credential, TakeRefusal};
 use krb_asked::is_answer;
 use krb_messages::messages::{EncKdcRepPart, KdcRep};
-use krb_opening::suite_of;
+use krb_opening::key_of;
 use krb_types::constants::types::KERBEROS_VERSION;
 use picky_asn1::is_number;
 use picky_asn1::wrapper::{GeneralStringAsn1, IntegerAsn1};
@@ -33,10 +33,10 @@ impl Client {
         if !self.is_answer(service, nonce, reply, part) {
             return Err(TakeRefusal::NotAsked);
         }
-        let Some(suite) = suite_of(&part.key.0) else {
+        let Some(key) = key_of(&part.key.0) else {
             return Err(TakeRefusal::NotAsked);
         };
-        let credential = Credential::of_reply(reply, part, suite)?;
+        let credential = Credential::of_reply(reply, part, key)?;
         Ok(credential)
     }
 

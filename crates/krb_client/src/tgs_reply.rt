@@ -48,7 +48,7 @@ impl Client {
         }
         let usage = key_usages::TGS_REP_SESSION_KEY;
         let sealed = &reply.enc_part.0;
-        let Some(part) = open_tgs_part(alloc, asked.suite(), asked.key(), usage, sealed)? else {
+        let Some(part) = open_tgs_part(alloc, asked.key(), usage, sealed)? else {
             return Err(TakeRefusal::NotSealed);
         };
         self.take_part(asked.service(), asked.nonce(), reply, &part)

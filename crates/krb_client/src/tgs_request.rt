@@ -11,7 +11,7 @@ use crate::kdc_request::{entry_of, nonce_of};
 use crate::{AskRefusal, Client, Credential};
 use krb_accounts::{are_components, components_of};
 use krb_asked::TgsAsked;
-use krb_crypto::{Checksum as KeyedChecksum, Cipher};
+use krb_crypto::Cipher;
 use krb_encoding::{encoding_of, tagged_encoding};
 use krb_messages::messages::{KdcReq, KdcReqBody};
 use krb_moments::Moment;
@@ -57,8 +57,7 @@ impl Client {
             return Err(AskRefusal::Memory);
         };
         let bytes = self.tgs_bytes(alloc, credential, &service, till, moment, words)?;
-        let key = OctetStringAsn1::new(alloc, credential.key())?;
-        let asked = TgsAsked::new(service, nonce_of(words), credential.suite(), key);
+        let asked = TgsAsked::new(service, nonce_of(words), credential.key().copied());
         Ok((bytes, asked))
     }
 
@@ -142,7 +141,7 @@ impl Client {
     }
 }
 
-// The checksum of the session's suite over a text. The session's key is of its suite's length, so memory is the only refusal.
+// The checksum of the session's suite over a text. Memory is the only refusal.
 fn checksum_over(
     alloc: Global,
     credential: &Credential,
@@ -152,9 +151,9 @@ fn checksum_over(
 {
     let suite = Cipher::checksum_type(&credential.suite());
     let number = IntegerAsn1::from_u64(alloc, u64::from(u8::from(suite)))?;
-    let Ok(sum) = suite.checksum(alloc, credential.key(), key_usages::TGS_REQ_CHECKSUM, text) else {
-        return Err(AllocError);
-    };
+    let sum = credential
+        .key()
+        .checksum(alloc, key_usages::TGS_REQ_CHECKSUM, text)?;
     Ok(Checksum {
         cksumtype: ExplicitContextTag(number),
         checksum: ExplicitContextTag(OctetStringAsn1::from(sum)),

@@ -8,6 +8,6 @@ returns c =
     let seals = simp to_z-of_z at c.in_ok-sealed.ensures in
     record {
       part = c.in_ok-sealed.sealed;
-      sealed = rw (c.deref.ensures.value, c.in_ok-plain.ensures, c.suite.ensures, c.key.ensures.value) at seals;
+      sealed = rw (c.deref.ensures.value, c.in_ok-plain.ensures, c.key.ensures) at seals;
       encoding = rw (c.in_ok-request.ensures, c.ticket.ensures) at c.in_ok-bytes.ensures;
     }

@@ -1,6 +1,7 @@
-use Rattle.std.proofs.Common.{sym, ◌∙◌}
+use Rattle.std.proofs.Common.{Err, sym, ◌∙◌}
 use Rattle.krb_client.specs.AsReply.{takes_sealed}
-use Rattle.krb_client.proofs.TakingReply.{of_type, taken_by_as_tag, taken_by_tgs_tag}
+use Rattle.krb_client.specs.declared.refusal.TakeRefusal.TheVariants.{NotSealed}
+use Rattle.krb_client.proofs.TakingReply.{of_type, taken_by_as_tag, taken_by_no_tag, taken_by_tgs_tag}
 use Rattle.krb_client.proofs.client.Client.take_reply.Goals as goal
 
 pub returns-in-Some : goal.returns-in-Some
@@ -14,7 +15,15 @@ pub returns : goal.returns
 returns c =
     let none = rw c.in_default.is at c.in_ok-part.ensures in
     let found = rw c.in-Some-2.is at c.in_ok-part-2.ensures in
-    let opened = rw (c.suite.ensures, c.key.ensures.value) at found in
+    let opened = rw c.key.ensures at found in
     let taken = rw (c.service-2.ensures, c.nonce-2.ensures) at c.take_part-2.ensures in
     of_type 11 c.args.reply.now.pvno.0 c.args.reply.now.msg_type.0 (takes_sealed c.args.self.now c.args.asked.now c.args.reply.now) c.take_part-2.result (sym c.is_of_type.ensures ∙ c.if-not-is_of_type.false)
     (taken_by_tgs_tag c.args.self.now c.args.asked.now c.args.reply.now c.in-Some-2.part c.take_part-2.result none opened taken)
+
+pub returns-in_default-2 : goal.returns-in_default-2
+returns-in_default-2 c =
+    let none = rw c.in_default.is at c.in_ok-part.ensures in
+    let found = rw c.in_default-2.is at c.in_ok-part-2.ensures in
+    let neither = rw c.key.ensures at found in
+    of_type 11 c.args.reply.now.pvno.0 c.args.reply.now.msg_type.0 (takes_sealed c.args.self.now c.args.asked.now c.args.reply.now) (Err NotSealed) (sym c.is_of_type.ensures ∙ c.if-not-is_of_type.false)
+    (taken_by_no_tag c.args.self.now c.args.asked.now c.args.reply.now none neither)
