@@ -9,10 +9,9 @@ ghost use Rattle.krb_service.specs.Service.{IsServiceEntry, made, making};
 use crate::once::admit_once;
 use krb_accounts::{RealmRefusal, are_components, components_of, is_realm_name, realm_name_of};
 use krb_ap::{Admission, AdmitRefusal, KeytabEntry};
-use krb_crypto::CipherSuite;
+use krb_crypto::{CipherSuite, Key};
 use krb_moments::Moment;
 use krb_replay_cache::Seen;
-use picky_asn1::wrapper::OctetStringAsn1;
 use std::alloc::Global;
 use std::marker::Model;
 
@@ -60,17 +59,16 @@ impl Service {
         if !is_realm_name(realm) || !are_components(name) {
             return Err(RealmRefusal::BadName);
         }
-        if key.len() != suite.key_size() {
+        let Ok(key) = Key::new(suite, key) else {
             return Err(RealmRefusal::BadKeyLength);
-        }
+        };
         if SKEW_LIMIT < skew || number == 0 {
             return Err(RealmRefusal::BadSetting);
         }
         let realm = realm_name_of(alloc, realm)?;
         let components = components_of(alloc, name)?;
-        let key = OctetStringAsn1::new(alloc, key)?;
         Ok(Service {
-            entry: KeytabEntry::new(realm, components, suite, key, number),
+            entry: KeytabEntry::new(realm, components, key, number),
             seen: Seen::new(alloc, skew),
         })
     }
