@@ -14,7 +14,7 @@ pub use devices::{Sink, SinkFault, Source};
 pub use krb_accounts::{RealmRefusal, Settings};
 pub use krb_ap::{Admission, AdmitRefusal};
 pub use krb_client::{ApAsked, AsAsked, AskRefusal, Client, Credential, TakeRefusal, TgsAsked};
-pub use krb_crypto::{ChecksumSuite, CipherSuite};
+pub use krb_crypto::{ChecksumSuite, CipherSuite, Key};
 pub use krb_frames::{AnswerRefusal, Responder, ServeFault, serve, serve_bytes};
 pub use krb_logins::{LoginInput, LoginMoments, LoginRefusal};
 pub use krb_moments::Moment;

@@ -337,6 +337,6 @@ fn reply_of(admission: &Admission) -> &[u8]
 fn session_key(alloc: Global, asked: &ApAsked) -> Result<EncryptionKey, AllocError>
     ensures { IfOk result (λ key. key ≡ encryption_key asked.now.suite asked.now.key) }
 {
-    let key = OctetStringAsn1::new(alloc, asked.key())?;
+    let key = OctetStringAsn1::new(alloc, asked.key().as_bytes())?;
     encryption_key(alloc, asked.suite(), &key)
 }

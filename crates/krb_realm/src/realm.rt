@@ -82,12 +82,12 @@ impl Realm {
         if !is_realm_name(name) {
             return Err(RealmRefusal::BadName);
         }
-        let account = Account::by_key(alloc, suite, key)?;
+        let granting = Account::by_key(suite, key)?;
         let own = realm_name_of(alloc, name)?;
         let service = krbtgt_of(alloc, &own)?;
         let mut accounts = Accounts::new(alloc);
         // No account is there yet, so memory is the only refusal.
-        let Ok(()) = accounts.insert_new(service, account) else {
+        let Ok(()) = accounts.insert_new(service, granting) else {
             return Err(RealmRefusal::Memory);
         };
         Ok(Realm {
@@ -125,14 +125,11 @@ impl Realm {
         if !are_components(name) {
             return Err(RealmRefusal::BadName);
         }
-        if key.len() != suite.key_size() {
-            return Err(RealmRefusal::BadKeyLength);
-        }
+        let account = Account::by_key(suite, key)?;
         if self.accounts.contains(name) {
             return Err(RealmRefusal::Exists);
         }
         let components = components_of(alloc, name)?;
-        let account = Account::by_key(alloc, suite, key)?;
         self.accounts.insert_new(components, account)?;
         Ok(())
     }
@@ -202,7 +199,7 @@ impl Realm {
     /// refused so.
     pub fn change_key(
         &mut self,
-        alloc: Global,
+        _alloc: Global,
         name: &[Vec<u8>],
         suite: CipherSuite,
         key: &[u8],
@@ -218,7 +215,7 @@ impl Realm {
         if !are_components(name) {
             return Err(RealmRefusal::BadName);
         }
-        self.accounts.change_key(alloc, name, suite, key)
+        self.accounts.change_key(name, suite, key)
     }
 
     /// The reply to a message at a moment, with random bytes of which the first 128 count (RFC 4120, sections 3.1 and 3.3).
