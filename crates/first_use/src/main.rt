@@ -116,7 +116,7 @@ fn show(rt: &HostRuntime, admission: &Admission, credential: &Credential) -> any
         let component = str::from_utf8(component.as_bytes())?;
         println!(rt; "{component} of {realm} is admitted")?;
     }
-    if admission.session.key_value.0.as_bytes() == credential.key() {
+    if admission.session.key_value.0.as_bytes() == credential.key().as_bytes() {
         println!(rt; "client and service hold the same session key")?;
     }
     Ok(())

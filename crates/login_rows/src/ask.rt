@@ -94,7 +94,7 @@ pub(crate) fn asked(stage: &Stage, alloc: Global) -> anyhow::Result<String> {
 }
 
 fn asked_text(alloc: Global, asked: &ApAsked) -> anyhow::Result<String> {
-    let key = suite_key_text(alloc, asked.suite(), asked.key())?;
+    let key = suite_key_text(alloc, asked.suite(), asked.key().as_bytes())?;
     let subkey = subkey_text(alloc, asked)?;
     let micros = asked.time().micros();
     let text = format!(in alloc; "key {key} time {micros} subkey {subkey}")?;

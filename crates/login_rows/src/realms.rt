@@ -5,9 +5,8 @@ use crate::told::{digits_of, done, ok, refused};
 use crate::words::{bytes_of, name_of, suite_of};
 use anyhow::bail;
 use krb_accounts::{Account, Accounts, components_of};
-use krb_realm::{
-    CipherSuite, OctetStringAsn1, Realm, ServeFault, Settings, serve_bytes, words_needed,
-};
+use krb_crypto::Key;
+use krb_realm::{CipherSuite, Realm, ServeFault, Settings, serve_bytes, words_needed};
 use std::alloc::Global;
 
 const AES256: CipherSuite = CipherSuite::Aes256CtsHmacSha196;
@@ -121,7 +120,7 @@ fn spend_number(alloc: Global, words: &[&str]) -> anyhow::Result<String> {
     let name = name_of(alloc, "x")?;
     let mut accounts = Accounts::new(alloc);
     add_of_number(alloc, &mut accounts, &name, number)?;
-    done(alloc, accounts.change_key(alloc, &name, AES256, &[2; 32]))
+    done(alloc, accounts.change_key(&name, AES256, &[2; 32]))
 }
 
 fn add_of_number(
@@ -134,8 +133,8 @@ fn add_of_number(
         bail!("numbers count from 1");
     }
     let name = components_of(alloc, name)?;
-    let key = OctetStringAsn1::new(alloc, &[1; 32])?;
-    accounts.insert_new(name, Account::new(AES256, key, number, None))?;
+    let key = Key::new(AES256, &[1; 32])?;
+    accounts.insert_new(name, Account::new(key, number, None))?;
     Ok(())
 }
 

@@ -61,7 +61,7 @@ fn keep(
 }
 
 fn key(stage: &Stage, alloc: Global) -> anyhow::Result<String> {
-    digits_of(alloc, stage.credential()?.key())
+    digits_of(alloc, stage.credential()?.key().as_bytes())
 }
 
 pub(crate) fn ap_reply(stage: &mut Stage, alloc: Global) -> anyhow::Result<String> {
@@ -86,7 +86,7 @@ fn credential_text(alloc: Global, credential: &Credential) -> anyhow::Result<Str
 fn granted_text(alloc: Global, credential: &Credential) -> anyhow::Result<String> {
     let realm = str::from_utf8(credential.realm().as_bytes())?;
     let service = sole_component(credential.service())?;
-    let key = suite_key_text(alloc, credential.suite(), credential.key())?;
+    let key = suite_key_text(alloc, credential.suite(), credential.key().as_bytes())?;
     let text = format!(in alloc; "{service} in {realm} key {key}")?;
     Ok(text)
 }

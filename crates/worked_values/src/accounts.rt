@@ -4,7 +4,7 @@ use krb_accounts::{
     Account, Accounts, RealmRefusal, Settings, are_components, components_of, is_realm_name,
     password_salt, realm_name_of,
 };
-use krb_crypto::CipherSuite;
+use krb_crypto::{CipherSuite, Key};
 use picky_asn1::wrapper::{GeneralStringAsn1, OctetStringAsn1};
 use std::alloc::Global;
 
@@ -69,7 +69,7 @@ fn add(
 // The service host/a, and a user by a key of number 7 with a salt.
 fn two_accounts(alloc: Global) -> Option<Accounts> {
     let mut accounts = Accounts::new(alloc);
-    let host = Account::by_key(alloc, AES128, &[1; 16]).ok()?;
+    let host = Account::by_key(AES128, &[1; 16]).ok()?;
     add(&mut accounts, name_of(alloc, &[b"host", b"a"]), host)?;
     add(&mut accounts, name_of(alloc, &[b"user"]), account_7(alloc)?)?;
     Some(accounts)
@@ -77,13 +77,13 @@ fn two_accounts(alloc: Global) -> Option<Accounts> {
 
 fn account_7(alloc: Global) -> Option<Account> {
     let salt = OctetStringAsn1::new(alloc, b"Ruser").ok()?;
-    let key = OctetStringAsn1::new(alloc, &[2; 32]).ok()?;
-    Some(Account::new(AES256, key, 7, Some(salt)))
+    let key = Key::new(AES256, &[2; 32]).ok()?;
+    Some(Account::new(key, 7, Some(salt)))
 }
 
 fn is_account_7(account: &Account) -> bool {
     account.suite() == AES256
-        && account.key() == [2; 32].as_slice()
+        && account.key().as_bytes() == [2; 32].as_slice()
         && account.number() == 7
         && account.salt().is_some_and(is_user_salt)
 }
