@@ -76,7 +76,7 @@ pub mod credssp {
 pub mod crypto {
     pub use krb_crypto::{
         Checksum, ChecksumSuite, Cipher, CipherSuite, DecryptWithoutChecksum,
-        EncryptWithoutChecksum, KERBEROS, KerberosCryptoError, KerberosCryptoResult, aes, des,
+        EncryptWithoutChecksum, KERBEROS, KerberosCryptoError, KerberosCryptoResult, Key, aes, des,
         hmac_sha1, n_fold, usage_kc, usage_ke, usage_ki,
     };
 

@@ -5,7 +5,7 @@ use krb_priv_frames::KrbPrivFrame;
 use picky_asn1::is_number;
 use picky_asn1_der::{Deserialize, Serialize, to_vec};
 use picky_krb::constants::types::{KERBEROS_VERSION, KRB_PRIV};
-use picky_krb::crypto::CipherSuite;
+use picky_krb::crypto::{CipherSuite, Key};
 use picky_krb::data_types::EncKrbPrivPart;
 use picky_krb::messages::{ApMessage, ApRep, ApReq, KrbPriv, KrbPrivMessage};
 use picky_krb::{OpenFault, from_bytes, open_part, open_whole, read_whole};
@@ -198,7 +198,8 @@ fn is_wrong_key(alloc: Global) -> bool {
 
 // Whether nothing is sealed here for this usage.
 fn is_nothing<T: Deserialize>(alloc: Global, usage: i32) -> Option<bool> {
-    match open_whole::<T>(alloc, SUITE, KEY, usage, SEALED) {
+    let key = Key::new(SUITE, KEY).ok()?;
+    match open_whole::<T>(alloc, &key, usage, SEALED) {
         Ok(opened) => Some(opened.is_none()),
         Err(_) => None,
     }
