@@ -192,22 +192,18 @@ impl Realm {
         self.accounts.remove(name)
     }
 
-    /// Gives a principal's account its next key: a copy of this one, with the number that follows and no salt (RFC 4120,
-    /// section 5.2.9). A refused command changes nothing.
+    /// Gives a principal's account its next key, with the number that follows and no salt (RFC 4120, section 5.2.9). A
+    /// refused command changes nothing. It takes no memory.
     ///
-    /// It is refused, in this order: `BadName`, `BadKeyLength`, `Unknown`, `NumberSpent`; and `Memory` only where it isn't
-    /// refused so.
+    /// It is refused, in this order: `BadName`, `BadKeyLength`, `Unknown`, `NumberSpent`.
     pub fn change_key(
         &mut self,
-        _alloc: Global,
         name: &[Vec<u8>],
         suite: CipherSuite,
         key: &[u8],
     ) -> Result<(), RealmRefusal>
-        ensures refusal { IfErr result (λ refusal. (refusal ≡ RealmRefusal.Memory) ⊎ (changing self.old.accounts (parts name.now) suite key.now ≡ Err refusal)) }
-
-        // Want of memory hides no other refusal.
-        ensures first { (refusal : RealmRefusal) → changing self.old.accounts (parts name.now) suite key.now ≡ Err refusal → result ≡ Err refusal }
+        ensures refusal { IfErr result (λ refusal. changing self.old.accounts (parts name.now) suite key.now ≡ Err refusal) }
+        ensures refuses { (refusal : RealmRefusal) → changing self.old.accounts (parts name.now) suite key.now ≡ Err refusal → result ≡ Err refusal }
         ensures ok { OnOk result ((account : AccountRecord) × (changing self.old.accounts (parts name.now) suite key.now ≡ Ok account)
             × (self.new ≡ record self.old { accounts = finite.insert self.old.accounts (parts name.now) account })) }
         ensures err { OnErr result (self.new ≡ self.old) }

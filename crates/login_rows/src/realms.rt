@@ -107,7 +107,7 @@ fn change_key(stage: &mut Stage, alloc: Global, words: &[&str]) -> anyhow::Resul
     let suite = suite_of(suite)?;
     let name = name_of(alloc, name)?;
     let key = bytes_of(alloc, key)?;
-    let changed = stage.realm_mut()?.change_key(alloc, &name, suite, &key);
+    let changed = stage.realm_mut()?.change_key(&name, suite, &key);
     done(alloc, changed)
 }
 
