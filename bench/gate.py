@@ -1,4 +1,4 @@
-"""Runs `rt ci` in a clean clone and tells its processor minutes, crate by crate."""
+"""Runs `rt ci --anew`, which takes nothing that an earlier run kept, in a clean clone and tells its processor minutes, crate by crate."""
 import collections, os, re, resource, subprocess, sys, tempfile, threading, time
 
 BUDGET = re.compile(r"^- Budget of the gate: (\d+) processor minutes", re.M)
@@ -107,7 +107,7 @@ def main(top, log):
         watcher.start()
         try:
             os.sched_setaffinity(0, sorted(os.sched_getaffinity(0))[:PROCESSORS])
-            ended = subprocess.run(["rt", "ci"], cwd=clone, stdin=subprocess.DEVNULL, stdout=said, stderr=subprocess.STDOUT)
+            ended = subprocess.run(["rt", "ci", "--anew"], cwd=clone, stdin=subprocess.DEVNULL, stdout=said, stderr=subprocess.STDOUT)
         finally:
             is_over.set()
             watcher.join()
