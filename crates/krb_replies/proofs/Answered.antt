@@ -1,5 +1,5 @@
 -- What a judgement is answered with is the reply.
-use Rattle.std.proofs.Common.{◌≡◌, ℕ, ◌%◌, List, Option, Some, Result, Ok, Err, ap, refl, ◌∙◌}
+use Rattle.std.proofs.Common.{◌≡◌, ℕ, ◌%◌, List, Option, Some, Result, Ok, Err, ap, ◌∙◌}
 use Rattle.std.specs.Prelude.{IfOk, Vec}
 use Rattle.std.specs.Global.{Global}
 use Rattle.std.specs.Option.{option_map}

@@ -9,7 +9,7 @@ use Rattle.krb_types.specs.declared.data_types.principal_name.PrincipalName.{Pri
 use Rattle.krb_messages.specs.declared.messages.kdc_req.KdcReq.{KdcReq}
 use Rattle.krb_messages.specs.Messages.{IsAsReq, IsTgsReq, sole_as_req, sole_tgs_req}
 use Rattle.decision_tables.specs.Some.{HasSome}
-use Rattle.decision_tables.specs.Tables.{Table, ask, done, make}
+use Rattle.decision_tables.specs.Tables.{Table, ask, done}
 use Rattle.decision_tables.proofs.Outcomes.{HasOutcome, has_asked, has_done, has_made, some_of}
 use Rattle.krb_as.specs.AsTable.{as_table}
 use Rattle.krb_as.specs.Call.{CallRecord}

@@ -1,6 +1,5 @@
 //! The answers to requests, and the error that answers one.
 ghost use Rattle.std.specs.Prelude.{◌≡◌, ◌≤◌, ◌%◌, None, Some, IfOk, length};
-ghost use Rattle.krb_messages.specs.declared.messages.kdc_req.KdcReq.{KdcReq};
 ghost use Rattle.std.specs.Option.{option_copied, option_map};
 ghost use Rattle.asn1_leaves.specs.declared.date.GeneralizedTime.{GeneralizedTime};
 ghost use Rattle.krb_accounts.specs.Accounts.{look_in};
@@ -14,7 +13,7 @@ ghost use Rattle.krb_replies.specs.Judged.{IsAnswerWith, IsJudgement};
 ghost use Rattle.krb_replies.specs.Replies.{as_reply, hint_of, named_service, tgs_reply};
 
 use crate::error::error_reply;
-use crate::names::named_service;
+use crate::names::ticket_service;
 use crate::told::Told;
 use krb_accounts::Account;
 use krb_as::{Call, account_of, client_of, judge_as, service_of};
@@ -24,48 +23,60 @@ use krb_tickets::method_data;
 use krb_types::Refusal;
 use krb_types::constants::error_codes;
 use krb_types::data_types::PrincipalName;
-use picky_asn1_der::ExplicitContextTag3;
 use std::alloc::{AllocError, Global};
 
-/// The reply to an AS request: a ticket, or the error with its code (RFC 4120, section 3.1). The request is judged by
-/// reference, so that few ways out own it.
+/// The reply to an AS request: a ticket, or the error with its code (RFC 4120, section 3.1). It lends the request on, so that
+/// one way out alone drops it.
 pub fn answer_as(alloc: Global, call: &Call<'_>, request: KdcReq) -> Result<Vec<u8>, AllocError>
     requires { 128 ≤ length call.now.random.now }
     ensures { IfOk result (λ bytes. (as_reply (call_of call.now)
         (account_of (look_in call.now.accounts.now) (client_of request.req_body.0))
         (account_of (look_in call.now.accounts.now) (service_of request.req_body.0)) request).gives (Some bytes.items)) }
 {
-    let judged = judge(alloc, call, &request);
-    let service = named_in(request);
-    let found = judged?;
-    answer(alloc, call, service, found)
+    as_answer(alloc, call, &request)
 }
 
-/// The reply to a TGS request: a ticket, or the error with its code (RFC 4120, section 3.3).
+/// The reply to a TGS request: a ticket, or the error with its code (RFC 4120, section 3.3). It lends the request on.
 pub fn answer_tgs(alloc: Global, call: &Call<'_>, request: KdcReq) -> Result<Vec<u8>, AllocError>
     requires { 128 ≤ length call.now.random.now }
     ensures { IfOk result (λ bytes. (tgs_reply (call_of call.now) request).gives (Some bytes.items)) }
 {
-    let judged = judge_further(alloc, call, &request);
-    let service = named_in(request);
-    let found = judged?;
-    answer(alloc, call, service, found)
+    tgs_answer(alloc, call, &request)
 }
 
-// What is granted, or the error that tells this about this service.
+// The reply to an AS request.
+fn as_answer(alloc: Global, call: &Call<'_>, request: &KdcReq) -> Result<Vec<u8>, AllocError>
+    requires { 128 ≤ length call.now.random.now }
+    ensures { IfOk result (λ bytes. (as_reply (call_of call.now)
+        (account_of (look_in call.now.accounts.now) (client_of request.now.req_body.0))
+        (account_of (look_in call.now.accounts.now) (service_of request.now.req_body.0)) request.now).gives (Some bytes.items)) }
+{
+    let judged = judge(alloc, call, request)?;
+    answer(alloc, call, request, judged)
+}
+
+// The reply to a TGS request.
+fn tgs_answer(alloc: Global, call: &Call<'_>, request: &KdcReq) -> Result<Vec<u8>, AllocError>
+    requires { 128 ≤ length call.now.random.now }
+    ensures { IfOk result (λ bytes. (tgs_reply (call_of call.now) request.now).gives (Some bytes.items)) }
+{
+    let judged = judge_further(alloc, call, request)?;
+    answer(alloc, call, request, judged)
+}
+
+// What is granted, or the error that tells this about the request's service.
 fn answer(
     alloc: Global,
     call: &Call<'_>,
-    service: Option<ExplicitContextTag3<PrincipalName>>,
+    request: &KdcReq,
     judged: Result<Vec<u8>, Told>,
 ) -> Result<Vec<u8>, AllocError>
-    ensures { (request : KdcReq) → option_map (λ tagged. tagged.0) service ≡ service_of request.req_body.0
-        → IfOk result (λ bytes. IsAnswerWith (call_of call.now) request judged bytes.items) }
+    ensures { IfOk result (λ bytes. IsAnswerWith (call_of call.now) request.now judged bytes.items) }
 {
     match judged {
         Ok(ticket) => Ok(ticket),
         Err(told) => {
-            let reply = error_answer(alloc, call, service, told)?;
+            let reply = error_answer(alloc, call, service_of(&request.req_body.0), told)?;
             Ok(reply)
         }
     }
@@ -112,37 +123,41 @@ fn judge_further(
     }
 }
 
-// The error that tells this, and answers a request for this service.
+// The error that tells this, and answers a request for this service; where it names none, for the realm's ticket-granting
+// service.
 fn error_answer(
     alloc: Global,
     call: &Call<'_>,
-    named: Option<ExplicitContextTag3<PrincipalName>>,
+    named: Option<&PrincipalName>,
     told: Told,
 ) -> Result<Vec<u8>, AllocError>
     ensures { IfOk result (λ bytes. (time : GeneralizedTime) × IsSecondOf call.now.moment time
         × (bytes.items ≡ error_bytes call.now.realm.now time (call.now.moment % 1000000)
-        (named_service call.now.realm.now (option_map (λ tagged. tagged.0) named)) told.code (option_map (λ h. h.items) told.hint))) }
+        (named_service call.now.realm.now (option_copied named.entry)) told.code (option_map (λ h. h.items) told.hint))) }
 {
-    let service = named_service(alloc, named, call.realm)?;
-    let realm = call.realm.clone()?;
-    let time = call.moment.second();
-    let reply = error_reply(
-        alloc,
-        realm,
-        time,
-        call.moment.microsecond(),
-        service,
-        told.code,
-        told.hint,
-    )?;
+    if let Some(service) = named {
+        let reply = error_about(alloc, call, service, told)?;
+        return Ok(reply);
+    }
+    let service = ticket_service(alloc, call.realm)?;
+    let reply = error_about(alloc, call, &service, told)?;
     Ok(reply)
 }
 
-// The service that a request names, where it names one.
-fn named_in(mut request: KdcReq) -> Option<ExplicitContextTag3<PrincipalName>>
-    ensures { option_map (λ tagged. tagged.0) result ≡ service_of request.req_body.0 }
+// The error that tells this about a service.
+fn error_about(
+    alloc: Global,
+    call: &Call<'_>,
+    service: &PrincipalName,
+    told: Told,
+) -> Result<Vec<u8>, AllocError>
+    ensures { IfOk result (λ bytes. (time : GeneralizedTime) × IsSecondOf call.now.moment time
+        × (bytes.items ≡ error_bytes call.now.realm.now time (call.now.moment % 1000000) service.now told.code (option_map (λ h. h.items) told.hint))) }
 {
-    request.req_body.0.sname.0.take()
+    let time = call.moment.second();
+    let microseconds = call.moment.microsecond();
+    let reply = error_reply(alloc, call.realm, time, microseconds, service, told)?;
+    Ok(reply)
 }
 
 // What an error tells beside its code: with the one that asks for preauthentication, how the client authenticates.

@@ -1,49 +1,107 @@
 //! Writing errors.
-ghost use Rattle.std.specs.Prelude.{◌≡◌, ◌<◌, ◌^◌, IfOk};
+ghost use Rattle.std.specs.Prelude.{◌≡◌, IfOk};
 ghost use Rattle.std.specs.Option.{option_map};
 ghost use Rattle.krb_replies.specs.Errors.{error_bytes};
 
+use crate::told::Told;
+use asn1_lent::Lent;
+use devices::Sink;
 use krb_encoding::tagged_encoding;
-use krb_messages::messages::KrbErrorInner;
 use krb_types::constants::types::{KERBEROS_VERSION, KRB_ERROR_MSG_TYPE};
-use krb_types::data_types::PrincipalName;
+use krb_types::data_types::{KerberosTime, Microseconds, PrincipalName, Realm};
 use picky_asn1::date::GeneralizedTime;
 use picky_asn1::wrapper::{GeneralStringAsn1, GeneralizedTimeAsn1, IntegerAsn1, OctetStringAsn1};
-use picky_asn1_der::{ExplicitContextTag, ExplicitContextTag12, Optional};
+use picky_asn1_der::{
+    Asn1DerError, ExplicitContextTag, ExplicitContextTag0, ExplicitContextTag1,
+    ExplicitContextTag4, ExplicitContextTag5, ExplicitContextTag6, ExplicitContextTag9,
+    ExplicitContextTag10, ExplicitContextTag12, Optional, Serialize, Serializer, fields_of,
+};
 use std::alloc::{AllocError, Global};
+use std::marker::Model;
 
-/// The encoding of an error with this code, at a time and its microseconds, about a service, with data that belongs to
-/// the code if there is some (RFC 4120, section 5.9.1).
+// An error with no optional field but its data (RFC 4120, section 5.9.1), of a realm and a service that are lent. A contract
+// sees the whole message.
+#[derive(Drop)]
+struct LentError<'a> {
+    pvno: ExplicitContextTag0<IntegerAsn1>,
+    msg_type: ExplicitContextTag1<IntegerAsn1>,
+    stime: ExplicitContextTag4<KerberosTime>,
+    susec: ExplicitContextTag5<Microseconds>,
+    error_code: ExplicitContextTag6<u32>,
+    realm: ExplicitContextTag9<Lent<'a, Realm>>,
+    sname: ExplicitContextTag10<Lent<'a, PrincipalName>>,
+    e_data: Optional<Option<ExplicitContextTag12<OctetStringAsn1>>>,
+}
+
+impl<'a> Model for LentError<'a> {
+    ghost use Rattle.std.specs.Prelude.{None};
+    ghost use Rattle.krb_messages.specs.declared.messages.krb_error.KrbErrorInner.{KrbErrorInner};
+
+    ghost Value = { KrbErrorInner };
+
+    ghost view = { λ e. record {
+      pvno = e.pvno;
+      msg_type = e.msg_type;
+      ctime = record { 0 = None };
+      cusec = record { 0 = None };
+      stime = e.stime;
+      susec = e.susec;
+      error_code = e.error_code;
+      crealm = record { 0 = None };
+      cname = record { 0 = None };
+      realm = record { 0 = e.realm.0 };
+      sname = record { 0 = e.sname.0 };
+      e_text = record { 0 = None };
+      e_data = e.e_data;
+    } };
+}
+
+impl<'a> Serialize for LentError<'a> {
+    ghost use Rattle.krb_messages.specs.Trees.{krb_error_inner_tree, krb_error_inner-injective};
+    ghost use Rattle.asn1_trees.specs.Firsts.{only};
+    ghost use Rattle.krb_messages.specs.contracts.messages.krb_error.KrbErrorInnerTagged.TheImpl as krb_error_impl;
+
+    ghost tree = { krb_error_inner_tree };
+
+    ghost firsts = { only 48 };
+
+    ghost begins = { λ value. krb_error_impl.ghosts.row_laws.begins 48 (krb_error_impl.ghosts.row_of value) };
+
+    ghost injective = { krb_error_inner-injective };
+
+    fn serialize<W: Sink>(&self, to: &mut Serializer<W>) -> Result<usize, Asn1DerError> {
+        let fields = fields_of![self;
+            pvno, msg_type, stime, susec, error_code, realm, sname, e_data
+        ];
+        to.list(48, &fields)
+    }
+}
+
+/// The encoding of an error that tells this, at a time and its microseconds, about a service (RFC 4120, section 5.9.1).
 pub(crate) fn error_reply(
     alloc: Global,
-    realm: GeneralStringAsn1,
+    realm: &GeneralStringAsn1,
     time: GeneralizedTime,
     microseconds: u32,
-    service: PrincipalName,
-    code: u32,
-    hint: Option<Vec<u8>>,
+    service: &PrincipalName,
+    told: Told,
 ) -> Result<Vec<u8>, AllocError>
-    ensures { IfOk result (λ bytes. bytes.items ≡ error_bytes realm time microseconds service code (option_map (λ bytes. bytes.items) hint)) }
+    ensures { IfOk result (λ bytes. bytes.items ≡ error_bytes realm.now time microseconds service.now told.code (option_map (λ bytes. bytes.items) told.hint)) }
 {
     let version = IntegerAsn1::from_u64(alloc, u64::from(KERBEROS_VERSION))?;
     let kind = IntegerAsn1::from_u64(alloc, u64::from(KRB_ERROR_MSG_TYPE))?;
     let susec = IntegerAsn1::from_u64(alloc, microseconds as u64)?;
-    let error = KrbErrorInner {
+    let error = LentError {
         pvno: ExplicitContextTag(version),
         msg_type: ExplicitContextTag(kind),
-        ctime: Optional(None),
-        cusec: Optional(None),
         stime: ExplicitContextTag(GeneralizedTimeAsn1(time)),
         susec: ExplicitContextTag(susec),
-        error_code: ExplicitContextTag(code),
-        crealm: Optional(None),
-        cname: Optional(None),
-        realm: ExplicitContextTag(realm),
-        sname: ExplicitContextTag(service),
-        e_text: Optional(None),
-        e_data: Optional(data_of(hint)),
+        error_code: ExplicitContextTag(told.code),
+        realm: ExplicitContextTag(Lent::new(realm)),
+        sname: ExplicitContextTag(Lent::new(service)),
+        e_data: Optional(data_of(told.hint)),
     };
-    let bytes = tagged_encoding::<KrbErrorInner, KRB_ERROR_MSG_TYPE>(alloc, error)?;
+    let bytes = tagged_encoding::<LentError<'_>, KRB_ERROR_MSG_TYPE>(alloc, error)?;
     Ok(bytes)
 }
 

@@ -1,14 +1,12 @@
 //! The name of a realm's ticket-granting service.
 ghost use Rattle.std.specs.Prelude.{◌≡◌, IfOk};
-ghost use Rattle.std.specs.Option.{option_map};
 ghost use Rattle.krb_replies.specs.Errors.{ticket_service};
-ghost use Rattle.krb_replies.specs.Replies.{named_service};
 
 use krb_as::krbtgt_of;
 use krb_types::constants::types::NT_SRV_INST;
 use krb_types::data_types::PrincipalName;
 use picky_asn1::wrapper::{Asn1SequenceOf, GeneralStringAsn1, IntegerAsn1};
-use picky_asn1_der::{ExplicitContextTag, ExplicitContextTag3};
+use picky_asn1_der::ExplicitContextTag;
 use std::alloc::{AllocError, Global};
 
 /// The ticket-granting service of a realm, as messages name it (RFC 4120, section 7.3).
@@ -24,19 +22,4 @@ pub(crate) fn ticket_service(
         name_type: ExplicitContextTag(kind),
         name_string: ExplicitContextTag(Asn1SequenceOf::from(name)),
     })
-}
-
-/// The service that an error names: the request's, or the realm's ticket-granting service.
-pub(crate) fn named_service(
-    alloc: Global,
-    named: Option<ExplicitContextTag3<PrincipalName>>,
-    realm: &GeneralStringAsn1,
-) -> Result<PrincipalName, AllocError>
-    ensures { IfOk result (λ service. service ≡ named_service realm.now (option_map (λ tagged. tagged.0) named)) }
-{
-    if let Some(tagged) = named {
-        return Ok(tagged.0);
-    }
-    let service = ticket_service(alloc, realm)?;
-    Ok(service)
 }

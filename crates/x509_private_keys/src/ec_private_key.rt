@@ -1,7 +1,8 @@
 //! Private keys on elliptic curves (RFC 5915, section 3).
 ghost use Rattle.std.specs.Prelude.{◌≡◌};
 
-use crate::lent::{Lent, lent_under, plain};
+use crate::lent::{lent_under, plain};
+use asn1_lent::Lent;
 use devices::{Sink, Source};
 use picky_asn1::wrapper::{
     BitStringAsn1, ExplicitContextTag0, ExplicitContextTag1, OctetStringAsn1, Optional,

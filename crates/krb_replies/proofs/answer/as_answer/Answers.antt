@@ -3,13 +3,12 @@ use Rattle.krb_as.specs.Call.{call_of}
 use Rattle.krb_as.specs.Requests.{account_of, client_of, service_of}
 use Rattle.krb_replies.specs.Replies.{hint_of}
 use Rattle.krb_replies.proofs.Answered.{answers_with}
-use Rattle.krb_replies.proofs.answer.answer_as.Goals as goal
+use Rattle.krb_replies.proofs.answer.as_answer.Goals as goal
 
 pub returns : goal.returns
 returns c =
     let call = call_of c.args.call.now in
-    let request = c.args.request in
+    let request = c.args.request.now in
     let client = account_of call.look (client_of request.req_body.0) in
     let service = account_of call.look (service_of request.req_body.0) in
-    answers_with call (hint_of client) request (as_table call client service request) c.answer.result c.in_ok-found.found c.in_ok-found.ensures
-    (c.answer.ensures request c.named_in-service.ensures)
+    answers_with call (hint_of client) request (as_table call client service request) c.answer.result c.in_ok-judged.judged c.in_ok-judged.ensures c.answer.ensures
