@@ -9,7 +9,7 @@ use asn1_octets::Asn1DerError;
 use devices::{Sink, Source};
 
 /// A SEQUENCE OF (X.690, section 8.10) of exactly `N` elements. Of another count is `InvalidData`.
-impl<const N: usize, T: Deserialize> Tagged for [T; N] {
+impl<const N: usize, T: Deserialize + Drop> Tagged for [T; N] {
     ghost use Rattle.asn1_trees.specs.Tagged.{sequence};
     ghost use Rattle.asn1_trees.proofs.Tagged.{sequence_laws};
     ghost use Rattle.asn1_codec.specs.Arrays.{array_trees};

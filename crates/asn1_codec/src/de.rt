@@ -23,7 +23,7 @@ use std::marker::Model;
 const MOST_BYTES: usize = 10_240;
 
 /// A value that is read from its one DER spelling.
-pub trait Deserialize: Serialize + Sized + Drop {
+pub trait Deserialize: Serialize + Sized {
     ghost use Rattle.asn1_codec.specs.Reading.{Reading, TookValue, IsSpelling, Refused};
 
     /// Whether a value may begin with this identifier octet.
@@ -57,7 +57,7 @@ pub trait FromDer: Sized + Drop {
             (λ fault. Refused (IsReadBy reads) from.old from.new fault) };
 }
 
-impl<T: Deserialize> FromDer for T {
+impl<T: Deserialize + Drop> FromDer for T {
     ghost use Rattle.asn1_trees.specs.Tree.{Writes};
     ghost use Rattle.asn1_trees.proofs.Spelling.{one_spelling};
 
@@ -379,7 +379,7 @@ impl<R: Source> Deserializer<R> {
     }
 
     /// Takes a value under the further identifier octet `tag`.
-    pub fn wrapped<T: Deserialize>(&mut self, tag: u8) -> Result<T, Asn1DerError>
+    pub fn wrapped<T: Deserialize + Drop>(&mut self, tag: u8) -> Result<T, Asn1DerError>
         ensures { MatchResult result
             (λ value. TookValue (λ v. wrapped tag (T.tree v)) value self.old self.new)
             (λ fault. Refused (IsSpelling (λ v. wrapped tag (T.tree v))) self.old self.new fault) }
@@ -397,7 +397,11 @@ impl<R: Source> Deserializer<R> {
 
     /// Takes a value under the further identifier octet `tag`, where it stands behind the octet `lead`: in a BIT STRING behind
     /// 0 (X.690, section 8.6.2).
-    pub fn wrapped_behind<T: Deserialize>(&mut self, tag: u8, lead: u8) -> Result<T, Asn1DerError>
+    pub fn wrapped_behind<T: Deserialize + Drop>(
+        &mut self,
+        tag: u8,
+        lead: u8,
+    ) -> Result<T, Asn1DerError>
         ensures { MatchResult result
             (λ value. TookValue (λ v. behind lead (wrapped tag (T.tree v))) value self.old self.new)
             (λ fault. Refused (IsSpelling (λ v. behind lead (wrapped tag (T.tree v)))) self.old self.new fault) }
@@ -413,7 +417,7 @@ impl<R: Source> Deserializer<R> {
     }
 
     /// Takes the octet `lead` and a value behind it, which are all that is left up to the limit.
-    fn last_behind<T: Deserialize>(&mut self, lead: u8) -> Result<T, Asn1DerError>
+    fn last_behind<T: Deserialize + Drop>(&mut self, lead: u8) -> Result<T, Asn1DerError>
         ensures { MatchResult result
             (λ value. TookFields (λ v. bare lead (more (T.tree v) none)) value self.old self.new)
             (λ fault. Refused (AreFields (λ v. bare lead (more (T.tree v) none)) self.old.limit) self.old self.new fault) }

@@ -39,7 +39,7 @@ impl<T: Drop> Elements<T> {
     }
 }
 
-impl<T: Deserialize> Fields for Elements<T> {
+impl<T: Deserialize + Drop> Fields for Elements<T> {
     ghost use Rattle.asn1_trees.proofs.Rows.{many-starts, many-injective};
 
     ghost trees = { trees_of T.tree };

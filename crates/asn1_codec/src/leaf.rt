@@ -12,7 +12,7 @@ use devices::{Sink, Source};
 use std::alloc::{AllocError, Global};
 
 /// A primitive type, whose values are told by their content octets (X.690, section 8.1.4).
-pub trait Leaf: Sized + Drop {
+pub trait Leaf: Sized {
     ghost use Rattle.asn1_codec.specs.Writing.{Writing, WroteValue, NotWroteValue};
 
     /// The identifier octet (X.690, section 8.1.2).

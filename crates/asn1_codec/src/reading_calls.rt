@@ -147,7 +147,7 @@ impl<R: Source> Deserializer<R> {
     }
 
     /// Takes a SEQUENCE OF values of one type (X.690, section 8.10).
-    pub fn deserialize_seq<T: Deserialize>(&mut self) -> Result<Vec<T>, Asn1DerError>
+    pub fn deserialize_seq<T: Deserialize + Drop>(&mut self) -> Result<Vec<T>, Asn1DerError>
         ensures { MatchResult result
             (λ values. AreWhole (trees_of T.tree values.items) × Took (element 48 (ders (trees_of T.tree values.items))) self.old self.new)
             (λ fault. Refused (IsList 48 (trees_of T.tree)) self.old self.new fault) }

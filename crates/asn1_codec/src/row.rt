@@ -170,7 +170,7 @@ impl<H: Item, T: Fields> Fields for (H, T) {
     }
 }
 
-impl<H: Deserialize> Item for H {
+impl<H: Deserialize + Drop> Item for H {
     ghost use Rattle.asn1_trees.proofs.Rows.{required-starts, required-injective};
 
     ghost put = { λ item trees. more (H.tree item) trees };
@@ -194,7 +194,7 @@ impl<H: Deserialize> Item for H {
     }
 }
 
-impl<H: Deserialize> Item for Optional<Option<H>> {
+impl<H: Deserialize + Drop> Item for Optional<Option<H>> {
     ghost use Rattle.asn1_trees.proofs.Rows.{optional-starts, optional-injective};
 
     ghost put = { λ item trees. put H.tree item.0 trees };

@@ -17,7 +17,7 @@ use devices::{Sink, Source};
 /// A value is told by its row: the fields of a SEQUENCE, and of another type what its content says. Nothing
 /// else is wanted of a type to be read and written. A type that refuses to write values says by `refuses` which and
 /// how; most refuse none.
-pub trait Tagged: Sized + Drop {
+pub trait Tagged: Sized {
     ghost use Rattle.asn1_codec.specs.Reading.{Reading, TookValue, IsSpelling, Refused};
     ghost use Rattle.asn1_octets.specs.declared.error.Unsupported.{Unsupported};
     ghost use Rattle.asn1_codec.specs.Refusals.{refusal_of};

@@ -11,7 +11,7 @@ use crate::tagged::{Tagged, read_sequence};
 use asn1_octets::Asn1DerError;
 use devices::{Sink, Source};
 
-impl<A: Deserialize, B: Deserialize> Tagged for (A, B) {
+impl<A: Deserialize + Drop, B: Deserialize + Drop> Tagged for (A, B) {
     ghost use Rattle.std.proofs.Common.{ap, refl, true, None, Some};
     ghost use Rattle.asn1_trees.specs.Tagged.{sequence};
     ghost use Rattle.asn1_trees.proofs.Tagged.{sequence_laws};
@@ -47,7 +47,7 @@ impl<A: Deserialize, B: Deserialize> Tagged for (A, B) {
     }
 }
 
-impl<A: Deserialize, B: Deserialize, C: Deserialize> Tagged for (A, B, C) {
+impl<A: Deserialize + Drop, B: Deserialize + Drop, C: Deserialize + Drop> Tagged for (A, B, C) {
     ghost use Rattle.std.proofs.Common.{ap, refl, true, None, Some};
     ghost use Rattle.asn1_trees.specs.Tagged.{sequence};
     ghost use Rattle.asn1_trees.proofs.Tagged.{sequence_laws};
@@ -83,7 +83,12 @@ impl<A: Deserialize, B: Deserialize, C: Deserialize> Tagged for (A, B, C) {
     }
 }
 
-impl<A: Deserialize, B: Deserialize, C: Deserialize, D: Deserialize> Tagged for (A, B, C, D) {
+impl<
+    A: Deserialize + Drop,
+    B: Deserialize + Drop,
+    C: Deserialize + Drop,
+    D: Deserialize + Drop,
+> Tagged for (A, B, C, D) {
     ghost use Rattle.std.proofs.Common.{ap, refl, true, None, Some};
     ghost use Rattle.asn1_trees.specs.Tagged.{sequence};
     ghost use Rattle.asn1_trees.proofs.Tagged.{sequence_laws};

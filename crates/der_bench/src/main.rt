@@ -33,7 +33,7 @@ fn main(rt: HostRuntime) -> anyhow::Result<()> {
 }
 
 /// How many bytes each turn took.
-fn turn<T: Deserialize>(
+fn turn<T: Deserialize + Drop>(
     alloc: Global,
     task: &str,
     bytes: &[u8],
@@ -46,7 +46,7 @@ fn turn<T: Deserialize>(
     }
 }
 
-fn read<T: Deserialize>(alloc: Global, bytes: &[u8], times: u32) -> anyhow::Result<usize> {
+fn read<T: Deserialize + Drop>(alloc: Global, bytes: &[u8], times: u32) -> anyhow::Result<usize> {
     for _ in 0..times {
         let _: T = from_exact_bytes(alloc, bytes)?;
     }
@@ -54,7 +54,7 @@ fn read<T: Deserialize>(alloc: Global, bytes: &[u8], times: u32) -> anyhow::Resu
 }
 
 /// The message is read once first.
-fn write<T: Deserialize>(alloc: Global, bytes: &[u8], times: u32) -> anyhow::Result<usize> {
+fn write<T: Deserialize + Drop>(alloc: Global, bytes: &[u8], times: u32) -> anyhow::Result<usize> {
     let message: T = from_exact_bytes(alloc, bytes)?;
     let mut count = 0;
     for _ in 0..times {

@@ -27,7 +27,7 @@ pub(crate) fn split_value<T: FromDer>(
 }
 
 /// Whether the next octet begins a value.
-fn is_next<T: Deserialize>(bytes: &[u8]) -> bool
+fn is_next<T: Deserialize + Drop>(bytes: &[u8]) -> bool
     ensures { result ≡ begins T.firsts bytes.now }
 {
     match bytes.first() {
@@ -37,7 +37,7 @@ fn is_next<T: Deserialize>(bytes: &[u8]) -> bool
 }
 
 /// The value that begins the bytes, where its first octet does, and what stands behind it.
-pub(crate) fn split_optional<T: Deserialize>(
+pub(crate) fn split_optional<T: Deserialize + Drop>(
     alloc: Global,
     bytes: &[u8],
 ) -> Result<(Option<T>, &[u8]), Asn1DerError>

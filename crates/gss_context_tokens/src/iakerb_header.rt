@@ -91,7 +91,7 @@ impl FromDer for IAKerbHeader {
 }
 
 /// Takes a SEQUENCE with a field at its front, and two behind it that may be missing. What is left there is ignored.
-fn read_header<A: Deserialize, B: Deserialize, C: Deserialize, R: Source>(
+fn read_header<A: Deserialize + Drop, B: Deserialize + Drop, C: Deserialize + Drop, R: Source>(
     from: &mut Deserializer<R>,
 ) -> Result<(A, Option<B>, Option<C>), Asn1DerError>
     ensures { MatchResult result
@@ -106,7 +106,7 @@ fn read_header<A: Deserialize, B: Deserialize, C: Deserialize, R: Source>(
 }
 
 /// A field at the front of a content, and two behind it that may be missing. What is left is ignored.
-fn lead_fields<A: Deserialize, B: Deserialize, C: Deserialize>(
+fn lead_fields<A: Deserialize + Drop, B: Deserialize + Drop, C: Deserialize + Drop>(
     alloc: Global,
     content: &[u8],
 ) -> Result<(A, Option<B>, Option<C>), Asn1DerError>

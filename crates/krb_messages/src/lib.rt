@@ -13,7 +13,7 @@ use picky_asn1_der::{Asn1DerError, Deserialize, from_exact_bytes};
 use std::alloc::Global;
 
 /// Reads the message whose one spelling `input` is, with nothing behind it.
-pub fn from_bytes<T: Deserialize>(alloc: Global, input: &[u8]) -> Result<T, Asn1DerError>
+pub fn from_bytes<T: Deserialize + Drop>(alloc: Global, input: &[u8]) -> Result<T, Asn1DerError>
     ensures { ReadsAll T.tree input.now result }
 {
     from_exact_bytes(alloc, input)

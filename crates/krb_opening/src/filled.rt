@@ -6,7 +6,7 @@ use krb_crypto::CipherSuite;
 use std::alloc::Global;
 
 /// The value whose encoding, as the suite fills it, is the text.
-pub(crate) fn read_filled<T: Deserialize>(
+pub(crate) fn read_filled<T: Deserialize + Drop>(
     alloc: Global,
     suite: CipherSuite,
     text: &[u8],

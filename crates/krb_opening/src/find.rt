@@ -24,7 +24,10 @@ impl OpenFault {
 }
 
 /// The value whose one spelling the bytes are, or none.
-pub fn read_whole<T: Deserialize>(alloc: Global, bytes: &[u8]) -> Result<Option<T>, AllocError>
+pub fn read_whole<T: Deserialize + Drop>(
+    alloc: Global,
+    bytes: &[u8],
+) -> Result<Option<T>, AllocError>
     ensures { IfOk result (IsFound (λ value. Writes T.tree value bytes.now)) }
 {
     match from_exact_bytes(alloc, bytes) {
@@ -39,7 +42,7 @@ pub fn read_whole<T: Deserialize>(alloc: Global, bytes: &[u8]) -> Result<Option<
 }
 
 /// The value that is sealed here under the key, or none (see [`open_part`]).
-pub fn open_whole<T: Deserialize>(
+pub fn open_whole<T: Deserialize + Drop>(
     alloc: Global,
     key: &Key,
     usage: i32,

@@ -23,7 +23,7 @@ pub enum OpenFault {
 
 /// The value whose encoding is sealed here under this key, for this usage, with nothing behind it but the suite's fill (RFC 3961,
 /// section 5.3).
-pub fn open_part<T: Deserialize>(
+pub fn open_part<T: Deserialize + Drop>(
     alloc: Global,
     suite: CipherSuite,
     key: &[u8],

@@ -12,7 +12,7 @@ use picky_asn1::is_number;
 use std::alloc::{AllocError, Global};
 
 /// The value that is sealed in the data under this key, for this usage, or none (RFC 4120, section 5.2.9).
-pub fn open_sealed<T: Deserialize>(
+pub fn open_sealed<T: Deserialize + Drop>(
     alloc: Global,
     key: &Key,
     usage: i32,

@@ -69,7 +69,7 @@ impl<const OCTET: u8, T: Eq> Eq for ListOf<OCTET, T> {
     ghost laws = { lists_equiv T.Eq.laws };
 }
 
-impl<const OCTET: u8, T: Deserialize> Tagged for ListOf<OCTET, T> {
+impl<const OCTET: u8, T: Deserialize + Drop> Tagged for ListOf<OCTET, T> {
     ghost use Rattle.asn1_trees.specs.Tree.{trees_of};
     ghost use Rattle.asn1_trees.proofs.Rows.{many-injective};
     ghost use Rattle.asn1_trees.specs.Tagged.{sequence};

@@ -43,7 +43,7 @@ where
     }
 }
 
-impl<V: Deserialize, const TAG: u8> Deserialize for ApplicationTag<V, TAG>
+impl<V: Deserialize + Drop, const TAG: u8> Deserialize for ApplicationTag<V, TAG>
 where
     TagNumber<TAG>: IsTagNumber,
 {

@@ -20,7 +20,7 @@ impl<T> From<T> for BitStringContainer<T> {
     }
 }
 
-impl<T: Deserialize> Tagged for BitStringContainer<T> {
+impl<T: Deserialize + Drop> Tagged for BitStringContainer<T> {
     ghost use Rattle.asn1_trees.proofs.Tagged.{wrapped_laws, behind_laws};
 
     type Row = T;

@@ -11,7 +11,7 @@ use asn1_octets::Asn1DerError;
 use devices::Source;
 
 /// Alternatives that are read.
-pub trait Alternatives: Sized + Drop {
+pub trait Alternatives: Sized {
     ghost use Rattle.asn1_codec.specs.Reading.{Reading, TookValue, IsSpelling, Refused};
 
     ghost tree: { Self → Tree };

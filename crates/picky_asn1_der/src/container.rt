@@ -18,7 +18,7 @@ impl<T> From<T> for OctetStringContainer<T> {
     }
 }
 
-impl<T: Deserialize> Tagged for OctetStringContainer<T> {
+impl<T: Deserialize + Drop> Tagged for OctetStringContainer<T> {
     ghost use Rattle.asn1_trees.proofs.Tagged.{wrapped_laws};
 
     type Row = T;

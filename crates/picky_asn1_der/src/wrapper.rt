@@ -43,7 +43,7 @@ where
     }
 }
 
-impl<const N: u8, T: Deserialize> Deserialize for ExplicitContextTag<N, T>
+impl<const N: u8, T: Deserialize + Drop> Deserialize for ExplicitContextTag<N, T>
 where
     TagNumber<N>: IsTagNumber,
 {

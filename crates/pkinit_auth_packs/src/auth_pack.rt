@@ -66,7 +66,7 @@ impl<V: ClientPublicValue + Clone> Clone for AuthPack<V> {
     }
 }
 
-impl<V: Deserialize + ClientPublicValue> Tagged for AuthPack<V> {
+impl<V: Deserialize + ClientPublicValue + Drop> Tagged for AuthPack<V> {
     ghost use Rattle.std.proofs.Common.{ap, refl, true, None, Some};
     ghost use Rattle.asn1_trees.specs.Tagged.{sequence};
     ghost use Rattle.asn1_trees.proofs.Tagged.{sequence_laws};

@@ -8,7 +8,7 @@ pub type Answer = Result<bool, Asn1DerError>;
 
 /// Whether a message of this type is read and written as is wanted. One bound stands for reading and writing, since a call at a
 /// message's own type spells each bound's impl out.
-pub fn is_told<T: Deserialize>(alloc: Global, recorded: &Recorded<'_>) -> Answer {
+pub fn is_told<T: Deserialize + Drop>(alloc: Global, recorded: &Recorded<'_>) -> Answer {
     is_read_told::<T>(alloc, recorded)
 }
 

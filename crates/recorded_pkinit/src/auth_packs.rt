@@ -31,7 +31,10 @@ fn ec_auth_pack(alloc: Global, recorded: &Recorded<'_>) -> Answer {
 }
 
 /// Whether a message is read as is wanted, and a copy of it is equal to it and written as is wanted.
-fn is_copied<T: Deserialize + Clone + PartialEq>(alloc: Global, recorded: &Recorded<'_>) -> Answer {
+fn is_copied<T: Deserialize + Clone + PartialEq + Drop>(
+    alloc: Global,
+    recorded: &Recorded<'_>,
+) -> Answer {
     match from_exact_bytes::<T>(alloc, &recorded.bytes) {
         Ok(value) => is_copy_written(alloc, &value, recorded),
         Err(Asn1DerError::Memory) => Err(Asn1DerError::Memory),

@@ -3,7 +3,7 @@ use picky_asn1_der::{Asn1DerError, Deserialize, Serialize, from_bytes, from_exac
 use std::alloc::Global;
 
 // Whether the value is written as these bytes, and read from them both with nothing behind it and as a front.
-pub(crate) fn is_spelled<T: Deserialize + PartialEq>(
+pub(crate) fn is_spelled<T: Deserialize + PartialEq + Drop>(
     alloc: Global,
     value: &T,
     bytes: &[u8],
@@ -23,7 +23,11 @@ pub(crate) fn is_written<T: Serialize>(alloc: Global, value: &T, bytes: &[u8]) -
     }
 }
 
-pub(crate) fn is_read<T: Deserialize + PartialEq>(alloc: Global, value: &T, bytes: &[u8]) -> bool {
+pub(crate) fn is_read<T: Deserialize + PartialEq + Drop>(
+    alloc: Global,
+    value: &T,
+    bytes: &[u8],
+) -> bool {
     match from_exact_bytes::<T>(alloc, bytes) {
         Ok(read) => read == *value,
         Err(_) => false,
@@ -31,11 +35,14 @@ pub(crate) fn is_read<T: Deserialize + PartialEq>(alloc: Global, value: &T, byte
 }
 
 // What bytes are refused as.
-pub(crate) fn fault_of<T: Deserialize>(alloc: Global, bytes: &[u8]) -> Option<Asn1DerError> {
+pub(crate) fn fault_of<T: Deserialize + Drop>(alloc: Global, bytes: &[u8]) -> Option<Asn1DerError> {
     from_exact_bytes::<T>(alloc, bytes).err()
 }
 
 // What bytes are refused as where something may stand behind a value.
-pub(crate) fn front_fault_of<T: Deserialize>(alloc: Global, bytes: &[u8]) -> Option<Asn1DerError> {
+pub(crate) fn front_fault_of<T: Deserialize + Drop>(
+    alloc: Global,
+    bytes: &[u8],
+) -> Option<Asn1DerError> {
     from_bytes::<T>(alloc, bytes).err()
 }

@@ -89,7 +89,10 @@ fn fields(rt: HostRuntime) {
     assert!(rt; is_private(message));
 }
 
-fn fault_of<A: Deserialize, P: Deserialize>(alloc: Global, bytes: &[u8]) -> Option<ErrorKind> {
+fn fault_of<A: Deserialize + Drop, P: Deserialize + Drop>(
+    alloc: Global,
+    bytes: &[u8],
+) -> Option<ErrorKind> {
     let mut left = bytes;
     KrbPrivFrame::<A, P>::deserialize(alloc, &mut left).err()
 }
@@ -157,7 +160,7 @@ fn is_encoded<T: Serialize + Drop>(alloc: Global, value: T, bytes: &[u8]) -> boo
 }
 
 // Whether the bytes are the encoding of a value.
-fn is_spelled<T: Deserialize>(alloc: Global, bytes: &[u8]) -> Option<bool> {
+fn is_spelled<T: Deserialize + Drop>(alloc: Global, bytes: &[u8]) -> Option<bool> {
     match read_whole::<T>(alloc, bytes) {
         Ok(Some(value)) => Some(is_encoded(alloc, value, bytes)),
         Ok(None) => Some(false),
@@ -197,7 +200,7 @@ fn is_wrong_key(alloc: Global) -> bool {
 }
 
 // Whether nothing is sealed here for this usage.
-fn is_nothing<T: Deserialize>(alloc: Global, usage: i32) -> Option<bool> {
+fn is_nothing<T: Deserialize + Drop>(alloc: Global, usage: i32) -> Option<bool> {
     let key = Key::new(SUITE, KEY).ok()?;
     match open_whole::<T>(alloc, &key, usage, SEALED) {
         Ok(opened) => Some(opened.is_none()),

@@ -27,7 +27,7 @@ impl<T: Serialize> Serialize for Strict<T> {
     }
 }
 
-impl<T: Deserialize> Deserialize for Strict<T> {
+impl<T: Deserialize + Drop> Deserialize for Strict<T> {
     fn may_start(first: u8) -> bool {
         T::may_start(first)
     }

@@ -12,7 +12,7 @@ use std::alloc::Global;
 /// A type of which each value has its DER as its one spelling, so that nothing deviates in it.
 pub trait Exact {}
 
-impl<T: Exact + Deserialize> Spelled for T {
+impl<T: Exact + Deserialize + Drop> Spelled for T {
     ghost use Rattle.std.specs.Prelude.{refl};
     ghost use Rattle.x509_spelling.specs.Laws.{are_low, exact_laws};
 
@@ -38,7 +38,10 @@ impl<T: Exact + Deserialize> Spelled for T {
 }
 
 /// The value whose DER the bytes are, in which nothing deviates.
-pub fn read_exact<T: Deserialize>(alloc: Global, bytes: &[u8]) -> Result<Counted<T>, X509Fault>
+pub fn read_exact<T: Deserialize + Drop>(
+    alloc: Global,
+    bytes: &[u8],
+) -> Result<Counted<T>, X509Fault>
     ensures { Tells (λ value n. IsExact T.tree value bytes.now n) result }
 {
     let value = from_exact_bytes(alloc, bytes)?;
