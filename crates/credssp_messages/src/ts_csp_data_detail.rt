@@ -6,6 +6,8 @@ use picky_asn1_der::{
     ExplicitContextTag3, ExplicitContextTag4, Fields, Optional, Row5, Serializer, Tagged,
     fields_of, from_fields, read_sequence,
 };
+use record_copies::{LentFields, RecordFields};
+use std::alloc::AllocError;
 
 /// Where a smart card's key stands (MS-CSSP, section 2.2.1.2.2.1).
 ///
@@ -17,7 +19,7 @@ use picky_asn1_der::{
 ///      containerName   [3] OCTET STRING OPTIONAL,
 ///      cspName         [4] OCTET STRING OPTIONAL }
 /// ```
-#[derive(Debug, Drop, PartialEq, Eq, Clone)]
+#[derive(Debug, Drop, PartialEq, Eq)]
 pub struct TsCspDataDetail {
     /// What the key is for: 1 to exchange keys, 2 to sign.
     pub key_spec: ExplicitContextTag0<IntegerAsn1>,
@@ -38,6 +40,16 @@ type TsCspDataDetailRow = Row5<
     Optional<Option<ExplicitContextTag3<OctetStringAsn1>>>,
     Optional<Option<ExplicitContextTag4<OctetStringAsn1>>>,
 >;
+
+impl Clone for TsCspDataDetail {
+    ghost is_clone = { λ value copy. ⟦<TsCspDataDetailRow as RecordFields>⟧.are_copies (⟦<TsCspDataDetail as Tagged>⟧.row_of value) (⟦<TsCspDataDetail as Tagged>⟧.row_of copy) };
+
+    fn clone(&self) -> Result<TsCspDataDetail, AllocError> {
+        let fields =
+            fields_of![self; key_spec, card_name, reader_name, container_name, csp_name].copied()?;
+        Ok(TsCspDataDetail::of_row(fields))
+    }
+}
 
 impl Tagged for TsCspDataDetail {
     ghost use Rattle.std.proofs.Common.{ap, refl, true};

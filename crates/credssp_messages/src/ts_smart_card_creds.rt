@@ -7,6 +7,8 @@ use picky_asn1_der::{
     ExplicitContextTag3, Fields, Optional, Row4, Serializer, Tagged, fields_of, from_fields,
     read_sequence,
 };
+use record_copies::{LentFields, RecordFields};
+use std::alloc::AllocError;
 
 /// Credentials by smart card (MS-CSSP, section 2.2.1.2.2).
 ///
@@ -17,7 +19,7 @@ use picky_asn1_der::{
 ///      userHint     [2] OCTET STRING OPTIONAL,
 ///      domainHint   [3] OCTET STRING OPTIONAL }
 /// ```
-#[derive(Debug, Drop, PartialEq, Eq, Clone)]
+#[derive(Debug, Drop, PartialEq, Eq)]
 pub struct TsSmartCardCreds {
     /// The card's number, in UTF-16.
     pub pin: ExplicitContextTag0<OctetStringAsn1>,
@@ -35,6 +37,15 @@ type TsSmartCardCredsRow = Row4<
     Optional<Option<ExplicitContextTag2<OctetStringAsn1>>>,
     Optional<Option<ExplicitContextTag3<OctetStringAsn1>>>,
 >;
+
+impl Clone for TsSmartCardCreds {
+    ghost is_clone = { λ value copy. ⟦<TsSmartCardCredsRow as RecordFields>⟧.are_copies (⟦<TsSmartCardCreds as Tagged>⟧.row_of value) (⟦<TsSmartCardCreds as Tagged>⟧.row_of copy) };
+
+    fn clone(&self) -> Result<TsSmartCardCreds, AllocError> {
+        let fields = fields_of![self; pin, csp_data, user_hint, domain_hint].copied()?;
+        Ok(TsSmartCardCreds::of_row(fields))
+    }
+}
 
 impl Tagged for TsSmartCardCreds {
     ghost use Rattle.std.proofs.Common.{ap, refl, true};

@@ -6,6 +6,8 @@ use picky_asn1_der::{
     Asn1DerError, Deserializer, Fields, Optional, Row5, Serializer, Tagged, fields_of, from_fields,
     read_sequence,
 };
+use record_copies::{LentFields, RecordFields};
+use std::alloc::AllocError;
 
 /// A group in which Diffie and Hellman's agreement is made (RFC 3279, section 2.3.3).
 ///
@@ -17,7 +19,7 @@ use picky_asn1_der::{
 ///      j                INTEGER OPTIONAL,
 ///      validationParms  ValidationParms OPTIONAL }
 /// ```
-#[derive(Debug, Drop, PartialEq, Eq, Clone)]
+#[derive(Debug, Drop, PartialEq, Eq)]
 pub struct DhDomainParameters {
     /// The prime, p = jq + 1.
     pub p: IntegerAsn1,
@@ -38,6 +40,15 @@ type DhDomainParametersRow = Row5<
     Optional<Option<IntegerAsn1>>,
     Optional<Option<ValidationParams>>,
 >;
+
+impl Clone for DhDomainParameters {
+    ghost is_clone = { λ value copy. ⟦<DhDomainParametersRow as RecordFields>⟧.are_copies (⟦<DhDomainParameters as Tagged>⟧.row_of value) (⟦<DhDomainParameters as Tagged>⟧.row_of copy) };
+
+    fn clone(&self) -> Result<DhDomainParameters, AllocError> {
+        let fields = fields_of![self; p, g, q, j, validation_params].copied()?;
+        Ok(DhDomainParameters::of_row(fields))
+    }
+}
 
 impl Tagged for DhDomainParameters {
     ghost use Rattle.std.proofs.Common.{ap, refl, true};

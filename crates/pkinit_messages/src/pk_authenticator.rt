@@ -7,6 +7,8 @@ use picky_asn1_der::{
     ExplicitContextTag3, Fields, Optional, Row4, Serializer, Tagged, fields_of, from_fields,
     read_sequence,
 };
+use record_copies::{LentFields, RecordFields};
+use std::alloc::AllocError;
 
 /// What a client signs with its public value (RFC 4556, section 3.2.1).
 ///
@@ -18,7 +20,7 @@ use picky_asn1_der::{
 ///      paChecksum   [3] OCTET STRING OPTIONAL,
 ///      ... }
 /// ```
-#[derive(Debug, Drop, PartialEq, Eq, Clone)]
+#[derive(Debug, Drop, PartialEq, Eq)]
 pub struct PkAuthenticator {
     /// The microseconds of the client's time.
     pub cusec: ExplicitContextTag0<IntegerAsn1>,
@@ -36,6 +38,15 @@ type PkAuthenticatorRow = Row4<
     ExplicitContextTag2<IntegerAsn1>,
     Optional<Option<ExplicitContextTag3<OctetStringAsn1>>>,
 >;
+
+impl Clone for PkAuthenticator {
+    ghost is_clone = { λ value copy. ⟦<PkAuthenticatorRow as RecordFields>⟧.are_copies (⟦<PkAuthenticator as Tagged>⟧.row_of value) (⟦<PkAuthenticator as Tagged>⟧.row_of copy) };
+
+    fn clone(&self) -> Result<PkAuthenticator, AllocError> {
+        let fields = fields_of![self; cusec, ctime, nonce, pa_checksum].copied()?;
+        Ok(PkAuthenticator::of_row(fields))
+    }
+}
 
 impl Tagged for PkAuthenticator {
     ghost use Rattle.std.proofs.Common.{ap, refl, true};
