@@ -27,7 +27,7 @@ pub(crate) fn split_value<T: FromDer>(
 }
 
 /// Whether the next octet begins a value.
-fn is_next<T: Deserialize + Drop>(bytes: &[u8]) -> bool
+fn is_next<T: Deserialize>(bytes: &[u8]) -> bool
     ensures { result ≡ begins T.firsts bytes.now }
 {
     match bytes.first() {

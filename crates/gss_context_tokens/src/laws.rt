@@ -20,7 +20,7 @@ pub fn one_proxy_message<T: FromDer>()
 
 /// The law that what is written is read again, of messages that have a spelling, and that a message is read where its token is as it is
 /// written; of a header more may be ignored. It does nothing.
-pub fn written_is_read<T: Deserialize + Drop>()
+pub fn written_is_read<T: Deserialize>()
     ensures message { (m : KrbMessage T) (rest : List ℕ) → IsWholeMessage T.tree m
         → BeginsKrbMessage (Writes T.tree) m (token_bytes (krb_message_content T.tree m) ++ rest) }
     ensures only { (m : KrbMessage T) (bytes : List ℕ) → BeginsKrbMessage (Writes T.tree) m bytes

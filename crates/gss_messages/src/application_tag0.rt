@@ -9,7 +9,7 @@ use picky_asn1_der::{Asn1DerError, Deserializer, Serializer, Tagged};
 #[derive(Debug, Drop, PartialEq, Eq)]
 pub struct ApplicationTag0<T>(pub T);
 
-impl<T: Tagged + Drop> Tagged for ApplicationTag0<T> {
+impl<T: Tagged> Tagged for ApplicationTag0<T> {
     type Row = T::Row;
 
     const FIRST: u8 = 0x60;

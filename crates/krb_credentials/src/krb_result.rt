@@ -11,7 +11,7 @@ use picky_asn1_der::{Alternatives, Asn1DerError, Choice, Deserialize, Deserializ
 pub type KrbResult<T> = Result<T, KrbError>;
 
 /// A message, or the error in its place, that is read.
-pub trait ResultExt<T: Deserialize + Drop>: Sized {
+pub trait ResultExt<T: Deserialize>: Sized {
     ghost use Rattle.std.specs.Prelude.{Bool, IsTrue};
     ghost use Rattle.asn1_trees.specs.Tree.{Tree};
     ghost use Rattle.asn1_codec.specs.Reading.{Reading, TookValue, IsSpelling, Refused};
@@ -28,7 +28,7 @@ pub trait ResultExt<T: Deserialize + Drop>: Sized {
             (λ fault. Refused (IsSpelling tree) from.old from.new fault) };
 }
 
-impl<T: Deserialize + Drop> ResultExt<T> for Result<T, KrbError> {
+impl<T: Deserialize> ResultExt<T> for Result<T, KrbError> {
     ghost tree = { result_tree T.tree };
 
     ghost is_told = { is_no_error T.firsts };

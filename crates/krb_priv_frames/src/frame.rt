@@ -144,7 +144,7 @@ impl<A: Serialize, P: Serialize> KrbPrivFrame<A, P> {
 
 /// The law that a frame that was written is read again: of values that their types write whole, each in at most 10,240
 /// bytes. It does nothing.
-pub fn written_is_read<A: Deserialize + Drop, P: Deserialize + Drop>()
+pub fn written_is_read<A: Deserialize, P: Deserialize>()
     ensures { (a : A) (p : P) → IsWhole (A.tree a) → IsWhole (P.tree p)
         → length (der (A.tree a)) ≤ 10240 → length (der (P.tree p)) ≤ 10240
         → IsFramedAs (Writes A.tree) (Writes P.tree) a p (frame_bytes (der (A.tree a)) (der (P.tree p))) }
