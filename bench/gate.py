@@ -1,11 +1,12 @@
-"""Runs `rt ci --anew`, which takes nothing that an earlier run kept, in a clean clone and tells its processor minutes, crate by crate."""
+"""Runs the gate from nothing in a clean clone, and prints its processor minutes by crate and its wall time against the budget."""
 import collections, os, re, resource, subprocess, sys, tempfile, threading, time
 
-BUDGET = re.compile(r"^- Budget of the gate: (\d+) processor minutes", re.M)
+BUDGET = re.compile(r"^- Budget of the gate: (\d+) minutes of wall time on two processors", re.M)
 CLOCK = os.sysconf("SC_CLK_TCK")
 COLUMNS = ("proof", "tests", "first edit", "further edits")
-# The budget is stated for two processors: with four, a large check takes up to four jobs, which do much of their work twice.
-PROCESSORS = int(os.environ.get("GATE_PROCESSORS", 2))
+# The budget is wall time on two processors: with four, a large check takes up to four jobs, which do much of their work twice.
+BUDGET_PROCESSORS = 2
+PROCESSORS = int(os.environ.get("GATE_PROCESSORS", BUDGET_PROCESSORS))
 
 
 class Check:
@@ -96,9 +97,32 @@ def edits_of(clone):
     return collections.defaultdict(list, found)
 
 
-def main(top, log):
+def gate_command():
+    """The words of the gate from nothing. A kit whose `rt ci` keeps what passed has a word against it, which its help names."""
+    asked = subprocess.run(["rt", "help"], cwd="/", stdin=subprocess.DEVNULL, capture_output=True, text=True)
+    return ["rt", "ci", "--anew"] if "--anew" in asked.stdout + asked.stderr else ["rt", "ci"]
+
+
+def budget_of(top):
+    """The minutes of wall time that docs/DECISIONS.md states."""
     with open(f"{top}/docs/DECISIONS.md", encoding="utf-8") as it:
-        budget = BUDGET.search(it.read())
+        found = BUDGET.search(it.read())
+    if not found:
+        sys.exit("gate: docs/DECISIONS.md has no line '- Budget of the gate: N minutes of wall time on two processors'")
+    return int(found[1])
+
+
+def judgement(wall, budget, processors):
+    """Whether the wall time keeps the budget, and a text that says so. On other than two processors nothing is judged."""
+    if processors != BUDGET_PROCESSORS:
+        return True, f"not judged: the budget of {budget} minutes is for {BUDGET_PROCESSORS} processors"
+    if wall <= budget:
+        return True, f"within the budget of {budget} minutes"
+    return False, f"OVER the budget of {budget} minutes"
+
+
+def main(top, log):
+    budget, command = budget_of(top), gate_command()
     with tempfile.TemporaryDirectory(prefix="gate-") as room, open(log, "w") as said:
         clone = f"{os.path.realpath(room)}/clone"
         subprocess.run(["git", "clone", "-q", top, clone], check=True)
@@ -107,7 +131,7 @@ def main(top, log):
         watcher.start()
         try:
             os.sched_setaffinity(0, sorted(os.sched_getaffinity(0))[:PROCESSORS])
-            ended = subprocess.run(["rt", "ci", "--anew"], cwd=clone, stdin=subprocess.DEVNULL, stdout=said, stderr=subprocess.STDOUT)
+            ended = subprocess.run(command, cwd=clone, stdin=subprocess.DEVNULL, stdout=said, stderr=subprocess.STDOUT)
         finally:
             is_over.set()
             watcher.join()
@@ -117,12 +141,13 @@ def main(top, log):
     show_slow(tries, edits)
     used = resource.getrusage(resource.RUSAGE_CHILDREN)
     minutes, wall = (used.ru_utime + used.ru_stime) / 60, (time.monotonic() - start) / 60
-    of_budget = budget[1] if budget else "?"
     processors = len(os.sched_getaffinity(0))
-    print(f"{minutes:.1f} processor minutes, of {of_budget} budgeted; {wall:.1f} minutes on {processors} processors")
+    keeps, said_of_it = judgement(wall, budget, processors)
+    print(f"`{' '.join(command)}`: {minutes:.1f} processor minutes")
+    print(f"{wall:.1f} minutes of wall time on {processors} processors: {said_of_it}")
     with open(log) as it:
         print(it.read().splitlines()[-1])
-    return ended.returncode
+    return ended.returncode or int(not keeps)
 
 
 if __name__ == "__main__":
