@@ -1,0 +1,63 @@
+# The one entry to this repository. `make help` lists what there is; README.md has the time that each takes.
+# The kit's command `rt` must be on the path.
+
+RT ?= rt
+BENCH ?= as_exchange
+PORT ?= 8888
+CRATES := $(sort $(notdir $(patsubst %/src,%,$(wildcard crates/*/src))))
+REALM := out/realm
+
+.DEFAULT_GOAL := help
+.PHONY: help try messages certificate check gate run clients bench plant fmt docs budget crate-named
+
+help: ## list the targets
+	@sed -n 's/^\([a-z]*\):[^#]*## /\1\t/p' Makefile | expand -t 14
+
+try: ## run a recorded request and a login by password, without proof: one minute
+	cd crates/first_use && $(RT) try </dev/null
+
+messages: ## read, change and write messages through picky_krb, without proof: one minute
+	cd crates/example_messages && $(RT) try </dev/null
+
+certificate: ## read a certificate, without proof: one minute
+	cd crates/certificate_reader && $(RT) try --data certificate.der=data/certificate.der </dev/null
+
+check: crate-named ## prove one crate and what it stands on: make check CRATE=krb_tgs
+	cd crates/$(CRATE) && $(RT) check
+
+gate: ## prove everything from nothing, try the wrong bodies, run each test and program
+	$(RT) ci
+
+run: $(REALM)/settings.toml ## serve a realm to stock clients on 127.0.0.1 (PORT=8888); proves the program first
+	printf '%s\n' '[libdefaults]' 'default_realm = EXAMPLE.COM' 'dns_lookup_kdc = false' 'udp_preference_limit = 1' \
+		'dns_canonicalize_hostname = false' '[realms]' 'EXAMPLE.COM = {' 'kdc = 127.0.0.1:$(PORT)' '}' >$(REALM)/krb5.conf
+	./krb_realm </dev/null
+	@echo "Then, in another terminal: export KRB5_CONFIG=$(CURDIR)/$(REALM)/krb5.conf; kinit user"
+	socat TCP-LISTEN:$(PORT),bind=127.0.0.1,fork,reuseaddr \
+		EXEC:"crates/krb_realmd/out/krb_realmd $(REALM)/settings.toml /dev/urandom now"
+
+clients: ## log in to the realm with stock clients of MIT and Heimdal, step by step
+	examples/real_clients.sh
+
+bench: ## time the program: make bench BENCH=as_exchange (a script of bench/)
+	bench/$(BENCH).sh
+
+plant: crate-named ## list wrong bodies that a crate's contracts let through: make plant CRATE=krb_tgs
+	cd crates/$(CRATE) && $(RT) plant
+
+fmt: ## lay out the files of each crate, or of one: make fmt CRATE=krb_tgs
+	for crate in $(or $(CRATE),$(CRATES)); do (cd crates/$$crate && $(RT) fmt) || exit 1; done
+
+docs: ## check that the paths, crates and words that the documents name exist
+	docs/items.sh >/dev/null
+	tools/docpaths
+
+budget: ## the gate in a clean clone, with its minutes crate by crate
+	bench/gate.sh
+
+crate-named:
+	@test -d "crates/$(CRATE)/src" || { echo "make: name a crate, as in make check CRATE=krb_tgs" >&2; exit 2; }
+
+$(REALM)/settings.toml: | examples/settings.toml
+	mkdir -p $(REALM)
+	install -m 600 examples/settings.toml $@
