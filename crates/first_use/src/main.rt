@@ -1,14 +1,19 @@
-//! A first use: a realm, a login by password, and a service that admits the login once.
+//! A first use: a realm's reply to a recorded request, a login by password, and a service that admits the login once.
 //!
 //! `rt` is the machine: it has memory, random bytes and standard output.
 #![tactic(auto)]
+
+mod replies;
+mod stored_run;
 
 use anyhow::Context;
 use krb_realm::{
     Admission, AsAsked, CipherSuite, Client, Credential, Moment, Realm, Service, Settings,
 };
+use replies::print_reply;
 use std::alloc::Global;
 use std::random::RandomSource;
+use stored_run::answer_kinit;
 
 const REALM: &[u8] = b"EXAMPLE.COM";
 
@@ -21,9 +26,11 @@ const HOST: &str = "host/server";
 const SUITE: CipherSuite = CipherSuite::Aes256CtsHmacSha196;
 
 fn main(rt: HostRuntime) -> anyhow::Result<()> {
+    answer_kinit(&rt, now()?)?;
     let host_key = random_bytes::<32>(&rt)?;
     let realm = make_realm(&rt, &host_key)?;
     let client = make_client(rt.alloc())?;
+    println!(rt; "a user logs in by password:")?;
     let credential = log_in(&rt, &realm, &client)?;
     use_service(&rt, &host_key, &client, &credential)
 }
@@ -50,6 +57,7 @@ fn log_in(rt: &HostRuntime, realm: &Realm, client: &Client) -> anyhow::Result<Cr
     let (request, asked) = ask_realm(rt, client)?;
     let random = random_bytes::<128>(rt)?;
     let reply = realm.answer(rt.alloc(), &request, now()?, &random)?;
+    print_reply(rt, &reply)?;
     let credential = client.take_as_reply(rt.alloc(), &asked, &reply)?;
     Ok(credential)
 }
