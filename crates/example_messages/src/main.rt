@@ -14,7 +14,7 @@ use error::unknown_client;
 use picky_asn1::date::GeneralizedTime;
 use picky_asn1::wrapper::GeneralizedTimeAsn1;
 use picky_asn1_der::to_vec;
-use picky_krb::data_types::{PrincipalName, Ticket, TicketInner};
+use picky_krb::data_types::{Ticket, TicketInner};
 use picky_krb::from_bytes;
 use picky_krb::messages::{AsReq, KdcReqBody};
 
@@ -52,16 +52,7 @@ fn change_request(rt: &HostRuntime, bytes: &[u8]) -> anyhow::Result<()> {
 fn print_body(rt: &HostRuntime, body: &KdcReqBody) -> anyhow::Result<()> {
     let till = body.till.0.0.to_text();
     println!(rt; "AS-REQ to {}", str::from_utf8(body.realm.0.as_bytes())?)?;
-    print_sname(rt, body.sname.0.as_ref().map(|sname| &sname.0))?;
     println!(rt; "till {}", str::from_utf8(&till)?)?;
-    Ok(())
-}
-
-fn print_sname(rt: &HostRuntime, sname: Option<&PrincipalName>) -> anyhow::Result<()> {
-    let sname = sname.context("no sname")?;
-    for component in sname.name_string.0.as_slice() {
-        println!(rt; "sname {}", str::from_utf8(component.as_bytes())?)?;
-    }
     Ok(())
 }
 
