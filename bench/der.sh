@@ -5,4 +5,4 @@
 set -e
 cd "$(dirname "$0")/.."
 (cd crates/der_bench && mkdir -p out && rt run -- $(cat args) > out/first_run.txt 2>&1) || { cat crates/der_bench/out/first_run.txt; exit 1; }
-exec python3 -B bench/der.py crates/der_bench/out/der_bench crates/recorded_replies/data
+exec python3 -B bench/der.py crates/der_bench/out/der_bench crates/replay_desk/data

@@ -1,0 +1,28 @@
+//! Replays what was recorded of the desk, and compares what comes out with what stands beside it: requests to a realm and to a
+//! service, runs of the program with settings, faulty settings files, and runs with arguments.
+#![tactic(auto)]
+
+mod admissions;
+mod arguments;
+mod files;
+mod replies;
+mod rows;
+mod runs;
+
+use admissions::{Admissions, Repetitions};
+use arguments::Arguments;
+use files::SettingsFiles;
+use replies::{bare_realm, realm_of_four};
+use rows::replay;
+use runs::Runs;
+
+fn main(rt: HostRuntime) -> anyhow::Result<()> {
+    replay(&rt, bare_realm(rt.alloc())?, "real_clients.txt")?;
+    replay(&rt, realm_of_four(rt.alloc())?, "kdc_exchanges.txt")?;
+    replay(&rt, Admissions, "admissions.txt")?;
+    replay(&rt, Repetitions, "admissions.txt")?;
+    replay(&rt, Runs, "rows.txt")?;
+    replay(&rt, Runs, "settings.txt")?;
+    replay(&rt, SettingsFiles, "files.txt")?;
+    replay(&rt, Arguments, "arguments.txt")
+}

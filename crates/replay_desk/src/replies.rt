@@ -1,0 +1,83 @@
+//! Requests to a realm, and its replies.
+
+use crate::rows::{Rows, columns_of};
+use anyhow::{Context, bail};
+use krb_realm::{AnswerRefusal, CipherSuite, Moment, Realm, Settings};
+use results::if_passed;
+use std::alloc::Global;
+
+impl Rows for Realm {
+    const SEPARATOR: &'static str = "\n";
+
+    const NAME: &'static str = "requests";
+
+    const DIFFERING: &'static str = "differing replies";
+
+    fn differing(&self, rt: &HostRuntime, row: &str) -> anyhow::Result<Option<String>> {
+        let columns = columns_of(rt.alloc(), row)?;
+        let [label, request, wanted, _] = columns.as_slice() else {
+            bail!("a row of other than four columns");
+        };
+        let reply = reply_of(rt.alloc(), self, *request)?;
+        if reply.as_str() == *wanted {
+            return Ok(None);
+        }
+        Ok(Some(format!(in rt.alloc(); "another reply to {label}")?))
+    }
+}
+
+/// What the realm answers to a request at the first second of 2000, in hexadecimal or as the name of its refusal.
+fn reply_of(alloc: Global, realm: &Realm, request: &str) -> anyhow::Result<String> {
+    let request = hex::decode(alloc, request)?;
+    let moment = Moment::from_text(b"20000101000000Z").context("no moment")?;
+    let text = match realm.answer(alloc, &request, moment, &words()) {
+        Ok(reply) => hex::encode(alloc, &reply)?,
+        Err(AnswerRefusal::Unreadable) => format!(in alloc; "Unreadable")?,
+        Err(AnswerRefusal::Memory) => bail!("out of memory"),
+    };
+    Ok(text)
+}
+
+/// The random bytes of each reply: 0 to 127.
+fn words() -> [u8; 128] {
+    let mut words = [0; 128];
+    let mut next = 0u8;
+    for word in &mut words {
+        *word = next;
+        next = next.wrapping_add(1);
+    }
+    words
+}
+
+/// The realm R with no account beside its own service.
+pub(crate) fn bare_realm(alloc: Global) -> anyhow::Result<Realm> {
+    let settings = Settings::new(300, 36_000)?;
+    let suite = CipherSuite::Aes256CtsHmacSha196;
+    let realm = Realm::new(alloc, b"R", suite, &[0; 32], settings)?;
+    Ok(realm)
+}
+
+/// The realm R with the accounts `a`, `h`, `b` and `d`.
+pub(crate) fn realm_of_four(alloc: Global) -> anyhow::Result<Realm> {
+    let mut realm = bare_realm(alloc)?;
+    let added = add_four(alloc, &mut realm);
+    if_passed(realm, added)
+}
+
+fn add_four(alloc: Global, realm: &mut Realm) -> anyhow::Result<()> {
+    let aes256 = CipherSuite::Aes256CtsHmacSha196;
+    let aes128 = CipherSuite::Aes128CtsHmacSha196;
+    let des3 = CipherSuite::Des3CbcSha1Kd;
+    realm.add_account_by_password(alloc, &name_of(alloc, b"a")?, aes256, b"pw")?;
+    realm.add_account_by_key(alloc, &name_of(alloc, b"h")?, aes256, &[1; 32])?;
+    realm.add_account_by_password(alloc, &name_of(alloc, b"b")?, aes128, b"pw")?;
+    realm.add_account_by_password(alloc, &name_of(alloc, b"d")?, des3, b"pw")?;
+    Ok(())
+}
+
+/// The name of one component.
+fn name_of(alloc: Global, component: &[u8]) -> anyhow::Result<Vec<Vec<u8>>> {
+    let component = Vec::from_slice(alloc, component)?;
+    let name = vec![in alloc; component]?;
+    Ok(name)
+}
