@@ -21,7 +21,7 @@ def recorded(name, label):
 def show(name, text):
     count = len(text) // 2
     for task in ("read", "write"):
-        command = [PROGRAM, task, KINDS[text[:2]], text]
+        command = [PROGRAM, "der", task, KINDS[text[:2]], text]
         each = nanoseconds(command, TURNS)
         print(f"{name:<12} {count:4} bytes  {task:<5}  {each:7.0f} ns, {each / count:5.1f} a byte   {counted(command, count)}")
 

@@ -32,7 +32,7 @@ def timed(work):
 
 def program(task, times):
     """The time of so many steps without that of none, and what was printed."""
-    run = lambda n: subprocess.run([PROGRAM, task, str(n)], capture_output=True, text=True, check=True).stdout.strip()
+    run = lambda n: subprocess.run([PROGRAM, "sealing", task, str(n)], capture_output=True, text=True, check=True).stdout.strip()
     none, _ = timed(lambda: run(0))
     some, printed = timed(lambda: run(times))
     return some - none, printed

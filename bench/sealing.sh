@@ -1,8 +1,8 @@
 #!/bin/sh
 # Prints side by side how fast keys are derived from passwords (PBKDF2-HMAC-SHA1, 4,096 rounds, 32 bytes) and how fast
 # AES-128 with ciphertext stealing and triple DES in a chain seal and open a megabyte: here, and by python3's hashlib and
-# cryptography where they are at hand. Both sides must come to the same bytes. The first run proves and builds the program crates/sealing_bench.
+# cryptography where they are at hand. Both sides must come to the same bytes. The first run proves and builds the program crates/bench_codecs.
 set -e
 cd "$(dirname "$0")/.."
-(cd crates/sealing_bench && mkdir -p out && rt run -- key 1 > out/first_run.txt 2>&1) || { cat crates/sealing_bench/out/first_run.txt; exit 1; }
-exec python3 bench/sealing.py crates/sealing_bench/out/sealing_bench
+(cd crates/bench_codecs && mkdir -p out && rt run -- $(cat args) > out/first_run.txt 2>&1) || { cat crates/bench_codecs/out/first_run.txt; exit 1; }
+exec python3 bench/sealing.py crates/bench_codecs/out/bench_codecs

@@ -59,7 +59,7 @@ def made_in(folder):
 
 def show(name, part):
     for task in ("read", "write"):
-        command = [PROGRAM, task, name, part.hex()]
+        command = [PROGRAM, "x509", task, name, part.hex()]
         each = nanoseconds(command, TURNS)
         print(f"{name:<10} {len(part):4} bytes  {task:<5} {1e9 / each:11,.0f} a second  {each:7.0f} ns, {each / len(part):5.1f} a byte   {counted(command, len(part))}")
 

@@ -1,31 +1,22 @@
-//! Reads or writes a part of a certificate as often as the arguments say, so that the time can be taken from outside
-//! (bench/x509.sh). It prints how many bytes were read or written at the last turn.
-#![tactic(auto)]
+//! Reading and writing of a certificate's parts.
 
 use anyhow::bail;
 use picky_asn1_x509::{Extensions, Name, Spelled, from_bytes, to_vec};
 use std::alloc::Global;
-use std::env;
 
-fn main(rt: HostRuntime) -> anyhow::Result<()> {
-    let mut words = env::args(&rt)?.skip(1);
-    let (Some(task), Some(kind), Some(text), Some(times)) = (
-        words.next(),
-        words.next(),
-        words.next(),
-        words.next(),
-    ) else {
-        bail!("usage: x509_bench read|write name|extensions HEXADECIMAL TIMES");
+/// How many bytes of a part were read or written at the last turn.
+pub(crate) fn run(alloc: Global, words: &[String]) -> anyhow::Result<String> {
+    let [task, kind, text, times] = words else {
+        bail!("usage: x509 read|write name|extensions HEXADECIMAL TIMES");
     };
-    let bytes = hex::decode(rt.alloc(), text.as_str())?;
+    let bytes = hex::decode(alloc, text.as_str())?;
     let times = times.parse::<u32>()?;
     let count = match kind.as_str() {
-        "name" => turn::<Name>(rt.alloc(), task.as_str(), &bytes, times)?,
-        "extensions" => turn::<Extensions>(rt.alloc(), task.as_str(), &bytes, times)?,
+        "name" => turn::<Name>(alloc, task.as_str(), &bytes, times)?,
+        "extensions" => turn::<Extensions>(alloc, task.as_str(), &bytes, times)?,
         _ => bail!("no such part: {kind}"),
     };
-    println!(rt; "{count}")?;
-    Ok(())
+    Ok(format!(in alloc; "{count}")?)
 }
 
 /// How many bytes each turn took.

@@ -1,35 +1,26 @@
-//! Reads or writes a message as often as the arguments say, so that the time can be taken from outside (bench/der.sh).
-//! It prints how many bytes were read or written at the last turn.
-#![tactic(auto)]
+//! Reading and writing of messages.
 
 use anyhow::bail;
 use krb_messages::messages::{ApReq, AsRep, AsReq, KrbError, TgsReq};
 use picky_asn1_der::{Deserialize, from_exact_bytes, to_vec};
 use std::alloc::Global;
-use std::env;
 
-fn main(rt: HostRuntime) -> anyhow::Result<()> {
-    let mut words = env::args(&rt)?.skip(1);
-    let (Some(task), Some(kind), Some(text), Some(times)) = (
-        words.next(),
-        words.next(),
-        words.next(),
-        words.next(),
-    ) else {
-        bail!("usage: der_bench read|write KIND HEXADECIMAL TIMES");
+/// How many bytes of a message were read or written at the last turn.
+pub(crate) fn run(alloc: Global, words: &[String]) -> anyhow::Result<String> {
+    let [task, kind, text, times] = words else {
+        bail!("usage: der read|write KIND HEXADECIMAL TIMES");
     };
-    let bytes = hex::decode(rt.alloc(), text.as_str())?;
+    let bytes = hex::decode(alloc, text.as_str())?;
     let times = times.parse::<u32>()?;
     let count = match kind.as_str() {
-        "as_req" => turn::<AsReq>(rt.alloc(), task.as_str(), &bytes, times)?,
-        "tgs_req" => turn::<TgsReq>(rt.alloc(), task.as_str(), &bytes, times)?,
-        "as_rep" => turn::<AsRep>(rt.alloc(), task.as_str(), &bytes, times)?,
-        "ap_req" => turn::<ApReq>(rt.alloc(), task.as_str(), &bytes, times)?,
-        "krb_error" => turn::<KrbError>(rt.alloc(), task.as_str(), &bytes, times)?,
+        "as_req" => turn::<AsReq>(alloc, task.as_str(), &bytes, times)?,
+        "tgs_req" => turn::<TgsReq>(alloc, task.as_str(), &bytes, times)?,
+        "as_rep" => turn::<AsRep>(alloc, task.as_str(), &bytes, times)?,
+        "ap_req" => turn::<ApReq>(alloc, task.as_str(), &bytes, times)?,
+        "krb_error" => turn::<KrbError>(alloc, task.as_str(), &bytes, times)?,
         _ => bail!("no such kind of message: {kind}"),
     };
-    println!(rt; "{count}")?;
-    Ok(())
+    Ok(format!(in alloc; "{count}")?)
 }
 
 /// How many bytes each turn took.

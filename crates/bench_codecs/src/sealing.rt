@@ -1,35 +1,31 @@
-//! Derives keys from passwords, or seals or opens a megabyte, as often as the arguments say, so that the time can be taken
-//! from outside (bench/sealing.sh). What it prints is the same each time.
-#![tactic(auto)]
+//! Keys of passwords, and sealing and opening of a megabyte.
 
 use anyhow::bail;
 use krb_blocks::{AesSize, decrypt_aes_cts, encrypt_aes_cts};
 use krb_des::{decrypt_des, encrypt_des};
 use krb_digests::pbkdf2_hmac_sha1;
 use std::alloc::Global;
-use std::env;
 
 const KEY: [u8; 16] = *b"a key of AES-128";
 
 const DES3_KEY: [u8; 24] = *b"the 24 bytes of this key";
 
-fn main(rt: HostRuntime) -> anyhow::Result<()> {
-    let mut words = env::args(&rt)?.skip(1);
-    let (Some(task), Some(times)) = (words.next(), words.next()) else {
-        bail!("usage: sealing_bench key|cts|open|des3|des3-open TIMES");
+/// The last 32 bytes that the last turn gave, in hexadecimal. They are the same each time.
+pub(crate) fn run(alloc: Global, words: &[String]) -> anyhow::Result<String> {
+    let [task, times] = words else {
+        bail!("usage: sealing key|cts|open|des3|des3-open TIMES");
     };
     let times = times.parse::<u32>()?;
     let last = match task.as_str() {
-        "key" => derived(rt.alloc(), times)?,
-        "cts" => sealed(rt.alloc(), times)?,
-        "open" => opened(rt.alloc(), times)?,
-        "des3" => sealed_by_des(rt.alloc(), times)?,
-        "des3-open" => opened_by_des(rt.alloc(), times)?,
+        "key" => derived(alloc, times)?,
+        "cts" => sealed(alloc, times)?,
+        "open" => opened(alloc, times)?,
+        "des3" => sealed_by_des(alloc, times)?,
+        "des3-open" => opened_by_des(alloc, times)?,
         _ => bail!("no task: {task}"),
     };
     let end = &last[last.len().saturating_sub(32)..];
-    println!(rt; "{}", hex::encode(rt.alloc(), end)?)?;
-    Ok(())
+    Ok(hex::encode(alloc, end)?)
 }
 
 /// A key of 32 bytes after 4,096 rounds, then one with that key as its password, and so on.

@@ -1,0 +1,44 @@
+//! Does a task as often as its last word says, so that the time can be taken from outside: reads or writes a message (bench/der.sh)
+//! or a part of a certificate (bench/x509.sh), derives keys, or seals or opens a megabyte (bench/sealing.sh).
+//!
+//! The arguments are `der TASK ..`, `x509 TASK ..` or `sealing TASK ..`. Further tasks may follow, each after a `+`.
+#![tactic(auto)]
+
+mod der;
+mod sealing;
+mod x509;
+
+use anyhow::bail;
+use std::alloc::Global;
+use std::env;
+
+fn main(rt: HostRuntime) -> anyhow::Result<()> {
+    let words = words_of(&rt)?;
+    for task in words.split(|word| word.as_str() == "+") {
+        let printed = outcome_of(rt.alloc(), task)?;
+        println!(rt; "{printed}")?;
+    }
+    Ok(())
+}
+
+/// The arguments behind the program's name.
+fn words_of(rt: &HostRuntime) -> anyhow::Result<Vec<String>> {
+    let mut words = Vec::new(rt.alloc());
+    for word in env::args(rt)?.skip(1) {
+        words.push(word)?;
+    }
+    Ok(words)
+}
+
+/// What is printed of a task once it is done.
+fn outcome_of(alloc: Global, task: &[String]) -> anyhow::Result<String> {
+    let [codec, words @ ..] = task else {
+        bail!("usage: bench_codecs der|x509|sealing TASK .. [+ ..]");
+    };
+    match codec.as_str() {
+        "der" => der::run(alloc, words),
+        "x509" => x509::run(alloc, words),
+        "sealing" => sealing::run(alloc, words),
+        _ => bail!("no such codec: {codec}"),
+    }
+}
