@@ -31,4 +31,5 @@ def main():
         print(f"{seconds:7.1f} {name}")
 
 
-main()
+if __name__ == "__main__":
+    main()
