@@ -1,5 +1,6 @@
 -- The stamp in the encoding of encrypted data is the one in the encrypted data.
-use Rattle.std.proofs.Common.{ℕ, List, Option, None, Some, sym, subst, ◌∙◌}
+use Rattle.std.proofs.Common.{ℕ, List, Option, None, Some, Result, Ok, Err, sym, subst, ◌∙◌}
+use Rattle.std.specs.Prelude.{IfOk}
 use Rattle.asn1_trees.specs.Tree.{Writes}
 use Rattle.krb_accounts.specs.Account.{AccountRecord}
 use Rattle.krb_types.specs.declared.data_types.encrypted_data.EncryptedData.{EncryptedData}
@@ -10,10 +11,17 @@ use Rattle.krb_opening.specs.Sealed.{IsSealedIn}
 use Rattle.krb_preauth.specs.Stamps.{IsStamp, stamp_tree}
 use Rattle.krb_types.specs.Trees.{encrypted_data_tree}
 
-pub stamp_found : (account : AccountRecord) (bytes : List ℕ) (sealed : EncryptedData) (found : Option PaEncTsEnc)
+stamp_found : (account : AccountRecord) (bytes : List ℕ) (sealed : EncryptedData) (found : Option PaEncTsEnc)
     → Writes encrypted_data_tree sealed bytes → IsFound (IsSealedIn {T = PaEncTsEnc} stamp_tree account.suite account.key 1 sealed) found
     → IsFound (IsStamp account bytes) found
 stamp_found account bytes sealed None writes none = λ value stamp.
     none value (subst (λ s. IsSealedIn {T = PaEncTsEnc} stamp_tree account.suite account.key 1 s value)
     (held.encrypted_data-injective stamp.sealed sealed stamp.writes.0 writes.0 (sym stamp.writes.1 ∙ writes.1)) stamp.opens)
 stamp_found account bytes sealed (Some value) writes opens = record { sealed = sealed; writes = writes; opens = opens }
+
+-- where the decryption did not run out of memory
+pub stamp_opened : {E : Type 0} (account : AccountRecord) (bytes : List ℕ) (sealed : EncryptedData) (opened : Result (Option PaEncTsEnc) E)
+    → Writes encrypted_data_tree sealed bytes → IfOk opened (IsFound (IsSealedIn {T = PaEncTsEnc} stamp_tree account.suite account.key 1 sealed))
+    → IfOk opened (IsFound (IsStamp account bytes))
+stamp_opened account bytes sealed (Ok found) writes opens = stamp_found account bytes sealed found writes opens
+stamp_opened account bytes sealed (Err fault) writes opens = tt

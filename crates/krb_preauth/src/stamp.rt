@@ -22,8 +22,9 @@ pub fn open_stamp(
     let Some(sealed) = read else {
         return Ok(None);
     };
-    let stamp = open_sealed(alloc, account.key(), key_usages::PA_ENC_TIMESTAMP, &sealed)?;
-    Ok(stamp)
+    let stamp = open_sealed(alloc, account.key(), key_usages::PA_ENC_TIMESTAMP, &sealed);
+    drop(sealed);
+    stamp
 }
 
 /// The moment that a stamp tells, or none where its microseconds are no part of a second. Missing ones are zero.
