@@ -14,7 +14,9 @@ use krb_types::constants::types::{ENC_TICKET_PART_TYPE, KERBEROS_VERSION};
 use krb_types::data_types::{EncTicketPartInner, EncryptedData, PrincipalName, TicketInner};
 use picky_asn1::date::GeneralizedTime;
 use picky_asn1::wrapper::{GeneralStringAsn1, IntegerAsn1, OctetStringAsn1};
-use picky_asn1_der::ExplicitContextTag;
+use picky_asn1_der::{ExplicitContextTag, fields_of};
+use record_copies::LentFields;
+use results::both;
 use std::alloc::{AllocError, Global};
 
 /// What a ticket is granted with, in an AS or a TGS exchange.
@@ -76,13 +78,13 @@ pub(crate) fn ticket_of(
 ) -> Result<TicketInner, AllocError>
     ensures { IfOk result (λ ticket. ticket ≡ ticket_of grant.now part) }
 {
-    let version = IntegerAsn1::from_u64(alloc, u64::from(KERBEROS_VERSION))?;
-    let realm = grant.realm.clone()?;
-    let service = grant.service.clone()?;
+    let version = IntegerAsn1::from_u64(alloc, u64::from(KERBEROS_VERSION));
+    let names = fields_of![grant; realm, service].copied();
+    let ((version, names), part) = both(both(version, names), Ok(part))?;
     Ok(TicketInner {
         tkt_vno: ExplicitContextTag(version),
-        realm: ExplicitContextTag(realm),
-        sname: ExplicitContextTag(service),
+        realm: ExplicitContextTag(names.0),
+        sname: ExplicitContextTag(names.1.0),
         enc_part: ExplicitContextTag(part),
     })
 }

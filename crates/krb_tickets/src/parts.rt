@@ -12,7 +12,9 @@ use picky_asn1::date::GeneralizedTime;
 use picky_asn1::wrapper::{
     Asn1SequenceOf, BitStringAsn1, GeneralizedTimeAsn1, IntegerAsn1, OctetStringAsn1,
 };
-use picky_asn1_der::{ExplicitContextTag, Optional};
+use picky_asn1_der::{ExplicitContextTag, Optional, fields_of};
+use record_copies::LentFields;
+use results::both;
 use std::alloc::{AllocError, Global};
 
 /// The flag `initial`, bit 9 of 32, in the second octet (RFC 4120, section 5.3).
@@ -32,16 +34,16 @@ const NO_LAST_REQUEST: u64 = 0;
 pub(crate) fn ticket_part(alloc: Global, grant: &Grant) -> Result<EncTicketPartInner, AllocError>
     ensures { IfOk result (λ part. part ≡ ticket_part grant.now) }
 {
-    let flags = flags_of(alloc, grant.flags)?;
-    let key = encryption_key(alloc, grant.suite, &grant.session)?;
-    let realm = grant.realm.clone()?;
-    let client = grant.client.clone()?;
-    let transited = no_realms(alloc)?;
+    let flags = flags_of(alloc, grant.flags);
+    let key = encryption_key(alloc, grant.suite, &grant.session);
+    let names = fields_of![grant; realm, client].copied();
+    let transited = no_realms(alloc);
+    let ((flags, key), (names, transited)) = both(both(flags, key), both(names, transited))?;
     Ok(EncTicketPartInner {
         flags: ExplicitContextTag(flags),
         key: ExplicitContextTag(key),
-        crealm: ExplicitContextTag(realm),
-        cname: ExplicitContextTag(client),
+        crealm: ExplicitContextTag(names.0),
+        cname: ExplicitContextTag(names.1.0),
         transited: ExplicitContextTag(transited),
         auth_time: ExplicitContextTag(GeneralizedTimeAsn1(grant.auth_time)),
         starttime: Optional(Some(ExplicitContextTag(GeneralizedTimeAsn1(grant.start)))),
@@ -57,24 +59,23 @@ pub(crate) fn ticket_part(alloc: Global, grant: &Grant) -> Result<EncTicketPartI
 pub(crate) fn reply_part(alloc: Global, grant: &Grant) -> Result<EncKdcRepPart, AllocError>
     ensures { IfOk result (λ part. part ≡ reply_part grant.now) }
 {
-    let key = encryption_key(alloc, grant.suite, &grant.session)?;
-    let last_req = last_requests(alloc, grant.start)?;
-    let nonce = grant.nonce.clone()?;
-    let flags = flags_of(alloc, grant.flags)?;
-    let realm = grant.realm.clone()?;
-    let service = grant.service.clone()?;
+    let key = encryption_key(alloc, grant.suite, &grant.session);
+    let last_req = last_requests(alloc, grant.start);
+    let flags = flags_of(alloc, grant.flags);
+    let copies = fields_of![grant; nonce, realm, service].copied();
+    let ((key, last_req), (flags, copies)) = both(both(key, last_req), both(flags, copies))?;
     Ok(EncKdcRepPart {
         key: ExplicitContextTag(key),
         last_req: ExplicitContextTag(last_req),
-        nonce: ExplicitContextTag(nonce),
+        nonce: ExplicitContextTag(copies.0),
         key_expiration: Optional(None),
         flags: ExplicitContextTag(flags),
         auth_time: ExplicitContextTag(GeneralizedTimeAsn1(grant.auth_time)),
         start_time: Optional(Some(ExplicitContextTag(GeneralizedTimeAsn1(grant.start)))),
         end_time: ExplicitContextTag(GeneralizedTimeAsn1(grant.until)),
         renew_till: Optional(None),
-        srealm: ExplicitContextTag(realm),
-        sname: ExplicitContextTag(service),
+        srealm: ExplicitContextTag(copies.1.0),
+        sname: ExplicitContextTag(copies.1.1.0),
         caddr: Optional(None),
         encrypted_pa_data: Optional(None),
     })

@@ -19,7 +19,9 @@ use krb_types::constants::types::{
 };
 use krb_types::data_types::EncryptedData;
 use picky_asn1::wrapper::IntegerAsn1;
-use picky_asn1_der::{ApplicationTag, ExplicitContextTag, Optional};
+use picky_asn1_der::{ApplicationTag, ExplicitContextTag, Optional, fields_of};
+use record_copies::LentFields;
+use results::both;
 use std::alloc::{AllocError, Global};
 
 /// The exchange that a ticket is granted in (RFC 4120, sections 3.1 and 3.3).
@@ -134,17 +136,20 @@ fn kdc_reply_of(
 ) -> Result<KdcRep, AllocError>
     ensures { IfOk result (λ reply. reply ≡ kdc_reply_of exchange grant.now (ticket_of grant.now ticket) part) }
 {
-    let version = IntegerAsn1::from_u64(alloc, u64::from(KERBEROS_VERSION))?;
-    let kind = reply_type(alloc, exchange)?;
-    let realm = grant.realm.clone()?;
-    let client = grant.client.clone()?;
-    let ticket = ticket_of(alloc, grant, ticket)?;
+    let version = IntegerAsn1::from_u64(alloc, u64::from(KERBEROS_VERSION));
+    let kind = reply_type(alloc, exchange);
+    let names = fields_of![grant; realm, client].copied();
+    let ticket = ticket_of(alloc, grant, ticket);
+    let (front, (names, (ticket, part))) = both(
+        both(version, kind),
+        both(names, both(ticket, Ok(part))),
+    )?;
     Ok(KdcRep {
-        pvno: ExplicitContextTag(version),
-        msg_type: ExplicitContextTag(kind),
+        pvno: ExplicitContextTag(front.0),
+        msg_type: ExplicitContextTag(front.1),
         padata: Optional(None),
-        crealm: ExplicitContextTag(realm),
-        cname: ExplicitContextTag(client),
+        crealm: ExplicitContextTag(names.0),
+        cname: ExplicitContextTag(names.1.0),
         ticket: ExplicitContextTag(ApplicationTag(ticket)),
         enc_part: ExplicitContextTag(part),
     })
