@@ -1,5 +1,5 @@
 -- What the parts of a table give, the table gives.
-use Rattle.std.proofs.Common.{◌≡◌, ℕ, List, Result, Ok, Err, ap, refl, subst, inl, inr}
+use Rattle.std.proofs.Common.{◌≡◌, ℕ, List, Result, Ok, Err, ap, refl, sym, subst, inl, inr}
 use Rattle.krb_crypto.specs.declared.suite.CipherSuite.{CipherSuite}
 use Rattle.krb_types.specs.declared.data_types.authenticator.AuthenticatorInner.{AuthenticatorInner}
 use Rattle.krb_types.specs.declared.data_types.encrypted_data.EncryptedData.{EncryptedData}
@@ -86,6 +86,16 @@ pub times_refused : (suite : CipherSuite) (key : List ℕ) (skew moment : ℕ) (
     → IsJudged {T = EncTicketPartInner} (valid_part suite key skew moment encrypted).gives (Err e)
 times_refused suite key skew moment encrypted part (Krb code) found x = inl (part, found, inr (code, x, refl))
 times_refused suite key skew moment encrypted part Memory found x = tt
+
+-- and the ticket by what its times are judged to be
+pub times_judged : (suite : CipherSuite) (key : List ℕ) (skew moment : ℕ) (encrypted : EncryptedData) (part : EncTicketPartInner) (judged : Result (Unit {0}) Refusal) (r : Result EncTicketPartInner Refusal)
+    → (opened_part suite key encrypted).gives (Ok part) → IsJudged {T = Unit {0}} (timely skew moment part).gives judged
+    → (judged ≡ Ok tt → r ≡ Ok part) → ((e : Refusal) → judged ≡ Err e → r ≡ Err e)
+    → IsJudged {T = EncTicketPartInner} (valid_part suite key skew moment encrypted).gives r
+times_judged suite key skew moment encrypted part (Ok tt) r found x passed refused =
+    subst (λ (q : Result EncTicketPartInner Refusal). IsJudged {T = EncTicketPartInner} (valid_part suite key skew moment encrypted).gives q) (sym (passed refl)) (inl (part, found, inl (tt, x, refl)))
+times_judged suite key skew moment encrypted part (Err e) r found x passed refused =
+    subst (λ (q : Result EncTicketPartInner Refusal). IsJudged {T = EncTicketPartInner} (valid_part suite key skew moment encrypted).gives q) (sym (refused e refl)) (times_refused suite key skew moment encrypted part e found x)
 
 -- an authenticator that isn't opened is refused for that
 pub unopened : (usage : ℕ) (part : EncTicketPartInner) (sealed : EncryptedData) (e : Refusal)

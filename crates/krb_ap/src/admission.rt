@@ -10,7 +10,7 @@ use krb_crypto::Key;
 use krb_types::data_types::{
     AuthenticatorInner, EncTicketPartInner, EncryptionKey, PrincipalName, Realm,
 };
-use picky_asn1_der::{ExplicitContextTag, ExplicitContextTag6, Optional};
+use picky_asn1_der::{ExplicitContextTag, ExplicitContextTag6};
 use std::alloc::{AllocError, Global};
 use std::marker::Model;
 
@@ -80,13 +80,11 @@ fn admission_with(
 }
 
 // The key that the client chose.
-fn subkey_of(authenticator: AuthenticatorInner) -> Option<EncryptionKey>
+fn subkey_of(mut authenticator: AuthenticatorInner) -> Option<EncryptionKey>
     ensures { result ≡ subkey_of authenticator }
 {
-    let AuthenticatorInner {
-        subkey: Optional(told),
-        ..
-    } = authenticator;
+    let told = authenticator.subkey.0.take();
+    drop(authenticator);
     untagged(told)
 }
 

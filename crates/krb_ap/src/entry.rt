@@ -73,7 +73,9 @@ impl KeytabEntry {
         let Some(request) = read_ap_req(alloc, bytes)? else {
             return Err(AdmitRefusal::Unreadable);
         };
-        Ok(self.judge(alloc, skew, moment, &request)?)
+        let judged = self.judge(alloc, skew, moment, &request);
+        drop(request);
+        Ok(judged?)
     }
 
     // Judges a request at a moment.

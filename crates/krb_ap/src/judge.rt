@@ -22,6 +22,7 @@ use krb_types::{Refusal, is_same_name, is_same_realm};
 use picky_asn1::date::GeneralizedTime;
 use picky_asn1::is_number;
 use picky_asn1::wrapper::GeneralStringAsn1;
+use results::if_passed;
 use std::alloc::Global;
 
 /// The option use-session-key of an AP request (RFC 4120, section 5.5.1).
@@ -118,8 +119,8 @@ pub(crate) fn check_ticket(
     ensures { IsJudged (valid_part key.now.suite key.now.bytes skew moment encrypted.now).gives result }
 {
     let part = open_ticket(alloc, key, encrypted)?;
-    check_times(skew, moment, &part)?;
-    Ok(part)
+    let judged = check_times(skew, moment, &part);
+    if_passed(part, judged)
 }
 
 /// The ticket's part, which the service's key has to open (code 31; RFC 4120, section 5.3).
@@ -186,13 +187,19 @@ pub(crate) fn check_presented(
 ) -> Result<Presented, Refusal>
     ensures { IsJudged (valid_authenticator request.now part).gives result }
 {
-    let authenticated = check_authenticator(
+    let judged = check_authenticator(
         alloc,
         key_usages::AP_REQ_AUTHENTICATOR,
         &part,
         &request.authenticator.0,
-    )?;
-    Ok(presented_with(request, part, authenticated))
+    );
+    match judged {
+        Ok(authenticated) => Ok(presented_with(request, part, authenticated)),
+        Err(refusal) => {
+            drop(part);
+            Err(refusal)
+        }
+    }
 }
 
 // What a request presents with this part and this authenticator.
@@ -229,12 +236,17 @@ pub fn check_authenticator(
     ensures { IsJudged (authenticated (cast_unsigned w32 usage) part.now encrypted.now).gives result }
 {
     let (suite, authenticator) = open_under(alloc, &part.key.0, usage, encrypted)?;
-    let time = check_told(part, &authenticator)?;
-    Ok(Authenticated {
-        suite,
-        authenticator,
-        time,
-    })
+    match check_told(part, &authenticator) {
+        Ok(time) => Ok(Authenticated {
+            suite,
+            authenticator,
+            time,
+        }),
+        Err(refusal) => {
+            drop(authenticator);
+            Err(refusal)
+        }
+    }
 }
 
 // The suite of the ticket's key, and the authenticator that this key opens for the usage.

@@ -7,6 +7,7 @@ ghost use Rattle.krb_types.specs.RandomBytes.{ap_reply_confounder};
 ghost use Rattle.krb_messages.specs.Messages.{ap_rep_tree, enc_ap_rep_part_tree};
 
 use krb_crypto::Key;
+use krb_encoding::encoding_of;
 use krb_messages::messages::{ApRep, ApRepInner};
 use krb_sealing::{confounder_at, sealed_data};
 use krb_types::constants::key_usages;
@@ -14,7 +15,8 @@ use krb_types::constants::random_bytes::AP_REPLY_CONFOUNDER;
 use krb_types::constants::types::{AP_REP_MSG_TYPE, KERBEROS_VERSION};
 use krb_types::data_types::{AuthenticatorInner, EncApRepPart, EncApRepPartInner, EncryptedData};
 use picky_asn1::wrapper::{IntegerAsn1, OctetStringAsn1};
-use picky_asn1_der::{ApplicationTag, ExplicitContextTag, Optional, to_vec};
+use picky_asn1_der::{ApplicationTag, ExplicitContextTag, Optional};
+use results::both;
 use std::alloc::{AllocError, Global};
 
 /// The encoding of the reply under the session key, with the authenticator's time and nothing optional (RFC 4120,
@@ -46,25 +48,20 @@ fn part_bytes(alloc: Global, authenticator: &AuthenticatorInner) -> Result<Vec<u
         subkey: Optional(None),
         seq_number: Optional(None),
     });
-    let Ok(bytes) = to_vec(alloc, &part) else {
-        return Err(AllocError);
-    };
-    Ok(bytes)
+    encoding_of(alloc, part)
 }
 
 // The reply's encoding, with its sealed part.
 fn reply_bytes(alloc: Global, part: EncryptedData) -> Result<Vec<u8>, AllocError>
     ensures { IfOk result (λ bytes. bytes.items ≡ der (ap_rep_tree (ap_rep_of part))) }
 {
-    let version = IntegerAsn1::from_u64(alloc, u64::from(KERBEROS_VERSION))?;
-    let kind = IntegerAsn1::from_u64(alloc, u64::from(AP_REP_MSG_TYPE))?;
+    let version = IntegerAsn1::from_u64(alloc, u64::from(KERBEROS_VERSION));
+    let kind = IntegerAsn1::from_u64(alloc, u64::from(AP_REP_MSG_TYPE));
+    let (part, (version, kind)) = both(Ok(part), both(version, kind))?;
     let reply: ApRep = ApplicationTag(ApRepInner {
         pvno: ExplicitContextTag(version),
         msg_type: ExplicitContextTag(kind),
         enc_part: ExplicitContextTag(part),
     });
-    let Ok(bytes) = to_vec(alloc, &reply) else {
-        return Err(AllocError);
-    };
-    Ok(bytes)
+    encoding_of(alloc, reply)
 }

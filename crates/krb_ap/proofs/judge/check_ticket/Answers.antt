@@ -1,6 +1,5 @@
-use Rattle.std.proofs.Common.{refl, inl}
 use Rattle.std.proofs.lemmas.Result.{err_from_is_err_and}
-use Rattle.krb_ap.proofs.Judged.{part_unopened, times_refused}
+use Rattle.krb_ap.proofs.Judged.{part_unopened, times_judged}
 use Rattle.krb_ap.proofs.judge.check_ticket.Goals as goal
 
 pub returns-in_err-part : goal.returns-in_err-part
@@ -8,11 +7,7 @@ returns-in_err-part c =
     let exit = err_from_is_err_and c.from_residual.result c.from_residual.ensures.1 in
     rw (exit.1, exit.2) (part_unopened c.args.key.now.suite c.args.key.now.bytes c.args.skew c.args.moment c.args.encrypted.now c.in_err-part.field-0.0 c.in_err-part.ensures)
 
-pub returns-in_err-check_times : goal.returns-in_err-check_times
-returns-in_err-check_times c =
-    let exit = err_from_is_err_and c.from_residual-in_err-check_times.result c.from_residual-in_err-check_times.ensures.1 in
-    rw (exit.1, exit.2)
-    (times_refused c.args.key.now.suite c.args.key.now.bytes c.args.skew c.args.moment c.args.encrypted.now c.in_ok-part.part c.in_err-check_times.field-0.0 c.in_ok-part.ensures c.in_err-check_times.ensures)
-
 pub returns : goal.returns
-returns c = inl (c.in_ok-part.part, c.in_ok-part.ensures, inl (tt, c.in_ok-check_times.ensures, refl))
+returns c =
+    times_judged c.args.key.now.suite c.args.key.now.bytes c.args.skew c.args.moment c.args.encrypted.now c.in_ok-part.part c.check_times-judged.result c.if_passed.result
+    c.in_ok-part.ensures c.check_times-judged.ensures c.if_passed.ensures.passed c.if_passed.ensures.refused

@@ -9,12 +9,12 @@ returns-in_err-request c =
 pub returns-in_default : goal.returns-in_default
 returns-in_default c = received_none _ _ _ _ (rw c.in_default.is at c.in_ok-request.ensures)
 
-pub returns-in_err-judge : goal.returns-in_err-judge
-returns-in_err-judge c =
-    let exit = err_from_is_err_and c.from_residual-in_err-judge.result c.from_residual-in_err-judge.ensures.1 in
+pub returns-in_err-judged : goal.returns-in_err-judged
+returns-in_err-judged c =
+    let exit = err_from_is_err_and c.from_residual-in_err-judged.result c.from_residual-in_err-judged.ensures.1 in
     rw (exit.1, exit.2)
-    (received_refused c.args.self.now c.args.skew c.args.moment c.args.bytes.now c.in-Some.request c.in_err-judge.field-0.0 (rw c.in-Some.is at c.in_ok-request.ensures) c.in_err-judge.ensures)
+    (received_refused c.args.self.now c.args.skew c.args.moment c.args.bytes.now c.in-Some.request c.in_err-judged.field-0.0 (rw c.in-Some.is at c.in_ok-request.ensures) c.in_err-judged.ensures)
 
 pub returns : goal.returns
 returns c =
-    received c.args.self.now c.args.skew c.args.moment c.args.bytes.now c.in-Some.request c.in_ok-judge.field-0 (rw c.in-Some.is at c.in_ok-request.ensures) c.in_ok-judge.ensures
+    received c.args.self.now c.args.skew c.args.moment c.args.bytes.now c.in-Some.request c.in_ok-judged.field-0 (rw c.in-Some.is at c.in_ok-request.ensures) c.in_ok-judged.ensures
