@@ -1,7 +1,9 @@
 //! Services.
 ghost use Rattle.std.specs.Prelude.{◌≡◌, ◌≤◌, ◌⊎◌, List, length, Ok, Err, MatchResult, max};
+ghost use Rattle.std.specs.List.{filter};
+ghost use Rattle.std.specs.Set.{distinct_count};
 ghost use Rattle.krb_accounts.specs.Names.{parts};
-ghost use Rattle.krb_replay_cache.specs.Pair.{PairRecord};
+ghost use Rattle.krb_replay_cache.specs.Pair.{PairRecord, is_recent, is_same_pair};
 ghost use Rattle.krb_replay_cache.specs.Seen.{IsWindow};
 ghost use Rattle.krb_service.specs.RememberingService.{IsStep, remembering};
 ghost use Rattle.krb_service.specs.Service.{IsServiceEntry, made, making};
@@ -113,5 +115,14 @@ impl Service {
         let skew = self.seen.skew();
         let presented = self.entry.receive(alloc, skew, now, bytes)?;
         admit_once(&mut self.seen, alloc, now, presented, words)
+    }
+
+    /// How many pairs of a client and a time the replay cache holds: of those that were admitted the ones that lie no further
+    /// back than the skew, each counted once. It takes no memory.
+    pub fn kept(&self) -> usize
+        ensures { (admitted : List PairRecord) → IsWindow self.now.seen admitted →
+            result ≡ distinct_count is_same_pair (filter (is_recent self.now.seen.skew self.now.seen.greatest) admitted) }
+    {
+        self.seen.kept()
     }
 }
