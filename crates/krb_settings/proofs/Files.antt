@@ -28,7 +28,7 @@ one_realm text realm other (a, p, e) (b, q, f) =
 
 no_fault : (text : List ℕ) (fault : SettingsFault) (document : Members) → IsDocument text document → IsUnread text fault → ⊥
 no_fault text TooLong document read long = omega (arith, read.short, long)
-no_fault text (NotToml _) document read none = none document read
+no_fault text (NotToml _) document read (short, none) = none document read
 no_fault text (File _) document read none = none
 no_fault text (Account _ _) document read none = none
 no_fault text Memory document read none = none

@@ -17,10 +17,10 @@ pub record IsDocument (text : List ℕ) (document : Members) : Type 0 where
 abbrev pub IsRealmText : List ℕ → WrittenRealm → Type 0
 IsRealmText text realm = (document : Members) × IsDocument text document × (realm_of document ≡ Ok realm)
 
--- the bytes have no document, and this is why
+-- the bytes have no document, and this is why. A text that is too long has no other fault
 abbrev pub IsUnread : List ℕ → SettingsFault → Type 0
 IsUnread text TooLong = 1048576 < length text
-IsUnread text (NotToml _) = (document : Members) → ¬ IsDocument text document
+IsUnread text (NotToml _) = (length text ≤ 1048576) × ((document : Members) → ¬ IsDocument text document)
 IsUnread text _ = ⊥
 
 -- the bytes have this fault. Want of memory says nothing of them
