@@ -29,7 +29,7 @@ use Rattle.krb_ap.specs.Presents.{Choice, Presents, SealsTo, encrypted, request_
 use Rattle.krb_ap.specs.Received.{Receives}
 use Rattle.krb_ap.specs.declared.presented.Authenticated.{Authenticated}
 use Rattle.krb_ap.proofs.Shown.{asked}
-use Rattle.krb_ap.proofs.Suites.{suite_by_size}
+use Rattle.krb_ap.proofs.Suites.{suite_by_number}
 
 -- a key's number by its tagged form, and the other way
 under_number : (number : ℕ) (etype : ℤ) (kvno : Option ℤ) (cipher : List ℕ) → may_be_under number (encrypted etype kvno cipher) ≡ option_map_or (is_number number) kvno true
@@ -64,7 +64,7 @@ is_addressed entry skew moment choice part_cipher cipher x =
 
 -- what is sealed by the suite that the key fits is sealed by this suite, which it fits
 own_suite : {T : Type 0} (tree : T → Tree) (suite : CipherSuite) (key : List ℕ) (usage : ℕ) (confounder : List ℕ) (value : T) (etype : ℤ) (kvno : Option ℤ) (cipher : List ℕ)
-    → length key ≡ cipher_key_size suite → is_number (cipher_number suite) etype ≡ true → SealsTo {T = T} tree key usage confounder value cipher
+    → length key ≡ cipher_key_size suite → is_number (cipher_number suite) etype ≡ true → SealsTo {T = T} tree etype key usage confounder value cipher
     → IsSealedIn {T = T} tree suite key usage (encrypted etype kvno cipher) value
 own_suite tree suite key usage confounder value etype kvno cipher sized numbered x = record {
   numbered = numbered;
@@ -72,7 +72,7 @@ own_suite tree suite key usage confounder value etype kvno cipher sized numbered
     conf = confounder;
     plain = x.plain;
     writes = x.writes;
-    sealed = (suite, refl, subst (λ s. IsSealedBy s key usage confounder x.plain cipher) (suite_by_size x.suite suite (sym x.sealed.key_sized ∙ sized)) x.sealed);
+    sealed = (suite, refl, subst (λ s. IsSealedBy s key usage confounder x.plain cipher) (suite_by_number x.suite suite etype x.numbered numbered) x.sealed);
   };
 }
 
@@ -95,7 +95,7 @@ opened_by key usage suite sealed authenticator session x =
     needed_is (suite_of key) 31 (asked key usage sealed) suite (Ok (suite, authenticator)) session (inl (authenticator, x, refl))
 
 part_held : (entry : EntryRecord) (skew moment : ℕ) (choice : Choice) (part_cipher : List ℕ) → IsAcceptable entry skew moment choice
-    → SealsTo {T = EncTicketPartInner} enc_ticket_part_tree entry.key 2 choice.part_confounder choice.part part_cipher
+    → SealsTo {T = EncTicketPartInner} enc_ticket_part_tree choice.outer.part_etype entry.key 2 choice.part_confounder choice.part part_cipher
     → (valid_part entry.suite entry.key skew moment (encrypted choice.outer.part_etype choice.outer.part_kvno part_cipher)).gives (Ok choice.part)
 part_held entry skew moment choice part_cipher x sealed =
     let own = own_suite enc_ticket_part_tree entry.suite entry.key 2 choice.part_confounder choice.part choice.outer.part_etype choice.outer.part_kvno part_cipher x.keyed x.part_etype sealed in
@@ -103,7 +103,7 @@ part_held entry skew moment choice part_cipher x sealed =
     inl (choice.part, inl (choice.part, own, refl), inl (tt, timed, refl))
 
 authenticator_held : (entry : EntryRecord) (skew moment : ℕ) (choice : Choice) (part_cipher cipher : List ℕ) (x : IsAcceptable entry skew moment choice)
-    → SealsTo {T = AuthenticatorInner} authenticator_tree choice.part.key.0.key_value.0 11 choice.confounder choice.authenticator cipher
+    → SealsTo {T = AuthenticatorInner} authenticator_tree choice.outer.etype choice.part.key.0.key_value.0 11 choice.confounder choice.authenticator cipher
     → (valid_authenticator (request_of choice.outer part_cipher cipher) choice.part).gives (Ok (shown_by choice x.suite x.time))
 authenticator_held entry skew moment choice part_cipher cipher x sealed =
     let own = own_suite authenticator_tree x.suite choice.part.key.0.key_value.0 11 choice.confounder choice.authenticator choice.outer.etype choice.outer.kvno cipher
@@ -115,8 +115,8 @@ authenticator_held entry skew moment choice part_cipher cipher x sealed =
     inl (a, inl ((x.suite, choice.authenticator), found, inl (x.time, timed, refl)), refl)
 
 pub presented_as_chosen : (entry : EntryRecord) (skew moment : ℕ) (choice : Choice) (part_cipher cipher : List ℕ) (x : IsAcceptable entry skew moment choice)
-    → SealsTo {T = EncTicketPartInner} enc_ticket_part_tree entry.key 2 choice.part_confounder choice.part part_cipher
-    → SealsTo {T = AuthenticatorInner} authenticator_tree choice.part.key.0.key_value.0 11 choice.confounder choice.authenticator cipher
+    → SealsTo {T = EncTicketPartInner} enc_ticket_part_tree choice.outer.part_etype entry.key 2 choice.part_confounder choice.part part_cipher
+    → SealsTo {T = AuthenticatorInner} authenticator_tree choice.outer.etype choice.part.key.0.key_value.0 11 choice.confounder choice.authenticator cipher
     → (presented entry skew moment (request_of choice.outer part_cipher cipher)).gives (Ok (shown_by choice x.suite x.time))
 unfolding presented
 presented_as_chosen entry skew moment choice part_cipher cipher x part authenticator =

@@ -13,19 +13,19 @@ use Rattle.krb_types.specs.declared.data_types.encrypted_data.EncryptedData.{Enc
 use Rattle.krb_types.specs.declared.data_types.enc_ticket_part.EncTicketPartInner.{EncTicketPartInner}
 use Rattle.krb_messages.specs.declared.messages.ap_req.ApReqInner.{ApReqInner}
 use Rattle.krb_messages.specs.Messages.{ap_req_tree, authenticator-injective, authenticator_tree, enc_ticket_part-injective, enc_ticket_part_tree, sole_ap_req}
-use Rattle.krb_ap.proofs.Suites.{suite_by_size}
+use Rattle.krb_ap.proofs.Suites.{suite_by_number}
 use Rattle.krb_ap.specs.Presents.{Choice, Outer, Presents, SealsTo, encrypted, request_of}
 
-module _ {T : Type 0} (tree : T → Tree) (key : List ℕ) (usage : ℕ) where
-  -- what one key seals is sealed by one suite
-  by_one_suite : (c d : List ℕ) (v w : T) (a b : List ℕ) (x : SealsTo {T = T} tree key usage c v a) (y : SealsTo {T = T} tree key usage d w b)
+module _ {T : Type 0} (tree : T → Tree) (etype : ℤ) (key : List ℕ) (usage : ℕ) where
+  -- what is sealed under one number is sealed by one suite
+  by_one_suite : (c d : List ℕ) (v w : T) (a b : List ℕ) (x : SealsTo {T = T} tree etype key usage c v a) (y : SealsTo {T = T} tree etype key usage d w b)
       → IsSealedBy y.suite key usage c x.plain a
   by_one_suite c d v w a b x y =
-      subst (λ suite. IsSealedBy suite key usage c x.plain a) (suite_by_size x.suite y.suite (sym x.sealed.key_sized ∙ y.sealed.key_sized)) x.sealed
+      subst (λ suite. IsSealedBy suite key usage c x.plain a) (suite_by_number x.suite y.suite etype x.numbered y.numbered) x.sealed
 
   -- a ciphertext has one value and one confounder
   one_value : IsInjective {T = T} tree → (c d : List ℕ) (v w : T) (cipher : List ℕ)
-      → SealsTo {T = T} tree key usage c v cipher → SealsTo {T = T} tree key usage d w cipher → (c ≡ d) × (v ≡ w)
+      → SealsTo {T = T} tree etype key usage c v cipher → SealsTo {T = T} tree etype key usage d w cipher → (c ≡ d) × (v ≡ w)
   one_value injective c d v w cipher x y =
       let number : ℕ = cipher_number y.suite in
       let moved = by_one_suite c d v w cipher cipher x y in
@@ -35,7 +35,7 @@ module _ {T : Type 0} (tree : T → Tree) (key : List ℕ) (usage : ℕ) where
 
   -- a value and a confounder have one ciphertext
   one_cipher : (confounder : List ℕ) (value : T) (c d : List ℕ)
-      → SealsTo {T = T} tree key usage confounder value c → SealsTo {T = T} tree key usage confounder value d → c ≡ d
+      → SealsTo {T = T} tree etype key usage confounder value c → SealsTo {T = T} tree etype key usage confounder value d → c ≡ d
   one_cipher confounder value c d x y =
       let plain : x.plain ≡ y.plain = x.writes.1 ∙ sym y.writes.1 in
       let moved = subst (λ p. IsSealedBy y.suite key usage confounder p c) plain (by_one_suite confounder confounder value value c d x y) in
@@ -97,17 +97,19 @@ one_presentation key bytes a b x y =
     let outer : a.outer ≡ b.outer = sym (outer-request a.outer x.part_cipher x.cipher) ∙ ap outer_of request ∙ outer-request b.outer y.part_cipher y.cipher in
     let part_cipher : x.part_cipher ≡ y.part_cipher = ap (λ (r : ApReqInner). r.ticket.0.0.enc_part.0.cipher.0) request in
     let cipher : x.cipher ≡ y.cipher = ap (λ (r : ApReqInner). r.authenticator.0.cipher.0) request in
-    let part = one_value enc_ticket_part_tree key 2 enc_ticket_part-injective a.part_confounder b.part_confounder a.part b.part y.part_cipher
-    (subst (λ c. SealsTo {T = EncTicketPartInner} enc_ticket_part_tree key 2 a.part_confounder a.part c) part_cipher x.part) y.part in
-    let under = subst (λ (p : EncTicketPartInner). SealsTo {T = AuthenticatorInner} authenticator_tree p.key.0.key_value.0 11 a.confounder a.authenticator x.cipher) part.1 x.authenticator in
-    let own = one_value authenticator_tree b.part.key.0.key_value.0 11 authenticator-injective a.confounder b.confounder a.authenticator b.authenticator y.cipher
-    (subst (λ c. SealsTo {T = AuthenticatorInner} authenticator_tree b.part.key.0.key_value.0 11 a.confounder a.authenticator c) cipher under) y.authenticator in
+    let numbered = subst (λ (o : Outer). SealsTo {T = EncTicketPartInner} enc_ticket_part_tree o.part_etype key 2 a.part_confounder a.part x.part_cipher) outer x.part in
+    let part = one_value enc_ticket_part_tree b.outer.part_etype key 2 enc_ticket_part-injective a.part_confounder b.part_confounder a.part b.part y.part_cipher
+    (subst (λ c. SealsTo {T = EncTicketPartInner} enc_ticket_part_tree b.outer.part_etype key 2 a.part_confounder a.part c) part_cipher numbered) y.part in
+    let told_by = subst (λ (o : Outer). SealsTo {T = AuthenticatorInner} authenticator_tree o.etype a.part.key.0.key_value.0 11 a.confounder a.authenticator x.cipher) outer x.authenticator in
+    let under = subst (λ (p : EncTicketPartInner). SealsTo {T = AuthenticatorInner} authenticator_tree b.outer.etype p.key.0.key_value.0 11 a.confounder a.authenticator x.cipher) part.1 told_by in
+    let own = one_value authenticator_tree b.outer.etype b.part.key.0.key_value.0 11 authenticator-injective a.confounder b.confounder a.authenticator b.authenticator y.cipher
+    (subst (λ c. SealsTo {T = AuthenticatorInner} authenticator_tree b.outer.etype b.part.key.0.key_value.0 11 a.confounder a.authenticator c) cipher under) y.authenticator in
     λ i. record { outer = outer i; part = part.1 i; part_confounder = part.0 i; authenticator = own.1 i; confounder = own.0 i }
 
 pub one_request : (key : List ℕ) (choice : Choice) (a b : List ℕ) → Presents key choice a → Presents key choice b → a ≡ b
 one_request key choice a b x y =
-    let part = one_cipher enc_ticket_part_tree key 2 choice.part_confounder choice.part x.part_cipher y.part_cipher x.part y.part in
-    let own = one_cipher authenticator_tree choice.part.key.0.key_value.0 11 choice.confounder choice.authenticator x.cipher y.cipher x.authenticator y.authenticator in
+    let part = one_cipher enc_ticket_part_tree choice.outer.part_etype key 2 choice.part_confounder choice.part x.part_cipher y.part_cipher x.part y.part in
+    let own = one_cipher authenticator_tree choice.outer.etype choice.part.key.0.key_value.0 11 choice.confounder choice.authenticator x.cipher y.cipher x.authenticator y.authenticator in
     x.writes.1
     ∙ ap (λ c. der (ap_req_tree (request_of choice.outer c x.cipher))) part
     ∙ ap (λ c. der (ap_req_tree (request_of choice.outer y.part_cipher c))) own

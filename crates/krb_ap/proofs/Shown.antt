@@ -1,6 +1,7 @@
 -- What is found past the rows of the table.
 use Rattle.std.proofs.Common.{◌≡◌, ◌⊎◌, ℕ, Bool, true, false, List, Result, Ok, Err, sym, subst, inl, inr}
 use Rattle.asn1_trees.specs.Tree.{Tree}
+use Rattle.picky_asn1.specs.Numbers.{is_number}
 use Rattle.krb_crypto.specs.declared.suite.CipherSuite.{CipherSuite}
 use Rattle.decision_tables.specs.Tables.{Table, done, ask, refuse, and_then}
 use Rattle.krb_opening.specs.Sealed.{IsSealedIn}
@@ -31,9 +32,10 @@ past false code rest value p = p
 
 -- what is opened is sealed behind a confounder
 pub seals : {T : Type 0} (tree : T → Tree) (suite : CipherSuite) (key : List ℕ) (usage : ℕ) (sealed : EncryptedData) (value : T) (x : IsSealedIn {T = T} tree suite key usage sealed value)
-    → SealsTo {T = T} tree key usage x.opens.conf value sealed.cipher.0
+    → SealsTo {T = T} tree sealed.etype.0 key usage x.opens.conf value sealed.cipher.0
 seals tree suite key usage sealed value x = record {
   suite = x.opens.sealed.0;
+  numbered = subst (λ n. is_number n sealed.etype.0 ≡ true) (sym x.opens.sealed.1) x.numbered;
   plain = x.opens.plain;
   writes = x.opens.writes;
   sealed = x.opens.sealed.2;

@@ -1,16 +1,15 @@
--- A suite is told by the size of its keys.
-use Rattle.std.proofs.Common.{◌≡◌, refl, arith}
+-- A suite is told by its number.
+use Rattle.std.proofs.Common.{◌≡◌, ℕ, true, sym, ◌∙◌}
+use Rattle.std.proofs.lemmas.Bool.{eqb-true, false≢true}
+use Rattle.std.specs.Prelude.{ℤ, negsuc, pos}
+use Rattle.picky_asn1.specs.Numbers.{is_number}
 use Rattle.krb_crypto.specs.declared.suite.CipherSuite.{CipherSuite}
-use Rattle.krb_crypto.specs.declared.suite.CipherSuite.TheVariants.{Aes128CtsHmacSha196, Aes256CtsHmacSha196, Des3CbcSha1Kd}
-use Rattle.krb_crypto.specs.Suites.{cipher_key_size}
+use Rattle.krb_crypto.specs.Suites.{cipher_number}
+use Rattle.krb_crypto.proofs.SealingLemmas.{same_suite}
 
-pub suite_by_size : (s t : CipherSuite) → cipher_key_size s ≡ cipher_key_size t → s ≡ t
-suite_by_size Aes128CtsHmacSha196 Aes128CtsHmacSha196 e = refl
-suite_by_size Aes128CtsHmacSha196 Aes256CtsHmacSha196 e = let no : 16 ≡ 32 = e in absurd (omega (arith, no))
-suite_by_size Aes128CtsHmacSha196 Des3CbcSha1Kd e = let no : 16 ≡ 24 = e in absurd (omega (arith, no))
-suite_by_size Aes256CtsHmacSha196 Aes128CtsHmacSha196 e = let no : 32 ≡ 16 = e in absurd (omega (arith, no))
-suite_by_size Aes256CtsHmacSha196 Aes256CtsHmacSha196 e = refl
-suite_by_size Aes256CtsHmacSha196 Des3CbcSha1Kd e = let no : 32 ≡ 24 = e in absurd (omega (arith, no))
-suite_by_size Des3CbcSha1Kd Aes128CtsHmacSha196 e = let no : 24 ≡ 16 = e in absurd (omega (arith, no))
-suite_by_size Des3CbcSha1Kd Aes256CtsHmacSha196 e = let no : 24 ≡ 32 = e in absurd (omega (arith, no))
-suite_by_size Des3CbcSha1Kd Des3CbcSha1Kd e = refl
+one_number : (m n : ℕ) (number : ℤ) → is_number m number ≡ true → is_number n number ≡ true → m ≡ n
+one_number m n (pos k) x y = sym (eqb-true k m x) ∙ eqb-true k n y
+one_number m n (negsuc k) x y = absurd (false≢true x)
+
+pub suite_by_number : (s t : CipherSuite) (number : ℤ) → is_number (cipher_number s) number ≡ true → is_number (cipher_number t) number ≡ true → s ≡ t
+suite_by_number s t number x y = same_suite s t (one_number (cipher_number s) (cipher_number t) number x y)

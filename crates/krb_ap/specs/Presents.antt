@@ -1,11 +1,13 @@
 -- What an AP request is made of, with what is sealed in it and the confounders (RFC 4120, sections 3.2.2, 5.5.1; RFC 3961, section 5.3).
-use Rattle.std.specs.Prelude.{◌≡◌, ℕ, Option, ℤ}
+use Rattle.std.specs.Prelude.{◌≡◌, ℕ, true, Option, ℤ}
 use Rattle.std.specs.Option.{option_map}
 use Rattle.asn1_trees.specs.Tree.{Tree, Writes}
 use Rattle.picky_asn1.specs.BitString.{Bits}
 use Rattle.picky_asn1.specs.Bytes.{Bytes}
+use Rattle.picky_asn1.specs.Numbers.{is_number}
 use Rattle.krb_crypto.specs.declared.suite.CipherSuite.{CipherSuite}
 use Rattle.krb_crypto.specs.Sealing.{IsSealedBy}
+use Rattle.krb_crypto.specs.Suites.{cipher_number}
 use Rattle.krb_types.specs.declared.data_types.authenticator.AuthenticatorInner.{AuthenticatorInner}
 use Rattle.krb_types.specs.declared.data_types.encrypted_data.EncryptedData.{EncryptedData}
 use Rattle.krb_types.specs.declared.data_types.enc_ticket_part.EncTicketPartInner.{EncTicketPartInner}
@@ -61,9 +63,10 @@ request_of outer part_cipher cipher = record {
   authenticator = record { 0 = encrypted outer.etype outer.kvno cipher };
 }
 
--- the value's encoding is sealed to this ciphertext behind the confounder, by the suite that the key fits
-pub record SealsTo {T : Type 0} (tree : T → Tree) (key : Bytes) (usage : ℕ) (confounder : Bytes) (value : T) (cipher : Bytes) : Type 0 where
+-- the value's encoding is sealed to this ciphertext behind the confounder, by the suite of the number that the data tells
+pub record SealsTo {T : Type 0} (tree : T → Tree) (etype : ℤ) (key : Bytes) (usage : ℕ) (confounder : Bytes) (value : T) (cipher : Bytes) : Type 0 where
   pub suite : CipherSuite
+  pub numbered : is_number (cipher_number suite) etype ≡ true
   pub plain : Bytes
   pub writes : Writes tree value plain
   pub sealed : IsSealedBy suite key usage confounder plain cipher
@@ -74,8 +77,8 @@ pub record Presents (key : Bytes) (choice : Choice) (bytes : Bytes) : Type 0 whe
   pub part_cipher : Bytes
   pub cipher : Bytes
   pub writes : IsApReq bytes (request_of choice.outer part_cipher cipher)
-  pub part : SealsTo {T = EncTicketPartInner} enc_ticket_part_tree key 2 choice.part_confounder choice.part part_cipher
-  pub authenticator : SealsTo {T = AuthenticatorInner} authenticator_tree choice.part.key.0.key_value.0 11 choice.confounder choice.authenticator cipher
+  pub part : SealsTo {T = EncTicketPartInner} enc_ticket_part_tree choice.outer.part_etype key 2 choice.part_confounder choice.part part_cipher
+  pub authenticator : SealsTo {T = AuthenticatorInner} authenticator_tree choice.outer.etype choice.part.key.0.key_value.0 11 choice.confounder choice.authenticator cipher
 
 -- the admission tells client and keys as they were chosen
 pub record TellsOf (choice : Choice) (admission : AdmissionRecord) : Type 0 where

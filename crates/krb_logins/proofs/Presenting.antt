@@ -1,10 +1,12 @@
 -- What a client presents by a credential: a request whose ticket its service can open, with an authenticator under the
 -- session's key.
 use Rattle.std.proofs.Common.{◌≡◌, ℕ, Bool, true, None, Some, refl, ap, subst, ◌∙◌}
+use Rattle.std.proofs.lemmas.Bool.{eq-eqb}
 use Rattle.std.specs.Prelude.{pos}
 use Rattle.asn1_leaves.specs.CharSets.{is_general_string}
 use Rattle.asn1_trees.specs.Tree.{IsWhole, der}
 use Rattle.picky_asn1.specs.Bytes.{Bytes}
+use Rattle.picky_asn1.specs.Numbers.{is_number}
 use Rattle.krb_crypto.specs.Sealing.{IsSealedBy}
 use Rattle.krb_crypto.specs.Suites.{cipher_number}
 use Rattle.krb_types.specs.declared.data_types.authenticator.AuthenticatorInner.{AuthenticatorInner}
@@ -31,6 +33,10 @@ under_entry account entry usage confounder plain sealed suite key number x =
     let numbered = subst (λ n. Seals account.suite account.key (Some n) usage confounder plain sealed) number x in
     let keyed = subst (λ k. Seals account.suite k (Some entry.number) usage confounder plain sealed) key numbered in
     subst (λ s. Seals s entry.key (Some entry.number) usage confounder plain sealed) suite keyed
+
+-- a number is told as itself
+own_number : (number : ℕ) → is_number number (pos number) ≡ true
+own_number number = eq-eqb number number refl
 
 -- what a client chooses with the ticket of a grant, where it wants a reply or none
 abbrev pub choice_of : Bool → EntryRecord → Grant → AuthenticatorInner → Bytes → Bytes → Choice
@@ -71,14 +77,15 @@ module _ (usage : ℕ) (wanted : Bool) (entry : EntryRecord) (grant : Grant) (cr
             ∙ ap (λ a. der (ap_req_tree (ap_request_of wanted (ticket_of grant (encrypted_by entry.suite (Some entry.number) sealed.cipher)) a))) shown,
       )
 
-  pub seals_part : IsWhole (enc_ticket_part_tree (ticket_part grant)) → SealsTo {T = EncTicketPartInner} enc_ticket_part_tree entry.key 2 part_confounder (ticket_part grant) sealed.cipher
+  pub seals_part : IsWhole (enc_ticket_part_tree (ticket_part grant)) → SealsTo {T = EncTicketPartInner} enc_ticket_part_tree (pos (cipher_number entry.suite)) entry.key 2 part_confounder (ticket_part grant) sealed.cipher
   unfolding ticket_part_bytes
-  seals_part whole = record { suite = entry.suite; plain = ticket_part_bytes (ticket_part grant); writes = (whole, refl); sealed = sealed.seals }
+  seals_part whole = record { suite = entry.suite; numbered = own_number (cipher_number entry.suite); plain = ticket_part_bytes (ticket_part grant); writes = (whole, refl); sealed = sealed.seals }
 
-  pub seals_authenticator : IsWhole (authenticator_tree authenticator) → SealsTo {T = AuthenticatorInner} authenticator_tree grant.session usage confounder authenticator asks.sealed.cipher
+  pub seals_authenticator : IsWhole (authenticator_tree authenticator) → SealsTo {T = AuthenticatorInner} authenticator_tree (pos (cipher_number grant.suite)) grant.session usage confounder authenticator asks.sealed.cipher
   unfolding authenticator_bytes
   seals_authenticator whole = record {
     suite = credential.suite;
+    numbered = subst (λ s. is_number (cipher_number credential.suite) (pos (cipher_number s)) ≡ true) suite (own_number (cipher_number credential.suite));
     plain = authenticator_bytes authenticator;
     writes = (whole, refl);
     sealed = subst (λ k. IsSealedBy credential.suite k usage confounder (authenticator_bytes authenticator) asks.sealed.cipher) key asks.sealed.seals;
