@@ -3,6 +3,7 @@ pub mod FoundKeys
 pub mod Judged
 mod Suites
 pub mod Presentations
+mod HasPresentation
 pub mod Shown
 pub mod Short
 pub mod Accepted

@@ -7,3 +7,4 @@ pub mod ApTable
 pub mod Received
 pub mod Presents
 pub mod Acceptable
+pub mod Fitting

@@ -4,6 +4,7 @@ ghost use Rattle.krb_ap.specs.Acceptable.{IsAcceptable, shown};
 ghost use Rattle.krb_ap.specs.ApReply.{IsReplyTo};
 ghost use Rattle.krb_ap.specs.ApTable.{presented};
 ghost use Rattle.krb_ap.specs.Entry.{EntryRecord};
+ghost use Rattle.krb_ap.specs.Fitting.{IsFitting};
 ghost use Rattle.krb_ap.specs.Presents.{Choice, Presents};
 ghost use Rattle.krb_ap.specs.Received.{Receives};
 ghost use Rattle.krb_ap.specs.declared.presented.Presented.{Presented};
@@ -17,6 +18,12 @@ ghost use Rattle.krb_messages.specs.declared.messages.ap_req.ApReqInner.{ApReqIn
 pub fn one_presentation()
     ensures choice { (key bytes : List ℕ) (a b : Choice) → Presents key a bytes → Presents key b bytes → a ≡ b }
     ensures bytes { (key : List ℕ) (choice : Choice) (a b : List ℕ) → Presents key choice a → Presents key choice b → a ≡ b }
+{}
+
+/// Each choice whose etypes and confounders fit its keys' suites is presented by a string of bytes; by `one_presentation` there is
+/// one. It does nothing when it runs: its contract is the law.
+pub fn has_presentation()
+    ensures { (key : List ℕ) (choice : Choice) → IsFitting key choice → (bytes : List ℕ) × Presents key choice bytes }
 {}
 
 /// Bytes that spell a choice that is acceptable are received as it; and what is received was spelled so by one that is.
