@@ -34,7 +34,9 @@ impl Client {
         let Some(reply) = read_ap_reply(alloc, reply)? else {
             return Err(TakeRefusal::Unreadable);
         };
-        take_answer(alloc, asked, &reply)
+        let taken = take_answer(alloc, asked, &reply);
+        drop(reply);
+        taken
     }
 }
 
@@ -48,7 +50,9 @@ fn take_answer(alloc: Global, asked: &ApAsked, reply: &ApRepInner) -> Result<(),
     let Some(part) = open_ap_part(alloc, asked, &reply.enc_part.0)? else {
         return Err(TakeRefusal::NotSealed);
     };
-    take_time(asked, &part)
+    let taken = take_time(asked, &part);
+    drop(part);
+    taken
 }
 
 // The same, with the part that was opened.

@@ -31,7 +31,9 @@ impl Client {
         let Some(reply) = read_as_reply(alloc, reply)? else {
             return Err(TakeRefusal::Unreadable);
         };
-        self.take_reply(alloc, asked, &reply)
+        let taken = self.take_reply(alloc, asked, &reply);
+        drop(reply);
+        taken
     }
 
     // The same, of the reply that was read.
@@ -48,12 +50,16 @@ impl Client {
         }
         let sealed = &reply.enc_part.0;
         if let Some(part) = open_as_part(alloc, self, sealed)? {
-            return self.take_part(asked.service(), asked.nonce(), reply, &part);
+            let taken = self.take_part(asked.service(), asked.nonce(), reply, &part);
+            drop(part);
+            return taken;
         }
         let usage = key_usages::AS_REP;
         let Some(part) = open_tgs_part(alloc, self.key(), usage, sealed)? else {
             return Err(TakeRefusal::NotSealed);
         };
-        self.take_part(asked.service(), asked.nonce(), reply, &part)
+        let taken = self.take_part(asked.service(), asked.nonce(), reply, &part);
+        drop(part);
+        taken
     }
 }

@@ -21,6 +21,7 @@ use krb_types::data_types::{
 use picky_asn1::date::GeneralizedTime;
 use picky_asn1::wrapper::{BitStringAsn1, GeneralStringAsn1, GeneralizedTimeAsn1, IntegerAsn1};
 use picky_asn1_der::{ExplicitContextTag, Optional};
+use results::both;
 use std::alloc::{AllocError, Global};
 
 /// The option `mutual-required`, bit 2, in the first of the options' octets (RFC 4120, section 5.5.1).
@@ -55,10 +56,12 @@ impl Client {
     fn told(&self, alloc: Global, microsecond: u32) -> Result<Told, AllocError>
         ensures { IfOk result (λ told. told ≡ told_of self.now microsecond) }
     {
-        let version = IntegerAsn1::from_u64(alloc, u64::from(KERBEROS_VERSION))?;
-        let microsecond = IntegerAsn1::from_u64(alloc, u64::from(microsecond))?;
-        let realm = self.realm().clone()?;
-        let name = principal_name(alloc, NT_PRINCIPAL, self.components())?;
+        let version = IntegerAsn1::from_u64(alloc, u64::from(KERBEROS_VERSION));
+        let microsecond = IntegerAsn1::from_u64(alloc, u64::from(microsecond));
+        let realm: Result<_, AllocError> = self.realm().clone();
+        let name = principal_name(alloc, NT_PRINCIPAL, self.components());
+        let numbers = both(version, microsecond);
+        let ((version, microsecond), (realm, name)) = both(numbers, both(realm, name))?;
         Ok(Told {
             version,
             realm,
@@ -138,10 +141,12 @@ fn ap_request_of(
 ) -> Result<ApReqInner, AllocError>
     ensures { IfOk result (λ request. request ≡ ap_request_of mutual_required ticket.now.0 authenticator) }
 {
-    let version = IntegerAsn1::from_u64(alloc, u64::from(KERBEROS_VERSION))?;
-    let kind = IntegerAsn1::from_u64(alloc, u64::from(AP_REQ_MSG_TYPE))?;
-    let options = options_of(alloc, mutual_required)?;
-    let ticket = ticket_copy(ticket)?;
+    let version = IntegerAsn1::from_u64(alloc, u64::from(KERBEROS_VERSION));
+    let kind = IntegerAsn1::from_u64(alloc, u64::from(AP_REQ_MSG_TYPE));
+    let options = options_of(alloc, mutual_required);
+    let head = both(both(version, kind), options);
+    let tail = both(ticket_copy(ticket), Ok(authenticator));
+    let (((version, kind), options), (ticket, authenticator)) = both(head, tail)?;
     Ok(ApReqInner {
         pvno: ExplicitContextTag(version),
         msg_type: ExplicitContextTag(kind),

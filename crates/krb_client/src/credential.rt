@@ -8,6 +8,7 @@ use krb_crypto::{CipherSuite, Key};
 use krb_messages::messages::{EncKdcRepPart, KdcRep};
 use krb_types::data_types::{PrincipalName, Ticket};
 use picky_asn1::wrapper::GeneralStringAsn1;
+use results::both;
 use std::alloc::AllocError;
 use std::marker::Model;
 
@@ -39,9 +40,10 @@ impl Credential {
         requires { key_in part.now.key.0 ≡ Some key }
         ensures { IfOk result (λ credential. credential ≡ credential_of reply.now part.now key.suite) }
     {
-        let realm = part.srealm.0.clone()?;
-        let service = part.sname.0.clone()?;
-        let ticket = ticket_copy(&reply.ticket.0)?; // the largest is copied last, so that no way out drops it
+        let realm: Result<_, AllocError> = part.srealm.0.clone();
+        let service: Result<_, AllocError> = part.sname.0.clone();
+        let ticket = both(ticket_copy(&reply.ticket.0), Ok(key));
+        let ((realm, service), (ticket, key)) = both(both(realm, service), ticket)?;
         Ok(Credential {
             ticket,
             key,

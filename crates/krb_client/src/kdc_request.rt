@@ -1,5 +1,6 @@
 //! Requests to a KDC: what those for a first ticket and for further ones have in common.
-ghost use Rattle.std.specs.Prelude.{◌≡◌, ◌≤◌, ◌==◌, length, IfOk};
+ghost use Rattle.std.specs.Prelude.{◌≡◌, ◌≤◌, ◌==◌, [], ◌∷◌, length, pos, IfOk};
+ghost use Rattle.krb_crypto.specs.Suites.{cipher_number};
 ghost use Rattle.krb_client.specs.Requests.{entry_of, name_where, no_options, nonce_of, request_body, kdc_request_of};
 
 use crate::Client;
@@ -14,6 +15,7 @@ use picky_asn1::wrapper::{
     OctetStringAsn1,
 };
 use picky_asn1_der::{ExplicitContextTag, ExplicitContextTag1, Optional};
+use results::both;
 use std::alloc::{AllocError, Global};
 
 /// A nonce has 31 bits, so that it is positive for every reader (RFC 4120, section 5.4.1).
@@ -33,14 +35,18 @@ impl Client {
     ) -> Result<KdcReq, AllocError>
         ensures { IfOk result (λ request. request ≡ kdc_request_of kind entry (request_body self.now (kind == 10) service.now till nonce)) }
     {
-        let entries = vec![in alloc; entry]?;
-        let version = IntegerAsn1::from_u64(alloc, u64::from(KERBEROS_VERSION))?;
-        let number = IntegerAsn1::from_u64(alloc, u64::from(kind))?;
-        let body = self.request_body(alloc, kind == AS_REQ_MSG_TYPE, service, till, nonce)?;
+        let version = IntegerAsn1::from_u64(alloc, u64::from(KERBEROS_VERSION));
+        let number = IntegerAsn1::from_u64(alloc, u64::from(kind));
+        let entries = entries_of(alloc, entry);
+        let body = self.request_body(alloc, kind == AS_REQ_MSG_TYPE, service, till, nonce);
+        let ((version, number), (entries, body)) = both(
+            both(version, number),
+            both(entries, body),
+        )?;
         Ok(KdcReq {
             pvno: ExplicitContextTag(version),
             msg_type: ExplicitContextTag(number),
-            padata: Optional(Some(ExplicitContextTag(Asn1SequenceOf::from(entries)))),
+            padata: Optional(Some(ExplicitContextTag(entries))),
             req_body: ExplicitContextTag(body),
         })
     }
@@ -56,13 +62,15 @@ impl Client {
     ) -> Result<KdcReqBody, AllocError>
         ensures { IfOk result (λ body. body ≡ request_body self.now named service.now till nonce) }
     {
-        let options = no_options(alloc)?;
-        let nonce = IntegerAsn1::from_u64(alloc, u64::from(nonce))?;
-        let suite = IntegerAsn1::from_u64(alloc, u64::from(u8::from(self.suite())))?;
-        let suites = vec![in alloc; suite]?;
-        let realm = self.realm().clone()?;
-        let client = self.name_where(alloc, named)?;
-        let service = principal_name(alloc, NT_SRV_INST, service)?;
+        let options = no_options(alloc);
+        let nonce = IntegerAsn1::from_u64(alloc, u64::from(nonce));
+        let suites = self.suites(alloc);
+        let client = self.name_where(alloc, named);
+        let realm: Result<_, AllocError> = self.realm().clone();
+        let service = principal_name(alloc, NT_SRV_INST, service);
+        let numbers = both(both(options, nonce), suites);
+        let names = both(both(client, realm), service);
+        let (((options, nonce), suites), ((client, realm), service)) = both(numbers, names)?;
         Ok(KdcReqBody {
             kdc_options: ExplicitContextTag(options),
             cname: Optional(client),
@@ -72,11 +80,20 @@ impl Client {
             till: ExplicitContextTag(GeneralizedTimeAsn1(till)),
             rtime: Optional(None),
             nonce: ExplicitContextTag(nonce),
-            etype: ExplicitContextTag(Asn1SequenceOf::from(suites)),
+            etype: ExplicitContextTag(suites),
             addresses: Optional(None),
             enc_authorization_data: Optional(None),
             additional_tickets: Optional(None),
         })
+    }
+
+    // The suites that the client asks for: its key's alone.
+    fn suites(&self, alloc: Global) -> Result<Asn1SequenceOf<IntegerAsn1>, AllocError>
+        ensures { IfOk result (λ suites. suites ≡ pos (cipher_number self.now.suite) ∷ []) }
+    {
+        let suite = IntegerAsn1::from_u64(alloc, u64::from(u8::from(self.suite())))?;
+        let suites = vec![in alloc; suite]?;
+        Ok(Asn1SequenceOf::from(suites))
     }
 
     // The client's name, where it is to be told.
@@ -114,6 +131,14 @@ pub(crate) fn entry_of(alloc: Global, kind: u32, value: Vec<u8>) -> Result<PaDat
         padata_type: ExplicitContextTag(kind),
         padata_data: ExplicitContextTag(OctetStringAsn1::from(value)),
     })
+}
+
+// Preauthentication data of one entry.
+fn entries_of(alloc: Global, entry: PaData) -> Result<Asn1SequenceOf<PaData>, AllocError>
+    ensures { IfOk result (λ entries. entries ≡ entry ∷ []) }
+{
+    let entries = vec![in alloc; entry]?;
+    Ok(Asn1SequenceOf::from(entries))
 }
 
 fn no_options(alloc: Global) -> Result<KerberosFlags, AllocError>

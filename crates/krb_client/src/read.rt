@@ -25,7 +25,11 @@ pub(crate) fn read_error_code(alloc: Global, bytes: &[u8]) -> Result<Option<u32>
 {
     let read: Option<KrbError> = read_whole(alloc, bytes)?;
     match read {
-        Some(error) => Ok(Some(error.0.error_code.0)),
+        Some(error) => {
+            let code = error.0.error_code.0;
+            drop(error);
+            Ok(Some(code))
+        }
         None => Ok(None),
     }
 }

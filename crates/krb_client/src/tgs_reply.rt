@@ -31,7 +31,9 @@ impl Client {
         let Some(reply) = read_tgs_reply(alloc, reply)? else {
             return Err(TakeRefusal::Unreadable);
         };
-        self.take_further(alloc, asked, &reply)
+        let taken = self.take_further(alloc, asked, &reply);
+        drop(reply);
+        taken
     }
 
     // The same, of the reply that was read.
@@ -51,6 +53,8 @@ impl Client {
         let Some(part) = open_tgs_part(alloc, asked.key(), usage, sealed)? else {
             return Err(TakeRefusal::NotSealed);
         };
-        self.take_part(asked.service(), asked.nonce(), reply, &part)
+        let taken = self.take_part(asked.service(), asked.nonce(), reply, &part);
+        drop(part);
+        taken
     }
 }

@@ -8,7 +8,7 @@ unfolding takes_ap_reply
 returns c =
     let none = rw c.in_default.is at c.in_ok-code.ensures in
     let is = rw c.in-Some-2.is at c.in_ok-reply.ensures in
-    taken_read c.args.reply.now (IsApRep c.args.reply.now) (sole_ap_rep c.args.reply.now) (takes_answer c.args.asked.now) c.take_answer.result c.in-Some-2.reply none is c.take_answer.ensures
+    taken_read c.args.reply.now (IsApRep c.args.reply.now) (sole_ap_rep c.args.reply.now) (takes_answer c.args.asked.now) c.take_answer-taken.result c.in-Some-2.reply none is c.take_answer-taken.ensures
 
 pub returns-in-Some : goal.returns-in-Some
 unfolding takes_ap_reply

@@ -8,7 +8,7 @@ unfolding takes_as_reply
 returns c =
     let none = rw c.in_default.is at c.in_ok-code.ensures in
     let is = rw c.in-Some-2.is at c.in_ok-reply.ensures in
-    taken_read c.args.reply.now (IsAsRep c.args.reply.now) (sole_as_rep c.args.reply.now) (takes_reply c.args.self.now c.args.asked.now) c.take_reply.result c.in-Some-2.reply none is c.take_reply.ensures
+    taken_read c.args.reply.now (IsAsRep c.args.reply.now) (sole_as_rep c.args.reply.now) (takes_reply c.args.self.now c.args.asked.now) c.take_reply-taken.result c.in-Some-2.reply none is c.take_reply-taken.ensures
 
 pub returns-in-Some : goal.returns-in-Some
 unfolding takes_as_reply

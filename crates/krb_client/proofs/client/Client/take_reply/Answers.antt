@@ -7,18 +7,18 @@ use Rattle.krb_client.proofs.client.Client.take_reply.Goals as goal
 pub returns-in-Some : goal.returns-in-Some
 returns-in-Some c =
     let opened = rw c.in-Some.is at c.in_ok-part.ensures in
-    let taken = rw (c.service.ensures, c.nonce.ensures) at c.take_part.ensures in
-    of_type 11 c.args.reply.now.pvno.0 c.args.reply.now.msg_type.0 (takes_sealed c.args.self.now c.args.asked.now c.args.reply.now) c.take_part.result (sym c.is_of_type.ensures ∙ c.if-not-is_of_type.false)
-    (taken_by_as_tag c.args.self.now c.args.asked.now c.args.reply.now c.in-Some.part c.take_part.result opened taken)
+    let taken = rw (c.service.ensures, c.nonce.ensures) at c.take_part-taken.ensures in
+    of_type 11 c.args.reply.now.pvno.0 c.args.reply.now.msg_type.0 (takes_sealed c.args.self.now c.args.asked.now c.args.reply.now) c.take_part-taken.result (sym c.is_of_type.ensures ∙ c.if-not-is_of_type.false)
+    (taken_by_as_tag c.args.self.now c.args.asked.now c.args.reply.now c.in-Some.part c.take_part-taken.result opened taken)
 
 pub returns : goal.returns
 returns c =
     let none = rw c.in_default.is at c.in_ok-part.ensures in
     let found = rw c.in-Some-2.is at c.in_ok-part-2.ensures in
     let opened = rw c.key.ensures at found in
-    let taken = rw (c.service-2.ensures, c.nonce-2.ensures) at c.take_part-2.ensures in
-    of_type 11 c.args.reply.now.pvno.0 c.args.reply.now.msg_type.0 (takes_sealed c.args.self.now c.args.asked.now c.args.reply.now) c.take_part-2.result (sym c.is_of_type.ensures ∙ c.if-not-is_of_type.false)
-    (taken_by_tgs_tag c.args.self.now c.args.asked.now c.args.reply.now c.in-Some-2.part c.take_part-2.result none opened taken)
+    let taken = rw (c.service-2.ensures, c.nonce-2.ensures) at c.take_part-taken-2.ensures in
+    of_type 11 c.args.reply.now.pvno.0 c.args.reply.now.msg_type.0 (takes_sealed c.args.self.now c.args.asked.now c.args.reply.now) c.take_part-taken-2.result (sym c.is_of_type.ensures ∙ c.if-not-is_of_type.false)
+    (taken_by_tgs_tag c.args.self.now c.args.asked.now c.args.reply.now c.in-Some-2.part c.take_part-taken-2.result none opened taken)
 
 pub returns-in_default-2 : goal.returns-in_default-2
 returns-in_default-2 c =

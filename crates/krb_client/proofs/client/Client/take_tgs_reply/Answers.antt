@@ -8,7 +8,7 @@ unfolding takes_tgs_reply
 returns c =
     let none = rw c.in_default.is at c.in_ok-code.ensures in
     let is = rw c.in-Some-2.is at c.in_ok-reply.ensures in
-    taken_read c.args.reply.now (IsTgsRep c.args.reply.now) (sole_tgs_rep c.args.reply.now) (takes_further c.args.self.now c.args.asked.now) c.take_further.result c.in-Some-2.reply none is c.take_further.ensures
+    taken_read c.args.reply.now (IsTgsRep c.args.reply.now) (sole_tgs_rep c.args.reply.now) (takes_further c.args.self.now c.args.asked.now) c.take_further-taken.result c.in-Some-2.reply none is c.take_further-taken.ensures
 
 pub returns-in-Some : goal.returns-in-Some
 unfolding takes_tgs_reply

@@ -1,5 +1,5 @@
 use Rattle.std.proofs.Common.{◌≡◌, take}
-use Rattle.krb_client.proofs.names.principal_name.Given as goal
+use Rattle.krb_client.proofs.names.copies_of.Given as goal
 
 -- the copies so far
 abbrev pub invariant-loop-component : goal.invariant-loop-component
