@@ -23,7 +23,7 @@ fn ask_first(stage: &mut Stage, alloc: Global, service: &[Vec<u8>]) -> anyhow::R
     let client = stage.client()?;
     match client.as_request(alloc, service, at.till, at.moment, &at.random.bytes()) {
         Ok((request, asked)) => {
-            stage.asked.as_asked = Some(asked);
+            drop(stage.asked.as_asked.replace(asked));
             sent(stage, alloc, request)
         }
         Err(refusal) => refused(alloc, &refusal),
@@ -46,7 +46,7 @@ fn ask_further(stage: &mut Stage, alloc: Global, service: &[Vec<u8>]) -> anyhow:
     let (client, by) = (stage.client()?, stage.credential()?);
     match client.tgs_request(alloc, by, service, at.till, at.moment, &at.random.bytes()) {
         Ok((request, asked)) => {
-            stage.asked.tgs_asked = Some(asked);
+            drop(stage.asked.tgs_asked.replace(asked));
             sent(stage, alloc, request)
         }
         Err(refusal) => refused(alloc, &refusal),
@@ -75,7 +75,7 @@ fn ask_service(
     let (client, by) = (stage.client()?, stage.credential()?);
     match client.ap_request(alloc, by, mutual, subkey, at.moment, &at.random.bytes()) {
         Ok((request, asked)) => {
-            stage.asked.ap_asked = Some(asked);
+            drop(stage.asked.ap_asked.replace(asked));
             sent(stage, alloc, request)
         }
         Err(refusal) => refused(alloc, &refusal),

@@ -33,7 +33,11 @@ fn log_in(stage: &mut Stage, alloc: Global, name: &[Vec<u8>]) -> anyhow::Result<
         service_words: &random,
     };
     match login_by_password(alloc, client, realm, service, &input) {
-        Ok((key, admission)) => login_text(alloc, &key, &admission),
+        Ok(login) => {
+            let text = login_text(alloc, &login.0, &login.1);
+            drop(login);
+            text
+        }
         Err(refusal) => refused(alloc, &refusal),
     }
 }

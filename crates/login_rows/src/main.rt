@@ -29,7 +29,9 @@ fn main(rt: HostRuntime) -> anyhow::Result<()> {
 fn play(rt: &HostRuntime, file: &str) -> anyhow::Result<()> {
     let text = fs::read_to_string(rt, file)?;
     let mut stage = Stage::new(rt.alloc())?;
-    play_lines(rt, file, &text, &mut stage)
+    let played = play_lines(rt, file, &text, &mut stage);
+    drop(stage);
+    played
 }
 
 /// Plays the lines one after the other, and prints how many of them tell something else than what is wanted.

@@ -59,7 +59,7 @@ fn make_realm(stage: &mut Stage, alloc: Global, name: &[u8], key: &[u8]) -> anyh
     let settings = Settings::new(300, 36_000)?;
     match Realm::new(alloc, name, AES256, key, settings) {
         Ok(realm) => {
-            stage.realm = Some(realm);
+            drop(stage.realm.replace(realm));
             ok(alloc)
         }
         Err(refusal) => refused(alloc, &refusal),

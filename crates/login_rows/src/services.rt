@@ -34,7 +34,7 @@ fn make_service(
     };
     match Service::new(alloc, realm, &name, suite, key, number, skew) {
         Ok(service) => {
-            stage.service = Some(service);
+            drop(stage.service.replace(service));
             ok(alloc)
         }
         Err(refusal) => refused(alloc, &refusal),
@@ -57,21 +57,22 @@ fn admitted(stage: &mut Stage, alloc: Global, admission: Admission) -> anyhow::R
     text
 }
 
-fn keep_reply(stage: &mut Stage, admission: Admission) {
-    let Admission { reply, .. } = admission;
-    if let Some(reply) = reply {
+fn keep_reply(stage: &mut Stage, mut admission: Admission) {
+    if let Some(reply) = admission.reply.take() {
         stage.reply = reply;
     }
+    drop(admission);
 }
 
 /// Presents no bytes.
 pub(crate) fn admit_nothing(stage: &mut Stage, alloc: Global) -> anyhow::Result<String> {
     let at = stage.conditions;
     let service = stage.service.as_mut().context("no service")?;
-    match service.admit(alloc, &[], at.moment, &at.random.bytes()) {
-        Ok(_) => bail!("no bytes are admitted"),
-        Err(refusal) => refused(alloc, &refusal),
-    }
+    let admitted = service.admit(alloc, &[], at.moment, &at.random.bytes());
+    let Some(refusal) = admitted.err() else {
+        bail!("no bytes are admitted");
+    };
+    refused(alloc, &refusal)
 }
 
 /// Presents the last request twice in one call.
@@ -85,7 +86,9 @@ pub(crate) fn admit_twice(stage: &mut Stage, alloc: Global) -> anyhow::Result<St
         (request, at.moment, &words),
     ];
     let answers = service.admit_all(alloc, &calls)?;
-    answers_text(alloc, &answers)
+    let text = answers_text(alloc, &answers);
+    drop(answers);
+    text
 }
 
 /// That the first is admitted, and how the second is refused.

@@ -26,7 +26,7 @@ fn make_client(
 ) -> anyhow::Result<String> {
     match Client::by_password(alloc, realm.as_bytes(), name, suite, password.as_bytes()) {
         Ok(client) => {
-            stage.client = Some(client);
+            drop(stage.client.replace(client));
             ok(alloc)
         }
         Err(refusal) => refused(alloc, &refusal),
@@ -53,7 +53,7 @@ fn keep(
 ) -> anyhow::Result<String> {
     match taken {
         Ok(credential) => {
-            stage.credential = Some(credential);
+            drop(stage.credential.replace(credential));
             key(stage, alloc)
         }
         Err(refusal) => refused(alloc, &refusal),
