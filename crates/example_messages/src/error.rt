@@ -14,32 +14,39 @@ pub fn unknown_client(
     realm: &[u8],
     stime: GeneralizedTimeAsn1,
 ) -> anyhow::Result<Vec<u8>> {
-    let error = KrbErrorInner {
-        pvno: ExplicitContextTag(number(alloc, KERBEROS_VERSION)?),
-        msg_type: ExplicitContextTag(number(alloc, u32::from(KRB_ERROR_MSG_TYPE))?),
+    let pvno = number(alloc, KERBEROS_VERSION)?;
+    let msg_type = number(alloc, u32::from(KRB_ERROR_MSG_TYPE))?;
+    let susec = number(alloc, 0)?;
+    let sname = ticket_granting_service(alloc, realm)?;
+    let realm = GeneralStringAsn1::new(alloc, realm)?;
+    let message: KrbError = ApplicationTag(KrbErrorInner {
+        pvno: ExplicitContextTag(pvno),
+        msg_type: ExplicitContextTag(msg_type),
         ctime: Optional(None),
         cusec: Optional(None),
         stime: ExplicitContextTag(stime),
-        susec: ExplicitContextTag(number(alloc, 0)?),
+        susec: ExplicitContextTag(susec),
         error_code: ExplicitContextTag(KDC_ERR_C_PRINCIPAL_UNKNOWN),
         crealm: Optional(None),
         cname: Optional(None),
-        realm: ExplicitContextTag(GeneralStringAsn1::new(alloc, realm)?),
-        sname: ExplicitContextTag(ticket_granting_service(alloc, realm)?),
+        realm: ExplicitContextTag(realm),
+        sname: ExplicitContextTag(sname),
         e_text: Optional(None),
         e_data: Optional(None),
-    };
-    let message: KrbError = ApplicationTag(error);
-    Ok(to_vec(alloc, &message)?)
+    });
+    let bytes = to_vec(alloc, &message);
+    drop(message);
+    Ok(bytes?)
 }
 
 /// The name `krbtgt/REALM` (RFC 4120, section 7.3).
 fn ticket_granting_service(alloc: Global, realm: &[u8]) -> anyhow::Result<PrincipalName> {
+    let kind = number(alloc, u32::from(NT_SRV_INST))?;
     let krbtgt = GeneralStringAsn1::new(alloc, b"krbtgt")?;
     let realm = GeneralStringAsn1::new(alloc, realm)?;
     let components = vec![in alloc; krbtgt, realm]?;
     Ok(PrincipalName {
-        name_type: ExplicitContextTag(number(alloc, u32::from(NT_SRV_INST))?),
+        name_type: ExplicitContextTag(kind),
         name_string: ExplicitContextTag(Asn1SequenceOf::from(components)),
     })
 }

@@ -33,20 +33,29 @@ const TICKET: &str = concat!(
 );
 
 fn main(rt: HostRuntime) -> anyhow::Result<()> {
-    change_request(&rt, &hex::decode(rt.alloc(), REQUEST)?)?;
-    read_ticket(&rt, &hex::decode(rt.alloc(), TICKET)?)?;
+    let request = hex::decode(rt.alloc(), REQUEST)?;
+    read_request(&rt, &request)?;
+    let ticket = hex::decode(rt.alloc(), TICKET)?;
+    read_ticket(&rt, &ticket)?;
     let stime = time_of(b"20000101000000Z")?;
     let error = unknown_client(rt.alloc(), b"R", stime)?;
     print_bytes(&rt, &error)
 }
 
-/// Reads an AS-REQ, asks for a ticket that lasts longer, and writes it.
-fn change_request(rt: &HostRuntime, bytes: &[u8]) -> anyhow::Result<()> {
+/// Reads an AS-REQ, and changes it.
+fn read_request(rt: &HostRuntime, bytes: &[u8]) -> anyhow::Result<()> {
     let mut request: AsReq = from_bytes(rt.alloc(), bytes)?;
+    let changed = ask_for_longer(rt, &mut request);
+    drop(request);
+    changed
+}
+
+/// Asks for a ticket that lasts longer, and prints the request as it is then written.
+fn ask_for_longer(rt: &HostRuntime, request: &mut AsReq) -> anyhow::Result<()> {
     print_body(rt, &request.0.req_body.0)?;
     request.0.req_body.0.till.0 = time_of(b"20370101000000Z")?;
-    let changed = to_vec(rt.alloc(), &request)?;
-    print_bytes(rt, &changed)
+    let bytes = to_vec(rt.alloc(), request)?;
+    print_bytes(rt, &bytes)
 }
 
 fn print_body(rt: &HostRuntime, body: &KdcReqBody) -> anyhow::Result<()> {
@@ -58,7 +67,9 @@ fn print_body(rt: &HostRuntime, body: &KdcReqBody) -> anyhow::Result<()> {
 
 fn read_ticket(rt: &HostRuntime, bytes: &[u8]) -> anyhow::Result<()> {
     let ticket: Ticket = from_bytes(rt.alloc(), bytes)?;
-    print_ticket(rt, &ticket.0)
+    let printed = print_ticket(rt, &ticket.0);
+    drop(ticket);
+    printed
 }
 
 fn print_ticket(rt: &HostRuntime, ticket: &TicketInner) -> anyhow::Result<()> {
