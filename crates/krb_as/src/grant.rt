@@ -12,6 +12,7 @@ use krb_grants::ticket_reply;
 use krb_messages::messages::KdcReqBody;
 use krb_tickets::{Grant, ReplyKey, TicketFlags};
 use krb_types::data_types::PrincipalName;
+use record_copies::LentFields;
 use std::alloc::{AllocError, Global};
 
 /// Who asks for a ticket for whom, with their accounts.
@@ -40,7 +41,9 @@ pub(crate) fn grant(
 {
     let ticket = first_ticket(alloc, call, asked, span, body)?;
     let under = ReplyKey::of_client(asked.client);
-    ticket_reply(alloc, &ticket, &under, asked.service, call.random)
+    let made = ticket_reply(alloc, &ticket, &under, asked.service, call.random);
+    drop(ticket);
+    made
 }
 
 // What the ticket is granted with.
@@ -56,10 +59,11 @@ fn first_ticket(
 {
     let suite = asked.client.suite();
     let session = session_key(alloc, suite, call.random)?;
-    let realm = call.realm.clone()?;
-    let client = asked.client_name.clone()?;
-    let service = asked.service_name.clone()?;
-    let nonce = body.nonce.0.clone()?;
+    let lent = (
+        call.realm,
+        (asked.client_name, (asked.service_name, (&body.nonce.0, ()))),
+    );
+    let (realm, (client, (service, (nonce, ())))) = lent.copied()?;
     Ok(Grant {
         suite,
         session,

@@ -80,7 +80,9 @@ pub(crate) fn check_client(
     let Some(stamp) = open_stamp(alloc, client, entry.as_bytes())? else {
         return Err(Refusal::Krb(error_codes::KDC_ERR_PREAUTH_FAILED));
     };
-    let Some(time) = moment_of(&stamp) else {
+    let told = moment_of(&stamp);
+    drop(stamp);
+    let Some(time) = told else {
         return Err(Refusal::Krb(error_codes::KDC_ERR_PREAUTH_FAILED));
     };
     if call.moment.is_far_from(time, call.skew()) {

@@ -3,6 +3,7 @@ ghost use Rattle.std.specs.Prelude.{◌≡◌, IfOk, codes};
 ghost use Rattle.krb_as.specs.TicketGranting.{krbtgt_of};
 
 use picky_asn1::wrapper::GeneralStringAsn1;
+use results::both;
 use std::alloc::{AllocError, Global};
 
 /// The components of the ticket-granting service of a realm (RFC 4120, section 7.3).
@@ -12,11 +13,8 @@ pub fn krbtgt_of(
 ) -> Result<Vec<GeneralStringAsn1>, AllocError>
     ensures { IfOk result (λ name. name.items ≡ krbtgt_of realm.now) }
 {
-    let first = service_text(alloc)?;
-    let second = realm.clone()?;
-    let mut name = Vec::with_capacity(alloc, 2)?;
-    name.push(first)?;
-    name.push(second)?;
+    let (first, second) = both(service_text(alloc), realm.clone())?;
+    let name = vec![in alloc; first, second]?;
     Ok(name)
 }
 

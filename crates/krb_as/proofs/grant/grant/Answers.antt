@@ -8,6 +8,6 @@ use Rattle.krb_as.proofs.grant.grant.Goals as goal
 pub returns : goal.returns
 returns c =
     let asked = principals c.args.asked in
-    replied_by c.ticket_reply.result c.in_ok-ticket.ticket (first_ticket (call_of c.args.call.now) asked c.args.body.now c.args.span)
+    replied_by c.ticket_reply-made.result c.in_ok-ticket.ticket (first_ticket (call_of c.args.call.now) asked c.args.body.now c.args.span)
     (reply_key_of c.of_client-under.result) (as_reply_key asked.client) asked.service c.args.call.now.random.now
-    c.in_ok-ticket.ensures c.of_client-under.ensures c.ticket_reply.ensures
+    c.in_ok-ticket.ensures c.of_client-under.ensures c.ticket_reply-made.ensures

@@ -13,12 +13,12 @@ returns-in_default-2 c =
     let none = rw (c.in_default-2.is, c.as_bytes.ensures) at c.in_ok-stamp.ensures in
     rw (absent, present) (inr (none, refl))
 
-pub returns-in_default-moment_of : goal.returns-in_default-moment_of
-returns-in_default-moment_of c =
+pub returns-in_default-told : goal.returns-in_default-told
+returns-in_default-told c =
     let absent : is_some (first_of 16 c.args.entries.now) ≡ false = sym c.has_entry.ensures ∙ c.if-has_entry.false in
     let present : first_of 2 c.args.entries.now ≡ Some c.in-Some.entry.now = sym c.in-Some.ensures in
     let found = rw (c.in-Some-2.is, c.as_bytes.ensures) at c.in_ok-stamp.ensures in
-    let time : moment_of c.in-Some-2.stamp ≡ None = sym c.moment_of.ensures ∙ c.in_default-moment_of.is in
+    let time : moment_of c.in-Some-2.stamp ≡ None = sym c.moment_of-told.ensures ∙ c.in_default-told.is in
     rw (absent, present) (inl (c.in-Some-2.stamp, found, rw time refl))
 
 pub returns-then-is_far_from : goal.returns-then-is_far_from
@@ -26,8 +26,8 @@ returns-then-is_far_from c =
     let absent : is_some (first_of 16 c.args.entries.now) ≡ false = sym c.has_entry.ensures ∙ c.if-has_entry.false in
     let present : first_of 2 c.args.entries.now ≡ Some c.in-Some.entry.now = sym c.in-Some.ensures in
     let found = rw (c.in-Some-2.is, c.as_bytes.ensures) at c.in_ok-stamp.ensures in
-    let time : moment_of c.in-Some-2.stamp ≡ Some c.in-Some-moment_of.time = sym c.moment_of.ensures ∙ c.in-Some-moment_of.is in
-    let far : is_far (skew_of (call_of c.args.call.now)) c.args.call.now.moment c.in-Some-moment_of.time ≡ true =
+    let time : moment_of c.in-Some-2.stamp ≡ Some c.in-Some-told.time = sym c.moment_of-told.ensures ∙ c.in-Some-told.is in
+    let far : is_far (skew_of (call_of c.args.call.now)) c.args.call.now.moment c.in-Some-told.time ≡ true =
     rw c.skew.ensures.value at (sym c.is_far_from.ensures ∙ c.if-is_far_from.true) in
     rw (absent, present) (inl (c.in-Some-2.stamp, found, rw (time, far) refl))
 
@@ -36,7 +36,7 @@ returns c =
     let absent : is_some (first_of 16 c.args.entries.now) ≡ false = sym c.has_entry.ensures ∙ c.if-has_entry.false in
     let present : first_of 2 c.args.entries.now ≡ Some c.in-Some.entry.now = sym c.in-Some.ensures in
     let found = rw (c.in-Some-2.is, c.as_bytes.ensures) at c.in_ok-stamp.ensures in
-    let time : moment_of c.in-Some-2.stamp ≡ Some c.in-Some-moment_of.time = sym c.moment_of.ensures ∙ c.in-Some-moment_of.is in
-    let far : is_far (skew_of (call_of c.args.call.now)) c.args.call.now.moment c.in-Some-moment_of.time ≡ false =
+    let time : moment_of c.in-Some-2.stamp ≡ Some c.in-Some-told.time = sym c.moment_of-told.ensures ∙ c.in-Some-told.is in
+    let far : is_far (skew_of (call_of c.args.call.now)) c.args.call.now.moment c.in-Some-told.time ≡ false =
     rw c.skew.ensures.value at (sym c.is_far_from.ensures ∙ c.if-is_far_from.false) in
     rw (absent, present) (inl (c.in-Some-2.stamp, found, rw (time, far) refl))
