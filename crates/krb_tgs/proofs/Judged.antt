@@ -59,6 +59,11 @@ module _ (call : CallRecord) (granting : AccountRecord) (presented : ApReqInner)
     pub counted : (part : EncTicketPartInner) → (opening key.suite key.bytes).gives (Ok part) → (counting call part).gives (Ok tt) → judged (Ok part)
     counted part y z = further (Ok part) (inl (part, opened (Ok part) y, inl (tt, z, refl)))
 
+    -- by what it was judged to count
+    pub judged_counting : (part : EncTicketPartInner) → (opening key.suite key.bytes).gives (Ok part) → (j : Result (Unit {0}) Refusal) → IsJudged (counting call part).gives j → (r : Result EncTicketPartInner Refusal) → (j ≡ Ok tt → r ≡ Ok part) → ((e : Refusal) → j ≡ Err e → r ≡ Err e) → judged r
+    judged_counting part y (Ok tt) z r p q = subst judged (sym (p refl)) (counted part y z)
+    judged_counting part y (Err e) z r p q = subst judged (sym (q e refl)) (uncounted part e y z)
+
 -- by the account of the ticket-granting service, or where it has none
 module _ (call : CallRecord) (body : KdcReqBody) (presented : ApReqInner) (found : Option AccountRecord) (account : found ≡ call.look (krbtgt_of call.realm)) where
   abbrev rest : AccountRecord → Table (Result (List ℕ) ℕ)

@@ -21,6 +21,7 @@ use krb_types::constants::error_codes;
 use krb_types::data_types::{AuthenticatorInner, EncTicketPartInner, EncryptionKey, PrincipalName};
 use picky_asn1::is_number;
 use picky_asn1::wrapper::IntegerAsn1;
+use record_copies::LentFields;
 use std::alloc::{AllocError, Global};
 
 /// The flag of a ticket whose client authenticated itself before the first one was granted (RFC 4120, section 5.3).
@@ -60,7 +61,9 @@ pub(crate) fn grant(
     };
     let under = reply_key(shown.key, &subkey);
     let ticket = further_ticket(alloc, call, part, service_name, suite, body, span)?;
-    let reply = ticket_reply(alloc, &ticket, &under, service, call.random)?;
+    let made = ticket_reply(alloc, &ticket, &under, service, call.random);
+    drop(ticket);
+    let reply = made?;
     Ok(reply)
 }
 
@@ -151,10 +154,11 @@ fn further_ticket(
     ensures { IfOk result (λ grant. grant ≡ further_ticket (call_of call.now) part.now service_name.now suite body.now span) }
 {
     let session = session_key(alloc, suite, call.random)?;
-    let realm = call.realm.clone()?;
-    let client = part.cname.0.clone()?;
-    let service = service_name.clone()?;
-    let nonce = body.nonce.0.clone()?;
+    let lent = (
+        call.realm,
+        (&part.cname.0, (service_name, (&body.nonce.0, ()))),
+    );
+    let (realm, (client, (service, (nonce, ())))) = lent.copied()?;
     Ok(Grant {
         suite,
         session,

@@ -18,6 +18,7 @@ use krb_types::constants::{error_codes, key_usages};
 use krb_types::data_types::{EncTicketPartInner, PaData};
 use krb_types::{Refusal, is_same_realm};
 use picky_asn1::wrapper::GeneralStringAsn1;
+use results::if_passed;
 use std::alloc::Global;
 
 /// Judges whether it is a TGS request to this realm, and its options.
@@ -57,8 +58,8 @@ pub(crate) fn open_ticket_granting(
     check_name(alloc, call.realm, granting.number(), presented)?;
     let sealed = &presented.ticket.0.0.enc_part.0;
     let part = open_ticket(alloc, granting.key(), sealed)?;
-    check_counting(call, &part)?;
-    Ok(part)
+    let judged = check_counting(call, &part);
+    if_passed(part, judged)
 }
 
 // Judges whether the request presents a ticket for this realm's ticket-granting service, under its key of this number.
@@ -100,6 +101,7 @@ pub(crate) fn open_shown(
         &presented.authenticator.0,
     )?;
     if call.moment.is_far_from(shown.time, call.skew()) {
+        drop(shown);
         return Err(Refusal::Krb(error_codes::KRB_AP_ERR_SKEW));
     }
     Ok(shown)

@@ -32,7 +32,9 @@ pub fn judge_tgs(alloc: Global, call: &Call<'_>, request: &KdcReq) -> Result<Vec
     check_request(call.realm, request)?;
     let presented = carried(alloc, entries_of(request))?;
     let body = &request.req_body.0;
-    judge_carried(alloc, call, body, &presented)
+    let judged = judge_carried(alloc, call, body, &presented);
+    drop(presented);
+    judged
 }
 
 // With the AP request that it carries.
@@ -49,7 +51,9 @@ fn judge_carried(
         return Err(Refusal::Krb(error_codes::KDC_ERR_S_PRINCIPAL_UNKNOWN));
     };
     let part = open_ticket_granting(alloc, call, granting, presented)?;
-    judge_ticket(alloc, call, body, presented, &part)
+    let judged = judge_ticket(alloc, call, body, presented, &part);
+    drop(part);
+    judged
 }
 
 // The account of the realm's ticket-granting service.
@@ -76,7 +80,9 @@ fn judge_ticket(
     ensures { IsGranted (of_ticket (call_of call.now) body.now presented.now part.now).gives result }
 {
     let shown = open_shown(alloc, call, part, presented)?;
-    judge_shown(alloc, call, body, part, &shown)
+    let judged = judge_shown(alloc, call, body, part, &shown);
+    drop(shown);
+    judged
 }
 
 // With the authenticator.

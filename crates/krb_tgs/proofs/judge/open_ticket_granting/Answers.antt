@@ -1,6 +1,6 @@
 use Rattle.std.proofs.lemmas.Result.{err_from_is_err_and}
 use Rattle.krb_as.specs.Call.{call_of}
-use Rattle.krb_tgs.proofs.Judged.{counted, fields_refused, uncounted, unopened}
+use Rattle.krb_tgs.proofs.Judged.{fields_refused, judged_counting, unopened}
 use Rattle.krb_tgs.proofs.judge.open_ticket_granting.Goals as goal
 
 pub returns-in_err-check_name : goal.returns-in_err-check_name
@@ -16,14 +16,7 @@ returns-in_err-part c =
     (unopened (call_of c.args.call.now) c.args.granting.now c.args.presented.now c.number.result c.number.ensures.value c.key.result.now c.key.ensures
     c.in_ok-check_name.ensures c.in_err-part.field-0.0 c.in_err-part.ensures)
 
-pub returns-in_err-check_counting : goal.returns-in_err-check_counting
-returns-in_err-check_counting c =
-    let exit = err_from_is_err_and c.from_residual-in_err-check_counting.result c.from_residual-in_err-check_counting.ensures.1 in
-    rw (exit.1, exit.2)
-    (uncounted (call_of c.args.call.now) c.args.granting.now c.args.presented.now c.number.result c.number.ensures.value c.key.result.now c.key.ensures
-    c.in_ok-check_name.ensures c.in_ok-part.part c.in_err-check_counting.field-0.0 c.in_ok-part.ensures c.in_err-check_counting.ensures)
-
 pub returns : goal.returns
 returns c =
-    counted (call_of c.args.call.now) c.args.granting.now c.args.presented.now c.number.result c.number.ensures.value c.key.result.now c.key.ensures
-    c.in_ok-check_name.ensures c.in_ok-part.part c.in_ok-part.ensures c.in_ok-check_counting.ensures
+    judged_counting (call_of c.args.call.now) c.args.granting.now c.args.presented.now c.number.result c.number.ensures.value c.key.result.now c.key.ensures
+    c.in_ok-check_name.ensures c.in_ok-part.part c.in_ok-part.ensures c.check_counting-judged.result c.check_counting-judged.ensures c.if_passed.result c.if_passed.ensures.passed c.if_passed.ensures.refused

@@ -24,5 +24,5 @@ pub returns : goal.returns
 returns c =
     let call = call_of c.args.call.now in
     let granting = c.in-Some.granting.now in
-    known call c.args.body.now c.args.presented.now (option_copied c.in_ok-granting.field-0) c.in_ok-granting.ensures granting c.judge_ticket.result (ap (λ o. option_copied o) c.in-Some.is)
-    (grant_passed (ticket_granting call granting c.args.presented.now) (of_ticket call c.args.body.now c.args.presented.now) c.in_ok-part.part c.judge_ticket.result c.in_ok-part.ensures c.judge_ticket.ensures)
+    known call c.args.body.now c.args.presented.now (option_copied c.in_ok-granting.field-0) c.in_ok-granting.ensures granting c.judge_ticket-judged.result (ap (λ o. option_copied o) c.in-Some.is)
+    (grant_passed (ticket_granting call granting c.args.presented.now) (of_ticket call c.args.body.now c.args.presented.now) c.in_ok-part.part c.judge_ticket-judged.result c.in_ok-part.ensures c.judge_ticket-judged.ensures)

@@ -31,6 +31,6 @@ pub returns : goal.returns
 returns c =
     let call = call_of c.args.call.now in
     let request = c.args.request.now in
-    grant_passed {A = Unit {0}} (to_us call.realm request) (λ _. and_then (carried (entries_of request)) (of_carried call request.req_body.0)) tt c.judge_carried.result c.in_ok-check_request.ensures
-    (grant_passed (carried (entries_of request)) (of_carried call request.req_body.0) c.in_ok-presented.presented c.judge_carried.result
-    (subst (λ entries. (carried entries).gives (Ok c.in_ok-presented.presented)) c.entries_of.ensures c.in_ok-presented.ensures) c.judge_carried.ensures)
+    grant_passed {A = Unit {0}} (to_us call.realm request) (λ _. and_then (carried (entries_of request)) (of_carried call request.req_body.0)) tt c.judge_carried-judged.result c.in_ok-check_request.ensures
+    (grant_passed (carried (entries_of request)) (of_carried call request.req_body.0) c.in_ok-presented.presented c.judge_carried-judged.result
+    (subst (λ entries. (carried entries).gives (Ok c.in_ok-presented.presented)) c.entries_of.ensures c.in_ok-presented.ensures) c.judge_carried-judged.ensures)

@@ -15,8 +15,8 @@ returns-in_err-shown c =
 pub returns : goal.returns
 returns c =
     let call = call_of c.args.call.now in
-    grant_passed (shown_near call c.args.part.now c.args.presented.now) (of_shown call c.args.body.now c.args.part.now) c.in_ok-shown.shown c.judge_shown.result c.in_ok-shown.ensures c.judge_shown.ensures
+    grant_passed (shown_near call c.args.part.now c.args.presented.now) (of_shown call c.args.body.now c.args.part.now) c.in_ok-shown.shown c.judge_shown-judged.result c.in_ok-shown.ensures c.judge_shown-judged.ensures
 
-pub judge_shown-requires-clause-suite : goal.judge_shown-requires-clause-suite
-judge_shown-requires-clause-suite c =
+pub judge_shown-judged-requires-clause-suite : goal.judge_shown-judged-requires-clause-suite
+judge_shown-judged-requires-clause-suite c =
     (by_authenticator (call_of c.args.call.now) c.args.part.now c.args.presented.now c.in_ok-shown.shown c.in_ok-shown.ensures).suite
