@@ -19,7 +19,7 @@ impl Rows for Admissions {
 
     const NAME: &'static str = "requests";
 
-    const DIFFERING: &'static str = "differing answers";
+    const WRONG: &'static str = "differing answers";
 
     fn differing(&self, rt: &HostRuntime, row: &str) -> anyhow::Result<Option<String>> {
         let recorded = recorded_of(rt.alloc(), row)?;
@@ -41,7 +41,7 @@ impl Rows for Repetitions {
 
     const NAME: &'static str = "requests";
 
-    const DIFFERING: &'static str = "admitted again";
+    const WRONG: &'static str = "admitted again";
 
     fn differing(&self, rt: &HostRuntime, row: &str) -> anyhow::Result<Option<String>> {
         let recorded = recorded_of(rt.alloc(), row)?;

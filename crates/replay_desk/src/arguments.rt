@@ -14,7 +14,7 @@ impl Rows for Arguments {
 
     const NAME: &'static str = "runs";
 
-    const DIFFERING: &'static str = "differing";
+    const WRONG: &'static str = "differing";
 
     fn differing(&self, rt: &HostRuntime, row: &str) -> anyhow::Result<Option<String>> {
         let (arguments, wanted) = row.split_once(" | ").context("a row of one column")?;

@@ -14,7 +14,7 @@ impl Rows for SettingsFiles {
 
     const NAME: &'static str = "files";
 
-    const DIFFERING: &'static str = "differing";
+    const WRONG: &'static str = "differing";
 
     fn differing(&self, rt: &HostRuntime, row: &str) -> anyhow::Result<Option<String>> {
         let (wanted, settings) = row.split_once('\n').context("a row of one line")?;

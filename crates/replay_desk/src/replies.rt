@@ -11,7 +11,7 @@ impl Rows for Realm {
 
     const NAME: &'static str = "requests";
 
-    const DIFFERING: &'static str = "differing replies";
+    const WRONG: &'static str = "differing replies";
 
     fn differing(&self, rt: &HostRuntime, row: &str) -> anyhow::Result<Option<String>> {
         let columns = columns_of(rt.alloc(), row)?;

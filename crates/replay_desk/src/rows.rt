@@ -5,20 +5,21 @@ use std::fs;
 
 /// What the rows of a file say.
 pub(crate) trait Rows {
-    /// What stands between two rows.
+    /// The text between two rows.
     const SEPARATOR: &'static str;
 
-    /// What a row tells of, in the plural, as it is printed.
+    /// What the rows are, as it is printed.
     const NAME: &'static str;
 
-    /// What a row is that isn't as it says.
-    const DIFFERING: &'static str;
+    /// What is printed after the count of rows that differ.
+    const WRONG: &'static str;
 
-    /// What comes out in place of what the row says, as it is printed. None where the row is right.
+    /// What comes out, where it differs from what the row says. `None` where it is the same.
     fn differing(&self, rt: &HostRuntime, row: &str) -> anyhow::Result<Option<String>>;
 }
 
-/// Replays a file, and prints what differs and how many rows there are. An empty row and one that begins with `#` say nothing.
+/// Replays the rows of a file. It prints each that differs, and how many there are. Empty rows and those that begin with `#` are
+/// passed over.
 pub(crate) fn replay<R: Rows + Drop>(rt: &HostRuntime, rows: R, file: &str) -> anyhow::Result<()> {
     let text = fs::read_to_string(rt, file)?;
     let mut replayed = 0u64;
@@ -33,11 +34,7 @@ pub(crate) fn replay<R: Rows + Drop>(rt: &HostRuntime, rows: R, file: &str) -> a
             println!(rt; "{file}, row {replayed}: {other}")?;
         }
     }
-    println!(rt;
-        "{file}: {replayed} {}, {differing} {}",
-        R::NAME,
-        R::DIFFERING
-    )?;
+    println!(rt; "{file}: {replayed} {}, {differing} {}", R::NAME, R::WRONG)?;
     Ok(())
 }
 

@@ -14,7 +14,7 @@ impl Rows for Runs {
 
     const NAME: &'static str = "runs";
 
-    const DIFFERING: &'static str = "differing";
+    const WRONG: &'static str = "differing";
 
     fn differing(&self, rt: &HostRuntime, row: &str) -> anyhow::Result<Option<String>> {
         let run = run_of(rt.alloc(), row)?;
