@@ -7,6 +7,7 @@ ghost use Rattle.krb_replay_cache.specs.Pair.{PairRecord, is_recent, is_same_pai
 ghost use Rattle.krb_replay_cache.specs.Seen.{IsWindow};
 ghost use Rattle.krb_service.specs.RememberingService.{IsStep, remembering};
 ghost use Rattle.krb_service.specs.Service.{IsServiceEntry, made, making};
+ghost use Rattle.krb_accounts.specs.declared.refusal.RealmRefusal.{RealmRefusal};
 
 use crate::once::admit_once;
 use krb_accounts::{RealmRefusal, are_components, components_of, is_realm_name, realm_name_of};
@@ -52,11 +53,14 @@ impl Service {
         number: u32,
         skew: u64,
     ) -> Result<Service, RealmRefusal>
-        ensures { MatchResult result
+        ensures made { MatchResult result
             (λ service. (making realm.now (parts name.now) suite key.now number skew ≡ Ok tt)
             × (service ≡ made realm.now (parts name.now) suite key.now number skew))
             (λ refusal. (refusal ≡ RealmRefusal.Memory)
             ⊎ (making realm.now (parts name.now) suite key.now number skew ≡ Err refusal)) }
+
+        // Want of memory hides no other refusal.
+        ensures first { (refusal : RealmRefusal) → making realm.now (parts name.now) suite key.now number skew ≡ Err refusal → result ≡ Err refusal }
     {
         if !is_realm_name(realm) || !are_components(name) {
             return Err(RealmRefusal::BadName);
