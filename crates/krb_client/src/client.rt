@@ -1,5 +1,5 @@
 //! Clients.
-ghost use Rattle.std.specs.Prelude.{◌≡◌, length};
+ghost use Rattle.std.specs.Prelude.{◌≡◌, Err, length};
 ghost use Rattle.krb_accounts.specs.Names.{AreComponents, IsRealmName, parts};
 ghost use Rattle.krb_crypto.specs.Suites.{cipher_key_size};
 
@@ -33,6 +33,7 @@ impl Model for Client {
 impl Client {
     ghost use Rattle.krb_client.specs.Client.{client_by_password};
     ghost use Rattle.krb_client.specs.Refusals.{IsMemoryAside};
+    ghost use Rattle.krb_client.specs.declared.refusal.AskRefusal.{AskRefusal};
 
     /// The client with this password. Its key is that of the password and a salt, which is the realm and behind it the
     /// name's components (RFC 4120, section 4).
@@ -45,7 +46,10 @@ impl Client {
         suite: CipherSuite,
         password: &[u8],
     ) -> Result<Client, AskRefusal>
-        ensures { IsMemoryAside result (client_by_password realm.now (parts name.now) suite password.now) }
+        ensures made { IsMemoryAside result (client_by_password realm.now (parts name.now) suite password.now) }
+
+        // Want of memory hides no other refusal.
+        ensures first { (refusal : AskRefusal) → client_by_password realm.now (parts name.now) suite password.now ≡ Err refusal → result ≡ Err refusal }
     {
         if !is_realm_name(realm) {
             return Err(AskRefusal::BadName);
