@@ -19,3 +19,4 @@ mod Outcomes
 mod Admitted
 mod FurtherGranted
 mod OneKey
+mod OneLogin

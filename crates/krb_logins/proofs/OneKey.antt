@@ -56,24 +56,24 @@ abbrev IsValue : {T E : Type 0} → Result T E → Type 0
 IsValue (Ok value) = Unit {0}
 IsValue (Err refusal) = ⊥
 
-no_refusal : {T E : Type 0} (refusal : E) (value : T) → Err refusal ≡ Ok value → ⊥
+pub no_refusal : {T E : Type 0} (refusal : E) (value : T) → Err refusal ≡ Ok value → ⊥
 no_refusal refusal value e = subst IsValue (sym e) tt
 
 abbrev IsThis : {T E : Type 0} → T → Result T E → Type 0
 IsThis value (Ok other) = value ≡ other
 IsThis value (Err refusal) = ⊥
 
-one_value : {T E : Type 0} (value other : T) → ◌≡◌ {A = Result T E} (Ok value) (Ok other) → value ≡ other
+pub one_value : {T E : Type 0} (value other : T) → ◌≡◌ {A = Result T E} (Ok value) (Ok other) → value ≡ other
 one_value {T} {E} value other e = subst (IsThis {T = T} {E = E} value) e refl
 
 abbrev IsThisReply : Bytes → Option Bytes → Type 0
 IsThisReply reply (Some other) = reply ≡ other
 IsThisReply reply None = ⊥
 
-one_reply : (reply other : Bytes) → Some reply ≡ Some other → reply ≡ other
+pub one_reply : (reply other : Bytes) → Some reply ≡ Some other → reply ≡ other
 one_reply reply other e = subst (IsThisReply reply) e refl
 
-no_reply : (reply : Bytes) → None ≡ Some reply → ⊥
+pub no_reply : (reply : Bytes) → None ≡ Some reply → ⊥
 no_reply reply e = subst (IsThisReply reply) (sym e) refl
 
 abbrev IsTrueName : Bool → Type 0

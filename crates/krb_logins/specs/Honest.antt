@@ -120,6 +120,11 @@ IsWantOfMemory (Answered refusal) = refusal ≡ answer_refusal.Memory
 IsWantOfMemory (Taken refusal) = refusal ≡ take_refusal.Memory
 IsWantOfMemory (Admitted refusal) = refusal ≡ admit_refusal.Memory
 
+-- the result is want of memory
+abbrev pub WantsMemory : {A : Type 0} → Result A LoginRefusal → Type 0
+WantsMemory (Ok made) = ⊥
+WantsMemory (Err refusal) = IsWantOfMemory refusal
+
 -- client and service hold one session key, and the service was told the client's name; memory aside
 abbrev pub IsOneKey : ClientRecord → Result Login LoginRefusal → Type 0
 IsOneKey client (Ok login) =

@@ -18,7 +18,7 @@ use Rattle.krb_client.specs.TgsRequest.{AsksTgs, tgs_asked}
 use Rattle.krb_client.specs.declared.refusal.AskRefusal.{AskRefusal}
 use Rattle.krb_client.specs.declared.refusal.AskRefusal.TheVariants as ask_refusal
 
--- a client asks for no service whose name is none; memory aside, it asks for each other one
+-- a client asks for exactly the services whose names are names, unless memory runs out
 abbrev pub IsUnasked : List Bytes → AskRefusal → Type 0
 IsUnasked service refusal = (refusal ≡ ask_refusal.Memory) ⊎ ((refusal ≡ ask_refusal.BadName) × (are_components service ≡ false))
 
@@ -28,13 +28,14 @@ as_asked service moment random = record { service = service; nonce = nonce_of ra
 
 -- the client asks for a first ticket
 unfoldable pub IsAsAsked : ClientRecord → List Bytes → GeneralizedTime → Micros → Random → Result (Bytes × AsAskedRecord) AskRefusal → Type 0
-IsAsAsked client service till moment random (Ok sent) = AsksAs client service till moment random sent.0 × (sent.1 ≡ as_asked service moment random)
+IsAsAsked client service till moment random (Ok sent) =
+    AsksAs client service till moment random sent.0 × (sent.1 ≡ as_asked service moment random) × (are_components service ≡ true)
 IsAsAsked client service till moment random (Err refusal) = IsUnasked service refusal
 
 -- by a ticket it asks for a further one
 unfoldable pub IsTgsAsked : ClientRecord → CredentialRecord → List Bytes → GeneralizedTime → Micros → Random → Result (Bytes × TgsAskedRecord) AskRefusal → Type 0
 IsTgsAsked client credential service till moment random (Ok sent) =
-    AsksTgs client credential service till moment random sent.0 × (sent.1 ≡ tgs_asked credential service random)
+    AsksTgs client credential service till moment random sent.0 × (sent.1 ≡ tgs_asked credential service random) × (are_components service ≡ true)
 IsTgsAsked client credential service till moment random (Err refusal) = IsUnasked service refusal
 
 -- by a ticket for the service it asks the service, which is to reply, and chooses no subkey

@@ -1,9 +1,9 @@
 //! What holds of every honest login, step by step. Each is a function that does nothing when it runs: its contract is the
 //! law.
-ghost use Rattle.std.specs.Prelude.{Result};
+ghost use Rattle.std.specs.Prelude.{◌≡◌, ◌⊎◌, Result};
 ghost use Rattle.krb_client.specs.Client.{ClientRecord};
 ghost use Rattle.krb_service.specs.Service.{ServiceRecord};
-ghost use Rattle.krb_logins.specs.Honest.{IsOneKey};
+ghost use Rattle.krb_logins.specs.Honest.{IsOneKey, WantsMemory};
 ghost use Rattle.krb_logins.specs.Laws.{IsClientAdmitted, IsFirstGranted, IsFirstTaken, IsFurtherGranted, IsFurtherTaken, IsMet};
 ghost use Rattle.krb_logins.specs.LoginRun.{Login, LoginRun};
 ghost use Rattle.krb_logins.specs.Parties.{LoginRecord, RealmRecord, RememberedRecord};
@@ -43,4 +43,12 @@ pub fn client_admitted()
 pub fn one_key()
     ensures { (client : ClientRecord) (realm : RealmRecord) (service : ServiceRecord) (before : RememberedRecord) (login : LoginRecord) (result : Result Login LoginRefusal) (after : RememberedRecord)
         → IsMet client realm service before login → LoginRun client realm service login before result after → IsOneKey client result }
+{}
+
+/// A login has one outcome: what it answers, and what the service remembers after it. The only exception is running out of memory.
+pub fn one_login()
+    ensures { (client : ClientRecord) (realm : RealmRecord) (service : ServiceRecord) (before : RememberedRecord) (login : LoginRecord)
+        (result other : Result Login LoginRefusal) (after other_after : RememberedRecord)
+        → LoginRun client realm service login before result after → LoginRun client realm service login before other other_after
+        → WantsMemory result ⊎ WantsMemory other ⊎ ((result ≡ other) × (after ≡ other_after)) }
 {}
