@@ -1,7 +1,6 @@
 -- The table of AS requests has an outcome: each part of it has one.
-use Rattle.std.proofs.Common.{◌≡◌, ℕ, Bool, true, false, not, List, Option, None, Some, Result, Ok, Err, inl, inr}
+use Rattle.std.proofs.Common.{◌≡◌, ◌<◌, ℕ, ◌^◌, Bool, true, false, not, List, Option, None, Some, Result, Ok, Err}
 use Rattle.std.specs.Option.{is_some}
-use Rattle.picky_asn1.specs.GeneralizedTime.{seconds_of}
 use Rattle.picky_asn1.specs.Numbers.{is_number}
 use Rattle.krb_moments.specs.Skew.{is_far}
 use Rattle.krb_crypto.specs.declared.suite.CipherSuite.{CipherSuite}
@@ -10,6 +9,7 @@ use Rattle.krb_types.specs.Names.{is_same_realm}
 use Rattle.krb_types.specs.declared.data_types.pa_data.PaData.{PaData}
 use Rattle.krb_types.specs.declared.data_types.pa_enc_timestamp.PaEncTsEnc.{PaEncTsEnc}
 use Rattle.krb_types.specs.declared.data_types.principal_name.PrincipalName.{PrincipalName}
+use Rattle.krb_messages.specs.Trees.{kdc_req_inner_tree}
 use Rattle.krb_messages.specs.declared.messages.kdc_req.KdcReq.{KdcReq}
 use Rattle.krb_messages.specs.declared.messages.kdc_req_body.KdcReqBody.{KdcReqBody}
 use Rattle.decision_tables.specs.Tables.{Table, and_then, ask, done, need, refuse}
@@ -19,11 +19,14 @@ use Rattle.krb_preauth.specs.Stamps.{IsStamp, moment_of, sole_stamp}
 use Rattle.krb_tickets.specs.declared.reply.Exchange.TheVariants.{As}
 use Rattle.krb_as.specs.AsTable.{as_table, is_later, is_listed, possible, preauthenticated}
 use Rattle.krb_as.specs.Call.{CallRecord, skew_of}
-use Rattle.krb_as.specs.Calls.{IsCall, IsKeyed, IsWritten}
+use Rattle.krb_as.specs.Calls.{IsCall, IsKeyed}
 use Rattle.krb_as.specs.Grants.{Principals, first_ticket, granted}
-use Rattle.krb_as.specs.Requests.{IsSpan, addressed, client_of, entries_of, has_refused_option, is_postdated, lasting, service_of}
+use Rattle.krb_as.specs.Requests.{addressed, client_of, entries_of, has_refused_option, is_postdated, lasting, service_of}
 use Rattle.krb_as.specs.declared.span.Span.{Span}
-use Rattle.krb_as.proofs.HasGrant.{has_lasting, has_replied, lasts}
+use Rattle.krb_as.proofs.HasGrant.{has_lasting, has_replied}
+use Rattle.krb_as.proofs.RequestTrees.{body_fits, client_fits, nonce_fits, service_fits}
+use Rattle.krb_as.proofs.Short.{Fits}
+use Rattle.krb_as.proofs.Written.{IsWritten, is_written, own_realm_fits, session_short}
 
 pub has_address : (kind : ℕ) (realm : List ℕ) (request : KdcReq) → HasOutcome (addressed kind realm request)
 has_address kind realm request =
@@ -46,22 +49,6 @@ has_possible call suite body is =
     has_refused {T = Span} (is_later call body) 10 (and_then (lasting call.settings.lifetime call.moment None body) (in_suite suite body))
     (λ _. has_then (lasting call.settings.lifetime call.moment None body) (in_suite suite body) (has_lasting call.settings.lifetime call.moment None body is.in_time)
     (λ span _. has_refused {T = Span} (not (is_listed suite body)) 14 (done (Ok span)) (λ _. has_done (Ok span))))
-
--- the time that it gives is one
-span_of : (call : CallRecord) (suite : CipherSuite) (body : KdcReqBody) (span : Span) → (possible call suite body).gives (Ok span)
-    → IsSpan call.settings.lifetime call.moment None (seconds_of body.till.0.0) span
-span_of call suite body span x = passed (is_later call body) x
-  where
-    listed : (b : Bool) (own : Span) → (refuse {T = Span} {E = ℕ} b 14 (done (Ok own))).gives (Ok span) → (lasting call.settings.lifetime call.moment None body).gives (Ok own)
-        → IsSpan call.settings.lifetime call.moment None (seconds_of body.till.0.0) span
-    listed true own y l = absurd (cc (y))
-    listed false own y l = lasts call.settings.lifetime call.moment None body span (let same : span ≡ own = cc (y) in rw same l)
-
-    passed : (b : Bool) → (refuse {T = Span} {E = ℕ} b 10 (and_then (lasting call.settings.lifetime call.moment None body) (in_suite suite body))).gives (Ok span)
-        → IsSpan call.settings.lifetime call.moment None (seconds_of body.till.0.0) span
-    passed true y = absurd (cc (y))
-    passed false (inl (own, l, y)) = listed (not (is_listed suite body)) own y l
-    passed false (inr (code, l, y)) = absurd (cc (y))
 
 has_near : (moment : Option ℕ) (far : ℕ → Bool) → HasOutcome (need {A = ℕ} {T = Unit {0}} {E = ℕ} moment 24 (λ time. refuse (far time) 37 (done (Ok tt))))
 has_near None far = has_done (Err 24)
@@ -107,33 +94,49 @@ module _ (call : CallRecord) (of_client of_service : Option AccountRecord) (requ
   abbrev to_name : Table (Result (List ℕ) ℕ)
   to_name = need (client_of request.req_body.0) 6 by_client_name
 
-  -- the request asks for a ticket of these, and what may be granted of it can be written
-  pub record AreGranted (asked : Principals) : Type 0 where
+  -- the request names these, whose accounts have keys
+  pub record AreAsked (asked : Principals) : Type 0 where
+    pub client_name : client_of request.req_body.0 ≡ Some asked.client_name
     pub client : IsKeyed asked.client
+    pub service_name : service_of request.req_body.0 ≡ Some asked.service_name
     pub service : IsKeyed asked.service
-    pub written : (span : Span) → IsSpan call.settings.lifetime call.moment None (seconds_of request.req_body.0.till.0.0) span → IsWritten As (first_ticket call asked request.req_body.0 span)
 
-  has_grant : (asked : Principals) → IsCall call → AreGranted asked → HasOutcome (to_be_possible asked)
-  has_grant asked is these =
-      has_then (possible call asked.client.suite request.req_body.0) (to_prove asked) (has_possible call asked.client.suite request.req_body.0 is)
-      (λ span given.
-      has_then {A = Unit {0}} (preauthenticated call asked.client (entries_of request)) (λ _. granted call asked span request.req_body.0)
-      (has_preauthenticated call asked.client (entries_of request))
-      (λ _ x. has_replied (first_ticket call asked request.req_body.0 span) _ asked.service call.random these.client.sized these.client.bytes these.service is.enough is.bytes
-      (these.written span (span_of call asked.client.suite request.req_body.0 span given))))
+  module _ (is : IsCall call) (n : ℕ) (few : n < 2 ^ 64) (fits : Fits n (kdc_req_inner_tree request)) where
+    -- what it is granted can be written
+    first_written : (asked : Principals) (span : Span) → (addressed 10 call.realm request).gives (Ok tt) → AreAsked asked → IsWritten As (first_ticket call asked request.req_body.0 span)
+    first_written asked span to_us these =
+        let body = body_fits n request fits in
+        is_written n (first_ticket call asked request.req_body.0 span)
+        (record {
+          few = few;
+          session = session_short asked.client.suite call.random is.enough is.bytes;
+          realm = own_realm_fits n 10 call.realm request to_us fits;
+          client = client_fits n request.req_body.0 body asked.client_name these.client_name;
+          service = service_fits n request.req_body.0 body asked.service_name these.service_name;
+          nonce = nonce_fits n request.req_body.0 body;
+        }) As
 
-  pub has_as_outcome : IsCall call
-      → ((asked : Principals) → client_of request.req_body.0 ≡ Some asked.client_name → of_client ≡ Some asked.client → service_of request.req_body.0 ≡ Some asked.service_name
-      → of_service ≡ Some asked.service → AreGranted asked)
-      → HasOutcome (as_table call of_client of_service request)
-  has_as_outcome is grants =
-      has_then {A = Unit {0}} (addressed 10 call.realm request) (λ _. to_name) (has_address 10 call.realm request)
-      (λ _ x.
-      has_needed (client_of request.req_body.0) 6 by_client_name
-      (λ client_name a.
-      has_needed of_client 6 (by_client client_name)
-      (λ client b.
-      has_needed (service_of request.req_body.0) 7 (by_service_name client_name client)
-      (λ service_name c.
-      has_needed of_service 7 (by_service client_name client service_name)
-      (λ service d. has_grant (asked_by client_name client service_name service) is (grants (asked_by client_name client service_name service) a b c d))))))
+    has_grant : (asked : Principals) → (addressed 10 call.realm request).gives (Ok tt) → AreAsked asked → HasOutcome (to_be_possible asked)
+    has_grant asked to_us these =
+        has_then (possible call asked.client.suite request.req_body.0) (to_prove asked) (has_possible call asked.client.suite request.req_body.0 is)
+        (λ span given.
+        has_then {A = Unit {0}} (preauthenticated call asked.client (entries_of request)) (λ _. granted call asked span request.req_body.0)
+        (has_preauthenticated call asked.client (entries_of request))
+        (λ _ x. has_replied (first_ticket call asked request.req_body.0 span) _ asked.service call.random these.client.sized these.client.bytes these.service is.enough is.bytes
+        (first_written asked span to_us these)))
+
+    pub has_as_outcome : ((client : AccountRecord) → of_client ≡ Some client → IsKeyed client) → ((service : AccountRecord) → of_service ≡ Some service → IsKeyed service)
+        → HasOutcome (as_table call of_client of_service request)
+    has_as_outcome client_keyed service_keyed =
+        has_then {A = Unit {0}} (addressed 10 call.realm request) (λ _. to_name) (has_address 10 call.realm request)
+        (λ _ x.
+        has_needed (client_of request.req_body.0) 6 by_client_name
+        (λ client_name a.
+        has_needed of_client 6 (by_client client_name)
+        (λ client b.
+        has_needed (service_of request.req_body.0) 7 (by_service_name client_name client)
+        (λ service_name c.
+        has_needed of_service 7 (by_service client_name client service_name)
+        (λ service d.
+        has_grant (asked_by client_name client service_name service) x
+        (record { client_name = a; client = client_keyed client b; service_name = c; service = service_keyed service d }))))))
