@@ -19,7 +19,6 @@ use Rattle.krb_ap.specs.declared.presented.Authenticated.{Authenticated}
 use Rattle.krb_as.specs.Call.{CallRecord, skew_of}
 use Rattle.krb_as.specs.TicketGranting.{krbtgt_of}
 use Rattle.krb_moments.specs.Skew.{is_far}
-use Rattle.krb_tgs.specs.ByTicket.{IsShown}
 use Rattle.krb_tgs.specs.TgsTable.{carried, counting, shown_near, ticket_granting}
 
 -- a value that was asked for has the property

@@ -1,5 +1,5 @@
 -- The table of TGS requests has an outcome: each part of it has one.
-use Rattle.std.proofs.Common.{◌≡◌, ℕ, Bool, true, false, not, List, length, Option, None, Some, Result, Ok, Err, refl, sym, subst}
+use Rattle.std.proofs.Common.{◌≡◌, ◌<◌, ℕ, ◌^◌, Bool, true, false, not, List, length, Option, None, Some, Result, Ok, Err, inl, inr, refl, sym, subst}
 use Rattle.std.specs.Option.{is_some, option_map}
 use Rattle.krb_blocks.specs.Bytes.{IsBytes}
 use Rattle.picky_asn1.specs.GeneralizedTime.{seconds_of}
@@ -19,7 +19,8 @@ use Rattle.krb_opening.specs.Keys.{suite_of}
 use Rattle.krb_messages.specs.declared.messages.ap_req.ApReqInner.{ApReqInner}
 use Rattle.krb_messages.specs.declared.messages.kdc_req.KdcReq.{KdcReq}
 use Rattle.krb_messages.specs.declared.messages.kdc_req_body.KdcReqBody.{KdcReqBody}
-use Rattle.krb_messages.specs.Messages.{IsApReq, sole_ap_req}
+use Rattle.krb_messages.specs.Messages.{IsApReq, ap_req_tree, authenticator_tree, enc_ticket_part_tree, sole_ap_req}
+use Rattle.krb_messages.specs.Trees.{kdc_req_inner_tree}
 use Rattle.decision_tables.specs.Tables.{Table, and_then, ask, done, need, refuse}
 use Rattle.decision_tables.proofs.Outcomes.{HasOutcome, has_asked, has_done, has_needed, has_refused, has_then}
 use Rattle.krb_preauth.specs.Entries.{first_of}
@@ -27,19 +28,25 @@ use Rattle.krb_tickets.specs.declared.reply.Exchange.TheVariants.{Tgs}
 use Rattle.krb_tickets.specs.ReplyKeys.{ReplyKeyRecord, tgs_reply_key, tgs_subkey_reply_key}
 use Rattle.krb_ap.specs.declared.presented.Authenticated.{Authenticated}
 use Rattle.krb_as.specs.Call.{CallRecord, skew_of}
-use Rattle.krb_as.specs.Calls.{IsCall, IsKeyed, IsWritten}
+use Rattle.krb_as.specs.Calls.{IsCall, IsKeyed}
 use Rattle.krb_as.specs.Grants.{replied}
 use Rattle.krb_as.specs.Requests.{addressed, entries_of, lasting, service_of}
 use Rattle.krb_as.specs.TicketGranting.{krbtgt_of}
 use Rattle.krb_as.specs.declared.span.Span.{Span}
-use Rattle.krb_as.proofs.HasGrant.{has_lasting, has_replied, lasts}
+use Rattle.krb_as.proofs.HasGrant.{has_lasting, has_replied}
 use Rattle.krb_as.proofs.HasOutcome.{has_address}
+use Rattle.krb_as.proofs.PartTrees.{realm_tree}
+use Rattle.krb_as.proofs.RequestTrees.{body_fits, entry_short, nonce_fits, service_fits}
+use Rattle.krb_as.proofs.Short.{Fits}
+use Rattle.krb_as.proofs.Written.{IsWritten, is_written, own_realm_fits, session_short}
 use Rattle.krb_ap.specs.ApTable.{ap_fields, authenticated, is_early, is_for, is_late, is_version_5, may_be_under, opened_part, timely}
 use Rattle.krb_opening.proofs.KeySizes.{suite_sized}
 use Rattle.krb_ap.proofs.Judgements.{has_authenticated, has_fields, has_opened_part, has_times}
-use Rattle.krb_tgs.specs.ByTicket.{AreFurtherWritten, IsByTicket}
+use Rattle.krb_tgs.specs.ByTicket.{IsByTicket}
 use Rattle.krb_tgs.specs.TgsTable.{carried, checksum_in, counting, covered, first_known, further, further_ticket, has_account, is_known_checksum, is_of_body, of_carried, of_shown, of_ticket, reply_key, shown_near, subkey_in, tgs_granted, tgs_table, ticket_granting, to_us}
 use Rattle.krb_tgs.proofs.ByTicket.{IsOfKey, by_authenticator, by_entry, by_ticket}
+use Rattle.krb_tgs.proofs.PresentedTrees.{authenticator_short, part_name_fits, request_fits, subkey_short, ticket_short}
+use Rattle.krb_tgs.proofs.SealedLengths.{opened_fits}
 
 has_to_us : (realm : List ℕ) (request : KdcReq) → HasOutcome (to_us realm request)
 has_to_us realm request =
@@ -93,9 +100,37 @@ record IsUsable (under : ReplyKeyRecord) : Type 0 where
   bytes : IsBytes under.key
   exchange : under.exchange ≡ Tgs
 
-module _ (call : CallRecord) (request : KdcReq) (is : IsCall call) (written : AreFurtherWritten call request) where
+module _ (call : CallRecord) (request : KdcReq) (is : IsCall call) (n : ℕ) (few : n < 2 ^ 64) (fits : Fits n (kdc_req_inner_tree request)) (own_realm : Fits n (realm_tree call.realm)) where
   abbrev body : KdcReqBody
   body = request.req_body.0
+
+  -- the AP request that it carries is as short, and so is what is sealed there
+  carried_fits : (presented : ApReqInner) (part : EncTicketPartInner) → IsByTicket call request presented part → Fits n (ap_req_tree presented)
+  carried_fits presented part by = request_fits n by.entry presented by.read (entry_short n 1 request by.entry fits by.first)
+
+  subkey_bytes : (presented : ApReqInner) (part : EncTicketPartInner) (shown : Authenticated) (subkey : EncryptionKey) → IsByTicket call request presented part → IsOfKey presented part shown
+      → subkey_in shown.authenticator ≡ Some subkey → IsBytes subkey.key_value.0
+  subkey_bytes presented part shown subkey by of_key e =
+      let opened = opened_fits {T = AuthenticatorInner} authenticator_tree shown.suite part.key.0.key_value.0 7 presented.authenticator.0 shown.authenticator n of_key.opens
+      (authenticator_short n presented (carried_fits presented part by)) in
+      (subkey_short n shown.authenticator subkey opened e).bytes
+
+  -- what is granted can be written
+  further_written : (presented : ApReqInner) (part : EncTicketPartInner) (service : PrincipalName) (suite : CipherSuite) (span : Span) → IsByTicket call request presented part → service_of body ≡ Some service
+      → IsWritten Tgs (further_ticket call part service suite body span)
+  further_written presented part service suite span by named =
+      let opened = opened_fits {T = EncTicketPartInner} enc_ticket_part_tree by.granting.suite by.granting.key 2 presented.ticket.0.0.enc_part.0 part n by.opens
+      (ticket_short n presented (carried_fits presented part by)) in
+      let asked = body_fits n request fits in
+      is_written n (further_ticket call part service suite body span)
+      (record {
+        few = few;
+        session = session_short suite call.random is.enough is.bytes;
+        realm = own_realm;
+        client = part_name_fits n part opened;
+        service = service_fits n body asked service named;
+        nonce = nonce_fits n body asked;
+      }) Tgs
 
   usable : (presented : ApReqInner) (part : EncTicketPartInner) (shown : Authenticated) → IsByTicket call request presented part → IsOfKey presented part shown
       → (subkey : Option EncryptionKey) → subkey_in shown.authenticator ≡ subkey → (under : ReplyKeyRecord) → reply_key shown.suite part.key.0.key_value.0 subkey ≡ Some under → IsUsable under
@@ -108,7 +143,7 @@ module _ (call : CallRecord) (request : KdcReq) (is : IsCall call) (written : Ar
       by_suite None f e = absurd (cc (e))
       by_suite (Some suite) f e =
           let same : under ≡ tgs_subkey_reply_key suite subkey.key_value.0 = cc (e) in
-          subst IsUsable (sym same) (record { sized = suite_sized subkey suite f; bytes = written.subkeys presented part shown.authenticator subkey by (shown.suite, of_key.opens) some; exchange = refl })
+          subst IsUsable (sym same) (record { sized = suite_sized subkey suite f; bytes = subkey_bytes presented part shown subkey by of_key some; exchange = refl })
 
   has_further : (presented : ApReqInner) (part : EncTicketPartInner) (shown : Authenticated) (service_name : PrincipalName) (service : AccountRecord)
       → IsByTicket call request presented part → IsOfKey presented part shown → service_of body ≡ Some service_name → IsKeyed service → HasOutcome (further call part shown service_name service body)
@@ -124,9 +159,9 @@ module _ (call : CallRecord) (request : KdcReq) (is : IsCall call) (written : Ar
       has_needed (reply_key shown.suite part.key.0.key_value.0 (subkey_in shown.authenticator)) 31 (to_seal span suite)
       (λ under f.
       let ready = usable presented part shown by of_key (subkey_in shown.authenticator) refl under f in
-      let fits = written.grants presented part service_name suite span by named (lasts call.settings.lifetime call.moment old body span given) in
+      let ready_to_write = further_written presented part service_name suite span by named in
       has_replied (further_ticket call part service_name suite body span) under service call.random ready.sized ready.bytes keyed is.enough is.bytes
-      (subst (λ exchange. IsWritten exchange (further_ticket call part service_name suite body span)) (sym ready.exchange) fits))))
+      (subst (λ exchange. IsWritten exchange (further_ticket call part service_name suite body span)) (sym ready.exchange) ready_to_write))))
 
   has_granted : (presented : ApReqInner) (part : EncTicketPartInner) (shown : Authenticated) → IsByTicket call request presented part → IsOfKey presented part shown → HasOutcome (tgs_granted call part shown body)
   has_granted presented part shown by of_key =
@@ -149,7 +184,7 @@ module _ (call : CallRecord) (request : KdcReq) (is : IsCall call) (written : Ar
       has_then (shown_near call part presented) (of_shown call body part) (has_shown call part presented)
       (λ shown x. has_of_shown presented part shown by (by_authenticator call part presented shown x))
 
-  has_of_carried : (entry : List ℕ) (presented : ApReqInner) → first_of 1 (entries_of request) ≡ Some entry → IsApReq entry presented → HasOutcome (of_carried call body presented)
+  pub has_of_carried : (entry : List ℕ) (presented : ApReqInner) → first_of 1 (entries_of request) ≡ Some entry → IsApReq entry presented → HasOutcome (of_carried call body presented)
   has_of_carried entry presented first read =
       let rest : AccountRecord → Table (Result (List ℕ) ℕ) = λ granting. and_then (ticket_granting call granting presented) (of_ticket call body presented) in
       has_needed (call.look (krbtgt_of call.realm)) 7 rest
@@ -157,9 +192,16 @@ module _ (call : CallRecord) (request : KdcReq) (is : IsCall call) (written : Ar
       has_then (ticket_granting call granting presented) (of_ticket call body presented) (has_ticket_granting call granting presented)
       (λ part x. has_of_ticket presented part (record { entry = entry; first = first; read = read; granting = granting; account = e; opens = by_ticket call granting presented part x })))
 
-  pub has_tgs_outcome : HasOutcome (tgs_table call request)
-  has_tgs_outcome =
-      has_then {A = Unit {0}} (to_us call.realm request) (λ _. and_then (carried (entries_of request)) (of_carried call body)) (has_to_us call.realm request)
-      (λ _ x.
-      has_then (carried (entries_of request)) (of_carried call body) (has_carried (entries_of request))
-      (λ presented y. let found = by_entry (entries_of request) presented y in has_of_carried found.0 presented found.1 found.2))
+-- a request that is for the realm
+addressed_by : (realm : List ℕ) (request : KdcReq) → (to_us realm request).gives (Ok tt) → (addressed 12 realm request).gives (Ok tt)
+addressed_by realm request (inl (_, x, y)) = x
+addressed_by realm request (inr (code, x, e)) = absurd (cc (e))
+
+pub has_tgs_outcome : (call : CallRecord) (request : KdcReq) → IsCall call → (n : ℕ) → n < 2 ^ 64 → Fits n (kdc_req_inner_tree request) → HasOutcome (tgs_table call request)
+has_tgs_outcome call request is n few fits =
+    has_then {A = Unit {0}} (to_us call.realm request) (λ _. and_then (carried (entries_of request)) (of_carried call request.req_body.0)) (has_to_us call.realm request)
+    (λ _ x.
+    has_then (carried (entries_of request)) (of_carried call request.req_body.0) (has_carried (entries_of request))
+    (λ presented y.
+    let found = by_entry (entries_of request) presented y in
+    has_of_carried call request is n few fits (own_realm_fits n 12 call.realm request (addressed_by call.realm request x) fits) found.0 presented found.1 found.2))

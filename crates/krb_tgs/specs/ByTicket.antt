@@ -1,27 +1,18 @@
 -- The older ticket that a TGS request comes with (RFC 4120, sections 3.3.1, 5.4.1).
 use Rattle.std.specs.Prelude.{◌≡◌, ◌⊎◌, List, Some}
-use Rattle.krb_blocks.specs.Bytes.{IsBytes}
-use Rattle.picky_asn1.specs.GeneralizedTime.{seconds_of}
 use Rattle.picky_asn1.specs.Bytes.{Bytes}
-use Rattle.krb_crypto.specs.declared.suite.CipherSuite.{CipherSuite}
 use Rattle.krb_accounts.specs.Account.{AccountRecord}
 use Rattle.krb_types.specs.Names.{components}
-use Rattle.krb_types.specs.declared.data_types.authenticator.AuthenticatorInner.{AuthenticatorInner}
 use Rattle.krb_types.specs.declared.data_types.enc_ticket_part.EncTicketPartInner.{EncTicketPartInner}
-use Rattle.krb_types.specs.declared.data_types.encryption_key.EncryptionKey.{EncryptionKey}
 use Rattle.krb_types.specs.declared.data_types.principal_name.PrincipalName.{PrincipalName}
 use Rattle.krb_messages.specs.declared.messages.ap_req.ApReqInner.{ApReqInner}
 use Rattle.krb_messages.specs.declared.messages.kdc_req.KdcReq.{KdcReq}
 use Rattle.krb_messages.specs.Messages.{IsApReq}
 use Rattle.krb_preauth.specs.Entries.{first_of}
-use Rattle.krb_tickets.specs.declared.reply.Exchange.TheVariants.{Tgs}
-use Rattle.krb_ap.specs.Messages.{IsAuthenticator, IsTicketPart}
+use Rattle.krb_ap.specs.Messages.{IsTicketPart}
 use Rattle.krb_as.specs.Call.{CallRecord}
-use Rattle.krb_as.specs.Calls.{IsWritten}
-use Rattle.krb_as.specs.Requests.{IsSpan, entries_of, service_of}
+use Rattle.krb_as.specs.Requests.{entries_of, service_of}
 use Rattle.krb_as.specs.TicketGranting.{krbtgt_of}
-use Rattle.krb_as.specs.declared.span.Span.{Span}
-use Rattle.krb_tgs.specs.TgsTable.{further_ticket, subkey_in}
 
 -- the request carries a ticket that has this part, sealed under the key of the realm's ticket-granting service
 pub record IsByTicket (call : CallRecord) (request : KdcReq) (presented : ApReqInner) (part : EncTicketPartInner) : Type 0 where
@@ -31,19 +22,6 @@ pub record IsByTicket (call : CallRecord) (request : KdcReq) (presented : ApReqI
   pub granting : AccountRecord
   pub account : call.look (krbtgt_of call.realm) ≡ Some granting
   pub opens : IsTicketPart granting.suite granting.key presented.ticket.0.0.enc_part.0 part
-
--- the authenticator is sealed under the ticket's session key (usage 7; RFC 4120, section 7.5.1)
-abbrev pub IsShown : ApReqInner → EncTicketPartInner → AuthenticatorInner → Type 0
-IsShown presented part authenticator = (suite : CipherSuite) × IsAuthenticator suite part.key.0.key_value.0 7 presented.authenticator.0 authenticator
-
--- whatever the request may be granted can be written, and is sealed under a key of bytes
-pub record AreFurtherWritten (call : CallRecord) (request : KdcReq) : Type 0 where
-  pub grants : (presented : ApReqInner) (part : EncTicketPartInner) (service : PrincipalName) (suite : CipherSuite) (span : Span)
-      → IsByTicket call request presented part → service_of request.req_body.0 ≡ Some service
-      → IsSpan call.settings.lifetime call.moment (Some (seconds_of part.endtime.0.0)) (seconds_of request.req_body.0.till.0.0) span
-      → IsWritten Tgs (further_ticket call part service suite request.req_body.0 span)
-  pub subkeys : (presented : ApReqInner) (part : EncTicketPartInner) (authenticator : AuthenticatorInner) (subkey : EncryptionKey)
-      → IsByTicket call request presented part → IsShown presented part authenticator → subkey_in authenticator ≡ Some subkey → IsBytes subkey.key_value.0
 
 -- the ticket-granting service, the service that the request names, and the client of the ticket that it comes with
 abbrev pub IsInvolvedFurther : CallRecord → KdcReq → List Bytes → Type 0
