@@ -1,12 +1,15 @@
 -- A call to a realm has a reply: each part of its table has an outcome.
-use Rattle.std.proofs.Common.{◌≡◌, ℕ, ◌/◌, ◌%◌, List, Option, None, Some, Result, Ok, Err, arith}
+use Rattle.std.proofs.Common.{◌≡◌, ◌<◌, ℕ, ◌/◌, ◌%◌, ◌^◌, List, length, Option, None, Some, Result, Ok, Err, subst, arith}
+use Rattle.asn1_trees.specs.Tree.{der, wrapped}
 use Rattle.asn1_leaves.specs.declared.date.GeneralizedTime.{GeneralizedTime}
+use Rattle.krb_blocks.specs.Bytes.{IsBytes}
 use Rattle.krb_moments.specs.Moment.{IsMoment}
 use Rattle.krb_accounts.specs.Account.{AccountRecord}
 use Rattle.krb_accounts.specs.Accounts.{Look}
 use Rattle.krb_types.specs.Names.{components}
 use Rattle.krb_types.specs.declared.data_types.principal_name.PrincipalName.{PrincipalName}
 use Rattle.krb_messages.specs.declared.messages.kdc_req.KdcReq.{KdcReq}
+use Rattle.krb_messages.specs.Trees.{kdc_req_inner_tree}
 use Rattle.krb_messages.specs.Messages.{IsAsReq, IsTgsReq, sole_as_req, sole_tgs_req}
 use Rattle.decision_tables.specs.Some.{HasSome}
 use Rattle.decision_tables.specs.Tables.{Table, ask, done}
@@ -17,9 +20,9 @@ use Rattle.krb_as.specs.Calls.{IsCall, IsKeyed}
 use Rattle.krb_as.specs.Requests.{account_of, client_of, service_of}
 use Rattle.krb_as.proofs.HasOutcome.{has_as_outcome}
 use Rattle.krb_as.proofs.Seconds.{has_time}
+use Rattle.krb_as.proofs.Short.{Fits, IsShort, in_wrapped}
 use Rattle.krb_tgs.specs.TgsTable.{tgs_table}
 use Rattle.krb_tgs.proofs.HasOutcome.{has_tgs_outcome}
-use Rattle.krb_replies.specs.Calls.{AreWritten}
 use Rattle.krb_replies.specs.Errors.{error_bytes}
 use Rattle.krb_moments.specs.SecondOf.{IsSecondOf, sole_second}
 use Rattle.krb_replies.specs.Replies.{Replies, answered, as_reply, hint_of, named_service, reply_of, tgs_reply}
@@ -42,27 +45,32 @@ keyed_of : (look : Look) (name : Option PrincipalName) (account : AccountRecord)
 keyed_of look None account keyed e = absurd (cc (e))
 keyed_of look (Some name) account keyed e = keyed (components name) account e
 
-has_as_reply : (call : CallRecord) (bytes : List ℕ) (v : KdcReq) → IsCall call → AreWritten call bytes → IsAsReq bytes v
-    → HasOutcome (as_reply call (account_of call.look (client_of v.req_body.0)) (account_of call.look (service_of v.req_body.0)) v)
-has_as_reply call bytes v is written found =
-    let of_client = account_of call.look (client_of v.req_body.0) in
-    let of_service = account_of call.look (service_of v.req_body.0) in
-    has_answered call (hint_of of_client) v (as_table call of_client of_service v) is.in_time
-    (has_as_outcome call of_client of_service v is
-    (λ asked a b c d.
-    record {
-      client = keyed_of call.look (client_of v.req_body.0) asked.client is.keyed b;
-      service = keyed_of call.look (service_of v.req_body.0) asked.service is.keyed d;
-      written = λ span s. written.first v asked span found (record { client_name = a; client = b; service_name = c; service = d }) s;
-    }))
+-- the tree inside a request's tag is as short as its bytes
+request_fits : (first : ℕ) (bytes : List ℕ) (v : KdcReq) → IsBytes bytes → bytes ≡ der (wrapped first (kdc_req_inner_tree v)) → Fits (length bytes) (kdc_req_inner_tree v)
+request_fits first bytes v are e =
+    let whole : IsShort (length bytes) bytes = record { bytes = are; short = omega arith } in
+    in_wrapped (length bytes) first (kdc_req_inner_tree v) (record { written = subst (IsShort (length bytes)) e whole })
 
-pub has_reply : (call : CallRecord) (request : List ℕ) → IsCall call → AreWritten call request → HasSome (Replies call request)
+module _ (call : CallRecord) (bytes : List ℕ) (is : IsCall call) (are : IsBytes bytes) (few : length bytes < 2 ^ 64) where
+  has_as_reply : (v : KdcReq) → IsAsReq bytes v → HasOutcome (as_reply call (account_of call.look (client_of v.req_body.0)) (account_of call.look (service_of v.req_body.0)) v)
+  has_as_reply v found =
+      let of_client = account_of call.look (client_of v.req_body.0) in
+      let of_service = account_of call.look (service_of v.req_body.0) in
+      has_answered call (hint_of of_client) v (as_table call of_client of_service v) is.in_time
+      (has_as_outcome call of_client of_service v is (length bytes) few (request_fits 106 bytes v are found.1)
+      (λ client e. keyed_of call.look (client_of v.req_body.0) client is.keyed e)
+      (λ service e. keyed_of call.look (service_of v.req_body.0) service is.keyed e))
+
+  has_tgs_reply : (v : KdcReq) → IsTgsReq bytes v → HasOutcome (tgs_reply call v)
+  has_tgs_reply v found =
+      has_answered call (λ code. None) v (tgs_table call v) is.in_time (has_tgs_outcome call v is (length bytes) few (request_fits 108 bytes v are found.1))
+
+pub has_reply : (call : CallRecord) (request : List ℕ) → IsCall call → IsBytes request → length request < 2 ^ 64 → HasSome (Replies call request)
 unfolding Replies
-has_reply call request is written =
+has_reply call request is are few =
     let none : Table (Option (List ℕ)) = done None in
     let by_as : KdcReq → Table (Option (List ℕ)) = λ v. as_reply call (account_of call.look (client_of v.req_body.0)) (account_of call.look (service_of v.req_body.0)) v in
     let other : Table (Option (List ℕ)) = ask (IsTgsReq request) (sole_tgs_req request) none (tgs_reply call) in
     has_asked (IsAsReq request) (sole_as_req request) other by_as
-    (has_asked (IsTgsReq request) (sole_tgs_req request) none (tgs_reply call) (has_done None)
-    (λ v x. has_answered call (λ code. None) v (tgs_table call v) is.in_time (has_tgs_outcome call v is (written.further v x))))
-    (λ v found. has_as_reply call request v is written found)
+    (has_asked (IsTgsReq request) (sole_tgs_req request) none (tgs_reply call) (has_done None) (has_tgs_reply call request is are few))
+    (has_as_reply call request is are few)

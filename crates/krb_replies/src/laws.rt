@@ -1,8 +1,8 @@
 //! What holds of every realm's replies.
-ghost use Rattle.std.specs.Prelude.{◌≡◌, ℕ, List, Option};
+ghost use Rattle.std.specs.Prelude.{◌≡◌, ◌<◌, ◌^◌, ℕ, List, Option, length};
+ghost use Rattle.krb_blocks.specs.Bytes.{IsBytes};
 ghost use Rattle.krb_as.specs.Call.{CallRecord};
 ghost use Rattle.krb_as.specs.Calls.{IsCall};
-ghost use Rattle.krb_replies.specs.Calls.{AreWritten};
 ghost use Rattle.krb_replies.specs.Involved.{IsOfInvolvedAlone};
 ghost use Rattle.krb_replies.specs.Replies.{Replies};
 ghost use Rattle.decision_tables.specs.Some.{HasSome};
@@ -20,8 +20,8 @@ pub fn one_reply()
     ensures { (call : CallRecord) (request : List ℕ) (a b : Option (List ℕ)) → Replies call request a → Replies call request b → a ≡ b }
 {}
 
-/// A call has a reply where what is granted can be written: it can't be that the realm's table gives nothing. It does
-/// nothing when it runs: its contract is the law.
+/// A realm has a reply to each request of fewer than 2^64 bytes, and every slice is shorter: it can't be that the realm's
+/// table gives nothing. It does nothing when it runs: its contract is the law.
 pub fn has_reply()
-    ensures { (call : CallRecord) (request : List ℕ) → IsCall call → AreWritten call request → HasSome (Replies call request) }
+    ensures { (call : CallRecord) (request : List ℕ) → IsCall call → IsBytes request → length request < 2 ^ 64 → HasSome (Replies call request) }
 {}
