@@ -53,6 +53,7 @@ use Rattle.krb_logins.proofs.Giving.{by_ask, by_need, by_refuse, past_found}
 use Rattle.krb_logins.proofs.Names.{component_texts, granting_texts, realm_text, same_realm}
 use Rattle.krb_logins.proofs.Opened.{opened_by}
 use Rattle.krb_logins.proofs.Passing.{past_ask, past_need, past_refuse, past_then}
+use Rattle.krb_logins.proofs.Replying.{replies_at}
 use Rattle.krb_logins.proofs.Times.{a_second, lasts, lesser, moment_told, near}
 use Rattle.krb_logins.proofs.WholeRequests.{as_request_written, writes_encrypted, writes_stamp}
 
@@ -278,7 +279,9 @@ module _ (client : ClientRecord) (realm : RealmRecord) (service : ServiceRecord)
 
   pub first_granted : IsFirstGranted client realm service before login met
   unfolding IsFirstGranted
-  first_granted request reply asks replied =
+  first_granted request asks =
+      (λ are. replies_at realm login.till login.realm_as login.realm_random_as request met.keyed met.honest.lasting.first met.enough.realm_as are,
+      λ reply replied.
       let written = as_request_written client (krbtgt_of client.realm) login.till (nonce_of login.random_as) asks.stamp request
       (realm_text client.realm met.parties.realm) (component_texts client.components met.parties.name) (granting_texts client.realm met.parties.realm) asks.encoding in
       let found = granted_reply call (realm.look client.components) (realm.look (krbtgt_of client.realm)) (request_with asks.stamp) asked reply (grants asks.stamp asks.stamped)
@@ -290,4 +293,4 @@ module _ (client : ClientRecord) (realm : RealmRecord) (service : ServiceRecord)
           found.2,
           subst (λ suite. IsTicketReply (grant_in found.1.span suite) (as_reply_key asked.client) asked.service login.realm_random_as found.1.bytes) met.honest.client.suite found.1.replied,
         ),
-      )
+      ))

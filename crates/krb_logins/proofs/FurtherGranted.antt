@@ -72,6 +72,7 @@ use Rattle.krb_logins.proofs.GrantTaken.{session_key_sized, suite_of_key}
 use Rattle.krb_logins.proofs.Names.{are_texts, component_texts, granting_texts, own_name, own_realm, realm_text, same_name, same_realm}
 use Rattle.krb_logins.proofs.Passing.{past_ask, past_need, past_none, past_refuse, past_then}
 use Rattle.krb_logins.proofs.Presenting.{choice_of, written}
+use Rattle.krb_logins.proofs.Replying.{replies_at}
 use Rattle.krb_logins.proofs.TicketTimes.{has_begun, not_early, not_late, reaches_asked, reaches_first, reaches_lifetime}
 use Rattle.krb_logins.proofs.Times.{a_second, asked_below, least_of, lesser, moment_told, near}
 use Rattle.krb_logins.proofs.LastSecond.{second_below}
@@ -451,7 +452,9 @@ module _ (client : ClientRecord) (realm : RealmRecord) (service : ServiceRecord)
 pub further_granted : (client : ClientRecord) (realm : RealmRecord) (service : ServiceRecord) (before : RememberedRecord) (login : LoginRecord) (met : IsMet client realm service before login)
     → IsFurtherGranted client realm service before login met
 unfolding IsFurtherGranted
-further_granted client realm service before login met first granting request reply first_is held asks replied =
+further_granted client realm service before login met first granting request first_is held asks =
     let shown = asks.authenticates in
     let presents = subst (λ a. IsApRequest granting 7 false a (authenticator_confounder (cipher_confounder_size granting.suite) login.random_tgs) asks.request) shown.authenticates.told shown.presents in
-    granted client realm service before login met first first_is granting held shown.authenticates.second shown.authenticates.of_moment asks.request presents request reply asks.encoding replied
+    (λ are. replies_at realm login.till login.realm_tgs login.realm_random_tgs request met.keyed met.honest.lasting.further met.enough.realm_tgs are,
+    λ reply replied.
+    granted client realm service before login met first first_is granting held shown.authenticates.second shown.authenticates.of_moment asks.request presents request reply asks.encoding replied)

@@ -16,6 +16,7 @@ mod WholePresented
 mod Presenting
 mod ReplyTaken
 mod Outcomes
+mod Replying
 mod Admitted
 mod FurtherGranted
 mod OneKey

@@ -128,13 +128,13 @@ module _ (client : ClientRecord) (realm : RealmRecord) (service : ServiceRecord)
   module _ (sent : Bytes × AsAskedRecord) (asked : IsAsAsked client (krbtgt_of client.realm) login.till login.client_as login.random_as (Ok sent)) where
     as_granted : (reply : Option Bytes) → Replies as_call sent.0 reply → (granted : Bytes) × (reply ≡ Some granted)
     unfolding IsAsAsked IsFirstGranted
-    as_granted reply replied = let it = laws.first_granted sent.0 reply asked.0 replied in (it.2.0, it.2.1)
+    as_granted reply replied = let it = (laws.first_granted sent.0 asked.0).1 reply replied in (it.2.0, it.2.1)
 
     as_value : (reply : Bytes) (taken : Result CredentialRecord TakeRefusal) → Replies as_call sent.0 (Some reply) → (takes_as_reply client sent.1 reply).gives taken
         → (credential : CredentialRecord) × (taken ≡ Ok credential) × HoldsFirst credential
     unfolding IsAsAsked IsFirstGranted IsFirstTaken
     as_value reply taken replied x =
-        let granted = laws.first_granted sent.0 (Some reply) asked.0 replied in
+        let granted = (laws.first_granted sent.0 asked.0).1 (Some reply) replied in
         let own = subst (λ a. TakesAsReply client a reply taken) asked.1 x in
         let same = subst (λ r. TakesAsReply client (as_asked (krbtgt_of client.realm) login.client_as login.random_as) r taken) (one_reply reply granted.2.0 granted.2.1) own in
         let it = laws.first_taken granted.0 granted.2.0 taken granted.2.2 same in
@@ -180,13 +180,13 @@ module _ (client : ClientRecord) (realm : RealmRecord) (service : ServiceRecord)
   module _ (granting : CredentialRecord) (holds : HoldsFirst granting) (sent : Bytes × TgsAskedRecord) (asked : IsTgsAsked client granting login.service login.till login.client_tgs login.random_tgs (Ok sent)) where
     tgs_granted : (reply : Option Bytes) → Replies tgs_call sent.0 reply → (granted : Bytes) × (reply ≡ Some granted)
     unfolding IsTgsAsked IsFurtherGranted
-    tgs_granted reply replied = let it = laws.further_granted holds.0 granting sent.0 reply holds.1 holds.2 asked.0 replied in (it.2.0, it.2.1)
+    tgs_granted reply replied = let it = (laws.further_granted holds.0 granting sent.0 holds.1 holds.2 asked.0).1 reply replied in (it.2.0, it.2.1)
 
     tgs_value : (reply : Bytes) (taken : Result CredentialRecord TakeRefusal) → Replies tgs_call sent.0 (Some reply) → (takes_tgs_reply client sent.1 reply).gives taken
         → (credential : CredentialRecord) × (taken ≡ Ok credential) × HoldsFurther credential
     unfolding IsTgsAsked IsFurtherGranted IsFurtherTaken
     tgs_value reply taken replied x =
-        let granted = laws.further_granted holds.0 granting sent.0 (Some reply) holds.1 holds.2 asked.0 replied in
+        let granted = (laws.further_granted holds.0 granting sent.0 holds.1 holds.2 asked.0).1 (Some reply) replied in
         let own = subst (λ a. TakesTgsReply client a reply taken) asked.1 x in
         let same = subst (λ r. TakesTgsReply client (tgs_asked granting login.service login.random_tgs) r taken) (one_reply reply granted.2.0 granted.2.1) own in
         let it = laws.further_taken holds.0 granted.0 granting granted.2.0 taken holds.2 granted.2.2 same in

@@ -1,13 +1,16 @@
 -- What holds of honest logins, step by step, over the definitions alone: of a suite's cipher they use that what is sealed
 -- opens to one value, and that keys have their length.
-use Rattle.std.specs.Prelude.{◌≡◌, ℕ, false, true, List, ◌∷◌, Option, None, Some, Result, Ok, Err}
+use Rattle.std.specs.Prelude.{◌≡◌, ◌<◌, ℕ, ◌^◌, false, true, List, ◌∷◌, length, Option, None, Some, Result, Ok, Err}
 use Rattle.picky_asn1.specs.Bytes.{Bytes}
+use Rattle.krb_blocks.specs.Bytes.{IsBytes}
 use Rattle.krb_types.specs.Names.{components}
 use Rattle.krb_sealing.specs.Sealing.{encryption_key}
 use Rattle.krb_replay_cache.specs.Pair.{PairRecord}
 use Rattle.krb_tickets.specs.Parts.{session_key_of}
 use Rattle.krb_tickets.specs.ReplyKeys.{as_reply_key, tgs_reply_key}
 use Rattle.krb_grants.specs.Granted.{IsTicketReply}
+use Rattle.decision_tables.specs.Some.{HasSome}
+use Rattle.krb_as.specs.Calls.{AreKeyed}
 use Rattle.krb_as.specs.TicketGranting.{krbtgt_of}
 use Rattle.krb_as.specs.declared.span.Span.{Span}
 use Rattle.krb_replies.specs.Replies.{Replies}
@@ -29,21 +32,30 @@ use Rattle.krb_logins.specs.Honest.{AreEnough, AreParties, IsGranting, IsHonestL
 use Rattle.krb_logins.specs.Parties.{LoginRecord, RealmRecord, RememberedRecord, call_at}
 use Rattle.krb_logins.specs.Steps.{as_asked, reply_bytes}
 
--- an honest login of parties as they are made, to a realm that has its ticket-granting service
+-- an honest login of parties as they are made, to a realm that has its ticket-granting service, and whose accounts have keys
 pub record IsMet (client : ClientRecord) (realm : RealmRecord) (service : ServiceRecord) (before : RememberedRecord) (login : LoginRecord) : Type 0 where
   pub parties : AreParties client service
   pub enough : AreEnough login
   pub granting : IsGranting realm
+  pub keyed : AreKeyed realm.look
   pub honest : IsHonestLogin client realm service before login
 
+-- the random bytes of a call to a realm and its request are bytes, as many as a slice can hold
+pub record AreBytes (random request : Bytes) : Type 0 where
+  pub random : IsBytes random
+  pub request : IsBytes request
+  pub few : length request < 2 ^ 64
+
 module _ (client : ClientRecord) (realm : RealmRecord) (service : ServiceRecord) (before : RememberedRecord) (login : LoginRecord) (met : IsMet client realm service before login) where
-  -- the realm grants the first ticket that the client asks for
+  -- the realm has a reply to the client's request, and grants the first ticket that the client asks for
   unfoldable pub IsFirstGranted : Type 0
-  IsFirstGranted = (request : Bytes) (reply : Option Bytes)
+  IsFirstGranted = (request : Bytes)
       → AsksAs client (krbtgt_of client.realm) login.till login.client_as login.random_as request
+      → (AreBytes login.realm_random_as request → HasSome (Replies (call_at realm login.realm_as login.realm_random_as) request))
+      × ((reply : Option Bytes)
       → Replies (call_at realm login.realm_as login.realm_random_as) request reply
       → (span : Span) × IsFirstSpan realm login span × ((granted : Bytes) × (reply ≡ Some granted)
-      × IsTicketReply (first_grant client realm login span) (as_reply_key met.honest.client.account) met.granting.account login.realm_random_as granted)
+      × IsTicketReply (first_grant client realm login span) (as_reply_key met.honest.client.account) met.granting.account login.realm_random_as granted))
 
   -- the client takes what was granted
   unfoldable pub IsFirstTaken : Type 0
@@ -53,15 +65,17 @@ module _ (client : ClientRecord) (realm : RealmRecord) (service : ServiceRecord)
       → (credential : CredentialRecord) × (taken ≡ Ok credential)
       × IsHeld met.granting.account login.realm_random_as (first_grant client realm login span) credential
 
-  -- by the first ticket the realm grants the one for the service
+  -- the realm has a reply to the request by the first ticket, and grants the one for the service
   unfoldable pub IsFurtherGranted : Type 0
-  IsFurtherGranted = (first : Span) (granting : CredentialRecord) (request : Bytes) (reply : Option Bytes)
+  IsFurtherGranted = (first : Span) (granting : CredentialRecord) (request : Bytes)
       → IsFirstSpan realm login first
       → IsHeld met.granting.account login.realm_random_as (first_grant client realm login first) granting
       → AsksTgs client granting login.service login.till login.client_tgs login.random_tgs request
+      → (AreBytes login.realm_random_tgs request → HasSome (Replies (call_at realm login.realm_tgs login.realm_random_tgs) request))
+      × ((reply : Option Bytes)
       → Replies (call_at realm login.realm_tgs login.realm_random_tgs) request reply
       → (span : Span) × IsFurtherSpan realm login first span × ((granted : Bytes) × (reply ≡ Some granted)
-      × IsTicketReply (further_grant client realm login first span) (tgs_reply_key client.suite (session_key_of client.suite login.realm_random_as)) met.honest.service.account login.realm_random_tgs granted)
+      × IsTicketReply (further_grant client realm login first span) (tgs_reply_key client.suite (session_key_of client.suite login.realm_random_as)) met.honest.service.account login.realm_random_tgs granted))
 
   -- the client takes what was granted
   unfoldable pub IsFurtherTaken : Type 0

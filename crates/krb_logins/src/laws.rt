@@ -9,7 +9,7 @@ ghost use Rattle.krb_logins.specs.LoginRun.{Login, LoginRun};
 ghost use Rattle.krb_logins.specs.Parties.{LoginRecord, RealmRecord, RememberedRecord};
 ghost use Rattle.krb_logins.specs.declared.refusal.LoginRefusal.{LoginRefusal};
 
-/// A realm grants the first ticket that the client of an honest login asks for.
+/// A realm has a reply to the first request of an honest login's client, and grants the ticket that it asks for.
 pub fn first_granted()
     ensures { (client : ClientRecord) (realm : RealmRecord) (service : ServiceRecord) (before : RememberedRecord) (login : LoginRecord) (met : IsMet client realm service before login)
         → IsFirstGranted client realm service before login met }
@@ -21,7 +21,7 @@ pub fn first_taken()
         → IsFirstTaken client realm service before login met }
 {}
 
-/// By the first ticket the realm grants one for the service.
+/// The realm has a reply to the client's request by the first ticket, and grants one for the service.
 pub fn further_granted()
     ensures { (client : ClientRecord) (realm : RealmRecord) (service : ServiceRecord) (before : RememberedRecord) (login : LoginRecord) (met : IsMet client realm service before login)
         → IsFurtherGranted client realm service before login met }
