@@ -2,3 +2,4 @@ mod Answered
 mod Exchanges
 mod Admitting
 mod Granting
+mod Keyed

@@ -1,5 +1,5 @@
 -- A realm: its name, its settings, and a finite map from component lists to accounts.
-use Rattle.std.specs.Prelude.{nat_eq, Bool, not, ◌==◌, List, length, None, Result, Ok, Err, if◌then◌else◌}
+use Rattle.std.specs.Prelude.{◌≡◌, nat_eq, Bool, true, not, ◌==◌, List, length, None, Result, Ok, Err, if◌then◌else◌}
 use Rattle.std.specs.Cmp.Lexicographic.{pointwise}
 use Rattle.std.specs.FinMap as finite
 use Rattle.krb_types.specs.RandomBytes.{Random}
@@ -13,6 +13,7 @@ use Rattle.krb_accounts.specs.Accounts as map
 use Rattle.krb_accounts.specs.Names.{is_realm_name, are_components}
 use Rattle.krb_accounts.specs.Settings.{SettingsRecord}
 use Rattle.krb_as.specs.Call.{CallRecord}
+use Rattle.krb_as.specs.Calls.{AreKeyed}
 use Rattle.krb_as.specs.TicketGranting.{krbtgt_of}
 use Rattle.krb_logins.specs.Parties.{RealmRecord}
 use Rattle.krb_accounts.specs.declared.refusal.RealmRefusal.{RealmRefusal}
@@ -40,6 +41,15 @@ call_to realm moment random = record {
 -- an account by a first key
 abbrev pub first_key : CipherSuite → Bytes → AccountRecord
 first_key suite key = record { suite = suite; key = key; number = 1; salt = None }
+
+-- the accounts have that of the ticket-granting service of the realm of this name
+abbrev pub has_krbtgt : Bytes → AccountMap → Bool
+has_krbtgt name accounts = finite.contains_key accounts (krbtgt_of name)
+
+-- what holds of every realm: it has its ticket-granting service's account, and each account's key is one of its suite
+pub record IsRealm (name : Bytes) (accounts : AccountMap) : Type 0 where
+  pub granting : has_krbtgt name accounts ≡ true
+  pub keyed : AreKeyed (look_in accounts)
 
 -- whether a realm of this name is made with this key, in the order of refusals
 abbrev pub making : Bytes → CipherSuite → Bytes → Result (Unit {0}) RealmRefusal
@@ -71,10 +81,6 @@ adding_by_password accounts name =
 -- the name is that of the realm's ticket-granting service
 abbrev pub is_krbtgt : Bytes → List Bytes → Bool
 is_krbtgt realm name = pointwise (pointwise nat_eq) name (krbtgt_of realm)
-
--- the accounts have that of the ticket-granting service of the realm of this name
-abbrev pub has_krbtgt : Bytes → AccountMap → Bool
-has_krbtgt name accounts = finite.contains_key accounts (krbtgt_of name)
 
 -- whether an account is taken away, in the order of refusals; that of the ticket-granting service is kept
 abbrev pub removing : RealmState → List Bytes → Result (Unit {0}) RealmRefusal

@@ -65,6 +65,7 @@ fn ends_with_one_key(client: &Client, realm: &Realm, service: &Service, input: &
 {
     client.is_well_formed();
     realm.is_granting();
+    realm.are_keyed();
     service.is_well_formed();
     one_key();
 }

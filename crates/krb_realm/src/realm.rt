@@ -3,7 +3,9 @@ ghost use Rattle.std.specs.Prelude.{◌≡◌, ◌≤◌, ℕ, List, Ok, Err, So
 ghost use Rattle.std.specs.FinMap as finite;
 ghost use Rattle.krb_accounts.specs.Names.{parts};
 ghost use Rattle.krb_accounts.specs.Refusal.{IsMemoryAside};
+ghost use Rattle.decision_tables.specs.Some.{HasSome};
 ghost use Rattle.krb_as.specs.Call.{call_of};
+ghost use Rattle.krb_as.specs.Calls.{AreKeyed, IsKeyed};
 ghost use Rattle.krb_replies.specs.Replies.{Replies};
 ghost use Rattle.krb_realm.specs.Realm.{call_to, is_krbtgt};
 
@@ -14,6 +16,7 @@ use krb_accounts::{
 use krb_crypto::CipherSuite;
 use krb_frames::AnswerRefusal;
 use krb_moments::Moment;
+use krb_replies::laws::has_reply;
 use krb_replies::{Call, answer_as, answer_tgs, krbtgt_of, read_as_req, read_tgs_req};
 use picky_asn1::wrapper::GeneralStringAsn1;
 use std::alloc::Global;
@@ -36,13 +39,13 @@ pub struct Realm {
 }
 
 impl Model for Realm {
-    ghost use Rattle.std.specs.Prelude.{ℕ, List, IsTrue, refl};
+    ghost use Rattle.std.specs.Prelude.{ℕ, List, refl};
     ghost use Rattle.std.specs.Coded.{code_by, coded×, coded_list, coded_ℕ};
     ghost use Rattle.krb_accounts.specs.Settings.{SettingsRecord};
     ghost use Rattle.krb_accounts.specs.Accounts.{AccountMap};
     ghost use Rattle.krb_accounts.specs.contracts.accounts.Accounts as account_map;
     ghost use Rattle.krb_accounts.specs.contracts.settings.Settings as realm_settings;
-    ghost use Rattle.krb_realm.specs.Realm.{RealmState, has_krbtgt};
+    ghost use Rattle.krb_realm.specs.Realm.{IsRealm, RealmState};
 
     ghost Value = { RealmState };
 
@@ -53,7 +56,7 @@ impl Model for Realm {
 
     ghost view = { λ r. record { name = r.name; settings = r.settings; accounts = r.accounts } };
 
-    ghost invariant = { λ r. IsTrue (has_krbtgt r.name r.accounts) };
+    ghost invariant = { λ r. IsRealm r.name r.accounts };
 }
 
 impl Realm {
@@ -83,6 +86,7 @@ impl Realm {
             return Err(RealmRefusal::BadName);
         }
         let granting = Account::by_key(suite, key)?;
+        is_keyed(&granting);
         let own = realm_name_of(alloc, name)?;
         let service = krbtgt_of(alloc, &own)?;
         let mut accounts = Accounts::new(alloc);
@@ -103,6 +107,25 @@ impl Realm {
     {
         // The clause is of the fields: the proof sees them where one is read.
         let _settings = self.settings;
+    }
+
+    /// What every realm has: accounts whose keys are keys of their suites. It does nothing when it runs.
+    pub fn are_keyed(&self)
+        ensures { AreKeyed (realm_of self.now).look }
+    {
+        // The clause is of the fields: the proof sees them where one is read.
+        let _settings = self.settings;
+    }
+
+    /// There is a reply to each request at each moment, by `laws::one_reply` exactly one. It does nothing when it runs.
+    pub fn has_reply(&self, request: &[u8], moment: Moment, words: &[u8])
+        requires { 128 ≤ length words.now }
+        ensures { HasSome (Replies (call_to self.now moment words.now) request.now) }
+    {
+        self.are_keyed();
+        let _micros = moment.micros();
+        let _length = request.len();
+        has_reply();
     }
 
     /// Gives a principal its account, by its first key. A refused command changes nothing.
@@ -126,6 +149,7 @@ impl Realm {
             return Err(RealmRefusal::BadName);
         }
         let account = Account::by_key(suite, key)?;
+        is_keyed(&account);
         if self.accounts.contains(name) {
             return Err(RealmRefusal::Exists);
         }
@@ -167,6 +191,7 @@ impl Realm {
         let Ok(account) = Account::by_password(alloc, suite, password, salt) else {
             return Err(RealmRefusal::Memory);
         };
+        is_keyed(&account);
         self.accounts.insert_new(principal, account)?;
         Ok(())
     }
@@ -215,6 +240,7 @@ impl Realm {
     }
 
     /// The reply to a message at a moment, with random bytes of which the first 128 count (RFC 4120, sections 3.1 and 3.3).
+    /// There is exactly one: `has_reply` and `laws::one_reply`.
     ///
     /// `Unreadable` says that the bytes are the one encoding of no AS request and of no TGS request.
     #[tactic(auto, unfolding(krb_replies::specs::Replies::Replies))]
@@ -252,6 +278,13 @@ impl Realm {
             random: words,
         }
     }
+}
+
+// The account's key is one of its suite. It does nothing when it runs, and tells it of an account that a caller has.
+fn is_keyed(account: &Account)
+    ensures { IsKeyed account.now }
+{
+    let _key = account.key().as_bytes();
 }
 
 // Whether the name is that of the realm's ticket-granting service.

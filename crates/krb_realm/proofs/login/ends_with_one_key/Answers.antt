@@ -10,5 +10,6 @@ returns c = λ before result after honest.
       parties = record { realm = named.realm; name = named.name; key = named.key; entry = c.is_well_formed-2.ensures };
       enough = c.requires;
       granting = c.is_granting.ensures;
+      keyed = c.are_keyed.ensures;
       honest = honest;
     })
