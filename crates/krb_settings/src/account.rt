@@ -11,7 +11,12 @@ use std::alloc::Global;
 use toml::{Table, Value};
 
 /// The fields of an account.
-const ACCOUNT_FIELDS: [Field; 4] = [Field::Key, Field::Name, Field::Password, Field::Suite];
+pub(crate) const ACCOUNT_FIELDS: [Field; 4] = [
+    Field::Key,
+    Field::Name,
+    Field::Password,
+    Field::Suite,
+];
 
 // The accounts of a file.
 pub(crate) fn accounts_at(

@@ -13,19 +13,35 @@
 //! password = "correct horse battery staple"
 //! ```
 //!
-//! [`read_settings`] gives what a file writes, or the first of its faults. Neither shows a key or a password.
+//! [`read_settings`] gives what a file writes, or the first of its faults. [`explain`] gives a fault's message: line, word, and
+//! what was expected. None of them shows a key or a password.
 #![tactic(auto)]
 
 mod account;
+mod des3;
 mod fault;
 mod field;
 mod file;
 pub mod laws;
+mod lines;
+mod messages;
+mod outline;
+mod place;
 mod realm;
+mod remark;
+mod rules;
+mod scan;
 mod settings;
 mod table;
+mod warnings;
+mod words;
 
 pub use fault::{SettingsFault, TableFault};
 pub use field::Field;
 pub use file::{SETTINGS_LIMIT, read_settings};
+pub use messages::explain;
+pub use place::Place;
+pub use remark::Remark;
+pub use rules::{Rule, explain_rule};
 pub use settings::{AccountSettings, RealmSettings, Secret};
+pub use warnings::warnings_of;

@@ -31,7 +31,8 @@ fn has_only(table: &Table, fields: &[Field]) -> bool
     table.keys().all(|key| is_among(fields, key.as_str()))
 }
 
-fn is_among(fields: &[Field], key: &str) -> bool
+// Whether a key is the name of one of the fields.
+pub(crate) fn is_among(fields: &[Field], key: &str) -> bool
     ensures { result ≡ is_among fields.now key.now }
 {
     fields.iter().any(|field| key == field.name())

@@ -1,0 +1,58 @@
+//! What is said of a settings file, and of which line.
+
+use crate::Place;
+use std::alloc::{AllocError, Global};
+use std::fmt;
+
+/// What is said of a settings file. It shows no key and no password.
+///
+/// It is displayed as what follows the file's name: `:7: account 1: no suite: expected ..`.
+#[derive(Debug, Drop)]
+pub struct Remark {
+    /// The line, from 1 on. None where the remark is of the whole file.
+    pub line: Option<usize>,
+    /// The words.
+    pub text: String,
+}
+
+impl Remark {
+    /// A remark on a table of a file.
+    pub(crate) fn on_table<D: fmt::Display + Drop>(
+        alloc: Global,
+        place: Place,
+        line: Option<usize>,
+        words: D,
+    ) -> Result<Remark, AllocError> {
+        let text = format!(in alloc; "{place}{words}")?;
+        Ok(Remark { line, text })
+    }
+
+    /// A warning about a table of a file.
+    pub(crate) fn warning(
+        alloc: Global,
+        place: Place,
+        line: Option<usize>,
+        words: &str,
+    ) -> Result<Remark, AllocError> {
+        let text = format!(in alloc; "warning: {place}{words}")?;
+        Ok(Remark { line, text })
+    }
+
+    /// A remark on the whole file.
+    pub(crate) fn on_file<D: fmt::Display + Drop>(
+        alloc: Global,
+        words: D,
+    ) -> Result<Remark, AllocError> {
+        Remark::on_table(alloc, Place::File, None, words)
+    }
+}
+
+impl fmt::Display for Remark {
+    fn fmt<W: fmt::Write>(&self, f: &mut fmt::Formatter<W>) -> fmt::Result {
+        let text = self.text.as_str();
+        match self.line {
+            Some(line) => write!(f, ":{line}: {text}"),
+            None => write!(f, ": {text}"),
+        }
+    }
+}

@@ -1,0 +1,257 @@
+//! The messages of what a realm refuses in a settings file: line, word, and what was expected.
+
+use crate::outline::Outline;
+use crate::table::suite_at;
+use crate::words::{expected, suite_name};
+use crate::{Field, Place, Remark};
+use std::alloc::{AllocError, Global};
+use std::fmt;
+use toml::Value;
+
+/// The most seconds by which clocks may be allowed to differ.
+const SKEW_LIMIT: i64 = 86_400;
+
+/// The most bytes of a realm's name and of a component.
+const NAME_LIMIT: usize = 255;
+
+/// The most components of a name.
+const COMPONENT_LIMIT: usize = 16;
+
+/// What a realm refuses in a settings file.
+#[derive(Clone, Copy, Debug, PartialEq, Eq)]
+pub enum Rule {
+    /// The skew or the lifetime is out of its range.
+    Range,
+    /// The name of the realm or of an account breaks the rules for names.
+    Name,
+    /// A key's length isn't its suite's.
+    KeyLength,
+    /// An account is there already.
+    Exists,
+}
+
+/// The message of a rule that a table of a file breaks: its line, the word, and what was expected. It shows no key and no
+/// password.
+pub fn explain_rule(
+    alloc: Global,
+    text: &[u8],
+    place: Place,
+    rule: Rule,
+) -> Result<Remark, AllocError> {
+    let Some(outline) = Outline::read(alloc, text)? else {
+        return Remark::on_table(alloc, place, None, "refused");
+    };
+    match rule {
+        Rule::Range => range(alloc, &outline, place),
+        Rule::Name => name(alloc, &outline, place),
+        Rule::KeyLength => key_digits(alloc, &outline, place),
+        Rule::Exists => exists(alloc, &outline, place),
+    }
+}
+
+fn range(alloc: Global, outline: &Outline, place: Place) -> Result<Remark, AllocError> {
+    let skew = whole_number(outline, place, Field::Skew);
+    let (field, number) = if SKEW_LIMIT < skew {
+        (Field::Skew, skew)
+    } else {
+        (
+            Field::Lifetime,
+            whole_number(outline, place, Field::Lifetime),
+        )
+    };
+    let line = outline.line(place, field);
+    let wanted = expected(field);
+    Remark::on_table(
+        alloc,
+        place,
+        line,
+        format_args!("{field} is {number}: expected {wanted}"),
+    )
+}
+
+fn whole_number(outline: &Outline, place: Place, field: Field) -> i64 {
+    let value = outline.value(place, field);
+    value.and_then(|value| value.as_integer()).unwrap_or(0)
+}
+
+fn name(alloc: Global, outline: &Outline, place: Place) -> Result<Remark, AllocError> {
+    let field = match place {
+        Place::File => Field::Realm,
+        Place::Account(_) => Field::Name,
+    };
+    let line = outline.line(place, field);
+    match outline.value(place, field) {
+        Some(Value::Array(components)) => { name_of_components(alloc, place, line, components) }
+        Some(Value::String(name)) => {
+            let slip = slip_of(name.as_str()).unwrap_or(Slip::Other);
+            let words = format_args!("realm {slip}: expected 1 to 255 ASCII characters");
+            Remark::on_table(alloc, place, line, words)
+        }
+        _ => Remark::on_table(alloc, place, line, "no name of a realm or a principal"),
+    }
+}
+
+fn name_of_components(
+    alloc: Global,
+    place: Place,
+    line: Option<usize>,
+    components: &[Value],
+) -> Result<Remark, AllocError> {
+    let count = components.len();
+    if count == 0 || COMPONENT_LIMIT < count {
+        let words = format_args!("name has {count} components: expected 1 to 16");
+        return Remark::on_table(alloc, place, line, words);
+    }
+    let (number, slip) = first_slip(components).unwrap_or((1, Slip::Other));
+    let words = format_args!(
+        "component {number} of name {slip}: expected 1 to 255 ASCII characters"
+    );
+    Remark::on_table(alloc, place, line, words)
+}
+
+// The first component that is none, by its number, and why.
+fn first_slip(components: &[Value]) -> Option<(usize, Slip)> {
+    for (index, component) in components.iter().enumerate() {
+        if let Some(slip) = slip_of(component.as_str().unwrap_or("")) {
+            return Some((index.saturating_add(1), slip));
+        }
+    }
+    None
+}
+
+/// Why a text is no name of a realm and no component.
+#[derive(Clone, Copy, Debug, PartialEq, Eq)]
+enum Slip {
+    /// It is empty.
+    Empty,
+    /// It has so many characters.
+    TooLong(usize),
+    /// The character of this number isn't ASCII.
+    NotAscii(usize),
+    /// Another.
+    Other,
+}
+
+impl fmt::Display for Slip {
+    fn fmt<W: fmt::Write>(&self, f: &mut fmt::Formatter<W>) -> fmt::Result {
+        match *self {
+            Slip::Empty => f.write_str("is empty"),
+            Slip::TooLong(length) => write!(f, "has {length} characters"),
+            Slip::NotAscii(number) => write!(f, "has a character that is not ASCII at {number}"),
+            Slip::Other => f.write_str("is no name"),
+        }
+    }
+}
+
+fn slip_of(text: &str) -> Option<Slip> {
+    if let Some(index) = text.chars().position(|character| !character.is_ascii()) {
+        return Some(Slip::NotAscii(index.saturating_add(1)));
+    }
+    match text.len() {
+        0 => Some(Slip::Empty),
+        length if NAME_LIMIT < length => Some(Slip::TooLong(length)),
+        _ => None,
+    }
+}
+
+// The message of a key that isn't the digits of one of its suite's.
+pub(crate) fn key_digits(
+    alloc: Global,
+    outline: &Outline,
+    place: Place,
+) -> Result<Remark, AllocError> {
+    let line = outline.line(place, Field::Key);
+    let digits = outline.text(place, Field::Key).unwrap_or("");
+    let suite = match outline.table(place).map(suite_at) {
+        Some(Ok(suite)) => suite,
+        _ => return Remark::on_table(alloc, place, line, "key is not pairs of hexadecimal digits"),
+    };
+    let wanted = suite.key_size().saturating_mul(2);
+    let name = suite_name(suite);
+    if let Some(index) = digits.chars().position(|digit| !digit.is_ascii_hexdigit()) {
+        let number = index.saturating_add(1);
+        let words = format_args!(
+            "character {number} of key is no hexadecimal digit: expected {wanted} digits for {name}"
+        );
+        return Remark::on_table(alloc, place, line, words);
+    }
+    let count = digits.len();
+    let words = format_args!("key has {count} hexadecimal digits: expected {wanted} for {name}");
+    Remark::on_table(alloc, place, line, words)
+}
+
+fn exists(alloc: Global, outline: &Outline, place: Place) -> Result<Remark, AllocError> {
+    let line = outline.line(place, Field::Name);
+    let components = components_at(outline, place);
+    let name = Components(components);
+    let Some(other) = first_of_name(outline, components).filter(|other| *other != place) else {
+        let words = format_args!(
+            "name {name} is the ticket-granting service's, whose key is the realm's: expected another name"
+        );
+        return Remark::on_table(alloc, place, line, words);
+    };
+    let number = match other {
+        Place::Account(number) => number,
+        Place::File => 0,
+    };
+    match outline.line(other, Field::Name) {
+        Some(other_line) => Remark::on_table(
+            alloc,
+            place,
+            line,
+            format_args!(
+                "name {name} is account {number}'s, on line {other_line}: expected another name"
+            ),
+        ),
+        None => Remark::on_table(
+            alloc,
+            place,
+            line,
+            format_args!("name {name} is account {number}'s: expected another name"),
+        ),
+    }
+}
+
+// The first account with these components.
+fn first_of_name(outline: &Outline, components: &[Value]) -> Option<Place> {
+    for index in 0..outline.accounts() {
+        let place = Place::Account(index.saturating_add(1));
+        if are_same(components_at(outline, place), components) {
+            return Some(place);
+        }
+    }
+    None
+}
+
+fn components_at<'a>(outline: &'a Outline, place: Place) -> &'a [Value] {
+    match outline.value(place, Field::Name) {
+        Some(Value::Array(components)) => components,
+        _ => &[],
+    }
+}
+
+fn are_same(components: &[Value], others: &[Value]) -> bool {
+    if components.len() != others.len() {
+        return false;
+    }
+    components
+        .iter()
+        .zip(others)
+        .all(|(component, other)| component.as_str() == other.as_str())
+}
+
+/// The components of a name, as a settings file has them.
+#[derive(Clone, Copy)]
+struct Components<'a>(&'a [Value]);
+
+impl<'a> fmt::Display for Components<'a> {
+    fn fmt<W: fmt::Write>(&self, f: &mut fmt::Formatter<W>) -> fmt::Result {
+        let mut separator = "[";
+        for component in self.0 {
+            let component = component.as_str().unwrap_or("");
+            write!(f, "{separator}{component:?}")?;
+            separator = ", ";
+        }
+        f.write_str("]")
+    }
+}

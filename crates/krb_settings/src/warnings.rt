@@ -1,0 +1,109 @@
+//! What is likely a slip in a settings file that is a realm's.
+
+use crate::des3::{has_odd_parity, has_weak_part};
+use crate::outline::Outline;
+use crate::{AccountSettings, Field, Place, RealmSettings, Remark, Secret};
+use krb_crypto::CipherSuite;
+use std::alloc::{AllocError, Global};
+
+const REALM_CONTROL: &str = "realm has a control character: expected printable characters";
+
+const NAME_CONTROL: &str =
+    "a component of name has a control character: expected printable characters";
+
+const NAME_SLASH: &str =
+    "a component of name has a slash: expected a text for each component, as [\"host\", \"server.example.com\"]";
+
+const NAME_AT: &str = "a component of name has an @: expected the name without its realm";
+
+const PASSWORD_EMPTY: &str = "password is empty: expected at least one character";
+
+const KEY_PARITY: &str =
+    "key has an octet of even parity: expected odd parity (RFC 3961, section 6.3.1)";
+
+const KEY_WEAK: &str = "key has a weak or semi-weak DES key in it: expected three that are neither";
+
+/// What is likely a slip in a settings file that writes this realm: a `/`, an `@` or a control character in a name, an empty
+/// password, and a key of triple DES with an octet of even parity or a weak part. It shows no key and no password.
+pub fn warnings_of(
+    alloc: Global,
+    text: &[u8],
+    written: &RealmSettings,
+) -> Result<Vec<Remark>, AllocError> {
+    let Some(outline) = Outline::read(alloc, text)? else {
+        return Ok(Vec::new(alloc));
+    };
+    let mut warnings = Warnings {
+        alloc,
+        outline: &outline,
+        found: Vec::new(alloc),
+    };
+    warnings.of_realm(written)?;
+    Ok(warnings.found)
+}
+
+/// Warnings of a file, as far as it was gone over.
+#[derive(Drop)]
+struct Warnings<'a> {
+    alloc: Global,
+    outline: &'a Outline,
+    found: Vec<Remark>,
+}
+
+impl<'a> Warnings<'a> {
+    fn of_realm(&mut self, written: &RealmSettings) -> Result<(), AllocError> {
+        if has_control(&written.name) {
+            self.add(Place::File, Field::Realm, REALM_CONTROL)?;
+        }
+        self.of_key(Place::File, written.suite, &written.key)?;
+        for (index, account) in written.accounts.iter().enumerate() {
+            self.of_account(Place::Account(index.saturating_add(1)), account)?;
+        }
+        Ok(())
+    }
+
+    fn of_account(&mut self, place: Place, account: &AccountSettings) -> Result<(), AllocError> {
+        if account.name.iter().any(|part| part.contains(&b'/')) {
+            self.add(place, Field::Name, NAME_SLASH)?;
+        }
+        if account.name.iter().any(|part| part.contains(&b'@')) {
+            self.add(place, Field::Name, NAME_AT)?;
+        }
+        if account.name.iter().any(|part| has_control(part)) {
+            self.add(place, Field::Name, NAME_CONTROL)?;
+        }
+        match &account.secret {
+            Secret::Password(password) if password.is_empty() => self.add(
+                place,
+                Field::Password,
+                PASSWORD_EMPTY,
+            ),
+            Secret::Password(_) => Ok(()),
+            Secret::Key(key) => self.of_key(place, account.suite, key),
+        }
+    }
+
+    fn of_key(&mut self, place: Place, suite: CipherSuite, key: &[u8]) -> Result<(), AllocError> {
+        if suite != CipherSuite::Des3CbcSha1Kd {
+            return Ok(());
+        }
+        if !has_odd_parity(key) {
+            self.add(place, Field::Key, KEY_PARITY)
+        } else if has_weak_part(self.alloc, key)? {
+            self.add(place, Field::Key, KEY_WEAK)
+        } else {
+            Ok(())
+        }
+    }
+
+    fn add(&mut self, place: Place, field: Field, words: &'static str) -> Result<(), AllocError> {
+        let line = self.outline.line(place, field);
+        let warning = Remark::warning(self.alloc, place, line, words)?;
+        self.found.push(warning)?;
+        Ok(())
+    }
+}
+
+fn has_control(name: &[u8]) -> bool {
+    name.iter().any(|character| character.is_ascii_control())
+}
