@@ -1,9 +1,10 @@
 //! A KDC as an administrator runs it: the realm of a settings file answers the frames of a stream.
 //!
 //! [`run_settings`] is a whole run of the program `krb_realm` but for its arguments, the clock and the opening of files,
-//! which [`run_with_arguments`] adds; [`run_process`] is the program itself.
+//! which [`run_with_arguments`] adds; [`run_process`] is the program itself. [`check_file`] says whether a file is a realm's.
 #![tactic(auto)]
 
+mod check;
 mod console;
 mod fault;
 pub mod laws;
@@ -11,6 +12,7 @@ mod process;
 mod realm;
 mod run;
 
+pub use check::{FileCheck, check_file};
 pub use console::{read_file, run_with_arguments};
 pub use fault::KdcFault;
 pub use krb_realm::Moment;
