@@ -1,32 +1,62 @@
 //! The program `krb_realm_check`: says whether a settings file is a realm's, and else what is wrong with it and where.
 //!
-//! `krb_realm_check SETTINGS` prints the realm's name and how many accounts it has, and ends with status 0. Else it prints the
-//! first fault on standard error and ends with status 1. It shows no key and no password.
+//! `krb_realm_check FILE` ends with status 0 and prints `FILE: ok` where it is. What is likely a slip is a line
+//! `FILE:LINE: warning: ..` on standard error. Else it ends with status 1, and the first fault is a line `FILE:LINE: ..` on
+//! standard error: the word, and what was expected. It shows no key and no password.
 #![tactic(auto)]
 
-use anyhow::{Context, bail};
-use krb_kdc::{read_file, realm_of};
-use krb_settings::read_settings;
+use anyhow::bail;
+use krb_kdc::{FileCheck, check_file, read_file};
+use std::os::unix::fs::PermissionsExt;
 use std::process::ExitCode;
-use std::{env, str};
+use std::{env, fs};
+
+/// The bit of a file's mode with which others may read it.
+const READ_BY_OTHERS: u32 = 0o004;
 
 fn main(rt: HostRuntime) -> ExitCode {
-    let Err(fault) = check(&rt) else {
-        return ExitCode::SUCCESS;
+    let fault = match check(&rt) {
+        Ok(true) => return ExitCode::SUCCESS,
+        Ok(false) => return ExitCode::FAILURE,
+        Err(fault) => fault,
     };
     // Where standard error takes nothing, the status still tells.
     let _ = eprintln!(rt; "krb_realm_check: {fault}");
     ExitCode::FAILURE
 }
 
-fn check(rt: &HostRuntime) -> anyhow::Result<()> {
+/// Whether the file is a realm's, which is printed.
+fn check(rt: &HostRuntime) -> anyhow::Result<bool> {
     let path = path_of(rt)?;
-    let text = read_file(rt, path.as_str()).context("the settings file can't be read")?;
-    let written = read_settings(rt.alloc(), &text)?;
-    realm_of(rt.alloc(), &written)?;
-    let name = str::from_utf8(&written.name)?;
-    println!(rt; "realm {name}, {} accounts", written.accounts.len())?;
-    Ok(())
+    let path = path.as_str();
+    let text = match read_file(rt, path) {
+        Ok(text) => text,
+        Err(fault) => bail!("{path} can't be read: {fault}"),
+    };
+    match check_file(rt.alloc(), &text)? {
+        FileCheck::Realm(warnings) => {
+            if is_read_by_others(rt, path) {
+                eprintln!(rt; "{path}: warning: others may read it: expected mode 600")?;
+            }
+            for warning in &warnings {
+                eprintln!(rt; "{path}{warning}")?;
+            }
+            println!(rt; "{path}: ok")?;
+            Ok(true)
+        }
+        FileCheck::Fault(fault) => {
+            eprintln!(rt; "{path}{fault}")?;
+            Ok(false)
+        }
+    }
+}
+
+/// Whether others than the file's owner and group may read it.
+fn is_read_by_others(rt: &HostRuntime, path: &str) -> bool {
+    match fs::metadata(rt, path) {
+        Ok(metadata) => metadata.permissions().mode() & READ_BY_OTHERS != 0,
+        Err(_) => false,
+    }
 }
 
 /// The one argument behind the program's name.
