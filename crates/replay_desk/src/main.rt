@@ -11,7 +11,7 @@ mod runs;
 
 use admissions::{Admissions, Repetitions};
 use arguments::Arguments;
-use files::SettingsFiles;
+use files::{NamedFiles, SettingsFiles};
 use replies::{bare_realm, realm_of_four};
 use rows::replay;
 use runs::Runs;
@@ -24,5 +24,6 @@ fn main(rt: HostRuntime) -> anyhow::Result<()> {
     replay(&rt, Runs, "rows.txt")?;
     replay(&rt, Runs, "settings.txt")?;
     replay(&rt, SettingsFiles, "files.txt")?;
+    replay(&rt, NamedFiles, "named_files.txt")?;
     replay(&rt, Arguments, "arguments.txt")
 }
