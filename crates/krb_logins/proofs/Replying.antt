@@ -23,4 +23,4 @@ in_time till moment before =
 pub replies_at : (realm : RealmRecord) (till : GeneralizedTime) (moment : Micros) (random request : Bytes) → AreKeyed realm.look → moment < asked_end (seconds_of till) * 1000000
     → 128 ≤ length random → AreBytes random request → HasSome (Replies (call_at realm moment random) request)
 replies_at realm till moment random request keyed before enough are =
-    has_reply (call_at realm moment random) request (record { in_time = in_time till moment before; enough = enough; bytes = are.random; keyed = keyed }) are.request are.few
+    has_reply (call_at realm moment random) request (record { in_time = in_time till moment before; enough = enough; bytes = are.words; keyed = keyed }) are.asked are.few

@@ -42,8 +42,8 @@ pub record IsMet (client : ClientRecord) (realm : RealmRecord) (service : Servic
 
 -- the random bytes of a call to a realm and its request are bytes, as many as a slice can hold
 pub record AreBytes (random request : Bytes) : Type 0 where
-  pub random : IsBytes random
-  pub request : IsBytes request
+  pub words : IsBytes random
+  pub asked : IsBytes request
   pub few : length request < 2 ^ 64
 
 module _ (client : ClientRecord) (realm : RealmRecord) (service : ServiceRecord) (before : RememberedRecord) (login : LoginRecord) (met : IsMet client realm service before login) where
