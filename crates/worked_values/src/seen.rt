@@ -1,4 +1,4 @@
-//! What a service remembers, with a skew of 300 seconds.
+//! The replay cache, with a skew of 300 seconds.
 
 use krb_moments::Moment;
 use krb_replay_cache::{Pair, Seen};
@@ -13,12 +13,18 @@ fn pair(alloc: Global, name: &[u8], second: u64) -> Option<Pair> {
     let time = at(second)?;
     let realm = GeneralStringAsn1::new(alloc, b"EXAMPLE.ORG").ok()?;
     let components = components_of(alloc, name)?;
-    Some(Pair::new(realm, components, time))
+    Pair::new(alloc, &realm, components.as_slice(), time).ok()
 }
 
+// The components of a name, with `/` between them.
 fn components_of(alloc: Global, name: &[u8]) -> Option<Vec<GeneralStringAsn1>> {
-    let name = GeneralStringAsn1::new(alloc, name).ok()?;
-    vec![in alloc; name].ok()
+    let mut components = Vec::new(alloc);
+    for component in name.split(|byte| *byte == b'/') {
+        components
+            .push(GeneralStringAsn1::new(alloc, component).ok()?)
+            .ok()?;
+    }
+    Some(components)
 }
 
 fn record(seen: &mut Seen, pair: Option<Pair>) -> Option<()> {
@@ -86,4 +92,36 @@ fn time_of(pair: Option<Pair>) -> Option<Moment> {
 fn times(rt: HostRuntime) {
     let time = time_of(pair(rt.alloc(), b"user", 1_300));
     assert!(rt; time.is_some() && time == at(1_300));
+}
+
+// How many pairs are kept of `user` of second 1,000, once a later moment was handed in.
+fn kept_at(alloc: Global, second: u64) -> Option<usize> {
+    let mut seen = Seen::new(alloc, 300);
+    seen.raise(at(1_000)?);
+    record(&mut seen, pair(alloc, b"user", 1_000))?;
+    seen.raise(at(second)?);
+    Some(seen.kept())
+}
+
+#[test]
+fn window(rt: HostRuntime) {
+    for (second, kept) in [(900, 1), (1_000, 1), (1_300, 1), (1_301, 0), (1_000_000, 0)] {
+        assert!(rt; kept_at(rt.alloc(), second) == Some(kept), "at {second}");
+    }
+}
+
+// How many pairs are kept of these names, all of second 1,000.
+fn kept_of(alloc: Global, names: &[&[u8]]) -> Option<usize> {
+    let mut seen = Seen::new(alloc, 300);
+    seen.raise(at(1_000)?);
+    for name in names {
+        record(&mut seen, pair(alloc, name, 1_000))?;
+    }
+    Some(seen.kept())
+}
+
+#[test]
+fn names(rt: HostRuntime) {
+    assert!(rt; kept_of(rt.alloc(), &[b"ab", b"a/b", b"a", b"b", b"", b"/", b"ab/"]) == Some(7));
+    assert!(rt; kept_of(rt.alloc(), &[b"ab", b"a/b", b"ab", b"a/b"]) == Some(2));
 }
