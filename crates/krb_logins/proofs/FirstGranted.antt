@@ -279,18 +279,19 @@ module _ (client : ClientRecord) (realm : RealmRecord) (service : ServiceRecord)
 
   pub first_granted : IsFirstGranted client realm service before login met
   unfolding IsFirstGranted
-  first_granted request asks =
-      (λ are. replies_at realm login.till login.realm_as login.realm_random_as request met.keyed met.honest.lasting.first met.enough.realm_as are,
-      λ reply replied.
-      let written = as_request_written client (krbtgt_of client.realm) login.till (nonce_of login.random_as) asks.stamp request
-      (realm_text client.realm met.parties.realm) (component_texts client.components met.parties.name) (granting_texts client.realm met.parties.realm) asks.encoding in
-      let found = granted_reply call (realm.look client.components) (realm.look (krbtgt_of client.realm)) (request_with asks.stamp) asked reply (grants asks.stamp asks.stamped)
-      (replied_to call request reply (request_with asks.stamp) written replied) in (
-        found.1.span,
-        found.1.lasting,
-        (
-          found.1.bytes,
-          found.2,
-          subst (λ suite. IsTicketReply (grant_in found.1.span suite) (as_reply_key asked.client) asked.service login.realm_random_as found.1.bytes) met.honest.client.suite found.1.replied,
+  first_granted request asks = (
+    λ are. replies_at realm login.till login.realm_as login.realm_random_as request met.keyed met.honest.lasting.first met.enough.realm_as are,
+    λ reply replied.
+        let written = as_request_written client (krbtgt_of client.realm) login.till (nonce_of login.random_as) asks.stamp request
+        (realm_text client.realm met.parties.realm) (component_texts client.components met.parties.name) (granting_texts client.realm met.parties.realm) asks.encoding in
+        let found = granted_reply call (realm.look client.components) (realm.look (krbtgt_of client.realm)) (request_with asks.stamp) asked reply (grants asks.stamp asks.stamped)
+        (replied_to call request reply (request_with asks.stamp) written replied) in (
+          found.1.span,
+          found.1.lasting,
+          (
+            found.1.bytes,
+            found.2,
+            subst (λ suite. IsTicketReply (grant_in found.1.span suite) (as_reply_key asked.client) asked.service login.realm_random_as found.1.bytes) met.honest.client.suite found.1.replied,
+          ),
         ),
-      ))
+  )

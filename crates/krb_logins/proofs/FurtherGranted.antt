@@ -454,7 +454,8 @@ pub further_granted : (client : ClientRecord) (realm : RealmRecord) (service : S
 unfolding IsFurtherGranted
 further_granted client realm service before login met first granting request first_is held asks =
     let shown = asks.authenticates in
-    let presents = subst (λ a. IsApRequest granting 7 false a (authenticator_confounder (cipher_confounder_size granting.suite) login.random_tgs) asks.request) shown.authenticates.told shown.presents in
-    (λ are. replies_at realm login.till login.realm_tgs login.realm_random_tgs request met.keyed met.honest.lasting.further met.enough.realm_tgs are,
-    λ reply replied.
-    granted client realm service before login met first first_is granting held shown.authenticates.second shown.authenticates.of_moment asks.request presents request reply asks.encoding replied)
+    let presents = subst (λ a. IsApRequest granting 7 false a (authenticator_confounder (cipher_confounder_size granting.suite) login.random_tgs) asks.request) shown.authenticates.told shown.presents in (
+      λ are. replies_at realm login.till login.realm_tgs login.realm_random_tgs request met.keyed met.honest.lasting.further met.enough.realm_tgs are,
+      λ reply replied.
+          granted client realm service before login met first first_is granting held shown.authenticates.second shown.authenticates.of_moment asks.request presents request reply asks.encoding replied,
+    )
