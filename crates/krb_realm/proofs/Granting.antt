@@ -1,5 +1,5 @@
 -- A realm keeps the account of its ticket-granting service.
-use Rattle.std.proofs.Common.{◌≡◌, Bool, true, false, cond, List, Option, None, Some, Result, Ok, Err, OnOk, OnErr, is_some, refl, sym, ap, ◌∙◌}
+use Rattle.std.proofs.Common.{◌≡◌, Bool, true, false, cond, List, Option, None, Some, is_some, refl, sym, ap, ◌∙◌}
 use Rattle.std.specs.Cmp.{eq_by_cmp_equiv}
 use Rattle.std.specs.Cmp.Lexicographic.{slice_cmp, lists_ties, texts_ties}
 use Rattle.std.specs.FinMap.{get, get-insert, get-remove, insert, remove}
@@ -41,9 +41,3 @@ removed realm accounts name has other =
     let apart : eq_by_cmp name_cmp (krbtgt_of realm) name ≡ false =
     (eq_by_cmp_equiv name_total).symm (krbtgt_of realm) name ∙ sym (lists_ties (slice_cmp nat_cmp) texts_ties name (krbtgt_of realm)) ∙ other in
     ap is_some (get-remove name_total accounts name (krbtgt_of realm)) ∙ ap (λ same. is_some (cond same None (get accounts (krbtgt_of realm)))) apart ∙ has
-
--- a call that is refused changes nothing
-pub kept : {T E : Type 0} (result : Result T E) (Made : Type 0) (realm : Bytes) (old new : AccountMap) → has_krbtgt realm old ≡ true → (Made → has_krbtgt realm new ≡ true)
-    → OnOk result Made → OnErr result (new ≡ old) → has_krbtgt realm new ≡ true
-kept (Ok value) Made realm old new has made ok err = made ok
-kept (Err refusal) Made realm old new has made ok err = ap (has_krbtgt realm) err ∙ has

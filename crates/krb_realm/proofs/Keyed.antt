@@ -1,5 +1,5 @@
 -- A realm's accounts keep keys of their suites.
-use Rattle.std.proofs.Common.{◌≡◌, ℕ, ◌+◌, Bool, true, false, not, ◌==◌, cond, List, length, Option, None, Some, Result, Ok, Err, OnOk, OnErr, refl, subst, sym, ◌∙◌, if◌then◌else◌}
+use Rattle.std.proofs.Common.{◌≡◌, ◌+◌, Bool, true, false, not, ◌==◌, cond, List, length, Option, None, Some, Result, Ok, Err, OnOk, OnErr, refl, subst, sym, ◌∙◌, if◌then◌else◌}
 use Rattle.std.proofs.lemmas.Bool.{eqb-true}
 use Rattle.std.specs.FinMap.{empty, get, get-empty, get-insert, get-remove, insert, remove}
 use Rattle.std.specs.Ordering.{eq_by_cmp}
@@ -8,8 +8,7 @@ use Rattle.krb_blocks.specs.Bytes.{IsBytes}
 use Rattle.krb_crypto.specs.declared.suite.CipherSuite.{CipherSuite}
 use Rattle.krb_crypto.specs.Suites.{cipher_key_size}
 use Rattle.krb_accounts.specs.Account.{AccountRecord}
-use Rattle.krb_accounts.specs.Accounts.{AccountMap, changing, look_in, name_cmp, name_total, rekeyed, with_key}
-use Rattle.krb_accounts.specs.declared.refusal.RealmRefusal.{RealmRefusal}
+use Rattle.krb_accounts.specs.Accounts.{AccountMap, changing, look_in, name_cmp, name_total, rekeyed}
 use Rattle.krb_accounts.specs.declared.refusal.RealmRefusal.TheVariants.{BadKeyLength, NumberSpent}
 use Rattle.krb_as.specs.Calls.{AreKeyed, IsKeyed}
 use Rattle.krb_as.specs.TicketGranting.{krbtgt_of}

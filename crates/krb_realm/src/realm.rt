@@ -1,6 +1,7 @@
 //! Realms.
-ghost use Rattle.std.specs.Prelude.{◌≡◌, ◌≤◌, ℕ, List, Ok, Err, Some, None, OnOk, OnErr, IfOk, IfErr, MatchResult, length, ◌⊎◌};
+ghost use Rattle.std.specs.Prelude.{◌≡◌, ◌≤◌, ◌<◌, ◌^◌, ℕ, List, Ok, Err, Some, None, OnOk, OnErr, IfOk, IfErr, MatchResult, length, ◌⊎◌};
 ghost use Rattle.std.specs.FinMap as finite;
+ghost use Rattle.krb_blocks.specs.Bytes.{IsBytes};
 ghost use Rattle.krb_accounts.specs.Names.{parts};
 ghost use Rattle.krb_accounts.specs.Refusal.{IsMemoryAside};
 ghost use Rattle.decision_tables.specs.Some.{HasSome};
@@ -124,7 +125,8 @@ impl Realm {
     {
         self.are_keyed();
         let _micros = moment.micros();
-        let _length = request.len();
+        is_slice(request);
+        is_slice(words);
         has_reply();
     }
 
@@ -284,7 +286,15 @@ impl Realm {
 fn is_keyed(account: &Account)
     ensures { IsKeyed account.now }
 {
-    let _key = account.key().as_bytes();
+    is_slice(account.key().as_bytes());
+}
+
+// The octets of a slice are bytes, fewer than 2^64. It does nothing when it runs.
+fn is_slice(octets: &[u8])
+    ensures bytes { IsBytes octets.now }
+    ensures few { length octets.now < 2 ^ 64 }
+{
+    let _length = octets.len();
 }
 
 // Whether the name is that of the realm's ticket-granting service.
