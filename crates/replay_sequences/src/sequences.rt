@@ -1,0 +1,203 @@
+//! Lists of calls of one service. A line `sequence N skew S` begins a fresh service. A further line is a call: the moment in
+//! microseconds after 2000-01-01 | AP-REQ | answer | how many pairs are kept after the call | the greatest moment after it.
+//! A moment before 2000-01-01 has a minus sign.
+
+use anyhow::{Context, bail};
+use krb_ap::{Admission, AdmitRefusal};
+use krb_crypto::CipherSuite;
+use krb_moments::Moment;
+use krb_service::Service;
+use std::alloc::Global;
+use std::fs;
+use std::mem::replace;
+
+/// The random bytes of each call. The recorded replies have a confounder of zeros.
+const WORDS: [u8; 16] = [0; 16];
+
+/// A call, and what was recorded of it.
+#[derive(Drop)]
+struct Call<'a> {
+    moment: Moment,
+    request: Vec<u8>,
+    answer: &'a str,
+    kept: usize,
+    greatest: Moment,
+}
+
+/// A service that is called, and the greatest moment that it was handed.
+#[derive(Drop)]
+struct Run {
+    service: Service,
+    greatest: Moment,
+}
+
+/// How many lists and calls there were, and how many calls were answered otherwise than was recorded.
+#[derive(Drop)]
+struct Counts {
+    sequences: u64,
+    calls: u64,
+    differing: u64,
+}
+
+/// Replays the lists of a file, and prints each call that is answered otherwise, and how many there were.
+pub(crate) fn replay(rt: &HostRuntime, name: &str) -> anyhow::Result<()> {
+    let text = fs::read_to_string(rt, name)?;
+    let mut run = fresh_run(rt.alloc(), 0)?;
+    let outcome = replay_lines(rt, &text, &mut run);
+    drop(run);
+    let Counts {
+        sequences,
+        calls,
+        differing,
+    } = outcome?;
+    println!(rt; "{name}: {sequences} sequences, {calls} calls, {differing} differ")?;
+    Ok(())
+}
+
+fn replay_lines(rt: &HostRuntime, text: &str, run: &mut Run) -> anyhow::Result<Counts> {
+    let mut counts = Counts {
+        sequences: 0,
+        calls: 0,
+        differing: 0,
+    };
+    for line in text.lines() {
+        if !line.is_empty() && !line.starts_with('#') {
+            replay_line(rt, line, run, &mut counts)?;
+        }
+    }
+    Ok(counts)
+}
+
+/// Begins a fresh service, or replays a call.
+fn replay_line(
+    rt: &HostRuntime,
+    line: &str,
+    run: &mut Run,
+    counts: &mut Counts,
+) -> anyhow::Result<()> {
+    if line.starts_with("sequence ") {
+        counts.sequences = counts.sequences.saturating_add(1);
+        let fresh = fresh_run(rt.alloc(), skew_of(line)?)?;
+        drop(replace(run, fresh));
+        return Ok(());
+    }
+    counts.calls = counts.calls.saturating_add(1);
+    let call = call_of(rt.alloc(), line)?;
+    let answer = answer_of(rt.alloc(), run, &call)?;
+    let kept = run.service.kept();
+    let greatest = run.greatest;
+    if answer.as_str() != call.answer || kept != call.kept || greatest != call.greatest {
+        counts.differing = counts.differing.saturating_add(1);
+        let number = counts.calls;
+        println!(rt;
+            "call {number}: {}, {kept} kept, greatest {}",
+            answer.as_str(),
+            greatest.micros()
+        )?;
+    }
+    Ok(())
+}
+
+/// The skew of a line `sequence N skew S`, in seconds.
+fn skew_of(line: &str) -> anyhow::Result<u64> {
+    let mut words = line.split(' ');
+    let (Some("sequence"), Some(_number), Some("skew"), Some(skew)) = (
+        words.next(),
+        words.next(),
+        words.next(),
+        words.next(),
+    ) else {
+        bail!("a line other than `sequence N skew S`");
+    };
+    Ok(skew.trim().parse::<u64>()?)
+}
+
+/// The service `h` of realm R, AES-256, with a key of 32 bytes 01 and number 1, which has seen nothing.
+fn fresh_run(alloc: Global, skew: u64) -> anyhow::Result<Run> {
+    let component = Vec::from_slice(alloc, b"h")?;
+    let name = vec![in alloc; component]?;
+    let suite = CipherSuite::Aes256CtsHmacSha196;
+    let service = Service::new(alloc, b"R", &name, suite, &[1; 32], 1, skew)?;
+    let greatest = Moment::new(0).context("no moment")?;
+    Ok(Run { service, greatest })
+}
+
+/// Reads a call.
+fn call_of(alloc: Global, line: &str) -> anyhow::Result<Call<'_>> {
+    let mut columns = line.split('|');
+    let (Some(moment), Some(request), Some(answer), Some(kept), Some(greatest)) = (
+        columns.next(),
+        columns.next(),
+        columns.next(),
+        columns.next(),
+        columns.next(),
+    ) else {
+        bail!("a line of fewer than five columns");
+    };
+    Ok(Call {
+        moment: moment_of(moment)?,
+        request: hex::decode(alloc, request.trim())?,
+        answer: answer.trim(),
+        kept: kept.trim().parse::<usize>()?,
+        greatest: moment_of(greatest)?,
+    })
+}
+
+/// The moment that many microseconds after 2000-01-01, or before it where the number has a minus sign.
+fn moment_of(text: &str) -> anyhow::Result<Moment> {
+    let start = Moment::from_text(b"20000101000000Z")
+        .context("no moment")?
+        .micros();
+    let micros = match text.trim().strip_prefix('-') {
+        Some(before) => start.saturating_sub(before.parse::<u64>()?),
+        None => start.saturating_add(text.trim().parse::<u64>()?),
+    };
+    Moment::new(micros).context("past the last moment")
+}
+
+/// What the service answers, as text.
+fn answer_of(alloc: Global, run: &mut Run, call: &Call) -> anyhow::Result<String> {
+    run.greatest = run.greatest.max(call.moment);
+    match run.service.admit(alloc, &call.request, call.moment, &WORDS) {
+        Ok(admission) => {
+            let text = admission_text(alloc, &admission);
+            drop(admission);
+            text
+        }
+        Err(refusal) => refusal_text(alloc, refusal),
+    }
+}
+
+fn refusal_text(alloc: Global, refusal: AdmitRefusal) -> anyhow::Result<String> {
+    let text = match refusal {
+        AdmitRefusal::Krb(code) => format!(in alloc; "Krb({code})")?,
+        AdmitRefusal::Unreadable => format!(in alloc; "Unreadable")?,
+        AdmitRefusal::Memory => bail!("out of memory"),
+    };
+    Ok(text)
+}
+
+/// The client's realm and name, and the reply where there is one.
+fn admission_text(alloc: Global, admission: &Admission) -> anyhow::Result<String> {
+    let realm = str::from_utf8(admission.realm.as_bytes())?;
+    let name = name_text(alloc, admission)?;
+    let mut text = format!(in alloc; "Ok {realm} {}", name.as_str())?;
+    if let Some(reply) = &admission.reply {
+        let reply = hex::encode(alloc, reply.as_slice())?;
+        text.push_str(" reply ")?;
+        text.push_str(reply.as_str())?;
+    }
+    Ok(text)
+}
+
+/// The components of the client's name, with `/` between them.
+fn name_text(alloc: Global, admission: &Admission) -> anyhow::Result<String> {
+    let mut text = String::new(alloc);
+    for component in admission.client.name_string.0.as_slice() {
+        if !text.is_empty() {
+            text.push('/')?;
+        }
+        text.push_str(str::from_utf8(component.as_bytes())?)?;
+    }
+    Ok(text)
+}
