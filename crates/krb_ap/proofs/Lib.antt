@@ -8,5 +8,6 @@ pub mod Shown
 pub mod Short
 pub mod Accepted
 pub mod Chosen
+pub mod SessionKeys
 pub mod Replied
 pub mod Judgements

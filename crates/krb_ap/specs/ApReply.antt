@@ -9,6 +9,7 @@ use Rattle.krb_types.specs.declared.data_types.authenticator.AuthenticatorInner.
 use Rattle.krb_types.specs.declared.data_types.enc_ap_rep_part.EncApRepPartInner.{EncApRepPartInner}
 use Rattle.krb_types.specs.declared.data_types.encrypted_data.EncryptedData.{EncryptedData}
 use Rattle.krb_messages.specs.declared.messages.ap_rep.ApRepInner.{ApRepInner}
+use Rattle.krb_opening.specs.Keys.{suite_of}
 use Rattle.decision_tables.specs.One.{IsSole}
 use Rattle.krb_sealing.specs.Sealing.{Seals, sole_seals}
 use Rattle.krb_types.specs.RandomBytes.{Random, ap_reply_confounder}
@@ -55,6 +56,10 @@ sole_reply false random suite key authenticator a b p q = p ∙ sym q
 sole_reply true random suite key authenticator None b p q = absurd p
 sole_reply true random suite key authenticator (Some a) None p q = absurd q
 sole_reply true random suite key authenticator (Some a) (Some b) p q = ap Some (sole_reply_under suite key (ap_reply_confounder (cipher_confounder_size suite) random) authenticator a b p q)
+
+-- by its type and its length the session key is one of the presented suite (RFC 4120, section 5.2.9)
+abbrev pub HasSessionKey : Presented → Type 0
+HasSessionKey p = suite_of p.part.key.0 ≡ Some p.suite
 
 -- the reply to what was presented, under the session key
 abbrev pub IsReplyTo : Presented → Random → Option Bytes → Type 0

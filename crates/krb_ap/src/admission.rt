@@ -1,12 +1,13 @@
 //! Admissions.
-ghost use Rattle.std.specs.Prelude.{◌≡◌, ◌≤◌, length, IfOk};
+ghost use Rattle.std.specs.Prelude.{◌≡◌, ◌≤◌, false, length, IfOk};
 ghost use Rattle.std.specs.Option.{option_map};
 ghost use Rattle.krb_ap.specs.Admission.{admission_of, subkey_of};
-ghost use Rattle.krb_ap.specs.ApReply.{IsReplyTo};
+ghost use Rattle.krb_ap.specs.ApReply.{HasSessionKey, IsReplyTo};
 
 use crate::presented::Presented;
 use crate::reply::ap_reply;
 use krb_crypto::Key;
+use krb_opening::key_of;
 use krb_types::data_types::{
     AuthenticatorInner, EncTicketPartInner, EncryptionKey, PrincipalName, Realm,
 };
@@ -98,23 +99,32 @@ fn untagged(told: Option<ExplicitContextTag6<EncryptionKey>>) -> Option<Encrypti
     None
 }
 
-/// The reply to what was presented, where one is wanted. Of the random bytes the first 16 count.
+/// The reply to what was presented, where one is wanted (RFC 4120, section 3.2.4). Of the random bytes the first 16 count. Memory
+/// is the only refusal, and none is taken where no reply is wanted.
+///
+/// The session key has to be one of the presented suite, as `KeytabEntry::receive` gives it.
 pub fn reply_to(
     alloc: Global,
     presented: &Presented,
     words: &[u8],
 ) -> Result<Option<Vec<u8>>, AllocError>
-    requires { 16 ≤ length words.now }
-    ensures { IfOk result (λ reply. IsReplyTo presented.now words.now (option_map (λ bytes. bytes.items) reply)) }
+    requires confounder { 16 ≤ length words.now }
+    requires keyed { HasSessionKey presented.now }
+    ensures reply { IfOk result (λ reply. IsReplyTo presented.now words.now (option_map (λ bytes. bytes.items) reply)) }
+    ensures unwanted { presented.now.wants_reply ≡ false → result ≡ Ok None }
 {
     if !presented.wants_reply {
         return Ok(None);
     }
-    let session = presented.part.key.0.key_value.0.as_bytes();
-    // The authenticator was opened under this key, so it is one.
-    let Ok(key) = Key::new(presented.suite, session) else {
-        return Err(AllocError);
-    };
+    let key = session_key(presented);
     let bytes = ap_reply(alloc, &key, &presented.authenticator, words)?;
     Ok(Some(bytes))
+}
+
+// The session key, which is one of the presented suite.
+fn session_key(presented: &Presented) -> Key
+    requires { HasSessionKey presented.now }
+    ensures { result ≡ record { suite = presented.now.suite; bytes = presented.now.part.key.0.key_value.0 } }
+{
+    key_of(&presented.part.key.0).unwrap()
 }

@@ -1,5 +1,6 @@
 //! Keys of services.
-ghost use Rattle.std.specs.Prelude.{◌≡◌, ◌≤◌};
+ghost use Rattle.std.specs.Prelude.{◌≡◌, ◌≤◌, IfOk};
+ghost use Rattle.krb_ap.specs.ApReply.{HasSessionKey};
 ghost use Rattle.krb_ap.specs.ApTable.{presented};
 ghost use Rattle.krb_ap.specs.Received.{Receives};
 ghost use Rattle.krb_types.specs.Refusals.{IsJudged};
@@ -68,7 +69,8 @@ impl KeytabEntry {
         bytes: &[u8],
     ) -> Result<Presented, AdmitRefusal>
         requires { skew ≤ 86400000000 }
-        ensures { Receives self.now skew moment bytes.now result }
+        ensures received { Receives self.now skew moment bytes.now result }
+        ensures keyed { IfOk result HasSessionKey }
     {
         let Some(request) = read_ap_req(alloc, bytes)? else {
             return Err(AdmitRefusal::Unreadable);

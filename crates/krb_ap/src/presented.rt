@@ -3,22 +3,28 @@ use krb_crypto::CipherSuite;
 use krb_moments::Moment;
 use krb_types::data_types::{AuthenticatorInner, EncTicketPartInner};
 
-/// An authenticator that was opened (RFC 4120, section 5.5.1): the suite of its key, what was sealed, and the moment that
-/// it tells.
+/// An authenticator that was opened (RFC 4120, section 5.5.1).
 #[derive(Drop)]
 pub struct Authenticated {
+    /// The suite of the session key, which opened it.
     pub suite: CipherSuite,
+    /// What was sealed.
     pub authenticator: AuthenticatorInner,
+    /// The moment of its ctime and cusec.
     pub time: Moment,
 }
 
-/// What a request presents to its service: the ticket's part, the suite of its key, the authenticator under this key,
-/// the moment that the authenticator tells, and whether a reply is wanted.
+/// What a request presents to its service (RFC 4120, section 3.2.3).
 #[derive(Drop)]
 pub struct Presented {
+    /// The ticket's part, which the service's key opened.
     pub part: EncTicketPartInner,
+    /// The suite of the session key, which stands in the part.
     pub suite: CipherSuite,
+    /// The authenticator, which the session key opened.
     pub authenticator: AuthenticatorInner,
+    /// The moment of the authenticator's ctime and cusec.
     pub time: Moment,
+    /// Whether the client wants a reply: the option mutual-required is set.
     pub wants_reply: bool,
 }
