@@ -1,8 +1,8 @@
 //! A client and the time of an authenticator.
-ghost use Rattle.std.specs.Prelude.{◌≡◌, ◌++◌, IfOk, OnOk};
-ghost use Rattle.krb_replay_cache.specs.Packed.{packed_text};
+ghost use Rattle.std.specs.Prelude.{◌≡◌, IfOk};
 
 use krb_moments::Moment;
+use krb_packed_names::pack;
 use picky_asn1::wrapper::GeneralStringAsn1;
 use std::alloc::{AllocError, Global};
 use std::cmp::Ordering;
@@ -65,17 +65,6 @@ fn packed_len(realm: &GeneralStringAsn1, components: &[GeneralStringAsn1]) -> us
             .saturating_add(1);
     }
     len
-}
-
-// Appends a name to a block: each character plus one, and a zero after the last.
-fn pack(block: &mut Vec<u8>, name: &GeneralStringAsn1) -> Result<(), AllocError>
-    ensures { OnOk result (block.new.items ≡ block.old.items ++ packed_text name.now) }
-{
-    for character in name.as_bytes() {
-        block.push(character + 1)?;
-    }
-    block.push(0)?;
-    Ok(())
 }
 
 impl PartialEq for Pair {

@@ -1,6 +1,6 @@
 use Rattle.std.proofs.Common.{◌∷◌, ap, ◌∙◌, arith}
 use Rattle.std.proofs.lemmas.List.{take_all}
-use Rattle.krb_replay_cache.specs.Packed.{packed}
+use Rattle.krb_packed_names.specs.Packed.{packed}
 use Rattle.krb_replay_cache.proofs.Packing.{is_packed, names_of}
 use Rattle.krb_replay_cache.proofs.pair.Pair.new.Goals as goal
 

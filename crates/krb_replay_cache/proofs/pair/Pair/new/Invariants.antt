@@ -1,5 +1,5 @@
 use Rattle.std.proofs.Common.{◌≡◌, ◌∷◌, take}
-use Rattle.krb_replay_cache.specs.Packed.{packed}
+use Rattle.krb_packed_names.specs.Packed.{packed}
 use Rattle.krb_replay_cache.proofs.pair.Pair.new.Given as goal
 
 abbrev pub invariant-loop-component : goal.invariant-loop-component
