@@ -10,11 +10,11 @@ use thiserror::Error;
 #[derive(Debug, Drop, Error)]
 pub enum DiffieHellmanError {
     /// A seed that isn't whole bytes. No call of this crate answers it.
-    #[error("the seed isn't whole bytes: {0}")]
+    #[error("invalid bit length: {0}")]
     BitLen(String),
 
     /// The bytes that the seed needs, and those that there are.
-    #[error("the seed needs {0} bytes, and there are {1}")]
+    #[error("invalid data length: expected at least {0} bytes, got {1}")]
     DataLen(usize, usize),
 
     /// Memory ran out.

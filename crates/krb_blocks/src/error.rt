@@ -10,39 +10,39 @@ use thiserror::Error;
 #[derive(Debug, Drop, Error)]
 pub enum KerberosCryptoError {
     /// The key's bytes, and those wanted.
-    #[error("the key has {0} bytes, and {1} are wanted")]
+    #[error("invalid key length: {0} bytes, expected {1}")]
     KeyLength(usize, usize),
 
     /// The cipher text's bytes, and those wanted at least.
-    #[error("the cipher text has {0} bytes, and at least {1} are wanted")]
+    #[error("invalid cipher text length: {0} bytes, expected at least {1}")]
     CipherLength(usize, usize),
 
     /// A number that no suite has.
-    #[error("no suite has the number {0}")]
+    #[error("invalid algorithm identifier: {0}")]
     AlgorithmIdentifier(usize),
 
     /// How many bytes stood where one that numbers a suite was wanted.
-    #[error("no suite is named by these bytes, {0} in number")]
+    #[error("invalid algorithm identifier of {0} bytes")]
     AlgorithmIdentifierData(usize),
 
     /// The checksum isn't that of the text.
-    #[error("the checksum doesn't match")]
+    #[error("bad integrity: the computed checksum differs from the one in the message")]
     IntegrityCheck,
 
     /// The cipher failed. No call of this crate answers it.
-    #[error("the cipher failed: {0}")]
+    #[error("cipher error: {0}")]
     CipherError(String),
 
     /// A cipher text that isn't whole blocks.
-    #[error("the cipher text isn't whole blocks")]
+    #[error("padding error: the cipher text is not whole blocks")]
     CipherUnpad,
 
     /// A text that isn't whole blocks.
-    #[error("the text isn't whole blocks")]
+    #[error("padding error: the text is not whole blocks")]
     CipherPad,
 
     /// A seed of a wrong length. No call of this crate answers it.
-    #[error("the seed's length is wrong: {0}")]
+    #[error("invalid seed bit length: {0}")]
     SeedBitLen(String),
 
     /// Memory ran out.

@@ -15,15 +15,15 @@ fn refusals_in_words(rt: HostRuntime) {
     for (refusal, text) in [
         (
             KerberosCryptoError::KeyLength(15, 16),
-            "the key has 15 bytes, and 16 are wanted",
+            "invalid key length: 15 bytes, expected 16",
         ),
         (
             KerberosCryptoError::CipherLength(27, 28),
-            "the cipher text has 27 bytes, and at least 28 are wanted",
+            "invalid cipher text length: 27 bytes, expected at least 28",
         ),
         (
             KerberosCryptoError::AlgorithmIdentifier(99),
-            "no suite has the number 99",
+            "invalid algorithm identifier: 99",
         ),
         (KerberosCryptoError::Memory, "out of memory"),
     ] {
