@@ -38,3 +38,9 @@ pub const HMAC_SHA1_96_AES128: usize = 15;
 
 /// HMAC-SHA1 under a derived key of AES-256 (RFC 3962, section 7).
 pub const HMAC_SHA1_96_AES256: usize = 16;
+
+/// HMAC-SHA-256 under a derived key of AES-128 (RFC 8009, section 7).
+pub const HMAC_SHA256_128_AES128: usize = 19;
+
+/// HMAC-SHA-384 under a derived key of AES-256 (RFC 8009, section 7).
+pub const HMAC_SHA384_192_AES256: usize = 20;

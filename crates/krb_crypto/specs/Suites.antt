@@ -1,26 +1,36 @@
 -- The suites, their numbers and sizes.
 use Rattle.std.specs.Prelude.{◌≡◌, ◌≢◌, ℕ, ◌*◌, List, [], ◌∷◌, length, Result, MatchResult}
+use Rattle.krb_blocks.specs.declared.aes.AesSize.TheVariants.{Aes128, Aes256}
 use Rattle.krb_blocks.specs.declared.error.KerberosCryptoError.{KerberosCryptoError}
 use Rattle.krb_blocks.specs.declared.error.KerberosCryptoError.TheVariants.{AlgorithmIdentifier, AlgorithmIdentifierData}
 use Rattle.krb_profile.specs.Profile.{Profile}
 use Rattle.krb_aes.specs.Suites.{aes128_profile, aes256_profile}
+use Rattle.krb_aes_sha2.specs.Suites.{aes_sha2_profile}
 use Rattle.krb_des3.specs.Suite.{des3_profile}
 use Rattle.krb_crypto.specs.declared.suite.CipherSuite.{CipherSuite}
-use Rattle.krb_crypto.specs.declared.suite.CipherSuite.TheVariants.{Aes128CtsHmacSha196, Aes256CtsHmacSha196, Des3CbcSha1Kd}
+use Rattle.krb_crypto.specs.declared.suite.CipherSuite.TheVariants.{Aes128CtsHmacSha196, Aes256CtsHmacSha196, Des3CbcSha1Kd, Aes128CtsHmacSha256128, Aes256CtsHmacSha384192}
 use Rattle.krb_crypto.specs.declared.suite.ChecksumSuite.{ChecksumSuite}
-use Rattle.krb_crypto.specs.declared.suite.ChecksumSuite.TheVariants.{HmacSha196Aes128, HmacSha196Aes256, HmacSha1Des3Kd}
+use Rattle.krb_crypto.specs.declared.suite.ChecksumSuite.TheVariants.{HmacSha196Aes128, HmacSha196Aes256, HmacSha1Des3Kd, HmacSha256128Aes128, HmacSha384192Aes256}
 
 -- what tells a suite from the others: every word of sealing is one of its profile
 abbrev pub cipher_profile : CipherSuite → Profile
 cipher_profile Aes128CtsHmacSha196 = aes128_profile
 cipher_profile Aes256CtsHmacSha196 = aes256_profile
 cipher_profile Des3CbcSha1Kd = des3_profile
+cipher_profile Aes128CtsHmacSha256128 = aes_sha2_profile Aes128
+cipher_profile Aes256CtsHmacSha384192 = aes_sha2_profile Aes256
 
--- the number that names a suite as `etype` (RFC 3962, section 7; RFC 3961, section 8)
+-- all suites
+abbrev pub cipher_suites : List CipherSuite
+cipher_suites = Aes128CtsHmacSha196 ∷ Aes256CtsHmacSha196 ∷ Des3CbcSha1Kd ∷ Aes128CtsHmacSha256128 ∷ Aes256CtsHmacSha384192 ∷ []
+
+-- the number that names a suite as `etype` (RFC 3962, section 7; RFC 3961, section 8; RFC 8009, section 7)
 abbrev pub cipher_number : CipherSuite → ℕ
 cipher_number Aes128CtsHmacSha196 = 17
 cipher_number Aes256CtsHmacSha196 = 18
 cipher_number Des3CbcSha1Kd = 16
+cipher_number Aes128CtsHmacSha256128 = 19
+cipher_number Aes256CtsHmacSha384192 = 20
 
 -- how many bytes a suite's key has
 abbrev pub cipher_key_size : CipherSuite → ℕ
@@ -42,23 +52,33 @@ cipher_confounder_size suite = (cipher_profile suite).confounder_size
 abbrev pub cipher_tag_size : CipherSuite → ℕ
 cipher_tag_size suite = (cipher_profile suite).tag_size
 
--- the suite of a checksum's keys (RFC 3962, section 7; RFC 3961, section 6.3)
+-- the suite of a checksum's keys (RFC 3962, section 7; RFC 3961, section 6.3; RFC 8009, section 6)
 abbrev pub checksum_cipher : ChecksumSuite → CipherSuite
 checksum_cipher HmacSha196Aes128 = Aes128CtsHmacSha196
 checksum_cipher HmacSha196Aes256 = Aes256CtsHmacSha196
 checksum_cipher HmacSha1Des3Kd = Des3CbcSha1Kd
+checksum_cipher HmacSha256128Aes128 = Aes128CtsHmacSha256128
+checksum_cipher HmacSha384192Aes256 = Aes256CtsHmacSha384192
 
--- the number that names a checksum as `cksumtype` (RFC 3962, section 7; RFC 3961, section 8)
+-- all checksums
+abbrev pub checksum_suites : List ChecksumSuite
+checksum_suites = HmacSha196Aes128 ∷ HmacSha196Aes256 ∷ HmacSha1Des3Kd ∷ HmacSha256128Aes128 ∷ HmacSha384192Aes256 ∷ []
+
+-- the number that names a checksum as `cksumtype` (RFC 3962, section 7; RFC 3961, section 8; RFC 8009, section 7)
 abbrev pub checksum_number : ChecksumSuite → ℕ
 checksum_number HmacSha196Aes128 = 15
 checksum_number HmacSha196Aes256 = 16
 checksum_number HmacSha1Des3Kd = 12
+checksum_number HmacSha256128Aes128 = 19
+checksum_number HmacSha384192Aes256 = 20
 
--- the checksum that belongs to a suite (RFC 3962, section 7; RFC 3961, section 6.3)
+-- the checksum that belongs to a suite (RFC 3962, section 7; RFC 3961, section 6.3; RFC 8009, section 6)
 abbrev pub cipher_checksum : CipherSuite → ChecksumSuite
 cipher_checksum Aes128CtsHmacSha196 = HmacSha196Aes128
 cipher_checksum Aes256CtsHmacSha196 = HmacSha196Aes256
 cipher_checksum Des3CbcSha1Kd = HmacSha1Des3Kd
+cipher_checksum Aes128CtsHmacSha256128 = HmacSha256128Aes128
+cipher_checksum Aes256CtsHmacSha384192 = HmacSha384192Aes256
 
 -- how many bytes a checksum's key has
 abbrev pub checksum_key_size : ChecksumSuite → ℕ

@@ -7,9 +7,10 @@ ghost use Rattle.krb_crypto.specs.Suites.{checksum_key_size, cipher_checksum, ci
 use crate::cipher::{Checksum, Cipher};
 use crate::suite::{ChecksumSuite, CipherSuite};
 use krb_aes::checksum_sha_aes;
+use krb_aes_sha2::checksum_sha2;
 use krb_blocks::{AES_BLOCK_SIZE, AesSize, KerberosCryptoResult};
 use krb_des::{DES3_BLOCK_SIZE, DES3_SEED_LEN};
-use krb_des3::{checksum_sha_des3, key_of_seed};
+use krb_des3::checksum_sha_des3;
 use krb_profile::{DecryptWithoutChecksum, EncryptWithoutChecksum};
 use std::alloc::Global;
 
@@ -31,12 +32,12 @@ impl ChecksumSuite {
     }
 }
 
-// A confounder as one block of AES.
-fn block_of(confounder: &[u8]) -> [u8; AES_BLOCK_SIZE]
-    requires { length confounder.now ≡ 16 }
+// A confounder as one block of `N` bytes.
+fn block_of<const N: usize>(confounder: &[u8]) -> [u8; N]
+    requires { length confounder.now ≡ N }
     ensures { result ≡ confounder.now }
 {
-    let mut block = [0; AES_BLOCK_SIZE];
+    let mut block = [0; N];
     block.copy_from_slice(confounder);
     block
 }
@@ -81,6 +82,8 @@ impl Cipher for CipherSuite {
             CipherSuite::Aes128CtsHmacSha196 => AesSize::Aes128.seed_bit_len(),
             CipherSuite::Aes256CtsHmacSha196 => AesSize::Aes256.seed_bit_len(),
             CipherSuite::Des3CbcSha1Kd => 8 * DES3_SEED_LEN,
+            CipherSuite::Aes128CtsHmacSha256128 => AesSize::Aes128.seed_bit_len(),
+            CipherSuite::Aes256CtsHmacSha384192 => AesSize::Aes256.seed_bit_len(),
         }
     }
 
@@ -89,6 +92,8 @@ impl Cipher for CipherSuite {
             CipherSuite::Aes128CtsHmacSha196 => AES_BLOCK_SIZE,
             CipherSuite::Aes256CtsHmacSha196 => AES_BLOCK_SIZE,
             CipherSuite::Des3CbcSha1Kd => DES3_BLOCK_SIZE,
+            CipherSuite::Aes128CtsHmacSha256128 => AES_BLOCK_SIZE,
+            CipherSuite::Aes256CtsHmacSha384192 => AES_BLOCK_SIZE,
         }
     }
 
@@ -101,6 +106,8 @@ impl Cipher for CipherSuite {
             CipherSuite::Aes128CtsHmacSha196 => ChecksumSuite::HmacSha196Aes128,
             CipherSuite::Aes256CtsHmacSha196 => ChecksumSuite::HmacSha196Aes256,
             CipherSuite::Des3CbcSha1Kd => ChecksumSuite::HmacSha1Des3Kd,
+            CipherSuite::Aes128CtsHmacSha256128 => ChecksumSuite::HmacSha256128Aes128,
+            CipherSuite::Aes256CtsHmacSha384192 => ChecksumSuite::HmacSha384192Aes256,
         }
     }
 
@@ -130,7 +137,27 @@ impl Cipher for CipherSuite {
                 block_of(confounder),
             ),
             CipherSuite::Des3CbcSha1Kd => krb_des3::encrypt_message(
-                alloc, key, key_usage, payload, confounder,
+                alloc,
+                key,
+                key_usage,
+                payload,
+                block_of(confounder),
+            ),
+            CipherSuite::Aes128CtsHmacSha256128 => krb_aes_sha2::encrypt_message(
+                alloc,
+                key,
+                key_usage,
+                payload,
+                &AesSize::Aes128,
+                block_of(confounder),
+            ),
+            CipherSuite::Aes256CtsHmacSha384192 => krb_aes_sha2::encrypt_message(
+                alloc,
+                key,
+                key_usage,
+                payload,
+                &AesSize::Aes256,
+                block_of(confounder),
             ),
         }
     }
@@ -163,6 +190,20 @@ impl Cipher for CipherSuite {
                 key_usage,
                 cipher_data,
             ),
+            CipherSuite::Aes128CtsHmacSha256128 => krb_aes_sha2::decrypt_message(
+                alloc,
+                key,
+                key_usage,
+                cipher_data,
+                &AesSize::Aes128,
+            ),
+            CipherSuite::Aes256CtsHmacSha384192 => krb_aes_sha2::decrypt_message(
+                alloc,
+                key,
+                key_usage,
+                cipher_data,
+                &AesSize::Aes256,
+            ),
         }
     }
 
@@ -192,7 +233,27 @@ impl Cipher for CipherSuite {
                 block_of(confounder),
             ),
             CipherSuite::Des3CbcSha1Kd => krb_des3::encrypt_message_no_checksum(
-                alloc, key, key_usage, payload, confounder,
+                alloc,
+                key,
+                key_usage,
+                payload,
+                block_of(confounder),
+            ),
+            CipherSuite::Aes128CtsHmacSha256128 => krb_aes_sha2::encrypt_message_no_checksum(
+                alloc,
+                key,
+                key_usage,
+                payload,
+                &AesSize::Aes128,
+                block_of(confounder),
+            ),
+            CipherSuite::Aes256CtsHmacSha384192 => krb_aes_sha2::encrypt_message_no_checksum(
+                alloc,
+                key,
+                key_usage,
+                payload,
+                &AesSize::Aes256,
+                block_of(confounder),
             ),
         }
     }
@@ -225,6 +286,20 @@ impl Cipher for CipherSuite {
                 key_usage,
                 cipher_data,
             ),
+            CipherSuite::Aes128CtsHmacSha256128 => krb_aes_sha2::decrypt_message_no_checksum(
+                alloc,
+                key,
+                key_usage,
+                cipher_data,
+                &AesSize::Aes128,
+            ),
+            CipherSuite::Aes256CtsHmacSha384192 => krb_aes_sha2::decrypt_message_no_checksum(
+                alloc,
+                key,
+                key_usage,
+                cipher_data,
+                &AesSize::Aes256,
+            ),
         }
     }
 
@@ -253,6 +328,20 @@ impl Cipher for CipherSuite {
             CipherSuite::Des3CbcSha1Kd => krb_des3::encryption_checksum(
                 alloc, key, key_usage, payload,
             ),
+            CipherSuite::Aes128CtsHmacSha256128 => krb_aes_sha2::encryption_checksum(
+                alloc,
+                key,
+                key_usage,
+                payload,
+                &AesSize::Aes128,
+            ),
+            CipherSuite::Aes256CtsHmacSha384192 => krb_aes_sha2::encryption_checksum(
+                alloc,
+                key,
+                key_usage,
+                payload,
+                &AesSize::Aes256,
+            ),
         }
     }
 
@@ -276,6 +365,18 @@ impl Cipher for CipherSuite {
                 &AesSize::Aes256,
             ),
             CipherSuite::Des3CbcSha1Kd => krb_des3::derive_key_from_password(alloc, password, salt),
+            CipherSuite::Aes128CtsHmacSha256128 => krb_aes_sha2::derive_key_from_password(
+                alloc,
+                password,
+                salt,
+                &AesSize::Aes128,
+            ),
+            CipherSuite::Aes256CtsHmacSha384192 => krb_aes_sha2::derive_key_from_password(
+                alloc,
+                password,
+                salt,
+                &AesSize::Aes256,
+            ),
         }
     }
 
@@ -283,7 +384,9 @@ impl Cipher for CipherSuite {
         let key = match self {
             CipherSuite::Aes128CtsHmacSha196 => krb_aes::random_to_key(alloc, seed)?,
             CipherSuite::Aes256CtsHmacSha196 => krb_aes::random_to_key(alloc, seed)?,
-            CipherSuite::Des3CbcSha1Kd => key_of_seed(alloc, seed)?,
+            CipherSuite::Des3CbcSha1Kd => krb_des3::random_to_key(alloc, seed)?,
+            CipherSuite::Aes128CtsHmacSha256128 => krb_aes_sha2::random_to_key(alloc, seed)?,
+            CipherSuite::Aes256CtsHmacSha384192 => krb_aes_sha2::random_to_key(alloc, seed)?,
         };
         Ok(key)
     }
@@ -323,6 +426,20 @@ impl Checksum for ChecksumSuite {
                 &AesSize::Aes256,
             ),
             ChecksumSuite::HmacSha1Des3Kd => checksum_sha_des3(alloc, key, key_usage, payload),
+            ChecksumSuite::HmacSha256128Aes128 => checksum_sha2(
+                alloc,
+                key,
+                key_usage,
+                payload,
+                &AesSize::Aes128,
+            ),
+            ChecksumSuite::HmacSha384192Aes256 => checksum_sha2(
+                alloc,
+                key,
+                key_usage,
+                payload,
+                &AesSize::Aes256,
+            ),
         }
     }
 }

@@ -1,11 +1,11 @@
 //! The suites, and the numbers that name them in messages.
 
 ghost use Rattle.std.specs.Prelude.{◌≡◌};
-ghost use Rattle.krb_crypto.specs.Suites.{IsChecksumOf, IsCipherOf, IsCipherOfByte, checksum_number, cipher_key_size, cipher_number};
+ghost use Rattle.krb_crypto.specs.Suites.{IsChecksumOf, IsCipherOf, IsCipherOfByte, checksum_number, checksum_suites, cipher_key_size, cipher_number, cipher_suites};
 
 use krb_blocks::KerberosCryptoError;
 
-/// The ways to encrypt (RFC 3962, section 7; RFC 3961, section 6.3).
+/// The ways to encrypt (RFC 3962, section 7; RFC 3961, section 6.3; RFC 8009, section 5).
 #[derive(Clone, Copy, Debug, PartialEq, Eq)]
 pub enum CipherSuite {
     /// AES with 128-bit keys in CBC mode with ciphertext stealing, and HMAC-SHA1 cut to 96 bits.
@@ -16,10 +16,29 @@ pub enum CipherSuite {
 
     /// Triple DES in CBC mode, and HMAC-SHA1.
     Des3CbcSha1Kd,
+
+    /// AES with 128-bit keys in CBC mode with ciphertext stealing, and HMAC-SHA-256 cut to 128 bits.
+    Aes128CtsHmacSha256128,
+
+    /// AES with 256-bit keys in CBC mode with ciphertext stealing, and HMAC-SHA-384 cut to 192 bits.
+    Aes256CtsHmacSha384192,
 }
 
 impl CipherSuite {
-    /// How many bytes a key of this suite has (RFC 3962, section 6; RFC 3961, section 6.3).
+    /// All suites.
+    pub fn all() -> &'static [CipherSuite]
+        ensures { result.now ≡ cipher_suites }
+    {
+        &[
+            CipherSuite::Aes128CtsHmacSha196,
+            CipherSuite::Aes256CtsHmacSha196,
+            CipherSuite::Des3CbcSha1Kd,
+            CipherSuite::Aes128CtsHmacSha256128,
+            CipherSuite::Aes256CtsHmacSha384192,
+        ]
+    }
+
+    /// How many bytes a key of this suite has (RFC 3962, section 6; RFC 3961, section 6.3; RFC 8009, section 5).
     pub fn key_size(self) -> usize
         ensures { result ≡ cipher_key_size self }
     {
@@ -27,11 +46,13 @@ impl CipherSuite {
             CipherSuite::Aes128CtsHmacSha196 => 16,
             CipherSuite::Aes256CtsHmacSha196 => 32,
             CipherSuite::Des3CbcSha1Kd => 24,
+            CipherSuite::Aes128CtsHmacSha256128 => 16,
+            CipherSuite::Aes256CtsHmacSha384192 => 32,
         }
     }
 }
 
-/// The suite's number, as `etype` in a message (RFC 3962, section 7; RFC 3961, section 8).
+/// The suite's number, as `etype` in a message (RFC 3962, section 7; RFC 3961, section 8; RFC 8009, section 7).
 impl From<CipherSuite> for u8 {
     ghost from_gives = { λ suite number. number ≡ cipher_number suite };
 
@@ -40,11 +61,13 @@ impl From<CipherSuite> for u8 {
             CipherSuite::Aes128CtsHmacSha196 => 17,
             CipherSuite::Aes256CtsHmacSha196 => 18,
             CipherSuite::Des3CbcSha1Kd => 16,
+            CipherSuite::Aes128CtsHmacSha256128 => 19,
+            CipherSuite::Aes256CtsHmacSha384192 => 20,
         }
     }
 }
 
-/// The suite's number, as `etype` in a message (RFC 3962, section 7; RFC 3961, section 8).
+/// The suite's number, as `etype` in a message (RFC 3962, section 7; RFC 3961, section 8; RFC 8009, section 7).
 impl From<CipherSuite> for usize {
     ghost from_gives = { λ suite number. number ≡ cipher_number suite };
 
@@ -53,7 +76,7 @@ impl From<CipherSuite> for usize {
     }
 }
 
-/// The suite's number, as `etype` in a message (RFC 3962, section 7; RFC 3961, section 8).
+/// The suite's number, as `etype` in a message (RFC 3962, section 7; RFC 3961, section 8; RFC 8009, section 7).
 impl From<&CipherSuite> for u8 {
     ghost from_gives = { λ suite number. number ≡ cipher_number suite.now };
 
@@ -62,7 +85,7 @@ impl From<&CipherSuite> for u8 {
     }
 }
 
-/// The suite's number, as `etype` in a message (RFC 3962, section 7; RFC 3961, section 8).
+/// The suite's number, as `etype` in a message (RFC 3962, section 7; RFC 3961, section 8; RFC 8009, section 7).
 impl From<&CipherSuite> for u32 {
     ghost from_gives = { λ suite number. number ≡ cipher_number suite.now };
 
@@ -82,6 +105,8 @@ impl TryFrom<usize> for CipherSuite {
             16 => Ok(CipherSuite::Des3CbcSha1Kd),
             17 => Ok(CipherSuite::Aes128CtsHmacSha196),
             18 => Ok(CipherSuite::Aes256CtsHmacSha196),
+            19 => Ok(CipherSuite::Aes128CtsHmacSha256128),
+            20 => Ok(CipherSuite::Aes256CtsHmacSha384192),
             _ => Err(KerberosCryptoError::AlgorithmIdentifier(number)),
         }
     }
@@ -98,12 +123,14 @@ impl TryFrom<&[u8]> for CipherSuite {
             [16] => Ok(CipherSuite::Des3CbcSha1Kd),
             [17] => Ok(CipherSuite::Aes128CtsHmacSha196),
             [18] => Ok(CipherSuite::Aes256CtsHmacSha196),
+            [19] => Ok(CipherSuite::Aes128CtsHmacSha256128),
+            [20] => Ok(CipherSuite::Aes256CtsHmacSha384192),
             _ => Err(KerberosCryptoError::AlgorithmIdentifierData(bytes.len())),
         }
     }
 }
 
-/// The keyed checksums (RFC 3962, section 7; RFC 3961, section 6.3).
+/// The keyed checksums (RFC 3962, section 7; RFC 3961, section 6.3; RFC 8009, section 6).
 #[derive(Clone, Copy, Debug, PartialEq, Eq)]
 pub enum ChecksumSuite {
     /// HMAC-SHA1 cut to 96 bits, with a 128-bit key.
@@ -114,9 +141,30 @@ pub enum ChecksumSuite {
 
     /// HMAC-SHA1, with a key of triple DES.
     HmacSha1Des3Kd,
+
+    /// HMAC-SHA-256 cut to 128 bits, with a 128-bit key.
+    HmacSha256128Aes128,
+
+    /// HMAC-SHA-384 cut to 192 bits, with a 256-bit key.
+    HmacSha384192Aes256,
 }
 
-/// The suite's number, as `cksumtype` in a message (RFC 3962, section 7; RFC 3961, section 8).
+impl ChecksumSuite {
+    /// All checksums.
+    pub fn all() -> &'static [ChecksumSuite]
+        ensures { result.now ≡ checksum_suites }
+    {
+        &[
+            ChecksumSuite::HmacSha196Aes128,
+            ChecksumSuite::HmacSha196Aes256,
+            ChecksumSuite::HmacSha1Des3Kd,
+            ChecksumSuite::HmacSha256128Aes128,
+            ChecksumSuite::HmacSha384192Aes256,
+        ]
+    }
+}
+
+/// The suite's number, as `cksumtype` in a message (RFC 3962, section 7; RFC 3961, section 8; RFC 8009, section 7).
 impl From<ChecksumSuite> for u8 {
     ghost from_gives = { λ suite number. number ≡ checksum_number suite };
 
@@ -125,11 +173,13 @@ impl From<ChecksumSuite> for u8 {
             ChecksumSuite::HmacSha196Aes128 => 15,
             ChecksumSuite::HmacSha196Aes256 => 16,
             ChecksumSuite::HmacSha1Des3Kd => 12,
+            ChecksumSuite::HmacSha256128Aes128 => 19,
+            ChecksumSuite::HmacSha384192Aes256 => 20,
         }
     }
 }
 
-/// The suite's number, as `cksumtype` in a message (RFC 3962, section 7; RFC 3961, section 8).
+/// The suite's number, as `cksumtype` in a message (RFC 3962, section 7; RFC 3961, section 8; RFC 8009, section 7).
 impl From<ChecksumSuite> for usize {
     ghost from_gives = { λ suite number. number ≡ checksum_number suite };
 
@@ -138,7 +188,7 @@ impl From<ChecksumSuite> for usize {
     }
 }
 
-/// The suite's number, as `cksumtype` in a message (RFC 3962, section 7; RFC 3961, section 8).
+/// The suite's number, as `cksumtype` in a message (RFC 3962, section 7; RFC 3961, section 8; RFC 8009, section 7).
 impl From<ChecksumSuite> for u32 {
     ghost from_gives = { λ suite number. number ≡ checksum_number suite };
 
@@ -147,7 +197,7 @@ impl From<ChecksumSuite> for u32 {
     }
 }
 
-/// The suite's number, as `cksumtype` in a message (RFC 3962, section 7; RFC 3961, section 8).
+/// The suite's number, as `cksumtype` in a message (RFC 3962, section 7; RFC 3961, section 8; RFC 8009, section 7).
 impl From<&ChecksumSuite> for u8 {
     ghost from_gives = { λ suite number. number ≡ checksum_number suite.now };
 
@@ -156,7 +206,7 @@ impl From<&ChecksumSuite> for u8 {
     }
 }
 
-/// The suite's number, as `cksumtype` in a message (RFC 3962, section 7; RFC 3961, section 8).
+/// The suite's number, as `cksumtype` in a message (RFC 3962, section 7; RFC 3961, section 8; RFC 8009, section 7).
 impl From<&ChecksumSuite> for u32 {
     ghost from_gives = { λ suite number. number ≡ checksum_number suite.now };
 
@@ -176,6 +226,8 @@ impl TryFrom<usize> for ChecksumSuite {
             12 => Ok(ChecksumSuite::HmacSha1Des3Kd),
             15 => Ok(ChecksumSuite::HmacSha196Aes128),
             16 => Ok(ChecksumSuite::HmacSha196Aes256),
+            19 => Ok(ChecksumSuite::HmacSha256128Aes128),
+            20 => Ok(ChecksumSuite::HmacSha384192Aes256),
             _ => Err(KerberosCryptoError::AlgorithmIdentifier(number)),
         }
     }

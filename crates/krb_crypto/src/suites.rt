@@ -1,4 +1,4 @@
-//! The suites as types of their own (RFC 3962, section 7; RFC 3961, section 6.3).
+//! The suites as types of their own (RFC 3962, section 7; RFC 3961, section 6.3; RFC 8009, section 5).
 
 ghost use Rattle.std.specs.Prelude.{◌≡◌};
 ghost use Rattle.krb_crypto.specs.Sealing.{IsEncryptedBy, IsOpeningRefusal, IsRefusedPassword, IsSealedBy, checksum_of, cipher_filled, encryption_checksum_of, integrity_key_of, password_key_of, seed_key_of};
@@ -87,6 +87,44 @@ impl CipherType for Des3CbcSha1Kd {
     }
 }
 
+/// AES with 128-bit keys, with HMAC-SHA-256 cut to 128 bits.
+#[derive(Clone, Copy, Debug, Default, PartialEq, Eq)]
+pub struct Aes128CtsHmacSha256128;
+
+impl Aes128CtsHmacSha256128 {
+    /// The suite.
+    pub fn new() -> Aes128CtsHmacSha256128 {
+        Aes128CtsHmacSha256128
+    }
+}
+
+impl CipherType for Aes128CtsHmacSha256128 {
+    ghost stands_for = { λ _. CipherSuite.Aes128CtsHmacSha256128 };
+
+    fn suite(&self) -> CipherSuite {
+        CipherSuite::Aes128CtsHmacSha256128
+    }
+}
+
+/// AES with 256-bit keys, with HMAC-SHA-384 cut to 192 bits.
+#[derive(Clone, Copy, Debug, Default, PartialEq, Eq)]
+pub struct Aes256CtsHmacSha384192;
+
+impl Aes256CtsHmacSha384192 {
+    /// The suite.
+    pub fn new() -> Aes256CtsHmacSha384192 {
+        Aes256CtsHmacSha384192
+    }
+}
+
+impl CipherType for Aes256CtsHmacSha384192 {
+    ghost stands_for = { λ _. CipherSuite.Aes256CtsHmacSha384192 };
+
+    fn suite(&self) -> CipherSuite {
+        CipherSuite::Aes256CtsHmacSha384192
+    }
+}
+
 /// HMAC-SHA1 cut to 96 bits, with keys of AES-128.
 #[derive(Clone, Copy, Debug, Default, PartialEq, Eq)]
 pub struct HmacSha196Aes128;
@@ -120,6 +158,30 @@ impl ChecksumType for HmacSha1Des3Kd {
 
     fn suite(&self) -> ChecksumSuite {
         ChecksumSuite::HmacSha1Des3Kd
+    }
+}
+
+/// HMAC-SHA-256 cut to 128 bits, with keys of AES-128.
+#[derive(Clone, Copy, Debug, Default, PartialEq, Eq)]
+pub struct HmacSha256128Aes128;
+
+impl ChecksumType for HmacSha256128Aes128 {
+    ghost stands_for = { λ _. ChecksumSuite.HmacSha256128Aes128 };
+
+    fn suite(&self) -> ChecksumSuite {
+        ChecksumSuite::HmacSha256128Aes128
+    }
+}
+
+/// HMAC-SHA-384 cut to 192 bits, with keys of AES-256.
+#[derive(Clone, Copy, Debug, Default, PartialEq, Eq)]
+pub struct HmacSha384192Aes256;
+
+impl ChecksumType for HmacSha384192Aes256 {
+    ghost stands_for = { λ _. ChecksumSuite.HmacSha384192Aes256 };
+
+    fn suite(&self) -> ChecksumSuite {
+        ChecksumSuite::HmacSha384192Aes256
     }
 }
 

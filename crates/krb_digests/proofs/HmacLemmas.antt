@@ -1,15 +1,10 @@
--- Lemmas on the key's block and the hashes that hold it
+-- Lemmas on the key's block and the code's length
 use Rattle.std.proofs.Common.{◌≡◌, ℕ, zero, suc, ◌-◌, ◌*◌, ◌<◌, ◌≤◌, ◌∙◌, get_or, min, nat_lt, true, false, List, ◌++◌, length, take, replicate, refl, arith, tests}
 use Rattle.std.proofs.lemmas.List.{append-nil, length-append, take_all, take_min}
 use Rattle.std.specs.Int.{w32, to_be_bytes}
 use Rattle.std.proofs.Math.Nat.{min_comm}
-use Rattle.sha1.specs.Sha1.{Holds, digest_bytes, sha1}
-use Rattle.sha1.specs.declared.Sha1.{Sha1}
+use Rattle.sha1.specs.Sha1.{digest_bytes, sha1}
 use Rattle.krb_digests.specs.Hmac.{fitted, hmac_of, key_block}
-
--- a hasher that equals another holds its message
-pub Holds_same : (old new : Sha1) (m : List ℕ) → new ≡ old → Holds old m → Holds new m
-Holds_same old new m same held = rw same held
 
 -- a key no longer than a block is its own, a longer one is hashed
 pub key_block-short : (digest : List ℕ → List ℕ) (block : ℕ) (key : List ℕ) → length key ≤ block → fitted block key ≡ key_block digest block key

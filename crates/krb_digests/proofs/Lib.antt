@@ -1,3 +1,4 @@
+pub mod Blocks
 pub mod Copies
 pub mod CopiedBits
 pub mod FoldLemmas

@@ -1,7 +1,6 @@
 -- HMAC (RFC 2104), over any hash function and its block size
 use Rattle.std.specs.Prelude.{◌≡◌, ℕ, ◌-◌, nat_lt, List, [], ◌∷◌, ◌++◌, length, map, take, replicate, bit_xor, if◌then◌else◌, codes, refl}
-use Rattle.sha1.specs.Sha1.{Holds, compress, digest_bytes, first_words, hash_after, rounds, schedule, sha1}
-use Rattle.krb_digests.specs.declared.hmac.MacKey.{MacKey}
+use Rattle.sha1.specs.Sha1.{compress, digest_bytes, first_words, hash_after, rounds, schedule, sha1}
 
 -- the first n of the bytes, filled with zeros where there are fewer
 abbrev pub fitted : ℕ → List ℕ → List ℕ
@@ -24,11 +23,6 @@ hmac_of digest block key message =
 -- HMAC-SHA1, whose blocks have 64 bytes
 abbrev pub hmac_sha1_of : List ℕ → List ℕ → List ℕ
 hmac_sha1_of key message = hmac_of sha1 64 key message
-
--- the two hashes of HMAC-SHA1 with the key taken in
-pub record IsMacKey (made : MacKey) (key : List ℕ) : Type 0 where
-  pub inner : Holds made.inner (xored_with 0x36 (key_block sha1 64 key))
-  pub outer : Holds made.outer (xored_with 0x5C (key_block sha1 64 key))
 
 -- the second test case of RFC 2202
 hmac_of-jefe : hmac_sha1_of (codes "Jefe") (codes "what do ya want for nothing?")

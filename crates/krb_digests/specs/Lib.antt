@@ -1,4 +1,5 @@
 pub mod Hmac
+pub mod Kdf
 pub mod NFold
 pub mod NFoldSteps
 pub mod Pbkdf2

@@ -1,99 +1,31 @@
-//! HMAC-SHA1 (RFC 2104).
+//! HMAC (RFC 2104).
 
 ghost use Rattle.std.specs.Prelude.{◌≡◌, ℕ, ◌≤◌, List, ◌++◌, length, take, IfOk};
-ghost use Rattle.sha1.specs.Sha1.{sha1};
-ghost use Rattle.krb_digests.specs.Hmac.{IsMacKey, fitted, hmac_sha1_of, key_block, xored_with};
+ghost use Rattle.krb_digests.specs.Hmac.{fitted, hmac_of, hmac_sha1_of, key_block, xored_with};
 
-use sha1::{DIGEST_LEN, Sha1};
+use crate::hash::BlockHash;
+use sha1::Sha1;
 use std::alloc::{AllocError, Global};
 
-/// The bytes that SHA-1 takes in at a time.
-const BLOCK_LEN: usize = 64;
+/// The bytes that SHA-1 hashes at a time.
+const SHA1_BLOCK_LEN: usize = 64;
 
-/// A key of HMAC-SHA1 that both hashes have taken in, so that each further message costs two blocks less.
-#[derive(Drop)]
-pub struct MacKey {
-    inner: Sha1,
-    outer: Sha1,
-}
+/// What the bytes of the key are xored with for the inner and for the outer hash.
+pub(crate) const INNER_PAD: u8 = 0x36;
 
-impl MacKey {
-    /// The key, which is hashed first where it is longer than a block of 64 bytes.
-    pub fn new(key: &[u8]) -> MacKey
-        ensures { IsMacKey result key.now }
-    {
-        let block = block_of_key(key);
-        let mut inner = Sha1::new();
-        inner.update(&xored(&block, 0x36));
-        let mut outer = Sha1::new();
-        outer.update(&xored(&block, 0x5C));
-        MacKey { inner, outer }
-    }
+pub(crate) const OUTER_PAD: u8 = 0x5C;
 
-    /// The message's authentication code.
-    pub fn mac(&self, message: &[u8]) -> [u8; DIGEST_LEN]
-        ensures { (key : List ℕ) → IsMacKey self.now key → result ≡ hmac_sha1_of key message.now }
-    {
-        let mut inner = copied(&self.inner);
-        inner.update(message);
-        let mut outer = copied(&self.outer);
-        outer.update(&inner.finalize());
-        outer.finalize()
-    }
-
-    /// The authentication code of a message in two parts.
-    pub fn mac_of_two(&self, front: &[u8], back: &[u8]) -> [u8; DIGEST_LEN]
-        ensures { (key : List ℕ) → IsMacKey self.now key → result ≡ hmac_sha1_of key (front.now ++ back.now) }
-    {
-        let mut inner = copied(&self.inner);
-        inner.update(front);
-        inner.update(back);
-        let mut outer = copied(&self.outer);
-        outer.update(&inner.finalize());
-        outer.finalize()
-    }
-}
-
-// The same state: cloning it takes no memory.
-fn copied(hasher: &Sha1) -> Sha1
-    ensures { result ≡ hasher.now }
+/// The authentication code of a message in two parts. A key that is longer than a block is hashed first.
+pub fn hmac<H: BlockHash<N, B>, const N: usize, const B: usize>(
+    key: &[u8],
+    front: &[u8],
+    back: &[u8],
+) -> [u8; N]
+    ensures { result ≡ hmac_of H.digest_of B key.now (front.now ++ back.now) }
 {
-    match hasher.clone() {
-        Ok(same) => same,
-        Err(_) => unreachable!(),
-    }
-}
-
-fn block_of_key(key: &[u8]) -> [u8; BLOCK_LEN]
-    ensures { result ≡ key_block sha1 64 key.now }
-{
-    if key.len() > BLOCK_LEN {
-        filled(&Sha1::digest(key))
-    } else {
-        filled(key)
-    }
-}
-
-// The bytes and zeros.
-fn filled(bytes: &[u8]) -> [u8; BLOCK_LEN]
-    requires { length bytes.now ≤ 64 }
-    ensures { result ≡ fitted 64 bytes.now }
-{
-    let mut block = [0; BLOCK_LEN];
-    for (i, byte) in bytes.iter().enumerate() {
-        block[i] = *byte;
-    }
-    block
-}
-
-fn xored(block: &[u8; BLOCK_LEN], pad: u8) -> [u8; BLOCK_LEN]
-    ensures { result ≡ xored_with pad block.now }
-{
-    let mut out = *block;
-    for byte in out.iter_mut() {
-        *byte ^= pad;
-    }
-    out
+    let inner = keyed::<H, N, B>(key, INNER_PAD);
+    let outer = keyed::<H, N, B>(key, OUTER_PAD);
+    code(&inner, &outer, front, back)
 }
 
 /// HMAC-SHA1 as the sealing of Kerberos calls it: the first 64 bytes of `key` are the key, longer keys are not hashed,
@@ -110,8 +42,73 @@ pub fn hmac_sha1(
     ensures cut { length key.now ≤ 64 → mac_size ≤ 20
         → IfOk result (λ v. v.items ≡ take mac_size (hmac_sha1_of key.now payload.now)) }
 {
-    let kept = &key[..key.len().min(BLOCK_LEN)];
-    let mut mac = Vec::from_slice(alloc, &MacKey::new(kept).mac(payload))?;
+    let kept = &key[..key.len().min(SHA1_BLOCK_LEN)];
+    let code = hmac::<Sha1, 20, 64>(kept, &[], payload);
+    let mut mac = Vec::from_slice(alloc, &code)?;
     mac.resize(mac_size, 0)?;
     Ok(mac)
+}
+
+/// A hasher that has hashed the key's block under a pad.
+pub(crate) fn keyed<H: BlockHash<N, B>, const N: usize, const B: usize>(key: &[u8], pad: u8) -> H
+    ensures { H.holds result (xored_with pad (key_block H.digest_of B key.now)) }
+{
+    let block = block_of_key::<H, N, B>(key);
+    let mut hasher = H::begin();
+    hasher.absorb(&xored(&block, pad));
+    hasher
+}
+
+/// The authentication code of a message in two parts, by the two hashers that have hashed the key. So a further message
+/// costs two blocks less.
+pub(crate) fn code<H: BlockHash<N, B>, const N: usize, const B: usize>(
+    inner: &H,
+    outer: &H,
+    front: &[u8],
+    back: &[u8],
+) -> [u8; N]
+    ensures { (key : List ℕ) → H.holds inner.now (xored_with 0x36 (key_block H.digest_of B key))
+        → H.holds outer.now (xored_with 0x5C (key_block H.digest_of B key))
+        → result ≡ hmac_of H.digest_of B key (front.now ++ back.now) }
+{
+    let mut inner = inner.copied();
+    inner.absorb(front);
+    inner.absorb(back);
+    let mut outer = outer.copied();
+    outer.absorb(&inner.finish());
+    outer.finish()
+}
+
+fn block_of_key<H: BlockHash<N, B>, const N: usize, const B: usize>(key: &[u8]) -> [u8; B]
+    ensures { result ≡ key_block H.digest_of B key.now }
+{
+    if key.len() > B {
+        let mut hasher = H::begin();
+        hasher.absorb(key);
+        filled(&hasher.finish())
+    } else {
+        filled(key)
+    }
+}
+
+// The bytes and zeros.
+fn filled<const B: usize>(bytes: &[u8]) -> [u8; B]
+    requires { length bytes.now ≤ B }
+    ensures { result ≡ fitted B bytes.now }
+{
+    let mut block = [0; B];
+    for (i, byte) in bytes.iter().enumerate() {
+        block[i] = *byte;
+    }
+    block
+}
+
+fn xored<const B: usize>(block: &[u8; B], pad: u8) -> [u8; B]
+    ensures { result ≡ xored_with pad block.now }
+{
+    let mut out = *block;
+    for byte in out.iter_mut() {
+        *byte ^= pad;
+    }
+    out
 }

@@ -14,15 +14,15 @@ pub(crate) fn is_chained(alloc: Global, row: &Row<'_>) -> bool {
 }
 
 /// Seed and key.
-pub(crate) fn is_seeded(row: &Row<'_>) -> bool {
+pub(crate) fn is_seeded(alloc: Global, row: &Row<'_>) -> bool {
     let [seed, key] = row.columns.as_slice() else {
         return false;
     };
-    is_stretched(seed, key)
+    is_stretched(alloc, seed, key)
 }
 
-fn is_stretched(seed: &[u8], key: &[u8]) -> bool {
-    seed.len() >= 21 && random_to_key(seed).as_slice() == key
+fn is_stretched(alloc: Global, seed: &[u8], key: &[u8]) -> bool {
+    seed.len() >= 21 && is(random_to_key(alloc, seed), key)
 }
 
 /// Key, constant, the octets that they make, and the key made from these.
@@ -31,6 +31,6 @@ pub(crate) fn is_derived(alloc: Global, row: &Row<'_>) -> bool {
         return false;
     };
     !constant.is_empty()
-        && is_stretched(octets, derived)
+        && is_stretched(alloc, octets, derived)
         && is(derive_key(alloc, key, constant), derived)
 }

@@ -2,7 +2,9 @@
 
 use crate::is;
 use crate::row::Row;
-use krb_digests::{MacKey, hmac_sha1, n_fold, pbkdf2_hmac_sha1};
+use krb_digests::{hmac, hmac_sha1, kdf_hmac_sha2, n_fold, pbkdf2_hmac_sha1};
+use sha1::Sha1;
+use sha2::{Sha256, Sha384};
 use std::alloc::Global;
 
 /// Key, message and code, of the message whole and in two parts.
@@ -10,10 +12,29 @@ pub(crate) fn is_code(row: &Row<'_>) -> bool {
     let [key, message, code] = row.columns.as_slice() else {
         return false;
     };
-    let key = MacKey::new(key);
     let (front, back) = message.split_at(message.len() / 2);
-    key.mac(message).as_slice() == code.as_slice()
-        && key.mac_of_two(front, back).as_slice() == code.as_slice()
+    hmac::<Sha1, 20, 64>(key, message, &[]).as_slice() == code.as_slice()
+        && hmac::<Sha1, 20, 64>(key, front, back).as_slice() == code.as_slice()
+}
+
+/// Key and derived key, by the label of usage 2 and the row's kind.
+pub(crate) fn is_derived(alloc: Global, row: &Row<'_>) -> bool {
+    let (Ok(kind), [key, derived]) = (u8::try_from(row.usage), row.columns.as_slice()) else {
+        return false;
+    };
+    let label = [0, 0, 0, 2, kind];
+    let size = derived.len();
+    match row.size {
+        19 if size <= 32 => is(
+            kdf_hmac_sha2::<Sha256, 32, 64>(alloc, key, &label, size),
+            derived,
+        ),
+        20 if size <= 48 => is(
+            kdf_hmac_sha2::<Sha384, 48, 128>(alloc, key, &label, size),
+            derived,
+        ),
+        _ => false,
+    }
 }
 
 /// Key, message and code, cut or filled to the row's size.

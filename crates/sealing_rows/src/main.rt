@@ -15,7 +15,8 @@ use std::fs;
 fn main(rt: HostRuntime) -> anyhow::Result<()> {
     replay(&rt, "standards.txt")?;
     replay(&rt, "sealing_aes.txt")?;
-    replay(&rt, "sealing_des3.txt")
+    replay(&rt, "sealing_des3.txt")?;
+    replay(&rt, "sealing_sha2.txt")
 }
 
 /// Replays a file, and prints how many of its lines say something else than what is made.
@@ -46,13 +47,14 @@ fn agrees(alloc: Global, row: &Row<'_>) -> bool {
         "key" => suites::is_key(alloc, row),
         "seal" => suites::is_sealed(alloc, row),
         "checksum" => suites::is_checksum(alloc, row),
+        "derive" => digests::is_derived(alloc, row),
         "mac" => digests::is_code(row),
         "hmac" => digests::is_fitted_code(alloc, row),
         "pbkdf2" => digests::is_password_key(alloc, row),
         "agree" => agreement::is_agreed(alloc, row),
         "nfold" => digests::is_folded(alloc, row),
         "des3" => des::is_chained(alloc, row),
-        "des3-seed" => des::is_seeded(row),
+        "des3-seed" => des::is_seeded(alloc, row),
         "des3-derive" => des::is_derived(alloc, row),
         _ => false,
     }

@@ -2,6 +2,8 @@
 #![tactic(auto)]
 
 #[cfg(test)]
+mod aes_sha2;
+#[cfg(test)]
 mod des;
 #[cfg(test)]
 mod digests;

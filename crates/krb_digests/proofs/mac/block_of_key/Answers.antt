@@ -1,13 +1,13 @@
 use Rattle.std.proofs.Common.{◌∙◌, ap}
-use Rattle.sha1.specs.Sha1.{sha1}
 use Rattle.krb_digests.specs.Hmac.{fitted}
 use Rattle.krb_digests.proofs.HmacLemmas.{key_block-long, key_block-short}
-use Rattle.krb_digests.proofs.hmac.block_of_key.Goals as goal
+use Rattle.krb_digests.proofs.mac.block_of_key.Goals as goal
 
-pub returns-then-key-gt-BLOCK_LEN : goal.returns-then-key-gt-BLOCK_LEN
-returns-then-key-gt-BLOCK_LEN c =
-    c.filled.ensures ∙ ap (fitted 64) c.digest.ensures ∙ key_block-long sha1 64 c.args.key.now c.if-key-gt-BLOCK_LEN.true
+pub returns-then-key : goal.returns-then-key
+returns-then-key g c =
+    let hashed = c.finish.ensures _ (c.absorb.ensures _ c.begin-hasher.ensures) in
+    c.filled.ensures ∙ ap (fitted g.row.B) hashed ∙ key_block-long g.H.BlockHash.digest_of g.row.B c.args.key.now c.if-key.true
 
-pub returns-else-key-gt-BLOCK_LEN : goal.returns-else-key-gt-BLOCK_LEN
-returns-else-key-gt-BLOCK_LEN c =
-    c.filled-else-key-gt-BLOCK_LEN.ensures ∙ key_block-short sha1 64 c.args.key.now c.if-key-gt-BLOCK_LEN.false
+pub returns-else-key : goal.returns-else-key
+returns-else-key g c =
+    c.filled-else-key.ensures ∙ key_block-short g.H.BlockHash.digest_of g.row.B c.args.key.now c.if-key.false

@@ -1,0 +1,3 @@
+pub mod Macs
+pub mod Sha2Laws
+pub mod Opened

@@ -1,0 +1,14 @@
+//! The suites of AES with HMAC-SHA-256 cut to 128 bits and HMAC-SHA-384 cut to 192 bits (RFC 8009): keys, sealing, opening,
+//! checksums, by the size of the keys.
+#![tactic(auto)]
+
+mod derivation;
+mod mac;
+mod opening;
+mod sealing;
+
+pub use derivation::{derive_key, derive_key_from_password, random_to_key};
+pub use opening::{decrypt_message, decrypt_message_no_checksum};
+pub use sealing::{
+    checksum_sha2, encrypt_message, encrypt_message_no_checksum, encryption_checksum,
+};
