@@ -1,39 +1,36 @@
 -- A key that is of a suite has as many bytes as the suite's keys.
-use Rattle.std.proofs.Common.{◌≡◌, ℕ, Bool, true, false, List, length, Option, None, Some, Result, Ok, Err, IsOk, IfOk, refl, ap, sym, ◌∙◌}
-use Rattle.std.proofs.lemmas.Bool.{and_parts, eqb-true, false≢true}
+use Rattle.std.proofs.Common.{◌≡◌, ℕ, true, List, length, Some, Result, Ok, Err, IsOk, IfOk, refl, ap, sym, subst, ◌∙◌}
+use Rattle.std.proofs.lemmas.Bool.{and_from, and_parts, eq-eqb, eqb-true, false≢true}
 use Rattle.std.specs.Option.{option_map}
-use Rattle.std.specs.Prelude.{if◌then◌else◌}
+use Rattle.std.specs.Prelude.{ℤ, pos}
 use Rattle.std.specs.Result.{result_ok}
 use Rattle.krb_blocks.specs.declared.error.KerberosCryptoError.{KerberosCryptoError}
 use Rattle.krb_crypto.specs.declared.suite.CipherSuite.{CipherSuite}
-use Rattle.krb_crypto.specs.declared.suite.CipherSuite.TheVariants.{Aes128CtsHmacSha196, Aes256CtsHmacSha196, Des3CbcSha1Kd}
 use Rattle.krb_crypto.specs.Keys.{KeyRecord}
-use Rattle.krb_crypto.specs.Suites.{cipher_key_size}
+use Rattle.krb_crypto.specs.Suites.{cipher_key_size, cipher_number, cipher_suites}
+use Rattle.krb_crypto.proofs.AllSuites.{found_passes, suite_found}
+use Rattle.krb_crypto.proofs.SealingLemmas.{same_suite}
 use Rattle.krb_types.specs.declared.data_types.encryption_key.EncryptionKey.{EncryptionKey}
+use Rattle.picky_asn1.specs.Numbers.{is_number}
 use Rattle.krb_opening.specs.Keys.{is_key_of, key_in, suite_of}
 
 has_size : (suite : CipherSuite) (key : EncryptionKey) → is_key_of suite key ≡ true → length key.key_value.0 ≡ cipher_key_size suite
 has_size suite key e = eqb-true (length key.key_value.0) (cipher_key_size suite) ((and_parts _ _ e).1)
 
--- the suite that is found by these tests
-abbrev found : Bool → Bool → Bool → Option CipherSuite
-found aes128 aes256 des3 =
-    if aes128 then Some Aes128CtsHmacSha196
-    else (if aes256 then Some Aes256CtsHmacSha196
-    else (if des3 then Some Des3CbcSha1Kd else None))
-
-sized_if : (aes128 aes256 des3 : Bool) (n : ℕ) (suite : CipherSuite)
-    → (aes128 ≡ true → n ≡ cipher_key_size Aes128CtsHmacSha196) → (aes256 ≡ true → n ≡ cipher_key_size Aes256CtsHmacSha196) → (des3 ≡ true → n ≡ cipher_key_size Des3CbcSha1Kd)
-    → found aes128 aes256 des3 ≡ Some suite → n ≡ cipher_key_size suite
-sized_if true aes256 des3 n suite f g h e = let same : Aes128CtsHmacSha196 ≡ suite = cc (e) in f refl ∙ ap cipher_key_size same
-sized_if false true des3 n suite f g h e = let same : Aes256CtsHmacSha196 ≡ suite = cc (e) in g refl ∙ ap cipher_key_size same
-sized_if false false true n suite f g h e = let same : Des3CbcSha1Kd ≡ suite = cc (e) in h refl ∙ ap cipher_key_size same
-sized_if false false false n suite f g h e = absurd (cc (e))
-
 pub suite_sized : (key : EncryptionKey) (suite : CipherSuite) → suite_of key ≡ Some suite → length key.key_value.0 ≡ cipher_key_size suite
-suite_sized key suite e =
-    sized_if (is_key_of Aes128CtsHmacSha196 key) (is_key_of Aes256CtsHmacSha196 key) (is_key_of Des3CbcSha1Kd key) (length key.key_value.0) suite
-    (has_size Aes128CtsHmacSha196 key) (has_size Aes256CtsHmacSha196 key) (has_size Des3CbcSha1Kd key) e
+suite_sized key suite e = has_size suite key (found_passes (λ s. is_key_of s key) cipher_suites suite e)
+
+is_numbered : (n : ℕ) (kind : ℤ) → kind ≡ pos n → is_number n kind ≡ true
+is_numbered n kind told = subst (λ (k : ℤ). is_number n k ≡ true) (sym told) (eq-eqb n n refl)
+
+numbers_agree : (m n : ℕ) (kind : ℤ) → kind ≡ pos n → is_number m kind ≡ true → m ≡ n
+numbers_agree m n kind told is = sym (eqb-true n m (subst (λ (k : ℤ). is_number m k ≡ true) told is))
+
+-- a key that tells a suite's number and has the length of its keys is one of it
+pub suite_of_sized : (key : EncryptionKey) (suite : CipherSuite) → key.key_type.0 ≡ pos (cipher_number suite) → length key.key_value.0 ≡ cipher_key_size suite → suite_of key ≡ Some suite
+suite_of_sized key suite told sized =
+    suite_found (λ s. is_key_of s key) suite (and_from _ _ (is_numbered (cipher_number suite) key.key_type.0 told) (eq-eqb (length key.key_value.0) (cipher_key_size suite) sized))
+    (λ s passes. same_suite s suite (numbers_agree (cipher_number s) (cipher_number suite) key.key_type.0 told ((and_parts _ _ passes).0)))
 
 abbrev key_by : CipherSuite → List ℕ → KeyRecord
 key_by suite bytes = record { suite = suite; bytes = bytes }

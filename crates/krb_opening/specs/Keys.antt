@@ -1,10 +1,10 @@
 -- Keys of messages (RFC 4120, section 5.2.9).
 use Rattle.std.specs.Option.{option_map}
-use Rattle.std.specs.Prelude.{Bool, ◌==◌, ◌&&◌, length, Option, None, Some, if◌then◌else◌}
+use Rattle.std.specs.List.{find}
+use Rattle.std.specs.Prelude.{Bool, ◌==◌, ◌&&◌, length, Option}
 use Rattle.krb_crypto.specs.declared.suite.CipherSuite.{CipherSuite}
-use Rattle.krb_crypto.specs.declared.suite.CipherSuite.TheVariants.{Aes128CtsHmacSha196, Aes256CtsHmacSha196, Des3CbcSha1Kd}
 use Rattle.krb_crypto.specs.Keys.{KeyRecord}
-use Rattle.krb_crypto.specs.Suites.{cipher_key_size, cipher_number}
+use Rattle.krb_crypto.specs.Suites.{cipher_key_size, cipher_number, cipher_suites}
 use Rattle.krb_types.specs.declared.data_types.encryption_key.EncryptionKey.{EncryptionKey}
 use Rattle.picky_asn1.specs.Numbers.{is_number}
 
@@ -14,10 +14,7 @@ is_key_of suite key = is_number (cipher_number suite) key.key_type.0 && (length 
 
 -- the suite that the key is one of
 abbrev pub suite_of : EncryptionKey → Option CipherSuite
-suite_of key =
-    if is_key_of Aes128CtsHmacSha196 key then Some Aes128CtsHmacSha196
-    else (if is_key_of Aes256CtsHmacSha196 key then Some Aes256CtsHmacSha196
-    else (if is_key_of Des3CbcSha1Kd key then Some Des3CbcSha1Kd else None))
+suite_of key = find (λ suite. is_key_of suite key) cipher_suites
 
 -- the key of that suite
 abbrev pub key_in : EncryptionKey → Option KeyRecord

@@ -11,16 +11,10 @@ use picky_asn1::is_number;
 pub fn suite_of(key: &EncryptionKey) -> Option<CipherSuite>
     ensures { result ≡ suite_of key.now }
 {
-    if is_key_of(CipherSuite::Aes128CtsHmacSha196, key) {
-        return Some(CipherSuite::Aes128CtsHmacSha196);
-    }
-    if is_key_of(CipherSuite::Aes256CtsHmacSha196, key) {
-        return Some(CipherSuite::Aes256CtsHmacSha196);
-    }
-    if is_key_of(CipherSuite::Des3CbcSha1Kd, key) {
-        return Some(CipherSuite::Des3CbcSha1Kd);
-    }
-    None
+    CipherSuite::all()
+        .iter()
+        .copied()
+        .find(|suite| is_key_of(*suite, key))
 }
 
 /// The key of the suite that it is one of, or none.
