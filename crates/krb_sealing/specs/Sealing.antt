@@ -1,10 +1,10 @@
 -- Sealed data and keys of messages (RFC 4120, section 5.2.9), as they are made.
 use Rattle.std.specs.Prelude.{◌≡◌, ℕ, ℤ, true, Option, None, Some, pos, refl}
 use Rattle.std.proofs.Common.{ap, subst, sym, ◌∙◌}
+use Rattle.std.proofs.lemmas.Bool.{eq-eqb}
 use Rattle.asn1_trees.specs.Tree.{Tree, Writes}
 use Rattle.picky_asn1_der.specs.declared.wrapper.ExplicitContextTag.{ExplicitContextTag}
 use Rattle.krb_crypto.specs.declared.suite.CipherSuite.{CipherSuite}
-use Rattle.krb_crypto.specs.declared.suite.CipherSuite.TheVariants.{Aes128CtsHmacSha196, Aes256CtsHmacSha196, Des3CbcSha1Kd}
 use Rattle.krb_crypto.specs.Suites.{cipher_number}
 use Rattle.krb_crypto.specs.Sealing.{IsSealedBy}
 use Rattle.krb_crypto.proofs.SealingLemmas.{one_string}
@@ -47,10 +47,9 @@ sole_seals suite key number usage confounder plain a b x y =
     let same = one_string suite key usage confounder plain x.cipher y.cipher x.seals y.seals in
     x.told ∙ ap (encrypted_by suite number) same ∙ sym y.told
 
-is_own_number : (suite : CipherSuite) → is_number (cipher_number suite) (pos (cipher_number suite)) ≡ true
-is_own_number Aes128CtsHmacSha196 = refl
-is_own_number Aes256CtsHmacSha196 = refl
-is_own_number Des3CbcSha1Kd = refl
+-- a suite's number is its own
+pub is_own_number : (suite : CipherSuite) → is_number (cipher_number suite) (pos (cipher_number suite)) ≡ true
+is_own_number suite = eq-eqb (cipher_number suite) (cipher_number suite) refl
 
 -- what is sealed opens, as it was sealed
 pub sealed_opens : {T : Type 0} (tree : T → Tree) (value : T) (suite : CipherSuite) (key : Bytes) (number : Option ℕ) (usage : ℕ) (confounder plain : Bytes) (sealed : EncryptedData)
