@@ -9,7 +9,7 @@ use Rattle.krb_blocks.specs.Bytes.{IsBytes}
 use Rattle.krb_blocks.proofs.States.{IsBytes-take}
 use Rattle.krb_crypto.specs.Suites.{cipher_confounder_size, cipher_key_size}
 use Rattle.krb_crypto.specs.declared.suite.CipherSuite.{CipherSuite}
-use Rattle.krb_crypto.specs.declared.suite.CipherSuite.TheVariants.{Aes128CtsHmacSha196, Aes256CtsHmacSha196, Des3CbcSha1Kd}
+use Rattle.krb_crypto.proofs.AllSuites.{confounder_below}
 use Rattle.krb_crypto.proofs.SealedTexts.{has_sealed}
 use Rattle.krb_types.specs.declared.data_types.authenticator.AuthenticatorInner.{AuthenticatorInner}
 use Rattle.krb_moments.specs.Times.{moment_at}
@@ -33,9 +33,7 @@ micros_of second (pos micros) time e =
 
 -- the first of sixteen random bytes
 first_block : (suite : CipherSuite) (words : List ℕ) → 16 ≤ length words → length (take (cipher_confounder_size suite) words) ≡ cipher_confounder_size suite
-first_block Aes128CtsHmacSha196 words long = length-take-le 16 words long
-first_block Aes256CtsHmacSha196 words long = length-take-le 16 words long
-first_block Des3CbcSha1Kd words long = length-take-le 8 words (omega (arith, long))
+first_block suite words long = length-take-le (cipher_confounder_size suite) words (omega (arith, long, confounder_below suite))
 
 has_wanted : (wanted : Bool) (words : List ℕ) (suite : CipherSuite) (key : List ℕ) (authenticator : AuthenticatorInner) → length key ≡ cipher_key_size suite → IsBytes key
     → 16 ≤ length words → IsBytes words → IsBytes (der (enc_ap_rep_part_tree (ap_rep_part authenticator))) → (reply : Option (List ℕ)) × IsReply wanted words suite key authenticator reply

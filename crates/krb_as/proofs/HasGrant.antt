@@ -7,7 +7,7 @@ use Rattle.krb_blocks.proofs.States.{IsBytes-drop, IsBytes-take}
 use Rattle.krb_moments.specs.Moment.{IsMoment}
 use Rattle.krb_crypto.specs.Suites.{cipher_confounder_size, cipher_key_size}
 use Rattle.krb_crypto.specs.declared.suite.CipherSuite.{CipherSuite}
-use Rattle.krb_crypto.specs.declared.suite.CipherSuite.TheVariants.{Aes128CtsHmacSha196, Aes256CtsHmacSha196, Des3CbcSha1Kd}
+use Rattle.krb_crypto.proofs.AllSuites.{confounder_below}
 use Rattle.krb_crypto.proofs.SealedTexts.{has_sealed}
 use Rattle.krb_accounts.specs.Account.{AccountRecord}
 use Rattle.krb_types.specs.RandomBytes.{random_part}
@@ -31,9 +31,8 @@ use Rattle.krb_as.proofs.Written.{IsWritten}
 
 -- the front of a place of sixteen of the random bytes
 block_of : (suite : CipherSuite) (from : ℕ) (random : List ℕ) → from + 16 ≤ length random → length (random_part from (cipher_confounder_size suite) random) ≡ cipher_confounder_size suite
-block_of Aes128CtsHmacSha196 from random long = length-take-le 16 (drop from random) (omega (arith, length-drop from random))
-block_of Aes256CtsHmacSha196 from random long = length-take-le 16 (drop from random) (omega (arith, length-drop from random))
-block_of Des3CbcSha1Kd from random long = length-take-le 8 (drop from random) (omega (arith, length-drop from random))
+block_of suite from random long =
+    length-take-le (cipher_confounder_size suite) (drop from random) (omega (arith, length-drop from random, confounder_below suite))
 
 has_data : (suite : CipherSuite) (key : List ℕ) (number : Option ℕ) (usage from : ℕ) (random plain : List ℕ) → length key ≡ cipher_key_size suite → IsBytes key
     → from + 16 ≤ length random → IsBytes random → IsBytes plain → (made : EncryptedData) × Seals suite key number usage (random_part from (cipher_confounder_size suite) random) plain made

@@ -8,8 +8,8 @@ use Rattle.asn1_leaves.specs.declared.date.GeneralizedTime.{GeneralizedTime}
 use Rattle.picky_asn1.specs.GeneralizedTime.{time_text}
 use Rattle.picky_asn1.specs.Integer.{integer_content}
 use Rattle.krb_crypto.specs.declared.suite.CipherSuite.{CipherSuite}
-use Rattle.krb_crypto.specs.declared.suite.CipherSuite.TheVariants.{Aes128CtsHmacSha196, Aes256CtsHmacSha196, Des3CbcSha1Kd}
 use Rattle.krb_crypto.specs.Suites.{cipher_number}
+use Rattle.krb_crypto.proofs.AllSuites.{number_below}
 use Rattle.krb_types.specs.declared.data_types.encryption_key.EncryptionKey.{EncryptionKey}
 use Rattle.krb_types.specs.declared.data_types.principal_name.PrincipalName.{PrincipalName}
 use Rattle.krb_types.specs.contracts.data_types.encryption_key.EncryptionKeyTagged.TheImpl as encryption_key_impl
@@ -39,11 +39,6 @@ small_number first number fits few =
 time_fits : (first : ℕ) (time : GeneralizedTime) → first < 256 → Fits 37 (constructed first (more (time_tree time) none))
 time_fits first time fits = fits_wrapped 26 first (time_tree time) fits (omega arith) (fits_primitive 15 24 (time_text time) (omega arith) (omega arith) (time_short time))
 
-suite_below : (suite : CipherSuite) → cipher_number suite < 1000000
-suite_below Aes128CtsHmacSha196 = omega arith
-suite_below Aes256CtsHmacSha196 = omega arith
-suite_below Des3CbcSha1Kd = omega arith
-
 -- a sequence under a further tag
 sequence_fits : (n first : ℕ) (parts : Trees) → first < 256 → n < 2 ^ 71 → AllFit n parts → Fits (n + 22) (constructed first (more (constructed 48 parts) none))
 sequence_fits n first parts fits few x =
@@ -54,7 +49,7 @@ sequence_fits n first parts fits few x =
 key_fits : (first : ℕ) (suite : CipherSuite) (session : List ℕ) → first < 256 → IsShort 32 session
     → Fits 102 (constructed first (more (encryption_key_tree (encryption_key suite session)) none))
 key_fits first suite session fits key =
-    let kind = small_number 160 (cipher_number suite) (omega arith) (suite_below suite) in
+    let kind = small_number 160 (cipher_number suite) (omega arith) (omega (arith, number_below suite)) in
     let value = fits_wrapped 43 161 (primitive 4 session) (omega arith) (omega arith) (fits_primitive 32 4 session (omega arith) (omega arith) key) in
     sequence_fits 80 first _ fits (omega arith) (more_trees 26 54 _ _ kind (more_trees 54 0 _ _ value no_trees))
 

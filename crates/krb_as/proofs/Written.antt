@@ -8,8 +8,8 @@ use Rattle.picky_asn1.specs.Numbers.{is_number}
 use Rattle.krb_blocks.specs.Bytes.{IsBytes}
 use Rattle.krb_blocks.proofs.States.{IsBytes-drop, IsBytes-take}
 use Rattle.krb_crypto.specs.declared.suite.CipherSuite.{CipherSuite}
-use Rattle.krb_crypto.specs.declared.suite.CipherSuite.TheVariants.{Aes128CtsHmacSha196, Aes256CtsHmacSha196, Des3CbcSha1Kd}
 use Rattle.krb_crypto.specs.Suites.{cipher_key_size, cipher_seed_size}
+use Rattle.krb_crypto.proofs.AllSuites.{key_below, seed_below}
 use Rattle.krb_crypto.proofs.SealedTexts.{seed_key_bytes, seed_key_sized}
 use Rattle.krb_types.specs.Names.{is_same_realm}
 use Rattle.krb_types.specs.RandomBytes.{session_seed}
@@ -33,14 +33,8 @@ pub record IsWritten (exchange : Exchange) (grant : Grant) : Type 0 where
 
 -- the session's key
 seed_sized : (suite : CipherSuite) (random : List ℕ) → 128 ≤ length random → length (session_seed (cipher_seed_size suite) random) ≡ cipher_seed_size suite
-seed_sized Aes128CtsHmacSha196 random long = length-take-le 16 (drop 0 random) (omega (arith, length-drop 0 random))
-seed_sized Aes256CtsHmacSha196 random long = length-take-le 32 (drop 0 random) (omega (arith, length-drop 0 random))
-seed_sized Des3CbcSha1Kd random long = length-take-le 21 (drop 0 random) (omega (arith, length-drop 0 random))
-
-key_below : (suite : CipherSuite) → cipher_key_size suite ≤ 32
-key_below Aes128CtsHmacSha196 = omega arith
-key_below Aes256CtsHmacSha196 = omega arith
-key_below Des3CbcSha1Kd = omega arith
+seed_sized suite random long =
+    length-take-le (cipher_seed_size suite) (drop 0 random) (omega (arith, length-drop 0 random, seed_below suite))
 
 pub session_short : (suite : CipherSuite) (random : List ℕ) → 128 ≤ length random → IsBytes random → IsShort 32 (session_key_of suite random)
 session_short suite random long bytes =

@@ -9,7 +9,6 @@ use Rattle.picky_asn1.specs.GeneralizedTime.{seconds_of}
 use Rattle.krb_moments.specs.Skew.{is_far}
 use Rattle.krb_moments.specs.Units.{Micros, Seconds}
 use Rattle.krb_crypto.specs.declared.suite.CipherSuite.{CipherSuite}
-use Rattle.krb_crypto.specs.declared.suite.CipherSuite.TheVariants.{Aes128CtsHmacSha196, Aes256CtsHmacSha196, Des3CbcSha1Kd}
 use Rattle.krb_crypto.specs.Suites.{cipher_confounder_size, cipher_number}
 use Rattle.picky_asn1.specs.Numbers.{is_number}
 use Rattle.krb_types.specs.Names.{is_same_realm}
@@ -24,7 +23,7 @@ use Rattle.krb_messages.specs.declared.messages.kdc_req.KdcReq.{KdcReq}
 use Rattle.krb_messages.specs.declared.messages.kdc_req_body.KdcReqBody.{KdcReqBody}
 use Rattle.krb_accounts.specs.Account.{AccountRecord}
 use Rattle.decision_tables.specs.Tables.{Table, and_then, ask, done, need, refuse}
-use Rattle.krb_sealing.specs.Sealing.{sealed_opens}
+use Rattle.krb_sealing.specs.Sealing.{is_own_number, sealed_opens}
 use Rattle.krb_preauth.specs.Entries.{first_entry, first_of}
 use Rattle.krb_preauth.specs.Stamps as preauth
 use Rattle.krb_preauth.specs.Stamps.{moment_of, sole_stamp, stamp_tree}
@@ -180,16 +179,11 @@ module _ (call : CallRecord) (of_client of_service : Option AccountRecord) (requ
       record { span = f.0; lasting = f.1; bytes = g.0; replied = g.1; is = g.2 }
 
 -- the suite that the client takes is its account's
-own_suite : (suite : CipherSuite) → is_number (cipher_number suite) (pos (cipher_number suite)) ≡ true
-own_suite Aes128CtsHmacSha196 = refl
-own_suite Aes256CtsHmacSha196 = refl
-own_suite Des3CbcSha1Kd = refl
-
 listed : (client : ClientRecord) (service : List Bytes) (till : GeneralizedTime) (nonce : ℕ) (suite : CipherSuite) → suite ≡ client.suite
     → is_listed suite (request_body client true service till nonce) ≡ true
 listed client service till nonce suite same =
     subst (λ s. is_listed s (request_body client true service till nonce) ≡ true) (sym same)
-    (or_left (is_number (cipher_number client.suite) (pos (cipher_number client.suite))) false (own_suite client.suite))
+    (or_left (is_number (cipher_number client.suite) (pos (cipher_number client.suite))) false (is_own_number client.suite))
 
 -- the request's type and options are as they are to be, and its realm is this one
 for_realm : (client : ClientRecord) (service : List Bytes) (till : GeneralizedTime) (nonce : ℕ) (stamp : EncryptedData) (realm : Bytes) → client.realm ≡ realm

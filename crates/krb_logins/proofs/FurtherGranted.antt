@@ -1,8 +1,8 @@
 -- The realm grants the ticket for the service by the first one: each row of the TGS table is passed.
 use Rattle.std.proofs.Common.{◌≡◌, ◌<◌, ◌≤◌, ℕ, ◌+◌, ◌*◌, ◌/◌, ◌%◌, true, false, not, ◌&&◌, ◌||◌, min, List, [], ◌∷◌, Option, None, Some, Result, Ok, Err, inl, inr, refl, sym, ap, subst, ◌∙◌, get_or, arith}
-use Rattle.std.proofs.lemmas.Bool.{and_from, eq-eqb, lt-leb}
+use Rattle.std.proofs.lemmas.Bool.{and_from, eq-eqb, eqb-true, lt-leb}
 use Rattle.std.specs.Option.{is_some}
-use Rattle.std.specs.Prelude.{pos}
+use Rattle.std.specs.Prelude.{ℤ, if◌then◌else◌, pos}
 use Rattle.asn1_trees.specs.Length.{element}
 use Rattle.asn1_trees.specs.Tree.{IsWhole, leaf}
 use Rattle.asn1_trees.proofs.Spelling.{whole-wrapped}
@@ -15,9 +15,10 @@ use Rattle.krb_moments.specs.Skew.{is_far}
 use Rattle.krb_moments.specs.Times.{moment_at}
 use Rattle.krb_moments.specs.Units.{Micros, Seconds}
 use Rattle.krb_crypto.specs.declared.suite.CipherSuite.{CipherSuite}
-use Rattle.krb_crypto.specs.declared.suite.CipherSuite.TheVariants.{Aes128CtsHmacSha196, Aes256CtsHmacSha196, Des3CbcSha1Kd}
 use Rattle.krb_crypto.specs.Sealing.{IsSealedBy, checksum_of}
 use Rattle.krb_crypto.specs.Suites.{checksum_number, cipher_checksum, cipher_confounder_size, cipher_number}
+use Rattle.krb_crypto.proofs.AllSuites.{some_checksum, suite_found}
+use Rattle.krb_crypto.proofs.SealingLemmas.{same_suite}
 use Rattle.krb_types.specs.Names.{components, is_same_name, is_same_realm}
 use Rattle.krb_types.specs.RandomBytes.{Random, authenticator_confounder, ticket_confounder}
 use Rattle.krb_types.specs.Refusals.{Code}
@@ -34,7 +35,7 @@ use Rattle.krb_messages.specs.Messages.{IsApReq, IsAsReq, IsTgsReq, authenticato
 use Rattle.krb_accounts.specs.Account.{AccountRecord}
 use Rattle.decision_tables.specs.Tables.{Table, and_then, ask, done, need, refuse}
 use Rattle.krb_opening.specs.Keys.{suite_of}
-use Rattle.krb_sealing.specs.Sealing.{encrypted_by, encryption_key, sealed_opens}
+use Rattle.krb_sealing.specs.Sealing.{encrypted_by, encryption_key, is_own_number, sealed_opens}
 use Rattle.krb_preauth.specs.Entries.{first_entry, first_of}
 use Rattle.krb_tickets.specs.declared.grant.Grant.{Grant}
 use Rattle.krb_tickets.specs.Parts.{session_key_of, ticket_part}
@@ -130,14 +131,14 @@ is_carried value presented is =
     by_need {T = ApReqInner} {E = ℕ} (first_of 1 (entry_of 1 value ∷ [])) 16 entry_row value (Ok presented) (own_entry value)
     (by_ask (IsApReq value) (sole_ap_req value) (done (Err 41)) read_in presented (Ok presented) is refl)
 
--- the suites' checksums are known, each by its number
-known_checksum : (suite : CipherSuite) → is_known_checksum (pos (checksum_number (cipher_checksum suite))) ≡ true
-known_checksum Aes128CtsHmacSha196 = refl
-known_checksum Aes256CtsHmacSha196 = refl
-known_checksum Des3CbcSha1Kd = refl
-
 own_number : (number : ℕ) → is_number number (pos number) ≡ true
 own_number number = eq-eqb number number refl
+
+-- the suites' checksums are known, each by its number
+known_checksum : (suite : CipherSuite) → is_known_checksum (pos (checksum_number (cipher_checksum suite))) ≡ true
+known_checksum suite =
+    let number : ℕ = checksum_number (cipher_checksum suite) in
+    some_checksum (λ s. is_number (checksum_number s) (pos number)) (cipher_checksum suite) (own_number number)
 
 -- the checksum covers the body
 abbrev checksum_by : CipherSuite → Bytes → Bytes → Checksum
@@ -206,9 +207,10 @@ tgs_request_written client service till nonce shown bytes realm of_service e = (
 
 -- the client's suite is the first that is known
 own_first : (suite : CipherSuite) → table.first_known (pos (cipher_number suite) ∷ []) ≡ Some suite
-own_first Aes128CtsHmacSha196 = refl
-own_first Aes256CtsHmacSha196 = refl
-own_first Des3CbcSha1Kd = refl
+own_first suite =
+    let number : ℤ = pos (cipher_number suite) in
+    let own = suite_found (λ s. is_number (cipher_number s) number) suite (is_own_number suite) (λ s is. same_suite s suite (sym (eqb-true (cipher_number suite) (cipher_number s) is))) in
+    ap (λ (o : Option CipherSuite). table.suite_of_first (if is_some o then Some number else None)) own ∙ own
 
 -- a realm replies to a TGS request by its table
 replied_to : (call : CallRecord) (bytes : Bytes) (reply : Option Bytes) (request : KdcReq) → IsTgsReq bytes request → ((other : KdcReq) → IsAsReq bytes other → ⊥)

@@ -6,8 +6,8 @@ use Rattle.std.specs.Prelude.{if◌then◌else◌, pos}
 use Rattle.picky_asn1.specs.Bytes.{Bytes}
 use Rattle.picky_asn1.specs.Numbers.{is_number}
 use Rattle.krb_crypto.specs.declared.suite.CipherSuite.{CipherSuite}
-use Rattle.krb_crypto.specs.declared.suite.CipherSuite.TheVariants.{Aes128CtsHmacSha196, Aes256CtsHmacSha196, Des3CbcSha1Kd}
 use Rattle.krb_crypto.specs.Suites.{cipher_confounder_size, cipher_key_size, cipher_seed_size}
+use Rattle.krb_crypto.proofs.AllSuites.{seed_below}
 use Rattle.krb_crypto.proofs.SealedTexts.{seed_key_sized}
 use Rattle.krb_types.specs.Names.{components, is_same_name, is_same_realm}
 use Rattle.krb_types.specs.RandomBytes.{Random, session_seed, ticket_confounder}
@@ -16,6 +16,7 @@ use Rattle.krb_messages.specs.declared.messages.kdc_rep.KdcRep.{KdcRep}
 use Rattle.krb_accounts.specs.Account.{AccountRecord}
 use Rattle.decision_tables.specs.Tables.{Table, done, need}
 use Rattle.krb_opening.specs.Keys.{suite_of}
+use Rattle.krb_opening.proofs.KeySizes.{suite_of_sized}
 use Rattle.krb_sealing.specs.Sealing.{encryption_key}
 use Rattle.krb_tickets.specs.declared.grant.Grant.{Grant}
 use Rattle.krb_tickets.specs.declared.reply.Exchange.{Exchange}
@@ -30,21 +31,14 @@ use Rattle.krb_logins.specs.Held.{IsHeld}
 use Rattle.krb_logins.proofs.Names.{same_name, same_realm}
 use Rattle.krb_logins.proofs.Passing.{past_need, past_refuse}
 
-seed_fits : (suite : CipherSuite) → cipher_seed_size suite ≤ 128
-seed_fits Aes128CtsHmacSha196 = let fits : 16 ≤ 128 = omega arith in fits
-seed_fits Aes256CtsHmacSha196 = let fits : 32 ≤ 128 = omega arith in fits
-seed_fits Des3CbcSha1Kd = let fits : 21 ≤ 128 = omega arith in fits
-
 -- a session's key has the length of its suite's keys
 pub session_key_sized : (suite : CipherSuite) (random : Random) → 128 ≤ length random → length (session_key_of suite random) ≡ cipher_key_size suite
 session_key_sized suite random enough =
-    seed_key_sized suite (session_seed (cipher_seed_size suite) random) (length-take-le (cipher_seed_size suite) random (omega (arith, enough, seed_fits suite)))
+    seed_key_sized suite (session_seed (cipher_seed_size suite) random) (length-take-le (cipher_seed_size suite) random (omega (arith, enough, seed_below suite)))
 
 -- so it is one of the suite
 pub suite_of_key : (suite : CipherSuite) (key : Bytes) → length key ≡ cipher_key_size suite → suite_of (encryption_key suite key) ≡ Some suite
-suite_of_key Aes128CtsHmacSha196 key sized = ap (λ b. if b then Some Aes128CtsHmacSha196 else None) (eq-eqb (length key) 16 sized)
-suite_of_key Aes256CtsHmacSha196 key sized = ap (λ b. if b then Some Aes256CtsHmacSha196 else None) (eq-eqb (length key) 32 sized)
-suite_of_key Des3CbcSha1Kd key sized = ap (λ b. if b then Some Des3CbcSha1Kd else None) (eq-eqb (length key) 24 sized)
+suite_of_key suite key sized = suite_of_sized (encryption_key suite key) suite refl sized
 
 -- the grant is what the client asked for
 pub record IsAskedFor (client : ClientRecord) (asked : List Bytes) (number : ℕ) (grant : Grant) : Type 0 where

@@ -1,11 +1,12 @@
 -- The fields of the tables of a settings file, and what each may hold.
-use Rattle.std.specs.Prelude.{ℕ, nat_eq, pos, Bool, if◌then◌else◌, List, [], ◌∷◌, codes, Option, None, Some, Result, Ok, Err}
-use Rattle.std.specs.List.{list_any, list_all}
+use Rattle.std.specs.Prelude.{ℕ, nat_eq, ok_or, pos, Bool, if◌then◌else◌, List, [], ◌∷◌, codes, Option, None, Some, Result, Ok, Err}
+use Rattle.std.specs.List.{find, list_any, list_all}
 use Rattle.std.specs.Cmp.Lexicographic.{pointwise}
 use Rattle.hex.specs.Hex.{decode_of}
 use Rattle.toml.specs.Data.{Data, string, integer, array, Items, Members, no_members, member, get_member}
 use Rattle.krb_crypto.specs.declared.suite.CipherSuite.{CipherSuite}
-use Rattle.krb_crypto.specs.declared.suite.CipherSuite.TheVariants.{Aes128CtsHmacSha196, Aes256CtsHmacSha196, Des3CbcSha1Kd}
+use Rattle.krb_crypto.specs.declared.suite.CipherSuite.TheVariants.{Aes128CtsHmacSha196, Aes256CtsHmacSha196, Des3CbcSha1Kd, Aes128CtsHmacSha256128, Aes256CtsHmacSha384192}
+use Rattle.krb_crypto.specs.Suites.{cipher_suites}
 use Rattle.krb_settings.specs.Steps.{◌>>=◌}
 use Rattle.krb_settings.specs.declared.field.Field.{Field}
 use Rattle.krb_settings.specs.declared.field.Field.TheVariants.{Account, Key, Lifetime, Name, Password, Realm, Skew, Suite}
@@ -65,12 +66,17 @@ text_at field document = value_at field document >>= text_of field
 abbrev pub natural_at : Field → Members → Result ℕ TableFault
 natural_at field document = value_at field document >>= natural_of field
 
--- the suites by their names (RFC 3961, section 6.3; RFC 3962, section 7)
+-- the name of a suite (RFC 3961, section 6.3; RFC 3962, section 7; RFC 8009, section 4)
+abbrev pub suite_name : CipherSuite → List ℕ
+suite_name Aes128CtsHmacSha196 = codes "aes128-cts-hmac-sha1-96"
+suite_name Aes256CtsHmacSha196 = codes "aes256-cts-hmac-sha1-96"
+suite_name Des3CbcSha1Kd = codes "des3-cbc-sha1-kd"
+suite_name Aes128CtsHmacSha256128 = codes "aes128-cts-hmac-sha256-128"
+suite_name Aes256CtsHmacSha384192 = codes "aes256-cts-hmac-sha384-192"
+
+-- the suite of a name
 abbrev pub suite_named : List ℕ → Result CipherSuite TableFault
-suite_named name =
-    if pointwise nat_eq name (codes "aes128-cts-hmac-sha1-96") then Ok Aes128CtsHmacSha196
-    else (if pointwise nat_eq name (codes "aes256-cts-hmac-sha1-96") then Ok Aes256CtsHmacSha196
-    else (if pointwise nat_eq name (codes "des3-cbc-sha1-kd") then Ok Des3CbcSha1Kd else Err UnknownSuite))
+suite_named name = ok_or (find (λ suite. pointwise nat_eq name (suite_name suite)) cipher_suites) UnknownSuite
 
 abbrev pub suite_at : Members → Result CipherSuite TableFault
 suite_at document = text_at Suite document >>= suite_named

@@ -7,6 +7,7 @@ ghost use Rattle.toml.specs.View.{view, array_view, table_view};
 ghost use Rattle.krb_settings.specs.Steps.{IsAside, answer_shown};
 ghost use Rattle.krb_settings.specs.Fields.{bytes_of, field_name, is_among, key_at, list_of, natural_at, natural_of, only, suite_at, suite_named, text_at, text_of, value_at};
 
+use crate::words::suite_name;
 use crate::{Field, TableFault};
 use hex::FromHexError;
 use krb_crypto::CipherSuite;
@@ -99,20 +100,15 @@ pub(crate) fn natural_at(table: &Table, field: Field) -> Result<u64, TableFault>
     natural_of(field, value_at(table, field)?)
 }
 
-// The suite of this name (RFC 3961, section 6.3; RFC 3962, section 7).
+// The suite of this name.
 fn suite_named(name: &str) -> Result<CipherSuite, TableFault>
     ensures { result ≡ suite_named name.now }
 {
-    if name == "aes128-cts-hmac-sha1-96" {
-        return Ok(CipherSuite::Aes128CtsHmacSha196);
-    }
-    if name == "aes256-cts-hmac-sha1-96" {
-        return Ok(CipherSuite::Aes256CtsHmacSha196);
-    }
-    if name == "des3-cbc-sha1-kd" {
-        return Ok(CipherSuite::Des3CbcSha1Kd);
-    }
-    Err(TableFault::UnknownSuite)
+    CipherSuite::all()
+        .iter()
+        .copied()
+        .find(|suite| name == suite_name(*suite))
+        .ok_or(TableFault::UnknownSuite)
 }
 
 // The suite of a table.

@@ -18,13 +18,17 @@ const NAME_AT: &str = "a component of name has an @: expected the name without i
 
 const PASSWORD_EMPTY: &str = "password is empty: expected at least one character";
 
+const PASSWORD_ROUNDS: &str =
+    "password of this suite takes 32768 rounds of PBKDF2 at each start (RFC 8009, section 4): a key takes none";
+
 const KEY_PARITY: &str =
     "key has an octet of even parity: expected odd parity (RFC 3961, section 6.3.1)";
 
 const KEY_WEAK: &str = "key has a weak or semi-weak DES key in it: expected three that are neither";
 
 /// What is likely a slip in a settings file that writes this realm: a `/`, an `@` or a control character in a name, an empty
-/// password, and a key of triple DES with an octet of even parity or a weak part. It shows no key and no password.
+/// password, a password that makes each start slow, and a key of triple DES with an octet of even parity or a weak part. It
+/// shows no key and no password.
 pub fn warnings_of(
     alloc: Global,
     text: &[u8],
@@ -73,14 +77,24 @@ impl<'a> Warnings<'a> {
             self.add(place, Field::Name, NAME_CONTROL)?;
         }
         match &account.secret {
-            Secret::Password(password) if password.is_empty() => self.add(
-                place,
-                Field::Password,
-                PASSWORD_EMPTY,
-            ),
-            Secret::Password(_) => Ok(()),
+            Secret::Password(password) => self.of_password(place, account.suite, password),
             Secret::Key(key) => self.of_key(place, account.suite, key),
         }
+    }
+
+    fn of_password(
+        &mut self,
+        place: Place,
+        suite: CipherSuite,
+        password: &[u8],
+    ) -> Result<(), AllocError> {
+        if password.is_empty() {
+            self.add(place, Field::Password, PASSWORD_EMPTY)?;
+        }
+        if has_many_rounds(suite) {
+            self.add(place, Field::Password, PASSWORD_ROUNDS)?;
+        }
+        Ok(())
     }
 
     fn of_key(&mut self, place: Place, suite: CipherSuite, key: &[u8]) -> Result<(), AllocError> {
@@ -102,6 +116,14 @@ impl<'a> Warnings<'a> {
         self.found.push(warning)?;
         Ok(())
     }
+}
+
+// A password's key of AES with SHA-2 takes eight times the rounds of AES with SHA-1.
+fn has_many_rounds(suite: CipherSuite) -> bool {
+    matches!(
+        suite,
+        CipherSuite::Aes128CtsHmacSha256128 | CipherSuite::Aes256CtsHmacSha384192
+    )
 }
 
 fn has_control(name: &[u8]) -> bool {

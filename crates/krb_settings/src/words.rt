@@ -1,4 +1,6 @@
 //! The words of messages about settings files.
+ghost use Rattle.std.specs.Prelude.{◌≡◌};
+ghost use Rattle.krb_settings.specs.Fields.{suite_name};
 
 use crate::Field;
 use krb_crypto::CipherSuite;
@@ -50,7 +52,8 @@ pub(crate) fn expected(field: Field) -> &'static str {
         Field::Password => "a text",
         Field::Realm => "a text of 1 to 255 ASCII characters",
         Field::Skew => "a whole number of seconds from 0 to 86400",
-        Field::Suite => "aes128-cts-hmac-sha1-96, aes256-cts-hmac-sha1-96 or des3-cbc-sha1-kd",
+        Field::Suite =>
+            "aes128-cts-hmac-sha1-96, aes256-cts-hmac-sha1-96, des3-cbc-sha1-kd, aes128-cts-hmac-sha256-128 or aes256-cts-hmac-sha384-192",
     }
 }
 
@@ -67,11 +70,15 @@ pub(crate) fn kind(value: &Value) -> &'static str {
     }
 }
 
-/// The name of a suite, as files have it.
-pub(crate) fn suite_name(suite: CipherSuite) -> &'static str {
+/// The name of a suite, as files have it (RFC 3961, section 6.3; RFC 3962, section 7; RFC 8009, section 4).
+pub(crate) fn suite_name(suite: CipherSuite) -> &'static str
+    ensures { result.now ≡ suite_name suite }
+{
     match suite {
         CipherSuite::Aes128CtsHmacSha196 => "aes128-cts-hmac-sha1-96",
         CipherSuite::Aes256CtsHmacSha196 => "aes256-cts-hmac-sha1-96",
         CipherSuite::Des3CbcSha1Kd => "des3-cbc-sha1-kd",
+        CipherSuite::Aes128CtsHmacSha256128 => "aes128-cts-hmac-sha256-128",
+        CipherSuite::Aes256CtsHmacSha384192 => "aes256-cts-hmac-sha384-192",
     }
 }

@@ -10,7 +10,7 @@ use Rattle.krb_profile.specs.Sealing.{encryption_tag_of}
 use Rattle.krb_crypto.specs.Sealing.{IsSealedBy}
 use Rattle.krb_crypto.specs.Suites.{cipher_profile}
 use Rattle.krb_crypto.specs.declared.suite.CipherSuite.{CipherSuite}
-use Rattle.krb_crypto.specs.declared.suite.CipherSuite.TheVariants.{Aes128CtsHmacSha196, Aes256CtsHmacSha196, Des3CbcSha1Kd}
+use Rattle.krb_crypto.specs.declared.suite.CipherSuite.TheVariants.{Aes128CtsHmacSha196, Aes256CtsHmacSha196, Des3CbcSha1Kd, Aes128CtsHmacSha256128, Aes256CtsHmacSha384192}
 use Rattle.krb_types.specs.declared.data_types.encrypted_data.EncryptedData.{EncryptedData}
 use Rattle.krb_opening.specs.Sealed.{IsSealedIn}
 use Rattle.krb_as.proofs.Short.{Fits, IsShort}
@@ -44,6 +44,8 @@ encrypted_longer : (suite : CipherSuite) (key : List ℕ) (text c : List ℕ) �
 encrypted_longer Aes128CtsHmacSha196 key text c x = stolen_longer _ text c x
 encrypted_longer Aes256CtsHmacSha196 key text c x = stolen_longer _ text c x
 encrypted_longer Des3CbcSha1Kd key text c x = chained_longer 8 _ text c x
+encrypted_longer Aes128CtsHmacSha256128 key text c x = stolen_longer _ text c x
+encrypted_longer Aes256CtsHmacSha384192 key text c x = stolen_longer _ text c x
 
 sealed_longer : (suite : CipherSuite) (key : List ℕ) (usage : ℕ) (conf plain bytes : List ℕ) → IsSealedBy suite key usage conf plain bytes → length plain ≤ length bytes
 sealed_longer suite key usage conf plain bytes x =

@@ -2,7 +2,7 @@
 use Rattle.std.specs.Prelude.{Bool, false, not, ◌||◌, List, Option, None, Some, Result, Ok, Err, ℤ, if◌then◌else◌}
 use Rattle.std.specs.Bool.{nat_eq}
 use Rattle.std.specs.Cmp.Lexicographic.{pointwise}
-use Rattle.std.specs.List.{find}
+use Rattle.std.specs.List.{find, list_any}
 use Rattle.std.specs.Option.{is_some, option_map}
 use Rattle.asn1_trees.specs.Tree.{der}
 use Rattle.picky_asn1.specs.BitString.{bit_of}
@@ -11,10 +11,9 @@ use Rattle.picky_asn1.specs.Numbers.{is_number}
 use Rattle.picky_asn1.specs.Bytes.{Bytes}
 use Rattle.krb_moments.specs.Skew.{is_far}
 use Rattle.krb_crypto.specs.declared.suite.CipherSuite.{CipherSuite}
-use Rattle.krb_crypto.specs.declared.suite.CipherSuite.TheVariants.{Aes128CtsHmacSha196, Aes256CtsHmacSha196, Des3CbcSha1Kd}
 use Rattle.krb_crypto.specs.declared.suite.ChecksumSuite.{ChecksumSuite}
 use Rattle.krb_crypto.specs.Sealing.{checksum_of}
-use Rattle.krb_crypto.specs.Suites.{checksum_number, cipher_checksum, cipher_number}
+use Rattle.krb_crypto.specs.Suites.{checksum_number, checksum_suites, cipher_checksum, cipher_number, cipher_suites}
 use Rattle.krb_accounts.specs.Account.{AccountRecord}
 use Rattle.krb_types.specs.Names.{components, is_same_realm}
 use Rattle.krb_types.specs.declared.data_types.authenticator.AuthenticatorInner.{AuthenticatorInner}
@@ -84,7 +83,7 @@ checksum_in authenticator = option_map (λ tagged. tagged.0) authenticator.cksum
 
 -- the type is that of a suite's checksum: of triple DES (RFC 3961, section 6.3.2), or of AES (RFC 3962, section 7)
 abbrev pub is_known_checksum : ℤ → Bool
-is_known_checksum kind = is_number 12 kind || is_number 15 kind || is_number 16 kind
+is_known_checksum kind = list_any (λ suite. is_number (checksum_number suite) kind) checksum_suites
 
 -- the one encoding of a request's body
 unfoldable pub body_bytes : KdcReqBody → Bytes
@@ -105,10 +104,7 @@ covered suite key authenticator body =
 
 -- the suite of a number
 abbrev pub suite_numbered : ℤ → Option CipherSuite
-suite_numbered number =
-    if is_number (cipher_number Aes128CtsHmacSha196) number then Some Aes128CtsHmacSha196
-    else (if is_number (cipher_number Aes256CtsHmacSha196) number then Some Aes256CtsHmacSha196
-    else (if is_number (cipher_number Des3CbcSha1Kd) number then Some Des3CbcSha1Kd else None))
+suite_numbered number = find (λ suite. is_number (cipher_number suite) number) cipher_suites
 
 -- the first number, in the client's order, that is a suite's
 abbrev pub first_number : List ℤ → Option ℤ

@@ -50,13 +50,13 @@ fn checksum_in(authenticator: &AuthenticatorInner) -> Option<&Checksum>
     }
 }
 
-// The type is that of a suite's checksum (RFC 3961, section 6.3.2; RFC 3962, section 7).
+// The type is that of a suite's checksum (RFC 3961, section 6.3.2; RFC 3962, section 7; RFC 8009, section 6).
 fn is_known_checksum(kind: &IntegerAsn1) -> bool
     ensures { result ≡ is_known_checksum kind.now }
 {
-    is_number(kind, u32::from(ChecksumSuite::HmacSha1Des3Kd))
-        || is_number(kind, u32::from(ChecksumSuite::HmacSha196Aes128))
-        || is_number(kind, u32::from(ChecksumSuite::HmacSha196Aes256))
+    ChecksumSuite::all()
+        .iter()
+        .any(|suite| is_number(kind, u32::from(suite)))
 }
 
 // The checksum is that of the body's encoding. Memory is the only refusal.

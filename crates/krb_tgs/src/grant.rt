@@ -95,19 +95,10 @@ fn is_suite(number: &IntegerAsn1) -> bool
 fn suite_numbered(number: &IntegerAsn1) -> Option<CipherSuite>
     ensures { result ≡ suite_numbered number.now }
 {
-    let aes128 = CipherSuite::Aes128CtsHmacSha196;
-    if is_number(number, u32::from(&aes128)) {
-        return Some(aes128);
-    }
-    let aes256 = CipherSuite::Aes256CtsHmacSha196;
-    if is_number(number, u32::from(&aes256)) {
-        return Some(aes256);
-    }
-    let des3 = CipherSuite::Des3CbcSha1Kd;
-    if is_number(number, u32::from(&des3)) {
-        return Some(des3);
-    }
-    None
+    CipherSuite::all()
+        .iter()
+        .copied()
+        .find(|suite| is_number(number, u32::from(suite)))
 }
 
 fn subkey_in(authenticator: &AuthenticatorInner) -> Option<&EncryptionKey>
