@@ -21,3 +21,4 @@ mod Admitted
 mod FurtherGranted
 mod OneKey
 mod OneLogin
+mod ChoicePresented

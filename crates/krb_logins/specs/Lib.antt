@@ -5,3 +5,4 @@ pub mod LoginRun
 pub mod Honest
 pub mod Held
 pub mod Laws
+pub mod Choices

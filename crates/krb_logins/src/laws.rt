@@ -1,8 +1,12 @@
-//! What holds of every honest login, step by step. Each is a function that does nothing when it runs: its contract is the
-//! law.
-ghost use Rattle.std.specs.Prelude.{◌≡◌, ◌⊎◌, Result};
-ghost use Rattle.krb_client.specs.Client.{ClientRecord};
+//! What holds of every honest login, step by step, and of what a client writes to a service. Each is a function that does
+//! nothing when it runs: its contract is the law.
+ghost use Rattle.std.specs.Prelude.{◌≡◌, ◌⊎◌, ℕ, Bool, List, Result};
+ghost use Rattle.krb_crypto.specs.Suites.{cipher_confounder_size};
+ghost use Rattle.krb_types.specs.RandomBytes.{authenticator_confounder};
+ghost use Rattle.krb_ap.specs.Presents.{Presents};
+ghost use Rattle.krb_client.specs.Client.{ClientRecord, CredentialRecord};
 ghost use Rattle.krb_service.specs.Service.{ServiceRecord};
+ghost use Rattle.krb_logins.specs.Choices.{AsksService, choice_by};
 ghost use Rattle.krb_logins.specs.Honest.{IsOneKey, WantsMemory};
 ghost use Rattle.krb_logins.specs.Laws.{IsClientAdmitted, IsFirstGranted, IsFirstTaken, IsFurtherGranted, IsFurtherTaken, IsMet};
 ghost use Rattle.krb_logins.specs.LoginRun.{Login, LoginRun};
@@ -51,4 +55,17 @@ pub fn one_login()
         (result other : Result Login LoginRefusal) (after other_after : RememberedRecord)
         → LoginRun client realm service login before result after → LoginRun client realm service login before other other_after
         → WantsMemory result ⊎ WantsMemory other ⊎ ((result ≡ other) × (after ≡ other_after)) }
+{}
+
+/// What `Client::ap_request` writes presents what the client chose, and nothing else presents it: the string of that choice (RFC 4120,
+/// section 3.2.2). Each choice whose etypes and confounders fit has one, by `krb_ap`'s `has_presentation` and `one_presentation`.
+pub fn ap_request_presents_choice()
+    ensures presents { (client : ClientRecord) (credential : CredentialRecord) (mutual_required with_subkey : Bool) (moment : ℕ) (random bytes key : List ℕ)
+        (by : AsksService client credential mutual_required with_subkey moment random bytes key)
+        → Presents key (choice_by credential mutual_required by.part by.part_confounder by.asks.authenticator
+        (authenticator_confounder (cipher_confounder_size credential.suite) random)) bytes }
+    ensures only { (client : ClientRecord) (credential : CredentialRecord) (mutual_required with_subkey : Bool) (moment : ℕ) (random bytes key : List ℕ)
+        (by : AsksService client credential mutual_required with_subkey moment random bytes key) (other : List ℕ)
+        → Presents key (choice_by credential mutual_required by.part by.part_confounder by.asks.authenticator
+        (authenticator_confounder (cipher_confounder_size credential.suite) random)) other → other ≡ bytes }
 {}
