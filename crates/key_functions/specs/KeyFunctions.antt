@@ -1,0 +1,35 @@
+-- Key functions as definitions see them: each is a function of its arguments.
+use Rattle.std.specs.Prelude.{Bool, false, Option, None}
+use Rattle.asn1_elements.specs.Raw.{Raw}
+use Rattle.picky_asn1.specs.BitString.{Bits}
+use Rattle.picky_asn1.specs.Bytes.{Bytes}
+use Rattle.x509_algorithms.specs.declared.algorithm_identifier.AlgorithmIdentifier.{AlgorithmIdentifier}
+use Rattle.x509_keys.specs.declared.subject_public_key_info.SubjectPublicKeyInfo.{SubjectPublicKeyInfo}
+use Rattle.key_functions.specs.declared.functions.Signed.{Signed}
+use Rattle.key_functions.specs.declared.functions.Theirs as lent
+use Rattle.key_functions.specs.declared.functions.Theirs.TheVariants as variant
+
+-- the peer's public value: a client's whole element, or the bits of a realm's
+pub data TheirValue : Type 0 where
+  WholeValue : Raw → TheirValue
+  ValueBits : Bits → TheirValue
+
+abbrev pub theirs_of : lent.Theirs → TheirValue
+theirs_of (variant.Whole element) = WholeValue element.now
+theirs_of (variant.Bits bits) = ValueBits bits.now
+
+-- whether a signature verifies; the signature of some bytes; the public value, and the shared secret, that random bytes give
+pub record KeysRecord : Type 0 where
+  pub verifies : SubjectPublicKeyInfo → AlgorithmIdentifier → Bytes → Bytes → Bool
+  pub sign : Bytes → Option Signed
+  pub public_value : Bytes → Option Raw
+  pub agree : TheirValue → Bytes → Option Bytes
+
+-- no signature verifies, and no function has an answer
+abbrev pub no_functions : KeysRecord
+no_functions = record {
+  verifies = λ key algorithm signed signature. false;
+  sign = λ signed. None;
+  public_value = λ words. None;
+  agree = λ theirs words. None;
+}
