@@ -2,7 +2,9 @@
 use Rattle.std.specs.Prelude.{◌≡◌, ℕ, List, Option, Some, ◌⊎◌}
 use Rattle.std.specs.Io.KnownBytes.{Consumes}
 use Rattle.std.specs.declared.io.ErrorKind.{ErrorKind}
-use Rattle.std.specs.declared.io.ErrorKind.TheVariants.{WriteZero}
+use Rattle.std.specs.declared.io.ErrorKind.TheVariants.{WriteZero, OutOfMemory}
+use Rattle.asn1_octets.specs.declared.error.Asn1DerError.{Asn1DerError}
+use Rattle.asn1_octets.specs.declared.error.Asn1DerError.TheVariants as der
 use Rattle.devices.specs.declared.exact.WholeFault.{WholeFault}
 use Rattle.devices.specs.declared.exact.WholeFault.TheVariants as whole
 use Rattle.devices.specs.Counting.{one_more}
@@ -20,6 +22,15 @@ fault_number (InvalidMicFiller _) = 4
 fault_number (InvalidWrapFiller _) = 5
 fault_number (Asn1Error _) = 6
 fault_number Memory = 7
+
+-- a fault of DER, and the kind of a device's fault
+abbrev pub of_der_fault : Asn1DerError → GssApiMessageError
+of_der_fault der.Memory = Memory
+of_der_fault fault = Asn1Error fault
+
+abbrev pub of_kind : ErrorKind → GssApiMessageError
+of_kind OutOfMemory = Memory
+of_kind kind = IoError kind
 
 -- the fault of a write that stopped
 abbrev pub of_whole_fault : WholeFault → GssApiMessageError

@@ -4,29 +4,31 @@ ghost use Rattle.krb_tokens.specs.Faults.{of_whole_fault};
 
 use asn1_octets::Asn1DerError;
 use devices::WholeFault;
+use std::alloc::AllocError;
+use std::io;
 use std::io::ErrorKind;
 use thiserror::Error;
 
 /// Why a token was not read or written. The faults are numbered from 1 to 7, in this order.
 #[derive(Debug, Drop, Error)]
 pub enum GssApiMessageError {
-    /// The token's first two bytes: those wanted, and those that stand there.
-    #[error("the token's id is {1:?}, and {0:?} is wanted")]
+    /// The token's first two bytes: those that are expected, and those that are there.
+    #[error("invalid token id: expected {0:?}, but got {1:?}")]
     InvalidId([u8; 2], [u8; 2]),
-    /// The mechanism's object identifier: that wanted, and that which stands there. No call of this crate answers it.
-    #[error("the mechanism is {1}, and {0} is wanted")]
+    /// The mechanism's object identifier: the expected one, and the one that is there. No call of this crate returns it.
+    #[error("invalid mechanism OID: expected {0}, but got {1}")]
     InvalidMechanismOid(String, String),
     /// The device failed, or the bytes end inside the token (`UnexpectedEof`).
-    #[error("the bytes can't be read or written: {0:?}")]
+    #[error("IO error: {0}")]
     IoError(ErrorKind),
     /// What stands in the place of a MIC token's filler.
-    #[error("the filler of the MIC token is {0:?}")]
+    #[error("invalid MIC token filler: {0:?}")]
     InvalidMicFiller([u8; 5]),
     /// What stands in the place of a wrap token's filler.
-    #[error("the filler of the wrap token is {0}")]
+    #[error("invalid wrap token filler: {0}")]
     InvalidWrapFiller(u8),
-    /// What stands inside isn't DER. No call of this crate answers it.
-    #[error("the DER inside is wrong: {0}")]
+    /// The token's content isn't DER. No call of this crate returns it.
+    #[error("ASN.1 error: {0}")]
     Asn1Error(Asn1DerError),
     /// Memory ran out.
     #[error("out of memory")]
@@ -49,6 +51,45 @@ impl GssApiMessageError {
             GssApiMessageError::Asn1Error(_) => 6,
             GssApiMessageError::Memory => 7,
         }
+    }
+}
+
+/// A fault of DER, of which running out of memory is [`GssApiMessageError::Memory`].
+impl From<Asn1DerError> for GssApiMessageError {
+    ghost use Rattle.krb_tokens.specs.Faults.{of_der_fault};
+
+    ghost from_gives = { λ fault error. error ≡ of_der_fault fault };
+
+    fn from(fault: Asn1DerError) -> GssApiMessageError {
+        match fault {
+            Asn1DerError::Memory => GssApiMessageError::Memory,
+            other => GssApiMessageError::Asn1Error(other),
+        }
+    }
+}
+
+/// A device's fault, as its kind, of which `OutOfMemory` is [`GssApiMessageError::Memory`].
+impl From<io::Error> for GssApiMessageError {
+    ghost use Rattle.std.specs.IoError.{error_kind};
+    ghost use Rattle.krb_tokens.specs.Faults.{of_kind};
+
+    ghost from_gives = { λ fault error. error ≡ of_kind (error_kind fault) };
+
+    fn from(fault: io::Error) -> GssApiMessageError {
+        match fault.kind() {
+            ErrorKind::OutOfMemory => GssApiMessageError::Memory,
+            kind => GssApiMessageError::IoError(kind),
+        }
+    }
+}
+
+impl From<AllocError> for GssApiMessageError {
+    ghost use Rattle.krb_tokens.specs.declared.error.GssApiMessageError.TheVariants.{Memory};
+
+    ghost from_gives = { λ _ error. error ≡ Memory };
+
+    fn from(_error: AllocError) -> GssApiMessageError {
+        GssApiMessageError::Memory
     }
 }
 

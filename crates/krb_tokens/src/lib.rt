@@ -10,6 +10,6 @@ mod token;
 mod wrap;
 
 pub use error::GssApiMessageError;
-pub use integrity::{LsapTokenInfoIntegrity, MACHINE_ID_LENGTH};
+pub use integrity::{LsapTokenInfoIntegrity, LsapTokenInfoIntegrityError, MACHINE_ID_LENGTH};
 pub use mic::MicToken;
 pub use wrap::WrapToken;

@@ -95,7 +95,7 @@ pub mod data_types {
         KerbErrorData, KerbPaPacRequest, KrbCredInfo, KrbResult, PaPacOptions, ResultExt,
     };
     pub use krb_priv_messages::{EncKrbPrivPart, EncKrbPrivPartInner};
-    pub use krb_tokens::{LsapTokenInfoIntegrity, MACHINE_ID_LENGTH};
+    pub use krb_tokens::{LsapTokenInfoIntegrity, LsapTokenInfoIntegrityError, MACHINE_ID_LENGTH};
     pub use krb_types::data_types::{
         ApOptions, Authenticator, AuthenticatorInner, AuthorizationData, AuthorizationDataInner,
         Checksum, EncApRepPart, EncApRepPartInner, EncTicketPart, EncTicketPartInner,

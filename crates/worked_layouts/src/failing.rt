@@ -109,7 +109,10 @@ fn tokens(rt: HostRuntime) {
 const RECORD: &[u8] = b"\x01\x00\x00\x00\x00\x20\x00\x00machine-machine-machine-machine-";
 
 fn record_fault(count: usize) -> Option<ErrorKind> {
-    LsapTokenInfoIntegrity::decode(&mut trickle_of(RECORD, count)).err()
+    match LsapTokenInfoIntegrity::decode(&mut trickle_of(RECORD, count)) {
+        Ok(_) => None,
+        Err(error) => Some(error.kind),
+    }
 }
 
 // A record is read, and no byte more.
@@ -231,7 +234,10 @@ fn record_write_fault(count: usize) -> Option<ErrorKind> {
         token_il: 0x2000,
         machine_id: [7; 32],
     };
-    record.encode(&mut clogging_of(count)).err()
+    match record.encode(&mut clogging_of(count)) {
+        Ok(()) => None,
+        Err(error) => Some(error.kind),
+    }
 }
 
 #[test]
