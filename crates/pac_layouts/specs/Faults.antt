@@ -1,7 +1,7 @@
 -- The faults of a PAC, and what of devices they tell.
 use Rattle.std.specs.Prelude.{◌≡◌, ℕ, Option, None, Some}
 use Rattle.std.specs.declared.io.ErrorKind.{ErrorKind}
-use Rattle.std.specs.declared.io.ErrorKind.TheVariants.{UnexpectedEof, WriteZero}
+use Rattle.std.specs.declared.io.ErrorKind.TheVariants.{UnexpectedEof, WriteZero, OutOfMemory}
 use Rattle.devices.specs.declared.exact.WholeFault.{WholeFault}
 use Rattle.devices.specs.declared.exact.WholeFault.TheVariants as whole
 use Rattle.devices.specs.Counting.{one_more}
@@ -9,6 +9,11 @@ use Rattle.devices.specs.Whole.{after_whole_fault}
 use Rattle.devices.specs.Faults.{TellsWholeFault}
 use Rattle.pac_layouts.specs.declared.error.PacError.{PacError}
 use Rattle.pac_layouts.specs.declared.error.PacError.TheVariants.{IoError, InvalidRange, Memory}
+
+-- the kind of a device's fault
+abbrev pub of_kind : ErrorKind → PacError
+of_kind OutOfMemory = Memory
+of_kind kind = IoError kind
 
 -- what is answered where bytes are missing: the fault of the device that stopped, or that they end
 abbrev pub short_of : Option ErrorKind → PacError

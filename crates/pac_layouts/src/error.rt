@@ -5,30 +5,31 @@ ghost use Rattle.pac_layouts.specs.declared.error.PacError.TheVariants.{Memory};
 
 use devices::WholeFault;
 use std::alloc::AllocError;
+use std::io;
 use std::io::ErrorKind;
 use thiserror::Error;
 
 /// Why a PAC was not read or written.
 #[derive(Debug, Drop, Error)]
 pub enum PacError {
-    /// A version that isn't 0. No call answers it: see `InvalidVersion`.
-    #[error("the version is {0}, and 0 is wanted")]
+    /// A version that isn't 0. No call returns it: see `InvalidVersion`.
+    #[error("the version must be 0, but it is {0}")]
     Version(u32),
 
     /// A number that is no buffer's type.
-    #[error("{0} is no type of a PAC buffer")]
+    #[error("invalid PAC buffer type: {0}")]
     PacBufferType(u32),
 
     /// The device failed, or the bytes end inside the table (`UnexpectedEof`).
-    #[error("the bytes can't be read or written: {0:?}")]
+    #[error("unable to read or write bytes: {0}")]
     IoError(ErrorKind),
 
     /// The version that stands in place of 0.
-    #[error("the PAC's version is {0}, and 0 is wanted")]
+    #[error("invalid version: expected 0, but got {0}")]
     InvalidVersion(u32),
 
     /// A buffer ends past the PAC, or has another size than its content; or there are more buffers than are counted.
-    #[error("a buffer is outside the PAC, or not of its size")]
+    #[error("invalid range of a buffer's data")]
     InvalidRange,
 
     /// Memory ran out.
@@ -41,6 +42,21 @@ impl From<AllocError> for PacError {
 
     fn from(_error: AllocError) -> PacError {
         PacError::Memory
+    }
+}
+
+/// A device's fault, as its kind, of which `OutOfMemory` is [`PacError::Memory`].
+impl From<io::Error> for PacError {
+    ghost use Rattle.std.specs.IoError.{error_kind};
+    ghost use Rattle.pac_layouts.specs.Faults.{of_kind};
+
+    ghost from_gives = { λ fault error. error ≡ of_kind (error_kind fault) };
+
+    fn from(fault: io::Error) -> PacError {
+        match fault.kind() {
+            ErrorKind::OutOfMemory => PacError::Memory,
+            kind => PacError::IoError(kind),
+        }
     }
 }
 

@@ -35,7 +35,8 @@ impl Clone for Pac {
 
 // How many buffers there are.
 fn read_head(bytes: &[u8], stop: Option<ErrorKind>) -> Result<u32, PacError>
-    ensures { result ≡ head_at stop bytes.now }
+    ensures exact { result ≡ head_at stop bytes.now }
+    ensures room { IfOk result (λ _. 8 ≤ length bytes.now) }
 {
     if bytes.len() < HEAD_LEN {
         return Err(short_fault(stop));
@@ -54,13 +55,14 @@ fn keep(buffers: &mut Vec<PacBuffer>, buffer: PacBuffer) -> Result<(), AllocErro
     Ok(())
 }
 
-// The buffers. Room is made for those alone whose rows are there.
+// The buffers. Room is made for those alone whose rows are there, whatever the count is: for at most one in 16 bytes.
 fn read_buffers(
     alloc: Global,
     bytes: &[u8],
     stop: Option<ErrorKind>,
 ) -> Result<Vec<PacBuffer>, PacError>
     ensures exact { Gives (λ v. map buffer_of v.items) result (pac_at stop bytes.now) }
+    ensures room { IfOk result (λ v. 8 + 16 * length v.items ≤ length bytes.now) }
 {
     let count = read_head(bytes, stop)?;
     let mut buffers = Vec::new(alloc);
