@@ -2,7 +2,7 @@
 use Rattle.std.proofs.Common.{◌≡◌, ℕ, zero, suc, ◌+◌, ◌*◌, ◌^◌, ◌≤◌, ◌<◌, List, [], ◌∷◌, ◌++◌, length, map, drop, get_or, ap, sym, ◌∙◌, append_assoc, append-nil, inl, inr, arith}
 use Rattle.std.proofs.Math.Nat.{mul-suc}
 use Rattle.std.proofs.lemmas.List.{length-append, drop_more, drop_all}
-use Rattle.std.specs.declared.io.ErrorKind.{ErrorKind}
+use Rattle.negoex_forms.specs.declared.error.NegoexError.{NegoexError}
 use Rattle.negoex_forms.specs.Form.{Layout, IsPut, IsTooLong}
 use Rattle.negoex_forms.specs.Laws.{LayoutLaws}
 use Rattle.negoex_forms.specs.Vectors.{payloads, heads, bodies}
@@ -54,7 +54,7 @@ one-put {V} l laws first place x all left more old headers headers_new put put_n
     }
 
 -- an element's payload that ends past 32 bits ends there with all others
-pub one-long : {V : Type 0} (l : Layout V) → LayoutLaws l → (first place : ℕ) (x : V) (all left more : List V) (old headers put : List ℕ) (e : ErrorKind)
+pub one-long : {V : Type 0} (l : Layout V) → LayoutLaws l → (first place : ℕ) (x : V) (all left more : List V) (old headers put : List ℕ) (e : NegoexError)
     → left ≡ x ∷ more → place ≡ first + length put * 1 → ArePut l first all left old headers put
     → IsTooLong place (l.payload x) e → IsTooLong first (payloads l all) e
 one-long l laws first place x all left more old headers put e split at are (inl memory) = inl memory

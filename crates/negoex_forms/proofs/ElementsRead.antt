@@ -75,3 +75,15 @@ pub wrong-there : {V : Type 0} (l : Layout V) (whole header : List ℕ) (place s
     → (e ≡ OutOfMemory) ⊎ (l.read header whole ≡ Err e) → (e ≡ OutOfMemory) ⊎ (l.read (cut place l.width whole) whole ≡ Err e)
 wrong-there l whole header place size e f g (inl memory) = inl memory
 wrong-there l whole header place size e f g (inr wrong) = inr (read-there l whole header place size (Err e) f g wrong)
+
+-- so many elements from a place on, of a byte at least each, end at another, which is inside the message where there are any
+abbrev pub AreInside : ℕ → ℕ → ℕ → ℕ → Type 0
+AreInside n offset place size = (n + offset ≤ place) × (0 < n → place ≤ size)
+
+pub more-inside : (n more offset place behind width size : ℕ) → more ≡ n + 1 → behind ≡ place + width → 0 < width → place + width ≤ size
+    → AreInside n offset place size → AreInside more offset behind size
+more-inside n more offset place behind width size one at some inside (before, there) = (omega arith, λ any. omega arith)
+
+pub few-inside : (n offset place size : ℕ) → AreInside n offset place size → n ≤ size
+few-inside zero offset place size are = omega arith
+few-inside (suc n) offset place size (before, there) = let inside = there (omega arith) in omega arith

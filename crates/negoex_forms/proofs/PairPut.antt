@@ -1,8 +1,8 @@
 -- What is put after a first field, and the bytes of a fixed size.
-use Rattle.std.proofs.Common.{◌≡◌, ℕ, zero, suc, ◌+◌, ◌-◌, ◌*◌, ◌^◌, ◌<◌, ◌≤◌, List, ◌++◌, length, Ok, Err, MatchResult, ap, sym, ◌∙◌, append_assoc, append-nil, inl, inr, arith}
+use Rattle.std.proofs.Common.{◌≡◌, ℕ, zero, suc, ◌+◌, ◌-◌, ◌*◌, ◌^◌, ◌<◌, ◌≤◌, List, ◌++◌, length, Ok, Err, MatchResult, ap, sym, ◌∙◌, append_assoc, append-nil, inl, inr, arith, Result}
 use Rattle.std.proofs.lemmas.List.{length-append}
-use Rattle.std.specs.declared.io.ErrorKind.{ErrorKind}
-use Rattle.negoex_forms.specs.Form.{Layout, Answer, IsPut, IsTooLong, IsWithin}
+use Rattle.negoex_forms.specs.declared.error.NegoexError.{NegoexError}
+use Rattle.negoex_forms.specs.Form.{Layout, IsPut, IsTooLong, IsWithin}
 use Rattle.negoex_forms.specs.LeafLaws.{first-all}
 use Rattle.negoex_forms.specs.Laws.{LayoutLaws}
 use Rattle.negoex_forms.specs.Leaves.{random_layout}
@@ -38,7 +38,7 @@ both-put a b x y o behind h0 h1 h2 p0 p1 p2 at first second near =
     both-within o behind m zero at near within = omega arith
     both-within o behind m (suc n) at near within = let end = within (omega arith) in omega arith
 
-pub pair-put : {A B : Type 0} (a : Layout A) (b : Layout B) → LayoutLaws a → (x : A) (y : B) (o behind : ℕ) (h0 h1 h2 p0 p1 p2 : List ℕ) (result : Answer (Unit {0}))
+pub pair-put : {A B : Type 0} (a : Layout A) (b : Layout B) → LayoutLaws a → (x : A) (y : B) (o behind : ℕ) (h0 h1 h2 p0 p1 p2 : List ℕ) (result : Result (Unit {0}) NegoexError)
     → IsPut a x o h0 h1 p0 p1 → behind ≡ o + (length p1 - length p0) * 1 → behind < 2 ^ 32
     → MatchResult result (λ _. IsPut b y behind h1 h2 p1 p2) (IsTooLong behind (b.payload y))
     → MatchResult result (λ _. IsPut (pair_layout a b) (x, y) o h0 h2 p0 p2) (IsTooLong o (a.payload x + b.payload y))
@@ -55,6 +55,6 @@ first-long a laws x o n h0 h1 p0 p1 put long =
     omega (arith, ap length put.payload, length-append p0 (a.body x o), laws.body_size x o, long)
 
 -- an end past 32 bits is past it with all that follows
-pub long-more : (o n m : ℕ) (e : ErrorKind) → IsTooLong o n e → IsTooLong o (n + m) e
+pub long-more : (o n m : ℕ) (e : NegoexError) → IsTooLong o n e → IsTooLong o (n + m) e
 long-more o n m e (inl memory) = inl memory
 long-more o n m e (inr long) = inr (long.0, omega (arith, long.1))

@@ -2,6 +2,7 @@
 use Rattle.std.specs.Prelude.{◌≡◌, ℕ, ◌+◌, ◌≤◌, ◌<◌, ◌^◌, ◌⊎◌, List, take, drop, Result, Ok, Err, MatchResult, ◌++◌}
 use Rattle.std.specs.declared.io.ErrorKind.{ErrorKind}
 use Rattle.std.specs.declared.io.ErrorKind.TheVariants.{OutOfMemory, InvalidInput}
+use Rattle.negoex_forms.specs.declared.error.NegoexError.{NegoexError}
 
 -- so many bytes from a place on; fewer where the bytes end before
 abbrev pub cut : ℕ → ℕ → List ℕ → List ℕ
@@ -32,9 +33,13 @@ pub record Layout (V : Type 0) : Type 1 where
   pub head : V → ℕ → List ℕ
   pub body : V → ℕ → List ℕ
 
--- answered is what was read; memory aside
-abbrev pub Answers : {T V : Type 0} → (T → V) → Answer V → Answer T → Type 0
-Answers view told result = MatchResult result (λ t. told ≡ Ok (view t)) (λ e. (e ≡ OutOfMemory) ⊎ (told ≡ Err e))
+-- what is returned is what was read; memory aside
+abbrev pub Answers : {T V : Type 0} → (T → V) → Answer V → Result T NegoexError → Type 0
+Answers view told result = MatchResult result (λ t. told ≡ Ok (view t)) (λ e. (e.kind ≡ OutOfMemory) ⊎ (told ≡ Err e.kind))
+
+-- the same, of what takes no memory
+abbrev pub AnswersExactly : {V : Type 0} → Answer V → Result V NegoexError → Type 0
+AnswersExactly told result = MatchResult result (λ v. told ≡ Ok v) (λ e. told ≡ Err e.kind)
 
 -- the places of a payload of n bytes that begins at o are numbers of 32 bits
 abbrev pub IsWithin : ℕ → ℕ → Type 0
@@ -47,5 +52,5 @@ pub record IsPut {V : Type 0} (l : Layout V) (v : V) (o : ℕ) (old new data_old
   pub within : IsWithin o (l.payload v)
 
 -- nothing was put: memory was wanting, or the payload ends past 32 bits
-abbrev pub IsTooLong : ℕ → ℕ → ErrorKind → Type 0
-IsTooLong o n e = (e ≡ OutOfMemory) ⊎ ((e ≡ InvalidInput) × (2 ^ 32 ≤ o + n))
+abbrev pub IsTooLong : ℕ → ℕ → NegoexError → Type 0
+IsTooLong o n e = (e.kind ≡ OutOfMemory) ⊎ ((e.kind ≡ InvalidInput) × (2 ^ 32 ≤ o + n))

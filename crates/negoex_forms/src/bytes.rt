@@ -4,6 +4,7 @@ ghost use Rattle.std.specs.declared.io.ErrorKind.{ErrorKind};
 ghost use Rattle.byte_layouts.specs.Numbers.{le32};
 ghost use Rattle.negoex_forms.specs.Form.{cut};
 
+use crate::error::NegoexError;
 use std::io::ErrorKind;
 
 // So many bytes from `place` on; fewer where they end before.
@@ -34,37 +35,45 @@ pub(crate) fn rest_of(bytes: &[u8], size: usize) -> &[u8]
 }
 
 /// Puts bytes behind others; `OutOfMemory` where there is no room for them.
-pub fn extend(to: &mut Vec<u8>, bytes: &[u8]) -> Result<(), ErrorKind>
-    ensures { MatchResult result (λ _. to.new.items ≡ to.old.items ++ bytes.now) (λ e. e ≡ ErrorKind.OutOfMemory) }
+pub fn extend(to: &mut Vec<u8>, bytes: &[u8]) -> Result<(), NegoexError>
+    ensures { MatchResult result (λ _. to.new.items ≡ to.old.items ++ bytes.now) (λ e. e.kind ≡ ErrorKind.OutOfMemory) }
 {
     match to.extend_from_slice(bytes) {
         Ok(()) => Ok(()),
-        Err(_) => Err(ErrorKind::OutOfMemory),
+        Err(_) => Err(NegoexError {
+            kind: ErrorKind::OutOfMemory,
+        }),
     }
 }
 
 // Puts a number of four bytes, the lowest first.
 #[tactic(auto, unfolding(byte_layouts::specs::Numbers::le32))]
-pub(crate) fn extend_number(to: &mut Vec<u8>, number: usize) -> Result<(), ErrorKind>
+pub(crate) fn extend_number(to: &mut Vec<u8>, number: usize) -> Result<(), NegoexError>
     requires { number < 2 ^ 32 }
-    ensures { MatchResult result (λ _. to.new.items ≡ to.old.items ++ le32 number) (λ e. e ≡ ErrorKind.OutOfMemory) }
+    ensures { MatchResult result (λ _. to.new.items ≡ to.old.items ++ le32 number) (λ e. e.kind ≡ ErrorKind.OutOfMemory) }
 {
     extend(to, &(number as u32).to_le_bytes())
 }
 
 /// The place behind so many things of one size, which has to be a number of 32 bits: `InvalidInput` where it isn't.
-pub fn place_behind(place: usize, count: usize, size: usize) -> Result<usize, ErrorKind>
+pub fn place_behind(place: usize, count: usize, size: usize) -> Result<usize, NegoexError>
     ensures { MatchResult result (λ behind. (behind ≡ place + count * size) × (behind < 2 ^ 32))
-        (λ e. (e ≡ ErrorKind.InvalidInput) × (2 ^ 32 ≤ place + count * size)) }
+        (λ e. (e.kind ≡ ErrorKind.InvalidInput) × (2 ^ 32 ≤ place + count * size)) }
 {
     let Some(all) = count.checked_mul(size) else {
-        return Err(ErrorKind::InvalidInput);
+        return Err(NegoexError {
+            kind: ErrorKind::InvalidInput,
+        });
     };
     let Some(behind) = place.checked_add(all) else {
-        return Err(ErrorKind::InvalidInput);
+        return Err(NegoexError {
+            kind: ErrorKind::InvalidInput,
+        });
     };
     if behind > u32::MAX as usize {
-        return Err(ErrorKind::InvalidInput);
+        return Err(NegoexError {
+            kind: ErrorKind::InvalidInput,
+        });
     }
     Ok(behind)
 }

@@ -1,12 +1,12 @@
 //! A checksum over messages (MS-NEGOEX, section 2.2.5.1.3).
 ghost use Rattle.std.specs.Prelude.{◌≡◌};
 
+use crate::error::NegoexError;
 use crate::fields::ChecksumScheme;
 use crate::laid::{Laid, Wide};
 use crate::leaves::ByteVector;
 use crate::pairs::put_both;
 use std::alloc::{AllocError, Global};
-use std::io::ErrorKind;
 
 /// A checksum over messages.
 #[derive(Debug, Drop, PartialEq, Eq)]
@@ -55,7 +55,7 @@ impl Laid for Checksum {
 
     ghost laws = { checksum_laws };
 
-    fn from_header(alloc: Global, header: &[u8], message: &[u8]) -> Result<Self, ErrorKind> {
+    fn from_header(alloc: Global, header: &[u8], message: &[u8]) -> Result<Self, NegoexError> {
         let ((header_len, (ChecksumScheme(checksum_scheme), checksum_type)), checksum_value): (
             (u32, (ChecksumScheme, u32)),
             ByteVector,
@@ -74,7 +74,7 @@ impl Laid for Checksum {
         offset: usize,
         header: &mut Vec<u8>,
         payload: &mut Vec<u8>,
-    ) -> Result<(), ErrorKind> {
+    ) -> Result<(), NegoexError> {
         let kind = (ChecksumScheme(self.checksum_scheme), self.checksum_type);
         let fields = (self.header_len, kind);
         put_both(

@@ -1,11 +1,11 @@
 //! What extends a message (MS-NEGOEX, section 2.2.5.1.4).
 ghost use Rattle.std.specs.Prelude.{◌≡◌};
 
+use crate::error::NegoexError;
 use crate::laid::{Laid, Wide};
 use crate::leaves::ByteVector;
 use crate::pairs::put_both;
 use std::alloc::{AllocError, Global};
-use std::io::ErrorKind;
 
 /// What extends a message.
 #[derive(Debug, Drop, PartialEq, Eq)]
@@ -44,7 +44,7 @@ impl Laid for Extension {
 
     ghost laws = { extension_laws };
 
-    fn from_header(alloc: Global, header: &[u8], message: &[u8]) -> Result<Self, ErrorKind> {
+    fn from_header(alloc: Global, header: &[u8], message: &[u8]) -> Result<Self, NegoexError> {
         let (extension_type, extension_value): (u32, ByteVector) = Laid::from_header(
             alloc, header, message,
         )?;
@@ -60,7 +60,7 @@ impl Laid for Extension {
         offset: usize,
         header: &mut Vec<u8>,
         payload: &mut Vec<u8>,
-    ) -> Result<(), ErrorKind> {
+    ) -> Result<(), NegoexError> {
         put_both(
             alloc,
             &self.extension_type,

@@ -2,6 +2,7 @@
 ghost use Rattle.std.specs.Prelude.{◌≡◌};
 
 use crate::bytes::extend;
+use crate::error::NegoexError;
 use crate::laid::{Laid, Wide};
 use byte_layouts::{array_at, u32_le, u64_le};
 use std::alloc::Global;
@@ -29,9 +30,11 @@ impl Laid for u32 {
 
     ghost laws = { number_laws };
 
-    fn from_header(_alloc: Global, header: &[u8], _message: &[u8]) -> Result<Self, ErrorKind> {
+    fn from_header(_alloc: Global, header: &[u8], _message: &[u8]) -> Result<Self, NegoexError> {
         if header.len() < 4 {
-            return Err(ErrorKind::UnexpectedEof);
+            return Err(NegoexError {
+                kind: ErrorKind::UnexpectedEof,
+            });
         }
         Ok(u32_le(header, 0))
     }
@@ -43,7 +46,7 @@ impl Laid for u32 {
         _offset: usize,
         header: &mut Vec<u8>,
         _payload: &mut Vec<u8>,
-    ) -> Result<(), ErrorKind> {
+    ) -> Result<(), NegoexError> {
         extend(header, &self.to_le_bytes())
     }
 
@@ -71,9 +74,11 @@ impl Laid for u64 {
 
     ghost laws = { long_laws };
 
-    fn from_header(_alloc: Global, header: &[u8], _message: &[u8]) -> Result<Self, ErrorKind> {
+    fn from_header(_alloc: Global, header: &[u8], _message: &[u8]) -> Result<Self, NegoexError> {
         if header.len() < 8 {
-            return Err(ErrorKind::UnexpectedEof);
+            return Err(NegoexError {
+                kind: ErrorKind::UnexpectedEof,
+            });
         }
         Ok(u64_le(header, 0))
     }
@@ -85,7 +90,7 @@ impl Laid for u64 {
         _offset: usize,
         header: &mut Vec<u8>,
         _payload: &mut Vec<u8>,
-    ) -> Result<(), ErrorKind> {
+    ) -> Result<(), NegoexError> {
         extend(header, &self.to_le_bytes())
     }
 
@@ -113,9 +118,11 @@ impl Laid for [u8; RANDOM_ARRAY_SIZE] {
 
     ghost laws = { random_laws };
 
-    fn from_header(_alloc: Global, header: &[u8], _message: &[u8]) -> Result<Self, ErrorKind> {
+    fn from_header(_alloc: Global, header: &[u8], _message: &[u8]) -> Result<Self, NegoexError> {
         if header.len() < 32 {
-            return Err(ErrorKind::UnexpectedEof);
+            return Err(NegoexError {
+                kind: ErrorKind::UnexpectedEof,
+            });
         }
         Ok(array_at::<RANDOM_ARRAY_SIZE>(header, 0))
     }
@@ -126,7 +133,7 @@ impl Laid for [u8; RANDOM_ARRAY_SIZE] {
         _offset: usize,
         header: &mut Vec<u8>,
         _payload: &mut Vec<u8>,
-    ) -> Result<(), ErrorKind> {
+    ) -> Result<(), NegoexError> {
         extend(header, self)
     }
 
@@ -141,7 +148,7 @@ impl Wide for [u8; RANDOM_ARRAY_SIZE] {
     }
 }
 
-// A signature, which is read only where it is NEGOEXTS.
+/// A signature, which is read only where it is NEGOEXTS.
 #[derive(Clone, Copy, Debug)]
 pub struct Signature(pub u64);
 
@@ -158,13 +165,17 @@ impl Laid for Signature {
 
     ghost laws = { signature_laws };
 
-    fn from_header(_alloc: Global, header: &[u8], _message: &[u8]) -> Result<Self, ErrorKind> {
+    fn from_header(_alloc: Global, header: &[u8], _message: &[u8]) -> Result<Self, NegoexError> {
         if header.len() < 8 {
-            return Err(ErrorKind::UnexpectedEof);
+            return Err(NegoexError {
+                kind: ErrorKind::UnexpectedEof,
+            });
         }
         let signature = u64_le(header, 0);
         if signature != NEGOEXTS_MESSAGE_SIGNATURE {
-            return Err(ErrorKind::InvalidData);
+            return Err(NegoexError {
+                kind: ErrorKind::InvalidData,
+            });
         }
         Ok(Signature(signature))
     }
@@ -176,7 +187,7 @@ impl Laid for Signature {
         _offset: usize,
         header: &mut Vec<u8>,
         _payload: &mut Vec<u8>,
-    ) -> Result<(), ErrorKind> {
+    ) -> Result<(), NegoexError> {
         extend(header, &self.0.to_le_bytes())
     }
 
@@ -191,7 +202,7 @@ impl Wide for Signature {
     }
 }
 
-// A scheme of checksums, which is read only where it is that of RFC 3961.
+/// A scheme of checksums, which is read only where it is that of RFC 3961.
 #[derive(Clone, Copy, Debug)]
 pub struct ChecksumScheme(pub u32);
 
@@ -208,13 +219,17 @@ impl Laid for ChecksumScheme {
 
     ghost laws = { scheme_laws };
 
-    fn from_header(_alloc: Global, header: &[u8], _message: &[u8]) -> Result<Self, ErrorKind> {
+    fn from_header(_alloc: Global, header: &[u8], _message: &[u8]) -> Result<Self, NegoexError> {
         if header.len() < 4 {
-            return Err(ErrorKind::UnexpectedEof);
+            return Err(NegoexError {
+                kind: ErrorKind::UnexpectedEof,
+            });
         }
         let scheme = u32_le(header, 0);
         if scheme != CHECKSUM_SCHEME_RFC3961 {
-            return Err(ErrorKind::InvalidInput);
+            return Err(NegoexError {
+                kind: ErrorKind::InvalidInput,
+            });
         }
         Ok(ChecksumScheme(scheme))
     }
@@ -226,7 +241,7 @@ impl Laid for ChecksumScheme {
         _offset: usize,
         header: &mut Vec<u8>,
         _payload: &mut Vec<u8>,
-    ) -> Result<(), ErrorKind> {
+    ) -> Result<(), NegoexError> {
         extend(header, &self.0.to_le_bytes())
     }
 

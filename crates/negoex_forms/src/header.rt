@@ -1,12 +1,12 @@
 //! What each message begins with (MS-NEGOEX, section 2.2.6.2).
 ghost use Rattle.std.specs.Prelude.{◌≡◌};
 
+use crate::error::NegoexError;
 use crate::fields::{RANDOM_ARRAY_SIZE, Signature};
 use crate::laid::{Laid, Wide};
 use crate::leaves::{AuthScheme, AuthSchemeVector, ConversationId};
 use crate::message_type::MessageType;
 use std::alloc::Global;
-use std::io::ErrorKind;
 
 /// What each message begins with.
 #[derive(Clone, Copy, Debug, PartialEq, Eq)]
@@ -37,7 +37,7 @@ impl Laid for MessageHeader {
 
     ghost laws = { header_laws };
 
-    fn from_header(alloc: Global, header: &[u8], message: &[u8]) -> Result<Self, ErrorKind> {
+    fn from_header(alloc: Global, header: &[u8], message: &[u8]) -> Result<Self, NegoexError> {
         let (
             Signature(signature),
             (message_type, (sequence_num, (header_len, (message_len, conversation_id)))),
@@ -61,7 +61,7 @@ impl Laid for MessageHeader {
         offset: usize,
         header: &mut Vec<u8>,
         payload: &mut Vec<u8>,
-    ) -> Result<(), ErrorKind> {
+    ) -> Result<(), NegoexError> {
         let lengths = (self.header_len, (self.message_len, self.conversation_id));
         let fields = (self.message_type, (self.sequence_num, lengths));
         (Signature(self.signature), fields).put(alloc, offset, header, payload)

@@ -3,8 +3,8 @@ ghost use Rattle.std.specs.Prelude.{◌≡◌, ℕ, ◌+◌, ◌-◌, ◌^◌, L
 ghost use Rattle.negoex_forms.specs.Form.{Layout, Answers, IsPut, IsTooLong};
 ghost use Rattle.negoex_forms.specs.Laws.{LayoutLaws};
 
+use crate::error::NegoexError;
 use std::alloc::Global;
-use std::io::ErrorKind;
 
 /// A type of which messages are made up: a header of fixed size, and behind all headers a payload, to which it points.
 pub trait Laid: Sized {
@@ -18,7 +18,7 @@ pub trait Laid: Sized {
     ghost laws: { LayoutLaws layout };
 
     /// The value whose header this is, in this message. A header that is cut short is `UnexpectedEof`.
-    fn from_header(alloc: Global, header: &[u8], message: &[u8]) -> Result<Self, ErrorKind>
+    fn from_header(alloc: Global, header: &[u8], message: &[u8]) -> Result<Self, NegoexError>
         ensures { Answers view (layout.read header.now message.now) result };
 
     /// Puts the header behind `header`, and the payload behind `payload`, as it is where the payload begins at `offset`.
@@ -28,7 +28,7 @@ pub trait Laid: Sized {
         offset: usize,
         header: &mut Vec<u8>,
         payload: &mut Vec<u8>,
-    ) -> Result<(), ErrorKind>
+    ) -> Result<(), NegoexError>
         ensures { MatchResult result
             (λ _. IsPut layout (view self.now) offset header.old.items header.new.items payload.old.items payload.new.items)
             (IsTooLong offset (layout.payload (view self.now))) };

@@ -2,6 +2,7 @@
 ghost use Rattle.std.specs.Prelude.{◌≡◌};
 
 use crate::bytes::extend;
+use crate::error::NegoexError;
 use crate::laid::{Laid, Wide};
 use byte_layouts::array_at;
 use std::alloc::Global;
@@ -21,9 +22,11 @@ impl Laid for u8 {
 
     ghost laws = { byte_laws };
 
-    fn from_header(_alloc: Global, header: &[u8], _message: &[u8]) -> Result<Self, ErrorKind> {
+    fn from_header(_alloc: Global, header: &[u8], _message: &[u8]) -> Result<Self, NegoexError> {
         if header.len() < 1 {
-            return Err(ErrorKind::UnexpectedEof);
+            return Err(NegoexError {
+                kind: ErrorKind::UnexpectedEof,
+            });
         }
         Ok(header[0])
     }
@@ -34,7 +37,7 @@ impl Laid for u8 {
         _offset: usize,
         header: &mut Vec<u8>,
         _payload: &mut Vec<u8>,
-    ) -> Result<(), ErrorKind> {
+    ) -> Result<(), NegoexError> {
         extend(header, &[*self])
     }
 
@@ -77,9 +80,11 @@ impl Laid for Uuid {
 
     ghost laws = { guid_laws };
 
-    fn from_header(_alloc: Global, header: &[u8], _message: &[u8]) -> Result<Self, ErrorKind> {
+    fn from_header(_alloc: Global, header: &[u8], _message: &[u8]) -> Result<Self, NegoexError> {
         if header.len() < 16 {
-            return Err(ErrorKind::UnexpectedEof);
+            return Err(NegoexError {
+                kind: ErrorKind::UnexpectedEof,
+            });
         }
         Ok(Uuid::from_bytes_le(array_at::<16>(header, 0)))
     }
@@ -90,7 +95,7 @@ impl Laid for Uuid {
         _offset: usize,
         header: &mut Vec<u8>,
         _payload: &mut Vec<u8>,
-    ) -> Result<(), ErrorKind> {
+    ) -> Result<(), NegoexError> {
         extend(header, &self.to_bytes_le())
     }
 

@@ -7,6 +7,7 @@
 
 mod bytes;
 mod checksum;
+mod error;
 mod extension;
 mod fields;
 mod header;
@@ -18,6 +19,7 @@ mod vectors;
 
 pub use bytes::{extend, front_of, place_behind};
 pub use checksum::Checksum;
+pub use error::NegoexError;
 pub use extension::{Extension, ExtensionVector};
 pub use fields::{CHECKSUM_SCHEME_RFC3961, NEGOEXTS_MESSAGE_SIGNATURE, RANDOM_ARRAY_SIZE};
 pub use header::MessageHeader;

@@ -2,6 +2,7 @@
 ghost use Rattle.std.specs.Prelude.{◌≡◌};
 
 use crate::bytes::extend;
+use crate::error::NegoexError;
 use crate::laid::{Laid, Wide};
 use byte_layouts::u32_le;
 use std::alloc::Global;
@@ -28,15 +29,14 @@ pub enum MessageType {
     Alert,
 }
 
-impl MessageType {
-    ghost use Rattle.negoex_forms.specs.Types.{type_number, type_of};
-    ghost use Rattle.negoex_forms.specs.Form.{Answers};
+/// The type's number.
+impl From<&MessageType> for u32 {
+    ghost use Rattle.negoex_forms.specs.Types.{type_number};
 
-    /// The type's number.
-    pub fn number(&self) -> u32
-        ensures { result ≡ type_number self.now }
-    {
-        match self {
+    ghost from_gives = { λ message_type number. number ≡ type_number message_type.now };
+
+    fn from(message_type: &MessageType) -> u32 {
+        match message_type {
             MessageType::InitiatorNego => 0,
             MessageType::AcceptorNego => 1,
             MessageType::InitiatorMetaData => 2,
@@ -47,11 +47,18 @@ impl MessageType {
             MessageType::Alert => 7,
         }
     }
+}
 
-    /// The type with this number; of another number `InvalidData`.
-    pub fn of_number(number: u32) -> Result<MessageType, ErrorKind>
-        ensures { result ≡ type_of number }
-    {
+/// The type that has this number; of another number `InvalidData`.
+impl TryFrom<u32> for MessageType {
+    ghost use Rattle.negoex_forms.specs.Types.{type_of};
+    ghost use Rattle.negoex_forms.specs.Form.{AnswersExactly};
+
+    type Error = NegoexError;
+
+    ghost try_from_gives = { λ number result. AnswersExactly (type_of number) result };
+
+    fn try_from(number: u32) -> Result<MessageType, NegoexError> {
         match number {
             0 => Ok(MessageType::InitiatorNego),
             1 => Ok(MessageType::AcceptorNego),
@@ -61,7 +68,9 @@ impl MessageType {
             5 => Ok(MessageType::ApRequest),
             6 => Ok(MessageType::Verify),
             7 => Ok(MessageType::Alert),
-            _ => Err(ErrorKind::InvalidData),
+            _ => Err(NegoexError {
+                kind: ErrorKind::InvalidData,
+            }),
         }
     }
 }
@@ -79,11 +88,13 @@ impl Laid for MessageType {
 
     ghost laws = { type_laws };
 
-    fn from_header(_alloc: Global, header: &[u8], _message: &[u8]) -> Result<Self, ErrorKind> {
+    fn from_header(_alloc: Global, header: &[u8], _message: &[u8]) -> Result<Self, NegoexError> {
         if header.len() < 4 {
-            return Err(ErrorKind::UnexpectedEof);
+            return Err(NegoexError {
+                kind: ErrorKind::UnexpectedEof,
+            });
         }
-        MessageType::of_number(u32_le(header, 0))
+        MessageType::try_from(u32_le(header, 0))
     }
 
     #[tactic(auto, unfolding(byte_layouts::specs::Numbers::le32))]
@@ -93,8 +104,8 @@ impl Laid for MessageType {
         _offset: usize,
         header: &mut Vec<u8>,
         _payload: &mut Vec<u8>,
-    ) -> Result<(), ErrorKind> {
-        extend(header, &self.number().to_le_bytes())
+    ) -> Result<(), NegoexError> {
+        extend(header, &u32::from(self).to_le_bytes())
     }
 
     fn payload_size(&self) -> usize {

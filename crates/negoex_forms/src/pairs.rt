@@ -4,9 +4,9 @@ ghost use Rattle.negoex_forms.specs.Form.{IsPut, IsTooLong};
 ghost use Rattle.negoex_forms.specs.Pairs.{pair_layout};
 
 use crate::bytes::{front_of, place_behind, rest_of};
+use crate::error::NegoexError;
 use crate::laid::{Laid, Wide};
 use std::alloc::Global;
-use std::io::ErrorKind;
 
 /// Puts the first, and the second behind it, in the header and in the payload, which begins at `offset`.
 pub fn put_both<A: Laid, B: Laid>(
@@ -16,7 +16,7 @@ pub fn put_both<A: Laid, B: Laid>(
     offset: usize,
     header: &mut Vec<u8>,
     payload: &mut Vec<u8>,
-) -> Result<(), ErrorKind>
+) -> Result<(), NegoexError>
     ensures { MatchResult result
         (λ _. IsPut (pair_layout A.layout B.layout) (A.view first.now, B.view second.now) offset header.old.items header.new.items payload.old.items payload.new.items)
         (IsTooLong offset (A.layout.payload (A.view first.now) + B.layout.payload (B.view second.now))) }
@@ -36,7 +36,7 @@ pub fn put_three<A: Laid, B: Laid, C: Laid>(
     offset: usize,
     header: &mut Vec<u8>,
     payload: &mut Vec<u8>,
-) -> Result<(), ErrorKind>
+) -> Result<(), NegoexError>
     ensures { MatchResult result
         (λ _. IsPut (pair_layout (pair_layout A.layout B.layout) C.layout) ((A.view first.now, B.view second.now), C.view third.now) offset
         header.old.items header.new.items payload.old.items payload.new.items)
@@ -60,7 +60,7 @@ impl<A: Wide + Drop, B: Laid + Drop> Laid for (A, B) {
 
     ghost laws = { pair_laws A.layout B.layout A.laws B.laws };
 
-    fn from_header(alloc: Global, header: &[u8], message: &[u8]) -> Result<Self, ErrorKind> {
+    fn from_header(alloc: Global, header: &[u8], message: &[u8]) -> Result<Self, NegoexError> {
         let first = A::from_header(alloc, front_of(header, A::width()), message)?;
         let second = B::from_header(alloc, rest_of(header, A::width()), message)?;
         Ok((first, second))
@@ -72,7 +72,7 @@ impl<A: Wide + Drop, B: Laid + Drop> Laid for (A, B) {
         offset: usize,
         header: &mut Vec<u8>,
         payload: &mut Vec<u8>,
-    ) -> Result<(), ErrorKind> {
+    ) -> Result<(), NegoexError> {
         put_both(alloc, &self.0, &self.1, offset, header, payload)
     }
 

@@ -1,22 +1,24 @@
 //! Vectors: an offset and a count, and the elements at the offset (MS-NEGOEX, section 2.2.5.2).
-ghost use Rattle.std.specs.Prelude.{◌≡◌, ℕ, ◌+◌, ◌^◌, ◌<◌, ◌-◌, ◌++◌, map, min, MatchResult};
+ghost use Rattle.std.specs.Prelude.{◌≡◌, ℕ, ◌+◌, ◌^◌, ◌<◌, ◌≤◌, ◌-◌, ◌++◌, length, map, min, IfOk, MatchResult};
 ghost use Rattle.negoex_forms.specs.Form.{Answers, IsTooLong};
 ghost use Rattle.negoex_forms.specs.Vectors.{elements_at, payloads, heads, bodies};
 
 use crate::bytes::{cut_of, extend, extend_number, place_behind};
+use crate::error::NegoexError;
 use crate::laid::{Laid, Wide};
 use byte_layouts::u32_le;
 use std::alloc::Global;
 use std::io::ErrorKind;
 
-// So many elements from `offset` on. Room is made for no element before it is read.
+// So many elements from `offset` on. Room is made for no element before it is read, so for no more than the message has bytes.
 fn read_elements<T: Wide + Drop>(
     alloc: Global,
     message: &[u8],
     offset: usize,
     count: usize,
-) -> Result<Vec<T>, ErrorKind>
-    ensures { Answers (λ v. map T.view v.items) (elements_at T.layout count offset message.now) result }
+) -> Result<Vec<T>, NegoexError>
+    ensures exact { Answers (λ v. map T.view v.items) (elements_at T.layout count offset message.now) result }
+    ensures room { IfOk result (λ v. length v.items ≤ length message.now) }
 {
     let mut elements = Vec::new(alloc);
     let mut place = offset;
@@ -25,7 +27,9 @@ fn read_elements<T: Wide + Drop>(
         let element = T::from_header(alloc, cut_of(message, place, T::width()), message)?;
         match elements.push(element) {
             Ok(()) => {}
-            Err(_) => return Err(ErrorKind::OutOfMemory),
+            Err(_) => return Err(NegoexError {
+                kind: ErrorKind::OutOfMemory,
+            }),
         }
         place += T::width();
         left -= 1;
@@ -39,7 +43,7 @@ fn put_elements<T: Laid>(
     elements: &[T],
     first: usize,
     headers: &mut Vec<u8>,
-) -> Result<Vec<u8>, ErrorKind>
+) -> Result<Vec<u8>, NegoexError>
     ensures { MatchResult result
         (λ put. (headers.new.items ≡ headers.old.items ++ heads T.layout first (map T.view elements.now))
         × (put.items ≡ bodies T.layout first (map T.view elements.now))
@@ -79,14 +83,18 @@ impl<T: Wide + Drop> Laid for Vec<T> {
 
     ghost laws = { vector_laws T.layout T.laws };
 
-    fn from_header(alloc: Global, header: &[u8], message: &[u8]) -> Result<Self, ErrorKind> {
+    fn from_header(alloc: Global, header: &[u8], message: &[u8]) -> Result<Self, NegoexError> {
         if header.len() < 8 {
-            return Err(ErrorKind::UnexpectedEof);
+            return Err(NegoexError {
+                kind: ErrorKind::UnexpectedEof,
+            });
         }
         let offset = u32_le(header, 0) as usize;
         let count = u32_le(header, 4) as usize;
         if count > 0 && offset > message.len() {
-            return Err(ErrorKind::InvalidData);
+            return Err(NegoexError {
+                kind: ErrorKind::InvalidData,
+            });
         }
         read_elements(alloc, message, offset, count)
     }
@@ -98,7 +106,7 @@ impl<T: Wide + Drop> Laid for Vec<T> {
         offset: usize,
         header: &mut Vec<u8>,
         payload: &mut Vec<u8>,
-    ) -> Result<(), ErrorKind> {
+    ) -> Result<(), NegoexError> {
         if self.is_empty() {
             return extend(header, &[0; 8]);
         }

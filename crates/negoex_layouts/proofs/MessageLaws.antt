@@ -1,10 +1,11 @@
 -- A message is laid out in its bytes, and read from them.
-use Rattle.std.proofs.Common.{◌≡◌, ℕ, List, [], ◌++◌, length, take, Ok, Err, ap, sym, subst, ◌∙◌, append_assoc, append-nil, inl, inr, arith}
+use Rattle.std.proofs.Common.{◌≡◌, ℕ, List, [], ◌++◌, length, take, Result, Ok, Err, ap, sym, subst, ◌∙◌, append_assoc, append-nil, inl, inr, arith}
 use Rattle.std.specs.Prelude.{IfOk}
 use Rattle.std.proofs.lemmas.List.{length-append, take_at, length-take}
 use Rattle.byte_layouts.proofs.NumberLaws.{AreBytes, bytes-cut}
 use Rattle.negoex_forms.specs.Form.{Layout, Answer, Answers, IsPut, IsWithin}
 use Rattle.negoex_forms.specs.Laws.{LayoutLaws}
+use Rattle.negoex_forms.specs.declared.error.NegoexError.{NegoexError}
 use Rattle.negoex_layouts.specs.Messages.{IsMessage, message_bytes, IsTrueOffset, GivesBack, WrittenIsRead}
 
 pub message-written : {V : Type 0} (l : Layout V) → LayoutLaws l → (filler : List ℕ) (v : V) (o : ℕ) → IsTrueOffset l filler o → IsWithin o (l.payload v)
@@ -27,17 +28,17 @@ pub message-found : {V : Type 0} (l : Layout V) → LayoutLaws l → (v : V) (wh
 message-found l laws v whole bytes read =
     laws.found v (take l.width whole) whole (bytes-cut whole 0 l.width bytes) bytes (omega (arith, length-take l.width whole)) read
 
-pub answers-found : {T V : Type 0} (view : T → V) (l : Layout V) → LayoutLaws l → (whole : List ℕ) → AreBytes whole → (result : Answer T)
+pub answers-found : {T V : Type 0} (view : T → V) (l : Layout V) → LayoutLaws l → (whole : List ℕ) → AreBytes whole → (result : Result T NegoexError)
     → Answers view (l.read (take l.width whole) whole) result → IfOk result (λ t. IsMessage l (view t) whole)
 answers-found view l laws whole bytes (Ok t) told = message-found l laws (view t) whole bytes told
 answers-found view l laws whole bytes (Err e) told = tt
 
-pub answers-given : {T V : Type 0} (view : T → V) (told : Answer V) (v : V) (result : Answer T) → told ≡ Ok v → Answers view told result → GivesBack view v result
+pub answers-given : {T V : Type 0} (view : T → V) (told : Answer V) (v : V) (result : Result T NegoexError) → told ≡ Ok v → Answers view told result → GivesBack view v result
 answers-given view told v (Ok t) is answered = cc (is, answered)
 answers-given view told v (Err e) is (inl memory) = memory
 answers-given view told v (Err e) is (inr wrong) = cc (is, wrong)
 
-pub answers-back : {T V : Type 0} (view : T → V) (l : Layout V) → LayoutLaws l → (whole : List ℕ) (result : Answer T)
+pub answers-back : {T V : Type 0} (view : T → V) (l : Layout V) → LayoutLaws l → (whole : List ℕ) (result : Result T NegoexError)
     → Answers view (l.read (take l.width whole) whole) result → (v : V) → l.Fits v → IsMessage l v whole → GivesBack view v result
 answers-back view l laws whole result told v fits is =
     answers-given view (l.read (take l.width whole) whole) v result (laws.given v (take l.width whole) whole fits is) told

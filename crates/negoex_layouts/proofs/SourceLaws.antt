@@ -1,5 +1,5 @@
 -- What was read of a header from a device is the header, or says why there is none.
-use Rattle.std.proofs.Common.{◌≡◌, ℕ, ◌≤◌, ◌<◌, List, [], ◌++◌, length, take, Option, None, Some, IfSome, IfOk, MatchOption, Ok, Err, refl, ap, sym, ◌∙◌, append-nil, inl, inr, arith}
+use Rattle.std.proofs.Common.{◌≡◌, ℕ, ◌≤◌, ◌<◌, List, [], ◌++◌, length, take, Option, None, Some, IfSome, IfOk, MatchOption, Result, Ok, Err, refl, ap, sym, ◌∙◌, append-nil, inl, inr, arith}
 use Rattle.std.specs.Prelude.{◌⊎◌}
 use Rattle.std.proofs.lemmas.Bool.{cases_lt}
 use Rattle.std.proofs.lemmas.List.{take_at, take_all, length-take}
@@ -10,6 +10,7 @@ use Rattle.devices.specs.Counting.{one_more}
 use Rattle.byte_layouts.proofs.NumberLaws.{AreBytes}
 use Rattle.negoex_forms.specs.Form.{Layout, Answer, Answers}
 use Rattle.negoex_forms.specs.Laws.{LayoutLaws}
+use Rattle.negoex_forms.specs.declared.error.NegoexError.{NegoexError}
 use Rattle.negoex_layouts.specs.Sources.{IsCutShort, IsRefusal, IsGiven}
 
 -- what a device that failed says of its count and its fault
@@ -33,9 +34,9 @@ front-all width count buffer bytes rest size few is ends =
       | inr enough ↦ sym (ap (take width) is ∙ take_at front rest width (omega arith))
     ]
 
-pub header-refused : {V : Type 0} (l : Layout V) (left after : Option (List ℕ)) (fault last : Option ErrorKind) (old new count : ℕ) (buffer message : List ℕ) (kind e : ErrorKind)
+pub header-refused : {V : Type 0} (l : Layout V) (left after : Option (List ℕ)) (fault last : Option ErrorKind) (old new count : ℕ) (buffer message : List ℕ) (kind : ErrorKind) (e : NegoexError)
     → length buffer ≡ l.width → count ≤ length buffer → Consumes left after (take count buffer) → (fault ≡ None → count < length buffer → IsAtEnd after)
-    → Counted fault old new last → (kind ≡ OutOfMemory) ⊎ (l.read (take count buffer) message ≡ Err kind) → IsAnswer kind fault e
+    → Counted fault old new last → (kind ≡ OutOfMemory) ⊎ (l.read (take count buffer) message ≡ Err kind) → IsAnswer kind fault e.kind
     → IfSome left (λ bytes. IsRefusal l message bytes after old new last e)
 header-refused l None after fault last old new count buffer message kind e size few given ends counted told is = tt
 header-refused l (Some bytes) None fault last old new count buffer message kind e size few given ends counted told is = absurd given
@@ -59,7 +60,7 @@ header-refused l (Some bytes) (Some rest) (Some cause) last old new count buffer
 
 -- what was read of some bytes stands there
 pub value-found : {T V : Type 0} (view : T → V) (l : Layout V) → LayoutLaws l → (header message : List ℕ) → AreBytes header → AreBytes message → length header ≤ l.width
-    → (result : Answer T) → Answers view (l.read header message) result → IfOk result (λ t. l.IsLaid (view t) header message)
+    → (result : Result T NegoexError) → Answers view (l.read header message) result → IfOk result (λ t. l.IsLaid (view t) header message)
 value-found view l laws header message header_bytes bytes few (Ok t) told = laws.found (view t) header message header_bytes bytes few told
 value-found view l laws header message header_bytes bytes few (Err e) told = tt
 
@@ -79,7 +80,7 @@ header-given view l laws t (Some whole) (Some rest) last old new count buffer me
     λ v fits is. given-same (l.read front message) (view t) v read (ap (λ (h : List ℕ). l.read h message) (sym same) ∙ laws.given v (take l.width whole) message fits is)
 
 -- what is no refusal of the bytes is want of memory or the device's
-pub header-excused : {T V : Type 0} (view : T → V) (l : Layout V) → LayoutLaws l → (left after : Option (List ℕ)) (last : Option ErrorKind) (old new : ℕ) (message : List ℕ) (e : ErrorKind)
+pub header-excused : {T V : Type 0} (view : T → V) (l : Layout V) → LayoutLaws l → (left after : Option (List ℕ)) (last : Option ErrorKind) (old new : ℕ) (message : List ℕ) (e : NegoexError)
     → IfSome left (λ bytes. IsRefusal l message bytes after old new last e) → IfSome left (λ bytes. IsGiven {T = T} view l message bytes after old new last (Err e))
 header-excused view l laws None after last old new message e refusal = tt
 header-excused view l laws (Some whole) after last old new message e (inl memory) = λ v fits is. inl memory

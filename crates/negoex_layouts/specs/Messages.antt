@@ -1,9 +1,10 @@
 -- Whole messages: the header, what fills it up, and the payload (MS-NEGOEX, section 2.2.6).
-use Rattle.std.specs.Prelude.{◌≡◌, ℕ, ◌+◌, ◌⊎◌, List, ◌++◌, length, take, Ok, Option, MatchResult}
+use Rattle.std.specs.Prelude.{◌≡◌, ℕ, ◌+◌, ◌⊎◌, List, ◌++◌, length, take, Ok, Option, Result, MatchResult}
 use Rattle.std.specs.declared.io.ErrorKind.{ErrorKind}
 use Rattle.std.specs.declared.io.ErrorKind.TheVariants.{OutOfMemory}
 use Rattle.byte_layouts.specs.Stops.{IsWriteStop}
-use Rattle.negoex_forms.specs.Form.{Layout, Answer, IsWithin, IsTooLong}
+use Rattle.negoex_forms.specs.Form.{Layout, IsWithin, IsTooLong}
+use Rattle.negoex_forms.specs.declared.error.NegoexError.{NegoexError}
 
 -- the value stands in the message: its header in front, and its payload where the header says
 abbrev pub IsMessage : {V : Type 0} → Layout V → V → List ℕ → Type 0
@@ -18,13 +19,13 @@ abbrev pub IsTrueOffset : {V : Type 0} → Layout V → List ℕ → ℕ → Typ
 IsTrueOffset l filler o = o ≡ l.width + length filler
 
 -- memory was wanting or the payload ends past 32 bits, and nothing was written and no write failed; or a write stopped
-abbrev pub IsEncodeStop : ℕ → ℕ → Option (List ℕ) → Option (List ℕ) → ℕ → ℕ → Option ErrorKind → ErrorKind → Type 0
-IsEncodeStop o n before after old new last kind =
-    (IsTooLong o n kind × (after ≡ before) × (new ≡ old)) ⊎ IsWriteStop old new last kind
+abbrev pub IsEncodeStop : ℕ → ℕ → Option (List ℕ) → Option (List ℕ) → ℕ → ℕ → Option ErrorKind → NegoexError → Type 0
+IsEncodeStop o n before after old new last e =
+    (IsTooLong o n e × (after ≡ before) × (new ≡ old)) ⊎ IsWriteStop old new last e.kind
 
 -- memory aside
-abbrev pub GivesBack : {T V : Type 0} → (T → V) → V → Answer T → Type 0
-GivesBack view v result = MatchResult result (λ t. view t ≡ v) (λ e. e ≡ OutOfMemory)
+abbrev pub GivesBack : {T V : Type 0} → (T → V) → V → Result T NegoexError → Type 0
+GivesBack view v result = MatchResult result (λ t. view t ≡ v) (λ e. e.kind ≡ OutOfMemory)
 
 -- what is written is read: with numbers that fit their fields, the offset where the payload begins, and an end within 32 bits
 abbrev pub WrittenIsRead : {V : Type 0} → Layout V → List ℕ → Type 0

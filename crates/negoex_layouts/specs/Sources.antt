@@ -1,17 +1,18 @@
 -- Headers that are read from a device. `after` is what is left behind what came.
-use Rattle.std.specs.Prelude.{◌≡◌, ℕ, ◌⊎◌, List, take, Option, Some, Err, MatchResult}
+use Rattle.std.specs.Prelude.{◌≡◌, ℕ, ◌⊎◌, List, take, Option, Some, Result, Err, MatchResult}
 use Rattle.std.specs.Io.KnownBytes.{Consumes}
 use Rattle.std.specs.declared.io.ErrorKind.{ErrorKind}
 use Rattle.std.specs.declared.io.ErrorKind.TheVariants.{OutOfMemory, UnexpectedEof}
 use Rattle.devices.specs.Counting.{one_more}
-use Rattle.negoex_forms.specs.Form.{Layout, Answer}
+use Rattle.negoex_forms.specs.Form.{Layout}
+use Rattle.negoex_forms.specs.declared.error.NegoexError.{NegoexError}
 
 -- what is wrong with bytes that a device cut is answered, and in the place of their end the device's fault
 abbrev pub IsCutShort : ErrorKind → ErrorKind → ErrorKind → Type 0
 IsCutShort cause kind e = ((kind ≡ UnexpectedEof) × (e ≡ cause)) ⊎ ((kind ≡ UnexpectedEof → ⊥) × (e ≡ kind))
 
 -- the device failed inside the header: what is wrong in all the bytes that came before is answered, and else its fault
-pub record IsBroken {V : Type 0} (l : Layout V) (message bytes : List ℕ) (after : Option (List ℕ)) (old new : ℕ) (last : Option ErrorKind) (e : ErrorKind) : Type 0 where
+pub record IsBroken {V : Type 0} (l : Layout V) (message bytes : List ℕ) (after : Option (List ℕ)) (old new : ℕ) (last : Option ErrorKind) (e : NegoexError) : Type 0 where
   pub cause : ErrorKind
   pub counted : new ≡ one_more old
   pub told : last ≡ Some cause
@@ -19,15 +20,15 @@ pub record IsBroken {V : Type 0} (l : Layout V) (message bytes : List ℕ) (afte
   pub taken : Consumes (Some bytes) after came
   pub kind : ErrorKind
   pub wrong : l.read came message ≡ Err kind
-  pub answered : IsCutShort cause kind e
+  pub answered : IsCutShort cause kind e.kind
 
 -- memory was wanting; or nothing can be read of these bytes, by this fault; or the device failed
-abbrev pub IsRefusal : {V : Type 0} → Layout V → List ℕ → List ℕ → Option (List ℕ) → ℕ → ℕ → Option ErrorKind → ErrorKind → Type 0
+abbrev pub IsRefusal : {V : Type 0} → Layout V → List ℕ → List ℕ → Option (List ℕ) → ℕ → ℕ → Option ErrorKind → NegoexError → Type 0
 IsRefusal l message bytes after old new last e =
-    (e ≡ OutOfMemory) ⊎ ((l.read (take l.width bytes) message ≡ Err e) ⊎ IsBroken l message bytes after old new last e)
+    (e.kind ≡ OutOfMemory) ⊎ ((l.read (take l.width bytes) message ≡ Err e.kind) ⊎ IsBroken l message bytes after old new last e)
 
 -- the value that stands in the front of these bytes is given back, but for want of memory or a device that failed
-abbrev pub IsGiven : {T V : Type 0} → (T → V) → Layout V → List ℕ → List ℕ → Option (List ℕ) → ℕ → ℕ → Option ErrorKind → Answer T → Type 0
+abbrev pub IsGiven : {T V : Type 0} → (T → V) → Layout V → List ℕ → List ℕ → Option (List ℕ) → ℕ → ℕ → Option ErrorKind → Result T NegoexError → Type 0
 IsGiven {T} {V} view l message bytes after old new last result =
     (v : V) → l.Fits v → l.IsLaid v (take l.width bytes) message
-    → MatchResult result (λ t. view t ≡ v) (λ e. (e ≡ OutOfMemory) ⊎ IsBroken l message bytes after old new last e)
+    → MatchResult result (λ t. view t ≡ v) (λ e. (e.kind ≡ OutOfMemory) ⊎ IsBroken l message bytes after old new last e)

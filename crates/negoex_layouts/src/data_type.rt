@@ -7,12 +7,12 @@ ghost use Rattle.byte_layouts.specs.Stops.{IsWriteStop};
 ghost use Rattle.negoex_layouts.specs.Sources.{IsGiven, IsRefusal};
 
 use crate::reading::read_value;
-use crate::writing::write_value;
-use byte_layouts::write_bytes;
+use crate::writing::{write_out, write_value};
 use devices::{Sink, Source};
-use negoex_forms::{Checksum, Extension, Guid, Laid, MessageHeader, MessageType, Wide};
+use negoex_forms::{
+    Checksum, Extension, Guid, Laid, MessageHeader, MessageType, NegoexError, Wide,
+};
 use std::alloc::Global;
-use std::io::ErrorKind;
 
 /// A type of which messages are made up (MS-NEGOEX, section 2.2.5).
 pub trait NegoexDataType: Wide {
@@ -38,7 +38,7 @@ pub trait NegoexDataType: Wide {
     }
 
     /// Writes the header and right behind it the payload; a front of them where the writer stops.
-    fn encode<W: Sink>(&self, alloc: Global, to: &mut W) -> Result<(), ErrorKind>
+    fn encode<W: Sink>(&self, alloc: Global, to: &mut W) -> Result<(), NegoexError>
         ensures written { MatchResult result
             (λ _. Appends (W.written to.old) (W.written to.new) (message_bytes Self.layout [] (Self.view self.now) (place self.now)))
             (λ _. (n : ℕ) × Appends (W.written to.old) (W.written to.new)
@@ -61,7 +61,7 @@ pub trait NegoexDataType: Wide {
         offset: usize,
         to: &mut W,
         payload: &mut D,
-    ) -> Result<usize, ErrorKind>
+    ) -> Result<usize, NegoexError>
         ensures header { MatchResult result
             (λ _. Appends (W.written to.old) (W.written to.new) (Self.layout.head (Self.view self.now) offset))
             (λ _. (n : ℕ) × Appends (W.written to.old) (W.written to.new) (take n (Self.layout.head (Self.view self.now) offset))) }
@@ -74,16 +74,16 @@ pub trait NegoexDataType: Wide {
             (λ e. (IsTooLong offset (Self.layout.payload (Self.view self.now)) e
             × (W.written to.new ≡ W.written to.old) × (W.failed to.new ≡ W.failed to.old)
             × (D.written payload.new ≡ D.written payload.old) × (D.failed payload.new ≡ D.failed payload.old))
-            ⊎ ((IsWriteStop (W.failed to.old) (W.failed to.new) (W.last_fault to.new) e
+            ⊎ ((IsWriteStop (W.failed to.old) (W.failed to.new) (W.last_fault to.new) e.kind
             × (D.written payload.new ≡ D.written payload.old) × (D.failed payload.new ≡ D.failed payload.old))
-            ⊎ (IsWriteStop (D.failed payload.old) (D.failed payload.new) (D.last_fault payload.new) e × (W.failed to.new ≡ W.failed to.old)))) }
+            ⊎ (IsWriteStop (D.failed payload.old) (D.failed payload.new) (D.last_fault payload.new) e.kind × (W.failed to.new ≡ W.failed to.old)))) }
         ensures same { (W.through to.new ≡ W.through to.old) × (D.through payload.new ≡ D.through payload.old) }
     {
         let mut header = Vec::new(alloc);
         let mut body = Vec::new(alloc);
         self.put(alloc, offset, &mut header, &mut body)?;
-        write_bytes(to, &header)?;
-        write_bytes(payload, &body)?;
+        write_out(to, &header)?;
+        write_out(payload, &body)?;
         Ok(body.len())
     }
 
@@ -91,7 +91,7 @@ pub trait NegoexDataType: Wide {
     ///
     /// Answered is what comes first in the bytes: what is wrong with those of the header that are there, then a fault of
     /// the device or `UnexpectedEof`, and then what is wrong with the payload; or `OutOfMemory`.
-    fn decode<R: Source>(alloc: Global, from: &mut R, message: &[u8]) -> Result<Self, ErrorKind>
+    fn decode<R: Source>(alloc: Global, from: &mut R, message: &[u8]) -> Result<Self, NegoexError>
         ensures found { IfOk result (λ t. (header : List ℕ) × Self.layout.IsLaid (Self.view t) header message.now
             × Consumes (R.left from.old) (R.left from.new) header) }
         ensures only { IfSome (R.left from.old) (λ bytes.

@@ -4,10 +4,9 @@ ghost use Rattle.std.specs.Prelude.{◌≡◌};
 use crate::message::NegoexMessage;
 use negoex_forms::{
     AuthScheme, ByteVector, ConversationId, Laid, MessageHeader, MessageType,
-    NEGOEXTS_MESSAGE_SIGNATURE, Wide, place_behind, put_both,
+    NEGOEXTS_MESSAGE_SIGNATURE, NegoexError, Wide, place_behind, put_both,
 };
 use std::alloc::{AllocError, Global};
-use std::io::ErrorKind;
 
 /// A token of a scheme, or what it tells before the exchange.
 #[derive(Debug, Drop, PartialEq, Eq)]
@@ -31,7 +30,7 @@ impl Exchange {
         sequence_num: u32,
         auth_scheme: AuthScheme,
         exchange: ByteVector,
-    ) -> Result<Exchange, ErrorKind>
+    ) -> Result<Exchange, NegoexError>
         ensures { MatchResult result
             (λ m. m ≡ record {
               header = record {
@@ -45,7 +44,7 @@ impl Exchange {
               auth_scheme = auth_scheme;
               exchange = exchange;
             })
-            (λ e. (e ≡ ErrorKind.InvalidInput) × (2 ^ 32 ≤ 64 + length exchange.items)) }
+            (λ e. (e.kind ≡ ErrorKind.InvalidInput) × (2 ^ 32 ≤ 64 + length exchange.items)) }
     {
         let message_len = place_behind(64, exchange.len(), 1)? as u32;
         Ok(Exchange {
@@ -89,7 +88,7 @@ impl Laid for Exchange {
 
     ghost laws = { exchange_laws };
 
-    fn from_header(alloc: Global, header: &[u8], message: &[u8]) -> Result<Self, ErrorKind> {
+    fn from_header(alloc: Global, header: &[u8], message: &[u8]) -> Result<Self, NegoexError> {
         let ((header, auth_scheme), exchange): ((MessageHeader, AuthScheme), ByteVector) =
             Laid::from_header(alloc, header, message)?;
         Ok(Exchange {
@@ -105,7 +104,7 @@ impl Laid for Exchange {
         offset: usize,
         header: &mut Vec<u8>,
         payload: &mut Vec<u8>,
-    ) -> Result<(), ErrorKind> {
+    ) -> Result<(), NegoexError> {
         let fields = (self.header, self.auth_scheme);
         put_both(alloc, &fields, &self.exchange, offset, header, payload)
     }

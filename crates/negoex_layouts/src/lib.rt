@@ -17,6 +17,6 @@ pub use nego::{Nego, PROTOCOL_VERSION};
 pub use negoex_forms::{
     AuthScheme, AuthSchemeVector, ByteVector, CHECKSUM_SCHEME_RFC3961, Checksum, ConversationId,
     Extension, ExtensionVector, Guid, Laid, MessageHeader, MessageType, NEGOEXTS_MESSAGE_SIGNATURE,
-    RANDOM_ARRAY_SIZE, Wide,
+    NegoexError, RANDOM_ARRAY_SIZE, Wide,
 };
 pub use verify::Verify;

@@ -6,9 +6,8 @@ ghost use Rattle.negoex_layouts.specs.Messages.{IsMessage, message_bytes, IsTrue
 
 use crate::writing::{bytes_of, write_value};
 use devices::Sink;
-use negoex_forms::{Laid, Wide, front_of};
+use negoex_forms::{Laid, NegoexError, Wide, front_of};
 use std::alloc::Global;
-use std::io::ErrorKind;
 
 /// A message of NEGOEX.
 pub trait NegoexMessage: Wide {
@@ -31,7 +30,7 @@ pub trait NegoexMessage: Wide {
     /// Answered is what comes first in the order in which the fields stand, each element of a vector with all that it
     /// points to: `InvalidData` for a wrong signature, message type or offset past the message, `InvalidInput` for a
     /// wrong checksum scheme, `UnexpectedEof` for bytes that end before; or `OutOfMemory`.
-    fn decode(alloc: Global, message: &[u8]) -> Result<Self, ErrorKind>
+    fn decode(alloc: Global, message: &[u8]) -> Result<Self, NegoexError>
         ensures found { IfOk result (λ m. IsMessage Self.layout (Self.view m) message.now) }
         ensures only { (v : Self.Value) → Self.layout.Fits v → IsMessage Self.layout v message.now → GivesBack Self.view v result }
         ensures exact { Answers Self.view (Self.layout.read (take Self.layout.width message.now) message.now) result }
@@ -40,7 +39,7 @@ pub trait NegoexMessage: Wide {
     }
 
     /// The message's bytes; `InvalidInput` where the payload ends past 32 bits.
-    fn to_bytes(&self, alloc: Global) -> Result<Vec<u8>, ErrorKind>
+    fn to_bytes(&self, alloc: Global) -> Result<Vec<u8>, NegoexError>
         ensures exact { MatchResult result
             (λ bytes. bytes.items ≡ message_bytes Self.layout filler (Self.view self.now) (offset self.now))
             (IsTooLong (offset self.now) (Self.layout.payload (Self.view self.now))) }
@@ -52,7 +51,7 @@ pub trait NegoexMessage: Wide {
 
     /// Writes the message; a front of it where the writer stops. Nothing is written where the payload ends past 32 bits,
     /// which is `InvalidInput`.
-    fn encode<W: Sink>(&self, alloc: Global, to: &mut W) -> Result<(), ErrorKind>
+    fn encode<W: Sink>(&self, alloc: Global, to: &mut W) -> Result<(), NegoexError>
         ensures written { MatchResult result
             (λ _. Appends (W.written to.old) (W.written to.new) (message_bytes Self.layout filler (Self.view self.now) (offset self.now)))
             (λ _. (n : ℕ) × Appends (W.written to.old) (W.written to.new)

@@ -4,10 +4,10 @@ ghost use Rattle.std.specs.Prelude.{◌≡◌};
 use crate::message::NegoexMessage;
 use negoex_forms::{
     AuthScheme, AuthSchemeVector, ConversationId, Extension, ExtensionVector, Laid, MessageHeader,
-    MessageType, NEGOEXTS_MESSAGE_SIGNATURE, RANDOM_ARRAY_SIZE, Wide, place_behind, put_three,
+    MessageType, NEGOEXTS_MESSAGE_SIGNATURE, NegoexError, RANDOM_ARRAY_SIZE, Wide, place_behind,
+    put_three,
 };
 use std::alloc::{AllocError, Global};
-use std::io::ErrorKind;
 
 /// The only version of the protocol (MS-NEGOEX, section 2.2.6.3).
 pub const PROTOCOL_VERSION: u64 = 0;
@@ -42,7 +42,7 @@ impl Nego {
         random: [u8; RANDOM_ARRAY_SIZE],
         auth_schemes: AuthSchemeVector,
         extensions: ExtensionVector,
-    ) -> Result<Nego, ErrorKind>
+    ) -> Result<Nego, NegoexError>
         ensures { MatchResult result
             (λ m. m ≡ record {
               header = record {
@@ -59,7 +59,7 @@ impl Nego {
               auth_schemes = auth_schemes;
               extensions = extensions;
             })
-            (λ e. (e ≡ ErrorKind.InvalidInput) × (2 ^ 32 ≤ 96 + (vector_layout guid_layout).payload (map (λ s. s) auth_schemes.items)
+            (λ e. (e.kind ≡ ErrorKind.InvalidInput) × (2 ^ 32 ≤ 96 + (vector_layout guid_layout).payload (map (λ s. s) auth_schemes.items)
             + (vector_layout extension_layout).payload (map ⟦<Extension as Laid>⟧.view extensions.items))) }
     {
         let behind = place_behind(96, auth_schemes.payload_size(), 1)?;
@@ -115,7 +115,7 @@ impl Laid for Nego {
 
     ghost laws = { nego_laws };
 
-    fn from_header(alloc: Global, header: &[u8], message: &[u8]) -> Result<Self, ErrorKind> {
+    fn from_header(alloc: Global, header: &[u8], message: &[u8]) -> Result<Self, NegoexError> {
         let (front, extensions): ((Fixed, AuthSchemeVector), ExtensionVector) = Laid::from_header(
             alloc, header, message,
         )?;
@@ -136,7 +136,7 @@ impl Laid for Nego {
         offset: usize,
         header: &mut Vec<u8>,
         payload: &mut Vec<u8>,
-    ) -> Result<(), ErrorKind> {
+    ) -> Result<(), NegoexError> {
         let fixed = (self.header, (self.random, self.protocol_version));
         put_three(
             alloc,

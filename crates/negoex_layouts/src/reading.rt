@@ -6,7 +6,7 @@ ghost use Rattle.negoex_layouts.specs.Sources.{IsCutShort, IsRefusal, IsGiven};
 
 use byte_layouts::read_front;
 use devices::Source;
-use negoex_forms::Laid;
+use negoex_forms::{Laid, NegoexError};
 use std::alloc::Global;
 use std::io::ErrorKind;
 
@@ -24,7 +24,7 @@ fn cut_short(kind: ErrorKind, fault: Option<ErrorKind>) -> ErrorKind
 }
 
 // The value with this header, in this message.
-fn value_of<T: Laid>(alloc: Global, header: &[u8], message: &[u8]) -> Result<T, ErrorKind>
+fn value_of<T: Laid>(alloc: Global, header: &[u8], message: &[u8]) -> Result<T, NegoexError>
     requires { length header.now ≤ T.layout.width }
     ensures exact { Answers T.view (T.layout.read header.now message.now) result }
     ensures found { IfOk result (λ t. T.layout.IsLaid (T.view t) header.now message.now) }
@@ -38,7 +38,7 @@ pub(crate) fn read_value<T: Laid, R: Source>(
     from: &mut R,
     buffer: &mut [u8],
     message: &[u8],
-) -> Result<T, ErrorKind>
+) -> Result<T, NegoexError>
     requires { length buffer.old ≡ T.layout.width }
     ensures found { IfOk result (λ t. (header : List ℕ) × T.layout.IsLaid (T.view t) header message.now
         × Consumes (R.left from.old) (R.left from.new) header) }
@@ -51,6 +51,8 @@ pub(crate) fn read_value<T: Laid, R: Source>(
     let front = read_front(from, buffer);
     match value_of::<T>(alloc, &buffer[..front.count], message) {
         Ok(value) => Ok(value),
-        Err(kind) => Err(cut_short(kind, front.fault)),
+        Err(error) => Err(NegoexError {
+            kind: cut_short(error.kind, front.fault),
+        }),
     }
 }

@@ -4,10 +4,9 @@ ghost use Rattle.std.specs.Prelude.{◌≡◌};
 use crate::message::NegoexMessage;
 use negoex_forms::{
     AuthScheme, ByteVector, CHECKSUM_SCHEME_RFC3961, Checksum, ConversationId, Laid, MessageHeader,
-    MessageType, NEGOEXTS_MESSAGE_SIGNATURE, Wide, place_behind, put_both,
+    MessageType, NEGOEXTS_MESSAGE_SIGNATURE, NegoexError, Wide, place_behind, put_both,
 };
 use std::alloc::{AllocError, Global};
-use std::io::ErrorKind;
 
 /// A checksum over all messages so far.
 #[derive(Debug, Drop, PartialEq, Eq)]
@@ -32,7 +31,7 @@ impl Verify {
         auth_scheme: AuthScheme,
         checksum_type: u32,
         checksum_value: ByteVector,
-    ) -> Result<Verify, ErrorKind>
+    ) -> Result<Verify, NegoexError>
         ensures { MatchResult result
             (λ m. m ≡ record {
               header = record {
@@ -46,7 +45,7 @@ impl Verify {
               auth_scheme = auth_scheme;
               checksum = record { header_len = 20; checksum_scheme = 1; checksum_type = checksum_type; checksum_value = checksum_value };
             })
-            (λ e. (e ≡ ErrorKind.InvalidInput) × (2 ^ 32 ≤ 80 + length checksum_value.items)) }
+            (λ e. (e.kind ≡ ErrorKind.InvalidInput) × (2 ^ 32 ≤ 80 + length checksum_value.items)) }
     {
         let message_len = place_behind(80, checksum_value.len(), 1)? as u32;
         Ok(Verify {
@@ -94,7 +93,7 @@ impl Laid for Verify {
 
     ghost laws = { verify_laws };
 
-    fn from_header(alloc: Global, header: &[u8], message: &[u8]) -> Result<Self, ErrorKind> {
+    fn from_header(alloc: Global, header: &[u8], message: &[u8]) -> Result<Self, NegoexError> {
         let ((header, auth_scheme), checksum): ((MessageHeader, AuthScheme), Checksum) =
             Laid::from_header(alloc, header, message)?;
         Ok(Verify {
@@ -110,7 +109,7 @@ impl Laid for Verify {
         offset: usize,
         header: &mut Vec<u8>,
         payload: &mut Vec<u8>,
-    ) -> Result<(), ErrorKind> {
+    ) -> Result<(), NegoexError> {
         let fields = (self.header, self.auth_scheme);
         put_both(alloc, &fields, &self.checksum, offset, header, payload)
     }

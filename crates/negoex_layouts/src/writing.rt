@@ -1,14 +1,14 @@
 //! Values written to a device.
 ghost use Rattle.std.specs.Prelude.{◌≡◌, ℕ, List, take, IfOk, MatchResult};
 ghost use Rattle.std.specs.Io.KnownBytes.{Appends};
+ghost use Rattle.byte_layouts.specs.Stops.{IsWriteStop};
 ghost use Rattle.negoex_forms.specs.Form.{IsTooLong};
 ghost use Rattle.negoex_layouts.specs.Messages.{IsMessage, message_bytes, IsTrueOffset, IsEncodeStop};
 
 use byte_layouts::write_bytes;
 use devices::Sink;
-use negoex_forms::{Laid, extend};
+use negoex_forms::{Laid, NegoexError, extend};
 use std::alloc::Global;
-use std::io::ErrorKind;
 
 // The header, these bytes and the payload, which is said to begin at `offset`.
 pub(crate) fn bytes_of<T: Laid>(
@@ -16,7 +16,7 @@ pub(crate) fn bytes_of<T: Laid>(
     value: &T,
     offset: usize,
     filler: &[u8],
-) -> Result<Vec<u8>, ErrorKind>
+) -> Result<Vec<u8>, NegoexError>
     ensures exact { MatchResult result
         (λ bytes. bytes.items ≡ message_bytes T.layout filler.now (T.view value.now) offset)
         (IsTooLong offset (T.layout.payload (T.view value.now))) }
@@ -30,6 +30,20 @@ pub(crate) fn bytes_of<T: Laid>(
     Ok(bytes)
 }
 
+// Writes these bytes; a front of them where the writer stops.
+pub(crate) fn write_out<W: Sink>(to: &mut W, bytes: &[u8]) -> Result<(), NegoexError>
+    ensures written { MatchResult result (λ _. Appends (W.written to.old) (W.written to.new) bytes.now)
+        (λ _. (n : ℕ) × Appends (W.written to.old) (W.written to.new) (take n bytes.now)) }
+    ensures fault { MatchResult result (λ _. W.failed to.new ≡ W.failed to.old)
+        (λ e. IsWriteStop (W.failed to.old) (W.failed to.new) (W.last_fault to.new) e.kind) }
+    ensures same { W.through to.new ≡ W.through to.old }
+{
+    match write_bytes(to, bytes) {
+        Ok(()) => Ok(()),
+        Err(kind) => Err(NegoexError { kind }),
+    }
+}
+
 // Writes the bytes of a value; a front of them where the writer stops.
 pub(crate) fn write_value<T: Laid, W: Sink>(
     alloc: Global,
@@ -37,7 +51,7 @@ pub(crate) fn write_value<T: Laid, W: Sink>(
     offset: usize,
     filler: &[u8],
     to: &mut W,
-) -> Result<(), ErrorKind>
+) -> Result<(), NegoexError>
     ensures written { MatchResult result
         (λ _. Appends (W.written to.old) (W.written to.new) (message_bytes T.layout filler.now (T.view value.now) offset))
         (λ _. (n : ℕ) × Appends (W.written to.old) (W.written to.new) (take n (message_bytes T.layout filler.now (T.view value.now) offset))) }
@@ -49,5 +63,5 @@ pub(crate) fn write_value<T: Laid, W: Sink>(
     ensures same { W.through to.new ≡ W.through to.old }
 {
     let bytes = bytes_of(alloc, value, offset, filler)?;
-    write_bytes(to, &bytes)
+    write_out(to, &bytes)
 }

@@ -130,8 +130,8 @@ pub mod messages {
 /// Messages of NEGOEX (MS-NEGOEX).
 pub mod negoex {
     pub use negoex_layouts::{
-        CHECKSUM_SCHEME_RFC3961, Laid, NEGOEXTS_MESSAGE_SIGNATURE, NegoexDataType, NegoexMessage,
-        PROTOCOL_VERSION, RANDOM_ARRAY_SIZE, Wide, written_is_read,
+        CHECKSUM_SCHEME_RFC3961, Laid, NEGOEXTS_MESSAGE_SIGNATURE, NegoexDataType, NegoexError,
+        NegoexMessage, PROTOCOL_VERSION, RANDOM_ARRAY_SIZE, Wide, written_is_read,
     };
 
     /// What messages hold (MS-NEGOEX, section 2.2.5).

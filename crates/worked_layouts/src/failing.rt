@@ -202,7 +202,10 @@ const HEADER: &[u8] = b"\
     \xa1\xb4\xa2\x12$\x9d|\xb4";
 
 fn header_fault(alloc: Global, count: usize) -> Option<ErrorKind> {
-    MessageHeader::decode(alloc, &mut trickle_of(HEADER, count), HEADER).err()
+    match MessageHeader::decode(alloc, &mut trickle_of(HEADER, count), HEADER) {
+        Ok(_) => None,
+        Err(error) => Some(error.kind),
+    }
 }
 
 #[test]

@@ -296,7 +296,10 @@ fn changed<M: NegoexMessage + Drop>(
         .as_mut_slice()
         .get_mut(place..end)?
         .copy_from_slice(&with);
-    M::decode(alloc, &whole).err()
+    match M::decode(alloc, &whole) {
+        Ok(_) => None,
+        Err(error) => Some(error.kind),
+    }
 }
 
 // Signature, type, an offset one past the end with some bytes and without any, and more bytes than there are.
@@ -317,22 +320,37 @@ fn refused_exchanges(rt: HostRuntime) {
     }
 }
 
-// What is read where a message of 64 bytes tells so many bytes at offset 65: how many, or why none are.
-fn counted(alloc: Global, count: u8) -> Option<Result<usize, ErrorKind>> {
+// What is read where a message of 64 bytes tells this count of bytes at this offset: how many, or why none are.
+fn counted(alloc: Global, offset: u8, count: [u8; 4]) -> Option<Result<usize, ErrorKind>> {
     let mut whole = bytes(alloc, &EXCHANGE[..64])?;
-    *whole.get_mut(56)? = 65;
-    *whole.get_mut(60)? = count;
+    *whole.get_mut(56)? = offset;
+    whole
+        .as_mut_slice()
+        .get_mut(60..64)?
+        .copy_from_slice(&count);
     match Exchange::decode(alloc, &whole) {
         Ok(message) => Some(Ok(message.exchange.len())),
-        Err(kind) => Some(Err(kind)),
+        Err(error) => Some(Err(error.kind)),
     }
 }
 
-// An offset one past the end is wrong, but where nothing is counted.
+// An offset at the end is before all that is counted, and one past the end is wrong, but where nothing is counted. The greatest
+// count makes room for nothing.
 #[test]
-fn offsets_past_the_end(rt: HostRuntime) {
-    assert!(rt; counted(rt.alloc(), 1) == Some(Err(ErrorKind::InvalidData)));
-    assert!(rt; counted(rt.alloc(), 0) == Some(Ok(0)));
+fn offsets_at_the_end(rt: HostRuntime) {
+    for (offset, count, read) in [
+        (64, [0; 4], Ok(0)),
+        (64, [1, 0, 0, 0], Err(ErrorKind::UnexpectedEof)),
+        (64, [255; 4], Err(ErrorKind::UnexpectedEof)),
+        (65, [0; 4], Ok(0)),
+        (65, [1, 0, 0, 0], Err(ErrorKind::InvalidData)),
+        (65, [255; 4], Err(ErrorKind::InvalidData)),
+    ] {
+        assert!(rt;
+            counted(rt.alloc(), offset, count) == Some(read),
+            "{count:?} at {offset}"
+        );
+    }
 }
 
 #[test]
@@ -341,4 +359,6 @@ fn other_refusals(rt: HostRuntime) {
     assert!(rt; scheme == Some(ErrorKind::InvalidInput));
     let short = changed::<Nego>(rt.alloc(), &NEGO[..79], 0, *b"NEGO");
     assert!(rt; short == Some(ErrorKind::UnexpectedEof));
+    let many_schemes = changed::<Nego>(rt.alloc(), NEGO, 84, [255; 4]);
+    assert!(rt; many_schemes == Some(ErrorKind::UnexpectedEof));
 }
