@@ -16,6 +16,7 @@ use Rattle.byte_layouts.specs.Numbers.{be16_at}
 use Rattle.byte_layouts.specs.Stops.{IsStop}
 use Rattle.byte_layouts.proofs.Exits.{at-exit}
 use Rattle.byte_layouts.proofs.NumberLaws.{be16-again, be16_at-append}
+use Rattle.krb_priv_frames.specs.declared.error.KrbPrivFrameError.{KrbPrivFrameError}
 use Rattle.krb_priv_frames.specs.Frames.{IsHeader}
 use Rattle.krb_priv_frames.specs.Reading.{HasOtherVersion, HasNoParts, IsHeaderFault, IsHeaderRefusal, IsDeviceFault, IsExcuse, IsRefusal, der_kind, IsFramedAs, BeginsFramed, IsUnframed}
 use Rattle.krb_priv_frames.proofs.FrameLaws.{frame-joined, frame-split}
@@ -233,13 +234,13 @@ excuse-of ra rp bytes after old new last e (inr (inl (inr fault))) = inr (fault-
 excuse-of ra rp bytes after old new last e (inr (inr (wrong, partless))) = inr partless.none
 
 pub refused-only : {T A P : Type 0} (ra : A → List ℕ → Type 0) (rp : P → List ℕ → Type 0) (fa : T → A) (fp : T → P)
-    (left after : Option (List ℕ)) (r : Result T ErrorKind) (e : ErrorKind) (old new : ℕ) (last : Option ErrorKind)
-    → IsErrAnd r (λ y. y ≡ e) → IfSome left (λ bytes. IsRefusal ra rp bytes after old new last e)
-    → IfSome left (λ bytes. (m : T) → BeginsFramed ra rp (fa m) (fp m) bytes → MatchResult r (λ read. read ≡ m) (IsExcuse old new last))
+    (left after : Option (List ℕ)) (r : Result T KrbPrivFrameError) (e : ErrorKind) (old new : ℕ) (last : Option ErrorKind)
+    → IsErrAnd r (λ y. y ≡ record { kind = e }) → IfSome left (λ bytes. IsRefusal ra rp bytes after old new last e)
+    → IfSome left (λ bytes. (m : T) → BeginsFramed ra rp (fa m) (fp m) bytes → MatchResult r (λ read. read ≡ m) (λ f. IsExcuse old new last f.kind))
 refused-only ra rp fa fp None after r e old new last is why = tt
 refused-only ra rp fa fp (Some bytes) after r e old new last is why = λ m begins.
     elim (excuse-of ra rp bytes after old new last e why) [
-      | inl excuse ↦ at-exit r e _ _ is excuse
+      | inl excuse ↦ at-exit r (record { kind = e }) _ _ is excuse
       | inr none ↦ absurd (none (fa m) (fp m) begins)
     ]
 

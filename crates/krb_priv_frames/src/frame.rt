@@ -8,6 +8,7 @@ ghost use Rattle.krb_priv_frames.specs.Reading.{IsFramedAs, BeginsFramed, IsExcu
 ghost use Rattle.krb_priv_frames.specs.Writing.{IsTooLong, IsUnframable};
 ghost use Rattle.asn1_codec.specs.Refusals.{refusal_of};
 
+use crate::error::KrbPrivFrameError;
 use crate::header::{HEADER_LEN, VERSION, read_header};
 use crate::part::{part_bytes, read_part};
 use asn1_codec::{Deserialize, FromDer, Serialize};
@@ -20,7 +21,7 @@ use std::io::ErrorKind;
 const MOST_BYTES: usize = 65_535;
 
 /// A request or a reply of the exchange, as its two parts.
-#[derive(Drop)]
+#[derive(Debug, Drop, PartialEq, Eq, Clone)]
 pub struct KrbPrivFrame<A, P> {
     /// The AP message: an AP-REQ, or the AP-REP that answers it.
     pub ap_message: A,
@@ -37,13 +38,13 @@ impl<A: FromDer, P: FromDer> KrbPrivFrame<A, P> {
     pub fn deserialize<R: Source>(
         alloc: Global,
         reader: &mut R,
-    ) -> Result<KrbPrivFrame<A, P>, ErrorKind>
+    ) -> Result<KrbPrivFrame<A, P>, KrbPrivFrameError>
         ensures found { IfOk result (λ m. (whole : List ℕ) × IsFramedAs A.reads P.reads m.ap_message m.krb_priv whole
             × Consumes (R.left reader.old) (R.left reader.new) whole) }
         ensures only { IfSome (R.left reader.old) (λ bytes. (m : KrbPrivFrame A P) → BeginsFramed A.reads P.reads m.ap_message m.krb_priv bytes
-            → MatchResult result (λ read. read ≡ m) (IsExcuse (R.failed reader.old) (R.failed reader.new) (R.last_fault reader.new))) }
+            → MatchResult result (λ read. read ≡ m) (λ e. IsExcuse (R.failed reader.old) (R.failed reader.new) (R.last_fault reader.new) e.kind)) }
         ensures refused { IfErr result (λ e. IfSome (R.left reader.old) (λ bytes.
-            IsRefusal A.reads P.reads bytes (R.left reader.new) (R.failed reader.old) (R.failed reader.new) (R.last_fault reader.new) e)) }
+            IsRefusal A.reads P.reads bytes (R.left reader.new) (R.failed reader.old) (R.failed reader.new) (R.last_fault reader.new) e.kind)) }
         ensures same { R.through reader.new ≡ R.through reader.old }
     {
         read_header(reader)?;
@@ -122,7 +123,7 @@ impl<A: Serialize, P: Serialize> KrbPrivFrame<A, P> {
     ///
     /// A frame of more than 65,535 bytes is `InvalidInput`, and so is a part that its type refuses to write; then nothing
     /// is written.
-    pub fn serialize<W: Sink>(&self, alloc: Global, writer: &mut W) -> Result<(), ErrorKind>
+    pub fn serialize<W: Sink>(&self, alloc: Global, writer: &mut W) -> Result<(), KrbPrivFrameError>
         ensures written { MatchResult result
             (λ _. Appends (W.written writer.old) (W.written writer.new)
             (frame_bytes (der (A.tree self.now.ap_message)) (der (P.tree self.now.krb_priv))))
@@ -132,13 +133,16 @@ impl<A: Serialize, P: Serialize> KrbPrivFrame<A, P> {
             (frame_bytes (der (A.tree self.now.ap_message)) (der (P.tree self.now.krb_priv)))) }
         ensures stop { MatchResult result (λ _. W.failed writer.new ≡ W.failed writer.old)
             (λ e. (IsUnframable (refusal_of A.refusal self.now.ap_message) (refusal_of P.refusal self.now.krb_priv)
-            (der (A.tree self.now.ap_message)) (der (P.tree self.now.krb_priv)) e
+            (der (A.tree self.now.ap_message)) (der (P.tree self.now.krb_priv)) e.kind
             × (W.written writer.new ≡ W.written writer.old) × (W.failed writer.new ≡ W.failed writer.old))
-            ⊎ IsWriteStop (W.failed writer.old) (W.failed writer.new) (W.last_fault writer.new) e) }
+            ⊎ IsWriteStop (W.failed writer.old) (W.failed writer.new) (W.last_fault writer.new) e.kind) }
         ensures same { W.through writer.new ≡ W.through writer.old }
     {
         let bytes = self.bytes(alloc)?;
-        write_bytes(writer, &bytes)
+        match write_bytes(writer, &bytes) {
+            Ok(()) => Ok(()),
+            Err(kind) => Err(KrbPrivFrameError { kind }),
+        }
     }
 }
 

@@ -4,8 +4,10 @@
 //! which are any values in DER.
 #![tactic(auto)]
 
+mod error;
 mod frame;
 mod header;
 mod part;
 
+pub use error::KrbPrivFrameError;
 pub use frame::{KrbPrivFrame, written_is_read};

@@ -12,7 +12,7 @@ mod krb_priv;
 pub use ap_message::ApMessage;
 pub use enc_krb_priv_part::{EncKrbPrivPart, EncKrbPrivPartInner};
 pub use krb_priv::{KrbPriv, KrbPrivInner};
-use krb_priv_frames::KrbPrivFrame;
+pub use krb_priv_frames::{KrbPrivFrame, KrbPrivFrameError};
 
 /// A request or a reply of the exchange that changes a password (RFC 3244, section 2), in its frame.
 pub type KrbPrivMessage = KrbPrivFrame<ApMessage, KrbPriv>;

@@ -124,7 +124,9 @@ pub mod messages {
         ApRep, ApRepInner, ApReq, ApReqInner, AsRep, AsReq, EncAsRepPart, EncKdcRepPart,
         EncTgsRepPart, KdcRep, KdcReq, KdcReqBody, KrbError, KrbErrorInner, TgsRep, TgsReq,
     };
-    pub use krb_priv_messages::{ApMessage, KrbPriv, KrbPrivInner, KrbPrivMessage};
+    pub use krb_priv_messages::{
+        ApMessage, KrbPriv, KrbPrivFrame, KrbPrivFrameError, KrbPrivInner, KrbPrivMessage,
+    };
 }
 
 /// Messages of NEGOEX (MS-NEGOEX).

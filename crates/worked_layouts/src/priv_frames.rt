@@ -2,7 +2,7 @@
 
 use crate::failing::trickle_of;
 use asn1_codec::Asn1DerError;
-use krb_priv_frames::KrbPrivFrame;
+use krb_priv_frames::{KrbPrivFrame, KrbPrivFrameError};
 use picky_asn1_der::Asn1RawDer;
 use std::alloc::Global;
 use std::io::ErrorKind;
@@ -46,7 +46,10 @@ fn read(rt: HostRuntime) {
 
 fn fault_of(alloc: Global, bytes: &[u8]) -> Option<ErrorKind> {
     let mut left = bytes;
-    Frame::deserialize(alloc, &mut left).err()
+    match Frame::deserialize(alloc, &mut left) {
+        Ok(_) => None,
+        Err(error) => Some(error.kind),
+    }
 }
 
 #[test]
@@ -64,7 +67,10 @@ fn refused(rt: HostRuntime) {
 }
 
 fn broken_fault(alloc: Global, bytes: &[u8], count: usize) -> Option<ErrorKind> {
-    Frame::deserialize(alloc, &mut trickle_of(bytes, count)).err()
+    match Frame::deserialize(alloc, &mut trickle_of(bytes, count)) {
+        Ok(_) => None,
+        Err(error) => Some(error.kind),
+    }
 }
 
 #[test]
@@ -91,9 +97,15 @@ fn failing_behind_another_version(rt: HostRuntime) {
 }
 
 // The frame of these two elements.
-fn written(alloc: Global, ap_message: &[u8], krb_priv: &[u8]) -> Result<Vec<u8>, ErrorKind> {
+fn written(
+    alloc: Global,
+    ap_message: &[u8],
+    krb_priv: &[u8],
+) -> Result<Vec<u8>, KrbPrivFrameError> {
     let (Ok(ap_message), Ok(krb_priv)) = (raw(alloc, ap_message), raw(alloc, krb_priv)) else {
-        return Err(ErrorKind::InvalidData);
+        return Err(KrbPrivFrameError {
+            kind: ErrorKind::InvalidData,
+        });
     };
     let mut bytes = Vec::new(alloc);
     let frame = KrbPrivFrame {
@@ -118,7 +130,7 @@ fn size_of(alloc: Global, count: u16) -> Option<Result<usize, ErrorKind>> {
     bytes.resize(4 + count as usize, 0).ok()?;
     match written(alloc, &FRAME[6..8], &bytes) {
         Ok(frame) => Some(Ok(frame.len())),
-        Err(kind) => Some(Err(kind)),
+        Err(error) => Some(Err(error.kind)),
     }
 }
 

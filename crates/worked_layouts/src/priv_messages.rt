@@ -59,11 +59,23 @@ fn is_written<A: Serialize + Drop, P: Serialize + Drop>(
     message.serialize(alloc, &mut written).is_ok() && written.as_slice() == wanted
 }
 
-// Whether a message is read from these bytes, none of which is left, and written as they are.
+// Whether a copy is the message, and written as these bytes.
+fn is_copied<A, P>(alloc: Global, message: KrbPrivFrame<A, P>, wanted: &[u8]) -> bool
+where
+    A: Serialize + Clone + PartialEq + Drop,
+    P: Serialize + Clone + PartialEq + Drop,
+{
+    match message.clone() {
+        Ok(copy) => copy == message && is_written(alloc, copy, wanted),
+        Err(_) => false,
+    }
+}
+
+// Whether a message is read from these bytes, none of which is left, and a copy of it is written as they are.
 fn is_given_back(alloc: Global, bytes: &[u8]) -> bool {
     let mut left = bytes;
     match KrbPrivMessage::deserialize(alloc, &mut left) {
-        Ok(message) => is_written(alloc, message, bytes) && left.is_empty(),
+        Ok(message) => is_copied(alloc, message, bytes) && left.is_empty(),
         Err(_) => false,
     }
 }
@@ -94,7 +106,10 @@ fn fault_of<A: Deserialize + Drop, P: Deserialize + Drop>(
     bytes: &[u8],
 ) -> Option<ErrorKind> {
     let mut left = bytes;
-    KrbPrivFrame::<A, P>::deserialize(alloc, &mut left).err()
+    match KrbPrivFrame::<A, P>::deserialize(alloc, &mut left) {
+        Ok(_) => None,
+        Err(error) => Some(error.kind),
+    }
 }
 
 // An AP message of either kind is read, and each is what its frame says.
