@@ -9,13 +9,14 @@ use Rattle.krb_tokens.specs.declared.error.GssApiMessageError.TheVariants.{Inval
 use Rattle.gss_context_tokens.specs.Fronts.{IsMissing}
 use Rattle.picky_asn1.specs.declared.wrapper.ObjectIdentifierAsn1.{ObjectIdentifierAsn1}
 use Rattle.gss_context_tokens.specs.Tokens.{IsOfMechanism}
-use Rattle.gss_context_tokens.specs.Refusals.{token_fault, IsUnread, IsOtherMechanism, IsProxyRefusal, IsUnwritten, HasOtherMechanism, HasOtherId}
+use Rattle.krb_tokens.specs.Faults.{of_der_fault}
+use Rattle.gss_context_tokens.specs.Refusals.{IsUnread, IsOtherMechanism, IsProxyRefusal, IsUnwritten, HasOtherMechanism, HasOtherId}
 
 none_of : {T : Type 0} (fits : T → Type 0) (fault : Asn1DerError) → (fault ≡ der.Memory → ⊥) → IsMissing fits fault → (v : T) → fits v → ⊥
 none_of fits fault other (inl memory) = absurd (other memory)
 none_of fits fault other (inr none) = none
 
-pub unread-of : {T : Type 0} (fits : T → Type 0) (fault : Asn1DerError) → IsMissing fits fault → IsUnread fits (token_fault fault)
+pub unread-of : {T : Type 0} (fits : T → Type 0) (fault : Asn1DerError) → IsMissing fits fault → IsUnread fits (of_der_fault fault)
 unread-of fits der.Memory missing = tt
 unread-of fits der.TruncatedData missing = none_of fits der.TruncatedData (λ e. cc (e)) missing
 unread-of fits der.InvalidData missing = none_of fits der.InvalidData (λ e. cc (e)) missing

@@ -4,8 +4,6 @@ use Rattle.std.specs.String.{string_bytes}
 use Rattle.std.specs.Io.KnownBytes.{Appends}
 use Rattle.std.specs.declared.io.ErrorKind.{ErrorKind}
 use Rattle.std.specs.declared.io.ErrorKind.TheVariants.{OutOfMemory}
-use Rattle.asn1_octets.specs.declared.error.Asn1DerError.{Asn1DerError}
-use Rattle.asn1_octets.specs.declared.error.Asn1DerError.TheVariants as der
 use Rattle.asn1_octets.specs.declared.error.Unsupported.{Unsupported}
 use Rattle.asn1_codec.specs.Refusals.{RefusedAs}
 use Rattle.asn1_leaves.specs.ObjectIdentifier.{dotted_text}
@@ -14,11 +12,6 @@ use Rattle.krb_tokens.specs.declared.error.GssApiMessageError.{GssApiMessageErro
 use Rattle.krb_tokens.specs.declared.error.GssApiMessageError.TheVariants.{InvalidId, InvalidMechanismOid, IoError, InvalidMicFiller, InvalidWrapFiller, Asn1Error, Memory}
 use Rattle.picky_asn1.specs.declared.wrapper.ObjectIdentifierAsn1.{ObjectIdentifierAsn1}
 use Rattle.gss_context_tokens.specs.Tokens.{IsOfMechanism, IsTold, iakerb, proxy_id}
-
--- what a fault of DER is answered by
-abbrev pub token_fault : Asn1DerError → GssApiMessageError
-token_fault der.Memory = Memory
-token_fault fault = Asn1Error fault
 
 -- memory was wanting, or nothing fits
 abbrev pub IsUnread : {T : Type 0} → (T → Type 0) → GssApiMessageError → Type 0

@@ -3,10 +3,10 @@ ghost use Rattle.std.specs.Prelude.{◌≡◌, ℕ, ◌<◌, List, length, Match
 ghost use Rattle.std.specs.declared.io.ErrorKind.{ErrorKind};
 ghost use Rattle.picky_asn1.specs.declared.wrapper.ObjectIdentifierAsn1.{ObjectIdentifierAsn1};
 ghost use Rattle.asn1_codec.specs.Reads.{BeginsBy};
+ghost use Rattle.krb_tokens.specs.Faults.{of_der_fault};
 ghost use Rattle.gss_context_tokens.specs.Fronts.{Leads};
 ghost use Rattle.gss_context_tokens.specs.Tokens.{BeginsToken, IsOfMechanism, IsTold};
 ghost use Rattle.gss_context_tokens.specs.Refusals.{IsUnread};
-ghost use Rattle.gss_context_tokens.specs.Refusals as faults;
 
 use crate::front::split_value;
 use krb_tokens::GssApiMessageError;
@@ -20,12 +20,9 @@ pub(crate) const TOKEN: u8 = 0x60;
 
 /// What a fault of DER is answered by.
 pub(crate) fn token_fault(fault: Asn1DerError) -> GssApiMessageError
-    ensures { result ≡ faults.token_fault fault }
+    ensures { result ≡ of_der_fault fault }
 {
-    match fault {
-        Asn1DerError::Memory => GssApiMessageError::Memory,
-        other => GssApiMessageError::Asn1Error(other),
-    }
+    GssApiMessageError::from(fault)
 }
 
 /// The content of the token that begins the bytes; what stands behind it is left.

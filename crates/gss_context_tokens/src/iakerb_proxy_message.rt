@@ -1,12 +1,14 @@
 //! A message of Kerberos that goes through a service.
 ghost use Rattle.std.specs.Prelude.{◌≡◌, MatchResult};
+ghost use Rattle.asn1_trees.specs.Tree.{der};
+ghost use Rattle.asn1_trees.specs.Length.{element};
 ghost use Rattle.asn1_codec.specs.Refusals.{refusal_of};
 ghost use Rattle.gss_context_tokens.specs.Tokens.{IsProxied, iakerb, proxy_id};
 ghost use Rattle.gss_context_tokens.specs.Refusals.{IsOtherMechanism, IsProxyRefusal};
 
 use crate::content::{front_value, mechanism_of, split_id, whole_value};
 use crate::iakerb_header::IAKerbHeader;
-use crate::writing::{put_out, put_value, token_of, told};
+use crate::writing::{TokenSequence, put_out, put_value, sequence_of, token_of, told};
 use devices::Sink;
 use gss_messages::ApplicationTag0;
 use krb_constants::gss_api::IAKERB_PROXY_TOKEN_ID;
@@ -140,6 +142,19 @@ impl<T: Serialize> IAKerbProxyMessage<T> {
     {
         let inside = self.content(alloc)?;
         put_out(&inside, writer)
+    }
+
+    /// What stands inside the token, as a value of DER: a SEQUENCE (0x30), and the token itself (0x60) in [`ApplicationTag0`].
+    ///
+    /// A value of DER is written without memory, and what tells the message is no element: so this holds the content's octets.
+    pub fn to_sequence(&self, alloc: Global) -> Result<TokenSequence, GssApiMessageError>
+        ensures { MatchResult result
+            (λ value. (der (⟦<TokenSequence as Serialize>⟧.tree value) ≡ element 48 (proxy_message_content T.tree self.now))
+            × (der (⟦<ApplicationTag0<TokenSequence> as Serialize>⟧.tree (record { 0 = value })) ≡ token_bytes (proxy_message_content T.tree self.now)))
+            (IsUnwritten (refusal_of T.refusal self.now.krb_msg)) }
+    {
+        let content = self.content(alloc)?;
+        Ok(sequence_of(content))
     }
 
     /// Writes the whole token; a front of it where the writer stops.

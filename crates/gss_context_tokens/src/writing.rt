@@ -16,6 +16,16 @@ use picky_asn1_der::{Retagged, Serialize, to_byte_buf, to_vec};
 use std::alloc::Global;
 use std::io::ErrorKind;
 
+/// What stands inside a token, as a value of DER: a SEQUENCE (0x30), and 0x60 in [`ApplicationTag0`](gss_messages::ApplicationTag0).
+pub type TokenSequence = Retagged<0x30, OctetStringAsn1>;
+
+/// The value of DER that has this content.
+pub(crate) fn sequence_of(content: Vec<u8>) -> TokenSequence
+    ensures { result ≡ record { 0 = content.items } }
+{
+    Retagged(OctetStringAsn1::from(content))
+}
+
 /// Puts the spelling of a value behind what stands there.
 pub(crate) fn put_value<T: Serialize>(value: &T, to: &mut Vec<u8>) -> Result<(), GssApiMessageError>
     ensures { MatchResult result

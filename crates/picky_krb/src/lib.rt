@@ -108,7 +108,7 @@ pub mod data_types {
 
 /// Tokens of the GSS-API mechanism (RFC 4121), and those by which a mechanism is negotiated (RFC 4178).
 pub mod gss_api {
-    pub use gss_context_tokens::{IAKerbProxyMessage, KrbMessage};
+    pub use gss_context_tokens::{IAKerbProxyMessage, KrbMessage, TokenSequence};
     pub use gss_messages::{
         ApplicationTag0, GssApiNegInit, MechType, MechTypeList, NegTokenInit, NegTokenTarg,
         NegTokenTarg1,
