@@ -13,7 +13,7 @@ use picky_asn1_der::{
 ///      gss-mic   [1] Checksum,
 ///      ... }
 /// ```
-#[derive(Debug, Drop)]
+#[derive(Debug, Drop, PartialEq, Eq, Clone)]
 pub struct KrbFinished {
     /// The checksum.
     pub gss_mic: ExplicitContextTag1<Checksum>,

@@ -13,7 +13,7 @@ use picky_asn1_der::{
 ///      realm   [0] Realm,
 ///      sname   [1] PrincipalName }
 /// ```
-#[derive(Debug, Drop)]
+#[derive(Debug, Drop, PartialEq, Eq, Clone)]
 pub struct Pku2uNegoBody {
     /// Its realm.
     pub realm: ExplicitContextTag0<Realm>,

@@ -15,7 +15,7 @@ use picky_asn1_der::{
 ///      metadata   [0] SEQUENCE OF SEQUENCE { inner [0] IMPLICIT OCTET STRING },
 ///      body       [1] SEQUENCE { realm [0] Realm, sname [1] PrincipalName } }
 /// ```
-#[derive(Debug, Drop)]
+#[derive(Debug, Drop, PartialEq, Eq, Clone)]
 pub struct Pku2uNegoReq {
     /// Whom the client trusts.
     pub metadata: ExplicitContextTag0<Asn1SequenceOf<Pku2uNegoReqMetadata>>,

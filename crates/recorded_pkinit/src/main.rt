@@ -2,6 +2,7 @@
 #![tactic(auto)]
 
 mod auth_packs;
+mod copies;
 mod exchange;
 mod keys;
 mod pku2u;

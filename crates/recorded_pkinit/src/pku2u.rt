@@ -1,5 +1,6 @@
 //! Messages of PKU2U, by the names of their types. Each type has a function of its own, since one match over all of them is dear
 //! to prove.
+use crate::copies::is_copied;
 use pku2u_messages::{
     KrbFinished, Pku2uNegoBody, Pku2uNegoRep, Pku2uNegoReq, Pku2uNegoReqMetadata,
 };
@@ -19,11 +20,11 @@ pub fn agrees(alloc: Global, recorded: &Recorded<'_>) -> Option<Answer> {
 }
 
 fn krb_finished(alloc: Global, recorded: &Recorded<'_>) -> Answer {
-    is_told::<KrbFinished>(alloc, recorded)
+    is_copied::<KrbFinished>(alloc, recorded)
 }
 
 fn pku2u_nego_body(alloc: Global, recorded: &Recorded<'_>) -> Answer {
-    is_told::<Pku2uNegoBody>(alloc, recorded)
+    is_copied::<Pku2uNegoBody>(alloc, recorded)
 }
 
 fn pku2u_nego_rep(alloc: Global, recorded: &Recorded<'_>) -> Answer {
@@ -31,7 +32,7 @@ fn pku2u_nego_rep(alloc: Global, recorded: &Recorded<'_>) -> Answer {
 }
 
 fn pku2u_nego_req(alloc: Global, recorded: &Recorded<'_>) -> Answer {
-    is_told::<Pku2uNegoReq>(alloc, recorded)
+    is_copied::<Pku2uNegoReq>(alloc, recorded)
 }
 
 fn pku2u_nego_req_metadata(alloc: Global, recorded: &Recorded<'_>) -> Answer {
