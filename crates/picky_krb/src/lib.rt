@@ -2,6 +2,14 @@
 //!
 //! Nothing is made here. A program that wants one crate and these paths stands on it; what is built inside this
 //! repository stands on the crates below, each on what it needs.
+//!
+//! Two calls are named `from_bytes`, and one writes:
+//!
+//! | Call | Reads or writes | Octets behind the value |
+//! |---|---|---|
+//! | `picky_krb::from_bytes` | the message that is the whole input | are refused |
+//! | `picky_asn1_der::from_bytes` | the value whose encoding begins the input | stay unread |
+//! | `picky_asn1_der::to_vec` | writes any of these types but tokens, PACs and NEGOEX, which have calls of their own | |
 #![tactic(auto)]
 
 pub use krb_messages::from_bytes;

@@ -16,4 +16,6 @@ mod priv_frames;
 #[cfg(test)]
 mod priv_messages;
 #[cfg(test)]
+mod texts;
+#[cfg(test)]
 mod tokens;
