@@ -67,7 +67,7 @@ abbrev pub natural_at : Field → Members → Result ℕ TableFault
 natural_at field document = value_at field document >>= natural_of field
 
 -- the name of a suite (RFC 3961, section 6.3; RFC 3962, section 7; RFC 8009, section 4)
-abbrev pub suite_name : CipherSuite → List ℕ
+unfoldable pub suite_name : CipherSuite → List ℕ
 suite_name Aes128CtsHmacSha196 = codes "aes128-cts-hmac-sha1-96"
 suite_name Aes256CtsHmacSha196 = codes "aes256-cts-hmac-sha1-96"
 suite_name Des3CbcSha1Kd = codes "des3-cbc-sha1-kd"
@@ -75,7 +75,7 @@ suite_name Aes128CtsHmacSha256128 = codes "aes128-cts-hmac-sha256-128"
 suite_name Aes256CtsHmacSha384192 = codes "aes256-cts-hmac-sha384-192"
 
 -- the suite of a name
-abbrev pub suite_named : List ℕ → Result CipherSuite TableFault
+unfoldable pub suite_named : List ℕ → Result CipherSuite TableFault
 suite_named name = ok_or (find (λ suite. pointwise nat_eq name (suite_name suite)) cipher_suites) UnknownSuite
 
 abbrev pub suite_at : Members → Result CipherSuite TableFault

@@ -22,7 +22,7 @@ pub(crate) fn has_weak_part(alloc: Global, key: &[u8]) -> Result<bool, AllocErro
     if seed.len() < DES3_SEED_LEN {
         return Ok(false);
     }
-    let made = random_to_key(&seed);
+    let made = random_to_key(alloc, &seed)?;
     Ok(made.as_slice() != key)
 }
 

@@ -1,11 +1,13 @@
 //! The fields of one table.
-ghost use Rattle.std.specs.Prelude.{◌≡◌, option_map, string_bytes};
+ghost use Rattle.std.specs.Prelude.{◌≡◌, nat_eq, option_map, string_bytes};
 ghost use Rattle.std.specs.BTreeMap.{keys};
-ghost use Rattle.std.specs.List.{list_all};
+ghost use Rattle.std.specs.Cmp.Lexicographic.{pointwise};
+ghost use Rattle.std.specs.List.{find, list_all};
 ghost use Rattle.toml.specs.Data.{get_member};
 ghost use Rattle.toml.specs.View.{view, array_view, table_view};
+ghost use Rattle.krb_crypto.specs.Suites.{cipher_suites};
 ghost use Rattle.krb_settings.specs.Steps.{IsAside, answer_shown};
-ghost use Rattle.krb_settings.specs.Fields.{bytes_of, field_name, is_among, key_at, list_of, natural_at, natural_of, only, suite_at, suite_named, text_at, text_of, value_at};
+ghost use Rattle.krb_settings.specs.Fields.{bytes_of, field_name, is_among, key_at, list_of, natural_at, natural_of, only, suite_at, suite_name, suite_named, text_at, text_of, value_at};
 
 use crate::words::suite_name;
 use crate::{Field, TableFault};
@@ -101,14 +103,23 @@ pub(crate) fn natural_at(table: &Table, field: Field) -> Result<u64, TableFault>
 }
 
 // The suite of this name.
+#[tactic(auto, unfolding(crate::specs::Fields::suite_named))]
 fn suite_named(name: &str) -> Result<CipherSuite, TableFault>
     ensures { result ≡ suite_named name.now }
+{
+    match named(name) {
+        Some(suite) => Ok(suite),
+        None => Err(TableFault::UnknownSuite),
+    }
+}
+
+fn named(name: &str) -> Option<CipherSuite>
+    ensures { result ≡ find (λ suite. pointwise nat_eq name.now (suite_name suite)) cipher_suites }
 {
     CipherSuite::all()
         .iter()
         .copied()
         .find(|suite| name == suite_name(*suite))
-        .ok_or(TableFault::UnknownSuite)
 }
 
 // The suite of a table.

@@ -71,6 +71,7 @@ pub(crate) fn kind(value: &Value) -> &'static str {
 }
 
 /// The name of a suite, as files have it (RFC 3961, section 6.3; RFC 3962, section 7; RFC 8009, section 4).
+#[tactic(auto, unfolding(crate::specs::Fields::suite_name))]
 pub(crate) fn suite_name(suite: CipherSuite) -> &'static str
     ensures { result.now ≡ suite_name suite }
 {
