@@ -1,7 +1,8 @@
 #!/bin/sh
 # Stock clients of MIT and Heimdal log in to the realm of examples/settings.toml, with keys made anew, behind socat on 127.0.0.1: by
 # password and by keytab, with a further ticket for a service, which opens it and takes a message, and each refused as it should be
-# with a wrong password, an unknown name and a clock that is 10 minutes off. Prints what each gave; the status is 1 where one differs
+# with a wrong password, an unknown name and a clock that is 10 minutes off. Then they log in where all keys are of each other suite,
+# and where realm, user and service have keys of different ones. Prints what each gave; the status is 1 where one differs
 # from what it should, and 2 where a tool is missing. All files stand in a temporary folder, and what is started is ended.
 #
 # Heimdal's clients are those on the path (Debian: heimdal-clients), or those unpacked in the folder HEIMDAL, or else they are
@@ -146,13 +147,35 @@ PATH=$PATH:$heimdal_folder/usr/bin
 # The realm: the settings of examples/, each key made as they say.
 "$top/krb_realm" </dev/null || exit 2
 program=$top/crates/krb_realmd/out/krb_realmd
-awk '/^key = / { "openssl rand -hex 32" | getline key; close("openssl rand -hex 32"); print "key = \"" key "\""; next } { print }' \
-    "$top/examples/settings.toml" >"$work/settings.toml"
-chmod 600 "$work/settings.toml"
+# make_settings REALM USER SERVICE: the settings with keys made anew, of these suites; sets host_key.
+make_settings() {
+    awk -v suites="$1 $2 $2 $3" '
+        # A byte with odd parity, as triple DES wants it.
+        function odd(byte,    bits, rest) {
+            for (rest = int(byte / 2); rest > 0; rest = int(rest / 2)) bits += rest % 2
+            return byte - byte % 2 + (bits + 1) % 2
+        }
+        function made(suite,    size, command, digits, key, i) {
+            size = suite ~ /^aes256/ ? 32 : suite ~ /^aes128/ ? 16 : 24
+            command = "openssl rand -hex " size
+            command | getline digits
+            close(command)
+            if (suite !~ /^des3/) return digits
+            for (i = 1; i < 2 * size; i += 2)
+                key = key sprintf("%02x", odd(16 * (index(hex, substr(digits, i, 1)) - 1) + index(hex, substr(digits, i + 1, 1)) - 1))
+            return key
+        }
+        BEGIN { split(suites, of, " "); hex = "0123456789abcdef" }
+        /^suite = / { suite = of[++place]; print "suite = \"" suite "\""; next }
+        /^key = / { print "key = \"" made(suite) "\""; next }
+        { print }' "$top/examples/settings.toml" >"$work/settings.toml"
+    chmod 600 "$work/settings.toml"
+    host_key=$(sed -n 's/^key = "\(.*\)"/\1/p' "$work/settings.toml" | tail -n 1)
+}
 password='correct horse battery staple'
 host=server.example.com
-host_key=$(sed -n 's/^key = "\(.*\)"/\1/p' "$work/settings.toml" | tail -n 1)
 suite=aes256-cts-hmac-sha1-96
+make_settings $suite $suite $suite
 printf '#!/bin/sh\n%s %s/settings.toml /dev/urandom now | tee -a %s/replies\n' "$program" "$work" "$work" >"$work/realm"
 chmod +x "$work/realm"
 listen socat "TCP-LISTEN:PORT,bind=127.0.0.1,fork,reuseaddr" "EXEC:$work/realm"
@@ -216,6 +239,40 @@ try "kgetcred: an unknown service" no "unknown" heimdal kgetcred "host/nobody.ex
 try "kinit: wrong password" no "Password incorrect" heimdal kinit.heimdal "--password-file=$work/wrong" user@EXAMPLE.COM
 try "kinit: unknown client" no "unknown" heimdal kinit.heimdal "--password-file=$work/wrong" nobody@EXAMPLE.COM
 try "kinit: clock 10 minutes off, which the realm tells, and it then goes by the realm's" yes "refused with code 37" heimdal_told
+
+# by_suites REALM USER SERVICE: what each client does where the keys are of these suites. Triple DES is switched on for it.
+by_suites() {
+    echo "== realm $1, user $2, service $3"
+    make_settings "$1" "$2" "$3"
+    user_suite=$(echo "$2" | sed 's/-kd$//') host_suite=$(echo "$3" | sed 's/-kd$//')
+    rm -f "$work"/*.keytab "$work"/*.tickets
+    try "MIT: keytab of the service" yes "" ktutil_lines "addent -key -p host/$host@EXAMPLE.COM -k 1 -e $host_suite" "$host_key" "wkt $work/host.keytab"
+    try "MIT: keytab of the user" yes "" ktutil_lines "addent -password -p user@EXAMPLE.COM -k 1 -e $user_suite" "$password" "wkt $work/user.keytab"
+    try "MIT: kinit by password" yes "" typed "$password" mit kinit user
+    try "MIT: kinit by keytab" yes "" mit kinit -k -t "$work/user.keytab" user
+    try "MIT: kvno, with the service's keytab" yes "kvno = 1, keytab entry valid" mit kvno -k "$work/host.keytab" "host/$host"
+    try "MIT: klist" yes "host/$host@EXAMPLE.COM" mit klist -e
+    try "MIT: gss-client to gss-server" yes "Signature verified" gss mit
+    try "MIT: kinit, wrong password" no "Password incorrect" typed wrong mit kinit user
+    try "Heimdal: kinit by password" yes "" heimdal kinit.heimdal "--password-file=$work/password" user@EXAMPLE.COM
+    try "Heimdal: kinit by MIT's keytab" yes "" heimdal kinit.heimdal -k -t "$work/user.keytab" user@EXAMPLE.COM
+    try "Heimdal: kgetcred" yes "" heimdal kgetcred "host/$host@EXAMPLE.COM"
+    try "Heimdal: klist" yes "host/$host@EXAMPLE.COM" heimdal heimtools klist -v
+    try "gss-client of MIT to gss-server, by Heimdal's tickets" yes "Signature verified" gss heimdal
+    try "Heimdal: kinit, wrong password" no "Password incorrect" heimdal kinit.heimdal "--password-file=$work/wrong" user@EXAMPLE.COM
+}
+
+bridge_port=$(sed -n 's/.*kdc = .*:\([0-9]*\)$/\1/p' "$work/mit.conf")
+configuration "127.0.0.1:$bridge_port" "allow_weak_crypto = true
+    allow_des3 = true" >"$work/mit.conf"
+configuration "tcp/127.0.0.1:$bridge_port" "kdc_timesync = false
+    allow_weak_crypto = true" >"$work/heimdal.conf"
+for suite in aes128-cts-hmac-sha1-96 aes256-cts-hmac-sha384-192 aes128-cts-hmac-sha256-128 des3-cbc-sha1-kd; do
+    by_suites $suite $suite $suite
+done
+by_suites aes256-cts-hmac-sha1-96 aes128-cts-hmac-sha256-128 aes256-cts-hmac-sha384-192
+by_suites aes256-cts-hmac-sha384-192 aes128-cts-hmac-sha1-96 des3-cbc-sha1-kd
+by_suites aes128-cts-hmac-sha256-128 des3-cbc-sha1-kd aes256-cts-hmac-sha1-96
 
 echo "$passed right, $failed wrong"
 [ "$failed" -eq 0 ]
