@@ -40,6 +40,14 @@ impl Credential {
         requires { key_in part.now.key.0 ≡ Some key }
         ensures { IfOk result (λ credential. credential ≡ credential_of reply.now part.now key.suite) }
     {
+        Credential::with_key(reply, part, key)
+    }
+
+    /// The credential of a reply and its opened part, whose key has these octets.
+    fn with_key(reply: &KdcRep, part: &EncKdcRepPart, key: Key) -> Result<Credential, AllocError>
+        requires { key.bytes ≡ part.now.key.0.key_value.0 }
+        ensures { IfOk result (λ credential. credential ≡ credential_of reply.now part.now key.suite) }
+    {
         let realm: Result<_, AllocError> = part.srealm.0.clone();
         let service: Result<_, AllocError> = part.sname.0.clone();
         let ticket = both(ticket_copy(&reply.ticket.0), Ok(key));

@@ -1,0 +1,5 @@
+use Rattle.krb_client.proofs.FoundKey.{bytes_found}
+use Rattle.krb_client.proofs.credential.Credential.of_reply.Goals as goal
+
+pub with_key-requires : goal.with_key-requires
+with_key-requires c = bytes_found c.args.part.now.key.0 c.args.key c.requires
