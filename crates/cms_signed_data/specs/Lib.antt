@@ -1,0 +1,5 @@
+pub mod Form
+pub mod Parts
+pub mod PartSpellings
+pub mod SignedRows
+pub mod SpelledElements

@@ -1,0 +1,78 @@
+//! A SET OF with one value (X.690, section 8.12).
+ghost use Rattle.std.specs.Prelude.{◌≡◌, true, MatchResult};
+ghost use Rattle.asn1_trees.specs.Tree.{wrapped};
+ghost use Rattle.asn1_trees.specs.Firsts.{only};
+ghost use Rattle.asn1_codec.specs.Refusals.{part_refusal};
+ghost use Rattle.x509_spelling.specs.Spellings.{Holds};
+ghost use Rattle.x509_spelling.specs.Answers.{Tells};
+
+use devices::{Sink, Source};
+use picky_asn1_der::{Asn1DerError, Deserialize, Deserializer, Serialize, Serializer};
+use std::alloc::Global;
+use x509_kinds::read_held;
+use x509_spelling::{Counted, Spelled, X509Fault};
+
+/// A SET OF with exactly one value: none and several aren't read.
+#[derive(Drop)]
+pub struct SetOfOne<T>(pub T);
+
+impl<T: Serialize> Serialize for SetOfOne<T> {
+    ghost use Rattle.asn1_trees.proofs.Spelling.{wrapped-begins, wrapped-injective};
+
+    ghost tree = { λ value. wrapped 49 (T.tree value.0) };
+
+    ghost refusal = { part_refusal (λ value. value.0) T.refusal };
+
+    ghost firsts = { only 49 };
+
+    ghost begins = { λ value. wrapped-begins 49 (T.tree value.0) };
+
+    ghost injective = { λ v w whole also e.
+        let same = wrapped-injective 49 T.tree T.injective v.0 w.0 whole also e
+        in λ i. record { 0 = same i } };
+
+    fn serialize<W: Sink>(&self, to: &mut Serializer<W>) -> Result<usize, Asn1DerError> {
+        to.wrapped(49, &self.0)
+    }
+}
+
+impl<T: Deserialize + Drop> Deserialize for SetOfOne<T> {
+    fn may_start(first: u8) -> bool {
+        first == 49
+    }
+
+    fn deserialize<R: Source>(from: &mut Deserializer<R>) -> Result<Self, Asn1DerError> {
+        let value = from.wrapped(49)?;
+        Ok(SetOfOne(value))
+    }
+}
+
+impl<T: Spelled> Spelled for SetOfOne<T> {
+    ghost use Rattle.std.proofs.Common.{ap, refl};
+    ghost use Rattle.x509_spelling.specs.Laws.{held_laws};
+    ghost use Rattle.x509_kinds.specs.HeldLaws.{holding_laws};
+
+    ghost spells = { λ value. Holds 49 T.spells value.0 };
+
+    ghost written = { λ value. wrapped 49 (T.written value.0) };
+
+    ghost begun = { only 49 };
+
+    ghost has_low_tags = { true };
+
+    ghost laws = { held_laws true (only 49) (λ v. wrapped 49 (T.written v)) (Holds 49 T.spells)
+        (holding_laws 49 refl T.has_low_tags T.begun T.written T.spells T.laws) (λ value. value.0) (λ v w e. λ i. record { 0 = e i }) };
+
+    fn may_begin_with(first: u8) -> bool {
+        first == 49
+    }
+
+    fn read_counted(alloc: Global, bytes: &[u8]) -> Result<Counted<Self>, X509Fault> {
+        let read = read_held::<T>(alloc, 49, bytes)?;
+        let count = read.count;
+        let value = SetOfOne(read.into_value());
+        Ok(Counted { value, count })
+    }
+
+    ghost written_is = { ap (λ tree value. wrapped 49 (tree value.0)) T.written_is };
+}
