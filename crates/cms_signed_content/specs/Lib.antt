@@ -1,0 +1,5 @@
+pub mod Faults
+pub mod PartSlices
+pub mod SignedContents
+pub mod SignedLaws
+pub mod SignedParts

@@ -1,0 +1,31 @@
+-- Signed data with two of its parts as bytes.
+use Rattle.std.specs.Prelude.{ℕ, List, [], ◌∷◌}
+use Rattle.asn1_trees.specs.Tree.{Tree}
+use Rattle.asn1_trees.specs.Tagged.{tagged_tree}
+use Rattle.cms_signed_data.specs.contracts.signed_attributes.SignedAttributesTagged.TheImpl as attributes_impl
+use Rattle.cms_signed_data.specs.declared.content_info.ContentInfo.{ContentInfo}
+use Rattle.cms_signed_data.specs.declared.signed_attributes.SignedAttributes.{SignedAttributes}
+
+pub record SignedParts : Type 0 where
+  pub info : ContentInfo
+  pub certificate : List ℕ
+  pub signed_attributes : List ℕ
+
+-- the signed attributes under the tag of a SET OF in place of [0], as a signature covers them (RFC 5652, section 5.4)
+abbrev pub as_set : List ℕ → List ℕ
+as_set [] = []
+as_set (first ∷ rest) = 0x31 ∷ rest
+
+-- the content, its digest as the signed attributes have it, and the signature
+abbrev pub content_of : ContentInfo → List ℕ
+content_of info = info.content.0.encap_content_info.content.0
+
+abbrev pub digest_of : ContentInfo → List ℕ
+digest_of info = info.content.0.signer_infos.0.signed_attributes.message_digest.values.0
+
+abbrev pub signature_of : ContentInfo → List ℕ
+signature_of info = info.content.0.signer_infos.0.signature
+
+-- the signed attributes under their tag [0] (RFC 5652, section 5.3)
+abbrev pub attributes_tree : SignedAttributes → Tree
+attributes_tree = tagged_tree 160 attributes_impl.ghosts.row_tree attributes_impl.ghosts.row_of

@@ -1,0 +1,29 @@
+//! What holds of all signed content.
+ghost use Rattle.std.specs.Prelude.{◌≡◌, ℕ, List};
+ghost use Rattle.asn1_trees.specs.Length.{element};
+ghost use Rattle.asn1_trees.specs.Tree.{der};
+ghost use Rattle.asn1_elements.specs.Parts.{IsPart};
+ghost use Rattle.cms_signed_data.specs.Parts.{content_place, digest_place, signature_place};
+ghost use Rattle.cms_signed_content.specs.SignedContents.{IsSignedContent};
+ghost use Rattle.cms_signed_content.specs.SignedParts.{SignedParts, content_of, digest_of, signature_of, attributes_tree};
+
+use x509_certificates::Certificate;
+use x509_spelling::Spelled;
+
+/// Bytes are one signed content at most, with one certificate and one list of signed attributes. It does nothing when it runs: its
+/// contract is the law.
+pub fn one_signed_content()
+    ensures { (bytes : List ℕ) (parts other : SignedParts) → IsSignedContent bytes parts → IsSignedContent bytes other → parts ≡ other }
+{}
+
+/// The certificate's bytes are a spelling of the value's certificate. The bytes of the signed attributes are their DER. The octets
+/// of content, digest and signature stand in the bytes. It does nothing when it runs: its contract is the law.
+pub fn parts_are_spelled()
+    ensures certificate { (bytes : List ℕ) (parts : SignedParts) → IsSignedContent bytes parts
+        → (n : ℕ) × ⟦<Certificate as Spelled>⟧.spells parts.info.content.0.certificates.0 parts.certificate n }
+    ensures attributes { (bytes : List ℕ) (parts : SignedParts) → IsSignedContent bytes parts
+        → parts.signed_attributes ≡ der (attributes_tree parts.info.content.0.signer_infos.0.signed_attributes) }
+    ensures content { (bytes : List ℕ) (parts : SignedParts) → IsSignedContent bytes parts → IsPart bytes content_place (element 4 (content_of parts.info)) }
+    ensures digest { (bytes : List ℕ) (parts : SignedParts) → IsSignedContent bytes parts → IsPart bytes digest_place (element 4 (digest_of parts.info)) }
+    ensures signature { (bytes : List ℕ) (parts : SignedParts) → IsSignedContent bytes parts → IsPart bytes signature_place (element 4 (signature_of parts.info)) }
+{}
