@@ -1,0 +1,2 @@
+mod AnchorLemmas
+mod TrustLemmas

@@ -1,0 +1,56 @@
+-- Which certificates are accepted under an anchor (RFC 5280, section 6.1.3, for a path of one certificate).
+use Rattle.std.specs.Prelude.{◌/◌, nat_le, Bool, false, true, not, ◌&&◌, Result, Ok}
+use Rattle.std.specs.Bool.{nat_eq}
+use Rattle.std.specs.List.{list_any}
+use Rattle.std.specs.Cmp.Lexicographic.{pointwise}
+use Rattle.picky_asn1.specs.GeneralizedTime.{seconds_of}
+use Rattle.krb_moments.specs.Units.{Micros, Seconds}
+use Rattle.decision_tables.specs.Tables.{Table, done, refuse}
+use Rattle.x509_parts.specs.declared.time.Time.{Time}
+use Rattle.x509_parts.specs.declared.time.Time.TheVariants.{Utc, Generalized}
+use Rattle.x509_parts.specs.declared.validity.Validity.{Validity}
+use Rattle.x509_extensions.specs.declared.extension.Extension.{Extension}
+use Rattle.x509_extensions.specs.declared.extension_value.ExtensionValue.{ExtensionValue}
+use Rattle.x509_extensions.specs.declared.extension_value.ExtensionValue.TheVariants as kind
+use Rattle.x509_certificates.specs.ExtensionsFields.{extensions_in}
+use Rattle.x509_certificates.specs.declared.certificate.Certificate.{Certificate}
+use Rattle.key_functions.specs.KeyFunctions.{KeysRecord}
+use Rattle.pkinit_trust.specs.Certificates.{ReadRecord, name_bytes}
+use Rattle.pkinit_trust.specs.Expected.{ExpectedRecord}
+use Rattle.pkinit_trust.specs.Principals.{named}
+use Rattle.pkinit_trust.specs.Told.{and_then}
+use Rattle.pkinit_trust.specs.declared.refusal.TrustRefusal.{TrustRefusal}
+use Rattle.pkinit_trust.specs.declared.refusal.TrustRefusal.TheVariants.{InvalidCertificate, CantVerifyCertificate}
+
+abbrev pub time_seconds : Time → Seconds
+time_seconds (Utc time) = seconds_of time.0.time
+time_seconds (Generalized time) = seconds_of time.0
+
+-- the second of the moment is one of the validity, which has both its ends
+abbrev pub is_valid_at : Micros → Validity → Bool
+is_valid_at moment validity =
+    nat_le (time_seconds validity.not_before) (moment / 1000000) && nat_le (moment / 1000000) (time_seconds validity.not_after)
+
+abbrev pub is_generic : ExtensionValue → Bool
+is_generic (kind.Generic octets) = true
+is_generic other = false
+
+-- the extension is critical, and of a kind that is not recognised
+abbrev pub is_unrecognised : Extension → Bool
+is_unrecognised extension = extension.critical.0.0 && is_generic extension.extn_value
+
+abbrev pub has_unrecognised : Certificate → Bool
+has_unrecognised certificate = list_any is_unrecognised (extensions_in certificate.tbs_certificate.extensions.tagged.0)
+
+-- the certificate is valid at the moment, and the anchor issued it
+abbrev pub issued : KeysRecord → ExpectedRecord → ReadRecord → Table (Result (Unit {0}) TrustRefusal)
+issued keys expected read =
+    refuse (not (is_valid_at expected.moment read.certificate.tbs_certificate.validity)) InvalidCertificate
+    (refuse (not (pointwise nat_eq (name_bytes read.certificate.tbs_certificate.issuer) expected.anchor.subject)) CantVerifyCertificate
+    (refuse (has_unrecognised read.certificate) CantVerifyCertificate
+    (refuse (not (keys.verifies expected.anchor.key read.certificate.signature_algorithm read.signed read.certificate.signature_value.octets)) CantVerifyCertificate
+    (done (Ok tt)))))
+
+-- and it names the expected principal
+abbrev pub accepted : KeysRecord → ExpectedRecord → ReadRecord → Table (Result (Unit {0}) TrustRefusal)
+accepted keys expected read = and_then (issued keys expected read) (λ _. named expected read.certificate)

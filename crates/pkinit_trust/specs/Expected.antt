@@ -1,0 +1,21 @@
+-- Whom signed content is expected from.
+use Rattle.std.specs.Prelude.{List}
+use Rattle.picky_asn1.specs.Bytes.{Bytes}
+use Rattle.krb_moments.specs.Units.{Micros}
+use Rattle.pkinit_trust.specs.Anchors.{AnchorRecord}
+use Rattle.pkinit_trust.specs.declared.expected.ExpectedSigner as held
+
+-- a principal by its realm and components, the anchor that has to have issued its certificate, and the moment
+pub record ExpectedRecord : Type 0 where
+  pub realm : Bytes
+  pub name : List Bytes
+  pub anchor : AnchorRecord
+  pub moment : Micros
+
+abbrev pub expected_of : held.ExpectedSigner → ExpectedRecord
+expected_of expected = record {
+  realm = expected.realm.now;
+  name = expected.name.now;
+  anchor = expected.anchor.now;
+  moment = expected.moment;
+}

@@ -1,0 +1,10 @@
+pub mod Accepted
+pub mod Anchors
+pub mod Certificates
+pub mod Expected
+pub mod Judged
+pub mod Principals
+pub mod Refusals
+pub mod Signers
+pub mod Told
+pub mod Trusted
