@@ -7,6 +7,7 @@ import sys
 
 PROGRAM = sys.argv[1]
 KEYS = 40
+SHA2_KEYS = 5
 MEGABYTES = 40
 DES3_MEGABYTES = 4
 DES3_KEY = b"the 24 bytes of this key"
@@ -38,10 +39,10 @@ def program(task, times):
     return some - none, printed
 
 
-def hashlib_keys():
+def hashlib_keys(digest, rounds, size, times):
     key = b"password"
-    for _ in range(KEYS):
-        key = hashlib.pbkdf2_hmac("sha1", key, b"EXAMPLE.COMtest1", 4096, 32)
+    for _ in range(times):
+        key = hashlib.pbkdf2_hmac(digest, key, b"EXAMPLE.COMtest1", rounds, size)
     return key.hex()
 
 
@@ -98,7 +99,7 @@ def at_hand(work):
 
 def row(name, unit, amount, ours, theirs, other):
     here, printed = ours
-    line = f"{name:<24} here {amount / here:9.1f} {unit}"
+    line = f"{name:<32} here {amount / here:9.1f} {unit}"
     if theirs is None:
         print(f"{line}   {other} is not at hand")
         return True
@@ -110,7 +111,14 @@ def row(name, unit, amount, ours, theirs, other):
 
 
 def main():
-    same = row("PBKDF2, 4,096 rounds", "keys/s", KEYS, program("key", KEYS), timed(hashlib_keys), "hashlib")
+    same = True
+    for name, task, digest, rounds, size, times in (
+        ("PBKDF2-HMAC-SHA1, 4,096 rounds", "key", "sha1", 4096, 32, KEYS),
+        ("type 19: SHA-256, 32,768 rounds", "key19", "sha256", 32768, 16, SHA2_KEYS),
+        ("type 20: SHA-384, 32,768 rounds", "key20", "sha384", 32768, 32, SHA2_KEYS),
+    ):
+        theirs = timed(lambda: hashlib_keys(digest, rounds, size, times))
+        same = row(name, "keys/s", times, program(task, times), theirs, "hashlib") and same
     for done, task, theirs in (("sealed", "cts", cryptography_cts), ("opened", "open", cryptography_opening)):
         name = f"AES-128 CTS, 1 MB {done}"
         same = row(name, "MB/s", MEGABYTES, program(task, MEGABYTES), at_hand(theirs), "cryptography") and same

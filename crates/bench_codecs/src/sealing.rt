@@ -3,7 +3,8 @@
 use anyhow::bail;
 use krb_blocks::{AesSize, decrypt_aes_cts, encrypt_aes_cts};
 use krb_des::{decrypt_des, encrypt_des};
-use krb_digests::pbkdf2_hmac_sha1;
+use krb_digests::{pbkdf2_hmac, pbkdf2_hmac_sha1};
+use sha2::{Sha256, Sha384};
 use std::alloc::Global;
 
 const KEY: [u8; 16] = *b"a key of AES-128";
@@ -13,11 +14,13 @@ const DES3_KEY: [u8; 24] = *b"the 24 bytes of this key";
 /// The last 32 bytes that the last turn gave, in hexadecimal. They are the same each time.
 pub(crate) fn run(alloc: Global, words: &[String]) -> anyhow::Result<String> {
     let [task, times] = words else {
-        bail!("usage: sealing key|cts|open|des3|des3-open TIMES");
+        bail!("usage: sealing key|key19|key20|cts|open|des3|des3-open TIMES");
     };
     let times = times.parse::<u32>()?;
     let last = match task.as_str() {
         "key" => derived(alloc, times)?,
+        "key19" => derived_by_sha256(alloc, times)?,
+        "key20" => derived_by_sha384(alloc, times)?,
         "cts" => sealed(alloc, times)?,
         "open" => opened(alloc, times)?,
         "des3" => sealed_by_des(alloc, times)?,
@@ -33,6 +36,24 @@ fn derived(alloc: Global, times: u32) -> anyhow::Result<Vec<u8>> {
     let mut key = Vec::from_slice(alloc, b"password")?;
     for _ in 0..times {
         key = pbkdf2_hmac_sha1(alloc, &key, b"EXAMPLE.COMtest1", 4096, 32)?;
+    }
+    Ok(key)
+}
+
+/// The same with HMAC-SHA-256, 32,768 rounds and 16 bytes, as for a key of type 19.
+fn derived_by_sha256(alloc: Global, times: u32) -> anyhow::Result<Vec<u8>> {
+    let mut key = Vec::from_slice(alloc, b"password")?;
+    for _ in 0..times {
+        key = pbkdf2_hmac::<Sha256, 32, 64>(alloc, &key, b"EXAMPLE.COMtest1", 32_768, 16)?;
+    }
+    Ok(key)
+}
+
+/// The same with HMAC-SHA-384, 32,768 rounds and 32 bytes, as for a key of type 20.
+fn derived_by_sha384(alloc: Global, times: u32) -> anyhow::Result<Vec<u8>> {
+    let mut key = Vec::from_slice(alloc, b"password")?;
+    for _ in 0..times {
+        key = pbkdf2_hmac::<Sha384, 48, 128>(alloc, &key, b"EXAMPLE.COMtest1", 32_768, 32)?;
     }
     Ok(key)
 }

@@ -2,36 +2,34 @@
 
 use crate::stage::Stage;
 use crate::told::{admission_text, ok, refused};
-use crate::words::{bytes_of, name_of};
+use crate::words::{bytes_of, name_of, suite_of};
 use anyhow::{Context, bail};
 use krb_realm::{Admission, AdmitRefusal, CipherSuite, Moment, Service};
 use std::alloc::Global;
 
-/// Makes the service `h`. Its suite is triple DES where the key has 24 bytes, and AES-256 else.
+/// Makes the service `h`.
 pub(crate) fn service(stage: &mut Stage, alloc: Global, words: &[&str]) -> anyhow::Result<String> {
-    let [realm, key, number, skew] = words else {
-        bail!("service REALM KEY NUMBER SKEW");
+    let [realm, suite, key, number, skew] = words else {
+        bail!("service REALM SUITE KEY NUMBER SKEW");
     };
     let realm = bytes_of(alloc, realm)?;
+    let suite = suite_of(suite)?;
     let key = bytes_of(alloc, key)?;
     let number = number.parse::<u32>()?;
     let skew = skew.parse::<u64>()?;
-    make_service(stage, alloc, &realm, &key, number, skew)
+    make_service(stage, alloc, &realm, suite, &key, number, skew)
 }
 
 fn make_service(
     stage: &mut Stage,
     alloc: Global,
     realm: &[u8],
+    suite: CipherSuite,
     key: &[u8],
     number: u32,
     skew: u64,
 ) -> anyhow::Result<String> {
     let name = name_of(alloc, "h")?;
-    let suite = match key.len() {
-        24 => CipherSuite::Des3CbcSha1Kd,
-        _ => CipherSuite::Aes256CtsHmacSha196,
-    };
     match Service::new(alloc, realm, &name, suite, key, number, skew) {
         Ok(service) => {
             drop(stage.service.replace(service));

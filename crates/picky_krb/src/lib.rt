@@ -84,8 +84,8 @@ pub mod credssp {
 pub mod crypto {
     pub use krb_crypto::{
         Checksum, ChecksumSuite, Cipher, CipherSuite, DecryptWithoutChecksum,
-        EncryptWithoutChecksum, KERBEROS, KerberosCryptoError, KerberosCryptoResult, Key, aes, des,
-        hmac_sha1, n_fold, usage_kc, usage_ke, usage_ki,
+        EncryptWithoutChecksum, KERBEROS, KerberosCryptoError, KerberosCryptoResult, Key, aes,
+        aes_sha2, des, hmac_sha1, n_fold, usage_kc, usage_ke, usage_ki,
     };
 
     /// Keys that a Diffie-Hellman exchange agrees on (RFC 4556, section 3.2.3.1).

@@ -12,13 +12,14 @@ mod runs;
 use admissions::{Admissions, Repetitions};
 use arguments::Arguments;
 use files::{NamedFiles, SettingsFiles};
-use replies::{bare_realm, realm_of_four};
+use replies::{bare_realm, realm_of_four, realm_of_six};
 use rows::replay;
 use runs::Runs;
 
 fn main(rt: HostRuntime) -> anyhow::Result<()> {
     replay(&rt, bare_realm(rt.alloc())?, "real_clients.txt")?;
     replay(&rt, realm_of_four(rt.alloc())?, "kdc_exchanges.txt")?;
+    replay(&rt, realm_of_six(rt.alloc())?, "five_suites.txt")?;
     replay(&rt, Admissions, "admissions.txt")?;
     replay(&rt, Repetitions, "admissions.txt")?;
     replay(&rt, Runs, "rows.txt")?;

@@ -75,6 +75,21 @@ fn add_four(alloc: Global, realm: &mut Realm) -> anyhow::Result<()> {
     Ok(())
 }
 
+/// The same realm with the accounts `e` and `f`, of AES with SHA-2.
+pub(crate) fn realm_of_six(alloc: Global) -> anyhow::Result<Realm> {
+    let mut realm = realm_of_four(alloc)?;
+    let added = add_two(alloc, &mut realm);
+    if_passed(realm, added)
+}
+
+fn add_two(alloc: Global, realm: &mut Realm) -> anyhow::Result<()> {
+    let aes128 = CipherSuite::Aes128CtsHmacSha256128;
+    let aes256 = CipherSuite::Aes256CtsHmacSha384192;
+    realm.add_account_by_password(alloc, &name_of(alloc, b"e")?, aes128, b"pw")?;
+    realm.add_account_by_password(alloc, &name_of(alloc, b"f")?, aes256, b"pw")?;
+    Ok(())
+}
+
 /// The name of one component.
 fn name_of(alloc: Global, component: &[u8]) -> anyhow::Result<Vec<Vec<u8>>> {
     let component = Vec::from_slice(alloc, component)?;
