@@ -29,7 +29,7 @@ concat-map-push : (done : List (List ℕ)) (reply : List ℕ) → concat (map fr
 concat-map-push [] reply = append-nil (framed reply)
 concat-map-push (first ∷ done) reply = ap (λ l. framed first ++ l) (concat-map-push done reply) ∙ sym (append_assoc (framed first) (concat (map framed done)) (framed reply))
 
-module _ (replies : List ℕ → ℕ → List ℕ → Option (List ℕ) → Type 0) where
+module _ (replies : List ℕ → ℕ → List ℕ → Option (List ℕ) → Type 0) (wants : List ℕ → Type 0) where
   Run-more : (done : List (List ℕ)) (reply : List ℕ) (s t u : Left) → Run replies s done t → Step replies t reply u → Run replies s (done ++ reply ∷ []) u
   Run-more [] reply s t u run step = (u, subst (λ v. Step replies v reply u) run step, refl)
   Run-more (first ∷ done) reply s t u run step = (run.0, run.1, Run-more done reply run.0 t u run.2 step)
@@ -67,7 +67,7 @@ module _ (replies : List ℕ → ℕ → List ℕ → Option (List ℕ) → Type
     abbrev pub Shows : Option (List ℕ) → Option (List ℕ) → Option (List ℕ) → M → Result ℕ ServeFault → Type 0
     Shows left_stream left_words written now result = (taken : List ℕ) × (bytes : List ℕ) × (rest : List ℕ) × (more : List ℕ) × Draws gives result start taken now
         × Appends before written bytes × (left_stream ≡ Some rest) × (left_words ≡ Some more)
-        × ((later : List ℕ) → (result ≡ Err NoMoment → later ≡ []) → IsServed replies (at (taken ++ later) stream words) bytes result (at later rest more))
+        × ((later : List ℕ) → (result ≡ Err NoMoment → later ≡ []) → IsServed replies wants (at (taken ++ later) stream words) bytes result (at later rest more))
 
     module _ {left_stream left_words written : Option (List ℕ)} {now : M} {answered : ℕ} (p : Progress left_stream left_words written now answered) where
       -- the run so far, where one moment more was taken
@@ -93,7 +93,7 @@ module _ (replies : List ℕ → ℕ → List ℕ → Option (List ℕ) → Type
       stopped : (taken : List ℕ) (left : List ℕ → List ℕ) (fault : ServeFault) (new_stream new_words new : Option (List ℕ)) (end : M) (rest more : List ℕ)
           → Draws gives (Failed fault) start taken end → Keeps written new → new_stream ≡ Some rest → new_words ≡ Some more
           → ((later : List ℕ) → (Failed fault ≡ Failed NoMoment → later ≡ []) → Run replies (at (taken ++ later) stream words) p.done (at (left later) p.rest p.more)
-          × StopsBy replies (at (left later) p.rest p.more) fault (at later rest more) × IsPart replies (at (left later) p.rest p.more) fault [])
+          × StopsBy replies wants (at (left later) p.rest p.more) fault (at later rest more) × IsPart replies (at (left later) p.rest p.more) fault [])
           → Shows new_stream new_words new end (Failed fault)
       stopped taken left fault new_stream new_words new end rest more draws keeps stream_known words_known why = (
         taken,
@@ -161,14 +161,14 @@ module _ (replies : List ℕ → ℕ → List ℕ → Option (List ℕ) → Type
 
           -- it stopped at this frame, of whose reply nothing was written
           stopped_here : (fault : ServeFault) (new_words new : Option (List ℕ)) (more : List ℕ) → Draws gives (Failed fault) start (p.taken ++ moment ∷ []) next → Keeps written new
-              → new_words ≡ Some more → ((later : List ℕ) → StopsBy replies (at (moment ∷ later) p.rest p.more) fault (at later rest more)
+              → new_words ≡ Some more → ((later : List ℕ) → StopsBy replies wants (at (moment ∷ later) p.rest p.more) fault (at later rest more)
               × IsPart replies (at (moment ∷ later) p.rest p.more) fault []) → Shows new_stream new_words new next (Failed fault)
           stopped_here fault new_words new more draws keeps words_known why =
               stopped (p.taken ++ moment ∷ []) (λ l. moment ∷ l) fault new_stream new_words new next rest more draws keeps known words_known
               (λ later _. let q = why later in (run_with moment later, q.0, q.1))
 
           -- the message was not answered
-          pub stopped_at_step : (new_words new : Option (List ℕ)) (fault : ServeFault) → IsStepFault replies message moment p.more written new new_words fault
+          pub stopped_at_step : (new_words new : Option (List ℕ)) (fault : ServeFault) → IsStepFault replies wants message moment p.more written new new_words fault
               → Shows new_stream new_words new next (Failed fault)
           stopped_at_step new_words new Truncated why = absurd why
           stopped_at_step new_words new FrameTooLong why = absurd why
@@ -194,8 +194,10 @@ module _ (replies : List ℕ → ℕ → List ℕ → Option (List ℕ) → Type
           stopped_at_step new_words new NoMoment why = absurd why
           stopped_at_step new_words new ReplyTooLong (reply, replied, long, keeps, left) =
               stopped_here ReplyTooLong new_words new (drop 128 p.more) drained keeps left (λ later. ((reply, asks later (Some reply) replied, long), refl))
-          stopped_at_step new_words new Memory (enough, keeps, left) =
-              stopped_here Memory new_words new (drop 128 p.more) drained keeps left (λ later. (inr (takes later (drop 128 p.more), enough, refl), refl))
+          stopped_at_step new_words new Memory (enough, inl wanted, keeps, left) =
+              stopped_here Memory new_words new (drop 128 p.more) drained keeps left (λ later. (inr (inl (message, moment, front, refl, enough, refl, wanted)), refl))
+          stopped_at_step new_words new Memory (enough, inr (reply, replied, fits), keeps, left) =
+              stopped_here Memory new_words new (drop 128 p.more) drained keeps left (λ later. (inr (inr (reply, (asks later (Some reply) replied, fits))), refl))
 
 -- ---- an iterator that is handed in by value
 

@@ -116,9 +116,12 @@ module _ (replies : List ℕ → ℕ → List ℕ → Option (List ℕ) → Type
         ap (λ l. at l t.stream t.words) later ∙ ap (λ l. at u.moments l t.words) stream ∙ ap (λ l. at u.moments u.stream l) (ws ∙ sym vs),
       )
 
+module _ (replies : List ℕ → ℕ → List ℕ → Option (List ℕ) → Type 0)
+    (one_reply : (message : List ℕ) (moment : ℕ) (words : List ℕ) (a b : Option (List ℕ)) → replies message moment words a → replies message moment words b → a ≡ b)
+    (wants : List ℕ → Type 0) where
   -- why serving stops with this result where this is left, and what it then leaves
   abbrev pub Why : Left → Result ℕ ServeFault → Left → Type 0
-  Why s result new = MatchResult result (λ _. (front_of s.stream ≡ Ended) × (new ≡ s)) (λ fault. StopsBy replies s fault new)
+  Why s result new = MatchResult result (λ _. (front_of s.stream ≡ Ended) × (new ≡ s)) (λ fault. StopsBy replies wants s fault new)
 
   -- whatever the next frame's answer is, it has this number
   abbrev HasAnswer : Left → ℕ → Type 0
@@ -134,12 +137,12 @@ module _ (replies : List ℕ → ℕ → List ℕ → Option (List ℕ) → Type
   an_answer s new (Ok _) final (front, same) = (0, no_frame s Ended front (lit< tt))
   an_answer s new (Err Truncated) final (front, same) = (0, no_frame s (Bad Truncated) front (lit< tt))
   an_answer s new (Err FrameTooLong) final (front, same) = (0, no_frame s (Bad FrameTooLong) front (lit< tt))
-  an_answer s new (Err NoRequest) final asks = (0, λ b after other. ap answer_number (same_asks s after new b None other asks).0)
+  an_answer s new (Err NoRequest) final asks = (0, λ b after other. ap answer_number (same_asks replies one_reply s after new b None other asks).0)
   an_answer s new (Err Read) final why = absurd final
   an_answer s new (Err Write) final why = absurd final
   an_answer s new (Err NoWords) final (takes, few, none) = (0, λ b after asks. absurd (not-le_of_lt few asks.5.0))
   an_answer s new (Err NoMoment) final (message, rest, front, none, same) = (0, λ b after asks. absurd (not_nil asks.1 after.moments s.moments asks.3 (ap length none)))
-  an_answer s new (Err ReplyTooLong) final (reply, asks, long) = (1 + length reply, λ b after other. ap answer_number (same_asks s after new b (Some reply) other asks).0)
+  an_answer s new (Err ReplyTooLong) final (reply, asks, long) = (1 + length reply, λ b after other. ap answer_number (same_asks replies one_reply s after new b (Some reply) other asks).0)
   an_answer s new (Err Memory) final why = absurd final
 
   turn-final : (s new : Left) (result : Result ℕ ServeFault) → IsFinal result → Why s result new → (a : ℕ) → HasAnswer s a → turn s a ≡ number_of result
@@ -208,7 +211,7 @@ module _ (replies : List ℕ → ℕ → List ℕ → Option (List ℕ) → Type
   same_left s t u (Ok _) final (front, same) (again, other) = other ∙ sym same
   same_left s t u (Err Truncated) final (front, same) (again, other) = other ∙ sym same
   same_left s t u (Err FrameTooLong) final (front, same) (again, other) = other ∙ sym same
-  same_left s t u (Err NoRequest) final asks other = (same_asks s u t None None other asks).1
+  same_left s t u (Err NoRequest) final asks other = (same_asks replies one_reply s u t None None other asks).1
   same_left s t u (Err Read) final why other = absurd final
   same_left s t u (Err Write) final why other = absurd final
   same_left s t u (Err NoWords) final ((m, x, f, ms), few, none) ((n, y, g, ns), again, nothing) =
@@ -217,5 +220,5 @@ module _ (replies : List ℕ → ℕ → List ℕ → Option (List ℕ) → Type
       ∙ ap (λ l. at t.moments t.stream l) (nothing ∙ sym none)
   same_left s t u (Err NoMoment) final (m, rest, f, none, same) (n, more, g, nothing, other) =
       other ∙ ap (λ l. at [] l s.words) (same_rest s.stream m n rest more f g) ∙ sym same
-  same_left s t u (Err ReplyTooLong) final (x, asks, long) (y, other, again) = (same_asks s u t (Some y) (Some x) other asks).1
+  same_left s t u (Err ReplyTooLong) final (x, asks, long) (y, other, again) = (same_asks replies one_reply s u t (Some y) (Some x) other asks).1
   same_left s t u (Err Memory) final why other = absurd final

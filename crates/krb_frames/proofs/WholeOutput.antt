@@ -19,7 +19,8 @@ some-from_option : (x y : List ℕ) → Some x ≡ Some y → x ≡ y
 some-from_option x y e = cc (e)
 
 module _ (replies : List ℕ → ℕ → List ℕ → Option (List ℕ) → Type 0)
-    (one_reply : (message : List ℕ) (moment : ℕ) (words : List ℕ) (a b : Option (List ℕ)) → replies message moment words a → replies message moment words b → a ≡ b) where
+    (one_reply : (message : List ℕ) (moment : ℕ) (words : List ℕ) (a b : Option (List ℕ)) → replies message moment words a → replies message moment words b → a ≡ b)
+    (wants : List ℕ → Type 0) where
   -- the next frame has one reply and leaves one state
   same_step : (s t u : Left) (x y : List ℕ) → Step replies s x t → Step replies s y u → (x ≡ y) × (t ≡ u)
   same_step s t u x y p q = let e = same_asks replies one_reply s t u (Some x) (Some y) p.0 q.0 in (some-from_option x y e.0, e.1)
@@ -55,7 +56,7 @@ module _ (replies : List ℕ → ℕ → List ℕ → Option (List ℕ) → Type
     stop : Left
     part : List ℕ
     run : Run replies start done stop
-    why : Why replies one_reply stop result new
+    why : Why replies one_reply wants stop result new
     of_next : Part stop part
     whole : written ≡ concat (map framed done) ++ part
     count : IfOk result (λ n. n ≡ min (length done) (2 ^ 64 - 1))
@@ -83,7 +84,7 @@ module _ (replies : List ℕ → ℕ → List ℕ → Option (List ℕ) → Type
   no_part s ReplyTooLong part is final = is
   no_part s Memory part is final = absurd final
 
-  pub served : (start new : Left) (written : List ℕ) (result : Result ℕ ServeFault) → IsServed replies start written result new → Served start written result new
+  pub served : (start new : Left) (written : List ℕ) (result : Result ℕ ServeFault) → IsServed replies wants start written result new → Served start written result new
   served start new written (Ok n) (done, s, run, (ended, same, whole, count)) = record {
     done = done;
     stop = s;
@@ -131,14 +132,14 @@ module _ (replies : List ℕ → ℕ → List ℕ → Option (List ℕ) → Type
 
   -- ---- where serving stops for good
 
-  module _ (s new : Left) (result : Result ℕ ServeFault) (final : IsFinal result) (why : Why replies one_reply s result new) where
+  module _ (s new : Left) (result : Result ℕ ServeFault) (final : IsFinal result) (why : Why replies one_reply wants s result new) where
     no_more : (rest : List (List ℕ)) (u : Left) → Run replies s rest u → (rest ≡ []) × (u ≡ s)
     no_more [] u run = (refl, run)
-    no_more (reply ∷ rest) u (mid, step, run) = absurd (no_step replies one_reply s new mid result reply final why step)
+    no_more (reply ∷ rest) u (mid, step, run) = absurd (no_step replies one_reply wants s new mid result reply final why step)
 
     no_next : (part : List ℕ) → Part s part → part ≡ []
     no_next part (inl none) = none
-    no_next part (inr (reply, after, n, step, is)) = absurd (no_step replies one_reply s new after result reply final why step)
+    no_next part (inr (reply, after, n, step, is)) = absurd (no_step replies one_reply wants s new after result reply final why step)
 
   module _ (start s t : Left) (all part : List ℕ) (whole other : Result ℕ ServeFault) (final : IsFinal whole) (w : Served start all whole s) (o : Served start part other t) where
     to_end : GoesOn o.done o.stop w.done w.stop
@@ -158,7 +159,7 @@ module _ (replies : List ℕ → ℕ → List ℕ → Option (List ℕ) → Type
         let g = to_end in
         let none : g.0 ≡ [] → o.part ≡ [] = λ e.
         let here : w.stop ≡ o.stop = subst (λ l. Run replies o.stop l w.stop) e g.2 in
-        no_next o.stop s whole final (subst (λ v. Why replies one_reply v whole s) here w.why) o.part o.of_next in
+        no_next o.stop s whole final (subst (λ v. Why replies one_reply wants v whole s) here w.why) o.part o.of_next in
         along part (concat (map framed o.done) ++ o.part) all (concat (map framed o.done) ++ concat (map framed g.0)) o.whole (all_is g.0 g.1)
         (front-behind o.done o.part (concat (map framed g.0)) (part-front_or_none o.stop w.stop o.part g.0 o.of_next none g.2))
 
@@ -169,11 +170,11 @@ module _ (replies : List ℕ → ℕ → List ℕ → Option (List ℕ) → Type
         let none = no_more o.stop t other other_final o.why g.0 w.stop g.2 in
         let done : w.done ≡ o.done = g.1 ∙ ap (λ l. o.done ++ l) none.0 ∙ append-nil o.done in
         let count : IfOk whole (λ n. n ≡ min (length o.done) (2 ^ 64 - 1)) = subst (λ l. IfOk whole (λ n. n ≡ min (length l) (2 ^ 64 - 1))) done w.count in
-        let why : Why replies one_reply o.stop whole s = subst (λ v. Why replies one_reply v whole s) none.1 w.why in
-        let same : other ≡ whole = same_result replies one_reply o.stop s t whole other final other_final why o.why _ count o.count in (
+        let why : Why replies one_reply wants o.stop whole s = subst (λ v. Why replies one_reply wants v whole s) none.1 w.why in
+        let same : other ≡ whole = same_result replies one_reply wants o.stop s t whole other final other_final why o.why _ count o.count in (
           o.whole ∙ ap (λ l. concat (map framed o.done) ++ l) (o.final other_final) ∙ ap (λ l. concat (map framed o.done) ++ concat (map framed l)) (sym none.0) ∙ sym (all_is g.0 g.1),
           same,
-          same_left replies one_reply o.stop s t whole final why (subst (λ r. Why replies one_reply o.stop r t) same o.why),
+          same_left replies one_reply wants o.stop s t whole final why (subst (λ r. Why replies one_reply wants o.stop r t) same o.why),
         )
 
   module _ (start s t : Left) (written : List ℕ) (result : Result ℕ ServeFault) (more : List (List ℕ)) (o : Served start written result s) (run : Run replies start more t)

@@ -24,10 +24,6 @@ at moments stream words = record { moments = moments; stream = stream; words = w
 abbrev pub TakesMoment : Left → Left → Type 0
 TakesMoment old new = (message : List ℕ) × (moment : Micros) × (front_of old.stream ≡ Whole message new.stream) × (old.moments ≡ moment ∷ new.moments)
 
--- and it takes 128 random bytes, which are there
-abbrev pub TakesUp : Left → Left → Type 0
-TakesUp old new = TakesMoment old new × (128 ≤ length old.words) × (new.words ≡ drop 128 old.words)
-
 -- the stream's reader failed within the next frame: some bytes of it were read, and no moment and no random byte was taken
 abbrev pub BreaksFrame : Left → Left → Type 0
 BreaksFrame old new = (n : ℕ) × (n ≤ frame_room old.stream) × (new ≡ at old.moments (drop n old.stream) old.words)
@@ -60,28 +56,40 @@ module _ (replies : List ℕ → Micros → List ℕ → Option (List ℕ) → T
   Run old [] new = new ≡ old
   Run old (reply ∷ done) new = (mid : Left) × Step old reply mid × Run mid done new
 
-  -- why serving stops where this is left, and what it then leaves. Memory is wanting for a message alone, or once its moment and its random bytes were taken
-  abbrev pub StopsBy : Left → ServeFault → Left → Type 0
-  StopsBy s Truncated new = (front_of s.stream ≡ Bad Truncated) × (new ≡ at s.moments [] s.words)
-  StopsBy s FrameTooLong new = (front_of s.stream ≡ Bad FrameTooLong) × (new ≡ at s.moments (drop 4 s.stream) s.words)
-  StopsBy s NoRequest new = Asks s None new
-  StopsBy s Read new = BreaksFrame s new ⊎ BreaksWords s new
-  StopsBy s Write new = (reply : List ℕ) × Step s reply new
-  StopsBy s NoWords new = TakesMoment s new × (length s.words < 128) × (new.words ≡ [])
-  StopsBy s NoMoment new = (message : List ℕ) × (rest : List ℕ) × (front_of s.stream ≡ Whole message rest) × (s.moments ≡ []) × (new ≡ at [] rest s.words)
-  StopsBy s ReplyTooLong new = (reply : List ℕ) × Asks s (Some reply) new × (65536 < length reply)
-  StopsBy s Memory new = LacksRoom s new ⊎ TakesUp s new
-
   -- what stands of the next reply: a front of its frame where the write failed, and else nothing
   abbrev pub IsPart : Left → ServeFault → List ℕ → Type 0
   IsPart s Write part = (reply : List ℕ) × (after : Left) × (n : ℕ) × Step s reply after × (part ≡ take n (framed reply))
   IsPart s fault part = part ≡ []
 
+-- and `wants message`: whether the responder may want memory for the message
+module _ (replies : List ℕ → Micros → List ℕ → Option (List ℕ) → Type 0) (wants : List ℕ → Type 0) where
+  -- the responder wanted memory for the next message, which took its moment and 128 random bytes
+  abbrev pub LacksAnswer : Left → Left → Type 0
+  LacksAnswer old new = (message : List ℕ) × (moment : Micros) × (front_of old.stream ≡ Whole message new.stream)
+      × (old.moments ≡ moment ∷ new.moments) × (128 ≤ length old.words) × (new.words ≡ drop 128 old.words) × wants message
+
+  -- the next frame has a reply, and there was no memory for its frame
+  abbrev pub LacksFrame : Left → Left → Type 0
+  LacksFrame old new = (reply : List ℕ) × Step replies old reply new
+
+  -- why serving stops where this is left, and what it then leaves. A message that is no request is answered before any growth of a reply:
+  -- memory is wanting for the message, for an answer to it where the responder may want it, or for the frame of a reply that it has
+  abbrev pub StopsBy : Left → ServeFault → Left → Type 0
+  StopsBy s Truncated new = (front_of s.stream ≡ Bad Truncated) × (new ≡ at s.moments [] s.words)
+  StopsBy s FrameTooLong new = (front_of s.stream ≡ Bad FrameTooLong) × (new ≡ at s.moments (drop 4 s.stream) s.words)
+  StopsBy s NoRequest new = Asks replies s None new
+  StopsBy s Read new = BreaksFrame s new ⊎ BreaksWords s new
+  StopsBy s Write new = (reply : List ℕ) × Step replies s reply new
+  StopsBy s NoWords new = TakesMoment s new × (length s.words < 128) × (new.words ≡ [])
+  StopsBy s NoMoment new = (message : List ℕ) × (rest : List ℕ) × (front_of s.stream ≡ Whole message rest) × (s.moments ≡ []) × (new ≡ at [] rest s.words)
+  StopsBy s ReplyTooLong new = (reply : List ℕ) × Asks replies s (Some reply) new × (65536 < length reply)
+  StopsBy s Memory new = LacksRoom s new ⊎ LacksAnswer s new ⊎ LacksFrame s new
+
   -- what was written, the answer and what is left: the frames of a run's replies, up to where serving stops
   abbrev pub IsServed : Left → List ℕ → Result ℕ ServeFault → Left → Type 0
-  IsServed start written result new = (done : List (List ℕ)) × (s : Left) × Run start done s × MatchResult result
+  IsServed start written result new = (done : List (List ℕ)) × (s : Left) × Run replies start done s × MatchResult result
       (λ count. (front_of s.stream ≡ Ended) × (new ≡ s) × (written ≡ concat (map framed done)) × (count ≡ min (length done) (2 ^ 64 - 1)))
-      (λ fault. StopsBy s fault new × (part : List ℕ) × IsPart s fault part × (written ≡ concat (map framed done) ++ part))
+      (λ fault. StopsBy s fault new × (part : List ℕ) × IsPart replies s fault part × (written ≡ concat (map framed done) ++ part))
 
 -- calls of `next` gave these moments, then none where that is the fault, and left this iterator
 abbrev pub Draws : {M : Type 0} → (M → Option Micros → M → Type 0) → Result ℕ ServeFault → M → List Micros → M → Type 0

@@ -1,5 +1,5 @@
 -- What one step of serving does to its devices.
-use Rattle.std.specs.Prelude.{◌≡◌, ℕ, ◌<◌, ◌≤◌, List, [], ◌++◌, length, take, drop, Option, Some, None, ⊤}
+use Rattle.std.specs.Prelude.{◌≡◌, ◌⊎◌, ℕ, ◌<◌, ◌≤◌, List, [], ◌++◌, length, take, drop, Option, Some, None, ⊤}
 use Rattle.std.specs.Io.KnownBytes.{Appends, Keeps}
 use Rattle.krb_moments.specs.Units.{Micros}
 use Rattle.devices.specs.Counting.{one_more}
@@ -98,6 +98,11 @@ module _ (replies : List ℕ → Micros → List ℕ → Option (List ℕ) → T
   IsAnswered message moment words old new left = (reply : List ℕ) × IsReply replies message moment words (Some reply) × (length reply ≤ 65536)
       × Appends old new (framed reply) × (left ≡ Some (drop 128 words))
 
+module _ (replies : List ℕ → Micros → List ℕ → Option (List ℕ) → Type 0) (wants : List ℕ → Type 0) where
+  -- memory was wanting for an answer, where the responder may want it for the message, or for the frame of a reply
+  abbrev pub LacksMemory : List ℕ → Micros → List ℕ → Type 0
+  LacksMemory message moment words = wants message ⊎ ((reply : List ℕ) × IsReply replies message moment words (Some reply) × (length reply ≤ 65536))
+
   -- why a message was not answered, what was written of its reply, and the random bytes that are left
   abbrev pub IsStepFault : List ℕ → Micros → List ℕ → Option (List ℕ) → Option (List ℕ) → Option (List ℕ) → ServeFault → Type 0
   IsStepFault message moment words old new left NoWords = (length words < 128) × Keeps old new × (left ≡ Some [])
@@ -108,5 +113,6 @@ module _ (replies : List ℕ → Micros → List ℕ → Option (List ℕ) → T
       (reply : List ℕ) × IsReply replies message moment words (Some reply) × (length reply ≤ 65536) × (n : ℕ) × Appends old new (take n (framed reply))
       × (left ≡ Some (drop 128 words))
   IsStepFault message moment words old new left Read = IsBroken words left 128 × Keeps old new
-  IsStepFault message moment words old new left Memory = (128 ≤ length words) × Keeps old new × (left ≡ Some (drop 128 words))
+  IsStepFault message moment words old new left Memory =
+      (128 ≤ length words) × LacksMemory message moment words × Keeps old new × (left ≡ Some (drop 128 words))
   IsStepFault message moment words old new left _ = ⊥

@@ -142,7 +142,7 @@ pub(crate) fn answer_frame<A: Responder, K: Source, W: Sink>(
 ) -> Result<(), ServeFault>
     ensures step { WhereKnown (K.left words_reader.old) (λ words. MatchResult result
         (λ _. IsAnswered (A.replies responder.now) message.now moment words (W.written writer.old) (W.written writer.new) (K.left words_reader.new))
-        (IsStepFault (A.replies responder.now) message.now moment words (W.written writer.old) (W.written writer.new) (K.left words_reader.new))) }
+        (IsStepFault (A.replies responder.now) (A.may_want_memory responder.now) message.now moment words (W.written writer.old) (W.written writer.new) (K.left words_reader.new))) }
     ensures faults { IfErr result IsAnswerFault }
     ensures read_count { MatchResult result (λ _. K.failed words_reader.new ≡ K.failed words_reader.old)
         (λ fault. K.failed words_reader.new ≡ after_read_fault (K.failed words_reader.old) fault) }

@@ -19,12 +19,14 @@ pub fn runs_agree<A: Responder>()
 /// a front of it. It does nothing when it runs: its contract is the law.
 pub fn output_is_whole<A: Responder>()
     ensures front { (responder : A) (start s t : Left) (all part : List ℕ) (whole other : Result ℕ ServeFault) → IsFinal whole
-        → IsServed (A.replies responder) start all whole s → IsServed (A.replies responder) start part other t → IsFrontOf part all }
+        → IsServed (A.replies responder) (A.may_want_memory responder) start all whole s
+        → IsServed (A.replies responder) (A.may_want_memory responder) start part other t → IsFrontOf part all }
     ensures same { (responder : A) (start s t : Left) (all other : List ℕ) (a b : Result ℕ ServeFault) → IsFinal a → IsFinal b
-        → IsServed (A.replies responder) start all a s → IsServed (A.replies responder) start other b t → (other ≡ all) × (b ≡ a) × (t ≡ s) }
+        → IsServed (A.replies responder) (A.may_want_memory responder) start all a s
+        → IsServed (A.replies responder) (A.may_want_memory responder) start other b t → (other ≡ all) × (b ≡ a) × (t ≡ s) }
 
     // What was written is also a front of the frames of each run that is as long.
     ensures longer { (responder : A) (start s t : Left) (written : List ℕ) (result : Result ℕ ServeFault) (more : List (List ℕ))
-        → IsServed (A.replies responder) start written result s → Run (A.replies responder) start more t
+        → IsServed (A.replies responder) (A.may_want_memory responder) start written result s → Run (A.replies responder) start more t
         → length written ≤ length (concat (map framed more)) → IsFrontOf written (concat (map framed more)) }
 {}

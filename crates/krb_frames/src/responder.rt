@@ -1,5 +1,5 @@
 //! Who replies to messages.
-ghost use Rattle.std.specs.Prelude.{◌≡◌, ℕ, List, Option, None, Some, MatchResult, length};
+ghost use Rattle.std.specs.Prelude.{◌≡◌, ℕ, List, Option, None, Some, IfErr, MatchResult, length};
 
 use crate::AnswerRefusal;
 use krb_moments::Moment;
@@ -13,6 +13,9 @@ pub trait Responder {
     // are no request.
     ghost replies: { Self → List ℕ → ℕ → List ℕ → Option (List ℕ) → Type 0 };
 
+    // Whether answering a message may want memory. Any other is answered however little memory there is.
+    ghost may_want_memory: { Self → List ℕ → Type 0 };
+
     /// The reply to `message`. Only `Unreadable` says that it is no request.
     fn answer(
         &self,
@@ -22,8 +25,9 @@ pub trait Responder {
         words: &[u8],
     ) -> Result<Vec<u8>, AnswerRefusal>
         requires { length words.now ≡ 128 }
-        ensures { MatchResult result (λ reply. replies self.now message.now moment words.now (Some reply.items))
-            (λ refusal. refusal ≡ AnswerRefusal.Unreadable → replies self.now message.now moment words.now None) };
+        ensures reply { MatchResult result (λ reply. replies self.now message.now moment words.now (Some reply.items))
+            (λ refusal. refusal ≡ AnswerRefusal.Unreadable → replies self.now message.now moment words.now None) }
+        ensures memory { IfErr result (λ refusal. refusal ≡ AnswerRefusal.Memory → may_want_memory self.now message.now) };
 
     // A message has at most one reply.
     ghost one_reply: { (responder : Self) (message : List ℕ) (moment : ℕ) (words : List ℕ) (a b : Option (List ℕ))

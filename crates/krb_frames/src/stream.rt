@@ -22,7 +22,9 @@ use std::alloc::Global;
 /// No more is taken: of `reader` the frames up to the last one read, or four bytes where that is too
 /// long, and of `words_reader` nothing for a frame that has no moment. Memory is asked for once a
 /// frame's length is read and not too long, and then once its moment and its random bytes are taken, so
-/// a fault that is found before that is answered however little memory there is.
+/// a fault that is found before that is answered however little memory there is. A message that is no
+/// request is answered `NoRequest` before any growth of a reply: `Memory` may be answered in its place
+/// only where the responder may want memory for it (`Responder::answer`).
 ///
 /// A reply is handed to `writer`, in one call where that takes all, before the next frame is read. A
 /// writer that buffers would hold it back.
@@ -44,7 +46,7 @@ pub fn serve<A: Responder, R: Source, W: Sink, M: Iterator<Item = Moment> + Drop
         × Appends (W.written writer.old) (W.written writer.new) written
         × (R.left reader.new ≡ Some rest) × (K.left words_reader.new ≡ Some more)
         × ((later : List ℕ) → (result ≡ Err ServeFault.NoMoment → later ≡ [])
-        → IsServed (A.replies responder.now) (at (taken ++ later) stream words) written result (at later rest more)))) }
+        → IsServed (A.replies responder.now) (A.may_want_memory responder.now) (at (taken ++ later) stream words) written result (at later rest more)))) }
     ensures read_failed { result ≡ Err ServeFault.Read
         → (R.failed reader.new ≡ one_more (R.failed reader.old)) ⊎ (K.failed words_reader.new ≡ one_more (K.failed words_reader.old)) }
     ensures write_failed { result ≡ Err ServeFault.Write → W.failed writer.new ≡ one_more (W.failed writer.old) }
@@ -73,7 +75,7 @@ fn serve_frames<A: Responder, R: Source, W: Sink, M: Iterator<Item = Moment>, K:
         × Appends (W.written writer.old) (W.written writer.new) written
         × (R.left reader.new ≡ Some rest) × (K.left words_reader.new ≡ Some more)
         × ((later : List ℕ) → (result ≡ Err ServeFault.NoMoment → later ≡ [])
-        → IsServed (A.replies responder.now) (at (taken ++ later) stream words) written result (at later rest more)))) }
+        → IsServed (A.replies responder.now) (A.may_want_memory responder.now) (at (taken ++ later) stream words) written result (at later rest more)))) }
     ensures read_failed { result ≡ Err ServeFault.Read
         → (R.failed reader.new ≡ one_more (R.failed reader.old)) ⊎ (K.failed words_reader.new ≡ one_more (K.failed words_reader.old)) }
     ensures write_failed { result ≡ Err ServeFault.Write → W.failed writer.new ≡ one_more (W.failed writer.old) }
@@ -105,7 +107,7 @@ pub fn serve_bytes<A: Responder>(
     replies: &mut Vec<u8>,
 ) -> Result<u64, ServeFault>
     ensures output { (written : List ℕ) × (left : Left) × (replies.new.items ≡ replies.old.items ++ written)
-        × IsServed (A.replies responder.now) (at moments.now stream.now words.now) written result left }
+        × IsServed (A.replies responder.now) (A.may_want_memory responder.now) (at moments.now stream.now words.now) written result left }
 
     // Bytes in memory never fail.
     ensures devices { result ≢ Err ServeFault.Memory → IsFinal result }

@@ -1,4 +1,5 @@
 mod Answered
+mod Begins
 mod Exchanges
 mod Admitting
 mod Granting

@@ -1,5 +1,6 @@
 //! Realms.
-ghost use Rattle.std.specs.Prelude.{◌≡◌, ◌≤◌, ◌<◌, ◌^◌, ℕ, List, Ok, Err, Some, None, OnOk, OnErr, IfOk, IfErr, MatchResult, length, ◌⊎◌};
+ghost use Rattle.std.specs.Prelude.{◌≡◌, ◌≤◌, ◌<◌, ◌^◌, false, ℕ, List, Ok, Err, Some, None, OnOk, OnErr, IfOk, IfErr, MatchResult, length, slice_get, ◌⊎◌};
+ghost use Rattle.std.specs.Option.{option_map_or};
 ghost use Rattle.std.specs.FinMap as finite;
 ghost use Rattle.krb_blocks.specs.Bytes.{IsBytes};
 ghost use Rattle.krb_accounts.specs.Names.{parts};
@@ -8,6 +9,7 @@ ghost use Rattle.decision_tables.specs.Some.{HasSome};
 ghost use Rattle.krb_as.specs.Call.{call_of};
 ghost use Rattle.krb_as.specs.Calls.{AreKeyed, IsKeyed};
 ghost use Rattle.krb_replies.specs.Replies.{Replies};
+ghost use Rattle.krb_realm.specs.Answers.{is_request_octet};
 ghost use Rattle.krb_realm.specs.Realm.{call_to, is_krbtgt};
 
 use krb_accounts::{
@@ -19,9 +21,13 @@ use krb_frames::AnswerRefusal;
 use krb_moments::Moment;
 use krb_replies::laws::has_reply;
 use krb_replies::{Call, answer_as, answer_tgs, krbtgt_of, read_as_req, read_tgs_req};
+use krb_types::constants::types::{AS_REQ_MSG_TYPE, TGS_REQ_MSG_TYPE};
 use picky_asn1::wrapper::GeneralStringAsn1;
 use std::alloc::Global;
 use std::marker::Model;
+
+/// The identifier octet of a constructed value under an application tag, without the tag's number (X.690, section 8.1.2).
+const APPLICATION: u8 = 0x60;
 
 /// How many random bytes a request takes.
 pub fn words_needed() -> usize
@@ -66,7 +72,7 @@ impl Realm {
     ghost use Rattle.krb_accounts.specs.Passwords.{password_account, password_salt};
     ghost use Rattle.krb_accounts.specs.declared.refusal.RealmRefusal.{RealmRefusal};
     ghost use Rattle.krb_logins.specs.Honest.{IsGranting};
-    ghost use Rattle.krb_realm.specs.Answers.{IsAnswer};
+    ghost use Rattle.krb_realm.specs.Answers.{BeginsRequest, IsAnswer};
 
     /// A realm of this name, whose ticket-granting service `krbtgt/name` has this key (RFC 4120, section 7.3).
     pub fn new(
@@ -244,7 +250,8 @@ impl Realm {
     /// The reply to a message at a moment, with random bytes of which the first 128 count (RFC 4120, sections 3.1 and 3.3).
     /// There is exactly one: `has_reply` and `laws::one_reply`.
     ///
-    /// `Unreadable` says that the bytes are the one encoding of no AS request and of no TGS request.
+    /// `Unreadable` says that the bytes are the one encoding of no AS request and of no TGS request. Where they begin with the
+    /// identifier octet of neither, that is answered however little memory there is.
     #[tactic(auto, unfolding(krb_replies::specs::Replies::Replies))]
     pub fn answer(
         &self,
@@ -254,8 +261,12 @@ impl Realm {
         words: &[u8],
     ) -> Result<Vec<u8>, AnswerRefusal>
         requires { 128 ≤ length words.now }
-        ensures { IsAnswer (Replies (call_to self.now moment words.now) request.now) result }
+        ensures answer { IsAnswer (Replies (call_to self.now moment words.now) request.now) result }
+        ensures memory { IfErr result (λ refusal. refusal ≡ AnswerRefusal.Memory → BeginsRequest request.now) }
     {
+        if !begins_request(request) {
+            return Err(AnswerRefusal::Unreadable);
+        }
         if let Some(asked) = read_as_req(alloc, request)? {
             let reply = answer_as(alloc, &self.call(moment, words), asked)?;
             return Ok(reply);
@@ -279,6 +290,18 @@ impl Realm {
             moment,
             random: words,
         }
+    }
+}
+
+// Whether bytes begin with the identifier octet of an AS request or of a TGS request.
+fn begins_request(bytes: &[u8]) -> bool
+    ensures { result ≡ option_map_or is_request_octet (slice_get bytes.now 0) false }
+{
+    match bytes.first() {
+        Some(&octet) => {
+            octet == APPLICATION + AS_REQ_MSG_TYPE || octet == APPLICATION + TGS_REQ_MSG_TYPE
+        }
+        None => false,
     }
 }
 

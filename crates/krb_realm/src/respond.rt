@@ -6,10 +6,13 @@ use krb_moments::Moment;
 use std::alloc::Global;
 
 impl Responder for Realm {
+    ghost use Rattle.krb_realm.specs.Answers.{BeginsRequest};
     ghost use Rattle.krb_realm.specs.Realm.{call_to};
     ghost use Rattle.krb_replies.specs.Replies.{Replies, one_reply};
 
     ghost replies = { λ realm message moment words reply. Replies (call_to realm moment words) message reply };
+
+    ghost may_want_memory = { λ _ message. BeginsRequest message };
 
     ghost one_reply = { λ realm message moment words. one_reply (call_to realm moment words) message };
 

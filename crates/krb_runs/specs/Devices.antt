@@ -25,12 +25,13 @@ device bytes failed = record { bytes = bytes; failed = failed }
 abbrev pub devices : Device → Device → Device → Devices
 devices words reader writer = record { words = words; reader = reader; writer = writer }
 
--- what was written, the answer and what is left are those of serving the stream, each message at this moment
-abbrev pub IsOutput : (List ℕ → Micros → List ℕ → Option (List ℕ) → Type 0) → Micros → Devices → Devices → Result ℕ ServeFault → Type 0
-IsOutput replies moment old new result = WhereKnown old.reader.bytes (λ stream. WhereKnown old.words.bytes (λ words.
+-- what was written, the answer and what is left are those of serving the stream, each message at this moment, for a responder that replies
+-- so and may want memory for these messages
+abbrev pub IsOutput : (List ℕ → Micros → List ℕ → Option (List ℕ) → Type 0) → (List ℕ → Type 0) → Micros → Devices → Devices → Result ℕ ServeFault → Type 0
+IsOutput replies wants moment old new result = WhereKnown old.reader.bytes (λ stream. WhereKnown old.words.bytes (λ words.
     (written : List ℕ) × (left : Left) × Appends old.writer.bytes new.writer.bytes written
     × (new.reader.bytes ≡ Some left.stream) × (new.words.bytes ≡ Some left.words)
-    × IsServed replies (at (each_time moment) stream words) written result left))
+    × IsServed replies wants (at (each_time moment) stream words) written result left))
 
 -- a fault of a device is answered where a call of it failed, and no failed call is passed over
 pub record AnswersFailures (old new : Devices) (result : Result ℕ ServeFault) : Type 0 where
@@ -39,5 +40,5 @@ pub record AnswersFailures (old new : Devices) (result : Result ℕ ServeFault) 
   pub read_kept : result ≢ Err Read → (new.reader.failed ≡ old.reader.failed) × (new.words.failed ≡ old.words.failed)
   pub write_kept : result ≢ Err Write → new.writer.failed ≡ old.writer.failed
 
-abbrev pub Serves : (List ℕ → Micros → List ℕ → Option (List ℕ) → Type 0) → Micros → Devices → Devices → Result ℕ ServeFault → Type 0
-Serves replies moment old new result = IsOutput replies moment old new result × AnswersFailures old new result
+abbrev pub Serves : (List ℕ → Micros → List ℕ → Option (List ℕ) → Type 0) → (List ℕ → Type 0) → Micros → Devices → Devices → Result ℕ ServeFault → Type 0
+Serves replies wants moment old new result = IsOutput replies wants moment old new result × AnswersFailures old new result

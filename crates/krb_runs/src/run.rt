@@ -16,7 +16,7 @@ pub fn serve_at<A: Responder, K: Source, R: Source, W: Sink>(
     reader: &mut R,
     writer: &mut W,
 ) -> Result<u64, ServeFault>
-    ensures output { IsOutput (A.replies responder.now) moment
+    ensures output { IsOutput (A.replies responder.now) (A.may_want_memory responder.now) moment
         (devices (device (K.left words_reader.old) (K.failed words_reader.old)) (device (R.left reader.old) (R.failed reader.old)) (device (W.written writer.old) (W.failed writer.old)))
         (devices (device (K.left words_reader.new) (K.failed words_reader.new)) (device (R.left reader.new) (R.failed reader.new)) (device (W.written writer.new) (W.failed writer.new)))
         result }

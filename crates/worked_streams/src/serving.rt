@@ -1,5 +1,5 @@
 //! Streams served over whole, slow and failing devices.
-ghost use Rattle.std.specs.Prelude.{◌≡◌, ◌++◌, length, take, nat_lt, if◌then◌else◌, Some, None};
+ghost use Rattle.std.specs.Prelude.{◌≡◌, ◌<◌, ◌++◌, length, take, nat_lt, if◌then◌else◌, Some, None};
 ghost use Rattle.std.proofs.Common.{sym, ◌∙◌};
 
 use crate::slow::{Drip, Trickle};
@@ -17,6 +17,8 @@ pub(crate) struct Toy;
 impl Responder for Toy {
     ghost replies = { λ _ message _ words answer.
         answer ≡ (if nat_lt 0 (length message) then Some (take 1 words ++ message) else None) };
+
+    ghost may_want_memory = { λ _ message. 0 < length message };
 
     fn answer(
         &self,

@@ -1,4 +1,4 @@
-use Rattle.std.proofs.Common.{rules, Some, None, take, sym, subst}
+use Rattle.std.proofs.Common.{rules, Some, None, inl, take, sym, subst}
 use Rattle.krb_frames.proofs.Answering.{answered}
 use Rattle.std.proofs.KnownBytes.{Keeps-refl}
 use Rattle.krb_frames.proofs.frame.answer_frame.Goals as goal
@@ -9,7 +9,7 @@ returns-in-Err-Unreadable-clause-step g c = λ words known.
       (
         w.1,
         subst (λ l. g.A.Responder.replies c.args.responder.now c.args.message.now c.args.moment l None) w.0
-            (c.in-Err-Unreadable.ensures c.in-Err-Unreadable.field-0-is),
+            (c.in-Err-Unreadable.ensures.reply c.in-Err-Unreadable.field-0-is),
       ),
       Keeps-refl _,
       w.2,
@@ -22,7 +22,7 @@ returns-then-len-gt-FRAME_LIMIT-clause-step g c = λ words known.
       (
         w.1,
         subst (λ l. g.A.Responder.replies c.args.responder.now c.args.message.now c.args.moment l (Some c.in-Ok.reply.items)) w.0
-            c.in-Ok.ensures,
+            c.in-Ok.ensures.reply,
       ),
       search rules,
       Keeps-refl _,
@@ -33,12 +33,12 @@ pub returns-clause-step : goal.returns-clause-step
 returns-clause-step g c = λ words known.
     let w = c.in_ok-words.ensures.front words known in
     let reply = c.deref.result.now in
-    let replied = subst (λ l. g.A.Responder.replies c.args.responder.now c.args.message.now c.args.moment l (Some c.in-Ok.reply.items)) w.0 c.in-Ok.ensures in
+    let replied = subst (λ l. g.A.Responder.replies c.args.responder.now c.args.message.now c.args.moment l (Some c.in-Ok.reply.items)) w.0 c.in-Ok.ensures.reply in
     let same = subst (λ l. g.A.Responder.replies c.args.responder.now c.args.message.now c.args.moment (take 128 words) (Some l)) (sym c.deref.ensures.value) replied in
-    answered (g.A.Responder.replies c.args.responder.now) c.args.message.now c.args.moment words reply _ _ _ c.write_frame.result (w.1, same) (search rules) w.2
+    answered (g.A.Responder.replies c.args.responder.now) (g.A.Responder.may_want_memory c.args.responder.now) c.args.message.now c.args.moment words reply _ _ _ c.write_frame.result (w.1, same) (search rules) w.2
     c.write_frame.ensures.written
 
 pub returns-in-Err-Memory-clause-step : goal.returns-in-Err-Memory-clause-step
 returns-in-Err-Memory-clause-step g c = λ words known.
     let w = c.in_ok-words.ensures.front words known in
-    (w.1, Keeps-refl _, w.2)
+    (w.1, inl (c.in-Err-Memory.ensures.memory c.in-Err-Memory.field-0-is), Keeps-refl _, w.2)

@@ -11,27 +11,27 @@ frames-init g c = record {
   read_count = search rules;
   words_count = search rules;
   write_count = search rules;
-  progress = λ stream words known words_known. begins _ _ stream words c.args.moments.now _ _ _ known words_known;
+  progress = λ stream words known words_known. begins _ _ _ stream words c.args.moments.now _ _ _ known words_known;
 }
 
 pub returns-clause-output : goal.returns-clause-output
 returns-clause-output g c = λ stream e words f.
     let p = c.frames.invariant.progress stream words e f in
     let read = rw c.in_default.is at (c.in_ok-message.ensures.front p.rest p.stream_known) in
-    ended _ _ _ _ _ _ p _ read.0 read.1
+    ended _ _ _ _ _ _ _ p _ read.0 read.1
 
 pub returns-in_err-message-clause-output : goal.returns-in_err-message-clause-output
 returns-in_err-message-clause-output g c =
     let r = err_from_is_err_and c.from_residual.result c.from_residual.ensures.1 in
     rw (r.1, r.2) (λ stream e words f.
     let p = c.frames.invariant.progress stream words e f in
-    stopped_at_front _ _ _ _ _ _ p _ c.in_err-message.field-0.0 (c.in_err-message.ensures.front p.rest p.stream_known))
+    stopped_at_front _ _ _ _ _ _ _ p _ c.in_err-message.field-0.0 (c.in_err-message.ensures.front p.rest p.stream_known))
 
 pub returns-in_default-next-clause-output : goal.returns-in_default-next-clause-output
 returns-in_default-next-clause-output g c = λ stream e words f.
     let p = c.frames.invariant.progress stream words e f in
     let read = rw c.in-Some.is at (c.in_ok-message.ensures.front p.rest p.stream_known) in
-    stopped_at_moment _ _ _ _ _ _ p c.in-Some.message.items read.0 read.2 _ read.1 _ c.in_default-next.ensures.steps
+    stopped_at_moment _ _ _ _ _ _ _ p c.in-Some.message.items read.0 read.2 _ read.1 _ c.in_default-next.ensures.steps
 
 pub returns-in_err-answer_frame-clause-output : goal.returns-in_err-answer_frame-clause-output
 returns-in_err-answer_frame-clause-output g c =
@@ -40,7 +40,7 @@ returns-in_err-answer_frame-clause-output g c =
     let p = c.frames.invariant.progress stream words e f in
     let read = rw c.in-Some.is at (c.in_ok-message.ensures.front p.rest p.stream_known) in
     let front = Whole-same p.rest c.in-Some.message.items c.deref.result.now read.0 read.2 c.deref.ensures.value in
-    stopped_at_step _ _ _ _ _ _ p c.deref.result.now read.0 front _ read.1 _ c.in-Some-next.moment c.in-Some-next.ensures.steps _ _ _ (c.in_err-answer_frame.ensures.step p.more p.words_known))
+    stopped_at_step _ _ _ _ _ _ _ p c.deref.result.now read.0 front _ read.1 _ c.in-Some-next.moment c.in-Some-next.ensures.steps _ _ _ (c.in_err-answer_frame.ensures.step p.more p.words_known))
 
 pub frames-preserved : goal.frames-preserved
 frames-preserved g c = record {
@@ -53,7 +53,7 @@ frames-preserved g c = record {
       let p = c.frames.invariant.progress stream words e f in
       let read = rw c.in-Some.is at (c.in_ok-message.ensures.front p.rest p.stream_known) in
       let front = Whole-same p.rest c.in-Some.message.items c.deref.result.now read.0 read.2 c.deref.ensures.value in
-      goes _ _ _ _ _ _ p c.deref.result.now read.0 front _ read.1 _ c.in-Some-next.moment c.in-Some-next.ensures.steps _ _ _ c.saturating_add-answered.ensures
+      goes _ _ _ _ _ _ _ p c.deref.result.now read.0 front _ read.1 _ c.in-Some-next.moment c.in-Some-next.ensures.steps _ _ _ c.saturating_add-answered.ensures
       (c.in_ok-answer_frame.ensures.step p.more p.words_known);
 }
 

@@ -11,7 +11,7 @@ invariant-frames g l = record {
   words_count : g.K.Source.failed l.words_reader ≡ g.K.Source.failed l.initial.words_reader;
   write_count : g.W.Sink.failed l.writer ≡ g.W.Sink.failed l.initial.writer;
   progress : (stream words : List ℕ) → g.R.Source.left l.initial.reader ≡ Some stream → g.K.Source.left l.initial.words_reader ≡ Some words
-      → Progress (g.A.Responder.replies l.responder) g.M.Iterator.next_gives stream words l.initial.moments (g.W.Sink.written l.initial.writer)
+      → Progress (g.A.Responder.replies l.responder) (g.A.Responder.may_want_memory l.responder) g.M.Iterator.next_gives stream words l.initial.moments (g.W.Sink.written l.initial.writer)
       (g.R.Source.left l.reader) (g.K.Source.left l.words_reader) (g.W.Sink.written l.writer) l.moments l.answered;
 }
 

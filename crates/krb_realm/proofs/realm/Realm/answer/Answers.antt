@@ -1,14 +1,19 @@
 use Rattle.krb_as.specs.Call.{call_of}
 use Rattle.krb_realm.specs.Realm.{call_to}
 use Rattle.krb_realm.proofs.Answered.{as_replied, tgs_replied}
+use Rattle.krb_realm.proofs.Begins.{unread}
 use Rattle.krb_realm.proofs.realm.Realm.answer.Goals as goal
 
-pub returns-in-Some : goal.returns-in-Some
-returns-in-Some c =
+pub returns-then-not-begins_request-clause-answer : goal.returns-then-not-begins_request-clause-answer
+returns-then-not-begins_request-clause-answer c =
+    unread (call_to c.args.self.now c.args.moment c.args.words.now) c.args.request.now c.begins_request.result c.begins_request.ensures c.if-not-begins_request.true
+
+pub returns-in-Some-clause-answer : goal.returns-in-Some-clause-answer
+returns-in-Some-clause-answer c =
     as_replied (call_of c.call.result) (call_to c.args.self.now c.args.moment c.args.words.now) c.call.ensures.call c.args.request.now c.in_ok-reply.reply.items c.in-Some.asked
     (rw c.in-Some.is at c.in_ok-asked.ensures) c.in_ok-reply.ensures
 
-pub returns-in-Some-2 : goal.returns-in-Some-2
-returns-in-Some-2 c =
+pub returns-in-Some-2-clause-answer : goal.returns-in-Some-2-clause-answer
+returns-in-Some-2-clause-answer c =
     tgs_replied (call_of c.call-in-Some-2.result) (call_to c.args.self.now c.args.moment c.args.words.now) c.call-in-Some-2.ensures.call c.args.request.now c.in_ok-reply-2.reply.items c.in-Some-2.asked
     (rw c.in_default.is at c.in_ok-asked.ensures) (rw c.in-Some-2.is at c.in_ok-asked-2.ensures) c.in_ok-reply-2.ensures
