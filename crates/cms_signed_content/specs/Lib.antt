@@ -1,5 +1,10 @@
+pub mod Around
+pub mod Assembled
 pub mod Faults
 pub mod PartSlices
 pub mod SignedContents
 pub mod SignedLaws
 pub mod SignedParts
+pub mod Wholeness
+pub mod Written
+pub mod WrittenLaws

@@ -1,4 +1,4 @@
-//! Why signed content was not read.
+//! Why signed content was not read or written.
 ghost use Rattle.std.specs.Prelude.{◌≡◌};
 ghost use Rattle.cms_signed_content.specs.Faults.{fault_number, fault_of};
 ghost use Rattle.cms_signed_content.specs.declared.fault.SignedFault.TheVariants.{Memory};
@@ -7,10 +7,10 @@ use std::alloc::AllocError;
 use thiserror::Error;
 use x509_spelling::X509Fault;
 
-/// Why signed content was not read. The faults are numbered from 1, in this order.
+/// Why signed content was not read or written. The faults are numbered from 1, in this order.
 #[derive(Clone, Copy, Debug, PartialEq, Eq, Error)]
 pub enum SignedFault {
-    /// The bytes are no signed content of the one form.
+    /// The bytes are no signed content of the one form. In writing: the certificate doesn't read.
     #[error("the bytes are no signed content of the form that is read here")]
     Unreadable,
     /// The memory could not grow.

@@ -1,12 +1,16 @@
 //! What holds of all signed content.
-ghost use Rattle.std.specs.Prelude.{◌≡◌, ℕ, List};
+ghost use Rattle.std.specs.Prelude.{◌≡◌, ◌⊎◌, ℕ, List, Option, Result, Ok, Err};
 ghost use Rattle.asn1_trees.specs.Length.{element};
 ghost use Rattle.asn1_trees.specs.Tree.{der};
 ghost use Rattle.asn1_elements.specs.Parts.{IsPart};
+ghost use Rattle.key_functions.specs.declared.functions.Signed.{Signed};
 ghost use Rattle.cms_signed_data.specs.Parts.{content_place, digest_place, signature_place};
-ghost use Rattle.cms_signed_content.specs.SignedContents.{IsSignedContent};
+ghost use Rattle.cms_signed_content.specs.SignedContents.{IsSignedContent, Reads};
+ghost use Rattle.cms_signed_content.specs.WrittenLaws.{written_parts};
 ghost use Rattle.cms_signed_content.specs.SignedParts.{SignedParts, content_of, digest_of, signature_of, attributes_tree};
+ghost use Rattle.cms_signed_content.specs.Written.{IsWritten};
 
+use crate::fault::SignedFault;
 use x509_certificates::Certificate;
 use x509_spelling::Spelled;
 
@@ -26,4 +30,11 @@ pub fn parts_are_spelled()
     ensures content { (bytes : List ℕ) (parts : SignedParts) → IsSignedContent bytes parts → IsPart bytes content_place (element 4 (content_of parts.info)) }
     ensures digest { (bytes : List ℕ) (parts : SignedParts) → IsSignedContent bytes parts → IsPart bytes digest_place (element 4 (digest_of parts.info)) }
     ensures signature { (bytes : List ℕ) (parts : SignedParts) → IsSignedContent bytes parts → IsPart bytes signature_place (element 4 (signature_of parts.info)) }
+{}
+
+/// What is written is read back: type, content, the given certificate, its issuer and serial number, the SHA-256 of the content,
+/// and the signature. It does nothing when it runs: its contract is the law.
+pub fn written_is_read()
+    ensures { (sign : List ℕ → Option Signed) (content_type content given bytes : List ℕ) (w : IsWritten sign content_type content given bytes) (answer : Result SignedParts SignedFault)
+        → Reads (IsSignedContent bytes) answer → (answer ≡ Err SignedFault.Memory) ⊎ (answer ≡ Ok (written_parts sign content_type content given bytes w)) }
 {}

@@ -1,11 +1,15 @@
-//! Signed content of one form, and what is borrowed of its bytes.
-ghost use Rattle.std.specs.Prelude.{◌≡◌, ℕ, IfOk, IsTrue, MatchResult};
+//! Signed content of one form: what is borrowed of its bytes, and how it is written.
+ghost use Rattle.std.specs.Prelude.{◌≡◌, ◌⊎◌, ℕ, IfOk, IsTrue, MatchOption, MatchResult};
 ghost use Rattle.cms_signed_content.specs.SignedContents.{IsSignedContent, Reads};
 ghost use Rattle.cms_signed_content.specs.SignedParts.{as_set, content_of, digest_of, signature_of};
+ghost use Rattle.cms_signed_content.specs.Written.{IsWritten, IsUnsigned, IsNoCertificate};
 
+use crate::around::info_around;
 use crate::fault::SignedFault;
 use crate::slices::Slices;
+use crate::written_parts::{attribute_bytes, signer_bytes, signer_id};
 use cms_signed_data::{ContentInfo, OfForm};
+use key_functions::KeyFunctions;
 use picky_asn1::oid::ObjectIdentifier;
 use picky_asn1::wrapper::IntegerAsn1;
 use std::alloc::{AllocError, Global};
@@ -124,6 +128,33 @@ impl<'a> SignedContent<'a> {
         ensures { result.now ≡ as_set self.now.signed_attributes }
     {
         self.judged.as_slice()
+    }
+
+    /// Signed content in DER around the unchanged bytes of the certificate, with the SHA-256 of the content, signed by `keys`.
+    ///
+    /// `Unreadable` if the bytes are no certificate. `None` if the party doesn't sign.
+    pub fn write<K: KeyFunctions>(
+        alloc: Global,
+        content_type: &ObjectIdentifier,
+        content: &[u8],
+        certificate: &[u8],
+        keys: &K,
+    ) -> Result<Option<Vec<u8>>, SignedFault>
+        ensures { MatchResult result
+            (λ written. MatchOption written
+            (IsUnsigned (K.functions keys.now).sign content_type.now content.now certificate.now)
+            (λ bytes. IsWritten (K.functions keys.now).sign content_type.now content.now certificate.now bytes.items))
+            (λ fault. (fault ≡ SignedFault.Memory) ⊎ ((fault ≡ SignedFault.Unreadable) × IsNoCertificate certificate.now)) }
+    {
+        let id = signer_id(alloc, certificate)?;
+        let attributes = attribute_bytes(alloc, content_type, content)?;
+        let judged = judged_of(alloc, &attributes)?;
+        let Some(signed) = keys.sign(alloc, &judged)? else {
+            return Ok(None);
+        };
+        let signer = signer_bytes(alloc, &id, &attributes, signed)?;
+        let bytes = info_around(alloc, content_type, content, certificate, &signer)?;
+        Ok(Some(bytes))
     }
 }
 
