@@ -5,6 +5,7 @@ pub mod Expected
 pub mod Judged
 pub mod Principals
 pub mod Refusals
+pub mod SignedContents
 pub mod Signers
 pub mod Told
 pub mod Trusted

@@ -1,4 +1,7 @@
 //! What is judged of signed content.
+ghost use Rattle.std.specs.Prelude.{◌≡◌};
+
+use cms_signed_content::SignedContent;
 use picky_asn1::wrapper::IntegerAsn1;
 use x509_algorithms::AlgorithmIdentifier;
 use x509_names::Name;
@@ -22,4 +25,24 @@ pub struct JudgedContent<'a> {
     pub algorithm: &'a AlgorithmIdentifier,
     /// The signature.
     pub signature: &'a [u8],
+}
+
+impl<'a> From<&'a SignedContent<'a>> for JudgedContent<'a> {
+    ghost use Rattle.pkinit_trust.specs.SignedContents.{judged_in};
+    ghost use Rattle.pkinit_trust.specs.Judged.{judged_of};
+
+    ghost from_gives = { λ content judged. judged_of judged ≡ judged_in content.now };
+
+    fn from(content: &'a SignedContent<'a>) -> JudgedContent<'a> {
+        JudgedContent {
+            content: content.content(),
+            certificate: content.certificate(),
+            issuer: content.issuer(),
+            serial: content.serial(),
+            digest: content.digest(),
+            covered: content.judged(),
+            algorithm: content.algorithm(),
+            signature: content.signature(),
+        }
+    }
 }
