@@ -1,5 +1,5 @@
 -- Why each row of a table leaves one outcome at most.
-use Rattle.std.specs.Prelude.{◌≡◌, ◌⊎◌, ℕ, Result, Ok, Err}
+use Rattle.std.specs.Prelude.{◌≡◌, ◌⊎◌, Result, Ok, Err}
 use Rattle.std.proofs.Common.{inl, inr, refl, sym, ◌∙◌, ap, subst}
 
 -- no two values have the property
@@ -27,26 +27,26 @@ pub one_made : {T U : Type 0} (f : T → U) (gives : T → Type 0) → ((a b : T
 one_made f gives one r s p q = p.2 ∙ ap f (one p.0 q.0 p.1 q.1) ∙ sym q.2
 
 -- both are values and the same one, or both are errors and the same one
-abbrev pub AreSame : {A : Type 0} → Result A ℕ → Result A ℕ → Type 0
+abbrev pub AreSame : {A E : Type 0} → Result A E → Result A E → Type 0
 AreSame (Ok a) (Ok b) = a ≡ b
-AreSame (Ok a) (Err code) = ⊥
-AreSame (Err code) (Ok b) = ⊥
-AreSame (Err code) (Err other) = code ≡ other
+AreSame (Ok a) (Err error) = ⊥
+AreSame (Err error) (Ok b) = ⊥
+AreSame (Err error) (Err other) = error ≡ other
 
-pub same_as_itself : {A : Type 0} (r : Result A ℕ) → AreSame r r
+pub same_as_itself : {A E : Type 0} (r : Result A E) → AreSame r r
 same_as_itself (Ok a) = refl
-same_as_itself (Err code) = refl
+same_as_itself (Err error) = refl
 
-pub same_parts : {A : Type 0} (r s : Result A ℕ) → r ≡ s → AreSame r s
+pub same_parts : {A E : Type 0} (r s : Result A E) → r ≡ s → AreSame r s
 same_parts r s e = subst (λ t. AreSame r t) e (same_as_itself r)
 
-pub one_then : {A T : Type 0} (gives : Result A ℕ → Type 0) → ((a b : Result A ℕ) → gives a → gives b → a ≡ b)
-    → (rest : A → Result T ℕ → Type 0) → ((a : A) (r s : Result T ℕ) → rest a r → rest a s → r ≡ s)
-    → (r s : Result T ℕ) → (((a : A) × gives (Ok a) × rest a r) ⊎ ((code : ℕ) × gives (Err code) × (r ≡ Err code)))
-    → (((a : A) × gives (Ok a) × rest a s) ⊎ ((code : ℕ) × gives (Err code) × (s ≡ Err code))) → r ≡ s
-one_then gives one rest rests r s (inl p) (inl q) =
+pub one_then : {A T E F : Type 0} (told : E → F) (gives : Result A E → Type 0) → ((a b : Result A E) → gives a → gives b → a ≡ b)
+    → (rest : A → Result T F → Type 0) → ((a : A) (r s : Result T F) → rest a r → rest a s → r ≡ s)
+    → (r s : Result T F) → (((a : A) × gives (Ok a) × rest a r) ⊎ ((error : E) × gives (Err error) × (r ≡ Err (told error))))
+    → (((a : A) × gives (Ok a) × rest a s) ⊎ ((error : E) × gives (Err error) × (s ≡ Err (told error)))) → r ≡ s
+one_then told gives one rest rests r s (inl p) (inl q) =
     one_found (λ a. gives (Ok a)) rest rests p.0 q.0 (same_parts (Ok p.0) (Ok q.0) (one (Ok p.0) (Ok q.0) p.1 q.1)) r s p.2 q.2
-one_then gives one rest rests r s (inl p) (inr q) = absurd (same_parts (Ok p.0) (Err q.0) (one (Ok p.0) (Err q.0) p.1 q.1))
-one_then gives one rest rests r s (inr p) (inl q) = absurd (same_parts (Ok q.0) (Err p.0) (one (Ok q.0) (Err p.0) q.1 p.1))
-one_then gives one rest rests r s (inr p) (inr q) =
-    p.2 ∙ ap Err (same_parts (Err p.0) (Err q.0) (one (Err p.0) (Err q.0) p.1 q.1)) ∙ sym q.2
+one_then told gives one rest rests r s (inl p) (inr q) = absurd (same_parts (Ok p.0) (Err q.0) (one (Ok p.0) (Err q.0) p.1 q.1))
+one_then told gives one rest rests r s (inr p) (inl q) = absurd (same_parts (Ok q.0) (Err p.0) (one (Ok q.0) (Err p.0) q.1 p.1))
+one_then told gives one rest rests r s (inr p) (inr q) =
+    p.2 ∙ ap (λ error. Err (told error)) (same_parts (Err p.0) (Err q.0) (one (Err p.0) (Err q.0) p.1 q.1)) ∙ sym q.2

@@ -1,5 +1,5 @@
 -- A decision table: a relation with one outcome at most. The first case that holds counts.
-use Rattle.std.specs.Prelude.{◌≡◌, ◌⊎◌, ℕ, Bool, true, false, Option, None, Some, Result, Ok, Err}
+use Rattle.std.specs.Prelude.{◌≡◌, ◌⊎◌, Bool, true, false, Option, None, Some, Result, Ok, Err}
 use Rattle.decision_tables.specs.One.{IsSole, one_done, one_ask, one_found, one_made, one_then}
 
 -- what the table gives, and that it is one outcome at most
@@ -33,10 +33,17 @@ need None error rest = done (Err error)
 need (Some a) error rest = rest a
 
 -- parts of a table: what the first gives, which the following cases read, or the first one's error
-abbrev pub and_then : {A T : Type 0} → Table (Result A ℕ) → (A → Table (Result T ℕ)) → Table (Result T ℕ)
-and_then {A} t rest = record {
-  gives = λ r. ((a : A) × t.gives (Ok a) × (rest a).gives r) ⊎ ((code : ℕ) × t.gives (Err code) × (r ≡ Err code));
-  one = one_then t.gives t.one (λ a. (rest a).gives) (λ a. (rest a).one);
+abbrev pub and_then : {A T E : Type 0} → Table (Result A E) → (A → Table (Result T E)) → Table (Result T E)
+and_then {A} {T} {E} t rest = record {
+  gives = λ r. ((a : A) × t.gives (Ok a) × (rest a).gives r) ⊎ ((error : E) × t.gives (Err error) × (r ≡ Err error));
+  one = one_then (λ error. error) t.gives t.one (λ a. (rest a).gives) (λ a. (rest a).one);
+}
+
+-- the same, where the first part's errors are of another kind, which this table tells as its own
+abbrev pub and_then_told : {A T E F : Type 0} → (E → F) → Table (Result A E) → (A → Table (Result T F)) → Table (Result T F)
+and_then_told {A} {T} {E} {F} told t rest = record {
+  gives = λ r. ((a : A) × t.gives (Ok a) × (rest a).gives r) ⊎ ((error : E) × t.gives (Err error) × (r ≡ Err (told error)));
+  one = one_then told t.gives t.one (λ a. (rest a).gives) (λ a. (rest a).one);
 }
 
 -- the value with the property, which is made, and which the following cases read

@@ -5,7 +5,7 @@ use Rattle.std.specs.List.{list_any}
 use Rattle.std.specs.Cmp.Lexicographic.{pointwise}
 use Rattle.picky_asn1.specs.GeneralizedTime.{seconds_of}
 use Rattle.krb_moments.specs.Units.{Micros, Seconds}
-use Rattle.decision_tables.specs.Tables.{Table, done, refuse}
+use Rattle.decision_tables.specs.Tables.{Table, and_then, done, refuse}
 use Rattle.x509_parts.specs.declared.time.Time.{Time}
 use Rattle.x509_parts.specs.declared.time.Time.TheVariants.{Utc, Generalized}
 use Rattle.x509_parts.specs.declared.validity.Validity.{Validity}
@@ -18,7 +18,6 @@ use Rattle.key_functions.specs.KeyFunctions.{KeysRecord}
 use Rattle.pkinit_trust.specs.Certificates.{ReadRecord, name_bytes}
 use Rattle.pkinit_trust.specs.Expected.{ExpectedRecord}
 use Rattle.pkinit_trust.specs.Principals.{named}
-use Rattle.pkinit_trust.specs.Told.{and_then}
 use Rattle.pkinit_trust.specs.declared.refusal.TrustRefusal.{TrustRefusal}
 use Rattle.pkinit_trust.specs.declared.refusal.TrustRefusal.TheVariants.{InvalidCertificate, CantVerifyCertificate}
 

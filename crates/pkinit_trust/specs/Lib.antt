@@ -7,5 +7,4 @@ pub mod Principals
 pub mod Refusals
 pub mod SignedContents
 pub mod Signers
-pub mod Told
 pub mod Trusted

@@ -1,13 +1,12 @@
 -- Which signed content is trusted, in parts of one table: the first case that holds counts.
 use Rattle.std.specs.Prelude.{Result, Err}
-use Rattle.decision_tables.specs.Tables.{Table, ask, done}
+use Rattle.decision_tables.specs.Tables.{Table, and_then, ask, done}
 use Rattle.key_functions.specs.KeyFunctions.{KeysRecord}
 use Rattle.pkinit_trust.specs.Accepted.{accepted}
 use Rattle.pkinit_trust.specs.Certificates.{IsCertificate, ReadRecord, sole_certificate}
 use Rattle.pkinit_trust.specs.Expected.{ExpectedRecord}
 use Rattle.pkinit_trust.specs.Judged.{JudgedRecord}
 use Rattle.pkinit_trust.specs.Signers.{signed_by}
-use Rattle.pkinit_trust.specs.Told.{and_then}
 use Rattle.pkinit_trust.specs.declared.refusal.TrustRefusal.{TrustRefusal}
 use Rattle.pkinit_trust.specs.declared.refusal.TrustRefusal.TheVariants.{CantVerifyCertificate}
 
