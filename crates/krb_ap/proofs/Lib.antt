@@ -1,5 +1,4 @@
 pub mod Tagged
-pub mod FoundKeys
 pub mod Judged
 mod Suites
 pub mod Presentations

@@ -1,4 +1,3 @@
 pub mod Tagged
 pub mod Outcomes
 pub mod TakingReply
-pub mod FoundKey

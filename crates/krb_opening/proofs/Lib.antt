@@ -1,4 +1,5 @@
 pub mod KeySizes
+pub mod FoundKeys
 pub mod Opening
 mod FilledTexts
 pub mod Reading

@@ -1,6 +1,6 @@
 use Rattle.std.proofs.Common.{SFits, refl, sym, inl, inr, w32, ◌∙◌}
 use Rattle.std.proofs.lemmas.Int.{to_z-of_z}
-use Rattle.krb_ap.proofs.FoundKeys.{key_found, no_key_found}
+use Rattle.krb_opening.proofs.FoundKeys.{key_found, no_key_found}
 use Rattle.krb_ap.proofs.judge.open_under.Goals as goal
 
 pub returns-in_default : goal.returns-in_default

@@ -1,5 +1,6 @@
-use Rattle.krb_client.proofs.FoundKey.{bytes_found}
+use Rattle.std.proofs.Common.{sym}
+use Rattle.krb_opening.proofs.FoundKeys.{key_found}
 use Rattle.krb_client.proofs.credential.Credential.of_reply.Goals as goal
 
 pub with_key-requires : goal.with_key-requires
-with_key-requires c = bytes_found c.args.part.now.key.0 c.args.key c.requires
+with_key-requires c = sym (key_found c.args.part.now.key.0 c.args.key c.requires).1
