@@ -1,4 +1,4 @@
--- An element of any type that is wanted begins with its identifier octet.
+-- An expected element of any type begins with its identifier octet.
 use Rattle.std.proofs.Common.{◌≡◌, ℕ, ◌%◌, ◌≤◌, List, ◌∷◌, ◌++◌, length, Some, sym, ap, subst, ◌∙◌, arith}
 use Rattle.asn1_trees.proofs.Elements.{element-begins, length-element}
 use Rattle.asn1_codec.specs.Reading.{Reading, IsElement}

@@ -94,7 +94,7 @@ pub cause_of : (P : List ℕ → Type 0) (r : Reading) (e : Asn1DerError) → r.
 cause_of P r e sound (inl failed) = absurd (cc (sound, failed))
 cause_of P r e sound (inr cause) = cause
 
--- behind what was taken, what is wanted first of the wanted bytes
+-- after the bytes `a` were taken, expected bytes `P` continue with bytes `Q`
 abbrev pub Cuts : (P Q : List ℕ → Type 0) → List ℕ → ℕ → Type 0
 Cuts P Q a limit = (bytes rest more : List ℕ) → P bytes → bytes ++ rest ≡ a ++ more → length bytes ≤ limit
     → (c d : List ℕ) × Q c × (more ≡ c ++ d) × (length a + length c ≤ length bytes)
@@ -168,7 +168,7 @@ front_cause P Q old e front (inr (inr missing)) =
     let fits : length parts.0 ≤ old.limit = omega (arith, within, ap length parts.3, length-append parts.0 parts.1) in
     missing parts.0 (parts.1 ++ rest) parts.2 (left ∙ ap (λ l. Some (l ++ rest)) parts.3 ∙ ap Some (append_assoc parts.0 parts.1 rest)) fits))
 
--- what was refused is a front of what is wanted
+-- refusing `Q` refuses `P`, if all bytes of `P` begin with bytes of `Q`
 pub refused-front : (P Q : List ℕ → Type 0) (old new : Reading) (e : Asn1DerError) → Refused Q old new e
     → ((bytes : List ℕ) → P bytes → (c d : List ℕ) × Q c × (bytes ≡ c ++ d)) → Refused P old new e
 refused-front P Q old new e refused front = record {
@@ -186,7 +186,7 @@ as_cause P Q old e each (inl failed) = inl failed
 as_cause P Q old e each (inr (inl excuse)) = inr (inl excuse)
 as_cause P Q old e each (inr (inr missing)) = inr (inr (λ bytes rest p left within. missing bytes rest (each bytes p) left within))
 
--- what was refused is wanted under another name
+-- refusing `Q` refuses `P`, if all bytes of `P` are bytes of `Q`
 pub refused-as : (P Q : List ℕ → Type 0) (old new : Reading) (e : Asn1DerError) → Refused Q old new e
     → ((bytes : List ℕ) → P bytes → Q bytes) → Refused P old new e
 refused-as P Q old new e refused each = record {
@@ -258,7 +258,7 @@ pub refused-stop : (P : List ℕ → Type 0) (old new : Reading) (e k : Asn1DerE
 refused-stop P old new e k sound is fault own cause =
     refused-own P old new e k sound (ap (λ r. r.failed) is) (ap (λ r. r.faults) is) (ap (λ r. r.through) is) fault own cause
 
--- an own refusal behind what was taken, since what was taken begins nothing that is wanted
+-- a refusal of the reader's own after `a` was taken, if no input begins both with `a` and with bytes of `P`
 pub refused-taken : (P : List ℕ → Type 0) (a : List ℕ) (old mid new : Reading) (e k : Asn1DerError) → Took a old mid → new ≡ stopped mid → e ≡ k
     → IsOwn k
     → ((bytes rest more : List ℕ) → P bytes → bytes ++ rest ≡ a ++ more → length bytes ≤ old.limit → ⊥) → Refused P old new e
@@ -320,7 +320,7 @@ known_cause P Q old e front (inr (inr missing)) =
     let fits : length parts.0 ≤ old.limit = omega (arith, within, ap length parts.3, length-append parts.0 parts.1) in
     missing parts.0 (parts.1 ++ rest) parts.2 (left ∙ ap (λ l. Some (l ++ rest)) parts.3 ∙ ap Some (append_assoc parts.0 parts.1 rest)) fits))
 
--- what was refused is a front of what is wanted, where that is what is next
+-- refusing `Q` refuses `P`, if the bytes of `P` that come next begin with bytes of `Q`
 pub refused-known : (P Q : List ℕ → Type 0) (old new : Reading) (e : Asn1DerError) → Refused Q old new e
     → ((bytes rest : List ℕ) → P bytes → old.left ≡ Some (bytes ++ rest) → length bytes ≤ old.limit → (c d : List ℕ) × Q c × (bytes ≡ c ++ d))
     → Refused P old new e
@@ -333,7 +333,7 @@ refused-known P Q old new e refused front = record {
   cause = known_cause P Q old e front refused.cause;
 }
 
--- an own refusal for want of memory, behind what was taken
+-- memory ran out after `a` was taken
 pub refused-memory : (P : List ℕ → Type 0) (a : List ℕ) (old mid new : Reading) (e : Asn1DerError) → Took a old mid → new ≡ stopped mid → e ≡ Memory
     → Refused P old new e
 refused-memory P a old mid new e took is fault =

@@ -1,4 +1,4 @@
--- What is wanted behind the fields that were read.
+-- What is expected after the fields that were read.
 use Rattle.std.proofs.Common.{◌≡◌, ℕ, ◌+◌, ◌<◌, ◌≤◌, Bool, true, false, List, [], ◌∷◌, ◌++◌, length, Option, None, Some, refl, sym, ap, subst, ◌∙◌, arith, length-append, append_assoc, append-nil}
 use Rattle.std.specs.Prelude.{IsTrue}
 use Rattle.asn1_trees.specs.Tree.{Tree, Trees, more, der, ders, put, trees_of, IsWhole, AreWhole}

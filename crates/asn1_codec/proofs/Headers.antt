@@ -75,7 +75,7 @@ header_sizes tag count bytes content is same =
     let count_is : length (length_octets (length content)) ≡ length (length_octets count) = ap (λ n. length (length_octets n)) same in
     omega (arith, sizes, ap length is, count_is)
 
--- the octets that were filled in stand behind the first
+-- the octets that were read into the buffer follow the first
 pub filled_size : (more : ℕ) (old new : List ℕ) → more ≤ 8 → length old ≡ 8 → length new ≡ length (take (1 + more - 1) old) → length new ≡ more
 filled_size more old new small room same = omega (arith, length-take (1 + more - 1) old)
 

@@ -98,7 +98,7 @@ missing_all reads input old fault is missing =
           absurd (missing input [] (value, also, size) (ap (λ r. r.left) is ∙ ap Some (sym (append-nil input))) fits),
     ))
 
--- want of memory, or what is missing: a source that counted no failure is no cause
+-- memory ran out, or bytes are missing: a source that counted no failure isn't the cause
 by_cause_all : {T : Type 0} (reads : T → List ℕ → Type 0) (input : List ℕ) (fault : Asn1DerError) → IsOwn fault → IsExcuse fault → ReadsWhole {T = T} reads input (Err fault)
 by_cause_all reads input Memory own excuse = inl refl
 by_cause_all reads input (Other k) own excuse = absurd own

@@ -1,4 +1,4 @@
--- A result that is handed on as it stands: what is known of its value, or of its fault, serves for what is wanted.
+-- A result that is returned unchanged: what holds of its value or fault implies what is required.
 use Rattle.std.proofs.Common.{◌≡◌, Bool, true, false, Result, Ok, Err, MatchResult}
 use Rattle.std.proofs.lemmas.Bool.{false≢true}
 use Rattle.std.specs.Result.{is_err}

@@ -56,7 +56,7 @@ wrote-same a old mid new p is = subst (Wrote a old) (sym is) p
 pub wrote-from : (a : List ℕ) (old mid new : Writing) → mid ≡ old → Wrote a mid new → Wrote a old new
 wrote-from a old mid new is p = subst (λ w. Wrote a w new) is p
 
--- where lengths alone are wanted, all is as if written
+-- where only lengths are computed, any bytes count as written
 pub wrote-measured : (bytes : List ℕ) (old : Writing) → old.held ≡ None → old.room ≡ None → old.failed ≡ false → Wrote bytes old old
 wrote-measured bytes old none endless sound = record {
   held = subst (λ h. Appends h old.held bytes) (sym none) tt;

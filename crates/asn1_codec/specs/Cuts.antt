@@ -4,7 +4,7 @@ use Rattle.std.specs.Prelude.{◌≡◌, ℕ, ◌≤◌, List, ◌++◌, length,
 use Rattle.asn1_octets.specs.declared.error.Asn1DerError.{Asn1DerError}
 use Rattle.asn1_codec.specs.Reading.{IsExcuse, IsNotNext, IsReadBy}
 
--- the bytes begin with some that are read as the value, of at most so many, and this rest stands behind them
+-- the input begins with bytes that are read as the value, at most `limit` of them; `rest` follows them
 abbrev pub BeginsWithin : {T : Type 0} → (T → List ℕ → Type 0) → ℕ → T → List ℕ → List ℕ → Type 0
 BeginsWithin reads limit value input rest =
     (bytes : List ℕ) × reads value bytes × (length bytes ≤ limit) × (input ≡ bytes ++ rest)
@@ -14,11 +14,11 @@ abbrev pub TakesNext : {T : Type 0} → (T → List ℕ → Type 0) → ℕ → 
 TakesNext reads limit old new value =
     (bytes : List ℕ) × reads value bytes × (length bytes ≤ limit) × Consumes old new bytes
 
--- the memory or the source was wanting, or no such bytes are next
+-- memory ran out, the source failed, or no such bytes are next
 abbrev pub MissesNext : {T : Type 0} → (T → List ℕ → Type 0) → ℕ → Option (List ℕ) → Asn1DerError → Type 0
 MissesNext reads limit old fault = IsExcuse fault ⊎ IsNotNext (IsReadBy reads) old limit
 
--- the memory or the source was wanting
+-- memory ran out, or the source failed
 abbrev pub IsExcused : {T : Type 0} → Result T Asn1DerError → Type 0
 IsExcused (Ok value) = ⊥
 IsExcused (Err fault) = IsExcuse fault

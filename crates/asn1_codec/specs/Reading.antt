@@ -57,7 +57,7 @@ IsNotNext P left limit = (bytes rest : List ℕ) → P bytes → left ≡ Some (
 abbrev pub IsMissing : (List ℕ → Type 0) → Reading → Type 0
 IsMissing P old = IsNotNext P old.left old.limit
 
--- the memory or the source was wanting
+-- memory ran out, or the source failed
 abbrev pub IsExcuse : Asn1DerError → Type 0
 IsExcuse Memory = ⊤
 IsExcuse (Other kind) = ⊤
@@ -82,8 +82,8 @@ abbrev pub result_faults : {T : Type 0} → Result T Asn1DerError → ℕ → �
 result_faults (Ok value) faults = faults
 result_faults (Err fault) faults = faults_after fault faults
 
--- a call for such bytes was refused: as each call is after a refusal, else for want of memory or by the
--- source's fault, else since no such bytes are next
+-- a call for such bytes failed: an earlier call had failed, memory ran out, the source had a fault, or no such
+-- bytes come next
 pub record Refused (P : List ℕ → Type 0) (old new : Reading) (fault : Asn1DerError) : Type 0 where
   pub failed : new.failed ≡ true
   pub faults : new.faults ≡ faults_after fault old.faults

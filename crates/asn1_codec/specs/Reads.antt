@@ -13,13 +13,13 @@ IsOneValue {T} reads =
 abbrev pub BeginsBy : {T : Type 0} → (T → List ℕ → Type 0) → T → List ℕ → Type 0
 BeginsBy reads value input = (bytes rest : List ℕ) × reads value bytes × (input ≡ bytes ++ rest)
 
--- the value that the input's front is read as, and no other; or want of memory
+-- either memory ran out, or the answer is a value if and only if the input begins with bytes that are read as it
 abbrev pub ReadsFront : {T : Type 0} → (T → List ℕ → Type 0) → List ℕ → Result T Asn1DerError → Type 0
 ReadsFront {T} reads input answer =
     (answer ≡ Err Memory)
     ⊎ ((value : T) → (answer ≡ Ok value → BeginsBy reads value input) × (BeginsBy reads value input → answer ≡ Ok value))
 
--- the value that the whole input is read as, and no other; or want of memory
+-- either memory ran out, or the answer is a value if and only if the whole input is read as it
 abbrev pub ReadsWhole : {T : Type 0} → (T → List ℕ → Type 0) → List ℕ → Result T Asn1DerError → Type 0
 ReadsWhole {T} reads input answer =
     (answer ≡ Err Memory)

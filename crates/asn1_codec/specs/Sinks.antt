@@ -9,12 +9,12 @@ sink_fault whole.Full = InvalidSink
 sink_fault (whole.Failed kind) = Other kind
 sink_fault whole.Memory = Memory
 
--- the fault for a length that no number says, in place of want of memory
+-- the fault for a length of 2^64 or more: `UnsupportedValue` in place of `Memory`
 abbrev pub as_too_long : Asn1DerError → Asn1DerError
 as_too_long Memory = UnsupportedValue
 as_too_long fault = fault
 
--- the fault of a write into a slice, in place of want of memory
+-- the fault of a write into a slice: `InvalidSink` in place of `Memory`
 abbrev pub as_full : Asn1DerError → Asn1DerError
 as_full Memory = InvalidSink
 as_full fault = fault

@@ -36,9 +36,8 @@ pub record Wrote (bytes : List ℕ) (old new : Writing) : Type 0 where
 abbrev pub IsTooLong : List ℕ → Type 0
 IsTooLong bytes = 2 ^ 64 ≤ length bytes
 
--- a fault of the sink, or want of memory, of a call that was to write these bytes: a failed call has the sink's own
--- kind, and none fails where the room is known; the sink is full where the bytes are past its room; and memory is
--- wanted where the sink grows, or for a length that no number says
+-- How a call that was to write these bytes may fail. `Memory`: the sink grows, or the bytes are 2^64 or more. The sink's own
+-- kind: its room is unbounded. `InvalidSink`: the bytes exceed its room.
 abbrev pub IsSinkFault : List ℕ → Writing → Writing → Asn1DerError → Type 0
 IsSinkFault bytes old new Memory = (new.faults ≡ old.faults) × (IsTrue old.grows ⊎ IsTooLong bytes)
 IsSinkFault bytes old new (Other kind) = (new.faults ≡ one_more old.faults) × (new.kind ≡ Some kind) × IsUnbounded old.room
@@ -93,7 +92,7 @@ Measured refusal bytes count = (count ≡ length bytes) × (refusal ≡ None)
 abbrev pub NotMeasured : Asn1DerError → Option Unsupported → List ℕ → Asn1DerError → Type 0
 NotMeasured too_long refusal bytes fault = RefusedAs refusal fault ⊎ ((fault ≡ too_long) × IsTooLong bytes)
 
--- what a fault leaves where nothing was written: want of memory fails the writing
+-- what a fault that wrote nothing leaves: `Memory` halts the writing, another fault changes nothing
 abbrev pub left_by : Asn1DerError → Writing → Writing
 left_by Memory w = halted w
 left_by fault w = w

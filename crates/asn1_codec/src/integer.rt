@@ -85,7 +85,7 @@ fn check_unsigned(content: &[u8]) -> Result<(), Asn1DerError>
 /// The content octets of one number: one to seventeen of them.
 #[derive(Drop)]
 struct UnsignedContent {
-    // The octets fill the end of the array, since the last digit is known first.
+    // The octets are at the end of the array, since the last digit is known first.
     octets: [u8; 17],
     start: usize,
 }

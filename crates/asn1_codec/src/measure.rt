@@ -66,7 +66,7 @@ pub(crate) fn encoded_len<T: Serialize>(value: &T) -> Result<usize, Asn1DerError
     }
 }
 
-/// The fault for a value whose length no number says, in place of want of memory.
+/// The fault for a value whose length is 2^64 or more: `UnsupportedValue` in place of `Memory`.
 fn too_long(fault: Asn1DerError) -> Asn1DerError
     ensures { result ≡ as_too_long fault }
 {

@@ -1,8 +1,7 @@
 //! Rows of fields as pairs: `(A, (B, ()))` is an A and then a B.
 //!
-//! A field may be missing as `Optional<Option<A>>`. How a field stands in front of others is told by
-//! [`Item`], for each field alone; `sound` computes whether each optional field is told from what may follow
-//! it by its first octet.
+//! A field may be missing as `Optional<Option<A>>`. [`Item`] says how a single field precedes others. `sound`
+//! computes whether each optional field differs in its first octet from all that may follow it.
 ghost use Rattle.std.specs.Prelude.{◌≡◌, ℕ, Bool, true, false, ◌&&◌, List, [], ◌∷◌, Option, None, MatchResult, IsTrue};
 ghost use Rattle.asn1_trees.specs.Tree.{Tree, Trees, none, more, der, ders, IsWhole, AreWhole, put};
 ghost use Rattle.asn1_trees.specs.Firsts.{Firsts, one_of, may_begin, either, apart};

@@ -14,9 +14,9 @@ use devices::{Sink, Source};
 
 /// A type whose values have the identifier octet `FIRST`, and are read and written under any other too.
 ///
-/// A value is told by its row: the fields of a SEQUENCE, and of another type what its content says. Nothing
-/// else is wanted of a type to be read and written. A type that refuses to write values says by `refuses` which and
-/// how; most refuse none.
+/// A row describes a value: the fields of a SEQUENCE, or what the content of another type says. A type needs
+/// nothing else to be read and written. A type that refuses to write some values says by `refuses` which and how;
+/// most refuse none.
 pub trait Tagged: Sized {
     ghost use Rattle.asn1_codec.specs.Reading.{Reading, TookValue, IsSpelling, Refused};
     ghost use Rattle.asn1_octets.specs.declared.error.Unsupported.{Unsupported};

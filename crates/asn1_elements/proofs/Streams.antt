@@ -101,7 +101,7 @@ next_length old mid new first count n read rest took also follows few is =
     let whole : first ∷ read ≡ length_octets n = is ∙ ap (λ l. length_octets n ++ l) (nothing rest ended) ∙ append-nil (length_octets n) in
     subst (λ (l : List ℕ). Consumes old new l) whole (Consumes-trans old mid new (first ∷ []) read took also)
 
--- the octets that were read stand behind the first
+-- the octets that were read follow the first
 pub read_part : (first count : ℕ) (new post : List ℕ) → count ≤ length new → take (1 + count) (first ∷ (new ++ post)) ≡ first ∷ take count new
 read_part first count new post fits =
     let step : 1 + count ≡ suc count = omega arith in

@@ -56,11 +56,11 @@ impl<'a> Element<'a> {
     }
 }
 
-/// The element that begins the input, and what stands behind it. It takes no memory.
+/// Returns the element that begins the input, and the bytes after it. It takes no memory.
 ///
-/// Where no element begins the input, it answers `TruncatedData` if further bytes could make one of it, else
-/// `InvalidData`: for a tag of several octets, for an indefinite length, and for a length in more octets than it needs
-/// or of 2^64 and more.
+/// If no element begins the input, the error is `TruncatedData` where further bytes could complete one. Else it is
+/// `InvalidData`: the tag has several octets, or the length is indefinite, in more octets than it needs, or 2^64 and
+/// more.
 pub fn split_element(input: &[u8]) -> Result<(Element<'_>, &[u8]), Asn1DerError>
     ensures { MatchResult result
         (λ split. IsStep input.now split.0 split.1.now)
@@ -81,7 +81,7 @@ pub fn split_element(input: &[u8]) -> Result<(Element<'_>, &[u8]), Asn1DerError>
     Ok((element, rest))
 }
 
-// The identifier octet that begins the input, and what stands behind it.
+// The identifier octet that begins the input, and the bytes after it.
 fn split_identifier(input: &[u8]) -> Result<(u8, &[u8]), Asn1DerError>
     ensures { MatchResult result
         (λ split. (has_low_number split.0 ≡ true) × (input.now ≡ split.0 ∷ split.1.now))
@@ -96,7 +96,7 @@ fn split_identifier(input: &[u8]) -> Result<(u8, &[u8]), Asn1DerError>
     Ok((*first, behind))
 }
 
-// The length whose octets begin the input, and what stands behind them.
+// The length that the first octets of the input encode, and the bytes after them.
 pub(crate) fn split_length(input: &[u8]) -> Result<(usize, &[u8]), Asn1DerError>
     ensures { MatchResult result
         (λ split. (split.0 < 2 ^ 64) × (input.now ≡ length_octets split.0 ++ split.1.now))

@@ -8,7 +8,7 @@ use Rattle.jiff.specs.Types.{Date}
 use Rattle.jiff.proofs.Family.{epoch_day_injective, days_from_civil-day, days_from_civil-next_month, days_from_civil-next_year, days_from_civil-max}
 use Rattle.asn1_leaves.specs.Calendar.{is_leap_year, days_in_month, IsCalendarDate, days_before_year, days_of_months, day_number, day_number-9999-12-31}
 
--- a numbering of the dates that goes up by one from each day to the next
+-- a numbering of the dates that increases by one from each day to the next
 record CountsDays (f : ℤ → ℕ → ℕ → ℤ) : Type 0 where
   day : (y : ℤ) (m d e : ℕ) → 1 ≤ d → 1 ≤ e → f y m d +ℤ pos e ≡ f y m e +ℤ pos d
   month : (y : ℤ) (m d : ℕ) → 1 ≤ m → d ≡ month_length y m → f y (m + 1) 1 ≡ f y m d +ℤ pos 1

@@ -3,7 +3,7 @@ use Rattle.std.specs.Prelude.{◌≡◌, ◌≢◌, ℕ, List, Option, MatchOpti
 use Rattle.asn1_leaves.specs.declared.fault.LeafFault.{LeafFault}
 use Rattle.asn1_leaves.specs.declared.fault.LeafFault.TheVariants.{Memory}
 
--- the value where the condition holds, and the fault where it doesn't; or want of memory
+-- the value if the condition holds, and the fault if it doesn't; or memory ran out
 abbrev pub Makes : {T : Type 0} → Type 0 → LeafFault → T → Result T LeafFault → Type 0
 Makes condition fault value answer =
     MatchResult answer (λ made. condition × (made ≡ value)) (λ e. (e ≡ Memory) ⊎ ((e ≡ fault) × ¬ condition))

@@ -68,7 +68,7 @@ part_there a c p leads = subst (λ (l : List ℕ). IsPart a l c) (append-nil p) 
 pub held_at : (first : ℕ) (content b : List ℕ) → has_low_number first ≡ true → IsElement content → b ≡ element first content → LeadsTo b (0 ∷ []) content
 held_at first content b low e is = in_element first content b low is 0 content (at_alone content e)
 
--- the same, where nothing stands behind it
+-- the same, if nothing follows it
 pub alone_at : (first : ℕ) (content b : List ℕ) → has_low_number first ≡ true → IsElement content → b ≡ element first (content ++ []) → LeadsTo b (0 ∷ []) content
 alone_at first content b low e is = in_element first (content ++ []) b low is 0 content (at_front content [] (content ++ []) e refl ([], refl))
 

@@ -11,7 +11,7 @@ const MOST_DIGITS: usize = 8;
 /// The length octets of one length: one to nine of them.
 #[derive(Drop, Debug)]
 pub struct LengthOctets {
-    // The octets fill the end of the array, since the last digit is known first.
+    // The octets are at the end of the array, since the last digit is known first.
     octets: [u8; 9],
     start: usize,
 }

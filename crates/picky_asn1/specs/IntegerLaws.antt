@@ -51,7 +51,7 @@ complement-twice (x ∷ xs) h =
     let same : 255 - (255 - x) ≡ x = omega (arith, h.0) in
     rw (same, complement-twice xs h.1) refl
 
--- the first octet tells the sign
+-- the first octet says the sign
 pub integer_value-low : (octets : List ℕ) → get_or octets 0 0 < 128 → integer_value octets ≡ pos (number_from_digits 256 octets)
 unfolding integer_value
 integer_value-low octets low =

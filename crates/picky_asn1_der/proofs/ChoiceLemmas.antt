@@ -1,4 +1,4 @@
--- What is wanted of a choice, where its first alternative begins and where it doesn't.
+-- What is required of a choice, where its first alternative begins and where it doesn't.
 use Rattle.std.proofs.Common.{◌≡◌, ℕ, ◌≤◌, true, false, List, [], ◌++◌, length, Some, sym, ap, subst, ◌∙◌, arith, append-nil}
 use Rattle.asn1_trees.specs.Tree.{Tree, der, Writes}
 use Rattle.asn1_trees.specs.Firsts.{Firsts, may_begin, apart}

@@ -1,4 +1,4 @@
--- An element that is wanted begins with its identifier octet.
+-- An element that is expected begins with its identifier octet.
 use Rattle.std.proofs.Common.{◌≡◌, ℕ, true, List, ◌∷◌, ◌++◌, Some, sym, ap, subst, ◌∙◌}
 use Rattle.asn1_trees.proofs.Elements.{element-begins}
 use Rattle.asn1_trees.proofs.Leaf.{leaf-whole, der-leaf}

@@ -1,7 +1,7 @@
 //! Canonical DER of typed values (X.690).
 //!
 //! [`from_bytes`] reads a value from its one spelling, and [`to_vec`] writes it. A struct names its fields once, as a
-//! row of pairs, and is read and written through it ([`Tagged`]); docs/DER.md tells how a type is written.
+//! row of pairs, and is read and written through it ([`Tagged`]); docs/DER.md says how a type is written.
 #![tactic(auto)]
 
 ghost use Rattle.std.specs.Prelude.{◌≡◌};

@@ -1,7 +1,7 @@
 //! X.509 values under the names and paths of the ported crate.
 //!
-//! [`from_bytes`] reads a value from every spelling that is accepted for it, [`deviations`] counts what deviates there,
-//! [`to_vec`] writes the strict spelling, and [`encoded_len`] tells its length.
+//! [`from_bytes`] reads a value from every spelling that is accepted for it. [`deviations`] counts what deviates there.
+//! [`to_vec`] writes the strict spelling, and [`encoded_len`] returns its length.
 #![tactic(auto)]
 
 pub use picky_asn1::oid;

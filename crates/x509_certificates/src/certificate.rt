@@ -58,7 +58,7 @@ impl Certificate {
         self.tbs_certificate.extensions.as_slice()
     }
 
-    /// What tells the subject's key apart, of the first extension that says it.
+    /// The subject's key identifier, from the first extension that has one.
     pub fn subject_key_identifier(&self) -> Option<&SubjectKeyIdentifier>
         ensures { MatchOption result
             (first_among key_held (extensions_in self.now.tbs_certificate.extensions.tagged.0) ≡ None)

@@ -54,7 +54,7 @@ uncounted (Some k) (Some i) (Some s) = refl
 pub authority_uncounted : (v : AuthorityKeyIdentifier) → authority_count (fields_of v) ≡ 0
 authority_uncounted v = uncounted v.key_identifier.0 v.authority_cert_issuer.0 v.authority_cert_serial_number.0
 
--- where nothing deviates once a field stands in front, it doesn't stand behind, nor does one of lesser tag
+-- if nothing deviates with a field in front, the fields after it have neither its tag nor a lower one
 sums : (d r x : ℕ) → d + (r + x) ≡ 0 → (d ≡ 0) × (r ≡ 0) × (x ≡ 0)
 sums d r x e = (omega (arith, e), omega (arith, e), omega (arith, e))
 

@@ -12,7 +12,7 @@ use picky_asn1_der::{
 use x509_names::GeneralName;
 use x509_spelling::Exact;
 
-/// A field of an authority key identifier. They are told by their tags.
+/// A field of an authority key identifier. Their tags distinguish them.
 #[derive(Drop)]
 pub enum AuthorityField {
     /// The key's identifier.

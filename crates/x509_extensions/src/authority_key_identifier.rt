@@ -66,7 +66,7 @@ impl AuthorityKeyIdentifier {
         }
     }
 
-    /// What tells the key apart.
+    /// The `keyIdentifier` of the issuer's key.
     pub fn key_identifier(&self) -> Option<&OctetStringAsn1>
         ensures { MatchOption result
             (self.now.key_identifier.0 ≡ None)
@@ -275,7 +275,7 @@ fn is_there<T>(field: &Option<T>) -> bool
     }
 }
 
-// The field that stands behind, where one does.
+// Of two fields of one tag, the later one. If none follows, this field.
 fn kept<T>(behind: Option<T>, field: T) -> Option<T>
 where
     T: Drop,

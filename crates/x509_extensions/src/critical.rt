@@ -6,7 +6,7 @@ use picky_asn1_der::{Asn1DerError, Deserializer, HasDefault, Serializer, Tagged}
 use std::alloc::{AllocError, Global};
 use x509_spelling::{Deviates, Exact};
 
-/// Whether who doesn't know an extension has to refuse its certificate: FALSE by default.
+/// Whether an extension is critical: a verifier that doesn't recognise it must reject the certificate. FALSE by default.
 #[derive(Clone, Copy, Debug, PartialEq, Eq)]
 pub struct Critical(pub bool);
 

@@ -47,7 +47,7 @@ impl Extension {
         &self.extn_id
     }
 
-    /// Whether who doesn't know the extension has to refuse the certificate.
+    /// Whether the extension is critical: a verifier that doesn't recognise it must reject the certificate.
     pub fn critical(&self) -> bool
         ensures { result ≡ self.now.critical.0.0 }
     {

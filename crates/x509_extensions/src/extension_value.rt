@@ -10,10 +10,10 @@ use x509_names::GeneralNames;
 use x509_parts::BasicConstraints;
 use x509_usages::{ExtendedKeyUsage, KeyUsage};
 
-/// What tells a key apart (RFC 5280, section 4.2.1.1).
+/// Identifies a key (RFC 5280, section 4.2.1.1).
 pub type KeyIdentifier = OctetStringAsn1;
 
-/// What tells the subject's key apart (RFC 5280, section 4.2.1.2).
+/// Identifies the subject's key (RFC 5280, section 4.2.1.2).
 pub type SubjectKeyIdentifier = OctetStringAsn1;
 
 /// Further names of the subject (RFC 5280, section 4.2.1.6).

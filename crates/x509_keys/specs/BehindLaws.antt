@@ -1,4 +1,4 @@
--- Fields of which a value decides the kind are told also where another field stands in front of them.
+-- The laws of a row of a field, a value, and fields whose kind that value decides.
 use Rattle.std.proofs.Common.{◌≡◌, ℕ, Bool, true, List, refl, ap}
 use Rattle.std.specs.Prelude.{IsTrue}
 use mathlib.Core.HLevel.{is_prop→PathP}

@@ -18,7 +18,7 @@ pub trait Identified: Spelled {
         ensures { result.now ≡ arcs_of self.now };
 }
 
-/// A value and the fields of the kind that its identifier tells, which take up all of a content.
+/// A value and the fields of the kind that its identifier denotes, which take up all of a content.
 pub fn read_chosen<A: Identified, K: Kinds>(
     alloc: Global,
     content: &[u8],

@@ -1,4 +1,4 @@
-//! The object identifiers of keys, each of which tells a kind.
+//! The object identifiers of keys, each of which denotes a kind.
 ghost use Rattle.std.specs.Prelude.{◌≡◌};
 ghost use Rattle.x509_keys.specs.KeyIdentifiers.{is_rsa, is_elliptic, is_named_curve, is_mldsa};
 

@@ -49,8 +49,8 @@ pub laws_injective : {T : Type 0} (is_low : Bool) (firsts : Firsts) (tree : T �
 laws_injective is_low firsts tree spells laws v w whole also e =
     (laws.one v w (der (tree w)) 0 0 (subst (λ (b : List ℕ). spells v b 0) e (laws.strict v whole)) (laws.strict w also)).0
 
--- A value that what is read makes: `value_of` tells it, and `strict_of` is what it is written from. Each other thing read that makes
--- it has own deviations.
+-- A value made of what is read: `value_of` makes it, and it is written as `strict_of`. Whatever else is read for the same value has
+-- deviations of its own.
 module _ {R T : Type 0} (is_low : Bool) (firsts : Firsts) (tree : R → Tree) (spells : R → List ℕ → ℕ → Type 0) (laws : SpellingLaws is_low firsts tree spells)
     (value_of : R → T) (own_count : R → ℕ) (strict_of : T → R) where
   pub made_laws : ((v : T) → value_of (strict_of v) ≡ v) → ((v : T) → own_count (strict_of v) ≡ 0) → ((r : R) → own_count r ≡ 0 → r ≡ strict_of (value_of r))

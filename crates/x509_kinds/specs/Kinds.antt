@@ -4,7 +4,7 @@ use Rattle.asn1_trees.specs.Tree.{Trees}
 use Rattle.x509_kinds.specs.declared.kinds.KindOf.{KindOf}
 use Rattle.x509_kinds.specs.declared.kinds.KindOf.TheVariants.{This, Other}
 
--- the identifier tells the first kind, or else one of the others
+-- the identifier denotes the first kind, or else one of the others
 abbrev pub case_belongs : {A B : Type 0} → (List ℕ → Bool) → (List ℕ → B → Bool) → List ℕ → KindOf A B → Bool
 case_belongs is_told others arcs (This fields) = is_told arcs
 case_belongs is_told others arcs (Other fields) = not (is_told arcs) && others arcs fields

@@ -12,16 +12,16 @@ use picky_asn1_der::{Asn1DerError, Serializer, WriteFields};
 use std::alloc::Global;
 use x509_spelling::{Counted, SpelledFields, SpelledItem, X509Fault, sum_of};
 
-/// Fields of one kind, with the object identifiers that tell it.
+/// Fields of one kind, with the object identifiers that denote it.
 pub trait Kind: SpelledFields {
     ghost told_by: { List ℕ → Bool };
 
-    /// Whether the identifier tells this kind.
+    /// Whether the identifier denotes this kind.
     fn is_told_by(oid: &ObjectIdentifier) -> bool
         ensures { result ≡ told_by oid.now };
 }
 
-/// Fields of one of some kinds: of the first that the object identifier in front of them tells.
+/// Fields of one of some kinds: of the first that the object identifier before them denotes.
 pub trait Kinds: Sized + Drop {
     ghost belongs: { List ℕ → Self → Bool };
 
@@ -35,7 +35,7 @@ pub trait Kinds: Sized + Drop {
 
     ghost kind_laws: { IsTrue is_sound → KindLaws belongs row_firsts row_trees spells };
 
-    /// The fields of the kind that the identifier tells, and how many deviations stand there.
+    /// The fields of the kind that the identifier denotes, and their number of deviations.
     fn read_kind(
         alloc: Global,
         oid: &ObjectIdentifier,

@@ -14,7 +14,7 @@ use std::marker::Model;
 use x509_parts::DirectoryString;
 use x509_spelling::Exact;
 
-/// Attributes that tell an entry from its siblings. Their order is kept as given.
+/// Attributes that distinguish an entry from its siblings. Their order is kept as given.
 ///
 /// ```text
 /// RelativeDistinguishedName ::= SET SIZE (1..MAX) OF AttributeTypeAndValue

@@ -9,7 +9,7 @@ use picky_asn1_der::{
 };
 use x509_spelling::Exact;
 
-/// A name of a kind that an object identifier tells, as a Kerberos principal is.
+/// A name of a kind that an object identifier denotes, as a Kerberos principal is.
 ///
 /// ```text
 /// OtherName ::= SEQUENCE {

@@ -1,5 +1,5 @@
-//! The object identifiers that X.509 values and their neighbours are told by: each constant is the dotted text, and the
-//! function of the same name in small letters answers the identifier.
+//! The object identifiers of X.509 values and their neighbours. Each constant is the dotted text, and the function of the
+//! same name in small letters returns the identifier.
 #![tactic(auto)]
 
 ghost use Rattle.std.specs.Prelude.{◌≡◌, IfOk};

@@ -3,7 +3,7 @@ ghost use Rattle.std.specs.Prelude.{◌≡◌};
 ghost use Rattle.x509_parameters.specs.Arcs as arcs;
 ghost use Rattle.x509_parameters.specs.Arcs.{nist_hashes};
 
-/// The one octet that stands behind the prefix, where the content is no more than these.
+/// The one octet that follows the prefix, if the content is just these.
 pub fn octet_behind(prefix: &[u8], content: &[u8]) -> Option<u8>
     ensures { result ≡ arcs.octet_behind prefix.now content.now }
 {

@@ -16,7 +16,7 @@ use std::alloc::{AllocError, Global};
 /// HashAlgorithm ::= AlgorithmIdentifier { {OAEP-PSSDigestAlgorithms} }
 /// ```
 ///
-/// NULL stands behind its identifier; where it is missing that deviates.
+/// NULL follows its identifier. A missing NULL deviates.
 #[derive(Clone, Copy, Debug, PartialEq, Eq)]
 pub enum HashAlgorithm {
     /// SHA-224.

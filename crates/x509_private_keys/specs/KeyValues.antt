@@ -17,7 +17,7 @@ value_tree rsa ec ed (kind.Rsa key) = wrapped 4 (rsa key.0)
 value_tree rsa ec ed (kind.EC key) = wrapped 4 (ec key.0)
 value_tree rsa ec ed (kind.ED key) = wrapped 4 (ed key.0)
 
--- what stands behind the first part
+-- what follows the first part
 abbrev rest_of_parts : Trees → Trees
 rest_of_parts (more part parts) = parts
 rest_of_parts (bare octet parts) = none

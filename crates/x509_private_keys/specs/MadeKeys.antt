@@ -11,7 +11,7 @@ use Rattle.x509_private_keys.specs.PublicKeyFields.{key_of_field}
 use Rattle.x509_private_keys.specs.declared.private_key_fields.PrivateKeyFields.{PrivateKeyFields}
 use Rattle.x509_private_keys.specs.declared.private_key_value.PrivateKeyValue.{PrivateKeyValue}
 
--- the key has this algorithm, this private key and this public one, and the version that goes with the latter
+-- the key has this algorithm, this private key and this public key, and the version that belongs to the public key
 pub record AreParts (algorithm : AlgorithmIdentifier) (key : PrivateKeyValue) (public : Option Bits) (made : PrivateKeyFields) : Type 0 where
   pub version : made.version ≡ version_with public
   pub of_algorithm : made.private_key_algorithm ≡ algorithm

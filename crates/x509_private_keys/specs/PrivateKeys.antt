@@ -13,7 +13,7 @@ use Rattle.x509_private_keys.specs.declared.ec_private_key.ECPrivateKey.{ECPriva
 use Rattle.x509_private_keys.specs.declared.private_key_value.PrivateKeyValue.{PrivateKeyValue}
 use Rattle.x509_private_keys.specs.declared.private_key_value.PrivateKeyValue.TheVariants as kind
 
--- a private key in an octet string, and what stands behind it
+-- a private key in an octet string, and what follows it
 abbrev pub Held : Type 0 → Type 0 → Type 0
 Held P T = Enclosed T × (P × ⊤)
 
@@ -55,7 +55,7 @@ is_private_of {P} arcs key behind =
     case_belongs (λ oid. is_rsa (oid_content oid)) (case_belongs (λ oid. is_elliptic (oid_content oid)) (λ oid (last : LastKind (Held P (List ℕ))). is_named_curve (oid_content oid)))
     arcs (private_kinds key behind)
 
--- version 1 where a public key stands behind, and else 0 (RFC 5958, section 2)
+-- version 1 if a public key follows, else 0 (RFC 5958, section 2)
 abbrev pub version_with : {P : Type 0} → Option P → ℕ
 version_with None = 0
 version_with (Some key) = 1

@@ -38,7 +38,7 @@ pub struct ECPrivateKey {
     pub private_key: EncapsulatedEcSecret,
     /// The curve.
     pub parameters: Option<EcParameters>,
-    /// The public key that goes with it.
+    /// The public key that belongs to it.
     pub public_key: Option<BitStringAsn1>,
 }
 

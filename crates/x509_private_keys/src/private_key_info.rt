@@ -19,7 +19,7 @@ pub const PRIVATE_KEY_INFO_VERSION_1: u8 = 0;
 /// The version with a public key.
 pub const PRIVATE_KEY_INFO_VERSION_2: u8 = 1;
 
-/// A private key, the algorithm that it is for, and perhaps the public key that goes with it.
+/// A private key, the algorithm that it is for, and optionally its public key.
 ///
 /// ```text
 /// OneAsymmetricKey ::= SEQUENCE {
@@ -45,7 +45,7 @@ pub struct PrivateKeyInfo {
 impl PrivateKeyInfo {
     ghost use Rattle.x509_private_keys.specs.MadeKeys.{AreParts};
 
-    /// The private key for an algorithm that decides its kind, and the public key that goes with it.
+    /// The private key for an algorithm that decides its kind, and its public key, if any.
     pub(crate) fn of_parts(
         algorithm: AlgorithmIdentifier,
         private_key: PrivateKeyValue,
@@ -90,7 +90,7 @@ impl PrivateKeyInfo {
         &self.fields.private_key
     }
 
-    /// The public key that goes with the private one.
+    /// The public key of the private one.
     pub fn public_key(&self) -> Option<&BitStringAsn1>
         ensures { MatchOption result
             (key_of_field self.now.fields.public_key ≡ None)

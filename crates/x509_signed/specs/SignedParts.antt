@@ -16,7 +16,7 @@ abbrev pub value_of : {T S E : Type 0} → Result (T × S) E → Result T E
 value_of (Ok read) = Ok read.0
 value_of (Err fault) = Err fault
 
--- the bytes are a SEQUENCE: a spelling of the part begins its content, and elements stand behind it
+-- the bytes are a SEQUENCE: a spelling of the part begins its content, and elements follow it
 pub record HoldsFirst {P : Type 0} (spells : P → List ℕ → ℕ → Type 0) (part : P) (bytes : List ℕ) (n : ℕ) : Type 0 where
   pub content : List ℕ
   pub rest : List ℕ

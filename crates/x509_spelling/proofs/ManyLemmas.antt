@@ -10,8 +10,8 @@ use Rattle.x509_spelling.specs.Laws.{SpellingLaws}
 use Rattle.x509_spelling.specs.FieldLaws.{leads-one}
 use Rattle.x509_spelling.proofs.Refusals.{refused_by}
 
--- these elements were read, with this count: with what stands behind them they are the content, and whatever is spelled
--- there, ends in what is spelled behind them
+-- these items were read, with this count. Before the items of the rest they are the items of the content. If the content
+-- has items, so has the rest
 pub record Gone {T : Type 0} (spells : T → List ℕ → ℕ → Type 0) (content : List ℕ) (items : List T) (count : ℕ) (rest : List ℕ) : Type 0 where
   pub forward : (vs : List T) (k : ℕ) → AreMany spells vs rest k → AreMany spells (items ++ vs) content (count + k)
   pub backward : (ws : List T) (n : ℕ) → AreMany spells ws content n → (vs : List T) × (k : ℕ) × AreMany spells vs rest k

@@ -18,7 +18,7 @@ fault_of der_fault.Memory = Memory
 fault_of (der_fault.Message rule) = Leaf
 fault_of fault = Der
 
--- memory was wanting, or no value with any count has the property
+-- memory ran out, or no value with any count has the property
 abbrev pub IsRefusal : {T : Type 0} → (T → ℕ → Type 0) → X509Fault → Type 0
 IsRefusal {T} P fault = (fault ≡ Memory) ⊎ ((value : T) (n : ℕ) → P value n → ⊥)
 
@@ -26,12 +26,12 @@ IsRefusal {T} P fault = (fault ≡ Memory) ⊎ ((value : T) (n : ℕ) → P valu
 abbrev pub Tells : {T : Type 0} → (T → ℕ → Type 0) → Result (Counted T) X509Fault → Type 0
 Tells P result = MatchResult result (λ told. P told.value told.count) (IsRefusal P)
 
--- the value of which the bytes are a spelling, whatever its count, and no other; or want of memory
+-- either memory ran out, or the answer is a value if and only if the bytes are a spelling of it, with any count
 abbrev pub ReadsSpelling : {T : Type 0} → (T → List ℕ → ℕ → Type 0) → List ℕ → Result T X509Fault → Type 0
 ReadsSpelling {T} spells bytes answer =
     (answer ≡ Err Memory) ⊎ ((value : T) → (answer ≡ Ok value) ↔ ((n : ℕ) × spells value bytes n))
 
--- the count of the value of which the bytes are a spelling, and no other; or want of memory
+-- either memory ran out, or the answer is a count if and only if the bytes are a spelling of some value with that count
 abbrev pub CountsSpelling : {T : Type 0} → (T → List ℕ → ℕ → Type 0) → List ℕ → Result ℕ X509Fault → Type 0
 CountsSpelling {T} spells bytes answer =
     (answer ≡ Err Memory) ⊎ ((n : ℕ) → (answer ≡ Ok n) ↔ ((value : T) × spells value bytes n))

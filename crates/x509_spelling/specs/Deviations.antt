@@ -16,7 +16,7 @@ pub data Deviation : Type 0 where
   raw_parameters_missing : Deviation
   -- a hash has no parameters in place of NULL (RFC 8017, appendix A.2.4; RFC 4055, section 2.1)
   hash_parameters_missing : Deviation
-  -- a field of an authority key identifier stands behind one of greater tag (RFC 5280, section 4.2.1.1)
+  -- a field of an authority key identifier follows one of greater tag (RFC 5280, section 4.2.1.1)
   fields_out_of_order : Deviation
   -- a field of an authority key identifier stands there again
   field_repeated : Deviation

@@ -16,7 +16,7 @@ not_true : (b : Bool) → (b ≡ true → ⊥) → b ≡ false
 not_true true never = absurd (never refl)
 not_true false never = refl
 
--- what stands in front of others of other tags doesn't begin with them
+-- bytes that start with other tags don't begin with these
 apart-begins : (firsts others : Firsts) → apart firsts others ≡ true → (b : List ℕ) → Starts others b → begins firsts b ≡ false
 apart-begins firsts others distinct [] starts = refl
 apart-begins firsts others distinct (octet ∷ b) starts =

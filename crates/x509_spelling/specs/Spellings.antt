@@ -15,7 +15,7 @@ abbrev pub has_low_tag : List ℕ → Bool
 has_low_tag [] = false
 has_low_tag (octet ∷ octets) = has_low_number octet
 
--- a spelling begins the bytes, and `rest` stands behind it
+-- a spelling of the value begins the bytes, and `rest` follows it
 abbrev pub Leads : {T : Type 0} → (T → List ℕ → ℕ → Type 0) → T → List ℕ → List ℕ → ℕ → Type 0
 Leads spells value bytes rest n = (front : List ℕ) × spells value front n × (has_low_tag front ≡ true) × (bytes ≡ front ++ rest)
 

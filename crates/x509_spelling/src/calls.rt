@@ -27,7 +27,7 @@ pub fn deviations<T: Spelled>(alloc: Global, bytes: &[u8]) -> Result<usize, X509
     Ok(counted.count)
 }
 
-/// The strict spelling of a value. A type that refuses to write no value fails for want of memory alone.
+/// Encodes a value as its strict spelling. If its type refuses no value, this fails only if memory runs out.
 pub fn to_vec<T: Spelled>(alloc: Global, value: &T) -> Result<Vec<u8>, X509Fault>
     ensures bytes { IfOk result (λ bytes. bytes.items ≡ der (T.tree value.now)) }
     ensures strict { IfOk result (λ bytes. IsWhole (T.tree value.now) → T.spells value.now bytes.items 0) }
@@ -39,7 +39,7 @@ pub fn to_vec<T: Spelled>(alloc: Global, value: &T) -> Result<Vec<u8>, X509Fault
     }
 }
 
-/// The length of the strict spelling of a value. One that no number holds is answered as want of memory.
+/// The length of the strict spelling of a value. A length of 2^64 or more is returned as `Memory`.
 pub fn encoded_len<T: Spelled>(value: &T) -> Result<usize, X509Fault>
     ensures { refusal_of T.refusal value.now ≡ None → MatchResult result
         (λ count. count ≡ length (der (T.tree value.now)))

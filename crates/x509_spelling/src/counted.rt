@@ -21,7 +21,7 @@ impl<T> Counted<T> {
     }
 }
 
-/// The sum of two counts. One that no number holds is answered as want of memory.
+/// The sum of two counts. A sum that no number holds is returned as `Memory`.
 pub fn sum_of(first: usize, second: usize) -> Result<usize, X509Fault>
     ensures { MatchResult result (λ sum. sum ≡ first + second) (λ fault. fault ≡ X509Fault.Memory) }
 {

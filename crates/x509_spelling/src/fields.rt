@@ -43,7 +43,7 @@ pub trait SpelledItem: Sized + Drop {
 
     ghost field_laws: { FieldLaws before is_told place leads };
 
-    /// The field that begins the bytes, how many deviations stand in it, and what stands behind it.
+    /// Reads the field that begins the bytes. Returns it with its number of deviations, and the bytes after it.
     fn read_field(alloc: Global, bytes: &[u8]) -> Result<(Counted<Self>, &[u8]), X509Fault>
         ensures { MatchResult result
             (λ read. leads read.0.value bytes.now read.1.now read.0.count)

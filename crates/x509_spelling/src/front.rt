@@ -9,7 +9,7 @@ use crate::spelled::Spelled;
 use picky_asn1_der::split_element;
 use std::alloc::Global;
 
-/// The value whose spelling begins the bytes, and what stands behind it.
+/// Reads the value whose spelling begins the bytes. Returns it and the bytes after it.
 pub fn read_front<'a, T: Spelled>(
     alloc: Global,
     bytes: &'a [u8],

@@ -10,7 +10,7 @@ abbrev pub der_fault_of : X509Fault → Asn1DerError
 der_fault_of fault.Memory = Memory
 der_fault_of other = InvalidData
 
--- memory was wanting, or the bytes are the strict spelling of no value
+-- memory ran out, or the bytes are the strict spelling of no value
 abbrev pub IsNoStrict : {T : Type 0} → (T → List ℕ → ℕ → Type 0) → List ℕ → Asn1DerError → Type 0
 IsNoStrict {T} spells bytes told =
     (told ≡ Memory) ⊎ ((told ≡ InvalidData) × ((value : T) → spells value bytes 0 → ⊥))

@@ -130,7 +130,7 @@ impl<R: Source> PeekableReader<R> {
         Ok(())
     }
 
-    // Looks at one octet more, and tells whether there was one.
+    // Looks at one octet more, and returns whether there was one.
     fn look_on(&mut self) -> Result<bool, Asn1DerError>
         requires { length self.old.seen < 10 }
         ensures { MatchResult result

@@ -19,7 +19,7 @@ no_more : (text part rest : List ℕ) → text ≡ part ++ 46 ∷ rest → NoSto
 no_more text part rest e none never [] dotted = let some = dotted.0 in omega arith
 no_more text part rest e none never (arc ∷ arcs) dotted = never arcs (dotted-pop arc arcs text part rest e none dotted).2
 
--- an arc that was read stands behind those before it
+-- an arc that was read follows those before it
 pushed : (arc : ℕ) (before after more text : List ℕ) → after ≡ before ++ arc ∷ [] → IsDotted (before ++ arc ∷ more) text → IsDotted (after ++ more) text
 pushed arc before after more text e dotted =
     let same : before ++ arc ∷ more ≡ after ++ more = sym (ap (λ xs. xs ++ more) e ∙ append_assoc before (arc ∷ []) more) in

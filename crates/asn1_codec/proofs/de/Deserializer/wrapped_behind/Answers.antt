@@ -10,7 +10,7 @@ use Rattle.asn1_codec.proofs.Headers.{element_content_cut, header_sizes}
 use Rattle.asn1_codec.proofs.Results.{handed-value, handed-fault}
 use Rattle.asn1_codec.proofs.de.Deserializer.wrapped_behind.Goals as goal
 
--- the one tree that stands behind an octet
+-- one tree after an octet
 abbrev one : ℕ → Tree → Trees
 one octet t = bare octet (trees.more t trees.none)
 
