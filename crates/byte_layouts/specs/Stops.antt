@@ -18,7 +18,7 @@ stop_kind whole_fault.Full = WriteZero
 stop_kind (whole_fault.Failed kind) = kind
 stop_kind whole_fault.Memory = OutOfMemory
 
--- a write stopped with this fault, and the device counted it and tells its kind
+-- a write stopped with this fault: the device counted it and holds its kind
 pub record IsWriteStop (old new : ℕ) (last : Option ErrorKind) (kind : ErrorKind) : Type 0 where
   pub stop : WholeFault
   pub answered : kind ≡ stop_kind stop

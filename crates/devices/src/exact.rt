@@ -43,8 +43,8 @@ pub fn read_full<R: Source>(reader: &mut R, buffer: &mut [u8]) -> Result<usize, 
     Ok(at)
 }
 
-/// Writes all of `bytes`, in as many writes as it takes. Where it stops early, a front of them is
-/// written: none where memory was wanting.
+/// Writes all of `bytes`, in as many writes as it takes. If it stops early, a front of them is
+/// written: none if memory ran out.
 pub fn write_whole<W: Sink>(writer: &mut W, bytes: &[u8]) -> Result<(), WholeFault>
     ensures ok { OnOk result (Appends (W.written writer.old) (W.written writer.new) bytes.now) }
     ensures front { IfErr result (λ _. (n : ℕ) × Appends (W.written writer.old) (W.written writer.new) (take n bytes.now)) }

@@ -29,8 +29,8 @@ pub trait Sink {
     // How many writes have failed.
     ghost failed: { Self → ℕ };
 
-    // Whether the bytes stand in memory that grows. Such a sink takes all or nothing, and no other
-    // sink ever wants memory.
+    // Whether the bytes stand in memory that grows. Such a sink takes all or nothing. No other
+    // sink ever needs memory.
     ghost grows: { Bool };
 
     // How many bytes it still takes, of a sink over a slice; none where that has no bound or isn't known.
@@ -62,7 +62,7 @@ pub trait Sink {
         ensures { result ≡ failed self.now };
 }
 
-/// A vector grows by all that it is offered. No write fails but for want of memory.
+/// A vector grows by all that it is offered. A write fails only if memory runs out.
 impl Sink for Vec<u8> {
     ghost written = { λ v. Some v.items };
 

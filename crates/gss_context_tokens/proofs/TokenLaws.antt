@@ -45,7 +45,7 @@ mechanism-one bytes v w i j (c, begins, leads) (d, also, other) =
 pub told-one : (inner id other message more : List ℕ) → IsTold inner id message → IsTold inner other more → (id ≡ other) × (message ≡ more)
 told-one inner id other message more (is, two) (also, again) = fronts id other message more (two ∙ sym again) (sym is ∙ also)
 
--- what tells a message has two octets
+-- a token id has two octets
 pub told-long : (inner id message : List ℕ) → IsTold inner id message → 2 ≤ length inner
 told-long inner id message (is, two) = omega (arith, ap length is, length-append id message)
 

@@ -60,7 +60,7 @@ proxy-unread fits first bytes (InvalidMechanismOid wanted there) unread leads me
 proxy-unread fits first bytes (InvalidMicFiller there) unread leads mechanism id = absurd unread
 proxy-unread fits first bytes (InvalidWrapFiller there) unread leads mechanism id = absurd unread
 
--- what stands in front of it was refused
+-- if what precedes a message was refused, so is the message
 pub proxy-as : {T U : Type 0} (fits : T → Type 0) (first : U → Type 0) (bytes : List ℕ) (fault : GssApiMessageError) → IsProxyRefusal first bytes fault
     → ((v : T) → fits v → (u : U) × first u) → IsProxyRefusal fits bytes fault
 proxy-as fits first bytes Memory refused leads = tt
@@ -85,6 +85,6 @@ proxy-other fits bytes inner mechanism (InvalidWrapFiller there) of other = absu
 pub proxy-fault : {T : Type 0} (fits : T → Type 0) (bytes : List ℕ) (fault told : GssApiMessageError) → fault ≡ told → IsProxyRefusal fits bytes told → IsProxyRefusal fits bytes fault
 proxy-fault fits bytes fault told is refused = subst (IsProxyRefusal fits bytes) (sym is) refused
 
--- want of memory is no refusal of a type's
+-- memory may run out whatever the type refuses
 pub unwritten-memory : (refusal : Option Unsupported) (fault : GssApiMessageError) → fault ≡ Memory → IsUnwritten refusal fault
 unwritten-memory refusal fault is = subst (IsUnwritten refusal) (sym is) tt

@@ -1,10 +1,10 @@
--- A value at the front of some bytes, and what stands behind it.
+-- A value at the front of some bytes, and the bytes after it.
 use Rattle.std.specs.Prelude.{◌≡◌, ℕ, Bool, true, false, List, [], ◌∷◌, ◌++◌, Option, None, Some, ◌⊎◌}
 use Rattle.asn1_trees.specs.Firsts.{Firsts, may_begin}
 use Rattle.asn1_octets.specs.declared.error.Asn1DerError.{Asn1DerError}
 use Rattle.asn1_octets.specs.declared.error.Asn1DerError.TheVariants.{Memory}
 
--- the bytes begin with some that are read as the value, and this rest stands behind them
+-- the bytes begin with some that are read as the value, and `rest` follows them
 abbrev pub Leads : {T : Type 0} → (T → List ℕ → Type 0) → T → List ℕ → List ℕ → Type 0
 Leads reads value bytes rest = (front : List ℕ) × reads value front × (bytes ≡ front ++ rest)
 
@@ -18,6 +18,6 @@ abbrev pub LeadsOptional : {T : Type 0} → Firsts → (T → List ℕ → Type 
 LeadsOptional firsts reads None bytes rest = (begins firsts bytes ≡ false) × (rest ≡ bytes)
 LeadsOptional firsts reads (Some value) bytes rest = (begins firsts bytes ≡ true) × Leads reads value bytes rest
 
--- memory was wanting, or no value fits
+-- memory ran out, or no value fits
 abbrev pub IsMissing : {T : Type 0} → (T → Type 0) → Asn1DerError → Type 0
 IsMissing {T} fits fault = (fault ≡ Memory) ⊎ ((value : T) → fits value → ⊥)

@@ -1,5 +1,5 @@
--- The header of a message that goes through a service (draft-ietf-kitten-iakerb-03, section 3): its elements stand at the front of
--- the content of a SEQUENCE, and what is left there is ignored.
+-- The header of a message that a service forwards (draft-ietf-kitten-iakerb-03, section 3). Its elements begin the content of
+-- a SEQUENCE. What follows them there is ignored.
 use Rattle.std.specs.Prelude.{◌≡◌, ℕ, List, Option}
 use Rattle.asn1_trees.specs.Tree.{Tree, Writes}
 use Rattle.asn1_trees.specs.Firsts.{Firsts}

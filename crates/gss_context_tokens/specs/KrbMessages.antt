@@ -9,7 +9,7 @@ use Rattle.gss_context_tokens.specs.contracts.iakerb_header.IAKerbHeaderFromDer.
 use Rattle.gss_context_tokens.specs.Fronts.{Leads}
 use Rattle.gss_context_tokens.specs.Tokens.{mechanism_tree, IsOfMechanism, IsTold, IsProxied, iakerb, proxy_id, told_content}
 
--- the bytes begin with the token of this message, and nothing stands behind it in the token
+-- the bytes begin with the token of this message, and nothing follows the message in the token
 abbrev pub BeginsKrbMessage : {T : Type 0} → (T → List ℕ → Type 0) → KrbMessage T → List ℕ → Type 0
 BeginsKrbMessage reads m bytes =
     (inner message : List ℕ) × IsOfMechanism bytes m.krb5_oid inner × IsTold inner m.krb5_token_id message × reads m.krb_msg message

@@ -13,7 +13,7 @@ use Rattle.krb_tokens.specs.declared.error.GssApiMessageError.TheVariants.{Inval
 use Rattle.picky_asn1.specs.declared.wrapper.ObjectIdentifierAsn1.{ObjectIdentifierAsn1}
 use Rattle.gss_context_tokens.specs.Tokens.{IsOfMechanism, IsTold, iakerb, proxy_id}
 
--- memory was wanting, or nothing fits
+-- memory ran out, or nothing fits
 abbrev pub IsUnread : {T : Type 0} → (T → Type 0) → GssApiMessageError → Type 0
 IsUnread fits Memory = ⊤
 IsUnread {T} fits (Asn1Error fault) = (value : T) → fits value → ⊥
@@ -31,7 +31,7 @@ HasOtherMechanism bytes = (mechanism : ObjectIdentifierAsn1) × (inner : List �
 abbrev pub HasOtherId : List ℕ → Type 0
 HasOtherId bytes = (inner id message : List ℕ) × IsOfMechanism bytes iakerb inner × IsTold inner id message × (id ≡ proxy_id → ⊥)
 
--- memory was wanting, or it isn't IAKERB, and both are told as text
+-- memory ran out, or it isn't IAKERB, and both are told as text
 abbrev pub IsOtherMechanism : ObjectIdentifierAsn1 → GssApiMessageError → Type 0
 IsOtherMechanism mechanism Memory = ⊤
 IsOtherMechanism mechanism (InvalidMechanismOid wanted there) =
@@ -51,7 +51,7 @@ IsProxyRefusal {T} fits bytes (IoError kind) = ((value : T) → fits value → �
 IsProxyRefusal fits bytes (InvalidMicFiller there) = ⊥
 IsProxyRefusal fits bytes (InvalidWrapFiller there) = ⊥
 
--- memory was wanting, or the type of what is written refuses it
+-- memory ran out, or the type of what is written refuses it
 abbrev pub IsUnwritten : Option Unsupported → GssApiMessageError → Type 0
 IsUnwritten refusal Memory = ⊤
 IsUnwritten refusal (Asn1Error fault) = RefusedAs refusal fault

@@ -1,5 +1,5 @@
--- Tokens of the GSS-API: an element with the tag `[APPLICATION 0]` that holds a mechanism's OBJECT IDENTIFIER and, behind it,
--- what the mechanism says (RFC 2743, section 3.1). A mechanism of Kerberos says two octets that tell the message, and then it
+-- Tokens of the GSS-API: an element with the tag `[APPLICATION 0]`. It holds a mechanism's OBJECT IDENTIFIER and the mechanism's
+-- inner token (RFC 2743, section 3.1). The inner token of a Kerberos mechanism is a token id of two octets, and the message
 -- (RFC 4121, section 4.1).
 use Rattle.std.specs.Prelude.{◌≡◌, ℕ, List, [], ◌∷◌, ◌++◌, length}
 use Rattle.asn1_trees.specs.Tree.{Tree, der, Writes}
@@ -22,18 +22,18 @@ BeginsToken content bytes = (rest : List ℕ) × (bytes ≡ element 96 content +
 abbrev pub IsOfMechanism : List ℕ → ObjectIdentifierAsn1 → List ℕ → Type 0
 IsOfMechanism bytes mechanism inner = (content : List ℕ) × BeginsToken content bytes × Leads (Writes mechanism_tree) mechanism content inner
 
--- two octets stand in front of the message
+-- a token id of two octets precedes the message
 abbrev pub IsTold : List ℕ → List ℕ → List ℕ → Type 0
 IsTold inner id message = (inner ≡ id ++ message) × (length id ≡ 2)
 
--- the mechanism IAKERB (draft-ietf-kitten-iakerb-03, section 2), and the octets that tell its message (section 3)
+-- the mechanism IAKERB (draft-ietf-kitten-iakerb-03, section 2), and its token id (section 3)
 abbrev pub iakerb : ObjectIdentifierAsn1
 iakerb = record { 0 = iakerb5 }
 
 abbrev pub proxy_id : List ℕ
 proxy_id = 5 ∷ 1 ∷ []
 
--- the bytes begin with a token of IAKERB, and this stands behind its id
+-- the bytes begin with a token of IAKERB, and this follows its token id
 abbrev pub IsProxied : List ℕ → List ℕ → Type 0
 IsProxied bytes message = (inner : List ℕ) × IsOfMechanism bytes iakerb inner × IsTold inner proxy_id message
 

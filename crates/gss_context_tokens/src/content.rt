@@ -25,7 +25,7 @@ pub(crate) fn token_fault(fault: Asn1DerError) -> GssApiMessageError
     GssApiMessageError::from(fault)
 }
 
-/// The content of the token that begins the bytes; what stands behind it is left.
+/// The content of the token that begins the bytes. Bytes after the token are left.
 fn content_of(bytes: &[u8]) -> Result<&[u8], GssApiMessageError>
     ensures { MatchResult result
         (λ content. BeginsToken content.now bytes.now)
@@ -41,7 +41,7 @@ fn content_of(bytes: &[u8]) -> Result<&[u8], GssApiMessageError>
     Ok(element.content())
 }
 
-/// The mechanism of the token that begins the bytes, and what stands behind it there.
+/// The mechanism of the token that begins the bytes, and its inner token.
 pub(crate) fn mechanism_of(
     alloc: Global,
     bytes: &[u8],
@@ -55,7 +55,7 @@ pub(crate) fn mechanism_of(
     Ok((mechanism, inner))
 }
 
-/// The value that begins the bytes, and what stands behind it.
+/// The value that begins the bytes, and the bytes after it.
 pub(crate) fn front_value<T: FromDer>(
     alloc: Global,
     bytes: &[u8],
@@ -70,7 +70,7 @@ pub(crate) fn front_value<T: FromDer>(
     }
 }
 
-/// The two octets that tell a message, and what stands behind them.
+/// The token id of two octets, and the bytes after it.
 pub(crate) fn split_id(inner: &[u8]) -> Result<([u8; 2], &[u8]), GssApiMessageError>
     ensures { MatchResult result
         (λ read. IsTold inner.now read.0 read.1.now)

@@ -8,7 +8,7 @@ ghost use Rattle.gss_context_tokens.specs.Fronts.{Leads, LeadsOptional, begins, 
 use picky_asn1_der::{Asn1DerError, Deserialize, Deserializer, FromDer};
 use std::alloc::Global;
 
-/// The value that begins the bytes, and what stands behind it.
+/// The value that begins the bytes, and the bytes after it.
 pub(crate) fn split_value<T: FromDer>(
     alloc: Global,
     bytes: &[u8],
@@ -36,7 +36,7 @@ fn is_next<T: Deserialize>(bytes: &[u8]) -> bool
     }
 }
 
-/// The value that begins the bytes, where its first octet does, and what stands behind it.
+/// The value that begins the bytes, if they begin with its first octet, and the bytes after it.
 pub(crate) fn split_optional<T: Deserialize + Drop>(
     alloc: Global,
     bytes: &[u8],

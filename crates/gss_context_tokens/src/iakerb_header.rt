@@ -1,4 +1,4 @@
-//! The header of a message that goes through a service.
+//! The header of a message that a service forwards.
 ghost use Rattle.std.specs.Prelude.{◌≡◌, MatchResult};
 ghost use Rattle.asn1_codec.specs.Reading.{IsOwn, IsReadBy, Refused, TookBy};
 ghost use Rattle.std.specs.Prelude.{Option};
@@ -17,8 +17,8 @@ use std::alloc::Global;
 /// What a service has sent with a reply, and wants back with the next message unchanged (draft-ietf-kitten-iakerb-03, section 3).
 pub type IAKerbCookie = Option<ExplicitContextTag2<OctetStringAsn1>>;
 
-/// Where a message is to go (draft-ietf-kitten-iakerb-03, section 3). What stands behind these fields in the SEQUENCE, which may be
-/// extended, is ignored when it is read, and not written.
+/// Where a service forwards a message (draft-ietf-kitten-iakerb-03, section 3). The SEQUENCE may be extended: what follows these
+/// fields is ignored when it is read, and not written.
 ///
 /// ```text
 /// IAKERB-HEADER ::= SEQUENCE {

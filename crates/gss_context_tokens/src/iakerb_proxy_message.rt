@@ -1,4 +1,4 @@
-//! A message of Kerberos that goes through a service.
+//! A Kerberos message that a service forwards.
 ghost use Rattle.std.specs.Prelude.{◌≡◌, MatchResult};
 ghost use Rattle.asn1_trees.specs.Tree.{der};
 ghost use Rattle.asn1_trees.specs.Length.{element};
@@ -37,11 +37,11 @@ pub struct IAKerbProxyMessage<T> {
 impl<T: FromDer> IAKerbProxyMessage<T> {
     ghost use Rattle.gss_context_tokens.specs.KrbMessages.{BeginsProxyMessage};
 
-    /// Reads the token that begins the bytes. What stands behind it is left.
+    /// Reads the token that begins the bytes. Bytes after it are left.
     ///
-    /// Answered is `InvalidMechanismOid` where a token of another mechanism stands there, `InvalidId` where other octets tell its
-    /// message, and elsewhere, where there is no such token, `Asn1Error`, or `IoError` where its content ends before the message; or want
-    /// of memory.
+    /// The error is `InvalidMechanismOid` for a token of another mechanism, and `InvalidId` for one with another token id. If there
+    /// is no such token, it is `Asn1Error`, or `IoError` if the token's content ends before the message. `Memory` says that memory
+    /// ran out.
     pub fn decode_application_iakerb_proxy_message(
         alloc: Global,
         bytes: &[u8],
@@ -57,7 +57,7 @@ impl<T: FromDer> IAKerbProxyMessage<T> {
     }
 }
 
-/// What a service is handed to be handed on: what stands behind mechanism and id of the token that begins the bytes.
+/// The message that a service is to forward: what follows mechanism and token id in the token that begins the bytes.
 fn proxied(alloc: Global, bytes: &[u8]) -> Result<&[u8], GssApiMessageError>
     ensures { MatchResult result
         (λ message. IsProxied bytes.now message.now)
@@ -144,9 +144,9 @@ impl<T: Serialize> IAKerbProxyMessage<T> {
         put_out(&inside, writer)
     }
 
-    /// What stands inside the token, as a value of DER: a SEQUENCE (0x30), and the token itself (0x60) in [`ApplicationTag0`].
+    /// The token's content as a value of DER: a SEQUENCE (0x30), and the token itself (0x60) in [`ApplicationTag0`].
     ///
-    /// A value of DER is written without memory, and what tells the message is no element: so this holds the content's octets.
+    /// A value of DER is written without memory, and the token id isn't an element: so this holds the content's octets.
     pub fn to_sequence(&self, alloc: Global) -> Result<TokenSequence, GssApiMessageError>
         ensures { MatchResult result
             (λ value. (der (⟦<TokenSequence as Serialize>⟧.tree value) ≡ element 48 (proxy_message_content T.tree self.now))

@@ -13,8 +13,8 @@ use picky_asn1::wrapper::ObjectIdentifierAsn1;
 use picky_asn1_der::{FromDer, Serialize};
 use std::alloc::Global;
 
-/// A message with the two octets that tell it, behind its mechanism (RFC 4121, section 4.1): what stands inside a first token, under the
-/// tag of [`ApplicationTag0`]. Neither mechanism nor octets are judged.
+/// A message with its token id, after its mechanism (RFC 4121, section 4.1): the content of a first token, under the tag of
+/// [`ApplicationTag0`]. Neither the mechanism nor the token id is checked.
 ///
 /// ```text
 /// GSSAPI-Token ::= [APPLICATION 0] IMPLICIT SEQUENCE {
@@ -35,9 +35,10 @@ impl<T: FromDer> KrbMessage<T> {
     ghost use Rattle.gss_context_tokens.specs.KrbMessages.{BeginsKrbMessage};
     ghost use Rattle.gss_context_tokens.specs.Refusals.{IsUnread};
 
-    /// Reads the token that begins the bytes. What stands behind it is left.
+    /// Reads the token that begins the bytes. Bytes after it are left.
     ///
-    /// Answered is `Asn1Error` where there is no such token, and `IoError` where its content ends before the message; or want of memory.
+    /// If there is no such token, the error is `Asn1Error`, or `IoError` if the token's content ends before the message. `Memory` says
+    /// that memory ran out.
     pub fn decode_application_krb_message(
         alloc: Global,
         bytes: &[u8],
@@ -93,9 +94,9 @@ impl<T: Serialize> KrbMessage<T> {
         token_of(alloc, content)
     }
 
-    /// What stands inside the token, as a value of DER: a SEQUENCE (0x30), and the token itself (0x60) in [`ApplicationTag0`].
+    /// The token's content as a value of DER: a SEQUENCE (0x30), and the token itself (0x60) in [`ApplicationTag0`].
     ///
-    /// A value of DER is written without memory, and what tells the message is no element: so this holds the content's octets.
+    /// A value of DER is written without memory, and the token id isn't an element: so this holds the content's octets.
     pub fn to_sequence(&self, alloc: Global) -> Result<TokenSequence, GssApiMessageError>
         ensures { MatchResult result
             (λ value. (der (⟦<TokenSequence as Serialize>⟧.tree value) ≡ element 48 (krb_message_content T.tree self.now))

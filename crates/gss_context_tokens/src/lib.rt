@@ -1,8 +1,8 @@
-//! Tokens that establish a context: messages of a mechanism, framed as the GSS-API frames first tokens (RFC 2743, section 3.1;
-//! RFC 4121, section 4.1), alone and on their way through a service (IAKERB).
+//! Tokens that establish a context. They carry a mechanism's messages, framed as the GSS-API frames first tokens (RFC 2743,
+//! section 3.1; RFC 4121, section 4.1). A service may forward them (IAKERB).
 //!
-//! The two octets that tell a message stand there as they are and are no element. A token is read exactly where its one
-//! spelling begins the bytes, and written as it.
+//! The token id of a message is two bare octets, not an element. A token is read if and only if its one spelling begins
+//! the bytes, and is written as that spelling.
 #![tactic(auto)]
 
 mod content;

@@ -38,7 +38,7 @@ pub(crate) fn put_value<T: Serialize>(value: &T, to: &mut Vec<u8>) -> Result<(),
     }
 }
 
-/// A mechanism, and the two octets that tell a message.
+/// A mechanism, and a token id of two octets.
 pub(crate) fn told(
     alloc: Global,
     mechanism: &ObjectIdentifierAsn1,

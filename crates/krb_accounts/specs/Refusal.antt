@@ -14,6 +14,6 @@ refusal_number NumberSpent = 6
 refusal_number BadSetting = 7
 refusal_number Memory = 8
 
--- the answer is this one, or want of memory
+-- memory ran out, or the answer is this one
 abbrev pub IsMemoryAside : {T : Type 0} → Result T RealmRefusal → Result T RealmRefusal → Type 0
 IsMemoryAside answer wanted = (answer ≡ Err Memory) ⊎ (answer ≡ wanted)

@@ -16,7 +16,7 @@ use std::alloc::{AllocError, Global};
 // The rounds of PBKDF2 where no others are asked for (RFC 8009, section 4).
 const ROUNDS: u32 = 32_768;
 
-/// The key that is derived from another one and a label: as long as the key. Refused is a key of another length
+/// The key that is derived from another one and a label: as long as the key. A key of another length is refused
 /// (`KeyLength`).
 pub fn derive_key(
     alloc: Global,

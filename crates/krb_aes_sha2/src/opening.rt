@@ -18,8 +18,8 @@ use krb_blocks::{
 use krb_profile::{DecryptWithoutChecksum, same_bytes, usage_ke, usage_ki};
 use std::alloc::Global;
 
-/// The message that is sealed here, 32 or 40 bytes shorter. Refused are fewer bytes than these (`CipherLength`), then a key
-/// of another length (`KeyLength`), then a checksum that isn't the encrypted text's (`IntegrityCheck`).
+/// The message that is sealed here, 32 or 40 bytes shorter. The refusals, in this order: fewer bytes than these
+/// (`CipherLength`), a key of another length (`KeyLength`), a checksum that isn't the encrypted text's (`IntegrityCheck`).
 pub fn decrypt_message(
     alloc: Global,
     key: &[u8],
@@ -45,8 +45,8 @@ pub fn decrypt_message(
     Ok(opened.plaintext)
 }
 
-/// The message that is encrypted here, its checksum still to be judged. Refused are fewer bytes than a confounder and a
-/// checksum (`CipherLength`), then a key of another length (`KeyLength`).
+/// The message that is encrypted here. Its checksum isn't checked. The refusals, in this order: fewer bytes than a
+/// confounder and a checksum (`CipherLength`), a key of another length (`KeyLength`).
 pub fn decrypt_message_no_checksum(
     alloc: Global,
     key: &[u8],

@@ -16,8 +16,8 @@ use std::alloc::Global;
 /// The block of zeros that the chain begins with, and that a checksum covers before the encrypted text.
 pub(crate) const INITIAL_VECTOR: [u8; AES_BLOCK_SIZE] = [0; AES_BLOCK_SIZE];
 
-/// The message, encrypted behind the confounder, and the checksum of the initial vector and the encrypted text: 32 bytes
-/// more than the message, or 40. Refused is a key of another length (`KeyLength`).
+/// The message, encrypted after the confounder, and the checksum of the initial vector and the encrypted text: 32 bytes
+/// more than the message, or 40. A key of another length is refused (`KeyLength`).
 pub fn encrypt_message(
     alloc: Global,
     key: &[u8],
@@ -53,8 +53,8 @@ pub fn encrypt_message(
     Ok(encrypted)
 }
 
-/// The message, encrypted behind the confounder, and the key of the checksum that is still to be made. Refused is a key
-/// of another length (`KeyLength`).
+/// The message, encrypted after the confounder, and the key of the checksum that is still to be made. A key of another
+/// length is refused (`KeyLength`).
 pub fn encrypt_message_no_checksum(
     alloc: Global,
     key: &[u8],
@@ -99,8 +99,8 @@ pub fn encrypt_message_no_checksum(
     })
 }
 
-/// The checksum that belongs behind an encrypted text, of what the caller hands in: 16 zero bytes and the encrypted text.
-/// Refused is a key of another length (`KeyLength`).
+/// The checksum that follows an encrypted text. It covers what the caller hands in: 16 zero bytes and the encrypted text.
+/// A key of another length is refused (`KeyLength`).
 pub fn encryption_checksum(
     alloc: Global,
     key: &[u8],
@@ -128,7 +128,7 @@ pub fn encryption_checksum(
     Ok(checksum)
 }
 
-/// The checksum of a text that stands alone, 16 or 24 bytes. Refused is a key of another length (`KeyLength`).
+/// The checksum of a text that stands alone, 16 or 24 bytes. A key of another length is refused (`KeyLength`).
 pub fn checksum_sha2(
     alloc: Global,
     key: &[u8],

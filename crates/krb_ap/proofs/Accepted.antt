@@ -31,7 +31,7 @@ use Rattle.krb_ap.specs.declared.presented.Authenticated.{Authenticated}
 use Rattle.krb_ap.proofs.Shown.{asked}
 use Rattle.krb_ap.proofs.Suites.{suite_by_number}
 
--- a key's number by its tagged form, and the other way
+-- a kvno by its tagged form, and the other way
 under_number : (number : ℕ) (etype : ℤ) (kvno : Option ℤ) (cipher : List ℕ) → may_be_under number (encrypted etype kvno cipher) ≡ option_map_or (is_number number) kvno true
 under_number number etype None cipher = refl
 under_number number etype (Some told) cipher = refl

@@ -98,7 +98,7 @@ needed : {A T : Type 0} (option : Option A) (code : ℕ) (rest : A → Table (Re
 needed None code rest value x = absurd (cc (x))
 needed (Some a) code rest value x = (a, refl, x)
 
--- a key's number by its tagged form
+-- a kvno by its tagged form
 number_under : (number : ℕ) (kvno : Option (ExplicitContextTag 1 ℤ))
     → option_map_or (is_number number) (option_map (λ (tagged : ExplicitContextTag 1 ℤ). tagged.0) kvno) true
     ≡ option_map_or (λ (tagged : ExplicitContextTag 1 ℤ). is_number number tagged.0) kvno true

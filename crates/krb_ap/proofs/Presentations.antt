@@ -41,7 +41,7 @@ module _ {T : Type 0} (tree : T → Tree) (etype : ℤ) (key : List ℕ) (usage 
       let moved = subst (λ p. IsSealedBy y.suite key usage confounder p c) plain (by_one_suite confounder confounder value value c d x y) in
       one_string y.suite key usage confounder y.plain c d moved y.sealed
 
--- a key's number as it is told
+-- the kvno of encrypted data, if it has one
 abbrev pub told : EncryptedData → Option ℤ
 told sealed = option_map (λ tagged. tagged.0) sealed.kvno.0
 

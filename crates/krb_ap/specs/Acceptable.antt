@@ -37,7 +37,7 @@ pub record IsAcceptable (entry : EntryRecord) (skew moment : Micros) (choice : C
   pub time : Micros
   pub told : moment_at (seconds_of choice.authenticator.ctime.0.0) choice.authenticator.cusec.0 ≡ Some time
 
--- what the choice presents; a reply is wanted where option 2, mutual-required, is set
+-- what the choice presents; it requires a reply if mutual-required is set
 abbrev pub shown_by : Choice → CipherSuite → Micros → Presented
 shown_by choice suite time = record {
   part = choice.part;

@@ -44,7 +44,7 @@ sole_reply_under suite key confounder authenticator a b x y =
     let same = sole_seals suite key None 12 confounder (der (enc_ap_rep_part_tree (ap_rep_part authenticator))) x.part y.part x.sealed y.sealed in
     x.encoding ∙ ap (λ part. der (ap_rep_tree (ap_rep_of part))) same ∙ sym y.encoding
 
--- the reply where one is wanted, with the first of the random bytes as confounder
+-- the reply, if one is required, with the first of the random bytes as confounder
 abbrev pub IsReply : Bool → Random → CipherSuite → Bytes → AuthenticatorInner → Option Bytes → Type 0
 IsReply false random suite key authenticator reply = reply ≡ None
 IsReply true random suite key authenticator None = ⊥

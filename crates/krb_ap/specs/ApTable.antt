@@ -115,7 +115,7 @@ authenticated usage part encrypted =
     and_then (told part found.1) (λ time.
     done (Ok (record { suite = found.0; authenticator = found.1; time = time }))))
 
--- what a request presents with this part and this authenticator; a reply is wanted where option 2, mutual-required, is set
+-- what a request presents with this part and this authenticator; it requires a reply if mutual-required is set
 abbrev pub presented_with : ApReqInner → EncTicketPartInner → Authenticated → Presented
 presented_with request part a = record {
   part = part;

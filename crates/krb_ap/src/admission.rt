@@ -99,8 +99,8 @@ fn untagged(told: Option<ExplicitContextTag6<EncryptionKey>>) -> Option<Encrypti
     None
 }
 
-/// The reply to what was presented, where one is wanted (RFC 4120, section 3.2.4). Of the random bytes the first 16 count. Memory
-/// is the only refusal, and none is taken where no reply is wanted.
+/// The reply to what was presented, if one is required (RFC 4120, section 3.2.4). Only the first 16 random bytes count. This
+/// fails only if memory runs out. It takes no memory if no reply is required.
 ///
 /// The session key has to be one of the presented suite, as `KeytabEntry::receive` gives it.
 pub fn reply_to(

@@ -267,7 +267,7 @@ fn open_under(
     Ok((own.suite(), authenticator))
 }
 
-// Judges whose the authenticator is, and what moment it tells.
+// Judges whose the authenticator is, and returns its moment.
 fn check_told(
     part: &EncTicketPartInner,
     authenticator: &AuthenticatorInner,

@@ -41,7 +41,7 @@ pub fn has_judgement()
     ensures { (entry : EntryRecord) (skew moment : ℕ) (request : ApReqInner) → HasSome (presented entry skew moment request).gives }
 {}
 
-/// To what a choice presents that is acceptable there is a reply, or none is wanted. It does nothing when it runs: its
+/// If a choice is acceptable, what it presents has a reply or requires none. It does nothing when it runs: its
 /// contract is the law.
 pub fn has_reply_to()
     ensures { (entry : EntryRecord) (skew moment : ℕ) (choice : Choice) (bytes words : List ℕ) (x : IsAcceptable entry skew moment choice)

@@ -14,7 +14,7 @@ use Rattle.krb_grants.specs.Granted.{IsTicketReply, sole_ticket_reply}
 use Rattle.krb_as.specs.Call.{CallRecord}
 use Rattle.krb_as.specs.declared.span.Span.{Span}
 
--- who asks for a ticket for whom, with their accounts
+-- the client and the service of a request, with their accounts
 pub record Principals : Type 0 where
   pub client_name : PrincipalName
   pub client : AccountRecord

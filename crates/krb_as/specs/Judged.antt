@@ -14,7 +14,7 @@ IsGranted gives (Ok bytes) = gives (Ok bytes.items)
 IsGranted gives (Err (Krb code)) = gives (Err code)
 IsGranted gives (Err Memory) = Unit {0}
 
--- who asks for whom, as a table sees it
+-- the client and the service of a request, as a table sees them
 abbrev pub principals : asked.Principals → Principals
 principals these = record {
   client_name = these.client_name.now;

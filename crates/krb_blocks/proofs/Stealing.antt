@@ -40,7 +40,7 @@ zeros_at : (k i : ℕ) → get_or {A = ℕ} (replicate k 0) i 0 ≡ 0
 zeros_at k i =
     elim (cases_lt i k) [ inl h ↦ get_or-replicate {A = ℕ} k i 0 0 h | inr h ↦ get_or_past {X = ℕ} (replicate k 0) i 0 (omega (arith, length-replicate {A = ℕ} k 0)) ]
 
--- behind a text its zero-filled form has zeros
+-- after a text, its zero-padded form has zeros
 zeros_behind : (size : ℕ) (p : List ℕ) (i j : ℕ) → length p ≤ size * i + j → get_or (block_at size (zero_filled size p) i) j 0 ≡ 0
 zeros_behind size p i j past =
     let zeros = replicate (size * block_count size (length p) - length p) 0 in
@@ -52,7 +52,7 @@ zeros_behind size p i j past =
           get_or_past (block_at size (zero_filled size p) i) j 0 (omega (arith, length-take size (drop (size * i) (p ++ zeros))))
     ]
 
--- the last block of a zero-filled text, as the code fills it
+-- the last block of a zero-padded text, as the code pads it
 pub last_filled : (p rest : List ℕ) (i : ℕ) → rest ≡ drop (16 * i) p → 16 * i < length p → length rest < 16 → rest ++ drop (length rest) (replicate 16 0) ≡ block_at 16 (zero_filled 16 p) i
 last_filled p rest i is inside few =
     let zeros : List ℕ = replicate (16 * block_count 16 (length p) - length p) 0 in
@@ -63,14 +63,14 @@ last_filled p rest i is inside few =
     ∙ sym (ap (take 16) (drop-append-le (16 * i) p zeros start ∙ ap (λ (s : List ℕ). s ++ zeros) (sym is))
     ∙ take_all 16 (rest ++ zeros) (omega (arith, length-append rest zeros, length-replicate {A = ℕ} (16 * block_count 16 (length p) - length p) 0)))
 
--- the text is the front of its zero-filled form
+-- the text is the front of its zero-padded form
 pub front_of_filled : (size : ℕ) (p : List ℕ) → take (length p) (zero_filled size p) ≡ p
 front_of_filled size p = take_at p (replicate (size * block_count size (length p) - length p) 0) (length p) refl
 
 pub stolen_short : (size : ℕ) (E : List ℕ → List ℕ) (p c : List ℕ) → length p ≤ size → IsChained size E (zero_filled size p) c → IsStolen size E p c
 stolen_short size E p c few chained = record { short = λ _. chained; long = λ many. absurd (omega arith) }
 
--- the chain of the zero-filled text, its last two blocks exchanged and cut
+-- the chain of the zero-padded text, its last two blocks exchanged and cut
 pub stolen_long : (size : ℕ) (E : List ℕ → List ℕ) (p x : List ℕ) → 0 < size → size < length p → IsChained size E (zero_filled size p) x → IsStolen size E p (take (length p) (swapped size x))
 stolen_long size E p x some more chained =
     let m = block_count size (length p) - 2 in
@@ -131,7 +131,7 @@ module _ (size : ℕ) (E D : List ℕ → List ℕ) (pair : IsBlockCipher size E
       one_to_one a (sum_of_bytes size (block_at size p (m + 1)) z) a_block (sum_of_bytes-block size (block_at size p (m + 1)) z text.bytes z_bytes)
       (sym from ∙ sym (last_of size m f z y front mid end) ∙ last ∙ ap (λ (b : List ℕ). E (sum_of_bytes size (block_at size p (m + 1)) b)) between)
 
-  -- what stealing leaves out of the last block but one shows behind the cut, where the text is zero-filled
+  -- if the text is zero-padded, the deciphered last block shows what stealing cuts off the last block but one
   tail_shows : (p f z y a : List ℕ) (m d : ℕ) → length f ≡ size * m → length z ≡ size → length y ≡ size → IsBytes p → IsBytes z → IsBlock size a → y ≡ E a → IsChained size E p (f ++ z ++ y) → ((j : ℕ) → d ≤ j → get_or (block_at size p (m + 1)) j 0 ≡ 0) → drop d z ≡ drop d a
   tail_shows p f z y a m d front mid end p_bytes z_bytes a_block from chained zeros =
       let sum = from_last p f z y a m front mid end p_bytes z_bytes a_block from chained in
@@ -181,7 +181,7 @@ module _ (size : ℕ) (E D : List ℕ → List ℕ) (pair : IsBlockCipher size E
       ∙ ap (λ (s : List ℕ). f ++ y ++ s) (take-append-drop d z) in
       rw (completed, swapped_of size m f y z front end mid) chained
 
-  -- a chain so completed ends a text that is zero-filled, and the cut text is stolen to what it was made of
+  -- if a chain was completed in this way, its text is zero-padded, and the cut text with stealing gives the cut chain
   pub stolen_back :
       (p c a : List ℕ) (n m : ℕ) → IsBytes p → IsBytes c → length c ≡ n → size < n → LastTwo size n m → IsBlock size a → block_at size c m ≡ E a → IsChained size E p (swapped size (c ++ drop (n - size * (m + 1)) a))
       → (zero_filled size (take n p) ≡ p) × IsStolen size E (take n p) c
@@ -244,7 +244,7 @@ module _ (size : ℕ) (E D : List ℕ → List ℕ) (pair : IsBlockCipher size E
       let same : zero_filled size q ≡ p = chained_text size E D pair (zero_filled size q) p x (m + 2) (zero_filled-bytes size q q_bytes) p_bytes x_bytes long other chained in
       sym (front_of_filled size q) ∙ ap (λ (k : ℕ). take k (zero_filled size q)) sized ∙ ap (λ (s : List ℕ). take n s) same
 
--- the text is its own zero-filled form where it is of whole blocks
+-- a text of whole blocks is its own zero-padded form
 pub filled_already : (size : ℕ) (p : List ℕ) → length p ≡ size * block_count size (length p) → zero_filled size p ≡ p
 filled_already size p whole =
     let none : size * block_count size (length p) - length p ≡ 0 = omega arith in

@@ -29,9 +29,9 @@ zero_filled size p = p ++ replicate (size * block_count size (length p) - length
 abbrev pub exchanged : ℕ → ℕ → ℕ → List ℕ → List ℕ
 exchanged size m n x = take (size * m) x ++ block_at size x (m + 1) ++ take (n - size * (m + 1)) (block_at size x m)
 
--- c is the text p, enciphered in a chain with ciphertext stealing (RFC 3962, section 5): up to one block it is
--- the cipher of the zero-filled block; of more, the chain of the zero-filled text with the last two blocks
--- exchanged, also where the last one is whole, and cut to the length of the text
+-- c is the text p, encrypted in a chain with ciphertext stealing (RFC 3962, section 5). Up to one block, c is the cipher of
+-- the zero-padded block. Of more, c is the chain of the zero-padded text, cut to the length of the text. Its last two blocks
+-- are exchanged, even if the last one is whole.
 pub record IsStolen (size : ℕ) (E : List ℕ → List ℕ) (p c : List ℕ) : Type 0 where
   pub short : length p ≤ size → IsChained size E (zero_filled size p) c
   pub long : size < length p → (x : List ℕ) × IsChained size E (zero_filled size p) x × (c ≡ exchanged size (block_count size (length p) - 2) (length p) x)

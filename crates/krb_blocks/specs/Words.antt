@@ -14,7 +14,7 @@ bytes_of (w ∷ ws) = to_be_bytes w32 w ++ bytes_of ws
 abbrev pub block_of : Columns → List ℕ
 block_of s = bytes_of (s.a ∷ s.b ∷ s.c ∷ s.d ∷ [])
 
--- the key schedule of n rounds that stands in front in these words
+-- the key schedule of n rounds at the front of these words
 abbrev pub schedule_of : ℕ → List ℕ → List ℕ
 schedule_of n words = bytes_of (take (4 * n + 4) words)
 

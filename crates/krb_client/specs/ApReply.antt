@@ -24,7 +24,7 @@ pub sole_ap_part : (asked : ApAskedRecord) (sealed : EncryptedData) → IsSole (
 unfolding IsApPart
 sole_ap_part asked sealed = sole_sealed enc_ap_rep_part_tree enc_ap_rep_part-injective asked.suite asked.key 12 sealed
 
--- the part tells the second of the moment, and its microseconds
+-- the part has the second of the moment, and its microseconds
 abbrev pub tells : Micros → EncApRepPartInner → Bool
 tells moment part = (seconds_of part.ctime.0.0 == moment / 1000000) && is_number (moment % 1000000) part.cusec.0
 
@@ -32,7 +32,7 @@ tells moment part = (seconds_of part.ctime.0.0 == moment / 1000000) && is_number
 abbrev pub Shown : Type 0
 Shown = Result (Unit {0}) TakeRefusal
 
--- with the part opened: it tells the authenticator's time
+-- with the part opened: it must have the authenticator's time
 abbrev pub takes_time : ApAskedRecord → EncApRepPartInner → Table Shown
 takes_time asked part =
     refuse (not (tells asked.time part)) NotAsked

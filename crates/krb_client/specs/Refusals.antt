@@ -18,11 +18,11 @@ take_number take_refusal.NotSealed = 3
 take_number take_refusal.NotAsked = 4
 take_number take_refusal.Memory = 6
 
--- the answer is this one, or want of memory
+-- memory ran out, or the answer is this one
 abbrev pub IsMemoryAside : {T : Type 0} → Result T AskRefusal → Result T AskRefusal → Type 0
 IsMemoryAside answer wanted = (answer ≡ Err ask_refusal.Memory) ⊎ (answer ≡ wanted)
 
--- the answer is what the table gives, or want of memory
+-- memory ran out, or the table gives the answer
 abbrev pub IsTaken : {T : Type 0} → Table (Result T TakeRefusal) → Result T TakeRefusal → Type 0
 IsTaken table (Err take_refusal.Memory) = Unit {0}
 IsTaken table answer = table.gives answer

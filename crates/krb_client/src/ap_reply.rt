@@ -15,11 +15,11 @@ use picky_asn1::is_number;
 use std::alloc::Global;
 
 impl Client {
-    /// Takes a service's reply (RFC 4120, section 3.2.5), which shows that the service could open the ticket: it is sealed
-    /// under the session's key and tells the authenticator's time.
+    /// Takes a service's reply (RFC 4120, section 3.2.5). It shows that the service could open the ticket: it is encrypted
+    /// under the session key and has the authenticator's time.
     ///
-    /// `Refused` tells an error's code, whatever the error's version and type; the other refusals are in the order in which
-    /// they are looked for.
+    /// `Refused` carries an error's code, whatever the error's version and type. The other refusals are in the order in which
+    /// they are checked.
     pub fn take_ap_reply(
         &self,
         alloc: Global,
@@ -65,7 +65,7 @@ fn take_time(asked: &ApAsked, part: &EncApRepPartInner) -> Result<(), TakeRefusa
     Ok(())
 }
 
-// Whether the part tells the second of the moment, and its microseconds.
+// Whether the part has the second of the moment, and its microseconds.
 fn tells(moment: Moment, part: &EncApRepPartInner) -> bool
     ensures { result ≡ tells moment part.now }
 {

@@ -18,9 +18,9 @@ use std::alloc::{AllocError, Global};
 
 impl Client {
     /// The request to a service by what a realm granted, at the moment, and what the client has to remember for the reply
-    /// (RFC 4120, section 3.2.2); `mutual_required` asks for a reply, and `with_subkey` chooses a key for what follows.
+    /// (RFC 4120, section 3.2.2). `mutual_required` asks for a reply, and `with_subkey` chooses a key for what follows.
     ///
-    /// Of the random bytes the first are the confounder, and the subkey is that of 32 to 63. Memory is the only refusal.
+    /// The first random bytes are the confounder, and bytes 32 to 63 the subkey's seed. Fails only if memory runs out.
     pub fn ap_request(
         &self,
         alloc: Global,

@@ -27,7 +27,7 @@ use std::alloc::{AllocError, Global};
 /// The option `mutual-required`, bit 2, in the first of the options' octets (RFC 4120, section 5.5.1).
 const MUTUAL_REQUIRED: u8 = 0x20;
 
-// What an authenticator tells of the client, and of the microseconds of its time. It is made at once, so that what makes an
+// What an authenticator says of the client, and the microseconds of its time. It is made at once, so that what makes an
 // authenticator has one way out.
 #[derive(Drop)]
 struct Told {
@@ -92,8 +92,8 @@ fn authenticator_with(
     }
 }
 
-/// The AP request with the credential's ticket and the authenticator, which is sealed under the session's key for the usage
-/// (RFC 4120, section 5.5.1). Memory is the only refusal.
+/// The AP request with the credential's ticket and the authenticator, which is sealed under the session key for the usage
+/// (RFC 4120, section 5.5.1). Fails only if memory runs out.
 pub(crate) fn ap_request(
     alloc: Global,
     credential: &Credential,

@@ -71,8 +71,8 @@ impl Client {
         Ok(Client { realm, name, key })
     }
 
-    /// Realm and name are names, and the key has as many bytes as its suite's keys. It does nothing when it runs, and tells it
-    /// of a client that a caller was handed.
+    /// Realm and name are names, and the key has as many bytes as its suite's keys. It does nothing when it runs: its
+    /// contract states this of a client that a caller was handed.
     pub fn is_well_formed(&self)
         ensures realm { IsRealmName self.now.realm }
         ensures name { AreComponents self.now.components }

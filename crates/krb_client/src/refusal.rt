@@ -20,7 +20,7 @@ pub enum AskRefusal {
 }
 
 impl AskRefusal {
-    /// The refusal's number: 1 for a bad name, 3 for want of memory.
+    /// The refusal's number: 1 for a bad name, 3 if memory ran out.
     pub fn number(self) -> u32
         ensures { result ≡ ask_number self }
     {
@@ -65,7 +65,7 @@ pub enum TakeRefusal {
 
 impl TakeRefusal {
     /// The refusal's number: 1 for what isn't readable, 2 for an error, 3 for what isn't sealed, 4 for what wasn't asked,
-    /// 6 for want of memory.
+    /// 6 if memory ran out.
     pub fn number(self) -> u32
         ensures { result ≡ take_number self }
     {

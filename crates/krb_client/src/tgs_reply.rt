@@ -12,11 +12,12 @@ use krb_types::constants::types::TGS_REP_MSG_TYPE;
 use std::alloc::Global;
 
 impl Client {
-    /// What the reply to a request for a further ticket grants (RFC 4120, section 3.3.4), taken where it is sealed under the
-    /// session's key and answers that request: with its nonce, its client and its service, and with a key of a known suite.
+    /// What the reply to a request for a further ticket grants (RFC 4120, section 3.3.4). The reply is taken if it is encrypted
+    /// under the session key and answers that request. It must have the request's nonce, client and service, and a key of a known
+    /// suite.
     ///
-    /// `Refused` tells an error's code, whatever the error's version and type; the other refusals are in the order in which
-    /// they are looked for.
+    /// `Refused` carries an error's code, whatever the error's version and type. The other refusals are in the order in which
+    /// they are checked.
     pub fn take_tgs_reply(
         &self,
         alloc: Global,

@@ -141,7 +141,7 @@ impl Client {
     }
 }
 
-// The checksum of the session's suite over a text. Memory is the only refusal.
+// The checksum of the session's suite over a text. Fails only if memory runs out.
 fn checksum_over(
     alloc: Global,
     credential: &Credential,

@@ -36,7 +36,7 @@ pub const PA_ENC_TIMESTAMP: [u8; 1] = [2];
 /// What the key of such a time is used for (RFC 4120, section 7.5.1).
 pub const PA_ENC_TIMESTAMP_KEY_USAGE: i32 = 1;
 
-/// Data that says whether a PAC is wanted (MS-KILE, section 2.2.3).
+/// Data that says whether a PAC is to be included (MS-KILE, section 2.2.3).
 pub const PA_PAC_REQUEST_TYPE: [u8; 2] = [0x00, 0x80];
 
 /// Data that says how a key is made of a password (RFC 4120, section 7.5.2).

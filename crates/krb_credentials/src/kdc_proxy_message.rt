@@ -23,7 +23,7 @@ use std::alloc::Global;
 /// ```
 #[derive(Debug, Drop, PartialEq, Eq, Clone)]
 pub struct KdcProxyMessage {
-    /// The message behind its length in four octets, as it goes over TCP.
+    /// The message after its length in four octets, as TCP carries it.
     pub kerb_message: ExplicitContextTag0<OctetStringAsn1>,
     /// The realm that the message is for.
     pub target_domain: Optional<Option<ExplicitContextTag1<KerberosStringAsn1>>>,
@@ -34,7 +34,7 @@ pub struct KdcProxyMessage {
 impl KdcProxyMessage {
     ghost use Rattle.krb_credentials.specs.Trees.{kdc_proxy_message_tree};
 
-    /// Reads the message that begins `raw`. What stands behind it is left.
+    /// Reads the message that begins `raw`. Bytes after it are left.
     pub fn from_raw(alloc: Global, raw: &[u8]) -> Result<KdcProxyMessage, Asn1DerError>
         ensures { Reads kdc_proxy_message_tree raw.now result }
     {

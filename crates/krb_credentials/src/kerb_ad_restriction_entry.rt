@@ -6,7 +6,7 @@ use picky_asn1_der::{
     Tagged, fields_of, from_fields, read_sequence,
 };
 
-/// Authorization data that tells the integrity level of the client's process (MS-KILE, section 2.2.6).
+/// Authorization data with the integrity level of the client's process (MS-KILE, section 2.2.6).
 ///
 /// ```text
 /// KERB-AD-RESTRICTION-ENTRY ::= SEQUENCE {

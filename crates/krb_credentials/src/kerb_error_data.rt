@@ -6,7 +6,7 @@ use picky_asn1_der::{
     Serializer, Tagged, fields_of, from_fields, read_sequence,
 };
 
-/// What a KDC tells beside an error's code (MS-KILE, section 2.2.2).
+/// What a KDC adds to an error's code (MS-KILE, section 2.2.2).
 ///
 /// ```text
 /// KERB-ERROR-DATA ::= SEQUENCE {

@@ -1,4 +1,4 @@
-//! Whether a PAC is wanted.
+//! Whether a PAC is to be included.
 use devices::{Sink, Source};
 use picky_asn1_der::{
     Asn1DerError, Deserializer, ExplicitContextTag0, Fields, Row1, Serializer, Tagged, fields_of,

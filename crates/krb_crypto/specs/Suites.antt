@@ -12,7 +12,7 @@ use Rattle.krb_crypto.specs.declared.suite.CipherSuite.TheVariants.{Aes128CtsHma
 use Rattle.krb_crypto.specs.declared.suite.ChecksumSuite.{ChecksumSuite}
 use Rattle.krb_crypto.specs.declared.suite.ChecksumSuite.TheVariants.{HmacSha196Aes128, HmacSha196Aes256, HmacSha1Des3Kd, HmacSha256128Aes128, HmacSha384192Aes256}
 
--- what tells a suite from the others: every word of sealing is one of its profile
+-- the profile that distinguishes a suite from the others: all definitions of sealing are in terms of it
 abbrev pub cipher_profile : CipherSuite → Profile
 cipher_profile Aes128CtsHmacSha196 = aes128_profile
 cipher_profile Aes256CtsHmacSha196 = aes256_profile

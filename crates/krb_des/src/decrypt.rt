@@ -13,8 +13,8 @@ use super::{DES3_BLOCK_SIZE, check_key_length};
 use krb_blocks::{KerberosCryptoError, KerberosCryptoResult};
 use std::alloc::{AllocError, Global};
 
-/// The text of whole blocks that this is the chain of, by triple DES from an initial vector of zeros. Refused are a key
-/// that hasn't 24 bytes (`KeyLength`) and bytes that aren't whole blocks of eight (`CipherUnpad`).
+/// Decrypts whole blocks by triple DES in a chain, from an initial vector of zeros. A key that doesn't have 24 bytes
+/// (`KeyLength`) and bytes that aren't whole blocks of eight (`CipherUnpad`) are refused.
 pub fn decrypt_des(alloc: Global, key: &[u8], cipher_data: &[u8]) -> KerberosCryptoResult<Vec<u8>>
     ensures chained { IfOk result (λ p. IsChained 8 (triple_des_cipher key.now) p.items cipher_data.now) }
     ensures bytes { IfOk result (λ p. IsBytes p.items) }

@@ -1,4 +1,4 @@
-//! Sealing: the chain of a text filled with zeros (RFC 3961, section 6.3).
+//! Sealing: the chain of a text padded with zeros (RFC 3961, section 6.3).
 
 ghost use Rattle.std.specs.Prelude.{◌≡◌, ◌≢◌, ◌%◌, length, Err, IfOk, IfErr, OnOk};
 ghost use Rattle.krb_blocks.specs.Bytes.{sum_of_bytes};
@@ -12,8 +12,8 @@ use super::schedule::KeySchedule;
 use krb_blocks::KerberosCryptoResult;
 use std::alloc::{AllocError, Global};
 
-/// The cipher by triple DES, in a chain from an initial vector of zeros, of a text filled with zeros up to whole blocks.
-/// Refused is a key that hasn't 24 bytes (`KeyLength`).
+/// Encrypts a text, padded with zeros to whole blocks, by triple DES in a chain from an initial vector of zeros.
+/// A key that doesn't have 24 bytes is refused (`KeyLength`).
 pub fn encrypt_des(alloc: Global, key: &[u8], payload: &[u8]) -> KerberosCryptoResult<Vec<u8>>
     ensures chained { IfOk result
         (λ c. IsChained 8 (triple_des_cipher key.now) (zero_filled 8 payload.now) c.items) }

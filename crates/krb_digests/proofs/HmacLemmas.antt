@@ -39,7 +39,7 @@ pub length-hmac_of : (block : ℕ) (key message : List ℕ) → length (hmac_of 
 unfolding hmac_of sha1
 length-hmac_of block key message = length-digest_bytes _ 5
 
--- where both are short, nothing of the key is cut and nothing is filled
+-- if both are short, nothing of the key is cut and nothing is padded
 pub fitted-cut : (n : ℕ) (key payload out : List ℕ) → out ≡ fitted n (hmac_of sha1 64 (take 64 key) payload) → length key ≤ 64 → n ≤ 20
     → out ≡ take n (hmac_of sha1 64 key payload)
 fitted-cut n key payload out is short cut =

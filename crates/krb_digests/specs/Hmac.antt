@@ -2,11 +2,11 @@
 use Rattle.std.specs.Prelude.{◌≡◌, ℕ, ◌-◌, nat_lt, List, [], ◌∷◌, ◌++◌, length, map, take, replicate, bit_xor, if◌then◌else◌, codes, refl}
 use Rattle.sha1.specs.Sha1.{compress, digest_bytes, first_words, hash_after, rounds, schedule, sha1}
 
--- the first n of the bytes, filled with zeros where there are fewer
+-- the first n of the bytes, padded with zeros if there are fewer
 abbrev pub fitted : ℕ → List ℕ → List ℕ
 fitted n bytes = take n bytes ++ replicate (n - length bytes) 0
 
--- the key as one block: a longer key's digest, filled with zeros (RFC 2104, section 2, step 1, and 3)
+-- the key as one block, padded with zeros; of a longer key, its digest (RFC 2104, section 2, step 1, and section 3)
 unfoldable pub key_block : (List ℕ → List ℕ) → ℕ → List ℕ → List ℕ
 key_block digest block key = fitted block (if nat_lt block (length key) then digest key else key)
 

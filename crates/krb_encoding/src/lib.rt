@@ -13,10 +13,10 @@ const FIRST_OCTETS: usize = 256;
 // How many octets stand before a content of up to 4 GiB (X.690, section 8.1.3).
 const MOST_HEADER: usize = 6;
 
-/// The encoding of a value, which goes. Memory is the only refusal.
+/// Encodes and consumes `value`. Fails only if memory runs out.
 ///
-/// It takes the value, as [`tagged_encoding`] does: a check takes up to a minute for each function that lends a big message
-/// of its own, and none where it hands it on.
+/// It consumes the value, as [`tagged_encoding`] does. A check takes up to a minute for each function that lends a big
+/// message of its own, and none for a function that hands it on.
 pub fn encoding_of<T: Serialize + Drop>(alloc: Global, value: T) -> Result<Vec<u8>, AllocError>
     ensures { IfOk result (λ bytes. bytes.items ≡ der (T.tree value)) }
 {
@@ -26,8 +26,8 @@ pub fn encoding_of<T: Serialize + Drop>(alloc: Global, value: T) -> Result<Vec<u
     Ok(bytes)
 }
 
-/// The encoding of a value, which goes, under the application tag `TAG`, which is below 31: that of an `ApplicationTag`
-/// around it. Memory is the only refusal.
+/// Encodes and consumes `value` under the application tag `TAG`, which is below 31: an `ApplicationTag` around the value
+/// is encoded so. Fails only if memory runs out.
 pub fn tagged_encoding<T: Serialize + Drop, const TAG: u8>(
     alloc: Global,
     value: T,
@@ -40,7 +40,7 @@ where
     under_octet(alloc, 96 + TAG % 32, content)
 }
 
-/// The encoding of a value, which goes, in memory that grows where the first octets don't do. Its length isn't measured
+/// Encodes and consumes `value`, in memory that grows if the first octets aren't enough. The length isn't measured
 /// first.
 fn grown_encoding<T: Serialize + Drop>(alloc: Global, value: T) -> Result<Vec<u8>, AllocError>
     ensures { IfOk result (λ bytes. bytes.items ≡ der (T.tree value)) }

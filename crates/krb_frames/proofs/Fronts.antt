@@ -144,7 +144,7 @@ front_of-whole stream size rest b small message left fits taken =
     ∙ ap (λ l. Whole l (drop size (message ++ taken.rest))) (take_at message taken.rest size fits)
     ∙ ap (λ l. Whole message l) (drop_at message taken.rest size fits)
 
--- what was read into a buffer whose room was filled
+-- what was read into a buffer that is full
 pub IsTaken-from_IsFilled : (stream buffer : List ℕ) (left : Option (List ℕ)) (n : ℕ) → length buffer ≤ n → IsFilled stream left buffer n → IsTaken stream left buffer
 IsTaken-from_IsFilled stream buffer left n all filled = record {
   rest = filled.rest;

@@ -108,7 +108,7 @@ module _ (replies : List ℕ → ℕ → List ℕ → Option (List ℕ) → Type
     final = no_part s fault part is;
   }
 
-  -- what stands of the next reply is a front of what a run writes that goes on
+  -- the part of the next reply begins the output of a run that continues
   part-front : (s u : Left) (part reply : List ℕ) (rest : List (List ℕ)) → Part s part → Run replies s (reply ∷ rest) u → IsFrontOf part (concat (map framed (reply ∷ rest)))
   part-front s u part reply rest (inl none) run = (concat (map framed (reply ∷ rest)), ap (λ l. l ++ concat (map framed (reply ∷ rest))) (sym none))
   part-front s u part reply rest (inr (first, after, n, step, is)) (mid, other, run) =

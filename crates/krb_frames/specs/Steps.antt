@@ -99,7 +99,7 @@ module _ (replies : List ℕ → Micros → List ℕ → Option (List ℕ) → T
       × Appends old new (framed reply) × (left ≡ Some (drop 128 words))
 
 module _ (replies : List ℕ → Micros → List ℕ → Option (List ℕ) → Type 0) (wants : List ℕ → Type 0) where
-  -- memory was wanting for an answer, where the responder may want it for the message, or for the frame of a reply
+  -- memory ran out: for the answer, if the responder may need it for the message, or for the frame of a reply
   abbrev pub LacksMemory : List ℕ → Micros → List ℕ → Type 0
   LacksMemory message moment words = wants message ⊎ ((reply : List ℕ) × IsReply replies message moment words (Some reply) × (length reply ≤ 65536))
 

@@ -23,7 +23,7 @@ abbrev pub ServesFile : List ℕ → Micros → Devices → Devices → Result �
 ServesFile text moment old new served = (realm : RealmState) × IsRealmFile text realm
     × Serves (λ message moment words reply. Replies (call_to realm moment words) message reply) BeginsRequest moment old new served
 
--- `Untouched`: no device was read from or written to. A file that writes no realm leaves them so, and want of memory may, before serving
+-- `Untouched`: no device was read from or written to. This holds if a file writes no realm, and may hold if memory ran out
 abbrev pub IsEnd : Type 0 → List ℕ → Micros → Devices → Devices → Result ℕ Stop → Type 0
 IsEnd Untouched text moment old new (Ok count) = ServesFile text moment old new (Ok count)
 IsEnd Untouched text moment old new (Err BadArguments) = ⊥

@@ -52,7 +52,7 @@ fn moment_of<C: Clock>(clock: &C, text: &str) -> Option<Moment> {
     }
 }
 
-// The moment that the clock tells, none where it fails or is past the year 9999.
+// The clock's moment, or none if it fails or is past the year 9999.
 fn now<C: Clock>(clock: &C) -> Option<Moment> {
     let time = SystemTime::now(clock).ok()?;
     let elapsed = time.duration_since(UNIX_EPOCH).ok()?;
@@ -85,7 +85,7 @@ fn open_words<F: Files>(files: &F, path: &str) -> Result<Watched<F::File>, Stop>
     }
 }
 
-// Why the program stops by a failed call: for want of memory, or else as said.
+// Why the program stops after a failed call: memory ran out, or else `otherwise`.
 fn stop_by(fault: &io::Error, otherwise: Stop) -> Stop {
     match fault.kind() {
         ErrorKind::OutOfMemory => Stop::Fault(ServeFault::Memory),

@@ -10,7 +10,7 @@ pub fn one_realm()
     ensures { (text : List ℕ) (realm other : RealmState) → IsRealmFile text realm → IsRealmFile text other → realm ≡ other }
 {}
 
-/// A file that has a fault other than want of memory writes no realm.
+/// A file with a fault other than `Memory` writes no realm.
 pub fn no_realm_with_fault()
     ensures { (text : List ℕ) (fault : KdcFault) (realm : RealmState) → HasFault text fault → fault ≢ kdc_fault.Memory
         → ¬ IsRealmFile text realm }

@@ -40,12 +40,12 @@ use Rattle.krb_logins.specs.Steps.{IsAnswered, IsApAsked, IsAsAsked, IsTgsAsked,
 use Rattle.krb_logins.specs.declared.refusal.LoginRefusal.{LoginRefusal}
 use Rattle.krb_logins.specs.declared.refusal.LoginRefusal.TheVariants.{Admitted, Answered, Asked, Taken}
 
--- the answer is a refusal for want of memory
+-- the answer is a refusal since memory ran out
 abbrev Wants : {A E : Type 0} → (E → Type 0) → Result A E → Type 0
 Wants memory (Ok made) = ⊥
 Wants memory (Err refusal) = memory refusal
 
--- two answers are one, or one of them is want of memory
+-- two answers are one, or memory ran out in one of them
 abbrev AreOne : {A E : Type 0} → (E → Type 0) → Result A E → Result A E → Type 0
 AreOne memory result other = Wants memory result ⊎ Wants memory other ⊎ (result ≡ other)
 
@@ -92,7 +92,7 @@ module _ {A E T : Type 0} (memory : E → Type 0) (does : Result A E → Type 0)
 one_ended : {A : Type 0} (made : A) → IsOne IsWantOfMemory (ended made)
 one_ended made result other x y = inr (inr (x ∙ sym y))
 
--- want of memory of each party
+-- the refusals of each party if memory ran out
 abbrev AskWants : AskRefusal → Type 0
 AskWants refusal = refusal ≡ ask_refusal.Memory
 

@@ -1,4 +1,4 @@
--- The client takes the service's reply, whose part tells the authenticator's time.
+-- The client takes the service's reply, whose part has the authenticator's time.
 use Rattle.std.proofs.Common.{◌≡◌, ◌/◌, ◌%◌, ◌==◌, true, not, Option, None, Some, Ok, Err, refl, sym, ap, subst, arith}
 use Rattle.std.proofs.lemmas.Bool.{and_from, eq-eqb}
 use Rattle.std.specs.Prelude.{pos}
@@ -74,7 +74,7 @@ reply_taken asked suite key confounder bytes authenticator taken same_suite same
     let answer = past_ask (IsApRep bytes) (sole_ap_rep bytes) (done (Err Unreadable)) (takes_answer asked) (ap_rep_of x.part) taken read reply in
     answer_taken asked x.part (ap_rep_part authenticator) taken (tells_time asked.time authenticator second micros) opened answer
 
--- where a reply is wanted, there is one
+-- if a reply is required, there is one, and the client takes it
 pub wanted_taken : (asked : ApAskedRecord) (random : Random) (suite : CipherSuite) (key : Bytes) (authenticator : AuthenticatorInner) (reply : Option Bytes) (taken : Shown) → suite ≡ asked.suite → key ≡ asked.key
     → seconds_of authenticator.ctime.0.0 ≡ asked.time / 1000000 → authenticator.cusec.0 ≡ pos (asked.time % 1000000)
     → IsReply true random suite key authenticator reply → TakesApReply asked (reply_bytes reply) taken → taken ≡ Ok tt

@@ -24,7 +24,7 @@ whole_texts first (text ∷ texts) all =
     let parts = and_parts (is_general_string text) (are_texts texts) all in
     (whole_text first text parts.0, whole_texts first texts parts.1)
 
--- encrypted data, with a key's number or without
+-- encrypted data, with a kvno or without
 pub whole_encrypted : (encrypted : EncryptedData) → IsWhole (held.encrypted_data_tree encrypted)
 whole_encrypted encrypted =
     elim encrypted.kvno.0 as (λ o. IsWhole (held.encrypted_data_tree (record { etype = encrypted.etype; kvno = record { 0 = o }; cipher = encrypted.cipher }))) [

@@ -50,7 +50,7 @@ pub record IsClientKnown (client : ClientRecord) (realm : RealmRecord) : Type 0 
   pub suite : account.suite ≡ client.suite
   pub key : account.key ≡ client.key
 
--- the realm knows the service by its suite, its key and the key's number
+-- the realm knows the service by its suite, its key and its kvno
 pub record IsServiceKnown (service : ServiceRecord) (realm : RealmRecord) : Type 0 where
   pub account : AccountRecord
   pub found : realm.look service.entry.components ≡ Some account
@@ -113,19 +113,19 @@ login_number (Answered refusal) = 2
 login_number (Taken refusal) = 3
 login_number (Admitted refusal) = 4
 
--- the refusal is want of memory
+-- the refusal says that memory ran out
 abbrev pub IsWantOfMemory : LoginRefusal → Type 0
 IsWantOfMemory (Asked refusal) = refusal ≡ ask_refusal.Memory
 IsWantOfMemory (Answered refusal) = refusal ≡ answer_refusal.Memory
 IsWantOfMemory (Taken refusal) = refusal ≡ take_refusal.Memory
 IsWantOfMemory (Admitted refusal) = refusal ≡ admit_refusal.Memory
 
--- the result is want of memory
+-- the result says that memory ran out
 abbrev pub WantsMemory : {A : Type 0} → Result A LoginRefusal → Type 0
 WantsMemory (Ok made) = ⊥
 WantsMemory (Err refusal) = IsWantOfMemory refusal
 
--- client and service hold one session key, and the service was told the client's name; memory aside
+-- client and service hold one session key, and the service has the client's name; or memory ran out
 abbrev pub IsOneKey : ClientRecord → Result Login LoginRefusal → Type 0
 IsOneKey client (Ok login) =
     (login.0 ≡ login.1.session) × (login.1.realm ≡ client.realm) × (components login.1.client ≡ client.components)

@@ -86,7 +86,7 @@ module _ (client : ClientRecord) (realm : RealmRecord) (service : ServiceRecord)
       → (credential : CredentialRecord) × (taken ≡ Ok credential)
       × IsHeld met.honest.service.account login.realm_random_tgs (further_grant client realm login first span) credential
 
-  -- the service admits the client by it: it tells the session's key and the client, and it replies
+  -- the service admits the client by it: the admission has the session key and the client, and the client takes the reply
   unfoldable pub IsClientAdmitted : Type 0
   IsClientAdmitted = (first span : Span) (credential : CredentialRecord) (request : Bytes) (outcome : Outcome)
       → IsFirstSpan realm login first → IsFurtherSpan realm login first span

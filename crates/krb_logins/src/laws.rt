@@ -43,7 +43,7 @@ pub fn client_admitted()
         → IsClientAdmitted client realm service before login met }
 {}
 
-/// Every honest login ends with one session key on both sides, under the client's name; or with want of memory.
+/// Every honest login ends with one session key on both sides, under the client's name, or memory runs out.
 pub fn one_key()
     ensures { (client : ClientRecord) (realm : RealmRecord) (service : ServiceRecord) (before : RememberedRecord) (login : LoginRecord) (result : Result Login LoginRefusal) (after : RememberedRecord)
         → IsMet client realm service before login → LoginRun client realm service login before result after → IsOneKey client result }

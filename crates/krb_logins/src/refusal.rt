@@ -7,7 +7,7 @@ use krb_client::{AskRefusal, TakeRefusal};
 use krb_frames::AnswerRefusal;
 use thiserror::Error;
 
-/// Why a login ends before client and service share a key. Each tells the cause.
+/// Why a login ends before client and service share a key. Each variant has the cause.
 #[derive(Clone, Copy, Debug, PartialEq, Eq, Error)]
 pub enum LoginRefusal {
     /// The client doesn't ask.

@@ -1,4 +1,4 @@
--- The second in which a moment lies, as messages tell it (RFC 4120, section 5.2.3).
+-- The second in which a moment lies, as messages state it (RFC 4120, section 5.2.3).
 use Rattle.std.specs.Prelude.{◌≡◌, ◌/◌}
 use Rattle.std.proofs.Common.{sym, ◌∙◌}
 use Rattle.asn1_leaves.specs.declared.date.GeneralizedTime.{GeneralizedTime}

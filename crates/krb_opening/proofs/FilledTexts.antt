@@ -26,11 +26,11 @@ module _ (text bytes rest front fill : List ℕ) (took : text ≡ bytes ++ rest)
   both_are : front ++ fill ≡ text
   both_are = ap (λ (s : List ℕ). s ++ fill) front_is ∙ ap (λ (s : List ℕ). bytes ++ s) fill_is ∙ sym took
 
-  -- it is the fill: the value's encoding fills the text
+  -- it is the padding: the value's encoding, once padded, is the text
   pub value_filled : {T : Type 0} (tree : T → Tree) (suite : CipherSuite) (value : T) → Writes {T = T} tree value bytes → front ++ fill ≡ cipher_filled suite front → IsFilledBy {T = T} tree suite text value
   value_filled tree suite value writes whole = (bytes, writes, ap (cipher_filled suite) (sym front_is) ∙ sym whole ∙ both_are)
 
-  -- it isn't: no value's does
+  -- it isn't: no value's padded encoding is the text
   pub none_filled : {T : Type 0} (tree : T → Tree) → IsInjective {T = T} tree → (suite : CipherSuite) (value : T) → Writes {T = T} tree value bytes → (front ++ fill ≡ cipher_filled suite front → ⊥)
       → (other : T) → IsFilledBy {T = T} tree suite text other → ⊥
   none_filled {T} tree injective suite value writes differs other x =

@@ -26,7 +26,7 @@ is_numbered n kind told = subst (λ (k : ℤ). is_number n k ≡ true) (sym told
 numbers_agree : (m n : ℕ) (kind : ℤ) → kind ≡ pos n → is_number m kind ≡ true → m ≡ n
 numbers_agree m n kind told is = sym (eqb-true n m (subst (λ (k : ℤ). is_number m k ≡ true) told is))
 
--- a key that tells a suite's number and has the length of its keys is one of it
+-- a key that has a suite's number and the length of its keys is a key of that suite
 pub suite_of_sized : (key : EncryptionKey) (suite : CipherSuite) → key.key_type.0 ≡ pos (cipher_number suite) → length key.key_value.0 ≡ cipher_key_size suite → suite_of key ≡ Some suite
 suite_of_sized key suite told sized =
     suite_found (λ s. is_key_of s key) suite (and_from _ _ (is_numbered (cipher_number suite) key.key_type.0 told) (eq-eqb (length key.key_value.0) (cipher_key_size suite) sized))

@@ -11,7 +11,7 @@ use Rattle.asn1_octets.specs.declared.error.Asn1DerError.TheVariants.{Memory}
 use Rattle.krb_opening.specs.Filled.{IsFilledBy, ReadsFilled}
 use Rattle.krb_opening.specs.Opens.{Opens}
 
--- a suite sealed this text to the bytes, and no other but for its fill
+-- the suite sealed this text to the bytes, and no other text but for its padding
 abbrev pub IsDecrypted : CipherSuite → List ℕ → ℕ → List ℕ → List ℕ → Type 0
 IsDecrypted suite key usage plain bytes =
     (conf : List ℕ) × IsSealedBy suite key usage conf plain bytes

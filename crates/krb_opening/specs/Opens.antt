@@ -22,17 +22,17 @@ pub record Opens {T : Type 0} (tree : T → Tree) (number : ℕ) (key : Bytes) (
   pub writes : Writes tree value plain
   pub sealed : IsSealed number key usage conf plain bytes
 
--- the fault is want of memory
+-- the fault says that memory ran out
 abbrev pub IsWantOfMemory : OpenFault → Type 0
 IsWantOfMemory (Crypto fault) = fault ≡ crypto.Memory
 IsWantOfMemory (Der fault) = fault ≡ der_fault.Memory
 
--- the one value with the property, or, memory aside, there is none
+-- the one value with the property, or there is none, or memory ran out
 abbrev pub IsOpened : {T : Type 0} → (T → Type 0) → Result T OpenFault → Type 0
 IsOpened {T} P (Ok value) = P value × ((other : T) → P other → other ≡ value)
 IsOpened {T} P (Err fault) = IsWantOfMemory fault ⊎ ((other : T) → P other → ⊥)
 
--- one value at most is sealed to the bytes: an encoding tells where it ends, so no other one has the same fill behind it
+-- at most one value is sealed to the bytes: an encoding says where it ends, so no other has the same padded form
 pub sole_opens : {T : Type 0} (tree : T → Tree) → IsInjective {T = T} tree → (number : ℕ) (key : Bytes) (usage : ℕ) (bytes : Bytes) (v w : T)
     → Opens {T = T} tree number key usage bytes v → Opens {T = T} tree number key usage bytes w → v ≡ w
 sole_opens {T} tree injective number key usage bytes v w x y =

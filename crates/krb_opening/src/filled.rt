@@ -1,11 +1,11 @@
-//! Reading a value behind whose encoding a suite's fill may stand.
+//! Reads a value whose encoding a suite's padding may follow.
 ghost use Rattle.krb_opening.specs.Filled.{ReadsFilled};
 
 use asn1_codec::{Asn1DerError, Deserialize, from_reader_with_max_len};
 use krb_crypto::CipherSuite;
 use std::alloc::Global;
 
-/// The value whose encoding, as the suite fills it, is the text.
+/// The value whose encoding, as the suite pads it, is the text.
 pub(crate) fn read_filled<T: Deserialize + Drop>(
     alloc: Global,
     suite: CipherSuite,

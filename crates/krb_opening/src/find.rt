@@ -1,4 +1,4 @@
-//! Reading and opening where a fault beside want of memory says that there is nothing.
+//! Reading and opening, where any fault but `Memory` says that there is nothing.
 ghost use Rattle.std.specs.Prelude.{◌≡◌, ◌↔◌, IfOk, IsTrue};
 ghost use Rattle.std.specs.Int.{cast_unsigned, w32};
 ghost use Rattle.asn1_trees.specs.Tree.{Writes};
@@ -12,7 +12,7 @@ use krb_crypto::{KerberosCryptoError, Key};
 use std::alloc::{AllocError, Global};
 
 impl OpenFault {
-    /// Whether the fault is want of memory, and so says nothing of what is sealed.
+    /// Whether memory ran out. Such a fault says nothing about what is sealed.
     pub fn is_memory(&self) -> bool
         ensures { IsTrue result ↔ IsWantOfMemory self.now }
     {

@@ -21,7 +21,7 @@ pub enum OpenFault {
     Der(Asn1DerError),
 }
 
-/// The value whose encoding is sealed here under this key, for this usage, with nothing behind it but the suite's fill (RFC 3961,
+/// The value whose encoding is sealed here under this key for this usage, followed only by the suite's padding (RFC 3961,
 /// section 5.3).
 pub fn open_part<T: Deserialize + Drop>(
     alloc: Global,

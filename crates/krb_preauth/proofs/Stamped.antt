@@ -1,4 +1,4 @@
--- The stamp in the encoding of encrypted data is the one in the encrypted data.
+-- The encrypted timestamp in the encoding of encrypted data is the one in the encrypted data.
 use Rattle.std.proofs.Common.{ℕ, List, Option, None, Some, Result, Ok, Err, sym, subst, ◌∙◌}
 use Rattle.std.specs.Prelude.{IfOk}
 use Rattle.asn1_trees.specs.Tree.{Writes}

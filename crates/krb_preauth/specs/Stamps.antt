@@ -16,8 +16,8 @@ use Rattle.krb_moments.specs.Units.{Micros}
 abbrev pub stamp_tree : PaEncTsEnc → Tree
 stamp_tree = held.pa_enc_ts_enc_tree
 
--- the bytes are the encoding of encrypted data in which the stamp is sealed under the account's key (usage 1; RFC 4120,
--- section 7.5.1)
+-- the bytes are the encoding of encrypted data in which the timestamp is sealed under the account's key (key usage 1;
+-- RFC 4120, section 7.5.1)
 pub record IsStamp (account : AccountRecord) (bytes : Bytes) (stamp : PaEncTsEnc) : Type 0 where
   pub sealed : EncryptedData
   pub writes : Writes held.encrypted_data_tree sealed bytes
@@ -35,6 +35,6 @@ abbrev pub or_zero : Option ℤ → ℤ
 or_zero None = pos 0
 or_zero (Some micros) = micros
 
--- the moment that the stamp tells, or none where its microseconds are no part of a second
+-- the moment of the timestamp, or none if its microseconds are no part of a second
 unfoldable pub moment_of : PaEncTsEnc → Option Micros
 moment_of stamp = moment_at (seconds_of stamp.patimestamp.0.0) (or_zero (option_map (λ tagged. tagged.0) stamp.pausec.0))

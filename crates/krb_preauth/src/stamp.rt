@@ -10,7 +10,7 @@ use krb_types::constants::key_usages;
 use krb_types::data_types::{EncryptedData, PaEncTsEnc};
 use std::alloc::{AllocError, Global};
 
-/// The stamp that the account's key seals in the data of an entry, its encoding, or none.
+/// The encrypted timestamp that a padata's value encodes, decrypted with the account's key, or none.
 pub fn open_stamp(
     alloc: Global,
     account: &Account,
@@ -27,7 +27,7 @@ pub fn open_stamp(
     stamp
 }
 
-/// The moment that a stamp tells, or none where its microseconds are no part of a second. Missing ones are zero.
+/// The moment of a timestamp, or none if its microseconds are no part of a second. Missing microseconds are zero.
 #[tactic(auto, unfolding(crate::specs::Stamps::moment_of))]
 pub fn moment_of(stamp: &PaEncTsEnc) -> Option<Moment>
     ensures { result ≡ moment_of stamp.now }

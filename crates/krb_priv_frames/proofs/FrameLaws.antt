@@ -7,12 +7,12 @@ use Rattle.byte_layouts.proofs.NumberLaws.{length-be16}
 use Rattle.byte_layouts.proofs.PartLaws.{stands-append, cut-append}
 use Rattle.krb_priv_frames.specs.Frames.{IsHeader, IsFramed, IsFrame, framed, frame_bytes}
 
--- a part between others stands behind those in front of it
+-- a part between others follows those before it
 pub stands-behind : (place : ℕ) (front bytes rest : List ℕ) → length front ≡ place → Stands (part place bytes) (front ++ (bytes ++ rest))
 stands-behind place front bytes rest long =
     ap (take (length bytes)) (drop_at front (bytes ++ rest) place long) ∙ take_at bytes rest (length bytes) refl
 
--- behind a header, and with nothing behind the last
+-- the last part follows those before it, and nothing follows it
 pub stands-last : (place : ℕ) (front bytes : List ℕ) → length front ≡ place → Stands (part place bytes) (front ++ bytes)
 stands-last place front bytes long =
     ap (take (length bytes)) (drop_at front bytes place long) ∙ take_all (length bytes) bytes (omega arith)

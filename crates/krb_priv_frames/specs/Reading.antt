@@ -37,7 +37,7 @@ pub record IsBroken (bytes : List ℕ) (after : Option (List ℕ)) (old new : �
 abbrev pub IsHeaderRefusal : List ℕ → Option (List ℕ) → ℕ → ℕ → Option ErrorKind → ErrorKind → Type 0
 IsHeaderRefusal bytes after old new last e = IsBroken bytes after old new last e ⊎ IsHeaderFault bytes e
 
--- memory was wanting, or the device failed
+-- memory ran out, or the device failed
 abbrev pub IsExcuse : ℕ → ℕ → Option ErrorKind → ErrorKind → Type 0
 IsExcuse old new last e = (e ≡ OutOfMemory) ⊎ IsDeviceFault old new last e
 
@@ -66,7 +66,7 @@ pub record HasNoParts {A P : Type 0} (reads_ap : A → List ℕ → Type 0) (rea
   pub version : be16_at 2 bytes ≡ 1
   pub none : IsUnframed reads_ap reads_private bytes
 
--- why no frame was read: want of memory, a device that failed, the header, or the parts
+-- why no frame was read: memory ran out, a device failed, or the header or the parts are wrong
 abbrev pub IsRefusal : {A P : Type 0} → (A → List ℕ → Type 0) → (P → List ℕ → Type 0) → List ℕ → Option (List ℕ) → ℕ → ℕ → Option ErrorKind → ErrorKind → Type 0
 IsRefusal reads_ap reads_private bytes after old new last e =
     (e ≡ OutOfMemory) ⊎ (IsHeaderRefusal bytes after old new last e ⊎ ((e ≡ InvalidData) × HasNoParts reads_ap reads_private bytes))

@@ -6,11 +6,11 @@ use Rattle.asn1_octets.specs.declared.error.Asn1DerError.{Asn1DerError}
 use Rattle.asn1_octets.specs.declared.error.Asn1DerError.TheVariants.{Memory}
 use Rattle.asn1_octets.specs.declared.error.Unsupported.{Unsupported}
 
--- memory was wanting, or a length is past its two bytes
+-- memory ran out, or a length is past its two bytes
 abbrev pub IsTooLong : List ℕ → List ℕ → ErrorKind → Type 0
 IsTooLong ap private e = (e ≡ OutOfMemory) ⊎ ((e ≡ InvalidInput) × (2 ^ 16 ≤ 6 + length ap + length private))
 
--- memory was wanting, or the type of a value refuses to write it
+-- memory ran out, or the type of a value refuses to write it
 abbrev pub IsUnwritten : Option Unsupported → ErrorKind → Type 0
 IsUnwritten refusal e = (e ≡ OutOfMemory) ⊎ ((e ≡ InvalidInput) × (refusal ≡ None → ⊥))
 

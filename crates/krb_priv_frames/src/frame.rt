@@ -33,8 +33,9 @@ impl<A: FromDer, P: FromDer> KrbPrivFrame<A, P> {
     /// Reads a frame, and leaves what follows it. Its lengths aren't judged: each part is as long as its DER says, and of at
     /// most 10,240 bytes.
     ///
-    /// Answered is what comes first in the bytes: `InvalidData` for a wrong version, `UnexpectedEof` for fewer than six
-    /// bytes, and `InvalidData` for a part that is no DER of its type; or a fault of the device, or `OutOfMemory`.
+    /// The first fault in the order of the bytes is returned. It is `InvalidData` for a wrong version, `UnexpectedEof` for
+    /// fewer than six bytes, and `InvalidData` for a part that is no DER of its type. Or the device failed, or memory ran
+    /// out (`OutOfMemory`).
     pub fn deserialize<R: Source>(
         alloc: Global,
         reader: &mut R,

@@ -1,4 +1,4 @@
-//! The six bytes that stand in front: two lengths, and the version between them.
+//! The first six bytes: two lengths, and the version between them.
 ghost use Rattle.std.specs.Prelude.{◌≡◌, ℕ, ◌<◌, ◌≤◌, ◌⊎◌, List, length, IfOk, IfErr, IfSome};
 ghost use Rattle.std.specs.Io.KnownBytes.{Consumes};
 ghost use Rattle.std.specs.declared.io.ErrorKind.{ErrorKind};

@@ -15,7 +15,7 @@ is_request_octet octet = octet == 106 || octet == 108
 abbrev pub BeginsRequest : Bytes → Type 0
 BeginsRequest bytes = IsTrue (option_map_or is_request_octet (slice_get bytes 0) false)
 
--- the reply, none where the message is no request; or want of memory
+-- the reply, none if the message is no request; or memory ran out
 abbrev pub IsAnswer : (Option Bytes → Type 0) → Result (Vec ℕ Global) AnswerRefusal → Type 0
 IsAnswer replies (Ok reply) = replies (Some reply.items)
 IsAnswer replies (Err Unreadable) = replies None

@@ -25,10 +25,10 @@ use krb_types::data_types::EncryptionKey;
 use picky_asn1::wrapper::{GeneralStringAsn1, OctetStringAsn1};
 use std::alloc::{AllocError, Global};
 
-/// Logs a client in at a service by its password: the client asks the realm for a first ticket and by it for one for the
-/// service, and by that it is admitted (RFC 4120, sections 3.1, 3.3, 3.2). Each step takes the bytes of the one before it, and
-/// the first refusal ends the login. It tells the client's key of the session, and what the service was told: if the login is
-/// honest, that key is the one that the service was told, and the client is named.
+/// Logs a client in at a service by its password (RFC 4120, sections 3.1, 3.3, 3.2). The client asks the realm for a first
+/// ticket, and by it for one for the service. The service admits it by that. Each step takes the bytes of the one before
+/// it, and the first refusal ends the login. The result is the client's session key, and what the service was told. If the
+/// login is honest, that key is the one that the service was told, and the client is named.
 pub fn login_by_password(
     alloc: Global,
     client: &Client,
@@ -306,7 +306,7 @@ fn keyed(
     Ok((key, admission))
 }
 
-// The client takes the service's reply, and tells the session's key.
+// The client takes the service's reply, and returns the session key.
 fn show(
     alloc: Global,
     client: &Client,

@@ -305,7 +305,7 @@ fn begins_request(bytes: &[u8]) -> bool
     }
 }
 
-// The account's key is one of its suite. It does nothing when it runs, and tells it of an account that a caller has.
+// The account's key is one of its suite. It does nothing when it runs: its contract states this of a caller's account.
 fn is_keyed(account: &Account)
     ensures { IsKeyed account.now }
 {

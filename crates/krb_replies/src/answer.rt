@@ -64,7 +64,7 @@ fn tgs_answer(alloc: Global, call: &Call<'_>, request: &KdcReq) -> Result<Vec<u8
     answer(alloc, call, request, judged)
 }
 
-// What is granted, or the error that tells this about the request's service.
+// What is granted, or the error with this code and e-data about the request's service.
 fn answer(
     alloc: Global,
     call: &Call<'_>,
@@ -82,7 +82,7 @@ fn answer(
     }
 }
 
-// The ticket that an AS request is granted, or what the error that answers it tells.
+// The ticket that an AS request is granted, or the code and e-data of the error that answers it.
 fn judge(
     alloc: Global,
     call: &Call<'_>,
@@ -107,7 +107,7 @@ fn judge(
     }
 }
 
-// The ticket that a TGS request is granted, or what the error that answers it tells.
+// The ticket that a TGS request is granted, or the code and e-data of the error that answers it.
 fn judge_further(
     alloc: Global,
     call: &Call<'_>,
@@ -123,8 +123,8 @@ fn judge_further(
     }
 }
 
-// The error that tells this, and answers a request for this service; where it names none, for the realm's ticket-granting
-// service.
+// The error with this code and e-data that answers a request for this service. If the request names none, the error is
+// about the realm's ticket-granting service.
 fn error_answer(
     alloc: Global,
     call: &Call<'_>,
@@ -144,7 +144,7 @@ fn error_answer(
     Ok(reply)
 }
 
-// The error that tells this about a service.
+// The error with this code and e-data about a service.
 fn error_about(
     alloc: Global,
     call: &Call<'_>,
@@ -160,7 +160,7 @@ fn error_about(
     Ok(reply)
 }
 
-// What an error tells beside its code: with the one that asks for preauthentication, how the client authenticates.
+// The e-data of an error: with the one that asks for preauthentication, how the client authenticates.
 fn hint_of(
     alloc: Global,
     client: Option<&Account>,

@@ -77,7 +77,8 @@ impl<'a> Serialize for LentError<'a> {
     }
 }
 
-/// The encoding of an error that tells this, at a time and its microseconds, about a service (RFC 4120, section 5.9.1).
+/// The encoding of an error with this code and e-data, at a time and its microseconds, about a service (RFC 4120, section
+/// 5.9.1).
 pub(crate) fn error_reply(
     alloc: Global,
     realm: &GeneralStringAsn1,

@@ -1,6 +1,6 @@
-//! What an error tells.
+//! What an error says.
 
-/// What an error tells that answers a request.
+/// What an error that answers a request says: its code and e-data.
 #[derive(Drop)]
 pub(crate) struct Told {
     /// The code (RFC 4120, section 7.5.9).

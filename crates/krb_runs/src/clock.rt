@@ -1,4 +1,4 @@
-//! The moment that a machine's clock tells.
+//! The moment of a machine's clock.
 ghost use Rattle.std.specs.Prelude.{◌<◌, ◌≤◌, SomeIff};
 ghost use Rattle.krb_moments.specs.Moment.{IsMoment};
 ghost use Rattle.krb_runs.specs.Clock.{micros_after_epoch};

@@ -21,12 +21,12 @@ encryption_key suite key = record {
   key_value = record { 0 = key };
 }
 
--- the key's number, where one is told
+-- the kvno, if there is one
 abbrev pub key_number : Option ℕ → Option (ExplicitContextTag 1 ℤ)
 key_number None = None
 key_number (Some number) = Some (record { 0 = pos number })
 
--- ciphertext with the number of its suite and, where one is told, of the key
+-- ciphertext with the number of its suite and the kvno, if there is one
 abbrev pub encrypted_by : CipherSuite → Option ℕ → Bytes → EncryptedData
 encrypted_by suite number cipher = record {
   etype = record { 0 = pos (cipher_number suite) };

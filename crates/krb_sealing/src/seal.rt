@@ -10,8 +10,8 @@ use picky_asn1::wrapper::{IntegerAsn1, OctetStringAsn1};
 use picky_asn1_der::{ExplicitContextTag, ExplicitContextTag1, Optional};
 use std::alloc::{AllocError, Global};
 
-/// The text, sealed under the key for the usage behind the confounder, with the number of the suite and, where it is given,
-/// that of the key (RFC 4120, section 5.2.9). Memory is the only refusal.
+/// The text, sealed under the key for the usage after the confounder. It has the number of the suite and, if it is given,
+/// the kvno (RFC 4120, section 5.2.9). Fails only if memory runs out.
 pub fn sealed_data(
     alloc: Global,
     key: &Key,

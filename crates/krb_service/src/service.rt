@@ -79,8 +79,8 @@ impl Service {
         })
     }
 
-    /// The service's realm and name are names, its key has as many bytes as its suite's keys, and its number is 1 or more. It
-    /// does nothing when it runs, and tells it of a service that a caller was handed.
+    /// The service's realm and name are names, its key has as many bytes as its suite's keys, and its kvno is 1 or more. It
+    /// does nothing when it runs: its contract states this of a service that a caller was handed.
     pub fn is_well_formed(&self)
         ensures { IsServiceEntry self.now.entry }
     {
@@ -89,7 +89,7 @@ impl Service {
     }
 
     /// What the service holds is the window of a list of admitted pairs: of those that it holds. It does nothing when it
-    /// runs, and tells it of a service that a caller was handed.
+    /// runs: its contract states this of a service that a caller was handed.
     pub fn holds_window(&self)
         ensures { IsWindow self.now.seen self.now.seen.held }
     {

@@ -60,7 +60,7 @@ pub enum SettingsFault {
     /// The file is longer than [`crate::SETTINGS_LIMIT`].
     #[error("more than 1,048,576 bytes")]
     TooLong,
-    /// The file is no TOML text. The fault tells line and column.
+    /// The file is no TOML text. The fault has line and column.
     #[error("{0}")]
     NotToml(de::Error),
     /// A fault of the file's own table.

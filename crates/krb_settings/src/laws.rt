@@ -10,7 +10,7 @@ pub fn one_realm()
     ensures { (text : List ℕ) (realm other : WrittenRealm) → IsRealmText text realm → IsRealmText text other → realm ≡ other }
 {}
 
-/// A file that has a fault other than want of memory writes no realm.
+/// A file with a fault other than `Memory` writes no realm.
 pub fn no_realm_with_fault()
     ensures { (text : List ℕ) (fault : SettingsFault) (realm : WrittenRealm) → HasFault text fault → fault ≢ settings_fault.Memory
         → ¬ IsRealmText text realm }

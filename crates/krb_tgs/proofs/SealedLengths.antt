@@ -15,7 +15,7 @@ use Rattle.krb_types.specs.declared.data_types.encrypted_data.EncryptedData.{Enc
 use Rattle.krb_opening.specs.Sealed.{IsSealedIn}
 use Rattle.krb_as.proofs.Short.{Fits, IsShort}
 
--- a chain of a filled text is as long as that
+-- a chain of a padded text is at least as long as the text
 chained_longer : (size : ℕ) (E : List ℕ → List ℕ) (p c : List ℕ) → IsChained size E (zero_filled size p) c → length p ≤ length c
 chained_longer size E p c chained =
     omega (arith, chained.same_length, length-append p (replicate (size * block_count size (length p) - length p) 0))

@@ -59,7 +59,7 @@ fn is_known_checksum(kind: &IntegerAsn1) -> bool
         .any(|suite| is_number(kind, u32::from(suite)))
 }
 
-// The checksum is that of the body's encoding. Memory is the only refusal.
+// The checksum is that of the body's encoding. Fails only if memory runs out.
 fn is_of_body(
     alloc: Global,
     key: &Key,

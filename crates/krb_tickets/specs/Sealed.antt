@@ -34,7 +34,7 @@ kdc_reply_tree Tgs = tgs_rep_tree
 unfoldable pub kdc_reply_bytes : Exchange → KdcRep → Bytes
 kdc_reply_bytes exchange reply = der (kdc_reply_tree exchange reply)
 
--- the data is the plaintext, sealed under the account's key for the usage, behind the confounder, with the key's number
+-- the data is the plaintext, sealed under the account's key for the usage, after the confounder, with the kvno
 abbrev pub IsSealedData : AccountRecord → ℕ → Bytes → Bytes → EncryptedData → Type 0
 IsSealedData account = Seals account.suite account.key (Some account.number)
 

@@ -10,8 +10,8 @@ use picky_asn1::wrapper::{Asn1SequenceOf, GeneralStringAsn1, IntegerAsn1, OctetS
 use picky_asn1_der::{ExplicitContextTag, Optional};
 use std::alloc::{AllocError, Global};
 
-/// The data of an error that asks for preauthentication (RFC 4120, sections 5.9.1 and 5.2.7.5): how the client makes
-/// its key, and that a sealed time is wanted.
+/// The e-data of an error that asks for preauthentication (RFC 4120, sections 5.9.1 and 5.2.7.5). It says how the client
+/// makes its key, and that an encrypted timestamp is required.
 #[tactic(auto, unfolding(crate::specs::MethodData::method_data, crate::specs::MethodData::method_data_bytes))]
 pub fn method_data(alloc: Global, client: &Account) -> Result<Vec<u8>, AllocError>
     ensures { IfOk result (λ bytes. bytes.items ≡ method_data_bytes client.now) }

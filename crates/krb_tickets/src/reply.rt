@@ -40,7 +40,7 @@ pub struct ReplyKey<'a> {
     pub exchange: Exchange,
     /// The key.
     pub key: &'a Key,
-    /// The key's number, where it is told.
+    /// The kvno, if there is one.
     pub number: Option<u32>,
     /// What the key is used for (RFC 4120, section 7.5.1).
     pub usage: i32,
@@ -86,7 +86,7 @@ impl<'a> ReplyKey<'a> {
     }
 }
 
-/// The reply's part under the reply key, behind the confounder. Memory is the only refusal.
+/// The reply's part under the reply key, after the confounder. Fails only if memory runs out.
 pub fn sealed_reply(
     alloc: Global,
     grant: &Grant,

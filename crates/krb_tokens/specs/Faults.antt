@@ -38,7 +38,7 @@ of_whole_fault whole.Full = IoError WriteZero
 of_whole_fault (whole.Failed kind) = IoError kind
 of_whole_fault whole.Memory = Memory
 
--- a write stopped with this fault, and the device counted it and tells its kind
+-- a write stopped with this fault: the device counted it and holds its kind
 pub record IsWriteFault (old new : ℕ) (last : Option ErrorKind) (fault : GssApiMessageError) : Type 0 where
   pub stop : WholeFault
   pub answered : fault ≡ of_whole_fault stop
@@ -52,7 +52,7 @@ pub record IsDeviceFault (old new : ℕ) (last : Option ErrorKind) (fault : GssA
   pub counted : new ≡ one_more old
   pub told : last ≡ Some cause
 
--- memory was wanting, or the device failed behind some bytes
+-- memory ran out, or the device failed behind some bytes
 abbrev pub IsRestFault : Option (List ℕ) → Option (List ℕ) → ℕ → ℕ → Option ErrorKind → GssApiMessageError → Type 0
 IsRestFault left after old new last fault =
     ((fault ≡ Memory) × (new ≡ old)) ⊎ (IsDeviceFault old new last fault × (came : List ℕ) × Consumes left after came)

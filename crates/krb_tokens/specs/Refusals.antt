@@ -17,7 +17,7 @@ pub record IsBroken (kind : TokenKind) (whole : List ℕ) (after : Option (List 
   pub id : id_judged kind came ≡ Ok tt
   pub filler : filler_judged kind came ≡ Ok tt
 
--- memory was wanting, or the device failed
+-- memory ran out, or the device failed
 abbrev pub IsExcuse : TokenKind → List ℕ → Option (List ℕ) → ℕ → ℕ → Option ErrorKind → GssApiMessageError → Type 0
 IsExcuse kind whole after old new last fault = (fault ≡ Memory) ⊎ IsBroken kind whole after old new last fault
 

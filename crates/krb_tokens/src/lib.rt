@@ -1,5 +1,5 @@
-//! Tokens of the GSS-API mechanism of Kerberos (RFC 4121, section 4.2.6), and the record that tells a service of a
-//! process's integrity level (MS-KILE, section 2.2.5).
+//! Tokens of the GSS-API mechanism of Kerberos (RFC 4121, section 4.2.6), and the record by which a service learns
+//! a process's integrity level (MS-KILE, section 2.2.5).
 #![tactic(auto)]
 
 mod error;

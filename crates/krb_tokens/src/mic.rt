@@ -132,8 +132,8 @@ impl MicToken {
 
     /// Reads a token to the end of `reader`; its payload is none.
     ///
-    /// Answered is what comes first in the bytes: InvalidId, InvalidMicFiller, or IoError where they end within the
-    /// first 16; where the device fails behind bytes in which nothing is wrong, its fault.
+    /// The first fault in the order of the bytes is returned: InvalidId, InvalidMicFiller, or IoError if they end within the
+    /// first 16. If the device fails after bytes in which nothing is wrong, its fault is returned.
     pub fn decode<R: Source>(alloc: Global, reader: &mut R) -> Result<MicToken, GssApiMessageError>
         ensures found { IfOk result (λ t. (whole : List ℕ) × IsMicToken (mic_of t) whole
             × Consumes (R.left reader.old) (R.left reader.new) whole) }

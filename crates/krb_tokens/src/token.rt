@@ -1,4 +1,4 @@
-//! Tokens as a header and what stands behind it.
+//! Tokens as a header and the bytes after it.
 ghost use Rattle.std.specs.Prelude.{◌≡◌, ℕ, List, ◌++◌, length, take, Ok, Err, IfOk, IfErr, IfSome, IsTrue, MatchResult};
 ghost use Rattle.std.specs.Io.KnownBytes.{Consumes, IsAtEnd, Appends};
 ghost use Rattle.std.specs.declared.io.ErrorKind.{ErrorKind};
@@ -37,7 +37,7 @@ pub(crate) fn read_header<R: Source>(
     }
 }
 
-// What stands behind a token's header.
+// Reads the bytes after a token's header.
 pub(crate) fn read_checksum<R: Source>(
     alloc: Global,
     reader: &mut R,
@@ -97,7 +97,7 @@ fn write_part<W: Sink>(writer: &mut W, bytes: &[u8]) -> Result<(), GssApiMessage
     }
 }
 
-// Writes a header and what stands behind it; a front of them where the writer stops.
+// Writes a header and the bytes after it. If the writer stops, a front of them is written.
 pub(crate) fn write_token<W: Sink>(
     writer: &mut W,
     header: &[u8],

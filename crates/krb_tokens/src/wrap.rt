@@ -18,7 +18,7 @@ use std::alloc::{AllocError, Global};
 pub struct WrapToken {
     /// Whether the acceptor sent it (1), it was sealed (2), and an acceptor's subkey was used (4).
     pub flags: u8,
-    /// How many bytes were filled in before sealing, or the checksum's size.
+    /// How many filler bytes were added before sealing, or the checksum's size.
     pub ec: u16,
     /// By how many bytes the data is turned to the right.
     pub rrc: u16,
@@ -26,7 +26,7 @@ pub struct WrapToken {
     pub seq_num: u64,
     /// What was wrapped. It is neither written nor read.
     pub payload: Option<Vec<u8>>,
-    /// What stands behind the header, from octet 16 on.
+    /// The bytes after the header, from octet 16 on.
     pub checksum: Vec<u8>,
 }
 
@@ -96,7 +96,7 @@ impl WrapToken {
         self.rrc = rrc;
     }
 
-    /// Sets what stands behind the header.
+    /// Sets the bytes after the header.
     pub fn set_checksum(&mut self, checksum: Vec<u8>)
         ensures { self.new ≡ record self.old { checksum = checksum } }
     {
@@ -118,8 +118,8 @@ impl WrapToken {
 
     /// Reads a token to the end of `reader`; its payload is none.
     ///
-    /// Answered is what comes first in the bytes: InvalidId, InvalidWrapFiller, or IoError where they end within the
-    /// first 16; where the device fails behind bytes in which nothing is wrong, its fault.
+    /// The first fault in the order of the bytes is returned: InvalidId, InvalidWrapFiller, or IoError if they end within the
+    /// first 16. If the device fails after bytes in which nothing is wrong, its fault is returned.
     pub fn decode<R: Source>(alloc: Global, reader: &mut R) -> Result<WrapToken, GssApiMessageError>
         ensures found { IfOk result (λ t. (whole : List ℕ) × IsWrapToken (wrap_of t) whole
             × Consumes (R.left reader.old) (R.left reader.new) whole) }

@@ -11,7 +11,7 @@ Random = List ℕ
 abbrev pub random_part : ℕ → ℕ → Random → Bytes
 random_part start size random = take size (drop start random)
 
--- an AS request: the confounder of its stamp, of so many bytes, and the bytes of its nonce
+-- an AS request: the confounder of its encrypted timestamp, of so many bytes, and the bytes of its nonce
 abbrev pub stamp_confounder : ℕ → Random → Bytes
 stamp_confounder = random_part 0
 

@@ -184,7 +184,7 @@ pub mod error_codes {
 /// Where each thing begins in the random bytes of a call. A confounder has a place of 16 bytes and a seed one of 32, of which
 /// a suite takes as many from the front as it wants (RFC 3961, section 3). No two things of one message share a byte.
 pub mod random_bytes {
-    /// The confounder of an AS request's stamp.
+    /// The confounder of an AS request's encrypted timestamp.
     pub const STAMP_CONFOUNDER: usize = 0;
 
     /// The nonce of an AS or a TGS request, of four bytes.

@@ -7,7 +7,7 @@ use std::alloc::AllocError;
 /// Why a request isn't granted or accepted.
 #[derive(Clone, Copy, Debug, PartialEq, Eq)]
 pub enum Refusal {
-    /// The code that an error tells (RFC 4120, section 7.5.9).
+    /// It is an error with this code (RFC 4120, section 7.5.9).
     Krb(u32),
     /// Memory ran out.
     Memory,

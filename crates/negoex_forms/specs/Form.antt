@@ -51,6 +51,6 @@ pub record IsPut {V : Type 0} (l : Layout V) (v : V) (o : ℕ) (old new data_old
   pub payload : data_new ≡ data_old ++ l.body v o
   pub within : IsWithin o (l.payload v)
 
--- nothing was put: memory was wanting, or the payload ends past 32 bits
+-- nothing was put: memory ran out, or the payload ends past 32 bits
 abbrev pub IsTooLong : ℕ → ℕ → NegoexError → Type 0
 IsTooLong o n e = (e.kind ≡ OutOfMemory) ⊎ ((e.kind ≡ InvalidInput) × (2 ^ 32 ≤ o + n))

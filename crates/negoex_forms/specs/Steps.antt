@@ -37,7 +37,7 @@ pub le64_at-stands : (place : ℕ) (whole : List ℕ) → AreBytes whole → pla
 unfolding le64_at
 le64_at-stands place whole bytes inside = le64-stands place _ whole bytes inside refl
 
--- what stands behind a front
+-- the bytes that follow a front
 pub cut-behind : (place size : ℕ) (front bytes rest : List ℕ) → length front ≡ place → length bytes ≡ size → cut place size (front ++ (bytes ++ rest)) ≡ bytes
 cut-behind place size front bytes rest e f = ap (take size) (drop_at front (bytes ++ rest) place e) ∙ take_at bytes rest size f
 

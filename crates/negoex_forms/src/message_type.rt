@@ -15,9 +15,9 @@ pub enum MessageType {
     InitiatorNego,
     /// The acceptor's schemes.
     AcceptorNego,
-    /// What the initiator tells a scheme before the exchange.
+    /// The initiator's metadata for a scheme, before the exchange.
     InitiatorMetaData,
-    /// What the acceptor tells a scheme before the exchange.
+    /// The acceptor's metadata for a scheme, before the exchange.
     AcceptorMetaData,
     /// A token of the acceptor.
     Challenge,

@@ -79,7 +79,7 @@ header-given view l laws t (Some whole) (Some rest) last old new count buffer me
     let same : take l.width whole ≡ front = ap (take l.width) given ∙ take_at front rest l.width full in
     λ v fits is. given-same (l.read front message) (view t) v read (ap (λ (h : List ℕ). l.read h message) (sym same) ∙ laws.given v (take l.width whole) message fits is)
 
--- what is no refusal of the bytes is want of memory or the device's
+-- if the bytes aren't refused, memory ran out or the device failed
 pub header-excused : {T V : Type 0} (view : T → V) (l : Layout V) → LayoutLaws l → (left after : Option (List ℕ)) (last : Option ErrorKind) (old new : ℕ) (message : List ℕ) (e : NegoexError)
     → IfSome left (λ bytes. IsRefusal l message bytes after old new last e) → IfSome left (λ bytes. IsGiven {T = T} view l message bytes after old new last (Err e))
 header-excused view l laws None after last old new message e refusal = tt

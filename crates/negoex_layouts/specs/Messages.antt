@@ -18,7 +18,7 @@ message_bytes l filler v o = l.head v o ++ (filler ++ l.body v o)
 abbrev pub IsTrueOffset : {V : Type 0} → Layout V → List ℕ → ℕ → Type 0
 IsTrueOffset l filler o = o ≡ l.width + length filler
 
--- memory was wanting or the payload ends past 32 bits, and nothing was written and no write failed; or a write stopped
+-- memory ran out or the payload ends past 32 bits, and nothing was written and no write failed; or a write stopped
 abbrev pub IsEncodeStop : ℕ → ℕ → Option (List ℕ) → Option (List ℕ) → ℕ → ℕ → Option ErrorKind → NegoexError → Type 0
 IsEncodeStop o n before after old new last e =
     (IsTooLong o n e × (after ≡ before) × (new ≡ old)) ⊎ IsWriteStop old new last e.kind

@@ -22,12 +22,12 @@ pub record IsBroken {V : Type 0} (l : Layout V) (message bytes : List ℕ) (afte
   pub wrong : l.read came message ≡ Err kind
   pub answered : IsCutShort cause kind e.kind
 
--- memory was wanting; or nothing can be read of these bytes, by this fault; or the device failed
+-- memory ran out; or nothing can be read of these bytes, by this fault; or the device failed
 abbrev pub IsRefusal : {V : Type 0} → Layout V → List ℕ → List ℕ → Option (List ℕ) → ℕ → ℕ → Option ErrorKind → NegoexError → Type 0
 IsRefusal l message bytes after old new last e =
     (e.kind ≡ OutOfMemory) ⊎ ((l.read (take l.width bytes) message ≡ Err e.kind) ⊎ IsBroken l message bytes after old new last e)
 
--- the value that stands in the front of these bytes is given back, but for want of memory or a device that failed
+-- the value at the front of these bytes is given back, unless memory runs out or the device fails
 abbrev pub IsGiven : {T V : Type 0} → (T → V) → Layout V → List ℕ → List ℕ → Option (List ℕ) → ℕ → ℕ → Option ErrorKind → Result T NegoexError → Type 0
 IsGiven {T} {V} view l message bytes after old new last result =
     (v : V) → l.Fits v → l.IsLaid v (take l.width bytes) message

@@ -89,8 +89,9 @@ pub trait NegoexDataType: Wide {
 
     /// Reads the header from the one, and the payload where the header says, in the message.
     ///
-    /// Answered is what comes first in the bytes: what is wrong with those of the header that are there, then a fault of
-    /// the device or `UnexpectedEof`, and then what is wrong with the payload; or `OutOfMemory`.
+    /// The first fault in the order of the bytes is returned. First comes what is wrong with those of the header that are
+    /// there, then a fault of the device or `UnexpectedEof`, then what is wrong with the payload. Or memory ran out
+    /// (`OutOfMemory`).
     fn decode<R: Source>(alloc: Global, from: &mut R, message: &[u8]) -> Result<Self, NegoexError>
         ensures found { IfOk result (λ t. (header : List ℕ) × Self.layout.IsLaid (Self.view t) header message.now
             × Consumes (R.left from.old) (R.left from.new) header) }

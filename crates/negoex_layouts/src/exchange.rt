@@ -8,7 +8,7 @@ use negoex_forms::{
 };
 use std::alloc::{AllocError, Global};
 
-/// A token of a scheme, or what it tells before the exchange.
+/// A token of a scheme, or its metadata before the exchange.
 #[derive(Debug, Drop, PartialEq, Eq)]
 pub struct Exchange {
     /// What the message begins with.

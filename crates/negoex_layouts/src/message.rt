@@ -25,11 +25,11 @@ pub trait NegoexMessage: Wide {
     fn payload_offset(&self) -> usize
         ensures { result ≡ offset self.now };
 
-    /// Reads a message. What nothing points to, and what stands behind, isn't judged.
+    /// Reads a message. Bytes that nothing points to, and bytes after the message, aren't checked.
     ///
-    /// Answered is what comes first in the order in which the fields stand, each element of a vector with all that it
-    /// points to: `InvalidData` for a wrong signature, message type or offset past the message, `InvalidInput` for a
-    /// wrong checksum scheme, `UnexpectedEof` for bytes that end before; or `OutOfMemory`.
+    /// The first fault in the order of the fields is returned, where each element of a vector comes with all that it
+    /// points to. It is `InvalidData` for a wrong signature, message type or offset past the message. It is `InvalidInput`
+    /// for a wrong checksum scheme, and `UnexpectedEof` for bytes that end before. Or memory ran out (`OutOfMemory`).
     fn decode(alloc: Global, message: &[u8]) -> Result<Self, NegoexError>
         ensures found { IfOk result (λ m. IsMessage Self.layout (Self.view m) message.now) }
         ensures only { (v : Self.Value) → Self.layout.Fits v → IsMessage Self.layout v message.now → GivesBack Self.view v result }

@@ -31,7 +31,7 @@ of_whole_fault whole.Full = IoError WriteZero
 of_whole_fault (whole.Failed kind) = IoError kind
 of_whole_fault whole.Memory = Memory
 
--- a write stopped with this fault, and the device counted it and tells its kind
+-- a write stopped with this fault: the device counted it and holds its kind
 pub record IsWriteFault (old new : ℕ) (last : Option ErrorKind) (fault : PacError) : Type 0 where
   pub stop : WholeFault
   pub answered : fault ≡ of_whole_fault stop

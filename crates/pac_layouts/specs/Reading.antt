@@ -15,7 +15,7 @@ abbrev pub and_then : {A B : Type 0} → Result A PacError → (A → Result B P
 and_then (Ok a) next = next a
 and_then (Err e) next = Err e
 
--- the answer, seen so, is what is told, or memory was wanting
+-- the answer, seen so, is what is told, or memory ran out
 abbrev pub Gives : {A B : Type 0} → (A → B) → Result A PacError → Result B PacError → Type 0
 Gives view result told = MatchResult result (λ a. told ≡ Ok (view a)) (λ e. (e ≡ Memory) ⊎ (told ≡ Err e))
 

@@ -14,7 +14,7 @@ pub record IsBroken (whole : List ℕ) (after : Option (List ℕ)) (old new : �
   pub taken : Consumes (Some whole) after came
   pub fine : MatchResult (pac_at (Some device.cause) came) (λ _. ⊤) (λ e. e ≡ fault)
 
--- memory was wanting, or the device failed
+-- memory ran out, or the device failed
 abbrev pub IsExcuse : List ℕ → Option (List ℕ) → ℕ → ℕ → Option ErrorKind → PacError → Type 0
 IsExcuse whole after old new last fault = (fault ≡ Memory) ⊎ IsBroken whole after old new last fault
 

@@ -51,7 +51,7 @@ pub record ArePlaced (bs : List Buffer) : Type 0 where
   pub behind : AreBehind (8 + 16 * length bs) bs
   pub apart : AreAllApart (map content_part bs)
 
--- memory was wanting, or no bytes are this PAC
+-- memory ran out, or no bytes are this PAC
 abbrev pub IsUnwritten : List Buffer → PacError → Type 0
 IsUnwritten bs fault = (fault ≡ Memory) ⊎ (pac_written bs ≡ Err fault)
 

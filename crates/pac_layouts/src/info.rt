@@ -34,7 +34,7 @@ fn read_kind(bytes: &[u8], place: usize, stop: Option<ErrorKind>) -> Result<PacB
     PacBufferType::try_from(u32_le(bytes, place))
 }
 
-// What stands behind the type, of the row at `place`.
+// The fields after the type, of the row at `place`.
 fn read_fields(
     kind: PacBufferType,
     bytes: &[u8],
@@ -135,8 +135,8 @@ impl PacInfoBuffer {
 
     /// Reads a row of 16 bytes, and leaves what follows it.
     ///
-    /// Answered is what comes first in the bytes: IoError where they end within the type, PacBufferType, and IoError where
-    /// they end behind it; where the device fails there, its fault.
+    /// The first fault in the order of the bytes is returned: IoError if they end within the type, PacBufferType, and IoError
+    /// if they end after it. If the device fails there, its fault is returned.
     pub fn deserialize<R: Source>(reader: &mut R) -> Result<PacInfoBuffer, PacError>
         ensures found { IfOk result (λ info. (whole : List ℕ) × IsInfo info whole
             × Consumes (R.left reader.old) (R.left reader.new) whole) }

@@ -1,5 +1,5 @@
-//! The PAC, in which a Windows realm tells a service of a client (MS-PAC, sections 2.3 and 2.4): a table of buffers, and
-//! each buffer's content where the table puts it. Contents are handed on as bytes.
+//! The PAC, by which a Windows realm describes a client to a service (MS-PAC, sections 2.3 and 2.4). It is a table of
+//! buffers, and each buffer's content where the table puts it. Contents are returned as bytes.
 #![tactic(auto)]
 
 mod buffer;

@@ -205,11 +205,12 @@ impl Pac {
         }
     }
 
-    /// Reads a PAC to the end of `reader`. What stands behind and between its buffers is dropped.
+    /// Reads a PAC to the end of `reader`. Bytes after and between its buffers are dropped.
     ///
-    /// Answered is what comes first in the bytes: IoError where they end within the head or the table, InvalidVersion,
-    /// and for each buffer in turn PacBufferType, and InvalidRange where it ends past the bytes; where the device fails
-    /// behind bytes in which nothing is wrong, its fault.
+    /// The first fault in the order of the bytes is returned. It is IoError if they end within the head or the table, and
+    /// InvalidVersion for another version than 0. For each buffer in turn it is PacBufferType for an unknown type, and
+    /// InvalidRange if it ends past the bytes. If the device fails after bytes in which nothing is wrong, its fault is
+    /// returned.
     pub fn deserialize<R: Source>(alloc: Global, reader: &mut R) -> Result<Pac, PacError>
         ensures found { IfOk result (λ p. (whole : List ℕ) × IsPac (pac_buffers p) whole
             × Consumes (R.left reader.old) (R.left reader.new) whole) }

@@ -14,8 +14,8 @@ use super::{AES_BLOCK_SIZE, AesSize, check_key_length};
 use crate::error::{KerberosCryptoError, KerberosCryptoResult};
 use std::alloc::{AllocError, Global};
 
-/// The text of whole blocks that this is the chain of, from an initial vector of zeros. Refused are a key
-/// of another length (`KeyLength`) and bytes that aren't whole blocks (`CipherUnpad`).
+/// Decrypts whole blocks in a chain, from an initial vector of zeros. A key of another length (`KeyLength`) and
+/// bytes that aren't whole blocks (`CipherUnpad`) are refused.
 pub fn decrypt_aes_cbc(
     alloc: Global,
     key: &[u8],
@@ -66,8 +66,8 @@ fn decrypt_chain(alloc: Global, keys: &InverseSchedule, chain: &[u8]) -> Result<
     Ok(text)
 }
 
-/// The text whose cipher in a chain with ciphertext stealing this is; of no bytes, no bytes. Refused are a
-/// key of another length (`KeyLength`) and 1 to 15 bytes (`CipherLength`).
+/// Decrypts a chain with ciphertext stealing; of no bytes, no bytes. A key of another length (`KeyLength`) and
+/// 1 to 15 bytes (`CipherLength`) are refused.
 pub fn decrypt_aes_cts(
     alloc: Global,
     key: &[u8],
@@ -126,9 +126,8 @@ fn decrypt_stolen(
     Ok(text)
 }
 
-/// The last two blocks of the zero-filled text that is stolen to this, behind `front` others: behind these they are
-/// the text of the chain that the cipher text is completed to. What stealing left out of it shows in the text under
-/// its last whole block.
+/// The last two blocks of the zero-padded plaintext, after `front` others. With what stealing cut off, the ciphertext is
+/// a chain again, and these blocks end its plaintext. Deciphering its last whole block shows what was cut off.
 fn last_two_blocks(keys: &InverseSchedule, cipher_data: &[u8], front: usize) -> ([u8; 16], [u8; 16])
     requires more { 16 < length cipher_data.now }
     requires front { front ≡ block_count 16 (length cipher_data.now) - 2 }

@@ -13,8 +13,8 @@ use super::{AES_BLOCK_SIZE, AesSize, check_key_length, swap_two_last_blocks};
 use crate::error::{KerberosCryptoError, KerberosCryptoResult};
 use std::alloc::{AllocError, Global};
 
-/// The cipher of whole blocks in a chain, from an initial vector of zeros. Refused are a key of another
-/// length (`KeyLength`) and a text that isn't whole blocks (`CipherPad`).
+/// Encrypts whole blocks in a chain, from an initial vector of zeros. A key of another length (`KeyLength`) and
+/// a text that isn't whole blocks (`CipherPad`) are refused.
 pub fn encrypt_aes_cbc(
     alloc: Global,
     key: &[u8],
@@ -72,8 +72,8 @@ fn filled_block(text: &[u8], i: usize) -> [u8; 16]
     block
 }
 
-/// The cipher of a text in a chain with ciphertext stealing. Up to one block it is the cipher of the
-/// zero-filled block, and of no bytes it is no bytes. Refused is a key of another length (`KeyLength`).
+/// Encrypts a text in a chain with ciphertext stealing. A text of up to one block gives the cipher of the
+/// zero-padded block, and no bytes give no bytes. A key of another length is refused (`KeyLength`).
 pub fn encrypt_aes_cts(
     alloc: Global,
     key: &[u8],

@@ -42,7 +42,7 @@ impl KeySchedule {
     ghost use Rattle.krb_blocks.specs.Expanded.{IsScheduleOf};
     ghost use Rattle.krb_blocks.specs.declared.error.KerberosCryptoError.TheVariants.{KeyLength};
 
-    /// The round keys of a key of this size. Refused is a key of another length (`KeyLength`).
+    /// The round keys of a key of this size. A key of another length is refused (`KeyLength`).
     pub fn of_size(key: &[u8], aes_size: &AesSize) -> KerberosCryptoResult<KeySchedule>
         ensures made { IfOk result (λ keys. IsScheduleOf keys key.now) }
         ensures sized { OnOk result (length key.now ≡ key_length_of aes_size.now) }
