@@ -1,6 +1,6 @@
 #!/bin/sh
-# A stock kinit gets a ticket from the program over TCP, and a stock kvno by it a further one. socat stands in front of the program as inetd would, one process
-# for each connection; kinit's clock is set to the moment of the stored run, and it asks as krbtgt/R, whose key has 32
+# A stock kinit gets a ticket from the program over TCP, and a stock kvno by it a further one. socat runs the program as inetd would,
+# one process for each connection. kinit's clock is set to the moment of the stored run, and it asks as krbtgt/R, whose key has 32
 # zero bytes. It needs kinit, kvno and klist (MIT), socat and faketime: on Debian krb5-user, socat and faketime.
 set -e
 top=$(cd "$(dirname "$0")/.." && pwd)

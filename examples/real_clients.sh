@@ -6,7 +6,7 @@
 # from what it should, and 2 where a tool is missing. All files stand in a temporary folder, and what is started is ended.
 #
 # Heimdal's clients are those on the path (Debian: heimdal-clients), or those unpacked in the folder HEIMDAL, or else they are
-# downloaded by apt-get and unpacked in the temporary folder, so that they can stand beside MIT's.
+# downloaded by apt-get and unpacked in the temporary folder, so that they can be used beside MIT's.
 set -u
 top=$(cd "$(dirname "$0")/.." && pwd)
 work=$(mktemp -d)

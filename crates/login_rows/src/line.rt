@@ -1,4 +1,4 @@
-//! Lines of the scripts: `STEP WORD .. | MESSAGE | WANTED`, where message and what is wanted may be missing.
+//! Lines of the scripts: `STEP WORD .. | MESSAGE | WANTED`. The message and the expected text may be missing.
 
 use std::alloc::{AllocError, Global};
 

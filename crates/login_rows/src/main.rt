@@ -34,7 +34,7 @@ fn play(rt: &HostRuntime, file: &str) -> anyhow::Result<()> {
     played
 }
 
-/// Plays the lines one after the other, and prints how many of them tell something else than what is wanted.
+/// Plays the lines one after the other, and prints how many of them differ from what is expected.
 fn play_lines(rt: &HostRuntime, file: &str, text: &str, stage: &mut Stage) -> anyhow::Result<()> {
     let mut played = 0u64;
     let mut differing = 0u64;
@@ -51,14 +51,14 @@ fn play_lines(rt: &HostRuntime, file: &str, text: &str, stage: &mut Stage) -> an
     Ok(())
 }
 
-/// Whether a line tells what is wanted.
+/// Whether a line gives what is expected.
 fn agrees(rt: &HostRuntime, text: &str, stage: &mut Stage) -> anyhow::Result<bool> {
     let line = line_of(rt.alloc(), text)?;
     let told = stage::told_by(stage, rt.alloc(), &line)?;
     report(rt, text, line.wanted, &told)
 }
 
-/// Whether this text is wanted, `ok` standing for each but a refusal. Another text is printed.
+/// Whether this text is the expected one: `ok` is each text but a refusal. Another text is printed.
 fn report(rt: &HostRuntime, line: &str, wanted: &str, told: &str) -> anyhow::Result<bool> {
     let is_wanted = if wanted == "ok" {
         !told.starts_with("refused")

@@ -58,7 +58,7 @@ fn joined(alloc: Global, front: &[u8], back: &[u8]) -> anyhow::Result<Vec<u8>> {
     Ok(whole)
 }
 
-/// Reads an error, and tells how it prints.
+/// Reads an error, and returns how it prints.
 pub(crate) fn print_error(stage: &Stage, alloc: Global) -> anyhow::Result<String> {
     let error = krb_messages::from_bytes::<KrbError>(alloc, &stage.request)?;
     printed(alloc, error.0)
@@ -68,7 +68,7 @@ fn printed<T: Display + Drop>(alloc: Global, value: T) -> anyhow::Result<String>
     Ok(format!(in alloc; "{value}")?)
 }
 
-/// Reads an error, and tells its length, and whether it is written into 72 and into 71 bytes. It is to be the same bytes.
+/// Reads an error. Returns its length, and whether it is written into 72 and into 71 bytes. It is to be the same bytes.
 pub(crate) fn write_error(stage: &Stage, alloc: Global) -> anyhow::Result<String> {
     let error = krb_messages::from_bytes::<KrbError>(alloc, &stage.request)?;
     written(alloc, error, &stage.request)

@@ -153,7 +153,7 @@ fn answer(stage: &mut Stage, alloc: Global) -> anyhow::Result<String> {
     }
 }
 
-/// Serves the stream at the moment, and tells how it ends and what is written.
+/// Serves the stream at the moment, and returns how it ends and what is written.
 fn serve(stage: &Stage, alloc: Global) -> anyhow::Result<String> {
     let at = stage.conditions;
     let words = at.random.bytes();

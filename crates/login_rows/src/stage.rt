@@ -105,7 +105,7 @@ fn empty_stage(alloc: Global, conditions: Conditions) -> Stage {
     }
 }
 
-/// What the step of a line tells.
+/// What the step of a line gives, as text.
 pub(crate) fn told_by(stage: &mut Stage, alloc: Global, line: &Line<'_>) -> anyhow::Result<String> {
     if let Some(digits) = line.message {
         let message = bytes_of(alloc, digits)?;

@@ -45,7 +45,7 @@ pub(crate) fn tgs_reply(stage: &mut Stage, alloc: Global) -> anyhow::Result<Stri
     keep(stage, alloc, taken)
 }
 
-/// Keeps the credential that was taken, and tells its key.
+/// Keeps the credential that was taken, and returns its key.
 fn keep(
     stage: &mut Stage,
     alloc: Global,

@@ -22,7 +22,7 @@ pub(crate) fn digits_of(alloc: Global, bytes: &[u8]) -> anyhow::Result<String> {
     Ok(hex::encode(alloc, bytes)?)
 }
 
-/// What a call without a value tells.
+/// What a call without a value gives, as text.
 pub(crate) fn done<E: Debug + Drop>(alloc: Global, made: Result<(), E>) -> anyhow::Result<String> {
     match made {
         Ok(()) => ok(alloc),

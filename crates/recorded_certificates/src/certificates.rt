@@ -6,7 +6,7 @@ use x509_certificates::{Certificate, TbsCertificate};
 use x509_requests::{CertificationRequest, CertificationRequestInfo};
 use x509_spelling::X509Fault;
 
-/// Whether a spelling is read, counted and rewritten as is wanted.
+/// Whether a spelling is read, counted and rewritten as expected.
 pub fn agrees(alloc: Global, recorded: &Recorded<'_>) -> anyhow::Result<bool> {
     let answer = match recorded.type_name {
         "Certificate" => certificate(alloc, recorded),
@@ -44,7 +44,7 @@ fn tbs_certificate(alloc: Global, recorded: &Recorded<'_>) -> Answer {
     is_told::<TbsCertificate>(alloc, recorded)
 }
 
-/// Whether the part that is lent is the one of which the line tells the place.
+/// Whether the part that is lent is the one whose place the line gives.
 fn is_lent<T: Drop>(recorded: &Recorded<'_>, lent: Result<(T, &[u8]), X509Fault>) -> Answer {
     match lent {
         Ok((_, part)) => Ok(recorded.has_signed(part)),

@@ -1,5 +1,5 @@
-//! Reads recorded spellings of certificates and requests, counts their deviations and rewrites them, and compares all of it, and the
-//! part that is lent as signed, with what stands beside them.
+//! Reads recorded spellings of certificates and requests, counts their deviations and rewrites them. Compares all of it, and the
+//! part that is lent as signed, with what is expected.
 #![tactic(auto)]
 
 mod certificates;

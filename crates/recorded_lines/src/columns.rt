@@ -2,18 +2,18 @@
 use anyhow::bail;
 use std::alloc::Global;
 
-/// A recorded message, and what is wanted of it.
+/// A recorded message, and what is expected of it.
 #[derive(Drop)]
 pub struct Recorded<'a> {
     /// The name of its type.
     pub type_name: &'a str,
     /// Its bytes.
     pub bytes: Vec<u8>,
-    /// What is wanted.
+    /// What is expected.
     pub wanted: Wanted,
 }
 
-/// What is wanted of a message.
+/// What is expected of a message.
 #[derive(Drop)]
 pub enum Wanted {
     /// To be read, and written back as it was.

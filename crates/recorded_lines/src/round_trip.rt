@@ -3,10 +3,10 @@ use crate::columns::{Recorded, Wanted};
 use picky_asn1_der::{Asn1DerError, Deserialize, FromDer, Serialize, from_exact_bytes, to_vec};
 use std::alloc::Global;
 
-/// Whether a message is read and written as is wanted, memory aside.
+/// Whether a message is read and written as expected, memory aside.
 pub type Answer = Result<bool, Asn1DerError>;
 
-/// Whether a message of this type is read and written as is wanted. One bound stands for reading and writing, since a call at a
+/// Whether a message of this type is read and written as expected. One bound covers reading and writing, since a call at a
 /// message's own type spells each bound's impl out.
 pub fn is_told<T: Deserialize + Drop>(alloc: Global, recorded: &Recorded<'_>) -> Answer {
     is_read_told::<T>(alloc, recorded)
@@ -21,13 +21,13 @@ pub fn is_read_told<T: FromDer + Serialize>(alloc: Global, recorded: &Recorded<'
     }
 }
 
-/// Whether a value is written as is wanted.
+/// Whether a value is written as expected.
 pub fn is_written<T: Serialize>(alloc: Global, value: &T, recorded: &Recorded<'_>) -> Answer {
     let written = to_vec(alloc, value)?;
     Ok(are_wanted(&written, recorded))
 }
 
-/// Whether these bytes are wanted of what is written.
+/// Whether the written bytes are those that are expected.
 pub fn are_wanted(written: &[u8], recorded: &Recorded<'_>) -> bool {
     match &recorded.wanted {
         Wanted::Itself => written == recorded.bytes.as_slice(),
@@ -36,7 +36,7 @@ pub fn are_wanted(written: &[u8], recorded: &Recorded<'_>) -> bool {
     }
 }
 
-/// Whether a refusal is wanted.
+/// Whether a refusal is expected.
 pub fn is_refused(recorded: &Recorded<'_>) -> bool {
     matches!(recorded.wanted, Wanted::Refused)
 }

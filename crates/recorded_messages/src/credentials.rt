@@ -8,7 +8,7 @@ use picky_krb::messages::{KdcProxyMessage, KrbCred, KrbCredInner};
 use recorded_lines::{Answer, Recorded, is_told};
 use std::alloc::Global;
 
-/// Whether such a message is read and written as is wanted; none for any other type.
+/// Whether such a message is read and written as expected; none for any other type.
 pub fn agrees(alloc: Global, recorded: &Recorded<'_>) -> Option<Answer> {
     match recorded.type_name {
         "EncKrbCredPart" => Some(enc_krb_cred_part(alloc, recorded)),

@@ -32,7 +32,7 @@ fn main(rt: HostRuntime) -> anyhow::Result<()> {
     replay(&rt, &Messages, "odd.txt")
 }
 
-/// Whether a message is read as is wanted, and written back.
+/// Whether a message is read as expected, and written back.
 fn agrees(alloc: Global, recorded: &Recorded<'_>) -> anyhow::Result<bool> {
     let answers = [
         names::agrees(alloc, recorded),

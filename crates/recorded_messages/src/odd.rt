@@ -6,7 +6,7 @@ use picky_krb::messages::{AsRep, KdcProxyMessage, KrbError};
 use recorded_lines::{Answer, Recorded, Wanted, are_wanted, is_refused, is_written};
 use std::alloc::Global;
 
-/// Whether such a message is read and written as is wanted; none for any other type.
+/// Whether such a message is read and written as expected; none for any other type.
 pub fn agrees(alloc: Global, recorded: &Recorded<'_>) -> Option<Answer> {
     match recorded.type_name {
         "KdcProxyMessage, around" => Some(is_made(alloc, recorded)),
@@ -21,7 +21,7 @@ fn is_front(alloc: Global, recorded: &Recorded<'_>) -> Answer {
     is_read(alloc, read, recorded)
 }
 
-/// Whether the message around the bytes is written as is wanted.
+/// Whether the message around the bytes is written as expected.
 fn is_made(alloc: Global, recorded: &Recorded<'_>) -> Answer {
     let message = KdcProxyMessage::from_raw_kerb_message(alloc, &recorded.bytes)?;
     let written = message.to_vec(alloc)?;
@@ -34,7 +34,7 @@ fn is_result(alloc: Global, recorded: &Recorded<'_>) -> Answer {
     is_either(alloc, result, recorded)
 }
 
-/// Whether what was read, or its refusal, is wanted, and it is written as is wanted.
+/// Whether what was read, or its refusal, is expected, and it is written as expected.
 fn is_read<T: Serialize + Drop, E: Drop>(
     alloc: Global,
     read: Result<T, E>,
@@ -61,7 +61,7 @@ fn is_either<T: Serialize + Drop, E: Printed + Drop>(
 
 /// A type of which a line may want the printed text.
 trait Printed: Serialize {
-    /// The text, none for want of memory.
+    /// The text, or none if memory ran out.
     fn text(&self, alloc: Global) -> Option<String>;
 }
 

@@ -5,7 +5,7 @@ use picky_krb::messages::{ApMessage, KrbPriv, KrbPrivInner};
 use recorded_lines::{Answer, Recorded, is_told};
 use std::alloc::Global;
 
-/// Whether such a message is read and written as is wanted; none for any other type.
+/// Whether such a message is read and written as expected; none for any other type.
 pub fn agrees(alloc: Global, recorded: &Recorded<'_>) -> Option<Answer> {
     match recorded.type_name {
         "ApMessage" => Some(ap_message(alloc, recorded)),

@@ -3,7 +3,7 @@ use picky_krb::messages::{ApReq, ApReqInner, AsReq, KdcReq, KdcReqBody, TgsReq, 
 use recorded_lines::{Answer, Recorded, is_told};
 use std::alloc::Global;
 
-/// Whether such a request is read and written as is wanted; none for any other type.
+/// Whether such a request is read and written as expected; none for any other type.
 pub fn agrees(alloc: Global, recorded: &Recorded<'_>) -> Option<Answer> {
     match recorded.type_name {
         "ApReq" => Some(ap_req(alloc, recorded)),

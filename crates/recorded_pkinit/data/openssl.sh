@@ -5,7 +5,7 @@ cd "$(dirname "$0")" || exit 1
 made=$(mktemp) || exit 1
 trap 'rm -f "$made"' EXIT
 
-# One line for each of a file, with what is wanted behind it.
+# One line for each line of a file, followed by what is expected.
 lines() {
     while IFS='|' read -r type what; do
         openssl asn1parse -genstr "${what# }" -genconf messages.cnf -noout -out "$made" || exit 1

@@ -9,7 +9,7 @@ use std::alloc::Global;
 use std::fmt::Debug;
 use std::fs;
 
-/// Whether such a value is read and written as is wanted; none for any other type.
+/// Whether such a value is read and written as expected; none for any other type.
 pub fn agrees(alloc: Global, recorded: &Recorded<'_>) -> Option<Answer> {
     match recorded.type_name {
         "AuthPack<Asn1RawDer>" => Some(auth_pack(alloc, recorded)),

@@ -3,7 +3,7 @@ use picky_asn1_der::{Asn1DerError, Deserialize, Serialize, from_exact_bytes};
 use recorded_lines::{Answer, Recorded, is_refused, is_written};
 use std::alloc::Global;
 
-/// Whether a message is read as is wanted, and a copy of it is equal to it and written as is wanted.
+/// Whether a message is read as expected, and a copy of it is equal to it and written as expected.
 pub fn is_copied<T: Deserialize + Clone + PartialEq + Drop>(
     alloc: Global,
     recorded: &Recorded<'_>,

@@ -6,7 +6,7 @@ use pkinit_messages::{
 use recorded_lines::{Answer, Recorded, is_told};
 use std::alloc::Global;
 
-/// Whether a value of such a type is read and written as is wanted; none for any other type.
+/// Whether a value of such a type is read and written as expected; none for any other type.
 pub fn agrees(alloc: Global, recorded: &Recorded<'_>) -> Option<Answer> {
     match recorded.type_name {
         "DhRepInfo" => Some(dh_rep_info(alloc, recorded)),

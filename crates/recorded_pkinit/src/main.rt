@@ -28,7 +28,7 @@ fn main(rt: HostRuntime) -> anyhow::Result<()> {
     auth_packs::print_first(&rt, "openssl.txt")
 }
 
-/// Whether a message is read as is wanted, and written back.
+/// Whether a message is read as expected, and written back.
 fn agrees(alloc: Global, recorded: &Recorded<'_>) -> anyhow::Result<bool> {
     if let Some(answer) = pku2u::agrees(alloc, recorded) {
         return Ok(answer?);

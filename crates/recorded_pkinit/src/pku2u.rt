@@ -7,7 +7,7 @@ use pku2u_messages::{
 use recorded_lines::{Answer, Recorded, is_told};
 use std::alloc::Global;
 
-/// Whether a message of such a type is read and written as is wanted; none for any other type.
+/// Whether a message of such a type is read and written as expected; none for any other type.
 pub fn agrees(alloc: Global, recorded: &Recorded<'_>) -> Option<Answer> {
     match recorded.type_name {
         "KrbFinished" => Some(krb_finished(alloc, recorded)),

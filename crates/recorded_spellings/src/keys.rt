@@ -4,7 +4,7 @@ use picky_asn1_x509::{PrivateKeyInfo, SubjectPublicKeyInfo};
 use recorded_x509::{Answer, Recorded, is_told};
 use std::alloc::Global;
 
-/// Whether a spelling of such a type is read, counted and rewritten as is wanted; none for any other type.
+/// Whether a spelling of such a type is read, counted and rewritten as expected; none for any other type.
 pub fn agrees(alloc: Global, recorded: &Recorded<'_>) -> Option<Answer> {
     match recorded.type_name {
         "PrivateKeyInfo" => Some(private_key_info(alloc, recorded)),

@@ -4,7 +4,7 @@ use picky_asn1_x509::{AlgorithmIdentifier, KeyUsage, Spelled, SubjectPublicKeyIn
 use recorded_x509::{Answer, Recorded, is_told};
 use std::alloc::Global;
 
-/// Whether a value that such a call makes is spelled as is wanted; none for any other call.
+/// Whether a value that such a call makes is spelled as expected; none for any other call.
 pub fn agrees(alloc: Global, recorded: &Recorded<'_>) -> Option<Answer> {
     match recorded.type_name {
         "AlgorithmIdentifier::new_rsa_encryption" => Some(rsa_encryption(alloc, recorded)),
@@ -35,7 +35,7 @@ fn rsa_key(alloc: Global, recorded: &Recorded<'_>) -> Answer {
     is_made(alloc, &made, recorded)
 }
 
-/// Whether the value is written as is wanted, and the recorded spelling is one of the same strict bytes.
+/// Whether the value is written as expected, and the recorded spelling is one of the same strict bytes.
 fn is_made<T: Spelled>(alloc: Global, made: &T, recorded: &Recorded<'_>) -> Answer {
     let Some(wanted) = &recorded.wanted else {
         return Ok(false);

@@ -1,5 +1,5 @@
-//! Reads recorded spellings of X.509 values, counts their deviations, rewrites and prints them, and compares all of it with what
-//! stands beside them.
+//! Reads recorded spellings of X.509 values, counts their deviations, rewrites and prints them. Compares all of it with what
+//! is expected.
 #![tactic(auto)]
 
 mod algorithms;
@@ -38,7 +38,7 @@ impl Lines for Spellings {
     }
 }
 
-/// Whether a spelling is read, counted and rewritten as is wanted.
+/// Whether a spelling is read, counted and rewritten as expected.
 fn is_spelled(alloc: Global, recorded: &Recorded<'_>) -> anyhow::Result<bool> {
     if let Some(answer) = algorithms::agrees(alloc, recorded) {
         return Ok(answer?);

@@ -9,7 +9,7 @@ use recorded_x509::Answer;
 use std::alloc::{AllocError, Global};
 use std::fmt;
 
-/// Whether a value is printed as stands beside it: type, bytes, and text to the end of the line.
+/// Whether a value is printed as expected. A line has type, bytes, and text to the end of the line.
 pub fn agrees(alloc: Global, line: &str) -> anyhow::Result<bool> {
     let (type_name, rest) = line.split_once(" | ").context("a line of one column")?;
     let (digits, text) = rest.split_once(" | ").context("a line of two columns")?;

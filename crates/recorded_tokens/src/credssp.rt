@@ -9,7 +9,7 @@ use picky_krb::credssp::{
 use recorded_lines::{Answer, Recorded, Wanted, is_told};
 use std::alloc::Global;
 
-/// Whether credentials of such a type are read and written as is wanted; none for any other type.
+/// Whether credentials of such a type are read and written as expected; none for any other type.
 pub fn agrees(alloc: Global, recorded: &Recorded<'_>) -> Option<Answer> {
     match recorded.type_name {
         "TsCredentials" => Some(ts_credentials(alloc, recorded)),

@@ -8,7 +8,7 @@ use picky_krb::messages::{AsReq, IAKerbHeader, TgtRep};
 use recorded_lines::{Answer, Recorded, are_wanted, is_read_told, is_refused, is_told};
 use std::alloc::Global;
 
-/// Whether a token of such a type is read and written as is wanted; none for any other type.
+/// Whether a token of such a type is read and written as expected; none for any other type.
 pub fn agrees(alloc: Global, recorded: &Recorded<'_>) -> Option<Answer> {
     match recorded.type_name {
         "ApplicationTag0<GssApiNegInit>" => Some(application_tag0(alloc, recorded)),
@@ -125,7 +125,7 @@ fn is_proxied_sequence<T: FromDer + Serialize>(alloc: Global, recorded: &Recorde
     is_sequence(alloc, sequence, recorded)
 }
 
-/// Whether this is written as is wanted, and under the tag of a token as the token that was read.
+/// Whether this is written as expected, and under the tag of a token as the token that was read.
 fn is_sequence(alloc: Global, sequence: TokenSequence, recorded: &Recorded<'_>) -> bool {
     let Ok(written) = to_vec(alloc, &sequence) else {
         return false;

@@ -1,4 +1,4 @@
-//! Reads recorded tokens of the GSS-API and credentials of CredSSP as their types, compares them with what stands beside them, and
+//! Reads recorded tokens of the GSS-API and credentials of CredSSP as their types, compares them with what is expected, and
 //! writes them back.
 #![tactic(auto)]
 
@@ -27,7 +27,7 @@ fn main(rt: HostRuntime) -> anyhow::Result<()> {
     replay(&rt, &Tokens, "odd.txt")
 }
 
-/// Whether a token is read as is wanted, and written back.
+/// Whether a token is read as expected, and written back.
 fn agrees(alloc: Global, recorded: &Recorded<'_>) -> anyhow::Result<bool> {
     if let Some(answer) = gss::agrees(alloc, recorded) {
         return Ok(answer?);

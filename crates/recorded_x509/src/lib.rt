@@ -1,4 +1,4 @@
-//! Recorded spellings of X.509 values: each line is read, counted and rewritten, and compared with what stands beside it.
+//! Recorded spellings of X.509 values: each line is read, counted and rewritten, and compared with what is expected.
 #![tactic(auto)]
 
 mod line;

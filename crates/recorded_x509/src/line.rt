@@ -2,18 +2,18 @@
 use anyhow::{Context, bail};
 use std::alloc::Global;
 
-/// A recorded spelling, and what is wanted of it, none where it is to be refused.
+/// A recorded spelling, and what is expected of it; none if it is to be refused.
 #[derive(Drop)]
 pub struct Recorded<'a> {
     /// The name of its type.
     pub type_name: &'a str,
     /// Its bytes.
     pub bytes: Vec<u8>,
-    /// What is wanted.
+    /// What is expected.
     pub wanted: Option<Wanted>,
 }
 
-/// What is wanted of a spelling.
+/// What is expected of a spelling.
 #[derive(Drop)]
 pub struct Wanted {
     /// How many deviations stand in it.

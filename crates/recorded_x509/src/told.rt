@@ -3,10 +3,10 @@ use crate::line::{Recorded, Wanted};
 use std::alloc::Global;
 use x509_spelling::{Spelled, X509Fault, deviations, encoded_len, from_bytes, to_vec};
 
-/// Whether a recorded spelling is read, counted and rewritten as is wanted, memory aside.
+/// Whether a recorded spelling is read, counted and rewritten as expected, memory aside.
 pub type Answer = Result<bool, X509Fault>;
 
-/// Whether a recorded spelling of this type is read, counted and rewritten as is wanted.
+/// Whether a recorded spelling of this type is read, counted and rewritten as expected.
 pub fn is_told<T: Spelled>(alloc: Global, recorded: &Recorded<'_>) -> Answer {
     let bytes = recorded.bytes.as_slice();
     match (from_bytes::<T>(alloc, bytes), &recorded.wanted) {
@@ -17,7 +17,7 @@ pub fn is_told<T: Spelled>(alloc: Global, recorded: &Recorded<'_>) -> Answer {
     }
 }
 
-/// Whether these bytes are counted, and the value that they spell is written, as is wanted.
+/// Whether these bytes are counted, and the value that they spell is written, as expected.
 pub fn is_written<T: Spelled>(alloc: Global, value: &T, bytes: &[u8], wanted: &Wanted) -> Answer {
     let count = deviations::<T>(alloc, bytes)?;
     let strict = to_vec(alloc, value)?;

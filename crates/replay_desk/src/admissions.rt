@@ -54,7 +54,7 @@ impl Rows for Repetitions {
     }
 }
 
-/// A recorded request in hexadecimal, and the answer that is wanted, as text.
+/// A recorded request in hexadecimal, and the expected answer, as text.
 #[derive(Clone, Copy)]
 struct Recorded<'a> {
     label: &'a str,

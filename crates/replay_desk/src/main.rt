@@ -1,5 +1,5 @@
-//! Replays what was recorded of the desk, and compares what comes out with what stands beside it: requests to a realm and to a
-//! service, runs of the program with settings, faulty settings files, and runs with arguments.
+//! Replays what was recorded of the desk, and compares what comes out with what is expected. It replays requests to a realm
+//! and to a service, runs of the program with settings, faulty settings files, and runs with arguments.
 #![tactic(auto)]
 
 mod admissions;

@@ -5,7 +5,7 @@ use anyhow::bail;
 use krb_kdc::{Moment, Outcome, Stop, run_settings};
 use std::alloc::Global;
 
-/// Runs with settings, random bytes, moment and standard input, each in a column, and what is wanted of them.
+/// Runs with settings, random bytes, moment and standard input, each in a column, and what is expected of them.
 #[derive(Clone, Copy)]
 pub(crate) struct Runs;
 
@@ -31,7 +31,7 @@ impl Rows for Runs {
     }
 }
 
-/// A run: the files, the moment and standard input, and what is wanted of it. Bytes are in hexadecimal.
+/// A run: the files, the moment and standard input, and what is expected of it. Bytes are in hexadecimal.
 #[derive(Clone, Copy)]
 struct Run<'a> {
     settings: &'a str,

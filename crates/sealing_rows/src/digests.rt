@@ -37,7 +37,7 @@ pub(crate) fn is_derived(alloc: Global, row: &Row<'_>) -> bool {
     }
 }
 
-/// Key, message and code, cut or filled to the row's size.
+/// Key, message and code, cut or padded to the row's size.
 pub(crate) fn is_fitted_code(alloc: Global, row: &Row<'_>) -> bool {
     let [key, message, code] = row.columns.as_slice() else {
         return false;

@@ -16,7 +16,7 @@ pub(crate) fn is_key(alloc: Global, row: &Row<'_>) -> bool {
     is(suite.generate_key_from_password(alloc, password, salt), key)
 }
 
-/// Key, confounder, text and what they are sealed to, which is opened to the text with its fill.
+/// Key, confounder, text and what they are sealed to, which is opened to the text with its padding.
 pub(crate) fn is_sealed(alloc: Global, row: &Row<'_>) -> bool {
     let (Ok(suite), [key, confounder, text, sealed]) = (
         CipherSuite::try_from(row.size),
@@ -32,7 +32,7 @@ pub(crate) fn is_sealed(alloc: Global, row: &Row<'_>) -> bool {
         && is_opened(alloc, row, suite)
 }
 
-/// Whether what is sealed opens to the text, with just its fill behind it.
+/// Whether what is sealed opens to the text, followed by just its padding.
 fn is_opened(alloc: Global, row: &Row<'_>, suite: CipherSuite) -> bool {
     let [key, _, text, sealed] = row.columns.as_slice() else {
         return false;

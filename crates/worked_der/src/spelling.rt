@@ -39,7 +39,7 @@ pub(crate) fn fault_of<T: Deserialize + Drop>(alloc: Global, bytes: &[u8]) -> Op
     from_exact_bytes::<T>(alloc, bytes).err()
 }
 
-// What bytes are refused as where something may stand behind a value.
+// What bytes are refused as, where more bytes may follow a value.
 pub(crate) fn front_fault_of<T: Deserialize + Drop>(
     alloc: Global,
     bytes: &[u8],

@@ -1,4 +1,4 @@
-//! Readers and writers: what stands behind a value, limits, and devices that cut and fail.
+//! Readers and writers: what follows a value, limits, and devices that cut and fail.
 use crate::sample::{LONG_SAMPLE, SHORT_SAMPLE, Sample, sample_of};
 use crate::spelling::{fault_of, front_fault_of};
 use devices::Watched;
@@ -70,7 +70,7 @@ fn are_written(alloc: Global) -> Option<bool> {
     Some(are_appended(&mut written))
 }
 
-// What is written stands behind what was there.
+// What is written follows what was there.
 #[test]
 fn writers(rt: HostRuntime) {
     assert!(rt; are_written(rt.alloc()) == Some(true));

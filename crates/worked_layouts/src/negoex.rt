@@ -16,7 +16,7 @@ const NEGO: &[u8] = b"\
     \x88\x19\x5cv\xefqoGx\x00\x00\x00\x00\x00\x00\x00\x00`\x00\x00\x00\x01\x00\x00\x00\x00\x00\
     \x00\x00\x00\x00\x00\x00\x5c3S\x0d\xea\xf9\x0dM\xb2\xecJ\xe3xn\xc3\x08";
 
-// What an acceptor tells a scheme.
+// An acceptor's metadata for a scheme.
 const EXCHANGE: &[u8] = b"\
     NEGOEXTS\x03\x00\x00\x00\x03\x00\x00\x00@\x00\x00\x00\xee\x00\x00\x00Z\x07);\x91\xf33\xaf\
     \xa1\xb4\xa2\x12$\x9d|\xb4\x5c3S\x0d\xea\xf9\x0dM\xb2\xecJ\xe3xn\xc3\x08@\x00\x00\x00\xae\
@@ -26,7 +26,7 @@ const EXCHANGE: &[u8] = b"\
     \x03U\x04\x03\x13\x18Token\x20Signing\x20Public\x20Key0'\x80%0#1!0\x1f\x06\x03U\x04\x03\
     \x13\x18Token\x20Signing\x20Public\x20Key";
 
-// What an initiator tells a scheme.
+// An initiator's metadata for a scheme.
 const META_DATA: &[u8] = b"\
     NEGOEXTS\x02\x00\x00\x00\x01\x00\x00\x00@\x00\x00\x00)\x01\x00\x00Z\x07);\x91\xf33\xaf\xa1\
     \xb4\xa2\x12$\x9d|\xb4\x5c3S\x0d\xea\xf9\x0dM\xb2\xecJ\xe3xn\xc3\x08@\x00\x00\x00\xe9\x00\
@@ -257,7 +257,7 @@ fn ends_in(alloc: Global, message: Option<Nego>, size: u8, end: &[u8]) -> Option
     )
 }
 
-// 123 bytes: an empty vector at offset 0, and two extensions whose values stand behind both headers.
+// 123 bytes: an empty vector at offset 0, and two extensions whose values follow both headers.
 #[test]
 fn extensions(rt: HostRuntime) {
     let message = offer_of(rt.alloc(), Vec::new(rt.alloc()), two_extensions(rt.alloc()));
@@ -277,7 +277,7 @@ fn one_of_each(alloc: Global) -> Option<Nego> {
     offer_of(alloc, schemes, Some(extensions))
 }
 
-// The second vector stands behind the first.
+// The second vector follows the first.
 #[test]
 fn schemes_and_extensions(rt: HostRuntime) {
     assert!(rt; ends_in(rt.alloc(), one_of_each(rt.alloc()), 126, BOTH) == Some(true));
@@ -320,7 +320,7 @@ fn refused_exchanges(rt: HostRuntime) {
     }
 }
 
-// What is read where a message of 64 bytes tells this count of bytes at this offset: how many, or why none are.
+// What is read if a message of 64 bytes has this count of bytes at this offset: how many, or why none are.
 fn counted(alloc: Global, offset: u8, count: [u8; 4]) -> Option<Result<usize, ErrorKind>> {
     let mut whole = bytes(alloc, &EXCHANGE[..64])?;
     *whole.get_mut(56)? = offset;

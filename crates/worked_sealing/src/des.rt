@@ -36,7 +36,7 @@ fn sealed(rt: HostRuntime) {
     assert!(rt; is(sealed_by(rt.alloc(), &Des3CbcSha1Kd::new()), SEALED));
 }
 
-// What is opened has its fill.
+// What is opened has its padding.
 #[test]
 fn opened(rt: HostRuntime) {
     let filled = b"\xEC\0\0\0\0\0\0\0";

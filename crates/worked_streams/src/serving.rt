@@ -148,7 +148,7 @@ fn is_end_of_reader(alloc: Global, at: usize, end: Result<u64, ServeFault>, size
         && Some(replies.as_slice()) == REPLIES.get(..size)
 }
 
-// The reader fails at its call `at`; the call after the last byte tells the end.
+// The reader fails at its call `at`. The call after the last byte finds the end.
 #[test]
 fn failing_reader(rt: HostRuntime) {
     for at in 0..13 {

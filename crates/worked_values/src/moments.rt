@@ -1,4 +1,4 @@
-//! Moments: the first of 2000 and the last of all, whose seconds `date -u +%s` tells.
+//! Moments: the first of 2000 and the last of all, with the seconds of `date -u +%s`.
 use krb_moments::Moment;
 
 fn new_year() -> Option<Moment> {
