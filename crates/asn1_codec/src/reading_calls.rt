@@ -126,6 +126,15 @@ impl<R: Source> Deserializer<R> {
         <() as Deserialize>::deserialize(self)
     }
 
+    /// Takes NULL (X.690, section 8.8), for a struct of no fields.
+    pub fn deserialize_unit_struct(&mut self) -> Result<(), Asn1DerError>
+        ensures { MatchResult result
+            (λ value. TookValue null_tree value self.old self.new)
+            (λ fault. Refused (IsSpelling null_tree) self.old self.new fault) }
+    {
+        self.deserialize_unit()
+    }
+
     /// Takes a value, which is always there: whether one is missing, the fields behind it tell
     /// (see [`Optional`](crate::Optional)).
     pub fn deserialize_option<T: Deserialize>(&mut self) -> Result<Option<T>, Asn1DerError>
@@ -158,6 +167,16 @@ impl<R: Source> Deserializer<R> {
 
     /// Takes a SEQUENCE of the parts of a tuple (X.690, section 8.9).
     pub fn deserialize_tuple<F: Fields>(&mut self) -> Result<F, Asn1DerError>
+        requires { IsTrue F.sound }
+        ensures { MatchResult result
+            (λ fields. AreWhole (F.trees fields) × Took (element 48 (ders (F.trees fields))) self.old self.new)
+            (λ fault. Refused (IsList 48 F.trees) self.old self.new fault) }
+    {
+        self.list(48)
+    }
+
+    /// Takes a SEQUENCE of the parts of a struct without names of fields (X.690, section 8.9).
+    pub fn deserialize_tuple_struct<F: Fields>(&mut self) -> Result<F, Asn1DerError>
         requires { IsTrue F.sound }
         ensures { MatchResult result
             (λ fields. AreWhole (F.trees fields) × Took (element 48 (ders (F.trees fields))) self.old self.new)

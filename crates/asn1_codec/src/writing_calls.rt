@@ -164,6 +164,18 @@ impl<W: Sink> Serializer<W> {
         self.list(48, fields)
     }
 
+    /// Writes a SEQUENCE of the parts of a struct without names of fields (X.690, section 8.9).
+    pub fn serialize_tuple_struct<F: WriteFields>(
+        &mut self,
+        fields: &F,
+    ) -> Result<usize, Asn1DerError>
+        ensures { MatchResult result
+            (WroteValue (F.refusal fields.now) (element 48 (ders (F.trees fields.now))) self.old self.new)
+            (NotWroteValue (F.refusal fields.now) (element 48 (ders (F.trees fields.now))) self.old self.new) }
+    {
+        self.list(48, fields)
+    }
+
     /// Writes a SEQUENCE of the fields of a struct (X.690, section 8.9).
     pub fn serialize_struct<F: WriteFields>(&mut self, fields: &F) -> Result<usize, Asn1DerError>
         ensures { MatchResult result
