@@ -1,5 +1,5 @@
 //! Fields that may be missing.
-ghost use Rattle.std.specs.Prelude.{◌≡◌};
+ghost use Rattle.std.specs.Prelude.{◌≡◌, None, Some, MatchOption};
 
 /// A field that may be missing, as `Optional<Option<T>>`.
 #[derive(Clone, Copy, Debug, Drop, PartialEq, Eq)]
@@ -10,5 +10,17 @@ impl<T> From<T> for Optional<T> {
 
     fn from(value: T) -> Self {
         Optional(value)
+    }
+}
+
+impl<T> Optional<Option<T>> {
+    /// The value, lent, where it isn't missing.
+    pub fn as_ref(&self) -> Option<&T>
+        ensures { MatchOption result (self.now.0 ≡ None) (λ value. self.now.0 ≡ Some value.now) }
+    {
+        match &self.0 {
+            Some(value) => Some(value),
+            None => None,
+        }
     }
 }
