@@ -6,7 +6,7 @@
 
 ghost use Rattle.std.specs.Prelude.{◌≡◌};
 
-mod application_tag;
+pub mod application_tag;
 mod bit_container;
 mod byte_buf;
 mod choice;

@@ -12,14 +12,15 @@ use asn1_trees::LengthOctets;
 use devices::{Sink, Source};
 use std::alloc::{AllocError, Global};
 use std::cmp::Ordering;
+use std::fmt;
 use std::hash::{Hash, Hasher};
 use std::marker::Model;
 
 /// One element of any type, held as all its bytes: a tag whose number is below 31, a definite length in as few octets
 /// as there can be, and the content (X.690, sections 8.1 and 10.1). Of the content nothing is asked.
 ///
-/// A contract sees the identifier octet and the content.
-#[derive(Drop, Debug)]
+/// A contract sees the identifier octet and the content. `Debug` prints `0x` and all bytes, as capital hexadecimal digits.
+#[derive(Drop)]
 pub struct Asn1RawDer {
     first: u8,
     // Where the content begins.
@@ -131,6 +132,29 @@ impl Deserialize for Asn1RawDer {
             Ok(held) => Ok(held),
             Err(_) => Err(from.refuse(Asn1DerError::Memory)),
         }
+    }
+}
+
+impl Clone for Asn1RawDer {
+    ghost is_clone = { λ raw copy. copy ≡ raw };
+
+    fn clone(&self) -> Result<Asn1RawDer, AllocError> {
+        let bytes = self.bytes.clone()?;
+        Ok(Asn1RawDer {
+            first: self.first,
+            start: self.start,
+            bytes,
+        })
+    }
+}
+
+impl fmt::Debug for Asn1RawDer {
+    fn fmt<W: fmt::Write>(&self, f: &mut fmt::Formatter<W>) -> fmt::Result {
+        write!(f, "0x")?;
+        for octet in self.as_bytes() {
+            write!(f, "{octet:02X}")?;
+        }
+        Ok(())
     }
 }
 
