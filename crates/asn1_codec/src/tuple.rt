@@ -5,11 +5,47 @@ ghost use Rattle.std.specs.Prelude.{◌≡◌};
 
 use crate::de::{Deserialize, Deserializer};
 use crate::fields::Fields;
-use crate::row::{Row2, Row3, Row4};
+use crate::row::{Row1, Row2, Row3, Row4};
 use crate::ser::Serializer;
 use crate::tagged::{Tagged, read_sequence};
 use asn1_octets::Asn1DerError;
 use devices::{Sink, Source};
+
+impl<A: Deserialize + Drop> Tagged for (A,) {
+    ghost use Rattle.std.proofs.Common.{refl, true, None, Some};
+    ghost use Rattle.asn1_trees.specs.Tagged.{sequence};
+    ghost use Rattle.asn1_trees.proofs.Tagged.{sequence_laws};
+    ghost use Rattle.asn1_codec.specs.Refusals.{refusal_of, first_refusal};
+
+    type Row = Row1<A>;
+
+    const FIRST: u8 = 48;
+
+    ghost FIRST = { 48 };
+
+    ghost row_tree = { sequence ⟦<Row1<A> as Fields>⟧.trees };
+
+    ghost row_laws = { sequence_laws ⟦<Row1<A> as Fields>⟧.trees (⟦<Row1<A> as Fields>⟧.injective (refl {a = true})) };
+
+    ghost row_of = { λ v. (v.0, tt) };
+
+    ghost one_row = { λ v w e. λ i. record { 0 = (e i).0 } };
+
+    ghost refuses = { Some (λ v. first_refusal (refusal_of A.refusal v.0) None) };
+
+    fn read_row<R: Source>(tag: u8, from: &mut Deserializer<R>) -> Result<Self::Row, Asn1DerError> {
+        read_sequence(tag, from)
+    }
+
+    fn of_row(row: Self::Row) -> Self {
+        let (only, ()) = row;
+        (only,)
+    }
+
+    fn write_row<W: Sink>(&self, tag: u8, to: &mut Serializer<W>) -> Result<usize, Asn1DerError> {
+        to.list(tag, &(&self.0, ()))
+    }
+}
 
 impl<A: Deserialize + Drop, B: Deserialize + Drop> Tagged for (A, B) {
     ghost use Rattle.std.proofs.Common.{ap, refl, true, None, Some};
