@@ -33,9 +33,9 @@ impl Model for SequenceWriter {
 impl Sequence {
     /// Writes the identifier octet `tag` and the length octets of a content of `count` octets, which is to be written next.
     pub fn serialize_lazy<W: Sink>(
+        to: &mut Serializer<W>,
         tag: u8,
         count: usize,
-        to: &mut Serializer<W>,
     ) -> Result<SequenceWriter, Asn1DerError>
         ensures { MatchResult result
             (λ content. Wrote (tag ∷ length_octets count) to.old to.new × (content ≡ count))

@@ -75,7 +75,7 @@ fn are_written<W: Sink>(content: &mut SequenceWriter, to: &mut Serializer<W>) ->
 }
 
 fn is_sequence_written<W: Sink>(to: &mut Serializer<W>) -> bool {
-    match Sequence::serialize_lazy(0x30, 5, to) {
+    match Sequence::serialize_lazy(to, 0x30, 5) {
         Ok(mut content) => are_written(&mut content, to) && content.end() == Ok(()),
         Err(_) => false,
     }
