@@ -8,6 +8,7 @@ pub mod ElementWrites
 pub mod FieldsLemmas
 pub mod Headers
 pub mod Leaves
+pub mod PairLemmas
 pub mod ReadsLemmas
 pub mod Results
 pub mod Sequences

@@ -10,6 +10,8 @@ pub mod Nulls
 pub mod OptionLaws
 pub mod Optionals
 pub mod Options
+pub mod PairLaws
+pub mod Pairs
 pub mod Reading
 pub mod Reads
 pub mod Refusals

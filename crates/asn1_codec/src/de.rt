@@ -179,7 +179,7 @@ impl<R: Source> Deserializer<R> {
     }
 
     /// Takes one octet.
-    fn take_octet(&mut self) -> Result<u8, Asn1DerError>
+    pub(crate) fn take_octet(&mut self) -> Result<u8, Asn1DerError>
         ensures { MatchResult result
             (λ octet. Took (octet ∷ []) self.old self.new)
             (λ fault. Refused IsOctet self.old self.new fault) }

@@ -18,6 +18,7 @@ mod laws;
 mod leaf;
 mod measure;
 mod null;
+mod octet_pair;
 mod option;
 mod optional;
 mod reading_calls;
@@ -42,6 +43,7 @@ pub use fields::{Fields, WriteFields, write_field};
 pub use integer::{unsigned_of, write_unsigned};
 pub use laws::one_reading;
 pub use leaf::Leaf;
+pub use octet_pair::OctetPair;
 pub use optional::Optional;
 pub use row::{
     Item, Row1, Row2, Row3, Row4, Row5, Row6, Row7, Row8, Row9, Row10, Row11, Row12, Row13,
