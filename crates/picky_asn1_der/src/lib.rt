@@ -22,9 +22,9 @@ mod wrapper;
 pub use application_tag::ApplicationTag;
 pub use asn1_codec::{
     Asn1DerError, Content, Deserialize, Deserializer, Elements, Fields, FromDer, IsTagNumber, Item,
-    Leaf, Optional, Row1, Row2, Row3, Row4, Row5, Row6, Row7, Row8, Row9, Row10, Row11, Row12,
-    Row13, Rule, Serialize, Serializer, TagNumber, Tagged, Unsupported, WriteFields, WriteItem,
-    from_bytes, from_exact_bytes, from_reader, from_reader_with_max_len, one_reading,
+    Leaf, OctetPair, Optional, Row1, Row2, Row3, Row4, Row5, Row6, Row7, Row8, Row9, Row10, Row11,
+    Row12, Row13, Rule, Serialize, Serializer, TagNumber, Tagged, Unsupported, WriteFields,
+    WriteItem, from_bytes, from_exact_bytes, from_reader, from_reader_with_max_len, one_reading,
     read_sequence, to_byte_buf, to_bytes, to_vec, to_writer,
 };
 pub use asn1_elements::{Element, Tag, TagClass, TagPeeker, misc, split_element};
