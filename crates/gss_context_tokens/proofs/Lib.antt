@@ -2,4 +2,5 @@ pub mod HeaderReading
 pub mod MessageLaws
 pub mod TokenLaws
 pub mod Unread
+pub mod Values
 pub mod Written

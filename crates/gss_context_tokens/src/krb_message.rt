@@ -6,11 +6,14 @@ ghost use Rattle.asn1_codec.specs.Refusals.{refusal_of};
 
 use crate::content::{mechanism_of, split_id, whole_value};
 use crate::writing::{TokenSequence, put_out, put_value, sequence_of, token_of, told};
-use devices::Sink;
+use devices::{Sink, Source};
 use gss_messages::ApplicationTag0;
 use krb_tokens::GssApiMessageError;
 use picky_asn1::wrapper::ObjectIdentifierAsn1;
-use picky_asn1_der::{FromDer, Serialize};
+use picky_asn1_der::{
+    Asn1DerError, Deserialize, Deserializer, Fields, FromDer, OctetPair, Row3, Serialize,
+    Serializer, Tagged, read_sequence,
+};
 use std::alloc::Global;
 
 /// A message with its token id, after its mechanism (RFC 4121, section 4.1): the content of a first token, under the tag of
@@ -119,5 +122,49 @@ impl<T: Serialize> KrbMessage<T> {
     {
         let token = self.token(alloc)?;
         put_out(&token, writer)
+    }
+}
+
+type KrbMessageRow<T> = Row3<ObjectIdentifierAsn1, OctetPair, T>;
+
+/// What stands inside a token, as a SEQUENCE; in [`ApplicationTag0`] it is the token.
+impl<T: Deserialize + Drop> Tagged for KrbMessage<T> {
+    ghost use Rattle.std.proofs.Common.{ap, refl, true, None, Some};
+    ghost use Rattle.asn1_trees.specs.Tagged.{sequence};
+    ghost use Rattle.asn1_trees.proofs.Tagged.{sequence_laws};
+    ghost use Rattle.asn1_codec.specs.Refusals.{first_refusal};
+
+    type Row = KrbMessageRow<T>;
+
+    const FIRST: u8 = 48;
+
+    ghost FIRST = { 48 };
+
+    ghost row_tree = { sequence ⟦<KrbMessageRow<T> as Fields>⟧.trees };
+
+    ghost row_laws = { sequence_laws ⟦<KrbMessageRow<T> as Fields>⟧.trees (⟦<KrbMessageRow<T> as Fields>⟧.injective (refl {a = true})) };
+
+    ghost row_of = { λ v. (v.krb5_oid, (record { 0 = v.krb5_token_id }, (v.krb_msg, tt))) };
+
+    ghost one_row = { λ v w e. ap (λ f. record { krb5_oid = f.0; krb5_token_id = f.1.0.0; krb_msg = f.1.1.0 }) e };
+
+    ghost refuses = { Some (λ v. first_refusal (refusal_of T.refusal v.krb_msg) None) };
+
+    fn read_row<R: Source>(tag: u8, from: &mut Deserializer<R>) -> Result<Self::Row, Asn1DerError> {
+        read_sequence(tag, from)
+    }
+
+    fn of_row(row: Self::Row) -> Self {
+        let (krb5_oid, (OctetPair(krb5_token_id), (krb_msg, ()))) = row;
+        KrbMessage {
+            krb5_oid,
+            krb5_token_id,
+            krb_msg,
+        }
+    }
+
+    fn write_row<W: Sink>(&self, tag: u8, to: &mut Serializer<W>) -> Result<usize, Asn1DerError> {
+        let id = OctetPair(self.krb5_token_id);
+        to.list(tag, &(&self.krb5_oid, (&id, (&self.krb_msg, ()))))
     }
 }

@@ -1,12 +1,15 @@
 //! What is written is read again, and a token is read in one way, as laws.
-ghost use Rattle.std.specs.Prelude.{◌≡◌, ℕ, List, ◌++◌};
-ghost use Rattle.asn1_trees.specs.Tree.{Writes};
+ghost use Rattle.std.specs.Prelude.{◌≡◌, ℕ, List, ◌++◌, length};
+ghost use Rattle.asn1_trees.specs.Tree.{Writes, der};
+ghost use Rattle.asn1_trees.specs.Length.{element};
 ghost use Rattle.gss_context_tokens.specs.declared.krb_message.KrbMessage.{KrbMessage};
 ghost use Rattle.gss_context_tokens.specs.declared.iakerb_proxy_message.IAKerbProxyMessage.{IAKerbProxyMessage};
 ghost use Rattle.gss_context_tokens.specs.Tokens.{token_bytes};
 ghost use Rattle.gss_context_tokens.specs.KrbMessages.{BeginsKrbMessage, BeginsProxyMessage, IsWholeMessage, IsWholeProxyMessage, krb_message_content, proxy_message_content};
 
-use picky_asn1_der::{Deserialize, FromDer};
+use crate::krb_message::KrbMessage;
+use gss_messages::ApplicationTag0;
+use picky_asn1_der::{Deserialize, FromDer, Serialize};
 
 /// The law that bytes begin with the token of one message at most. It does nothing when it runs: its contract is the law.
 pub fn one_krb_message<T: FromDer>()
@@ -27,4 +30,13 @@ pub fn written_is_read<T: Deserialize>()
         → IsWholeMessage T.tree m × (rest : List ℕ) × (bytes ≡ token_bytes (krb_message_content T.tree m) ++ rest) }
     ensures proxied { (m : IAKerbProxyMessage T) (rest : List ℕ) → IsWholeProxyMessage T.tree m
         → BeginsProxyMessage (Writes T.tree) m (token_bytes (proxy_message_content T.tree m) ++ rest) }
+{}
+
+/// The law that a message as a value of DER is what stands inside its token, under 30, and the token itself in [`ApplicationTag0`]. It
+/// does nothing.
+pub fn message_is_value<T: Deserialize + Drop>()
+    ensures sequence { (m : KrbMessage T) → length m.krb5_token_id ≡ 2
+        → der (⟦<KrbMessage<T> as Serialize>⟧.tree m) ≡ element 48 (krb_message_content T.tree m) }
+    ensures token { (m : KrbMessage T) → length m.krb5_token_id ≡ 2
+        → der (⟦<ApplicationTag0<KrbMessage<T>> as Serialize>⟧.tree (record { 0 = m })) ≡ token_bytes (krb_message_content T.tree m) }
 {}

@@ -16,5 +16,5 @@ mod writing;
 pub use iakerb_header::{IAKerbCookie, IAKerbHeader};
 pub use iakerb_proxy_message::IAKerbProxyMessage;
 pub use krb_message::KrbMessage;
-pub use laws::{one_krb_message, one_proxy_message, written_is_read};
+pub use laws::{message_is_value, one_krb_message, one_proxy_message, written_is_read};
 pub use writing::TokenSequence;

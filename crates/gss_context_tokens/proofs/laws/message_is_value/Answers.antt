@@ -1,0 +1,9 @@
+use Rattle.gss_context_tokens.specs.Tokens.{mechanism_tree}
+use Rattle.gss_context_tokens.proofs.Values.{content-value}
+use Rattle.gss_context_tokens.proofs.laws.message_is_value.Goals as goal
+
+pub returns-clause-sequence : goal.returns-clause-sequence
+returns-clause-sequence g c m two = content-value (mechanism_tree m.krb5_oid) m.krb5_token_id (g.T.Serialize.tree m.krb_msg) 48 two
+
+pub returns-clause-token : goal.returns-clause-token
+returns-clause-token g c m two = content-value (mechanism_tree m.krb5_oid) m.krb5_token_id (g.T.Serialize.tree m.krb_msg) 96 two
