@@ -1,11 +1,12 @@
 -- The seconds of a time, and how it is read.
-use Rattle.std.proofs.Common.{◌≡◌, ◌≢◌, ◌↔◌, ℕ, ◌+◌, ◌*◌, ◌/◌, ◌%◌, ◌<◌, List, length, get_or, Option, Result, Ok, Err, IsOk, IfOk, MatchOption, sym, ap, arith}
+use Rattle.std.proofs.Common.{◌≡◌, ◌≢◌, ◌↔◌, ℕ, ◌+◌, ◌*◌, ◌/◌, ◌%◌, ◌<◌, ◌≤◌, ltb, refl, List, [], ◌∷◌, ◌++◌, length, get_or, Option, Result, Ok, Err, IsOk, IfOk, MatchOption, sym, ap, arith}
 use Rattle.std.specs.Result.{result_ok}
-use Rattle.std.proofs.lemmas.Bool.{false≢true}
+use Rattle.std.proofs.lemmas.Bool.{false≢true, and_from, lt-ltb}
 use Rattle.std.proofs.lemmas.Slice.Eq.{text_from_reads}
 use Rattle.asn1_leaves.specs.declared.date.GeneralizedTime.{GeneralizedTime}
-use Rattle.asn1_leaves.specs.Calendar.{IsCalendarDate, IsTimeOfDay, day_number, HasDigits}
-use Rattle.asn1_leaves.specs.GeneralizedTime.{HasParts, time_text, seconds_of}
+use Rattle.asn1_leaves.specs.Calendar.{IsCalendarDate, IsTimeOfDay, days_in_month, day_number, two_digits, HasDigits}
+use Rattle.asn1_leaves.specs.CharSets.{is_general_string, IsGeneralString}
+use Rattle.asn1_leaves.specs.GeneralizedTime.{HasParts, time_text, shown_time, seconds_of}
 use Rattle.asn1_leaves.specs.TimeLaws.{same_time}
 use Rattle.asn1_leaves.proofs.CalendarLemmas.{day_number-injective}
 
@@ -59,3 +60,28 @@ read_time text century year month day hour minute second (Err fault) read n vali
     rw e (λ t same.
     let p = numbers-time_text text century year month day hour minute second n t same in
     absurd (false≢true (valid.1 (rw (← p.0, ← p.1, ← p.2, ← p.3, ← p.4, ← p.5) (t.on_calendar, t.on_clock)))))
+
+-- each character that is shown is below 128
+below_128 : (character : ℕ) (rest : List ℕ) → character < 128 → IsGeneralString rest → IsGeneralString (character ∷ rest)
+below_128 character rest low h = and_from (ltb character 128) (is_general_string rest) (lt-ltb character 128 low) h
+
+digits_below_128 : (n : ℕ) (rest : List ℕ) → n < 100 → IsGeneralString rest → IsGeneralString (two_digits n ++ rest)
+digits_below_128 n rest small h =
+    below_128 (48 + n / 10) ((48 + n % 10) ∷ rest) (omega arith) (below_128 (48 + n % 10) rest (omega arith) h)
+
+pub IsGeneralString-shown_time : (t : GeneralizedTime) → IsGeneralString (shown_time t)
+IsGeneralString-shown_time t =
+    let most : days_in_month t.year t.month ≤ 31 = grind arith in
+    let second = two_digits t.second ++ 90 ∷ [] in
+    let minute = two_digits t.minute ++ 58 ∷ second in
+    let hour = two_digits t.hour ++ 58 ∷ minute in
+    let day = two_digits t.day ++ 32 ∷ hour in
+    let month = two_digits t.month ++ 45 ∷ day in
+    let year = two_digits (t.year % 100) ++ 45 ∷ month in
+    let is_second = digits_below_128 t.second (90 ∷ []) (omega (arith, t.on_clock)) refl in
+    let is_minute = digits_below_128 t.minute (58 ∷ second) (omega (arith, t.on_clock)) (below_128 58 second (omega arith) is_second) in
+    let is_hour = digits_below_128 t.hour (58 ∷ minute) (omega (arith, t.on_clock)) (below_128 58 minute (omega arith) is_minute) in
+    let is_day = digits_below_128 t.day (32 ∷ hour) (omega (arith, most, t.on_calendar)) (below_128 32 hour (omega arith) is_hour) in
+    let is_month = digits_below_128 t.month (45 ∷ day) (omega (arith, t.on_calendar)) (below_128 45 day (omega arith) is_day) in
+    let is_year = digits_below_128 (t.year % 100) (45 ∷ month) (omega arith) (below_128 45 month (omega arith) is_month) in
+    digits_below_128 (t.year / 100) year (omega (arith, t.on_calendar)) is_year

@@ -24,12 +24,24 @@ HasParts year month day hour minute second t =
 abbrev pub time_text : GeneralizedTime → List ℕ
 time_text t = calendar_text t.year t.month t.day t.hour t.minute t.second
 
+-- the text that is shown, in 20 characters: YYYY-MM-DD HH:MM:SSZ (RFC 3339, section 5.6, with a space between date and time)
+abbrev pub shown_text : ℕ → ℕ → ℕ → ℕ → ℕ → ℕ → List ℕ
+shown_text year month day hour minute second =
+    two_digits (year / 100) ++ two_digits (year % 100) ++ codes "-" ++ two_digits month ++ codes "-" ++ two_digits day
+    ++ codes " " ++ two_digits hour ++ codes ":" ++ two_digits minute ++ codes ":" ++ two_digits second ++ codes "Z"
+
+abbrev pub shown_time : GeneralizedTime → List ℕ
+shown_time t = shown_text t.year t.month t.day t.hour t.minute t.second
+
 -- its seconds since 0000-01-01 00:00:00
 abbrev pub seconds_of : GeneralizedTime → ℕ
 seconds_of t = calendar_seconds t.year t.month t.day t.hour t.minute t.second
 
 pub calendar_text-2000-01-02 : calendar_text 2000 1 2 3 4 59 ≡ codes "20000102030459Z"
 calendar_text-2000-01-02 = refl
+
+pub shown_text-2000-01-02 : shown_text 2000 1 2 3 4 59 ≡ codes "2000-01-02 03:04:59Z"
+shown_text-2000-01-02 = refl
 
 pub calendar_seconds-2000-01-01 : calendar_seconds 2000 1 1 0 0 0 ≡ 63113904000
 unfolding day_number days_of_months

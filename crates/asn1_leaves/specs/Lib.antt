@@ -3,6 +3,7 @@ pub mod CharSets
 pub mod GeneralizedTime
 pub mod Makes
 pub mod ObjectIdentifier
+pub mod TextLaws
 pub mod TimeLaws
 pub mod UtcTime
 pub mod UtcYears

@@ -1,5 +1,5 @@
 //! The character sets of the string types (X.680, section 41).
-ghost use Rattle.std.specs.Prelude.{◌≡◌, ℕ, List, Bool};
+ghost use Rattle.std.specs.Prelude.{◌≡◌, ℕ, List, Bool, IsTrue};
 ghost use Rattle.std.specs.Str.{is_utf8};
 ghost use Rattle.asn1_leaves.specs.CharSets.{is_general_string, is_printable, is_printable_string, is_bmp_string};
 
@@ -18,6 +18,11 @@ pub trait CharSet: Debug + Drop {
     /// Whether the octets are a text of this set.
     fn has_text(octets: &[u8]) -> bool
         ensures { result ≡ is_text octets.now };
+}
+
+/// A character set of which each text is UTF-8.
+pub trait TextCharSet: CharSet {
+    ghost is_text_utf8: { (octets : List ℕ) → IsTrue (Self.is_text octets) → IsTrue (is_utf8 octets) };
 }
 
 /// Characters below 128, the only ones that Kerberos has in a GeneralString (RFC 4120, section 5.2.1).
@@ -98,6 +103,28 @@ impl CharSet for BmpCharSet {
     fn has_text(octets: &[u8]) -> bool {
         octets.len() % 2 == 0
     }
+}
+
+impl TextCharSet for GeneralCharSet {
+    ghost use Rattle.asn1_leaves.specs.TextLaws.{utf8_of_general};
+
+    ghost is_text_utf8 = { utf8_of_general };
+}
+
+impl TextCharSet for Utf8CharSet {
+    ghost is_text_utf8 = { λ octets h. h };
+}
+
+impl TextCharSet for PrintableCharSet {
+    ghost use Rattle.asn1_leaves.specs.TextLaws.{utf8_of_printable};
+
+    ghost is_text_utf8 = { utf8_of_printable };
+}
+
+impl TextCharSet for Ia5CharSet {
+    ghost use Rattle.asn1_leaves.specs.TextLaws.{utf8_of_general};
+
+    ghost is_text_utf8 = { utf8_of_general };
 }
 
 fn is_below_128(octets: &[u8]) -> bool

@@ -4,8 +4,10 @@ ghost use Rattle.std.specs.Int.{IsInRange};
 ghost use Rattle.asn1_leaves.specs.Calendar.{IsCalendarDate, IsTimeOfDay, day_number, days_before_year, days_in_month, days_of_months, HasDigits};
 
 use crate::LeafFault;
+use crate::ascii::ascii_text;
 pub use crate::utc_time::UTCTime;
-use jiff::civil::Date;
+use jiff::civil;
+use std::fmt;
 
 // The first date of `jiff` is -9999-01-01.
 const DAYS_BEFORE_ZERO: u32 = 3_652_059;
@@ -14,19 +16,28 @@ const DAYS_BEFORE_ZERO: u32 = 3_652_059;
 /// RFC 4120, section 5.2.3). A leap second is none.
 #[derive(Clone, Copy, Debug, PartialEq, Eq)]
 pub struct GeneralizedTime {
+    /// The year, 0 to 9999.
     pub year: u16,
+    /// The month, from 1 for January.
     pub month: u8,
+    /// The day of the month, from 1.
     pub day: u8,
+    /// The hour, 0 to 23.
     pub hour: u8,
+    /// The minute, 0 to 59.
     pub minute: u8,
+    /// The second, 0 to 59.
     pub second: u8,
     pub ghost on_calendar: { IsCalendarDate year month day },
     pub ghost on_clock: { IsTimeOfDay hour minute second },
 }
 
+/// A time, by the name that the ported crate has for it.
+pub type Date = GeneralizedTime;
+
 impl GeneralizedTime {
     ghost use Rattle.asn1_leaves.specs.declared.date.GeneralizedTime.{GeneralizedTime as Time};
-    ghost use Rattle.asn1_leaves.specs.GeneralizedTime.{HasParts, time_text, seconds_of};
+    ghost use Rattle.asn1_leaves.specs.GeneralizedTime.{HasParts, time_text, shown_time, seconds_of};
 
     /// The time with these parts, which the calendar and the clock must have.
     pub fn new(
@@ -100,6 +111,16 @@ impl GeneralizedTime {
         ]
     }
 
+    // The 20 characters `YYYY-MM-DD HH:MM:SSZ`.
+    fn to_shown(&self) -> [u8; 20]
+        ensures { result ≡ shown_time self.now }
+    {
+        let [c, d, y, z, m, n, a, b, h, i, p, q, s, t, zone] = self.to_text();
+        [
+            c, d, y, z, b'-', m, n, b'-', a, b, b' ', h, i, b':', p, q, b':', s, t, zone,
+        ]
+    }
+
     /// The year, 0 to 9999.
     pub fn year(&self) -> u16
         ensures { result ≡ self.now.year }
@@ -170,13 +191,25 @@ impl GeneralizedTime {
     }
 }
 
+impl fmt::Display for GeneralizedTime {
+    ghost use Rattle.std.specs.Prelude.{Some};
+    ghost use Rattle.asn1_leaves.specs.GeneralizedTime.{shown_time};
+
+    ghost output = { λ t. Some (shown_time t) };
+
+    fn fmt<W: fmt::Write>(&self, f: &mut fmt::Formatter<W>) -> fmt::Result {
+        let shown = self.to_shown();
+        f.write_str(ascii_text(&shown))
+    }
+}
+
 fn is_calendar_date(year: u16, month: u8, day: u8) -> bool
     ensures { IsTrue result ↔ IsCalendarDate year month day }
 {
     year <= 9999
         && month <= 12
         && day <= 31
-        && Date::new(year as i16, month as i8, day as i8).is_ok()
+        && civil::Date::new(year as i16, month as i8, day as i8).is_ok()
 }
 
 // How many days lie between 0000-01-01 and the date.
@@ -185,7 +218,7 @@ fn day_count(year: u16, month: u8, day: u8) -> u32
     ensures value { result ≡ day_number year month day }
     ensures in_range { result < 3652425 }
 {
-    let date = Date::new(year as i16, month as i8, day as i8).unwrap();
+    let date = civil::Date::new(year as i16, month as i8, day as i8).unwrap();
     date.to_plain().days_since_min() - DAYS_BEFORE_ZERO
 }
 

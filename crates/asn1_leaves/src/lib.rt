@@ -2,6 +2,7 @@
 //! character sets of the string types.
 #![tactic(auto)]
 
+mod ascii;
 pub mod char_sets;
 pub mod date;
 mod dotted;

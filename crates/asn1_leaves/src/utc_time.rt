@@ -5,11 +5,13 @@ ghost use Rattle.asn1_leaves.specs.UtcYears.{IsUtcYear};
 
 use crate::LeafFault;
 use crate::date::GeneralizedTime;
+use std::fmt;
 
 /// A time to the second in UTC in the years 1950 to 2049, of which two digits are written (X.690, section 11.8, and
 /// RFC 5280, section 4.1.2.5.1). A leap second is none.
 #[derive(Clone, Copy, Debug, PartialEq, Eq)]
 pub struct UTCTime {
+    /// The time with its whole year.
     pub time: GeneralizedTime,
     pub ghost in_years: { IsUtcYear time.year },
 }
@@ -133,5 +135,16 @@ impl TryFrom<GeneralizedTime> for UTCTime {
         } else {
             Err(LeafFault::Time)
         }
+    }
+}
+
+impl fmt::Display for UTCTime {
+    ghost use Rattle.std.specs.Prelude.{Some};
+    ghost use Rattle.asn1_leaves.specs.GeneralizedTime.{shown_time};
+
+    ghost output = { λ t. Some (shown_time t.time) };
+
+    fn fmt<W: fmt::Write>(&self, f: &mut fmt::Formatter<W>) -> fmt::Result {
+        fmt::Display::fmt(&self.time, f)
     }
 }
