@@ -109,7 +109,7 @@ is_integer-with_sign (d ∷ ds) first =
     (λ high. is_integer-behind_zero d ds (omega (arith, ltb-false d 128 high)))
 
 -- the first digit of a number isn't zero
-first_digit : (n : ℕ) → 0 < length (digits_of 256 n) → 0 < get_or (digits_of 256 n) 0 0
+pub first_digit : (n : ℕ) → 0 < length (digits_of 256 n) → 0 < get_or (digits_of 256 n) 0 0
 first_digit zero h = absurd (omega arith)
 first_digit (suc n) h = first_digits_of 256 (suc n) (omega arith) (omega arith)
 

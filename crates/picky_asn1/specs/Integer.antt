@@ -19,6 +19,11 @@ unfoldable pub integer_content : ℤ → List ℕ
 integer_content (pos n) = natural_octets n
 integer_content (negsuc n) = map complement (natural_octets n)
 
+-- the digits to the base 256 of a number that isn't negative, and the octet 0 of zero; of a negative number its content
+abbrev pub unsigned_octets : ℤ → List ℕ
+unsigned_octets (pos n) = if n == 0 then 0 ∷ [] else digits_of 256 n
+unsigned_octets (negsuc n) = integer_content (negsuc n)
+
 -- the number that octets are the two's complement of, the first of which has its sign
 unfoldable pub integer_value : List ℕ → ℤ
 integer_value octets =
@@ -58,3 +63,9 @@ integer_content-negative-129 = refl
 pub integer_content-zero : integer_content (pos 0) ≡ 0 ∷ []
 unfolding integer_content natural_octets
 integer_content-zero = refl
+
+pub unsigned_octets-zero : unsigned_octets (pos 0) ≡ 0 ∷ []
+unsigned_octets-zero = refl
+
+pub unsigned_octets-128 : unsigned_octets (pos 128) ≡ 128 ∷ []
+unsigned_octets-128 = refl

@@ -7,4 +7,5 @@ pub mod BitStringLaws
 pub mod FewOctets
 pub mod Integer
 pub mod IntegerLaws
+pub mod IntegerText
 pub mod Numbers

@@ -1,5 +1,5 @@
 //! Strings of bits.
-ghost use Rattle.std.specs.Prelude.{◌≡◌, ◌≢◌, ℕ, min, ◌<◌, ◌==◌, length, if◌then◌else◌, IfOk};
+ghost use Rattle.std.specs.Prelude.{◌≡◌, ◌≢◌, ℕ, min, ◌<◌, ◌≤◌, ◌==◌, nat_lt, length, if◌then◌else◌, IfOk};
 ghost use Rattle.std.specs.Int.{bit_at};
 ghost use Rattle.picky_asn1.specs.BitString.{Bits, is_bit_string, IsBitString, bit_count, bit_of, bit_content};
 ghost use Rattle.asn1_leaves.specs.Makes.{Makes, Decodes};
@@ -14,6 +14,9 @@ pub struct BitStringAsn1 {
     octets: Vec<u8>,
     unused: u8,
 }
+
+/// A BIT STRING, by the ported crate's name of its value.
+pub type BitString = BitStringAsn1;
 
 impl Model for BitStringAsn1 {
     ghost use Rattle.picky_asn1.specs.BitString.{Bits, IsBitString};
@@ -59,8 +62,14 @@ impl BitStringAsn1 {
     pub fn len(&self) -> usize
         ensures { result ≡ min (bit_count self.now) usize.MAX }
     {
-        let count = 8 * self.octets.len() as u128 - self.unused as u128;
-        count.min(usize::MAX as u128) as usize
+        self.count().min(usize::MAX as u128) as usize
+    }
+
+    // How many bits there are.
+    fn count(&self) -> u128
+        ensures { result ≡ bit_count self.now }
+    {
+        8 * self.octets.len() as u128 - self.unused as u128
     }
 
     /// Whether there are no bits.
@@ -80,8 +89,23 @@ impl BitStringAsn1 {
         }
     }
 
-    /// Sets bit `i` to `value`.
-    pub fn set(&mut self, i: usize, value: bool)
+    /// Sets bit `i` to `value`, and returns whether there is such a bit. Past the end nothing changes.
+    pub fn set(&mut self, i: usize, value: bool) -> bool
+        ensures has_bit { result ≡ nat_lt i (bit_count self.old) }
+        ensures bits { i < bit_count self.old → (k : ℕ) → bit_of self.new k ≡ (if k == i then value else bit_of self.old k) }
+        ensures len { length self.new.octets ≡ length self.old.octets }
+        ensures unused { self.new.unused ≡ self.old.unused }
+        ensures past_end { bit_count self.old ≤ i → self.new ≡ self.old }
+    {
+        if i as u128 >= self.count() {
+            return false;
+        }
+        self.set_bit(i, value);
+        true
+    }
+
+    // Sets bit `i`, which is there, to `value`.
+    fn set_bit(&mut self, i: usize, value: bool)
         requires { i < bit_count self.old }
         ensures bits { (k : ℕ) → bit_of self.new k ≡ (if k == i then value else bit_of self.old k) }
         ensures len { length self.new.octets ≡ length self.old.octets }

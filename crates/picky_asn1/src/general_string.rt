@@ -6,6 +6,7 @@ ghost use Rattle.asn1_leaves.specs.Makes.{Makes, Decodes};
 use crate::LeafFault;
 use crate::restricted_string::{GeneralCharSet, RestrictedString};
 use std::alloc::{AllocError, Global};
+use std::fmt;
 use std::marker::Model;
 
 /// A GeneralString of characters below 128, the only ones that Kerberos has in it (RFC 4120, section 5.2.1). A
@@ -54,6 +55,23 @@ impl GeneralStringAsn1 {
         ensures character_set { IsGeneralString self.now }
     {
         self.text.as_bytes()
+    }
+
+    /// The text, in the string's own memory.
+    pub fn as_str(&self) -> &str
+        ensures { result.now ≡ self.now }
+    {
+        self.text.as_str()
+    }
+}
+
+impl fmt::Display for GeneralStringAsn1 {
+    ghost use Rattle.std.specs.Prelude.{Some};
+
+    ghost output = { λ text. Some text };
+
+    fn fmt<W: fmt::Write>(&self, f: &mut fmt::Formatter<W>) -> fmt::Result {
+        f.write_str(self.as_str())
     }
 }
 

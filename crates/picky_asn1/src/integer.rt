@@ -1,8 +1,8 @@
 //! Whole numbers.
-ghost use Rattle.std.specs.Prelude.{◌≡◌, ◌≢◌, ◌<◌, ◌≤◌, ℤ, pos, map, ◌∷◌, length, slice_index, nat_le, if◌then◌else◌, IfOk, MatchOption, SomeIff, FitsSigned};
+ghost use Rattle.std.specs.Prelude.{◌≡◌, ◌≢◌, ◌<◌, ◌≤◌, ℤ, pos, map, ◌∷◌, length, slice_index, nat_le, nat_lt, ◌&&◌, ◌==◌, if◌then◌else◌, IfOk, MatchOption, SomeIff, FitsSigned};
 ghost use Rattle.std.specs.Int.{w64};
 ghost use Rattle.std.specs.Int.Digits.{number_from_digits};
-ghost use Rattle.picky_asn1.specs.Integer.{complement, is_integer, IsInteger, integer_value, integer_content};
+ghost use Rattle.picky_asn1.specs.Integer.{complement, is_integer, IsInteger, integer_value, integer_content, unsigned_octets};
 ghost use Rattle.asn1_leaves.specs.Makes.{Makes};
 
 use crate::LeafFault;
@@ -129,6 +129,19 @@ impl IntegerAsn1 {
     {
         self.octets.as_slice()
     }
+
+    /// The number's digits to the base 256, the most significant first: of 0 the octet 0, and of no other number a zero
+    /// octet in front. Of a negative number its two's complement.
+    pub fn as_unsigned_bytes_be(&self) -> &[u8]
+        ensures { result.now ≡ unsigned_octets self.now }
+    {
+        let octets = self.octets.as_slice();
+        if has_sign_octet(octets) {
+            &octets[1..]
+        } else {
+            octets
+        }
+    }
 }
 
 impl Clone for IntegerAsn1 {
@@ -181,6 +194,16 @@ fn is_integer(octets: &[u8]) -> bool
         [0, second, ..] => *second >= 128,
         [255, second, ..] => *second < 128,
         _ => true,
+    }
+}
+
+// Whether the first octet only says that the number isn't negative.
+fn has_sign_octet(octets: &[u8]) -> bool
+    ensures { result ≡ (nat_lt 1 (length octets.now) && (slice_index octets.now 0 == 0)) }
+{
+    match octets {
+        [first, _, ..] => *first == 0,
+        _ => false,
     }
 }
 

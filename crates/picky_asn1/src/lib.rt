@@ -6,6 +6,7 @@ mod encoding;
 mod few_octets;
 mod general_string;
 mod integer;
+mod integer_text;
 mod list_of;
 mod numbers;
 mod octet_string;

@@ -4,11 +4,11 @@ ghost use Rattle.asn1_leaves.specs.Makes.{Makes, Decodes};
 
 use crate::LeafFault;
 pub use asn1_leaves::char_sets::{
-    BmpCharSet, CharSet, GeneralCharSet, Ia5CharSet, PrintableCharSet, Utf8CharSet,
+    BmpCharSet, CharSet, GeneralCharSet, Ia5CharSet, PrintableCharSet, TextCharSet, Utf8CharSet,
 };
 use std::alloc::{AllocError, Global};
 use std::marker::{Model, PhantomData};
-use std::str;
+use std::{fmt, str};
 
 /// A text of the character set `C`. A contract sees the list of its octets.
 #[derive(Drop, Debug)]
@@ -16,6 +16,18 @@ pub struct RestrictedString<C: CharSet> {
     octets: Vec<u8>,
     set: PhantomData<C>,
 }
+
+/// The text of a UTF8String, by the ported crate's name.
+pub type Utf8String = RestrictedString<Utf8CharSet>;
+
+/// The text of a PrintableString, by the ported crate's name.
+pub type PrintableString = RestrictedString<PrintableCharSet>;
+
+/// The text of an IA5String, by the ported crate's name.
+pub type IA5String = RestrictedString<Ia5CharSet>;
+
+/// The text of a BMPString, by the ported crate's name.
+pub type BmpString = RestrictedString<BmpCharSet>;
 
 impl<C: CharSet> Model for RestrictedString<C> {
     ghost use Rattle.std.specs.Prelude.{ℕ, List, IsTrue};
@@ -64,12 +76,22 @@ impl<C: CharSet> RestrictedString<C> {
     }
 }
 
-impl RestrictedString<Utf8CharSet> {
-    /// The text.
+impl<C: TextCharSet> RestrictedString<C> {
+    /// The text, in the string's own memory.
     pub fn as_str(&self) -> &str
         ensures { result.now ≡ self.now }
     {
         str::from_utf8(self.as_bytes()).unwrap()
+    }
+}
+
+impl<C: TextCharSet> fmt::Display for RestrictedString<C> {
+    ghost use Rattle.std.specs.Prelude.{Some};
+
+    ghost output = { λ text. Some text };
+
+    fn fmt<W: fmt::Write>(&self, f: &mut fmt::Formatter<W>) -> fmt::Result {
+        f.write_str(self.as_str())
     }
 }
 

@@ -2,7 +2,7 @@ use Rattle.std.proofs.Common.{◌/◌, ◌<◌, length, ◌∙◌, ap, arith}
 use Rattle.std.specs.Int.{bit_at}
 use Rattle.std.proofs.lemmas.List.{get_or_read}
 use Rattle.picky_asn1.proofs.BitLemmas.{IsBitString-set, bit_of-set}
-use Rattle.picky_asn1.proofs.bit_string.BitStringAsn1.set.Goals as goal
+use Rattle.picky_asn1.proofs.bit_string.BitStringAsn1.set_bit.Goals as goal
 
 pub invariant_of-self : goal.invariant_of-self
 invariant_of-self c =
