@@ -22,6 +22,7 @@ pub enum DiffieHellmanError {
     Memory,
 }
 
+/// What a call of this module returns.
 pub type DiffieHellmanResult<T> = Result<T, DiffieHellmanError>;
 
 impl From<AllocError> for DiffieHellmanError {

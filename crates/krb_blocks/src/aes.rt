@@ -30,7 +30,9 @@ pub const AES256_KEY_SIZE: usize = 32;
 /// Which AES: by the size of its keys.
 #[derive(Clone, Copy, Debug, PartialEq, Eq)]
 pub enum AesSize {
+    /// Keys of 32 bytes.
     Aes256,
+    /// Keys of 16 bytes.
     Aes128,
 }
 

@@ -50,6 +50,7 @@ pub enum KerberosCryptoError {
     Memory,
 }
 
+/// What a cryptographic call returns.
 pub type KerberosCryptoResult<T> = Result<T, KerberosCryptoError>;
 
 impl KerberosCryptoError {

@@ -9,8 +9,9 @@ pub struct Place {
     pub len: usize,
     /// Which byte of its copy it is.
     pub index: usize,
-    /// The byte of the input in which its bits begin, and the bit there, counted from the highest.
+    /// The byte of the input in which its bits begin.
     pub byte: usize,
+    /// The bit of that byte with which they begin, counted from the highest.
     pub bit: u32,
     ghost index_in: { index < len },
     ghost byte_in: { byte < len },
