@@ -1,4 +1,5 @@
 pub mod Trees
+pub mod NameText
 pub mod Names
 pub mod RandomBytes
 pub mod Refusals
