@@ -7,6 +7,7 @@ use picky_asn1::wrapper::{GeneralizedTimeAsn1, UTCTimeAsn1};
 use picky_asn1_der::{
     Alternatives, Asn1DerError, Choice, Deserialize, Deserializer, Last, Serialize, Serializer,
 };
+use std::fmt;
 use x509_spelling::Exact;
 
 /// A time, to the second.
@@ -27,6 +28,74 @@ pub enum Time {
 }
 
 type TimeChoice = Choice<UTCTimeAsn1, Last<GeneralizedTimeAsn1>>;
+
+impl Time {
+    ghost use Rattle.x509_parts.specs.Times.{moment};
+
+    /// The time that either alternative holds.
+    pub fn moment(&self) -> GeneralizedTime
+        ensures { result ≡ moment self.now }
+    {
+        match self {
+            Time::Utc(time) => time.0.time,
+            Time::Generalized(time) => time.0,
+        }
+    }
+
+    /// The year, 0 to 9999.
+    pub fn year(&self) -> u16
+        ensures { result ≡ (moment self.now).year }
+    {
+        self.moment().year()
+    }
+
+    /// The month, from 1 for January.
+    pub fn month(&self) -> u8
+        ensures { result ≡ (moment self.now).month }
+    {
+        self.moment().month()
+    }
+
+    /// The day of the month, from 1.
+    pub fn day(&self) -> u8
+        ensures { result ≡ (moment self.now).day }
+    {
+        self.moment().day()
+    }
+
+    /// The hour, 0 to 23.
+    pub fn hour(&self) -> u8
+        ensures { result ≡ (moment self.now).hour }
+    {
+        self.moment().hour()
+    }
+
+    /// The minute, 0 to 59.
+    pub fn minute(&self) -> u8
+        ensures { result ≡ (moment self.now).minute }
+    {
+        self.moment().minute()
+    }
+
+    /// The second, 0 to 59.
+    pub fn second(&self) -> u8
+        ensures { result ≡ (moment self.now).second }
+    {
+        self.moment().second()
+    }
+}
+
+impl fmt::Display for Time {
+    ghost use Rattle.std.specs.Prelude.{Some};
+    ghost use Rattle.asn1_leaves.specs.GeneralizedTime.{shown_time};
+    ghost use Rattle.x509_parts.specs.Times.{moment};
+
+    ghost output = { λ time. Some (shown_time (moment time)) };
+
+    fn fmt<W: fmt::Write>(&self, f: &mut fmt::Formatter<W>) -> fmt::Result {
+        fmt::Display::fmt(&self.moment(), f)
+    }
+}
 
 impl From<UTCTime> for Time {
     ghost use Rattle.x509_parts.specs.declared.time.Time.TheVariants.{Utc};
