@@ -28,7 +28,7 @@ pair_split (a ∷ (b ∷ (c ∷ octets))) trees whole = absurd whole.0
 abbrev pub pair_trees : {B : Type 0} → (B → Trees) → List ℕ × B → Trees
 pair_trees trees f = pair_before f.0 (trees f.1)
 
--- the two octets, and what stands behind them, are written as they are
+-- the two octets and the bytes after them are written as they are
 pair_bytes : (octets same : List ℕ) (trees : Trees) → same ≡ octets → length same ≡ 2 → same ++ ders trees ≡ ders (pair_before octets trees)
 pair_bytes octets same trees is two = sym (pair_ders same trees two) ∙ ap (λ l. ders (pair_before l trees)) is
 
@@ -47,7 +47,7 @@ pair-wrote octets same trees old mid low new first rest sum r is two head tail s
       tail.2,
     )
 
--- what is wanted behind the octets that were taken
+-- what is expected after the octets that were taken
 pub pair_cut : {B : Type 0} (trees : B → Trees) (a b limit room : ℕ) → limit ≡ 2 + room
     → Cuts (AreFields (pair_trees trees) limit) (AreFields trees room) (a ∷ (b ∷ [])) limit
 pair_cut trees a b limit room is_room bytes rest behind p e within =
@@ -59,14 +59,14 @@ pair_cut trees a b limit room is_room bytes rest behind p e within =
     let size : length bytes ≡ 2 + length tail = omega (arith, ap length text) in
     (tail, rest, (p.0.1, whole, refl, omega (arith, size, p.3, is_room)), sym (tails d b (tail ++ rest) behind later), omega (arith, size))
 
--- a front of what is wanted
+-- a front of what is expected
 pub pair_octet : {B : Type 0} (trees : B → Trees) (limit : ℕ) (bytes : List ℕ) → AreFields (pair_trees trees) limit bytes
     → (c d : List ℕ) × IsOctet c × (bytes ≡ c ++ d)
 pair_octet trees limit bytes p =
     let (c, d, octets_are, whole, spelled) = pair_split p.0.0 (trees p.0.1) p.1 in
     (c ∷ [], d ∷ ders (trees p.0.1), refl, p.2 ∙ spelled)
 
--- what is wanted behind the first octet
+-- what is expected after the first octet
 pub pair_second : {B : Type 0} (trees : B → Trees) (a limit : ℕ) → Cuts (AreFields (pair_trees trees) limit) IsOctet (a ∷ []) limit
 pair_second trees a limit bytes rest behind p e within =
     let (c, d, octets_are, whole, spelled) = pair_split p.0.0 (trees p.0.1) p.1 in

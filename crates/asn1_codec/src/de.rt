@@ -253,7 +253,7 @@ impl<R: Source> Deserializer<R> {
         }
     }
 
-    /// Takes length octets, and gives the length. Only a length below the limit is wanted.
+    /// Takes length octets, and returns the length. Only a length below the limit is accepted.
     fn take_length(&mut self) -> Result<usize, Asn1DerError>
         ensures { MatchResult result
             (λ count. Took (length_octets count) self.old self.new)
@@ -266,7 +266,7 @@ impl<R: Source> Deserializer<R> {
         self.take_long_length(first)
     }
 
-    /// Takes the length octets behind the first, and gives the length. Only a length of at most the limit is wanted.
+    /// Takes the length octets after the first, and returns the length. Only a length of at most the limit is accepted.
     ///
     /// It stays out of line, since most lengths are one octet.
     #[inline(never)]
@@ -395,8 +395,8 @@ impl<R: Source> Deserializer<R> {
         value
     }
 
-    /// Takes a value under the further identifier octet `tag`, where it stands behind the octet `lead`: in a BIT STRING behind
-    /// 0 (X.690, section 8.6.2).
+    /// Takes a value under the further identifier octet `tag`, where it follows the octet `lead`: in a BIT STRING the octet 0
+    /// (X.690, section 8.6.2).
     pub fn wrapped_behind<T: Deserialize + Drop>(
         &mut self,
         tag: u8,
@@ -494,7 +494,7 @@ impl<R: Source> Deserializer<R> {
     }
 }
 
-/// Reads the value whose spelling begins `input`; what stands behind it stays unread. No fault is a device's.
+/// Reads the value whose spelling begins `input`. Bytes after it stay unread. No fault is a device's.
 pub fn from_bytes<T: FromDer>(alloc: Global, input: &[u8]) -> Result<T, Asn1DerError>
     ensures value { ReadsFront T.reads input.now result }
     ensures own { IfErr result IsOwn }

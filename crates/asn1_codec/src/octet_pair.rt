@@ -1,4 +1,4 @@
-//! Two octets in front of other fields that are no element.
+//! Two octets before other fields that are no element.
 ghost use Rattle.std.specs.Prelude.{◌≡◌, length};
 ghost use Rattle.asn1_codec.specs.Pairs.{pair_before};
 
@@ -9,8 +9,8 @@ use crate::ser::Serializer;
 use asn1_octets::Asn1DerError;
 use devices::{Sink, Source};
 
-/// Two octets that stand in a content as they are, and are no element: those by which a token tells its message
-/// (RFC 4121, section 4.1). In a row they are a field.
+/// Two octets of a content that are no element, as the token id of a Kerberos message (RFC 4121, section 4.1). In a row
+/// they are a field.
 #[derive(Clone, Copy, Debug, Drop, PartialEq, Eq)]
 pub struct OctetPair(pub [u8; 2]);
 

@@ -205,7 +205,7 @@ impl<R: Source> Deserializer<R> {
         self.peek_in_limit()
     }
 
-    /// The identifier octet that tells a choice's alternative, which stays unread.
+    /// The identifier octet that decides a choice's alternative. It stays unread.
     pub fn deserialize_enum(&mut self) -> Result<u8, Asn1DerError>
         ensures { MatchResult result
             (λ octet. TookNone self.old self.new × ((bytes : List ℕ) (first : ℕ)

@@ -63,7 +63,7 @@ pub trait Serialize {
 pub struct Serializer<W: Sink> {
     writer: W,
     failed: bool,
-    // Lengths alone are wanted, and nothing is written.
+    // Only lengths are computed, and nothing is written.
     measures: bool,
 }
 

@@ -1,10 +1,10 @@
--- The text of names of principals (RFC 1964, section 2.1.3): components with `/` between them, and `@` and the realm behind.
+-- The text of names of principals (RFC 1964, section 2.1.3): components with `/` between them, then `@` and the realm.
 use Rattle.std.specs.Prelude.{◌≡◌, ℕ, ◌||◌, ◌==◌, if◌then◌else◌, List, [], ◌∷◌, ◌++◌, codes, Option, Some, None, refl}
 use Rattle.std.specs.List.{flat_map}
 use Rattle.std.specs.Char.{encode_utf8}
 
--- what stands behind a backslash in a character's place: `0`, `b`, `t` and `n` for NUL, backspace, tab and newline, and the
--- character itself for `/`, `@` and the backslash
+-- the letter that follows a backslash in a character's place: `0`, `b`, `t` and `n` for NUL, backspace, tab and newline, and
+-- the character itself for `/`, `@` and the backslash
 abbrev pub escape_letter : ℕ → Option ℕ
 escape_letter character =
     if character == 0 then Some 48

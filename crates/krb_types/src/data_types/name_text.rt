@@ -5,7 +5,7 @@ ghost use Rattle.krb_types.specs.NameText.{escape_letter};
 use crate::data_types::{KerberosStringAsn1, PrincipalName, Realm};
 use std::fmt;
 
-/// A name in its realm, which prints as `host/server@REALM`. In a component and in the realm a backslash stands in front of
+/// A name in its realm, which prints as `host/server@REALM`. In a component and in the realm a backslash precedes
 /// `/`, `@` and a backslash, and NUL, backspace, tab and newline are `\0`, `\b`, `\t` and `\n` (RFC 1964, section 2.1.3).
 #[derive(Clone, Copy)]
 pub struct NameInRealm<'a> {
@@ -55,7 +55,7 @@ impl fmt::Display for PrincipalName {
     }
 }
 
-// The components behind the first one.
+// The components after the first one.
 #[derive(Clone, Copy)]
 struct FurtherComponents<'a>(&'a [KerberosStringAsn1]);
 
@@ -118,7 +118,7 @@ impl fmt::Display for Character {
     }
 }
 
-// What stands behind a backslash in place of the character, where it has one.
+// The letter that follows a backslash in place of the character, if it has one.
 fn escape_letter(character: u8) -> Option<u8>
     ensures { result ≡ escape_letter character }
 {
