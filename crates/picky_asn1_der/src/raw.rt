@@ -5,6 +5,7 @@ ghost use Rattle.asn1_elements.specs.Raw.{Raw, has_low_number};
 use asn1_codec::{Deserialize, Deserializer, Serialize, Serializer};
 use asn1_octets::Asn1DerError;
 use devices::{Sink, Source};
+use std::alloc::AllocError;
 use std::marker::Model;
 
 /// One element of any type, whose tag's number is below 31 (X.690, section 8.1.2). Of its content nothing is asked.
@@ -51,6 +52,41 @@ impl RawElement {
     {
         self.content.as_slice()
     }
+}
+
+impl Clone for RawElement {
+    ghost is_clone = { λ raw copy. copy ≡ raw };
+
+    fn clone(&self) -> Result<RawElement, AllocError> {
+        let content = self.content.clone()?;
+        Ok(RawElement {
+            first: self.first,
+            content,
+        })
+    }
+}
+
+impl PartialEq for RawElement {
+    ghost use Rattle.std.specs.Bool.{nat_eq};
+    ghost use Rattle.std.specs.Cmp.Lexicographic.{pointwise};
+    ghost use Rattle.std.specs.Cmp.Rules.{comparing};
+    ghost use Rattle.std.specs.Ordering.{on, eq_of_both};
+    ghost use Rattle.std.proofs.Common.{rules};
+
+    ghost eq = { eq_of_both (on (λ raw. raw.first) nat_eq) (on (λ raw. raw.content) (pointwise nat_eq)) };
+
+    ghost laws = { Prim.search (comparing, rules) };
+
+    fn eq(&self, other: &RawElement) -> bool {
+        self.first == other.first && self.content() == other.content()
+    }
+}
+
+impl Eq for RawElement {
+    ghost use Rattle.std.specs.Cmp.Rules.{comparing};
+    ghost use Rattle.std.proofs.Common.{rules};
+
+    ghost laws = { Prim.search (comparing, rules) };
 }
 
 impl Serialize for RawElement {
