@@ -146,7 +146,7 @@ impl<T: Serialize> IAKerbProxyMessage<T> {
 
     /// The token's content as a value of DER: a SEQUENCE (0x30), and the token itself (0x60) in [`ApplicationTag0`].
     ///
-    /// A value of DER is written without memory, and the token id isn't an element: so this holds the content's octets.
+    /// It holds the content's octets. A message isn't such a value itself, since its header is read from more than one spelling.
     pub fn to_sequence(&self, alloc: Global) -> Result<TokenSequence, GssApiMessageError>
         ensures { MatchResult result
             (λ value. (der (⟦<TokenSequence as Serialize>⟧.tree value) ≡ element 48 (proxy_message_content T.tree self.now))
