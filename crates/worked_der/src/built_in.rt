@@ -51,6 +51,7 @@ fn characters_and_octets(rt: HostRuntime) {
 fn several(rt: HostRuntime) {
     let alloc = rt.alloc();
     assert!(rt; is_spelled(alloc, &(7u32, true), &[0x30, 6, 2, 1, 7, 1, 1, 0xFF]));
+    assert!(rt; is_spelled(alloc, &(7u32,), &[0x30, 3, 2, 1, 7]));
     assert!(rt; is_spelled(alloc, &[7u8, 8], &[0x30, 6, 2, 1, 7, 2, 1, 8]));
     assert!(rt; is_written(alloc, &None::<u32>, &[]));
 }

@@ -1,6 +1,6 @@
 //! Lengths, contents and single octets (X.690, sections 8.1.3, 8.2, 8.3, 8.8).
 use picky_asn1_der::misc::{Boolean, Length, Null, ReadExt, UnsignedInteger, Utf8String, WriteExt};
-use picky_asn1_der::{Asn1DerError, Deserializer, Serializer, Space};
+use picky_asn1_der::{Asn1DerError, Deserializer, Row2, Serializer, Space};
 
 #[test]
 fn written_lengths(rt: HostRuntime) {
@@ -71,4 +71,26 @@ fn read_in_turn(rt: HostRuntime) {
     assert!(rt; from.deserialize_unit() == Ok(()));
     assert!(rt; from.deserialize_i8() == Err(Asn1DerError::UnsupportedType));
     assert!(rt; from.deserialize_unit() == Err(Asn1DerError::InvalidData));
+}
+
+#[test]
+fn written_without_names(rt: HostRuntime) {
+    let mut out = [0u8; 8];
+    let mut to = Serializer::new_to_bytes(&mut out);
+    assert!(rt; to.serialize_tuple_struct(&(&7u32, (&true, ()))) == Ok(8));
+    let Space { space, .. } = to.into_writer();
+    assert!(rt; &*space == [0x30, 6, 2, 1, 7, 1, 1, 0xFF].as_slice());
+}
+
+// The INTEGER 7 and TRUE.
+fn are_two(from: &mut Deserializer<&[u8]>) -> bool {
+    let two: Result<Row2<u32, bool>, Asn1DerError> = from.deserialize_tuple_struct();
+    two == Ok((7, (true, ())))
+}
+
+#[test]
+fn read_without_names(rt: HostRuntime) {
+    let mut from = Deserializer::new_from_bytes(rt.alloc(), &[0x30, 6, 2, 1, 7, 1, 1, 0xFF, 5, 0]);
+    assert!(rt; are_two(&mut from));
+    assert!(rt; from.deserialize_unit_struct() == Ok(()));
 }

@@ -110,3 +110,15 @@ fn are_by_bytes(alloc: Global) -> Option<bool> {
 fn raw_by_bytes(rt: HostRuntime) {
     assert!(rt; are_by_bytes(rt.alloc()) == Some(true));
 }
+
+fn is_copied(alloc: Global) -> Option<bool> {
+    let octets = raw_of(alloc, &[4, 1, 0xAB]).ok()?;
+    let copy = octets.clone().ok()?;
+    let text = format!(in alloc; "{copy:?}").ok()?;
+    Some(are_alike(&octets, &copy) && text.as_str() == "0x0401AB")
+}
+
+#[test]
+fn raw_copied(rt: HostRuntime) {
+    assert!(rt; is_copied(rt.alloc()) == Some(true));
+}
