@@ -21,6 +21,8 @@ echo "KrbMessage<TgtRep> | $reply"
 echo "KrbMessage<TgtRep> | ${reply}00 | written $reply"
 echo "KrbMessage<TgtRep> | $(token 1.2.840.113554.1.2.2.3 0401 "$(value SEQUENCE:tgt_rep)00") | refused"
 echo "KrbMessage<TgtRep>::to_sequence | $reply | written $(sequence "$reply")"
+echo "ApplicationTag0<KrbMessage<TgtRep>> | $reply"
+echo "ApplicationTag0<KrbMessage<TgtRep>> | $(sequence "$reply") | refused"
 body=$(value EXP:10A,SEQUENCE:as_req)
 short=$(token 1.3.6.1.5.2.5 0501 "$(value SEQUENCE:iakerb_header_short)$body")
 proxied=$(token 1.3.6.1.5.2.5 0501 "$(value SEQUENCE:iakerb_header)$body")

@@ -12,6 +12,7 @@ use std::alloc::Global;
 pub fn agrees(alloc: Global, recorded: &Recorded<'_>) -> Option<Answer> {
     match recorded.type_name {
         "ApplicationTag0<GssApiNegInit>" => Some(application_tag0(alloc, recorded)),
+        "ApplicationTag0<KrbMessage<TgtRep>>" => Some(krb_token(alloc, recorded)),
         "GssApiNegInit" => Some(gss_api_neg_init(alloc, recorded)),
         "IAKerbHeader" => Some(ia_kerb_header(alloc, recorded)),
         "IAKerbProxyMessage<AsReq>" => Some(proxied_as_req(alloc, recorded)),
@@ -67,6 +68,10 @@ fn proxied_as_req(alloc: Global, recorded: &Recorded<'_>) -> Answer {
 
 fn krb_message(alloc: Global, recorded: &Recorded<'_>) -> Answer {
     Ok(is_message::<TgtRep>(alloc, recorded))
+}
+
+fn krb_token(alloc: Global, recorded: &Recorded<'_>) -> Answer {
+    is_told::<ApplicationTag0<KrbMessage<TgtRep>>>(alloc, recorded)
 }
 
 fn proxied_sequence(alloc: Global, recorded: &Recorded<'_>) -> Answer {
