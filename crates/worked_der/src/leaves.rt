@@ -101,10 +101,9 @@ fn are_bits(flags: &BitStringAsn1) -> bool {
 }
 
 fn is_set(flags: &mut BitStringAsn1) -> bool {
-    if flags.len() > 1 {
-        flags.set(1, true);
-    }
-    flags.as_bytes() == [0x40, 0x60, 0x00, 0x00].as_slice()
+    flags.set(1, true)
+        && !flags.set(32, true)
+        && flags.as_bytes() == [0x40, 0x60, 0x00, 0x00].as_slice()
 }
 
 fn is_same(flags: &BitStringAsn1) -> bool {

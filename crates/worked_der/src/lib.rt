@@ -21,3 +21,5 @@ mod sample;
 mod spelling;
 #[cfg(test)]
 mod streams;
+#[cfg(test)]
+mod texts;
