@@ -20,12 +20,15 @@ digest_row v = (record { oid = v.oid.algorithm; of_a_hash = v.of_a_hash }, (v.di
 pub has_null : (v : DigestInfo) → v.oid.parameters ≡ kind.Null
 has_null v = hash_parameters v.oid.algorithm.0 v.oid.parameters v.oid.of_its_algorithm v.of_a_hash
 
-pub one_digest : (v w : DigestInfo) → digest_row v ≡ digest_row w → v ≡ w
-one_digest v w e =
-    let ids : v.oid ≡ w.oid = same_parts v.oid w.oid (ap (λ (f : DigestRow). f.0.oid) e) (has_null v ∙ sym (has_null w)) in
-    let digests : v.digest ≡ w.digest = ap (λ (f : DigestRow). f.1.0) e in
+pub same_digest : (v w : DigestInfo) → v.oid ≡ w.oid → v.digest ≡ w.digest → v ≡ w
+same_digest v w ids digests =
     λ i. record {
       oid = ids i;
       digest = digests i;
       of_a_hash = is_prop→PathP (λ j. IsTrue (is_hash (oid_content (ids j).algorithm.0))) (λ j. hlevel props) v.of_a_hash w.of_a_hash i;
     }
+
+pub one_digest : (v w : DigestInfo) → digest_row v ≡ digest_row w → v ≡ w
+one_digest v w e =
+    let ids : v.oid ≡ w.oid = same_parts v.oid w.oid (ap (λ (f : DigestRow). f.0.oid) e) (has_null v ∙ sym (has_null w)) in
+    same_digest v w ids (ap (λ (f : DigestRow). f.1.0) e)

@@ -9,7 +9,7 @@ use crate::hash_identifier::HashIdentifier;
 use devices::Sink;
 use picky_asn1::wrapper::{ObjectIdentifierAsn1, OctetStringAsn1};
 use picky_asn1_der::{Asn1DerError, Row2, Serialize, Serializer, fields_of};
-use std::alloc::Global;
+use std::alloc::{AllocError, Global};
 use x509_kinds::Kinds;
 use x509_spelling::{Counted, Spelled, SpelledFields, SpelledItem, X509Fault, read_fields};
 
@@ -20,13 +20,23 @@ use x509_spelling::{Counted, Spelled, SpelledFields, SpelledItem, X509Fault, rea
 ///      digestAlgorithm DigestAlgorithm,
 ///      digest          OCTET STRING }
 /// ```
-#[derive(Drop)]
+#[derive(Debug, Drop, PartialEq, Eq)]
 pub struct DigestInfo {
     /// The hash, with NULL.
     pub oid: AlgorithmIdentifier,
     /// The digest.
     pub digest: OctetStringAsn1,
     pub ghost of_a_hash: { IsTrue (is_hash (oid_content oid.algorithm.0)) },
+}
+
+impl Clone for DigestInfo {
+    ghost is_clone = { λ info copy. copy ≡ info };
+
+    fn clone(&self) -> Result<DigestInfo, AllocError> {
+        let oid = self.oid.clone()?;
+        let digest = self.digest.clone()?;
+        Ok(DigestInfo { oid, digest })
+    }
 }
 
 type DigestRow = Row2<HashIdentifier, OctetStringAsn1>;

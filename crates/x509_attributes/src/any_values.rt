@@ -4,6 +4,7 @@ ghost use Rattle.std.specs.Prelude.{◌≡◌, MatchResult};
 use devices::{Sink, Source};
 use picky_asn1::wrapper::Asn1SetOf;
 use picky_asn1_der::{Asn1DerError, Deserializer, Elements, RawElement, Serializer, Tagged};
+use std::alloc::AllocError;
 use x509_spelling::Exact;
 
 /// The values of an attribute that isn't known here. Their order is kept as given, and none is read too.
@@ -11,8 +12,17 @@ use x509_spelling::Exact;
 /// ```text
 /// values     SET SIZE(1..MAX) OF ATTRIBUTE.&Type
 /// ```
-#[derive(Drop)]
+#[derive(Debug, Drop, PartialEq, Eq)]
 pub struct AnyValues(pub Asn1SetOf<RawElement>);
+
+impl Clone for AnyValues {
+    ghost is_clone = { λ values copy. copy ≡ values };
+
+    fn clone(&self) -> Result<AnyValues, AllocError> {
+        let values = self.0.clone()?;
+        Ok(AnyValues(values))
+    }
+}
 
 impl Tagged for AnyValues {
     type Row = Elements<RawElement>;

@@ -26,11 +26,21 @@ use x509_spelling::{Counted, Spelled, SpelledItem, X509Fault};
 /// ```
 ///
 /// An empty set is read too.
-#[derive(Drop)]
+#[derive(Debug, Drop, PartialEq, Eq)]
 pub struct Attribute {
     ty: ObjectIdentifierAsn1,
     value: AttributeValues,
     pub ghost of_its_type: { IsTrue (is_value_of ty.0 value) },
+}
+
+impl Clone for Attribute {
+    ghost is_clone = { λ attribute copy. copy ≡ attribute };
+
+    fn clone(&self) -> Result<Attribute, AllocError> {
+        let ty = self.ty.clone()?;
+        let value = self.value.clone()?;
+        Ok(Attribute { ty, value })
+    }
 }
 
 impl Attribute {

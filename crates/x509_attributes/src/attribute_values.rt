@@ -7,11 +7,12 @@ ghost use Rattle.x509_attributes.specs.AttributeValues.{attribute_number, pkcs_9
 use crate::any_values::AnyValues;
 use crate::requested_extensions::RequestedExtensions;
 use picky_asn1::wrapper::{Asn1SequenceOf, Asn1SetOf, ObjectIdentifierAsn1, OctetStringAsn1};
+use std::alloc::AllocError;
 use x509_kinds::{Identifiers, KindOf, LastKind, ToldBy};
 use x509_parts::Time;
 
 /// The values of an attribute. The attribute's identifier decides of which type they are.
-#[derive(Drop)]
+#[derive(Debug, Drop, PartialEq, Eq)]
 pub enum AttributeValues {
     /// Extensions that a certificate is requested with.
     Extensions(RequestedExtensions),
@@ -25,6 +26,25 @@ pub enum AttributeValues {
     SigningTime(Asn1SetOf<Time>),
     /// The values of another attribute.
     Custom(AnyValues),
+}
+
+impl Clone for AttributeValues {
+    ghost is_clone = { λ values copy. copy ≡ values };
+
+    fn clone(&self) -> Result<AttributeValues, AllocError> {
+        Ok(match self {
+            AttributeValues::Extensions(lists) => AttributeValues::Extensions(lists.clone()?),
+            AttributeValues::ContentType(types) => AttributeValues::ContentType(types.clone()?),
+            AttributeValues::SpcStatementType(types) => AttributeValues::SpcStatementType(
+                types.clone()?,
+            ),
+            AttributeValues::MessageDigest(digests) => AttributeValues::MessageDigest(
+                digests.clone()?,
+            ),
+            AttributeValues::SigningTime(times) => AttributeValues::SigningTime(times.clone()?),
+            AttributeValues::Custom(values) => AttributeValues::Custom(values.clone()?),
+        })
+    }
 }
 
 /// The identifiers of the attribute that has this number among those of PKCS #9, 11 for statement types, and for 0 those that

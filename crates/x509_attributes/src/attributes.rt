@@ -13,7 +13,7 @@ use x509_spelling::{Counted, Many, Spelled, SpelledFields, X509Fault, read_field
 /// ```text
 /// SEQUENCE OF Attribute
 /// ```
-#[derive(Drop)]
+#[derive(Debug, Drop)]
 pub struct Attributes {
     items: Vec<Attribute>,
 }
@@ -42,6 +42,35 @@ impl Attributes {
         self.items.push(attribute)?;
         Ok(())
     }
+}
+
+impl Clone for Attributes {
+    ghost is_clone = { λ list copy. copy ≡ list };
+
+    fn clone(&self) -> Result<Attributes, AllocError> {
+        let items = self.items.clone()?;
+        Ok(Attributes { items })
+    }
+}
+
+impl PartialEq for Attributes {
+    ghost use Rattle.std.specs.Cmp.Lexicographic.{pointwise, lists_per};
+    ghost use Rattle.x509_attributes.specs.contracts.attribute.AttributePartialEq.TheImpl.Laws.{laws-law};
+
+    ghost eq = { pointwise ⟦<Attribute as PartialEq>⟧.eq };
+
+    ghost laws = { lists_per laws-law };
+
+    fn eq(&self, other: &Attributes) -> bool {
+        self.as_slice() == other.as_slice()
+    }
+}
+
+impl Eq for Attributes {
+    ghost use Rattle.std.specs.Cmp.Lexicographic.{lists_equiv};
+    ghost use Rattle.x509_attributes.specs.contracts.attribute.AttributeEq.TheImpl.Laws.{laws-law};
+
+    ghost laws = { lists_equiv laws-law };
 }
 
 impl From<Vec<Attribute>> for Attributes {

@@ -18,8 +18,17 @@ use x509_spelling::{
 ///
 /// Attributes ::= SET OF Attribute
 /// ```
-#[derive(Drop)]
+#[derive(Debug, Drop, PartialEq, Eq)]
 pub struct OpenSslAttributes(pub Attributes);
+
+impl Clone for OpenSslAttributes {
+    ghost is_clone = { λ attributes copy. copy ≡ attributes };
+
+    fn clone(&self) -> Result<OpenSslAttributes, AllocError> {
+        let attributes = self.0.clone()?;
+        Ok(OpenSslAttributes(attributes))
+    }
+}
 
 impl OpenSslAttributes {
     /// The attributes.

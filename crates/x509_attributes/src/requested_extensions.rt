@@ -3,7 +3,7 @@ ghost use Rattle.std.specs.Prelude.{◌≡◌, MatchResult};
 
 use devices::Sink;
 use picky_asn1_der::{Asn1DerError, Serialize, Serializer};
-use std::alloc::Global;
+use std::alloc::{AllocError, Global};
 use std::marker::Model;
 use x509_extensions::Extensions;
 use x509_spelling::{Counted, Many, Spelled, SpelledFields, X509Fault, read_fields};
@@ -20,7 +20,7 @@ use x509_spelling::{Counted, Many, Spelled, SpelledFields, X509Fault, read_field
 /// ```
 ///
 /// Any number of them is read.
-#[derive(Drop)]
+#[derive(Debug, Drop)]
 pub struct RequestedExtensions {
     items: Vec<Extensions>,
 }
@@ -41,6 +41,35 @@ impl RequestedExtensions {
     {
         self.items.as_slice()
     }
+}
+
+impl Clone for RequestedExtensions {
+    ghost is_clone = { λ list copy. copy ≡ list };
+
+    fn clone(&self) -> Result<RequestedExtensions, AllocError> {
+        let items = self.items.clone()?;
+        Ok(RequestedExtensions { items })
+    }
+}
+
+impl PartialEq for RequestedExtensions {
+    ghost use Rattle.std.specs.Cmp.Lexicographic.{pointwise, lists_per};
+    ghost use Rattle.x509_extensions.specs.contracts.extensions.ExtensionsPartialEq.TheImpl.Laws.{laws-law};
+
+    ghost eq = { pointwise ⟦<Extensions as PartialEq>⟧.eq };
+
+    ghost laws = { lists_per laws-law };
+
+    fn eq(&self, other: &RequestedExtensions) -> bool {
+        self.as_slice() == other.as_slice()
+    }
+}
+
+impl Eq for RequestedExtensions {
+    ghost use Rattle.std.specs.Cmp.Lexicographic.{lists_equiv};
+    ghost use Rattle.x509_extensions.specs.contracts.extensions.ExtensionsEq.TheImpl.Laws.{laws-law};
+
+    ghost laws = { lists_equiv laws-law };
 }
 
 impl From<Vec<Extensions>> for RequestedExtensions {

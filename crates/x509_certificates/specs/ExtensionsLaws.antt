@@ -18,13 +18,16 @@ ExtensionsRow = Optional (Option (Explicit 3 (List Extension))) × ⊤
 abbrev pub extensions_row : CertificateExtensions → ExtensionsRow
 extensions_row v = (v.tagged, tt)
 
-pub same_extensions : (v w : CertificateExtensions) → extensions_row v ≡ extensions_row w → v ≡ w
-same_extensions v w e =
-    let fields : v.tagged ≡ w.tagged = ap (λ (f : ExtensionsRow). f.0) e in
+pub same_parts : (v w : CertificateExtensions) → v.tagged ≡ w.tagged → v ≡ w
+same_parts v w fields =
     λ i. record {
       tagged = fields i;
       some_where_written = is_prop→PathP (λ j. IsTrue (is_written (fields j).0)) (λ j. hlevel props) v.some_where_written w.some_where_written i;
     }
+
+pub same_extensions : (v w : CertificateExtensions) → extensions_row v ≡ extensions_row w → v ≡ w
+same_extensions v w e =
+    same_parts v w (ap (λ (f : ExtensionsRow). f.0) e)
 
 -- fields that are told by others
 pub held_row : {R T : Type 0} (firsts : Firsts) (trees : R → Trees) (spells : R → List ℕ → ℕ → Type 0) → RowLaws firsts trees spells

@@ -8,8 +8,9 @@ use crate::held::first_held;
 use crate::tbs_certificate::TbsCertificate;
 use devices::Sink;
 use picky_asn1::wrapper::BitStringAsn1;
-use picky_asn1_der::{Asn1DerError, Serialize, Serializer};
-use std::alloc::Global;
+use picky_asn1_der::{Asn1DerError, Serialize, Serializer, fields_of};
+use record_copies::LentFields;
+use std::alloc::{AllocError, Global};
 use x509_algorithms::AlgorithmIdentifier;
 use x509_extensions::{AuthorityKeyIdentifier, Extension, SubjectKeyIdentifier};
 use x509_keys::Ahead;
@@ -25,7 +26,7 @@ use x509_spelling::{Counted, Spelled, SpelledFields, X509Fault, read_fields};
 ///      signatureAlgorithm   AlgorithmIdentifier,
 ///      signatureValue       BIT STRING  }
 /// ```
-#[derive(Drop)]
+#[derive(Debug, Drop, PartialEq, Eq)]
 pub struct Certificate {
     /// What is signed.
     pub tbs_certificate: TbsCertificate,
@@ -33,6 +34,15 @@ pub struct Certificate {
     pub signature_algorithm: AlgorithmIdentifier,
     /// The signature.
     pub signature_value: BitStringAsn1,
+}
+
+impl Clone for Certificate {
+    ghost is_clone = { λ certificate copy. copy ≡ certificate };
+
+    fn clone(&self) -> Result<Certificate, AllocError> {
+        let row = fields_of![self; tbs_certificate, signature_algorithm, signature_value].copied()?;
+        Ok(of_row(row))
+    }
 }
 
 type CertificateRow = (TbsCertificate, (AlgorithmIdentifier, (BitStringAsn1, ())));

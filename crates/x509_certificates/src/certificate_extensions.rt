@@ -4,7 +4,7 @@ ghost use Rattle.x509_spelling.specs.Answers.{Tells};
 ghost use Rattle.x509_certificates.specs.ExtensionsFields.{is_written, extensions_in};
 
 use picky_asn1_der::{Optional, Row1};
-use std::alloc::Global;
+use std::alloc::{AllocError, Global};
 use x509_extensions::{Extension, Extensions};
 use x509_kinds::Explicit;
 use x509_spelling::{Counted, SpelledFields, X509Fault};
@@ -16,10 +16,32 @@ use x509_spelling::{Counted, SpelledFields, X509Fault};
 /// ```
 ///
 /// An empty list that stands there is refused.
-#[derive(Drop)]
+#[derive(Debug, Drop, PartialEq, Eq)]
 pub struct CertificateExtensions {
     pub(crate) tagged: ExtensionsField,
     pub ghost some_where_written: { IsTrue (is_written tagged.0) },
+}
+
+impl Clone for CertificateExtensions {
+    ghost is_clone = { λ extensions copy. copy ≡ extensions };
+
+    fn clone(&self) -> Result<CertificateExtensions, AllocError> {
+        let tagged = copied(&self.tagged)?;
+        Ok(CertificateExtensions { tagged })
+    }
+}
+
+// A copy of the field.
+fn copied(tagged: &ExtensionsField) -> Result<ExtensionsField, AllocError>
+    ensures { IfOk result (λ copy. copy ≡ tagged.now) }
+{
+    match &tagged.0 {
+        Some(extensions) => {
+            let copy = extensions.0.clone()?;
+            Ok(Optional(Some(Explicit(copy))))
+        }
+        None => Ok(Optional(None)),
+    }
 }
 
 type ExtensionsField = Optional<Option<Explicit<3, Extensions>>>;

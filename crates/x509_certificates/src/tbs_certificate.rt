@@ -6,8 +6,11 @@ use crate::certificate_extensions::CertificateExtensions;
 use crate::version_field::VersionField;
 use devices::Sink;
 use picky_asn1::wrapper::IntegerAsn1;
-use picky_asn1_der::{Asn1DerError, DefaultField, ExplicitContextTag, Serialize, Serializer};
-use std::alloc::Global;
+use picky_asn1_der::{
+    Asn1DerError, DefaultField, ExplicitContextTag, Serialize, Serializer, fields_of,
+};
+use record_copies::LentFields;
+use std::alloc::{AllocError, Global};
 use x509_algorithms::AlgorithmIdentifier;
 use x509_keys::{Ahead, SubjectPublicKeyInfo};
 use x509_names::Name;
@@ -31,7 +34,7 @@ use x509_spelling::{Counted, Spelled, SpelledFields, X509Fault, read_fields};
 /// ```
 ///
 /// Certificates with unique identifiers are refused, and so is an empty list of extensions.
-#[derive(Drop)]
+#[derive(Debug, Drop, PartialEq, Eq)]
 pub struct TbsCertificate {
     /// The version. That v1 is spelled out is a deviation.
     pub version: Version,
@@ -49,6 +52,27 @@ pub struct TbsCertificate {
     pub subject_public_key_info: SubjectPublicKeyInfo,
     /// The extensions.
     pub extensions: CertificateExtensions,
+}
+
+impl Clone for TbsCertificate {
+    ghost is_clone = { λ certificate copy. copy ≡ certificate };
+
+    fn clone(&self) -> Result<TbsCertificate, AllocError> {
+        let lent =
+            fields_of![self; serial_number, signature, issuer, subject, subject_public_key_info, extensions];
+        let (serial_number, (signature, (issuer, (subject, (key, (extensions, ())))))) =
+            lent.copied()?;
+        Ok(TbsCertificate {
+            version: self.version,
+            serial_number,
+            signature,
+            issuer,
+            validity: self.validity,
+            subject,
+            subject_public_key_info: key,
+            extensions,
+        })
+    }
 }
 
 type TbsRow = (

@@ -1,5 +1,5 @@
 //! Identifiers of the key that signed a certificate (RFC 5280, section 4.2.1.1).
-ghost use Rattle.std.specs.Prelude.{◌≡◌, ℕ, Bool, List, Option, None, Some, MatchOption, MatchResult};
+ghost use Rattle.std.specs.Prelude.{◌≡◌, IfOk, ℕ, Bool, List, Option, None, Some, MatchOption, MatchResult};
 ghost use Rattle.x509_extensions.specs.AuthorityFields.{stands, nothing, before, gathered_onto, implicit, explicit};
 ghost use Rattle.x509_extensions.specs.AuthorityFields as fields;
 
@@ -13,7 +13,7 @@ use picky_asn1_der::{
     Asn1DerError, Deserializer, Fields, Row3, Serializer, Tagged, fields_of, from_fields,
     read_sequence,
 };
-use std::alloc::Global;
+use std::alloc::{AllocError, Global};
 use x509_names::GeneralName;
 use x509_spelling::{Counted, Many, Spelled, SpelledFields, X509Fault, read_fields, sum_of};
 
@@ -27,11 +27,26 @@ use x509_spelling::{Counted, Many, Spelled, SpelledFields, X509Fault, read_field
 /// ```
 ///
 /// One name is read as the issuer. Fields out of order and fields that stand again, of which the last counts, deviate.
-#[derive(Drop)]
+#[derive(Debug, Drop, PartialEq, Eq)]
 pub struct AuthorityKeyIdentifier {
     key_identifier: Optional<Option<ImplicitContextTag0<OctetStringAsn1>>>,
     authority_cert_issuer: Optional<Option<ExplicitContextTag1<GeneralName>>>,
     authority_cert_serial_number: Optional<Option<ImplicitContextTag2<IntegerAsn1>>>,
+}
+
+impl Clone for AuthorityKeyIdentifier {
+    ghost is_clone = { λ identifier copy. copy ≡ identifier };
+
+    fn clone(&self) -> Result<AuthorityKeyIdentifier, AllocError> {
+        let key_identifier = copied(&self.key_identifier)?;
+        let authority_cert_issuer = copied(&self.authority_cert_issuer)?;
+        let authority_cert_serial_number = copied(&self.authority_cert_serial_number)?;
+        Ok(AuthorityKeyIdentifier {
+            key_identifier,
+            authority_cert_issuer,
+            authority_cert_serial_number,
+        })
+    }
 }
 
 /// What some fields make, and what deviates among them.
@@ -284,6 +299,20 @@ where
     match behind {
         Some(behind) => Some(behind),
         None => Some(field),
+    }
+}
+
+// A copy of a field of which a copied value is the value.
+fn copied<T: Clone>(field: &Optional<Option<T>>) -> Result<Optional<Option<T>>, AllocError>
+    requires { (value copy : T) → T.is_clone value copy → copy ≡ value }
+    ensures { IfOk result (λ copy. copy ≡ field.now) }
+{
+    match &field.0 {
+        Some(value) => {
+            let copy = value.clone()?;
+            Ok(Optional(Some(copy)))
+        }
+        None => Ok(Optional(None)),
     }
 }
 

@@ -27,12 +27,26 @@ use x509_usages::{ExtendedKeyUsage, KeyUsage};
 ///      critical    BOOLEAN DEFAULT FALSE,
 ///      extnValue   OCTET STRING }
 /// ```
-#[derive(Drop)]
+#[derive(Debug, Drop, PartialEq, Eq)]
 pub struct Extension {
     extn_id: ObjectIdentifierAsn1,
     critical: DefaultField<Critical>,
     extn_value: ExtensionValue,
     pub ghost of_its_id: { IsTrue (is_value_of extn_id.0 extn_value) },
+}
+
+impl Clone for Extension {
+    ghost is_clone = { λ extension copy. copy ≡ extension };
+
+    fn clone(&self) -> Result<Extension, AllocError> {
+        let extn_id = self.extn_id.clone()?;
+        let extn_value = self.extn_value.clone()?;
+        Ok(Extension {
+            extn_id,
+            critical: self.critical,
+            extn_value,
+        })
+    }
 }
 
 type ExtensionRow = (DefaultField<Critical>, ExtensionKinds);

@@ -5,6 +5,7 @@ ghost use Rattle.x509_extensions.specs.ExtensionValues.{extension_number, kinds_
 
 use crate::authority_key_identifier::AuthorityKeyIdentifier;
 use picky_asn1::wrapper::{IntegerAsn1, OctetStringAsn1, OctetStringAsn1Container};
+use std::alloc::AllocError;
 use x509_kinds::{Enclosed, Identifiers, KindOf, LastKind, ToldBy};
 use x509_names::GeneralNames;
 use x509_parts::BasicConstraints;
@@ -23,7 +24,7 @@ pub type SubjectAltName = GeneralNames;
 pub type IssuerAltName = GeneralNames;
 
 /// The value of an extension. The extension's identifier decides its kind.
-#[derive(Drop)]
+#[derive(Debug, Drop, PartialEq, Eq)]
 pub enum ExtensionValue {
     /// The key that signed the certificate.
     AuthorityKeyIdentifier(OctetStringAsn1Container<AuthorityKeyIdentifier>),
@@ -43,6 +44,40 @@ pub enum ExtensionValue {
     CrlNumber(OctetStringAsn1Container<IntegerAsn1>),
     /// The octets of another extension.
     Generic(OctetStringAsn1),
+}
+
+impl Clone for ExtensionValue {
+    ghost is_clone = { λ value copy. copy ≡ value };
+
+    fn clone(&self) -> Result<ExtensionValue, AllocError> {
+        Ok(match self {
+            ExtensionValue::AuthorityKeyIdentifier(key) => ExtensionValue::AuthorityKeyIdentifier(
+                OctetStringAsn1Container(key.0.clone()?),
+            ),
+            ExtensionValue::SubjectKeyIdentifier(key) => ExtensionValue::SubjectKeyIdentifier(
+                OctetStringAsn1Container(key.0.clone()?),
+            ),
+            ExtensionValue::KeyUsage(usage) => ExtensionValue::KeyUsage(OctetStringAsn1Container(
+                usage.0.clone()?,
+            )),
+            ExtensionValue::SubjectAltName(names) => ExtensionValue::SubjectAltName(
+                OctetStringAsn1Container(names.0.clone()?),
+            ),
+            ExtensionValue::IssuerAltName(names) => ExtensionValue::IssuerAltName(
+                OctetStringAsn1Container(names.0.clone()?),
+            ),
+            ExtensionValue::BasicConstraints(constraints) => ExtensionValue::BasicConstraints(
+                OctetStringAsn1Container(constraints.0),
+            ),
+            ExtensionValue::ExtendedKeyUsage(purposes) => ExtensionValue::ExtendedKeyUsage(
+                OctetStringAsn1Container(purposes.0.clone()?),
+            ),
+            ExtensionValue::CrlNumber(number) => ExtensionValue::CrlNumber(OctetStringAsn1Container(
+                number.0.clone()?,
+            )),
+            ExtensionValue::Generic(octets) => ExtensionValue::Generic(octets.clone()?),
+        })
+    }
 }
 
 /// The identifiers of the extension with the arc `NUMBER` behind id-ce, and for 0 those that aren't known here.

@@ -9,7 +9,7 @@ use x509_parts::BasicConstraints;
 use x509_usages::{ExtendedKeyUsage, KeyUsage};
 
 /// The value of an extension, without the octet string around it.
-#[derive(Clone, Copy)]
+#[derive(Clone, Copy, Debug, PartialEq, Eq)]
 pub enum ExtensionView<'a> {
     /// The key that signed the certificate.
     AuthorityKeyIdentifier(&'a AuthorityKeyIdentifier),

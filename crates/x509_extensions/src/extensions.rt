@@ -4,7 +4,7 @@ ghost use Rattle.std.specs.Prelude.{◌≡◌, MatchResult};
 use crate::extension::Extension;
 use devices::Sink;
 use picky_asn1_der::{Asn1DerError, Serialize, Serializer};
-use std::alloc::Global;
+use std::alloc::{AllocError, Global};
 use std::marker::Model;
 use x509_spelling::{Counted, Many, Spelled, SpelledFields, X509Fault, read_fields};
 
@@ -15,7 +15,7 @@ use x509_spelling::{Counted, Many, Spelled, SpelledFields, X509Fault, read_field
 /// ```
 ///
 /// An empty list is read too.
-#[derive(Drop)]
+#[derive(Debug, Drop)]
 pub struct Extensions {
     items: Vec<Extension>,
 }
@@ -36,6 +36,35 @@ impl Extensions {
     {
         self.items.as_slice()
     }
+}
+
+impl Clone for Extensions {
+    ghost is_clone = { λ list copy. copy ≡ list };
+
+    fn clone(&self) -> Result<Extensions, AllocError> {
+        let items = self.items.clone()?;
+        Ok(Extensions { items })
+    }
+}
+
+impl PartialEq for Extensions {
+    ghost use Rattle.std.specs.Cmp.Lexicographic.{pointwise, lists_per};
+    ghost use Rattle.x509_extensions.specs.contracts.extension.ExtensionPartialEq.TheImpl.Laws.{laws-law};
+
+    ghost eq = { pointwise ⟦<Extension as PartialEq>⟧.eq };
+
+    ghost laws = { lists_per laws-law };
+
+    fn eq(&self, other: &Extensions) -> bool {
+        self.as_slice() == other.as_slice()
+    }
+}
+
+impl Eq for Extensions {
+    ghost use Rattle.std.specs.Cmp.Lexicographic.{lists_equiv};
+    ghost use Rattle.x509_extensions.specs.contracts.extension.ExtensionEq.TheImpl.Laws.{laws-law};
+
+    ghost laws = { lists_equiv laws-law };
 }
 
 impl From<Vec<Extension>> for Extensions {

@@ -6,7 +6,7 @@ use picky_asn1_der::{Asn1DerError, Deserialize, Deserializer, Serialize, Seriali
 use x509_spelling::Exact;
 
 /// A value whose one spelling is its DER, as a field beside others that may deviate.
-#[derive(Drop)]
+#[derive(Debug, Drop, PartialEq, Eq)]
 pub struct Strict<T>(pub T);
 
 impl<T: Serialize> Serialize for Strict<T> {

@@ -66,13 +66,17 @@ same_value arcs (Custom a) (Email b) left right e =
 abbrev pub fields_of : AttributeTypeAndValue → ObjectIdentifierAsn1 × (Raw × ⊤)
 fields_of v = (v.ty, (value_raw v.value, tt))
 
-pub same_attribute : (v w : AttributeTypeAndValue) → fields_of v ≡ fields_of w → v ≡ w
-same_attribute v w e =
-    let types : v.ty ≡ w.ty = ap (λ (f : ObjectIdentifierAsn1 × (Raw × ⊤)). f.0) e in
-    let raws : value_raw v.value ≡ value_raw w.value = ap (λ (f : ObjectIdentifierAsn1 × (Raw × ⊤)). f.1.0) e in
-    let values : v.value ≡ w.value = same_value w.ty.0 v.value w.value (subst (λ (t : ObjectIdentifierAsn1). IsTrue (is_value_of t.0 v.value)) types v.of_its_type) w.of_its_type raws in
+pub same_parts : (v w : AttributeTypeAndValue) → v.ty ≡ w.ty → v.value ≡ w.value → v ≡ w
+same_parts v w types values =
     λ i. record {
       ty = types i;
       value = values i;
       of_its_type = is_prop→PathP (λ j. IsTrue (is_value_of (types j).0 (values j))) (λ j. hlevel props) v.of_its_type w.of_its_type i;
     }
+
+pub same_attribute : (v w : AttributeTypeAndValue) → fields_of v ≡ fields_of w → v ≡ w
+same_attribute v w e =
+    let types : v.ty ≡ w.ty = ap (λ (f : ObjectIdentifierAsn1 × (Raw × ⊤)). f.0) e in
+    let raws : value_raw v.value ≡ value_raw w.value = ap (λ (f : ObjectIdentifierAsn1 × (Raw × ⊤)). f.1.0) e in
+    let values : v.value ≡ w.value = same_value w.ty.0 v.value w.value (subst (λ (t : ObjectIdentifierAsn1). IsTrue (is_value_of t.0 v.value)) types v.of_its_type) w.of_its_type raws in
+    same_parts v w types values

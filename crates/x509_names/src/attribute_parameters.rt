@@ -4,7 +4,7 @@ use picky_asn1_der::RawElement;
 use x509_parts::DirectoryString;
 
 /// The value of an attribute, as the attribute's identifier names it.
-#[derive(Clone, Copy)]
+#[derive(Clone, Copy, Debug, PartialEq, Eq)]
 pub enum AttributeTypeAndValueParameters<'a> {
     /// The name of the thing itself.
     CommonName(&'a DirectoryString),

@@ -21,7 +21,7 @@ use x509_parts::DirectoryString;
 use x509_spelling::Exact;
 
 /// The value of an attribute.
-#[derive(Drop)]
+#[derive(Debug, Drop, PartialEq, Eq)]
 pub enum AttributeValue {
     /// A string of a name.
     Directory(DirectoryString),
@@ -42,11 +42,33 @@ pub enum AttributeValue {
 ///
 /// AttributeValue ::= ANY -- DEFINED BY AttributeType
 /// ```
-#[derive(Drop)]
+#[derive(Debug, Drop, PartialEq, Eq)]
 pub struct AttributeTypeAndValue {
     ty: ObjectIdentifierAsn1,
     value: AttributeValue,
     pub ghost of_its_type: { IsTrue (is_value_of ty.0 value) },
+}
+
+impl Clone for AttributeValue {
+    ghost is_clone = { λ value copy. copy ≡ value };
+
+    fn clone(&self) -> Result<AttributeValue, AllocError> {
+        Ok(match self {
+            AttributeValue::Directory(string) => AttributeValue::Directory(string.clone()?),
+            AttributeValue::Email(address) => AttributeValue::Email(address.clone()?),
+            AttributeValue::Custom(raw) => AttributeValue::Custom(raw.clone()?),
+        })
+    }
+}
+
+impl Clone for AttributeTypeAndValue {
+    ghost is_clone = { λ attribute copy. copy ≡ attribute };
+
+    fn clone(&self) -> Result<AttributeTypeAndValue, AllocError> {
+        let ty = self.ty.clone()?;
+        let value = self.value.clone()?;
+        Ok(AttributeTypeAndValue { ty, value })
+    }
 }
 
 type AttributeRow = Row2<ObjectIdentifierAsn1, RawElement>;

@@ -2,11 +2,12 @@
 ghost use Rattle.std.specs.Prelude.{◌≡◌, MatchResult};
 
 use devices::{Sink, Source};
-use picky_asn1::wrapper::{ExplicitContextTag0, ExplicitContextTag1, Optional};
+use picky_asn1::wrapper::{ExplicitContextTag, ExplicitContextTag0, ExplicitContextTag1, Optional};
 use picky_asn1_der::{
     Asn1DerError, Deserializer, Fields, Row2, Serializer, Tagged, fields_of, from_fields,
     read_sequence,
 };
+use std::alloc::AllocError;
 use x509_parts::DirectoryString;
 use x509_spelling::Exact;
 
@@ -17,12 +18,28 @@ use x509_spelling::Exact;
 ///      nameAssigner            [0]     DirectoryString OPTIONAL,
 ///      partyName               [1]     DirectoryString }
 /// ```
-#[derive(Drop)]
+#[derive(Debug, Drop, PartialEq, Eq)]
 pub struct EdiPartyName {
     /// Who assigned the name.
     pub name_assigner: Optional<Option<ExplicitContextTag0<DirectoryString>>>,
     /// The partner's name.
     pub party_name: ExplicitContextTag1<DirectoryString>,
+}
+
+impl Clone for EdiPartyName {
+    ghost is_clone = { λ name copy. copy ≡ name };
+
+    fn clone(&self) -> Result<EdiPartyName, AllocError> {
+        let name_assigner = match &self.name_assigner.0 {
+            Some(name) => Some(ExplicitContextTag(name.0.clone()?)),
+            None => None,
+        };
+        let party_name = self.party_name.0.clone()?;
+        Ok(EdiPartyName {
+            name_assigner: Optional(name_assigner),
+            party_name: ExplicitContextTag(party_name),
+        })
+    }
 }
 
 type EdiPartyNameRow = Row2<

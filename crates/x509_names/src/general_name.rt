@@ -16,6 +16,7 @@ use picky_asn1_der::{
     Alternatives, Asn1DerError, Choice, Deserialize, Deserializer, Last, Serialize, Serializer,
     Tagged,
 };
+use std::alloc::AllocError;
 use x509_parts::DirectoryString;
 use x509_spelling::Exact;
 
@@ -35,7 +36,7 @@ use x509_spelling::Exact;
 /// ```
 ///
 /// Of X.400 none is read.
-#[derive(Drop)]
+#[derive(Debug, Drop, PartialEq, Eq)]
 pub enum GeneralName {
     /// A name of another kind.
     OtherName(OtherName),
@@ -53,6 +54,23 @@ pub enum GeneralName {
     IpAddress(OctetStringAsn1),
     /// An object identifier.
     RegisteredId(ObjectIdentifierAsn1),
+}
+
+impl Clone for GeneralName {
+    ghost is_clone = { λ name copy. copy ≡ name };
+
+    fn clone(&self) -> Result<GeneralName, AllocError> {
+        Ok(match self {
+            GeneralName::OtherName(name) => GeneralName::OtherName(name.clone()?),
+            GeneralName::Rfc822Name(address) => GeneralName::Rfc822Name(address.clone()?),
+            GeneralName::DnsName(host) => GeneralName::DnsName(host.clone()?),
+            GeneralName::DirectoryName(name) => GeneralName::DirectoryName(name.clone()?),
+            GeneralName::EdiPartyName(name) => GeneralName::EdiPartyName(name.clone()?),
+            GeneralName::Uri(uri) => GeneralName::Uri(uri.clone()?),
+            GeneralName::IpAddress(address) => GeneralName::IpAddress(address.clone()?),
+            GeneralName::RegisteredId(oid) => GeneralName::RegisteredId(oid.clone()?),
+        })
+    }
 }
 
 /// Names of any kind.

@@ -33,7 +33,7 @@ pub type RdnSequence = Asn1SequenceOf<RelativeDistinguishedName>;
 /// ```text
 /// Name ::= CHOICE { rdnSequence  RDNSequence }
 /// ```
-#[derive(Drop)]
+#[derive(Debug, Drop)]
 pub struct Name {
     sets: Vec<RelativeDistinguishedName>,
 }
@@ -134,6 +134,35 @@ impl Name {
         self.sets.push(RelativeDistinguishedName::from(attributes))?;
         Ok(())
     }
+}
+
+impl Clone for Name {
+    ghost is_clone = { λ name copy. copy ≡ name };
+
+    fn clone(&self) -> Result<Name, AllocError> {
+        let sets = self.sets.clone()?;
+        Ok(Name { sets })
+    }
+}
+
+impl PartialEq for Name {
+    ghost use Rattle.std.specs.Cmp.Lexicographic.{pointwise, lists_per};
+    ghost use Rattle.x509_names.specs.contracts.attribute_type_and_value.AttributeTypeAndValuePartialEq.TheImpl.Laws.{laws-law};
+
+    ghost eq = { pointwise (pointwise ⟦<AttributeTypeAndValue as PartialEq>⟧.eq) };
+
+    ghost laws = { lists_per (lists_per laws-law) };
+
+    fn eq(&self, other: &Name) -> bool {
+        self.as_slice() == other.as_slice()
+    }
+}
+
+impl Eq for Name {
+    ghost use Rattle.std.specs.Cmp.Lexicographic.{lists_equiv};
+    ghost use Rattle.x509_names.specs.contracts.attribute_type_and_value.AttributeTypeAndValueEq.TheImpl.Laws.{laws-law};
+
+    ghost laws = { lists_equiv (lists_equiv laws-law) };
 }
 
 impl From<Vec<RelativeDistinguishedName>> for Name {

@@ -8,7 +8,7 @@ use std::fmt::Write;
 
 /// A name as text: its attributes in order with commas between them, each as its identifier in dotted text, `=`, and its
 /// string or address. A value of any other type is the hexadecimal digits of its element.
-#[derive(Clone, Copy)]
+#[derive(Clone, Copy, Debug, PartialEq, Eq)]
 pub struct NamePrettyFormatter<'a>(pub &'a Name);
 
 impl<'a> fmt::Display for NamePrettyFormatter<'a> {

@@ -2,11 +2,12 @@
 ghost use Rattle.std.specs.Prelude.{◌≡◌, MatchResult};
 
 use devices::{Sink, Source};
-use picky_asn1::wrapper::{ExplicitContextTag0, ObjectIdentifierAsn1};
+use picky_asn1::wrapper::{ExplicitContextTag, ExplicitContextTag0, ObjectIdentifierAsn1};
 use picky_asn1_der::{
     Asn1DerError, Deserializer, Fields, RawElement, Row2, Serializer, Tagged, fields_of,
     from_fields, read_sequence,
 };
+use std::alloc::AllocError;
 use x509_spelling::Exact;
 
 /// A name of a kind that an object identifier denotes, as a Kerberos principal is.
@@ -16,12 +17,25 @@ use x509_spelling::Exact;
 ///      type-id    OBJECT IDENTIFIER,
 ///      value      [0] EXPLICIT ANY DEFINED BY type-id }
 /// ```
-#[derive(Drop)]
+#[derive(Debug, Drop, PartialEq, Eq)]
 pub struct OtherName {
     /// The kind.
     pub type_id: ObjectIdentifierAsn1,
     /// The name.
     pub value: ExplicitContextTag0<RawElement>,
+}
+
+impl Clone for OtherName {
+    ghost is_clone = { λ name copy. copy ≡ name };
+
+    fn clone(&self) -> Result<OtherName, AllocError> {
+        let type_id = self.type_id.clone()?;
+        let value = self.value.0.clone()?;
+        Ok(OtherName {
+            type_id,
+            value: ExplicitContextTag(value),
+        })
+    }
 }
 
 type OtherNameRow = Row2<ObjectIdentifierAsn1, ExplicitContextTag0<RawElement>>;

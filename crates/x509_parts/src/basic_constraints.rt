@@ -75,7 +75,7 @@ impl Deviates for CaFlag {
 /// ```
 ///
 /// Lengths up to 255 are read.
-#[derive(Drop)]
+#[derive(Clone, Copy, Debug, PartialEq, Eq)]
 pub struct BasicConstraints {
     ca: DefaultField<CaFlag>,
     path_len: Optional<Option<u8>>,

@@ -24,7 +24,7 @@ use x509_spelling::Exact;
 /// ```
 ///
 /// Three of these are read, and empty ones too.
-#[derive(Drop)]
+#[derive(Debug, Drop, PartialEq, Eq)]
 pub enum DirectoryString {
     /// Letters, digits and a few marks.
     PrintableString(PrintableStringAsn1),
@@ -32,6 +32,20 @@ pub enum DirectoryString {
     Utf8String(Utf8StringAsn1),
     /// Characters of two octets.
     BmpString(BmpStringAsn1),
+}
+
+impl Clone for DirectoryString {
+    ghost is_clone = { λ string copy. copy ≡ string };
+
+    fn clone(&self) -> Result<DirectoryString, AllocError> {
+        Ok(match self {
+            DirectoryString::PrintableString(text) => DirectoryString::PrintableString(
+                text.clone()?,
+            ),
+            DirectoryString::Utf8String(text) => DirectoryString::Utf8String(text.clone()?),
+            DirectoryString::BmpString(text) => DirectoryString::BmpString(text.clone()?),
+        })
+    }
 }
 
 type StringChoice = Choice<PrintableStringAsn1, Choice<Utf8StringAsn1, Last<BmpStringAsn1>>>;

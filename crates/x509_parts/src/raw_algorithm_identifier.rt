@@ -14,8 +14,17 @@ use x509_spelling::{
 };
 
 /// Parameters of any type. NULL says that there are none.
-#[derive(Drop)]
+#[derive(Debug, Drop, PartialEq, Eq)]
 pub struct RawParameters(pub RawElement);
+
+impl Clone for RawParameters {
+    ghost is_clone = { λ params copy. copy ≡ params };
+
+    fn clone(&self) -> Result<RawParameters, AllocError> {
+        let raw = self.0.clone()?;
+        Ok(RawParameters(raw))
+    }
+}
 
 impl Serialize for RawParameters {
     ghost use Rattle.std.specs.Prelude.{refl};
@@ -122,10 +131,23 @@ fn null_parameters(alloc: Global) -> RawParameters
 /// ```
 ///
 /// Where there are none, NULL is written.
-#[derive(Drop)]
+#[derive(Debug, Drop, PartialEq, Eq)]
 pub struct RawAlgorithmIdentifier {
     algorithm: ObjectIdentifierAsn1,
     parameters: RawParameters,
+}
+
+impl Clone for RawAlgorithmIdentifier {
+    ghost is_clone = { λ identifier copy. copy ≡ identifier };
+
+    fn clone(&self) -> Result<RawAlgorithmIdentifier, AllocError> {
+        let algorithm = self.algorithm.clone()?;
+        let parameters = self.parameters.clone()?;
+        Ok(RawAlgorithmIdentifier {
+            algorithm,
+            parameters,
+        })
+    }
 }
 
 type RawAlgorithmRow = Row2<ObjectIdentifierAsn1, RawParameters>;

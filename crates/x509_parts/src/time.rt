@@ -19,7 +19,7 @@ use x509_spelling::Exact;
 /// ```
 ///
 /// Either is read, also where the standard wants the other for its year.
-#[derive(Drop)]
+#[derive(Clone, Copy, Debug, PartialEq, Eq)]
 pub enum Time {
     /// A time of the years 1950 to 2049.
     Utc(UTCTimeAsn1),

@@ -16,7 +16,7 @@ use x509_spelling::Exact;
 ///      notBefore      Time,
 ///      notAfter       Time }
 /// ```
-#[derive(Drop)]
+#[derive(Clone, Copy, Debug, PartialEq, Eq)]
 pub struct Validity {
     /// The first moment.
     pub not_before: Time,

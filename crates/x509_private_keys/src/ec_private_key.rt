@@ -1,5 +1,5 @@
 //! Private keys on elliptic curves (RFC 5915, section 3).
-ghost use Rattle.std.specs.Prelude.{◌≡◌};
+ghost use Rattle.std.specs.Prelude.{◌≡◌, IfOk};
 
 use crate::lent::{lent_under, plain};
 use asn1_lent::Lent;
@@ -8,6 +8,7 @@ use picky_asn1::wrapper::{
     BitStringAsn1, ExplicitContextTag0, ExplicitContextTag1, OctetStringAsn1, Optional,
 };
 use picky_asn1_der::{Asn1DerError, Deserializer, Fields, Row4, Serializer, Tagged, read_sequence};
+use std::alloc::AllocError;
 use x509_keys::FixedNumber;
 use x509_parameters::EcParameters;
 use x509_spelling::Exact;
@@ -30,7 +31,7 @@ pub type EncapsulatedEcSecret = OctetStringAsn1;
 ///      parameters [0] ECParameters {{ NamedCurve }} OPTIONAL,
 ///      publicKey  [1] BIT STRING OPTIONAL }
 /// ```
-#[derive(Drop)]
+#[derive(Debug, Drop, PartialEq, Eq)]
 pub struct ECPrivateKey {
     /// The version 1.
     pub version: FixedNumber<1>,
@@ -40,6 +41,36 @@ pub struct ECPrivateKey {
     pub parameters: Option<EcParameters>,
     /// The public key that belongs to it.
     pub public_key: Option<BitStringAsn1>,
+}
+
+impl Clone for ECPrivateKey {
+    ghost is_clone = { λ key copy. copy ≡ key };
+
+    fn clone(&self) -> Result<ECPrivateKey, AllocError> {
+        let private_key = self.private_key.clone()?;
+        let parameters = copied(&self.parameters)?;
+        let public_key = copied(&self.public_key)?;
+        Ok(ECPrivateKey {
+            version: self.version,
+            private_key,
+            parameters,
+            public_key,
+        })
+    }
+}
+
+// A copy of a field of which a copied value is the value.
+fn copied<T: Clone>(field: &Option<T>) -> Result<Option<T>, AllocError>
+    requires { (value copy : T) → T.is_clone value copy → copy ≡ value }
+    ensures { IfOk result (λ copy. copy ≡ field.now) }
+{
+    match field {
+        Some(value) => {
+            let copy = value.clone()?;
+            Ok(Some(copy))
+        }
+        None => Ok(None),
+    }
 }
 
 type ECPrivateKeyRow = Row4<

@@ -2,17 +2,19 @@
 ghost use Rattle.std.specs.Prelude.{◌≡◌, ◌==◌, ℕ, List, true, IsTrue, MatchResult};
 ghost use Rattle.x509_private_keys.specs.PrivateKeys.{is_private_of, private_kinds, version_with};
 
-use crate::private_key_value::{PrivateKeyValue, PrivateKinds, PublicKeyField, parts_of};
+use crate::private_key_value::{
+    PrivateKeyValue, PrivateKinds, PublicKeyField, copied_field, parts_of,
+};
 use devices::Sink;
 use picky_asn1_der::{Asn1DerError, Serialize, Serializer};
-use std::alloc::Global;
+use std::alloc::{AllocError, Global};
 use x509_algorithms::AlgorithmIdentifier;
 use x509_keys::{Agreeing, Ahead, Identified, read_chosen_behind};
 use x509_kinds::Kinds;
 use x509_spelling::{Counted, Spelled, SpelledItem, X509Fault};
 
 /// The fields of a private key with its algorithm, of any version.
-#[derive(Drop)]
+#[derive(Debug, Drop, PartialEq, Eq)]
 pub struct PrivateKeyFields {
     /// The version.
     pub version: u8,
@@ -20,6 +22,22 @@ pub struct PrivateKeyFields {
     pub(crate) private_key: PrivateKeyValue,
     pub(crate) public_key: PublicKeyField,
     pub ghost of_its_algorithm: { IsTrue (is_private_of private_key_algorithm.algorithm.0 private_key public_key) },
+}
+
+impl Clone for PrivateKeyFields {
+    ghost is_clone = { λ fields copy. copy ≡ fields };
+
+    fn clone(&self) -> Result<PrivateKeyFields, AllocError> {
+        let private_key_algorithm = self.private_key_algorithm.clone()?;
+        let private_key = self.private_key.clone()?;
+        let public_key = copied_field(&self.public_key)?;
+        Ok(PrivateKeyFields {
+            version: self.version,
+            private_key_algorithm,
+            private_key,
+            public_key,
+        })
+    }
 }
 
 /// The version is 1 where there is a public key, and else 0.

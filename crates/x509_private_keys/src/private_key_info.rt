@@ -8,7 +8,7 @@ use crate::private_key_value::{PrivateKeyValue, as_field, in_field};
 use devices::Sink;
 use picky_asn1::wrapper::BitStringAsn1;
 use picky_asn1_der::{Asn1DerError, Serialize, Serializer};
-use std::alloc::Global;
+use std::alloc::{AllocError, Global};
 use x509_algorithms::AlgorithmIdentifier;
 use x509_keys::read_agreeing;
 use x509_spelling::{Counted, Spelled, X509Fault};
@@ -36,10 +36,19 @@ pub const PRIVATE_KEY_INFO_VERSION_2: u8 = 1;
 /// ```
 ///
 /// The version is v2 where there is a public key, and else v1. Attributes aren't read.
-#[derive(Drop)]
+#[derive(Debug, Drop, PartialEq, Eq)]
 pub struct PrivateKeyInfo {
     fields: PrivateKeyFields,
     pub ghost of_its_version: { IsTrue (fields.version == version_with fields.public_key.0) },
+}
+
+impl Clone for PrivateKeyInfo {
+    ghost is_clone = { λ info copy. copy ≡ info };
+
+    fn clone(&self) -> Result<PrivateKeyInfo, AllocError> {
+        let fields = self.fields.clone()?;
+        Ok(PrivateKeyInfo { fields })
+    }
 }
 
 impl PrivateKeyInfo {

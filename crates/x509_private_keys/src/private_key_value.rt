@@ -1,5 +1,5 @@
 //! Private keys as an octet string holds them (RFC 5958, section 2).
-ghost use Rattle.std.specs.Prelude.{◌≡◌, None, Some, MatchOption};
+ghost use Rattle.std.specs.Prelude.{◌≡◌, None, Some, IfOk, MatchOption};
 ghost use Rattle.x509_private_keys.specs.PrivateKeys.{private_kinds};
 ghost use Rattle.x509_private_keys.specs.PublicKeyFields.{field_of_key, key_of_field};
 
@@ -10,6 +10,7 @@ use picky_asn1::wrapper::{
     BitStringAsn1, ImplicitContextTag, ImplicitContextTag1, OctetStringAsn1Container, Optional,
 };
 use picky_asn1_der::{Asn1DerError, Serialize, Serializer};
+use std::alloc::AllocError;
 use x509_keys::{EcIdentifiers, EdIdentifiers, RsaIdentifiers, Strict};
 use x509_kinds::{Enclosed, KindOf, LastKind, ToldBy};
 
@@ -21,7 +22,7 @@ use x509_kinds::{Enclosed, KindOf, LastKind, ToldBy};
 ///                   -- algorithm identifier dictates the format of
 ///                   -- the key.
 /// ```
-#[derive(Drop)]
+#[derive(Debug, Drop, PartialEq, Eq)]
 pub enum PrivateKeyValue {
     /// A key of RSA.
     Rsa(OctetStringAsn1Container<RsaPrivateKey>),
@@ -29,6 +30,24 @@ pub enum PrivateKeyValue {
     EC(OctetStringAsn1Container<ECPrivateKey>),
     /// A key of Ed25519, Ed448, X25519 or X448.
     ED(OctetStringAsn1Container<EncapsulatedEcSecret>),
+}
+
+impl Clone for PrivateKeyValue {
+    ghost is_clone = { λ key copy. copy ≡ key };
+
+    fn clone(&self) -> Result<PrivateKeyValue, AllocError> {
+        Ok(match self {
+            PrivateKeyValue::Rsa(key) => PrivateKeyValue::Rsa(OctetStringAsn1Container(
+                key.0.clone()?,
+            )),
+            PrivateKeyValue::EC(key) => PrivateKeyValue::EC(OctetStringAsn1Container(
+                key.0.clone()?,
+            )),
+            PrivateKeyValue::ED(key) => PrivateKeyValue::ED(OctetStringAsn1Container(
+                key.0.clone()?,
+            )),
+        })
+    }
 }
 
 /// A key is written alone too; it is read only behind its algorithm, whose identifier decides its kind.
@@ -103,6 +122,19 @@ pub fn as_field(public_key: Option<BitStringAsn1>) -> PublicKeyField
     match public_key {
         Some(key) => Optional(Some(Strict(ImplicitContextTag(key)))),
         None => Optional(None),
+    }
+}
+
+/// A copy of the field.
+pub fn copied_field(field: &PublicKeyField) -> Result<PublicKeyField, AllocError>
+    ensures { IfOk result (λ copy. copy ≡ field.now) }
+{
+    match &field.0 {
+        Some(Strict(ImplicitContextTag(key))) => {
+            let copy = key.clone()?;
+            Ok(Optional(Some(Strict(ImplicitContextTag(copy)))))
+        }
+        None => Ok(Optional(None)),
     }
 }
 

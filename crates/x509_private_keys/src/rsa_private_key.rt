@@ -7,6 +7,8 @@ use picky_asn1_der::{
     Asn1DerError, Deserializer, Fields, Row9, Serializer, Tagged, fields_of, from_fields,
     read_sequence,
 };
+use record_copies::LentFields;
+use std::alloc::AllocError;
 use x509_keys::FixedNumber;
 use x509_spelling::Exact;
 
@@ -27,7 +29,7 @@ use x509_spelling::Exact;
 /// ```
 ///
 /// Keys of two primes have version 0 and no further ones, and only these are read.
-#[derive(Drop)]
+#[derive(Debug, Drop, PartialEq, Eq)]
 pub struct RsaPrivateKey {
     /// The version 0.
     pub version: FixedNumber<0>,
@@ -60,6 +62,16 @@ type RsaPrivateKeyRow = Row9<
     IntegerAsn1,
     IntegerAsn1,
 >;
+
+impl Clone for RsaPrivateKey {
+    ghost is_clone = { λ key copy. copy ≡ key };
+
+    fn clone(&self) -> Result<RsaPrivateKey, AllocError> {
+        let row =
+            fields_of![self; version, modulus, public_exponent, private_exponent, prime_1, prime_2, exponent_1, exponent_2, coefficient].copied()?;
+        Ok(RsaPrivateKey::of_row(row))
+    }
+}
 
 impl RsaPrivateKey {
     /// The modulus n.

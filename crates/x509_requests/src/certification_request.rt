@@ -7,8 +7,9 @@ ghost use Rattle.x509_requests.specs.Requests.{request_row};
 use crate::certification_request_info::CertificationRequestInfo;
 use devices::Sink;
 use picky_asn1::wrapper::BitStringAsn1;
-use picky_asn1_der::{Asn1DerError, Serialize, Serializer};
-use std::alloc::Global;
+use picky_asn1_der::{Asn1DerError, Serialize, Serializer, fields_of};
+use record_copies::LentFields;
+use std::alloc::{AllocError, Global};
 use x509_algorithms::AlgorithmIdentifier;
 use x509_keys::Ahead;
 use x509_signed::{Signed, with_signed_part};
@@ -22,7 +23,7 @@ use x509_spelling::{Counted, Spelled, SpelledFields, X509Fault, read_fields};
 ///      signatureAlgorithm AlgorithmIdentifier{{ SignatureAlgorithms }},
 ///      signature          BIT STRING }
 /// ```
-#[derive(Drop)]
+#[derive(Debug, Drop, PartialEq, Eq)]
 pub struct CertificationRequest {
     /// What is signed.
     pub certification_request_info: CertificationRequestInfo,
@@ -30,6 +31,16 @@ pub struct CertificationRequest {
     pub signature_algorithm: AlgorithmIdentifier,
     /// The signature.
     pub signature: BitStringAsn1,
+}
+
+impl Clone for CertificationRequest {
+    ghost is_clone = { λ request copy. copy ≡ request };
+
+    fn clone(&self) -> Result<CertificationRequest, AllocError> {
+        let row =
+            fields_of![self; certification_request_info, signature_algorithm, signature].copied()?;
+        Ok(of_row(row))
+    }
 }
 
 type RequestRow = (

@@ -3,7 +3,8 @@ ghost use Rattle.std.specs.Prelude.{◌≡◌, [], IfOk, MatchResult};
 ghost use Rattle.x509_requests.specs.Requests.{info_row};
 
 use devices::Sink;
-use picky_asn1_der::{Asn1DerError, Serialize, Serializer};
+use picky_asn1_der::{Asn1DerError, Serialize, Serializer, fields_of};
+use record_copies::LentFields;
 use std::alloc::{AllocError, Global};
 use x509_attributes::{Attribute, Attributes, OpenSslAttributes};
 use x509_keys::{FixedNumber, Strict, SubjectPublicKeyInfo};
@@ -21,7 +22,7 @@ use x509_spelling::{Counted, Implied, Spelled, SpelledFields, X509Fault, read_fi
 /// ```
 ///
 /// The attributes are written where there are none, too. That they are missing is a deviation.
-#[derive(Drop)]
+#[derive(Debug, Drop, PartialEq, Eq)]
 pub struct CertificationRequestInfo {
     /// The version 0.
     pub version: FixedNumber<0>,
@@ -31,6 +32,21 @@ pub struct CertificationRequestInfo {
     pub subject_public_key_info: SubjectPublicKeyInfo,
     /// What is asked beside.
     pub attributes: OpenSslAttributes,
+}
+
+impl Clone for CertificationRequestInfo {
+    ghost is_clone = { λ info copy. copy ≡ info };
+
+    fn clone(&self) -> Result<CertificationRequestInfo, AllocError> {
+        let (subject, (key, (attributes, ()))) =
+            fields_of![self; subject, subject_public_key_info, attributes].copied()?;
+        Ok(CertificationRequestInfo {
+            version: self.version,
+            subject,
+            subject_public_key_info: key,
+            attributes,
+        })
+    }
 }
 
 type InfoRow = (

@@ -12,6 +12,7 @@ use picky_asn1::wrapper::ObjectIdentifierAsn1;
 use picky_asn1_der::{
     Asn1DerError, Deserializer, Elements, Serialize, Serializer, Tagged, read_sequence,
 };
+use std::alloc::AllocError;
 use std::marker::Model;
 use std::slice::{Iter, IterMut};
 use x509_spelling::Exact;
@@ -25,7 +26,7 @@ use x509_spelling::Exact;
 /// ```
 ///
 /// An empty list is read too.
-#[derive(Drop)]
+#[derive(Debug, Drop)]
 pub struct ExtendedKeyUsage {
     purposes: Vec<ObjectIdentifierAsn1>,
 }
@@ -77,6 +78,36 @@ impl ExtendedKeyUsage {
     {
         self.as_slice().iter().any(|one| one.0 == *purpose)
     }
+}
+
+impl Clone for ExtendedKeyUsage {
+    ghost is_clone = { λ usage copy. copy ≡ usage };
+
+    fn clone(&self) -> Result<ExtendedKeyUsage, AllocError> {
+        let purposes = self.purposes.clone()?;
+        Ok(ExtendedKeyUsage { purposes })
+    }
+}
+
+impl PartialEq for ExtendedKeyUsage {
+    ghost use Rattle.std.specs.Cmp.Rules.{comparing};
+    ghost use Rattle.std.specs.Ordering.{on};
+    ghost use Rattle.std.proofs.Common.{rules};
+
+    ghost eq = { pointwise (on (λ one. one.0) (pointwise nat_eq)) };
+
+    ghost laws = { Prim.search (comparing, rules) };
+
+    fn eq(&self, other: &ExtendedKeyUsage) -> bool {
+        self.as_slice() == other.as_slice()
+    }
+}
+
+impl Eq for ExtendedKeyUsage {
+    ghost use Rattle.std.specs.Cmp.Rules.{comparing};
+    ghost use Rattle.std.proofs.Common.{rules};
+
+    ghost laws = { Prim.search (comparing, rules) };
 }
 
 impl From<Vec<ObjectIdentifierAsn1>> for ExtendedKeyUsage {

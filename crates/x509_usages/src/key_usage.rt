@@ -26,8 +26,17 @@ use x509_spelling::Exact;
 /// ```
 ///
 /// Zeros behind the last use are kept as they stand.
-#[derive(Drop)]
+#[derive(Debug, Drop, PartialEq, Eq)]
 pub struct KeyUsage(BitStringAsn1);
+
+impl Clone for KeyUsage {
+    ghost is_clone = { λ usage copy. copy ≡ usage };
+
+    fn clone(&self) -> Result<KeyUsage, AllocError> {
+        let bits = self.0.clone()?;
+        Ok(KeyUsage(bits))
+    }
+}
 
 impl KeyUsage {
     /// No use of a key, in so many bits.
