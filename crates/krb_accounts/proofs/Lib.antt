@@ -1,4 +1,2 @@
-mod Changing
+mod Blocks
 mod Parts
-mod Pushing
-mod Search

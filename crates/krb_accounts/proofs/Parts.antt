@@ -1,8 +1,7 @@
 -- A name's components one by one.
-use Rattle.std.proofs.Common.{◌≡◌, ℕ, ◌<◌, ◌&&◌, true, false, Bool, List, [], ◌∷◌, Vec, length, get_or, nat_eq, refl, sym, ap, ◌∙◌, arith}
+use Rattle.std.proofs.Common.{◌≡◌, ℕ, ◌<◌, ◌&&◌, true, false, Bool, List, Vec, length, get_or, refl, sym, ap, ◌∙◌}
 use Rattle.std.specs.Global.{Global}
-use Rattle.std.specs.Cmp.Lexicographic.{pointwise}
-use Rattle.std.specs.List.{list_all, zip}
+use Rattle.std.specs.List.{list_all}
 use Rattle.std.proofs.lemmas.List.Folds.{list_all-map, list_all_at}
 use Rattle.krb_accounts.specs.Names.{is_realm_name, are_components, parts}
 
@@ -25,12 +24,3 @@ second false b both = cc
 pub is_realm_name-part : (name : List (Vec ℕ Global)) (i : ℕ) (part : Vec ℕ Global)
     → are_components (parts name) ≡ true → i < length name → part ≡ get_or name i part → is_realm_name part.items ≡ true
 is_realm_name-part name i part valid = part_passes is_realm_name name i part (second _ _ valid)
-
--- of as many parts as components, each has its component's characters where the lists of both are the same
-pub pointwise-from_zip : (name : List (Vec ℕ Global)) (components : List (List ℕ)) → length name ≡ length components
-    → list_all (λ pair. pointwise nat_eq pair.0.items pair.1) (zip name components) ≡ pointwise (pointwise nat_eq) (parts name) components
-pointwise-from_zip [] [] long = refl
-pointwise-from_zip [] (component ∷ components) long = absurd (omega (arith, long))
-pointwise-from_zip (part ∷ name) [] long = absurd (omega (arith, long))
-pointwise-from_zip (part ∷ name) (component ∷ components) long =
-    ap (λ b. pointwise nat_eq part.items component && b) (pointwise-from_zip name components (omega (arith, long)))

@@ -1,45 +1,47 @@
 //! The accounts of a realm.
-ghost use Rattle.std.specs.Prelude.{◌≡◌, ◌↔◌, IsSome, Ok, Err, OnOk, OnErr, IfErr};
+ghost use Rattle.std.specs.Prelude.{◌≡◌, ◌↔◌, ◌⊎◌, [], IsSome, IsTrue, Some, Ok, Err, OnOk, OnErr, IfErr};
 ghost use Rattle.std.specs.Option.{option_copied};
 ghost use Rattle.std.specs.FinMap as finite;
 ghost use Rattle.krb_accounts.specs.Names.{parts};
 
 use crate::account::key_of;
-use crate::names::has_components;
 use crate::{Account, RealmRefusal};
-use krb_crypto::CipherSuite;
+use arrayvec::ArrayVec;
+use krb_crypto::{CipherSuite, Key};
+use krb_packed_names::{BLOCK_ROOM, pack_within};
 use picky_asn1::wrapper::GeneralStringAsn1;
 use std::alloc::Global;
+use std::collections::BTreeMap;
+use std::collections::btree_map::Entry;
 use std::marker::Model;
 
 /// The accounts of a realm: at most one for each name. Names are the same where they have the same
 /// components with the same characters, in the same case. A contract sees a finite map from the
 /// components to the account.
+///
+/// Commands and look-ups take steps by the logarithm of the number of accounts.
 #[derive(Drop)]
 pub struct Accounts {
-    entries: Vec<Entry>,
-}
-
-#[derive(Drop)]
-struct Entry {
-    name: Vec<GeneralStringAsn1>,
-    account: Account,
+    // By the blocks of the names, which have the order of the names.
+    entries: BTreeMap<Vec<u8>, Account>,
 }
 
 impl Model for Accounts {
     ghost use Rattle.std.specs.Prelude.{ℕ};
     ghost use Rattle.std.specs.Coded.{coded_list, coded_ℕ};
     ghost use Rattle.std.specs.FinMap as finite;
+    ghost use Rattle.std.specs.BTreeMap.{keys};
     ghost use Rattle.krb_accounts.specs.Accounts.{AccountMap};
+    ghost use Rattle.krb_accounts.specs.Entries.{AreBlocks, named};
     ghost use Rattle.krb_accounts.specs.contracts.account.Account as account;
 
     ghost Value = { AccountMap };
 
     ghost coded = { finite.code (coded_list (coded_list coded_ℕ)) account.the_row.coded };
 
-    ghost use Rattle.krb_accounts.specs.Entries.{pairs};
+    ghost view = { λ a. finite.from_entries (named a.entries.entries) };
 
-    ghost view = { λ a. finite.from_entries (pairs a.entries.items) };
+    ghost invariant = { λ a. AreBlocks (keys a.entries) };
 }
 
 impl Accounts {
@@ -53,25 +55,37 @@ impl Accounts {
         ensures { result ≡ finite.empty }
     {
         Accounts {
-            entries: Vec::new(alloc),
+            entries: BTreeMap::new(alloc),
         }
     }
 
-    /// The account of a name.
+    /// The account of a name. It takes no memory.
     pub fn get(&self, name: &[GeneralStringAsn1]) -> Option<&Account>
         ensures { option_copied result ≡ finite.get self.now name.now }
     {
-        find(self.entries.as_slice(), name)
+        let entries = &self.entries;
+        let mut block = ArrayVec::new();
+        if !pack_name(&mut block, name) {
+            return None;
+        }
+        entries.get(block.as_slice())
     }
 
     /// Whether a name has an account, by the characters of its components. It takes no memory.
     pub fn contains(&self, name: &[Vec<u8>]) -> bool
         ensures { result ≡ finite.contains_key self.now (parts name.now) }
     {
-        has_entry(self.entries.as_slice(), name)
+        let entries = &self.entries;
+        let mut block = ArrayVec::new();
+        if !pack_parts(&mut block, name) {
+            return false;
+        }
+        entries.contains_key(block.as_slice())
     }
 
     /// Gives a name its account. A name that has one is refused.
+    ///
+    /// A name whose block is longer than `BLOCK_ROOM`, as no principal's of a realm is, finds no room: `Memory`.
     pub fn insert_new(
         &mut self,
         name: Vec<GeneralStringAsn1>,
@@ -82,11 +96,12 @@ impl Accounts {
         ensures ok { OnOk result (self.new ≡ finite.insert self.old name.items account) }
         ensures err { OnErr result (self.new ≡ self.old) }
     {
-        if self.get(name.as_slice()).is_some() {
-            return Err(RealmRefusal::Exists);
+        let entries = &mut self.entries;
+        let mut block = ArrayVec::new();
+        if !pack_name(&mut block, name.as_slice()) {
+            return Err(RealmRefusal::Memory);
         }
-        self.entries.push(Entry { name, account })?;
-        Ok(())
+        put_new(entries, *name.allocator(), block.as_slice(), account)
     }
 
     /// Takes a name's account away. A name that has none is refused. It takes no memory.
@@ -95,11 +110,14 @@ impl Accounts {
         ensures ok { OnOk result (self.new ≡ finite.remove self.old (parts name.now)) }
         ensures err { OnErr result (self.new ≡ self.old) }
     {
-        if !self.contains(name) {
+        let entries = &mut self.entries;
+        let mut block = ArrayVec::new();
+        if !pack_parts(&mut block, name) {
             return Err(RealmRefusal::Unknown);
         }
-        self.entries
-            .retain(|entry| !has_components(name, entry.name.as_slice()));
+        if entries.remove(block.as_slice()).is_none() {
+            return Err(RealmRefusal::Unknown);
+        }
         Ok(())
     }
 
@@ -120,47 +138,95 @@ impl Accounts {
         ensures err { OnErr result (self.new ≡ self.old) }
     {
         let key = key_of(suite, key)?;
-        let Some(place) = place_of(self.entries.as_slice(), name) else {
+        let entries = &mut self.entries;
+        let mut block = ArrayVec::new();
+        if !pack_parts(&mut block, name) {
             return Err(RealmRefusal::Unknown);
-        };
-        let account = self.entries[place].account.with_key(key)?;
-        self.entries[place].account = account;
-        Ok(())
+        }
+        rekey(entries, block.as_slice(), key)
     }
 }
 
-ghost use Rattle.std.specs.Prelude.{nat_eq};
-ghost use Rattle.std.specs.Cmp.Lexicographic.{pointwise};
-ghost use Rattle.std.specs.List.{list_any, position};
-ghost use Rattle.krb_accounts.specs.Accounts.{name_cmp};
-ghost use Rattle.krb_accounts.specs.Entries.{pairs};
+ghost use Rattle.std.specs.BTreeMap.{IsUnchanged, UpdatesBy, get_by, keys};
+ghost use Rattle.krb_packed_names.specs.Packed.{fit, packed};
+ghost use Rattle.krb_accounts.specs.Account.{AccountRecord};
+ghost use Rattle.krb_accounts.specs.Accounts.{rekeyed};
+ghost use Rattle.krb_accounts.specs.Entries.{AreBlocks, IsBlock, block_cmp, cmp_blocks};
 
-/// Whether some entry has that name.
-fn has_entry(entries: &[Entry], name: &[Vec<u8>]) -> bool
-    ensures { result ≡ list_any (λ entry. pointwise (pointwise nat_eq) (parts name.now) entry.name.items) entries.now }
+/// Makes an empty block that of a name. The answer is false where the block has no room for it.
+fn pack_name(block: &mut ArrayVec<u8, BLOCK_ROOM>, name: &[GeneralStringAsn1]) -> bool
+    requires { block.old.items ≡ [] }
+    ensures fits { result ≡ fit name.now }
+    ensures packed { IsTrue result → block.new.items ≡ packed name.now }
 {
-    entries
-        .iter()
-        .any(|entry| has_components(name, entry.name.as_slice()))
-}
-
-/// The place of the first entry of that name.
-fn place_of(entries: &[Entry], name: &[Vec<u8>]) -> Option<usize>
-    ensures { result ≡ position (λ entry. pointwise (pointwise nat_eq) (parts name.now) entry.name.items) entries.now }
-{
-    entries
-        .iter()
-        .position(|entry| has_components(name, entry.name.as_slice()))
-}
-
-/// The account of the first entry of that name.
-fn find<'a>(entries: &'a [Entry], name: &[GeneralStringAsn1]) -> Option<&'a Account>
-    ensures { option_copied result ≡ finite.find name_cmp name.now (pairs entries.now) }
-{
-    for entry in entries {
-        if name == entry.name.as_slice() {
-            return Some(&entry.account);
+    for component in name {
+        if !pack_within(block, component.as_bytes()) {
+            return false;
         }
     }
-    None
+    true
+}
+
+/// The same of the name that has these components. The answer is false, too, where a character isn't below 128.
+fn pack_parts(block: &mut ArrayVec<u8, BLOCK_ROOM>, name: &[Vec<u8>]) -> bool
+    requires { block.old.items ≡ [] }
+    ensures fits { result ≡ fit (parts name.now) }
+    ensures packed { IsTrue result → block.new.items ≡ packed (parts name.now) }
+{
+    for component in name {
+        if !pack_within(block, component.as_slice()) {
+            return false;
+        }
+    }
+    true
+}
+
+/// Puts an account at a block. A block that has one is refused.
+fn put_new(
+    entries: &mut BTreeMap<Vec<u8>, Account>,
+    alloc: Global,
+    block: &[u8],
+    account: Account,
+) -> Result<(), RealmRefusal>
+    ensures exists { (result ≡ Err RealmRefusal.Exists) ↔ IsSome (get_by (block_cmp block.now) entries.old) }
+    ensures refusal { IfErr result (λ refusal. (refusal ≡ RealmRefusal.Memory) ⊎ (refusal ≡ RealmRefusal.Exists)) }
+    ensures ok { OnOk result (UpdatesBy cmp_blocks (block_cmp block.now) entries.old entries.new (Some account)) }
+    ensures blocks { OnOk result (AreBlocks (keys entries.old) → IsBlock block.now → AreBlocks (keys entries.new)) }
+    ensures err { OnErr result (IsUnchanged entries.old entries.new) }
+{
+    let Ok(key) = Vec::from_slice(alloc, block) else {
+        if entries.contains_key(block) {
+            return Err(RealmRefusal::Exists);
+        }
+        return Err(RealmRefusal::Memory);
+    };
+    let Ok(entry) = entries.entry(key) else {
+        return Err(RealmRefusal::Memory);
+    };
+    match entry {
+        Entry::Vacant(vacant) => {
+            vacant.insert(account);
+            Ok(())
+        }
+        Entry::Occupied(_) => Err(RealmRefusal::Exists),
+    }
+}
+
+/// Gives the account at a block its next key.
+fn rekey(
+    entries: &mut BTreeMap<Vec<u8>, Account>,
+    block: &[u8],
+    key: Key,
+) -> Result<(), RealmRefusal>
+    ensures refusal { IfErr result (λ refusal. rekeyed key.suite key.bytes (get_by (block_cmp block.now) entries.old) ≡ Err refusal) }
+    ensures ok { OnOk result ((account : AccountRecord) × UpdatesBy cmp_blocks (block_cmp block.now) entries.old entries.new (Some account)
+        × (rekeyed key.suite key.bytes (get_by (block_cmp block.now) entries.old) ≡ Ok account)) }
+    ensures keys { keys entries.new ≡ keys entries.old }
+    ensures err { OnErr result (IsUnchanged entries.old entries.new) }
+{
+    let Some(account) = entries.get_mut(block) else {
+        return Err(RealmRefusal::Unknown);
+    };
+    *account = account.with_key(key)?;
+    Ok(())
 }

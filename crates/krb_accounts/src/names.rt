@@ -1,7 +1,6 @@
 //! The rules for the names of realms and of principals.
-ghost use Rattle.std.specs.Prelude.{◌≡◌, ◌↔◌, ◌⊎◌, IfOk, IfErr, nat_lt, nat_eq, false};
-ghost use Rattle.std.specs.Cmp.Lexicographic.{pointwise};
-ghost use Rattle.std.specs.List.{list_all, zip};
+ghost use Rattle.std.specs.Prelude.{◌≡◌, ◌↔◌, ◌⊎◌, IfOk, IfErr, nat_lt, false};
+ghost use Rattle.std.specs.List.{list_all};
 ghost use Rattle.krb_accounts.specs.Names.{AreComponents, IsRealmName, are_components, is_realm_name, parts};
 
 use crate::RealmRefusal;
@@ -44,23 +43,6 @@ fn are_realm_names(names: &[Vec<u8>]) -> bool
     ensures { result ≡ list_all (λ name. is_realm_name name.items) names.now }
 {
     names.iter().all(|name| is_realm_name(name.as_slice()))
-}
-
-/// Whether these are the components of a name.
-pub(crate) fn has_components(name: &[Vec<u8>], components: &[GeneralStringAsn1]) -> bool
-    ensures { result ≡ pointwise (pointwise nat_eq) (parts name.now) components.now }
-{
-    if name.len() != components.len() {
-        return false;
-    }
-    have_same_characters(name, components)
-}
-
-// Whether the parts have the same characters, each as its component, as far as both go.
-fn have_same_characters(name: &[Vec<u8>], components: &[GeneralStringAsn1]) -> bool
-    ensures { result ≡ list_all (λ pair. pointwise nat_eq pair.0.items pair.1) (zip name.now components.now) }
-{
-    name.iter().zip(components).all(|(part, component)| part.as_slice() == component.as_bytes())
 }
 
 /// A realm's name as messages hold it. What is none is refused.

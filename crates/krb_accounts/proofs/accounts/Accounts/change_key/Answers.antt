@@ -1,53 +1,56 @@
-use Rattle.std.proofs.Common.{sym, ap, ◌∙◌}
-use Rattle.std.proofs.lemmas.Result.{err_from_is_err_and}
+use Rattle.std.proofs.Common.{◌≡◌, false, Result, Err, IfErr, OnOk, Ok, Some, rules, sym, ap, subst, ◌∙◌}
+use Rattle.std.specs.BTreeMap.{UpdatesBy, get_by}
+use Rattle.krb_packed_names.specs.Packed.{fit, packed}
 use Rattle.krb_crypto.specs.Keys.{KeyRecord}
-use Rattle.krb_accounts.specs.Accounts.{with_key}
+use Rattle.krb_accounts.specs.Account.{AccountRecord}
+use Rattle.krb_accounts.specs.Accounts.{rekeyed}
+use Rattle.krb_accounts.specs.Entries.{AreBlocks, block_cmp, cmp_blocks}
 use Rattle.krb_accounts.specs.Names.{parts}
-use Rattle.krb_accounts.proofs.Changing.{changed, no_account, no_refusal, own_account, same_refusal}
+use Rattle.krb_accounts.specs.declared.refusal.RealmRefusal.{RealmRefusal}
+use Rattle.krb_accounts.proofs.Blocks.{changed, found, judged, missing, settled}
 use Rattle.krb_accounts.proofs.accounts.Accounts.change_key.Goals as goal
 
-pub returns-in_default-clause-refusal : goal.returns-in_default-clause-refusal
-returns-in_default-clause-refusal c =
-    no_account c.args.self.now c.self.inside.entries.items (parts c.args.name.now) c.args.suite c.args.key.now c.place_of.result c.self.view_is
-    (rw c.as_slice.ensures.value at c.place_of.ensures) c.in_default.is c.in_ok-key.ensures.size
+pub returns-then-not-pack_parts-clause-refusal : goal.returns-then-not-pack_parts-clause-refusal
+returns-then-not-pack_parts-clause-refusal c =
+    let none : fit (parts c.args.name.now) ≡ false = search rules in
+    let at = missing c.args.self.now c.self.inside.entries (parts c.args.name.now) c.self.view_is c.self.invariant none in
+    sym (judged c.args.self.now (parts c.args.name.now) c.args.suite c.args.key.now _ (sym at) c.in_ok-key.ensures.size)
 
-pub returns-in_default-clause-refuses : goal.returns-in_default-clause-refuses
-returns-in_default-clause-refuses c = λ refusal x.
-    let own = no_account c.args.self.now c.self.inside.entries.items (parts c.args.name.now) c.args.suite c.args.key.now c.place_of.result c.self.view_is
-    (rw c.as_slice.ensures.value at c.place_of.ensures) c.in_default.is c.in_ok-key.ensures.size in
-    same_refusal _ _ _ own x
+pub returns-then-not-pack_parts-clause-refuses : goal.returns-then-not-pack_parts-clause-refuses
+returns-then-not-pack_parts-clause-refuses c = λ refusal x.
+    let none : fit (parts c.args.name.now) ≡ false = search rules in
+    let at = missing c.args.self.now c.self.inside.entries (parts c.args.name.now) c.self.view_is c.self.invariant none in
+    let both = judged c.args.self.now (parts c.args.name.now) c.args.suite c.args.key.now _ (sym at) c.in_ok-key.ensures.size ∙ x in
+    ap Err (cc (both))
 
-pub returns-in_err-account-clause-refusal : goal.returns-in_err-account-clause-refusal
-returns-in_err-account-clause-refusal c =
-    let own = own_account c.args.self.now c.self.inside.entries.items (parts c.args.name.now) c.args.suite c.args.key.now c.place_of.result c.in-Some.place c.index.result.now c.self.view_is
-    (rw c.as_slice.ensures.value at c.place_of.ensures) c.in-Some.is c.index.ensures c.in_ok-key.ensures.size in
-    let keyed = ap (λ (k : KeyRecord). with_key k.suite k.bytes c.index.result.now.account) c.in_ok-key.ensures.ok in
-    let exit = err_from_is_err_and c.from_residual-in_err-account.result c.from_residual-in_err-account.ensures.1 in
-    rw (exit.1, exit.2) (own ∙ sym keyed ∙ sym c.in_err-account.ensures)
-
-pub returns-in_err-account-clause-refuses : goal.returns-in_err-account-clause-refuses
-returns-in_err-account-clause-refuses c = λ refusal x.
-    let own = own_account c.args.self.now c.self.inside.entries.items (parts c.args.name.now) c.args.suite c.args.key.now c.place_of.result c.in-Some.place c.index.result.now c.self.view_is
-    (rw c.as_slice.ensures.value at c.place_of.ensures) c.in-Some.is c.index.ensures c.in_ok-key.ensures.size in
-    let keyed = ap (λ (k : KeyRecord). with_key k.suite k.bytes c.index.result.now.account) c.in_ok-key.ensures.ok in
-    let exit = err_from_is_err_and c.from_residual-in_err-account.result c.from_residual-in_err-account.ensures.1 in
-    rw (exit.1, exit.2) (same_refusal _ _ _ (own ∙ sym keyed ∙ sym c.in_err-account.ensures) x)
+pub returns-clause-refusal : goal.returns-clause-refusal
+returns-clause-refusal c =
+    let made : c.as_slice.result.now ≡ packed (parts c.args.name.now) = search rules in
+    let at = get_by (block_cmp c.as_slice.result.now) c.self.inside.entries in
+    let is = found c.args.self.now c.self.inside.entries (parts c.args.name.now) c.as_slice.result.now c.self.view_is c.self.invariant made in
+    let wanted = ap (λ (k : KeyRecord). rekeyed k.suite k.bytes at) c.in_ok-key.ensures.ok
+    ∙ judged c.args.self.now (parts c.args.name.now) c.args.suite c.args.key.now at is c.in_ok-key.ensures.size in
+    subst (λ (w : Result AccountRecord RealmRefusal). IfErr c.rekey.result (λ refusal. w ≡ Err refusal)) wanted c.rekey.ensures.refusal
 
 pub returns-clause-refuses : goal.returns-clause-refuses
 returns-clause-refuses c = λ refusal x.
-    let own = own_account c.args.self.now c.self.inside.entries.items (parts c.args.name.now) c.args.suite c.args.key.now c.place_of.result c.in-Some.place c.index.result.now c.self.view_is
-    (rw c.as_slice.ensures.value at c.place_of.ensures) c.in-Some.is c.index.ensures c.in_ok-key.ensures.size in
-    let keyed = ap (λ (k : KeyRecord). with_key k.suite k.bytes c.index.result.now.account) c.in_ok-key.ensures.ok in
-    no_refusal _ _ _ _ (own ∙ sym keyed ∙ sym c.in_ok-account.ensures) x
+    let made : c.as_slice.result.now ≡ packed (parts c.args.name.now) = search rules in
+    let at = get_by (block_cmp c.as_slice.result.now) c.self.inside.entries in
+    let is = found c.args.self.now c.self.inside.entries (parts c.args.name.now) c.as_slice.result.now c.self.view_is c.self.invariant made in
+    let wanted = ap (λ (k : KeyRecord). rekeyed k.suite k.bytes at) c.in_ok-key.ensures.ok
+    ∙ judged c.args.self.now (parts c.args.name.now) c.args.suite c.args.key.now at is c.in_ok-key.ensures.size in
+    settled c.rekey.result _ (λ account. UpdatesBy cmp_blocks (block_cmp c.as_slice.result.now) c.self.inside.entries c.rekey.new.entries (Some account))
+    c.rekey.ensures.refusal c.rekey.ensures.ok refusal (wanted ∙ x)
 
 pub returns-clause-ok : goal.returns-clause-ok
 returns-clause-ok c =
-    let place = rw c.as_slice.ensures.value at c.place_of.ensures in
-    let own = own_account c.args.self.now c.self.inside.entries.items (parts c.args.name.now) c.args.suite c.args.key.now c.place_of.result c.in-Some.place c.index.result.now c.self.view_is
-    place c.in-Some.is c.index.ensures c.in_ok-key.ensures.size in
-    let keyed = ap (λ (k : KeyRecord). with_key k.suite k.bytes c.index.result.now.account) c.in_ok-key.ensures.ok in (
-      c.in_ok-account.account,
-      own ∙ sym keyed ∙ sym c.in_ok-account.ensures,
-      changed c.args.self.now c.self.inside.entries.items (parts c.args.name.now) c.place_of.result c.in-Some.place c.index_mut.result.now c.in_ok-account.account c.self.view_is place c.in-Some.is
-          c.index_mut.ensures.value,
-    )
+    let made : c.as_slice.result.now ≡ packed (parts c.args.name.now) = search rules in
+    let at = get_by (block_cmp c.as_slice.result.now) c.self.inside.entries in
+    let is = found c.args.self.now c.self.inside.entries (parts c.args.name.now) c.as_slice.result.now c.self.view_is c.self.invariant made in
+    let wanted = ap (λ (k : KeyRecord). rekeyed k.suite k.bytes at) c.in_ok-key.ensures.ok
+    ∙ judged c.args.self.now (parts c.args.name.now) c.args.suite c.args.key.now at is c.in_ok-key.ensures.size in
+    changed c.args.self.now c.rekey.result _ c.self.inside.entries c.rekey.new.entries (parts c.args.name.now) c.as_slice.result.now
+    c.self.view_is c.self.invariant (subst AreBlocks (sym c.rekey.ensures.keys) c.self.invariant) made
+    (subst (λ (w : Result AccountRecord RealmRefusal). OnOk c.rekey.result ((account : AccountRecord)
+    × UpdatesBy cmp_blocks (block_cmp c.as_slice.result.now) c.self.inside.entries c.rekey.new.entries (Some account) × (w ≡ Ok account)))
+    wanted c.rekey.ensures.ok)

@@ -1,9 +1,16 @@
-use Rattle.std.proofs.Common.{◌∙◌}
-use Rattle.std.specs.FinMap.{get-from_entries}
-use Rattle.krb_accounts.specs.Accounts.{name_total}
+use Rattle.std.proofs.Common.{◌≡◌, false, is_some, rules, sym, ap, ◌∙◌}
+use Rattle.krb_packed_names.specs.Packed.{fit, packed}
 use Rattle.krb_accounts.specs.Names.{parts}
-use Rattle.krb_accounts.proofs.Search.{some-find}
+use Rattle.krb_accounts.proofs.Blocks.{found, missing}
 use Rattle.krb_accounts.proofs.accounts.Accounts.contains.Goals as goal
 
+pub returns-then-not-pack_parts : goal.returns-then-not-pack_parts
+returns-then-not-pack_parts c =
+    let none : fit (parts c.args.name.now) ≡ false = search rules in
+    sym (ap is_some (missing c.args.self.now c.self.inside.entries (parts c.args.name.now) c.self.view_is c.self.invariant none))
+
 pub returns : goal.returns
-returns c = rw (← c.self.view_is, get-from_entries name_total, ← c.as_slice.ensures.value) (c.has_entry.ensures ∙ some-find c.as_slice.result.now (parts c.args.name.now))
+returns c =
+    let made : c.as_slice.result.now ≡ packed (parts c.args.name.now) = search rules in
+    c.contains_key.ensures
+    ∙ ap is_some (found c.args.self.now c.self.inside.entries (parts c.args.name.now) c.as_slice.result.now c.self.view_is c.self.invariant made)
