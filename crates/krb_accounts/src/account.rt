@@ -92,7 +92,7 @@ impl Account {
         &self.key
     }
 
-    /// The key's number (RFC 4120, section 5.2.9, `kvno`).
+    /// The key's kvno (RFC 4120, section 5.2.9).
     pub fn number(&self) -> u32
         ensures value { result ≡ self.now.number }
         ensures from_one { 1 ≤ result }

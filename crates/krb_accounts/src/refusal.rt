@@ -31,7 +31,7 @@ pub enum RealmRefusal {
     #[error("the account of the ticket-granting service is kept")]
     KeptAccount = 5,
 
-    /// The key's number is the greatest, and none follows.
+    /// The kvno is the greatest, and none follows.
     #[error("no key number is left")]
     NumberSpent = 6,
 
