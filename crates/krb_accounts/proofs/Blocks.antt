@@ -168,7 +168,7 @@ judged accounts name suite key account is sized =
     let test = eq-eqb (length key) (cipher_key_size suite) sized in
     ap (rekeyed suite key) is ∙ sym (rw test refl)
 
--- an answer that tells each refusal and each account tells the one there is
+-- an answer with each refusal and each account of the expected result is that result
 pub settled : (answer : Result (Unit {0}) RealmRefusal) (wanted : Result AccountRecord RealmRefusal) (P : AccountRecord → Type 0)
     → IfErr answer (λ refusal. wanted ≡ Err refusal) → OnOk answer ((account : AccountRecord) × P account × (wanted ≡ Ok account))
     → (refusal : RealmRefusal) → wanted ≡ Err refusal → answer ≡ Err refusal
