@@ -1,61 +1,17 @@
 //! Readers and writers: what follows a value, limits, and devices that cut and fail.
 use crate::sample::{LONG_SAMPLE, SHORT_SAMPLE, Sample, sample_of};
 use crate::spelling::{fault_of, front_fault_of};
-use devices::Watched;
+use devices::{Sink, Source};
 use picky_asn1_der::{
     Asn1DerError, Deserialize, Deserializer, RawElement, Serialize, Serializer, from_bytes,
     from_reader, from_reader_with_max_len, to_byte_buf, to_writer,
 };
 use std::alloc::Global;
-use std::io;
-use std::io::{ErrorKind, Read, Write};
+use std::io::ErrorKind;
+use test_devices::{Drip, Trickle};
 
-// Gives a byte a read, and fails once it gave `count` of them.
-#[derive(Drop)]
-struct Trickle<'a> {
-    bytes: &'a [u8],
-    count: usize,
-}
-
-impl Read for Trickle<'_> {
-    fn read(&mut self, buffer: &mut [u8]) -> io::Result<usize> {
-        if self.count == 0 {
-            return Err(io::Error::from(ErrorKind::ConnectionReset));
-        }
-        match self.bytes {
-            [first, rest @ ..] if !buffer.is_empty() => {
-                buffer[0] = *first;
-                self.bytes = rest;
-                self.count -= 1;
-                Ok(1)
-            }
-            _ => Ok(0),
-        }
-    }
-}
-
-fn trickle_of(alloc: Global, bytes: &[u8], count: usize) -> Deserializer<Watched<Trickle<'_>>> {
-    Deserializer::new_from_reader(alloc, Watched::new(Trickle { bytes, count }), 10_240)
-}
-
-// Takes a byte a write, and fails once it took `count` of them.
-#[derive(Drop)]
-struct Clogging {
-    count: usize,
-}
-
-impl Write for Clogging {
-    fn write(&mut self, bytes: &[u8]) -> io::Result<usize> {
-        if self.count == 0 {
-            return Err(io::Error::from(ErrorKind::BrokenPipe));
-        }
-        self.count -= 1;
-        Ok(bytes.len().min(1))
-    }
-
-    fn flush(&mut self) -> io::Result<()> {
-        Ok(())
-    }
+fn drip_of(alloc: Global, bytes: &[u8], count: usize) -> Deserializer<Drip<'_>> {
+    Deserializer::new_from_reader(alloc, Drip::new(bytes, count), 10_240)
 }
 
 fn are_appended(written: &mut Vec<u8>) -> bool {
@@ -111,8 +67,8 @@ fn limits(rt: HostRuntime) {
     assert!(rt; fits(rt.alloc(), 10_237, 10_240) == Some(false));
 }
 
-fn is_trickled(alloc: Global, count: usize, sample: &Sample) -> bool {
-    match Sample::deserialize(&mut trickle_of(alloc, &LONG_SAMPLE, count)) {
+fn is_dripped(alloc: Global, count: usize, sample: &Sample) -> bool {
+    match Sample::deserialize(&mut drip_of(alloc, &LONG_SAMPLE, count)) {
         Ok(read) => read == *sample,
         Err(_) => false,
     }
@@ -121,31 +77,31 @@ fn is_trickled(alloc: Global, count: usize, sample: &Sample) -> bool {
 #[test]
 fn a_byte_at_a_time(rt: HostRuntime) {
     let sample = sample_of(Some(128.into()));
-    assert!(rt; is_trickled(rt.alloc(), LONG_SAMPLE.len(), &sample));
+    assert!(rt; is_dripped(rt.alloc(), LONG_SAMPLE.len(), &sample));
 }
 
 // What two readings give, one behind the other, from a reader that fails behind so many bytes.
 fn two_faults(alloc: Global, count: usize) -> [Option<Asn1DerError>; 2] {
-    let mut from = trickle_of(alloc, &LONG_SAMPLE, count);
+    let mut from = drip_of(alloc, &LONG_SAMPLE, count);
     let first = Sample::deserialize(&mut from).err();
     [first, Sample::deserialize(&mut from).err()]
 }
 
 #[test]
 fn failing_reader(rt: HostRuntime) {
-    let reset = Some(Asn1DerError::Other(ErrorKind::ConnectionReset));
+    let broken = Some(Asn1DerError::Other(ErrorKind::BrokenPipe));
     for count in 0..LONG_SAMPLE.len() {
         let faults = two_faults(rt.alloc(), count);
         assert!(rt;
-            faults == [reset, Some(Asn1DerError::InvalidData)],
+            faults == [broken, Some(Asn1DerError::InvalidData)],
             "at {count}"
         );
     }
 }
 
 // What two writings give, one behind the other, to a writer that fails behind so many bytes.
-fn two_write_faults(sample: &Sample, count: usize) -> [Option<Asn1DerError>; 2] {
-    let mut to = Serializer::new_to_writer(Watched::new(Clogging { count }));
+fn two_write_faults(alloc: Global, sample: &Sample, count: usize) -> [Option<Asn1DerError>; 2] {
+    let mut to = Serializer::new_to_writer(Trickle::new(alloc, count, true));
     let first = sample.serialize(&mut to).err();
     [first, sample.serialize(&mut to).err()]
 }
@@ -155,12 +111,49 @@ fn failing_writer(rt: HostRuntime) {
     let sample = sample_of(Some(128.into()));
     let broken = Some(Asn1DerError::Other(ErrorKind::BrokenPipe));
     for count in 0..LONG_SAMPLE.len() {
-        let faults = two_write_faults(&sample, count);
+        let faults = two_write_faults(rt.alloc(), &sample, count);
         assert!(rt;
             faults == [broken, Some(Asn1DerError::InvalidSink)],
             "at {count}"
         );
     }
+}
+
+// The fault of one reading from a reader that fails behind so many bytes, and how often it failed.
+fn read_fault(alloc: Global, count: usize) -> (Option<Asn1DerError>, u64) {
+    let mut reader = Drip::new(&LONG_SAMPLE, count);
+    let fault = from_reader::<Sample, _>(alloc, &mut reader).err();
+    (fault, Source::failures(&reader))
+}
+
+// The same of one writing. What was written is to be a front of the value's bytes.
+fn write_fault(
+    alloc: Global,
+    sample: &Sample,
+    count: usize,
+) -> Option<(Option<Asn1DerError>, u64)> {
+    let mut writer = Trickle::new(alloc, count, true);
+    let fault = to_writer(sample, &mut writer).err();
+    if Some(writer.taken.as_slice()) == LONG_SAMPLE.get(..count) {
+        Some((fault, Sink::failures(&writer)))
+    } else {
+        None
+    }
+}
+
+#[test]
+fn failing_devices(rt: HostRuntime) {
+    let sample = sample_of(Some(128.into()));
+    let broken = Some(Asn1DerError::Other(ErrorKind::BrokenPipe));
+    for count in 0..LONG_SAMPLE.len() {
+        assert!(rt; read_fault(rt.alloc(), count) == (broken, 1), "at {count}");
+        assert!(rt;
+            write_fault(rt.alloc(), &sample, count) == Some((broken, 1)),
+            "at {count}"
+        );
+    }
+    assert!(rt; read_fault(rt.alloc(), 18) == (None, 0));
+    assert!(rt; write_fault(rt.alloc(), &sample, 18) == Some((None, 0)));
 }
 
 #[test]

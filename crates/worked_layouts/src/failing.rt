@@ -1,64 +1,13 @@
 //! Readers and writers that fail behind each byte.
 
-use devices::{Source, Watched};
+use crate::negoex::VERIFY;
+use devices::{Sink, Source};
 use krb_tokens::{GssApiMessageError, LsapTokenInfoIntegrity, MicToken, WrapToken};
-use negoex_layouts::{MessageHeader, NegoexDataType};
-use pac_layouts::{Pac, PacBufferType, PacError, PacInfoBuffer};
+use negoex_layouts::{MessageHeader, NegoexDataType, NegoexMessage, Verify};
+use pac_layouts::{Pac, PacError, PacInfoBuffer};
 use std::alloc::Global;
-use std::io;
-use std::io::{ErrorKind, Read, Write};
-
-// Gives a byte a read, and fails once it gave `count` of them.
-#[derive(Drop)]
-pub(crate) struct Trickle<'a> {
-    bytes: &'a [u8],
-    count: usize,
-}
-
-impl Read for Trickle<'_> {
-    fn read(&mut self, buffer: &mut [u8]) -> io::Result<usize> {
-        if self.count == 0 {
-            return Err(io::Error::from(ErrorKind::ConnectionReset));
-        }
-        match self.bytes {
-            [first, rest @ ..] if !buffer.is_empty() => {
-                buffer[0] = *first;
-                self.bytes = rest;
-                self.count -= 1;
-                Ok(1)
-            }
-            _ => Ok(0),
-        }
-    }
-}
-
-pub(crate) fn trickle_of(bytes: &[u8], count: usize) -> Watched<Trickle<'_>> {
-    Watched::new(Trickle { bytes, count })
-}
-
-// Takes a byte a write, and fails once it took `count` of them.
-#[derive(Drop)]
-pub(crate) struct Clogging {
-    count: usize,
-}
-
-impl Write for Clogging {
-    fn write(&mut self, bytes: &[u8]) -> io::Result<usize> {
-        if self.count == 0 {
-            return Err(io::Error::from(ErrorKind::BrokenPipe));
-        }
-        self.count -= 1;
-        Ok(bytes.len().min(1))
-    }
-
-    fn flush(&mut self) -> io::Result<()> {
-        Ok(())
-    }
-}
-
-pub(crate) fn clogging_of(count: usize) -> Watched<Clogging> {
-    Watched::new(Clogging { count })
-}
+use std::io::ErrorKind;
+use test_devices::{Drip, Trickle};
 
 const MIC: &[u8] = b"\x04\x04\x05\xff\xff\xff\xff\xff\x00\x00\x00\x00\x00\x00\x01\x02sum";
 
@@ -88,19 +37,19 @@ fn wrap_fault<R: Source>(alloc: Global, reader: &mut R) -> Option<ErrorKind> {
 // came is answered before it: here the id, once both its bytes came.
 #[test]
 fn tokens(rt: HostRuntime) {
-    let reset = Some(ErrorKind::ConnectionReset);
+    let broken = Some(ErrorKind::BrokenPipe);
     for count in 0..20 {
         assert!(rt;
-            mic_fault(rt.alloc(), &mut trickle_of(MIC, count)) == reset,
+            mic_fault(rt.alloc(), &mut Drip::new(MIC, count)) == broken,
             "behind {count}"
         );
         let wanted = if count < 2 {
-            reset
+            broken
         } else {
             Some(ErrorKind::InvalidData)
         };
         assert!(rt;
-            wrap_fault(rt.alloc(), &mut trickle_of(MIC, count)) == wanted,
+            wrap_fault(rt.alloc(), &mut Drip::new(MIC, count)) == wanted,
             "behind {count}"
         );
     }
@@ -109,7 +58,7 @@ fn tokens(rt: HostRuntime) {
 const RECORD: &[u8] = b"\x01\x00\x00\x00\x00\x20\x00\x00machine-machine-machine-machine-";
 
 fn record_fault(count: usize) -> Option<ErrorKind> {
-    match LsapTokenInfoIntegrity::decode(&mut trickle_of(RECORD, count)) {
+    match LsapTokenInfoIntegrity::decode(&mut Drip::new(RECORD, count)) {
         Ok(_) => None,
         Err(error) => Some(error.kind),
     }
@@ -120,7 +69,7 @@ fn record_fault(count: usize) -> Option<ErrorKind> {
 fn records(rt: HostRuntime) {
     for count in 0..40 {
         assert!(rt;
-            record_fault(count) == Some(ErrorKind::ConnectionReset),
+            record_fault(count) == Some(ErrorKind::BrokenPipe),
             "behind {count}"
         );
     }
@@ -138,14 +87,14 @@ fn pac_kind(fault: &PacError) -> ErrorKind {
 }
 
 fn pac_fault(alloc: Global, bytes: &[u8], count: usize) -> Option<ErrorKind> {
-    match Pac::deserialize(alloc, &mut trickle_of(bytes, count)) {
+    match Pac::deserialize(alloc, &mut Drip::new(bytes, count)) {
         Ok(_) => None,
         Err(fault) => Some(pac_kind(&fault)),
     }
 }
 
 fn row_fault(bytes: &[u8], count: usize) -> Option<ErrorKind> {
-    match PacInfoBuffer::deserialize(&mut trickle_of(bytes, count)) {
+    match PacInfoBuffer::deserialize(&mut Drip::new(bytes, count)) {
         Ok(_) => None,
         Err(fault) => Some(pac_kind(&fault)),
     }
@@ -162,7 +111,7 @@ fn wrong_pacs(rt: HostRuntime) {
     for (bytes, size) in [(VERSION_1, 8), (TYPE_3, 12)] {
         for count in 0..13 {
             let wanted = if count < size {
-                ErrorKind::ConnectionReset
+                ErrorKind::BrokenPipe
             } else {
                 ErrorKind::InvalidData
             };
@@ -177,22 +126,23 @@ fn wrong_pacs(rt: HostRuntime) {
 // A PAC is read to the end of its reader, and a row of its table is not. A type that is none is answered once it came.
 #[test]
 fn pacs(rt: HostRuntime) {
-    let reset = Some(ErrorKind::ConnectionReset);
+    let broken = Some(ErrorKind::BrokenPipe);
     for count in 0..33 {
         assert!(rt;
-            pac_fault(rt.alloc(), PAC, count) == reset,
+            pac_fault(rt.alloc(), PAC, count) == broken,
             "behind {count}"
         );
     }
     for count in 0..16 {
-        assert!(rt; row_fault(&PAC[8..24], count) == reset, "behind {count}");
+        assert!(rt; row_fault(&PAC[8..24], count) == broken, "behind {count}");
         let wanted = if count < 4 {
-            reset
+            broken
         } else {
             Some(ErrorKind::InvalidData)
         };
         assert!(rt; row_fault(&[3; 16], count) == wanted, "behind {count}");
     }
+    assert!(rt; pac_fault(rt.alloc(), PAC, 33).is_none());
     assert!(rt; row_fault(&PAC[8..24], 16).is_none());
 }
 
@@ -202,7 +152,7 @@ const HEADER: &[u8] = b"\
     \xa1\xb4\xa2\x12$\x9d|\xb4";
 
 fn header_fault(alloc: Global, count: usize) -> Option<ErrorKind> {
-    match MessageHeader::decode(alloc, &mut trickle_of(HEADER, count), HEADER) {
+    match MessageHeader::decode(alloc, &mut Drip::new(HEADER, count), HEADER) {
         Ok(_) => None,
         Err(error) => Some(error.kind),
     }
@@ -212,7 +162,7 @@ fn header_fault(alloc: Global, count: usize) -> Option<ErrorKind> {
 fn headers(rt: HostRuntime) {
     for count in 0..41 {
         let wanted = if count < 8 {
-            ErrorKind::ConnectionReset
+            ErrorKind::BrokenPipe
         } else {
             ErrorKind::InvalidData
         };
@@ -223,40 +173,108 @@ fn headers(rt: HostRuntime) {
     }
 }
 
-fn row_write_fault(count: usize) -> Option<ErrorKind> {
-    let row = PacInfoBuffer::new(PacBufferType::ClientInfo, 8, 24);
-    match row.serialize(&mut clogging_of(count)) {
-        Ok(()) => None,
-        Err(fault) => Some(pac_kind(&fault)),
+// How a token is written to a device that fails behind so many bytes: with no fault, or with the device's.
+fn mic_written(alloc: Global, to: &mut Trickle) -> Option<Result<(), ErrorKind>> {
+    match MicToken::decode(alloc, &mut &*MIC).ok()?.encode(to) {
+        Ok(()) => Some(Ok(())),
+        Err(fault) => Some(Err(kind_of(&fault))),
     }
 }
 
-fn record_write_fault(count: usize) -> Option<ErrorKind> {
-    let record = LsapTokenInfoIntegrity {
-        flags: 1,
-        token_il: 0x2000,
-        machine_id: [7; 32],
-    };
-    match record.encode(&mut clogging_of(count)) {
-        Ok(()) => None,
-        Err(error) => Some(error.kind),
+const WRAP: &[u8] = b"\x05\x04\x06\xff\x00\x1c\x00\x03\x00\x00\x00\x00\x00\x00\x01\x02data";
+
+fn wrap_written(alloc: Global, to: &mut Trickle) -> Option<Result<(), ErrorKind>> {
+    match WrapToken::decode(alloc, &mut &*WRAP).ok()?.encode(to) {
+        Ok(()) => Some(Ok(())),
+        Err(fault) => Some(Err(kind_of(&fault))),
     }
+}
+
+fn record_written(to: &mut Trickle) -> Option<Result<(), ErrorKind>> {
+    let record = LsapTokenInfoIntegrity::decode(&mut &*RECORD).ok()?;
+    match record.encode(to) {
+        Ok(()) => Some(Ok(())),
+        Err(error) => Some(Err(error.kind)),
+    }
+}
+
+fn pac_written(alloc: Global, to: &mut Trickle) -> Option<Result<(), ErrorKind>> {
+    match Pac::deserialize(alloc, &mut &*PAC)
+        .ok()?
+        .serialize(alloc, to)
+    {
+        Ok(()) => Some(Ok(())),
+        Err(fault) => Some(Err(pac_kind(&fault))),
+    }
+}
+
+fn row_written(to: &mut Trickle) -> Option<Result<(), ErrorKind>> {
+    let row = PacInfoBuffer::deserialize(&mut &PAC[8..24]).ok()?;
+    match row.serialize(to) {
+        Ok(()) => Some(Ok(())),
+        Err(fault) => Some(Err(pac_kind(&fault))),
+    }
+}
+
+fn message_written(alloc: Global, to: &mut Trickle) -> Option<Result<(), ErrorKind>> {
+    match Verify::decode(alloc, VERIFY).ok()?.encode(alloc, to) {
+        Ok(()) => Some(Ok(())),
+        Err(error) => Some(Err(error.kind)),
+    }
+}
+
+// What is written.
+#[derive(Clone, Copy, Debug)]
+enum Form {
+    Mic,
+    Wrap,
+    Record,
+    Pac,
+    Row,
+    Message,
+}
+
+fn written(alloc: Global, form: Form, to: &mut Trickle) -> Option<Result<(), ErrorKind>> {
+    match form {
+        Form::Mic => mic_written(alloc, to),
+        Form::Wrap => wrap_written(alloc, to),
+        Form::Record => record_written(to),
+        Form::Pac => pac_written(alloc, to),
+        Form::Row => row_written(to),
+        Form::Message => message_written(alloc, to),
+    }
+}
+
+// Whether a writing to a device that fails behind so many bytes ends by its one failure, and writes a front of the whole; or all,
+// where the whole has no more bytes.
+fn is_front(alloc: Global, form: Form, whole: &[u8], count: usize) -> bool {
+    let mut to = Trickle::new(alloc, count, true);
+    let ended = written(alloc, form, &mut to);
+    let (end, failures) = if count < whole.len() {
+        (Err(ErrorKind::BrokenPipe), 1)
+    } else {
+        (Ok(()), 0)
+    };
+    ended == Some(end)
+        && Sink::failures(&to) == failures
+        && Some(to.taken.as_slice()) == whole.get(..count)
 }
 
 #[test]
 fn writers(rt: HostRuntime) {
-    for count in 0..16 {
-        assert!(rt;
-            row_write_fault(count) == Some(ErrorKind::BrokenPipe),
-            "behind {count}"
-        );
+    for (form, whole) in [
+        (Form::Mic, MIC),
+        (Form::Wrap, WRAP),
+        (Form::Record, RECORD),
+        (Form::Pac, PAC),
+        (Form::Row, &PAC[8..24]),
+        (Form::Message, VERIFY),
+    ] {
+        for count in 0..=whole.len() {
+            assert!(rt;
+                is_front(rt.alloc(), form, whole, count),
+                "{form:?} behind {count}"
+            );
+        }
     }
-    assert!(rt; row_write_fault(16).is_none());
-    for count in 0..40 {
-        assert!(rt;
-            record_write_fault(count) == Some(ErrorKind::BrokenPipe),
-            "behind {count}"
-        );
-    }
-    assert!(rt; record_write_fault(40).is_none());
 }

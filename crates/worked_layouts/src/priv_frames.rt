@@ -1,11 +1,11 @@
 //! Frames of an exchange that changes a password, by RFC 3244, section 2.
 
-use crate::failing::trickle_of;
 use asn1_codec::Asn1DerError;
 use krb_priv_frames::{KrbPrivFrame, KrbPrivFrameError};
 use picky_asn1_der::Asn1RawDer;
 use std::alloc::Global;
 use std::io::ErrorKind;
+use test_devices::{Drip, Trickle};
 
 // 19 bytes in all, of which the AP message, an application tag 14 around nothing, has 2.
 const FRAME: &[u8] = b"\x00\x13\x00\x01\x00\x02\x6e\x00\x75\x09priv-body";
@@ -67,7 +67,7 @@ fn refused(rt: HostRuntime) {
 }
 
 fn broken_fault(alloc: Global, bytes: &[u8], count: usize) -> Option<ErrorKind> {
-    match Frame::deserialize(alloc, &mut trickle_of(bytes, count)) {
+    match Frame::deserialize(alloc, &mut Drip::new(bytes, count)) {
         Ok(_) => None,
         Err(error) => Some(error.kind),
     }
@@ -77,7 +77,7 @@ fn broken_fault(alloc: Global, bytes: &[u8], count: usize) -> Option<ErrorKind> 
 fn failing_reader(rt: HostRuntime) {
     for count in 0..19 {
         let fault = broken_fault(rt.alloc(), FRAME, count);
-        assert!(rt; fault == Some(ErrorKind::ConnectionReset), "behind {count}");
+        assert!(rt; fault == Some(ErrorKind::BrokenPipe), "behind {count}");
     }
     assert!(rt; broken_fault(rt.alloc(), FRAME, 19).is_none());
 }
@@ -87,7 +87,7 @@ fn failing_reader(rt: HostRuntime) {
 fn failing_behind_another_version(rt: HostRuntime) {
     for count in 0..7 {
         let wanted = if count < 4 {
-            ErrorKind::ConnectionReset
+            ErrorKind::BrokenPipe
         } else {
             ErrorKind::InvalidData
         };
@@ -120,6 +120,34 @@ fn is_written(alloc: Global) -> bool {
     match written(alloc, &FRAME[6..8], &FRAME[8..]) {
         Ok(bytes) => bytes.as_slice() == FRAME,
         Err(_) => false,
+    }
+}
+
+// How a frame is written to a device that fails behind so many bytes.
+fn broken_write(alloc: Global, to: &mut Trickle) -> Option<Result<(), ErrorKind>> {
+    match Frame::deserialize(alloc, &mut &*FRAME)
+        .ok()?
+        .serialize(alloc, to)
+    {
+        Ok(()) => Some(Ok(())),
+        Err(error) => Some(Err(error.kind)),
+    }
+}
+
+fn is_front(alloc: Global, count: usize) -> bool {
+    let mut to = Trickle::new(alloc, count, true);
+    let end = if count < 19 {
+        Err(ErrorKind::BrokenPipe)
+    } else {
+        Ok(())
+    };
+    broken_write(alloc, &mut to) == Some(end) && Some(to.taken.as_slice()) == FRAME.get(..count)
+}
+
+#[test]
+fn failing_writer(rt: HostRuntime) {
+    for count in 0..20 {
+        assert!(rt; is_front(rt.alloc(), count), "behind {count}");
     }
 }
 

@@ -6,6 +6,4 @@ mod moving;
 #[cfg(test)]
 mod serving;
 #[cfg(test)]
-mod slow;
-#[cfg(test)]
 mod texts;

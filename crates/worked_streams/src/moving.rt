@@ -1,8 +1,8 @@
 //! Bytes moved whole, however the devices cut them.
 
-use crate::slow::{Drip, Trickle};
 use devices::{Sink, SinkFault, Source, Space, Watched, WholeFault, read_full, write_whole};
 use std::io::{self, ErrorKind, Read, Write};
+use test_devices::{Drip, Trickle};
 
 // Reads three bytes at most: what is answered, and whether these bytes were read.
 fn reads(drip: &mut Drip<'_>, outcome: Result<usize, ErrorKind>, wanted: &[u8]) -> bool {

@@ -2,7 +2,6 @@
 ghost use Rattle.std.specs.Prelude.{◌≡◌, ◌<◌, ◌++◌, length, take, nat_lt, if◌then◌else◌, Some, None};
 ghost use Rattle.std.proofs.Common.{sym, ◌∙◌};
 
-use crate::slow::{Drip, Trickle};
 use devices::{Sink, Source, Watched};
 use krb_frames::{
     AnswerRefusal, FRAME_LIMIT, Responder, ServeFault, WORDS_NEEDED, serve, serve_bytes,
@@ -10,6 +9,7 @@ use krb_frames::{
 use krb_moments::Moment;
 use std::alloc::{AllocError, Global};
 use std::{io, iter};
+use test_devices::{Drip, Trickle};
 
 // Replies with the first random byte and the message. A message with no byte is no request.
 pub(crate) struct Toy;

@@ -1,4 +1,6 @@
-//! Devices that move a byte a call, and fail in mid-stream.
+//! Devices for tests: they move a byte a call, and fail in mid-stream.
+#![tactic(auto)]
+
 ghost use Rattle.std.specs.Prelude.{false, None, Some, if◌then◌else◌};
 ghost use Rattle.std.specs.declared.io.ErrorKind.TheVariants.{BrokenPipe};
 
@@ -6,16 +8,16 @@ use devices::{Sink, SinkFault, Source};
 use std::alloc::Global;
 use std::io::ErrorKind;
 
-// Gives a byte a call, and fails once, at the call behind `until_failure` others.
+/// A reader that gives a byte a call, and fails once, at the call behind `until_failure` others.
 #[derive(Drop)]
-pub(crate) struct Drip<'a> {
+pub struct Drip<'a> {
     rest: &'a [u8],
     until_failure: usize,
     failures: u64,
 }
 
 impl Drip<'_> {
-    pub(crate) fn new(bytes: &[u8], until_failure: usize) -> Drip<'_> {
+    pub fn new(bytes: &[u8], until_failure: usize) -> Drip<'_> {
         Drip {
             rest: bytes,
             until_failure,
@@ -47,17 +49,18 @@ impl Source for Drip<'_> {
     }
 }
 
-// Takes a byte a call, and from `room` bytes on none, or fails.
+/// A writer that takes a byte a call. From `room` bytes on it takes none, or it fails where it `is_broken`.
 #[derive(Drop)]
-pub(crate) struct Trickle {
-    pub(crate) taken: Vec<u8>,
+pub struct Trickle {
+    /// The bytes that it took.
+    pub taken: Vec<u8>,
     room: usize,
     is_broken: bool,
     failures: u64,
 }
 
 impl Trickle {
-    pub(crate) fn new(alloc: Global, room: usize, is_broken: bool) -> Trickle {
+    pub fn new(alloc: Global, room: usize, is_broken: bool) -> Trickle {
         Trickle {
             taken: Vec::new(alloc),
             room,
