@@ -1,7 +1,7 @@
 """Refuses each request for memory of a row in turn: see refused_growths.sh.
 
-A row is a file of lines `STEP .. | WANTED`, as crates/login_rows/data has them, with a message before what is wanted where the step
-takes one. Each step that takes memory stands there twice, the one behind the other.
+A row is a file of lines `STEP .. | WANTED`, as crates/login_rows/data has them (with a message before what is wanted), or as
+crates/bench_codecs takes them behind `row`. Each step that takes memory stands there twice, the one behind the other.
 
 A row is run once with ample memory, which counts its requests, and once for each of these, which is refused. A library that is loaded
 before the C library does both, so that the programs are the proved ones.
@@ -126,7 +126,18 @@ class Scripts:
         return told, None if re.search(r"^logins\.txt: \d+ lines, \d+ differ$", output, re.M) else error
 
 
-PROGRAMS = {"login_rows": Scripts()}
+class Calls:
+    """Rows that bench_codecs plays: its arguments. It prints a line for each call."""
+
+    def words(self, row, folder):
+        return " + ".join(f"row {step}" for step in row.steps).split()
+
+    def told(self, row, output, error):
+        lines = output.splitlines()
+        return (lines, None) if len(lines) == len(row.lines) else (row.wanted, error)
+
+
+PROGRAMS = {"bench_codecs": Calls(), "login_rows": Scripts()}
 
 
 class Runs:

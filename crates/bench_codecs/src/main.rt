@@ -1,10 +1,12 @@
 //! Does a task as often as its last word says, so that the time can be taken from outside: reads or writes a message (bench/der.sh)
 //! or a part of a certificate (bench/x509.sh), derives keys, or seals or opens a megabyte (bench/sealing.sh).
 //!
-//! The arguments are `der TASK ..`, `x509 TASK ..` or `sealing TASK ..`. Further tasks may follow, each after a `+`.
+//! The arguments are `der TASK ..`, `x509 TASK ..`, `sealing TASK ..` or `row CALL ..`. Further tasks may follow, each after a `+`.
+//! A task that is refused leaves the others to be done, and status 1.
 #![tactic(auto)]
 
 mod der;
+mod rows;
 mod sealing;
 mod x509;
 
@@ -14,9 +16,18 @@ use std::env;
 
 fn main(rt: HostRuntime) -> anyhow::Result<()> {
     let words = words_of(&rt)?;
+    let mut refused = 0u64;
     for task in words.split(|word| word.as_str() == "+") {
-        let printed = outcome_of(rt.alloc(), task)?;
-        println!(rt; "{printed}")?;
+        match outcome_of(rt.alloc(), task) {
+            Ok(printed) => println!(rt; "{printed}")?,
+            Err(error) => {
+                refused = refused.saturating_add(1);
+                println!(rt; "refused: {error}")?;
+            }
+        }
+    }
+    if refused > 0 {
+        bail!("{refused} tasks are refused");
     }
     Ok(())
 }
@@ -33,12 +44,13 @@ fn words_of(rt: &HostRuntime) -> anyhow::Result<Vec<String>> {
 /// What is printed of a task once it is done.
 fn outcome_of(alloc: Global, task: &[String]) -> anyhow::Result<String> {
     let [codec, words @ ..] = task else {
-        bail!("usage: bench_codecs der|x509|sealing TASK .. [+ ..]");
+        bail!("usage: bench_codecs der|x509|sealing|row TASK .. [+ ..]");
     };
     match codec.as_str() {
         "der" => der::run(alloc, words),
         "x509" => x509::run(alloc, words),
         "sealing" => sealing::run(alloc, words),
+        "row" => rows::run(alloc, words),
         _ => bail!("no such codec: {codec}"),
     }
 }
