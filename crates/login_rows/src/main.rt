@@ -3,8 +3,10 @@
 #![tactic(auto)]
 
 mod ask;
+mod broken;
 mod line;
 mod login;
+mod many;
 mod parts;
 mod realms;
 mod services;

@@ -2,7 +2,7 @@
 
 use crate::line::Line;
 use crate::words::bytes_of;
-use crate::{ask, login, parts, realms, services, take};
+use crate::{ask, broken, login, many, parts, realms, services, take};
 use anyhow::{Context, bail};
 use krb_realm::{
     ApAsked, AsAsked, Client, Credential, GeneralizedTime, Moment, Realm, Service, TgsAsked,
@@ -145,6 +145,9 @@ fn told_by_words(
         "exchange_tag" => parts::exchange_tag(stage, alloc, words),
         "print_error" => parts::print_error(stage, alloc),
         "write_error" => parts::write_error(stage, alloc),
+        "answer_fronts" => many::answer_fronts(stage, alloc),
+        "answer_replaced" => many::answer_replaced(stage, alloc),
+        "serve_broken" => broken::serve_broken(stage, alloc),
         _ => realms::told_by_words(stage, alloc, step, words),
     }
 }
