@@ -1,0 +1,70 @@
+//! Lines of three kinds: what is read, what is written, and who is trusted. Columns are divided by tabs.
+
+use crate::read::{is_read, is_refused};
+use crate::trusted::{TrustRow, is_judged};
+use crate::written::{WrittenRow, is_written};
+use recorded_lines::Lines;
+use std::alloc::Global;
+
+/// Lines about signed data.
+pub(crate) struct SignedLines;
+
+impl Lines for SignedLines {
+    const NAME: &'static str = "lines";
+
+    fn agrees(&self, alloc: Global, line: &str) -> anyhow::Result<bool> {
+        let columns = columns_of(alloc, line)?;
+        match columns.as_slice() {
+            [_, input, _] => is_refused(alloc, *input),
+            [_, content_type, content, certificate, keys, own, wanted] => is_written(
+                alloc,
+                &WrittenRow {
+                    content_type: *content_type,
+                    content: *content,
+                    certificate: *certificate,
+                    keys: *keys,
+                    own: *own,
+                    wanted: *wanted,
+                },
+            ),
+            [_, keys, anchor, moment, realm, name, signed, wanted] => is_judged(
+                alloc,
+                &TrustRow {
+                    keys: *keys,
+                    anchor: *anchor,
+                    moment: *moment,
+                    realm: *realm,
+                    name: *name,
+                    signed: *signed,
+                    wanted: *wanted,
+                },
+            ),
+            [_, input, _, parts @ ..] => is_read(alloc, *input, parts),
+            _ => Ok(false),
+        }
+    }
+}
+
+fn columns_of(alloc: Global, line: &str) -> anyhow::Result<Vec<&str>> {
+    let mut columns = Vec::new(alloc);
+    for column in line.split('\t') {
+        columns.push(column)?;
+    }
+    Ok(columns)
+}
+
+/// The bytes of a column: hexadecimal digits, or `-` for none.
+pub(crate) fn bytes_of(alloc: Global, column: &str) -> anyhow::Result<Vec<u8>> {
+    if column == "-" {
+        return Ok(Vec::new(alloc));
+    }
+    Ok(hex::decode(alloc, column)?)
+}
+
+/// The column of some bytes.
+pub(crate) fn column_of(alloc: Global, bytes: &[u8]) -> anyhow::Result<String> {
+    if bytes.is_empty() {
+        return Ok(String::from_str(alloc, "-")?);
+    }
+    Ok(hex::encode(alloc, bytes)?)
+}

@@ -1,0 +1,41 @@
+//! Replays signed data (RFC 5652) that others made, and compares what is read, written and trusted with what stands beside it:
+//! `replay_signed FILE ..`, or the recorded files where none is named. How many columns a line has says what it is of.
+#![tactic(auto)]
+
+mod lines;
+mod read;
+mod trusted;
+mod written;
+
+use lines::SignedLines;
+use recorded_lines::replay;
+use std::env;
+
+/// The files that are replayed where no argument names one.
+const RECORDED: [&str; 5] = [
+    "read.txt",
+    "stock_clients.txt",
+    "written.txt",
+    "openssl.txt",
+    "trusted.txt",
+];
+
+fn main(rt: HostRuntime) -> anyhow::Result<()> {
+    let mut names = env::args(&rt)?;
+    let _program = names.next();
+    let Some(first) = names.next() else {
+        return replay_recorded(&rt);
+    };
+    replay(&rt, &SignedLines, &first)?;
+    for name in names {
+        replay(&rt, &SignedLines, &name)?;
+    }
+    Ok(())
+}
+
+fn replay_recorded(rt: &HostRuntime) -> anyhow::Result<()> {
+    for name in RECORDED {
+        replay(rt, &SignedLines, name)?;
+    }
+    Ok(())
+}

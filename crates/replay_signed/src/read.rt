@@ -1,0 +1,149 @@
+//! What is read of signed data.
+
+use crate::lines::{bytes_of, column_of};
+use crate::trusted::code_of;
+use anyhow::{Context, bail};
+use asn1_paths::part_at;
+use cms_signed_content::{SignedContent, SignedFault};
+use cms_signed_data::ContentInfo;
+use pkinit_trust::{JudgedContent, check_signer};
+use std::alloc::Global;
+use test_keys::GivenSignature;
+use x509_certificates::Certificate;
+use x509_spelling::{Spelled, deviations, from_bytes, to_vec};
+
+/// Where the signature's algorithm stands in the bytes.
+const ALGORITHM: [usize; 5] = [1, 0, 4, 0, 4];
+
+/// Whether the bytes are refused.
+pub(crate) fn is_refused(alloc: Global, input: &str) -> anyhow::Result<bool> {
+    let input = bytes_of(alloc, input)?;
+    match SignedContent::read(alloc, &input).err() {
+        Some(fault) => is_unreadable(fault),
+        None => Ok(false),
+    }
+}
+
+/// Whether it was the bytes that were refused.
+pub(crate) fn is_unreadable(fault: SignedFault) -> anyhow::Result<bool> {
+    match fault {
+        SignedFault::Unreadable => Ok(true),
+        SignedFault::Memory => bail!("out of memory"),
+    }
+}
+
+/// Whether the bytes are read as these parts.
+pub(crate) fn is_read(alloc: Global, input: &str, parts: &[&str]) -> anyhow::Result<bool> {
+    let input = bytes_of(alloc, input)?;
+    match SignedContent::read(alloc, &input) {
+        Ok(content) => {
+            let told = is_told(alloc, &input, &content, parts);
+            drop(content);
+            told
+        }
+        Err(fault) => Ok(!is_unreadable(fault)?),
+    }
+}
+
+fn is_told(
+    alloc: Global,
+    input: &[u8],
+    content: &SignedContent<'_>,
+    parts: &[&str],
+) -> anyhow::Result<bool> {
+    let [parts @ .., signer, digest] = parts else {
+        bail!("a line of too few columns");
+    };
+    let signs = is_signer(alloc, content)?;
+    let told = parts_of(alloc, input, content)?;
+    Ok(are_same(&told, parts) && signs == (*signer == "signer" && *digest == "digest"))
+}
+
+fn are_same(told: &[String], parts: &[&str]) -> bool {
+    told.len() == parts.len()
+        && told
+            .iter()
+            .zip(parts)
+            .all(|(text, part)| text.as_str() == *part)
+}
+
+/// The parts, each as its column.
+fn parts_of(
+    alloc: Global,
+    input: &[u8],
+    content: &SignedContent<'_>,
+) -> anyhow::Result<Vec<String>> {
+    let mut parts = Vec::new(alloc);
+    put_signed(alloc, &mut parts, content)?;
+    put_signer(alloc, &mut parts, content)?;
+    put_signature(alloc, &mut parts, input, content)?;
+    put_counts(alloc, &mut parts, input, content.certificate())?;
+    Ok(parts)
+}
+
+fn put_signed(
+    alloc: Global,
+    parts: &mut Vec<String>,
+    content: &SignedContent<'_>,
+) -> anyhow::Result<()> {
+    parts.push(content.content_type().to_text()?)?;
+    put(alloc, parts, content.content())?;
+    put(alloc, parts, content.certificate())
+}
+
+fn put_signer(
+    alloc: Global,
+    parts: &mut Vec<String>,
+    content: &SignedContent<'_>,
+) -> anyhow::Result<()> {
+    put_value(alloc, parts, content.issuer())?;
+    put(alloc, parts, content.serial().as_signed_bytes_be())?;
+    put(alloc, parts, content.signed_attributes())?;
+    put(alloc, parts, content.judged())?;
+    put(alloc, parts, content.digest())
+}
+
+fn put_signature(
+    alloc: Global,
+    parts: &mut Vec<String>,
+    input: &[u8],
+    content: &SignedContent<'_>,
+) -> anyhow::Result<()> {
+    let spelled = part_at(input, &ALGORITHM).context("no algorithm")?;
+    put(alloc, parts, spelled)?;
+    put_value(alloc, parts, content.algorithm())?;
+    put(alloc, parts, content.signature())
+}
+
+/// The deviations in the certificate, and those outside.
+fn put_counts(
+    alloc: Global,
+    parts: &mut Vec<String>,
+    input: &[u8],
+    certificate: &[u8],
+) -> anyhow::Result<()> {
+    let of_certificate = deviations::<Certificate>(alloc, certificate)?;
+    let of_all = deviations::<ContentInfo>(alloc, input)?;
+    parts.push(format!(in alloc; "{of_certificate}")?)?;
+    parts.push(format!(in alloc; "{}", of_all.saturating_sub(of_certificate))?)?;
+    Ok(())
+}
+
+fn put_value<T: Spelled>(alloc: Global, parts: &mut Vec<String>, value: &T) -> anyhow::Result<()> {
+    let written = to_vec(alloc, value)?;
+    put(alloc, parts, &written)
+}
+
+fn put(alloc: Global, parts: &mut Vec<String>, bytes: &[u8]) -> anyhow::Result<()> {
+    parts.push(column_of(alloc, bytes)?)?;
+    Ok(())
+}
+
+/// Whether the certificate is the signer's, and the digest is the content's. Every signature counts as valid.
+fn is_signer(alloc: Global, content: &SignedContent<'_>) -> anyhow::Result<bool> {
+    let certificate: Certificate = from_bytes(alloc, content.certificate())?;
+    let keys = GivenSignature { given: None };
+    let judged = check_signer(alloc, &keys, &certificate, &JudgedContent::from(content));
+    drop(certificate);
+    Ok(code_of(judged)?.is_none())
+}

@@ -1,0 +1,40 @@
+-- Key functions that sign by digests.
+use Rattle.std.specs.Prelude.{Bool, true, ◌&&◌, ◌++◌, List, Option, None}
+use Rattle.std.specs.Bool.{nat_eq}
+use Rattle.std.specs.Cmp.Lexicographic.{pointwise}
+use Rattle.std.specs.List.{list_any}
+use Rattle.std.specs.Option.{option_map}
+use Rattle.sha2.specs.Sha256.{sha256}
+use Rattle.picky_asn1.specs.Bytes.{Bytes}
+use Rattle.x509_algorithms.specs.declared.algorithm_identifier.AlgorithmIdentifier.{AlgorithmIdentifier}
+use Rattle.x509_keys.specs.declared.subject_public_key_info.SubjectPublicKeyInfo.{SubjectPublicKeyInfo}
+use Rattle.x509_keys.specs.contracts.subject_public_key_info.SubjectPublicKeyInfoPartialEq.TheImpl as key_eq
+use Rattle.key_functions.specs.KeyFunctions.{KeysRecord}
+use Rattle.key_functions.specs.declared.functions.Signed.{Signed}
+use Rattle.test_keys.specs.declared.digest_keys.KnownKey.{KnownKey}
+
+-- the signature by a key, of which the encoding is given
+abbrev pub digest_of : Bytes → Bytes → Bytes
+digest_of der signed = sha256 (der ++ signed)
+
+-- the key is known, and the signature is by it
+abbrev pub is_by : SubjectPublicKeyInfo → Bytes → Bytes → KnownKey → Bool
+is_by key signed signature known = key_eq.ghosts.eq known.key.now key && pointwise nat_eq (digest_of known.der.items signed) signature
+
+-- signatures by the known keys verify; the own key signs, if there is an algorithm to name
+abbrev pub digest_functions : Bytes → Option AlgorithmIdentifier → List KnownKey → KeysRecord
+digest_functions own algorithm known = record {
+  verifies = λ key used signed signature. list_any (is_by key signed signature) known;
+  sign = λ signed. option_map (λ named. record { algorithm = named; signature = digest_of own signed }) algorithm;
+  public_value = λ words. None;
+  agree = λ theirs words. None;
+}
+
+-- every signature verifies, and the given one is the own
+abbrev pub given_functions : Option Signed → KeysRecord
+given_functions given = record {
+  verifies = λ key used signed signature. true;
+  sign = λ signed. given;
+  public_value = λ words. None;
+  agree = λ theirs words. None;
+}
