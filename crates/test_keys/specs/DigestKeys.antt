@@ -11,6 +11,7 @@ use Rattle.x509_keys.specs.declared.subject_public_key_info.SubjectPublicKeyInfo
 use Rattle.x509_keys.specs.contracts.subject_public_key_info.SubjectPublicKeyInfoPartialEq.TheImpl as key_eq
 use Rattle.key_functions.specs.KeyFunctions.{KeysRecord}
 use Rattle.key_functions.specs.declared.functions.Signed.{Signed}
+use Rattle.test_keys.specs.declared.digest_keys.DigestKeys.{DigestKeys}
 use Rattle.test_keys.specs.declared.digest_keys.KnownKey.{KnownKey}
 
 -- the signature by a key, of which the encoding is given
@@ -29,6 +30,10 @@ digest_functions own algorithm known = record {
   public_value = λ words. None;
   agree = λ theirs words. None;
 }
+
+-- what a party with these keys does
+abbrev pub functions_of : DigestKeys → KeysRecord
+functions_of keys = digest_functions keys.own.now (option_map (λ named. named.now) keys.algorithm) keys.known.now
 
 -- every signature verifies, and the given one is the own
 abbrev pub given_functions : Option Signed → KeysRecord

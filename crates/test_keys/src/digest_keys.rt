@@ -1,6 +1,6 @@
 //! Key functions that sign by digests.
-ghost use Rattle.std.specs.Prelude.{◌≡◌, IfOk};
-ghost use Rattle.test_keys.specs.DigestKeys.{digest_of, is_by};
+ghost use Rattle.std.specs.Prelude.{◌≡◌, [], None, Some, IfOk};
+ghost use Rattle.test_keys.specs.DigestKeys.{digest_functions, digest_of, functions_of, is_by};
 
 use key_functions::{KeyFunctions, Signed, Theirs};
 use picky_asn1::wrapper::OctetStringAsn1;
@@ -31,7 +31,9 @@ pub struct DigestKeys<'a> {
 }
 
 /// A party that knows these keys, and does not sign.
-pub fn verifier<'a>(known: &'a [KnownKey<'a>]) -> DigestKeys<'a> {
+pub fn verifier<'a>(known: &'a [KnownKey<'a>]) -> DigestKeys<'a>
+    ensures { functions_of result ≡ digest_functions [] None known.now }
+{
     DigestKeys {
         own: &[],
         algorithm: None,
@@ -40,7 +42,9 @@ pub fn verifier<'a>(known: &'a [KnownKey<'a>]) -> DigestKeys<'a> {
 }
 
 /// A party that signs by the key of this encoding and names this algorithm. It knows no key.
-pub fn signer<'a>(own: &'a [u8], algorithm: &'a AlgorithmIdentifier) -> DigestKeys<'a> {
+pub fn signer<'a>(own: &'a [u8], algorithm: &'a AlgorithmIdentifier) -> DigestKeys<'a>
+    ensures { functions_of result ≡ digest_functions own.now (Some algorithm.now) [] }
+{
     DigestKeys {
         own,
         algorithm: Some(algorithm),
@@ -66,10 +70,9 @@ fn is_by(key: &SubjectPublicKeyInfo, signed: &[u8], signature: &[u8], known: &Kn
 }
 
 impl<'a> KeyFunctions for DigestKeys<'a> {
-    ghost use Rattle.std.specs.Option.{option_map};
-    ghost use Rattle.test_keys.specs.DigestKeys.{digest_functions};
+    ghost use Rattle.test_keys.specs.DigestKeys.{functions_of};
 
-    ghost functions = { λ keys. digest_functions keys.own.now (option_map (λ named. named.now) keys.algorithm) keys.known.now };
+    ghost functions = { functions_of };
 
     fn verifies(
         &self,
