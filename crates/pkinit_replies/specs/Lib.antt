@@ -1,0 +1,5 @@
+pub mod AgreedKeys
+pub mod PublicKeys
+pub mod SignedRowLaws
+pub mod WrittenOnce
+pub mod Replies

@@ -1,0 +1,59 @@
+-- What a realm replies to a client that authenticates by certificate (RFC 4556, section 3.2.3.1).
+use Rattle.std.specs.Prelude.{ℕ, ℤ, List, [], ◌∷◌, None, Result, Ok, Err, Vec}
+use Rattle.std.specs.Global.{Global}
+use Rattle.asn1_trees.specs.Tree.{der}
+use Rattle.asn1_trees.specs.Tagged.{tagged_tree}
+use Rattle.picky_asn1.specs.BitString.{Bits}
+use Rattle.picky_asn1.specs.Bytes.{Bytes}
+use Rattle.decision_tables.specs.Tables.{Table, ask, done, need}
+use Rattle.krb_types.specs.RandomBytes.{Random}
+use Rattle.krb_types.specs.Refusals.{Code}
+use Rattle.krb_types.specs.declared.constants.error_codes.TheConstants.{KRB_ERR_GENERIC}
+use Rattle.krb_types.specs.declared.refusal.Refusal.{Refusal}
+use Rattle.key_functions.specs.KeyFunctions.{KeysRecord}
+use Rattle.pkinit_messages.specs.declared.kdc_dh_key_info.KdcDhKeyInfo.{KdcDhKeyInfo}
+use Rattle.pkinit_messages.specs.declared.pa_pk_as_rep.PaPkAsRep.{PaPkAsRep}
+use Rattle.pkinit_messages.specs.declared.pa_pk_as_rep.PaPkAsRep.TheVariants.{DhInfo}
+use Rattle.pkinit_messages.specs.contracts.kdc_dh_key_info.KdcDhKeyInfoTagged.TheImpl as info_impl
+use Rattle.pkinit_messages.specs.contracts.pa_pk_as_rep.PaPkAsRepSerialize.TheImpl as reply_impl
+use Rattle.cms_signed_content.specs.Written.{IsWritten}
+use Rattle.pkinit_replies.specs.AgreedKeys.{agreement_bytes}
+use Rattle.pkinit_replies.specs.PublicKeys.{IsPublicKey, sole_public_key}
+use Rattle.pkinit_replies.specs.WrittenOnce.{one_written}
+
+-- id-pkinit-DHKeyData, 1.3.6.1.5.2.3.2
+abbrev pub dh_key_data : List ℕ
+dh_key_data = 1 ∷ 3 ∷ 6 ∷ 1 ∷ 5 ∷ 2 ∷ 3 ∷ 2 ∷ []
+
+-- KDCDHKeyInfo: the realm's public value, and the nonce of the client's authenticator. The value is used once, so it has no time
+-- at which it expires
+abbrev pub key_info_of : Bits → ℤ → KdcDhKeyInfo
+key_info_of value nonce = record {
+  subject_public_key = record { 0 = value };
+  nonce = record { 0 = nonce };
+  dh_key_expiration = record { 0 = None };
+}
+
+unfoldable pub key_info_bytes : KdcDhKeyInfo → Bytes
+key_info_bytes info = der (tagged_tree 48 info_impl.ghosts.row_tree info_impl.ghosts.row_of info)
+
+-- PA-PK-AS-REP with DHRepInfo: what is signed, and no nonce of the realm
+abbrev pub dh_reply_of : Bytes → PaPkAsRep
+dh_reply_of signed = DhInfo (record { 0 = record { dh_signed_data = record { 0 = signed }; server_dh_nonce = record { 0 = None } } })
+
+unfoldable pub dh_reply_bytes : PaPkAsRep → Bytes
+dh_reply_bytes reply = der (reply_impl.ghosts.tree reply)
+
+-- PA-PK-AS-REP to an authenticator with this nonce: the public value of the random bytes, signed by the holder of the certificate
+abbrev pub pk_as_rep : KeysRecord → Bytes → ℤ → Random → Table (Result Bytes Code)
+pk_as_rep keys certificate nonce random =
+    need (keys.public_value (agreement_bytes random)) KRB_ERR_GENERIC (λ element.
+    ask (IsPublicKey element) (sole_public_key element) (done (Err KRB_ERR_GENERIC)) (λ key.
+    ask (IsWritten keys.sign dh_key_data (key_info_bytes (key_info_of key.subject_public_key nonce)) certificate)
+    (one_written keys.sign dh_key_data (key_info_bytes (key_info_of key.subject_public_key nonce)) certificate) (done (Err KRB_ERR_GENERIC)) (λ signed.
+    done (Ok (dh_reply_bytes (dh_reply_of signed))))))
+
+-- bytes as a definition sees them
+abbrev pub as_bytes : Result (Vec ℕ Global) Refusal → Result Bytes Refusal
+as_bytes (Ok bytes) = Ok bytes.items
+as_bytes (Err refusal) = Err refusal

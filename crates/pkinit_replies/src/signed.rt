@@ -1,0 +1,66 @@
+//! What a realm signs.
+ghost use Rattle.std.specs.Prelude.{◌≡◌, IfOk, MatchOption};
+ghost use Rattle.picky_asn1.specs.Bytes.{Bytes};
+ghost use Rattle.cms_signed_content.specs.Written.{IsWritten};
+ghost use Rattle.pkinit_replies.specs.Replies.{dh_key_data, key_info_bytes, key_info_of};
+
+use cms_signed_content::{SignedContent, SignedFault};
+use key_functions::KeyFunctions;
+use krb_encoding::encoding_of;
+use picky_asn1::oid::ObjectIdentifier;
+use picky_asn1::wrapper::{BitStringAsn1, IntegerAsn1};
+use picky_asn1_der::{ExplicitContextTag, Optional};
+use pkinit_messages::KdcDhKeyInfo;
+use std::alloc::{AllocError, Global};
+
+/// The encoding of KDCDHKeyInfo with this public value and this nonce.
+#[tactic(auto, unfolding(crate::specs::Replies::key_info_bytes))]
+pub(crate) fn key_info_bytes(
+    alloc: Global,
+    value: &BitStringAsn1,
+    nonce: &IntegerAsn1,
+) -> Result<Vec<u8>, AllocError>
+    ensures { IfOk result (λ bytes. bytes.items ≡ key_info_bytes (key_info_of value.now nonce.now)) }
+{
+    let value = value.clone()?;
+    let nonce = nonce.clone()?;
+    let info = KdcDhKeyInfo {
+        subject_public_key: ExplicitContextTag(value),
+        nonce: ExplicitContextTag(nonce),
+        dh_key_expiration: Optional(None),
+    };
+    encoding_of(alloc, info)
+}
+
+/// The signed content over KDCDHKeyInfo around the certificate, or `None` if its holder doesn't sign, or it isn't one.
+pub(crate) fn signed_key_info<K: KeyFunctions>(
+    alloc: Global,
+    keys: &K,
+    certificate: &[u8],
+    info: &[u8],
+) -> Result<Option<Vec<u8>>, AllocError>
+    ensures { IfOk result (λ signed. MatchOption signed
+        ((bytes : Bytes) → IsWritten (K.functions keys.now).sign dh_key_data info.now certificate.now bytes → ⊥)
+        (λ bytes. IsWritten (K.functions keys.now).sign dh_key_data info.now certificate.now bytes.items)) }
+{
+    let content_type = dh_key_data(alloc)?;
+    match SignedContent::write(alloc, &content_type, info, certificate, keys) {
+        Ok(signed) => Ok(signed),
+        Err(fault) => {
+            if fault == SignedFault::Memory {
+                return Err(AllocError);
+            }
+            Ok(None)
+        }
+    }
+}
+
+// id-pkinit-DHKeyData.
+fn dh_key_data(alloc: Global) -> Result<ObjectIdentifier, AllocError>
+    ensures { IfOk result (λ oid. oid ≡ dh_key_data) }
+{
+    match ObjectIdentifier::from_arcs(alloc, &[1, 3, 6, 1, 5, 2, 3, 2]) {
+        Ok(oid) => Ok(oid),
+        Err(_) => Err(AllocError),
+    }
+}
