@@ -1,0 +1,27 @@
+-- Who is trusted, as the table of requests tells it.
+use Rattle.std.proofs.Common.{◌≡◌, Ok, Err, inl, inr, refl, sym, subst}
+use Rattle.key_functions.specs.KeyFunctions.{KeysRecord}
+use Rattle.cms_signed_content.specs.SignedParts.{SignedParts}
+use Rattle.krb_types.specs.Refusals.{IsJudged}
+use Rattle.krb_types.specs.declared.refusal.Refusal.{Refusal}
+use Rattle.pkinit_trust.specs.Expected.{ExpectedRecord}
+use Rattle.pkinit_trust.specs.Judged.{JudgedRecord}
+use Rattle.pkinit_trust.specs.Refusals.{IsOutcome, request_refusal}
+use Rattle.pkinit_trust.specs.SignedContents.{judged_in}
+use Rattle.pkinit_trust.specs.Trusted.{trusted}
+use Rattle.pkinit_trust.specs.declared.refusal.TrustFault.{TrustFault}
+use Rattle.pkinit_trust.specs.declared.refusal.TrustFault.TheVariants.{Refused, Memory}
+use Rattle.pkinit_requests.specs.PkinitTable.{signed_by_client}
+
+module _ (keys : KeysRecord) (expected : ExpectedRecord) (content : SignedParts) (judged : JudgedRecord) (same : judged ≡ judged_in content) where
+  pub signed : (trusted keys expected judged).gives (Ok tt) → IsJudged (signed_by_client keys expected content).gives (Ok tt)
+  signed is = inl (tt, subst (λ (j : JudgedRecord). (trusted keys expected j).gives (Ok tt)) same is, refl)
+
+  refused : (fault : TrustFault) → IsOutcome (trusted keys expected judged).gives (Err fault) → IsJudged (signed_by_client keys expected content).gives (Err (request_refusal fault))
+  refused (Refused refusal) is = inr (refusal, subst (λ (j : JudgedRecord). (trusted keys expected j).gives (Err refusal)) same is, refl)
+  refused Memory is = tt
+
+  pub refused_as : (fault : TrustFault) (refusal : Refusal) → refusal ≡ request_refusal fault → IsOutcome (trusted keys expected judged).gives (Err fault)
+      → IsJudged (signed_by_client keys expected content).gives (Err refusal)
+  refused_as fault refusal is outcome =
+      subst (λ (r : Refusal). IsJudged (signed_by_client keys expected content).gives (Err r)) (sym is) (refused fault outcome)

@@ -1,0 +1,64 @@
+-- What a client authenticates by (RFC 4556, section 3.2.1).
+use Rattle.std.specs.Prelude.{Bool, false, Option, None, Some, [], ◌∷◌}
+use Rattle.std.specs.Bool.{nat_eq}
+use Rattle.std.specs.Option.{option_map}
+use Rattle.std.specs.Cmp.Lexicographic.{pointwise}
+use Rattle.std.proofs.Common.{sym, ◌∙◌}
+use Rattle.sha1.specs.Sha1.{sha1}
+use Rattle.asn1_trees.specs.Tree.{Writes, der}
+use Rattle.asn1_trees.specs.Tagged.{tagged_tree}
+use Rattle.asn1_trees.proofs.Tagged.{tagged-injective}
+use Rattle.asn1_elements.specs.Raw.{Raw}
+use Rattle.picky_asn1.specs.Bytes.{Bytes}
+use Rattle.picky_asn1.specs.GeneralizedTime.{seconds_of}
+use Rattle.decision_tables.specs.One.{IsSole}
+use Rattle.krb_moments.specs.Times.{moment_at}
+use Rattle.krb_moments.specs.Units.{Micros}
+use Rattle.krb_messages.specs.Trees.{kdc_req_body_tree}
+use Rattle.krb_messages.specs.declared.messages.kdc_req_body.KdcReqBody.{KdcReqBody}
+use Rattle.pkinit_auth_packs.specs.declared.auth_pack.AuthPack.{AuthPack}
+use Rattle.pkinit_messages.specs.declared.pa_pk_as_req.PaPkAsReq.{PaPkAsReq}
+use Rattle.pkinit_messages.specs.contracts.pa_pk_as_req.PaPkAsReqTagged.TheImpl as request_impl
+use Rattle.pkinit_requests.specs.contracts.auth_packs.Asn1RawDerAuthPackEncoding.TheImpl as pack_impl
+
+-- the bytes are the one encoding of the PA-PK-AS-REQ
+unfoldable pub IsPaPkAsReq : Bytes → PaPkAsReq → Type 0
+IsPaPkAsReq bytes request = Writes (tagged_tree 48 request_impl.ghosts.row_tree request_impl.ghosts.row_of) request bytes
+
+pub sole_pa_pk_as_req : (bytes : Bytes) → IsSole (IsPaPkAsReq bytes)
+unfolding IsPaPkAsReq
+sole_pa_pk_as_req bytes v w p q =
+    tagged-injective 48 request_impl.ghosts.row_tree request_impl.ghosts.row_laws request_impl.ghosts.row_of request_impl.ghosts.one_row v w p.0 q.0 (sym p.1 ∙ q.1)
+
+-- the bytes are the one encoding of the AuthPack, of which the client's public value is any element
+unfoldable pub IsAuthPack : Bytes → AuthPack Raw → Type 0
+IsAuthPack bytes pack = Writes pack_impl.ghosts.pack_tree pack bytes
+
+pub sole_auth_pack : (bytes : Bytes) → IsSole (IsAuthPack bytes)
+unfolding IsAuthPack
+sole_auth_pack bytes v w p q = pack_impl.ghosts.pack_injective v w p.0 q.0 (sym p.1 ∙ q.1)
+
+-- the content octets of id-pkinit-authData, 1.3.6.1.5.2.3.1
+abbrev pub auth_data : Bytes
+auth_data = 0x2B ∷ 0x06 ∷ 0x01 ∷ 0x05 ∷ 0x02 ∷ 0x03 ∷ 0x01 ∷ []
+
+-- the client's public value
+abbrev pub value_in : AuthPack Raw → Option Raw
+value_in pack = option_map (λ tagged. tagged.0) pack.client_public_value.0
+
+-- the client's time, or none where its microseconds are no part of a second
+unfoldable pub time_in : AuthPack Raw → Option Micros
+time_in pack = moment_at (seconds_of pack.pk_authenticator.0.ctime.0.0) pack.pk_authenticator.0.cusec.0
+
+-- the one encoding of a request's body
+unfoldable pub body_bytes : KdcReqBody → Bytes
+body_bytes body = der (kdc_req_body_tree body)
+
+-- the checksum is there, and is the SHA-1 digest of the bytes
+abbrev pub is_sha1_of : Bytes → Option Bytes → Bool
+is_sha1_of bytes None = false
+is_sha1_of bytes (Some checksum) = pointwise nat_eq checksum (sha1 bytes)
+
+-- the authenticator is of the request with this body
+abbrev pub covers : KdcReqBody → AuthPack Raw → Bool
+covers body pack = is_sha1_of (body_bytes body) (option_map (λ tagged. tagged.0) pack.pk_authenticator.0.pa_checksum.0)

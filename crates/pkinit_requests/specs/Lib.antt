@@ -1,0 +1,4 @@
+pub mod AuthPacks
+pub mod Asked
+pub mod Calls
+pub mod PkinitTable

@@ -1,0 +1,95 @@
+//! What a client asks for by certificate.
+ghost use Rattle.std.specs.Prelude.{◌≡◌, IfOk};
+ghost use Rattle.std.specs.Option.{option_copied, option_map};
+ghost use Rattle.krb_types.specs.Refusals.{IsJudged};
+ghost use Rattle.pkinit_requests.specs.AuthPacks.{body_bytes, covers, is_sha1_of, time_in, value_in};
+ghost use Rattle.pkinit_requests.specs.PkinitTable.{asked_by};
+
+use crate::parts::Asked;
+use krb_messages::messages::KdcReqBody;
+use krb_moments::{Moment, moment_at};
+use krb_types::Refusal;
+use krb_types::constants::error_codes;
+use picky_asn1::wrapper::OctetStringAsn1;
+use picky_asn1_der::{Asn1RawDer, to_vec};
+use pkinit_auth_packs::AuthPack;
+use sha1::Sha1;
+use std::alloc::{AllocError, Global};
+
+/// What the AuthPack asks for, if it is of the request with this body.
+pub(crate) fn asked_by<'a>(
+    alloc: Global,
+    body: &KdcReqBody,
+    pack: &'a AuthPack<Asn1RawDer>,
+) -> Result<Asked<'a>, Refusal>
+    ensures { IsJudged (asked_by body.now pack.now).gives result }
+{
+    let Some(value) = value_in(pack) else {
+        return Err(Refusal::Krb(error_codes::KDC_ERR_PREAUTH_FAILED));
+    };
+    let Some(time) = time_in(pack) else {
+        return Err(Refusal::Krb(error_codes::KDC_ERR_PREAUTH_FAILED));
+    };
+    if !covers(alloc, body, pack)? {
+        return Err(Refusal::Krb(error_codes::KDC_ERR_PREAUTH_FAILED));
+    }
+    let nonce = &pack.pk_authenticator.0.nonce.0;
+    Ok(Asked { value, time, nonce })
+}
+
+fn value_in(pack: &AuthPack<Asn1RawDer>) -> Option<&Asn1RawDer>
+    ensures { option_copied result ≡ value_in pack.now }
+{
+    match &pack.client_public_value.0 {
+        Some(tagged) => Some(&tagged.0),
+        None => None,
+    }
+}
+
+#[tactic(auto, unfolding(crate::specs::AuthPacks::time_in))]
+fn time_in(pack: &AuthPack<Asn1RawDer>) -> Option<Moment>
+    ensures { result ≡ time_in pack.now }
+{
+    let authenticator = &pack.pk_authenticator.0;
+    moment_at(authenticator.ctime.0.0, &authenticator.cusec.0)
+}
+
+// The authenticator has the SHA-1 digest of the body.
+fn covers(alloc: Global, body: &KdcReqBody, pack: &AuthPack<Asn1RawDer>) -> Result<bool, AllocError>
+    ensures { IfOk result (λ is. is ≡ covers body.now pack.now) }
+{
+    let bytes = body_bytes(alloc, body)?;
+    Ok(is_sha1_of(&bytes, checksum_in(pack)))
+}
+
+fn checksum_in(pack: &AuthPack<Asn1RawDer>) -> Option<&OctetStringAsn1>
+    ensures { option_copied result ≡ option_map (λ tagged. tagged.0) pack.now.pk_authenticator.0.pa_checksum.0 }
+{
+    match &pack.pk_authenticator.0.pa_checksum.0 {
+        Some(tagged) => Some(&tagged.0),
+        None => None,
+    }
+}
+
+fn is_sha1_of(bytes: &[u8], checksum: Option<&OctetStringAsn1>) -> bool
+    ensures { result ≡ is_sha1_of bytes.now (option_copied checksum.entry) }
+{
+    match checksum {
+        Some(checksum) => {
+            let digest = Sha1::digest(bytes);
+            checksum.as_bytes() == digest.as_slice()
+        }
+        None => false,
+    }
+}
+
+// The body's one encoding.
+#[tactic(auto, unfolding(crate::specs::AuthPacks::body_bytes))]
+fn body_bytes(alloc: Global, body: &KdcReqBody) -> Result<Vec<u8>, AllocError>
+    ensures { IfOk result (λ bytes. bytes.items ≡ body_bytes body.now) }
+{
+    let Ok(bytes) = to_vec(alloc, body) else {
+        return Err(AllocError);
+    };
+    Ok(bytes)
+}

@@ -1,0 +1,21 @@
+//! The encoding of an AuthPack with any public value.
+use picky_asn1_der::{Asn1RawDer, Serialize};
+use pkinit_auth_packs::AuthPack;
+
+// How an AuthPack with a public value of this type is encoded.
+pub(crate) trait AuthPackEncoding {
+    ghost use Rattle.asn1_elements.specs.Raw.{Raw};
+    ghost use Rattle.asn1_trees.specs.Tree.{Tree};
+    ghost use Rattle.asn1_trees.proofs.Spelling.{IsInjective};
+    ghost use Rattle.pkinit_auth_packs.specs.declared.auth_pack.AuthPack.{AuthPack};
+
+    ghost pack_tree: { AuthPack Raw → Tree };
+
+    ghost pack_injective: { IsInjective pack_tree };
+}
+
+impl AuthPackEncoding for Asn1RawDer {
+    ghost pack_tree = { ⟦<AuthPack<Asn1RawDer> as Serialize>⟧.tree };
+
+    ghost pack_injective = { ⟦<AuthPack<Asn1RawDer> as Serialize>⟧.injective };
+}

@@ -1,0 +1,15 @@
+//! AS requests of clients that authenticate by certificate (RFC 4556, section 3.2.2): the rows of the AS exchange's table for
+//! padata of the type PA-PK-AS-REQ, and the error code of each.
+#![tactic(auto)]
+
+mod asked;
+mod auth_packs;
+mod call;
+pub mod laws;
+mod parts;
+mod reading;
+mod signer;
+mod table;
+
+pub use call::PkinitCall;
+pub use table::{Agreed, judge_pk_as_req};

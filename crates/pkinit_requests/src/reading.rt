@@ -1,0 +1,32 @@
+//! Reading what a client authenticates by.
+ghost use Rattle.std.specs.Prelude.{IfOk};
+ghost use Rattle.krb_opening.specs.Found.{IsFound};
+ghost use Rattle.pkinit_requests.specs.AuthPacks.{IsAuthPack, IsPaPkAsReq};
+
+use krb_opening::read_whole;
+use picky_asn1_der::Asn1RawDer;
+use pkinit_auth_packs::AuthPack;
+use pkinit_messages::PaPkAsReq;
+use std::alloc::{AllocError, Global};
+
+/// The PA-PK-AS-REQ that the bytes are, or `None`.
+#[tactic(auto, unfolding(crate::specs::AuthPacks::IsPaPkAsReq))]
+pub(crate) fn read_pa_pk_as_req(
+    alloc: Global,
+    bytes: &[u8],
+) -> Result<Option<PaPkAsReq>, AllocError>
+    ensures { IfOk result (IsFound (IsPaPkAsReq bytes.now)) }
+{
+    read_whole(alloc, bytes)
+}
+
+/// The AuthPack that the bytes are, or `None`.
+#[tactic(auto, unfolding(crate::specs::AuthPacks::IsAuthPack))]
+pub(crate) fn read_auth_pack(
+    alloc: Global,
+    bytes: &[u8],
+) -> Result<Option<AuthPack<Asn1RawDer>>, AllocError>
+    ensures { IfOk result (IsFound (IsAuthPack bytes.now)) }
+{
+    read_whole(alloc, bytes)
+}

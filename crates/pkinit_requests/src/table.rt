@@ -1,0 +1,190 @@
+//! Judging a request by certificate, part by part.
+ghost use Rattle.std.specs.Prelude.{◌≡◌, ◌≤◌, length};
+ghost use Rattle.krb_types.specs.Refusals.{IsJudged};
+ghost use Rattle.pkinit_requests.specs.Calls.{agreed_as, call_of, judging_of};
+ghost use Rattle.pkinit_requests.specs.PkinitTable.{agreed_on, is_auth_data, of_auth_pack, of_content, of_request, of_signed, pkinit_table};
+
+use crate::asked::asked_by;
+use crate::call::{Judging, PkinitCall};
+use crate::parts::Asked;
+use crate::reading::{read_auth_pack, read_pa_pk_as_req};
+use crate::signer::check_signed;
+use cms_signed_content::{SignedContent, SignedFault};
+use key_functions::{KeyFunctions, Theirs};
+use krb_constants::error_codes::KDC_ERR_KEY_TOO_WEAK;
+use krb_types::Refusal;
+use krb_types::constants::error_codes;
+use picky_asn1_der::Asn1RawDer;
+use pkinit_auth_packs::AuthPack;
+use pkinit_replies::pk_as_rep;
+use pkinit_trust::ExpectedSigner;
+use std::alloc::Global;
+
+/// The content octets of id-pkinit-authData, 1.3.6.1.5.2.3.1.
+const AUTH_DATA: [u8; 7] = [0x2B, 0x06, 0x01, 0x05, 0x02, 0x03, 0x01];
+
+/// What client and realm agree on.
+#[derive(Drop)]
+pub struct Agreed {
+    /// The shared secret.
+    pub secret: Vec<u8>,
+    /// The data of the padata PA-PK-AS-REP.
+    pub reply: Vec<u8>,
+}
+
+/// What the data of a padata PA-PK-AS-REQ agrees on, or the error code of the first row that refuses it (RFC 4556, section
+/// 3.2.2).
+#[tactic(auto, unfolding(crate::specs::PkinitTable::pkinit_table))]
+pub fn judge_pk_as_req<K: KeyFunctions>(
+    alloc: Global,
+    keys: &K,
+    call: &PkinitCall<'_>,
+    padata: &[u8],
+) -> Result<Agreed, Refusal>
+    requires long { 128 ≤ length call.now.random.now }
+    requires near { call.now.skew ≤ 86400000000 }
+    ensures { IsJudged (pkinit_table (K.functions keys.now) (call_of call.now) padata.now).gives (agreed_as result) }
+{
+    let Some(anchor) = call.anchor else {
+        return Err(Refusal::Krb(error_codes::KDC_ERR_PADATA_TYPE_NOSUPP));
+    };
+    let Some(certificate) = call.certificate else {
+        return Err(Refusal::Krb(error_codes::KDC_ERR_PADATA_TYPE_NOSUPP));
+    };
+    let judging = Judging {
+        expected: ExpectedSigner {
+            realm: call.realm,
+            name: call.client,
+            anchor,
+            moment: call.moment,
+        },
+        certificate,
+        skew: call.skew,
+        body: call.body,
+        random: call.random,
+    };
+    judge_request(alloc, keys, &judging, padata)
+}
+
+// By an anchor and a certificate.
+fn judge_request<K: KeyFunctions>(
+    alloc: Global,
+    keys: &K,
+    judging: &Judging<'_>,
+    padata: &[u8],
+) -> Result<Agreed, Refusal>
+    requires long { 128 ≤ length judging.now.random.now }
+    requires near { judging.now.skew ≤ 86400000000 }
+    ensures { IsJudged (of_request (K.functions keys.now) (judging_of judging.now) padata.now).gives (agreed_as result) }
+{
+    let Some(request) = read_pa_pk_as_req(alloc, padata)? else {
+        return Err(Refusal::Krb(error_codes::KDC_ERR_PREAUTH_FAILED));
+    };
+    let judged = judge_signed(alloc, keys, judging, request.signed_auth_pack.0.as_bytes());
+    drop(request);
+    judged
+}
+
+// Of the bytes of signed content.
+fn judge_signed<K: KeyFunctions>(
+    alloc: Global,
+    keys: &K,
+    judging: &Judging<'_>,
+    bytes: &[u8],
+) -> Result<Agreed, Refusal>
+    requires long { 128 ≤ length judging.now.random.now }
+    requires near { judging.now.skew ≤ 86400000000 }
+    ensures { IsJudged (of_signed (K.functions keys.now) (judging_of judging.now) bytes.now).gives (agreed_as result) }
+{
+    match SignedContent::read(alloc, bytes) {
+        Ok(content) => {
+            let judged = judge_content(alloc, keys, judging, &content);
+            drop(content);
+            judged
+        }
+        Err(fault) => {
+            if fault == SignedFault::Memory {
+                return Err(Refusal::Memory);
+            }
+            Err(Refusal::Krb(error_codes::KDC_ERR_PREAUTH_FAILED))
+        }
+    }
+}
+
+// Of signed content.
+fn judge_content<K: KeyFunctions>(
+    alloc: Global,
+    keys: &K,
+    judging: &Judging<'_>,
+    content: &SignedContent<'_>,
+) -> Result<Agreed, Refusal>
+    requires long { 128 ≤ length judging.now.random.now }
+    requires near { judging.now.skew ≤ 86400000000 }
+    ensures { IsJudged (of_content (K.functions keys.now) (judging_of judging.now) content.now).gives (agreed_as result) }
+{
+    if !is_auth_data(content) {
+        return Err(Refusal::Krb(error_codes::KDC_ERR_PREAUTH_FAILED));
+    }
+    let Some(pack) = read_auth_pack(alloc, content.content())? else {
+        return Err(Refusal::Krb(error_codes::KDC_ERR_PREAUTH_FAILED));
+    };
+    let judged = judge_auth_pack(alloc, keys, judging, content, &pack);
+    drop(pack);
+    judged
+}
+
+// The content is an AuthPack, by its type.
+fn is_auth_data(content: &SignedContent<'_>) -> bool
+    ensures { result ≡ is_auth_data content.now }
+{
+    content.content_type().as_bytes() == AUTH_DATA.as_slice()
+}
+
+// Of an AuthPack.
+fn judge_auth_pack<K: KeyFunctions>(
+    alloc: Global,
+    keys: &K,
+    judging: &Judging<'_>,
+    content: &SignedContent<'_>,
+    pack: &AuthPack<Asn1RawDer>,
+) -> Result<Agreed, Refusal>
+    requires long { 128 ≤ length judging.now.random.now }
+    requires near { judging.now.skew ≤ 86400000000 }
+    ensures { IsJudged (of_auth_pack (K.functions keys.now) (judging_of judging.now) content.now pack.now).gives (agreed_as result) }
+{
+    let asked = asked_by(alloc, judging.body, pack)?;
+    check_signed(alloc, keys, &judging.expected, content)?;
+    agree_on(alloc, keys, judging, &asked)
+}
+
+// With what the client asks for.
+fn agree_on<K: KeyFunctions>(
+    alloc: Global,
+    keys: &K,
+    judging: &Judging<'_>,
+    asked: &Asked<'_>,
+) -> Result<Agreed, Refusal>
+    requires long { 128 ≤ length judging.now.random.now }
+    requires near { judging.now.skew ≤ 86400000000 }
+    ensures { IsJudged (agreed_on (K.functions keys.now) (judging_of judging.now) asked.now).gives (agreed_as result) }
+{
+    if judging
+        .expected
+        .moment
+        .is_far_from(asked.time, judging.skew)
+    {
+        return Err(Refusal::Krb(error_codes::KRB_AP_ERR_SKEW));
+    }
+    let theirs = Theirs::Whole(asked.value);
+    let Some(secret) = keys.agree(alloc, theirs, &judging.random[64..128])? else {
+        return Err(Refusal::Krb(KDC_ERR_KEY_TOO_WEAK));
+    };
+    let reply = pk_as_rep(
+        alloc,
+        keys,
+        judging.certificate,
+        asked.nonce,
+        judging.random,
+    )?;
+    Ok(Agreed { secret, reply })
+}
