@@ -1,16 +1,21 @@
-//! A first use: a realm's reply to a recorded request, a login by password, and a service that admits the login once.
+//! A first use: a realm's reply to a recorded request, logins by password and by certificate, and a service that admits each once.
 //!
 //! `rt` is the machine: it has memory, random bytes and standard output.
 #![tactic(auto)]
 
+mod certificate_run;
 mod replies;
 mod stored_run;
+mod toy_keys;
 
 use anyhow::Context;
+use certificate_run::log_in_by_certificate;
 use krb_realm::{
-    Admission, AsAsked, CipherSuite, Client, Credential, Moment, Realm, Service, Settings,
+    Admission, AsAsked, CipherSuite, Client, Credential, KeyFunctions, Moment, NoKeys, Realm,
+    Service, Settings,
 };
 use replies::print_reply;
+use results::if_passed;
 use std::alloc::Global;
 use std::random::RandomSource;
 use stored_run::answer_kinit;
@@ -27,23 +32,55 @@ const SUITE: CipherSuite = CipherSuite::Aes256CtsHmacSha196;
 
 fn main(rt: HostRuntime) -> anyhow::Result<()> {
     answer_kinit(&rt, now()?)?;
-    let host_key = random_bytes::<32>(&rt)?;
-    let realm = make_realm(&rt, &host_key)?;
-    let client = make_client(rt.alloc())?;
     println!(rt; "a user logs in by password:")?;
-    let credential = log_in(&rt, &realm, &client)?;
-    use_service(&rt, &host_key, &client, &credential)
+    log_in_by_password(&rt)?;
+    println!(rt; "a user logs in by certificate:")?;
+    log_in_by_certificate(&rt)
+}
+
+/// The client asks its realm for a ticket by its password, and uses it. That needs no key functions.
+fn log_in_by_password(rt: &HostRuntime) -> anyhow::Result<()> {
+    let host_key = random_bytes::<32>(rt)?;
+    let realm = make_realm(rt, &host_key)?;
+    let used = use_realm(rt, &realm, &host_key);
+    drop(realm);
+    used
+}
+
+fn use_realm(rt: &HostRuntime, realm: &Realm, host_key: &[u8]) -> anyhow::Result<()> {
+    let client = make_client(rt.alloc())?;
+    let used = use_ticket(rt, realm, &client, host_key, &NoKeys);
+    drop(client);
+    used
+}
+
+/// The client logs in, and presents its ticket to the service.
+fn use_ticket<K: KeyFunctions>(
+    rt: &HostRuntime,
+    realm: &Realm,
+    client: &Client,
+    host_key: &[u8],
+    keys: &K,
+) -> anyhow::Result<()> {
+    let credential = log_in(rt, realm, client, keys)?;
+    let used = use_service(rt, host_key, client, &credential);
+    drop(credential);
+    used
 }
 
 /// The realm, with the account of a user by password and that of a service by key.
 fn make_realm(rt: &HostRuntime, host_key: &[u8]) -> anyhow::Result<Realm> {
-    let alloc = rt.alloc();
-    let settings = Settings::new(300, 36_000)?; // seconds of skew, and of a ticket's life
     let realm_key = random_bytes::<32>(rt)?;
-    let mut realm = Realm::new(alloc, REALM, SUITE, &realm_key, settings)?;
+    let settings = Settings::new(rt.alloc(), 300, 36_000, None, None)?; // seconds of skew, and of a ticket's life
+    let mut realm = Realm::new(rt.alloc(), REALM, SUITE, &realm_key, settings)?;
+    let added = add_accounts(rt.alloc(), &mut realm, host_key);
+    if_passed(realm, added)
+}
+
+fn add_accounts(alloc: Global, realm: &mut Realm, host_key: &[u8]) -> anyhow::Result<()> {
     realm.add_account_by_password(alloc, &name_of(alloc, USER)?, SUITE, PASSWORD)?;
     realm.add_account_by_key(alloc, &name_of(alloc, HOST)?, SUITE, host_key)?;
-    Ok(realm)
+    Ok(())
 }
 
 fn make_client(alloc: Global) -> anyhow::Result<Client> {
@@ -53,21 +90,30 @@ fn make_client(alloc: Global) -> anyhow::Result<Client> {
 }
 
 /// The client asks its realm for a ticket for the service, and takes the reply.
-fn log_in(rt: &HostRuntime, realm: &Realm, client: &Client) -> anyhow::Result<Credential> {
-    let (request, asked) = ask_realm(rt, client)?;
+fn log_in<K: KeyFunctions>(
+    rt: &HostRuntime,
+    realm: &Realm,
+    client: &Client,
+    keys: &K,
+) -> anyhow::Result<Credential> {
+    let (request, asked) = ask_realm(rt, client, keys)?;
     let random = random_bytes::<128>(rt)?;
-    let reply = realm.answer(rt.alloc(), &request, now()?, &random)?;
+    let reply = realm.answer(rt.alloc(), &request, now()?, &random, keys)?;
     print_reply(rt, &reply)?;
-    let credential = client.take_as_reply(rt.alloc(), &asked, &reply)?;
+    let credential = client.take_as_reply(rt.alloc(), &asked, &reply, keys)?;
     Ok(credential)
 }
 
 /// The client's request to its realm, and what the client has to remember for the reply.
-fn ask_realm(rt: &HostRuntime, client: &Client) -> anyhow::Result<(Vec<u8>, AsAsked)> {
+fn ask_realm<K: KeyFunctions>(
+    rt: &HostRuntime,
+    client: &Client,
+    keys: &K,
+) -> anyhow::Result<(Vec<u8>, AsAsked)> {
     let host = name_of(rt.alloc(), HOST)?;
     let till = moment_of(b"20000101100000Z")?.second();
     let random = random_bytes::<96>(rt)?;
-    let asked = client.as_request(rt.alloc(), &host, till, now()?, &random)?;
+    let asked = client.as_request(rt.alloc(), &host, till, now()?, &random, keys)?;
     Ok(asked)
 }
 

@@ -1,7 +1,7 @@
 //! The stored run: a realm whose only account is its own service, and a request that a stock client sent.
 
 use crate::replies::print_reply;
-use krb_realm::{CipherSuite, Moment, Realm, Settings};
+use krb_realm::{CipherSuite, Moment, NoKeys, Realm, Settings};
 use std::alloc::Global;
 
 /// The AS-REQ that MIT's kinit 1.20 sent for the client `a`, in hexadecimal.
@@ -15,13 +15,13 @@ const REQUEST: &str = concat!(
 pub fn answer_kinit(rt: &HostRuntime, moment: Moment) -> anyhow::Result<()> {
     let request = hex::decode(rt.alloc(), REQUEST)?;
     let realm = make_realm(rt.alloc())?;
-    let reply = realm.answer(rt.alloc(), &request, moment, &[0; 128])?;
+    let reply = realm.answer(rt.alloc(), &request, moment, &[0; 128], &NoKeys)?;
     println!(rt; "kinit asks the realm R for a ticket, as a client that has no account:")?;
     print_reply(rt, &reply)
 }
 
 fn make_realm(alloc: Global) -> anyhow::Result<Realm> {
-    let settings = Settings::new(300, 36_000)?; // seconds of skew, and of a ticket's life
+    let settings = Settings::new(alloc, 300, 36_000, None, None)?; // seconds of skew, and of a ticket's life
     let suite = CipherSuite::Aes256CtsHmacSha196;
     let realm = Realm::new(alloc, b"R", suite, &[0; 32], settings)?;
     Ok(realm)

@@ -1,1 +1,2 @@
+pub mod AgreedKeyLemmas
 pub mod AgreementLemmas

@@ -1,2 +1,3 @@
+pub mod AgreedKeys
 pub mod Agreement
 pub mod Secrets

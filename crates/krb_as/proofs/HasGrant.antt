@@ -47,7 +47,7 @@ has_ticket_reply : (grant : Grant) (under : ReplyKeyRecord) (service : AccountRe
 has_ticket_reply grant under service random sized key_bytes service_key long random_bytes written =
     let ticket = has_data service.suite service.key (Some service.number) 2 32 random (ticket_part_bytes (ticket_part grant)) service_key.sized service_key.bytes (omega arith) random_bytes written.ticket in
     let reply = has_data under.suite under.key under.number under.usage 48 random (reply_part_bytes under.exchange (reply_part grant)) sized key_bytes (omega arith) random_bytes written.reply in (
-      kdc_reply_bytes under.exchange (kdc_reply_of under.exchange grant (ticket_of grant ticket.0) reply.0),
+      kdc_reply_bytes under.exchange (kdc_reply_of under.exchange under.pk_as_rep grant (ticket_of grant ticket.0) reply.0),
       record { ticket_data = ticket.0; ticket_sealed = ticket.1; reply_data = reply.0; reply_sealed = reply.1; encoding = refl },
     )
 

@@ -1,6 +1,5 @@
 -- The table of AS requests has an outcome: each part of it has one.
-use Rattle.std.proofs.Common.{◌≡◌, ◌<◌, ℕ, ◌^◌, Bool, true, false, not, List, Option, None, Some, Result, Ok, Err}
-use Rattle.std.specs.Option.{is_some}
+use Rattle.std.proofs.Common.{◌≡◌, ◌<◌, ℕ, ◌^◌, Bool, true, false, not, List, length, Option, None, Some, Result, Ok, Err, refl, sym, subst, inl, inr}
 use Rattle.picky_asn1.specs.Numbers.{is_number}
 use Rattle.krb_moments.specs.Skew.{is_far}
 use Rattle.krb_crypto.specs.declared.suite.CipherSuite.{CipherSuite}
@@ -17,8 +16,16 @@ use Rattle.decision_tables.proofs.Outcomes.{HasOutcome, has_asked, has_done, has
 use Rattle.krb_preauth.specs.Entries.{first_of}
 use Rattle.krb_preauth.specs.Stamps.{IsStamp, moment_of, sole_stamp}
 use Rattle.krb_tickets.specs.declared.reply.Exchange.TheVariants.{As}
-use Rattle.krb_as.specs.AsTable.{as_table, is_later, is_listed, possible, preauthenticated}
-use Rattle.krb_as.specs.Call.{CallRecord, skew_of}
+use Rattle.krb_blocks.specs.Bytes.{IsBytes}
+use Rattle.krb_crypto.specs.Suites.{cipher_key_size}
+use Rattle.krb_types.specs.Names.{components}
+use Rattle.krb_tickets.specs.ReplyKeys.{ReplyKeyRecord, agreed_reply_key, as_reply_key}
+use Rattle.krb_tickets.specs.declared.reply.Exchange.{Exchange}
+use Rattle.krb_agreement.specs.AgreedKeys.{agreed_key}
+use Rattle.krb_agreement.proofs.AgreedKeyLemmas.{agreed_key-sized, agreed_key-bytes}
+use Rattle.krb_pkinit.specs.Rows.{PkinitRows}
+use Rattle.krb_as.specs.AsTable.{as_table, authenticated, authenticated_by, is_later, is_listed, possible, timestamped}
+use Rattle.krb_as.specs.Call.{CallRecord, pkinit_call, skew_of}
 use Rattle.krb_as.specs.Calls.{IsCall, IsKeyed}
 use Rattle.krb_as.specs.Grants.{Principals, first_ticket, granted}
 use Rattle.krb_as.specs.Requests.{addressed, client_of, entries_of, has_refused_option, is_postdated, lasting, service_of}
@@ -60,21 +67,50 @@ near call stamp = need (moment_of stamp) 24 (λ time. refuse (is_far (skew_of ca
 abbrev stamped : CallRecord → AccountRecord → List ℕ → Table (Result (Unit {0}) ℕ)
 stamped call client entry = ask (IsStamp client entry) (sole_stamp client entry) (done (Err 24)) (near call)
 
-has_preauthenticated : (call : CallRecord) (client : AccountRecord) (entries : List PaData) → HasOutcome (preauthenticated call client entries)
-has_preauthenticated call client entries =
-    let none : Table (Result (Unit {0}) ℕ) = done (Err 24) in
-    let rest : Table (Result (Unit {0}) ℕ) = need (first_of 2 entries) 25 (stamped call client) in
-    has_refused (is_some (first_of 16 entries)) 16 rest
-    (λ _. has_needed (first_of 2 entries) 25 (stamped call client)
-    (λ entry e. has_asked (IsStamp client entry) (sole_stamp client entry) none (near call) (has_done (Err 24)) (λ stamp x. has_near (moment_of stamp) (is_far (skew_of call) call.moment))))
+has_timestamped : (call : CallRecord) (client : AccountRecord) (entries : List PaData) → HasOutcome (timestamped call client entries)
+has_timestamped call client entries =
+    has_needed (first_of 2 entries) 25 (stamped call client)
+    (λ entry e. has_asked (IsStamp client entry) (sole_stamp client entry) (done (Err 24)) (near call) (has_done (Err 24)) (λ stamp x. has_near (moment_of stamp) (is_far (skew_of call) call.moment)))
+
+-- the client is authenticated by a timestamp or by certificate, or refused
+module _ (call : CallRecord) (rows : PkinitRows) (client : AccountRecord) (name : List (List ℕ)) (request : KdcReq) where
+  has_by : (padata : Option (List ℕ)) → HasOutcome (authenticated_by call rows client name request padata)
+  has_by None =
+      has_then {A = Unit {0}} (timestamped call client (entries_of request)) (λ _. done (Ok (as_reply_key client))) (has_timestamped call client (entries_of request)) (λ _ _. has_done (Ok (as_reply_key client)))
+  has_by (Some padata) =
+      has_then (rows.judges (pkinit_call call name request.req_body.0) padata)
+      (λ agreed. done (Ok (agreed_reply_key client.suite (agreed_key client.suite agreed.secret) agreed.reply)))
+      (rows.some (pkinit_call call name request.req_body.0) padata) (λ agreed a. has_done (Ok (agreed_reply_key client.suite (agreed_key client.suite agreed.secret) agreed.reply)))
+
+  has_authenticated : HasOutcome (authenticated call rows client name request)
+  has_authenticated = has_by (first_of 16 (entries_of request))
+
+  -- under a key of its suite, in an AS exchange
+  pub record IsUnder (under : ReplyKeyRecord) : Type 0 where
+    pub exchange : under.exchange ≡ As
+    pub sized : length under.key ≡ cipher_key_size under.suite
+    pub bytes : IsBytes under.key
+
+  of_one : {A : Type 0} (a b : A) → (let r : Result A ℕ = Ok a in r) ≡ Ok b → a ≡ b
+  of_one a b e = cc (e)
+
+  under_by : IsKeyed client → (padata : Option (List ℕ)) (under : ReplyKeyRecord) → (authenticated_by call rows client name request padata).gives (Ok under) → IsUnder under
+  under_by keyed None under (inl x) =
+      subst (λ (u : ReplyKeyRecord). IsUnder u) (sym (of_one under (as_reply_key client) x.2)) (record { exchange = refl; sized = keyed.sized; bytes = keyed.bytes })
+  under_by keyed None under (inr x) = absurd (cc (x.2))
+  under_by keyed (Some padata) under (inl x) =
+      subst (λ (u : ReplyKeyRecord). IsUnder u) (sym (of_one under (agreed_reply_key client.suite (agreed_key client.suite x.0.secret) x.0.reply) x.2))
+      (record { exchange = refl; sized = agreed_key-sized client.suite x.0.secret; bytes = agreed_key-bytes client.suite x.0.secret })
+  under_by keyed (Some padata) under (inr x) = absurd (cc (x.2))
 
 -- the parts of the table, from the last one on
-module _ (call : CallRecord) (of_client of_service : Option AccountRecord) (request : KdcReq) where
+module _ (call : CallRecord) (rows : PkinitRows) (of_client of_service : Option AccountRecord) (request : KdcReq) where
   abbrev asked_by : PrincipalName → AccountRecord → PrincipalName → AccountRecord → Principals
   asked_by client_name client service_name service = record { client_name = client_name; client = client; service_name = service_name; service = service }
 
   abbrev to_prove : Principals → Span → Table (Result (List ℕ) ℕ)
-  to_prove asked span = and_then (preauthenticated call asked.client (entries_of request)) (λ _. granted call asked span request.req_body.0)
+  to_prove asked span =
+      and_then (authenticated call rows asked.client (components asked.client_name) request) (λ under. granted call asked under span request.req_body.0)
 
   abbrev to_be_possible : Principals → Table (Result (List ℕ) ℕ)
   to_be_possible asked = and_then (possible call asked.client.suite request.req_body.0) (to_prove asked)
@@ -120,13 +156,15 @@ module _ (call : CallRecord) (of_client of_service : Option AccountRecord) (requ
     has_grant asked to_us these =
         has_then (possible call asked.client.suite request.req_body.0) (to_prove asked) (has_possible call asked.client.suite request.req_body.0 is)
         (λ span given.
-        has_then {A = Unit {0}} (preauthenticated call asked.client (entries_of request)) (λ _. granted call asked span request.req_body.0)
-        (has_preauthenticated call asked.client (entries_of request))
-        (λ _ x. has_replied (first_ticket call asked request.req_body.0 span) _ asked.service call.random these.client.sized these.client.bytes these.service is.enough is.bytes
-        (first_written asked span to_us these)))
+        has_then (authenticated call rows asked.client (components asked.client_name) request) (λ under. granted call asked under span request.req_body.0)
+        (has_authenticated call rows asked.client (components asked.client_name) request)
+        (λ under x.
+        let is_under = under_by call rows asked.client (components asked.client_name) request these.client (first_of 16 (entries_of request)) under x in
+        has_replied (first_ticket call asked request.req_body.0 span) under asked.service call.random is_under.sized is_under.bytes these.service is.enough is.bytes
+        (subst (λ (e : Exchange). IsWritten e (first_ticket call asked request.req_body.0 span)) (sym is_under.exchange) (first_written asked span to_us these))))
 
     pub has_as_outcome : ((client : AccountRecord) → of_client ≡ Some client → IsKeyed client) → ((service : AccountRecord) → of_service ≡ Some service → IsKeyed service)
-        → HasOutcome (as_table call of_client of_service request)
+        → HasOutcome (as_table call rows of_client of_service request)
     has_as_outcome client_keyed service_keyed =
         has_then {A = Unit {0}} (addressed 10 call.realm request) (λ _. to_name) (has_address 10 call.realm request)
         (λ _ x.

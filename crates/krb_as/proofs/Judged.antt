@@ -8,11 +8,14 @@ use Rattle.krb_types.specs.Refusals.{IsJudged}
 use Rattle.krb_types.specs.declared.refusal.Refusal.{Refusal}
 use Rattle.krb_types.specs.declared.refusal.Refusal.TheVariants.{Krb, Memory}
 use Rattle.decision_tables.specs.Tables.{Table, and_then}
-use Rattle.krb_as.specs.AsTable.{as_table, possible, preauthenticated}
+use Rattle.krb_pkinit.specs.Rows.{PkinitRows}
+use Rattle.krb_types.specs.Names.{components}
+use Rattle.krb_tickets.specs.ReplyKeys.{ReplyKeyRecord}
+use Rattle.krb_as.specs.AsTable.{as_table, authenticated, possible}
 use Rattle.krb_as.specs.Call.{CallRecord}
 use Rattle.krb_as.specs.Grants.{Principals, granted}
 use Rattle.krb_as.specs.Judged.{IsGranted}
-use Rattle.krb_as.specs.Requests.{addressed, client_of, entries_of, service_of}
+use Rattle.krb_as.specs.Requests.{addressed, client_of, service_of}
 use Rattle.krb_as.specs.declared.span.Span.{Span}
 
 -- the request is for this realm, and names client and service, which have these accounts
@@ -23,24 +26,24 @@ pub record AreKnown (realm : List ℕ) (of_client of_service : Option AccountRec
   pub service_name : service_of request.req_body.0 ≡ Some these.service_name
   pub service : of_service ≡ Some these.service
 
-module _ (call : CallRecord) (client service : Option AccountRecord) (request : KdcReq) (these : Principals) where
+module _ (call : CallRecord) (rows : PkinitRows) (client service : Option AccountRecord) (request : KdcReq) (these : Principals) where
   -- what is judged of the ticket that they ask for
   abbrev pub of_ticket : Result Span Refusal → Type 0
   of_ticket r = IsJudged (possible call these.client.suite request.req_body.0).gives r
 
   -- and of the client
-  abbrev pub of_client : Result (Unit {0}) Refusal → Type 0
-  of_client r = IsJudged (preauthenticated call these.client (entries_of request)).gives r
+  abbrev pub of_client : Result ReplyKeyRecord Refusal → Type 0
+  of_client r = IsJudged (authenticated call rows these.client (components these.client_name) request).gives r
 
   abbrev pub answers : Result (Vec ℕ Global) Refusal → Type 0
-  answers r = IsGranted (as_table call client service request).gives r
+  answers r = IsGranted (as_table call rows client service request).gives r
 
   -- all that is judged of those who are known
   abbrev further : Table (Result (List ℕ) ℕ)
   further =
       and_then (possible call these.client.suite request.req_body.0) (λ span.
-      and_then (preauthenticated call these.client (entries_of request)) (λ _.
-      granted call these span request.req_body.0))
+      and_then (authenticated call rows these.client (components these.client_name) request) (λ under.
+      granted call these under span request.req_body.0))
 
   known : (r : Result (Vec ℕ Global) Refusal) → AreKnown call.realm client service request these → IsGranted further.gives r → answers r
   known (Ok bytes) k x = inl (tt, k.address, rw (k.client_name, k.client, k.service_name, k.service) x)
@@ -59,11 +62,11 @@ module _ (call : CallRecord) (client service : Option AccountRecord) (request : 
   pub refused_ticket : (e : Refusal) → AreKnown call.realm client service request these → of_ticket (Err e) → answers (Err e)
   refused_ticket e k x = known (Err e) k (ticket_refused e x)
 
-  -- the client doesn't show that it has its key
+  -- the client isn't authenticated
   pub refused_client : (span : Span) (e : Refusal) → AreKnown call.realm client service request these → of_ticket (Ok span) → of_client (Err e) → answers (Err e)
   refused_client span e k t x = known (Err e) k (client_refused span e t x)
 
   -- the ticket is given
-  pub given_ticket : (span : Span) (bytes : Vec ℕ Global) → AreKnown call.realm client service request these → of_ticket (Ok span) → of_client (Ok tt)
-      → (granted call these span request.req_body.0).gives (Ok bytes.items) → answers (Ok bytes)
-  given_ticket span bytes k t c x = known (Ok bytes) k (inl (span, t, inl (tt, c, x)))
+  pub given_ticket : (span : Span) (under : ReplyKeyRecord) (bytes : Vec ℕ Global) → AreKnown call.realm client service request these → of_ticket (Ok span) → of_client (Ok under)
+      → (granted call these under span request.req_body.0).gives (Ok bytes.items) → answers (Ok bytes)
+  given_ticket span under bytes k t c x = known (Ok bytes) k (inl (span, t, inl (under, c, x)))

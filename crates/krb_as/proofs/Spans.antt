@@ -1,8 +1,7 @@
 -- The time that was found for a ticket is judged.
-use Rattle.std.proofs.Common.{◌≡◌, ℕ, Bool, true, false, Option, Ok, Err, refl, ap, ◌∙◌}
+use Rattle.std.proofs.Common.{◌≡◌, ℕ, true, false, Option, Ok, Err, refl, ap, ◌∙◌}
 use Rattle.picky_asn1.specs.GeneralizedTime.{seconds_of}
 use Rattle.krb_messages.specs.declared.messages.kdc_req_body.KdcReqBody.{KdcReqBody}
-use Rattle.decision_tables.specs.Tables.{Table, done, refuse}
 use Rattle.krb_tickets.specs.Times.{end_of, start_of}
 use Rattle.krb_as.specs.Requests.{IsSpan, is_ended, lasting}
 use Rattle.krb_as.specs.declared.span.Span.{Span}

@@ -8,7 +8,7 @@ use Rattle.picky_asn1.specs.Numbers.{is_number}
 use Rattle.krb_blocks.specs.Bytes.{IsBytes}
 use Rattle.krb_blocks.proofs.States.{IsBytes-drop, IsBytes-take}
 use Rattle.krb_crypto.specs.declared.suite.CipherSuite.{CipherSuite}
-use Rattle.krb_crypto.specs.Suites.{cipher_key_size, cipher_seed_size}
+use Rattle.krb_crypto.specs.Suites.{cipher_seed_size}
 use Rattle.krb_crypto.proofs.AllSuites.{key_below, seed_below}
 use Rattle.krb_crypto.proofs.SealedTexts.{seed_key_bytes, seed_key_sized}
 use Rattle.krb_types.specs.Names.{is_same_realm}

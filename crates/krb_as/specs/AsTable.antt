@@ -1,7 +1,7 @@
 -- What an AS request is answered, in parts of one table, row by row: the first case that holds counts (RFC 4120, section 3.1.3).
-use Rattle.std.specs.Prelude.{◌+◌, ◌*◌, nat_lt, Bool, false, not, List, Option, None, Result, Ok, Err}
+use Rattle.std.specs.Prelude.{◌+◌, ◌*◌, nat_lt, Bool, false, not, List, Option, None, Some, Result, Ok, Err}
 use Rattle.std.specs.List.{list_any}
-use Rattle.std.specs.Option.{is_some, option_map_or}
+use Rattle.std.specs.Option.{option_map_or}
 use Rattle.picky_asn1.specs.GeneralizedTime.{seconds_of}
 use Rattle.picky_asn1.specs.Numbers.{is_number}
 use Rattle.picky_asn1.specs.Bytes.{Bytes}
@@ -10,14 +10,18 @@ use Rattle.krb_crypto.specs.declared.suite.CipherSuite.{CipherSuite}
 use Rattle.krb_crypto.specs.Suites.{cipher_number}
 use Rattle.krb_accounts.specs.Account.{AccountRecord}
 use Rattle.krb_types.specs.declared.data_types.pa_data.PaData.{PaData}
+use Rattle.krb_types.specs.Names.{components}
 use Rattle.krb_types.specs.Refusals.{Code}
-use Rattle.krb_types.specs.declared.constants.error_codes.TheConstants.{KDC_ERR_C_PRINCIPAL_UNKNOWN, KDC_ERR_S_PRINCIPAL_UNKNOWN, KDC_ERR_CANNOT_POSTDATE, KDC_ERR_ETYPE_NOSUPP, KDC_ERR_PADATA_TYPE_NOSUPP, KDC_ERR_PREAUTH_FAILED, KDC_ERR_PREAUTH_REQUIRED, KRB_AP_ERR_SKEW}
+use Rattle.krb_types.specs.declared.constants.error_codes.TheConstants.{KDC_ERR_C_PRINCIPAL_UNKNOWN, KDC_ERR_S_PRINCIPAL_UNKNOWN, KDC_ERR_CANNOT_POSTDATE, KDC_ERR_ETYPE_NOSUPP, KDC_ERR_PREAUTH_FAILED, KDC_ERR_PREAUTH_REQUIRED, KRB_AP_ERR_SKEW}
 use Rattle.krb_messages.specs.declared.messages.kdc_req.KdcReq.{KdcReq}
 use Rattle.krb_messages.specs.declared.messages.kdc_req_body.KdcReqBody.{KdcReqBody}
 use Rattle.decision_tables.specs.Tables.{Table, and_then, ask, done, need, refuse}
 use Rattle.krb_preauth.specs.Entries.{first_of}
 use Rattle.krb_preauth.specs.Stamps.{IsStamp, moment_of, sole_stamp}
-use Rattle.krb_as.specs.Call.{CallRecord, skew_of}
+use Rattle.krb_tickets.specs.ReplyKeys.{ReplyKeyRecord, agreed_reply_key, as_reply_key}
+use Rattle.krb_agreement.specs.AgreedKeys.{agreed_key}
+use Rattle.krb_pkinit.specs.Rows.{PkinitRows}
+use Rattle.krb_as.specs.Call.{CallRecord, pkinit_call, skew_of}
 use Rattle.krb_as.specs.Grants.{granted}
 use Rattle.krb_as.specs.Requests.{addressed, client_of, entries_of, lasting, service_of}
 use Rattle.krb_as.specs.declared.span.Span.{Span}
@@ -38,26 +42,37 @@ possible call suite body =
     refuse (not (is_listed suite body)) KDC_ERR_ETYPE_NOSUPP
     (done (Ok span))))
 
--- the client shows that it has its key by a time sealed under it. An entry of type 16, PKINIT, wins over one of type 2,
--- and finds no anchor
-abbrev pub preauthenticated : CallRecord → AccountRecord → List PaData → Table (Result (Unit {0}) Code)
-preauthenticated call client entries =
-    refuse (is_some (first_of 16 entries)) KDC_ERR_PADATA_TYPE_NOSUPP
-    (need (first_of 2 entries) KDC_ERR_PREAUTH_REQUIRED (λ entry.
+-- the client shows that it has its key by an encrypted timestamp
+abbrev pub timestamped : CallRecord → AccountRecord → List PaData → Table (Result (Unit {0}) Code)
+timestamped call client entries =
+    need (first_of 2 entries) KDC_ERR_PREAUTH_REQUIRED (λ entry.
     ask (IsStamp client entry) (sole_stamp client entry) (done (Err KDC_ERR_PREAUTH_FAILED)) (λ stamp.
     need (moment_of stamp) KDC_ERR_PREAUTH_FAILED (λ time.
     refuse (is_far (skew_of call) call.moment time) KRB_AP_ERR_SKEW
-    (done (Ok tt))))))
+    (done (Ok tt)))))
+
+-- the key under which the client is replied to: its own, or by certificate the key that both agree on (RFC 4556, section 3.2.3.1)
+abbrev pub authenticated_by : CallRecord → PkinitRows → AccountRecord → List Bytes → KdcReq → Option Bytes → Table (Result ReplyKeyRecord Code)
+authenticated_by call rows client name request None =
+    and_then (timestamped call client (entries_of request)) (λ _.
+    done (Ok (as_reply_key client)))
+authenticated_by call rows client name request (Some padata) =
+    and_then (rows.judges (pkinit_call call name request.req_body.0) padata) (λ agreed.
+    done (Ok (agreed_reply_key client.suite (agreed_key client.suite agreed.secret) agreed.reply)))
+
+-- padata of type 16, PA-PK-AS-REQ, wins over an encrypted timestamp
+abbrev pub authenticated : CallRecord → PkinitRows → AccountRecord → List Bytes → KdcReq → Table (Result ReplyKeyRecord Code)
+authenticated call rows client name request = authenticated_by call rows client name request (first_of 16 (entries_of request))
 
 -- the whole table, of the accounts of client and service if they have one
-abbrev pub as_table : CallRecord → Option AccountRecord → Option AccountRecord → KdcReq → Table (Result Bytes Code)
-as_table call of_client of_service request =
+abbrev pub as_table : CallRecord → PkinitRows → Option AccountRecord → Option AccountRecord → KdcReq → Table (Result Bytes Code)
+as_table call rows of_client of_service request =
     and_then (addressed 10 call.realm request) (λ _.
     need (client_of request.req_body.0) KDC_ERR_C_PRINCIPAL_UNKNOWN (λ client_name.
     need of_client KDC_ERR_C_PRINCIPAL_UNKNOWN (λ client.
     need (service_of request.req_body.0) KDC_ERR_S_PRINCIPAL_UNKNOWN (λ service_name.
     need of_service KDC_ERR_S_PRINCIPAL_UNKNOWN (λ service.
     and_then (possible call client.suite request.req_body.0) (λ span.
-    and_then (preauthenticated call client (entries_of request)) (λ _.
+    and_then (authenticated call rows client (components client_name) request) (λ under.
     granted call (record { client_name = client_name; client = client; service_name = service_name; service = service })
-    span request.req_body.0)))))))
+    under span request.req_body.0)))))))

@@ -1,5 +1,5 @@
 -- The ticket that a realm grants, for AS and TGS (RFC 4120, sections 3.1.3 and 3.3.3).
-use Rattle.std.specs.Prelude.{◌≡◌, true, Result, Ok}
+use Rattle.std.specs.Prelude.{true, Result, Ok}
 use Rattle.picky_asn1.specs.Bytes.{Bytes}
 use Rattle.krb_accounts.specs.Account.{AccountRecord}
 use Rattle.krb_types.specs.declared.data_types.principal_name.PrincipalName.{PrincipalName}
@@ -9,7 +9,7 @@ use Rattle.krb_messages.specs.declared.messages.kdc_req_body.KdcReqBody.{KdcReqB
 use Rattle.decision_tables.specs.Tables.{Table, done, make}
 use Rattle.krb_tickets.specs.declared.grant.Grant.{Grant}
 use Rattle.krb_tickets.specs.Parts.{session_key_of}
-use Rattle.krb_tickets.specs.ReplyKeys.{ReplyKeyRecord, as_reply_key}
+use Rattle.krb_tickets.specs.ReplyKeys.{ReplyKeyRecord}
 use Rattle.krb_grants.specs.Granted.{IsTicketReply, sole_ticket_reply}
 use Rattle.krb_as.specs.Call.{CallRecord}
 use Rattle.krb_as.specs.declared.span.Span.{Span}
@@ -42,5 +42,5 @@ replied grant under service random =
     make (IsTicketReply grant under service random) (sole_ticket_reply grant under service random) (λ bytes.
     done (Ok bytes))
 
-abbrev pub granted : CallRecord → Principals → Span → KdcReqBody → Table (Result Bytes Code)
-granted call asked span body = replied (first_ticket call asked body span) (as_reply_key asked.client) asked.service call.random
+abbrev pub granted : CallRecord → Principals → ReplyKeyRecord → Span → KdcReqBody → Table (Result Bytes Code)
+granted call asked under span body = replied (first_ticket call asked body span) under asked.service call.random

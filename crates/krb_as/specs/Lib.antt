@@ -1,5 +1,6 @@
 pub mod Call
 pub mod TicketGranting
+pub mod Authenticated
 pub mod Requests
 pub mod Grants
 pub mod AsTable

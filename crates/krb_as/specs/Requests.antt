@@ -1,13 +1,13 @@
 -- What a request to a KDC asks for, and what AS and TGS requests are judged by alike (RFC 4120, sections 3.1.3, 3.3.3, 5.4.1).
-use Rattle.std.specs.Prelude.{◌≡◌, ℕ, nat_le, Bool, not, ◌||◌, List, [], Option, None, Some, Result, Ok, Err}
+use Rattle.std.specs.Prelude.{◌≡◌, ℕ, nat_le, Bool, not, ◌||◌, List, [], Option, None, Some, Result, Ok}
 use Rattle.std.specs.Option.{option_map, option_map_or}
 use Rattle.std.proofs.Common.{sym, ◌∙◌}
 use Rattle.krb_moments.specs.Units.{Micros, Seconds}
+use Rattle.asn1_trees.specs.Tree.{der}
 use Rattle.picky_asn1.specs.BitString.{Bits, bit_of}
 use Rattle.picky_asn1.specs.GeneralizedTime.{seconds_of}
 use Rattle.picky_asn1.specs.Numbers.{is_number}
 use Rattle.picky_asn1.specs.Bytes.{Bytes}
-use Rattle.asn1_leaves.specs.declared.date.GeneralizedTime.{GeneralizedTime}
 use Rattle.asn1_leaves.proofs.TimeLemmas.{seconds_of-injective}
 use Rattle.krb_types.specs.Names.{components, is_same_realm}
 use Rattle.krb_types.specs.declared.data_types.pa_data.PaData.{PaData}
@@ -16,6 +16,7 @@ use Rattle.krb_types.specs.Refusals.{Code}
 use Rattle.krb_types.specs.declared.constants.error_codes.TheConstants.{KDC_ERR_BAD_PVNO, KDC_ERR_CANNOT_POSTDATE, KDC_ERR_NEVER_VALID, KDC_ERR_BADOPTION, KRB_AP_ERR_MSG_TYPE, KDC_ERR_WRONG_REALM}
 use Rattle.krb_messages.specs.declared.messages.kdc_req.KdcReq.{KdcReq}
 use Rattle.krb_messages.specs.declared.messages.kdc_req_body.KdcReqBody.{KdcReqBody}
+use Rattle.krb_messages.specs.Trees.{kdc_req_body_tree}
 use Rattle.decision_tables.specs.One.{IsSole}
 use Rattle.decision_tables.specs.Tables.{Table, done, make, refuse}
 use Rattle.krb_accounts.specs.Account.{AccountRecord}
@@ -45,6 +46,10 @@ account_of look (Some name) = look (components name)
 -- the preauthentication entries of a request
 abbrev pub entries_of : KdcReq → List PaData
 entries_of request = option_map_or (λ tagged. tagged.0) request.padata.0 []
+
+-- the one encoding of a request's body
+unfoldable pub body_bytes : KdcReqBody → Bytes
+body_bytes body = der (kdc_req_body_tree body)
 
 -- the request is of this message type and to this realm, which grants nothing that its options ask for beside a ticket
 abbrev pub addressed : ℕ → Bytes → KdcReq → Table (Result (Unit {0}) Code)

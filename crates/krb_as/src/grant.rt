@@ -1,10 +1,13 @@
 //! Granting a first ticket.
 ghost use Rattle.std.specs.Prelude.{◌≡◌, ◌≤◌, Ok, length, IfOk};
+ghost use Rattle.krb_tickets.specs.ReplyKeys.{reply_key_of};
+ghost use Rattle.krb_as.specs.Authenticated.{reply_key_by};
 ghost use Rattle.krb_as.specs.Call.{call_of};
 ghost use Rattle.krb_as.specs.Grants.{first_ticket, granted};
 ghost use Rattle.krb_as.specs.Judged.{principals};
 
 use crate::call::Call;
+use crate::judge::Authenticated;
 use crate::requests::session_key;
 use crate::span::Span;
 use krb_accounts::Account;
@@ -33,17 +36,28 @@ pub(crate) fn grant(
     alloc: Global,
     call: &Call<'_>,
     asked: Principals,
+    authenticated: &Authenticated,
     span: Span,
     body: &KdcReqBody,
 ) -> Result<Vec<u8>, AllocError>
     requires { 128 ≤ length call.now.random.now }
-    ensures { IfOk result (λ bytes. (granted (call_of call.now) (principals asked.entry) span body.now).gives (Ok bytes.items)) }
+    ensures { IfOk result (λ bytes. (granted (call_of call.now) (principals asked.entry) (reply_key_by asked.entry.client.now authenticated.now) span body.now).gives (Ok bytes.items)) }
 {
     let ticket = first_ticket(alloc, call, asked, span, body)?;
-    let under = ReplyKey::of_client(asked.client);
+    let under = reply_key_by(authenticated, asked.client);
     let made = ticket_reply(alloc, &ticket, &under, asked.service, call.random);
     drop(ticket);
     made
+}
+
+// The key under which the client is replied to.
+fn reply_key_by<'a>(authenticated: &'a Authenticated, client: &'a Account) -> ReplyKey<'a>
+    ensures { reply_key_of result ≡ reply_key_by client.now authenticated.now }
+{
+    match authenticated {
+        Authenticated::ByTimestamp => ReplyKey::of_client(client),
+        Authenticated::ByCertificate(key, reply) => ReplyKey::of_agreement(key, reply),
+    }
 }
 
 // What the ticket is granted with.

@@ -1,24 +1,26 @@
 //! Judging AS requests: the rows of a realm's table, part by part.
-ghost use Rattle.std.specs.Prelude.{◌≡◌};
-ghost use Rattle.std.specs.Option.{is_some};
-ghost use Rattle.krb_as.specs.AsTable.{is_later, is_listed, possible, preauthenticated};
+ghost use Rattle.std.specs.Prelude.{◌≡◌, ◌≤◌, length, Some};
+ghost use Rattle.krb_as.specs.AsTable.{authenticated, authenticated_by, is_later, is_listed, possible, timestamped};
+ghost use Rattle.krb_as.specs.Authenticated.{reply_key_as};
 ghost use Rattle.krb_as.specs.Call.{call_of};
-ghost use Rattle.krb_preauth.specs.Entries.{first_of};
 ghost use Rattle.krb_types.specs.Refusals.{IsJudged};
 
 use crate::call::Call;
-use crate::requests::lasting;
+use crate::requests::{entries_of, lasting};
 use crate::span::Span;
 use krb_accounts::Account;
-use krb_crypto::CipherSuite;
-use krb_messages::messages::KdcReqBody;
+use krb_agreement::agreed_key;
+use krb_crypto::{CipherSuite, Key};
+use krb_messages::messages::{KdcReq, KdcReqBody};
 use krb_moments::MICROSECONDS_IN_SECOND;
+use krb_pkinit::{Agreed, Pkinit, PkinitCall};
 use krb_preauth::{first_of, moment_of, open_stamp};
 use krb_types::Refusal;
 use krb_types::constants::error_codes;
 use krb_types::constants::types::{PA_ENC_TIMESTAMP, PA_PK_AS_REQ};
 use krb_types::data_types::PaData;
 use picky_asn1::is_number;
+use picky_asn1::wrapper::GeneralStringAsn1;
 use std::alloc::Global;
 
 /// Judges the ticket's times and its suite.
@@ -62,18 +64,85 @@ fn is_listed(suite: CipherSuite, body: &KdcReqBody) -> bool
         .any(|etype| is_number(etype, number))
 }
 
-/// Judges what shows that the client has its key: a time sealed under it, near the moment.
-pub(crate) fn check_client(
+/// How a client was authenticated.
+#[derive(Drop)]
+pub(crate) enum Authenticated {
+    /// By an encrypted timestamp.
+    ByTimestamp,
+    /// By certificate, with the key that both agreed on, and the data of PA-PK-AS-REP.
+    ByCertificate(Key, Vec<u8>),
+}
+
+/// Authenticates the client of this name.
+pub(crate) fn authenticate<P: Pkinit>(
+    alloc: Global,
+    call: &Call<'_>,
+    pkinit: &P,
+    client: &Account,
+    name: &[GeneralStringAsn1],
+    request: &KdcReq,
+) -> Result<Authenticated, Refusal>
+    requires { 128 ≤ length call.now.random.now }
+    ensures { IsJudged (authenticated (call_of call.now) (P.rows pkinit.now) client.now name.now request.now).gives (reply_key_as client.now result) }
+{
+    let entries = entries_of(request);
+    let Some(padata) = first_of(entries, PA_PK_AS_REQ) else {
+        check_timestamp(alloc, call, client, entries)?;
+        return Ok(Authenticated::ByTimestamp);
+    };
+    agree_by(
+        alloc,
+        call,
+        pkinit,
+        client,
+        name,
+        request,
+        padata.as_bytes(),
+    )
+}
+
+// The same by the data of PA-PK-AS-REQ.
+fn agree_by<P: Pkinit>(
+    alloc: Global,
+    call: &Call<'_>,
+    pkinit: &P,
+    client: &Account,
+    name: &[GeneralStringAsn1],
+    request: &KdcReq,
+    padata: &[u8],
+) -> Result<Authenticated, Refusal>
+    requires { 128 ≤ length call.now.random.now }
+    ensures { IsJudged (authenticated_by (call_of call.now) (P.rows pkinit.now) client.now name.now request.now (Some padata.now)).gives (reply_key_as client.now result) }
+{
+    let asked = PkinitCall {
+        realm: call.realm,
+        skew: call.skew(),
+        client: name,
+        body: &request.req_body.0,
+        moment: call.moment,
+        random: call.random,
+    };
+    let agreed = pkinit.judge(alloc, &asked, padata)?;
+    let (secret, reply) = parts_of(agreed);
+    let key = agreed_key(alloc, client.suite(), secret)?;
+    Ok(Authenticated::ByCertificate(key, reply))
+}
+
+fn parts_of(agreed: Agreed) -> (Vec<u8>, Vec<u8>)
+    ensures { (result.0 ≡ agreed.secret) × (result.1 ≡ agreed.reply) }
+{
+    (agreed.secret, agreed.reply)
+}
+
+// Judges what shows that the client has its key: an encrypted timestamp near the moment (RFC 4120, section 5.2.7.2).
+fn check_timestamp(
     alloc: Global,
     call: &Call<'_>,
     client: &Account,
     entries: &[PaData],
 ) -> Result<(), Refusal>
-    ensures { IsJudged (preauthenticated (call_of call.now) client.now entries.now).gives result }
+    ensures { IsJudged (timestamped (call_of call.now) client.now entries.now).gives result }
 {
-    if has_entry(entries, PA_PK_AS_REQ) {
-        return Err(Refusal::Krb(error_codes::KDC_ERR_PADATA_TYPE_NOSUPP));
-    }
     let Some(entry) = first_of(entries, PA_ENC_TIMESTAMP) else {
         return Err(Refusal::Krb(error_codes::KDC_ERR_PREAUTH_REQUIRED));
     };
@@ -89,11 +158,4 @@ pub(crate) fn check_client(
         return Err(Refusal::Krb(error_codes::KRB_AP_ERR_SKEW));
     }
     Ok(())
-}
-
-// There is an entry of the type.
-fn has_entry(entries: &[PaData], kind: u32) -> bool
-    ensures { result ≡ is_some (first_of kind entries.now) }
-{
-    first_of(entries, kind).is_some()
 }

@@ -5,6 +5,7 @@
 mod call;
 mod grant;
 mod judge;
+pub mod laws;
 mod names;
 mod read;
 mod requests;

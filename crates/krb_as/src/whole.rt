@@ -7,10 +7,11 @@ ghost use Rattle.krb_as.specs.Judged.{IsGranted};
 
 use crate::call::Call;
 use crate::grant::{Principals, grant};
-use crate::judge::{check_client, check_possible};
-use crate::requests::{check_address, client_of, entries_of, service_of};
+use crate::judge::{authenticate, check_possible};
+use crate::requests::{check_address, client_of, service_of};
 use krb_accounts::Account;
 use krb_messages::messages::KdcReq;
+use krb_pkinit::Pkinit;
 use krb_types::Refusal;
 use krb_types::constants::error_codes;
 use krb_types::constants::types::AS_REQ_MSG_TYPE;
@@ -18,15 +19,16 @@ use std::alloc::Global;
 
 /// The reply that grants a first ticket, or the code of the error, by the table of the realm that is called, of these
 /// accounts of client and service, if they have one (RFC 4120, section 3.1.3).
-pub fn judge_as(
+pub fn judge_as<P: Pkinit>(
     alloc: Global,
     call: &Call<'_>,
+    pkinit: &P,
     client: Option<&Account>,
     service: Option<&Account>,
     request: &KdcReq,
 ) -> Result<Vec<u8>, Refusal>
     requires { 128 ≤ length call.now.random.now }
-    ensures { IsGranted (as_table (call_of call.now) (option_copied client.entry) (option_copied service.entry) request.now).gives result }
+    ensures { IsGranted (as_table (call_of call.now) (P.rows pkinit.now) (option_copied client.entry) (option_copied service.entry) request.now).gives result }
 {
     check_address(AS_REQ_MSG_TYPE, call.realm, request)?;
     let body = &request.req_body.0;
@@ -43,13 +45,16 @@ pub fn judge_as(
         return Err(Refusal::Krb(error_codes::KDC_ERR_S_PRINCIPAL_UNKNOWN));
     };
     let span = check_possible(call, client.suite(), body)?;
-    check_client(alloc, call, client, entries_of(request))?;
+    let name = client_name.name_string.0.as_slice();
+    let authenticated = authenticate(alloc, call, pkinit, client, name, request)?;
     let asked = Principals {
         client_name,
         client,
         service_name,
         service,
     };
-    let reply = grant(alloc, call, asked, span, body)?;
+    let reply = grant(alloc, call, asked, &authenticated, span, body);
+    drop(authenticated);
+    let reply = reply?;
     Ok(reply)
 }

@@ -3,12 +3,18 @@ use Rattle.std.specs.Prelude.{ℕ, List, Option}
 use Rattle.krb_moments.specs.Units.{Micros}
 use Rattle.picky_asn1.specs.Bytes.{Bytes}
 use Rattle.krb_crypto.specs.declared.suite.CipherSuite.{CipherSuite}
+use Rattle.krb_types.specs.RandomBytes.{Random, random_part}
 
--- what a client remembers of an AS request: the service's components, the nonce, and the moment
+-- the random bytes of the client's agreement among those of an AS request (RFC 4556, section 3.2.1)
+abbrev pub agreement_part : Random → Bytes
+agreement_part = random_part 32 64
+
+-- what a client remembers of an AS request: the service's components, the nonce, the moment, and the agreement's random bytes
 pub record AsAskedRecord : Type 0 where
   pub service : List Bytes
   pub nonce : ℕ
   pub moment : Micros
+  pub agreement : Bytes
 
 -- what a client remembers of a TGS request: the service's components, the nonce, and the session's key, by which it asked
 pub record TgsAskedRecord : Type 0 where

@@ -1,38 +1,48 @@
 //! What a client remembers of its requests.
-ghost use Rattle.std.specs.Prelude.{◌≡◌};
+ghost use Rattle.std.specs.Prelude.{◌≡◌, ◌≤◌, length};
 ghost use Rattle.std.specs.Option.{option_copied};
+ghost use Rattle.krb_asked.specs.Asked.{agreement_part};
 
+use crate::agreement::{AGREEMENT_BYTES, agreement_part};
 use krb_crypto::{CipherSuite, Key};
 use krb_moments::Moment;
 use picky_asn1::wrapper::{GeneralStringAsn1, OctetStringAsn1};
 use std::marker::Model;
 
-/// What a client remembers of its request to a realm. A contract sees the components of the service's name, the nonce,
-/// and the moment.
+/// What a client remembers of its request to a realm. A contract sees the components of the service's name, the nonce, the
+/// moment, and the agreement's random bytes.
 #[derive(Drop)]
 pub struct AsAsked {
     service: Vec<GeneralStringAsn1>,
     nonce: u32,
     moment: Moment,
+    agreement: [u8; AGREEMENT_BYTES],
 }
 
 impl Model for AsAsked {
+    ghost use Rattle.std.specs.Prelude.{◌≡◌, length};
     ghost use Rattle.krb_asked.specs.Asked.{AsAskedRecord};
 
     ghost Value = { AsAskedRecord };
 
-    ghost view = { λ a. record { service = a.service.items; nonce = a.nonce; moment = a.moment } };
+    ghost view = { λ a. record { service = a.service.items; nonce = a.nonce; moment = a.moment; agreement = a.agreement } };
+
+    ghost invariant = { λ a. length a.agreement ≡ 64 };
 }
 
 impl AsAsked {
-    /// What there is to remember of a request for this service, with this nonce, at the moment.
-    pub fn new(service: Vec<GeneralStringAsn1>, nonce: u32, moment: Moment) -> AsAsked
-        ensures { result ≡ record { service = service.items; nonce = nonce; moment = moment } }
+    /// What there is to remember of a request for this service, with this nonce, at the moment, by these random bytes.
+    pub fn new(service: Vec<GeneralStringAsn1>, nonce: u32, moment: Moment, words: &[u8]) -> AsAsked
+        requires { 96 ≤ length words.now }
+        ensures { result ≡ record { service = service.items; nonce = nonce; moment = moment; agreement = agreement_part words.now } }
     {
+        let mut agreement = [0; AGREEMENT_BYTES];
+        agreement.copy_from_slice(agreement_part(words));
         AsAsked {
             service,
             nonce,
             moment,
+            agreement,
         }
     }
 
@@ -48,6 +58,21 @@ impl AsAsked {
         ensures { result ≡ self.now.nonce }
     {
         self.nonce
+    }
+
+    /// The moment.
+    pub fn moment(&self) -> Moment
+        ensures { result ≡ self.now.moment }
+    {
+        self.moment
+    }
+
+    /// The agreement's random bytes.
+    pub fn agreement(&self) -> &[u8]
+        ensures value { result.now ≡ self.now.agreement }
+        ensures sized { length result.now ≡ 64 }
+    {
+        self.agreement.as_slice()
     }
 }
 

@@ -1,10 +1,10 @@
 -- What a table gives by what its first row says.
-use Rattle.std.proofs.Common.{◌≡◌, Bool, true, false, Result, Ok, Err, inl, inr}
+use Rattle.std.proofs.Common.{◌≡◌, Bool, true, false, Result, Ok, Err, inl, inr, refl}
 use Rattle.decision_tables.specs.One.{IsSole}
-use Rattle.decision_tables.specs.Tables.{Table, ask, refuse}
+use Rattle.decision_tables.specs.Tables.{Table, and_then, ask, refuse}
 use Rattle.krb_client.specs.Refusals.{IsTaken}
 use Rattle.krb_client.specs.declared.refusal.TakeRefusal.{TakeRefusal}
-use Rattle.krb_client.specs.declared.refusal.TakeRefusal.TheVariants.{Memory, NotAsked, NotSealed, Refused, Unreadable}
+use Rattle.krb_client.specs.declared.refusal.TakeRefusal.TheVariants.{Memory, NotAsked, NotSealed, NotTrusted, Refused, Unreadable}
 
 -- the case doesn't hold
 pub passed : {T : Type 0} (case : Bool) (refusal : TakeRefusal) (rest : Table (Result T TakeRefusal)) (taken : Result T TakeRefusal)
@@ -18,6 +18,7 @@ pub found : {A T : Type 0} (P : A → Type 0) (sole : IsSole P) (otherwise : Tab
 found P sole otherwise rest (Ok value) a p given = inl (a, p, given)
 found P sole otherwise rest (Err Unreadable) a p given = inl (a, p, given)
 found P sole otherwise rest (Err (Refused code)) a p given = inl (a, p, given)
+found P sole otherwise rest (Err NotTrusted) a p given = inl (a, p, given)
 found P sole otherwise rest (Err NotSealed) a p given = inl (a, p, given)
 found P sole otherwise rest (Err NotAsked) a p given = inl (a, p, given)
 found P sole otherwise rest (Err Memory) a p given = tt
@@ -28,6 +29,28 @@ pub not_found : {A T : Type 0} (P : A → Type 0) (sole : IsSole P) (otherwise :
 not_found P sole otherwise rest (Ok value) none given = inr (none, given)
 not_found P sole otherwise rest (Err Unreadable) none given = inr (none, given)
 not_found P sole otherwise rest (Err (Refused code)) none given = inr (none, given)
+not_found P sole otherwise rest (Err NotTrusted) none given = inr (none, given)
 not_found P sole otherwise rest (Err NotSealed) none given = inr (none, given)
 not_found P sole otherwise rest (Err NotAsked) none given = inr (none, given)
 not_found P sole otherwise rest (Err Memory) none given = tt
+
+-- the first part gives a value
+pub taken_then : {A T : Type 0} (first : Table (Result A TakeRefusal)) (rest : A → Table (Result T TakeRefusal)) (taken : Result T TakeRefusal) (a : A)
+    → IsTaken first (Ok a) → IsTaken (rest a) taken → IsTaken (and_then first rest) taken
+taken_then first rest (Ok value) a p given = inl (a, p, given)
+taken_then first rest (Err Unreadable) a p given = inl (a, p, given)
+taken_then first rest (Err (Refused code)) a p given = inl (a, p, given)
+taken_then first rest (Err NotTrusted) a p given = inl (a, p, given)
+taken_then first rest (Err NotSealed) a p given = inl (a, p, given)
+taken_then first rest (Err NotAsked) a p given = inl (a, p, given)
+taken_then first rest (Err Memory) a p given = tt
+
+-- the first part refuses
+pub refused_then : {A T : Type 0} (first : Table (Result A TakeRefusal)) (rest : A → Table (Result T TakeRefusal)) (refusal : TakeRefusal)
+    → IsTaken first (Err refusal) → IsTaken (and_then first rest) (Err refusal)
+refused_then first rest Unreadable p = inr (Unreadable, p, refl)
+refused_then first rest (Refused code) p = inr (Refused code, p, refl)
+refused_then first rest NotTrusted p = inr (NotTrusted, p, refl)
+refused_then first rest NotSealed p = inr (NotSealed, p, refl)
+refused_then first rest NotAsked p = inr (NotAsked, p, refl)
+refused_then first rest Memory p = tt

@@ -1,5 +1,6 @@
 -- What a client takes of a reply, by how it reads and by the tag of its opened part.
 use Rattle.std.proofs.Common.{◌≡◌, true, not, Result, Err, List, ℕ, ℤ, ap, refl}
+use Rattle.krb_crypto.specs.Keys.{KeyRecord}
 use Rattle.krb_messages.specs.declared.messages.enc_kdc_rep_part.EncKdcRepPart.{EncKdcRepPart}
 use Rattle.krb_messages.specs.declared.messages.kdc_rep.KdcRep.{KdcRep}
 use Rattle.decision_tables.specs.One.{IsSole}
@@ -34,32 +35,32 @@ of_type_unopened number version kind IsPart sole rest is none =
     of_type number version kind (ask IsPart sole (done (Err NotSealed)) rest) (Err NotSealed) is (not_found IsPart sole (done (Err NotSealed)) rest (Err NotSealed) none refl)
 
 -- the part that a TGS reply's tag is opened by
-by_tgs_tag : ClientRecord → AsAskedRecord → KdcRep → Table Taken
-by_tgs_tag client asked reply =
-    ask (IsTgsPart client.suite client.key 3 reply.enc_part.0) (sole_tgs_part client.suite client.key 3 reply.enc_part.0) (done (Err NotSealed)) (takes_part client asked.service asked.nonce reply)
+by_tgs_tag : ClientRecord → KeyRecord → AsAskedRecord → KdcRep → Table Taken
+by_tgs_tag client key asked reply =
+    ask (IsTgsPart key.suite key.bytes 3 reply.enc_part.0) (sole_tgs_part key.suite key.bytes 3 reply.enc_part.0) (done (Err NotSealed)) (takes_part client asked.service asked.nonce reply)
 
-pub taken_by_as_tag : (client : ClientRecord) (asked : AsAskedRecord) (reply : KdcRep) (part : EncKdcRepPart) (taken : Taken)
-    → IsAsPart client reply.enc_part.0 part → IsTaken (takes_part client asked.service asked.nonce reply part) taken → IsTaken (takes_sealed client asked reply) taken
+pub taken_by_as_tag : (client : ClientRecord) (key : KeyRecord) (asked : AsAskedRecord) (reply : KdcRep) (part : EncKdcRepPart) (taken : Taken)
+    → IsAsPart key.suite key.bytes reply.enc_part.0 part → IsTaken (takes_part client asked.service asked.nonce reply part) taken → IsTaken (takes_sealed client key asked reply) taken
 unfolding by_tgs_tag
-taken_by_as_tag client asked reply part taken opened given =
-    found (IsAsPart client reply.enc_part.0) (sole_as_part client reply.enc_part.0) (by_tgs_tag client asked reply) (takes_part client asked.service asked.nonce reply) taken part opened given
+taken_by_as_tag client key asked reply part taken opened given =
+    found (IsAsPart key.suite key.bytes reply.enc_part.0) (sole_as_part key.suite key.bytes reply.enc_part.0) (by_tgs_tag client key asked reply) (takes_part client asked.service asked.nonce reply) taken part opened given
 
-pub taken_by_tgs_tag : (client : ClientRecord) (asked : AsAskedRecord) (reply : KdcRep) (part : EncKdcRepPart) (taken : Taken)
-    → ((other : EncKdcRepPart) → IsAsPart client reply.enc_part.0 other → ⊥) → IsTgsPart client.suite client.key 3 reply.enc_part.0 part
-    → IsTaken (takes_part client asked.service asked.nonce reply part) taken → IsTaken (takes_sealed client asked reply) taken
+pub taken_by_tgs_tag : (client : ClientRecord) (key : KeyRecord) (asked : AsAskedRecord) (reply : KdcRep) (part : EncKdcRepPart) (taken : Taken)
+    → ((other : EncKdcRepPart) → IsAsPart key.suite key.bytes reply.enc_part.0 other → ⊥) → IsTgsPart key.suite key.bytes 3 reply.enc_part.0 part
+    → IsTaken (takes_part client asked.service asked.nonce reply part) taken → IsTaken (takes_sealed client key asked reply) taken
 unfolding by_tgs_tag
-taken_by_tgs_tag client asked reply part taken none opened given =
-    not_found (IsAsPart client reply.enc_part.0) (sole_as_part client reply.enc_part.0) (by_tgs_tag client asked reply) (takes_part client asked.service asked.nonce reply) taken none
-    (found (IsTgsPart client.suite client.key 3 reply.enc_part.0) (sole_tgs_part client.suite client.key 3 reply.enc_part.0) (done (Err NotSealed)) (takes_part client asked.service asked.nonce reply) taken part opened given)
+taken_by_tgs_tag client key asked reply part taken none opened given =
+    not_found (IsAsPart key.suite key.bytes reply.enc_part.0) (sole_as_part key.suite key.bytes reply.enc_part.0) (by_tgs_tag client key asked reply) (takes_part client asked.service asked.nonce reply) taken none
+    (found (IsTgsPart key.suite key.bytes 3 reply.enc_part.0) (sole_tgs_part key.suite key.bytes 3 reply.enc_part.0) (done (Err NotSealed)) (takes_part client asked.service asked.nonce reply) taken part opened given)
 
 -- it opens by neither tag
-pub taken_by_no_tag : (client : ClientRecord) (asked : AsAskedRecord) (reply : KdcRep)
-    → ((part : EncKdcRepPart) → IsAsPart client reply.enc_part.0 part → ⊥) → ((part : EncKdcRepPart) → IsTgsPart client.suite client.key 3 reply.enc_part.0 part → ⊥)
-    → IsTaken (takes_sealed client asked reply) (Err NotSealed)
+pub taken_by_no_tag : (client : ClientRecord) (key : KeyRecord) (asked : AsAskedRecord) (reply : KdcRep)
+    → ((part : EncKdcRepPart) → IsAsPart key.suite key.bytes reply.enc_part.0 part → ⊥) → ((part : EncKdcRepPart) → IsTgsPart key.suite key.bytes 3 reply.enc_part.0 part → ⊥)
+    → IsTaken (takes_sealed client key asked reply) (Err NotSealed)
 unfolding by_tgs_tag
-taken_by_no_tag client asked reply none neither =
-    not_found (IsAsPart client reply.enc_part.0) (sole_as_part client reply.enc_part.0) (by_tgs_tag client asked reply) (takes_part client asked.service asked.nonce reply) (Err NotSealed) none
-    (not_found (IsTgsPart client.suite client.key 3 reply.enc_part.0) (sole_tgs_part client.suite client.key 3 reply.enc_part.0) (done (Err NotSealed)) (takes_part client asked.service asked.nonce reply) (Err NotSealed) neither refl)
+taken_by_no_tag client key asked reply none neither =
+    not_found (IsAsPart key.suite key.bytes reply.enc_part.0) (sole_as_part key.suite key.bytes reply.enc_part.0) (by_tgs_tag client key asked reply) (takes_part client asked.service asked.nonce reply) (Err NotSealed) none
+    (not_found (IsTgsPart key.suite key.bytes 3 reply.enc_part.0) (sole_tgs_part key.suite key.bytes 3 reply.enc_part.0) (done (Err NotSealed)) (takes_part client asked.service asked.nonce reply) (Err NotSealed) neither refl)
 
 -- the bytes are a reply
 pub taken_read : {A T : Type 0} (bytes : List ℕ) (IsReply : A → Type 0) (sole : IsSole IsReply) (rest : A → Table (Result T TakeRefusal)) (taken : Result T TakeRefusal) (reply : A)

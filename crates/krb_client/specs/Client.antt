@@ -2,31 +2,23 @@
 use Rattle.std.specs.Prelude.{not, ◌&&◌, List, Result, Ok, Err, if◌then◌else◌}
 use Rattle.picky_asn1.specs.Bytes.{Bytes}
 use Rattle.krb_crypto.specs.declared.suite.CipherSuite.{CipherSuite}
-use Rattle.krb_crypto.specs.Sealing.{password_key_of}
 use Rattle.krb_accounts.specs.Names.{are_components, is_realm_name}
-use Rattle.krb_accounts.specs.Passwords.{password_salt}
 use Rattle.krb_types.specs.declared.data_types.principal_name.PrincipalName.{PrincipalName}
 use Rattle.krb_types.specs.declared.data_types.ticket.TicketInner.{TicketInner}
 use Rattle.krb_client.specs.declared.refusal.AskRefusal.{AskRefusal}
 use Rattle.krb_client.specs.declared.refusal.AskRefusal.TheVariants.{BadName}
 
--- a client: its realm, the components of its name, and its key of a suite
+-- a client: its realm, the components of its name, and the suite that it asks for
 pub record ClientRecord : Type 0 where
   pub realm : Bytes
   pub components : List Bytes
   pub suite : CipherSuite
-  pub key : Bytes
 
--- the client of a password, or why there is none
-abbrev pub client_by_password : Bytes → List Bytes → CipherSuite → Bytes → Result ClientRecord AskRefusal
-client_by_password realm components suite password =
+-- the client of this name, or why there is none
+abbrev pub client_of : Bytes → List Bytes → CipherSuite → Result ClientRecord AskRefusal
+client_of realm components suite =
     if not (is_realm_name realm && are_components components) then Err BadName
-    else Ok (record {
-      realm = realm;
-      components = components;
-      suite = suite;
-      key = password_key_of suite password (password_salt realm components);
-    })
+    else Ok (record { realm = realm; components = components; suite = suite })
 
 -- what a client is granted: a ticket, the session's key of a suite, and the service that the ticket is for
 pub record CredentialRecord : Type 0 where

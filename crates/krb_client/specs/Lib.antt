@@ -3,6 +3,9 @@ pub mod Refusals
 pub mod Messages
 pub mod Held
 pub mod Requests
+pub mod Means
+pub mod Stamps
+pub mod ByPassword
 pub mod AsRequest
 pub mod Authenticators
 pub mod ApRequest

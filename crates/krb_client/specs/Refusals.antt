@@ -9,11 +9,14 @@ use Rattle.krb_client.specs.declared.refusal.TakeRefusal.TheVariants as take_ref
 -- the numbers of refusals
 abbrev pub ask_number : AskRefusal → ℕ
 ask_number ask_refusal.BadName = 1
+ask_number ask_refusal.BadCertificate = 4
+ask_number ask_refusal.NoKeyFunction = 2
 ask_number ask_refusal.Memory = 3
 
 abbrev pub take_number : TakeRefusal → ℕ
 take_number take_refusal.Unreadable = 1
 take_number (take_refusal.Refused code) = 2
+take_number take_refusal.NotTrusted = 5
 take_number take_refusal.NotSealed = 3
 take_number take_refusal.NotAsked = 4
 take_number take_refusal.Memory = 6

@@ -1,5 +1,5 @@
 //! Requests to a KDC: what those for a first ticket and for further ones have in common.
-ghost use Rattle.std.specs.Prelude.{◌≡◌, ◌≤◌, ◌==◌, [], ◌∷◌, length, pos, IfOk};
+ghost use Rattle.std.specs.Prelude.{◌≡◌, ◌≤◌, [], ◌∷◌, length, pos, IfOk};
 ghost use Rattle.krb_crypto.specs.Suites.{cipher_number};
 ghost use Rattle.krb_client.specs.Requests.{entry_of, name_where, no_options, nonce_of, request_body, kdc_request_of};
 
@@ -7,7 +7,7 @@ use crate::Client;
 use crate::names::principal_name;
 use krb_messages::messages::{KdcReq, KdcReqBody};
 use krb_types::constants::random_bytes::NONCE;
-use krb_types::constants::types::{AS_REQ_MSG_TYPE, KERBEROS_VERSION, NT_PRINCIPAL, NT_SRV_INST};
+use krb_types::constants::types::{KERBEROS_VERSION, NT_PRINCIPAL, NT_SRV_INST};
 use krb_types::data_types::{KerberosFlags, PaData, PrincipalName};
 use picky_asn1::date::GeneralizedTime;
 use picky_asn1::wrapper::{
@@ -22,35 +22,6 @@ use std::alloc::{AllocError, Global};
 const NONCES: u32 = 0x8000_0000;
 
 impl Client {
-    /// The request of this type, with an entry of preauthentication data, for a ticket for a service of the client's realm
-    /// till a time. The client is named in an AS request alone.
-    pub(crate) fn request_of(
-        &self,
-        alloc: Global,
-        kind: u8,
-        entry: PaData,
-        service: &[GeneralStringAsn1],
-        till: GeneralizedTime,
-        nonce: u32,
-    ) -> Result<KdcReq, AllocError>
-        ensures { IfOk result (λ request. request ≡ kdc_request_of kind entry (request_body self.now (kind == 10) service.now till nonce)) }
-    {
-        let version = IntegerAsn1::from_u64(alloc, u64::from(KERBEROS_VERSION));
-        let number = IntegerAsn1::from_u64(alloc, u64::from(kind));
-        let entries = entries_of(alloc, entry);
-        let body = self.request_body(alloc, kind == AS_REQ_MSG_TYPE, service, till, nonce);
-        let ((version, number), (entries, body)) = both(
-            both(version, number),
-            both(entries, body),
-        )?;
-        Ok(KdcReq {
-            pvno: ExplicitContextTag(version),
-            msg_type: ExplicitContextTag(number),
-            padata: Optional(Some(ExplicitContextTag(entries))),
-            req_body: ExplicitContextTag(body),
-        })
-    }
-
     /// The body of the request, in which the client may be named.
     pub(crate) fn request_body(
         &self,
@@ -87,7 +58,7 @@ impl Client {
         })
     }
 
-    // The suites that the client asks for: its key's alone.
+    // The suites that the client asks for: its own alone.
     fn suites(&self, alloc: Global) -> Result<Asn1SequenceOf<IntegerAsn1>, AllocError>
         ensures { IfOk result (λ suites. suites ≡ pos (cipher_number self.now.suite) ∷ []) }
     {
@@ -110,6 +81,30 @@ impl Client {
         let name = principal_name(alloc, NT_PRINCIPAL, self.components())?;
         Ok(Some(ExplicitContextTag(name)))
     }
+}
+
+/// The request of this type, with an entry of preauthentication data.
+pub(crate) fn kdc_request_of(
+    alloc: Global,
+    kind: u8,
+    entry: PaData,
+    body: KdcReqBody,
+) -> Result<KdcReq, AllocError>
+    ensures { IfOk result (λ request. request ≡ kdc_request_of kind entry body) }
+{
+    let version = IntegerAsn1::from_u64(alloc, u64::from(KERBEROS_VERSION));
+    let number = IntegerAsn1::from_u64(alloc, u64::from(kind));
+    let entries = entries_of(alloc, entry);
+    let ((version, number), (entries, body)) = both(
+        both(version, number),
+        both(entries, Ok(body)),
+    )?;
+    Ok(KdcReq {
+        pvno: ExplicitContextTag(version),
+        msg_type: ExplicitContextTag(number),
+        padata: Optional(Some(ExplicitContextTag(entries))),
+        req_body: ExplicitContextTag(body),
+    })
 }
 
 /// Four of the random bytes, big-endian, of which 31 bits count.

@@ -1,5 +1,6 @@
-//! A client with a password: it asks a realm for a first ticket and for further ones, asks a service by what it was granted,
-//! and takes their replies (RFC 4120, sections 3.1 to 3.3).
+//! A client: it asks a realm for a first ticket and for further ones, asks a service by what it was granted, and takes their
+//! replies (RFC 4120, sections 3.1 to 3.3). How it authenticates itself is a trait, `Means`. A key that it shares with its realm is
+//! one such means, `ByKey`.
 #![tactic(auto)]
 
 mod ap_reply;
@@ -7,10 +8,12 @@ mod ap_request;
 mod as_reply;
 mod as_request;
 mod authenticator;
+mod by_key;
 mod client;
 mod copies;
 mod credential;
 mod kdc_request;
+mod means;
 mod names;
 mod read;
 mod refusal;
@@ -18,7 +21,9 @@ mod taking;
 mod tgs_reply;
 mod tgs_request;
 
+pub use by_key::ByKey;
 pub use client::Client;
 pub use credential::Credential;
 pub use krb_asked::{ApAsked, AsAsked, TgsAsked};
+pub use means::Means;
 pub use refusal::{AskRefusal, TakeRefusal};

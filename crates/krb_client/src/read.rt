@@ -8,7 +8,6 @@ ghost use Rattle.krb_client.specs.AsReply.{IsAsPart};
 ghost use Rattle.krb_client.specs.Messages.{IsErrorCode};
 ghost use Rattle.krb_client.specs.Taking.{IsTgsPart};
 
-use crate::Client;
 use krb_asked::ApAsked;
 use krb_crypto::Key;
 use krb_messages::messages::{
@@ -67,21 +66,16 @@ pub(crate) fn read_ap_reply(alloc: Global, bytes: &[u8]) -> Result<Option<ApRepI
     }
 }
 
-/// The part of an AS reply that is sealed here under the client's key, with the tag of AS replies, or none.
+/// The part of an AS reply that is sealed here under the key, with the tag of AS replies, or none.
 #[tactic(auto, unfolding(crate::specs::AsReply::IsAsPart))]
 pub(crate) fn open_as_part(
     alloc: Global,
-    client: &Client,
+    key: &Key,
     sealed: &EncryptedData,
 ) -> Result<Option<EncKdcRepPart>, AllocError>
-    ensures { IfOk result (IsFound (IsAsPart client.now sealed.now)) }
+    ensures { IfOk result (IsFound (IsAsPart key.now.suite key.now.bytes sealed.now)) }
 {
-    let opened: Option<EncAsRepPart> = open_sealed(
-        alloc,
-        client.key(),
-        key_usages::AS_REP,
-        sealed,
-    )?;
+    let opened: Option<EncAsRepPart> = open_sealed(alloc, key, key_usages::AS_REP, sealed)?;
     match opened {
         Some(part) => Ok(Some(part.0)),
         None => Ok(None),

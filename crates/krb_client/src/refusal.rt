@@ -14,18 +14,29 @@ pub enum AskRefusal {
     #[error("not a name of a realm or a principal")]
     BadName,
 
+    /// The client's certificate isn't readable.
+    #[error("not a certificate")]
+    BadCertificate,
+
+    /// The client's key functions answer none: the client can't authenticate itself.
+    #[error("no key function for what is asked")]
+    NoKeyFunction,
+
     /// Memory ran out.
     #[error("out of memory")]
     Memory,
 }
 
 impl AskRefusal {
-    /// The refusal's number: 1 for a bad name, 3 if memory ran out.
+    /// The refusal's number: 1 for a bad name, 4 for a bad certificate, 2 where key functions answer none, 3 if memory ran
+    /// out.
     pub fn number(self) -> u32
         ensures { result ≡ ask_number self }
     {
         match self {
             AskRefusal::BadName => 1,
+            AskRefusal::BadCertificate => 4,
+            AskRefusal::NoKeyFunction => 2,
             AskRefusal::Memory => 3,
         }
     }
@@ -50,7 +61,12 @@ pub enum TakeRefusal {
     #[error("refused with code {0}")]
     Refused(u32),
 
-    /// Its part isn't sealed under the client's key or, where it answers by a ticket, under the session's key.
+    /// It isn't the realm's, by its certificate and signature (RFC 4556, section 3.2.4).
+    #[error("the reply isn't signed by the realm")]
+    NotTrusted,
+
+    /// Its part isn't sealed under the key that the client's means have for it or, where it answers by a ticket, under the
+    /// session's key.
     #[error("the reply isn't sealed under the key that it is to be under")]
     NotSealed,
 
@@ -64,14 +80,15 @@ pub enum TakeRefusal {
 }
 
 impl TakeRefusal {
-    /// The refusal's number: 1 for what isn't readable, 2 for an error, 3 for what isn't sealed, 4 for what wasn't asked,
-    /// 6 if memory ran out.
+    /// The refusal's number: 1 for what isn't readable, 2 for an error, 5 for what isn't the realm's, 3 for what isn't sealed,
+    /// 4 for what wasn't asked, 6 if memory ran out.
     pub fn number(self) -> u32
         ensures { result ≡ take_number self }
     {
         match self {
             TakeRefusal::Unreadable => 1,
             TakeRefusal::Refused(_) => 2,
+            TakeRefusal::NotTrusted => 5,
             TakeRefusal::NotSealed => 3,
             TakeRefusal::NotAsked => 4,
             TakeRefusal::Memory => 6,

@@ -9,7 +9,7 @@ use Rattle.krb_types.specs.RandomBytes.{Random, reply_confounder, ticket_confoun
 use Rattle.krb_tickets.specs.declared.grant.Grant.{Grant}
 use Rattle.krb_tickets.specs.Parts.{kdc_reply_of, reply_part, ticket_of, ticket_part}
 use Rattle.krb_tickets.specs.Sealed.{IsSealedData, IsSealedReply, kdc_reply_bytes, reply_part_bytes, sole_sealed_data, sole_sealed_reply, ticket_part_bytes}
-pub use Rattle.krb_tickets.specs.ReplyKeys.{ReplyKeyRecord, as_reply_key, reply_key_of, tgs_reply_key, tgs_subkey_reply_key}
+pub use Rattle.krb_tickets.specs.ReplyKeys.{ReplyKeyRecord, agreed_reply_key, as_reply_key, reply_key_of, tgs_reply_key, tgs_subkey_reply_key}
 
 -- the bytes are the encoding of the reply in which the ticket's part is sealed under the service's key (usage 2; RFC 4120,
 -- section 7.5.1), and the reply's part under the reply key
@@ -18,7 +18,7 @@ pub record IsTicketReply (grant : Grant) (under : ReplyKeyRecord) (service : Acc
   pub ticket_sealed : IsSealedData service 2 (ticket_confounder (cipher_confounder_size service.suite) random) (ticket_part_bytes (ticket_part grant)) ticket_data
   pub reply_data : EncryptedData
   pub reply_sealed : IsSealedReply under (reply_confounder (cipher_confounder_size under.suite) random) (reply_part_bytes under.exchange (reply_part grant)) reply_data
-  pub encoding : bytes ≡ kdc_reply_bytes under.exchange (kdc_reply_of under.exchange grant (ticket_of grant ticket_data) reply_data)
+  pub encoding : bytes ≡ kdc_reply_bytes under.exchange (kdc_reply_of under.exchange under.pk_as_rep grant (ticket_of grant ticket_data) reply_data)
 
 -- there is one at most
 pub sole_ticket_reply : (grant : Grant) (under : ReplyKeyRecord) (service : AccountRecord) (random : Random) (a b : Bytes)
@@ -27,6 +27,6 @@ sole_ticket_reply grant under service random a b x y =
     let ticket = sole_sealed_data service 2 (ticket_confounder (cipher_confounder_size service.suite) random) (ticket_part_bytes (ticket_part grant)) x.ticket_data y.ticket_data x.ticket_sealed y.ticket_sealed in
     let reply = sole_sealed_reply under (reply_confounder (cipher_confounder_size under.suite) random) (reply_part_bytes under.exchange (reply_part grant)) x.reply_data y.reply_data x.reply_sealed y.reply_sealed in
     x.encoding
-    ∙ ap (λ d. kdc_reply_bytes under.exchange (kdc_reply_of under.exchange grant (ticket_of grant d) x.reply_data)) ticket
-    ∙ ap (λ d. kdc_reply_bytes under.exchange (kdc_reply_of under.exchange grant (ticket_of grant y.ticket_data) d)) reply
+    ∙ ap (λ d. kdc_reply_bytes under.exchange (kdc_reply_of under.exchange under.pk_as_rep grant (ticket_of grant d) x.reply_data)) ticket
+    ∙ ap (λ d. kdc_reply_bytes under.exchange (kdc_reply_of under.exchange under.pk_as_rep grant (ticket_of grant y.ticket_data) d)) reply
     ∙ sym y.encoding

@@ -27,6 +27,6 @@ pub fn ticket_reply(
     let ticket = sealed_ticket(alloc, grant, service, confounder)?;
     let confounder = confounder_at(under.key.suite(), words, REPLY_CONFOUNDER);
     let part = sealed_reply(alloc, grant, under, confounder)?;
-    let bytes = reply_bytes(alloc, under.exchange, grant, ticket, part)?;
+    let bytes = reply_bytes(alloc, under.exchange, under.pk_as_rep, grant, ticket, part)?;
     Ok(bytes)
 }

@@ -3,9 +3,9 @@ use Rattle.std.proofs.Common.{◌≡◌, ℕ, List, Result, Ok, Err, IsErrAnd, i
 use Rattle.krb_moments.specs.Units.{Micros}
 use Rattle.krb_frames.specs.declared.fault.ServeFault.{ServeFault}
 use Rattle.krb_frames.specs.declared.fault.ServeFault.TheVariants as serve_fault
-use Rattle.krb_realm.specs.Answers.{BeginsRequest}
-use Rattle.krb_realm.specs.Realm.{RealmState, call_to}
-use Rattle.krb_replies.specs.Replies.{Replies}
+use Rattle.key_functions.specs.KeyFunctions.{no_functions}
+use Rattle.krb_realm.specs.Answers.{BeginsRequest, RealmReplies}
+use Rattle.krb_realm.specs.Realm.{RealmState}
 use Rattle.krb_runs.specs.Devices.{Devices, Serves}
 use Rattle.krb_runs.specs.declared.outcome.Stop.{Stop}
 use Rattle.krb_runs.specs.declared.outcome.Stop.TheVariants.{Fault}
@@ -28,7 +28,7 @@ module _ (Untouched : Type 0) (text : List ℕ) (moment : Micros) (old new : Dev
   file_stopped (kdc_fault.Account n e) kept has = (kept, λ realm. no_realm_with_fault text (kdc_fault.Account n e) realm has (λ is. (cc)))
 
   pub serving_stopped : (realm : RealmState) → IsRealmFile text realm → (fault : ServeFault)
-      → Serves (λ message moment words reply. Replies (call_to realm moment words) message reply) BeginsRequest moment old new (Err fault)
+      → Serves (RealmReplies realm no_functions) BeginsRequest moment old new (Err fault)
       → IsEnd Untouched text moment old new (Err (Fault fault))
   serving_stopped realm file serve_fault.Memory served = inr (realm, file, served)
   serving_stopped realm file serve_fault.Truncated served = (realm, file, served)
@@ -42,7 +42,7 @@ module _ (Untouched : Type 0) (text : List ℕ) (moment : Micros) (old new : Dev
 
   pub exit_stopped : (realm : RealmState) → IsRealmFile text realm → (fault : ServeFault) (result : Result ℕ Stop)
       → IsErrAnd result (λ stop. stop ≡ Fault fault)
-      → Serves (λ message moment words reply. Replies (call_to realm moment words) message reply) BeginsRequest moment old new (Err fault)
+      → Serves (RealmReplies realm no_functions) BeginsRequest moment old new (Err fault)
       → IsEnd Untouched text moment old new result
   exit_stopped realm file fault result is served =
       subst (IsEnd Untouched text moment old new) (sym (exit_of result fault is)) (serving_stopped realm file fault served)

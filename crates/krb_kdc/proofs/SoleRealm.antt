@@ -2,7 +2,6 @@
 use Rattle.std.proofs.Common.{◌≡◌, ◌≢◌, List, ℕ, Result, Ok, Err, inl, inr, ap, sym, ◌∙◌}
 use Rattle.krb_realm.specs.Realm.{RealmState}
 use Rattle.krb_settings.proofs.Files as file
-use Rattle.krb_settings.specs.Written.{WrittenRealm}
 use Rattle.krb_kdc.specs.Files.{IsRealmFile, HasFault}
 use Rattle.krb_kdc.specs.Realms.{realm_of}
 use Rattle.krb_kdc.specs.declared.fault.KdcFault.{KdcFault}

@@ -1,24 +1,24 @@
 -- The realm that a settings file's words make: with its own name, key and settings, and each account added in the file's order.
-use Rattle.std.specs.Prelude.{◌≡◌, ℕ, suc, nat_le, ◌&&◌, if◌then◌else◌, List, [], ◌∷◌, Result, Ok, Err}
+use Rattle.std.specs.Prelude.{ℕ, suc, nat_le, ◌&&◌, if◌then◌else◌, List, [], ◌∷◌, None, Result, Ok, Err}
 use Rattle.std.specs.FinMap as finite
 use Rattle.krb_crypto.specs.declared.suite.CipherSuite.{CipherSuite}
 use Rattle.krb_moments.specs.Units.{Seconds}
 use Rattle.krb_accounts.specs.Account.{AccountRecord}
 use Rattle.krb_accounts.specs.Accounts.{AccountMap}
 use Rattle.krb_accounts.specs.Passwords.{password_account, password_salt}
-use Rattle.krb_accounts.specs.Settings.{SettingsRecord}
 use Rattle.krb_accounts.specs.declared.refusal.RealmRefusal.{RealmRefusal}
 use Rattle.krb_accounts.specs.declared.refusal.RealmRefusal.TheVariants.{BadSetting}
 use Rattle.krb_realm.specs.Realm.{RealmState, making, made, adding, adding_by_password, first_key}
+use Rattle.krb_realm.specs.Settings.{SettingsState, settings_by}
 use Rattle.krb_settings.specs.Steps.{◌>>=◌}
 use Rattle.krb_settings.specs.Written.{WrittenAccount, WrittenRealm, WrittenSecret, password, key}
 use Rattle.krb_kdc.specs.declared.fault.KdcFault.{KdcFault}
 use Rattle.krb_kdc.specs.declared.fault.KdcFault.TheVariants.{Account, Realm}
 
--- skew and lifetime, where they are in their ranges
-abbrev pub settings_of : Seconds → Seconds → Result SettingsRecord KdcFault
+-- skew and lifetime, where they are in their ranges; a file has no anchor and no certificate
+abbrev pub settings_of : Seconds → Seconds → Result SettingsState KdcFault
 settings_of skew lifetime =
-    if nat_le skew 86400 && nat_le 1 lifetime && nat_le lifetime 31536000 then Ok (record { skew = skew; lifetime = lifetime })
+    if nat_le skew 86400 && nat_le 1 lifetime && nat_le lifetime 31536000 then Ok (settings_by skew lifetime None None)
     else Err (Realm BadSetting)
 
 abbrev pub in_realm : {A : Type 0} → Result A RealmRefusal → Result A KdcFault

@@ -1,11 +1,11 @@
 -- How a run with settings ends.
-use Rattle.std.specs.Prelude.{◌⊎◌, ℕ, List, Option, Result, Ok, Err}
+use Rattle.std.specs.Prelude.{◌⊎◌, ℕ, List, Result, Ok, Err}
 use Rattle.krb_moments.specs.Units.{Micros}
 use Rattle.krb_frames.specs.declared.fault.ServeFault.{ServeFault}
 use Rattle.krb_frames.specs.declared.fault.ServeFault.TheVariants as serve_fault
-use Rattle.krb_realm.specs.Answers.{BeginsRequest}
-use Rattle.krb_realm.specs.Realm.{RealmState, call_to}
-use Rattle.krb_replies.specs.Replies.{Replies}
+use Rattle.key_functions.specs.KeyFunctions.{no_functions}
+use Rattle.krb_realm.specs.Answers.{BeginsRequest, RealmReplies}
+use Rattle.krb_realm.specs.Realm.{RealmState}
 use Rattle.krb_runs.specs.Devices.{Devices, Serves}
 use Rattle.krb_runs.specs.declared.outcome.Stop.{Stop}
 use Rattle.krb_runs.specs.declared.outcome.Stop.TheVariants.{BadArguments, BadSettings, Fault}
@@ -18,10 +18,11 @@ abbrev pub stop_of : KdcFault → Stop
 stop_of Memory = Fault serve_fault.Memory
 stop_of _ = BadSettings
 
--- the file writes a realm, and the stream is served as that realm's, which may want memory for what begins as a request
+-- the file writes a realm, and the stream is served as that realm's without key functions, which may want memory for what begins as a
+-- request
 abbrev pub ServesFile : List ℕ → Micros → Devices → Devices → Result ℕ ServeFault → Type 0
 ServesFile text moment old new served = (realm : RealmState) × IsRealmFile text realm
-    × Serves (λ message moment words reply. Replies (call_to realm moment words) message reply) BeginsRequest moment old new served
+    × Serves (RealmReplies realm no_functions) BeginsRequest moment old new served
 
 -- `Untouched`: no device was read from or written to. This holds if a file writes no realm, and may hold if memory ran out
 abbrev pub IsEnd : Type 0 → List ℕ → Micros → Devices → Devices → Result ℕ Stop → Type 0

@@ -2,7 +2,9 @@
 
 use crate::run_with_arguments;
 use devices::Watched;
-use krb_realm::{CipherSuite, Moment, Realm, ServeFault, Settings, Sink, Source};
+use krb_realm::{
+    Answering, CipherSuite, Moment, NoKeys, Realm, ServeFault, Settings, Sink, Source,
+};
 use krb_runs::{Outcome, Stop, serve_at};
 use std::alloc::Global;
 use std::env;
@@ -75,7 +77,7 @@ fn serve_stored<R: Source, W: Sink>(
 ) -> Result<u64, Stop> {
     // Its name, key, settings and moment are a realm's, so memory is the only refusal.
     let memory = Stop::Fault(ServeFault::Memory);
-    let Ok(settings) = Settings::new(SKEW, LIFETIME) else {
+    let Ok(settings) = Settings::new(alloc, SKEW, LIFETIME, None, None) else {
         return Err(memory);
     };
     let Ok(realm) = Realm::new(
@@ -91,6 +93,10 @@ fn serve_stored<R: Source, W: Sink>(
         return Err(memory);
     };
     let mut words = Watched::new(io::repeat(0));
-    let answered = serve_at(alloc, &realm, moment, &mut words, reader, writer)?;
+    let answering = Answering {
+        realm: &realm,
+        keys: &NoKeys,
+    };
+    let answered = serve_at(alloc, &answering, moment, &mut words, reader, writer)?;
     Ok(answered)
 }

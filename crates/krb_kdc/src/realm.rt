@@ -30,16 +30,17 @@ pub fn read_realm(alloc: Global, text: &[u8]) -> Result<Realm, KdcFault>
 pub fn realm_of(alloc: Global, written: &RealmSettings) -> Result<Realm, KdcFault>
     ensures { IsAside KdcFault.Memory (λ realm. realm) (realm_of (shown_realm written.now)) result }
 {
-    let settings = settings_of(written.skew, written.lifetime)?;
+    let settings = settings_of(alloc, written.skew, written.lifetime)?;
     let mut realm = new_realm(alloc, written, settings)?;
     add_accounts(alloc, &mut realm, &written.accounts)?;
     Ok(realm)
 }
 
-fn settings_of(skew: u64, lifetime: u64) -> Result<Settings, KdcFault>
+// Clients authenticate by password alone: a file has no anchor and no certificate.
+fn settings_of(alloc: Global, skew: u64, lifetime: u64) -> Result<Settings, KdcFault>
     ensures { result ≡ settings_of skew lifetime }
 {
-    match Settings::new(skew, lifetime) {
+    match Settings::new(alloc, skew, lifetime, None, None) {
         Ok(settings) => Ok(settings),
         Err(_) => Err(KdcFault::Realm(RealmRefusal::BadSetting)),
     }

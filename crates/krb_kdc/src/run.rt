@@ -6,12 +6,12 @@ ghost use Rattle.krb_runs.specs.declared.outcome.Stop.{Stop};
 ghost use Rattle.krb_kdc.specs.Runs.{IsEnd};
 
 use crate::read_realm;
-use krb_realm::{Moment, Sink, Source};
+use krb_realm::{Answering, Moment, NoKeys, Sink, Source};
 use krb_runs::{Outcome, Stop, serve_at};
 use std::alloc::Global;
 
 /// Answers the frames of `reader` on `writer` for the realm of a settings file, each at one moment and with the next 128
-/// bytes of `words_reader`.
+/// bytes of `words_reader`. The realm has no key functions.
 ///
 /// The outcome has status 0 and no line where the stream was served to its end. It has status 1 where the file is no
 /// realm's: nothing was read or written then. It has status 2, and the fault's name, where serving stopped early, or where
@@ -50,6 +50,10 @@ fn serve_file<K: Source, R: Source, W: Sink>(
         Ok(realm) => realm,
         Err(fault) => return Err(fault.stop()),
     };
-    let answered = serve_at(alloc, &realm, moment, words_reader, reader, writer)?;
+    let answering = Answering {
+        realm: &realm,
+        keys: &NoKeys,
+    };
+    let answered = serve_at(alloc, &answering, moment, words_reader, reader, writer)?;
     Ok(answered)
 }

@@ -28,6 +28,8 @@ use Rattle.krb_client.specs.ApRequest.{ap_asked}
 use Rattle.krb_client.specs.Authenticators.{IsApRequest, authenticator_with, told_of}
 use Rattle.krb_client.specs.Client.{ClientRecord, CredentialRecord}
 use Rattle.krb_client.specs.declared.refusal.TakeRefusal.{TakeRefusal}
+use Rattle.krb_pkinit.specs.Rows.{PkinitRows}
+use Rattle.krb_client.specs.Means.{MeansRecord}
 use Rattle.krb_service.specs.Admissible.{IsAdmissible}
 use Rattle.krb_service.specs.Once.{pair_of}
 use Rattle.krb_service.specs.RememberingService.{Outcome, remembering}
@@ -49,7 +51,8 @@ use Rattle.krb_logins.proofs.WholePresented.{whole_authenticator, whole_part}
 own_number : (number : ℕ) → is_number number (pos number) ≡ true
 own_number number = eq-eqb number number refl
 
-module _ (client : ClientRecord) (realm : RealmRecord) (service : ServiceRecord) (before : RememberedRecord) (login : LoginRecord) (met : IsMet client realm service before login) where
+module _ (client : ClientRecord) (means : MeansRecord) (realm : RealmRecord) (rows : PkinitRows) (service : ServiceRecord) (before : RememberedRecord) (login : LoginRecord)
+    (met : IsMet client means realm rows service before login) where
   -- the lesser skew isn't greater than the service's
   least : common_skew realm service ≤ service.seen.skew
   least = omega arith
@@ -179,7 +182,7 @@ module _ (client : ClientRecord) (realm : RealmRecord) (service : ServiceRecord)
             )
 
   -- by what it holds the client is admitted
-  pub client_admitted : IsClientAdmitted client realm service before login met
+  pub client_admitted : IsClientAdmitted client means realm rows service before login met
   unfolding IsClientAdmitted
   client_admitted first span credential request outcome first_is further_is held asks given =
       let second = asks.authenticates.second in

@@ -1,5 +1,5 @@
 -- What a client writes to a service presents its choice.
-use Rattle.std.proofs.Common.{◌≡◌, ◌⊎◌, ℕ, ◌%◌, Bool, true, false, not, List, Option, None, Some, Result, Ok, Err, inl, inr, refl, sym, ap, subst, ◌∙◌}
+use Rattle.std.proofs.Common.{◌≡◌, ◌⊎◌, ℕ, ◌%◌, Bool, true, false, not, List, Option, None, Some, Ok, Err, inl, inr, refl, sym, ap, subst, ◌∙◌}
 use Rattle.std.proofs.lemmas.Bool.{eq-eqb}
 use Rattle.std.specs.Prelude.{pos}
 use Rattle.asn1_leaves.specs.CharSets.{is_general_string}
@@ -9,7 +9,8 @@ use Rattle.asn1_trees.specs.Tree.{IsWhole, Tree, der, leaf}
 use Rattle.asn1_trees.proofs.Spelling.{whole-wrapped}
 use Rattle.picky_asn1.specs.Bytes.{Bytes}
 use Rattle.picky_asn1.specs.Numbers.{is_number}
-use Rattle.decision_tables.specs.Tables.{Table, ask, done, need, refuse}
+use Rattle.decision_tables.specs.Tables.{Table, and_then, ask, done, need, refuse}
+use Rattle.krb_crypto.specs.Keys.{KeyRecord}
 use Rattle.krb_crypto.specs.Sealing.{IsSealedBy}
 use Rattle.krb_crypto.specs.Suites.{cipher_confounder_size, cipher_number}
 use Rattle.krb_crypto.specs.declared.suite.CipherSuite.{CipherSuite}
@@ -33,6 +34,7 @@ use Rattle.krb_client.specs.ApRequest.{subkey_told}
 use Rattle.krb_client.specs.AsReply.{takes_as_reply, takes_reply, takes_sealed}
 use Rattle.krb_client.specs.Authenticators.{ap_request_of, authenticator_with, told_of}
 use Rattle.krb_client.specs.Client.{ClientRecord, CredentialRecord}
+use Rattle.krb_client.specs.Means.{MeansRecord}
 use Rattle.krb_client.specs.Messages.{ap_request_bytes, authenticator_bytes}
 use Rattle.krb_client.specs.Taking.{IsTgsPart, Taken, credential_of, is_of_type, sole_tgs_part, takes_part}
 use Rattle.krb_client.specs.TgsReply.{takes_further, takes_tgs_reply}
@@ -93,11 +95,20 @@ opened_ticket : (P : EncKdcRepPart → Type 0) (client : ClientRecord) (service 
 opened_ticket P client service nonce reply credential error (inl x) = part_ticket client service nonce reply x.0 credential x.2
 opened_ticket P client service nonce reply credential error (inr x) = absurd (cc (x.1))
 
-sealed_ticket : (client : ClientRecord) (asked : AsAskedRecord) (reply : KdcRep) (credential : CredentialRecord) → (takes_sealed client asked reply).gives (Ok credential)
-    → credential.ticket ≡ reply.ticket.0.0
-sealed_ticket client asked reply credential (inl x) = part_ticket client asked.service asked.nonce reply x.0 credential x.2
-sealed_ticket client asked reply credential (inr x) =
-    opened_ticket (IsTgsPart client.suite client.key 3 reply.enc_part.0) client asked.service asked.nonce reply credential NotSealed x.1
+sealed_ticket : (client : ClientRecord) (key : KeyRecord) (asked : AsAskedRecord) (reply : KdcRep) (credential : CredentialRecord)
+    → (takes_sealed client key asked reply).gives (Ok credential) → credential.ticket ≡ reply.ticket.0.0
+sealed_ticket client key asked reply credential (inl x) = part_ticket client asked.service asked.nonce reply x.0 credential x.2
+sealed_ticket client key asked reply credential (inr x) =
+    opened_ticket (IsTgsPart key.suite key.bytes 3 reply.enc_part.0) client asked.service asked.nonce reply credential NotSealed x.1
+
+-- whatever its key is
+abbrev Opens : ClientRecord → MeansRecord → AsAskedRecord → KdcRep → Table Taken
+Opens client means asked reply = and_then (means.reply_key client asked reply) (λ key. takes_sealed client key asked reply)
+
+keyed_ticket : (client : ClientRecord) (means : MeansRecord) (asked : AsAskedRecord) (reply : KdcRep) (credential : CredentialRecord)
+    → (Opens client means asked reply).gives (Ok credential) → credential.ticket ≡ reply.ticket.0.0
+keyed_ticket client means asked reply credential (inl x) = sealed_ticket client x.0 asked reply credential x.2
+keyed_ticket client means asked reply credential (inr x) = absurd (cc (x.2))
 
 further_ticket : (client : ClientRecord) (asked : TgsAskedRecord) (reply : KdcRep) (credential : CredentialRecord)
     → ((part : EncKdcRepPart) × IsTgsPart asked.suite asked.key 8 reply.enc_part.0 part × (takes_part client asked.service asked.nonce reply part).gives (Ok credential))
@@ -109,13 +120,13 @@ further_ticket client asked reply credential x =
 ticket_whole : (credential : CredentialRecord) (reply : KdcRep) → credential.ticket ≡ reply.ticket.0.0 → IsWhole (kdc_rep_inner_tree reply) → IsWhole (ticket_tree credential.ticket)
 ticket_whole credential reply same whole = subst (λ (t : TicketInner). IsWhole (ticket_tree t)) (sym same) (reply_ticket reply whole)
 
-as_read : (client : ClientRecord) (asked : AsAskedRecord) (bytes : Bytes) (credential : CredentialRecord)
-    → ((reply : KdcRep) × IsAsRep bytes reply × (takes_reply client asked reply).gives (Ok credential)) ⊎ (((reply : KdcRep) → IsAsRep bytes reply → ⊥) × (Gave credential ≡ Gave_none Unreadable))
+as_read : (client : ClientRecord) (means : MeansRecord) (asked : AsAskedRecord) (bytes : Bytes) (credential : CredentialRecord)
+    → ((reply : KdcRep) × IsAsRep bytes reply × (takes_reply client means asked reply).gives (Ok credential)) ⊎ (((reply : KdcRep) → IsAsRep bytes reply → ⊥) × (Gave credential ≡ Gave_none Unreadable))
     → IsWhole (ticket_tree credential.ticket)
-as_read client asked bytes credential (inl x) =
-    let judged = past (not (is_of_type 11 x.0.pvno.0 x.0.msg_type.0)) Unreadable (takes_sealed client asked x.0) credential x.2 in
-    ticket_whole credential x.0 (sealed_ticket client asked x.0 credential judged) x.1.0.0
-as_read client asked bytes credential (inr x) = absurd (cc (x.1))
+as_read client means asked bytes credential (inl x) =
+    let judged = past (not (is_of_type 11 x.0.pvno.0 x.0.msg_type.0)) Unreadable (Opens client means asked x.0) credential x.2 in
+    ticket_whole credential x.0 (keyed_ticket client means asked x.0 credential judged) x.1.0.0
+as_read client means asked bytes credential (inr x) = absurd (cc (x.1))
 
 -- of a TGS reply of the right version and type
 abbrev opening : ClientRecord → TgsAskedRecord → KdcRep → Table Taken
@@ -132,12 +143,12 @@ tgs_read client asked bytes credential (inl x) =
     ticket_whole credential reply (further_ticket client asked reply credential judged) x.1.0.0
 tgs_read client asked bytes credential (inr x) = absurd (cc (x.1))
 
-whole_ticket : (credential : CredentialRecord) → IsOfReply credential → IsWhole (ticket_tree credential.ticket)
+whole_ticket : (means : MeansRecord) (credential : CredentialRecord) → IsOfReply means credential → IsWhole (ticket_tree credential.ticket)
 unfolding takes_as_reply takes_tgs_reply
-whole_ticket credential (client, bytes, inl (asked, inl x)) = absurd (cc (x.2))
-whole_ticket credential (client, bytes, inl (asked, inr x)) = as_read client asked bytes credential x.1
-whole_ticket credential (client, bytes, inr (asked, inl x)) = absurd (cc (x.2))
-whole_ticket credential (client, bytes, inr (asked, inr x)) = tgs_read client asked bytes credential x.1
+whole_ticket means credential (client, bytes, inl (asked, inl x)) = absurd (cc (x.2))
+whole_ticket means credential (client, bytes, inl (asked, inr x)) = as_read client means asked bytes credential x.1
+whole_ticket means credential (client, bytes, inr (asked, inl x)) = absurd (cc (x.2))
+whole_ticket means credential (client, bytes, inr (asked, inr x)) = tgs_read client asked bytes credential x.1
 
 -- ---- the request
 
@@ -155,18 +166,18 @@ whole_own client micros second (Some key) realm names =
 own_number : (number : ℕ) → is_number number (pos number) ≡ true
 own_number number = eq-eqb number number refl
 
-pub presents : (client : ClientRecord) (credential : CredentialRecord) (mutual_required with_subkey : Bool) (moment : ℕ) (random bytes key : Bytes)
-    (by : AsksService client credential mutual_required with_subkey moment random bytes key)
+pub presents : (client : ClientRecord) (means : MeansRecord) (credential : CredentialRecord) (mutual_required with_subkey : Bool) (moment : ℕ) (random bytes key : Bytes)
+    (by : AsksService client means credential mutual_required with_subkey moment random bytes key)
     → Presents key (choice_by credential mutual_required by.part by.part_confounder by.asks.authenticator (authenticator_confounder (cipher_confounder_size credential.suite) random)) bytes
 unfolding ap_request_bytes authenticator_bytes
-presents client credential mutual_required with_subkey moment random bytes key by =
+presents client means credential mutual_required with_subkey moment random bytes key by =
     let shown = by.asks.presents in
     let told = by.asks.authenticates in
     let cipher : Bytes = shown.sealed.cipher in
     let confounder : Bytes = authenticator_confounder (cipher_confounder_size credential.suite) random in
     let request : ApReqInner = ap_request_of mutual_required credential.ticket (encrypted_by credential.suite None cipher) in
     let encoding : bytes ≡ der (ap_req_tree request) = shown.encoding ∙ ap (λ part. der (ap_req_tree (ap_request_of mutual_required credential.ticket part))) shown.sealed.told in
-    let written : IsApReq bytes request = (whole_request mutual_required credential.ticket credential.suite cipher (whole_ticket credential by.of_reply), encoding) in
+    let written : IsApReq bytes request = (whole_request mutual_required credential.ticket credential.suite cipher (whole_ticket means credential by.of_reply), encoding) in
     let own = whole_own client (moment % 1000000) told.second (subkey_told with_subkey credential.suite random) (realm_text client.realm by.realm) (component_texts client.components by.name) in
     record {
       part_cipher = credential.ticket.enc_part.0.cipher.0;

@@ -1,5 +1,5 @@
 -- The realm grants the ticket for the service by the first one: each row of the TGS table is passed.
-use Rattle.std.proofs.Common.{◌≡◌, ◌<◌, ◌≤◌, ℕ, ◌+◌, ◌*◌, ◌/◌, ◌%◌, true, false, not, ◌&&◌, ◌||◌, min, List, [], ◌∷◌, Option, None, Some, Result, Ok, Err, inl, inr, refl, sym, ap, subst, ◌∙◌, get_or, arith}
+use Rattle.std.proofs.Common.{◌≡◌, ◌<◌, ◌≤◌, ℕ, ◌+◌, ◌*◌, ◌/◌, ◌%◌, true, false, not, ◌&&◌, min, List, [], ◌∷◌, Option, None, Some, Result, Ok, Err, inl, refl, sym, ap, subst, ◌∙◌, get_or, arith}
 use Rattle.std.proofs.lemmas.Bool.{and_from, eq-eqb, eqb-true, lt-leb}
 use Rattle.std.specs.Option.{is_some}
 use Rattle.std.specs.Prelude.{ℤ, if◌then◌else◌, pos}
@@ -20,22 +20,19 @@ use Rattle.krb_crypto.specs.Suites.{checksum_number, cipher_checksum, cipher_con
 use Rattle.krb_crypto.proofs.AllSuites.{some_checksum, suite_found}
 use Rattle.krb_crypto.proofs.SealingLemmas.{same_suite}
 use Rattle.krb_types.specs.Names.{components, is_same_name, is_same_realm}
-use Rattle.krb_types.specs.RandomBytes.{Random, authenticator_confounder, ticket_confounder}
-use Rattle.krb_types.specs.Refusals.{Code}
+use Rattle.krb_types.specs.RandomBytes.{authenticator_confounder, ticket_confounder}
 use Rattle.krb_types.specs.declared.data_types.authenticator.AuthenticatorInner.{AuthenticatorInner}
 use Rattle.krb_types.specs.declared.data_types.checksum.Checksum.{Checksum}
 use Rattle.krb_types.specs.declared.data_types.enc_ticket_part.EncTicketPartInner.{EncTicketPartInner}
-use Rattle.krb_types.specs.declared.data_types.encrypted_data.EncryptedData.{EncryptedData}
-use Rattle.krb_types.specs.declared.data_types.pa_data.PaData.{PaData}
 use Rattle.krb_types.specs.declared.data_types.principal_name.PrincipalName.{PrincipalName}
 use Rattle.krb_messages.specs.declared.messages.ap_req.ApReqInner.{ApReqInner}
 use Rattle.krb_messages.specs.declared.messages.kdc_req.KdcReq.{KdcReq}
 use Rattle.krb_messages.specs.declared.messages.kdc_req_body.KdcReqBody.{KdcReqBody}
-use Rattle.krb_messages.specs.Messages.{IsApReq, IsAsReq, IsTgsReq, authenticator_tree, enc_ticket_part_tree, sole_ap_req, sole_as_req, sole_tgs_req, tgs_req_tree}
+use Rattle.krb_messages.specs.Messages.{IsApReq, IsAsReq, IsTgsReq, enc_ticket_part_tree, sole_ap_req, sole_as_req, sole_tgs_req, tgs_req_tree}
 use Rattle.krb_accounts.specs.Account.{AccountRecord}
 use Rattle.decision_tables.specs.Tables.{Table, and_then, ask, done, need, refuse}
 use Rattle.krb_opening.specs.Keys.{suite_of}
-use Rattle.krb_sealing.specs.Sealing.{encrypted_by, encryption_key, is_own_number, sealed_opens}
+use Rattle.krb_sealing.specs.Sealing.{encryption_key, is_own_number, sealed_opens}
 use Rattle.krb_preauth.specs.Entries.{first_entry, first_of}
 use Rattle.krb_tickets.specs.declared.grant.Grant.{Grant}
 use Rattle.krb_tickets.specs.Parts.{session_key_of, ticket_part}
@@ -43,18 +40,19 @@ use Rattle.krb_tickets.specs.ReplyKeys.{ReplyKeyRecord, tgs_reply_key}
 use Rattle.krb_tickets.specs.Sealed.{ticket_part_bytes}
 use Rattle.krb_tickets.specs.Times.{asked_end, end_of, last_second, start_of}
 use Rattle.krb_grants.specs.Granted.{IsTicketReply}
-use Rattle.krb_ap.specs.ApTable.{ap_fields, authenticated, is_early, is_for, is_late, is_of_client, may_be_under, opened, opened_part, timely, told}
+use Rattle.krb_ap.specs.ApTable.{ap_fields, is_early, is_for, is_late, may_be_under, opened, opened_part, timely, told}
 use Rattle.krb_ap.specs.Entry.{EntryRecord}
 use Rattle.krb_ap.specs.Messages.{IsAuthenticator, IsTicketPart, sole_authenticator, sole_ticket_part}
 use Rattle.krb_ap.specs.Presents.{request_of}
 use Rattle.krb_ap.specs.declared.presented.Authenticated.{Authenticated}
+use Rattle.krb_pkinit.specs.Rows.{PkinitRows}
 use Rattle.krb_as.specs.Call.{CallRecord, skew_of}
 use Rattle.krb_as.specs.Grants.{replied}
-use Rattle.krb_as.specs.Requests.{IsSpan, account_of, client_of, entries_of, is_ended, lasting, service_of}
+use Rattle.krb_as.specs.Requests.{IsSpan, account_of, body_bytes, client_of, entries_of, is_ended, lasting, service_of}
 use Rattle.krb_as.specs.TicketGranting.{krbtgt_of}
 use Rattle.krb_as.specs.declared.span.Span.{Span}
 use Rattle.krb_tgs.specs.TgsTable as table
-use Rattle.krb_tgs.specs.TgsTable.{body_bytes, carried, counting, covered, further, further_ticket, has_account, is_known_checksum, is_of_body, of_carried, of_shown, of_ticket, shown_near, tgs_granted, tgs_table, ticket_granting, to_us}
+use Rattle.krb_tgs.specs.TgsTable.{carried, counting, covered, further, further_ticket, is_known_checksum, is_of_body, of_carried, of_shown, of_ticket, shown_near, tgs_granted, tgs_table, ticket_granting, to_us}
 use Rattle.krb_replies.specs.Replies.{Replies, as_reply, reply_of, tgs_reply}
 use Rattle.krb_client.specs.Authenticators.{IsApRequest, authenticator_with, told_of}
 use Rattle.krb_client.specs.Client.{ClientRecord, CredentialRecord}
@@ -63,6 +61,7 @@ use Rattle.krb_client.specs.Messages.{authenticator_bytes, request_body_bytes, t
 use Rattle.krb_client.specs.Requests.{entry_of, nonce_of, request_body}
 use Rattle.krb_client.specs.TgsRequest.{checksum_over, tgs_body_bytes, tgs_request_of}
 use Rattle.krb_service.specs.Service.{ServiceRecord}
+use Rattle.krb_client.specs.Means.{MeansRecord}
 use Rattle.krb_logins.specs.Held.{IsFirstSpan, IsFurtherSpan, IsHeld, first_grant, further_grant}
 use Rattle.krb_logins.specs.Honest.{common_skew}
 use Rattle.krb_logins.specs.Laws.{IsFurtherGranted, IsMet}
@@ -213,15 +212,16 @@ own_first suite =
     ap (λ (o : Option CipherSuite). table.suite_of_first (if is_some o then Some number else None)) own ∙ own
 
 -- a realm replies to a TGS request by its table
-replied_to : (call : CallRecord) (bytes : Bytes) (reply : Option Bytes) (request : KdcReq) → IsTgsReq bytes request → ((other : KdcReq) → IsAsReq bytes other → ⊥)
-    → Replies call bytes reply → (tgs_reply call request).gives reply
+replied_to : (call : CallRecord) (rows : PkinitRows) (bytes : Bytes) (reply : Option Bytes) (request : KdcReq) → IsTgsReq bytes request → ((other : KdcReq) → IsAsReq bytes other → ⊥)
+    → Replies call rows bytes reply → (tgs_reply call request).gives reply
 unfolding Replies
-replied_to call bytes reply request is none x =
+replied_to call rows bytes reply request is none x =
     past_ask (IsTgsReq bytes) (sole_tgs_req bytes) (done None) (tgs_reply call) request reply is
     (past_none (IsAsReq bytes) (sole_as_req bytes) (ask (IsTgsReq bytes) (sole_tgs_req bytes) (done None) (tgs_reply call))
-    (λ v. as_reply call (account_of call.look (client_of v.req_body.0)) (account_of call.look (service_of v.req_body.0)) v) reply none x)
+    (λ v. as_reply call rows (account_of call.look (client_of v.req_body.0)) (account_of call.look (service_of v.req_body.0)) v) reply none x)
 
-module _ (client : ClientRecord) (realm : RealmRecord) (service : ServiceRecord) (before : RememberedRecord) (login : LoginRecord) (met : IsMet client realm service before login)
+module _ (client : ClientRecord) (means : MeansRecord) (realm : RealmRecord) (rows : PkinitRows) (service : ServiceRecord) (before : RememberedRecord) (login : LoginRecord)
+    (met : IsMet client means realm rows service before login)
     (first : Span) (first_is : IsFirstSpan realm login first) where
   abbrev call : CallRecord
   call = call_at realm login.realm_tgs login.realm_random_tgs
@@ -440,24 +440,25 @@ module _ (client : ClientRecord) (realm : RealmRecord) (service : ServiceRecord)
           let e = past_then {A = Authenticated} {T = Bytes} (shown_near call (ticket_part old) presented) (of_shown call body (ticket_part old)) shown r is_shown d in
           grants_further r (shown_grants r e)
 
-      granted : (bytes : Bytes) (reply : Option Bytes) → bytes ≡ tgs_request_bytes request → Replies call bytes reply
+      granted : (bytes : Bytes) (reply : Option Bytes) → bytes ≡ tgs_request_bytes request → Replies call rows bytes reply
           → (span : Span) × IsFurtherSpan realm login first span × ((made : Bytes) × (reply ≡ Some made)
           × IsTicketReply (further_grant client realm login first span) (tgs_reply_key client.suite session) met.honest.service.account login.realm_random_tgs made)
       granted bytes reply e x =
           let asked = subst (λ n. are_texts n ≡ true) (sym met.honest.named.asked) (component_texts service.entry.components met.parties.entry.1) in
           let is = tgs_request_written client login.service login.till (nonce_of login.random_tgs) shown_bytes bytes (realm_text client.realm met.parties.realm) asked e in
-          let judged = replied_to call bytes reply request is (no_as_request _ bytes is.1) x in
+          let judged = replied_to call rows bytes reply request is (no_as_request _ bytes is.1) x in
           let made = table_grants judged.0 judged.1 in
           (made.0, made.1, (made.2.0, subst (λ r. (reply_of call (λ code. None) request r).gives reply) made.2.2 judged.2, made.2.1))
 
 -- by the first ticket the realm grants the one for the service
-pub further_granted : (client : ClientRecord) (realm : RealmRecord) (service : ServiceRecord) (before : RememberedRecord) (login : LoginRecord) (met : IsMet client realm service before login)
-    → IsFurtherGranted client realm service before login met
+pub further_granted : (client : ClientRecord) (means : MeansRecord) (realm : RealmRecord) (rows : PkinitRows) (service : ServiceRecord) (before : RememberedRecord) (login : LoginRecord)
+    (met : IsMet client means realm rows service before login)
+    → IsFurtherGranted client means realm rows service before login met
 unfolding IsFurtherGranted
-further_granted client realm service before login met first granting request first_is held asks =
+further_granted client means realm rows service before login met first granting request first_is held asks =
     let shown = asks.authenticates in
     let presents = subst (λ a. IsApRequest granting 7 false a (authenticator_confounder (cipher_confounder_size granting.suite) login.random_tgs) asks.request) shown.authenticates.told shown.presents in (
-      λ are. replies_at realm login.till login.realm_tgs login.realm_random_tgs request met.keyed met.honest.lasting.further met.enough.realm_tgs are,
+      λ are. replies_at realm rows login.till login.realm_tgs login.realm_random_tgs request met.keyed met.honest.lasting.further met.enough.realm_tgs are,
       λ reply replied.
-          granted client realm service before login met first first_is granting held shown.authenticates.second shown.authenticates.of_moment asks.request presents request reply asks.encoding replied,
+          granted client means realm rows service before login met first first_is granting held shown.authenticates.second shown.authenticates.of_moment asks.request presents request reply asks.encoding replied,
     )

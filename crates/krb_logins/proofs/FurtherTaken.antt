@@ -10,6 +10,7 @@ use Rattle.krb_messages.specs.Messages.{IsTgsRep, enc_tgs_rep_part_tree, sole_tg
 use Rattle.krb_messages.specs.declared.messages.enc_kdc_rep_part.EncKdcRepPart.{EncKdcRepPart}
 use Rattle.krb_messages.specs.declared.messages.kdc_rep.KdcRep.{KdcRep}
 use Rattle.krb_accounts.specs.Account.{AccountRecord}
+use Rattle.krb_pkinit.specs.Rows.{PkinitRows}
 use Rattle.decision_tables.specs.Tables.{Table, ask, done}
 use Rattle.krb_sealing.specs.Sealing.{sealed_opens}
 use Rattle.krb_tickets.specs.declared.grant.Grant.{Grant}
@@ -20,6 +21,7 @@ use Rattle.krb_tickets.specs.Sealed.{IsSealedReply, reply_part_bytes}
 use Rattle.krb_grants.specs.Granted.{IsTicketReply}
 use Rattle.krb_asked.specs.Asked.{TgsAskedRecord}
 use Rattle.krb_client.specs.Client.{ClientRecord, CredentialRecord}
+use Rattle.krb_client.specs.Means.{MeansRecord}
 use Rattle.krb_client.specs.Messages.{IsErrorCode, sole_error_code}
 use Rattle.krb_client.specs.Taking.{IsTgsPart, Taken, is_of_type, sole_tgs_part, takes_part}
 use Rattle.krb_client.specs.TgsReply.{TakesTgsReply, takes_further, takes_tgs_reply}
@@ -39,7 +41,7 @@ use Rattle.krb_logins.proofs.WholeReplies.{AreTexts, reply_written, writes_part}
 
 -- the reply is of the right version and type
 typed : (grant : Grant) (ticket sealed : EncryptedData)
-    → is_of_type 13 (kdc_reply_of Tgs grant (ticket_of grant ticket) sealed).pvno.0 (kdc_reply_of Tgs grant (ticket_of grant ticket) sealed).msg_type.0 ≡ true
+    → is_of_type 13 (kdc_reply_of Tgs None grant (ticket_of grant ticket) sealed).pvno.0 (kdc_reply_of Tgs None grant (ticket_of grant ticket) sealed).msg_type.0 ≡ true
 unfolding kdc_reply_of
 typed grant ticket sealed = refl
 
@@ -47,7 +49,7 @@ typed grant ticket sealed = refl
 part_opened : (suite held_suite : CipherSuite) (key held_key : Bytes) (grant : Grant) (confounder : Bytes) (ticket sealed : EncryptedData)
     → suite ≡ held_suite → key ≡ held_key → AreTexts grant
     → IsSealedReply (tgs_reply_key suite key) confounder (reply_part_bytes Tgs (reply_part grant)) sealed
-    → IsTgsPart held_suite held_key 8 (kdc_reply_of Tgs grant (ticket_of grant ticket) sealed).enc_part.0 (reply_part grant)
+    → IsTgsPart held_suite held_key 8 (kdc_reply_of Tgs None grant (ticket_of grant ticket) sealed).enc_part.0 (reply_part grant)
 unfolding IsTgsPart kdc_reply_of
 part_opened suite held_suite key held_key grant confounder ticket sealed same_suite same_key texts it =
     opened_by {T = EncKdcRepPart} enc_tgs_rep_part_tree suite held_suite key held_key 8 sealed (reply_part grant) same_suite same_key
@@ -82,16 +84,17 @@ taken_of : (client : ClientRecord) (suite : CipherSuite) (key : Bytes) (account 
     → IsTicketReply grant (tgs_reply_key suite key) account random granted → TakesTgsReply client asked granted taken
     → (credential : CredentialRecord) × (taken ≡ Ok credential) × IsHeld account random grant credential
 taken_of client suite key account asked grant random granted taken same_suite same_key texts is sized it x =
-    let reply = kdc_reply_of Tgs grant (ticket_of grant it.ticket_data) it.reply_data in
-    let as_read = read client asked granted reply taken (reply_written Tgs grant it.ticket_data it.reply_data granted texts it.encoding) x in
+    let reply = kdc_reply_of Tgs None grant (ticket_of grant it.ticket_data) it.reply_data in
+    let as_read = read client asked granted reply taken (reply_written Tgs None grant it.ticket_data it.reply_data granted texts it.encoding) x in
     let as_opened = opened client asked reply (reply_part grant) taken (typed grant it.ticket_data it.reply_data)
     (part_opened suite asked.suite key asked.key grant (reply_confounder (cipher_confounder_size suite) random) it.ticket_data it.reply_data same_suite same_key texts it.reply_sealed) as_read in
-    taken_held client asked.service asked.nonce Tgs grant it.ticket_data it.reply_data account random taken is sized it.ticket_sealed as_opened
+    taken_held client asked.service asked.nonce Tgs None grant it.ticket_data it.reply_data account random taken is sized it.ticket_sealed as_opened
 
-pub further_taken : (client : ClientRecord) (realm : RealmRecord) (service : ServiceRecord) (before : RememberedRecord) (login : LoginRecord) (met : IsMet client realm service before login)
-    → IsFurtherTaken client realm service before login met
+pub further_taken : (client : ClientRecord) (means : MeansRecord) (realm : RealmRecord) (rows : PkinitRows) (service : ServiceRecord) (before : RememberedRecord) (login : LoginRecord)
+    (met : IsMet client means realm rows service before login)
+    → IsFurtherTaken client means realm rows service before login met
 unfolding IsFurtherTaken
-further_taken client realm service before login met first span granting granted taken held it x =
+further_taken client means realm rows service before login met first span granting granted taken held it x =
     let asked = tgs_asked granting login.service login.random_tgs in
     let grant = further_grant client realm login first span in
     let texts : AreTexts grant = record {

@@ -1,8 +1,8 @@
 -- What a client takes of a realm's reply whose part is opened, for AS and TGS.
-use Rattle.std.proofs.Common.{◌≡◌, ◌≤◌, ℕ, true, not, ◌&&◌, List, length, None, Some, Ok, refl, sym, ap, subst, arith}
+use Rattle.std.proofs.Common.{◌≡◌, ◌≤◌, ℕ, true, not, ◌&&◌, List, length, Option, Some, Ok, refl, sym, ap, subst, arith}
 use Rattle.std.proofs.lemmas.Bool.{and_from, eq-eqb}
 use Rattle.std.proofs.lemmas.List.{length-take-le}
-use Rattle.std.specs.Prelude.{if◌then◌else◌, pos}
+use Rattle.std.specs.Prelude.{pos}
 use Rattle.picky_asn1.specs.Bytes.{Bytes}
 use Rattle.picky_asn1.specs.Numbers.{is_number}
 use Rattle.krb_crypto.specs.declared.suite.CipherSuite.{CipherSuite}
@@ -47,9 +47,9 @@ pub record IsAskedFor (client : ClientRecord) (asked : List Bytes) (number : ℕ
   pub name : components grant.client ≡ client.components
   pub service : components grant.service ≡ asked
 
-module _ (client : ClientRecord) (asked : List Bytes) (number : ℕ) (exchange : Exchange) (grant : Grant) (ticket sealed : EncryptedData) where
+module _ (client : ClientRecord) (asked : List Bytes) (number : ℕ) (exchange : Exchange) (pk_as_rep : Option Bytes) (grant : Grant) (ticket sealed : EncryptedData) where
   abbrev reply : KdcRep
-  reply = kdc_reply_of exchange grant (ticket_of grant ticket) sealed
+  reply = kdc_reply_of exchange pk_as_rep grant (ticket_of grant ticket) sealed
 
   answered : IsAskedFor client asked number grant → is_answer client.realm client.components asked number reply (reply_part grant) ≡ true
   unfolding is_answer kdc_reply_of reply_part

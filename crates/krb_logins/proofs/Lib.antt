@@ -1,8 +1,8 @@
 mod Passing
-mod Giving
+pub mod Giving
 mod Names
 mod LastSecond
-mod Times
+pub mod Times
 mod WholeRequests
 mod WholeReplies
 mod Opened
@@ -10,6 +10,7 @@ mod NoErrors
 mod GrantTaken
 mod FirstGranted
 mod FirstTaken
+mod ByPassword
 mod FurtherTaken
 mod TicketTimes
 mod WholePresented
@@ -20,5 +21,6 @@ mod Replying
 mod Admitted
 mod FurtherGranted
 mod OneKey
+pub mod EndsWithOneKey
 mod OneLogin
 mod ChoicePresented

@@ -1,9 +1,9 @@
 -- Names of realms and of principals, as the tables compare them and as messages hold them.
-use Rattle.std.proofs.Common.{◌≡◌, ℕ, Bool, true, not, ◌&&◌, false, List, [], ◌∷◌, length, refl, sym, ap, subst}
+use Rattle.std.proofs.Common.{◌≡◌, Bool, true, ◌&&◌, List, [], ◌∷◌, length, refl, subst}
 use Rattle.std.proofs.lemmas.Bool.{and_from, and_parts}
 use Rattle.std.proofs.lemmas.Cmp.{lists_equiv, nat_list_eq_equiv}
 use Rattle.std.specs.List.{list_all}
-use Rattle.std.specs.Prelude.{codes, nat_le, nat_lt}
+use Rattle.std.specs.Prelude.{codes, nat_le}
 use Rattle.asn1_leaves.specs.CharSets.{is_general_string}
 use Rattle.picky_asn1.specs.Bytes.{Bytes}
 use Rattle.krb_types.specs.Names.{is_same_name, is_same_realm}

@@ -1,12 +1,16 @@
 -- Every honest login leaves client and service with one key: its steps in a row, by what holds of each.
 use Rattle.std.proofs.Common.{◌≡◌, ◌&&◌, ℕ, Bool, true, false, List, ◌∷◌, Option, None, Some, Result, Ok, Err, inl, inr, refl, sym, subst, ap, ◌∙◌}
+use Rattle.asn1_leaves.specs.declared.date.GeneralizedTime.{GeneralizedTime}
 use Rattle.picky_asn1.specs.Bytes.{Bytes}
+use Rattle.krb_moments.specs.Units.{Micros}
+use Rattle.krb_types.specs.RandomBytes.{Random}
 use Rattle.krb_accounts.specs.Names.{are_components, is_realm_name}
 use Rattle.krb_types.specs.Names.{components}
 use Rattle.krb_sealing.specs.Sealing.{encryption_key}
 use Rattle.decision_tables.specs.Tables.{Table}
 use Rattle.krb_frames.specs.declared.fault.AnswerRefusal.{AnswerRefusal}
 use Rattle.krb_frames.specs.declared.fault.AnswerRefusal.TheVariants as answer_refusal
+use Rattle.krb_pkinit.specs.Rows.{PkinitRows}
 use Rattle.krb_tickets.specs.Parts.{session_key_of}
 use Rattle.krb_as.specs.Call.{CallRecord}
 use Rattle.krb_as.specs.TicketGranting.{krbtgt_of}
@@ -19,7 +23,9 @@ use Rattle.krb_asked.specs.Asked.{ApAskedRecord, AsAskedRecord, TgsAskedRecord}
 use Rattle.krb_client.specs.ApReply.{takes_ap_reply}
 use Rattle.krb_client.specs.ApRequest.{ap_asked}
 use Rattle.krb_client.specs.AsReply.{TakesAsReply, takes_as_reply}
+use Rattle.krb_client.specs.AsRequest.{IsUnasked, as_body}
 use Rattle.krb_client.specs.Client.{ClientRecord, CredentialRecord}
+use Rattle.krb_client.specs.Means.{MeansRecord}
 use Rattle.krb_client.specs.Refusals.{IsTaken}
 use Rattle.krb_client.specs.TgsReply.{TakesTgsReply, takes_tgs_reply}
 use Rattle.krb_client.specs.TgsRequest.{tgs_asked}
@@ -29,12 +35,13 @@ use Rattle.krb_client.specs.declared.refusal.TakeRefusal.{TakeRefusal}
 use Rattle.krb_client.specs.declared.refusal.TakeRefusal.TheVariants as take_refusal
 use Rattle.krb_service.specs.RememberingService.{Outcome, remembering}
 use Rattle.krb_service.specs.Service.{ServiceRecord}
+use Rattle.krb_logins.specs.Authenticated.{first_asked}
 use Rattle.krb_logins.specs.Held.{IsFirstSpan, IsFurtherSpan, IsHeld, first_grant, further_grant}
 use Rattle.krb_logins.specs.Honest.{IsOneKey, IsWantOfMemory, clock_of, login_pair}
 use Rattle.krb_logins.specs.Laws.{IsClientAdmitted, IsFirstGranted, IsFirstTaken, IsFurtherGranted, IsFurtherTaken, IsMet}
 use Rattle.krb_logins.specs.LoginRun.{ApExchange, AsExchange, Exchanges, IsAdmitted, Login, LoginRun, TgsExchange, ended, followed, shown}
 use Rattle.krb_logins.specs.Parties.{LoginRecord, RealmRecord, RememberedRecord, call_at}
-use Rattle.krb_logins.specs.Steps.{IsAnswered, IsApAsked, IsAsAsked, IsTgsAsked, IsUnasked, as_asked, reply_bytes}
+use Rattle.krb_logins.specs.Steps.{IsAnswered, IsApAsked, IsAsAsked, IsTgsAsked, IsUnnamed, reply_bytes}
 use Rattle.krb_logins.specs.declared.refusal.LoginRefusal.{LoginRefusal}
 use Rattle.krb_logins.specs.declared.refusal.LoginRefusal.TheVariants.{Answered, Asked, Taken}
 
@@ -80,10 +87,17 @@ abbrev IsTrueName : Bool → Type 0
 IsTrueName true = Unit {0}
 IsTrueName false = ⊥
 
--- a name is asked for, memory aside
-asked_memory : (service : List Bytes) (refusal : AskRefusal) → are_components service ≡ true → IsUnasked service refusal → refusal ≡ ask_refusal.Memory
+-- a ticket for a name is asked for, memory aside
+asked_memory : (service : List Bytes) (refusal : AskRefusal) → are_components service ≡ true → IsUnnamed service refusal → refusal ≡ ask_refusal.Memory
 asked_memory service refusal named (inl x) = x
 asked_memory service refusal named (inr x) = absurd (subst IsTrueName (sym named ∙ x.1) tt)
+
+-- and a first ticket for it, where the means don't refuse the request
+first_memory : (client : ClientRecord) (means : MeansRecord) (service : List Bytes) (till : GeneralizedTime) (moment : Micros) (random : Random) (refusal : AskRefusal) → are_components service ≡ true
+    → (means.refuses (as_body client service till random) moment random → ⊥) → IsUnasked client means service till moment random refusal → refusal ≡ ask_refusal.Memory
+first_memory client means service till moment random refusal named asks (inl x) = absurd (subst IsTrueName (sym named ∙ x.1) tt)
+first_memory client means service till moment random refusal named asks (inr (inl x)) = x
+first_memory client means service till moment random refusal named asks (inr (inr x)) = absurd (asks x.1)
 
 -- what is given by a table that gives values alone is taken, memory aside
 taken_memory : {T : Type 0} (table : Table (Result T TakeRefusal)) (refusal : TakeRefusal) → ((taken : Result T TakeRefusal) → table.gives taken → (value : T) × (taken ≡ Ok value))
@@ -91,33 +105,36 @@ taken_memory : {T : Type 0} (table : Table (Result T TakeRefusal)) (refusal : Ta
 taken_memory table take_refusal.Memory values x = refl
 taken_memory table take_refusal.Unreadable values x = absurd (no_refusal _ _ (values (Err take_refusal.Unreadable) x).1)
 taken_memory table (take_refusal.Refused code) values x = absurd (no_refusal _ _ (values (Err (take_refusal.Refused code)) x).1)
+taken_memory table take_refusal.NotTrusted values x = absurd (no_refusal _ _ (values (Err take_refusal.NotTrusted) x).1)
 taken_memory table take_refusal.NotSealed values x = absurd (no_refusal _ _ (values (Err take_refusal.NotSealed) x).1)
 taken_memory table take_refusal.NotAsked values x = absurd (no_refusal _ _ (values (Err take_refusal.NotAsked) x).1)
 
 -- what is replied to with a reply is answered, memory aside
-answered_memory : (call : CallRecord) (request : Bytes) (refusal : AnswerRefusal) → ((reply : Option Bytes) → Replies call request reply → (granted : Bytes) × (reply ≡ Some granted))
-    → IsAnswered call request (Err refusal) → refusal ≡ answer_refusal.Memory
+answered_memory : (call : CallRecord) (rows : PkinitRows) (request : Bytes) (refusal : AnswerRefusal) → ((reply : Option Bytes) → Replies call rows request reply → (granted : Bytes) × (reply ≡ Some granted))
+    → IsAnswered call rows request (Err refusal) → refusal ≡ answer_refusal.Memory
 unfolding IsAnswered
-answered_memory call request answer_refusal.Memory replies x = refl
-answered_memory call request answer_refusal.Unreadable replies x = absurd (no_reply _ (replies None x).1)
+answered_memory call rows request answer_refusal.Memory replies x = refl
+answered_memory call rows request answer_refusal.Unreadable replies x = absurd (no_reply _ (replies None x).1)
 
-answered_reply : (call : CallRecord) (request reply : Bytes) → IsAnswered call request (Ok reply) → Replies call request (Some reply)
+answered_reply : (call : CallRecord) (rows : PkinitRows) (request reply : Bytes) → IsAnswered call rows request (Ok reply) → Replies call rows request (Some reply)
 unfolding IsAnswered
-answered_reply call request reply x = x
+answered_reply call rows request reply x = x
 
 -- the ticket-granting service has a name
 granting_name : (realm : Bytes) → is_realm_name realm ≡ true → are_components (krbtgt_of realm) ≡ true
 granting_name realm named = ap (λ b. b && true) named
 
 -- what holds of the steps
-pub record AreLaws (client : ClientRecord) (realm : RealmRecord) (service : ServiceRecord) (before : RememberedRecord) (login : LoginRecord) (met : IsMet client realm service before login) : Type 0 where
-  pub first_granted : IsFirstGranted client realm service before login met
-  pub first_taken : IsFirstTaken client realm service before login met
-  pub further_granted : IsFurtherGranted client realm service before login met
-  pub further_taken : IsFurtherTaken client realm service before login met
-  pub client_admitted : IsClientAdmitted client realm service before login met
+pub record AreLaws (client : ClientRecord) (means : MeansRecord) (realm : RealmRecord) (rows : PkinitRows) (service : ServiceRecord) (before : RememberedRecord) (login : LoginRecord)
+    (met : IsMet client means realm rows service before login) : Type 0 where
+  pub first_granted : IsFirstGranted client means realm rows service before login met
+  pub first_taken : IsFirstTaken client means realm rows service before login met
+  pub further_granted : IsFurtherGranted client means realm rows service before login met
+  pub further_taken : IsFurtherTaken client means realm rows service before login met
+  pub client_admitted : IsClientAdmitted client means realm rows service before login met
 
-module _ (client : ClientRecord) (realm : RealmRecord) (service : ServiceRecord) (before : RememberedRecord) (login : LoginRecord) (met : IsMet client realm service before login) (laws : AreLaws client realm service before login met) where
+module _ (client : ClientRecord) (means : MeansRecord) (realm : RealmRecord) (rows : PkinitRows) (service : ServiceRecord) (before : RememberedRecord) (login : LoginRecord)
+    (met : IsMet client means realm rows service before login) (laws : AreLaws client means realm rows service before login met) where
   -- the client holds the first ticket
   abbrev HoldsFirst : CredentialRecord → Type 0
   HoldsFirst credential = (first : Span) × IsFirstSpan realm login first × IsHeld met.granting.account login.realm_random_as (first_grant client realm login first) credential
@@ -125,46 +142,47 @@ module _ (client : ClientRecord) (realm : RealmRecord) (service : ServiceRecord)
   abbrev as_call : CallRecord
   as_call = call_at realm login.realm_as login.realm_random_as
 
-  module _ (sent : Bytes × AsAskedRecord) (asked : IsAsAsked client (krbtgt_of client.realm) login.till login.client_as login.random_as (Ok sent)) where
-    as_granted : (reply : Option Bytes) → Replies as_call sent.0 reply → (granted : Bytes) × (reply ≡ Some granted)
+  module _ (sent : Bytes × AsAskedRecord) (asked : IsAsAsked client means (krbtgt_of client.realm) login.till login.client_as login.random_as (Ok sent)) where
+    as_granted : (reply : Option Bytes) → Replies as_call rows sent.0 reply → (granted : Bytes) × (reply ≡ Some granted)
     unfolding IsAsAsked IsFirstGranted
-    as_granted reply replied = let it = (laws.first_granted sent.0 asked.0).1 reply replied in (it.2.0, it.2.1)
+    as_granted reply replied = let it = (laws.first_granted sent.0 asked.0).1 reply replied in (it.2.2.0, it.2.2.1)
 
-    as_value : (reply : Bytes) (taken : Result CredentialRecord TakeRefusal) → Replies as_call sent.0 (Some reply) → (takes_as_reply client sent.1 reply).gives taken
+    as_value : (reply : Bytes) (taken : Result CredentialRecord TakeRefusal) → Replies as_call rows sent.0 (Some reply) → (takes_as_reply client means sent.1 reply).gives taken
         → (credential : CredentialRecord) × (taken ≡ Ok credential) × HoldsFirst credential
     unfolding IsAsAsked IsFirstGranted IsFirstTaken
     as_value reply taken replied x =
         let granted = (laws.first_granted sent.0 asked.0).1 (Some reply) replied in
-        let own = subst (λ a. TakesAsReply client a reply taken) asked.1 x in
-        let same = subst (λ r. TakesAsReply client (as_asked (krbtgt_of client.realm) login.client_as login.random_as) r taken) (one_reply reply granted.2.0 granted.2.1) own in
-        let it = laws.first_taken granted.0 granted.2.0 taken granted.2.2 same in
+        let own = subst (λ a. TakesAsReply client means a reply taken) asked.1 x in
+        let same = subst (λ r. TakesAsReply client means (first_asked client login) r taken) (one_reply reply granted.2.2.0 granted.2.2.1) own in
+        let it = laws.first_taken granted.0 granted.2.0 granted.2.2.0 taken granted.2.1 granted.2.2.2 same in
         (it.0, it.1, (granted.0, granted.1, it.2))
 
-    as_taken : (result : Result CredentialRecord LoginRefusal) (reply : Bytes) → Replies as_call sent.0 (Some reply)
-        → followed (IsTaken (takes_as_reply client sent.1 reply)) Taken ended result → Ends HoldsFirst result
+    as_taken : (result : Result CredentialRecord LoginRefusal) (reply : Bytes) → Replies as_call rows sent.0 (Some reply)
+        → followed (IsTaken (takes_as_reply client means sent.1 reply)) Taken ended result → Ends HoldsFirst result
     as_taken result reply replied =
-        followed_ends (IsTaken (takes_as_reply client sent.1 reply)) Taken ended HoldsFirst result
+        followed_ends (IsTaken (takes_as_reply client means sent.1 reply)) Taken ended HoldsFirst result
         (λ credential taken same.
         let it = as_value reply (Ok credential) replied taken in
         subst (Ends HoldsFirst) (sym same) (subst HoldsFirst (sym (one_value credential it.0 it.1)) it.2))
-        (λ refusal. taken_memory (takes_as_reply client sent.1 reply) refusal (λ taken x. let it = as_value reply taken replied x in (it.0, it.1)))
+        (λ refusal. taken_memory (takes_as_reply client means sent.1 reply) refusal (λ taken x. let it = as_value reply taken replied x in (it.0, it.1)))
 
     as_answered : (result : Result CredentialRecord LoginRefusal)
-        → followed (IsAnswered as_call sent.0) Answered (λ reply. followed (IsTaken (takes_as_reply client sent.1 reply)) Taken ended) result → Ends HoldsFirst result
+        → followed (IsAnswered as_call rows sent.0) Answered (λ reply. followed (IsTaken (takes_as_reply client means sent.1 reply)) Taken ended) result → Ends HoldsFirst result
     as_answered result =
-        followed_ends (IsAnswered as_call sent.0) Answered (λ reply. followed (IsTaken (takes_as_reply client sent.1 reply)) Taken ended) HoldsFirst result
-        (λ reply answered. as_taken result reply (answered_reply as_call sent.0 reply answered))
-        (λ refusal. answered_memory as_call sent.0 refusal as_granted)
+        followed_ends (IsAnswered as_call rows sent.0) Answered (λ reply. followed (IsTaken (takes_as_reply client means sent.1 reply)) Taken ended) HoldsFirst result
+        (λ reply answered. as_taken result reply (answered_reply as_call rows sent.0 reply answered))
+        (λ refusal. answered_memory as_call rows sent.0 refusal as_granted)
 
-  as_unasked : (refusal : AskRefusal) → IsAsAsked client (krbtgt_of client.realm) login.till login.client_as login.random_as (Err refusal) → refusal ≡ ask_refusal.Memory
+  as_unasked : (refusal : AskRefusal) → IsAsAsked client means (krbtgt_of client.realm) login.till login.client_as login.random_as (Err refusal) → refusal ≡ ask_refusal.Memory
   unfolding IsAsAsked
-  as_unasked refusal = asked_memory (krbtgt_of client.realm) refusal (granting_name client.realm met.parties.realm)
+  as_unasked refusal x =
+      first_memory client means (krbtgt_of client.realm) login.till login.client_as login.random_as refusal (granting_name client.realm met.parties.realm) met.authenticated.asks x.0
 
-  as_ends : (result : Result CredentialRecord LoginRefusal) → AsExchange client realm login result → Ends HoldsFirst result
+  as_ends : (result : Result CredentialRecord LoginRefusal) → AsExchange client means realm rows login result → Ends HoldsFirst result
   unfolding AsExchange
   as_ends result =
-      followed_ends (IsAsAsked client (krbtgt_of client.realm) login.till login.client_as login.random_as) Asked
-      (λ sent. followed (IsAnswered as_call sent.0) Answered (λ reply. followed (IsTaken (takes_as_reply client sent.1 reply)) Taken ended)) HoldsFirst result
+      followed_ends (IsAsAsked client means (krbtgt_of client.realm) login.till login.client_as login.random_as) Asked
+      (λ sent. followed (IsAnswered as_call rows sent.0) Answered (λ reply. followed (IsTaken (takes_as_reply client means sent.1 reply)) Taken ended)) HoldsFirst result
       (λ sent asked. as_answered sent asked result)
       as_unasked
 
@@ -178,11 +196,11 @@ module _ (client : ClientRecord) (realm : RealmRecord) (service : ServiceRecord)
   tgs_call = call_at realm login.realm_tgs login.realm_random_tgs
 
   module _ (granting : CredentialRecord) (holds : HoldsFirst granting) (sent : Bytes × TgsAskedRecord) (asked : IsTgsAsked client granting login.service login.till login.client_tgs login.random_tgs (Ok sent)) where
-    tgs_granted : (reply : Option Bytes) → Replies tgs_call sent.0 reply → (granted : Bytes) × (reply ≡ Some granted)
+    tgs_granted : (reply : Option Bytes) → Replies tgs_call rows sent.0 reply → (granted : Bytes) × (reply ≡ Some granted)
     unfolding IsTgsAsked IsFurtherGranted
     tgs_granted reply replied = let it = (laws.further_granted holds.0 granting sent.0 holds.1 holds.2 asked.0).1 reply replied in (it.2.0, it.2.1)
 
-    tgs_value : (reply : Bytes) (taken : Result CredentialRecord TakeRefusal) → Replies tgs_call sent.0 (Some reply) → (takes_tgs_reply client sent.1 reply).gives taken
+    tgs_value : (reply : Bytes) (taken : Result CredentialRecord TakeRefusal) → Replies tgs_call rows sent.0 (Some reply) → (takes_tgs_reply client sent.1 reply).gives taken
         → (credential : CredentialRecord) × (taken ≡ Ok credential) × HoldsFurther credential
     unfolding IsTgsAsked IsFurtherGranted IsFurtherTaken
     tgs_value reply taken replied x =
@@ -192,7 +210,7 @@ module _ (client : ClientRecord) (realm : RealmRecord) (service : ServiceRecord)
         let it = laws.further_taken holds.0 granted.0 granting granted.2.0 taken holds.2 granted.2.2 same in
         (it.0, it.1, (holds.0, holds.1, (granted.0, granted.1, it.2)))
 
-    tgs_taken : (result : Result CredentialRecord LoginRefusal) (reply : Bytes) → Replies tgs_call sent.0 (Some reply)
+    tgs_taken : (result : Result CredentialRecord LoginRefusal) (reply : Bytes) → Replies tgs_call rows sent.0 (Some reply)
         → followed (IsTaken (takes_tgs_reply client sent.1 reply)) Taken ended result → Ends HoldsFurther result
     tgs_taken result reply replied =
         followed_ends (IsTaken (takes_tgs_reply client sent.1 reply)) Taken ended HoldsFurther result
@@ -202,11 +220,11 @@ module _ (client : ClientRecord) (realm : RealmRecord) (service : ServiceRecord)
         (λ refusal. taken_memory (takes_tgs_reply client sent.1 reply) refusal (λ taken x. let it = tgs_value reply taken replied x in (it.0, it.1)))
 
     tgs_answered : (result : Result CredentialRecord LoginRefusal)
-        → followed (IsAnswered tgs_call sent.0) Answered (λ reply. followed (IsTaken (takes_tgs_reply client sent.1 reply)) Taken ended) result → Ends HoldsFurther result
+        → followed (IsAnswered tgs_call rows sent.0) Answered (λ reply. followed (IsTaken (takes_tgs_reply client sent.1 reply)) Taken ended) result → Ends HoldsFurther result
     tgs_answered result =
-        followed_ends (IsAnswered tgs_call sent.0) Answered (λ reply. followed (IsTaken (takes_tgs_reply client sent.1 reply)) Taken ended) HoldsFurther result
-        (λ reply answered. tgs_taken result reply (answered_reply tgs_call sent.0 reply answered))
-        (λ refusal. answered_memory tgs_call sent.0 refusal tgs_granted)
+        followed_ends (IsAnswered tgs_call rows sent.0) Answered (λ reply. followed (IsTaken (takes_tgs_reply client sent.1 reply)) Taken ended) HoldsFurther result
+        (λ reply answered. tgs_taken result reply (answered_reply tgs_call rows sent.0 reply answered))
+        (λ refusal. answered_memory tgs_call rows sent.0 refusal tgs_granted)
 
   -- the service's name is the one that is asked for
   service_name : are_components login.service ≡ true
@@ -216,15 +234,15 @@ module _ (client : ClientRecord) (realm : RealmRecord) (service : ServiceRecord)
   unfolding IsTgsAsked
   tgs_unasked granting refusal = asked_memory login.service refusal service_name
 
-  tgs_ends : (granting : CredentialRecord) (result : Result CredentialRecord LoginRefusal) → HoldsFirst granting → TgsExchange client realm login granting result → Ends HoldsFurther result
+  tgs_ends : (granting : CredentialRecord) (result : Result CredentialRecord LoginRefusal) → HoldsFirst granting → TgsExchange client realm rows login granting result → Ends HoldsFurther result
   unfolding TgsExchange
   tgs_ends granting result holds =
       followed_ends (IsTgsAsked client granting login.service login.till login.client_tgs login.random_tgs) Asked
-      (λ sent. followed (IsAnswered tgs_call sent.0) Answered (λ reply. followed (IsTaken (takes_tgs_reply client sent.1 reply)) Taken ended)) HoldsFurther result
+      (λ sent. followed (IsAnswered tgs_call rows sent.0) Answered (λ reply. followed (IsTaken (takes_tgs_reply client sent.1 reply)) Taken ended)) HoldsFurther result
       (λ sent asked. tgs_answered granting holds sent asked result)
       (tgs_unasked granting)
 
-  exchanges_end : (result : Result CredentialRecord LoginRefusal) → Exchanges client realm login result → Ends HoldsFurther result
+  exchanges_end : (result : Result CredentialRecord LoginRefusal) → Exchanges client means realm rows login result → Ends HoldsFurther result
   unfolding Exchanges
   exchanges_end result (inl x) = tgs_ends x.0 result (as_ends (Ok x.0) x.1) x.2
   exchanges_end result (inr x) = subst (Ends HoldsFurther) (sym x.2) (as_ends (Err x.0) x.1)
@@ -287,7 +305,7 @@ module _ (client : ClientRecord) (realm : RealmRecord) (service : ServiceRecord)
   ap_ends credential result after holds (inl x) = served credential holds x.0 x.1 x.2.0 after result x.2.1 x.2.2
   ap_ends credential result after holds (inr x) = subst (Ends HaveOneKey) (sym x.2) (ap_unasked credential x.0 x.1)
 
-  login_ends : (result : Result Login LoginRefusal) (after : RememberedRecord) → LoginRun client realm service login before result after → Ends HaveOneKey result
+  login_ends : (result : Result Login LoginRefusal) (after : RememberedRecord) → LoginRun client means realm rows service login before result after → Ends HaveOneKey result
   unfolding LoginRun
   login_ends result after (inl x) = ap_ends x.0 result after (exchanges_end (Ok x.0) x.1) x.2
   login_ends result after (inr x) = subst (Ends HaveOneKey) (sym x.2) (exchanges_end (Err x.0) x.1)
@@ -296,5 +314,5 @@ module _ (client : ClientRecord) (realm : RealmRecord) (service : ServiceRecord)
   is_one_key (Ok made) x = x
   is_one_key (Err refusal) x = x
 
-  pub one_key : (result : Result Login LoginRefusal) (after : RememberedRecord) → LoginRun client realm service login before result after → IsOneKey client result
+  pub one_key : (result : Result Login LoginRefusal) (after : RememberedRecord) → LoginRun client means realm rows service login before result after → IsOneKey client result
   one_key result after run = is_one_key result (login_ends result after run)

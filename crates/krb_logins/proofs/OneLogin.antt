@@ -1,5 +1,5 @@
 -- A login has one outcome: each of its steps has one, memory aside.
-use Rattle.std.proofs.Common.{◌≡◌, ◌⊎◌, true, false, Bool, List, Option, None, Some, Result, Ok, Err, inl, inr, refl, sym, subst, ap, ◌∙◌}
+use Rattle.std.proofs.Common.{◌≡◌, ◌⊎◌, true, false, List, None, Some, Result, Ok, Err, inl, inr, refl, sym, subst, ap, ◌∙◌}
 use Rattle.asn1_leaves.specs.declared.date.GeneralizedTime.{GeneralizedTime}
 use Rattle.picky_asn1.specs.Bytes.{Bytes}
 use Rattle.krb_moments.specs.Units.{Micros}
@@ -12,16 +12,18 @@ use Rattle.krb_frames.specs.declared.fault.AnswerRefusal.TheVariants as answer_r
 use Rattle.krb_as.specs.Call.{CallRecord}
 use Rattle.krb_as.specs.TicketGranting.{krbtgt_of}
 use Rattle.krb_replies.specs.Replies as replies
+use Rattle.krb_pkinit.specs.Rows.{PkinitRows}
 use Rattle.krb_replay_cache.specs.Pair.{PairRecord}
 use Rattle.krb_ap.specs.Admission.{AdmissionRecord}
 use Rattle.krb_ap.specs.declared.refusal.AdmitRefusal.{AdmitRefusal}
 use Rattle.krb_ap.specs.declared.refusal.AdmitRefusal.TheVariants as admit_refusal
-use Rattle.krb_asked.specs.Asked.{ApAskedRecord, AsAskedRecord, TgsAskedRecord}
+use Rattle.krb_asked.specs.Asked.{ApAskedRecord}
 use Rattle.krb_client.specs.ApReply.{takes_ap_reply}
 use Rattle.krb_client.specs.ApRequest.{sole_ap_request}
 use Rattle.krb_client.specs.AsReply.{takes_as_reply}
-use Rattle.krb_client.specs.AsRequest.{sole_as_request}
+use Rattle.krb_client.specs.AsRequest.{AsksAs, IsUnasked, as_body, sole_as_request}
 use Rattle.krb_client.specs.Client.{ClientRecord, CredentialRecord}
+use Rattle.krb_client.specs.Means.{MeansRecord}
 use Rattle.krb_client.specs.Refusals.{IsTaken}
 use Rattle.krb_client.specs.TgsReply.{takes_tgs_reply}
 use Rattle.krb_client.specs.TgsRequest.{sole_tgs_request}
@@ -36,9 +38,9 @@ use Rattle.krb_logins.proofs.OneKey.{no_refusal, no_reply, one_reply, one_value}
 use Rattle.krb_logins.specs.Honest.{IsWantOfMemory, WantsMemory}
 use Rattle.krb_logins.specs.LoginRun.{ApExchange, AsExchange, Exchanges, IsAdmitted, Login, LoginRun, TgsExchange, ended, followed, shown}
 use Rattle.krb_logins.specs.Parties.{LoginRecord, RealmRecord, RememberedRecord, call_at}
-use Rattle.krb_logins.specs.Steps.{IsAnswered, IsApAsked, IsAsAsked, IsTgsAsked, IsUnasked, reply_bytes}
+use Rattle.krb_logins.specs.Steps.{AreDecided, IsAnswered, IsApAsked, IsAsAsked, IsTgsAsked, IsUnnamed, reply_bytes}
 use Rattle.krb_logins.specs.declared.refusal.LoginRefusal.{LoginRefusal}
-use Rattle.krb_logins.specs.declared.refusal.LoginRefusal.TheVariants.{Admitted, Answered, Asked, Taken}
+use Rattle.krb_logins.specs.declared.refusal.LoginRefusal.TheVariants.{Answered, Asked, Taken}
 
 -- the answer is a refusal since memory ran out
 abbrev Wants : {A E : Type 0} → (E → Type 0) → Result A E → Type 0
@@ -106,22 +108,44 @@ abbrev AdmitWants : AdmitRefusal → Type 0
 AdmitWants refusal = refusal ≡ admit_refusal.Memory
 
 -- a name is asked for or refused
-asked_or_not : {A : Type 0} (service : List Bytes) (made : A) (refusal : AskRefusal) → are_components service ≡ true → IsUnasked service refusal → AskWants refusal
+asked_or_not : {A : Type 0} (service : List Bytes) (made : A) (refusal : AskRefusal) → are_components service ≡ true → IsUnnamed service refusal → AskWants refusal
 asked_or_not service made refusal named (inl wants) = wants
 asked_or_not service made refusal named (inr x) = cc (named, x.1)
 
-none_asked : {A : Type 0} (service : List Bytes) (refusal other : AskRefusal) → IsUnasked service refusal → IsUnasked service other → AreOne {A = A} AskWants (Err refusal) (Err other)
+none_asked : {A : Type 0} (service : List Bytes) (refusal other : AskRefusal) → IsUnnamed service refusal → IsUnnamed service other → AreOne {A = A} AskWants (Err refusal) (Err other)
 none_asked service refusal other (inl wants) y = inl wants
 none_asked service refusal other (inr x) (inl wants) = inr (inl wants)
 none_asked service refusal other (inr x) (inr y) = inr (inr (ap Err (x.0 ∙ sym y.0)))
 
-one_as_asked : (client : ClientRecord) (service : List Bytes) (till : GeneralizedTime) (moment : Micros) (random : Random) → IsOne AskWants (IsAsAsked client service till moment random)
+-- a first ticket is asked for or not, by means that refuse no request that they have padata for
+first_or_not : (client : ClientRecord) (means : MeansRecord) (service : List Bytes) (till : GeneralizedTime) (moment : Micros) (random : Random) (bytes : Bytes) (refusal : AskRefusal) → AreDecided means
+    → AsksAs client means service till moment random bytes → are_components service ≡ true → IsUnasked client means service till moment random refusal → AskWants refusal
+first_or_not client means service till moment random bytes refusal decided asks named (inl x) = cc (named, x.1)
+first_or_not client means service till moment random bytes refusal decided asks named (inr (inl wants)) = wants
+first_or_not client means service till moment random bytes refusal decided asks named (inr (inr x)) =
+    absurd (decided (as_body client service till random) moment random asks.padata asks.shown x.1)
+
+-- what refuses it is one
+abbrev FirstNamed : List Bytes → AskRefusal → Type 0
+FirstNamed service refusal = are_components service ≡ false → refusal ≡ ask_refusal.BadName
+
+none_first : {A : Type 0} (client : ClientRecord) (means : MeansRecord) (service : List Bytes) (till : GeneralizedTime) (moment : Micros) (random : Random) (refusal other : AskRefusal)
+    → IsUnasked client means service till moment random refusal → FirstNamed service refusal → IsUnasked client means service till moment random other → FirstNamed service other
+    → AreOne {A = A} AskWants (Err refusal) (Err other)
+none_first client means service till moment random refusal other (inl x) named y other_named = inr (inr (ap Err (x.0 ∙ sym (other_named x.1))))
+none_first client means service till moment random refusal other (inr (inl wants)) named y other_named = inl wants
+none_first client means service till moment random refusal other (inr (inr x)) named (inl y) other_named = inr (inr (ap Err (named y.1 ∙ sym y.0)))
+none_first client means service till moment random refusal other (inr (inr x)) named (inr (inl wants)) other_named = inr (inl wants)
+none_first client means service till moment random refusal other (inr (inr x)) named (inr (inr y)) other_named = inr (inr (ap Err (x.0 ∙ sym y.0)))
+
+one_as_asked : (client : ClientRecord) (means : MeansRecord) (service : List Bytes) (till : GeneralizedTime) (moment : Micros) (random : Random) → AreDecided means
+    → IsOne AskWants (IsAsAsked client means service till moment random)
 unfolding IsAsAsked
-one_as_asked client service till moment random (Ok sent) (Ok other) x y =
-    inr (inr (ap Ok (same_pair sent other (sole_as_request client service till moment random sent.0 other.0 x.0 y.0) (x.1 ∙ sym y.1))))
-one_as_asked client service till moment random (Ok sent) (Err refusal) x y = inr (inl (asked_or_not service sent refusal x.2 y))
-one_as_asked client service till moment random (Err refusal) (Ok sent) x y = inl (asked_or_not service sent refusal y.2 x)
-one_as_asked client service till moment random (Err refusal) (Err other) x y = none_asked service refusal other x y
+one_as_asked client means service till moment random decided (Ok sent) (Ok other) x y =
+    inr (inr (ap Ok (same_pair sent other (sole_as_request client means service till moment random sent.0 other.0 x.0 y.0) (x.1 ∙ sym y.1))))
+one_as_asked client means service till moment random decided (Ok sent) (Err refusal) x y = inr (inl (first_or_not client means service till moment random sent.0 refusal decided x.0 x.2 y.0))
+one_as_asked client means service till moment random decided (Err refusal) (Ok sent) x y = inl (first_or_not client means service till moment random sent.0 refusal decided y.0 y.2 x.0)
+one_as_asked client means service till moment random decided (Err refusal) (Err other) x y = none_first client means service till moment random refusal other x.0 x.1 y.0 y.1
 
 one_tgs_asked : (client : ClientRecord) (credential : CredentialRecord) (service : List Bytes) (till : GeneralizedTime) (moment : Micros) (random : Random)
     → IsOne AskWants (IsTgsAsked client credential service till moment random)
@@ -140,14 +164,14 @@ one_ap_asked client credential moment random (Ok sent) (Err refusal) x y = inr (
 one_ap_asked client credential moment random (Err refusal) other x y = inl x
 
 -- the realm's reply is one
-one_answered : (call : CallRecord) (request : Bytes) → IsOne AnswerWants (IsAnswered call request)
+one_answered : (call : CallRecord) (rows : PkinitRows) (request : Bytes) → IsOne AnswerWants (IsAnswered call rows request)
 unfolding IsAnswered
-one_answered call request (Ok reply) (Ok other) x y = inr (inr (ap Ok (one_reply reply other (replies.one_reply call request (Some reply) (Some other) x y))))
-one_answered call request (Ok reply) (Err answer_refusal.Unreadable) x y = absurd (no_reply reply (replies.one_reply call request None (Some reply) y x))
-one_answered call request (Err answer_refusal.Unreadable) (Ok reply) x y = absurd (no_reply reply (replies.one_reply call request None (Some reply) x y))
-one_answered call request (Err answer_refusal.Unreadable) (Err answer_refusal.Unreadable) x y = inr (inr refl)
-one_answered call request result (Err answer_refusal.Memory) x y = inr (inl refl)
-one_answered call request (Err answer_refusal.Memory) other x y = inl refl
+one_answered call rows request (Ok reply) (Ok other) x y = inr (inr (ap Ok (one_reply reply other (replies.one_reply call rows request (Some reply) (Some other) x y))))
+one_answered call rows request (Ok reply) (Err answer_refusal.Unreadable) x y = absurd (no_reply reply (replies.one_reply call rows request None (Some reply) y x))
+one_answered call rows request (Err answer_refusal.Unreadable) (Ok reply) x y = absurd (no_reply reply (replies.one_reply call rows request None (Some reply) x y))
+one_answered call rows request (Err answer_refusal.Unreadable) (Err answer_refusal.Unreadable) x y = inr (inr refl)
+one_answered call rows request result (Err answer_refusal.Memory) x y = inr (inl refl)
+one_answered call rows request (Err answer_refusal.Memory) other x y = inl refl
 
 -- what a table takes is one
 taken_by : {T : Type 0} (table : Table (Result T TakeRefusal)) (taken : Result T TakeRefusal) → IsTaken table taken → Wants TakeWants taken ⊎ table.gives taken
@@ -155,6 +179,7 @@ taken_by table (Ok made) x = inr x
 taken_by table (Err take_refusal.Memory) x = inl refl
 taken_by table (Err take_refusal.Unreadable) x = inr x
 taken_by table (Err (take_refusal.Refused code)) x = inr x
+taken_by table (Err take_refusal.NotTrusted) x = inr x
 taken_by table (Err take_refusal.NotSealed) x = inr x
 taken_by table (Err take_refusal.NotAsked) x = inr x
 
@@ -180,38 +205,38 @@ take_aside refusal wants = wants
 one_taking : {T : Type 0} (table : Table (Result T TakeRefusal)) → IsOne IsWantOfMemory (followed (IsTaken table) Taken ended)
 one_taking table = one_followed TakeWants (IsTaken table) Taken ended one_ended take_aside (one_taken table)
 
-module _ (client : ClientRecord) (realm : RealmRecord) (service : ServiceRecord) (before : RememberedRecord) (login : LoginRecord) where
+module _ (client : ClientRecord) (means : MeansRecord) (decided : AreDecided means) (realm : RealmRecord) (rows : PkinitRows) (service : ServiceRecord) (before : RememberedRecord) (login : LoginRecord) where
   abbrev as_call : CallRecord
   as_call = call_at realm login.realm_as login.realm_random_as
 
   abbrev tgs_call : CallRecord
   tgs_call = call_at realm login.realm_tgs login.realm_random_tgs
 
-  one_as_exchange : IsOne IsWantOfMemory (AsExchange client realm login)
+  one_as_exchange : IsOne IsWantOfMemory (AsExchange client means realm rows login)
   unfolding AsExchange
   one_as_exchange =
-      one_followed AskWants (IsAsAsked client (krbtgt_of client.realm) login.till login.client_as login.random_as) Asked
-      (λ sent. followed (IsAnswered as_call sent.0) Answered (λ reply. followed (IsTaken (takes_as_reply client sent.1 reply)) Taken ended))
-      (λ sent. one_followed AnswerWants (IsAnswered as_call sent.0) Answered (λ reply. followed (IsTaken (takes_as_reply client sent.1 reply)) Taken ended)
-      (λ reply. one_taking (takes_as_reply client sent.1 reply)) answer_aside (one_answered as_call sent.0))
-      ask_aside (one_as_asked client (krbtgt_of client.realm) login.till login.client_as login.random_as)
+      one_followed AskWants (IsAsAsked client means (krbtgt_of client.realm) login.till login.client_as login.random_as) Asked
+      (λ sent. followed (IsAnswered as_call rows sent.0) Answered (λ reply. followed (IsTaken (takes_as_reply client means sent.1 reply)) Taken ended))
+      (λ sent. one_followed AnswerWants (IsAnswered as_call rows sent.0) Answered (λ reply. followed (IsTaken (takes_as_reply client means sent.1 reply)) Taken ended)
+      (λ reply. one_taking (takes_as_reply client means sent.1 reply)) answer_aside (one_answered as_call rows sent.0))
+      ask_aside (one_as_asked client means (krbtgt_of client.realm) login.till login.client_as login.random_as decided)
 
-  one_tgs_exchange : (granting : CredentialRecord) → IsOne IsWantOfMemory (TgsExchange client realm login granting)
+  one_tgs_exchange : (granting : CredentialRecord) → IsOne IsWantOfMemory (TgsExchange client realm rows login granting)
   unfolding TgsExchange
   one_tgs_exchange granting =
       one_followed AskWants (IsTgsAsked client granting login.service login.till login.client_tgs login.random_tgs) Asked
-      (λ sent. followed (IsAnswered tgs_call sent.0) Answered (λ reply. followed (IsTaken (takes_tgs_reply client sent.1 reply)) Taken ended))
-      (λ sent. one_followed AnswerWants (IsAnswered tgs_call sent.0) Answered (λ reply. followed (IsTaken (takes_tgs_reply client sent.1 reply)) Taken ended)
-      (λ reply. one_taking (takes_tgs_reply client sent.1 reply)) answer_aside (one_answered tgs_call sent.0))
+      (λ sent. followed (IsAnswered tgs_call rows sent.0) Answered (λ reply. followed (IsTaken (takes_tgs_reply client sent.1 reply)) Taken ended))
+      (λ sent. one_followed AnswerWants (IsAnswered tgs_call rows sent.0) Answered (λ reply. followed (IsTaken (takes_tgs_reply client sent.1 reply)) Taken ended)
+      (λ reply. one_taking (takes_tgs_reply client sent.1 reply)) answer_aside (one_answered tgs_call rows sent.0))
       ask_aside (one_tgs_asked client granting login.service login.till login.client_tgs login.random_tgs)
 
   -- the first exchange, and the one that follows it
   abbrev Followed : Result CredentialRecord LoginRefusal → Type 0
-  Followed = followed (AsExchange client realm login) (λ refusal. refusal) (TgsExchange client realm login)
+  Followed = followed (AsExchange client means realm rows login) (λ refusal. refusal) (TgsExchange client realm rows login)
 
-  one_exchanges : IsOne IsWantOfMemory (Exchanges client realm login)
+  one_exchanges : IsOne IsWantOfMemory (Exchanges client means realm rows login)
   unfolding Exchanges
-  one_exchanges = one_followed IsWantOfMemory (AsExchange client realm login) (λ refusal. refusal) (TgsExchange client realm login) one_tgs_exchange (λ refusal wants. wants) one_as_exchange
+  one_exchanges = one_followed IsWantOfMemory (AsExchange client means realm rows login) (λ refusal. refusal) (TgsExchange client realm rows login) one_tgs_exchange (λ refusal wants. wants) one_as_exchange
 
   -- what is remembered is one
   abbrev AreOneRun : {A E : Type 0} → (E → Type 0) → Result A E → Result A E → RememberedRecord → RememberedRecord → Type 0
@@ -333,7 +358,7 @@ module _ (client : ClientRecord) (realm : RealmRecord) (service : ServiceRecord)
   none_holds refusal other_refusal result other after other_after is other_is kept other_kept (inr (inr e)) = inr (inr (cc, kept ∙ sym other_kept))
 
   runs_are_one : (result other : Result Login LoginRefusal) (after other_after : RememberedRecord)
-      → LoginRun client realm service login before result after → LoginRun client realm service login before other other_after → AreOneRun IsWantOfMemory result other after other_after
+      → LoginRun client means realm rows service login before result after → LoginRun client means realm rows service login before other other_after → AreOneRun IsWantOfMemory result other after other_after
   unfolding LoginRun
   runs_are_one result other after other_after (inl x) (inl y) = both_hold x.0 y.0 result other after other_after x.2 y.2 (one_exchanges (Ok x.0) (Ok y.0) x.1 y.1)
   runs_are_one result other after other_after (inl x) (inr y) = one_holds x.0 y.0 result other after other_after y.2 (one_exchanges (Ok x.0) (Err y.0) x.1 y.1)
@@ -348,9 +373,9 @@ module _ (client : ClientRecord) (realm : RealmRecord) (service : ServiceRecord)
   same_words result (Err refusal) after other_after (inr (inl wants)) = inr (inl wants)
   same_words result other after other_after (inr (inr same)) = inr (inr same)
 
-pub one_login : (client : ClientRecord) (realm : RealmRecord) (service : ServiceRecord) (before : RememberedRecord) (login : LoginRecord)
+pub one_login : (means : MeansRecord) (rows : PkinitRows) → AreDecided means → (client : ClientRecord) (realm : RealmRecord) (service : ServiceRecord) (before : RememberedRecord) (login : LoginRecord)
     (result other : Result Login LoginRefusal) (after other_after : RememberedRecord)
-    → LoginRun client realm service login before result after → LoginRun client realm service login before other other_after
+    → LoginRun client means realm rows service login before result after → LoginRun client means realm rows service login before other other_after
     → WantsMemory result ⊎ WantsMemory other ⊎ ((result ≡ other) × (after ≡ other_after))
-one_login client realm service before login result other after other_after x y =
-    same_words client realm service before login result other after other_after (runs_are_one client realm service before login result other after other_after x y)
+one_login means rows decided client realm service before login result other after other_after x y =
+    same_words client means decided realm rows service before login result other after other_after (runs_are_one client means decided realm rows service before login result other after other_after x y)

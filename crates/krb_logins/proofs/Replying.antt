@@ -1,5 +1,5 @@
 -- A realm whose accounts have keys has a reply to each request, at each moment before an end that is asked for.
-use Rattle.std.proofs.Common.{◌<◌, ◌≤◌, ℕ, ◌*◌, List, length, arith}
+use Rattle.std.proofs.Common.{◌<◌, ◌≤◌, ◌*◌, length, arith}
 use Rattle.asn1_leaves.specs.declared.date.GeneralizedTime.{GeneralizedTime}
 use Rattle.picky_asn1.specs.Bytes.{Bytes}
 use Rattle.picky_asn1.specs.GeneralizedTime.{seconds_of}
@@ -7,6 +7,7 @@ use Rattle.krb_moments.specs.Moment.{IsMoment}
 use Rattle.krb_moments.specs.Units.{Micros}
 use Rattle.decision_tables.specs.Some.{HasSome}
 use Rattle.krb_tickets.specs.Times.{asked_end, last_second}
+use Rattle.krb_pkinit.specs.Rows.{PkinitRows}
 use Rattle.krb_as.specs.Calls.{AreKeyed}
 use Rattle.krb_replies.specs.Replies.{Replies}
 use Rattle.krb_replies.proofs.HasReply.{has_reply}
@@ -20,7 +21,7 @@ in_time till moment before =
     let last : asked_end (seconds_of till) ≤ last_second = asked_below (seconds_of till) (omega (arith, second_below till)) in
     omega (arith, before, last)
 
-pub replies_at : (realm : RealmRecord) (till : GeneralizedTime) (moment : Micros) (random request : Bytes) → AreKeyed realm.look → moment < asked_end (seconds_of till) * 1000000
-    → 128 ≤ length random → AreBytes random request → HasSome (Replies (call_at realm moment random) request)
-replies_at realm till moment random request keyed before enough are =
-    has_reply (call_at realm moment random) request (record { in_time = in_time till moment before; enough = enough; bytes = are.words; keyed = keyed }) are.asked are.few
+pub replies_at : (realm : RealmRecord) (rows : PkinitRows) (till : GeneralizedTime) (moment : Micros) (random request : Bytes) → AreKeyed realm.look → moment < asked_end (seconds_of till) * 1000000
+    → 128 ≤ length random → AreBytes random request → HasSome (Replies (call_at realm moment random) rows request)
+replies_at realm rows till moment random request keyed before enough are =
+    has_reply (call_at realm moment random) rows request (record { in_time = in_time till moment before; enough = enough; bytes = are.words; keyed = keyed }) are.asked are.few

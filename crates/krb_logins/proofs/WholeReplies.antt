@@ -1,5 +1,5 @@
 -- The replies of realms can be written: nothing is missing in their trees, nor in those of their parts.
-use Rattle.std.proofs.Common.{◌≡◌, true, refl}
+use Rattle.std.proofs.Common.{◌≡◌, true, Option, None, Some, refl}
 use Rattle.asn1_trees.specs.Tree.{IsWhole, Writes, leaf}
 use Rattle.asn1_trees.proofs.Spelling.{whole-wrapped}
 use Rattle.asn1_leaves.specs.CharSets.{is_general_string}
@@ -22,10 +22,10 @@ pub record AreTexts (grant : Grant) : Type 0 where
   pub service : are_texts (components grant.service) ≡ true
 
 -- what stands inside their tags
-inner_reply : (exchange : Exchange) (grant : Grant) (ticket reply : EncryptedData) → AreTexts grant
-    → IsWhole (kdc_rep_inner_tree (kdc_reply_of exchange grant (ticket_of grant ticket) reply))
+without_padata : (exchange : Exchange) (grant : Grant) (ticket reply : EncryptedData) → AreTexts grant
+    → IsWhole (kdc_rep_inner_tree (kdc_reply_of exchange None grant (ticket_of grant ticket) reply))
 unfolding kdc_reply_of ticket_of
-inner_reply exchange grant ticket reply texts = (
+without_padata exchange grant ticket reply texts = (
   (tt, tt),
   (
     (tt, tt),
@@ -53,6 +53,14 @@ inner_reply exchange grant ticket reply texts = (
     ),
   ),
 )
+
+inner_reply : (exchange : Exchange) (pk_as_rep : Option Bytes) (grant : Grant) (ticket reply : EncryptedData) → AreTexts grant
+    → IsWhole (kdc_rep_inner_tree (kdc_reply_of exchange pk_as_rep grant (ticket_of grant ticket) reply))
+unfolding kdc_reply_of
+inner_reply exchange None grant ticket reply texts = without_padata exchange grant ticket reply texts
+inner_reply exchange (Some value) grant ticket reply texts =
+    let others = without_padata exchange grant ticket reply texts in
+    (others.0, (others.1.0, (((((tt, tt), ((tt, tt), tt)), tt), tt), others.1.1)))
 
 inner_part : (grant : Grant) → AreTexts grant → IsWhole (enc_kdc_rep_part_inner_tree (reply_part grant))
 unfolding reply_part
@@ -82,10 +90,10 @@ inner_part grant texts = (
   ),
 )
 
-whole_reply : (exchange : Exchange) (grant : Grant) (ticket reply : EncryptedData) → AreTexts grant
-    → IsWhole (kdc_reply_tree exchange (kdc_reply_of exchange grant (ticket_of grant ticket) reply))
-whole_reply As grant ticket reply texts = whole-wrapped 107 (kdc_rep_inner_tree (kdc_reply_of As grant (ticket_of grant ticket) reply)) (inner_reply As grant ticket reply texts)
-whole_reply Tgs grant ticket reply texts = whole-wrapped 109 (kdc_rep_inner_tree (kdc_reply_of Tgs grant (ticket_of grant ticket) reply)) (inner_reply Tgs grant ticket reply texts)
+whole_reply : (exchange : Exchange) (pk_as_rep : Option Bytes) (grant : Grant) (ticket reply : EncryptedData) → AreTexts grant
+    → IsWhole (kdc_reply_tree exchange (kdc_reply_of exchange pk_as_rep grant (ticket_of grant ticket) reply))
+whole_reply As pk_as_rep grant ticket reply texts = whole-wrapped 107 (kdc_rep_inner_tree (kdc_reply_of As pk_as_rep grant (ticket_of grant ticket) reply)) (inner_reply As pk_as_rep grant ticket reply texts)
+whole_reply Tgs pk_as_rep grant ticket reply texts = whole-wrapped 109 (kdc_rep_inner_tree (kdc_reply_of Tgs pk_as_rep grant (ticket_of grant ticket) reply)) (inner_reply Tgs pk_as_rep grant ticket reply texts)
 
 whole_part : (exchange : Exchange) (grant : Grant) → AreTexts grant → IsWhole (reply_part_tree exchange (reply_part grant))
 whole_part As grant texts = whole-wrapped 121 (enc_kdc_rep_part_inner_tree (reply_part grant)) (inner_part grant texts)
@@ -97,8 +105,8 @@ unfolding reply_part_bytes
 writes_part exchange grant texts = (whole_part exchange grant texts, refl)
 
 -- the reply
-pub reply_written : (exchange : Exchange) (grant : Grant) (ticket reply : EncryptedData) (bytes : Bytes) → AreTexts grant
-    → bytes ≡ kdc_reply_bytes exchange (kdc_reply_of exchange grant (ticket_of grant ticket) reply)
-    → Writes (kdc_reply_tree exchange) (kdc_reply_of exchange grant (ticket_of grant ticket) reply) bytes
+pub reply_written : (exchange : Exchange) (pk_as_rep : Option Bytes) (grant : Grant) (ticket reply : EncryptedData) (bytes : Bytes) → AreTexts grant
+    → bytes ≡ kdc_reply_bytes exchange (kdc_reply_of exchange pk_as_rep grant (ticket_of grant ticket) reply)
+    → Writes (kdc_reply_tree exchange) (kdc_reply_of exchange pk_as_rep grant (ticket_of grant ticket) reply) bytes
 unfolding kdc_reply_bytes
-reply_written exchange grant ticket reply bytes texts e = (whole_reply exchange grant ticket reply texts, e)
+reply_written exchange pk_as_rep grant ticket reply bytes texts e = (whole_reply exchange pk_as_rep grant ticket reply texts, e)

@@ -1,16 +1,18 @@
 -- The requests of clients can be written: nothing is missing in their trees.
-use Rattle.std.proofs.Common.{◌≡◌, ℕ, Bool, true, List, [], ◌∷◌, None, Some, Option, refl, sym, subst}
+use Rattle.std.proofs.Common.{◌≡◌, ℕ, true, List, [], ◌∷◌, None, Some, refl, sym, subst}
 use Rattle.std.proofs.lemmas.Bool.{and_parts}
-use Rattle.asn1_trees.specs.Tree.{AreWhole, IsWhole, Tree, Writes, leaf, trees_of}
+use Rattle.asn1_trees.specs.Tree.{AreWhole, IsWhole, Writes, leaf, trees_of}
 use Rattle.asn1_trees.proofs.Spelling.{whole-wrapped}
 use Rattle.asn1_leaves.specs.CharSets.{is_general_string}
 use Rattle.asn1_leaves.specs.declared.date.GeneralizedTime.{GeneralizedTime}
 use Rattle.picky_asn1.specs.Bytes.{Bytes}
+use Rattle.krb_types.specs.RandomBytes.{Random}
 use Rattle.krb_types.specs.Trees as held
 use Rattle.krb_types.specs.declared.data_types.encrypted_data.EncryptedData.{EncryptedData}
+use Rattle.krb_types.specs.declared.data_types.pa_data.PaData.{PaData}
 use Rattle.krb_types.specs.declared.data_types.pa_enc_timestamp.PaEncTsEnc.{PaEncTsEnc}
 use Rattle.krb_messages.specs.Messages.{IsAsReq, as_req_tree}
-use Rattle.krb_client.specs.AsRequest.{as_request_of}
+use Rattle.krb_client.specs.AsRequest.{as_body, as_request_of}
 use Rattle.krb_client.specs.Client.{ClientRecord}
 use Rattle.krb_client.specs.Messages.{as_request_bytes, encrypted_bytes, stamp_bytes}
 use Rattle.krb_logins.proofs.Names.{are_texts}
@@ -48,11 +50,11 @@ pub writes_stamp : (stamp : PaEncTsEnc) → Writes held.pa_enc_ts_enc_tree stamp
 unfolding stamp_bytes
 writes_stamp stamp = (whole_stamp stamp, refl)
 
--- the request for a first ticket
-whole_as_request : (client : ClientRecord) (service : List Bytes) (till : GeneralizedTime) (nonce : ℕ) (stamp : EncryptedData)
+-- the request for a first ticket, with any padata
+whole_as_request : (padata : PaData) (client : ClientRecord) (service : List Bytes) (till : GeneralizedTime) (random : Random)
     → is_general_string client.realm ≡ true → are_texts client.components ≡ true → are_texts service ≡ true
-    → IsWhole (as_req_tree (as_request_of client service till nonce stamp))
-whole_as_request client service till nonce stamp realm name of_service = (
+    → IsWhole (as_req_tree (as_request_of padata (as_body client service till random)))
+whole_as_request padata client service till random realm name of_service = (
   (
     (tt, tt),
     (
@@ -81,8 +83,8 @@ whole_as_request client service till nonce stamp realm name of_service = (
   tt,
 )
 
-pub as_request_written : (client : ClientRecord) (service : List Bytes) (till : GeneralizedTime) (nonce : ℕ) (stamp : EncryptedData) (bytes : Bytes)
+pub as_request_written : (padata : PaData) (client : ClientRecord) (service : List Bytes) (till : GeneralizedTime) (random : Random) (bytes : Bytes)
     → is_general_string client.realm ≡ true → are_texts client.components ≡ true → are_texts service ≡ true
-    → bytes ≡ as_request_bytes (as_request_of client service till nonce stamp) → IsAsReq bytes (as_request_of client service till nonce stamp)
+    → bytes ≡ as_request_bytes (as_request_of padata (as_body client service till random)) → IsAsReq bytes (as_request_of padata (as_body client service till random))
 unfolding as_request_bytes
-as_request_written client service till nonce stamp bytes realm name of_service e = (whole_as_request client service till nonce stamp realm name of_service, e)
+as_request_written padata client service till random bytes realm name of_service e = (whole_as_request padata client service till random realm name of_service, e)

@@ -15,6 +15,7 @@ use Rattle.krb_client.specs.ApRequest.{AsksAp}
 use Rattle.krb_client.specs.AsReply.{TakesAsReply}
 use Rattle.krb_client.specs.Authenticators.{options_of}
 use Rattle.krb_client.specs.Client.{ClientRecord, CredentialRecord}
+use Rattle.krb_client.specs.Means.{MeansRecord}
 use Rattle.krb_client.specs.TgsReply.{TakesTgsReply}
 
 -- the request's fields and those of the credential's ticket, the ticket's part, and the authenticator, each with its confounder
@@ -38,17 +39,17 @@ choice_by credential mutual_required part part_confounder authenticator confound
   confounder = confounder;
 }
 
--- a client took it from a KDC's reply, as each credential was
-abbrev pub IsOfReply : CredentialRecord → Type 0
-IsOfReply credential = (client : ClientRecord) × (reply : Bytes)
-    × (((asked : AsAskedRecord) × TakesAsReply client asked reply (Ok credential)) ⊎ ((asked : TgsAskedRecord) × TakesTgsReply client asked reply (Ok credential)))
+-- a client took it from a KDC's reply, as each credential was; from that of an AS exchange by these means
+abbrev pub IsOfReply : MeansRecord → CredentialRecord → Type 0
+IsOfReply means credential = (client : ClientRecord) × (reply : Bytes)
+    × (((asked : AsAskedRecord) × TakesAsReply client means asked reply (Ok credential)) ⊎ ((asked : TgsAskedRecord) × TakesTgsReply client asked reply (Ok credential)))
 
 -- a client that has a name asks by a credential, whose ticket seals a part under the service's key (usage 2; RFC 4120, section 7.5.1). The
 -- session key in that part is the credential's
-pub record AsksService (client : ClientRecord) (credential : CredentialRecord) (mutual_required with_subkey : Bool) (moment : Micros) (random : Random) (bytes key : Bytes) : Type 0 where
+pub record AsksService (client : ClientRecord) (means : MeansRecord) (credential : CredentialRecord) (mutual_required with_subkey : Bool) (moment : Micros) (random : Random) (bytes key : Bytes) : Type 0 where
   pub realm : IsRealmName client.realm
   pub name : AreComponents client.components
-  pub of_reply : IsOfReply credential
+  pub of_reply : IsOfReply means credential
   pub part : EncTicketPartInner
   pub part_confounder : Bytes
   pub sealed : SealsTo {T = EncTicketPartInner} enc_ticket_part_tree credential.ticket.enc_part.0.etype.0 key 2 part_confounder part credential.ticket.enc_part.0.cipher.0

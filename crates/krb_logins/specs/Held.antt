@@ -1,9 +1,6 @@
 -- What the realm grants in a login, and what the client then holds (RFC 4120, sections 3.1.3, 3.1.5, 3.3.3, 3.3.4).
-use Rattle.std.specs.Prelude.{◌≡◌, ℕ, true, false, List, None, Some, Option, pos}
-use Rattle.asn1_leaves.specs.declared.date.GeneralizedTime.{GeneralizedTime}
-use Rattle.picky_asn1.specs.Bytes.{Bytes}
+use Rattle.std.specs.Prelude.{◌≡◌, true, false, None, Some, pos}
 use Rattle.picky_asn1.specs.GeneralizedTime.{seconds_of}
-use Rattle.krb_moments.specs.Units.{Micros, Seconds}
 use Rattle.krb_crypto.specs.Suites.{cipher_confounder_size}
 use Rattle.krb_types.specs.RandomBytes.{Random, ticket_confounder}
 use Rattle.krb_types.specs.declared.data_types.encrypted_data.EncryptedData.{EncryptedData}

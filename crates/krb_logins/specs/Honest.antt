@@ -1,9 +1,8 @@
 -- Which logins are honest, and what they end with.
-use Rattle.std.specs.Prelude.{◌≡◌, ◌≤◌, ◌<◌, ◌+◌, ◌*◌, ℕ, false, true, max, min, List, length, Option, Some, Result, Ok, Err, IsTrue}
+use Rattle.std.specs.Prelude.{◌≡◌, ◌≤◌, ◌<◌, ◌+◌, ◌*◌, ℕ, false, max, min, length, Some, Result, Ok, Err}
 use Rattle.picky_asn1.specs.Bytes.{Bytes}
 use Rattle.picky_asn1.specs.GeneralizedTime.{seconds_of}
 use Rattle.krb_moments.specs.Units.{Micros}
-use Rattle.krb_crypto.specs.Suites.{cipher_key_size}
 use Rattle.krb_types.specs.Names.{components}
 use Rattle.krb_accounts.specs.Account.{AccountRecord}
 use Rattle.krb_accounts.specs.Names.{AreComponents, IsRealmName}
@@ -21,11 +20,10 @@ use Rattle.krb_client.specs.declared.refusal.AskRefusal.TheVariants as ask_refus
 use Rattle.krb_client.specs.declared.refusal.TakeRefusal.TheVariants as take_refusal
 use Rattle.krb_frames.specs.declared.fault.AnswerRefusal.TheVariants as answer_refusal
 
--- what holds of every client and of every service: names are names, and keys have their suites' lengths
+-- what holds of every client and of every service: names are names, and the service's key has its suite's length
 pub record AreParties (client : ClientRecord) (service : ServiceRecord) : Type 0 where
   pub realm : IsRealmName client.realm
   pub name : AreComponents client.components
-  pub key : length client.key ≡ cipher_key_size client.suite
   pub entry : IsServiceEntry service.entry
 
 -- the random bytes that the calls of a login ask for
@@ -43,12 +41,11 @@ pub record AreNamed (asking : ClientRecord) (realm : RealmRecord) (asked_for : S
   pub service : asked_for.entry.realm ≡ realm.name
   pub asked : login.service ≡ asked_for.entry.components
 
--- the realm knows the client by its suite and its key
+-- the realm knows the client by its suite
 pub record IsClientKnown (client : ClientRecord) (realm : RealmRecord) : Type 0 where
   pub account : AccountRecord
   pub found : realm.look client.components ≡ Some account
   pub suite : account.suite ≡ client.suite
-  pub key : account.key ≡ client.key
 
 -- the realm knows the service by its suite, its key and its kvno
 pub record IsServiceKnown (service : ServiceRecord) (realm : RealmRecord) : Type 0 where
@@ -97,7 +94,7 @@ pub record IsLasting (realm : RealmRecord) (service : ServiceRecord) (login : Lo
 abbrev pub login_pair : ClientRecord → LoginRecord → PairRecord
 login_pair client login = record { realm = client.realm; components = client.components; time = login.client_ap }
 
--- an honest login by password: the parties know one another, their clocks agree up to the skew, and the service admitted no
+-- an honest login, by whatever means: the parties know one another, their clocks agree up to the skew, and the service admitted no
 -- authenticator of this client and time before
 pub record IsHonestLogin (asking : ClientRecord) (realm : RealmRecord) (asked_for : ServiceRecord) (before : RememberedRecord) (login : LoginRecord) : Type 0 where
   pub named : AreNamed asking realm asked_for login
@@ -106,6 +103,11 @@ pub record IsHonestLogin (asking : ClientRecord) (realm : RealmRecord) (asked_fo
   pub near : AreNear (common_skew realm asked_for) before login
   pub lasting : IsLasting realm asked_for login
   pub fresh : is_among (login_pair asking login) before.admitted ≡ false
+
+-- an honest login by password: the realm knows the client by the key of its password too
+pub record IsHonestByPassword (asking : ClientRecord) (key : Bytes) (realm : RealmRecord) (asked_for : ServiceRecord) (before : RememberedRecord) (login : LoginRecord) : Type 0 where
+  pub honest : IsHonestLogin asking realm asked_for before login
+  pub shared : honest.client.account.key ≡ key
 
 abbrev pub login_number : LoginRefusal → ℕ
 login_number (Asked refusal) = 1

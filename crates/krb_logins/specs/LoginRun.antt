@@ -1,11 +1,10 @@
--- A whole login by password (RFC 4120, sections 3.1, 3.3, 3.2): a ticket for the ticket-granting service, by it a ticket for
--- the service, and by that one admission. Each step takes the bytes of the one before it, and the first refusal ends the login.
-use Rattle.std.specs.Prelude.{◌≡◌, ◌⊎◌, ℕ, List, max, Result, Ok, Err}
+-- A whole login (RFC 4120, sections 3.1, 3.3, 3.2): a ticket for the ticket-granting service, by it a ticket for the service, and
+-- by that one admission. Each step takes the bytes of the one before it, and the first refusal ends the login.
+use Rattle.std.specs.Prelude.{◌≡◌, ◌⊎◌, max, Result, Ok, Err}
 use Rattle.picky_asn1.specs.Bytes.{Bytes}
-use Rattle.krb_crypto.specs.declared.suite.CipherSuite.{CipherSuite}
 use Rattle.krb_types.specs.declared.data_types.encryption_key.EncryptionKey.{EncryptionKey}
 use Rattle.krb_sealing.specs.Sealing.{encryption_key}
-use Rattle.krb_replay_cache.specs.Pair.{PairRecord}
+use Rattle.krb_pkinit.specs.Rows.{PkinitRows}
 use Rattle.krb_as.specs.TicketGranting.{krbtgt_of}
 use Rattle.krb_ap.specs.Admission.{AdmissionRecord}
 use Rattle.krb_ap.specs.declared.refusal.AdmitRefusal.{AdmitRefusal}
@@ -13,6 +12,7 @@ use Rattle.krb_asked.specs.Asked.{ApAskedRecord}
 use Rattle.krb_client.specs.ApReply.{takes_ap_reply}
 use Rattle.krb_client.specs.AsReply.{takes_as_reply}
 use Rattle.krb_client.specs.Client.{ClientRecord, CredentialRecord}
+use Rattle.krb_client.specs.Means.{MeansRecord}
 use Rattle.krb_client.specs.Refusals.{IsTaken}
 use Rattle.krb_client.specs.TgsReply.{takes_tgs_reply}
 use Rattle.krb_client.specs.declared.refusal.AskRefusal.{AskRefusal}
@@ -34,25 +34,25 @@ followed {A} {E} does told rest result =
 abbrev pub ended : {A : Type 0} → A → Result A LoginRefusal → Type 0
 ended made result = result ≡ Ok made
 
--- the AS exchange: a ticket for the ticket-granting service of the client's realm
-unfoldable pub AsExchange : ClientRecord → RealmRecord → LoginRecord → Result CredentialRecord LoginRefusal → Type 0
-AsExchange client realm login =
-    followed (IsAsAsked client (krbtgt_of client.realm) login.till login.client_as login.random_as) Asked (λ sent.
-    followed (IsAnswered (call_at realm login.realm_as login.realm_random_as) sent.0) Answered (λ reply.
-    followed (IsTaken (takes_as_reply client sent.1 reply)) Taken ended))
+-- the AS exchange, by the client's means: a ticket for the ticket-granting service of its realm
+unfoldable pub AsExchange : ClientRecord → MeansRecord → RealmRecord → PkinitRows → LoginRecord → Result CredentialRecord LoginRefusal → Type 0
+AsExchange client means realm rows login =
+    followed (IsAsAsked client means (krbtgt_of client.realm) login.till login.client_as login.random_as) Asked (λ sent.
+    followed (IsAnswered (call_at realm login.realm_as login.realm_random_as) rows sent.0) Answered (λ reply.
+    followed (IsTaken (takes_as_reply client means sent.1 reply)) Taken ended))
 
 -- the TGS exchange: by that ticket one for the service
-unfoldable pub TgsExchange : ClientRecord → RealmRecord → LoginRecord → CredentialRecord → Result CredentialRecord LoginRefusal → Type 0
-TgsExchange client realm login granting =
+unfoldable pub TgsExchange : ClientRecord → RealmRecord → PkinitRows → LoginRecord → CredentialRecord → Result CredentialRecord LoginRefusal → Type 0
+TgsExchange client realm rows login granting =
     followed (IsTgsAsked client granting login.service login.till login.client_tgs login.random_tgs) Asked (λ sent.
-    followed (IsAnswered (call_at realm login.realm_tgs login.realm_random_tgs) sent.0) Answered (λ reply.
+    followed (IsAnswered (call_at realm login.realm_tgs login.realm_random_tgs) rows sent.0) Answered (λ reply.
     followed (IsTaken (takes_tgs_reply client sent.1 reply)) Taken ended))
 
 -- both: the ticket for the service, with its session key
-unfoldable pub Exchanges : ClientRecord → RealmRecord → LoginRecord → Result CredentialRecord LoginRefusal → Type 0
-Exchanges client realm login result =
-    ((granting : CredentialRecord) × AsExchange client realm login (Ok granting) × TgsExchange client realm login granting result)
-    ⊎ ((refusal : LoginRefusal) × AsExchange client realm login (Err refusal) × (result ≡ Err refusal))
+unfoldable pub Exchanges : ClientRecord → MeansRecord → RealmRecord → PkinitRows → LoginRecord → Result CredentialRecord LoginRefusal → Type 0
+Exchanges client means realm rows login result =
+    ((granting : CredentialRecord) × AsExchange client means realm rows login (Ok granting) × TgsExchange client realm rows login granting result)
+    ⊎ ((refusal : LoginRefusal) × AsExchange client means realm rows login (Err refusal) × (result ≡ Err refusal))
 
 -- the client's key, and what the service was told of the client
 abbrev pub Login : Type 0
@@ -76,9 +76,9 @@ ApExchange client service login credential before result after =
     × ((answer : Result AdmissionRecord AdmitRefusal) × IsAdmitted service login sent.0 before answer after × shown sent.1 answer result))
     ⊎ ((refusal : AskRefusal) × IsApAsked client credential login.client_ap login.random_ap (Err refusal) × (result ≡ Err (Asked refusal)) × (after ≡ before))
 
--- what a login answers, and what the service remembers after it; a login that is refused before the service is asked leaves
--- what it remembers
-unfoldable pub LoginRun : ClientRecord → RealmRecord → ServiceRecord → LoginRecord → RememberedRecord → Result Login LoginRefusal → RememberedRecord → Type 0
-LoginRun client realm service login before result after =
-    ((credential : CredentialRecord) × Exchanges client realm login (Ok credential) × ApExchange client service login credential before result after)
-    ⊎ ((refusal : LoginRefusal) × Exchanges client realm login (Err refusal) × (result ≡ Err refusal) × (after ≡ before))
+-- what a login by the client's means answers at a realm that judges PA-PK-AS-REQ by these rows, and what the service remembers after
+-- it; a login that is refused before the service is asked leaves what it remembers
+unfoldable pub LoginRun : ClientRecord → MeansRecord → RealmRecord → PkinitRows → ServiceRecord → LoginRecord → RememberedRecord → Result Login LoginRefusal → RememberedRecord → Type 0
+LoginRun client means realm rows service login before result after =
+    ((credential : CredentialRecord) × Exchanges client means realm rows login (Ok credential) × ApExchange client service login credential before result after)
+    ⊎ ((refusal : LoginRefusal) × Exchanges client means realm rows login (Err refusal) × (result ≡ Err refusal) × (after ≡ before))

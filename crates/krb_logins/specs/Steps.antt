@@ -4,39 +4,44 @@ use Rattle.asn1_leaves.specs.declared.date.GeneralizedTime.{GeneralizedTime}
 use Rattle.picky_asn1.specs.Bytes.{Bytes}
 use Rattle.krb_moments.specs.Units.{Micros}
 use Rattle.krb_types.specs.RandomBytes.{Random}
+use Rattle.krb_types.specs.declared.data_types.pa_data.PaData.{PaData}
+use Rattle.krb_messages.specs.declared.messages.kdc_req_body.KdcReqBody.{KdcReqBody}
 use Rattle.krb_accounts.specs.Names.{are_components}
 use Rattle.krb_frames.specs.declared.fault.AnswerRefusal.{AnswerRefusal}
 use Rattle.krb_frames.specs.declared.fault.AnswerRefusal.TheVariants as answer_refusal
+use Rattle.krb_pkinit.specs.Rows.{PkinitRows}
 use Rattle.krb_as.specs.Call.{CallRecord}
 use Rattle.krb_replies.specs.Replies.{Replies}
 use Rattle.krb_asked.specs.Asked.{ApAskedRecord, AsAskedRecord, TgsAskedRecord}
 use Rattle.krb_client.specs.ApRequest.{AsksAp, ap_asked}
-use Rattle.krb_client.specs.AsRequest.{AsksAs}
+use Rattle.krb_client.specs.AsRequest.{AsksAs, IsUnasked, as_asked}
 use Rattle.krb_client.specs.Client.{ClientRecord, CredentialRecord}
-use Rattle.krb_client.specs.Requests.{nonce_of}
+use Rattle.krb_client.specs.Means.{MeansRecord}
 use Rattle.krb_client.specs.TgsRequest.{AsksTgs, tgs_asked}
 use Rattle.krb_client.specs.declared.refusal.AskRefusal.{AskRefusal}
 use Rattle.krb_client.specs.declared.refusal.AskRefusal.TheVariants as ask_refusal
 
--- a client asks for exactly the services whose names are names, unless memory runs out
-abbrev pub IsUnasked : List Bytes → AskRefusal → Type 0
-IsUnasked service refusal = (refusal ≡ ask_refusal.Memory) ⊎ ((refusal ≡ ask_refusal.BadName) × (are_components service ≡ false))
+-- the means refuse no request that they have padata for
+abbrev pub AreDecided : MeansRecord → Type 0
+AreDecided means =
+    (body : KdcReqBody) (moment : Micros) (random : Random) (padata : PaData) → means.asks body moment random padata → means.refuses body moment random → ⊥
 
--- what the client remembers of its AS request
-abbrev pub as_asked : List Bytes → Micros → Random → AsAskedRecord
-as_asked service moment random = record { service = service; nonce = nonce_of random; moment = moment }
+-- the client asks for a first ticket by its means; a service's name that is none is refused before the means are asked
+unfoldable pub IsAsAsked : ClientRecord → MeansRecord → List Bytes → GeneralizedTime → Micros → Random → Result (Bytes × AsAskedRecord) AskRefusal → Type 0
+IsAsAsked client means service till moment random (Ok sent) =
+    AsksAs client means service till moment random sent.0 × (sent.1 ≡ as_asked service moment random) × (are_components service ≡ true)
+IsAsAsked client means service till moment random (Err refusal) =
+    IsUnasked client means service till moment random refusal × (are_components service ≡ false → refusal ≡ ask_refusal.BadName)
 
--- the client asks for a first ticket
-unfoldable pub IsAsAsked : ClientRecord → List Bytes → GeneralizedTime → Micros → Random → Result (Bytes × AsAskedRecord) AskRefusal → Type 0
-IsAsAsked client service till moment random (Ok sent) =
-    AsksAs client service till moment random sent.0 × (sent.1 ≡ as_asked service moment random) × (are_components service ≡ true)
-IsAsAsked client service till moment random (Err refusal) = IsUnasked service refusal
+-- by a ticket a client asks for exactly the services whose names are names, unless memory runs out
+abbrev pub IsUnnamed : List Bytes → AskRefusal → Type 0
+IsUnnamed service refusal = (refusal ≡ ask_refusal.Memory) ⊎ ((refusal ≡ ask_refusal.BadName) × (are_components service ≡ false))
 
 -- by a ticket it asks for a further one
 unfoldable pub IsTgsAsked : ClientRecord → CredentialRecord → List Bytes → GeneralizedTime → Micros → Random → Result (Bytes × TgsAskedRecord) AskRefusal → Type 0
 IsTgsAsked client credential service till moment random (Ok sent) =
     AsksTgs client credential service till moment random sent.0 × (sent.1 ≡ tgs_asked credential service random) × (are_components service ≡ true)
-IsTgsAsked client credential service till moment random (Err refusal) = IsUnasked service refusal
+IsTgsAsked client credential service till moment random (Err refusal) = IsUnnamed service refusal
 
 -- by a ticket for the service it asks the service, which is to reply, and chooses no subkey
 unfoldable pub IsApAsked : ClientRecord → CredentialRecord → Micros → Random → Result (Bytes × ApAskedRecord) AskRefusal → Type 0
@@ -45,10 +50,10 @@ IsApAsked client credential moment random (Ok sent) =
 IsApAsked client credential moment random (Err refusal) = refusal ≡ ask_refusal.Memory
 
 -- the realm answers a request
-unfoldable pub IsAnswered : CallRecord → Bytes → Result Bytes AnswerRefusal → Type 0
-IsAnswered call request (Ok reply) = Replies call request (Some reply)
-IsAnswered call request (Err answer_refusal.Unreadable) = Replies call request None
-IsAnswered call request (Err answer_refusal.Memory) = Unit {0}
+unfoldable pub IsAnswered : CallRecord → PkinitRows → Bytes → Result Bytes AnswerRefusal → Type 0
+IsAnswered call rows request (Ok reply) = Replies call rows request (Some reply)
+IsAnswered call rows request (Err answer_refusal.Unreadable) = Replies call rows request None
+IsAnswered call rows request (Err answer_refusal.Memory) = Unit {0}
 
 -- the bytes of a reply, of which there are none where there is no reply
 abbrev pub reply_bytes : Option Bytes → Bytes

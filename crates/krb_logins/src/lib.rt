@@ -1,4 +1,5 @@
-//! Whole logins by password (RFC 4120, sections 3.1, 3.2, 3.3): what a login is, and what holds of every honest one.
+//! Whole logins (RFC 4120, sections 3.1, 3.2, 3.3): what a login is, by whatever means the client authenticates itself, and what
+//! holds of every honest one.
 #![tactic(auto)]
 
 mod input;

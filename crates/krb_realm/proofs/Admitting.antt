@@ -5,12 +5,14 @@ use Rattle.krb_types.specs.declared.data_types.encryption_key.EncryptionKey.{Enc
 use Rattle.krb_sealing.specs.Sealing.{encryption_key}
 use Rattle.krb_replay_cache.specs.Pair.{PairRecord}
 use Rattle.krb_replay_cache.specs.Seen.{SeenRecord, IsWindow}
+use Rattle.krb_pkinit.specs.Rows.{PkinitRows}
 use Rattle.krb_ap.specs.Admission.{AdmissionRecord}
 use Rattle.krb_ap.specs.declared.refusal.AdmitRefusal.{AdmitRefusal}
 use Rattle.krb_ap.specs.declared.refusal.AdmitRefusal.TheVariants as admit_refusal
 use Rattle.krb_asked.specs.Asked.{ApAskedRecord}
 use Rattle.krb_client.specs.ApReply.{takes_ap_reply}
 use Rattle.krb_client.specs.Client.{ClientRecord, CredentialRecord}
+use Rattle.krb_client.specs.Means.{MeansRecord}
 use Rattle.krb_client.specs.Refusals.{IsTaken}
 use Rattle.krb_client.specs.declared.refusal.TakeRefusal.{TakeRefusal}
 use Rattle.krb_client.specs.declared.refusal.TakeRefusal.TheVariants as take_refusal
@@ -101,13 +103,13 @@ module _ (client : ClientRecord) (service : ServiceRecord) (login : LoginRecord)
       ap_keyed (Err refusal) x = ap_taken (Err refusal) (inr (x.0, x.1, ap Err x.2))
 
 -- the login
-module _ (client : ClientRecord) (realm : RealmRecord) (service : ServiceRecord) (login : LoginRecord) (before : RememberedRecord) (seen : SeenRecord) (result : Result Login LoginRefusal) where
-  pub no_credential : (refusal : LoginRefusal) → Exchanges client realm login (Err refusal) → result ≡ Err refusal → IsWindow seen before.admitted → seen.greatest ≡ before.greatest
-      → Remembers seen (LoginRun client realm service login before result)
+module _ (client : ClientRecord) (means : MeansRecord) (realm : RealmRecord) (rows : PkinitRows) (service : ServiceRecord) (login : LoginRecord) (before : RememberedRecord) (seen : SeenRecord) (result : Result Login LoginRefusal) where
+  pub no_credential : (refusal : LoginRefusal) → Exchanges client means realm rows login (Err refusal) → result ≡ Err refusal → IsWindow seen before.admitted → seen.greatest ≡ before.greatest
+      → Remembers seen (LoginRun client means realm rows service login before result)
   unfolding LoginRun
   no_credential refusal x same window greatest = (before, inr (refusal, x, same, refl), window, greatest)
 
-  pub by_credential : (credential : CredentialRecord) → Exchanges client realm login (Ok credential) → Remembers seen (ApExchange client service login credential before result)
-      → Remembers seen (LoginRun client realm service login before result)
+  pub by_credential : (credential : CredentialRecord) → Exchanges client means realm rows login (Ok credential) → Remembers seen (ApExchange client service login credential before result)
+      → Remembers seen (LoginRun client means realm rows service login before result)
   unfolding LoginRun
   by_credential credential x y = (y.0, inl (credential, x, y.1), y.2, y.3)

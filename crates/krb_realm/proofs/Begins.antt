@@ -7,6 +7,7 @@ use Rattle.asn1_trees.specs.Length.{element}
 use Rattle.krb_messages.specs.declared.messages.kdc_req.KdcReq.{KdcReq}
 use Rattle.krb_messages.specs.Messages.{IsAsReq, IsTgsReq}
 use Rattle.krb_as.specs.Call.{CallRecord}
+use Rattle.krb_pkinit.specs.Rows.{PkinitRows}
 use Rattle.krb_replies.specs.Replies.{Replies}
 use Rattle.krb_realm.specs.Answers.{is_request_octet}
 
@@ -23,7 +24,7 @@ unfolding element
 tgs_begins bytes request x = ap begins x.1
 
 -- bytes that begin with none are no request
-pub unread : (call : CallRecord) (bytes : List ℕ) (test : Bool) → test ≡ begins bytes → test ≡ false → Replies call bytes None
+pub unread : (call : CallRecord) (rows : PkinitRows) (bytes : List ℕ) (test : Bool) → test ≡ begins bytes → test ≡ false → Replies call rows bytes None
 unfolding Replies
-unread call bytes test told none =
+unread call rows bytes test told none =
     inr (λ request x. false≢true (sym none ∙ told ∙ as_begins bytes request x), inr (λ request x. false≢true (sym none ∙ told ∙ tgs_begins bytes request x), refl))

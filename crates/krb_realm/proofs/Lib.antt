@@ -4,3 +4,9 @@ mod Exchanges
 mod Admitting
 mod Granting
 mod Keyed
+mod Certificates
+mod KeyedLogins
+mod ClientMeans
+mod Asking
+mod LoginMeans
+mod MadeClients

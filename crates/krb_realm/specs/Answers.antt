@@ -4,8 +4,14 @@ use Rattle.std.specs.Option.{option_map_or}
 use Rattle.std.specs.Prelude.{Vec}
 use Rattle.std.specs.Global.{Global}
 use Rattle.picky_asn1.specs.Bytes.{Bytes}
+use Rattle.krb_moments.specs.Units.{Micros}
+use Rattle.krb_types.specs.RandomBytes.{Random}
+use Rattle.key_functions.specs.KeyFunctions.{KeysRecord}
 use Rattle.krb_frames.specs.declared.fault.AnswerRefusal.{AnswerRefusal}
 use Rattle.krb_frames.specs.declared.fault.AnswerRefusal.TheVariants.{Unreadable, Memory}
+use Rattle.pkinit_requests.specs.PkinitRows.{pkinit_rows}
+use Rattle.krb_replies.specs.Replies.{Replies}
+use Rattle.krb_realm.specs.Realm.{RealmState, call_to}
 
 -- the identifier octet of an AS request or of a TGS request, `[APPLICATION 10]` or `[APPLICATION 12]` (RFC 4120, section 5.4.1)
 abbrev pub is_request_octet : ℕ → Bool
@@ -20,3 +26,7 @@ abbrev pub IsAnswer : (Option Bytes → Type 0) → Result (Vec ℕ Global) Answ
 IsAnswer replies (Ok reply) = replies (Some reply.items)
 IsAnswer replies (Err Unreadable) = replies None
 IsAnswer replies (Err Memory) = Unit {0}
+
+-- the reply that a realm with these key functions may give to a message at a moment, with random bytes
+abbrev pub RealmReplies : RealmState → KeysRecord → Bytes → Micros → Random → Option Bytes → Type 0
+RealmReplies realm keys message moment random = Replies (call_to realm moment random) (pkinit_rows realm.trust keys) message

@@ -1,3 +1,6 @@
+pub mod Settings
+pub mod Clients
+pub mod HeldClients
 pub mod Realm
 pub mod Answers
 pub mod Logins

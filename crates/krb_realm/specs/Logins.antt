@@ -8,12 +8,16 @@ use Rattle.krb_replay_cache.specs.Pair.{PairRecord}
 use Rattle.krb_replay_cache.specs.Seen.{SeenRecord, IsWindow}
 use Rattle.krb_as.specs.Call.{CallRecord}
 use Rattle.krb_as.specs.TicketGranting.{krbtgt_of}
+use Rattle.krb_pkinit.specs.Rows.{PkinitRows}
+use Rattle.key_functions.specs.KeyFunctions.{KeysRecord}
+use Rattle.pkinit_requests.specs.PkinitRows.{pkinit_rows}
 use Rattle.krb_ap.specs.Admission.{AdmissionRecord}
 use Rattle.krb_ap.specs.declared.refusal.AdmitRefusal.{AdmitRefusal}
 use Rattle.krb_asked.specs.Asked.{ApAskedRecord, AsAskedRecord, TgsAskedRecord}
 use Rattle.krb_client.specs.ApReply.{takes_ap_reply}
 use Rattle.krb_client.specs.AsReply.{takes_as_reply}
 use Rattle.krb_client.specs.Client.{ClientRecord, CredentialRecord}
+use Rattle.krb_client.specs.Means.{MeansRecord}
 use Rattle.krb_client.specs.Refusals.{IsTaken}
 use Rattle.krb_client.specs.TgsReply.{takes_tgs_reply}
 use Rattle.krb_client.specs.declared.refusal.TakeRefusal.{TakeRefusal}
@@ -23,6 +27,7 @@ use Rattle.krb_logins.specs.Parties.{LoginRecord, RememberedRecord}
 use Rattle.krb_logins.specs.Steps.{IsAnswered, IsApAsked, IsAsAsked, IsTgsAsked, reply_bytes}
 use Rattle.krb_logins.specs.declared.refusal.LoginRefusal.{LoginRefusal}
 use Rattle.krb_logins.specs.declared.refusal.LoginRefusal.TheVariants.{Admitted, Answered, Asked, Taken}
+use Rattle.krb_realm.specs.Realm.{RealmState}
 
 -- bytes as a call makes them
 abbrev pub Made : Type 0
@@ -37,8 +42,8 @@ told {E = E} seen does own (Err refusal) = (cause : E) × does (Err cause) × (r
 abbrev pub sent_as : {A : Type 0} → Made × A → Bytes × A
 sent_as sent = (sent.0.items, sent.1)
 
-unfoldable pub AsAsk : ClientRecord → LoginRecord → Result (Made × AsAskedRecord) LoginRefusal → Type 0
-AsAsk client login = told sent_as (IsAsAsked client (krbtgt_of client.realm) login.till login.client_as login.random_as) Asked
+unfoldable pub AsAsk : ClientRecord → MeansRecord → LoginRecord → Result (Made × AsAskedRecord) LoginRefusal → Type 0
+AsAsk client means login = told sent_as (IsAsAsked client means (krbtgt_of client.realm) login.till login.client_as login.random_as) Asked
 
 unfoldable pub TgsAsk : ClientRecord → LoginRecord → CredentialRecord → Result (Made × TgsAskedRecord) LoginRefusal → Type 0
 TgsAsk client login granting = told sent_as (IsTgsAsked client granting login.service login.till login.client_tgs login.random_tgs) Asked
@@ -46,11 +51,15 @@ TgsAsk client login granting = told sent_as (IsTgsAsked client granting login.se
 unfoldable pub ApAsk : ClientRecord → LoginRecord → CredentialRecord → Result (Made × ApAskedRecord) LoginRefusal → Type 0
 ApAsk client login credential = told sent_as (IsApAsked client credential login.client_ap login.random_ap) Asked
 
-unfoldable pub Answer : CallRecord → Bytes → Result Made LoginRefusal → Type 0
-Answer call request = told (λ reply. reply.items) (IsAnswered call request) Answered
+-- the rows by which a realm with these key functions judges requests by certificate
+abbrev pub realm_rows : RealmState → KeysRecord → PkinitRows
+realm_rows realm keys = pkinit_rows realm.trust keys
 
-unfoldable pub AsTake : ClientRecord → AsAskedRecord → Bytes → Result CredentialRecord LoginRefusal → Type 0
-AsTake client asked reply = told (λ credential. credential) (IsTaken (takes_as_reply client asked reply)) Taken
+unfoldable pub Answer : CallRecord → PkinitRows → Bytes → Result Made LoginRefusal → Type 0
+Answer call rows request = told (λ reply. reply.items) (IsAnswered call rows request) Answered
+
+unfoldable pub AsTake : ClientRecord → MeansRecord → AsAskedRecord → Bytes → Result CredentialRecord LoginRefusal → Type 0
+AsTake client means asked reply = told (λ credential. credential) (IsTaken (takes_as_reply client means asked reply)) Taken
 
 unfoldable pub TgsTake : ClientRecord → TgsAskedRecord → Bytes → Result CredentialRecord LoginRefusal → Type 0
 TgsTake client asked reply = told (λ credential. credential) (IsTaken (takes_tgs_reply client asked reply)) Taken

@@ -1,4 +1,4 @@
--- A realm: its name, its settings, and a finite map from component lists to accounts.
+-- A realm: its name, its limits, what it trusts clients' certificates by, and a finite map from component lists to accounts.
 use Rattle.std.specs.Prelude.{◌≡◌, nat_eq, Bool, true, not, ◌==◌, List, length, None, Result, Ok, Err, if◌then◌else◌}
 use Rattle.std.specs.Cmp.Lexicographic.{pointwise}
 use Rattle.std.specs.FinMap as finite
@@ -16,12 +16,15 @@ use Rattle.krb_as.specs.Call.{CallRecord}
 use Rattle.krb_as.specs.Calls.{AreKeyed}
 use Rattle.krb_as.specs.TicketGranting.{krbtgt_of}
 use Rattle.krb_logins.specs.Parties.{RealmRecord}
+use Rattle.pkinit_requests.specs.Trust.{TrustRecord}
+use Rattle.krb_realm.specs.Settings.{SettingsState}
 use Rattle.krb_accounts.specs.declared.refusal.RealmRefusal.{RealmRefusal}
 use Rattle.krb_accounts.specs.declared.refusal.RealmRefusal.TheVariants.{BadName, BadKeyLength, Exists, KeptAccount, Unknown}
 
 pub record RealmState : Type 0 where
   pub name : Bytes
   pub settings : SettingsRecord
+  pub trust : TrustRecord
   pub accounts : AccountMap
 
 -- the realm as logins see it
@@ -58,10 +61,11 @@ making name suite key =
     else (if not (length key == cipher_key_size suite) then Err BadKeyLength else Ok tt)
 
 -- the realm with its ticket-granting service's account alone
-abbrev pub made : Bytes → CipherSuite → Bytes → SettingsRecord → RealmState
+abbrev pub made : Bytes → CipherSuite → Bytes → SettingsState → RealmState
 made name suite key settings = record {
   name = name;
-  settings = settings;
+  settings = settings.limits;
+  trust = settings.trust;
   accounts = finite.insert finite.empty (krbtgt_of name) (first_key suite key);
 }
 

@@ -1,22 +1,27 @@
-//! Whole logins by password.
+//! Whole logins.
 ghost use Rattle.std.specs.Prelude.{◌≡◌, ◌≤◌, List, length, IfOk, Result};
 ghost use Rattle.krb_accounts.specs.Names.{parts};
 ghost use Rattle.krb_as.specs.TicketGranting.{krbtgt_of};
 ghost use Rattle.krb_logins.specs.Input.{login_of};
-ghost use Rattle.krb_logins.specs.Honest.{AreEnough, IsHonestLogin, IsOneKey};
+ghost use Rattle.krb_logins.specs.Honest.{AreEnough, IsHonestByPassword, IsHonestLogin, IsOneKey};
+ghost use Rattle.krb_logins.specs.Authenticated.{IsAuthenticated};
 ghost use Rattle.krb_logins.specs.LoginRun.{ApExchange, AsExchange, Exchanges, Login, LoginRun, TgsExchange};
 ghost use Rattle.krb_logins.specs.Parties.{RememberedRecord, call_at};
 ghost use Rattle.krb_logins.specs.Steps.{reply_bytes};
 ghost use Rattle.krb_replay_cache.specs.Pair.{PairRecord};
 ghost use Rattle.krb_replay_cache.specs.Seen.{IsWindow};
-ghost use Rattle.krb_realm.specs.Logins.{Admit, Answer, ApAsk, AsAsk, AsTake, Keyed, Remembers, Show, TgsAsk, TgsTake, remembered};
+ghost use Rattle.krb_realm.specs.Logins.{Admit, Answer, ApAsk, AsAsk, AsTake, Keyed, Remembers, Show, TgsAsk, TgsTake, realm_rows, remembered};
+ghost use Rattle.krb_realm.specs.Clients.{ByKey, means_of};
 ghost use Rattle.krb_realm.specs.Realm.{realm_of};
+ghost use Rattle.key_functions.specs.KeyFunctions.{no_functions};
+ghost use Rattle.krb_crypto.specs.Keys.{KeyRecord};
 ghost use Rattle.krb_sealing.specs.Sealing.{encryption_key};
 
-use crate::Realm;
+use crate::{Client, Realm};
+use key_functions::{KeyFunctions, NoKeys};
 use krb_ap::Admission;
-use krb_client::{ApAsked, AsAsked, AskRefusal, Client, Credential, TakeRefusal, TgsAsked};
-use krb_logins::laws::one_key;
+use krb_client::{ApAsked, AsAsked, AskRefusal, Credential, Means, TakeRefusal, TgsAsked};
+use krb_logins::laws::{one_key, one_key_by_password};
 use krb_logins::{LoginInput, LoginRefusal};
 use krb_moments::Moment;
 use krb_sealing::encryption_key;
@@ -25,8 +30,8 @@ use krb_types::data_types::EncryptionKey;
 use picky_asn1::wrapper::{GeneralStringAsn1, OctetStringAsn1};
 use std::alloc::{AllocError, Global};
 
-/// Logs a client in at a service by its password (RFC 4120, sections 3.1, 3.3, 3.2). The client asks the realm for a first
-/// ticket, and by it for one for the service. The service admits it by that. Each step takes the bytes of the one before
+/// Logs a client in at a service by its password (RFC 4120, sections 3.1, 3.3, 3.2). The realm has no key functions. The client asks it
+/// for a first ticket, and by it for one for the service. The service admits it by that. Each step takes the bytes of the one before
 /// it, and the first refusal ends the login. The result is the client's session key, and what the service was told. If the
 /// login is honest, that key is the one that the service was told, and the client is named.
 pub fn login_by_password(
@@ -43,83 +48,204 @@ pub fn login_by_password(
     requires realm_tgs { 128 ≤ length input.now.realm_words_tgs.now }
     requires service { 16 ≤ length input.now.service_words.now }
     ensures run { (admitted : List PairRecord) → IsWindow service.old.seen admitted
-        → Remembers service.new.seen (LoginRun client.now (realm_of realm.now) service.old (login_of input.now) (remembered service.old admitted) result) }
+        → Remembers service.new.seen (LoginRun client.now.client (means_of client.now no_functions) (realm_of realm.now) (realm_rows realm.now no_functions)
+        service.old (login_of input.now) (remembered service.old admitted) result) }
     ensures rest { service.new ≡ record service.old { seen = service.new.seen } }
     ensures skew { service.new.seen.skew ≡ service.old.seen.skew }
 
-    // An honest login ends with one key on both sides.
-    ensures honest { (admitted : List PairRecord) → IsWindow service.old.seen admitted
-        → IsHonestLogin client.now (realm_of realm.now) service.old (remembered service.old admitted) (login_of input.now) → IsOneKey client.now result }
+    // An honest login by a key that client and realm share ends with one key on both sides.
+    ensures honest { (key : KeyRecord) (admitted : List PairRecord) → client.now.by ≡ ByKey key → IsWindow service.old.seen admitted
+        → IsHonestByPassword client.now.client key.bytes (realm_of realm.now) service.old (remembered service.old admitted) (login_of input.now)
+        → IsOneKey client.now.client result }
 {
-    ends_with_one_key(client, realm, service, input);
-    let credential = exchange(alloc, client, realm, input)?;
+    keyed_ends_with_one_key(client, realm, service, input);
+    let means = client.means(&NoKeys);
+    login(
+        alloc,
+        client.asking(),
+        &means,
+        realm,
+        service,
+        input,
+        &NoKeys,
+    )
+}
+
+/// Logs a client in at a service by its certificate (RFC 4556, section 3; RFC 4120, sections 3.1, 3.3, 3.2). Client and realm have key
+/// functions of their own: they sign for each other, and agree on the key of the first reply. Else it is as [`login_by_password`].
+///
+/// If the login is honest and the realm authenticates the client, the client's session key is the one that the service was told,
+/// and the client is named.
+pub fn login_by_certificate<C: KeyFunctions, R: KeyFunctions>(
+    alloc: Global,
+    client: &Client,
+    realm: &Realm,
+    service: &mut Service,
+    input: &LoginInput<'_>,
+    client_keys: &C,
+    realm_keys: &R,
+) -> Result<(EncryptionKey, Admission), LoginRefusal>
+    requires client_as { 96 ≤ length input.now.words_as.now }
+    requires client_tgs { 96 ≤ length input.now.words_tgs.now }
+    requires client_ap { 96 ≤ length input.now.words_ap.now }
+    requires realm_as { 128 ≤ length input.now.realm_words_as.now }
+    requires realm_tgs { 128 ≤ length input.now.realm_words_tgs.now }
+    requires service { 16 ≤ length input.now.service_words.now }
+    ensures run { (admitted : List PairRecord) → IsWindow service.old.seen admitted
+        → Remembers service.new.seen (LoginRun client.now.client (means_of client.now (C.functions client_keys.now)) (realm_of realm.now) (realm_rows realm.now (R.functions realm_keys.now))
+        service.old (login_of input.now) (remembered service.old admitted) result) }
+    ensures rest { service.new ≡ record service.old { seen = service.new.seen } }
+    ensures skew { service.new.seen.skew ≡ service.old.seen.skew }
+
+    // An honest login of a client that the realm authenticates ends with one key on both sides.
+    ensures honest { (admitted : List PairRecord) → IsWindow service.old.seen admitted
+        → (honest : IsHonestLogin client.now.client (realm_of realm.now) service.old (remembered service.old admitted) (login_of input.now))
+        → IsAuthenticated client.now.client (means_of client.now (C.functions client_keys.now)) (realm_of realm.now) (realm_rows realm.now (R.functions realm_keys.now))
+        honest.client.account (login_of input.now) → IsOneKey client.now.client result }
+{
+    let means = client.means(client_keys);
+    login(
+        alloc,
+        client.asking(),
+        &means,
+        realm,
+        service,
+        input,
+        realm_keys,
+    )
+}
+
+// A login by any means of the client.
+fn login<M: Means, R: KeyFunctions>(
+    alloc: Global,
+    client: &krb_client::Client,
+    means: &M,
+    realm: &Realm,
+    service: &mut Service,
+    input: &LoginInput<'_>,
+    keys: &R,
+) -> Result<(EncryptionKey, Admission), LoginRefusal>
+    requires client_as { 96 ≤ length input.now.words_as.now }
+    requires client_tgs { 96 ≤ length input.now.words_tgs.now }
+    requires client_ap { 96 ≤ length input.now.words_ap.now }
+    requires realm_as { 128 ≤ length input.now.realm_words_as.now }
+    requires realm_tgs { 128 ≤ length input.now.realm_words_tgs.now }
+    requires service { 16 ≤ length input.now.service_words.now }
+    ensures run { (admitted : List PairRecord) → IsWindow service.old.seen admitted
+        → Remembers service.new.seen (LoginRun client.now (M.means means.now) (realm_of realm.now) (realm_rows realm.now (R.functions keys.now))
+        service.old (login_of input.now) (remembered service.old admitted) result) }
+    ensures rest { service.new ≡ record service.old { seen = service.new.seen } }
+    ensures skew { service.new.seen.skew ≡ service.old.seen.skew }
+    ensures honest { (admitted : List PairRecord) → IsWindow service.old.seen admitted
+        → (honest : IsHonestLogin client.now (realm_of realm.now) service.old (remembered service.old admitted) (login_of input.now))
+        → IsAuthenticated client.now (M.means means.now) (realm_of realm.now) (realm_rows realm.now (R.functions keys.now)) honest.client.account (login_of input.now)
+        → IsOneKey client.now result }
+{
+    ends_with_one_key(client, means, realm, service, input, keys);
+    let credential = exchange(alloc, client, means, realm, input, keys)?;
     ap_exchange(alloc, client, service, &credential, input)
 }
 
-// Every honest login by parties as they are held ends with one key. It does nothing when it runs.
-fn ends_with_one_key(client: &Client, realm: &Realm, service: &Service, input: &LoginInput<'_>)
+// Every honest login by parties as they are held ends with one key, if the realm authenticates the client. It does nothing when it runs.
+fn ends_with_one_key<M: Means, R: KeyFunctions>(
+    client: &krb_client::Client,
+    means: &M,
+    realm: &Realm,
+    service: &Service,
+    input: &LoginInput<'_>,
+    keys: &R,
+)
     requires { AreEnough (login_of input.now) }
     ensures { (before : RememberedRecord) (result : Result Login LoginRefusal) (after : RememberedRecord)
-        → IsHonestLogin client.now (realm_of realm.now) service.now before (login_of input.now)
-        → LoginRun client.now (realm_of realm.now) service.now (login_of input.now) before result after → IsOneKey client.now result }
+        → (honest : IsHonestLogin client.now (realm_of realm.now) service.now before (login_of input.now))
+        → IsAuthenticated client.now (M.means means.now) (realm_of realm.now) (realm_rows realm.now (R.functions keys.now)) honest.client.account (login_of input.now)
+        → LoginRun client.now (M.means means.now) (realm_of realm.now) (realm_rows realm.now (R.functions keys.now)) service.now (login_of input.now) before result after
+        → IsOneKey client.now result }
 {
     client.is_well_formed();
     realm.is_granting();
     realm.are_keyed();
     service.is_well_formed();
-    one_key();
+    one_key(means, &realm.pkinit(keys));
+}
+
+// Every honest login by a key that client and realm share ends so. It does nothing when it runs.
+fn keyed_ends_with_one_key(
+    client: &Client,
+    realm: &Realm,
+    service: &Service,
+    input: &LoginInput<'_>,
+)
+    requires { AreEnough (login_of input.now) }
+    ensures { (key : KeyRecord) (before : RememberedRecord) (result : Result Login LoginRefusal) (after : RememberedRecord)
+        → client.now.by ≡ ByKey key
+        → IsHonestByPassword client.now.client key.bytes (realm_of realm.now) service.now before (login_of input.now)
+        → LoginRun client.now.client (means_of client.now no_functions) (realm_of realm.now) (realm_rows realm.now no_functions) service.now (login_of input.now) before result after
+        → IsOneKey client.now.client result }
+{
+    client.is_well_formed();
+    realm.is_granting();
+    realm.are_keyed();
+    service.is_well_formed();
+    one_key_by_password(&realm.pkinit(&NoKeys));
 }
 
 // Both exchanges with the realm: the ticket for the service.
-fn exchange(
+fn exchange<M: Means, R: KeyFunctions>(
     alloc: Global,
-    client: &Client,
+    client: &krb_client::Client,
+    means: &M,
     realm: &Realm,
     input: &LoginInput<'_>,
+    keys: &R,
 ) -> Result<Credential, LoginRefusal>
     requires client_as { 96 ≤ length input.now.words_as.now }
     requires client_tgs { 96 ≤ length input.now.words_tgs.now }
     requires realm_as { 128 ≤ length input.now.realm_words_as.now }
     requires realm_tgs { 128 ≤ length input.now.realm_words_tgs.now }
-    ensures { Exchanges client.now (realm_of realm.now) (login_of input.now) result }
+    ensures { Exchanges client.now (M.means means.now) (realm_of realm.now) (realm_rows realm.now (R.functions keys.now)) (login_of input.now) result }
 {
-    let granting = as_exchange(alloc, client, realm, input)?;
-    tgs_exchange(alloc, client, realm, &granting, input)
+    let granting = as_exchange(alloc, client, means, realm, input, keys)?;
+    tgs_exchange(alloc, client, realm, &granting, input, keys)
 }
 
 // The AS exchange: the ticket for the realm's ticket-granting service.
-fn as_exchange(
+fn as_exchange<M: Means, R: KeyFunctions>(
     alloc: Global,
-    client: &Client,
+    client: &krb_client::Client,
+    means: &M,
     realm: &Realm,
     input: &LoginInput<'_>,
+    keys: &R,
 ) -> Result<Credential, LoginRefusal>
     requires client { 96 ≤ length input.now.words_as.now }
     requires realm { 128 ≤ length input.now.realm_words_as.now }
-    ensures { AsExchange client.now (realm_of realm.now) (login_of input.now) result }
+    ensures { AsExchange client.now (M.means means.now) (realm_of realm.now) (realm_rows realm.now (R.functions keys.now)) (login_of input.now) result }
 {
-    let (request, asked) = ask_as(alloc, client, input)?;
+    let (request, asked) = ask_as(alloc, client, means, input)?;
     let reply = answer(
         alloc,
         realm,
         &request,
         input.moments.realm_as,
         input.realm_words_as,
+        keys,
     )?;
-    take_as(alloc, client, &asked, &reply)
+    take_as(alloc, client, means, &asked, &reply)
 }
 
 // The TGS exchange: by that ticket the one for the service.
-fn tgs_exchange(
+fn tgs_exchange<R: KeyFunctions>(
     alloc: Global,
-    client: &Client,
+    client: &krb_client::Client,
     realm: &Realm,
     granting: &Credential,
     input: &LoginInput<'_>,
+    keys: &R,
 ) -> Result<Credential, LoginRefusal>
     requires client { 96 ≤ length input.now.words_tgs.now }
     requires realm { 128 ≤ length input.now.realm_words_tgs.now }
-    ensures { TgsExchange client.now (realm_of realm.now) (login_of input.now) granting.now result }
+    ensures { TgsExchange client.now (realm_of realm.now) (realm_rows realm.now (R.functions keys.now)) (login_of input.now) granting.now result }
 {
     let (request, asked) = ask_tgs(alloc, client, granting, input)?;
     let reply = answer(
@@ -128,6 +254,7 @@ fn tgs_exchange(
         &request,
         input.moments.realm_tgs,
         input.realm_words_tgs,
+        keys,
     )?;
     take_tgs(alloc, client, &asked, &reply)
 }
@@ -135,7 +262,7 @@ fn tgs_exchange(
 // The AP exchange: by the ticket for the service the client is admitted.
 fn ap_exchange(
     alloc: Global,
-    client: &Client,
+    client: &krb_client::Client,
     service: &mut Service,
     credential: &Credential,
     input: &LoginInput<'_>,
@@ -154,19 +281,22 @@ fn ap_exchange(
 
 // The client asks for a first ticket.
 #[tactic(auto, unfolding(crate::specs::Logins::AsAsk, krb_logins::specs::Steps::IsAsAsked))]
-fn ask_as(
+fn ask_as<M: Means>(
     alloc: Global,
-    client: &Client,
+    client: &krb_client::Client,
+    means: &M,
     input: &LoginInput<'_>,
 ) -> Result<(Vec<u8>, AsAsked), LoginRefusal>
     requires { 96 ≤ length input.now.words_as.now }
-    ensures { AsAsk client.now (login_of input.now) result }
+    ensures { AsAsk client.now (M.means means.now) (login_of input.now) result }
 {
+    client.is_well_formed();
     let Ok(service) = granting_service(alloc, client.realm()) else {
         return Err(LoginRefusal::Asked(AskRefusal::Memory));
     };
     let moment = input.moments.client_as;
-    match client.as_request(alloc, &service, input.till, moment, input.words_as) {
+    let words = input.words_as;
+    match client.as_request(alloc, means, &service, input.till, moment, words) {
         Ok(sent) => Ok(sent),
         Err(refusal) => Err(LoginRefusal::Asked(refusal)),
     }
@@ -186,7 +316,7 @@ fn granting_service(alloc: Global, realm: &GeneralStringAsn1) -> Result<Vec<Vec<
 #[tactic(auto, unfolding(crate::specs::Logins::TgsAsk, krb_logins::specs::Steps::IsTgsAsked))]
 fn ask_tgs(
     alloc: Global,
-    client: &Client,
+    client: &krb_client::Client,
     granting: &Credential,
     input: &LoginInput<'_>,
 ) -> Result<(Vec<u8>, TgsAsked), LoginRefusal>
@@ -205,7 +335,7 @@ fn ask_tgs(
 #[tactic(auto, unfolding(crate::specs::Logins::ApAsk, krb_logins::specs::Steps::IsApAsked))]
 fn ask_ap(
     alloc: Global,
-    client: &Client,
+    client: &krb_client::Client,
     credential: &Credential,
     input: &LoginInput<'_>,
 ) -> Result<(Vec<u8>, ApAsked), LoginRefusal>
@@ -221,17 +351,18 @@ fn ask_ap(
 
 // The realm answers.
 #[tactic(auto, unfolding(crate::specs::Logins::Answer, krb_logins::specs::Steps::IsAnswered))]
-fn answer(
+fn answer<R: KeyFunctions>(
     alloc: Global,
     realm: &Realm,
     request: &[u8],
     moment: Moment,
     words: &[u8],
+    keys: &R,
 ) -> Result<Vec<u8>, LoginRefusal>
     requires { 128 ≤ length words.now }
-    ensures { Answer (call_at (realm_of realm.now) moment words.now) request.now result }
+    ensures { Answer (call_at (realm_of realm.now) moment words.now) (realm_rows realm.now (R.functions keys.now)) request.now result }
 {
-    match realm.answer(alloc, request, moment, words) {
+    match realm.answer(alloc, request, moment, words, keys) {
         Ok(reply) => Ok(reply),
         Err(refusal) => Err(LoginRefusal::Answered(refusal)),
     }
@@ -239,15 +370,16 @@ fn answer(
 
 // The client takes the reply to its request for a first ticket.
 #[tactic(auto, unfolding(crate::specs::Logins::AsTake))]
-fn take_as(
+fn take_as<M: Means>(
     alloc: Global,
-    client: &Client,
+    client: &krb_client::Client,
+    means: &M,
     asked: &AsAsked,
     reply: &[u8],
 ) -> Result<Credential, LoginRefusal>
-    ensures { AsTake client.now asked.now reply.now result }
+    ensures { AsTake client.now (M.means means.now) asked.now reply.now result }
 {
-    match client.take_as_reply(alloc, asked, reply) {
+    match client.take_as_reply(alloc, means, asked, reply) {
         Ok(credential) => Ok(credential),
         Err(refusal) => Err(LoginRefusal::Taken(refusal)),
     }
@@ -257,7 +389,7 @@ fn take_as(
 #[tactic(auto, unfolding(crate::specs::Logins::TgsTake))]
 fn take_tgs(
     alloc: Global,
-    client: &Client,
+    client: &krb_client::Client,
     asked: &TgsAsked,
     reply: &[u8],
 ) -> Result<Credential, LoginRefusal>
@@ -296,7 +428,7 @@ fn admit(
 // What the service was told, with the client's key: a function of its own, since it owns the admission where it may fail.
 fn keyed(
     alloc: Global,
-    client: &Client,
+    client: &krb_client::Client,
     asked: &ApAsked,
     admission: Admission,
 ) -> Result<(EncryptionKey, Admission), LoginRefusal>
@@ -309,7 +441,7 @@ fn keyed(
 // The client takes the service's reply, and returns the session key.
 fn show(
     alloc: Global,
-    client: &Client,
+    client: &krb_client::Client,
     asked: &ApAsked,
     admission: &Admission,
 ) -> Result<EncryptionKey, LoginRefusal>

@@ -9,20 +9,25 @@ ghost use Rattle.decision_tables.specs.Some.{HasSome};
 ghost use Rattle.krb_as.specs.Call.{call_of};
 ghost use Rattle.krb_as.specs.Calls.{AreKeyed, IsKeyed};
 ghost use Rattle.krb_replies.specs.Replies.{Replies};
+ghost use Rattle.pkinit_requests.specs.PkinitRows.{pkinit_rows};
+ghost use Rattle.pkinit_requests.specs.Trust.{trust_of};
 ghost use Rattle.krb_realm.specs.Answers.{is_request_octet};
 ghost use Rattle.krb_realm.specs.Realm.{call_to, is_krbtgt};
 
+use crate::laws::has_reply;
+use crate::settings::Settings;
+use key_functions::KeyFunctions;
 use krb_accounts::{
-    Account, Accounts, RealmRefusal, Settings, are_components, components_of, is_realm_name,
-    password_salt, realm_name_of,
+    Account, Accounts, RealmRefusal, are_components, components_of, is_realm_name, password_salt,
+    realm_name_of,
 };
 use krb_crypto::CipherSuite;
 use krb_frames::AnswerRefusal;
 use krb_moments::Moment;
-use krb_replies::laws::has_reply;
 use krb_replies::{Call, answer_as, answer_tgs, krbtgt_of, read_as_req, read_tgs_req};
 use krb_types::constants::types::{AS_REQ_MSG_TYPE, TGS_REQ_MSG_TYPE};
 use picky_asn1::wrapper::GeneralStringAsn1;
+use pkinit_requests::RealmPkinit;
 use std::alloc::Global;
 use std::marker::Model;
 
@@ -37,7 +42,7 @@ pub fn words_needed() -> usize
 }
 
 /// A realm: a name, settings, and the accounts of its principals, of which its ticket-granting service's is always one. A
-/// contract sees the three.
+/// contract sees them.
 #[derive(Drop)]
 pub struct Realm {
     name: GeneralStringAsn1,
@@ -48,20 +53,20 @@ pub struct Realm {
 impl Model for Realm {
     ghost use Rattle.std.specs.Prelude.{ℕ, List, refl};
     ghost use Rattle.std.specs.Coded.{code_by, coded×, coded_list, coded_ℕ};
-    ghost use Rattle.krb_accounts.specs.Settings.{SettingsRecord};
     ghost use Rattle.krb_accounts.specs.Accounts.{AccountMap};
     ghost use Rattle.krb_accounts.specs.contracts.accounts.Accounts as account_map;
-    ghost use Rattle.krb_accounts.specs.contracts.settings.Settings as realm_settings;
+    ghost use Rattle.krb_realm.specs.contracts.settings.Settings as realm_settings;
     ghost use Rattle.krb_realm.specs.Realm.{IsRealm, RealmState};
+    ghost use Rattle.krb_realm.specs.Settings.{SettingsState};
 
     ghost Value = { RealmState };
 
-    ghost coded = { code_by (List ℕ × (SettingsRecord × AccountMap))
+    ghost coded = { code_by (List ℕ × (SettingsState × AccountMap))
         (coded× (coded_list coded_ℕ) (coded× realm_settings.the_row.coded account_map.the_row.coded))
-        (λ r. (r.name, (r.settings, r.accounts)))
-        (λ p. record { name = p.0; settings = p.1.0; accounts = p.1.1 }) (λ _. refl) };
+        (λ r. (r.name, (record { limits = r.settings; trust = r.trust }, r.accounts)))
+        (λ p. record { name = p.0; settings = p.1.0.limits; trust = p.1.0.trust; accounts = p.1.1 }) (λ _. refl) };
 
-    ghost view = { λ r. record { name = r.name; settings = r.settings; accounts = r.accounts } };
+    ghost view = { λ r. record { name = r.name; settings = r.settings.limits; trust = r.settings.trust; accounts = r.accounts } };
 
     ghost invariant = { λ r. IsRealm r.name r.accounts };
 }
@@ -113,7 +118,7 @@ impl Realm {
         ensures { IsGranting (realm_of self.now) }
     {
         // The clause is of the fields: the proof sees them where one is read.
-        let _settings = self.settings;
+        let _settings = &self.settings;
     }
 
     /// What every realm has: accounts whose keys are keys of their suites. It does nothing when it runs.
@@ -121,13 +126,13 @@ impl Realm {
         ensures { AreKeyed (realm_of self.now).look }
     {
         // The clause is of the fields: the proof sees them where one is read.
-        let _settings = self.settings;
+        let _settings = &self.settings;
     }
 
     /// There is a reply to each request at each moment, by `laws::one_reply` exactly one. It does nothing when it runs.
-    pub fn has_reply(&self, request: &[u8], moment: Moment, words: &[u8])
+    pub fn has_reply<K: KeyFunctions>(&self, request: &[u8], moment: Moment, words: &[u8], keys: &K)
         requires { 128 ≤ length words.now }
-        ensures { HasSome (Replies (call_to self.now moment words.now) request.now) }
+        ensures { HasSome (Replies (call_to self.now moment words.now) (pkinit_rows self.now.trust (K.functions keys.now)) request.now) }
     {
         self.are_keyed();
         let _micros = moment.micros();
@@ -250,25 +255,30 @@ impl Realm {
     /// The reply to a message at a moment, with random bytes of which the first 128 count (RFC 4120, sections 3.1 and 3.3).
     /// There is exactly one: `has_reply` and `laws::one_reply`.
     ///
+    /// A realm with an anchor and an own certificate also grants by certificate (RFC 4556, section 3.2). The key functions verify
+    /// signatures, sign the reply, and agree on its key. Without an anchor they are not called.
+    ///
     /// `Unreadable` says that the bytes are the one encoding of no AS request and of no TGS request. Where they begin with the
     /// identifier octet of neither, that is answered however little memory there is.
     #[tactic(auto, unfolding(krb_replies::specs::Replies::Replies))]
-    pub fn answer(
+    pub fn answer<K: KeyFunctions>(
         &self,
         alloc: Global,
         request: &[u8],
         moment: Moment,
         words: &[u8],
+        keys: &K,
     ) -> Result<Vec<u8>, AnswerRefusal>
         requires { 128 ≤ length words.now }
-        ensures answer { IsAnswer (Replies (call_to self.now moment words.now) request.now) result }
+        ensures answer { IsAnswer (Replies (call_to self.now moment words.now) (pkinit_rows self.now.trust (K.functions keys.now)) request.now) result }
         ensures memory { IfErr result (λ refusal. refusal ≡ AnswerRefusal.Memory → BeginsRequest request.now) }
     {
         if !begins_request(request) {
             return Err(AnswerRefusal::Unreadable);
         }
         if let Some(asked) = read_as_req(alloc, request)? {
-            let reply = answer_as(alloc, &self.call(moment, words), asked)?;
+            let pkinit = self.pkinit(keys);
+            let reply = answer_as(alloc, &self.call(moment, words), &pkinit, asked)?;
             return Ok(reply);
         }
         if let Some(asked) = read_tgs_req(alloc, request)? {
@@ -285,11 +295,19 @@ impl Realm {
     {
         Call {
             realm: &self.name,
-            settings: self.settings,
+            settings: self.settings.limits(),
             accounts: &self.accounts,
             moment,
             random: words,
         }
+    }
+
+    /// What requests by certificate are judged by, with these key functions.
+    pub(crate) fn pkinit<'a, K: KeyFunctions>(&'a self, keys: &'a K) -> RealmPkinit<'a, K>
+        ensures trust { trust_of result.anchor result.certificate ≡ self.now.trust }
+        ensures keys { result.keys.now ≡ keys.now }
+    {
+        self.settings.pkinit(keys)
     }
 }
 

@@ -6,6 +6,7 @@ use Rattle.krb_blocks.specs.Bytes.{IsBytes}
 use Rattle.krb_moments.specs.Moment.{IsMoment}
 use Rattle.krb_accounts.specs.Account.{AccountRecord}
 use Rattle.krb_accounts.specs.Accounts.{Look}
+use Rattle.krb_pkinit.specs.Rows.{PkinitRows}
 use Rattle.krb_types.specs.Names.{components}
 use Rattle.krb_types.specs.declared.data_types.principal_name.PrincipalName.{PrincipalName}
 use Rattle.krb_messages.specs.declared.messages.kdc_req.KdcReq.{KdcReq}
@@ -51,13 +52,13 @@ request_fits first bytes v are e =
     let whole : IsShort (length bytes) bytes = record { bytes = are; short = omega arith } in
     in_wrapped (length bytes) first (kdc_req_inner_tree v) (record { written = subst (IsShort (length bytes)) e whole })
 
-module _ (call : CallRecord) (bytes : List ℕ) (is : IsCall call) (are : IsBytes bytes) (few : length bytes < 2 ^ 64) where
-  has_as_reply : (v : KdcReq) → IsAsReq bytes v → HasOutcome (as_reply call (account_of call.look (client_of v.req_body.0)) (account_of call.look (service_of v.req_body.0)) v)
+module _ (call : CallRecord) (rows : PkinitRows) (bytes : List ℕ) (is : IsCall call) (are : IsBytes bytes) (few : length bytes < 2 ^ 64) where
+  has_as_reply : (v : KdcReq) → IsAsReq bytes v → HasOutcome (as_reply call rows (account_of call.look (client_of v.req_body.0)) (account_of call.look (service_of v.req_body.0)) v)
   has_as_reply v found =
       let of_client = account_of call.look (client_of v.req_body.0) in
       let of_service = account_of call.look (service_of v.req_body.0) in
-      has_answered call (hint_of of_client) v (as_table call of_client of_service v) is.in_time
-      (has_as_outcome call of_client of_service v is (length bytes) few (request_fits 106 bytes v are found.1)
+      has_answered call (hint_of rows.offered of_client) v (as_table call rows of_client of_service v) is.in_time
+      (has_as_outcome call rows of_client of_service v is (length bytes) few (request_fits 106 bytes v are found.1)
       (λ client e. keyed_of call.look (client_of v.req_body.0) client is.keyed e)
       (λ service e. keyed_of call.look (service_of v.req_body.0) service is.keyed e))
 
@@ -65,12 +66,12 @@ module _ (call : CallRecord) (bytes : List ℕ) (is : IsCall call) (are : IsByte
   has_tgs_reply v found =
       has_answered call (λ code. None) v (tgs_table call v) is.in_time (has_tgs_outcome call v is (length bytes) few (request_fits 108 bytes v are found.1))
 
-pub has_reply : (call : CallRecord) (request : List ℕ) → IsCall call → IsBytes request → length request < 2 ^ 64 → HasSome (Replies call request)
+pub has_reply : (call : CallRecord) (rows : PkinitRows) (request : List ℕ) → IsCall call → IsBytes request → length request < 2 ^ 64 → HasSome (Replies call rows request)
 unfolding Replies
-has_reply call request is are few =
+has_reply call rows request is are few =
     let none : Table (Option (List ℕ)) = done None in
-    let by_as : KdcReq → Table (Option (List ℕ)) = λ v. as_reply call (account_of call.look (client_of v.req_body.0)) (account_of call.look (service_of v.req_body.0)) v in
+    let by_as : KdcReq → Table (Option (List ℕ)) = λ v. as_reply call rows (account_of call.look (client_of v.req_body.0)) (account_of call.look (service_of v.req_body.0)) v in
     let other : Table (Option (List ℕ)) = ask (IsTgsReq request) (sole_tgs_req request) none (tgs_reply call) in
     has_asked (IsAsReq request) (sole_as_req request) other by_as
-    (has_asked (IsTgsReq request) (sole_tgs_req request) none (tgs_reply call) (has_done None) (has_tgs_reply call request is are few))
-    (has_as_reply call request is are few)
+    (has_asked (IsTgsReq request) (sole_tgs_req request) none (tgs_reply call) (has_done None) (has_tgs_reply call rows request is are few))
+    (has_as_reply call rows request is are few)

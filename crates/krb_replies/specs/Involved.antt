@@ -4,6 +4,7 @@ use Rattle.picky_asn1.specs.Bytes.{Bytes}
 use Rattle.krb_messages.specs.declared.messages.kdc_req.KdcReq.{KdcReq}
 use Rattle.krb_types.specs.declared.data_types.principal_name.PrincipalName.{PrincipalName}
 use Rattle.krb_accounts.specs.Accounts.{Look}
+use Rattle.krb_pkinit.specs.Rows.{PkinitRows}
 use Rattle.krb_types.specs.Names.{components}
 use Rattle.krb_messages.specs.Messages.{IsAsReq, IsTgsReq}
 use Rattle.krb_as.specs.Call.{CallRecord}
@@ -23,8 +24,9 @@ IsInvolved call bytes these =
     × (IsNamed (client_of request.req_body.0) these ⊎ IsNamed (service_of request.req_body.0) these))
     ⊎ ((request : KdcReq) × IsTgsReq bytes request × IsInvolvedFurther call request these)
 
--- realms of one name and of the same settings, which agree on the accounts involved, reply equally
-abbrev pub IsOfInvolvedAlone : Type 0
-IsOfInvolvedAlone = (call : CallRecord) (other : Look) (request : Bytes)
+-- realms of one name, of the same settings and of the same rows for PA-PK-AS-REQ, which agree on the accounts involved, reply
+-- equally
+abbrev pub IsOfInvolvedAlone : PkinitRows → Type 0
+IsOfInvolvedAlone rows = (call : CallRecord) (other : Look) (request : Bytes)
     → ((these : List Bytes) → IsInvolved call request these → call.look these ≡ other these)
-    → (reply : Option Bytes) → Replies call request reply → Replies (record call { look = other }) request reply
+    → (reply : Option Bytes) → Replies call rows request reply → Replies (record call { look = other }) rows request reply

@@ -1,5 +1,5 @@
 -- The reply of a realm, as one table over whole messages.
-use Rattle.std.specs.Prelude.{◌≡◌, ◌%◌, ◌==◌, Option, None, Some, Result, Ok, Err, if◌then◌else◌}
+use Rattle.std.specs.Prelude.{◌≡◌, ◌%◌, ◌==◌, Bool, Option, None, Some, Result, Ok, Err, if◌then◌else◌}
 use Rattle.std.specs.Option.{option_map}
 use Rattle.picky_asn1.specs.Bytes.{Bytes}
 use Rattle.krb_messages.specs.declared.messages.kdc_req.KdcReq.{KdcReq}
@@ -7,6 +7,7 @@ use Rattle.krb_types.specs.declared.data_types.principal_name.PrincipalName.{Pri
 use Rattle.krb_types.specs.Refusals.{Code}
 use Rattle.krb_types.specs.declared.constants.error_codes.TheConstants.{KDC_ERR_PREAUTH_REQUIRED}
 use Rattle.krb_accounts.specs.Account.{AccountRecord}
+use Rattle.krb_pkinit.specs.Rows.{PkinitRows}
 use Rattle.decision_tables.specs.Tables.{Table, done, ask, make}
 use Rattle.krb_tickets.specs.MethodData.{method_data_bytes}
 use Rattle.krb_messages.specs.Messages.{IsAsReq, IsTgsReq, sole_as_req, sole_tgs_req}
@@ -22,9 +23,10 @@ abbrev pub named_service : Bytes → Option PrincipalName → PrincipalName
 named_service realm None = ticket_service realm
 named_service realm (Some name) = name
 
--- what an error tells beside its code: with KDC_ERR_PREAUTH_REQUIRED how the client authenticates first
-abbrev pub hint_of : Option AccountRecord → Code → Option Bytes
-hint_of of_client code = if code == KDC_ERR_PREAUTH_REQUIRED then option_map method_data_bytes of_client else None
+-- what an error tells beside its code: with KDC_ERR_PREAUTH_REQUIRED how the client authenticates first, of PA-PK-AS-REQ where
+-- PKINIT is offered
+abbrev pub hint_of : Bool → Option AccountRecord → Code → Option Bytes
+hint_of offered of_client code = if code == KDC_ERR_PREAUTH_REQUIRED then option_map (method_data_bytes offered) of_client else None
 
 -- what a judgement is answered: what is granted, or the error with its code, in the second of the moment
 abbrev pub reply_of : CallRecord → (Code → Option Bytes) → KdcReq → Result Bytes Code → Table (Option Bytes)
@@ -36,26 +38,26 @@ reply_of call hint request (Err code) =
 abbrev pub answered : CallRecord → (Code → Option Bytes) → KdcReq → Table (Result Bytes Code) → Table (Option Bytes)
 answered call hint request judged = make judged.gives judged.one (reply_of call hint request)
 
--- the reply to an AS request, of the accounts of client and service if they have one
-abbrev pub as_reply : CallRecord → Option AccountRecord → Option AccountRecord → KdcReq → Table (Option Bytes)
-as_reply call of_client of_service request = answered call (hint_of of_client) request (as_table call of_client of_service request)
+-- the reply to an AS request, by these rows for PA-PK-AS-REQ, of the accounts of client and service if they have one
+abbrev pub as_reply : CallRecord → PkinitRows → Option AccountRecord → Option AccountRecord → KdcReq → Table (Option Bytes)
+as_reply call rows of_client of_service request = answered call (hint_of rows.offered of_client) request (as_table call rows of_client of_service request)
 
 -- the reply to a TGS request; its errors tell nothing beside their code
 abbrev pub tgs_reply : CallRecord → KdcReq → Table (Option Bytes)
 tgs_reply call request = answered call (λ code. None) request (tgs_table call request)
 
 -- none where the bytes are the one encoding of no AS request and of no TGS request
-abbrev pub replies : CallRecord → Bytes → Table (Option Bytes)
-replies call request =
+abbrev pub replies : CallRecord → PkinitRows → Bytes → Table (Option Bytes)
+replies call rows request =
     ask (IsAsReq request) (sole_as_req request)
     (ask (IsTgsReq request) (sole_tgs_req request) (done None) (tgs_reply call))
-    (λ v. as_reply call (account_of call.look (client_of v.req_body.0)) (account_of call.look (service_of v.req_body.0)) v)
+    (λ v. as_reply call rows (account_of call.look (client_of v.req_body.0)) (account_of call.look (service_of v.req_body.0)) v)
 
 -- the reply that a realm may give to a message
-unfoldable pub Replies : CallRecord → Bytes → Option Bytes → Type 0
-Replies call request reply = (replies call request).gives reply
+unfoldable pub Replies : CallRecord → PkinitRows → Bytes → Option Bytes → Type 0
+Replies call rows request reply = (replies call rows request).gives reply
 
 -- there is one at most
-pub one_reply : (call : CallRecord) (request : Bytes) (a b : Option Bytes) → Replies call request a → Replies call request b → a ≡ b
+pub one_reply : (call : CallRecord) (rows : PkinitRows) (request : Bytes) (a b : Option Bytes) → Replies call rows request a → Replies call rows request b → a ≡ b
 unfolding Replies
-one_reply call request = (replies call request).one
+one_reply call rows request = (replies call rows request).one

@@ -18,6 +18,7 @@ use crate::told::Told;
 use krb_accounts::Account;
 use krb_as::{Call, account_of, client_of, judge_as, service_of};
 use krb_messages::messages::KdcReq;
+use krb_pkinit::Pkinit;
 use krb_tgs::judge_tgs;
 use krb_tickets::method_data;
 use krb_types::Refusal;
@@ -25,15 +26,20 @@ use krb_types::constants::error_codes;
 use krb_types::data_types::PrincipalName;
 use std::alloc::{AllocError, Global};
 
-/// The reply to an AS request: a ticket, or the error with its code (RFC 4120, section 3.1). It lends the request on, so that
-/// one way out alone drops it.
-pub fn answer_as(alloc: Global, call: &Call<'_>, request: KdcReq) -> Result<Vec<u8>, AllocError>
+/// The reply to an AS request: a ticket, or the error with its code (RFC 4120, section 3.1; RFC 4556, section 3.1). `pkinit`
+/// judges a request by certificate. It lends the request on, so that one way out alone drops it.
+pub fn answer_as<P: Pkinit>(
+    alloc: Global,
+    call: &Call<'_>,
+    pkinit: &P,
+    request: KdcReq,
+) -> Result<Vec<u8>, AllocError>
     requires { 128 ≤ length call.now.random.now }
-    ensures { IfOk result (λ bytes. (as_reply (call_of call.now)
+    ensures { IfOk result (λ bytes. (as_reply (call_of call.now) (P.rows pkinit.now)
         (account_of (look_in call.now.accounts.now) (client_of request.req_body.0))
         (account_of (look_in call.now.accounts.now) (service_of request.req_body.0)) request).gives (Some bytes.items)) }
 {
-    as_answer(alloc, call, &request)
+    as_answer(alloc, call, pkinit, &request)
 }
 
 /// The reply to a TGS request: a ticket, or the error with its code (RFC 4120, section 3.3). It lends the request on.
@@ -45,13 +51,18 @@ pub fn answer_tgs(alloc: Global, call: &Call<'_>, request: KdcReq) -> Result<Vec
 }
 
 // The reply to an AS request.
-fn as_answer(alloc: Global, call: &Call<'_>, request: &KdcReq) -> Result<Vec<u8>, AllocError>
+fn as_answer<P: Pkinit>(
+    alloc: Global,
+    call: &Call<'_>,
+    pkinit: &P,
+    request: &KdcReq,
+) -> Result<Vec<u8>, AllocError>
     requires { 128 ≤ length call.now.random.now }
-    ensures { IfOk result (λ bytes. (as_reply (call_of call.now)
+    ensures { IfOk result (λ bytes. (as_reply (call_of call.now) (P.rows pkinit.now)
         (account_of (look_in call.now.accounts.now) (client_of request.now.req_body.0))
         (account_of (look_in call.now.accounts.now) (service_of request.now.req_body.0)) request.now).gives (Some bytes.items)) }
 {
-    let judged = judge(alloc, call, request)?;
+    let judged = judge(alloc, call, pkinit, request)?;
     answer(alloc, call, request, judged)
 }
 
@@ -83,25 +94,26 @@ fn answer(
 }
 
 // The ticket that an AS request is granted, or the code and e-data of the error that answers it.
-fn judge(
+fn judge<P: Pkinit>(
     alloc: Global,
     call: &Call<'_>,
+    pkinit: &P,
     request: &KdcReq,
 ) -> Result<Result<Vec<u8>, Told>, AllocError>
     requires { 128 ≤ length call.now.random.now }
-    ensures { IfOk result (λ judged. IsJudgement (as_table (call_of call.now)
+    ensures { IfOk result (λ judged. IsJudgement (as_table (call_of call.now) (P.rows pkinit.now)
         (account_of (look_in call.now.accounts.now) (client_of request.now.req_body.0))
         (account_of (look_in call.now.accounts.now) (service_of request.now.req_body.0)) request.now).gives
-        (hint_of (account_of (look_in call.now.accounts.now) (client_of request.now.req_body.0))) judged) }
+        (hint_of (P.rows pkinit.now).offered (account_of (look_in call.now.accounts.now) (client_of request.now.req_body.0))) judged) }
 {
     let body = &request.req_body.0;
     let client = account_of(call.accounts, client_of(body));
     let service = account_of(call.accounts, service_of(body));
-    match judge_as(alloc, call, client, service, request) {
+    match judge_as(alloc, call, pkinit, client, service, request) {
         Ok(reply) => Ok(Ok(reply)),
         Err(Refusal::Memory) => Err(AllocError),
         Err(Refusal::Krb(code)) => {
-            let hint = hint_of(alloc, client, code)?;
+            let hint = hint_of(alloc, pkinit.is_offered(), client, code)?;
             Ok(Err(Told { code, hint }))
         }
     }
@@ -160,13 +172,15 @@ fn error_about(
     Ok(reply)
 }
 
-// The e-data of an error: with the one that asks for preauthentication, how the client authenticates.
+// The e-data of an error: with the one that asks for preauthentication, how the client authenticates, of PA-PK-AS-REQ where
+// PKINIT is offered.
 fn hint_of(
     alloc: Global,
+    offered: bool,
     client: Option<&Account>,
     code: u32,
 ) -> Result<Option<Vec<u8>>, AllocError>
-    ensures { IfOk result (λ hint. option_map (λ h. h.items) hint ≡ hint_of (option_copied client.entry) code) }
+    ensures { IfOk result (λ hint. option_map (λ h. h.items) hint ≡ hint_of offered (option_copied client.entry) code) }
 {
     if code != error_codes::KDC_ERR_PREAUTH_REQUIRED {
         return Ok(None);
@@ -174,6 +188,6 @@ fn hint_of(
     let Some(account) = client else {
         return Ok(None);
     };
-    let methods = method_data(alloc, account)?;
+    let methods = method_data(alloc, offered, account)?;
     Ok(Some(methods))
 }

@@ -1,8 +1,7 @@
 -- What the parts of the table give is of the ticket that the request comes with.
-use Rattle.std.proofs.Common.{◌≡◌, ◌⊎◌, ℕ, Bool, true, false, not, List, Option, None, Some, Result, Ok, Err, refl, sym, subst, inl, inr}
+use Rattle.std.proofs.Common.{◌≡◌, ℕ, Bool, true, false, List, Option, None, Some, Result, Ok, Err, refl, sym, subst, inl, inr}
 use Rattle.krb_crypto.specs.declared.suite.CipherSuite.{CipherSuite}
 use Rattle.krb_accounts.specs.Account.{AccountRecord}
-use Rattle.krb_types.specs.Names.{is_same_realm}
 use Rattle.krb_types.specs.declared.data_types.authenticator.AuthenticatorInner.{AuthenticatorInner}
 use Rattle.krb_types.specs.declared.data_types.enc_ticket_part.EncTicketPartInner.{EncTicketPartInner}
 use Rattle.krb_types.specs.declared.data_types.encrypted_data.EncryptedData.{EncryptedData}
@@ -10,16 +9,15 @@ use Rattle.krb_types.specs.declared.data_types.pa_data.PaData.{PaData}
 use Rattle.krb_opening.specs.Keys.{suite_of}
 use Rattle.krb_messages.specs.declared.messages.ap_req.ApReqInner.{ApReqInner}
 use Rattle.krb_messages.specs.Messages.{IsApReq, sole_ap_req}
-use Rattle.decision_tables.specs.Tables.{Table, and_then, ask, done, need, refuse}
+use Rattle.decision_tables.specs.Tables.{Table, ask, done, need, refuse}
 use Rattle.decision_tables.specs.One.{IsSole}
 use Rattle.krb_preauth.specs.Entries.{first_of}
-use Rattle.krb_ap.specs.ApTable.{ap_fields, authenticated, opened, opened_part, told}
+use Rattle.krb_ap.specs.ApTable.{authenticated, opened}
 use Rattle.krb_ap.specs.Messages.{IsAuthenticator, IsTicketPart, sole_authenticator, sole_ticket_part}
 use Rattle.krb_ap.specs.declared.presented.Authenticated.{Authenticated}
 use Rattle.krb_as.specs.Call.{CallRecord, skew_of}
-use Rattle.krb_as.specs.TicketGranting.{krbtgt_of}
 use Rattle.krb_moments.specs.Skew.{is_far}
-use Rattle.krb_tgs.specs.TgsTable.{carried, counting, shown_near, ticket_granting}
+use Rattle.krb_tgs.specs.TgsTable.{carried, shown_near, ticket_granting}
 
 -- a value that was asked for has the property
 pub asked_for : {A : Type 0} (P : A → Type 0) (sole : IsSole P) (code : ℕ) (a : A) → (ask {T = Result A ℕ} P sole (done (Err code)) (λ v. done (Ok v))).gives (Ok a) → P a

@@ -1,5 +1,5 @@
 -- The table of TGS requests has an outcome: each part of it has one.
-use Rattle.std.proofs.Common.{◌≡◌, ◌<◌, ℕ, ◌^◌, Bool, true, false, not, List, length, Option, None, Some, Result, Ok, Err, inl, inr, refl, sym, subst}
+use Rattle.std.proofs.Common.{◌≡◌, ◌<◌, ℕ, ◌^◌, not, List, length, Option, None, Some, Result, Ok, Err, inl, inr, refl, sym, subst}
 use Rattle.std.specs.Option.{is_some, option_map}
 use Rattle.krb_blocks.specs.Bytes.{IsBytes}
 use Rattle.picky_asn1.specs.GeneralizedTime.{seconds_of}

@@ -1,5 +1,5 @@
 -- What the table gives rests on the accounts that are looked up for it.
-use Rattle.std.proofs.Common.{◌≡◌, ◌⊎◌, ℕ, not, List, Option, None, Some, Result, Ok, Err, refl, subst, inl, inr}
+use Rattle.std.proofs.Common.{◌≡◌, ℕ, not, List, Option, None, Some, Result, Ok, refl, subst, inl, inr}
 use Rattle.krb_accounts.specs.Account.{AccountRecord}
 use Rattle.krb_accounts.specs.Accounts.{Look}
 use Rattle.krb_types.specs.Names.{components}

@@ -1,6 +1,5 @@
 mod PresentedTrees
 mod SealedLengths
-mod BodyPart
 pub mod ByTicket
 pub mod HasOutcome
 pub mod Involved

@@ -1,10 +1,9 @@
 -- What a TGS request is answered, in parts of one table, row by row: the first case that holds counts (RFC 4120, section 3.3.3).
-use Rattle.std.specs.Prelude.{Bool, false, not, ◌||◌, List, Option, None, Some, Result, Ok, Err, ℤ, if◌then◌else◌}
+use Rattle.std.specs.Prelude.{Bool, false, not, List, Option, None, Some, Result, Ok, Err, ℤ}
 use Rattle.std.specs.Bool.{nat_eq}
 use Rattle.std.specs.Cmp.Lexicographic.{pointwise}
 use Rattle.std.specs.List.{find, list_any}
 use Rattle.std.specs.Option.{is_some, option_map}
-use Rattle.asn1_trees.specs.Tree.{der}
 use Rattle.picky_asn1.specs.BitString.{bit_of}
 use Rattle.picky_asn1.specs.GeneralizedTime.{seconds_of}
 use Rattle.picky_asn1.specs.Numbers.{is_number}
@@ -29,7 +28,6 @@ use Rattle.krb_messages.specs.declared.messages.ap_req.ApReqInner.{ApReqInner}
 use Rattle.krb_messages.specs.declared.messages.kdc_req.KdcReq.{KdcReq}
 use Rattle.krb_messages.specs.declared.messages.kdc_req_body.KdcReqBody.{KdcReqBody}
 use Rattle.krb_messages.specs.Messages.{IsApReq, sole_ap_req}
-use Rattle.krb_messages.specs.Trees.{kdc_req_body_tree}
 use Rattle.decision_tables.specs.Tables.{Table, and_then, ask, done, need, refuse}
 use Rattle.krb_preauth.specs.Entries.{first_of}
 use Rattle.krb_tickets.specs.declared.grant.Grant.{Grant}
@@ -40,6 +38,7 @@ use Rattle.krb_ap.specs.declared.presented.Authenticated.{Authenticated}
 use Rattle.krb_as.specs.Call.{CallRecord, skew_of}
 use Rattle.krb_as.specs.Grants.{replied}
 use Rattle.krb_as.specs.Requests.{addressed, entries_of, lasting, service_of}
+pub use Rattle.krb_as.specs.Requests.{body_bytes}
 use Rattle.krb_as.specs.TicketGranting.{krbtgt_of}
 use Rattle.krb_as.specs.declared.span.Span.{Span}
 
@@ -84,10 +83,6 @@ checksum_in authenticator = option_map (λ tagged. tagged.0) authenticator.cksum
 -- the type is that of a suite's checksum: of triple DES (RFC 3961, section 6.3.2), or of AES (RFC 3962, section 7)
 abbrev pub is_known_checksum : ℤ → Bool
 is_known_checksum kind = list_any (λ suite. is_number (checksum_number suite) kind) checksum_suites
-
--- the one encoding of a request's body
-unfoldable pub body_bytes : KdcReqBody → Bytes
-body_bytes body = der (kdc_req_body_tree body)
 
 -- the checksum is that of the body's encoding under the session's key (usage 6; RFC 4120, section 7.5.1)
 abbrev pub is_of_body : ChecksumSuite → Bytes → KdcReqBody → Checksum → Bool

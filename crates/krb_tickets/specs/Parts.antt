@@ -1,5 +1,6 @@
 -- What a granted ticket and its reply hold (RFC 4120, sections 3.1.3, 3.3.3, 5.3, 5.4.2).
-use Rattle.std.specs.Prelude.{◌≡◌, ℕ, ◌+◌, List, [], ◌∷◌, None, Some, true, false, pos, refl, if◌then◌else◌}
+use Rattle.std.specs.Prelude.{◌≡◌, ℕ, ◌+◌, List, [], ◌∷◌, Option, None, Some, true, false, pos, refl, if◌then◌else◌}
+use Rattle.std.specs.Option.{option_map}
 use Rattle.picky_asn1.specs.BitString.{Bits}
 use Rattle.picky_asn1.specs.Bytes.{Bytes}
 use Rattle.asn1_leaves.specs.declared.date.GeneralizedTime.{GeneralizedTime}
@@ -15,6 +16,9 @@ use Rattle.krb_types.specs.RandomBytes.{Random, session_seed}
 use Rattle.krb_messages.specs.declared.messages.kdc_rep.KdcRep.{KdcRep}
 use Rattle.krb_messages.specs.declared.messages.enc_kdc_rep_part.EncKdcRepPart.{EncKdcRepPart}
 use Rattle.krb_sealing.specs.Sealing.{encryption_key}
+use Rattle.picky_asn1_der.specs.declared.wrapper.ExplicitContextTag.{ExplicitContextTag}
+use Rattle.krb_types.specs.declared.data_types.pa_data.PaData.{PaData}
+use Rattle.krb_tickets.specs.MethodData.{pa_data_of}
 use Rattle.krb_tickets.specs.declared.grant.Grant.{Grant}
 use Rattle.krb_tickets.specs.declared.grant.TicketFlags.{TicketFlags}
 use Rattle.krb_tickets.specs.declared.reply.Exchange.{Exchange}
@@ -106,12 +110,16 @@ abbrev pub reply_type : Exchange → ℕ
 reply_type As = 11
 reply_type Tgs = 13
 
--- the reply with its ticket, and its part as ciphertext
-unfoldable pub kdc_reply_of : Exchange → Grant → TicketInner → EncryptedData → KdcRep
-kdc_reply_of exchange grant ticket part = record {
+-- PA-PK-AS-REP with this data (RFC 4556, section 3.2.3)
+abbrev pub padata_of : Option Bytes → Option (ExplicitContextTag 2 (List PaData))
+padata_of pk_as_rep = option_map (λ value. record { 0 = pa_data_of 17 value ∷ [] }) pk_as_rep
+
+-- the reply with its ticket, its part as ciphertext, and PA-PK-AS-REP where the client authenticated by certificate
+unfoldable pub kdc_reply_of : Exchange → Option Bytes → Grant → TicketInner → EncryptedData → KdcRep
+kdc_reply_of exchange pk_as_rep grant ticket part = record {
   pvno = record { 0 = pos 5 };
   msg_type = record { 0 = pos (reply_type exchange) };
-  padata = record { 0 = None };
+  padata = record { 0 = padata_of pk_as_rep };
   crealm = record { 0 = grant.realm };
   cname = record { 0 = grant.client };
   ticket = record { 0 = record { 0 = ticket } };

@@ -1,11 +1,13 @@
 //! The reply that a ticket is granted by, and the key that its own part is sealed under.
 ghost use Rattle.std.specs.Prelude.{◌≡◌, length, pos, IfOk};
+ghost use Rattle.std.specs.Option.{option_map};
 ghost use Rattle.krb_crypto.specs.Suites.{cipher_confounder_size};
 ghost use Rattle.krb_tickets.specs.Sealed.{IsSealedReply, kdc_reply_bytes, reply_part_bytes};
-ghost use Rattle.krb_tickets.specs.Parts.{kdc_reply_of, reply_part, reply_type, ticket_of};
+ghost use Rattle.krb_tickets.specs.Parts.{kdc_reply_of, padata_of, reply_part, reply_type, ticket_of};
 ghost use Rattle.krb_tickets.specs.ReplyKeys.{reply_key_of};
 
 use crate::grant::{Grant, ticket_of};
+use crate::methods::pa_data;
 use crate::parts::reply_part;
 use krb_accounts::Account;
 use krb_crypto::Key;
@@ -17,12 +19,17 @@ use krb_types::constants::types::{
     AS_REP_MSG_TYPE, ENC_AS_REP_PART_TYPE, ENC_TGS_REP_PART_TYPE, KERBEROS_VERSION,
     TGS_REP_MSG_TYPE,
 };
-use krb_types::data_types::EncryptedData;
-use picky_asn1::wrapper::IntegerAsn1;
-use picky_asn1_der::{ApplicationTag, ExplicitContextTag, Optional, fields_of};
+use krb_types::data_types::{EncryptedData, PaData};
+use picky_asn1::wrapper::{Asn1SequenceOf, IntegerAsn1};
+use picky_asn1_der::{
+    ApplicationTag, ExplicitContextTag, ExplicitContextTag2, Optional, fields_of,
+};
 use record_copies::LentFields;
 use results::both;
 use std::alloc::{AllocError, Global};
+
+/// The type of PA-PK-AS-REP (RFC 4556, section 3.1.3).
+const PA_PK_AS_REP: u32 = 17;
 
 /// The exchange that a ticket is granted in (RFC 4120, sections 3.1 and 3.3).
 #[derive(Clone, Copy, Debug, PartialEq, Eq)]
@@ -44,10 +51,12 @@ pub struct ReplyKey<'a> {
     pub number: Option<u32>,
     /// What the key is used for (RFC 4120, section 7.5.1).
     pub usage: i32,
+    /// The data of PA-PK-AS-REP, if client and realm agreed on the key.
+    pub pk_as_rep: Option<&'a [u8]>,
 }
 
 impl<'a> ReplyKey<'a> {
-    ghost use Rattle.krb_tickets.specs.ReplyKeys.{as_reply_key, reply_key_of, tgs_reply_key, tgs_subkey_reply_key};
+    ghost use Rattle.krb_tickets.specs.ReplyKeys.{agreed_reply_key, as_reply_key, reply_key_of, tgs_reply_key, tgs_subkey_reply_key};
 
     /// The client's key, by which it is replied to in an AS exchange.
     pub fn of_client(client: &'a Account) -> ReplyKey<'a>
@@ -58,6 +67,7 @@ impl<'a> ReplyKey<'a> {
             key: client.key(),
             number: Some(client.number()),
             usage: key_usages::AS_REP,
+            pk_as_rep: None,
         }
     }
 
@@ -70,6 +80,7 @@ impl<'a> ReplyKey<'a> {
             key,
             number: None,
             usage: key_usages::TGS_REP_SESSION_KEY,
+            pk_as_rep: None,
         }
     }
 
@@ -82,6 +93,20 @@ impl<'a> ReplyKey<'a> {
             key,
             number: None,
             usage: key_usages::TGS_REP_SUBKEY,
+            pk_as_rep: None,
+        }
+    }
+
+    /// The key that client and realm agreed on by certificate, with the data of PA-PK-AS-REP.
+    pub fn of_agreement(key: &'a Key, pk_as_rep: &'a [u8]) -> ReplyKey<'a>
+        ensures { reply_key_of result ≡ agreed_reply_key key.now.suite key.now.bytes pk_as_rep.now }
+    {
+        ReplyKey {
+            exchange: Exchange::As,
+            key,
+            number: None,
+            usage: key_usages::AS_REP,
+            pk_as_rep: Some(pk_as_rep),
         }
     }
 }
@@ -110,49 +135,69 @@ pub fn sealed_reply(
     Ok(sealed)
 }
 
-/// The encoding of the exchange's reply with the sealed parts of the ticket and of the reply.
+/// The encoding of the exchange's reply with the sealed parts of the ticket and of the reply, and with PA-PK-AS-REP where its data
+/// is given.
 pub fn reply_bytes(
     alloc: Global,
     exchange: Exchange,
+    pk_as_rep: Option<&[u8]>,
     grant: &Grant,
     ticket: EncryptedData,
     part: EncryptedData,
 ) -> Result<Vec<u8>, AllocError>
-    ensures { IfOk result (λ bytes. bytes.items ≡ kdc_reply_bytes exchange (kdc_reply_of exchange grant.now (ticket_of grant.now ticket) part)) }
+    ensures { IfOk result (λ bytes. bytes.items ≡ kdc_reply_bytes exchange (kdc_reply_of exchange (option_map (λ reply. reply.now) pk_as_rep.entry) grant.now (ticket_of grant.now ticket) part)) }
 {
-    let reply = kdc_reply_of(alloc, exchange, grant, ticket, part)?;
+    let reply = kdc_reply_of(alloc, exchange, pk_as_rep, grant, ticket, part)?;
     let bytes = kdc_reply_bytes(alloc, exchange, reply)?;
     Ok(bytes)
 }
 
-// The reply with the sealed parts of the ticket and of the reply.
+// The reply with PA-PK-AS-REP, if its data is given, and the sealed parts of the ticket and of the reply.
 #[tactic(auto, unfolding(crate::specs::Parts::kdc_reply_of))]
 fn kdc_reply_of(
     alloc: Global,
     exchange: Exchange,
+    pk_as_rep: Option<&[u8]>,
     grant: &Grant,
     ticket: EncryptedData,
     part: EncryptedData,
 ) -> Result<KdcRep, AllocError>
-    ensures { IfOk result (λ reply. reply ≡ kdc_reply_of exchange grant.now (ticket_of grant.now ticket) part) }
+    ensures { IfOk result (λ reply. reply ≡ kdc_reply_of exchange (option_map (λ reply. reply.now) pk_as_rep.entry) grant.now (ticket_of grant.now ticket) part) }
 {
     let version = IntegerAsn1::from_u64(alloc, u64::from(KERBEROS_VERSION));
     let kind = reply_type(alloc, exchange);
     let names = fields_of![grant; realm, client].copied();
+    let padata = padata_of(alloc, pk_as_rep);
     let ticket = ticket_of(alloc, grant, ticket);
-    let (front, (names, (ticket, part))) = both(
+    let (front, (names, (padata, (ticket, part)))) = both(
         both(version, kind),
-        both(names, both(ticket, Ok(part))),
+        both(names, both(padata, both(ticket, Ok(part)))),
     )?;
     Ok(KdcRep {
         pvno: ExplicitContextTag(front.0),
         msg_type: ExplicitContextTag(front.1),
-        padata: Optional(None),
+        padata: Optional(padata),
         crealm: ExplicitContextTag(names.0),
         cname: ExplicitContextTag(names.1.0),
         ticket: ExplicitContextTag(ApplicationTag(ticket)),
         enc_part: ExplicitContextTag(part),
     })
+}
+
+// PA-PK-AS-REP with this data (RFC 4556, section 3.2.3).
+fn padata_of(
+    alloc: Global,
+    pk_as_rep: Option<&[u8]>,
+) -> Result<Option<ExplicitContextTag2<Asn1SequenceOf<PaData>>>, AllocError>
+    ensures { IfOk result (λ padata. padata ≡ padata_of (option_map (λ reply. reply.now) pk_as_rep.entry)) }
+{
+    let Some(reply) = pk_as_rep else {
+        return Ok(None);
+    };
+    let reply = Vec::from_slice(alloc, reply)?;
+    let entry = pa_data(alloc, PA_PK_AS_REP, reply)?;
+    let entries = Asn1SequenceOf::from(vec![in alloc; entry]?);
+    Ok(Some(ExplicitContextTag(entries)))
 }
 
 // The message type.

@@ -4,7 +4,7 @@ use crate::stage::Stage;
 use crate::told::{digits_of, none, refused, suite_key_text};
 use crate::words::name_of;
 use anyhow::bail;
-use krb_realm::ApAsked;
+use krb_realm::{ApAsked, NoKeys};
 use std::alloc::Global;
 
 pub(crate) fn as_request(
@@ -21,7 +21,8 @@ pub(crate) fn as_request(
 fn ask_first(stage: &mut Stage, alloc: Global, service: &[Vec<u8>]) -> anyhow::Result<String> {
     let at = stage.conditions;
     let client = stage.client()?;
-    match client.as_request(alloc, service, at.till, at.moment, &at.random.bytes()) {
+    let random = at.random.bytes();
+    match client.as_request(alloc, service, at.till, at.moment, &random, &NoKeys) {
         Ok((request, asked)) => {
             drop(stage.asked.as_asked.replace(asked));
             sent(stage, alloc, request)

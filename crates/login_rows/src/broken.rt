@@ -2,7 +2,7 @@
 
 use crate::stage::Stage;
 use crate::told::digits_of;
-use krb_realm::{Moment, Realm, ServeFault, Sink, Source, serve, words_needed};
+use krb_realm::{Moment, NoKeys, Realm, ServeFault, Sink, Source, serve, words_needed};
 use std::alloc::Global;
 use std::iter;
 use test_devices::{Drip, Trickle};
@@ -45,7 +45,7 @@ fn end_of<R: Source, W: Sink, K: Source>(
     words: &mut K,
 ) -> Result<u64, ServeFault> {
     let moments = iter::repeat_n(served.moment, 9);
-    serve(alloc, served.realm, reader, writer, moments, words)
+    serve(alloc, served.realm, reader, writer, moments, words, &NoKeys)
 }
 
 /// Whether a writer that fails behind so many bytes takes these, and no other fault is told.

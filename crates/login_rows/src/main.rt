@@ -74,19 +74,8 @@ fn report(rt: &HostRuntime, line: &str, wanted: &str, told: &str) -> anyhow::Res
 }
 
 fn print_numbers(rt: &HostRuntime) -> anyhow::Result<()> {
-    println!(rt;
-        "asks: {} {}",
-        AskRefusal::BadName.number(),
-        AskRefusal::Memory.number()
-    )?;
-    let refused = TakeRefusal::Refused(24).number();
-    let taken = [
-        TakeRefusal::Unreadable,
-        TakeRefusal::NotSealed,
-        TakeRefusal::NotAsked,
-        TakeRefusal::Memory,
-    ];
-    print_taken(rt, refused, taken)?;
+    print_asks(rt)?;
+    print_takes(rt)?;
     let krb = AdmitRefusal::Krb(34).number();
     println!(rt;
         "admits: {} {krb} {}",
@@ -96,18 +85,33 @@ fn print_numbers(rt: &HostRuntime) -> anyhow::Result<()> {
     Ok(())
 }
 
-fn print_taken(
-    rt: &HostRuntime,
-    refused: u32,
-    [unreadable, not_sealed, not_asked, memory]: [TakeRefusal; 4],
-) -> anyhow::Result<()> {
-    println!(rt;
-        "takes: {} {refused} {} {} {}",
-        unreadable.number(),
-        not_sealed.number(),
-        not_asked.number(),
-        memory.number()
-    )?;
+fn print_asks(rt: &HostRuntime) -> anyhow::Result<()> {
+    print!(rt; "asks:")?;
+    for refusal in [
+        AskRefusal::BadName,
+        AskRefusal::BadCertificate,
+        AskRefusal::NoKeyFunction,
+        AskRefusal::Memory,
+    ] {
+        print!(rt; " {}", refusal.number())?;
+    }
+    println!(rt; "")?;
+    Ok(())
+}
+
+fn print_takes(rt: &HostRuntime) -> anyhow::Result<()> {
+    print!(rt; "takes:")?;
+    for refusal in [
+        TakeRefusal::Unreadable,
+        TakeRefusal::Refused(24),
+        TakeRefusal::NotTrusted,
+        TakeRefusal::NotSealed,
+        TakeRefusal::NotAsked,
+        TakeRefusal::Memory,
+    ] {
+        print!(rt; " {}", refusal.number())?;
+    }
+    println!(rt; "")?;
     Ok(())
 }
 

@@ -3,7 +3,7 @@
 use crate::stage::Stage;
 use anyhow::bail;
 use krb_messages::messages::KrbError;
-use krb_realm::AnswerRefusal;
+use krb_realm::{AnswerRefusal, NoKeys};
 use std::alloc::Global;
 
 /// How many requests were unreadable, and how many got each error code.
@@ -71,7 +71,7 @@ fn count(
     let at = stage.conditions;
     match stage
         .realm()?
-        .answer(alloc, request, at.moment, &at.random.bytes())
+        .answer(alloc, request, at.moment, &at.random.bytes(), &NoKeys)
     {
         Ok(reply) => count_code(code_of(alloc, &reply)?, answers),
         Err(AnswerRefusal::Unreadable) => {

@@ -6,7 +6,10 @@ use crate::words::{bytes_of, name_of, suite_of};
 use anyhow::bail;
 use krb_accounts::{Account, Accounts, components_of};
 use krb_crypto::Key;
-use krb_realm::{CipherSuite, Realm, ServeFault, Settings, serve_bytes, words_needed};
+use krb_realm::{
+    Anchor, CipherSuite, NoKeys, Realm, RealmRefusal, ServeFault, Settings, serve_bytes,
+    words_needed,
+};
 use std::alloc::Global;
 
 const AES256: CipherSuite = CipherSuite::Aes256CtsHmacSha196;
@@ -35,29 +38,55 @@ pub(crate) fn told_by_words(
 }
 
 fn settings(alloc: Global, words: &[&str]) -> anyhow::Result<String> {
-    let [skew, lifetime] = words else {
-        bail!("settings SKEW LIFETIME");
+    let [skew, lifetime, certificate] = words else {
+        bail!("settings SKEW LIFETIME CERTIFICATE");
     };
-    match Settings::new(skew.parse::<u64>()?, lifetime.parse::<u64>()?) {
+    let certificate = bytes_of(alloc, certificate)?;
+    let certificate = given(&certificate);
+    match Settings::new(alloc, skew.parse()?, lifetime.parse()?, None, certificate) {
         Ok(_) => ok(alloc),
         Err(refusal) => refused(alloc, &refusal),
     }
 }
 
-/// Makes a realm without accounts beside its own, with 300 seconds of skew and 36,000 of lifetime. Its name is given in
-/// hexadecimal.
-fn realm(stage: &mut Stage, alloc: Global, words: &[&str]) -> anyhow::Result<String> {
-    let [name, key] = words else {
-        bail!("realm NAME KEY");
-    };
-    let name = bytes_of(alloc, name)?;
-    let key = bytes_of(alloc, key)?;
-    make_realm(stage, alloc, &name, &key)
+/// The bytes, if there are any.
+fn given(bytes: &[u8]) -> Option<&[u8]> {
+    if bytes.is_empty() { None } else { Some(bytes) }
 }
 
-fn make_realm(stage: &mut Stage, alloc: Global, name: &[u8], key: &[u8]) -> anyhow::Result<String> {
-    let settings = Settings::new(300, 36_000)?;
-    match Realm::new(alloc, name, AES256, key, settings) {
+/// Makes a realm without accounts beside its own, with 300 seconds of skew and 36,000 of lifetime. Its name is given in
+/// hexadecimal, and so is a certificate, which makes an anchor.
+fn realm(stage: &mut Stage, alloc: Global, words: &[&str]) -> anyhow::Result<String> {
+    let made = match words {
+        [name, key] => make_realm(alloc, name, key, None)?,
+        [name, key, certificate] => {
+            let certificate = bytes_of(alloc, certificate)?;
+            let anchor = Anchor::from_certificate(alloc, &certificate)?;
+            make_realm(alloc, name, key, Some(anchor))?
+        }
+        _ => bail!("realm NAME KEY CERTIFICATE"),
+    };
+    keep_realm(stage, alloc, made)
+}
+
+fn make_realm(
+    alloc: Global,
+    name: &str,
+    key: &str,
+    anchor: Option<Anchor>,
+) -> anyhow::Result<Result<Realm, RealmRefusal>> {
+    let settings = Settings::new(alloc, 300, 36_000, anchor, None)?;
+    let name = bytes_of(alloc, name)?;
+    let key = bytes_of(alloc, key)?;
+    Ok(Realm::new(alloc, &name, AES256, &key, settings))
+}
+
+fn keep_realm(
+    stage: &mut Stage,
+    alloc: Global,
+    made: Result<Realm, RealmRefusal>,
+) -> anyhow::Result<String> {
+    match made {
         Ok(realm) => {
             drop(stage.realm.replace(realm));
             ok(alloc)
@@ -141,10 +170,13 @@ fn add_of_number(
 /// Answers the last request, and keeps the reply.
 fn answer(stage: &mut Stage, alloc: Global) -> anyhow::Result<String> {
     let at = stage.conditions;
-    match stage
-        .realm()?
-        .answer(alloc, &stage.request, at.moment, &at.random.bytes())
-    {
+    match stage.realm()?.answer(
+        alloc,
+        &stage.request,
+        at.moment,
+        &at.random.bytes(),
+        &NoKeys,
+    ) {
         Ok(reply) => {
             stage.reply = reply;
             digits_of(alloc, &stage.reply)
@@ -166,6 +198,7 @@ fn serve(stage: &Stage, alloc: Global) -> anyhow::Result<String> {
         &[at.moment],
         &words,
         &mut written,
+        &NoKeys,
     );
     served_text(alloc, end, &written)
 }

@@ -4,7 +4,7 @@ use crate::stage::Stage;
 use crate::told::{digits_of, done, ok, refused, sole_component, suite_key_text};
 use crate::words::{name_of, suite_of, text_of};
 use anyhow::{Context, bail};
-use krb_realm::{CipherSuite, Client, Credential, TakeRefusal};
+use krb_realm::{CipherSuite, Client, Credential, NoKeys, TakeRefusal};
 use std::alloc::Global;
 
 pub(crate) fn client(stage: &mut Stage, alloc: Global, words: &[&str]) -> anyhow::Result<String> {
@@ -35,7 +35,9 @@ fn make_client(
 
 pub(crate) fn as_reply(stage: &mut Stage, alloc: Global) -> anyhow::Result<String> {
     let asked = stage.asked.as_asked.as_ref().context("no AS request")?;
-    let taken = stage.client()?.take_as_reply(alloc, asked, &stage.reply);
+    let taken = stage
+        .client()?
+        .take_as_reply(alloc, asked, &stage.reply, &NoKeys);
     keep(stage, alloc, taken)
 }
 

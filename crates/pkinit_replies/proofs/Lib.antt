@@ -1,1 +1,2 @@
+pub mod ReplyOutcome
 mod SignedLemmas

@@ -1,4 +1,4 @@
-pub mod AgreedKeys
+pub mod AgreementBytes
 pub mod PublicKeys
 pub mod SignedRowLaws
 pub mod WrittenOnce

@@ -17,7 +17,7 @@ use Rattle.pkinit_messages.specs.declared.pa_pk_as_rep.PaPkAsRep.TheVariants.{Dh
 use Rattle.pkinit_messages.specs.contracts.kdc_dh_key_info.KdcDhKeyInfoTagged.TheImpl as info_impl
 use Rattle.pkinit_messages.specs.contracts.pa_pk_as_rep.PaPkAsRepSerialize.TheImpl as reply_impl
 use Rattle.cms_signed_content.specs.Written.{IsWritten}
-use Rattle.pkinit_replies.specs.AgreedKeys.{agreement_bytes}
+use Rattle.pkinit_replies.specs.AgreementBytes.{agreement_bytes}
 use Rattle.pkinit_replies.specs.PublicKeys.{IsPublicKey, sole_public_key}
 use Rattle.pkinit_replies.specs.WrittenOnce.{one_written}
 

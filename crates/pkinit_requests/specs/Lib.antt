@@ -1,4 +1,7 @@
 pub mod AuthPacks
 pub mod Asked
-pub mod Calls
+pub mod HasOutcomes
+pub mod Judging
+pub mod PkinitRows
 pub mod PkinitTable
+pub mod Trust

@@ -12,6 +12,7 @@ use Rattle.krb_types.specs.declared.constants.error_codes.TheConstants.{KDC_ERR_
 use Rattle.krb_types.specs.Refusals.{Code}
 use Rattle.krb_messages.specs.declared.messages.kdc_req_body.KdcReqBody.{KdcReqBody}
 use Rattle.decision_tables.specs.Tables.{Table, and_then, and_then_told, ask, done, need, refuse}
+use Rattle.krb_pkinit.specs.Calls.{AgreedRecord, PkinitCallRecord}
 use Rattle.key_functions.specs.KeyFunctions.{KeysRecord}
 use Rattle.key_functions.specs.KeyFunctions.TheirValue.{WholeValue}
 use Rattle.cms_signed_content.specs.SignedContents.{IsSignedContent}
@@ -22,11 +23,12 @@ use Rattle.pkinit_trust.specs.Expected.{ExpectedRecord}
 use Rattle.pkinit_trust.specs.Refusals.{code_of}
 use Rattle.pkinit_trust.specs.SignedContents.{judged_in}
 use Rattle.pkinit_trust.specs.Trusted.{trusted}
-use Rattle.pkinit_replies.specs.AgreedKeys.{agreement_bytes}
+use Rattle.pkinit_replies.specs.AgreementBytes.{agreement_bytes}
 use Rattle.pkinit_replies.specs.Replies.{pk_as_rep}
 use Rattle.pkinit_requests.specs.Asked.{AskedRecord}
 use Rattle.pkinit_requests.specs.AuthPacks.{IsAuthPack, IsPaPkAsReq, auth_data, covers, sole_auth_pack, sole_pa_pk_as_req, time_in, value_in}
-use Rattle.pkinit_requests.specs.Calls.{AgreedRecord, JudgingRecord, PkinitCallRecord, judging_by}
+use Rattle.pkinit_requests.specs.Judging.{JudgingRecord, judging_by}
+use Rattle.pkinit_requests.specs.Trust.{TrustRecord}
 
 -- the AuthPack has a public value and a time, and is of the request with this body (RFC 4556, section 3.2.1)
 abbrev pub asked_by : KdcReqBody → AuthPack Raw → Table (Result AskedRecord Code)
@@ -76,8 +78,8 @@ of_request keys judging padata =
     ask (IsPaPkAsReq padata) (sole_pa_pk_as_req padata) (done (Err KDC_ERR_PREAUTH_FAILED)) (λ request. of_signed keys judging request.signed_auth_pack.0)
 
 -- the whole part: only a realm with an anchor and a certificate takes such padata (RFC 4120, section 7.5.9)
-unfoldable pub pkinit_table : KeysRecord → PkinitCallRecord → Bytes → Table (Result AgreedRecord Code)
-pkinit_table keys call padata =
-    need call.anchor KDC_ERR_PADATA_TYPE_NOSUPP (λ anchor.
-    need call.certificate KDC_ERR_PADATA_TYPE_NOSUPP (λ certificate.
+unfoldable pub pkinit_table : KeysRecord → TrustRecord → PkinitCallRecord → Bytes → Table (Result AgreedRecord Code)
+pkinit_table keys trust call padata =
+    need trust.anchor KDC_ERR_PADATA_TYPE_NOSUPP (λ anchor.
+    need trust.certificate KDC_ERR_PADATA_TYPE_NOSUPP (λ certificate.
     of_request keys (judging_by call anchor certificate) padata))

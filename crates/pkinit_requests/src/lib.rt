@@ -4,12 +4,12 @@
 
 mod asked;
 mod auth_packs;
-mod call;
+mod judging;
 pub mod laws;
 mod parts;
 mod reading;
+mod realm;
 mod signer;
 mod table;
 
-pub use call::PkinitCall;
-pub use table::{Agreed, judge_pk_as_req};
+pub use realm::RealmPkinit;

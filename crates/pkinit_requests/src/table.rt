@@ -1,73 +1,31 @@
 //! Judging a request by certificate, part by part.
 ghost use Rattle.std.specs.Prelude.{◌≡◌, ◌≤◌, length};
 ghost use Rattle.krb_types.specs.Refusals.{IsJudged};
-ghost use Rattle.pkinit_requests.specs.Calls.{agreed_as, call_of, judging_of};
-ghost use Rattle.pkinit_requests.specs.PkinitTable.{agreed_on, is_auth_data, of_auth_pack, of_content, of_request, of_signed, pkinit_table};
+ghost use Rattle.krb_pkinit.specs.Calls.{agreed_as};
+ghost use Rattle.pkinit_requests.specs.Judging.{judging_of};
+ghost use Rattle.pkinit_requests.specs.PkinitTable.{agreed_on, is_auth_data, of_auth_pack, of_content, of_request, of_signed};
 
 use crate::asked::asked_by;
-use crate::call::{Judging, PkinitCall};
+use crate::judging::Judging;
 use crate::parts::Asked;
 use crate::reading::{read_auth_pack, read_pa_pk_as_req};
 use crate::signer::check_signed;
 use cms_signed_content::{SignedContent, SignedFault};
 use key_functions::{KeyFunctions, Theirs};
 use krb_constants::error_codes::KDC_ERR_KEY_TOO_WEAK;
+use krb_pkinit::Agreed;
 use krb_types::Refusal;
 use krb_types::constants::error_codes;
 use picky_asn1_der::Asn1RawDer;
 use pkinit_auth_packs::AuthPack;
 use pkinit_replies::pk_as_rep;
-use pkinit_trust::ExpectedSigner;
 use std::alloc::Global;
 
 /// The content octets of id-pkinit-authData, 1.3.6.1.5.2.3.1.
 const AUTH_DATA: [u8; 7] = [0x2B, 0x06, 0x01, 0x05, 0x02, 0x03, 0x01];
 
-/// What client and realm agree on.
-#[derive(Drop)]
-pub struct Agreed {
-    /// The shared secret.
-    pub secret: Vec<u8>,
-    /// The data of the padata PA-PK-AS-REP.
-    pub reply: Vec<u8>,
-}
-
-/// What the data of a padata PA-PK-AS-REQ agrees on, or the error code of the first row that refuses it (RFC 4556, section
-/// 3.2.2).
-#[tactic(auto, unfolding(crate::specs::PkinitTable::pkinit_table))]
-pub fn judge_pk_as_req<K: KeyFunctions>(
-    alloc: Global,
-    keys: &K,
-    call: &PkinitCall<'_>,
-    padata: &[u8],
-) -> Result<Agreed, Refusal>
-    requires long { 128 ≤ length call.now.random.now }
-    requires near { call.now.skew ≤ 86400000000 }
-    ensures { IsJudged (pkinit_table (K.functions keys.now) (call_of call.now) padata.now).gives (agreed_as result) }
-{
-    let Some(anchor) = call.anchor else {
-        return Err(Refusal::Krb(error_codes::KDC_ERR_PADATA_TYPE_NOSUPP));
-    };
-    let Some(certificate) = call.certificate else {
-        return Err(Refusal::Krb(error_codes::KDC_ERR_PADATA_TYPE_NOSUPP));
-    };
-    let judging = Judging {
-        expected: ExpectedSigner {
-            realm: call.realm,
-            name: call.client,
-            anchor,
-            moment: call.moment,
-        },
-        certificate,
-        skew: call.skew,
-        body: call.body,
-        random: call.random,
-    };
-    judge_request(alloc, keys, &judging, padata)
-}
-
-// By an anchor and a certificate.
-fn judge_request<K: KeyFunctions>(
+/// By an anchor and a certificate.
+pub(crate) fn judge_request<K: KeyFunctions>(
     alloc: Global,
     keys: &K,
     judging: &Judging<'_>,

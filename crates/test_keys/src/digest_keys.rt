@@ -19,7 +19,7 @@ pub struct KnownKey<'a> {
     pub der: Vec<u8>,
 }
 
-/// A party with a key of its own, which knows some other keys. It agrees on no keys.
+/// A party with a key of its own, which knows some other keys. An agreement with it is the same for all random bytes and all peers.
 #[derive(Clone, Copy)]
 pub struct DigestKeys<'a> {
     /// The encoding of the own public key, by which it signs.
@@ -28,27 +28,35 @@ pub struct DigestKeys<'a> {
     pub algorithm: Option<&'a AlgorithmIdentifier>,
     /// The keys whose signatures verify.
     pub known: &'a [KnownKey<'a>],
+    /// The public value of each agreement. Without one there is none.
+    pub public_value: Option<&'a Asn1RawDer>,
+    /// The secret of each agreement. Without one every peer's value is refused.
+    pub secret: Option<&'a [u8]>,
 }
 
-/// A party that knows these keys, and does not sign.
+/// A party that knows these keys. It does not sign, and agrees on no keys.
 pub fn verifier<'a>(known: &'a [KnownKey<'a>]) -> DigestKeys<'a>
-    ensures { functions_of result ≡ digest_functions [] None known.now }
+    ensures { functions_of result ≡ digest_functions [] None known.now None None }
 {
     DigestKeys {
         own: &[],
         algorithm: None,
         known,
+        public_value: None,
+        secret: None,
     }
 }
 
-/// A party that signs by the key of this encoding and names this algorithm. It knows no key.
+/// A party that signs by the key of this encoding and names this algorithm. It knows no key, and agrees on none.
 pub fn signer<'a>(own: &'a [u8], algorithm: &'a AlgorithmIdentifier) -> DigestKeys<'a>
-    ensures { functions_of result ≡ digest_functions own.now (Some algorithm.now) [] }
+    ensures { functions_of result ≡ digest_functions own.now (Some algorithm.now) [] None None }
 {
     DigestKeys {
         own,
         algorithm: Some(algorithm),
         known: &[],
+        public_value: None,
+        secret: None,
     }
 }
 
@@ -103,16 +111,24 @@ impl<'a> KeyFunctions for DigestKeys<'a> {
         _alloc: Global,
         _words: &[u8],
     ) -> Result<Option<Asn1RawDer>, AllocError> {
-        Ok(None)
+        let Some(value) = self.public_value else {
+            return Ok(None);
+        };
+        let value = value.clone()?;
+        Ok(Some(value))
     }
 
     fn agree(
         &self,
-        _alloc: Global,
+        alloc: Global,
         _theirs: Theirs<'_>,
         _words: &[u8],
     ) -> Result<Option<Vec<u8>>, AllocError> {
-        Ok(None)
+        let Some(secret) = self.secret else {
+            return Ok(None);
+        };
+        let secret = Vec::from_slice(alloc, secret)?;
+        Ok(Some(secret))
     }
 }
 

@@ -1,4 +1,5 @@
-use Rattle.krb_tickets.specs.ReplyKeys.{as_reply_key, reply_key_of}
+use Rattle.krb_tickets.specs.ReplyKeys.{reply_key_of}
+use Rattle.krb_as.specs.Authenticated.{reply_key_by}
 use Rattle.krb_as.specs.Call.{call_of}
 use Rattle.krb_as.specs.Grants.{first_ticket}
 use Rattle.krb_as.specs.Judged.{principals}
@@ -9,5 +10,5 @@ pub returns : goal.returns
 returns c =
     let asked = principals c.args.asked in
     replied_by c.ticket_reply-made.result c.in_ok-ticket.ticket (first_ticket (call_of c.args.call.now) asked c.args.body.now c.args.span)
-    (reply_key_of c.of_client-under.result) (as_reply_key asked.client) asked.service c.args.call.now.random.now
-    c.in_ok-ticket.ensures c.of_client-under.ensures c.ticket_reply-made.ensures
+    (reply_key_of c.reply_key_by-under.result) (reply_key_by asked.client c.args.authenticated.now) asked.service c.args.call.now.random.now
+    c.in_ok-ticket.ensures c.reply_key_by-under.ensures c.ticket_reply-made.ensures

@@ -2,18 +2,19 @@ use Rattle.std.proofs.Common.{Ok, Err, ap, sym, subst}
 use Rattle.std.specs.Option.{option_copied}
 use Rattle.std.proofs.lemmas.Result.{err_from_is_err_and}
 use Rattle.krb_types.specs.Refusals.{IsJudged}
+use Rattle.krb_as.specs.Authenticated.{reply_key_by}
 use Rattle.krb_as.specs.Call.{call_of}
-use Rattle.krb_as.specs.AsTable.{possible, preauthenticated}
+use Rattle.krb_as.specs.AsTable.{authenticated, possible}
 use Rattle.krb_as.proofs.Judged.{given_ticket, refused_client, refused_ticket}
 use Rattle.krb_as.proofs.whole.judge_as.Goals as goal
 
 pub returns-in_err-span : goal.returns-in_err-span
-returns-in_err-span c =
+returns-in_err-span g c =
     let refusal = c.in_err-span.field-0.0 in
     let body = c.args.request.now.req_body.0 in
     let exit = err_from_is_err_and c.from_residual-in_err-span.result c.from_residual-in_err-span.ensures.1 in
     rw (exit.1, exit.2)
-    (refused_ticket (call_of c.args.call.now) (option_copied c.args.client) (option_copied c.args.service) c.args.request.now
+    (refused_ticket (call_of c.args.call.now) (g.P.Pkinit.rows c.args.pkinit.now) (option_copied c.args.client) (option_copied c.args.service) c.args.request.now
     (record { client_name = c.in-Some.client_name.now; client = c.in-Some-client.client.now; service_name = c.in-Some-service_of.service_name.now; service = c.in-Some-service.service.now })
     refusal
     (record {
@@ -25,13 +26,13 @@ returns-in_err-span c =
     })
     (subst (λ s. IsJudged (possible (call_of c.args.call.now) s body).gives (Err refusal)) c.suite.ensures c.in_err-span.ensures))
 
-pub returns-in_err-check_client : goal.returns-in_err-check_client
-returns-in_err-check_client c =
-    let refusal = c.in_err-check_client.field-0.0 in
+pub returns-in_err-authenticated : goal.returns-in_err-authenticated
+returns-in_err-authenticated g c =
+    let refusal = c.in_err-authenticated.field-0.0 in
     let body = c.args.request.now.req_body.0 in
-    let exit = err_from_is_err_and c.from_residual-in_err-check_client.result c.from_residual-in_err-check_client.ensures.1 in
+    let exit = err_from_is_err_and c.from_residual-in_err-authenticated.result c.from_residual-in_err-authenticated.ensures.1 in
     rw (exit.1, exit.2)
-    (refused_client (call_of c.args.call.now) (option_copied c.args.client) (option_copied c.args.service) c.args.request.now
+    (refused_client (call_of c.args.call.now) (g.P.Pkinit.rows c.args.pkinit.now) (option_copied c.args.client) (option_copied c.args.service) c.args.request.now
     (record { client_name = c.in-Some.client_name.now; client = c.in-Some-client.client.now; service_name = c.in-Some-service_of.service_name.now; service = c.in-Some-service.service.now })
     c.in_ok-span.span refusal
     (record {
@@ -42,14 +43,14 @@ returns-in_err-check_client c =
       service = ap (λ o. option_copied o) c.in-Some-service.is;
     })
     (subst (λ s. IsJudged (possible (call_of c.args.call.now) s body).gives (Ok c.in_ok-span.span)) c.suite.ensures c.in_ok-span.ensures)
-    (subst (λ e. IsJudged (preauthenticated (call_of c.args.call.now) c.in-Some-client.client.now e).gives (Err refusal)) c.entries_of.ensures c.in_err-check_client.ensures))
+    (subst (λ n. IsJudged (authenticated (call_of c.args.call.now) (g.P.Pkinit.rows c.args.pkinit.now) c.in-Some-client.client.now n c.args.request.now).gives (Err refusal)) c.as_slice-name.ensures c.in_err-authenticated.ensures))
 
 pub returns : goal.returns
-returns c =
+returns g c =
     let body = c.args.request.now.req_body.0 in
-    given_ticket (call_of c.args.call.now) (option_copied c.args.client) (option_copied c.args.service) c.args.request.now
+    given_ticket (call_of c.args.call.now) (g.P.Pkinit.rows c.args.pkinit.now) (option_copied c.args.client) (option_copied c.args.service) c.args.request.now
     (record { client_name = c.in-Some.client_name.now; client = c.in-Some-client.client.now; service_name = c.in-Some-service_of.service_name.now; service = c.in-Some-service.service.now })
-    c.in_ok-span.span c.in_ok-reply.reply
+    c.in_ok-span.span (reply_key_by c.in-Some-client.client.now c.in_ok-authenticated.authenticated) c.in_ok-reply.reply
     (record {
       address = c.in_ok-check_address.ensures;
       client_name = sym c.in-Some.ensures;
@@ -58,5 +59,5 @@ returns c =
       service = ap (λ o. option_copied o) c.in-Some-service.is;
     })
     (subst (λ s. IsJudged (possible (call_of c.args.call.now) s body).gives (Ok c.in_ok-span.span)) c.suite.ensures c.in_ok-span.ensures)
-    (subst (λ e. IsJudged (preauthenticated (call_of c.args.call.now) c.in-Some-client.client.now e).gives (Ok tt)) c.entries_of.ensures c.in_ok-check_client.ensures)
+    (subst (λ n. IsJudged (authenticated (call_of c.args.call.now) (g.P.Pkinit.rows c.args.pkinit.now) c.in-Some-client.client.now n c.args.request.now).gives (Ok (reply_key_by c.in-Some-client.client.now c.in_ok-authenticated.authenticated))) c.as_slice-name.ensures c.in_ok-authenticated.ensures)
     c.in_ok-reply.ensures

@@ -7,12 +7,10 @@ pub returns-in-Some : goal.returns-in-Some
 unfolding IsAsPart
 returns-in-Some c =
     let found = rw c.in-Some.is at c.in_ok-opened.ensures in
-    let own = rw c.key.ensures at found in
-    sealed-inside (λ tagged. tagged.0) enc_as_rep_part_tree _ _ 3 _ c.in-Some.part own
+    sealed-inside (λ tagged. tagged.0) enc_as_rep_part_tree _ _ 3 _ c.in-Some.part found
 
 pub returns-in-None : goal.returns-in-None
 unfolding IsAsPart
 returns-in-None c =
     let none = rw c.in-None.is at c.in_ok-opened.ensures in
-    let own = rw c.key.ensures at none in
-    λ part sealed. own (record { 0 = part }) (sealed-around (λ tagged. tagged.0) enc_as_rep_part_tree _ _ 3 _ (record { 0 = part }) sealed)
+    λ part sealed. none (record { 0 = part }) (sealed-around (λ tagged. tagged.0) enc_as_rep_part_tree _ _ 3 _ (record { 0 = part }) sealed)

@@ -1,4 +1,3 @@
-use Rattle.std.proofs.Common.{◌≡◌}
 use Rattle.krb_settings.specs.Written.{shown_realm}
 use Rattle.krb_kdc.specs.Realms.{realm_of}
 use Rattle.krb_kdc.proofs.Checking.{fault_kept}

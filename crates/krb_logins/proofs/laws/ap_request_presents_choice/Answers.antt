@@ -6,10 +6,10 @@ use Rattle.krb_logins.proofs.ChoicePresented.{presents}
 use Rattle.krb_logins.proofs.laws.ap_request_presents_choice.Goals as goal
 
 pub returns-clause-presents : goal.returns-clause-presents
-returns-clause-presents c = presents
+returns-clause-presents g c = λ client. presents client (g.M.Means.means c.args.means.now)
 
 pub returns-clause-only : goal.returns-clause-only
-returns-clause-only c = λ client credential mutual_required with_subkey moment random bytes key by other shown.
+returns-clause-only g c = λ client credential mutual_required with_subkey moment random bytes key by other shown.
     one_request key
     (choice_by credential mutual_required by.part by.part_confounder by.asks.authenticator (authenticator_confounder (cipher_confounder_size credential.suite) random))
-    other bytes shown (presents client credential mutual_required with_subkey moment random bytes key by)
+    other bytes shown (presents client (g.M.Means.means c.args.means.now) credential mutual_required with_subkey moment random bytes key by)

@@ -2,4 +2,4 @@ use Rattle.krb_logins.proofs.OneLogin.{one_login}
 use Rattle.krb_logins.proofs.laws.one_login.Goals as goal
 
 pub returns : goal.returns
-returns c = one_login
+returns g c = one_login (g.M.Means.means c.args.means.now) (g.P.Pkinit.rows c.args.pkinit.now)

@@ -1,13 +1,15 @@
-use Rattle.std.proofs.Common.{refl}
+use Rattle.key_functions.specs.KeyFunctions.{no_functions}
 use Rattle.krb_logins.specs.Input.{login_of}
-use Rattle.krb_realm.specs.Logins.{remembered}
+use Rattle.krb_realm.specs.Clients.{means_by, means_of}
+use Rattle.krb_realm.specs.HeldClients.{client_by}
+use Rattle.krb_realm.specs.Logins.{realm_rows, remembered}
 use Rattle.krb_realm.specs.Realm.{realm_of}
-use Rattle.krb_realm.proofs.Admitting.{by_credential, no_credential}
-use Rattle.krb_realm.proofs.Exchanges.{exit_of}
+use Rattle.krb_realm.proofs.ClientMeans.{same_means}
+use Rattle.krb_realm.proofs.LoginMeans.{run_as}
 use Rattle.krb_realm.proofs.login.login_by_password.Goals as goal
 
-pub ends_with_one_key-requires : goal.ends_with_one_key-requires
-ends_with_one_key-requires c = record {
+pub keyed_ends_with_one_key-requires : goal.keyed_ends_with_one_key-requires
+keyed_ends_with_one_key-requires c = record {
   client_as = c.requires.client_as;
   client_tgs = c.requires.client_tgs;
   client_ap = c.requires.client_ap;
@@ -16,23 +18,15 @@ ends_with_one_key-requires c = record {
   service = c.requires.service;
 }
 
-pub returns-in_err-credential-clause-run : goal.returns-in_err-credential-clause-run
-returns-in_err-credential-clause-run c = λ admitted window.
-    no_credential c.args.client.now (realm_of c.args.realm.now) c.args.service.now (login_of c.args.input.now) (remembered c.args.service.now admitted) c.args.service.now.seen c.from_residual.result
-    c.in_err-credential.field-0.0 c.in_err-credential.ensures
-    (exit_of c.from_residual.result c.in_err-credential.field-0.0 c.from_residual.ensures.1) window refl
-
-pub returns-in_err-credential-clause-honest : goal.returns-in_err-credential-clause-honest
-returns-in_err-credential-clause-honest c = λ admitted window honest.
-    let run = returns-in_err-credential-clause-run c admitted window in
-    c.ends_with_one_key.ensures (remembered c.args.service.now admitted) c.from_residual.result run.0 honest run.1
-
 pub returns-clause-run : goal.returns-clause-run
 returns-clause-run c = λ admitted window.
-    by_credential c.args.client.now (realm_of c.args.realm.now) c.args.service.now (login_of c.args.input.now) (remembered c.args.service.now admitted) c.ap_exchange.new.service.seen c.ap_exchange.result
-    c.in_ok-credential.credential c.in_ok-credential.ensures (c.ap_exchange.ensures.run admitted window)
+    run_as (realm_of c.args.realm.now) (realm_rows c.args.realm.now no_functions) c.args.service.now (remembered c.args.service.now admitted) (login_of c.args.input.now) c.login.result
+    c.asking.result.now c.args.client.now.client c.asking.ensures
+    (means_by (client_by c.means-means.result.held.now) no_functions) (means_of c.args.client.now no_functions)
+    (same_means (λ keys. no_functions) c.means-means.ensures.by c.means-means.ensures.keys)
+    c.login.new.service.seen (c.login.ensures.run admitted window)
 
 pub returns-clause-honest : goal.returns-clause-honest
-returns-clause-honest c = λ admitted window honest.
+returns-clause-honest c = λ key admitted by window honest.
     let run = returns-clause-run c admitted window in
-    c.ends_with_one_key.ensures (remembered c.args.service.now admitted) c.ap_exchange.result run.0 honest run.1
+    c.keyed_ends_with_one_key.ensures key (remembered c.args.service.now admitted) c.login.result run.0 by honest run.1

@@ -6,9 +6,10 @@ use Rattle.krb_replies.proofs.Answered.{answers_with}
 use Rattle.krb_replies.proofs.answer.as_answer.Goals as goal
 
 pub returns : goal.returns
-returns c =
+returns g c =
     let call = call_of c.args.call.now in
+    let rows = g.P.Pkinit.rows c.args.pkinit.now in
     let request = c.args.request.now in
     let client = account_of call.look (client_of request.req_body.0) in
     let service = account_of call.look (service_of request.req_body.0) in
-    answers_with call (hint_of client) request (as_table call client service request) c.answer.result c.in_ok-judged.judged c.in_ok-judged.ensures c.answer.ensures
+    answers_with call (hint_of rows.offered client) request (as_table call rows client service request) c.answer.result c.in_ok-judged.judged c.in_ok-judged.ensures c.answer.ensures

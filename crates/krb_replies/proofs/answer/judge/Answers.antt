@@ -9,20 +9,22 @@ use Rattle.krb_replies.specs.Replies.{hint_of}
 use Rattle.krb_replies.proofs.answer.judge.Goals as goal
 
 pub returns-in-Ok : goal.returns-in-Ok
-returns-in-Ok c =
+returns-in-Ok g c =
     let call = call_of c.args.call.now in
+    let rows = g.P.Pkinit.rows c.args.pkinit.now in
     let request = c.args.request.now in
     let body = request.req_body.0 in
     let client : option_copied c.account_of-client.result ≡ account_of call.look (client_of body) =
     c.account_of-client.ensures ∙ ap (λ n. account_of call.look n) c.client_of.ensures in
     let service : option_copied c.account_of-service.result ≡ account_of call.look (service_of body) =
     c.account_of-service.ensures ∙ ap (λ n. account_of call.look n) c.service_of.ensures in
-    subst (λ a. IsGranted (as_table call a (account_of call.look (service_of body)) request).gives (Ok c.in-Ok.reply)) client
-    (subst (λ a. IsGranted (as_table call (option_copied c.account_of-client.result) a request).gives (Ok c.in-Ok.reply)) service c.in-Ok.ensures)
+    subst (λ a. IsGranted (as_table call rows a (account_of call.look (service_of body)) request).gives (Ok c.in-Ok.reply)) client
+    (subst (λ a. IsGranted (as_table call rows (option_copied c.account_of-client.result) a request).gives (Ok c.in-Ok.reply)) service c.in-Ok.ensures)
 
 pub returns-in_ok-hint-in-Err-Krb : goal.returns-in_ok-hint-in-Err-Krb
-returns-in_ok-hint-in-Err-Krb c =
+returns-in_ok-hint-in-Err-Krb g c =
     let call = call_of c.args.call.now in
+    let rows = g.P.Pkinit.rows c.args.pkinit.now in
     let request = c.args.request.now in
     let body = request.req_body.0 in
     let code = c.in-Err-Krb.code in
@@ -31,8 +33,8 @@ returns-in_ok-hint-in-Err-Krb c =
     let service : option_copied c.account_of-service.result ≡ account_of call.look (service_of body) =
     c.account_of-service.ensures ∙ ap (λ n. account_of call.look n) c.service_of.ensures in
     let judged =
-    subst (λ a. IsGranted (as_table call a (account_of call.look (service_of body)) request).gives (Err (Krb code))) client
-    (subst (λ a. IsGranted (as_table call (option_copied c.account_of-client.result) a request).gives (Err (Krb code))) service (rw c.in-Err-Krb.field-0-is at c.in-Err-Krb.ensures)) in
-    let hint : option_map (λ h. h.items) c.in_ok-hint-in-Err-Krb.hint ≡ hint_of (account_of call.look (client_of body)) code =
-    c.in_ok-hint-in-Err-Krb.ensures ∙ ap (λ a. hint_of a code) client in
+    subst (λ a. IsGranted (as_table call rows a (account_of call.look (service_of body)) request).gives (Err (Krb code))) client
+    (subst (λ a. IsGranted (as_table call rows (option_copied c.account_of-client.result) a request).gives (Err (Krb code))) service (rw c.in-Err-Krb.field-0-is at c.in-Err-Krb.ensures)) in
+    let hint : option_map (λ h. h.items) c.in_ok-hint-in-Err-Krb.hint ≡ hint_of rows.offered (account_of call.look (client_of body)) code =
+    c.in_ok-hint-in-Err-Krb.ensures ∙ ap (λ o. hint_of o (option_copied c.account_of-client.result) code) c.is_offered.ensures ∙ ap (λ a. hint_of rows.offered a code) client in
     (judged, hint)

@@ -1,5 +1,5 @@
 use Rattle.std.proofs.Common.{◌≡◌, None, Some, Ok, refl, sym, inl, inr, ◌∙◌}
-use Rattle.pkinit_replies.specs.AgreedKeys.{agreement_bytes}
+use Rattle.pkinit_replies.specs.AgreementBytes.{agreement_bytes}
 use Rattle.pkinit_replies.specs.PublicKeys.{IsPublicKey}
 use Rattle.pkinit_replies.specs.Replies.{dh_key_data, key_info_bytes, key_info_of}
 use Rattle.pkinit_replies.proofs.SignedLemmas.{moved}

@@ -3,7 +3,8 @@ use Rattle.decision_tables.specs.Tables.{done}
 use Rattle.cms_signed_content.specs.SignedContents.{IsSignedContent}
 use Rattle.cms_signed_content.specs.SignedLaws.{one_content, read_is}
 use Rattle.krb_types.specs.declared.constants.error_codes.TheConstants.{KDC_ERR_PREAUTH_FAILED}
-use Rattle.pkinit_requests.specs.Calls.{agreed_as, judging_of}
+use Rattle.krb_pkinit.specs.Calls.{agreed_as}
+use Rattle.pkinit_requests.specs.Judging.{judging_of}
 use Rattle.pkinit_requests.specs.PkinitTable.{of_content}
 use Rattle.pkinit_requests.proofs.Judged.{judged_ask, none_read}
 use Rattle.pkinit_requests.proofs.table.judge_signed.Goals as goal

@@ -1,29 +1,22 @@
 use Rattle.std.proofs.Common.{Err, sym, ◌∙◌}
+use Rattle.decision_tables.specs.Tables.{Table, and_then}
+use Rattle.krb_crypto.specs.Keys.{KeyRecord}
 use Rattle.krb_client.specs.AsReply.{takes_sealed}
-use Rattle.krb_client.specs.declared.refusal.TakeRefusal.TheVariants.{NotSealed}
-use Rattle.krb_client.proofs.TakingReply.{of_type, taken_by_as_tag, taken_by_no_tag, taken_by_tgs_tag}
+use Rattle.krb_client.specs.Taking.{Taken}
+use Rattle.krb_client.proofs.Outcomes.{refused_then, taken_then}
+use Rattle.krb_client.proofs.TakingReply.{of_type}
 use Rattle.krb_client.proofs.client.Client.take_reply.Goals as goal
 
-pub returns-in-Some : goal.returns-in-Some
-returns-in-Some c =
-    let opened = rw c.in-Some.is at c.in_ok-part.ensures in
-    let taken = rw (c.service.ensures, c.nonce.ensures) at c.take_part-taken.ensures in
-    of_type 11 c.args.reply.now.pvno.0 c.args.reply.now.msg_type.0 (takes_sealed c.args.self.now c.args.asked.now c.args.reply.now) c.take_part-taken.result (sym c.is_of_type.ensures ∙ c.if-not-is_of_type.false)
-    (taken_by_as_tag c.args.self.now c.args.asked.now c.args.reply.now c.in-Some.part c.take_part-taken.result opened taken)
+pub returns-in-Ok : goal.returns-in-Ok
+returns-in-Ok g c =
+    let first = (g.M.Means.means c.args.means.now).reply_key c.args.self.now c.args.asked.now c.args.reply.now in
+    let rest : KeyRecord → Table Taken = λ key. takes_sealed c.args.self.now key c.args.asked.now c.args.reply.now in
+    of_type 11 c.args.reply.now.pvno.0 c.args.reply.now.msg_type.0 (and_then first rest) c.take_sealed.result (sym c.is_of_type.ensures ∙ c.if-not-is_of_type.false)
+    (taken_then first rest c.take_sealed.result c.in-Ok.key (rw c.in-Ok.is at c.reply_key.ensures) c.take_sealed.ensures)
 
-pub returns : goal.returns
-returns c =
-    let none = rw c.in_default.is at c.in_ok-part.ensures in
-    let found = rw c.in-Some-2.is at c.in_ok-part-2.ensures in
-    let opened = rw c.key.ensures at found in
-    let taken = rw (c.service-2.ensures, c.nonce-2.ensures) at c.take_part-taken-2.ensures in
-    of_type 11 c.args.reply.now.pvno.0 c.args.reply.now.msg_type.0 (takes_sealed c.args.self.now c.args.asked.now c.args.reply.now) c.take_part-taken-2.result (sym c.is_of_type.ensures ∙ c.if-not-is_of_type.false)
-    (taken_by_tgs_tag c.args.self.now c.args.asked.now c.args.reply.now c.in-Some-2.part c.take_part-taken-2.result none opened taken)
-
-pub returns-in_default-2 : goal.returns-in_default-2
-returns-in_default-2 c =
-    let none = rw c.in_default.is at c.in_ok-part.ensures in
-    let found = rw c.in_default-2.is at c.in_ok-part-2.ensures in
-    let neither = rw c.key.ensures at found in
-    of_type 11 c.args.reply.now.pvno.0 c.args.reply.now.msg_type.0 (takes_sealed c.args.self.now c.args.asked.now c.args.reply.now) (Err NotSealed) (sym c.is_of_type.ensures ∙ c.if-not-is_of_type.false)
-    (taken_by_no_tag c.args.self.now c.args.asked.now c.args.reply.now none neither)
+pub returns-in-Err : goal.returns-in-Err
+returns-in-Err g c =
+    let first = (g.M.Means.means c.args.means.now).reply_key c.args.self.now c.args.asked.now c.args.reply.now in
+    let rest : KeyRecord → Table Taken = λ key. takes_sealed c.args.self.now key c.args.asked.now c.args.reply.now in
+    of_type 11 c.args.reply.now.pvno.0 c.args.reply.now.msg_type.0 (and_then first rest) (Err c.in-Err.refusal) (sym c.is_of_type.ensures ∙ c.if-not-is_of_type.false)
+    (refused_then first rest c.in-Err.refusal (rw c.in-Err.is at c.reply_key.ensures))

@@ -6,5 +6,5 @@ use Rattle.krb_realm.proofs.realm.Realm.is_granting.Goals as goal
 
 pub returns : goal.returns
 returns c =
-    let own : RealmState = record { name = c.self.inside.name; settings = c.self.inside.settings; accounts = c.self.inside.accounts } in
+    let own : RealmState = record { name = c.self.inside.name; settings = c.self.inside.settings.limits; trust = c.self.inside.settings.trust; accounts = c.self.inside.accounts } in
     subst (λ (r : RealmState). IsGranting (realm_of r)) c.self.view_is (granting own c.self.invariant.granting)

@@ -1,0 +1,46 @@
+-- What honest clients and realms agree on, by whatever means the client authenticates itself (RFC 4120, section 3.1; RFC 4556,
+-- section 3.2).
+use Rattle.std.specs.Prelude.{◌≡◌, Result, Ok}
+use Rattle.krb_types.specs.Refusals.{Code}
+use Rattle.krb_types.specs.declared.data_types.pa_data.PaData.{PaData}
+use Rattle.krb_messages.specs.declared.messages.kdc_rep.KdcRep.{KdcRep}
+use Rattle.krb_messages.specs.declared.messages.kdc_req_body.KdcReqBody.{KdcReqBody}
+use Rattle.krb_crypto.specs.Keys.{KeyRecord}
+use Rattle.krb_accounts.specs.Account.{AccountRecord}
+use Rattle.krb_pkinit.specs.Rows.{PkinitRows}
+use Rattle.krb_tickets.specs.Parts.{padata_of}
+use Rattle.krb_tickets.specs.ReplyKeys.{ReplyKeyRecord}
+use Rattle.krb_tickets.specs.declared.reply.Exchange.TheVariants.{As}
+use Rattle.krb_as.specs.AsTable.{authenticated}
+use Rattle.krb_as.specs.TicketGranting.{krbtgt_of}
+use Rattle.krb_asked.specs.Asked.{AsAskedRecord}
+use Rattle.krb_client.specs.AsRequest.{as_asked, as_body, as_request_of}
+use Rattle.krb_client.specs.Client.{ClientRecord}
+use Rattle.krb_client.specs.Means.{MeansRecord}
+use Rattle.krb_client.specs.declared.refusal.TakeRefusal.{TakeRefusal}
+use Rattle.krb_logins.specs.Parties.{LoginRecord, RealmRecord, call_at}
+
+-- the body of a login's request for a first ticket
+abbrev pub first_body : ClientRecord → LoginRecord → KdcReqBody
+first_body client login = as_body client (krbtgt_of client.realm) login.till login.random_as
+
+-- what the client remembers of that request
+abbrev pub first_asked : ClientRecord → LoginRecord → AsAskedRecord
+first_asked client login = as_asked (krbtgt_of client.realm) login.client_as login.random_as
+
+-- the realm's reply key is of an AS exchange (usage 3; RFC 4120, section 7.5.1). Of each reply whose padata is the same PA-PK-AS-REP,
+-- or none where there is none, the client takes that key and nothing else
+pub record IsAgreedKey (client : ClientRecord) (means : MeansRecord) (asked : AsAskedRecord) (under : ReplyKeyRecord) : Type 0 where
+  pub exchange : under.exchange ≡ As
+  pub usage : under.usage ≡ 3
+  pub taken : (reply : KdcRep) → reply.padata.0 ≡ padata_of under.pk_as_rep → (key : Result KeyRecord TakeRefusal)
+      → (means.reply_key client asked reply).gives key → key ≡ Ok (record { suite = under.suite; bytes = under.key })
+
+-- the client's means don't refuse its request. By each padata that they have for it the realm authenticates the client, and replies
+-- under a key that both agree on
+pub record IsAuthenticated (client : ClientRecord) (means : MeansRecord) (realm : RealmRecord) (rows : PkinitRows) (account : AccountRecord) (login : LoginRecord) : Type 0 where
+  pub asks : means.refuses (first_body client login) login.client_as login.random_as → ⊥
+  pub shown : (padata : PaData) → means.asks (first_body client login) login.client_as login.random_as padata
+      → (r : Result ReplyKeyRecord Code)
+      → (authenticated (call_at realm login.realm_as login.realm_random_as) rows account client.components (as_request_of padata (first_body client login))).gives r
+      → (under : ReplyKeyRecord) × (r ≡ Ok under) × IsAgreedKey client means (first_asked client login) under

@@ -1,0 +1,9 @@
+//! PKINIT as an AS exchange sees it (RFC 4556): what a request by certificate is judged by, and what client and realm agree on.
+//! How certificates, signatures and public values are judged stands in crates above the exchange's own.
+#![tactic(auto)]
+
+mod call;
+mod pkinit;
+
+pub use call::{Agreed, PkinitCall};
+pub use pkinit::Pkinit;

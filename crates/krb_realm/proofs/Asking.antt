@@ -1,0 +1,44 @@
+-- Asking for a first ticket: the ticket-granting service's name is one.
+use Rattle.std.proofs.Common.{◌≡◌, true, ◌&&◌, List, Ok, Err, inl, inr, refl, ap, subst, sym, ◌∙◌}
+use Rattle.picky_asn1.specs.Bytes.{Bytes}
+use Rattle.krb_accounts.specs.Names.{IsRealmName, are_components}
+use Rattle.krb_as.specs.TicketGranting.{krbtgt_of}
+use Rattle.krb_asked.specs.Asked.{AsAskedRecord}
+use Rattle.krb_client.specs.AsRequest.{AsksAs, IsUnasked, as_asked}
+use Rattle.krb_client.specs.Client.{ClientRecord}
+use Rattle.krb_client.specs.Means.{MeansRecord}
+use Rattle.krb_client.specs.declared.refusal.AskRefusal.{AskRefusal}
+use Rattle.krb_client.specs.declared.refusal.AskRefusal.TheVariants.{Memory}
+use Rattle.krb_logins.specs.Parties.{LoginRecord}
+use Rattle.krb_logins.specs.Steps.{IsAsAsked}
+use Rattle.krb_logins.specs.declared.refusal.LoginRefusal.TheVariants.{Asked}
+use Rattle.krb_realm.specs.Logins.{AsAsk, Made}
+
+module _ (client : ClientRecord) (named : IsRealmName client.realm) (means : MeansRecord) (login : LoginRecord) where
+  is_name : are_components (krbtgt_of client.realm) ≡ true
+  is_name = ap (λ b. b && true) named
+
+  pub no_memory : AsAsk client means login (Err (Asked Memory))
+  unfolding AsAsk IsAsAsked
+  no_memory = (Memory, (inr (inl refl), λ bad. let never = sym bad ∙ is_name in absurd (cc (never))), refl)
+
+  module _ (name : List Bytes) (same : name ≡ krbtgt_of client.realm) where
+    pub asked : (sent : Made × AsAskedRecord) → AsksAs client means name login.till login.client_as login.random_as sent.0.items → sent.1 ≡ as_asked name login.client_as login.random_as
+        → AsAsk client means login (Ok sent)
+    unfolding AsAsk IsAsAsked
+    asked sent asks remembered = (
+      subst (λ (n : List Bytes). AsksAs client means n login.till login.client_as login.random_as sent.0.items) same asks,
+      remembered ∙ ap (λ (n : List Bytes). as_asked n login.client_as login.random_as) same,
+      is_name,
+    )
+
+    pub unasked : (refusal : AskRefusal) → IsUnasked client means name login.till login.client_as login.random_as refusal → AsAsk client means login (Err (Asked refusal))
+    unfolding AsAsk IsAsAsked
+    unasked refusal is = (
+      refusal,
+      (
+        subst (λ (n : List Bytes). IsUnasked client means n login.till login.client_as login.random_as refusal) same is,
+        λ bad. let never = sym bad ∙ is_name in absurd (cc (never)),
+      ),
+      refl,
+    )

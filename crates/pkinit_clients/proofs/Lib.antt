@@ -1,0 +1,6 @@
+mod HasSecret
+mod RequestLemmas
+mod SignedLemmas
+mod SignerLemmas
+mod TakenLemmas
+pub mod Decided

@@ -1,0 +1,35 @@
+-- Who is trusted, as the table of replies tells it.
+use Rattle.std.proofs.Common.{◌≡◌, ℕ, List, Result, Ok, Err, inl, inr, refl, sym, subst}
+use Rattle.key_functions.specs.KeyFunctions.{KeysRecord}
+use Rattle.cms_signed_content.specs.SignedParts.{SignedParts}
+use Rattle.pkinit_trust.specs.Expected.{ExpectedRecord}
+use Rattle.pkinit_trust.specs.Judged.{JudgedRecord}
+use Rattle.pkinit_trust.specs.SignedContents.{judged_in}
+use Rattle.pkinit_trust.specs.Trusted.{trusted}
+use Rattle.pkinit_trust.specs.Refusals.{IsOutcome}
+use Rattle.pkinit_trust.specs.declared.refusal.TrustFault.{TrustFault}
+use Rattle.pkinit_trust.specs.declared.refusal.TrustFault.TheVariants.{Refused, Memory}
+use Rattle.pkinit_clients.specs.Asked.{PkinitAskedRecord, expected_realm, krbtgt_of}
+use Rattle.pkinit_clients.specs.Faults.{IsTakenAs, fault_of}
+use Rattle.pkinit_clients.specs.Replies.{signed_by}
+use Rattle.pkinit_clients.specs.declared.fault.ReplyFault.{ReplyFault}
+
+module _ (keys : KeysRecord) (expected : ExpectedRecord) (content : SignedParts) (judged : JudgedRecord) (same : judged ≡ judged_in content) where
+  pub signed : (trusted keys expected judged).gives (Ok tt) → IsTakenAs (signed_by keys expected content).gives (Ok tt)
+  signed is = inl (tt, subst (λ (j : JudgedRecord). (trusted keys expected j).gives (Ok tt)) same is, refl)
+
+  refused : (fault : TrustFault) → IsOutcome (trusted keys expected judged).gives (Err fault) → IsTakenAs (signed_by keys expected content).gives (Err (fault_of fault))
+  refused (Refused refusal) is = inr (refusal, subst (λ (j : JudgedRecord). (trusted keys expected j).gives (Err refusal)) same is, refl)
+  refused Memory is = tt
+
+  pub refused_as : (fault : TrustFault) (told : ReplyFault) → told ≡ fault_of fault → IsOutcome (trusted keys expected judged).gives (Err fault)
+      → IsTakenAs (signed_by keys expected content).gives (Err told)
+  refused_as fault told is outcome =
+      subst (λ (f : ReplyFault). IsTakenAs (signed_by keys expected content).gives (Err f)) (sym is) (refused fault outcome)
+
+-- by the name of the realm's ticket-granting service
+pub signed_as : (keys : KeysRecord) (asked : PkinitAskedRecord) (content : SignedParts) (name : List (List ℕ)) → name ≡ krbtgt_of asked.realm → (answer : Result (Unit {0}) ReplyFault)
+    → IsTakenAs (signed_by keys (record { realm = asked.realm; name = name; anchor = asked.anchor; moment = asked.moment }) content).gives answer
+    → IsTakenAs (signed_by keys (expected_realm asked) content).gives answer
+signed_as keys asked content name same answer is =
+    subst (λ (n : List (List ℕ)). IsTakenAs (signed_by keys (record { realm = asked.realm; name = n; anchor = asked.anchor; moment = asked.moment }) content).gives answer) same is

@@ -1,0 +1,38 @@
+-- What a client remembers of a request by certificate (RFC 4556, section 3.2.4).
+use Rattle.std.specs.Prelude.{ℕ, List, [], ◌∷◌, codes}
+use Rattle.picky_asn1.specs.Bytes.{Bytes}
+use Rattle.krb_moments.specs.Units.{Micros}
+use Rattle.krb_types.specs.RandomBytes.{Random, random_part}
+use Rattle.pkinit_trust.specs.Anchors.{AnchorRecord}
+use Rattle.pkinit_trust.specs.Expected.{ExpectedRecord}
+use Rattle.pkinit_clients.specs.declared.asked.PkinitAsked as held
+
+-- the random bytes of the client's agreement among those of its request
+abbrev pub client_agreement_bytes : Random → Bytes
+client_agreement_bytes = random_part 32 64
+
+-- the client's realm and its anchor; the moment, the nonce, and the random bytes of the agreement
+pub record PkinitAskedRecord : Type 0 where
+  pub realm : Bytes
+  pub anchor : AnchorRecord
+  pub moment : Micros
+  pub nonce : ℕ
+  pub words : Bytes
+
+abbrev pub asked_of : held.PkinitAsked → PkinitAskedRecord
+asked_of asked = record {
+  realm = asked.realm.now;
+  anchor = asked.anchor.now;
+  moment = asked.moment;
+  nonce = asked.nonce;
+  words = asked.words.now;
+}
+
+-- the components of a realm's ticket-granting service (RFC 4120, section 7.3)
+abbrev pub krbtgt_of : Bytes → List Bytes
+krbtgt_of realm = codes "krbtgt" ∷ realm ∷ []
+
+-- whom the reply is to be signed by: the realm's ticket-granting service, as the anchor has it at the request's moment (RFC 4556,
+-- section 3.2.4)
+abbrev pub expected_realm : PkinitAskedRecord → ExpectedRecord
+expected_realm asked = record { realm = asked.realm; name = krbtgt_of asked.realm; anchor = asked.anchor; moment = asked.moment }

@@ -1,0 +1,43 @@
+-- What a client signs to authenticate by certificate (RFC 4556, section 3.2.1).
+use Rattle.std.specs.Prelude.{ℕ, None, Some, List, [], ◌∷◌, pos}
+use Rattle.sha1.specs.Sha1.{sha1}
+use Rattle.asn1_leaves.specs.declared.date.GeneralizedTime.{GeneralizedTime}
+use Rattle.asn1_trees.specs.Tree.{der}
+use Rattle.asn1_elements.specs.Raw.{Raw}
+use Rattle.picky_asn1.specs.Bytes.{Bytes}
+use Rattle.krb_moments.specs.Units.{Micros}
+use Rattle.krb_messages.specs.Trees.{kdc_req_body_tree}
+use Rattle.krb_messages.specs.declared.messages.kdc_req_body.KdcReqBody.{KdcReqBody}
+use Rattle.pkinit_auth_packs.specs.declared.auth_pack.AuthPack.{AuthPack}
+use Rattle.pkinit_messages.specs.declared.pk_authenticator.PkAuthenticator.{PkAuthenticator}
+use Rattle.pkinit_clients.specs.contracts.encoding.Asn1RawDerAuthPackTree.TheImpl as pack_impl
+
+-- id-pkinit-authData, 1.3.6.1.5.2.3.1
+abbrev pub auth_data : List ℕ
+auth_data = 1 ∷ 3 ∷ 6 ∷ 1 ∷ 5 ∷ 2 ∷ 3 ∷ 1 ∷ []
+
+-- the one encoding of a request's body
+unfoldable pub body_bytes : KdcReqBody → Bytes
+body_bytes body = der (kdc_req_body_tree body)
+
+-- PKAuthenticator: the client's time as a second with its microseconds, the body's nonce, and the SHA-1 digest of the body
+abbrev pub authenticator_of : KdcReqBody → GeneralizedTime → Micros → PkAuthenticator
+authenticator_of body second microsecond = record {
+  cusec = record { 0 = pos microsecond };
+  ctime = record { 0 = record { 0 = second } };
+  nonce = record { 0 = body.nonce.0 };
+  pa_checksum = record { 0 = Some (record { 0 = sha1 (body_bytes body) }) };
+}
+
+-- AuthPack: the authenticator, and the client's public value as its key functions give it. The client takes no reply under its own
+-- key, and uses its public value once
+abbrev pub auth_pack_of : PkAuthenticator → Raw → AuthPack Raw
+auth_pack_of authenticator value = record {
+  pk_authenticator = record { 0 = authenticator };
+  client_public_value = record { 0 = Some (record { 0 = value }) };
+  supported_cms_types = record { 0 = None };
+  client_dh_nonce = record { 0 = None };
+}
+
+unfoldable pub auth_pack_bytes : AuthPack Raw → Bytes
+auth_pack_bytes pack = der (pack_impl.ghosts.pack_tree pack)

@@ -1,0 +1,6 @@
+pub mod Asked
+pub mod AuthPacks
+pub mod Requests
+pub mod Replies
+pub mod Faults
+pub mod Means

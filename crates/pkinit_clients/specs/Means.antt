@@ -1,0 +1,77 @@
+-- How a client authenticates itself by certificate (RFC 4556, sections 3.2.1 and 3.2.4).
+use Rattle.std.specs.Prelude.{◌≡◌, [], Option, Result, Ok}
+use Rattle.std.specs.Option.{option_map_or}
+use Rattle.std.proofs.Common.{ap, sym, ◌∙◌}
+use Rattle.picky_asn1.specs.Bytes.{Bytes}
+use Rattle.krb_moments.specs.Units.{Micros}
+use Rattle.krb_types.specs.RandomBytes.{Random}
+use Rattle.krb_types.specs.declared.data_types.pa_data.PaData.{PaData}
+use Rattle.krb_messages.specs.declared.messages.kdc_rep.KdcRep.{KdcRep}
+use Rattle.krb_messages.specs.declared.messages.kdc_req_body.KdcReqBody.{KdcReqBody}
+use Rattle.krb_crypto.specs.Keys.{KeyRecord}
+use Rattle.krb_agreement.specs.AgreedKeys.{agreed_key}
+use Rattle.krb_preauth.specs.Entries.{first_of}
+use Rattle.krb_asked.specs.Asked.{AsAskedRecord}
+use Rattle.krb_client.specs.Client.{ClientRecord}
+use Rattle.krb_client.specs.Means.{MeansRecord}
+use Rattle.krb_client.specs.Requests.{entry_of}
+use Rattle.krb_client.specs.declared.refusal.TakeRefusal.{TakeRefusal}
+use Rattle.krb_client.specs.declared.refusal.TakeRefusal.TheVariants.{NotTrusted}
+use Rattle.decision_tables.specs.Tables.{Table, and_then_told, done, need}
+use Rattle.key_functions.specs.KeyFunctions.{KeysRecord}
+use Rattle.pkinit_trust.specs.Anchors.{AnchorRecord}
+use Rattle.pkinit_clients.specs.Asked.{PkinitAskedRecord, client_agreement_bytes}
+use Rattle.pkinit_clients.specs.Replies.{secret_of}
+use Rattle.pkinit_clients.specs.Requests.{IsNoPkAsReq, IsPkAsReqOf, sole_pk_as_req}
+
+-- the padata is PA-PK-AS-REQ (RFC 4556, section 3.1.3) for a request with this body, at the moment
+pub record IsPkinitPadata (keys : KeysRecord) (certificate : Bytes) (body : KdcReqBody) (moment : Micros) (random : Random) (padata : PaData) : Type 0 where
+  pub value : Bytes
+  pub is_request : IsPkAsReqOf keys certificate body moment (client_agreement_bytes random) value
+  pub entry : padata ≡ entry_of 16 value
+
+pub sole_pkinit_padata : (keys : KeysRecord) (certificate : Bytes) (body : KdcReqBody) (moment : Micros) (random : Random) (a b : PaData)
+    → IsPkinitPadata keys certificate body moment random a → IsPkinitPadata keys certificate body moment random b → a ≡ b
+sole_pkinit_padata keys certificate body moment random a b x y =
+    x.entry ∙ ap (entry_of 16) (sole_pk_as_req keys certificate body moment (client_agreement_bytes random) x.value y.value x.is_request y.is_request) ∙ sym y.entry
+
+-- there is no such padata
+abbrev pub IsNoPkinitPadata : KeysRecord → Bytes → KdcReqBody → Micros → Random → Type 0
+IsNoPkinitPadata keys certificate body moment random = IsNoPkAsReq keys certificate body moment (client_agreement_bytes random)
+
+-- the data of the first padata PA-PK-AS-REP of a reply (RFC 4556, section 3.1.3)
+abbrev pub pk_as_rep_in : KdcRep → Option Bytes
+pk_as_rep_in reply = first_of 17 (option_map_or (λ tagged. tagged.0) reply.padata.0 [])
+
+-- what a client with this anchor remembers of what it asked
+abbrev pub pkinit_asked : AnchorRecord → ClientRecord → AsAskedRecord → PkinitAskedRecord
+pkinit_asked anchor client asked = record {
+  realm = client.realm;
+  anchor = anchor;
+  moment = asked.moment;
+  nonce = asked.nonce;
+  words = asked.agreement;
+}
+
+-- the key of the client's suite that a secret gives (RFC 4556, section 3.2.3.1)
+abbrev pub key_by : ClientRecord → Bytes → KeyRecord
+key_by client secret = record { suite = client.suite; bytes = agreed_key client.suite secret }
+
+-- the key of the secret that the data of PA-PK-AS-REP give
+abbrev pub key_in : KeysRecord → AnchorRecord → ClientRecord → AsAskedRecord → Bytes → Table (Result KeyRecord TakeRefusal)
+key_in keys anchor client asked padata =
+    and_then_told (λ fault. NotTrusted) (secret_of keys (pkinit_asked anchor client asked) padata) (λ secret.
+    done (Ok (key_by client secret)))
+
+-- the key of a reply
+abbrev pub reply_key : KeysRecord → AnchorRecord → ClientRecord → AsAskedRecord → KdcRep → Table (Result KeyRecord TakeRefusal)
+reply_key keys anchor client asked reply = need (pk_as_rep_in reply) NotTrusted (key_in keys anchor client asked)
+
+-- by a certificate, with the authority that the client trusts to issue the realm's, and the client's key functions
+abbrev pub by_certificate : Bytes → AnchorRecord → KeysRecord → MeansRecord
+by_certificate certificate anchor keys = record {
+  asks = IsPkinitPadata keys certificate;
+  sole_asks = sole_pkinit_padata keys certificate;
+  refuses = IsNoPkinitPadata keys certificate;
+  reply_key = reply_key keys anchor;
+}

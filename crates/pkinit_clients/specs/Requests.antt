@@ -1,0 +1,69 @@
+-- What a client sends to authenticate by certificate (RFC 4556, section 3.2.1).
+use Rattle.std.specs.Prelude.{◌≡◌, ◌⊎◌, ◌%◌, None, Some}
+use Rattle.std.proofs.Common.{sym, ap, ◌∙◌, subst}
+use Rattle.asn1_leaves.specs.declared.date.GeneralizedTime.{GeneralizedTime}
+use Rattle.asn1_trees.specs.Tree.{der}
+use Rattle.asn1_trees.specs.Tagged.{tagged_tree}
+use Rattle.asn1_elements.specs.Raw.{Raw}
+use Rattle.picky_asn1.specs.Bytes.{Bytes}
+use Rattle.krb_moments.specs.SecondOf.{IsSecondOf, sole_second}
+use Rattle.krb_moments.specs.Units.{Micros}
+use Rattle.krb_messages.specs.declared.messages.kdc_req_body.KdcReqBody.{KdcReqBody}
+use Rattle.key_functions.specs.KeyFunctions.{KeysRecord}
+use Rattle.cms_signed_content.specs.Written.{IsNoCertificate, IsWritten, signed_bytes}
+use Rattle.pkinit_messages.specs.declared.pa_pk_as_req.PaPkAsReq.{PaPkAsReq}
+use Rattle.pkinit_messages.specs.contracts.pa_pk_as_req.PaPkAsReqTagged.TheImpl as request_impl
+use Rattle.pkinit_replies.specs.WrittenOnce.{one_written}
+use Rattle.pkinit_clients.specs.AuthPacks.{auth_data, auth_pack_bytes, auth_pack_of, authenticator_of}
+
+-- PA-PK-AS-REQ: what is signed, and neither whom the client trusts nor a key of the KDC's that it knows
+abbrev pub pk_as_req_of : Bytes → PaPkAsReq
+pk_as_req_of signed = record {
+  signed_auth_pack = record { 0 = signed };
+  trusted_certifiers = record { 0 = None };
+  kdc_pk_id = record { 0 = None };
+}
+
+unfoldable pub pk_as_req_bytes : PaPkAsReq → Bytes
+pk_as_req_bytes request = der (tagged_tree 48 request_impl.ghosts.row_tree request_impl.ghosts.row_of request)
+
+-- the AuthPack of a request with this body, at the moment, which lies in the second
+abbrev pub pack_bytes : KdcReqBody → Micros → GeneralizedTime → Raw → Bytes
+pack_bytes body moment second value = auth_pack_bytes (auth_pack_of (authenticator_of body second (moment % 1000000)) value)
+
+-- the bytes are the data of PA-PK-AS-REQ for a request with this body, at the moment: the public value of the random bytes, signed
+-- by the holder of the certificate
+pub record IsPkAsReqOf (keys : KeysRecord) (certificate : Bytes) (body : KdcReqBody) (moment : Micros) (words bytes : Bytes) : Type 0 where
+  pub value : Raw
+  pub is_value : keys.public_value words ≡ Some value
+  pub second : GeneralizedTime
+  pub of_moment : IsSecondOf moment second
+  pub signed : Bytes
+  pub is_signed : IsWritten keys.sign auth_data (pack_bytes body moment second value) certificate signed
+  pub encoding : bytes ≡ pk_as_req_bytes (pk_as_req_of signed)
+
+-- the party doesn't sign the AuthPack
+pub record IsUnsignedPack (keys : KeysRecord) (body : KdcReqBody) (moment : Micros) (words : Bytes) : Type 0 where
+  pub value : Raw
+  pub is_value : keys.public_value words ≡ Some value
+  pub second : GeneralizedTime
+  pub of_moment : IsSecondOf moment second
+  pub unsigned : keys.sign (signed_bytes auth_data (pack_bytes body moment second value)) ≡ None
+
+-- there are none: the key functions have no public value or no signature, or the certificate is none
+abbrev pub IsNoPkAsReq : KeysRecord → Bytes → KdcReqBody → Micros → Bytes → Type 0
+IsNoPkAsReq keys certificate body moment words =
+    (keys.public_value words ≡ None) ⊎ (IsUnsignedPack keys body moment words ⊎ IsNoCertificate certificate)
+
+module _ (keys : KeysRecord) (certificate : Bytes) (body : KdcReqBody) (moment : Micros) (words : Bytes) where
+  -- there is one such request at most
+  pub sole_pk_as_req : (a b : Bytes) → IsPkAsReqOf keys certificate body moment words a → IsPkAsReqOf keys certificate body moment words b → a ≡ b
+  sole_pk_as_req a b x y =
+      let some : Some x.value ≡ Some y.value = sym x.is_value ∙ y.is_value in
+      let value : x.value ≡ y.value = cc (some) in
+      let second : x.second ≡ y.second = sole_second moment x.second y.second x.of_moment y.of_moment in
+      let moved : IsWritten keys.sign auth_data (pack_bytes body moment y.second y.value) certificate x.signed =
+      subst (λ (pack : Bytes). IsWritten keys.sign auth_data pack certificate x.signed) (λ i. pack_bytes body moment (second i) (value i)) x.is_signed in
+      x.encoding
+      ∙ ap (λ (signed : Bytes). pk_as_req_bytes (pk_as_req_of signed)) (one_written keys.sign auth_data (pack_bytes body moment y.second y.value) certificate x.signed y.signed moved y.is_signed)
+      ∙ sym y.encoding

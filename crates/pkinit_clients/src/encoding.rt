@@ -1,0 +1,16 @@
+//! The encoding of an AuthPack with any public value.
+use picky_asn1_der::{Asn1RawDer, Serialize};
+use pkinit_auth_packs::AuthPack;
+
+// How an AuthPack with a public value of this type is encoded.
+pub(crate) trait AuthPackTree {
+    ghost use Rattle.asn1_elements.specs.Raw.{Raw};
+    ghost use Rattle.asn1_trees.specs.Tree.{Tree};
+    ghost use Rattle.pkinit_auth_packs.specs.declared.auth_pack.AuthPack.{AuthPack};
+
+    ghost pack_tree: { AuthPack Raw → Tree };
+}
+
+impl AuthPackTree for Asn1RawDer {
+    ghost pack_tree = { ⟦<AuthPack<Asn1RawDer> as Serialize>⟧.tree };
+}

@@ -1,0 +1,155 @@
+//! Authenticating by certificate.
+ghost use Rattle.std.specs.Prelude.{◌≡◌, ◌≤◌, ◌⊎◌, length, IfErr, IfOk};
+ghost use Rattle.std.specs.Option.{option_copied};
+ghost use Rattle.krb_client.specs.Refusals.{IsTaken};
+ghost use Rattle.krb_client.specs.Requests.{entry_of};
+ghost use Rattle.pkinit_clients.specs.Faults.{IsTakenAs, as_secret};
+ghost use Rattle.pkinit_clients.specs.Means.{IsNoPkinitPadata, IsPkinitPadata, key_in, pk_as_rep_in, pkinit_asked, reply_key};
+ghost use Rattle.pkinit_clients.specs.Replies.{secret_of};
+
+use crate::asked::{PkinitAsked, agreement_words};
+use crate::fault::ReplyFault;
+use crate::reply::secret_of;
+use crate::request::pk_as_req;
+use key_functions::KeyFunctions;
+use krb_agreement::agreed_key;
+use krb_asked::AsAsked;
+use krb_client::{AskRefusal, Client, Means, TakeRefusal};
+use krb_crypto::Key;
+use krb_messages::messages::{KdcRep, KdcReqBody};
+use krb_moments::Moment;
+use krb_preauth::first_of;
+use krb_types::constants::types::PA_PK_AS_REQ;
+use krb_types::data_types::PaData;
+use picky_asn1::wrapper::{IntegerAsn1, OctetStringAsn1};
+use picky_asn1_der::ExplicitContextTag;
+use pkinit_trust::Anchor;
+use std::alloc::{AllocError, Global};
+
+/// The padata type PA-PK-AS-REP (RFC 4556, section 3.1.3).
+const PA_PK_AS_REP: u32 = 17;
+
+/// The means of a client that authenticates by certificate (RFC 4556, section 3.1): the padata is PA-PK-AS-REQ, and the reply is
+/// encrypted under the key that both agree on.
+#[derive(Clone, Copy)]
+pub struct ByCertificate<'a, K: KeyFunctions> {
+    /// The client's certificate.
+    pub certificate: &'a [u8],
+    /// The authority that the client trusts to issue the realm's certificate.
+    pub anchor: &'a Anchor,
+    /// The client's key functions.
+    pub keys: &'a K,
+}
+
+impl<'a, K: KeyFunctions> Means for ByCertificate<'a, K> {
+    ghost use Rattle.pkinit_clients.specs.Means.{by_certificate};
+
+    ghost means = { λ own. by_certificate own.certificate.now own.anchor.now (K.functions own.keys.now) };
+
+    fn padata(
+        &self,
+        alloc: Global,
+        body: &KdcReqBody,
+        moment: Moment,
+        words: &[u8],
+    ) -> Result<PaData, AskRefusal> {
+        pkinit_padata(alloc, self.keys, self.certificate, body, moment, words)
+    }
+
+    fn reply_key(
+        &self,
+        alloc: Global,
+        client: &Client,
+        asked: &AsAsked,
+        reply: &KdcRep,
+    ) -> Result<Key, TakeRefusal> {
+        reply_key(alloc, self, client, asked, reply)
+    }
+}
+
+// The padata, or none where the key functions answer none.
+fn pkinit_padata<K: KeyFunctions>(
+    alloc: Global,
+    keys: &K,
+    certificate: &[u8],
+    body: &KdcReqBody,
+    moment: Moment,
+    words: &[u8],
+) -> Result<PaData, AskRefusal>
+    requires { 96 ≤ length words.now }
+    ensures shown { IfOk result (IsPkinitPadata (K.functions keys.now) certificate.now body.now moment words.now) }
+    ensures refusal { IfErr result (λ refusal. (refusal ≡ AskRefusal.Memory)
+        ⊎ ((refusal ≡ AskRefusal.NoKeyFunction) × IsNoPkinitPadata (K.functions keys.now) certificate.now body.now moment words.now)) }
+{
+    let agreement = agreement_words(words);
+    let made = pk_as_req(alloc, keys, certificate, body, moment, agreement)?;
+    let Some(value) = made else {
+        return Err(AskRefusal::NoKeyFunction);
+    };
+    let padata = entry_of(alloc, value)?;
+    Ok(padata)
+}
+
+// The padata with these data.
+fn entry_of(alloc: Global, value: Vec<u8>) -> Result<PaData, AllocError>
+    ensures { IfOk result (λ padata. padata ≡ entry_of 16 value.items) }
+{
+    let kind = IntegerAsn1::from_u64(alloc, u64::from(PA_PK_AS_REQ))?;
+    Ok(PaData {
+        padata_type: ExplicitContextTag(kind),
+        padata_data: ExplicitContextTag(OctetStringAsn1::from(value)),
+    })
+}
+
+// The key of the reply.
+fn reply_key<K: KeyFunctions>(
+    alloc: Global,
+    own: &ByCertificate<'_, K>,
+    client: &Client,
+    asked: &AsAsked,
+    reply: &KdcRep,
+) -> Result<Key, TakeRefusal>
+    ensures { IsTaken (reply_key (K.functions own.now.keys.now) own.now.anchor.now client.now asked.now reply.now) result }
+{
+    let Some(padata) = pk_as_rep_in(reply) else {
+        return Err(TakeRefusal::NotTrusted);
+    };
+    match secret_in(alloc, own, client, asked, padata.as_bytes()) {
+        Ok(secret) => {
+            let key = agreed_key(alloc, client.suite(), secret)?;
+            Ok(key)
+        }
+        Err(ReplyFault::NotTrusted) => Err(TakeRefusal::NotTrusted),
+        Err(ReplyFault::Memory) => Err(TakeRefusal::Memory),
+    }
+}
+
+// The data of the reply's first padata PA-PK-AS-REP.
+fn pk_as_rep_in(reply: &KdcRep) -> Option<&OctetStringAsn1>
+    ensures { option_copied result ≡ pk_as_rep_in reply.now }
+{
+    match &reply.padata.0 {
+        Some(tagged) => first_of(tagged.0.as_slice(), PA_PK_AS_REP),
+        None => first_of(&[], PA_PK_AS_REP),
+    }
+}
+
+// The secret, by the data of the padata.
+fn secret_in<K: KeyFunctions>(
+    alloc: Global,
+    own: &ByCertificate<'_, K>,
+    client: &Client,
+    asked: &AsAsked,
+    padata: &[u8],
+) -> Result<Vec<u8>, ReplyFault>
+    ensures { IsTakenAs (secret_of (K.functions own.now.keys.now) (pkinit_asked own.now.anchor.now client.now asked.now) padata.now).gives (as_secret result) }
+{
+    let held = PkinitAsked {
+        realm: client.realm(),
+        anchor: own.anchor,
+        moment: asked.moment(),
+        nonce: asked.nonce(),
+        words: asked.agreement(),
+    };
+    secret_of(alloc, own.keys, &held, padata)
+}

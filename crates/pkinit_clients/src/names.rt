@@ -1,0 +1,28 @@
+//! The name of a realm's ticket-granting service.
+ghost use Rattle.std.specs.Prelude.{◌≡◌, IfOk, codes};
+ghost use Rattle.pkinit_clients.specs.Asked.{krbtgt_of};
+
+use picky_asn1::wrapper::GeneralStringAsn1;
+use results::both;
+use std::alloc::{AllocError, Global};
+
+/// The components of the ticket-granting service of a realm (RFC 4120, section 7.3).
+pub(crate) fn krbtgt_of(
+    alloc: Global,
+    realm: &GeneralStringAsn1,
+) -> Result<Vec<GeneralStringAsn1>, AllocError>
+    ensures { IfOk result (λ name. name.items ≡ krbtgt_of realm.now) }
+{
+    let (first, second) = both(service_text(alloc), realm.clone())?;
+    let name = vec![in alloc; first, second]?;
+    Ok(name)
+}
+
+fn service_text(alloc: Global) -> Result<GeneralStringAsn1, AllocError>
+    ensures { IfOk result (λ text. text ≡ codes "krbtgt") }
+{
+    match GeneralStringAsn1::new(alloc, b"krbtgt") {
+        Ok(text) => Ok(text),
+        Err(_) => Err(AllocError),
+    }
+}

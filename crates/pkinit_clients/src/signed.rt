@@ -1,0 +1,42 @@
+//! Signing an AuthPack.
+ghost use Rattle.std.specs.Prelude.{◌≡◌, ◌⊎◌, None, IfOk, MatchOption};
+ghost use Rattle.cms_signed_content.specs.Written.{IsNoCertificate, IsWritten, signed_bytes};
+ghost use Rattle.pkinit_clients.specs.AuthPacks.{auth_data};
+
+use cms_signed_content::{SignedContent, SignedFault};
+use key_functions::KeyFunctions;
+use picky_asn1::oid::ObjectIdentifier;
+use std::alloc::{AllocError, Global};
+
+/// The signed content over an AuthPack around the certificate, or `None` if its holder doesn't sign, or it isn't one.
+pub(crate) fn signed_auth_pack<K: KeyFunctions>(
+    alloc: Global,
+    keys: &K,
+    certificate: &[u8],
+    pack: &[u8],
+) -> Result<Option<Vec<u8>>, AllocError>
+    ensures { IfOk result (λ signed. MatchOption signed
+        (((K.functions keys.now).sign (signed_bytes auth_data pack.now) ≡ None) ⊎ IsNoCertificate certificate.now)
+        (λ bytes. IsWritten (K.functions keys.now).sign auth_data pack.now certificate.now bytes.items)) }
+{
+    let content_type = auth_data(alloc)?;
+    match SignedContent::write(alloc, &content_type, pack, certificate, keys) {
+        Ok(signed) => Ok(signed),
+        Err(fault) => {
+            if fault == SignedFault::Memory {
+                return Err(AllocError);
+            }
+            Ok(None)
+        }
+    }
+}
+
+// id-pkinit-authData.
+fn auth_data(alloc: Global) -> Result<ObjectIdentifier, AllocError>
+    ensures { IfOk result (λ oid. oid ≡ auth_data) }
+{
+    match ObjectIdentifier::from_arcs(alloc, &[1, 3, 6, 1, 5, 2, 3, 1]) {
+        Ok(oid) => Ok(oid),
+        Err(_) => Err(AllocError),
+    }
+}

@@ -1,0 +1,48 @@
+//! Who signed a reply.
+ghost use Rattle.pkinit_clients.specs.Asked.{asked_of, expected_realm};
+ghost use Rattle.pkinit_clients.specs.Faults.{IsTakenAs};
+ghost use Rattle.pkinit_clients.specs.Replies.{signed_by};
+ghost use Rattle.pkinit_trust.specs.Expected.{expected_of};
+
+use crate::asked::PkinitAsked;
+use crate::fault::ReplyFault;
+use crate::names::krbtgt_of;
+use cms_signed_content::SignedContent;
+use key_functions::KeyFunctions;
+use pkinit_trust::{ExpectedSigner, JudgedContent, check_trusted};
+use std::alloc::Global;
+
+/// Judges whether the realm's ticket-granting service signed the content.
+pub(crate) fn check_signed<K: KeyFunctions>(
+    alloc: Global,
+    keys: &K,
+    asked: &PkinitAsked<'_>,
+    content: &SignedContent<'_>,
+) -> Result<(), ReplyFault>
+    ensures { IsTakenAs (signed_by (K.functions keys.now) (expected_realm (asked_of asked.now)) content.now).gives result }
+{
+    let name = krbtgt_of(alloc, asked.realm)?;
+    let expected = ExpectedSigner {
+        realm: asked.realm,
+        name: name.as_slice(),
+        anchor: asked.anchor,
+        moment: asked.moment,
+    };
+    check_by(alloc, keys, &expected, content)
+}
+
+// The same, by whom is expected to have signed it.
+fn check_by<K: KeyFunctions>(
+    alloc: Global,
+    keys: &K,
+    expected: &ExpectedSigner<'_>,
+    content: &SignedContent<'_>,
+) -> Result<(), ReplyFault>
+    ensures { IsTakenAs (signed_by (K.functions keys.now) (expected_of expected.now) content.now).gives result }
+{
+    let judged = JudgedContent::from(content);
+    match check_trusted(alloc, keys, expected, &judged) {
+        Ok(()) => Ok(()),
+        Err(fault) => Err(ReplyFault::from(fault)),
+    }
+}

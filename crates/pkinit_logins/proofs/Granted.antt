@@ -1,0 +1,203 @@
+-- An honest realm grants what an honest client asks for by certificate.
+use Rattle.std.proofs.Common.{◌≡◌, ℕ, ◌+◌, ◌*◌, ◌/◌, ◌%◌, ◌<◌, Bool, true, false, Option, None, Some, Result, Ok, inl, inr, refl, sym, ap, ◌∙◌, subst, arith}
+use Rattle.std.specs.Prelude.{ℤ, pos, not, if◌then◌else◌}
+use Rattle.std.proofs.lemmas.Bool.{lt-ltb}
+use Rattle.sha1.specs.Sha1.{sha1}
+use Rattle.asn1_leaves.specs.ObjectIdentifier.{oid_content, subidentifier}
+use Rattle.asn1_leaves.specs.declared.date.GeneralizedTime.{GeneralizedTime}
+use Rattle.asn1_trees.specs.Tree.{IsWhole}
+use Rattle.asn1_trees.proofs.Spelling.{whole-wrapped}
+use Rattle.asn1_elements.specs.Raw.{Raw, raw_tree}
+use Rattle.picky_asn1.specs.Bytes.{Bytes}
+use Rattle.krb_moments.specs.SecondOf.{IsSecondOf}
+use Rattle.krb_moments.specs.Skew.{is_far}
+use Rattle.krb_moments.specs.Times.{moment_at}
+use Rattle.krb_moments.specs.Units.{Micros, Seconds}
+use Rattle.krb_constants.specs.declared.error_codes.TheConstants.{KDC_ERR_KEY_TOO_WEAK}
+use Rattle.krb_types.specs.RandomBytes.{Random}
+use Rattle.krb_types.specs.Refusals.{Code}
+use Rattle.krb_types.specs.declared.constants.error_codes.TheConstants.{KDC_ERR_PADATA_TYPE_NOSUPP, KDC_ERR_PREAUTH_FAILED, KRB_AP_ERR_SKEW, KRB_ERR_GENERIC}
+use Rattle.krb_messages.specs.declared.messages.kdc_req_body.KdcReqBody.{KdcReqBody}
+use Rattle.krb_pkinit.specs.Calls.{AgreedRecord, PkinitCallRecord}
+use Rattle.key_functions.specs.KeyFunctions.{KeysRecord}
+use Rattle.key_functions.specs.KeyFunctions.TheirValue.{WholeValue}
+use Rattle.key_functions.specs.declared.functions.Signed.{Signed}
+use Rattle.cms_signed_content.specs.SignedParts.{SignedParts}
+use Rattle.cms_signed_content.specs.Written.{IsWritten, signed_bytes}
+use Rattle.cms_signed_content.specs.WrittenLaws.{written_is, written_parts}
+use Rattle.pkinit_auth_packs.specs.declared.auth_pack.AuthPack.{AuthPack}
+use Rattle.pkinit_trust.specs.Anchors.{AnchorRecord}
+use Rattle.pkinit_trust.specs.Certificates.{IsCertificate, ReadRecord}
+use Rattle.pkinit_replies.specs.AgreementBytes.{agreement_bytes}
+use Rattle.pkinit_replies.specs.PublicKeys.{IsPublicKey}
+use Rattle.pkinit_replies.specs.Replies.{dh_key_data, dh_reply_bytes, dh_reply_of, key_info_bytes, key_info_of, pk_as_rep}
+use Rattle.pkinit_replies.specs.declared.public_key.AgreementPublicKey.{AgreementPublicKey}
+use Rattle.pkinit_requests.specs.Asked.{AskedRecord}
+use Rattle.pkinit_requests.specs.AuthPacks as realm
+use Rattle.pkinit_requests.specs.Judging.{JudgingRecord, judging_by}
+use Rattle.pkinit_requests.specs.PkinitTable.{agreed_on, asked_by, is_auth_data, of_auth_pack, of_content, pkinit_table}
+use Rattle.pkinit_requests.specs.Trust.{TrustRecord}
+use Rattle.pkinit_clients.specs.AuthPacks as client
+use Rattle.pkinit_clients.specs.Requests.{IsNoPkAsReq, IsPkAsReqOf, pack_bytes, pk_as_req_bytes, pk_as_req_of}
+use Rattle.pkinit_logins.specs.Agreements.{AreAgreeing, IsGrantedAgreement, Signs}
+use Rattle.pkinit_logins.specs.Honest.{IsHonestRequest}
+use Rattle.pkinit_logins.proofs.Rows.{by_need, by_refuse, same_octets}
+use Rattle.pkinit_logins.proofs.Trusting.{is_trusted}
+use Rattle.pkinit_logins.proofs.Wholeness.{key_element}
+use Rattle.pkinit_logins.proofs.Writable.{some_written}
+
+-- the request is read back
+written_request : (signed bytes : Bytes) → bytes ≡ pk_as_req_bytes (pk_as_req_of signed) → realm.IsPaPkAsReq bytes (pk_as_req_of signed)
+unfolding realm.IsPaPkAsReq pk_as_req_bytes
+written_request signed bytes e = ((tt, tt), e)
+
+-- the AuthPack at a moment
+abbrev pack_of : KdcReqBody → Micros → GeneralizedTime → Raw → AuthPack Raw
+pack_of body moment second value = client.auth_pack_of (client.authenticator_of body second (moment % 1000000)) value
+
+-- is read back
+written_pack : (body : KdcReqBody) (moment : Micros) (second : GeneralizedTime) (value : Raw) → IsWhole (raw_tree value)
+    → realm.IsAuthPack (pack_bytes body moment second value) (pack_of body moment second value)
+unfolding realm.IsAuthPack client.auth_pack_bytes
+written_pack body moment second value whole =
+    (((((tt, tt), ((tt, tt), ((tt, tt), ((tt, tt), tt)))), tt), (whole-wrapped 161 (raw_tree value) whole, tt)), refl)
+
+-- by its type it is one
+written_type : (sign : Bytes → Option Signed) (content certificate signed : Bytes) (w : IsWritten sign client.auth_data content certificate signed)
+    → is_auth_data (written_parts sign client.auth_data content certificate signed w) ≡ true
+unfolding oid_content subidentifier
+written_type sign content certificate signed w = refl
+
+-- a moment is told by its second and its microseconds
+told : (moment second micros : ℕ) → second * 1000000 + micros ≡ moment → micros < 1000000 → moment_at second (pos micros) ≡ Some moment
+told moment second micros e below =
+    subst (λ (b : Bool). (if b then Some (second * 1000000 + micros) else None) ≡ Some moment) (sym (lt-ltb micros 1000000 below)) (ap Some e)
+
+moment_told : (moment : Micros) (second : Seconds) → second ≡ moment / 1000000 → moment_at second (pos (moment % 1000000)) ≡ Some moment
+moment_told moment second e = told moment second (moment % 1000000) (omega (arith, e)) (omega arith)
+
+written_time : (body : KdcReqBody) (moment : Micros) (second : GeneralizedTime) (value : Raw) → IsSecondOf moment second
+    → realm.time_in (pack_of body moment second value) ≡ Some moment
+unfolding realm.time_in
+written_time body moment second value e = moment_told moment _ e
+
+written_digest : (body : KdcReqBody) (moment : Micros) (second : GeneralizedTime) (value : Raw) → realm.covers body (pack_of body moment second value) ≡ true
+unfolding realm.body_bytes client.body_bytes
+written_digest body moment second value = same_octets (sha1 (realm.body_bytes body))
+
+-- what the client asks for
+abbrev asked_for : KdcReqBody → Micros → Raw → AskedRecord
+asked_for body moment value = record { value = value; time = moment; nonce = body.nonce.0 }
+
+asks : (body : KdcReqBody) (moment : Micros) (second : GeneralizedTime) (value : Raw) → IsSecondOf moment second
+    → (asked_by body (pack_of body moment second value)).gives (Ok (asked_for body moment value))
+asks body moment second value e =
+    by_need {A = Micros} {T = AskedRecord} {E = Code} (realm.time_in (pack_of body moment second value)) KDC_ERR_PREAUTH_FAILED _ moment (Ok (asked_for body moment value))
+    (written_time body moment second value e)
+    (by_refuse {T = AskedRecord} {E = Code} (not (realm.covers body (pack_of body moment second value))) KDC_ERR_PREAUTH_FAILED _ (Ok (asked_for body moment value))
+    (ap not (written_digest body moment second value)) refl)
+
+-- the realm signs something over each KDCDHKeyInfo
+written_over : (own other : KeysRecord) (certificate : Bytes) (read : ReadRecord) → IsCertificate certificate read → Signs own other read.certificate
+    → (content : Bytes) → (bytes : Bytes) × IsWritten own.sign dh_key_data content certificate bytes
+written_over own other certificate read reads signs content =
+    let made = signs (signed_bytes dh_key_data content) in
+    some_written own.sign dh_key_data content certificate read.certificate reads.count made.0 refl reads.spelled made.1 made.2
+
+-- so it has a reply
+replies : (keys : KeysRecord) (own : Bytes) (nonce : ℤ) (random : Random) (element : Raw) (key : AgreementPublicKey) (signed : Bytes)
+    → keys.public_value (agreement_bytes random) ≡ Some element → IsPublicKey element key
+    → IsWritten keys.sign dh_key_data (key_info_bytes (key_info_of key.subject_public_key nonce)) own signed
+    → (pk_as_rep keys own nonce random).gives (Ok (dh_reply_bytes (dh_reply_of signed)))
+replies keys own nonce random element key signed value is written =
+    by_need {A = Raw} {T = Bytes} {E = Code} (keys.public_value (agreement_bytes random)) KRB_ERR_GENERIC _ element (Ok (dh_reply_bytes (dh_reply_of signed))) value
+    (inl (key, is, inl (signed, written, refl)))
+
+-- and both agree
+agrees : (keys : KeysRecord) (judging : JudgingRecord) (asked : AskedRecord) (secret reply : Bytes)
+    → is_far judging.skew judging.expected.moment asked.time ≡ false → keys.agree (WholeValue asked.value) (agreement_bytes judging.random) ≡ Some secret
+    → (pk_as_rep keys judging.certificate asked.nonce judging.random).gives (Ok reply)
+    → (agreed_on keys judging asked).gives (Ok (record { secret = secret; reply = reply }))
+agrees keys judging asked secret reply near agreed replied =
+    by_refuse {T = AgreedRecord} {E = Code} (is_far judging.skew judging.expected.moment asked.time) KRB_AP_ERR_SKEW _ (Ok (record { secret = secret; reply = reply })) near
+    (by_need {A = Bytes} {T = AgreedRecord} {E = Code} (keys.agree (WholeValue asked.value) (agreement_bytes judging.random)) KDC_ERR_KEY_TOO_WEAK _ secret
+    (Ok (record { secret = secret; reply = reply })) agreed (inl (reply, replied, refl)))
+
+module _ (client_keys realm_keys : KeysRecord) (certificate : Bytes) (client_moment : Micros) (client_words : Bytes) (trust : TrustRecord) (call : PkinitCallRecord)
+    (honest : IsHonestRequest client_keys realm_keys certificate client_moment client_words trust call) where
+  abbrev agreeing : AreAgreeing client_keys realm_keys client_words (agreement_bytes call.random)
+  agreeing = honest.agreeing
+
+  abbrev judging : JudgingRecord
+  judging = judging_by call honest.anchor honest.own
+
+  -- what the realm signs, with the nonce of the body
+  reply_signed : (signed : Bytes) × IsWritten realm_keys.sign dh_key_data (key_info_bytes (key_info_of agreeing.realm_key.subject_public_key call.body.nonce.0)) honest.own signed
+  reply_signed =
+      written_over realm_keys client_keys honest.own honest.read honest.reads honest.signs
+      (key_info_bytes (key_info_of agreeing.realm_key.subject_public_key call.body.nonce.0))
+
+  abbrev agreed : AgreedRecord
+  agreed = record { secret = agreeing.secret; reply = dh_reply_bytes (dh_reply_of reply_signed.0) }
+
+  -- a client has a request
+  pub asked : IsNoPkAsReq client_keys certificate call.body client_moment client_words → ⊥
+  asked (inl none) = let never : None ≡ Some agreeing.client_element = sym none ∙ agreeing.client_value in absurd (cc (never))
+  asked (inr (inl unsigned)) =
+      let made = honest.client.signs (signed_bytes client.auth_data (pack_bytes call.body client_moment unsigned.second unsigned.value)) in
+      let never : None ≡ Some made.0 = sym unsigned.unsigned ∙ made.1 in
+      absurd (cc (never))
+  asked (inr (inr none)) = none honest.client.read.certificate honest.client.accepts.reads.count honest.client.accepts.reads.spelled
+
+  module _ (bytes : Bytes) (is : IsPkAsReqOf client_keys certificate call.body client_moment client_words bytes) where
+    abbrev parts : SignedParts
+    parts = written_parts client_keys.sign client.auth_data (pack_bytes call.body client_moment is.second is.value) certificate is.signed is.is_signed
+
+    same_value : is.value ≡ agreeing.client_element
+    same_value = let some : Some is.value ≡ Some agreeing.client_element = sym is.is_value ∙ agreeing.client_value in cc (some)
+
+    value_whole : IsWhole (raw_tree is.value)
+    value_whole = subst (λ (r : Raw). IsWhole (raw_tree r)) (sym same_value) (key_element agreeing.client_element agreeing.client_key agreeing.is_client_key)
+
+    value_agrees : realm_keys.agree (WholeValue is.value) (agreement_bytes call.random) ≡ Some agreeing.secret
+    value_agrees = subst (λ (r : Raw). realm_keys.agree (WholeValue r) (agreement_bytes call.random) ≡ Some agreeing.secret) (sym same_value) agreeing.realm_agrees
+
+    given_by_pack : (of_auth_pack realm_keys judging parts (pack_of call.body client_moment is.second is.value)).gives (Ok agreed)
+    given_by_pack =
+        inl (
+          asked_for call.body client_moment is.value,
+          asks call.body client_moment is.second is.value is.of_moment,
+          inl (
+            tt,
+            inl (tt, is_trusted client_keys realm_keys client.auth_data (pack_bytes call.body client_moment is.second is.value) certificate is.signed is.is_signed judging.expected honest.client, refl),
+            agrees realm_keys judging (asked_for call.body client_moment is.value) agreeing.secret (dh_reply_bytes (dh_reply_of reply_signed.0)) honest.near value_agrees
+                (replies realm_keys honest.own call.body.nonce.0 call.random agreeing.realm_element agreeing.realm_key reply_signed.0 agreeing.realm_value agreeing.is_realm_key reply_signed.1),
+          ),
+        )
+
+    given_by_content : (of_content realm_keys judging parts).gives (Ok agreed)
+    given_by_content =
+        by_refuse {T = AgreedRecord} {E = Code} (not (is_auth_data parts)) KDC_ERR_PREAUTH_FAILED _ (Ok agreed)
+        (ap not (written_type client_keys.sign (pack_bytes call.body client_moment is.second is.value) certificate is.signed is.is_signed))
+        (inl (pack_of call.body client_moment is.second is.value, written_pack call.body client_moment is.second is.value value_whole, given_by_pack))
+
+    given : (pkinit_table realm_keys trust call bytes).gives (Ok agreed)
+    unfolding pkinit_table
+    given =
+        by_need {A = AnchorRecord} {T = AgreedRecord} {E = Code} trust.anchor KDC_ERR_PADATA_TYPE_NOSUPP _ honest.anchor (Ok agreed) honest.has_anchor
+        (by_need {A = Bytes} {T = AgreedRecord} {E = Code} trust.certificate KDC_ERR_PADATA_TYPE_NOSUPP _ honest.own (Ok agreed) honest.has_own
+        (inl (
+          pk_as_req_of is.signed,
+          written_request is.signed bytes is.encoding,
+          inl (parts, written_is client_keys.sign client.auth_data (pack_bytes call.body client_moment is.second is.value) certificate is.signed is.is_signed, given_by_content),
+        )))
+
+    -- the realm grants it
+    pub granted : (result : Result AgreedRecord Code) → (pkinit_table realm_keys trust call bytes).gives result
+        → IsGrantedAgreement realm_keys honest.own agreeing.realm_key.subject_public_key call.body.nonce.0 agreeing.secret result
+    granted result gives = record {
+      agreed = agreed;
+      is_agreed = (pkinit_table realm_keys trust call bytes).one result (Ok agreed) gives given;
+      same_secret = refl;
+      is_reply = record { signed = reply_signed.0; is_signed = reply_signed.1; encoding = refl };
+    }

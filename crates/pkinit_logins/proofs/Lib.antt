@@ -1,0 +1,7 @@
+mod Rows
+mod Wholeness
+pub mod Writable
+pub mod Trusting
+pub mod Granted
+pub mod Taken
+pub mod ByCertificate

@@ -1,0 +1,38 @@
+-- When a client and a realm that are both honest agree by certificate (RFC 4556, section 3.2).
+use Rattle.std.specs.Prelude.{◌≡◌, false, Some}
+use Rattle.picky_asn1.specs.Bytes.{Bytes}
+use Rattle.krb_moments.specs.Skew.{is_far}
+use Rattle.krb_moments.specs.Units.{Micros}
+use Rattle.krb_pkinit.specs.Calls.{PkinitCallRecord}
+use Rattle.key_functions.specs.KeyFunctions.{KeysRecord}
+use Rattle.pkinit_trust.specs.Anchors.{AnchorRecord}
+use Rattle.pkinit_trust.specs.Certificates.{IsCertificate, ReadRecord}
+use Rattle.pkinit_trust.specs.Expected.{ExpectedRecord}
+use Rattle.pkinit_replies.specs.AgreementBytes.{agreement_bytes}
+use Rattle.pkinit_requests.specs.Trust.{TrustRecord}
+use Rattle.pkinit_clients.specs.Asked.{PkinitAskedRecord, expected_realm}
+use Rattle.pkinit_logins.specs.Agreements.{AreAgreeing, IsTrusted, Signs}
+
+-- whom the request is to be signed by: the client that it names, as the anchor has it at the moment of the call
+abbrev pub expected_client : PkinitCallRecord → AnchorRecord → ExpectedRecord
+expected_client call anchor = record { realm = call.realm; name = call.client; anchor = anchor; moment = call.moment }
+
+-- the realm has an anchor and a certificate of its own, whose holder signs. It accepts the client's certificate, the client's clock
+-- is near its own, and both agree
+pub record IsHonestRequest (client_keys realm_keys : KeysRecord) (certificate : Bytes) (client_moment : Micros) (client_words : Bytes) (trust : TrustRecord)
+    (call : PkinitCallRecord) : Type 0 where
+  pub anchor : AnchorRecord
+  pub has_anchor : trust.anchor ≡ Some anchor
+  pub client : IsTrusted client_keys realm_keys (expected_client call anchor) certificate
+  pub near : is_far call.skew call.moment client_moment ≡ false
+  pub own : Bytes
+  pub has_own : trust.certificate ≡ Some own
+  pub read : ReadRecord
+  pub reads : IsCertificate own read
+  pub signs : Signs realm_keys client_keys read.certificate
+  pub agreeing : AreAgreeing client_keys realm_keys client_words (agreement_bytes call.random)
+
+-- the client accepts the realm's certificate, whose holder signs, and both agree
+pub record IsHonestReply (client_keys realm_keys : KeysRecord) (own realm_words : Bytes) (asked : PkinitAskedRecord) : Type 0 where
+  pub realm : IsTrusted realm_keys client_keys (expected_realm asked) own
+  pub agreeing : AreAgreeing client_keys realm_keys asked.words realm_words

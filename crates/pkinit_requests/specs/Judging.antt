@@ -1,0 +1,35 @@
+-- What a request by certificate is judged by, where there are an anchor and a certificate.
+use Rattle.picky_asn1.specs.Bytes.{Bytes}
+use Rattle.krb_moments.specs.Units.{Micros}
+use Rattle.krb_types.specs.RandomBytes.{Random}
+use Rattle.krb_messages.specs.declared.messages.kdc_req_body.KdcReqBody.{KdcReqBody}
+use Rattle.krb_pkinit.specs.Calls.{PkinitCallRecord}
+use Rattle.pkinit_trust.specs.Anchors.{AnchorRecord}
+use Rattle.pkinit_trust.specs.Expected.{ExpectedRecord, expected_of}
+use Rattle.pkinit_requests.specs.declared.judging.Judging as held
+
+-- who is expected to have signed; the realm's own certificate, and its skew; the request's body, and random bytes
+pub record JudgingRecord : Type 0 where
+  pub expected : ExpectedRecord
+  pub certificate : Bytes
+  pub skew : Micros
+  pub body : KdcReqBody
+  pub random : Random
+
+abbrev pub judging_of : held.Judging → JudgingRecord
+judging_of judging = record {
+  expected = expected_of judging.expected;
+  certificate = judging.certificate.now;
+  skew = judging.skew;
+  body = judging.body.now;
+  random = judging.random.now;
+}
+
+abbrev pub judging_by : PkinitCallRecord → AnchorRecord → Bytes → JudgingRecord
+judging_by call anchor certificate = record {
+  expected = record { realm = call.realm; name = call.client; anchor = anchor; moment = call.moment };
+  certificate = certificate;
+  skew = call.skew;
+  body = call.body;
+  random = call.random;
+}

@@ -1,0 +1,15 @@
+-- The rows of the AS exchange's table by which a realm judges requests by certificate (RFC 4556, section 3.2.2).
+use Rattle.std.specs.Option.{is_some}
+use Rattle.key_functions.specs.KeyFunctions.{KeysRecord}
+use Rattle.krb_pkinit.specs.Rows.{PkinitRows}
+use Rattle.pkinit_requests.specs.HasOutcomes.{has_pkinit}
+use Rattle.pkinit_requests.specs.PkinitTable.{pkinit_table}
+use Rattle.pkinit_requests.specs.Trust.{TrustRecord}
+
+-- of a realm with this trust and these keys: a client is told of PA-PK-AS-REQ where there is an anchor
+abbrev pub pkinit_rows : TrustRecord → KeysRecord → PkinitRows
+pkinit_rows trust keys = record {
+  offered = is_some trust.anchor;
+  judges = pkinit_table keys trust;
+  some = has_pkinit keys trust;
+}

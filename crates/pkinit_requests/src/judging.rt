@@ -1,0 +1,18 @@
+//! What a request by certificate is judged by, at a realm with an anchor and a certificate.
+use krb_messages::messages::KdcReqBody;
+use pkinit_trust::ExpectedSigner;
+
+/// The client, and the realm's settings and the request's parts that count for it.
+#[derive(Clone, Copy)]
+pub(crate) struct Judging<'a> {
+    /// The client, and what its certificate is judged by.
+    pub(crate) expected: ExpectedSigner<'a>,
+    /// The realm's own certificate.
+    pub(crate) certificate: &'a [u8],
+    /// By how many microseconds clocks may differ.
+    pub(crate) skew: u64,
+    /// The request's body.
+    pub(crate) body: &'a KdcReqBody,
+    /// The random bytes.
+    pub(crate) random: &'a [u8],
+}

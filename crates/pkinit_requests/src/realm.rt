@@ -1,0 +1,83 @@
+//! A realm that authenticates clients by certificate.
+ghost use Rattle.std.specs.Prelude.{◌≡◌, ◌≤◌, length};
+ghost use Rattle.krb_types.specs.Refusals.{IsJudged};
+ghost use Rattle.krb_pkinit.specs.Calls.{agreed_as, call_of};
+ghost use Rattle.pkinit_requests.specs.PkinitTable.{pkinit_table};
+ghost use Rattle.pkinit_requests.specs.Trust.{trust_of};
+
+use crate::judging::Judging;
+use crate::table::judge_request;
+use key_functions::KeyFunctions;
+use krb_pkinit::{Agreed, Pkinit, PkinitCall};
+use krb_types::Refusal;
+use krb_types::constants::error_codes;
+use pkinit_trust::{Anchor, ExpectedSigner};
+use std::alloc::Global;
+
+/// The settings and the keys by which a realm authenticates clients by certificate. Without an anchor or without a certificate of
+/// its own it refuses each request by certificate (RFC 4120, section 7.5.9).
+#[derive(Drop)]
+pub struct RealmPkinit<'a, K: KeyFunctions> {
+    /// The authority that the realm trusts to issue its clients' certificates.
+    pub anchor: Option<&'a Anchor>,
+    /// The realm's own certificate.
+    pub certificate: Option<&'a [u8]>,
+    /// The realm's key functions.
+    pub keys: &'a K,
+}
+
+impl<'a, K: KeyFunctions> Pkinit for RealmPkinit<'a, K> {
+    ghost use Rattle.pkinit_requests.specs.PkinitRows.{pkinit_rows};
+    ghost use Rattle.pkinit_requests.specs.Trust.{trust_of};
+
+    ghost rows = { λ own. pkinit_rows (trust_of own.anchor own.certificate) (K.functions own.keys.now) };
+
+    fn is_offered(&self) -> bool {
+        match self.anchor {
+            Some(_) => true,
+            None => false,
+        }
+    }
+
+    fn judge(
+        &self,
+        alloc: Global,
+        call: &PkinitCall<'_>,
+        padata: &[u8],
+    ) -> Result<Agreed, Refusal> {
+        judge_pk_as_req(alloc, self, call, padata)
+    }
+}
+
+// The whole part. Only a realm with an anchor and a certificate takes such padata.
+#[tactic(auto, unfolding(crate::specs::PkinitTable::pkinit_table))]
+fn judge_pk_as_req<K: KeyFunctions>(
+    alloc: Global,
+    own: &RealmPkinit<'_, K>,
+    call: &PkinitCall<'_>,
+    padata: &[u8],
+) -> Result<Agreed, Refusal>
+    requires long { 128 ≤ length call.now.random.now }
+    requires near { call.now.skew ≤ 86400000000 }
+    ensures { IsJudged (pkinit_table (K.functions own.now.keys.now) (trust_of own.now.anchor own.now.certificate) (call_of call.now) padata.now).gives (agreed_as result) }
+{
+    let Some(anchor) = own.anchor else {
+        return Err(Refusal::Krb(error_codes::KDC_ERR_PADATA_TYPE_NOSUPP));
+    };
+    let Some(certificate) = own.certificate else {
+        return Err(Refusal::Krb(error_codes::KDC_ERR_PADATA_TYPE_NOSUPP));
+    };
+    let judging = Judging {
+        expected: ExpectedSigner {
+            realm: call.realm,
+            name: call.client,
+            anchor,
+            moment: call.moment,
+        },
+        certificate,
+        skew: call.skew,
+        body: call.body,
+        random: call.random,
+    };
+    judge_request(alloc, own.keys, &judging, padata)
+}

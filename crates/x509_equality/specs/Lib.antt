@@ -1,0 +1,3 @@
+pub mod Equalities
+pub mod Views
+pub mod Wrapped

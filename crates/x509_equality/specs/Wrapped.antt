@@ -1,0 +1,42 @@
+-- `==` of values under a tag, in a container, that may be missing or that have a default.
+use Rattle.std.proofs.Common.{ℕ, Bool, true, refl}
+use Rattle.asn1_codec.specs.declared.optional.Optional.{Optional}
+use Rattle.picky_asn1_der.specs.declared.bit_container.BitStringContainer.{BitStringContainer}
+use Rattle.picky_asn1_der.specs.declared.container.OctetStringContainer.{OctetStringContainer}
+use Rattle.picky_asn1_der.specs.declared.default.DefaultField.{DefaultField}
+use Rattle.picky_asn1_der.specs.declared.implicit_tag.ImplicitContextTag.{ImplicitContextTag}
+use Rattle.picky_asn1_der.specs.declared.wrapper.ExplicitContextTag.{ExplicitContextTag}
+use Rattle.x509_kinds.specs.declared.enclosed.Explicit.{Explicit}
+use Rattle.x509_keys.specs.declared.fixed_number.FixedNumber.{FixedNumber}
+use Rattle.x509_keys.specs.declared.strict.Strict.{Strict}
+use Rattle.x509_equality.specs.Equalities.{IsEquality, told_by}
+
+module _ {K : Type 0} {E : K → K → Bool} (same : IsEquality E) where
+  pub optional : IsEquality (λ (v w : Optional K). E v.0 w.0)
+  optional = told_by (λ v. v.0) same (λ v w e i. record { 0 = e i })
+
+  pub default_field : IsEquality (λ (v w : DefaultField K). E v.0 w.0)
+  default_field = told_by (λ v. v.0) same (λ v w e i. record { 0 = e i })
+
+  pub octet_container : IsEquality (λ (v w : OctetStringContainer K). E v.0 w.0)
+  octet_container = told_by (λ v. v.0) same (λ v w e i. record { 0 = e i })
+
+  pub bit_container : IsEquality (λ (v w : BitStringContainer K). E v.0 w.0)
+  bit_container = told_by (λ v. v.0) same (λ v w e i. record { 0 = e i })
+
+  module _ {N : ℕ} where
+    pub explicit_tag : IsEquality (λ (v w : ExplicitContextTag N K). E v.0 w.0)
+    explicit_tag = told_by (λ v. v.0) same (λ v w e i. record { 0 = e i })
+
+    pub implicit_tag : IsEquality (λ (v w : ImplicitContextTag N K). E v.0 w.0)
+    implicit_tag = told_by (λ v. v.0) same (λ v w e i. record { 0 = e i })
+
+    pub explicit : IsEquality (λ (v w : Explicit N K). E v.0 w.0)
+    explicit = told_by (λ v. v.0) same (λ v w e i. record { 0 = e i })
+
+  pub strict : IsEquality (λ (v w : Strict K). E v.0 w.0)
+  strict = told_by (λ v. v.0) same (λ v w e i. record { 0 = e i })
+
+-- a number that its type tells
+pub fixed_number : {N : ℕ} → IsEquality (λ (v w : FixedNumber N). true)
+fixed_number v w = (λ _. refl, λ _. refl)

@@ -1,0 +1,61 @@
+//! Values under a tag, in a container, that may be missing or that have a default, and lists.
+ghost use Rattle.std.specs.Cmp.Lexicographic.{pointwise_decides};
+ghost use Rattle.x509_equality.specs.Equalities.{options};
+ghost use Rattle.x509_equality.specs.Wrapped.{fixed_number, optional, default_field, octet_container, bit_container, explicit_tag, implicit_tag, explicit, strict};
+
+use crate::Equality;
+use picky_asn1::wrapper::{Asn1SequenceOf, Asn1SetOf};
+use picky_asn1_der::{
+    BitStringContainer, DefaultField, ExplicitContextTag, ImplicitContextTag, OctetStringContainer,
+    Optional,
+};
+use x509_keys::{FixedNumber, Strict};
+use x509_kinds::Explicit;
+
+impl<T: Equality> Equality for Option<T> {
+    ghost is_equality = { options T.is_equality };
+}
+
+impl<T: Equality> Equality for Optional<T> {
+    ghost is_equality = { optional T.is_equality };
+}
+
+impl<T: Equality> Equality for DefaultField<T> {
+    ghost is_equality = { default_field T.is_equality };
+}
+
+impl<const N: u8, T: Equality> Equality for ExplicitContextTag<N, T> {
+    ghost is_equality = { explicit_tag T.is_equality };
+}
+
+impl<const N: u8, T: Equality> Equality for ImplicitContextTag<N, T> {
+    ghost is_equality = { implicit_tag T.is_equality };
+}
+
+impl<const N: u8, T: Equality> Equality for Explicit<N, T> {
+    ghost is_equality = { explicit T.is_equality };
+}
+
+impl<T: Equality> Equality for OctetStringContainer<T> {
+    ghost is_equality = { octet_container T.is_equality };
+}
+
+impl<T: Equality> Equality for BitStringContainer<T> {
+    ghost is_equality = { bit_container T.is_equality };
+}
+
+impl<T: Equality> Equality for Strict<T> {
+    ghost is_equality = { strict T.is_equality };
+}
+
+impl<T: Equality> Equality for Asn1SequenceOf<T> {
+    ghost is_equality = { pointwise_decides T.is_equality };
+}
+
+impl<T: Equality> Equality for Asn1SetOf<T> {
+    ghost is_equality = { pointwise_decides T.is_equality };
+}
+
+impl<const N: u8> Equality for FixedNumber<N> {
+    ghost is_equality = { fixed_number };
+}
