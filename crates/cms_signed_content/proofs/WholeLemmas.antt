@@ -6,13 +6,13 @@ use Rattle.asn1_trees.specs.Tree.{leaf, IsWhole}
 use Rattle.asn1_trees.proofs.Leaf.{whole-leaf}
 use Rattle.asn1_trees.proofs.Spelling.{whole-wrapped}
 use Rattle.picky_asn1.specs.declared.wrapper.ObjectIdentifierAsn1.{ObjectIdentifierAsn1}
-use Rattle.x509_algorithms.specs.AlgorithmKinds.{is_parameters_of}
-use Rattle.x509_algorithms.specs.contracts.algorithm_identifier.AlgorithmIdentifierSerialize.TheImpl as algorithm_impl
-use Rattle.x509_algorithms.specs.declared.algorithm_identifier.AlgorithmIdentifier.{AlgorithmIdentifier}
-use Rattle.x509_algorithms.specs.declared.algorithm_kinds.AlgorithmIdentifierParameters.{AlgorithmIdentifierParameters}
-use Rattle.x509_algorithms.specs.declared.algorithm_kinds.AlgorithmIdentifierParameters.TheVariants as kind
-use Rattle.x509_certificates.specs.contracts.certificate.CertificateSpelled.TheImpl as certificate
-use Rattle.x509_certificates.specs.declared.certificate.Certificate.{Certificate}
+use Rattle.cms_signed_data.specs.AlgorithmKinds.{is_parameters_of}
+use Rattle.cms_signed_data.specs.AlgorithmIdentifierSerialize.TheImpl as algorithm_impl
+use Rattle.cms_signed_data.specs.AlgorithmIdentifier.{AlgorithmIdentifier}
+use Rattle.cms_signed_data.specs.AlgorithmIdentifierParameters.{AlgorithmIdentifierParameters}
+use Rattle.cms_signed_data.specs.AlgorithmIdentifierParameters.TheVariants as kind
+use Rattle.cms_signed_data.specs.CertificateSpelled.TheImpl as certificate
+use Rattle.cms_signed_data.specs.Certificate.{Certificate}
 use Rattle.x509_parameters.specs.Curves.{curve}
 use Rattle.x509_parameters.specs.contracts.aes_parameters.AesParametersSerialize.TheImpl as aes_impl
 use Rattle.x509_parameters.specs.declared.aes_parameters.AesParameters.{AesParameters}

@@ -15,11 +15,11 @@ use Rattle.x509_spelling.specs.Spellings.{IsExact}
 use Rattle.cms_signed_data.specs.contracts.encapsulated_content_info.EncapsulatedContentInfoTagged.TheImpl as encapsulated_impl
 use Rattle.cms_signed_data.specs.declared.encapsulated_content_info.EncapsulatedContentInfo.{EncapsulatedContentInfo}
 use Rattle.cms_signed_content.proofs.WholeLemmas.{oid_whole, id_whole}
-use Rattle.x509_certificates.specs.contracts.certificate.CertificateSpelled.TheImpl as certificate
+use Rattle.cms_signed_data.specs.CertificateSpelled.TheImpl as certificate
 use Rattle.x509_spelling.specs.Answers.{ReadsSpelling}
 use Rattle.x509_spelling.specs.declared.fault.X509Fault.{X509Fault}
 use Rattle.x509_spelling.specs.declared.fault.X509Fault.TheVariants as x509
-use Rattle.x509_certificates.specs.declared.certificate.Certificate.{Certificate}
+use Rattle.cms_signed_data.specs.Certificate.{Certificate}
 use Rattle.cms_signed_content.specs.Faults.{fault_of}
 use Rattle.cms_signed_content.specs.Around.{IsInfoAround}
 use Rattle.cms_signed_content.specs.SignedParts.{as_set}

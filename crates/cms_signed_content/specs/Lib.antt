@@ -8,3 +8,16 @@ pub mod SignedParts
 pub mod Wholeness
 pub mod Written
 pub mod WrittenLaws
+pub use Rattle.cms_signed_data.specs.CertificateSpelled
+pub use Rattle.cms_signed_data.specs.PartSpellings
+pub use Rattle.cms_signed_data.specs.Parts
+pub use Rattle.cms_signed_data.specs.SignedRows
+pub use Rattle.cms_signed_data.specs.SpelledElements
+pub use Rattle.cms_signed_data.specs.contracts.content_info.ContentInfoSpelled
+pub use Rattle.cms_signed_data.specs.contracts.form.ContentInfoOfForm
+pub use Rattle.cms_signed_data.specs.contracts.signer_info.SignerInfoSpelled
+pub use Rattle.cms_signed_data.specs.declared.content_info.ContentInfo
+pub use Rattle.cms_signed_data.specs.declared.set_of_one.SetOfOne
+pub use Rattle.cms_signed_data.specs.declared.signer_info.SignerInfo
+pub use Rattle.key_functions.specs.KeyFunctions
+pub use Rattle.key_functions.specs.declared.functions.Signed

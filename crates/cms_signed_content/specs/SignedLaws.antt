@@ -6,7 +6,7 @@ use Rattle.asn1_trees.specs.Tree.{der}
 use Rattle.asn1_elements.specs.Parts.{IsPart}
 use Rattle.asn1_elements.specs.PartLaws.{part-one}
 use Rattle.asn1_paths.specs.PathLaws.{part_there}
-use Rattle.x509_certificates.specs.contracts.certificate.CertificateSpelled.TheImpl as certificate
+use Rattle.cms_signed_data.specs.CertificateSpelled.TheImpl as certificate
 use Rattle.cms_signed_data.specs.contracts.content_info.ContentInfoSpelled.TheImpl as content_info
 use Rattle.cms_signed_data.specs.Parts.{content_place, certificate_place, attributes_place, digest_place, signature_place, parts_held}
 use Rattle.cms_signed_content.specs.declared.fault.SignedFault.{SignedFault}

@@ -1,8 +1,8 @@
 -- Algorithms that can be written: their object identifiers are such.
 use Rattle.std.specs.Prelude.{⊤}
 use Rattle.asn1_leaves.specs.ObjectIdentifier.{IsObjectIdentifier}
-use Rattle.x509_algorithms.specs.declared.algorithm_kinds.AlgorithmIdentifierParameters.{AlgorithmIdentifierParameters}
-use Rattle.x509_algorithms.specs.declared.algorithm_kinds.AlgorithmIdentifierParameters.TheVariants.{Ec}
+use Rattle.cms_signed_data.specs.AlgorithmIdentifierParameters.{AlgorithmIdentifierParameters}
+use Rattle.cms_signed_data.specs.AlgorithmIdentifierParameters.TheVariants.{Ec}
 use Rattle.x509_parameters.specs.Curves.{curve}
 
 -- the curve's identifier is one, if the parameters are a curve

@@ -11,7 +11,7 @@ ghost use Rattle.cms_signed_content.specs.SignedParts.{SignedParts, content_of, 
 ghost use Rattle.cms_signed_content.specs.Written.{IsWritten};
 
 use crate::fault::SignedFault;
-use x509_certificates::Certificate;
+use cms_signed_data::Certificate;
 use x509_spelling::Spelled;
 
 /// Bytes are one signed content at most, with one certificate and one list of signed attributes. It does nothing when it runs: its

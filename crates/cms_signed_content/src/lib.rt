@@ -14,4 +14,5 @@ mod slices;
 mod written_parts;
 
 pub use fault::SignedFault;
+pub use key_functions::KeyFunctions;
 pub use signed_content::SignedContent;

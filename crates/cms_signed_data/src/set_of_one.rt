@@ -2,7 +2,7 @@
 ghost use Rattle.std.specs.Prelude.{◌≡◌, true, MatchResult};
 ghost use Rattle.asn1_trees.specs.Tree.{wrapped};
 ghost use Rattle.asn1_trees.specs.Firsts.{only};
-ghost use Rattle.asn1_codec.specs.Refusals.{part_refusal};
+ghost use Rattle.x509_spelling.specs.Refusals.{part_refusal};
 ghost use Rattle.x509_spelling.specs.Spellings.{Holds};
 ghost use Rattle.x509_spelling.specs.Answers.{Tells};
 

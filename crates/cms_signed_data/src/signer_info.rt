@@ -10,9 +10,7 @@ use picky_asn1_der::{
     from_fields, read_sequence,
 };
 use std::alloc::Global;
-use x509_algorithms::AlgorithmIdentifier;
-use x509_keys::Ahead;
-use x509_names::Name;
+use x509_certificates::{Ahead, AlgorithmIdentifier, Name};
 use x509_parts::RawAlgorithmIdentifier;
 use x509_spelling::{Counted, Exact, Spelled, SpelledFields, X509Fault, read_fields};
 

@@ -15,7 +15,7 @@ use Rattle.krb_types.specs.declared.data_types.encrypted_data.EncryptedData.{Enc
 use Rattle.krb_messages.specs.declared.messages.kdc_req_body.KdcReqBody.{KdcReqBody}
 use Rattle.decision_tables.specs.Tables.{Table, done, refuse}
 use Rattle.decision_tables.proofs.Outcomes.{HasOutcome, has_done, has_made, has_refused, some_of}
-use Rattle.krb_sealing.specs.Sealing.{Seals, encrypted_by}
+use Rattle.krb_tickets.specs.Sealing.{Seals, encrypted_by}
 use Rattle.krb_tickets.specs.declared.grant.Grant.{Grant}
 use Rattle.krb_tickets.specs.Parts.{kdc_reply_of, reply_part, ticket_of, ticket_part}
 use Rattle.krb_tickets.specs.ReplyKeys.{ReplyKeyRecord}

@@ -14,7 +14,7 @@ use Rattle.krb_types.specs.declared.data_types.encryption_key.EncryptionKey.{Enc
 use Rattle.krb_types.specs.declared.data_types.principal_name.PrincipalName.{PrincipalName}
 use Rattle.krb_types.specs.contracts.data_types.encryption_key.EncryptionKeyTagged.TheImpl as encryption_key_impl
 use Rattle.krb_types.specs.contracts.data_types.principal_name.PrincipalNameTagged.TheImpl as principal_name_impl
-use Rattle.krb_sealing.specs.Sealing.{encryption_key}
+use Rattle.krb_tickets.specs.Sealing.{encryption_key}
 use Rattle.krb_as.proofs.Short.{AllFit, Fits, IsShort, fits_constructed, fits_primitive, fits_wrapped, looser, more_trees, no_trees, number_short, one_tree, short_cons, short_none, time_short}
 
 abbrev pub principal_name_tree : PrincipalName → Tree

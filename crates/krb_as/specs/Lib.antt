@@ -6,3 +6,5 @@ pub mod Grants
 pub mod AsTable
 pub mod Judged
 pub mod Calls
+pub use Rattle.krb_grants.specs.Granted
+pub use Rattle.krb_tickets.specs.MethodData

@@ -13,6 +13,8 @@ mod span;
 mod whole;
 
 pub use call::Call;
+pub use krb_grants::ticket_reply;
+pub use krb_tickets::method_data;
 pub use names::krbtgt_of;
 pub use read::{read_as_req, read_tgs_req};
 pub use requests::{

@@ -5,8 +5,7 @@ ghost use Rattle.std.specs.Prelude.{◌≤◌, length, IfOk};
 ghost use Rattle.krb_grants.specs.Granted.{IsTicketReply, reply_key_of};
 
 use krb_accounts::Account;
-use krb_sealing::confounder_at;
-use krb_tickets::{Grant, ReplyKey, reply_bytes, sealed_reply, sealed_ticket};
+use krb_tickets::{Grant, ReplyKey, confounder_at, reply_bytes, sealed_reply, sealed_ticket};
 use krb_types::constants::random_bytes::{REPLY_CONFOUNDER, TICKET_CONFOUNDER};
 use std::alloc::{AllocError, Global};
 

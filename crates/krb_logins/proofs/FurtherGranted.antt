@@ -51,8 +51,8 @@ use Rattle.krb_as.specs.Grants.{replied}
 use Rattle.krb_as.specs.Requests.{IsSpan, account_of, body_bytes, client_of, entries_of, is_ended, lasting, service_of}
 use Rattle.krb_as.specs.TicketGranting.{krbtgt_of}
 use Rattle.krb_as.specs.declared.span.Span.{Span}
-use Rattle.krb_tgs.specs.TgsTable as table
-use Rattle.krb_tgs.specs.TgsTable.{carried, counting, covered, further, further_ticket, is_known_checksum, is_of_body, of_carried, of_shown, of_ticket, shown_near, tgs_granted, tgs_table, ticket_granting, to_us}
+use Rattle.krb_replies.specs.TgsTable as table
+use Rattle.krb_replies.specs.TgsTable.{carried, counting, covered, further, further_ticket, is_known_checksum, is_of_body, of_carried, of_shown, of_ticket, shown_near, tgs_granted, tgs_table, ticket_granting, to_us}
 use Rattle.krb_replies.specs.Replies.{Replies, as_reply, reply_of, tgs_reply}
 use Rattle.krb_client.specs.Authenticators.{IsApRequest, authenticator_with, told_of}
 use Rattle.krb_client.specs.Client.{ClientRecord, CredentialRecord}

@@ -1,4 +1,4 @@
--- Clients: who asks, and how it authenticates itself.
+-- Clients: the client's name, and how the client authenticates itself.
 use Rattle.std.specs.Prelude.{◌≡◌, ◌⊎◌, not, ◌&&◌, true, false, List, Result, Ok, Err, if◌then◌else◌}
 use Rattle.picky_asn1.specs.Bytes.{Bytes}
 use Rattle.krb_crypto.specs.Keys.{KeyRecord}
@@ -12,7 +12,7 @@ use Rattle.krb_client.specs.Stamps.{by_key}
 use Rattle.krb_client.specs.declared.refusal.AskRefusal.{AskRefusal}
 use Rattle.krb_client.specs.declared.refusal.AskRefusal.TheVariants.{BadCertificate, BadName, Memory}
 use Rattle.key_functions.specs.KeyFunctions.{KeysRecord}
-use Rattle.pkinit_trust.specs.Anchors.{AnchorRecord}
+use Rattle.pkinit_requests.specs.Anchors.{AnchorRecord}
 use Rattle.pkinit_clients.specs.Means.{by_certificate}
 use Rattle.krb_realm.specs.Settings.{IsCertificateIf}
 

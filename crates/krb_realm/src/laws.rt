@@ -2,9 +2,9 @@
 //! law.
 ghost use Rattle.std.specs.Prelude.{◌≡◌, ◌<◌, ◌^◌, ◌⊎◌, ℕ, List, [], ◌∷◌, ◌++◌, Option, Some, Result, length};
 ghost use Rattle.asn1_elements.specs.Parts.{IsPart};
-ghost use Rattle.cms_signed_content.specs.SignedContents.{IsSignedContent};
-ghost use Rattle.cms_signed_content.specs.SignedParts.{SignedParts};
-ghost use Rattle.cms_signed_data.specs.Parts.{attributes_place, certificate_place};
+ghost use Rattle.pkinit_requests.specs.SignedContents.{IsSignedContent};
+ghost use Rattle.pkinit_requests.specs.SignedParts.{SignedParts};
+ghost use Rattle.pkinit_requests.specs.Parts.{attributes_place, certificate_place};
 ghost use Rattle.krb_blocks.specs.Bytes.{IsBytes};
 ghost use Rattle.decision_tables.specs.Some.{HasSome};
 ghost use Rattle.key_functions.specs.KeyFunctions.{KeysRecord};
@@ -27,7 +27,7 @@ ghost use Rattle.pkinit_messages.specs.declared.pa_pk_as_req.PaPkAsReq.{PaPkAsRe
 ghost use Rattle.pkinit_requests.specs.AuthPacks.{IsPaPkAsReq};
 ghost use Rattle.pkinit_requests.specs.PkinitRows.{pkinit_rows};
 ghost use Rattle.pkinit_requests.specs.Trust.{TrustRecord};
-ghost use Rattle.pkinit_trust.specs.Certificates.{IsCertificate, ReadRecord};
+ghost use Rattle.pkinit_requests.specs.Certificates.{IsCertificate, ReadRecord};
 
 use crate::{Client, Settings};
 use key_functions::KeyFunctions;
@@ -37,11 +37,11 @@ pub use krb_ap::laws::{
 pub use krb_as::laws::{as_body_is_part, padata_is_part};
 pub use krb_crypto::laws::has_sealed;
 pub use krb_logins::laws::ap_request_presents_choice;
+pub use krb_replies::body_is_part;
 pub use krb_service::laws::{
     admissible_if_admitted, admitted_as_presented, admitted_if_presented, has_outcome,
     once_for_ever, one_outcome, refused_by_moment_alone,
 };
-pub use krb_tgs::laws::body_is_part;
 pub use pkinit_requests::laws::judged_is_part;
 
 /// Realms of one name and of the same settings and key functions, which agree on the accounts involved in a request, reply to it

@@ -7,8 +7,7 @@ ghost use Rattle.krb_realm.specs.Settings.{IsCertificateIf, IsOwnCertificate, se
 
 use key_functions::KeyFunctions;
 use krb_accounts::{RealmRefusal, Settings as Limits};
-use pkinit_requests::RealmPkinit;
-use pkinit_trust::Anchor;
+use pkinit_requests::{Anchor, RealmPkinit};
 use std::alloc::{AllocError, Global};
 use std::marker::Model;
 use x509_spelling::X509Fault;

@@ -12,3 +12,4 @@ mod told;
 
 pub use answer::{answer_as, answer_tgs};
 pub use krb_as::{Call, krbtgt_of, read_as_req, read_tgs_req};
+pub use krb_tgs::laws::body_is_part;

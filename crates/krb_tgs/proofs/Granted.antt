@@ -9,7 +9,7 @@ use Rattle.krb_messages.specs.declared.messages.kdc_req_body.KdcReqBody.{KdcReqB
 use Rattle.decision_tables.specs.Tables.{Table, need}
 use Rattle.krb_tickets.specs.declared.grant.Grant.{Grant}
 use Rattle.krb_tickets.specs.ReplyKeys.{ReplyKeyRecord}
-use Rattle.krb_grants.specs.Granted.{IsTicketReply}
+use Rattle.krb_as.specs.Granted.{IsTicketReply}
 use Rattle.krb_ap.specs.declared.presented.Authenticated.{Authenticated}
 use Rattle.krb_as.specs.Call.{CallRecord}
 use Rattle.krb_as.specs.Grants.{replied}

@@ -10,9 +10,8 @@ ghost use Rattle.krb_tgs.specs.TgsTable.{first_known, first_number, further, fur
 
 use krb_accounts::Account;
 use krb_ap::Authenticated;
-use krb_as::{Call, Span, lasting, session_key};
+use krb_as::{Call, Span, lasting, session_key, ticket_reply};
 use krb_crypto::{CipherSuite, Key};
-use krb_grants::ticket_reply;
 use krb_messages::messages::KdcReqBody;
 use krb_opening::key_of;
 use krb_tickets::{Grant, ReplyKey, TicketFlags};

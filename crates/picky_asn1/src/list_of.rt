@@ -74,7 +74,7 @@ impl<const OCTET: u8, T: Deserialize + Drop> Tagged for ListOf<OCTET, T> {
     ghost use Rattle.asn1_trees.proofs.Rows.{many-injective};
     ghost use Rattle.asn1_trees.specs.Tagged.{sequence};
     ghost use Rattle.asn1_trees.proofs.Tagged.{sequence_laws};
-    ghost use Rattle.asn1_codec.specs.Refusals.{list_refusal};
+    ghost use Rattle.picky_asn1_der.specs.Refusals.{list_refusal};
 
     type Row = Elements<T>;
 

@@ -15,3 +15,7 @@ pub use Rattle.asn1_trees.specs.Length
 pub use Rattle.asn1_trees.specs.Tagged
 pub use Rattle.asn1_trees.specs.Tags
 pub use Rattle.asn1_trees.specs.Tree
+pub use Rattle.asn1_codec.specs.Reads
+pub use Rattle.asn1_codec.specs.Refusals
+pub use Rattle.asn1_codec.specs.Writing
+pub use Rattle.asn1_codec.specs.declared.optional.Optional

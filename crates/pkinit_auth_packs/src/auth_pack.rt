@@ -10,8 +10,7 @@ use picky_asn1_der::{
 use pkinit_messages::{DhNonce, DhReqInfo, PkAuthenticator};
 use record_copies::{LentFields, RecordFields};
 use std::alloc::AllocError;
-use x509_algorithms::AlgorithmIdentifier;
-use x509_keys::SubjectPublicKeyInfo;
+use x509_keys::{AlgorithmIdentifier, SubjectPublicKeyInfo};
 
 /// What a client signs to authenticate by certificate (RFC 4556, section 3.2.1). Its public value is a type of the agreement.
 ///

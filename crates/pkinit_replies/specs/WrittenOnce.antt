@@ -4,18 +4,18 @@ use Rattle.asn1_trees.specs.Length.{element}
 use Rattle.asn1_elements.specs.Parts.{IsPart}
 use Rattle.asn1_elements.specs.PartLaws.{part-one}
 use Rattle.asn1_paths.specs.PathLaws.{LeadsTo, go_on, held_at, part_there}
-use Rattle.x509_certificates.specs.contracts.certificate.CertificateSpelled.TheImpl as certificate
+use Rattle.cms_signed_content.specs.CertificateSpelled.TheImpl as certificate
 use Rattle.x509_parts.specs.contracts.raw_algorithm_identifier.RawAlgorithmIdentifierSpelled.TheImpl as raw_spelled
-use Rattle.key_functions.specs.declared.functions.Signed.{Signed}
-use Rattle.cms_signed_data.specs.PartSpellings.{PartSpellings}
-use Rattle.cms_signed_data.specs.Parts.{AreCertificates, AreDigests, AreSigners, IsContentInfo, IsSignedData, IsTagged, certificate_place, certificates_are, digests_are, signed_are, signers_are, tagged_are}
-use Rattle.cms_signed_data.specs.SignedRows.{content_row, signed_row}
-use Rattle.cms_signed_data.specs.contracts.content_info.ContentInfoSpelled.TheImpl as content_info
-use Rattle.cms_signed_data.specs.contracts.form.ContentInfoOfForm.TheImpl as of_form
-use Rattle.cms_signed_data.specs.contracts.signer_info.SignerInfoSpelled.TheImpl as signer_info
-use Rattle.cms_signed_data.specs.declared.content_info.ContentInfo.{ContentInfo}
-use Rattle.cms_signed_data.specs.declared.set_of_one.SetOfOne.{SetOfOne}
-use Rattle.cms_signed_data.specs.declared.signer_info.SignerInfo.{SignerInfo}
+use Rattle.cms_signed_content.specs.Signed.{Signed}
+use Rattle.cms_signed_content.specs.PartSpellings.{PartSpellings}
+use Rattle.cms_signed_content.specs.Parts.{AreCertificates, AreDigests, AreSigners, IsContentInfo, IsSignedData, IsTagged, certificate_place, certificates_are, digests_are, signed_are, signers_are, tagged_are}
+use Rattle.cms_signed_content.specs.SignedRows.{content_row, signed_row}
+use Rattle.cms_signed_content.specs.ContentInfoSpelled.TheImpl as content_info
+use Rattle.cms_signed_content.specs.ContentInfoOfForm.TheImpl as of_form
+use Rattle.cms_signed_content.specs.SignerInfoSpelled.TheImpl as signer_info
+use Rattle.cms_signed_content.specs.ContentInfo.{ContentInfo}
+use Rattle.cms_signed_content.specs.SetOfOne.{SetOfOne}
+use Rattle.cms_signed_content.specs.SignerInfo.{SignerInfo}
 use Rattle.x509_parts.specs.declared.raw_algorithm_identifier.RawAlgorithmIdentifier.{RawAlgorithmIdentifier}
 use Rattle.cms_signed_content.specs.Written.{IsUnsigned, IsWritten, info_of}
 use Rattle.pkinit_replies.specs.SignedRowLaws.{HasOneStrict, held_strict, fourth_leads, five_same, second_leads, two_same, none_before, whole_count}
@@ -112,7 +112,7 @@ one_written sign content_type content given a b w x =
     (subst (λ (info : ContentInfo). content_info.ghosts.spells info b x.count) infos x.spelled) in
     one_info (info_of content_type content w.value w.signed) given w.count w.certificate_spelled a b w.spelled moved w.certificate_at x.certificate_at
 
--- who doesn't sign writes nothing
+-- key functions that sign nothing write nothing
 pub unsigned_none : (sign : List ℕ → Option Signed) (content_type content given bytes : List ℕ)
     → IsUnsigned sign content_type content given → IsWritten sign content_type content given bytes → ⊥
 unsigned_none sign content_type content given bytes unsigned w =

@@ -7,7 +7,7 @@ ghost use Rattle.pkinit_replies.specs.Replies.{as_bytes, dh_reply_bytes, dh_repl
 
 use crate::public_key::AgreementPublicKey;
 use crate::signed::{key_info_bytes, signed_key_info};
-use key_functions::KeyFunctions;
+use cms_signed_content::KeyFunctions;
 use krb_encoding::encoding_of;
 use krb_opening::read_whole;
 use krb_types::Refusal;

@@ -4,8 +4,7 @@ ghost use Rattle.picky_asn1.specs.Bytes.{Bytes};
 ghost use Rattle.cms_signed_content.specs.Written.{IsWritten};
 ghost use Rattle.pkinit_replies.specs.Replies.{dh_key_data, key_info_bytes, key_info_of};
 
-use cms_signed_content::{SignedContent, SignedFault};
-use key_functions::KeyFunctions;
+use cms_signed_content::{KeyFunctions, SignedContent, SignedFault};
 use krb_encoding::encoding_of;
 use picky_asn1::oid::ObjectIdentifier;
 use picky_asn1::wrapper::{BitStringAsn1, IntegerAsn1};

@@ -1,4 +1,4 @@
--- Who is trusted, as the table of requests tells it.
+-- Who is trusted, as the table of requests has it.
 use Rattle.std.proofs.Common.{◌≡◌, Ok, Err, inl, inr, refl, sym, subst}
 use Rattle.key_functions.specs.KeyFunctions.{KeysRecord}
 use Rattle.cms_signed_content.specs.SignedParts.{SignedParts}

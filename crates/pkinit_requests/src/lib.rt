@@ -12,4 +12,5 @@ mod realm;
 mod signer;
 mod table;
 
+pub use pkinit_trust::Anchor;
 pub use realm::RealmPkinit;

@@ -329,7 +329,7 @@ fn change(alloc: Global, realm: &mut Realm, words: &str) -> anyhow::Result<()> {
     Ok(())
 }
 
-/// The service `h` of these words: suite, key, the key's number and the skew.
+/// The service `h` of these words: suite, key, its kvno and the skew.
 fn service_of(alloc: Global, words: &str) -> anyhow::Result<Service> {
     let words = parts_of(alloc, words, ' ')?;
     let [suite, key, number, skew] = words.as_slice() else {

@@ -1,4 +1,4 @@
-//! Replays signed data (RFC 5652) that others made, and compares what is read, written and trusted with what stands beside it:
+//! Replays signed data (RFC 5652) that others made, and compares what is read, written and trusted with the expected values:
 //! `replay_signed FILE ..`, or the recorded files where none is named. How many columns a line has says what it is of.
 #![tactic(auto)]
 

@@ -5,3 +5,4 @@ pub mod AlgorithmsMade
 pub mod DigestRows
 pub mod HashIdentifiers
 pub mod Named
+pub use Rattle.x509_parameters.specs.declared.ec_parameters.EcParameters

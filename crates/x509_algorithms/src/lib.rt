@@ -18,3 +18,5 @@ pub use algorithm_kinds::{AlgorithmIdentifierParameters, AlgorithmKinds};
 pub use digest_info::DigestInfo;
 pub use hash_identifier::HashIdentifier;
 pub use named::{PlainAlgorithm, RsaAlgorithm};
+pub use x509_parameters::EcParameters;
+pub use x509_strict::read_strict;

@@ -11,3 +11,7 @@ pub use certificate::Certificate;
 pub use certificate_extensions::CertificateExtensions;
 pub use tbs_certificate::TbsCertificate;
 pub use version_field::VersionField;
+pub use x509_extensions::Name;
+pub use x509_keys::{
+    Ahead, AlgorithmIdentifier, AlgorithmIdentifierParameters, SubjectPublicKeyInfo,
+};

@@ -11,9 +11,8 @@ use picky_asn1_der::{
 };
 use record_copies::LentFields;
 use std::alloc::{AllocError, Global};
-use x509_algorithms::AlgorithmIdentifier;
-use x509_keys::{Ahead, SubjectPublicKeyInfo};
-use x509_names::Name;
+use x509_extensions::Name;
+use x509_keys::{Ahead, AlgorithmIdentifier, SubjectPublicKeyInfo};
 use x509_parts::{Validity, Version};
 use x509_spelling::{Counted, Spelled, SpelledFields, X509Fault, read_fields};
 

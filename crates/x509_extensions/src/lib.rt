@@ -18,3 +18,4 @@ pub use extension_value::{
 };
 pub use extension_view::ExtensionView;
 pub use extensions::Extensions;
+pub use x509_names::Name;

@@ -24,3 +24,4 @@ pub use public_key::{
 pub use rsa_public_key::{EncapsulatedRsaPublicKey, RsaPublicKey};
 pub use strict::Strict;
 pub use subject_public_key_info::SubjectPublicKeyInfo;
+pub use x509_algorithms::{AlgorithmIdentifier, AlgorithmIdentifierParameters};

@@ -7,7 +7,7 @@ use Rattle.asn1_trees.specs.Length.{element}
 use Rattle.asn1_trees.specs.Firsts.{Firsts, only}
 use Rattle.asn1_trees.proofs.Elements.{element-split, element-content}
 use Rattle.asn1_trees.proofs.Spelling.{IsInjective, may_begin-only, der-wrapped, wrapped-whole, whole-wrapped}
-use Rattle.picky_asn1_der.specs.Raw.{has_low_number}
+use Rattle.x509_spelling.specs.Raw.{has_low_number}
 use Rattle.x509_spelling.specs.Spellings.{has_low_tag, Holds}
 use Rattle.x509_spelling.specs.Laws.{SpellingLaws, RowLaws}
 use Rattle.x509_kinds.specs.Kinds.{MadeOf}

@@ -1,3 +1,4 @@
 pub mod Refusals
 pub mod Rewriting
 pub mod ManyLemmas
+pub use Rattle.picky_asn1_der.proofs.Chain

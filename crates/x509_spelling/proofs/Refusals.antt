@@ -6,7 +6,7 @@ use Rattle.asn1_trees.specs.Tree.{Tree, Writes}
 use Rattle.asn1_trees.specs.Length.{element}
 use Rattle.asn1_trees.specs.Firsts.{Firsts}
 use Rattle.asn1_trees.proofs.Elements.{element-one, element-content, element-split}
-use Rattle.asn1_codec.specs.Reads.{ReadsWhole}
+use Rattle.picky_asn1_der.specs.Reads.{ReadsWhole}
 use Rattle.asn1_octets.specs.declared.error.Asn1DerError.{Asn1DerError}
 use Rattle.asn1_octets.specs.declared.error.Asn1DerError.TheVariants as der_fault
 use Rattle.picky_asn1_der.specs.Splits.{IsNoSplit}

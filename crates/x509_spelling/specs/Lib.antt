@@ -7,3 +7,6 @@ pub mod RowLaws
 pub use Rattle.asn1_trees.specs.Firsts
 pub use Rattle.asn1_trees.specs.Tagged
 pub use Rattle.asn1_trees.specs.Tree
+pub use Rattle.picky_asn1_der.specs.Optional
+pub use Rattle.picky_asn1_der.specs.Raw
+pub use Rattle.picky_asn1_der.specs.Refusals

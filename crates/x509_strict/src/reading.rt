@@ -4,9 +4,8 @@ ghost use Rattle.asn1_codec.specs.Reading.{TookValue, IsSpelling, Refused};
 ghost use Rattle.x509_strict.specs.StrictReading.{IsNoStrict, der_fault_of};
 
 use devices::Source;
-use picky_asn1_der::{Asn1DerError, Asn1RawDer, Deserialize, Deserializer};
 use std::alloc::Global;
-use x509_spelling::{Spelled, X509Fault};
+use x509_spelling::{Asn1DerError, Asn1RawDer, Deserialize, Deserializer, Spelled, X509Fault};
 
 /// Takes the value whose strict spelling is next. Where anything deviates in what is next, no value is read.
 ///

@@ -1,0 +1,110 @@
+-- Which tokens an end takes, and what it refuses the others by.
+use Rattle.std.specs.Prelude.{◌≡◌, ◌⊎◌, ℕ, ◌+◌, ◌≤◌, ◌<◌, List, [], ◌∷◌, length, take, drop, slice_index, Bool, true, false, not, ◌&&◌, nat_le, nat_lt, nat_eq, bytes_eq, Result, Ok, Err, if◌then◌else◌}
+use Rattle.std.specs.Bool.{beq}
+use Rattle.byte_layouts.specs.Numbers.{be16_at, be64, be64_at}
+use Rattle.byte_layouts.specs.Parts.{part, Stands}
+use Rattle.krb_blocks.specs.declared.error.KerberosCryptoError.{KerberosCryptoError}
+use Rattle.krb_blocks.specs.declared.error.KerberosCryptoError.TheVariants as crypto
+use Rattle.krb_crypto.specs.Sealing.{IsSealedBy}
+use Rattle.gss_contexts.specs.Contexts.{ContextRecord, peer, last_number}
+use Rattle.gss_contexts.specs.Tokens.{is_acceptor, is_set, rotated_right, seal_usage, Carries, IsMicOf, IsWrapOf}
+use Rattle.gss_contexts.specs.declared.refusal.TokenRefusal.{TokenRefusal}
+use Rattle.gss_contexts.specs.declared.refusal.TokenRefusal.TheVariants.{NoSuchToken, OwnDirection, OtherKey, OldNumber, NumbersUsedUp, WrongChecksum, OtherHeader, Memory}
+use Rattle.gss_contexts.specs.declared.sender.Sender.{Sender}
+use Rattle.gss_contexts.specs.declared.side.Protection.{Protection}
+use Rattle.gss_contexts.specs.declared.side.Protection.TheVariants.{Sealed, Checksum}
+
+-- the octets begin as a MIC token does, without the flag Sealed (RFC 4121, section 4.2.6.1)
+abbrev pub is_mic : List ℕ → Bool
+is_mic token =
+    nat_le 16 (length token) && bytes_eq (take 2 token) (4 ∷ 4 ∷ [])
+    && bytes_eq (take 5 (drop 3 token)) (255 ∷ 255 ∷ 255 ∷ 255 ∷ 255 ∷ []) && not (is_set (slice_index token 2) 2)
+
+-- the octets begin as a wrap token does (section 4.2.6.2)
+abbrev pub is_wrap : List ℕ → Bool
+is_wrap token =
+    nat_le 16 (length token) && bytes_eq (take 2 token) (5 ∷ 4 ∷ []) && nat_eq (slice_index token 3) 255
+
+-- the number of a token whose header is the peer's, or the first refusal
+unfoldable pub judged : ContextRecord → Bool → List ℕ → Result ℕ TokenRefusal
+judged c is_token token =
+    if not is_token then Err NoSuchToken
+    else if beq (is_set (slice_index token 2) 1) (is_acceptor c.side) then Err OwnDirection
+    else if not (beq (is_set (slice_index token 2) 4) c.acceptor_subkey) then Err OtherKey
+    else if nat_lt (be64_at 8 token) c.taking then Err OldNumber
+    else if nat_eq (be64_at 8 token) last_number then Err NumbersUsedUp
+    else Ok (be64_at 8 token)
+
+-- the header is the peer's, with a number that isn't old and isn't the last
+pub record IsPeersHeader (c : ContextRecord) (token : List ℕ) (number : ℕ) : Type 0 where
+  pub by_acceptor : is_set (slice_index token 2) 1 ≡ is_acceptor (peer c).side
+  pub under_subkey : is_set (slice_index token 2) 4 ≡ c.acceptor_subkey
+  pub is_new : c.taking ≤ number
+  pub followed : number < last_number
+  pub stands : Stands (part 8 (be64 number)) token
+
+-- the end takes the MIC token: it is the peer's, with a number that isn't old. The least number is now the next one
+pub record TakesMic (c new : ContextRecord) (message token : List ℕ) : Type 0 where
+  pub number : ℕ
+  pub is_new : c.taking ≤ number
+  pub followed : number < last_number
+  pub is_mic_of : IsMicOf (peer c) number message token
+  pub moved : new ≡ record c { taking = number + 1 }
+
+-- why a MIC token is refused: its header, or else its checksum
+abbrev pub IsMicRefusal : ContextRecord → List ℕ → List ℕ → TokenRefusal → Type 0
+IsMicRefusal c message token e =
+    (judged c (is_mic token) token ≡ Err e)
+    ⊎ ((number : ℕ) × (judged c (is_mic token) token ≡ Ok number)
+    × ((e ≡ Memory) ⊎ ((e ≡ WrongChecksum) × (IsMicOf (peer c) number message token → ⊥))))
+
+-- the end takes the wrap token: it is the peer's, of this message and no other, with a number that isn't old
+pub record TakesWrap (c new : ContextRecord) (token : List ℕ) (protection : Protection) (message : List ℕ) : Type 0 where
+  pub number : ℕ
+  pub is_new : c.taking ≤ number
+  pub followed : number < last_number
+  pub confounder : List ℕ
+  pub is_wrap_of : IsWrapOf (peer c) number protection confounder message token
+  pub only : (p : Protection) (n : ℕ) (d m : List ℕ) → IsWrapOf (peer c) n p d m token → m ≡ message
+  pub moved : new ≡ record c { taking = number + 1 }
+
+-- the protection of a wrap token, by its flag Sealed
+abbrev pub protection_of : Bool → Protection
+protection_of true = Sealed
+protection_of false = Checksum
+
+-- the data that follow the token's header, before they were rotated
+abbrev pub IsTextOf : List ℕ → List ℕ → Type 0
+IsTextOf token text = rotated_right (be16_at 6 token) text ≡ drop 16 token
+
+-- the data are this message's
+pub record IsCarried (sender : Sender) (protection : Protection) (confounder message token : List ℕ) : Type 0 where
+  pub text : List ℕ
+  pub is_text : IsTextOf token text
+  pub carries : Carries sender protection (be16_at 4 token) confounder message token text
+
+-- why data are no message's: nothing is sealed under the key, or the checksum differs. Or the sealed text doesn't end with
+-- the token's header
+abbrev pub IsUnread : Sender → Protection → List ℕ → List ℕ → TokenRefusal → Type 0
+IsUnread s Sealed token text WrongChecksum =
+    (d p : List ℕ) → IsSealedBy s.key.suite s.key.bytes (seal_usage s.side) d p text → ⊥
+IsUnread s Sealed token text OtherHeader =
+    ((d : List ℕ) × (p : List ℕ) × IsSealedBy s.key.suite s.key.bytes (seal_usage s.side) d p text)
+    × ((d m : List ℕ) → Carries s Sealed (be16_at 4 token) d m token text → ⊥)
+IsUnread s Checksum token text WrongChecksum = (d m : List ℕ) → Carries s Checksum (be16_at 4 token) d m token text → ⊥
+IsUnread s protection token text e = ⊥
+
+abbrev pub IsUnopened : Sender → Protection → List ℕ → TokenRefusal → Type 0
+IsUnopened s protection token e = (text : List ℕ) × IsTextOf token text × IsUnread s protection token text e
+
+-- why a wrap token is refused: its header, or else its data
+abbrev pub IsWrapRefusal : ContextRecord → List ℕ → TokenRefusal → Type 0
+IsWrapRefusal c token e =
+    (judged c (is_wrap token) token ≡ Err e)
+    ⊎ (((number : ℕ) × (judged c (is_wrap token) token ≡ Ok number))
+    × ((e ≡ Memory) ⊎ IsUnopened (peer c) (protection_of (is_set (slice_index token 2) 2)) token e))
+
+-- the refusal of a token that isn't decrypted
+abbrev pub refusal_of : KerberosCryptoError → TokenRefusal
+refusal_of crypto.Memory = Memory
+refusal_of fault = WrongChecksum

@@ -1,0 +1,203 @@
+//! One end of a context.
+ghost use Rattle.std.specs.Prelude.{◌≡◌, ◌+◌, ◌≤◌, ◌⊎◌, length, take, Err, IfOk, IfErr, IsTrue};
+ghost use Rattle.krb_crypto.specs.declared.suite.CipherSuite.TheVariants.{Des3CbcSha1Kd};
+ghost use Rattle.gss_contexts.specs.Contexts.{last_number, next_of, sender_of};
+ghost use Rattle.gss_contexts.specs.Judging.{IsMicRefusal, IsPeersHeader, IsWrapRefusal, TakesMic, TakesWrap, judged};
+ghost use Rattle.gss_contexts.specs.Tokens.{WritesMic, WritesWrap};
+ghost use Rattle.gss_contexts.specs.declared.refusal.TokenRefusal.TheVariants.{Memory, NumbersUsedUp, OldSuite};
+
+use crate::header::{ACCEPTOR_SUBKEY, SENT_BY_ACCEPTOR, is_mic, is_set, is_wrap, protection_of};
+use crate::refusal::TokenRefusal;
+use crate::sender::Sender;
+use crate::side::{Protection, Side};
+use byte_layouts::u64_be;
+use krb_crypto::{CipherSuite, Key};
+use std::alloc::Global;
+use std::marker::Model;
+
+/// The sequence numbers of one end (RFC 4121, section 4.2.1). Numbers may be left out, and a lower one is old.
+#[derive(Clone, Copy, Debug, PartialEq, Eq)]
+pub struct SequenceNumbers {
+    /// The number of the next token that is sent.
+    pub sending: u64,
+    /// The least number of a token that is taken.
+    pub taking: u64,
+}
+
+/// One end of a context: the key that protects its tokens, its side and its sequence numbers (RFC 4121, section 4.2). A
+/// contract sees these.
+#[derive(Drop)]
+pub struct Context {
+    sender: Sender,
+    numbers: SequenceNumbers,
+}
+
+impl Model for Context {
+    ghost use Rattle.std.specs.Prelude.{IsTrue};
+    ghost use Rattle.gss_contexts.specs.Contexts.{ContextRecord, is_newer};
+
+    ghost Value = { ContextRecord };
+
+    ghost view = { λ c. record {
+      key = c.sender.key;
+      side = c.sender.side;
+      acceptor_subkey = c.sender.acceptor_subkey;
+      sending = c.numbers.sending;
+      taking = c.numbers.taking;
+    } };
+
+    ghost invariant = { λ c. IsTrue (is_newer c.sender.key.suite) };
+}
+
+/// The message of a wrap token.
+#[derive(Debug, Drop)]
+pub struct Unwrapped {
+    /// The message.
+    pub message: Vec<u8>,
+    /// How the token protected it.
+    pub protection: Protection,
+}
+
+// The next number.
+fn next_number(number: u64) -> Result<u64, TokenRefusal>
+    ensures { result ≡ next_of number }
+{
+    if number == u64::MAX {
+        return Err(TokenRefusal::NumbersUsedUp);
+    }
+    Ok(number + 1)
+}
+
+impl Context {
+    /// An end of a context. `acceptor_subkey` says whether the key is the acceptor's subkey (RFC 4121, section 4.2.2).
+    ///
+    /// Triple DES is refused (`OldSuite`), since its tokens are those of RFC 1964.
+    pub fn new(
+        key: Key,
+        side: Side,
+        acceptor_subkey: bool,
+        numbers: SequenceNumbers,
+    ) -> Result<Context, TokenRefusal>
+        ensures made { IfOk result (λ c. c ≡ record { key = key; side = side; acceptor_subkey = acceptor_subkey; sending = numbers.sending; taking = numbers.taking }) }
+        ensures refused { IfErr result (λ e. (e ≡ OldSuite) × (key.suite ≡ Des3CbcSha1Kd)) }
+        ensures old_suite { key.suite ≡ Des3CbcSha1Kd → result ≡ Err OldSuite }
+    {
+        if key.suite() == CipherSuite::Des3CbcSha1Kd {
+            return Err(TokenRefusal::OldSuite);
+        }
+        let sender = Sender {
+            key,
+            side,
+            acceptor_subkey,
+        };
+        Ok(Context { sender, numbers })
+    }
+
+    // The number of a token whose header is the peer's.
+    #[tactic(auto, unfolding(crate::specs::Judging::judged))]
+    fn judge(&self, is_token: bool, token: &[u8]) -> Result<u64, TokenRefusal>
+        requires { IsTrue is_token → 16 ≤ length token.now }
+        ensures judged { result ≡ judged self.now is_token token.now }
+        ensures is_token { IfOk result (λ _. IsTrue is_token) }
+        ensures peers { IfOk result (IsPeersHeader self.now token.now) }
+    {
+        if !is_token {
+            return Err(TokenRefusal::NoSuchToken);
+        }
+        if is_set(token[2], SENT_BY_ACCEPTOR) == self.sender.side.is_acceptor() {
+            return Err(TokenRefusal::OwnDirection);
+        }
+        if is_set(token[2], ACCEPTOR_SUBKEY) != self.sender.acceptor_subkey {
+            return Err(TokenRefusal::OtherKey);
+        }
+        let number = u64_be(token, 8);
+        if number < self.numbers.taking {
+            return Err(TokenRefusal::OldNumber);
+        }
+        if number == u64::MAX {
+            return Err(TokenRefusal::NumbersUsedUp);
+        }
+        Ok(number)
+    }
+
+    /// The MIC token of a message, with the next number that is sent (RFC 4121, section 4.2.6.1).
+    ///
+    /// The last number of 64 bits is refused (`NumbersUsedUp`), since none follows. A refused call changes nothing.
+    pub fn get_mic(&mut self, alloc: Global, message: &[u8]) -> Result<Vec<u8>, TokenRefusal>
+        ensures made { IfOk result (λ token. WritesMic (sender_of self.old) self.old.sending message.now token.items) }
+        ensures moved { IfOk result (λ _. self.new ≡ record self.old { sending = self.old.sending + 1 }) }
+        ensures refused { IfErr result (λ e. (self.new ≡ self.old) × ((e ≡ Memory) ⊎ ((e ≡ NumbersUsedUp) × (self.old.sending ≡ last_number)))) }
+        ensures used_up { self.old.sending ≡ last_number → result ≡ Err NumbersUsedUp }
+    {
+        let next = next_number(self.numbers.sending)?;
+        let token = self.sender.mic_token(alloc, self.numbers.sending, message)?;
+        self.numbers.sending = next;
+        Ok(token)
+    }
+
+    /// Takes the peer's MIC token of a message (RFC 4121, section 4.2.6.1). Only higher numbers are taken after it.
+    ///
+    /// The refusals, in this order: `NoSuchToken`, `OwnDirection`, `OtherKey`, `OldNumber`, `NumbersUsedUp`, `Memory`,
+    /// `WrongChecksum`. A refused call changes nothing.
+    pub fn verify_mic(
+        &mut self,
+        alloc: Global,
+        message: &[u8],
+        token: &[u8],
+    ) -> Result<(), TokenRefusal>
+        ensures taken { IfOk result (λ _. TakesMic self.old self.new message.now token.now) }
+        ensures refused { IfErr result (λ e. (self.new ≡ self.old) × IsMicRefusal self.old message.now token.now e) }
+    {
+        let number = self.judge(is_mic(token), token)?;
+        if !self.sender.is_peers_sum(alloc, message, token)? {
+            return Err(TokenRefusal::WrongChecksum);
+        }
+        self.numbers.taking = number + 1;
+        Ok(())
+    }
+
+    /// The wrap token of a message, with the next number that is sent (RFC 4121, section 4.2.6.2). The first 16 of the random
+    /// bytes are the confounder of a sealed one.
+    ///
+    /// The last number of 64 bits is refused (`NumbersUsedUp`), since none follows. A refused call changes nothing.
+    pub fn wrap(
+        &mut self,
+        alloc: Global,
+        message: &[u8],
+        protection: Protection,
+        words: &[u8],
+    ) -> Result<Vec<u8>, TokenRefusal>
+        requires { 16 ≤ length words.now }
+        ensures made { IfOk result (λ token. WritesWrap (sender_of self.old) self.old.sending protection (take 16 words.now) message.now token.items) }
+        ensures moved { IfOk result (λ _. self.new ≡ record self.old { sending = self.old.sending + 1 }) }
+        ensures refused { IfErr result (λ e. (self.new ≡ self.old) × ((e ≡ Memory) ⊎ ((e ≡ NumbersUsedUp) × (self.old.sending ≡ last_number)))) }
+        ensures used_up { self.old.sending ≡ last_number → result ≡ Err NumbersUsedUp }
+    {
+        let next = next_number(self.numbers.sending)?;
+        let number = self.numbers.sending;
+        let token = self
+            .sender
+            .wrap_token(alloc, number, message, protection, &words[..16])?;
+        self.numbers.sending = next;
+        Ok(token)
+    }
+
+    /// Takes the message of the peer's wrap token (RFC 4121, section 4.2.6.2). Any RRC is undone. Only higher numbers are
+    /// taken after it.
+    ///
+    /// The refusals, in this order: `NoSuchToken`, `OwnDirection`, `OtherKey`, `OldNumber`, `NumbersUsedUp`, `Memory`,
+    /// `WrongChecksum`, `OtherHeader`. A refused call changes nothing.
+    pub fn unwrap(&mut self, alloc: Global, token: &[u8]) -> Result<Unwrapped, TokenRefusal>
+        ensures taken { IfOk result (λ u. TakesWrap self.old self.new token.now u.protection u.message.items) }
+        ensures refused { IfErr result (λ e. (self.new ≡ self.old) × IsWrapRefusal self.old token.now e) }
+    {
+        let number = self.judge(is_wrap(token), token)?;
+        let protection = protection_of(token[2]);
+        let message = self.sender.open(alloc, protection, token)?;
+        self.numbers.taking = number + 1;
+        Ok(Unwrapped {
+            message,
+            protection,
+        })
+    }
+}
