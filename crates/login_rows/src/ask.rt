@@ -4,25 +4,31 @@ use crate::stage::Stage;
 use crate::told::{digits_of, none, refused, suite_key_text};
 use crate::words::name_of;
 use anyhow::bail;
-use krb_realm::{ApAsked, NoKeys};
+use krb_realm::{ApAsked, KeyFunctions};
 use std::alloc::Global;
 
-pub(crate) fn as_request(
+pub(crate) fn as_request<K: KeyFunctions>(
     stage: &mut Stage,
     alloc: Global,
     words: &[&str],
+    keys: &K,
 ) -> anyhow::Result<String> {
     let [service] = words else {
         bail!("as_request SERVICE");
     };
-    ask_first(stage, alloc, &name_of(alloc, service)?)
+    ask_first(stage, alloc, &name_of(alloc, service)?, keys)
 }
 
-fn ask_first(stage: &mut Stage, alloc: Global, service: &[Vec<u8>]) -> anyhow::Result<String> {
+fn ask_first<K: KeyFunctions>(
+    stage: &mut Stage,
+    alloc: Global,
+    service: &[Vec<u8>],
+    keys: &K,
+) -> anyhow::Result<String> {
     let at = stage.conditions;
     let client = stage.client()?;
     let random = at.random.bytes();
-    match client.as_request(alloc, service, at.till, at.moment, &random, &NoKeys) {
+    match client.as_request(alloc, service, at.till, at.moment, &random, keys) {
         Ok((request, asked)) => {
             drop(stage.asked.as_asked.replace(asked));
             sent(stage, alloc, request)

@@ -1,20 +1,35 @@
-//! Whole logins by password.
+//! Whole logins.
 
+use crate::certificates::BothKeys;
 use crate::stage::Stage;
 use crate::told::{login_text, refused};
 use crate::words::name_of;
 use anyhow::{Context, bail};
-use krb_realm::{LoginInput, LoginMoments, Moment, login_by_password};
+use krb_realm::{
+    Admission, EncryptionKey, LoginInput, LoginMoments, LoginRefusal, Moment, login_by_certificate,
+    login_by_password,
+};
 use std::alloc::Global;
 
-pub(crate) fn login(stage: &mut Stage, alloc: Global, words: &[&str]) -> anyhow::Result<String> {
+/// A login by password, or by certificate with these key functions.
+pub(crate) fn login(
+    stage: &mut Stage,
+    alloc: Global,
+    words: &[&str],
+    keys: Option<&BothKeys<'_>>,
+) -> anyhow::Result<String> {
     let [service] = words else {
         bail!("login SERVICE");
     };
-    log_in(stage, alloc, &name_of(alloc, service)?)
+    log_in(stage, alloc, &name_of(alloc, service)?, keys)
 }
 
-fn log_in(stage: &mut Stage, alloc: Global, name: &[Vec<u8>]) -> anyhow::Result<String> {
+fn log_in(
+    stage: &mut Stage,
+    alloc: Global,
+    name: &[Vec<u8>],
+    keys: Option<&BothKeys<'_>>,
+) -> anyhow::Result<String> {
     let at = stage.conditions;
     let random = at.random.bytes();
     let client = stage.client.as_ref().context("no client")?;
@@ -32,7 +47,21 @@ fn log_in(stage: &mut Stage, alloc: Global, name: &[Vec<u8>]) -> anyhow::Result<
         realm_words_tgs: &random,
         service_words: &random,
     };
-    match login_by_password(alloc, client, realm, service, &input) {
+    let login = match keys {
+        None => login_by_password(alloc, client, realm, service, &input),
+        Some(keys) => {
+            let (mine, theirs) = (&keys.client, &keys.realm);
+            login_by_certificate(alloc, client, realm, service, &input, mine, theirs)
+        }
+    };
+    told(alloc, login)
+}
+
+fn told(
+    alloc: Global,
+    login: Result<(EncryptionKey, Admission), LoginRefusal>,
+) -> anyhow::Result<String> {
+    match login {
         Ok(login) => {
             let text = login_text(alloc, &login.0, &login.1);
             drop(login);

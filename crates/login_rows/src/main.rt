@@ -4,12 +4,14 @@
 
 mod ask;
 mod broken;
+mod certificates;
 mod line;
 mod login;
 mod many;
 mod parts;
 mod realms;
 mod services;
+mod short_keys;
 mod stage;
 mod take;
 mod told;

@@ -1,5 +1,6 @@
 //! A realm: its settings, its commands, and what it answers.
 
+use crate::certificates;
 use crate::stage::Stage;
 use crate::told::{digits_of, done, ok, refused};
 use crate::words::{bytes_of, name_of, suite_of};
@@ -7,8 +8,8 @@ use anyhow::bail;
 use krb_accounts::{Account, Accounts, components_of};
 use krb_crypto::Key;
 use krb_realm::{
-    Anchor, CipherSuite, NoKeys, Realm, RealmRefusal, ServeFault, Settings, serve_bytes,
-    words_needed,
+    Anchor, CipherSuite, KeyFunctions, NoKeys, Realm, RealmRefusal, ServeFault, Settings,
+    serve_bytes, words_needed,
 };
 use std::alloc::Global;
 
@@ -27,13 +28,13 @@ pub(crate) fn told_by_words(
         "add_by_password" => add_by_password(stage, alloc, words),
         "remove" => remove(stage, alloc, words),
         "change_key" => change_key(stage, alloc, words),
-        "answer" => answer(stage, alloc),
+        "answer" => answer(stage, alloc, &NoKeys),
         "reply" => digits_of(alloc, &stage.reply),
         "serve" => serve(stage, alloc),
         "cut_reply" => cut_reply(stage, alloc),
         "spend_number" => spend_number(alloc, words),
         "words_needed" => Ok(format!(in alloc; "{}", words_needed())?),
-        _ => bail!("no such step"),
+        _ => certificates::told_by_words(stage, alloc, step, words),
     }
 }
 
@@ -55,18 +56,30 @@ fn given(bytes: &[u8]) -> Option<&[u8]> {
 }
 
 /// Makes a realm without accounts beside its own, with 300 seconds of skew and 36,000 of lifetime. Its name is given in
-/// hexadecimal, and so is a certificate, which makes an anchor.
+/// hexadecimal, and so are the certificates of its anchor and its own.
 fn realm(stage: &mut Stage, alloc: Global, words: &[&str]) -> anyhow::Result<String> {
     let made = match words {
-        [name, key] => make_realm(alloc, name, key, None)?,
-        [name, key, certificate] => {
-            let certificate = bytes_of(alloc, certificate)?;
-            let anchor = Anchor::from_certificate(alloc, &certificate)?;
-            make_realm(alloc, name, key, Some(anchor))?
+        [name, key] => make_realm(alloc, name, key, None, None)?,
+        [name, key, anchor] => certified_realm(alloc, name, key, anchor, None)?,
+        [name, key, anchor, own] => {
+            let own = bytes_of(alloc, own)?;
+            certified_realm(alloc, name, key, anchor, Some(&own))?
         }
-        _ => bail!("realm NAME KEY CERTIFICATE"),
+        _ => bail!("realm NAME KEY ANCHOR OWN"),
     };
     keep_realm(stage, alloc, made)
+}
+
+fn certified_realm(
+    alloc: Global,
+    name: &str,
+    key: &str,
+    anchor: &str,
+    own: Option<&[u8]>,
+) -> anyhow::Result<Result<Realm, RealmRefusal>> {
+    let certificate = bytes_of(alloc, anchor)?;
+    let anchor = Anchor::from_certificate(alloc, &certificate)?;
+    make_realm(alloc, name, key, Some(anchor), own)
 }
 
 fn make_realm(
@@ -74,8 +87,20 @@ fn make_realm(
     name: &str,
     key: &str,
     anchor: Option<Anchor>,
+    own: Option<&[u8]>,
 ) -> anyhow::Result<Result<Realm, RealmRefusal>> {
-    let settings = Settings::new(alloc, 300, 36_000, anchor, None)?;
+    match Settings::new(alloc, 300, 36_000, anchor, own) {
+        Ok(settings) => with_settings(alloc, name, key, settings),
+        Err(refusal) => Ok(Err(refusal)),
+    }
+}
+
+fn with_settings(
+    alloc: Global,
+    name: &str,
+    key: &str,
+    settings: Settings,
+) -> anyhow::Result<Result<Realm, RealmRefusal>> {
     let name = bytes_of(alloc, name)?;
     let key = bytes_of(alloc, key)?;
     Ok(Realm::new(alloc, &name, AES256, &key, settings))
@@ -168,15 +193,16 @@ fn add_of_number(
 }
 
 /// Answers the last request, and keeps the reply.
-fn answer(stage: &mut Stage, alloc: Global) -> anyhow::Result<String> {
+pub(crate) fn answer<K: KeyFunctions>(
+    stage: &mut Stage,
+    alloc: Global,
+    keys: &K,
+) -> anyhow::Result<String> {
     let at = stage.conditions;
-    match stage.realm()?.answer(
-        alloc,
-        &stage.request,
-        at.moment,
-        &at.random.bytes(),
-        &NoKeys,
-    ) {
+    match stage
+        .realm()?
+        .answer(alloc, &stage.request, at.moment, &at.random.bytes(), keys)
+    {
         Ok(reply) => {
             stage.reply = reply;
             digits_of(alloc, &stage.reply)

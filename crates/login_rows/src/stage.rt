@@ -1,11 +1,12 @@
 //! Who takes part in a script, what was sent and taken last, and which step a line asks for.
 
+use crate::certificates::Certified;
 use crate::line::Line;
 use crate::words::bytes_of;
 use crate::{ask, broken, login, many, parts, realms, services, take};
 use anyhow::{Context, bail};
 use krb_realm::{
-    ApAsked, AsAsked, Client, Credential, GeneralizedTime, Moment, Realm, Service, TgsAsked,
+    ApAsked, AsAsked, Client, Credential, GeneralizedTime, Moment, NoKeys, Realm, Service, TgsAsked,
 };
 use std::alloc::Global;
 
@@ -50,6 +51,8 @@ pub(crate) struct Stage {
     pub(crate) realm: Option<Realm>,
     pub(crate) client: Option<Client>,
     pub(crate) service: Option<Service>,
+    /// What steps by certificate go by.
+    pub(crate) certified: Option<Certified>,
     pub(crate) asked: Asked,
     pub(crate) credential: Option<Credential>,
     pub(crate) request: Vec<u8>,
@@ -94,6 +97,7 @@ fn empty_stage(alloc: Global, conditions: Conditions) -> Stage {
         realm: None,
         client: None,
         service: None,
+        certified: None,
         asked: Asked {
             as_asked: None,
             tgs_asked: None,
@@ -128,12 +132,12 @@ fn told_by_words(
         "moment" => set_moment(stage, alloc, words),
         "till" => set_till(stage, alloc, words),
         "random" => set_random(stage, alloc, words),
-        "as_request" => ask::as_request(stage, alloc, words),
+        "as_request" => ask::as_request(stage, alloc, words, &NoKeys),
         "tgs_request" => ask::tgs_request(stage, alloc, words),
         "ap_request" => ask::ap_request(stage, alloc, words),
         "asked" => ask::asked(stage, alloc),
         "client" => take::client(stage, alloc, words),
-        "take_as_reply" => take::as_reply(stage, alloc),
+        "take_as_reply" => take::as_reply(stage, alloc, &NoKeys),
         "take_tgs_reply" => take::tgs_reply(stage, alloc),
         "take_ap_reply" => take::ap_reply(stage, alloc),
         "credential" => take::credential(stage, alloc),
@@ -141,7 +145,7 @@ fn told_by_words(
         "admit" => services::admit(stage, alloc),
         "admit_nothing" => services::admit_nothing(stage, alloc),
         "admit_twice" => services::admit_twice(stage, alloc),
-        "login" => login::login(stage, alloc, words),
+        "login" => login::login(stage, alloc, words, None),
         "exchange_tag" => parts::exchange_tag(stage, alloc, words),
         "print_error" => parts::print_error(stage, alloc),
         "write_error" => parts::write_error(stage, alloc),

@@ -4,7 +4,7 @@ use crate::stage::Stage;
 use crate::told::{digits_of, done, ok, refused, sole_component, suite_key_text};
 use crate::words::{name_of, suite_of, text_of};
 use anyhow::{Context, bail};
-use krb_realm::{CipherSuite, Client, Credential, NoKeys, TakeRefusal};
+use krb_realm::{AskRefusal, CipherSuite, Client, Credential, KeyFunctions, TakeRefusal};
 use std::alloc::Global;
 
 pub(crate) fn client(stage: &mut Stage, alloc: Global, words: &[&str]) -> anyhow::Result<String> {
@@ -24,7 +24,16 @@ fn make_client(
     suite: CipherSuite,
     password: &str,
 ) -> anyhow::Result<String> {
-    match Client::by_password(alloc, realm.as_bytes(), name, suite, password.as_bytes()) {
+    let made = Client::by_password(alloc, realm.as_bytes(), name, suite, password.as_bytes());
+    keep_client(stage, alloc, made)
+}
+
+pub(crate) fn keep_client(
+    stage: &mut Stage,
+    alloc: Global,
+    made: Result<Client, AskRefusal>,
+) -> anyhow::Result<String> {
+    match made {
         Ok(client) => {
             drop(stage.client.replace(client));
             ok(alloc)
@@ -33,11 +42,15 @@ fn make_client(
     }
 }
 
-pub(crate) fn as_reply(stage: &mut Stage, alloc: Global) -> anyhow::Result<String> {
+pub(crate) fn as_reply<K: KeyFunctions>(
+    stage: &mut Stage,
+    alloc: Global,
+    keys: &K,
+) -> anyhow::Result<String> {
     let asked = stage.asked.as_asked.as_ref().context("no AS request")?;
     let taken = stage
         .client()?
-        .take_as_reply(alloc, asked, &stage.reply, &NoKeys);
+        .take_as_reply(alloc, asked, &stage.reply, keys);
     keep(stage, alloc, taken)
 }
 

@@ -1,0 +1,186 @@
+//! Steps of a client and a realm that have certificates under one anchor. Signatures are digests, and each agreement has the
+//! same secret.
+
+use crate::login::login;
+use crate::short_keys::{ShortKeys, Taker, taker_of};
+use crate::stage::Stage;
+use crate::take::keep_client;
+use crate::words::{bytes_of, name_of, suite_of, text_of};
+use crate::{ask, realms, take};
+use anyhow::{Context, bail};
+use krb_realm::{Anchor, Client};
+use picky_asn1_der::Asn1RawDer;
+use std::alloc::Global;
+use test_keys::{DigestKeys, KnownKey};
+use x509_algorithms::AlgorithmIdentifier;
+use x509_spelling::to_vec;
+
+/// A SubjectPublicKeyInfo of RSA.
+const PUBLIC_VALUE: &str = "301a300d06092a864886f70d01010105000309003006020105020103";
+
+/// The secret of each agreement.
+const SECRET: [u8; 32] = [0x5A; 32];
+
+/// What the key functions of client and realm go by.
+#[derive(Drop)]
+pub(crate) struct Certified {
+    /// The holders of the certificates of the anchor, the client and the realm.
+    holders: Vec<Anchor>,
+    /// The algorithm that signatures name.
+    algorithm: AlgorithmIdentifier,
+    public_value: Asn1RawDer,
+    /// The client's function that reports want of memory, and the realm's.
+    client_short: Option<Taker>,
+    realm_short: Option<Taker>,
+}
+
+/// The key functions of both.
+#[derive(Clone, Copy)]
+pub(crate) struct BothKeys<'a> {
+    pub(crate) client: ShortKeys<'a>,
+    pub(crate) realm: ShortKeys<'a>,
+}
+
+pub(crate) fn told_by_words(
+    stage: &mut Stage,
+    alloc: Global,
+    step: &str,
+    words: &[&str],
+) -> anyhow::Result<String> {
+    match step {
+        "certificates" => certificates(stage, alloc, words),
+        "short_of_memory" => short_of_memory(stage, alloc, words),
+        "client_by_certificate" => client(stage, alloc, words),
+        _ => told_by_certified(stage, alloc, step, words),
+    }
+}
+
+/// A step by the key functions.
+fn told_by_certified(
+    stage: &mut Stage,
+    alloc: Global,
+    step: &str,
+    words: &[&str],
+) -> anyhow::Result<String> {
+    let Some(certified) = stage.certified.take() else {
+        bail!("no such step, or no certificates");
+    };
+    let told = told_by_holders(stage, alloc, &certified, step, words);
+    drop(stage.certified.replace(certified));
+    told
+}
+
+fn told_by_holders(
+    stage: &mut Stage,
+    alloc: Global,
+    certified: &Certified,
+    step: &str,
+    words: &[&str],
+) -> anyhow::Result<String> {
+    let known = known_of(alloc, &certified.holders)?;
+    let keys = keys_of(certified, &known)?;
+    match step {
+        "ask_by_certificate" => ask::as_request(stage, alloc, words, &keys.client),
+        "answer_by_certificate" => realms::answer(stage, alloc, &keys.realm),
+        "take_by_certificate" => take::as_reply(stage, alloc, &keys.client),
+        "login_by_certificate" => login(stage, alloc, words, Some(&keys)),
+        _ => bail!("no such step"),
+    }
+}
+
+/// The holders' keys, with their encodings.
+fn known_of(alloc: Global, holders: &[Anchor]) -> anyhow::Result<Vec<KnownKey<'_>>> {
+    let mut known = Vec::new(alloc);
+    for holder in holders {
+        let key = holder.key();
+        let der = to_vec(alloc, key)?;
+        known.push(KnownKey { key, der })?;
+    }
+    Ok(known)
+}
+
+/// Both know all three keys.
+fn keys_of<'a>(
+    certified: &'a Certified,
+    known: &'a [KnownKey<'a>],
+) -> anyhow::Result<BothKeys<'a>> {
+    let [_, client, realm] = known else {
+        bail!("other than three certificates");
+    };
+    let client = party_keys(certified, known, &client.der);
+    let realm = party_keys(certified, known, &realm.der);
+    Ok(BothKeys {
+        client: ShortKeys {
+            keys: client,
+            short: certified.client_short,
+        },
+        realm: ShortKeys {
+            keys: realm,
+            short: certified.realm_short,
+        },
+    })
+}
+
+fn party_keys<'a>(
+    certified: &'a Certified,
+    known: &'a [KnownKey<'a>],
+    own: &'a [u8],
+) -> DigestKeys<'a> {
+    DigestKeys {
+        own,
+        algorithm: Some(&certified.algorithm),
+        known,
+        public_value: Some(&certified.public_value),
+        secret: Some(&SECRET),
+    }
+}
+
+/// Takes the certificates of the anchor, the client and the realm.
+fn certificates(stage: &mut Stage, alloc: Global, words: &[&str]) -> anyhow::Result<String> {
+    let public_value = Asn1RawDer::new(hex::decode(alloc, PUBLIC_VALUE)?)?;
+    let algorithm = AlgorithmIdentifier::new_sha256_with_rsa_encryption(alloc)?;
+    let holders = holders_of(alloc, words)?;
+    drop(
+        stage.certified.replace(Certified {
+            holders,
+            algorithm,
+            public_value,
+            client_short: None,
+            realm_short: None,
+        }),
+    );
+    Ok(String::new(alloc))
+}
+
+fn holders_of(alloc: Global, words: &[&str]) -> anyhow::Result<Vec<Anchor>> {
+    let mut holders = Vec::new(alloc);
+    for word in words {
+        let certificate = bytes_of(alloc, word)?;
+        holders.push(Anchor::from_certificate(alloc, &certificate)?)?;
+    }
+    Ok(holders)
+}
+
+/// Has a key function of the client and one of the realm report want of memory.
+fn short_of_memory(stage: &mut Stage, alloc: Global, words: &[&str]) -> anyhow::Result<String> {
+    let [client, realm] = words else {
+        bail!("short_of_memory CLIENT REALM");
+    };
+    let certified = stage.certified.as_mut().context("no certificates")?;
+    certified.client_short = taker_of(client)?;
+    certified.realm_short = taker_of(realm)?;
+    Ok(String::new(alloc))
+}
+
+fn client(stage: &mut Stage, alloc: Global, words: &[&str]) -> anyhow::Result<String> {
+    let [realm, name, suite, anchor, own] = words else {
+        bail!("client_by_certificate REALM NAME SUITE ANCHOR OWN");
+    };
+    let suite = suite_of(suite)?;
+    let name = name_of(alloc, name)?;
+    let own = bytes_of(alloc, own)?;
+    let anchor = Anchor::from_certificate(alloc, &bytes_of(alloc, anchor)?)?;
+    let realm = text_of(realm).as_bytes();
+    let made = Client::by_certificate(alloc, realm, &name, suite, &own, anchor);
+    keep_client(stage, alloc, made)
+}

@@ -1,0 +1,78 @@
+//! Key functions that report want of memory.
+
+use anyhow::bail;
+use krb_realm::{KeyFunctions, Signed, Theirs};
+use picky_asn1_der::Asn1RawDer;
+use std::alloc::{AllocError, Global};
+use test_keys::DigestKeys;
+use x509_algorithms::AlgorithmIdentifier;
+use x509_keys::SubjectPublicKeyInfo;
+
+/// A key function that takes memory.
+#[derive(Clone, Copy)]
+pub(crate) enum Taker {
+    Sign,
+    PublicValue,
+    Agree,
+}
+
+/// The key function of this name, `-` for none.
+pub(crate) fn taker_of(word: &str) -> anyhow::Result<Option<Taker>> {
+    match word {
+        "sign" => Ok(Some(Taker::Sign)),
+        "public_value" => Ok(Some(Taker::PublicValue)),
+        "agree" => Ok(Some(Taker::Agree)),
+        "-" => Ok(None),
+        _ => bail!("no key function {word} takes memory"),
+    }
+}
+
+/// Key functions by digests, of which one may report want of memory.
+#[derive(Clone, Copy)]
+pub(crate) struct ShortKeys<'a> {
+    pub(crate) keys: DigestKeys<'a>,
+    /// The function that reports want of memory.
+    pub(crate) short: Option<Taker>,
+}
+
+impl<'a> KeyFunctions for ShortKeys<'a> {
+    ghost use Rattle.test_keys.specs.DigestKeys.{functions_of};
+
+    ghost functions = { λ short. functions_of short.keys };
+
+    fn verifies(
+        &self,
+        key: &SubjectPublicKeyInfo,
+        algorithm: &AlgorithmIdentifier,
+        signed: &[u8],
+        signature: &[u8],
+    ) -> bool {
+        self.keys.verifies(key, algorithm, signed, signature)
+    }
+
+    fn sign(&self, alloc: Global, signed: &[u8]) -> Result<Option<Signed>, AllocError> {
+        match self.short {
+            Some(Taker::Sign) => Err(AllocError),
+            _ => self.keys.sign(alloc, signed),
+        }
+    }
+
+    fn public_value(&self, alloc: Global, words: &[u8]) -> Result<Option<Asn1RawDer>, AllocError> {
+        match self.short {
+            Some(Taker::PublicValue) => Err(AllocError),
+            _ => self.keys.public_value(alloc, words),
+        }
+    }
+
+    fn agree(
+        &self,
+        alloc: Global,
+        theirs: Theirs<'_>,
+        words: &[u8],
+    ) -> Result<Option<Vec<u8>>, AllocError> {
+        match self.short {
+            Some(Taker::Agree) => Err(AllocError),
+            _ => self.keys.agree(alloc, theirs, words),
+        }
+    }
+}
