@@ -1,4 +1,4 @@
-//! Replays calls of contexts, and compares each token, message and refusal with that of an independent writer.
+//! Replays calls of contexts, and compares each token, message and refusal with that of an independent writer or of MIT's library.
 #![tactic(auto)]
 
 mod begin;
@@ -11,17 +11,25 @@ use std::alloc::Global;
 use std::fmt::Debug;
 use std::fs;
 
-/// What tokens.py writes.
-const FILE: &str = "tokens.txt";
+/// What tokens.py writes, and what MIT's library wraps and signs.
+const FILES: [&str; 2] = ["tokens.txt", "stock.txt"];
 
 fn main(rt: HostRuntime) -> anyhow::Result<()> {
-    let text = fs::read_to_string(&rt, FILE)?;
-    let mut context = None;
-    replay(&rt, &text, &mut context)
+    for file in FILES {
+        let text = fs::read_to_string(&rt, file)?;
+        let mut context = None;
+        replay(&rt, file, &text, &mut context)?;
+    }
+    Ok(())
 }
 
 /// Replays the lines in turn, and prints how many differ from what is expected. A line `new` begins another context.
-fn replay(rt: &HostRuntime, text: &str, context: &mut Option<Context>) -> anyhow::Result<()> {
+fn replay(
+    rt: &HostRuntime,
+    file: &str,
+    text: &str,
+    context: &mut Option<Context>,
+) -> anyhow::Result<()> {
     let mut replayed = 0u64;
     let mut differing = 0u64;
     for line in text.lines() {
@@ -31,10 +39,10 @@ fn replay(rt: &HostRuntime, text: &str, context: &mut Option<Context>) -> anyhow
         replayed = replayed.saturating_add(1);
         if !agrees(rt.alloc(), context, line)? {
             differing = differing.saturating_add(1);
-            println!(rt; "{FILE} differs: {line}")?;
+            println!(rt; "{file} differs: {line}")?;
         }
     }
-    println!(rt; "{FILE}: {replayed} lines, {differing} differ")?;
+    println!(rt; "{file}: {replayed} lines, {differing} differ")?;
     Ok(())
 }
 
