@@ -29,7 +29,7 @@ pub(crate) struct Certified {
     /// The algorithm that signatures name.
     algorithm: AlgorithmIdentifier,
     public_value: Asn1RawDer,
-    /// The client's function that reports want of memory, and the realm's.
+    /// The client's function that runs out of memory, and the realm's.
     client_short: Option<Taker>,
     realm_short: Option<Taker>,
 }
@@ -161,7 +161,7 @@ fn holders_of(alloc: Global, words: &[&str]) -> anyhow::Result<Vec<Anchor>> {
     Ok(holders)
 }
 
-/// Has a key function of the client and one of the realm report want of memory.
+/// Has a key function of the client and one of the realm run out of memory.
 fn short_of_memory(stage: &mut Stage, alloc: Global, words: &[&str]) -> anyhow::Result<String> {
     let [client, realm] = words else {
         bail!("short_of_memory CLIENT REALM");

@@ -1,4 +1,4 @@
-//! Key functions that report want of memory.
+//! Key functions that run out of memory.
 
 use anyhow::bail;
 use krb_realm::{KeyFunctions, Signed, Theirs};
@@ -27,11 +27,11 @@ pub(crate) fn taker_of(word: &str) -> anyhow::Result<Option<Taker>> {
     }
 }
 
-/// Key functions by digests, of which one may report want of memory.
+/// Key functions by digests, of which one may run out of memory.
 #[derive(Clone, Copy)]
 pub(crate) struct ShortKeys<'a> {
     pub(crate) keys: DigestKeys<'a>,
-    /// The function that reports want of memory.
+    /// The function that runs out of memory.
     pub(crate) short: Option<Taker>,
 }
 
