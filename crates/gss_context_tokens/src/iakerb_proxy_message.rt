@@ -53,7 +53,8 @@ impl<T: FromDer> IAKerbProxyMessage<T> {
         let message = proxied(alloc, bytes)?;
         let (header, body) = front_value(alloc, message)?;
         let krb_msg = whole_value(alloc, body)?;
-        Ok(ApplicationTag0(IAKerbProxyMessage { header, krb_msg }))
+        let token = IAKerbProxyMessage { header, krb_msg };
+        Ok(ApplicationTag0(token))
     }
 }
 

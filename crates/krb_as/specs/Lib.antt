@@ -1,10 +1,10 @@
 pub mod Call
-pub mod TicketGranting
 pub mod Authenticated
 pub mod Requests
 pub mod Grants
 pub mod AsTable
 pub mod Judged
 pub mod Calls
+pub use Rattle.krb_preauth.specs.TicketGranting
 pub use Rattle.krb_grants.specs.Granted
 pub use Rattle.krb_tickets.specs.MethodData

@@ -6,7 +6,6 @@ mod call;
 mod grant;
 mod judge;
 pub mod laws;
-mod names;
 mod read;
 mod requests;
 mod span;
@@ -14,8 +13,8 @@ mod whole;
 
 pub use call::Call;
 pub use krb_grants::ticket_reply;
+pub use krb_preauth::krbtgt_of;
 pub use krb_tickets::method_data;
-pub use names::krbtgt_of;
 pub use read::{read_as_req, read_tgs_req};
 pub use requests::{
     account_of, check_address, client_of, entries_of, lasting, service_of, session_key,

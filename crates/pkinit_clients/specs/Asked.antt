@@ -1,7 +1,8 @@
 -- What a client remembers of a request by certificate (RFC 4556, section 3.2.4).
-use Rattle.std.specs.Prelude.{ℕ, List, [], ◌∷◌, codes}
+use Rattle.std.specs.Prelude.{ℕ}
 use Rattle.picky_asn1.specs.Bytes.{Bytes}
 use Rattle.krb_moments.specs.Units.{Micros}
+use Rattle.krb_preauth.specs.TicketGranting.{krbtgt_of}
 use Rattle.krb_types.specs.RandomBytes.{Random, random_part}
 use Rattle.pkinit_trust.specs.Anchors.{AnchorRecord}
 use Rattle.pkinit_trust.specs.Expected.{ExpectedRecord}
@@ -27,10 +28,6 @@ asked_of asked = record {
   nonce = asked.nonce;
   words = asked.words.now;
 }
-
--- the components of a realm's ticket-granting service (RFC 4120, section 7.3)
-abbrev pub krbtgt_of : Bytes → List Bytes
-krbtgt_of realm = codes "krbtgt" ∷ realm ∷ []
 
 -- whom the reply is to be signed by: the realm's ticket-granting service, as the anchor has it at the request's moment (RFC 4556,
 -- section 3.2.4)

@@ -7,7 +7,6 @@ mod auth_pack;
 mod encoding;
 mod fault;
 mod means;
-mod names;
 mod reading;
 mod reply;
 mod request;

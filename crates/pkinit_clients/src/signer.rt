@@ -6,9 +6,9 @@ ghost use Rattle.pkinit_trust.specs.Expected.{expected_of};
 
 use crate::asked::PkinitAsked;
 use crate::fault::ReplyFault;
-use crate::names::krbtgt_of;
 use cms_signed_content::SignedContent;
 use key_functions::KeyFunctions;
+use krb_preauth::krbtgt_of;
 use pkinit_trust::{ExpectedSigner, JudgedContent, check_trusted};
 use std::alloc::Global;
 

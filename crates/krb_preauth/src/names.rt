@@ -1,13 +1,13 @@
 //! The name of a realm's ticket-granting service.
 ghost use Rattle.std.specs.Prelude.{◌≡◌, IfOk, codes};
-ghost use Rattle.pkinit_clients.specs.Asked.{krbtgt_of};
+ghost use Rattle.krb_preauth.specs.TicketGranting.{krbtgt_of};
 
 use picky_asn1::wrapper::GeneralStringAsn1;
 use results::both;
 use std::alloc::{AllocError, Global};
 
 /// The components of the ticket-granting service of a realm (RFC 4120, section 7.3).
-pub(crate) fn krbtgt_of(
+pub fn krbtgt_of(
     alloc: Global,
     realm: &GeneralStringAsn1,
 ) -> Result<Vec<GeneralStringAsn1>, AllocError>
