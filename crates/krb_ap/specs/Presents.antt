@@ -13,7 +13,7 @@ use Rattle.krb_types.specs.declared.data_types.encrypted_data.EncryptedData.{Enc
 use Rattle.krb_types.specs.declared.data_types.enc_ticket_part.EncTicketPartInner.{EncTicketPartInner}
 use Rattle.krb_types.specs.declared.data_types.principal_name.PrincipalName.{PrincipalName}
 use Rattle.krb_messages.specs.declared.messages.ap_req.ApReqInner.{ApReqInner}
-use Rattle.krb_ap.specs.Admission.{AdmissionRecord, subkey_of}
+use Rattle.krb_ap.specs.Admission.{AdmissionRecord, checksum_of, seq_number_of, subkey_of}
 use Rattle.krb_messages.specs.Messages.{IsApReq, authenticator_tree, enc_ticket_part_tree}
 
 -- what a request shows to all: its fields and its ticket's, but for the two ciphertexts
@@ -80,9 +80,11 @@ pub record Presents (key : Bytes) (choice : Choice) (bytes : Bytes) : Type 0 whe
   pub part : SealsTo {T = EncTicketPartInner} enc_ticket_part_tree choice.outer.part_etype key 2 choice.part_confounder choice.part part_cipher
   pub authenticator : SealsTo {T = AuthenticatorInner} authenticator_tree choice.outer.etype choice.part.key.0.key_value.0 11 choice.confounder choice.authenticator cipher
 
--- the admission tells client and keys as they were chosen
+-- the admission has the client, the keys, the checksum and the sequence number as they were chosen
 pub record TellsOf (choice : Choice) (admission : AdmissionRecord) : Type 0 where
   pub realm : admission.realm ≡ choice.part.crealm.0
   pub client : admission.client ≡ choice.part.cname.0
   pub session : admission.session ≡ choice.part.key.0
   pub subkey : admission.subkey ≡ subkey_of choice.authenticator
+  pub checksum : admission.checksum ≡ checksum_of choice.authenticator
+  pub seq_number : admission.seq_number ≡ seq_number_of choice.authenticator

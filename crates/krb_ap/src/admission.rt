@@ -1,7 +1,7 @@
 //! Admissions.
 ghost use Rattle.std.specs.Prelude.{◌≡◌, ◌≤◌, false, length, IfOk};
 ghost use Rattle.std.specs.Option.{option_map};
-ghost use Rattle.krb_ap.specs.Admission.{admission_of, subkey_of};
+ghost use Rattle.krb_ap.specs.Admission.{admission_of, checksum_of, seq_number_of, subkey_of};
 ghost use Rattle.krb_ap.specs.ApReply.{HasSessionKey, IsReplyTo};
 
 use crate::presented::Presented;
@@ -9,9 +9,10 @@ use crate::reply::ap_reply;
 use krb_crypto::Key;
 use krb_opening::key_of;
 use krb_types::data_types::{
-    AuthenticatorInner, EncTicketPartInner, EncryptionKey, PrincipalName, Realm,
+    AuthenticatorInner, Checksum, EncTicketPartInner, EncryptionKey, PrincipalName, Realm,
 };
-use picky_asn1_der::{ExplicitContextTag, ExplicitContextTag6};
+use picky_asn1::wrapper::IntegerAsn1;
+use picky_asn1_der::ExplicitContextTag;
 use std::alloc::{AllocError, Global};
 use std::marker::Model;
 
@@ -26,6 +27,10 @@ pub struct Admission {
     pub session: EncryptionKey,
     /// The key that the client chose for what follows, if it chose one.
     pub subkey: Option<EncryptionKey>,
+    /// The authenticator's checksum (RFC 4120, section 5.5.1). The service doesn't judge it.
+    pub checksum: Option<Checksum>,
+    /// The first sequence number of the client's messages, as the authenticator has it (RFC 4120, section 5.5.1).
+    pub seq_number: Option<IntegerAsn1>,
     /// The AP reply, where the client asked for one.
     pub reply: Option<Vec<u8>>,
 }
@@ -41,6 +46,8 @@ impl Model for Admission {
       client = a.client;
       session = a.session;
       subkey = a.subkey;
+      checksum = a.checksum;
+      seq_number = a.seq_number;
       reply = option_map (λ v. v.items) a.reply;
     } };
 }
@@ -54,16 +61,20 @@ pub fn admission_of(presented: Presented, reply: Option<Vec<u8>>) -> Admission
         authenticator,
         ..
     } = presented;
-    admission_with(part, subkey_of(authenticator), reply)
+    admission_with(part, taken_from(authenticator), reply)
 }
 
-// The admission of the ticket's client, with this key and this reply.
-fn admission_with(
-    part: EncTicketPartInner,
+// What an admission takes from an authenticator.
+#[derive(Drop)]
+struct Taken {
     subkey: Option<EncryptionKey>,
-    reply: Option<Vec<u8>>,
-) -> Admission
-    ensures { result ≡ record { realm = part.crealm.0; client = part.cname.0; session = part.key.0; subkey = subkey; reply = option_map (λ v. v.items) reply } }
+    checksum: Option<Checksum>,
+    seq_number: Option<IntegerAsn1>,
+}
+
+// The admission of the ticket's client, with what was taken from the authenticator and this reply.
+fn admission_with(part: EncTicketPartInner, taken: Taken, reply: Option<Vec<u8>>) -> Admission
+    ensures { result ≡ record { realm = part.crealm.0; client = part.cname.0; session = part.key.0; subkey = taken.subkey; checksum = taken.checksum; seq_number = taken.seq_number; reply = option_map (λ v. v.items) reply } }
 {
     let EncTicketPartInner {
         key: ExplicitContextTag(session),
@@ -71,30 +82,43 @@ fn admission_with(
         cname: ExplicitContextTag(client),
         ..
     } = part;
+    let Taken {
+        subkey,
+        checksum,
+        seq_number,
+    } = taken;
     Admission {
         realm,
         client,
         session,
         subkey,
+        checksum,
+        seq_number,
         reply,
     }
 }
 
-// The key that the client chose.
-fn subkey_of(mut authenticator: AuthenticatorInner) -> Option<EncryptionKey>
-    ensures { result ≡ subkey_of authenticator }
+// The key that the client chose, its checksum and its sequence number.
+fn taken_from(mut authenticator: AuthenticatorInner) -> Taken
+    ensures { result ≡ record { subkey = subkey_of authenticator; checksum = checksum_of authenticator; seq_number = seq_number_of authenticator } }
 {
-    let told = authenticator.subkey.0.take();
+    let subkey = authenticator.subkey.0.take();
+    let checksum = authenticator.cksum.0.take();
+    let number = authenticator.seq_number.0.take();
     drop(authenticator);
-    untagged(told)
+    Taken {
+        subkey: untagged(subkey),
+        checksum: untagged(checksum),
+        seq_number: untagged(number),
+    }
 }
 
-// The key that is told.
-fn untagged(told: Option<ExplicitContextTag6<EncryptionKey>>) -> Option<EncryptionKey>
-    ensures { result ≡ option_map (λ tagged. tagged.0) told }
+// The value under a tag, if there is one.
+fn untagged<const N: u8, T: Drop>(tagged: Option<ExplicitContextTag<N, T>>) -> Option<T>
+    ensures { result ≡ option_map (λ value. value.0) tagged }
 {
-    if let Some(tagged) = told {
-        return Some(tagged.0);
+    if let Some(value) = tagged {
+        return Some(value.0);
     }
     None
 }
