@@ -1,6 +1,7 @@
 pub mod Blocks
 pub mod Copies
 pub mod CopiedBits
+pub mod CopyLemmas
 pub mod FoldLemmas
 pub mod HmacLemmas
 pub mod Modular

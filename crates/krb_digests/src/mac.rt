@@ -49,6 +49,14 @@ pub fn hmac_sha1(
     Ok(mac)
 }
 
+/// HMAC-SHA1 of a message in two parts, which takes no memory.
+pub fn hmac_sha1_code(key: &[u8], front: &[u8], back: &[u8]) -> [u8; 20]
+    ensures code { result ≡ hmac_sha1_of key.now (front.now ++ back.now) }
+    ensures sized { length result ≡ 20 }
+{
+    hmac::<Sha1, 20, 64>(key, front, back)
+}
+
 /// A hasher that has hashed the key's block under a pad.
 pub(crate) fn keyed<H: BlockHash<N, B>, const N: usize, const B: usize>(key: &[u8], pad: u8) -> H
     ensures { H.holds result (xored_with pad (key_block H.digest_of B key.now)) }
