@@ -1,10 +1,12 @@
-"""Measures AS exchanges of the program that is given, behind a bridge and in one pipe, and of MIT's krb5kdc."""
+"""Measures AS exchanges of the program that is the first argument, behind a bridge and in one pipe, and of MIT's krb5kdc, with as
+many accounts as the other arguments say: see kdc.sh."""
 import os, resource, shutil, socket, subprocess, sys, tempfile, time
 
 TICKET = 0x6B  # the first octet of an AS reply
 ASKED = 0x6A  # that of an AS request
 PASSWORD = b"correct horse battery staple"
 SUITE = "aes256-cts-hmac-sha1-96"
+COUNTS = [int(word) for word in sys.argv[2:]] or [10, 5_000]
 HELD = []
 
 
@@ -30,10 +32,17 @@ def processor_seconds(process):
     return (fields[0] + fields[2]) / os.sysconf("SC_CLK_TCK"), (fields[1] + fields[3]) / os.sysconf("SC_CLK_TCK")
 
 
-def write_settings(path, key):
+def other_names(accounts):
+    """The names of the accounts beside a."""
+    return [f"user{number}" for number in range(1, accounts)]
+
+
+def write_settings(path, key, accounts):
     with open(path, "w") as settings:
-        settings.write(f'realm = "R"\nsuite = "{SUITE}"\nkey = "{os.urandom(32).hex()}"\nskew = 300\nlifetime = 36000\n'
-                       f'[[account]]\nname = ["a"]\nsuite = "{SUITE}"\nkey = "{key}"\n')
+        settings.write(f'realm = "R"\nsuite = "{SUITE}"\nkey = "{os.urandom(32).hex()}"\nskew = 300\nlifetime = 36000\n')
+        for name in [*other_names(accounts), "a"]:
+            own = key if name == "a" else os.urandom(32).hex()
+            settings.write(f'[[account]]\nname = ["{name}"]\nsuite = "{SUITE}"\nkey = "{own}"\n')
 
 
 def write_keytab(path, environment):
@@ -125,16 +134,27 @@ def used_between(before, after):
     return [after.ru_utime - before.ru_utime, after.ru_stime - before.ru_stime]
 
 
+def measure_starts(words):
+    """Of a process that gets no request."""
+    count, before, began = 20, resource.getrusage(resource.RUSAGE_CHILDREN), time.monotonic()
+    for _ in range(count):
+        subprocess.run(words, stdin=subprocess.DEVNULL, stdout=subprocess.DEVNULL, check=True)
+    seconds, used = time.monotonic() - began, used_between(before, resource.getrusage(resource.RUSAGE_CHILDREN))
+    user, system = (part / count * 1e3 for part in used)
+    print(f"a start of krb_realm: {seconds / count * 1e3:.1f} milliseconds, {user:.1f} of processor and {system:.1f} of the system's", flush=True)
+
+
 def bridge_to(words):
     """The port of a bridge that starts this program for each connection, and the bridge's process."""
     port = free_port()
     return port, start(["socat", f"TCP-LISTEN:{port},fork,reuseaddr,bind=127.0.0.1", "EXEC:" + " ".join(words)])
 
 
-def measure_program(folder, program):
+def measure_program(folder, program, accounts):
     keytab, settings = os.path.join(folder, "keytab"), os.path.join(folder, "settings.toml")
-    write_settings(settings, write_keytab(keytab, configure(folder, 1)))
+    write_settings(settings, write_keytab(keytab, configure(folder, 1)), accounts)
     words = [program, settings, "/dev/urandom", "now"]
+    measure_starts(words)
     port, bridge = bridge_to(words)
     requests = numbered(request_of_kinit(folder, port, keytab), 50_000)
     bridged = measure("krb_realm behind socat, TCP", bridge, requests[:1000], lambda asked: over_tcp(port, asked))
@@ -147,7 +167,7 @@ def measure_program(folder, program):
     return keytab
 
 
-def start_stock(folder, port):
+def start_stock(folder, port, accounts):
     with open(os.path.join(folder, "kdc.conf"), "w") as configuration:
         configuration.write(
             f"[kdcdefaults]\n kdc_listen = 127.0.0.1:{port}\n kdc_tcp_listen = 127.0.0.1:{port}\n"
@@ -157,13 +177,17 @@ def start_stock(folder, port):
             "  disable_lockout = true\n }\n")
     environment = dict(configure(folder, port), KRB5_KDC_PROFILE=os.path.join(folder, "kdc.conf"))
     run(["kdb5_util", "create", "-r", "R", "-s", "-P", "master"], env=environment)
-    run(["kadmin.local", "-r", "R", "-q", "addprinc +requires_preauth -pw \"" + PASSWORD.decode() + "\" a"], env=environment)
+    added = [f"addprinc +requires_preauth -randkey {name}\n" for name in other_names(accounts)]
+    added.append(f'addprinc +requires_preauth -pw "{PASSWORD.decode()}" a\n')
+    run(["kadmin.local", "-r", "R"], input="".join(added).encode(), env=environment)
+    listed = set(run(["kadmin.local", "-r", "R", "-q", "listprincs"], env=environment).stdout.decode().split())
+    assert {f"{name}@R" for name in [*other_names(accounts), "a"]} <= listed, "krb5kdc lacks accounts"
     return start(["krb5kdc", "-n", "-r", "R"], env=environment)
 
 
-def measure_stock(folder, keytab):
+def measure_stock(folder, keytab, accounts):
     port = free_port()
-    process = start_stock(folder, port)
+    process = start_stock(folder, port, accounts)
     requests = numbered(request_of_kinit(folder, port, keytab), 22_000)
     measure("krb5kdc, TCP", process, requests[:2000], lambda asked: over_tcp(port, asked))
     with socket.socket(socket.AF_INET, socket.SOCK_DGRAM) as kdc:
@@ -176,16 +200,19 @@ def measure_stock(folder, keytab):
         measure("krb5kdc, UDP", process, requests[2000:], over_udp)
 
 
-def main():
+def measured(program, accounts):
+    print(f"with {accounts} accounts:", flush=True)
     with tempfile.TemporaryDirectory() as folder:
         try:
-            keytab = measure_program(folder, sys.argv[1])
+            keytab = measure_program(folder, program, accounts)
             if shutil.which("krb5kdc"):
-                measure_stock(folder, keytab)
+                measure_stock(folder, keytab, accounts)
         finally:
-            for held in HELD:
+            while HELD:
+                held = HELD.pop()
                 held.terminate()
                 held.wait()
 
 
-main()
+for count in COUNTS:
+    measured(sys.argv[1], count)

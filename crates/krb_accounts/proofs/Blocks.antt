@@ -16,7 +16,7 @@ use Rattle.std.specs.FinMap.{find, from_entries, get, get-from_entries, get-inse
 use Rattle.std.proofs.lemmas.List.Elements.{All-head, All-tail}
 use Rattle.std.proofs.lemmas.Map.Views.{All-keys-insert_entry, All-map-remove_entry}
 use Rattle.picky_asn1.specs.Bytes.{Bytes}
-use Rattle.krb_packed_names.specs.Packed.{fit, fit_behind, packed, unpacked, unpacked-packed}
+use Rattle.krb_packed_names.specs.Packed.{fit, fit_behind, fit_in, packed, text_fits, unpacked, unpacked-packed}
 use Rattle.krb_packed_names.proofs.Packing.{packed_cmp}
 use Rattle.krb_accounts.specs.Account.{AccountRecord}
 use Rattle.krb_crypto.specs.declared.suite.CipherSuite.{CipherSuite}
@@ -246,7 +246,7 @@ short n most told = grind (arith, nat_tests)
 with_room : (n most : ℕ) → n < most → nat_lt n most ≡ true
 with_room n most below = grind (arith, nat_tests)
 
-fits_all : (used : ℕ) (name : List Bytes) → used + 256 * length name ≤ 4096 → list_all is_realm_name name ≡ true → fit_behind used name ≡ true
+fits_all : (used : ℕ) (name : List Bytes) → used + 256 * length name ≤ 4096 → list_all is_realm_name name ≡ true → fit_behind 4096 used name ≡ true
 fits_all used [] few all = refl
 fits_all used (text ∷ name) few all =
     let rest = and_parts (is_realm_name text) (list_all is_realm_name name) all in
@@ -260,3 +260,17 @@ components_fit name valid =
     let rest = and_parts (nat_le 1 (length name) && nat_le (length name) 16) (list_all is_realm_name name) valid in
     let most : length name ≤ 16 = short (length name) 16 ((and_parts (nat_le 1 (length name)) (nat_le (length name) 16) rest.0).1) in
     fits_all 0 name (omega (arith, most)) rest.1
+
+-- what fits in a short block fits in one of any name
+wider : (used few most : ℕ) (text : Bytes) → few ≤ most → nat_lt (used + length text) few ≡ true → nat_lt (used + length text) most ≡ true
+wider used few most text less told = grind (arith, nat_tests)
+
+fit_wider : (few most used : ℕ) (name : List Bytes) → few ≤ most → fit_behind few used name ≡ true → fit_behind most used name ≡ true
+fit_wider few most used [] less fits = refl
+fit_wider few most used (text ∷ name) less fits =
+    let rest = and_parts (text_fits few used text) (fit_behind few (used + length text + 1) name) fits in
+    let here = and_parts (list_all (λ character. nat_lt character 128) text) (nat_lt (used + length text) few) rest.0 in
+    and_both _ _ (and_both _ _ here.0 (wider used few most text less here.1)) (fit_wider few most (used + length text + 1) name less rest.1)
+
+pub fits_short : (name : List Bytes) → fit_in 256 name ≡ true → fit name ≡ true
+fits_short name fits = fit_wider 256 4096 0 name (omega arith) fits

@@ -15,6 +15,9 @@ use std::collections::BTreeMap;
 use std::collections::btree_map::Entry;
 use std::marker::Model;
 
+/// How many octets a block has that is made first: enough for most names. A call clears a room of so many.
+const SHORT_ROOM: usize = 256;
+
 /// The accounts of a realm: at most one for each name. Names are the same where they have the same
 /// components with the same characters, in the same case. A contract sees a finite map from the
 /// components to the account.
@@ -64,11 +67,24 @@ impl Accounts {
         ensures { option_copied result ≡ finite.get self.now name.now }
     {
         let entries = &self.entries;
-        let mut block = ArrayVec::new();
+        let mut block = ArrayVec::<u8, SHORT_ROOM>::new();
+        if !pack_name(&mut block, name) {
+            return self.get_long(name);
+        }
+        entries.get(block.as_slice())
+    }
+
+    // The same, of a name of any length. It stands apart, so that few calls clear the room of its block.
+    #[inline(never)]
+    fn get_long(&self, name: &[GeneralStringAsn1]) -> Option<&Account>
+        ensures { option_copied result ≡ finite.get self.now name.now }
+    {
+        let held = &self.entries;
+        let mut block = ArrayVec::<u8, BLOCK_ROOM>::new();
         if !pack_name(&mut block, name) {
             return None;
         }
-        entries.get(block.as_slice())
+        held.get(block.as_slice())
     }
 
     /// Whether a name has an account, by the characters of its components. It takes no memory.
@@ -76,7 +92,7 @@ impl Accounts {
         ensures { result ≡ finite.contains_key self.now (parts name.now) }
     {
         let entries = &self.entries;
-        let mut block = ArrayVec::new();
+        let mut block = ArrayVec::<u8, BLOCK_ROOM>::new();
         if !pack_parts(&mut block, name) {
             return false;
         }
@@ -97,11 +113,54 @@ impl Accounts {
         ensures err { OnErr result (self.new ≡ self.old) }
     {
         let entries = &mut self.entries;
-        let mut block = ArrayVec::new();
+        let mut block = ArrayVec::<u8, BLOCK_ROOM>::new();
         if !pack_name(&mut block, name.as_slice()) {
             return Err(RealmRefusal::Memory);
         }
         put_new(entries, *name.allocator(), block.as_slice(), account)
+    }
+
+    /// Gives the name of these components its account. A name that has one is refused.
+    ///
+    /// A name whose block is longer than `BLOCK_ROOM`, and one with a character that isn't below 128, finds no room: `Memory`.
+    pub fn insert_components(
+        &mut self,
+        alloc: Global,
+        name: &[Vec<u8>],
+        account: Account,
+    ) -> Result<(), RealmRefusal>
+        ensures exists { (result ≡ Err RealmRefusal.Exists) ↔ IsSome (finite.get self.old (parts name.now)) }
+        ensures refusal { IsMemoryAside result (inserting self.old (parts name.now)) }
+        ensures ok { OnOk result (self.new ≡ finite.insert self.old (parts name.now) account) }
+        ensures err { OnErr result (self.new ≡ self.old) }
+    {
+        let mut block = ArrayVec::<u8, SHORT_ROOM>::new();
+        if !pack_parts(&mut block, name) {
+            return self.insert_long(alloc, name, account);
+        }
+        let entries = &mut self.entries;
+        put_new(entries, alloc, block.as_slice(), account)
+    }
+
+    // The same, of a name of any length. It stands apart, so that few calls clear the room of its block.
+    #[inline(never)]
+    fn insert_long(
+        &mut self,
+        alloc: Global,
+        name: &[Vec<u8>],
+        account: Account,
+    ) -> Result<(), RealmRefusal>
+        ensures exists { (result ≡ Err RealmRefusal.Exists) ↔ IsSome (finite.get self.old (parts name.now)) }
+        ensures refusal { IsMemoryAside result (inserting self.old (parts name.now)) }
+        ensures ok { OnOk result (self.new ≡ finite.insert self.old (parts name.now) account) }
+        ensures err { OnErr result (self.new ≡ self.old) }
+    {
+        let entries = &mut self.entries;
+        let mut block = ArrayVec::<u8, BLOCK_ROOM>::new();
+        if !pack_parts(&mut block, name) {
+            return Err(RealmRefusal::Memory);
+        }
+        put_new(entries, alloc, block.as_slice(), account)
     }
 
     /// Takes a name's account away. A name that has none is refused. It takes no memory.
@@ -111,7 +170,7 @@ impl Accounts {
         ensures err { OnErr result (self.new ≡ self.old) }
     {
         let entries = &mut self.entries;
-        let mut block = ArrayVec::new();
+        let mut block = ArrayVec::<u8, BLOCK_ROOM>::new();
         if !pack_parts(&mut block, name) {
             return Err(RealmRefusal::Unknown);
         }
@@ -139,7 +198,7 @@ impl Accounts {
     {
         let key = key_of(suite, key)?;
         let entries = &mut self.entries;
-        let mut block = ArrayVec::new();
+        let mut block = ArrayVec::<u8, BLOCK_ROOM>::new();
         if !pack_parts(&mut block, name) {
             return Err(RealmRefusal::Unknown);
         }
@@ -148,15 +207,15 @@ impl Accounts {
 }
 
 ghost use Rattle.std.specs.BTreeMap.{IsUnchanged, UpdatesBy, get_by, keys};
-ghost use Rattle.krb_packed_names.specs.Packed.{fit, packed};
+ghost use Rattle.krb_packed_names.specs.Packed.{fit_in, packed};
 ghost use Rattle.krb_accounts.specs.Account.{AccountRecord};
 ghost use Rattle.krb_accounts.specs.Accounts.{rekeyed};
 ghost use Rattle.krb_accounts.specs.Entries.{AreBlocks, IsBlock, block_cmp, cmp_blocks};
 
 /// Makes an empty block that of a name. The answer is false where the block has no room for it.
-fn pack_name(block: &mut ArrayVec<u8, BLOCK_ROOM>, name: &[GeneralStringAsn1]) -> bool
+fn pack_name<const N: usize>(block: &mut ArrayVec<u8, N>, name: &[GeneralStringAsn1]) -> bool
     requires { block.old.items ≡ [] }
-    ensures fits { result ≡ fit name.now }
+    ensures fits { result ≡ fit_in N name.now }
     ensures packed { IsTrue result → block.new.items ≡ packed name.now }
 {
     for component in name {
@@ -168,9 +227,9 @@ fn pack_name(block: &mut ArrayVec<u8, BLOCK_ROOM>, name: &[GeneralStringAsn1]) -
 }
 
 /// The same of the name that has these components. The answer is false, too, where a character isn't below 128.
-fn pack_parts(block: &mut ArrayVec<u8, BLOCK_ROOM>, name: &[Vec<u8>]) -> bool
+fn pack_parts<const N: usize>(block: &mut ArrayVec<u8, N>, name: &[Vec<u8>]) -> bool
     requires { block.old.items ≡ [] }
-    ensures fits { result ≡ fit (parts name.now) }
+    ensures fits { result ≡ fit_in N (parts name.now) }
     ensures packed { IsTrue result → block.new.items ≡ packed (parts name.now) }
 {
     for component in name {

@@ -21,17 +21,21 @@ unpacked [] = []
 unpacked (zero ∷ octets) = [] ∷ unpacked octets
 unpacked (suc character ∷ octets) = prefixed character (unpacked octets)
 
--- a text whose characters are below 128 fits behind some octets, if 4,096 have room for both and the zero
-abbrev pub text_fits : ℕ → Bytes → Bool
-text_fits used text = list_all (λ character. nat_lt character 128) text && nat_lt (used + length text) 4096
+-- a text whose characters are below 128 fits behind some octets, if a room of so many has place for both and the zero
+abbrev pub text_fits : ℕ → ℕ → Bytes → Bool
+text_fits room used text = list_all (λ character. nat_lt character 128) text && nat_lt (used + length text) room
 
-abbrev pub fit_behind : ℕ → List Bytes → Bool
-fit_behind used [] = true
-fit_behind used (text ∷ texts) = text_fits used text && fit_behind (used + length text + 1) texts
+abbrev pub fit_behind : ℕ → ℕ → List Bytes → Bool
+fit_behind room used [] = true
+fit_behind room used (text ∷ texts) = text_fits room used text && fit_behind room (used + length text + 1) texts
 
--- texts of such characters, whose block has at most 4,096 octets
+-- texts of such characters, whose block has at most so many octets
+abbrev pub fit_in : ℕ → List Bytes → Bool
+fit_in room = fit_behind room 0
+
+-- at most as many as any name of a realm has
 abbrev pub fit : List Bytes → Bool
-fit = fit_behind 0
+fit = fit_in 4096
 
 -- the layout is one to one: a block's texts are those that it was made of
 text_unpacked : (text rest : Bytes) (texts : List Bytes) → unpacked rest ≡ texts → unpacked (packed_text text ++ rest) ≡ text ∷ texts

@@ -26,10 +26,10 @@ pub fn pack(block: &mut Vec<u8>, text: &GeneralStringAsn1) -> Result<(), AllocEr
     Ok(())
 }
 
-/// Appends a text to a block, and takes no memory. The answer is false where the text has a character that isn't below 128,
-/// or the block has no room for it.
-pub fn pack_within(block: &mut ArrayVec<u8, BLOCK_ROOM>, text: &[u8]) -> bool
-    ensures fits { result ≡ text_fits (array_vec_len block.old) text.now }
+/// Appends a text to a block of at most N octets, and takes no memory. The answer is false where the text has a character that
+/// isn't below 128, or the block has no room for it.
+pub fn pack_within<const N: usize>(block: &mut ArrayVec<u8, N>, text: &[u8]) -> bool
+    ensures fits { result ≡ text_fits N (array_vec_len block.old) text.now }
     ensures packed { IsTrue result → block.new.items ≡ block.old.items ++ packed_text text.now }
 {
     if !has_characters_below_128(text) || block.remaining_capacity() <= text.len() {

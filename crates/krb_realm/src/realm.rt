@@ -18,8 +18,7 @@ use crate::laws::has_reply;
 use crate::settings::Settings;
 use key_functions::KeyFunctions;
 use krb_accounts::{
-    Account, Accounts, RealmRefusal, are_components, components_of, is_realm_name, password_salt,
-    realm_name_of,
+    Account, Accounts, RealmRefusal, are_components, is_realm_name, password_salt, realm_name_of,
 };
 use krb_crypto::CipherSuite;
 use krb_frames::AnswerRefusal;
@@ -163,11 +162,7 @@ impl Realm {
         }
         let account = Account::by_key(suite, key)?;
         is_keyed(&account);
-        if self.accounts.contains(name) {
-            return Err(RealmRefusal::Exists);
-        }
-        let components = components_of(alloc, name)?;
-        self.accounts.insert_new(components, account)?;
+        self.accounts.insert_components(alloc, name, account)?;
         Ok(())
     }
 
@@ -195,17 +190,17 @@ impl Realm {
         if !are_components(name) {
             return Err(RealmRefusal::BadName);
         }
+        // A key of a password takes thousands of rounds, so a name that has an account is refused before.
         if self.accounts.contains(name) {
             return Err(RealmRefusal::Exists);
         }
-        let principal = components_of(alloc, name)?;
         let salt = password_salt(alloc, self.name.as_bytes(), name)?;
         // A realm's name isn't empty and neither is the salt, so memory is the only refusal.
         let Ok(account) = Account::by_password(alloc, suite, password, salt) else {
             return Err(RealmRefusal::Memory);
         };
         is_keyed(&account);
-        self.accounts.insert_new(principal, account)?;
+        self.accounts.insert_components(alloc, name, account)?;
         Ok(())
     }
 

@@ -37,7 +37,7 @@ pub(crate) fn accounts_at(
 fn read_accounts(alloc: Global, values: &[Value]) -> Result<Vec<AccountSettings>, SettingsFault>
     ensures { IsAside SettingsFault.Memory (λ v. map shown_account v.items) (accounts_in (items_view values.now)) result }
 {
-    let mut accounts = Vec::new(alloc);
+    let mut accounts = Vec::with_capacity(alloc, values.len())?;
     for (index, value) in values.iter().enumerate() {
         accounts.push(numbered(alloc, index + 1, value)?)?;
     }
@@ -83,7 +83,7 @@ fn name_at(alloc: Global, table: &Table) -> Result<Vec<Vec<u8>>, TableFault>
 fn texts_of(alloc: Global, values: &[Value]) -> Result<Vec<Vec<u8>>, TableFault>
     ensures { IsAside TableFault.Memory (λ v. map (λ part. part.items) v.items) (texts_of (items_view values.now)) result }
 {
-    let mut texts = Vec::new(alloc);
+    let mut texts = Vec::with_capacity(alloc, values.len())?;
     for value in values {
         let text = text_of(Field::Name, value)?;
         texts.push(Vec::from_slice(alloc, text.as_bytes())?)?;

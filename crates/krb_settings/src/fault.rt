@@ -96,6 +96,14 @@ impl SettingsFault {
     }
 }
 
+impl From<AllocError> for SettingsFault {
+    ghost from_gives = { λ _ fault. fault ≡ settings_fault.Memory };
+
+    fn from(_failed: AllocError) -> SettingsFault {
+        SettingsFault::Memory
+    }
+}
+
 impl<T: Drop> From<AllocFailed<T>> for SettingsFault {
     ghost from_gives = { λ _ fault. fault ≡ settings_fault.Memory };
 

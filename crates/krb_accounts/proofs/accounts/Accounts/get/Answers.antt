@@ -1,12 +1,7 @@
-use Rattle.std.proofs.Common.{◌≡◌, false, rules, sym, ◌∙◌}
-use Rattle.krb_packed_names.specs.Packed.{fit, packed}
-use Rattle.krb_accounts.proofs.Blocks.{found, missing}
+use Rattle.std.proofs.Common.{◌≡◌, rules, ◌∙◌}
+use Rattle.krb_packed_names.specs.Packed.{packed}
+use Rattle.krb_accounts.proofs.Blocks.{found}
 use Rattle.krb_accounts.proofs.accounts.Accounts.get.Goals as goal
-
-pub returns-then-not-pack_name : goal.returns-then-not-pack_name
-returns-then-not-pack_name c =
-    let none : fit c.args.name.now ≡ false = search rules in
-    sym (missing c.args.self.now c.self.inside.entries c.args.name.now c.self.view_is c.self.invariant none)
 
 pub returns : goal.returns
 returns c =
