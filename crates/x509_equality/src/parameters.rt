@@ -8,7 +8,7 @@ ghost use Rattle.x509_equality.specs.contracts.leaves.ObjectIdentifierAsn1Equali
 use crate::Equality;
 use x509_parameters::{
     AesAuthEncParams, AesMode, AesParameters, EcParameters, HashAlgorithm, HashOid,
-    MaskGenAlgorithm, Mgf1Oid, RsassaPssParams, ShaVariant,
+    MaskGenAlgorithm, Mgf1Oid, RsassaPssParams, ShaVariant, UnsupportedAlgorithmError,
 };
 
 impl Equality for AesMode {
@@ -75,4 +75,14 @@ impl Equality for ShaVariant {
     ghost use Rattle.x509_parameters.specs.contracts.sha_variant.ShaVariant.{the_type};
 
     ghost is_equality = { bare the_type tt };
+}
+
+impl Equality for UnsupportedAlgorithmError {
+    ghost use Rattle.x509_equality.specs.contracts.parameters.ShaVariantEquality.TheImpl.Laws.{is_equality-law as hash};
+    ghost use Rattle.x509_parameters.specs.contracts.unsupported.Algorithm.{«enum»};
+
+    ghost is_equality = { told_by
+        (λ v. v.algorithm)
+        (variants «enum» (or_field hash (or_field oid tt)))
+        (λ v w e i. record { algorithm = e i }) };
 }

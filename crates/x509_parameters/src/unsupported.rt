@@ -3,18 +3,19 @@ ghost use Rattle.std.specs.Prelude.{◌≡◌};
 
 use crate::sha_variant::ShaVariant;
 use picky_asn1::wrapper::ObjectIdentifierAsn1;
+use std::alloc::AllocError;
 use std::fmt;
 use thiserror::Error;
 
 /// An algorithm that isn't supported where it was given.
-#[derive(Debug, Drop, Error)]
+#[derive(Debug, Drop, Error, PartialEq, Eq)]
 #[error("unsupported algorithm:  {algorithm}")]
 pub struct UnsupportedAlgorithmError {
     algorithm: Algorithm,
 }
 
 /// An algorithm, by its name or its identifier.
-#[derive(Debug, Drop)]
+#[derive(Debug, Drop, PartialEq, Eq)]
 pub(crate) enum Algorithm {
     /// A hash.
     Hash(ShaVariant),
@@ -41,6 +42,26 @@ impl UnsupportedAlgorithmError {
         UnsupportedAlgorithmError {
             algorithm: Algorithm::Identifier(oid),
         }
+    }
+}
+
+impl Clone for UnsupportedAlgorithmError {
+    ghost is_clone = { λ error copy. copy ≡ error };
+
+    fn clone(&self) -> Result<UnsupportedAlgorithmError, AllocError> {
+        let algorithm = self.algorithm.clone()?;
+        Ok(UnsupportedAlgorithmError { algorithm })
+    }
+}
+
+impl Clone for Algorithm {
+    ghost is_clone = { λ algorithm copy. copy ≡ algorithm };
+
+    fn clone(&self) -> Result<Algorithm, AllocError> {
+        Ok(match self {
+            Algorithm::Hash(hash) => Algorithm::Hash(*hash),
+            Algorithm::Identifier(oid) => Algorithm::Identifier(oid.clone()?),
+        })
     }
 }
 
