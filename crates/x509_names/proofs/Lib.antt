@@ -1,2 +1,3 @@
 pub mod AgreedLemmas
 mod NameLemmas
+mod TextLemmas

@@ -4,4 +4,6 @@ pub mod Attributes
 pub mod EdiNames
 pub mod GeneralNames
 pub mod NameAttrs
+pub mod NameRows
+pub mod NameText
 pub mod Parameters

@@ -1,10 +1,12 @@
 //! Names as text.
+ghost use Rattle.std.specs.Prelude.{◌≡◌, [], ◌∷◌, ◌++◌, MatchOption};
+ghost use Rattle.x509_names.specs.NameText.{attributes_of};
+
 use crate::attribute_type_and_value::{AttributeTypeAndValue, AttributeValue};
-use crate::name::Name;
+use crate::name::{Name, RelativeDistinguishedName};
 use asn1_trees::LengthOctets;
 use picky_asn1_der::RawElement;
 use std::fmt;
-use std::fmt::Write;
 
 /// A name as text: its attributes in order with commas between them, each as its identifier in dotted text, `=`, and its
 /// string or address. A value of any other type is the hexadecimal digits of its element.
@@ -12,61 +14,192 @@ use std::fmt::Write;
 pub struct NamePrettyFormatter<'a>(pub &'a Name);
 
 impl<'a> fmt::Display for NamePrettyFormatter<'a> {
+    ghost use Rattle.std.specs.Prelude.{Some};
+    ghost use Rattle.x509_names.specs.NameText.{name_text};
+
+    ghost output = { λ formatter. Some (name_text formatter.0.now) };
+
     fn fmt<W: fmt::Write>(&self, f: &mut fmt::Formatter<W>) -> fmt::Result {
-        write_name(self.0, f)
+        let name = self.0;
+        write!(f, "{name}")
     }
 }
 
+/// The text that a [`NamePrettyFormatter`] writes.
 impl fmt::Display for Name {
+    ghost use Rattle.std.specs.Prelude.{Some};
+    ghost use Rattle.x509_names.specs.NameText.{name_text};
+
+    ghost output = { λ name. Some (name_text name) };
+
     fn fmt<W: fmt::Write>(&self, f: &mut fmt::Formatter<W>) -> fmt::Result {
-        write_name(self, f)
+        let Some(leading) = leading_of(self.as_slice()) else {
+            return Ok(());
+        };
+        let first = Attribute(leading.first);
+        let further = FurtherAttributes(leading.further);
+        let sets = FurtherSets(leading.sets);
+        write!(f, "{first}{further}{sets}")
     }
 }
 
-fn write_name<W: fmt::Write>(name: &Name, f: &mut fmt::Formatter<W>) -> fmt::Result {
-    let mut is_first = true;
-    for set in name.as_slice() {
-        for attribute in set.as_slice() {
-            if !is_first {
-                f.write_char(',')?;
+// The first attribute of a name, those behind it in its set, and the sets behind.
+#[derive(Drop)]
+struct Leading<'a> {
+    first: &'a AttributeTypeAndValue,
+    further: &'a [AttributeTypeAndValue],
+    sets: &'a [RelativeDistinguishedName],
+}
+
+// The first attribute and what is behind it, if one of the sets has an attribute.
+fn leading_of(sets: &[RelativeDistinguishedName]) -> Option<Leading<'_>>
+    ensures { MatchOption result
+        (attributes_of sets.now ≡ [])
+        (λ leading. attributes_of sets.now ≡ leading.first.now ∷ (leading.further.now ++ attributes_of leading.sets.now)) }
+{
+    let mut rest = sets;
+    'sets: while let [set, sets @ ..] = rest {
+        if let [first, further @ ..] = set.as_slice() {
+            return Some(Leading {
+                first,
+                further,
+                sets,
+            });
+        }
+        rest = sets;
+    }
+    None
+}
+
+// The sets of attributes after the first attribute.
+#[derive(Clone, Copy)]
+struct FurtherSets<'a>(&'a [RelativeDistinguishedName]);
+
+impl<'a> fmt::Display for FurtherSets<'a> {
+    ghost use Rattle.std.specs.Prelude.{Some};
+    ghost use Rattle.std.specs.List.{flat_map};
+    ghost use Rattle.x509_names.specs.NameText.{further_text};
+
+    ghost output = { λ further. Some (flat_map further_text further.0.now) };
+
+    fn fmt<W: fmt::Write>(&self, f: &mut fmt::Formatter<W>) -> fmt::Result {
+        for set in self.0 {
+            let attributes = FurtherAttributes(set.as_slice());
+            write!(f, "{attributes}")?;
+        }
+        Ok(())
+    }
+}
+
+// Attributes of one set after the first attribute.
+#[derive(Clone, Copy)]
+struct FurtherAttributes<'a>(&'a [AttributeTypeAndValue]);
+
+impl<'a> fmt::Display for FurtherAttributes<'a> {
+    ghost use Rattle.std.specs.Prelude.{Some};
+    ghost use Rattle.x509_names.specs.NameText.{further_text};
+
+    ghost output = { λ further. Some (further_text further.0.now) };
+
+    fn fmt<W: fmt::Write>(&self, f: &mut fmt::Formatter<W>) -> fmt::Result {
+        for attribute in self.0 {
+            let attribute = Attribute(attribute);
+            write!(f, ",{attribute}")?;
+        }
+        Ok(())
+    }
+}
+
+// An attribute.
+#[derive(Clone, Copy)]
+struct Attribute<'a>(&'a AttributeTypeAndValue);
+
+impl<'a> fmt::Display for Attribute<'a> {
+    ghost use Rattle.std.specs.Prelude.{Some};
+    ghost use Rattle.x509_names.specs.NameText.{attribute_text};
+
+    ghost output = { λ attribute. Some (attribute_text attribute.0.now) };
+
+    fn fmt<W: fmt::Write>(&self, f: &mut fmt::Formatter<W>) -> fmt::Result {
+        let oid = &self.0.ty().0;
+        let value = Value(self.0.typed_value());
+        write!(f, "{oid}={value}")
+    }
+}
+
+// The value of an attribute.
+#[derive(Clone, Copy)]
+struct Value<'a>(&'a AttributeValue);
+
+impl<'a> fmt::Display for Value<'a> {
+    ghost use Rattle.std.specs.Prelude.{Some};
+    ghost use Rattle.x509_names.specs.NameText.{value_text};
+
+    ghost output = { λ value. Some (value_text value.0.now) };
+
+    fn fmt<W: fmt::Write>(&self, f: &mut fmt::Formatter<W>) -> fmt::Result {
+        match self.0 {
+            AttributeValue::Directory(string) => write!(f, "{string}"),
+            AttributeValue::Email(address) => write!(f, "{address}"),
+            AttributeValue::Custom(raw) => {
+                let element = Element(raw);
+                write!(f, "{element}")
             }
-            is_first = false;
-            write_attribute(attribute, f)?;
         }
     }
-    Ok(())
 }
 
-fn write_attribute<W: fmt::Write>(
-    attribute: &AttributeTypeAndValue,
-    f: &mut fmt::Formatter<W>,
-) -> fmt::Result {
-    let oid = &attribute.ty().0;
-    write!(f, "{oid}=")?;
-    match attribute.typed_value() {
-        AttributeValue::Directory(string) => write!(f, "{string}"),
-        AttributeValue::Email(address) => {
-            for octet in address.as_bytes() {
-                f.write_char(char::from(*octet))?;
-            }
-            Ok(())
+// An element, its octets in hexadecimal.
+#[derive(Clone, Copy)]
+struct Element<'a>(&'a RawElement);
+
+impl<'a> fmt::Display for Element<'a> {
+    ghost use Rattle.std.specs.Prelude.{Some};
+    ghost use Rattle.x509_names.specs.NameText.{element_text};
+
+    ghost output = { λ element. Some (element_text element.0.now) };
+
+    fn fmt<W: fmt::Write>(&self, f: &mut fmt::Formatter<W>) -> fmt::Result {
+        let first = Octet(self.0.first());
+        let octets = LengthOctets::of(self.0.content().len());
+        let length = Octets(octets.as_bytes());
+        let content = Octets(self.0.content());
+        write!(f, "{first}{length}{content}")
+    }
+}
+
+// Octets, each as two hexadecimal digits.
+#[derive(Clone, Copy)]
+struct Octets<'a>(&'a [u8]);
+
+impl<'a> fmt::Display for Octets<'a> {
+    ghost use Rattle.std.specs.Prelude.{Some};
+    ghost use Rattle.std.specs.List.{flat_map};
+    ghost use Rattle.picky_asn1.specs.IntegerText.{hexadecimal};
+
+    ghost output = { λ octets. Some (flat_map hexadecimal octets.0.now) };
+
+    fn fmt<W: fmt::Write>(&self, f: &mut fmt::Formatter<W>) -> fmt::Result {
+        for octet in self.0 {
+            let digits = Octet(*octet);
+            write!(f, "{digits}")?;
         }
-        AttributeValue::Custom(raw) => write_element(raw, f),
+        Ok(())
     }
 }
 
-// Writes the octets of an element in hexadecimal.
-fn write_element<W: fmt::Write>(raw: &RawElement, f: &mut fmt::Formatter<W>) -> fmt::Result {
-    let first = raw.first();
-    let content = raw.content();
-    write!(f, "{first:02X}")?;
-    write_hexadecimal(LengthOctets::of(content.len()).as_bytes(), f)?;
-    write_hexadecimal(content, f)
-}
+// An octet as two hexadecimal digits.
+#[derive(Clone, Copy)]
+struct Octet(u8);
 
-fn write_hexadecimal<W: fmt::Write>(octets: &[u8], f: &mut fmt::Formatter<W>) -> fmt::Result {
-    for octet in octets {
-        write!(f, "{octet:02X}")?;
+impl fmt::Display for Octet {
+    ghost use Rattle.std.specs.Prelude.{Some};
+    ghost use Rattle.picky_asn1.specs.IntegerText.{hexadecimal};
+
+    ghost output = { λ octet. Some (hexadecimal octet.0) };
+
+    fn fmt<W: fmt::Write>(&self, f: &mut fmt::Formatter<W>) -> fmt::Result {
+        let octet = self.0;
+        write!(f, "{octet:02X}")
     }
-    Ok(())
 }

@@ -36,8 +36,12 @@ utf16_units [] = []
 utf16_units (octet ∷ []) = []
 utf16_units (high ∷ low ∷ octets) = (high * 256 + low) ∷ utf16_units octets
 
+-- the characters of a BMPString, with U+FFFD for half a pair of surrogates
+abbrev pub bmp_characters : List ℕ → List ℕ
+bmp_characters octets = utf16_lossy_chars (utf16_units octets)
+
 -- the text, with U+FFFD for what is none: in a BMPString half a pair of surrogates
 abbrev pub lossy_text : DirectoryString → List ℕ
 lossy_text (PrintableString octets) = utf8_lossy octets
 lossy_text (Utf8String octets) = octets
-lossy_text (BmpString octets) = encode_utf8_all (utf16_lossy_chars (utf16_units octets))
+lossy_text (BmpString octets) = encode_utf8_all (bmp_characters octets)

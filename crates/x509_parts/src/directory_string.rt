@@ -2,6 +2,7 @@
 ghost use Rattle.std.specs.Prelude.{◌≡◌, MatchResult, IfOk};
 ghost use Rattle.x509_parts.specs.DirectoryStrings.{utf16_units};
 
+use crate::bmp_text::BmpText;
 use devices::{Sink, Source};
 use picky_asn1::wrapper::{BmpStringAsn1, PrintableStringAsn1, Utf8StringAsn1};
 use picky_asn1_der::{
@@ -9,7 +10,6 @@ use picky_asn1_der::{
 };
 use std::alloc::{AllocError, Global};
 use std::fmt;
-use std::fmt::Write;
 use x509_spelling::Exact;
 
 /// A string of a name.
@@ -107,37 +107,22 @@ fn units_of(alloc: Global, octets: &[u8]) -> Result<Vec<u16>, AllocError>
     Ok(units)
 }
 
+/// The text, as [`DirectoryString::to_utf8_lossy`] makes it.
 impl fmt::Display for DirectoryString {
+    ghost use Rattle.std.specs.Prelude.{Some};
+    ghost use Rattle.x509_parts.specs.DirectoryStrings.{lossy_text};
+
+    ghost output = { λ string. Some (lossy_text string) };
+
     fn fmt<W: fmt::Write>(&self, f: &mut fmt::Formatter<W>) -> fmt::Result {
         match self {
-            DirectoryString::PrintableString(string) => write_octets(string.as_bytes(), f),
-            DirectoryString::Utf8String(string) => f.write_str(string.as_str()),
-            DirectoryString::BmpString(string) => write_units(string.as_bytes(), f),
+            DirectoryString::PrintableString(string) => f.write_str(string.as_str()),
+            DirectoryString::Utf8String(string) => write!(f, "{string}"),
+            DirectoryString::BmpString(string) => {
+                let text = BmpText(string.as_bytes());
+                write!(f, "{text}")
+            }
         }
-    }
-}
-
-// Writes octets as characters.
-fn write_octets<W: fmt::Write>(octets: &[u8], f: &mut fmt::Formatter<W>) -> fmt::Result {
-    for octet in octets {
-        f.write_char(char::from(*octet))?;
-    }
-    Ok(())
-}
-
-// Writes the characters of a BMPString.
-fn write_units<W: fmt::Write>(octets: &[u8], f: &mut fmt::Formatter<W>) -> fmt::Result {
-    let units = octets.chunks_exact(2).map(unit_of);
-    for character in char::decode_utf16(units) {
-        f.write_char(character.unwrap_or(char::REPLACEMENT_CHARACTER))?;
-    }
-    Ok(())
-}
-
-fn unit_of(octets: &[u8]) -> u16 {
-    match octets {
-        [high, low] => u16::from_be_bytes([*high, *low]),
-        _ => 0,
     }
 }
 

@@ -5,6 +5,7 @@
 #![tactic(auto)]
 
 mod basic_constraints;
+mod bmp_text;
 mod directory_string;
 mod raw_algorithm_identifier;
 mod time;
