@@ -1,0 +1,7 @@
+pub mod Mechanisms
+pub mod Tokens
+pub mod Negotiation
+pub mod Checksum
+pub mod Contexts
+pub mod Answers
+pub mod Accepting
