@@ -64,7 +64,7 @@ pub record Admits (service : ServiceRecord) (moment : Micros) (message : Bytes) 
   pub skew : after.seen.skew ≡ service.seen.skew
   pub rest : after ≡ record service { seen = after.seen }
   pub remembers : (admitted : List PairRecord) → IsWindow service.seen admitted
-    → IsStep (remembering service (max service.seen.greatest moment) admitted message random).gives admitted answer after.seen
+      → IsStep (remembering service (max service.seen.greatest moment) admitted message random).gives admitted answer after.seen
 
 -- what follows a value, or its refusal
 abbrev pub then_judged : {A B : Type 0} → Result A AcceptRefusal → (A → Result B AcceptRefusal) → Result B AcceptRefusal

@@ -5,3 +5,4 @@ pub mod Checksum
 pub mod Contexts
 pub mod Answers
 pub mod Accepting
+pub mod Chosen

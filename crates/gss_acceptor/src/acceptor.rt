@@ -37,10 +37,10 @@ impl Acceptor {
     /// Establishes a context by an initiator's first token, at a moment: by a token of Kerberos (RFC 4121, section 4.1), or by one of
     /// SPNEGO that offers Kerberos first and holds its token (RFC 4178, section 4.2.1). Of the random bytes the first 16 count.
     ///
-    /// The refusals, in this order: `NotAToken`, `NoKerberos`, `Admit`; of what the service admits `NoChecksum`, `OtherChecksum`,
-    /// `BadSequenceNumber`, `UnknownKey`, `OldSuite`. `Memory` may come before the admission, which leaves the acceptor as it was, and
-    /// last. What is refused after the admission leaves the service as `Service::admit` leaves it: the client is to ask with a
-    /// further authenticator.
+    /// The refusals, in this order: `NotAToken` or `NoKerberos`, which leave the acceptor as it was; `Admit`; and of what the service
+    /// admits `NoChecksum`, `OtherChecksum`, `BadSequenceNumber`, `UnknownKey`, `OldSuite`. `Memory` comes either before the
+    /// admission, and leaves the acceptor as it was, or last. A refusal after the admission leaves the service as `Service::admit`
+    /// does: the client needs a new authenticator.
     pub fn accept(
         &mut self,
         alloc: Global,
@@ -70,7 +70,7 @@ impl Acceptor {
     {
         match read_offer(alloc, token) {
             Ok(offer) => {
-                let accepted = self.take(alloc, &offer, moment, words);
+                let accepted = self.accept_offer(alloc, &offer, moment, words);
                 drop(offer);
                 accepted
             }
@@ -79,7 +79,7 @@ impl Acceptor {
     }
 
     // Establishes a context by the token that is offered.
-    fn take(
+    fn accept_offer(
         &mut self,
         alloc: Global,
         offer: &Offer,

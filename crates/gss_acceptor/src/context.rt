@@ -54,11 +54,7 @@ pub(crate) fn context_key(
 }
 
 /// The acceptor's end of the context.
-pub(crate) fn context_in(
-    key: Key,
-    number: u64,
-    has_reply: bool,
-) -> Result<Context, AcceptRefusal>
+pub(crate) fn context_in(key: Key, number: u64, has_reply: bool) -> Result<Context, AcceptRefusal>
     ensures { result ≡ context_in key number has_reply }
 {
     let numbers = SequenceNumbers {

@@ -1,15 +1,15 @@
 //! The flags of a context (RFC 4121, section 4.1.1.1).
 
-/// The initiator hands on a ticket-granting ticket.
+/// The initiator delegates its credentials.
 pub const DELEGATION: u32 = 1;
 
 /// The initiator asks for an AP-REP.
 pub const MUTUAL: u32 = 2;
 
-/// Old tokens are to be told.
+/// The acceptor is to detect replayed tokens.
 pub const REPLAY: u32 = 4;
 
-/// Tokens out of sequence are to be told.
+/// The acceptor is to detect tokens out of sequence.
 pub const SEQUENCE: u32 = 8;
 
 /// Messages may be encrypted.

@@ -2,7 +2,6 @@
 ghost use Rattle.std.specs.Prelude.{◌≡◌, IfOk, IfErr};
 ghost use Rattle.std.specs.Option.{option_map};
 ghost use Rattle.gss_acceptor.specs.Accepting.{IsEstablished, established_of};
-
 ghost use Rattle.gss_acceptor.specs.declared.refusal.AcceptRefusal.TheVariants.{Memory};
 
 use crate::answer::{Framing, answer};
@@ -24,8 +23,8 @@ pub struct Established {
     pub client: PrincipalName,
     /// The hash of the channel bindings, or zeros (RFC 4121, section 4.1.1.2). It isn't judged.
     pub bindings: [u8; 16],
-    /// The flags that the initiator asked for. What it gets doesn't depend on them: there is an AP-REP where the AP-REQ has the
-    /// option mutual-required, and each context protects messages in both ways.
+    /// The flags that the initiator asks for. They change nothing here. Where the flag of mutual authentication and the AP-REQ's
+    /// option mutual-required differ, the option decides whether there is an AP-REP. Each context protects messages in both ways.
     pub flags: ContextFlags,
     /// The acceptor's end of the context.
     pub context: Context,
@@ -78,7 +77,7 @@ fn answered(
 {
     let message = admission.reply.take();
     match answer(alloc, framing, message) {
-        Ok(reply) => Ok(joined(admission, judged, reply)),
+        Ok(reply) => Ok(completed(admission, judged, reply)),
         Err(_) => {
             drop(admission);
             drop(judged);
@@ -88,7 +87,7 @@ fn answered(
 }
 
 // The context with its client and the answer to it.
-fn joined(admission: Admission, judged: Judged, reply: Option<Vec<u8>>) -> Established
+fn completed(admission: Admission, judged: Judged, reply: Option<Vec<u8>>) -> Established
     ensures { result ≡ record { realm = admission.realm; client = admission.client; bindings = judged.initial.bindings; flags = judged.initial.flags; context = judged.context; reply = option_map (λ v. v.items) reply } }
 {
     let Judged { initial, context } = judged;

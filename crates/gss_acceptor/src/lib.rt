@@ -10,6 +10,7 @@ pub mod context_flags;
 mod elements;
 mod established;
 mod judge;
+pub mod laws;
 mod mechanism;
 mod negotiation;
 mod refusal;

@@ -1,5 +1,5 @@
 use Rattle.gss_acceptor.proofs.Handling.{by_held, by_other}
-use Rattle.gss_acceptor.proofs.acceptor.Acceptor.take.Goals as goal
+use Rattle.gss_acceptor.proofs.acceptor.Acceptor.accept_offer.Goals as goal
 
 pub returns-in-Some : goal.returns-in-Some
 returns-in-Some c =
