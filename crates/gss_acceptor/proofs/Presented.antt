@@ -15,7 +15,6 @@ use Rattle.gss_acceptor.specs.Checksum.{initial_in}
 use Rattle.gss_acceptor.specs.Chosen.{IsChosen}
 use Rattle.gss_acceptor.specs.Contexts.{context_in, context_key, first_number}
 use Rattle.gss_acceptor.specs.declared.answer.Framing.{Framing}
-use Rattle.gss_acceptor.specs.declared.checksum.InitialChecksum.{InitialChecksum}
 use Rattle.gss_acceptor.specs.declared.judge.Judged.{Judged}
 use Rattle.gss_acceptor.specs.declared.refusal.AcceptRefusal.{AcceptRefusal}
 use Rattle.gss_acceptor.specs.declared.refusal.AcceptRefusal.TheVariants.{OldSuite}

@@ -1,7 +1,7 @@
 -- What a first token of SPNEGO offers (RFC 4178, section 4.2.1).
-use Rattle.std.specs.Prelude.{◌≡◌, List, [], ◌∷◌, Bool, Option, None, Some, Result, Ok, Err, if◌then◌else◌}
+use Rattle.std.specs.Prelude.{List, [], ◌∷◌, Bool, Option, None, Some, Result, Ok, Err, if◌then◌else◌}
 use Rattle.std.proofs.Common.{sym, ◌∙◌}
-use Rattle.std.specs.Option.{option_map, option_map_or}
+use Rattle.std.specs.Option.{option_map_or}
 use Rattle.std.specs.Bool.{nat_eq}
 use Rattle.std.specs.Cmp.Lexicographic.{pointwise}
 use Rattle.picky_asn1.specs.Bytes.{Bytes}
@@ -9,7 +9,6 @@ use Rattle.picky_asn1.specs.declared.wrapper.ObjectIdentifierAsn1.{ObjectIdentif
 use Rattle.asn1_leaves.specs.ObjectIdentifier.{oid_content}
 use Rattle.asn1_trees.specs.Tree.{Tree, Writes}
 use Rattle.asn1_trees.specs.Tagged.{tagged_tree}
-use Rattle.asn1_trees.proofs.Spelling.{IsInjective}
 use Rattle.asn1_trees.proofs.Tagged.{tagged-injective}
 use Rattle.decision_tables.specs.One.{IsSole}
 use Rattle.decision_tables.specs.Tables.{Table, ask, done}
