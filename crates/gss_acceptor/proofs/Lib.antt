@@ -1,0 +1,4 @@
+mod Held
+mod Offered
+mod Handling
+mod Presented

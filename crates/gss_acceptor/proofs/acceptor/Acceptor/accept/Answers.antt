@@ -1,0 +1,10 @@
+use Rattle.gss_acceptor.proofs.Handling.{by_negotiation, by_token}
+use Rattle.gss_acceptor.proofs.acceptor.Acceptor.accept.Goals as goal
+
+pub returns-in-Some : goal.returns-in-Some
+returns-in-Some c =
+    by_token c.args.self.now.service c.establish.new.self.service c.args.moment c.args.token.now c.in-Some.request.now c.args.words.now c.establish.result c.in-Some.ensures c.establish.ensures
+
+pub returns-in-None : goal.returns-in-None
+returns-in-None c =
+    by_negotiation c.args.self.now.service c.negotiate.new.self.service c.args.moment c.args.token.now c.args.words.now c.negotiate.result c.in-None.ensures c.negotiate.ensures

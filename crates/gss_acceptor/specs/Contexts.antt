@@ -1,0 +1,42 @@
+-- The acceptor's end of a context (RFC 4121, sections 2, 4.1.1 and 4.2).
+use Rattle.std.specs.Prelude.{ℕ, ◌-◌, nat_lt, Bool, false, Option, None, Some, Result, Ok, Err, if◌then◌else◌, ℤ, pos, negsuc}
+use Rattle.krb_crypto.specs.Keys.{KeyRecord}
+use Rattle.krb_opening.specs.Keys.{key_in}
+use Rattle.krb_types.specs.declared.data_types.encryption_key.EncryptionKey.{EncryptionKey}
+use Rattle.gss_contexts.specs.Contexts.{ContextRecord, is_newer}
+use Rattle.gss_contexts.specs.declared.side.Side.TheVariants.{Acceptor}
+use Rattle.gss_acceptor.specs.declared.refusal.AcceptRefusal.{AcceptRefusal}
+use Rattle.gss_acceptor.specs.declared.refusal.AcceptRefusal.TheVariants.{BadSequenceNumber, UnknownKey, OldSuite}
+
+-- a value, or the refusal
+abbrev pub or_refused : {A : Type 0} → Option A → AcceptRefusal → Result A AcceptRefusal
+or_refused (Some a) refusal = Ok a
+or_refused None refusal = Err refusal
+
+-- a number of 32 bits (UInt32 of RFC 4120, section 5.2.4). Some write one of 2^31 and more as the negative number of the same 32 bits
+abbrev pub number_of : ℤ → Option ℕ
+number_of (pos n) = if nat_lt n 4294967296 then Some n else None
+number_of (negsuc n) = if nat_lt n 2147483648 then Some (4294967295 - n) else None
+
+-- the initiator's first sequence number, which counts from 0 where it isn't told (RFC 4120, section 5.5.1)
+abbrev pub first_number : Option ℤ → Result ℕ AcceptRefusal
+first_number None = Ok 0
+first_number (Some number) = or_refused (number_of number) BadSequenceNumber
+
+-- the initiator's subkey if it has one, or else the session key (RFC 4121, section 2)
+abbrev pub context_key : Option EncryptionKey → EncryptionKey → Result KeyRecord AcceptRefusal
+context_key (Some subkey) session = or_refused (key_in subkey) UnknownKey
+context_key None session = or_refused (key_in session) UnknownKey
+
+-- the acceptor's end. Its numbers count from 0 where it sends an AP-REP, which has no sequence number (RFC 4120, section 5.5.2), and
+-- else from the initiator's first number
+abbrev pub context_in : KeyRecord → ℕ → Bool → Result ContextRecord AcceptRefusal
+context_in key number has_reply =
+    if is_newer key.suite then Ok (record {
+      key = key;
+      side = Acceptor;
+      acceptor_subkey = false;
+      sending = if has_reply then 0 else number;
+      taking = number;
+    })
+    else Err OldSuite

@@ -1,0 +1,29 @@
+-- Tokens of the Kerberos mechanism that establish a context: the mechanism's identifier, a token id of two octets, and the message
+-- (RFC 4121, section 4.1), as the GSS-API frames first tokens (RFC 2743, section 3.1).
+use Rattle.std.proofs.Common.{◌≡◌, [], ◌∷◌, ◌++◌, drop, ap, sym, ◌∙◌}
+use Rattle.picky_asn1.specs.Bytes.{Bytes}
+use Rattle.asn1_trees.specs.Length.{element}
+use Rattle.asn1_trees.proofs.Elements.{element-one}
+use Rattle.decision_tables.specs.One.{IsSole}
+
+-- the mechanism's identifier (`06 09 ..`), and the token ids of an AP-REQ and of an AP-REP
+abbrev pub ap_req_front : Bytes
+ap_req_front = 6 ∷ 9 ∷ 42 ∷ 134 ∷ 72 ∷ 134 ∷ 247 ∷ 18 ∷ 1 ∷ 2 ∷ 2 ∷ 1 ∷ 0 ∷ []
+
+abbrev pub ap_rep_front : Bytes
+ap_rep_front = 6 ∷ 9 ∷ 42 ∷ 134 ∷ 72 ∷ 134 ∷ 247 ∷ 18 ∷ 1 ∷ 2 ∷ 2 ∷ 2 ∷ 0 ∷ []
+
+-- the token holds this AP-REQ, and nothing follows it
+abbrev pub IsApReqToken : Bytes → Bytes → Type 0
+IsApReqToken token request = token ≡ element 96 (ap_req_front ++ request)
+
+-- a token holds one at most
+pub sole_ap_req : (token : Bytes) → IsSole (IsApReqToken token)
+sole_ap_req token a b x y =
+    let tokens : element 96 (ap_req_front ++ a) ++ [] ≡ element 96 (ap_req_front ++ b) ++ [] = ap (λ (t : Bytes). t ++ []) (sym x ∙ y) in
+    let contents : ap_req_front ++ a ≡ ap_req_front ++ b = (element-one 96 96 (ap_req_front ++ a) (ap_req_front ++ b) [] [] tokens).1 in
+    ap (drop 13) contents
+
+-- the token that holds an AP-REP
+abbrev pub ap_rep_token : Bytes → Bytes
+ap_rep_token reply = element 96 (ap_rep_front ++ reply)

@@ -1,0 +1,75 @@
+//! The checksum of an initiator's authenticator (RFC 4121, section 4.1.1).
+ghost use Rattle.std.specs.Prelude.{◌≡◌, not, nat_eq};
+ghost use Rattle.std.specs.Int.Bits.{bit_and};
+ghost use Rattle.gss_acceptor.specs.Checksum.{initial_in, initial_of, initial_sum};
+
+use crate::refusal::AcceptRefusal;
+use byte_layouts::{array_at, u32_le};
+use krb_types::data_types::Checksum;
+use picky_asn1::is_number;
+
+/// The type of the checksum, 0x8003.
+const CHECKSUM_TYPE: u32 = 0x8003;
+
+/// The length of the channel bindings.
+const BINDINGS: u32 = 16;
+
+/// How many octets precede the octets of delegation.
+const SIZE: usize = 24;
+
+/// The flags of a context, by the constants of [`context_flags`](crate::context_flags) (RFC 4121, section 4.1.1.1).
+#[derive(Clone, Copy, Debug, PartialEq, Eq)]
+pub struct ContextFlags(pub u32);
+
+impl ContextFlags {
+    /// Whether one of these flags is set.
+    pub fn is_set(self, flag: u32) -> bool
+        ensures { result ≡ not (nat_eq (bit_and self.0 flag) 0) }
+    {
+        self.0 & flag != 0
+    }
+}
+
+/// What the initiator says of the context in its authenticator (RFC 4121, section 4.1.1).
+#[derive(Clone, Copy, Debug, PartialEq, Eq)]
+pub struct InitialChecksum {
+    /// The hash of the channel bindings, or zeros (RFC 4121, section 4.1.1.2). It isn't judged.
+    pub bindings: [u8; 16],
+    /// The flags.
+    pub flags: ContextFlags,
+}
+
+/// What the authenticator's checksum says, which has to be of type 0x8003. What follows the flags isn't read.
+pub(crate) fn initial_in(checksum: &Option<Checksum>) -> Result<InitialChecksum, AcceptRefusal>
+    ensures { result ≡ initial_in checksum.now }
+{
+    match checksum {
+        Some(checksum) => initial_of(checksum),
+        None => Err(AcceptRefusal::NoChecksum),
+    }
+}
+
+// What a checksum says.
+fn initial_of(checksum: &Checksum) -> Result<InitialChecksum, AcceptRefusal>
+    ensures { result ≡ initial_of checksum.now }
+{
+    if !is_number(&checksum.cksumtype.0, CHECKSUM_TYPE) {
+        return Err(AcceptRefusal::NoChecksum);
+    }
+    initial_sum(checksum.checksum.0.as_bytes())
+}
+
+// What the octets of a checksum of this type say.
+fn initial_sum(octets: &[u8]) -> Result<InitialChecksum, AcceptRefusal>
+    ensures { result ≡ initial_sum octets.now }
+{
+    if octets.len() < SIZE {
+        return Err(AcceptRefusal::OtherChecksum);
+    }
+    if u32_le(octets, 0) != BINDINGS {
+        return Err(AcceptRefusal::OtherChecksum);
+    }
+    let bindings = array_at::<16>(octets, 4);
+    let flags = ContextFlags(u32_le(octets, 20));
+    Ok(InitialChecksum { bindings, flags })
+}

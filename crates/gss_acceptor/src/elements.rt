@@ -1,0 +1,28 @@
+//! Elements of DER around octets.
+ghost use Rattle.std.specs.Prelude.{◌≡◌, ◌++◌, IfOk};
+ghost use Rattle.asn1_trees.specs.Length.{element};
+
+use krb_encoding::encoding_of;
+use picky_asn1::wrapper::OctetStringAsn1;
+use picky_asn1_der::Retagged;
+use std::alloc::{AllocError, Global};
+
+/// The element with this identifier octet and this content.
+pub(crate) fn element_of<const TAG: u8>(
+    alloc: Global,
+    content: Vec<u8>,
+) -> Result<Vec<u8>, AllocError>
+    ensures { IfOk result (λ bytes. bytes.items ≡ element TAG content.items) }
+{
+    let octets: Retagged<TAG, OctetStringAsn1> = Retagged(OctetStringAsn1::from(content));
+    encoding_of(alloc, octets)
+}
+
+/// The octets, one after the other.
+pub(crate) fn joined(alloc: Global, front: &[u8], behind: &[u8]) -> Result<Vec<u8>, AllocError>
+    ensures { IfOk result (λ bytes. bytes.items ≡ front.now ++ behind.now) }
+{
+    let mut bytes = Vec::from_slice(alloc, front)?;
+    bytes.extend_from_slice(behind)?;
+    Ok(bytes)
+}

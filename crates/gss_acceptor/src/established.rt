@@ -1,0 +1,104 @@
+//! Contexts that are established.
+ghost use Rattle.std.specs.Prelude.{◌≡◌, IfOk, IfErr};
+ghost use Rattle.std.specs.Option.{option_map};
+ghost use Rattle.gss_acceptor.specs.Accepting.{IsEstablished, established_of};
+ghost use Rattle.gss_acceptor.specs.declared.refusal.AcceptRefusal.TheVariants.{Memory};
+
+use crate::answer::{Framing, answer};
+use crate::checksum::{ContextFlags, InitialChecksum};
+use crate::judge::{Judged, judge};
+use crate::refusal::AcceptRefusal;
+use gss_contexts::Context;
+use krb_ap::Admission;
+use krb_types::data_types::{PrincipalName, Realm};
+use std::alloc::Global;
+use std::marker::Model;
+
+/// A context that is established: the client, what it asked for, and the acceptor's end.
+#[derive(Drop)]
+pub struct Established {
+    /// The client's realm.
+    pub realm: Realm,
+    /// The client, as its ticket names it.
+    pub client: PrincipalName,
+    /// The hash of the channel bindings, or zeros (RFC 4121, section 4.1.1.2). It isn't judged.
+    pub bindings: [u8; 16],
+    /// The flags that the initiator asks for. They change nothing here. Where the flag of mutual authentication and the AP-REQ's
+    /// option mutual-required differ, the option decides whether there is an AP-REP. Each context protects messages in both ways.
+    pub flags: ContextFlags,
+    /// The acceptor's end of the context.
+    pub context: Context,
+    /// The token to send to the initiator, if there is one.
+    pub reply: Option<Vec<u8>>,
+}
+
+impl Model for Established {
+    ghost use Rattle.std.specs.Option.{option_map};
+    ghost use Rattle.gss_acceptor.specs.Accepting.{EstablishedRecord};
+
+    ghost Value = { EstablishedRecord };
+
+    ghost view = { λ e. record {
+      realm = e.realm;
+      client = e.client;
+      bindings = e.bindings;
+      flags = e.flags;
+      context = e.context;
+      reply = option_map (λ v. v.items) e.reply;
+    } };
+}
+
+/// The context that an admission establishes, with the answer to the initiator.
+pub(crate) fn established_by(
+    alloc: Global,
+    framing: Framing,
+    admission: Admission,
+) -> Result<Established, AcceptRefusal>
+    ensures { IsEstablished framing admission result }
+{
+    match judge(&admission) {
+        Ok(judged) => answered(alloc, framing, admission, judged),
+        Err(refusal) => {
+            drop(admission);
+            Err(refusal)
+        }
+    }
+}
+
+// The context that was judged so, with the answer to the initiator.
+fn answered(
+    alloc: Global,
+    framing: Framing,
+    mut admission: Admission,
+    judged: Judged,
+) -> Result<Established, AcceptRefusal>
+    ensures made { IfOk result (λ e. e ≡ established_of framing admission judged) }
+    ensures refused { IfErr result (λ e. e ≡ Memory) }
+{
+    let message = admission.reply.take();
+    match answer(alloc, framing, message) {
+        Ok(reply) => Ok(completed(admission, judged, reply)),
+        Err(_) => {
+            drop(admission);
+            drop(judged);
+            Err(AcceptRefusal::Memory)
+        }
+    }
+}
+
+// The context with its client and the answer to it.
+fn completed(admission: Admission, judged: Judged, reply: Option<Vec<u8>>) -> Established
+    ensures { result ≡ record { realm = admission.realm; client = admission.client; bindings = judged.initial.bindings; flags = judged.initial.flags; context = judged.context; reply = option_map (λ v. v.items) reply } }
+{
+    let Judged { initial, context } = judged;
+    let Admission { realm, client, .. } = admission;
+    let InitialChecksum { bindings, flags } = initial;
+    Established {
+        realm,
+        client,
+        bindings,
+        flags,
+        context,
+        reply,
+    }
+}

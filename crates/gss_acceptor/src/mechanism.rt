@@ -1,0 +1,46 @@
+//! The mechanism Kerberos, as SPNEGO names it.
+ghost use Rattle.std.specs.Prelude.{◌≡◌, length};
+ghost use Rattle.gss_acceptor.specs.Mechanisms.{kerberos_in, mechanism_octets};
+
+use picky_asn1::wrapper::ObjectIdentifierAsn1;
+
+/// The content octets of 1.2.840.113554.1.2.2.
+pub(crate) const KRB5: [u8; 9] = [0x2a, 0x86, 0x48, 0x86, 0xf7, 0x12, 0x01, 0x02, 0x02];
+
+/// The content octets of 1.2.840.48018.1.2.2.
+const MS_KRB5: [u8; 9] = [0x2a, 0x86, 0x48, 0x82, 0xf7, 0x12, 0x01, 0x02, 0x02];
+
+/// By which identifier a list of mechanisms names Kerberos.
+#[derive(Clone, Copy, Debug, PartialEq, Eq)]
+pub enum Mechanism {
+    /// 1.2.840.113554.1.2.2 (RFC 4121, section 4.1).
+    Standard,
+    /// 1.2.840.48018.1.2.2, which Microsoft's clients offer too (MS-SPNG, section 3.1.5.2).
+    Microsoft,
+}
+
+impl Mechanism {
+    /// The content octets of the identifier.
+    pub(crate) fn octets(self) -> [u8; 9]
+        ensures octets { result ≡ mechanism_octets self }
+    {
+        match self {
+            Mechanism::Standard => KRB5,
+            Mechanism::Microsoft => MS_KRB5,
+        }
+    }
+}
+
+/// Kerberos, where the identifier is its.
+pub(crate) fn kerberos_in(identifier: &ObjectIdentifierAsn1) -> Option<Mechanism>
+    ensures { result ≡ kerberos_in identifier.now }
+{
+    let octets = identifier.0.as_bytes();
+    if octets == KRB5.as_slice() {
+        return Some(Mechanism::Standard);
+    }
+    if octets == MS_KRB5.as_slice() {
+        return Some(Mechanism::Microsoft);
+    }
+    None
+}

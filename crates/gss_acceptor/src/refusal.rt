@@ -1,0 +1,63 @@
+//! Why no context is established.
+ghost use Rattle.std.specs.Prelude.{◌≡◌};
+ghost use Rattle.gss_acceptor.specs.declared.refusal.AcceptRefusal.TheVariants.{Admit, Memory};
+
+use krb_ap::AdmitRefusal;
+use std::alloc::AllocError;
+use thiserror::Error;
+
+/// Why no context is established.
+#[derive(Clone, Copy, Debug, PartialEq, Eq, Error)]
+pub enum AcceptRefusal {
+    /// The octets are no first token of Kerberos with an AP-REQ, and no first token of SPNEGO with such a token in it.
+    #[error("the octets are no first token of Kerberos or SPNEGO")]
+    NotAToken,
+
+    /// Kerberos isn't the first of the mechanisms that SPNEGO offers.
+    #[error("the first mechanism that is offered isn't Kerberos")]
+    NoKerberos,
+
+    /// The service doesn't admit the AP-REQ.
+    #[error("the service doesn't admit the client: {0}")]
+    Admit(AdmitRefusal),
+
+    /// The authenticator has no checksum of type 0x8003.
+    #[error("the authenticator has no checksum of type 0x8003")]
+    NoChecksum,
+
+    /// The authenticator's checksum of type 0x8003 is malformed (RFC 4121, section 4.1.1).
+    #[error("the authenticator's checksum of type 0x8003 is malformed")]
+    OtherChecksum,
+
+    /// The authenticator's sequence number doesn't fit 32 bits.
+    #[error("the sequence number doesn't fit 32 bits")]
+    BadSequenceNumber,
+
+    /// The key is of no known suite, or of another length than its suite's keys.
+    #[error("the key is of no known suite")]
+    UnknownKey,
+
+    /// Triple DES, whose contexts have the tokens of RFC 1964.
+    #[error("the suite has no tokens of RFC 4121")]
+    OldSuite,
+
+    /// Memory ran out.
+    #[error("out of memory")]
+    Memory,
+}
+
+impl From<AdmitRefusal> for AcceptRefusal {
+    ghost from_gives = { λ cause refusal. refusal ≡ Admit cause };
+
+    fn from(cause: AdmitRefusal) -> AcceptRefusal {
+        AcceptRefusal::Admit(cause)
+    }
+}
+
+impl From<AllocError> for AcceptRefusal {
+    ghost from_gives = { λ _ refusal. refusal ≡ Memory };
+
+    fn from(_error: AllocError) -> AcceptRefusal {
+        AcceptRefusal::Memory
+    }
+}

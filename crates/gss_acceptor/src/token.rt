@@ -1,0 +1,64 @@
+//! Tokens of the Kerberos mechanism that establish a context (RFC 4121, section 4.1).
+ghost use Rattle.std.specs.Prelude.{◌≡◌, ◌++◌, ℕ, List, IfOk, MatchOption};
+ghost use Rattle.asn1_trees.specs.Length.{element};
+ghost use Rattle.gss_acceptor.specs.Tokens.{IsApReqToken, ap_rep_token, ap_req_front};
+
+use crate::elements::{element_of, joined};
+use picky_asn1_der::split_element;
+use std::alloc::{AllocError, Global};
+
+/// The identifier octet of a first token (RFC 2743, section 3.1).
+const TOKEN: u8 = 0x60;
+
+/// What precedes an AP-REQ in its token: the mechanism's identifier, and the token id.
+const AP_REQ_FRONT: [u8; 13] = [
+    0x06, 0x09, 0x2a, 0x86, 0x48, 0x86, 0xf7, 0x12, 0x01, 0x02, 0x02, 0x01, 0x00,
+];
+
+/// What precedes an AP-REP in its token.
+const AP_REP_FRONT: [u8; 13] = [
+    0x06, 0x09, 0x2a, 0x86, 0x48, 0x86, 0xf7, 0x12, 0x01, 0x02, 0x02, 0x02, 0x00,
+];
+
+/// The AP-REQ that a token holds, if it is such a token.
+pub(crate) fn ap_req_in(token: &[u8]) -> Option<&[u8]>
+    ensures { MatchOption result ((request : List ℕ) → IsApReqToken token.now request → ⊥) (λ request. IsApReqToken token.now request.now) }
+{
+    let content = content_of(token)?;
+    request_in(content)
+}
+
+// The content of a token, if the octets are one.
+fn content_of(token: &[u8]) -> Option<&[u8]>
+    ensures { MatchOption result ((content : List ℕ) → token.now ≡ element 96 content → ⊥) (λ content. token.now ≡ element 96 content.now) }
+{
+    let (element, rest) = match split_element(token) {
+        Ok(split) => split,
+        Err(_) => return None,
+    };
+    if u8::from(element.tag()) != TOKEN {
+        return None;
+    }
+    if rest.is_empty() {
+        return Some(element.content());
+    }
+    None
+}
+
+// What follows mechanism and token id of an AP-REQ, if they precede it.
+fn request_in(content: &[u8]) -> Option<&[u8]>
+    ensures { MatchOption result ((request : List ℕ) → content.now ≡ ap_req_front ++ request → ⊥) (λ request. content.now ≡ ap_req_front ++ request.now) }
+{
+    match content.strip_prefix(&AP_REQ_FRONT) {
+        Some(request) => Some(request),
+        None => None,
+    }
+}
+
+/// The token that holds an AP-REP.
+pub(crate) fn ap_rep_token(alloc: Global, reply: &[u8]) -> Result<Vec<u8>, AllocError>
+    ensures { IfOk result (λ token. token.items ≡ ap_rep_token reply.now) }
+{
+    let content = joined(alloc, &AP_REP_FRONT, reply)?;
+    element_of::<TOKEN>(alloc, content)
+}
