@@ -30,10 +30,19 @@ try() {
     sed 's/^/    /' "$work/said"
 }
 
-# listen COMMAND..: starts it with a free port for PORT; sets port and started.
+# Whether something listens on the port.
+is_taken() {
+    grep -qi "^ *[0-9]*: [0-9A-F]*:$(printf %04x "$port") [0-9A-F:]* 0A " /proc/net/tcp /proc/net/tcp6 2>/dev/null
+}
+
+# listen COMMAND..: starts it with a free port for PORT, and waits until it listens; sets port and started.
 listen() {
     port=$((8800 + $$ % 1000))
     while [ "$port" -lt 9900 ]; do
+        if is_taken; then
+            port=$((port + 1))
+            continue
+        fi
         (
             for word in "$@"; do
                 shift
@@ -42,8 +51,10 @@ listen() {
             exec "$@"
         ) >>"$work/log" 2>&1 &
         started=$!
-        sleep 0.5
-        kill -0 "$started" 2>/dev/null && return
+        while kill -0 "$started" 2>/dev/null; do
+            is_taken && return
+            sleep 0.1
+        done
         port=$((port + 1))
     done
     echo "$script: no free port" >&2
