@@ -205,7 +205,7 @@ def main():
     begin(suite)
     section("A subkey of another suite than the ticket's.")
     accept(Login(suite, key_suite=19))
-    section("Octets behind the flags, as those of delegation. Sequence numbers of 32 bits, also written as negative ones.")
+    section("Octets behind the flags, which are read by nobody. Sequence numbers of 32 bits, also written as negative ones.")
     accept(Login(suite, initial=initial_checksum(FLAGS | 1, rest=b"\1\0\2\0ab")))
     accept(Login(suite, number=2**32 - 1))
     accept(Login(suite, number=-2))
