@@ -8,7 +8,7 @@ CRATES := $(sort $(notdir $(patsubst %/src,%,$(wildcard crates/*/src))))
 REALM := out/realm
 
 .DEFAULT_GOAL := help
-.PHONY: help try messages certificate check gate run clients bench plant fmt docs budget crate-named
+.PHONY: help try messages certificate check gate run clients gss bench plant fmt docs budget crate-named
 
 help: ## list the targets
 	@sed -n 's/^\([a-z]*\):[^#]*## /\1\t/p' Makefile | expand -t 14
@@ -38,6 +38,9 @@ run: $(REALM)/settings.toml ## serve a realm to stock clients on 127.0.0.1 (PORT
 
 clients: ## log in to the realm with stock clients of MIT and Heimdal, step by step
 	examples/real_clients.sh
+
+gss: ## log in to the example acceptor with MIT's gss-client, step by step
+	examples/gss_clients.sh
 
 bench: ## time the program: make bench BENCH=as_exchange (a script of bench/)
 	bench/$(BENCH).sh

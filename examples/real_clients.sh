@@ -8,62 +8,13 @@
 # Heimdal's clients are those on the path (Debian: heimdal-clients), or those unpacked in the folder HEIMDAL, or else they are
 # downloaded by apt-get and unpacked in the temporary folder, so that they can be used beside MIT's.
 set -u
+script=real_clients
 top=$(cd "$(dirname "$0")/.." && pwd)
 work=$(mktemp -d)
 bridge= server=
 trap 'kill $bridge $server 2>/dev/null; rm -rf "$work"' EXIT
 trap 'exit 1' INT TERM
-missing=0 failed=0 passed=0
-
-# need COMMAND PACKAGE
-need() {
-    if ! command -v "$1" >/dev/null; then
-        echo "real_clients: $1 is missing (Debian: $2)" >&2
-        missing=1
-    fi
-}
-
-# try NAME WANTED TEXT COMMAND..: the command's status is 0 (WANTED is yes) or isn't (no), and it says TEXT.
-try() {
-    name=$1 wanted=$2 text=$3
-    shift 3
-    "$@" >"$work/said" 2>&1
-    status=$?
-    gave=yes
-    [ "$status" -eq 0 ] || gave=no
-    if [ "$gave" = "$wanted" ] && { [ -z "$text" ] || grep -q -e "$text" "$work/said"; }; then
-        echo "right: $name"
-        passed=$((passed + 1))
-    else
-        echo "WRONG: $name: status $status, which should be success: $wanted, and it should say '$text'"
-        failed=$((failed + 1))
-    fi
-    sed 's/^/    /' "$work/said"
-}
-
-# listen COMMAND..: starts it with a free port for PORT; sets port and started.
-listen() {
-    port=$((8800 + $$ % 1000))
-    while [ "$port" -lt 9900 ]; do
-        (
-            for word in "$@"; do
-                shift
-                set -- "$@" "$(echo "$word" | sed "s|PORT|$port|")"
-            done
-            exec "$@"
-        ) >>"$work/log" 2>&1 &
-        started=$!
-        sleep 0.5
-        kill -0 "$started" 2>/dev/null && return
-        port=$((port + 1))
-    done
-    echo "real_clients: no free port" >&2
-    exit 2
-}
-
-mit() {
-    KRB5_CONFIG=$work/mit.conf KRB5CCNAME=FILE:$work/mit.tickets TZ=UTC "$@"
-}
+. "$top/examples/stock.sh"
 
 # By the client's own clock: it isn't to put right by the realm's error what its clock says.
 mit_late() {
@@ -86,12 +37,6 @@ heimdal_told() {
     if od -An -v -tx1 "$work/replies" | tr -d ' \n' | grep -q a603020125; then
         echo "refused with code 37, then a ticket"
     fi
-}
-
-typed() {
-    told=$1
-    shift
-    echo "$told" | "$@"
 }
 
 # One line at a time, as from a terminal: ktutil takes what it is given at once for one answer.
@@ -145,61 +90,10 @@ libraries=$(dirname "$(find "$heimdal_folder/usr/lib" -name 'libkrb5.so.26' 2>/d
 PATH=$PATH:$heimdal_folder/usr/bin
 
 # The realm: the settings of examples/, each key made as they say.
-"$top/krb_realm" </dev/null || exit 2
-program=$top/crates/krb_realmd/out/krb_realmd
-# make_settings REALM USER SERVICE: the settings with keys made anew, of these suites; sets host_key.
-make_settings() {
-    awk -v suites="$1 $2 $2 $3" '
-        # A byte with odd parity, as triple DES wants it.
-        function odd(byte,    bits, rest) {
-            for (rest = int(byte / 2); rest > 0; rest = int(rest / 2)) bits += rest % 2
-            return byte - byte % 2 + (bits + 1) % 2
-        }
-        function made(suite,    size, command, digits, key, i) {
-            size = suite ~ /^aes256/ ? 32 : suite ~ /^aes128/ ? 16 : 24
-            command = "openssl rand -hex " size
-            command | getline digits
-            close(command)
-            if (suite !~ /^des3/) return digits
-            for (i = 1; i < 2 * size; i += 2)
-                key = key sprintf("%02x", odd(16 * (index(hex, substr(digits, i, 1)) - 1) + index(hex, substr(digits, i + 1, 1)) - 1))
-            return key
-        }
-        BEGIN { split(suites, of, " "); hex = "0123456789abcdef" }
-        /^suite = / { suite = of[++place]; print "suite = \"" suite "\""; next }
-        /^key = / { print "key = \"" made(suite) "\""; next }
-        { print }' "$top/examples/settings.toml" >"$work/settings.toml"
-    chmod 600 "$work/settings.toml"
-    host_key=$(sed -n 's/^key = "\(.*\)"/\1/p' "$work/settings.toml" | tail -n 1)
-}
-password='correct horse battery staple'
-host=server.example.com
 suite=aes256-cts-hmac-sha1-96
 make_settings $suite $suite $suite
-printf '#!/bin/sh\n%s %s/settings.toml /dev/urandom now | tee -a %s/replies\n' "$program" "$work" "$work" >"$work/realm"
-chmod +x "$work/realm"
-listen socat "TCP-LISTEN:PORT,bind=127.0.0.1,fork,reuseaddr" "EXEC:$work/realm"
-bridge=$started
+start_realm
 
-# configuration KDC FURTHER
-configuration() {
-    cat <<CONF
-[libdefaults]
-    default_realm = EXAMPLE.COM
-    dns_lookup_kdc = false
-    dns_lookup_realm = false
-    dns_canonicalize_hostname = false
-    rdns = false
-    udp_preference_limit = 1
-    $2
-[realms]
-    EXAMPLE.COM = {
-        kdc = $1
-    }
-[domain_realm]
-    .example.com = EXAMPLE.COM
-CONF
-}
 configuration "127.0.0.1:$port" "" >"$work/mit.conf"
 configuration "127.0.0.1:$port" "kdc_timesync = 0" >"$work/mit_late.conf"
 # Heimdal asks over UDP first where it isn't told.

@@ -685,4 +685,5 @@ def main():
     print(sum(kinds.values()), "lines")
 
 
-main()
+if __name__ == "__main__":
+    main()

@@ -1,35 +1,45 @@
-//! Replays calls of contexts, and compares each token, message and refusal with that of an independent writer or of MIT's library.
+//! Replays calls of acceptors and contexts, and compares each token, message and refusal with that of an independent writer or of
+//! MIT's library.
 #![tactic(auto)]
 
+mod accept;
 mod begin;
 mod calls;
 mod row;
 
+use gss_acceptor::Acceptor;
 use gss_contexts::{Context, Protection};
 use row::{Row, row_of};
 use std::alloc::Global;
 use std::fmt::Debug;
 use std::fs;
 
-/// What tokens.py writes, and what MIT's library wraps and signs.
-const FILES: [&str; 2] = ["tokens.txt", "stock.txt"];
+/// What tokens.py and first_tokens.py write, and what MIT's library wraps and signs.
+const FILES: [&str; 3] = ["tokens.txt", "stock.txt", "first_tokens.txt"];
+
+/// What a line's call is one of.
+#[derive(Drop)]
+struct Ends {
+    acceptor: Option<Acceptor>,
+    context: Option<Context>,
+}
 
 fn main(rt: HostRuntime) -> anyhow::Result<()> {
     for file in FILES {
         let text = fs::read_to_string(&rt, file)?;
-        let mut context = None;
-        replay(&rt, file, &text, &mut context)?;
+        let mut ends = Ends {
+            acceptor: None,
+            context: None,
+        };
+        let replayed = replay(&rt, file, &text, &mut ends);
+        drop(ends);
+        replayed?;
     }
     Ok(())
 }
 
-/// Replays the lines in turn, and prints how many differ from what is expected. A line `new` begins another context.
-fn replay(
-    rt: &HostRuntime,
-    file: &str,
-    text: &str,
-    context: &mut Option<Context>,
-) -> anyhow::Result<()> {
+/// Replays the lines in turn, and prints how many differ from what is expected.
+fn replay(rt: &HostRuntime, file: &str, text: &str, ends: &mut Ends) -> anyhow::Result<()> {
     let mut replayed = 0u64;
     let mut differing = 0u64;
     for line in text.lines() {
@@ -37,7 +47,7 @@ fn replay(
             continue;
         }
         replayed = replayed.saturating_add(1);
-        if !agrees(rt.alloc(), context, line)? {
+        if !agrees(rt.alloc(), ends, line)? {
             differing = differing.saturating_add(1);
             println!(rt; "{file} differs: {line}")?;
         }
@@ -46,14 +56,24 @@ fn replay(
     Ok(())
 }
 
-/// Whether a line's call gives what is expected.
-fn agrees(alloc: Global, context: &mut Option<Context>, line: &str) -> anyhow::Result<bool> {
+/// Whether a line's call gives what is expected. A line `new` or `accept` begins another context.
+fn agrees(alloc: Global, ends: &mut Ends, line: &str) -> anyhow::Result<bool> {
     let row = row_of(alloc, line)?;
-    if row.call == "new" {
-        return begin::begins(alloc, context, &row);
+    match row.call {
+        "new" => begin::begins(alloc, &mut ends.context, &row),
+        "acceptor" => accept::begins(alloc, &mut ends.acceptor, &row),
+        "accept" => accepts(alloc, ends, &row),
+        _ => match &mut ends.context {
+            Some(context) => Ok(calls_as_expected(alloc, context, &row)),
+            None => Ok(false),
+        },
     }
-    match context {
-        Some(context) => Ok(calls_as_expected(alloc, context, &row)),
+}
+
+/// Whether the acceptor gives what is expected.
+fn accepts(alloc: Global, ends: &mut Ends, row: &Row<'_>) -> anyhow::Result<bool> {
+    match &mut ends.acceptor {
+        Some(acceptor) => accept::accepts(alloc, acceptor, &mut ends.context, row),
         None => Ok(false),
     }
 }

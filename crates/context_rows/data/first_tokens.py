@@ -1,0 +1,263 @@
+#!/usr/bin/env python3
+"""Writes first_tokens.txt: initiators' first tokens (RFC 4121, section 4.1; RFC 4178, section 4.2.1), and what becomes of each.
+
+This is an independent writer, as tokens.py in this folder, whose encryption it uses. It shares no code with the program that
+replays the file. Keys and random octets are fixed, so each run writes the same file. Each outcome stands here by name.
+
+Run it in this folder: python3 first_tokens.py
+"""
+from tokens import ACCEPTOR, INITIATOR, KEY_SIZES, SUITES, Writer, check_against_the_standards, octets
+
+# ---- DER, and the messages of RFC 4120 --------------------------------------------------------------------------------------
+
+
+def der(tag, *parts):
+    content = b"".join(parts)
+    size = len(content)
+    long = b"" if size < 128 else size.to_bytes((size.bit_length() + 7) // 8, "big")
+    return bytes([tag]) + (bytes([0x80 | len(long)]) + long if long else bytes([size])) + content
+
+
+def integer(number):
+    size = (number + (number < 0)).bit_length() // 8 + 1
+    return der(0x02, number.to_bytes(size, "big", signed=True))
+
+
+def sequence(*fields):
+    """A SEQUENCE of fields in explicit tags: pairs of a tag's number and a value, none where it is left out."""
+    return der(0x30, *(der(0xA0 + tag, value) for tag, value in fields if value is not None))
+
+
+def application(tag, *fields):
+    return der(0x60 + tag, sequence(*fields))
+
+
+def text(it):
+    return der(0x1B, it.encode())
+
+
+def octet_string(it):
+    return der(0x04, it)
+
+
+def bits(number):
+    return der(0x03, b"\0" + number.to_bytes(4, "big"))
+
+
+def name(*components):
+    return sequence((0, integer(1)), (1, der(0x30, *map(text, components))))
+
+
+def key_of(suite, key):
+    return sequence((0, integer(suite)), (1, octet_string(key)))
+
+
+def encrypted(suite, key, usage, confounder, plain, kvno=None):
+    cipher = SUITES[suite].encrypt(key, usage, confounder, plain)
+    return sequence((0, integer(suite)), (1, kvno and integer(kvno)), (2, octet_string(cipher)))
+
+
+REALM, CLIENT, SERVICE, NOW = "EXAMPLE.COM", ("user", "admin"), ("host", "server.example.com"), "20260101120000Z"
+MUTUAL_REQUIRED = 1 << 29
+KRB5, MS_KRB5 = bytes.fromhex("2a864886f712010202"), bytes.fromhex("2a864882f712010202")
+SPNEGO, NTLM = bytes.fromhex("2b0601050502"), bytes.fromhex("2b06010401823702020a")
+TOKEN_ID_AP_REQ, TOKEN_ID_AP_REP = b"\x01\x00", b"\x02\x00"
+BINDINGS = octets("channel bindings", 16)
+# Mutual authentication, replay detection, confidentiality and integrity.
+FLAGS = 0x36
+
+
+def oid(content):
+    return der(0x06, content)
+
+
+def initial_checksum(flags=FLAGS, size=16, rest=b""):
+    return size.to_bytes(4, "little") + BINDINGS + flags.to_bytes(4, "little") + rest
+
+
+def checksum(kind, content):
+    return sequence((0, integer(kind)), (1, octet_string(content)))
+
+
+class Login:
+    """A client's login, and what it leads to. Each can be told to deviate."""
+
+    count = 0
+
+    def __init__(self, suite, mutual=True, subkey=True, number=1000, initial=None, kind=0x8003, service=SERVICE, time=NOW, key_suite=None, key_size=None):
+        Login.count += 1
+        self.suite, self.mutual, self.time, self.micros = suite, mutual, time, Login.count
+        self.number = number
+        self.session = octets(f"session {Login.count}", KEY_SIZES[suite])
+        self.key_suite = key_suite or suite
+        self.subkey = octets(f"subkey {Login.count}", key_size or KEY_SIZES.get(self.key_suite, 16)) if subkey else None
+        self.initial = initial_checksum(FLAGS if mutual else FLAGS & ~2) if initial is None else initial
+        self.checksum = checksum(kind, self.initial) if kind else None
+        self.service = service
+
+    def ap_req(self):
+        part = application(
+            3, (0, bits(0)), (1, key_of(self.suite, self.session)), (2, text(REALM)), (3, name(*CLIENT)),
+            (4, sequence((0, integer(1)), (1, octet_string(b"")))), (5, der(0x18, b"20260101110000Z")), (7, der(0x18, b"20260101210000Z")),
+        )
+        sealed = encrypted(self.suite, service_key(self.suite), 2, octets(f"ticket {self.micros}", 16), part, kvno=1)
+        ticket = application(1, (0, integer(5)), (1, text(REALM)), (2, name(*self.service)), (3, sealed))
+        own = application(
+            2, (0, integer(5)), (1, text(REALM)), (2, name(*CLIENT)), (3, self.checksum), (4, integer(self.micros)), (5, der(0x18, self.time.encode())),
+            (6, self.subkey and key_of(self.key_suite, self.subkey)), (7, None if self.number is None else integer(self.number)),
+        )
+        own = encrypted(self.suite, self.session, 11, octets(f"authenticator {self.micros}", 16), own)
+        return application(14, (0, integer(5)), (1, integer(14)), (2, bits(MUTUAL_REQUIRED if self.mutual else 0)), (3, ticket), (4, own))
+
+    def token(self):
+        return der(0x60, oid(KRB5), TOKEN_ID_AP_REQ, self.ap_req())
+
+    def reply(self, words):
+        """The AP-REP's token, or nothing."""
+        if not self.mutual:
+            return b""
+        part = application(27, (0, der(0x18, self.time.encode())), (1, integer(self.micros)))
+        sealed = encrypted(self.suite, self.session, 12, words, part)
+        return der(0x60, oid(KRB5), TOKEN_ID_AP_REP, application(15, (0, integer(5)), (1, integer(15)), (2, sealed)))
+
+
+def negotiated(token, *mechanisms, flags=None):
+    offer = sequence((0, der(0x30, *map(oid, mechanisms))), (1, flags), (2, token and octet_string(token)))
+    return der(0x60, oid(SPNEGO), der(0xA0, offer))
+
+
+def completed(mechanism, reply):
+    return der(0xA1, sequence((0, der(0x0A, b"\0")), (1, oid(mechanism)), (2, octet_string(reply) if reply else None)))
+
+
+# ---- Lines ------------------------------------------------------------------------------------------------------------------
+
+HEAD = """\
+# First tokens of GSS-API contexts, and what an acceptor makes of each. Written by first_tokens.py in this folder, an independent
+# writer by RFC 4120, RFC 4121 and RFC 4178. Further lines are those of tokens.txt, of the context that was established last.
+#   acceptor EXPECTED SUITE SKEW | KEY       begins an acceptor: host/server.example.com@EXAMPLE.COM, key number 1
+#   accept EXPECTED MOMENT CLIENT FLAGS | TOKEN WORDS REPLY BINDINGS"""
+lines = []
+
+
+def shown(them):
+    return them.hex() or "-"
+
+
+def service_key(suite):
+    return octets(f"service {suite}", KEY_SIZES[suite])
+
+
+def section(title):
+    lines.append(f"# {title}")
+
+
+def begin(suite):
+    lines.append(f"acceptor ok {suite} 300 | {service_key(suite).hex()}")
+
+
+def accept(login, token=None, answer=lambda reply: reply, moment=NOW):
+    """The token is accepted, and then each side sends messages."""
+    words = octets(f"words {login.micros}", 16)
+    token = login.token() if token is None else token
+    flags = int.from_bytes(login.initial[20:24], "little")
+    lines.append(f"accept ok {moment} {'/'.join(CLIENT)}@{REALM} {flags} | {token.hex()} {words.hex()} {shown(answer(login.reply(words)))} {BINDINGS.hex()}")
+    suite, key = (login.key_suite, login.subkey) if login.subkey else (login.suite, login.session)
+    ours, theirs = Writer(suite, key, INITIATOR, False), Writer(suite, key, ACCEPTOR, False)
+    first = (login.number or 0) % 2**32
+    message, random = b"a message", octets(f"random {login.micros}", 16)
+    lines.append(f"verify_mic OldNumber | {message.hex()} {ours.mic(first - 1, message).hex()}" if first else "# The least number is zero.")
+    lines.append(f"verify_mic ok | {message.hex()} {ours.mic(first, message).hex()}")
+    lines.append(f"unwrap Sealed | {ours.sealed(first + 1, message, random).hex()} {message.hex()}")
+    sending = 0 if login.mutual else first
+    lines.append(f"get_mic ok | {message.hex()} {theirs.mic(sending, message).hex()}")
+    lines.append(f"wrap_sealed ok | {random.hex()} {message.hex()} {theirs.sealed(sending + 1, message, random).hex()}")
+
+
+def refuse(outcome, token, moment=NOW):
+    lines.append(f"accept {outcome} {moment} - 0 | {shown(token)} {octets('words', 16).hex()} - -")
+
+
+def changed(token, at):
+    at %= len(token)
+    return token[:at] + bytes([token[at] ^ 1]) + token[at + 1 :]
+
+
+def accepted(suite):
+    begin(suite)
+    accept(Login(suite))
+    accept(Login(suite, mutual=False))
+    section("No subkey, and no sequence number.")
+    accept(Login(suite, subkey=False, number=None))
+    section("SPNEGO: either identifier of Kerberos, with other mechanisms behind, and flags.")
+    login = Login(suite)
+    accept(login, negotiated(login.token(), KRB5, NTLM), lambda reply: completed(KRB5, reply))
+    login = Login(suite, mutual=False)
+    accept(login, negotiated(login.token(), MS_KRB5, KRB5, NTLM, flags=der(0x03, b"\x01\x50")), lambda reply: completed(MS_KRB5, reply))
+
+
+def main():
+    check_against_the_standards()
+    for suite in SUITES:
+        section(f"Etype {suite}.")
+        accepted(suite)
+    suite = 18
+    begin(suite)
+    section("A subkey of another suite than the ticket's.")
+    accept(Login(suite, key_suite=19))
+    section("Octets behind the flags, which are read by nobody. Sequence numbers of 32 bits, also written as negative ones.")
+    accept(Login(suite, initial=initial_checksum(FLAGS | 1, rest=b"\1\0\2\0ab")))
+    accept(Login(suite, number=2**32 - 1))
+    accept(Login(suite, number=-2))
+    section("The same token again, also in SPNEGO; and the times at the skew's ends.")
+    login = Login(suite)
+    accept(login)
+    refuse("Admit(Krb(34))", login.token())
+    refuse("Admit(Krb(34))", negotiated(login.token(), KRB5))
+    accept(Login(suite), moment="20260101120500Z")
+    refuse("Admit(Krb(37))", Login(suite).token(), "20260101120501Z")
+    begin(suite)
+    section("Another service.")
+    refuse("Admit(Krb(35))", Login(suite, service=("host", "other.example.com")).token())
+    section("Refused after the admission. So the same token is then a replay.")
+    for outcome, deviation in (
+        ("NoChecksum", {"kind": None}),
+        ("NoChecksum", {"kind": 0x8004}),
+        ("NoChecksum", {"kind": 16}),
+        ("OtherChecksum", {"initial": b""}),
+        ("OtherChecksum", {"initial": initial_checksum()[:-1]}),
+        ("OtherChecksum", {"initial": initial_checksum(size=15)}),
+        ("OtherChecksum", {"initial": initial_checksum(size=16 << 24)}),
+        ("BadSequenceNumber", {"number": 2**32}),
+        ("BadSequenceNumber", {"number": -(2**31) - 1}),
+        ("UnknownKey", {"key_suite": 23}),
+        ("UnknownKey", {"key_size": 31}),
+        ("OldSuite", {"key_suite": 16}),
+    ):
+        token = Login(suite, **deviation).token()
+        refuse(outcome, token)
+        refuse("Admit(Krb(34))", token)
+    section("No such tokens. The login that they come from is admitted after them.")
+    login = Login(suite)
+    token, request = login.token(), login.ap_req()
+    for other in b"", token[:-1], token + b"\0", request, changed(token, 0), changed(token, 3), changed(token, 10), changed(token, 15), changed(token, 16):
+        refuse("NotAToken", other)
+    refuse("NotAToken", der(0x60, oid(KRB5), TOKEN_ID_AP_REP, request))
+    refuse("NotAToken", der(0x60, oid(MS_KRB5), TOKEN_ID_AP_REQ, request))
+    refuse("Admit(Unreadable)", der(0x60, oid(KRB5), TOKEN_ID_AP_REQ, request, b"\0"))
+    refuse("Admit(Krb(31))", changed(token, len(token) // 2))
+    refuse("Admit(Krb(31))", changed(token, -1))
+    section("SPNEGO: another mechanism first, no mechanism, no token, another token, and octets behind.")
+    refuse("NoKerberos", negotiated(token, NTLM, KRB5))
+    refuse("NoKerberos", negotiated(token))
+    refuse("NotAToken", negotiated(None, KRB5))
+    refuse("NotAToken", negotiated(request, KRB5))
+    refuse("NotAToken", negotiated(token, KRB5) + b"\0")
+    accept(login)
+    with open("first_tokens.txt", "w", encoding="ascii") as file:
+        file.write(HEAD + "\n" + "\n".join(lines) + "\n")
+    print(sum(not line.startswith("#") for line in lines), "lines")
+
+
+if __name__ == "__main__":
+    main()

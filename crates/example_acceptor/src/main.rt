@@ -1,0 +1,35 @@
+//! The program `example_acceptor`: a service of MIT's sample protocol, as `gss-server` is, on standard input and output.
+//!
+//! `example_acceptor SETTINGS WORDS MOMENT SERVICE` is the service of an account of a settings file, such as
+//! `host/server.example.com`. The file WORDS has random octets, and MOMENT is `now` or `YYYYMMDDHHMMSSZ`. It serves the
+//! contexts of its stream in turn, and remembers each login until it ends.
+//!
+//! It says on standard error who logged in. The status is 0 at the end of a stream with a login. Else it is 1, after a line
+//! with the refusal's name.
+#![tactic(auto)]
+
+mod answer;
+mod frame;
+mod server;
+mod setup;
+
+use devices::Watched;
+use std::io::BufReader;
+use std::process::ExitCode;
+
+fn main(rt: HostRuntime) -> ExitCode {
+    let fault = match run(&rt) {
+        Ok(()) => return ExitCode::SUCCESS,
+        Err(fault) => fault,
+    };
+    // Where standard error takes nothing, the status still tells.
+    let _ = eprintln!(rt; "example_acceptor: {fault}");
+    ExitCode::FAILURE
+}
+
+fn run(rt: &HostRuntime) -> anyhow::Result<()> {
+    let mut server = setup::server_of(rt)?;
+    let mut reader = Watched::new(BufReader::new(rt.alloc(), rt.stdin())?);
+    let mut writer = Watched::new(rt.stdout());
+    server::serve(rt, &mut server, &mut reader, &mut writer)
+}

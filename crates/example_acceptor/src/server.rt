@@ -1,0 +1,192 @@
+//! The contexts of a stream, one after the other.
+
+use crate::answer::{CONTEXT, CONTEXT_NEXT, NOOP, answer_of, is_set};
+use crate::frame::{Frame, read_frame, write_frame};
+use anyhow::{Context as _, bail};
+use devices::{Sink, Source, read_full};
+use gss_acceptor::{Acceptor, Established};
+use gss_contexts::Context;
+use krb_moments::Moment;
+use krb_runs::after_epoch;
+use krb_types::data_types::{PrincipalName, Realm};
+use std::alloc::Global;
+use std::time::{Clock, SystemTime, UNIX_EPOCH};
+
+/// How many random octets a login takes.
+const WORDS: usize = 16;
+
+/// The moments of a server.
+#[derive(Clone, Copy)]
+pub(crate) enum Time {
+    /// Those of the machine's clock.
+    Now,
+    /// One for all tokens.
+    Fixed(Moment),
+}
+
+/// A service, and what it is given beside its stream.
+#[derive(Drop)]
+pub(crate) struct Server<K: Source + Drop> {
+    /// The service, which remembers its logins.
+    pub(crate) acceptor: Acceptor,
+    /// The random octets.
+    pub(crate) words: K,
+    /// The moments.
+    pub(crate) time: Time,
+}
+
+impl<K: Source + Drop> Server<K> {
+    // Establishes a context by its first token.
+    fn accept<C: Clock + AllocGlobal>(
+        &mut self,
+        rt: &C,
+        token: &[u8],
+    ) -> anyhow::Result<Established> {
+        let moment = moment_at(rt, self.time).context("NoMoment")?;
+        let mut words = [0; WORDS];
+        match read_full(&mut self.words, &mut words) {
+            Ok(count) if count == WORDS => {}
+            _ => bail!("NoWords"),
+        }
+        match self.acceptor.accept(rt.alloc(), token, moment, &words) {
+            Ok(established) => Ok(established),
+            Err(refusal) => bail!("{refusal:?}: {refusal}"),
+        }
+    }
+}
+
+// The moment now, or none where the clock fails.
+fn moment_at<C: Clock>(clock: &C, time: Time) -> Option<Moment> {
+    if let Time::Fixed(moment) = time {
+        return Some(moment);
+    }
+    let now = SystemTime::now(clock).ok()?;
+    let elapsed = now.duration_since(UNIX_EPOCH).ok()?;
+    after_epoch(elapsed.as_secs(), elapsed.subsec_micros())
+}
+
+/// Serves the contexts of a stream, up to its end or the first refusal. A stream has to have a login.
+pub(crate) fn serve<K: Source + Drop, R: Source, W: Sink>(
+    rt: &HostRuntime,
+    server: &mut Server<K>,
+    reader: &mut R,
+    writer: &mut W,
+) -> anyhow::Result<()> {
+    for served in 0..u64::MAX {
+        match read_frame(rt.alloc(), reader)? {
+            Some(frame) if frame.flags == NOOP | CONTEXT_NEXT => {
+                serve_context(rt, server, reader, writer)?;
+            }
+            Some(_) => bail!("NoContext: a message without a login"),
+            None if served == 0 => bail!("NoContext: a stream without a login"),
+            None => break,
+        }
+    }
+    Ok(())
+}
+
+// Establishes a context, and answers its messages.
+fn serve_context<K: Source + Drop, R: Source, W: Sink>(
+    rt: &HostRuntime,
+    server: &mut Server<K>,
+    reader: &mut R,
+    writer: &mut W,
+) -> anyhow::Result<()> {
+    let mut context = establish(rt, server, reader, writer)?;
+    let served = serve_messages(rt.alloc(), &mut context, reader, writer);
+    drop(context);
+    served
+}
+
+// Takes an initiator's token, which establishes a context.
+fn establish<K: Source + Drop, R: Source, W: Sink>(
+    rt: &HostRuntime,
+    server: &mut Server<K>,
+    reader: &mut R,
+    writer: &mut W,
+) -> anyhow::Result<Context> {
+    let token = context_token(rt.alloc(), reader)?;
+    let established = server.accept(rt, &token)?;
+    begin(rt, writer, established)
+}
+
+// The next token of a context's establishment.
+fn context_token<R: Source>(alloc: Global, reader: &mut R) -> anyhow::Result<Vec<u8>> {
+    match read_frame(alloc, reader)? {
+        Some(frame) if is_set(frame.flags, CONTEXT) => Ok(frame.token),
+        _ => bail!("NoContext: no token of a login"),
+    }
+}
+
+// Sends the reply, if there is one, and says who logged in.
+fn begin<W: Sink>(
+    rt: &HostRuntime,
+    writer: &mut W,
+    established: Established,
+) -> anyhow::Result<Context> {
+    let Established {
+        client,
+        realm,
+        context,
+        reply,
+        ..
+    } = established;
+    if let Some(reply) = reply {
+        send(rt.alloc(), writer, CONTEXT, reply)?;
+    }
+    let name = name_of(rt.alloc(), &client, &realm)?;
+    // The login stands where standard error takes nothing.
+    let _ = eprintln!(rt; "{} logged in", name.as_str());
+    Ok(context)
+}
+
+// Answers the messages of a context, up to the frame that ends it.
+fn serve_messages<R: Source, W: Sink>(
+    alloc: Global,
+    context: &mut Context,
+    reader: &mut R,
+    writer: &mut W,
+) -> anyhow::Result<()> {
+    for _ in 0..u64::MAX {
+        match read_frame(alloc, reader)? {
+            Some(frame) if !is_set(frame.flags, NOOP) => {
+                answer(alloc, context, &frame, writer)?;
+            }
+            _ => break,
+        }
+    }
+    Ok(())
+}
+
+// Answers a message.
+fn answer<W: Sink>(
+    alloc: Global,
+    context: &mut Context,
+    frame: &Frame,
+    writer: &mut W,
+) -> anyhow::Result<()> {
+    match answer_of(alloc, context, frame) {
+        Ok(answer) => Ok(write_frame(alloc, writer, &answer)?),
+        Err(refusal) => bail!("{refusal:?}: {refusal}"),
+    }
+}
+
+// Sends a token.
+fn send<W: Sink>(alloc: Global, writer: &mut W, flags: u8, token: Vec<u8>) -> anyhow::Result<()> {
+    let frame = Frame { flags, token };
+    Ok(write_frame(alloc, writer, &frame)?)
+}
+
+// A principal's name, as NAME@REALM.
+fn name_of(alloc: Global, client: &PrincipalName, realm: &Realm) -> anyhow::Result<String> {
+    let mut text = String::new(alloc);
+    for component in client.name_string.0.as_slice() {
+        if !text.is_empty() {
+            text.push('/')?;
+        }
+        text.push_str(str::from_utf8(component.as_bytes())?)?;
+    }
+    text.push('@')?;
+    text.push_str(str::from_utf8(realm.as_bytes())?)?;
+    Ok(text)
+}

@@ -1,0 +1,127 @@
+# What the scripts of this folder that run stock clients share. A script names itself in `script`, the repository in `top` and a
+# temporary folder in `work`, and then reads this file.
+missing=0 failed=0 passed=0 bridge=
+password='correct horse battery staple'
+host=server.example.com
+
+# need COMMAND PACKAGE
+need() {
+    if ! command -v "$1" >/dev/null; then
+        echo "$script: $1 is missing (Debian: $2)" >&2
+        missing=1
+    fi
+}
+
+# try NAME WANTED TEXT COMMAND..: the command's status is 0 (WANTED is yes) or isn't (no), and it says TEXT.
+try() {
+    name=$1 wanted=$2 text=$3
+    shift 3
+    "$@" >"$work/said" 2>&1
+    status=$?
+    gave=yes
+    [ "$status" -eq 0 ] || gave=no
+    if [ "$gave" = "$wanted" ] && { [ -z "$text" ] || grep -q -e "$text" "$work/said"; }; then
+        echo "right: $name"
+        passed=$((passed + 1))
+    else
+        echo "WRONG: $name: status $status, which should be success: $wanted, and it should say '$text'"
+        failed=$((failed + 1))
+    fi
+    sed 's/^/    /' "$work/said"
+}
+
+# Whether something listens on the port.
+is_taken() {
+    grep -qi "^ *[0-9]*: [0-9A-F]*:$(printf %04x "$port") [0-9A-F:]* 0A " /proc/net/tcp /proc/net/tcp6 2>/dev/null
+}
+
+# listen COMMAND..: starts it with a free port for PORT, and waits until it listens; sets port and started.
+listen() {
+    port=$((8800 + $$ % 1000))
+    while [ "$port" -lt 9900 ]; do
+        if is_taken; then
+            port=$((port + 1))
+            continue
+        fi
+        (
+            for word in "$@"; do
+                shift
+                set -- "$@" "$(echo "$word" | sed "s|PORT|$port|")"
+            done
+            exec "$@"
+        ) >>"$work/log" 2>&1 &
+        started=$!
+        while kill -0 "$started" 2>/dev/null; do
+            is_taken && return
+            sleep 0.1
+        done
+        port=$((port + 1))
+    done
+    echo "$script: no free port" >&2
+    exit 2
+}
+
+mit() {
+    KRB5_CONFIG=$work/mit.conf KRB5CCNAME=FILE:$work/mit.tickets TZ=UTC "$@"
+}
+
+typed() {
+    told=$1
+    shift
+    echo "$told" | "$@"
+}
+
+# make_settings REALM USER SERVICE: the settings with keys made anew, of these suites; sets host_key.
+make_settings() {
+    awk -v suites="$1 $2 $2 $3" '
+        # A byte with odd parity, as triple DES wants it.
+        function odd(byte,    bits, rest) {
+            for (rest = int(byte / 2); rest > 0; rest = int(rest / 2)) bits += rest % 2
+            return byte - byte % 2 + (bits + 1) % 2
+        }
+        function made(suite,    size, command, digits, key, i) {
+            size = suite ~ /^aes256/ ? 32 : suite ~ /^aes128/ ? 16 : 24
+            command = "openssl rand -hex " size
+            command | getline digits
+            close(command)
+            if (suite !~ /^des3/) return digits
+            for (i = 1; i < 2 * size; i += 2)
+                key = key sprintf("%02x", odd(16 * (index(hex, substr(digits, i, 1)) - 1) + index(hex, substr(digits, i + 1, 1)) - 1))
+            return key
+        }
+        BEGIN { split(suites, of, " "); hex = "0123456789abcdef" }
+        /^suite = / { suite = of[++place]; print "suite = \"" suite "\""; next }
+        /^key = / { print "key = \"" made(suite) "\""; next }
+        { print }' "$top/examples/settings.toml" >"$work/settings.toml"
+    chmod 600 "$work/settings.toml"
+    host_key=$(sed -n 's/^key = "\(.*\)"/\1/p' "$work/settings.toml" | tail -n 1)
+}
+
+# The realm of the settings, whose replies are kept, too; sets port and bridge.
+start_realm() {
+    "$top/krb_realm" </dev/null || exit 2
+    printf '#!/bin/sh\n%s %s/settings.toml /dev/urandom now | tee -a %s/replies\n' "$top/crates/krb_realmd/out/krb_realmd" "$work" "$work" >"$work/realm"
+    chmod +x "$work/realm"
+    listen socat "TCP-LISTEN:PORT,bind=127.0.0.1,fork,reuseaddr" "EXEC:$work/realm"
+    bridge=$started
+}
+
+# configuration KDC FURTHER
+configuration() {
+    cat <<CONF
+[libdefaults]
+    default_realm = EXAMPLE.COM
+    dns_lookup_kdc = false
+    dns_lookup_realm = false
+    dns_canonicalize_hostname = false
+    rdns = false
+    udp_preference_limit = 1
+    $2
+[realms]
+    EXAMPLE.COM = {
+        kdc = $1
+    }
+[domain_realm]
+    .example.com = EXAMPLE.COM
+CONF
+}
