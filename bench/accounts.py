@@ -1,9 +1,10 @@
 """Measures realms of many accounts by the program that is the first argument: see accounts.sh. It writes lists of commands and
 requests in the form that crates/login_rows plays."""
-import os, random, subprocess, sys, tempfile
+import os, random, shutil, subprocess, sys, tempfile
 
 PROGRAM, SIZES = os.path.abspath(sys.argv[1]), [int(word) for word in sys.argv[2:]] or [10, 1_000, 100_000, 1_000_000]
 ANSWERS = 100_000
+COUNTED = 1_000  # answers whose instructions are counted
 
 # The padata of an AS request: a time sealed under a key of 32 zero bytes, which each account has.
 PADATA = bytes.fromhex(
@@ -34,18 +35,22 @@ def request(client):
     return element(0x6A, element(0x30, bytes.fromhex("a103020105a20302010a") + PADATA + body))
 
 
-def write_lines(lines, size):
-    """The commands and the requests. What is wanted of a marked line isn't told, so that the program prints it."""
+def write_lines(folder, size, answers, parts=4):
+    """The commands and the requests, of which there are so many parts: the realm, its accounts, and answers of each kind. What is
+    wanted of a marked line isn't told, so that the program prints it."""
     mark = "words_needed | mark\n"
-    lines.write(f"realm 52 {KEY}\n{mark}")
-    for number in range(size):
-        lines.write(f"add_by_key user{number} 18 {KEY}\n")
-    lines.write(mark)
-    for ending, kind in (("x", "7e"), ("", "6b")):
-        lines.write(f"answer | {request(f'user{size - 1}{ending}').hex()} | {kind}\n")
-        for _ in range(ANSWERS):
-            lines.write(f"answer | {request(f'user{random.randrange(size)}{ending}').hex()} | ok\n")
+    for name in ("clients.txt", "logins.txt"):
+        open(os.path.join(folder, name), "w").close()
+    with open(os.path.join(folder, "realms.txt"), "w") as lines:
+        lines.write(f"realm 52 {KEY}\n{mark}")
+        for number in range(size if parts > 1 else 0):
+            lines.write(f"add_by_key user{number} 18 {KEY}\n")
         lines.write(mark)
+        for ending, kind in (("x", "7e"), ("", "6b"))[:max(parts - 2, 0)]:
+            lines.write(f"answer | {request(f'user{size - 1}{ending}').hex()} | {kind}\n")
+            for _ in range(answers):
+                lines.write(f"answer | {request(f'user{random.randrange(size)}{ending}').hex()} | ok\n")
+            lines.write(mark)
 
 
 def seconds_and_bytes(process):
@@ -57,10 +62,7 @@ def seconds_and_bytes(process):
 def measured(size):
     """Prints what a realm of this many accounts takes."""
     with tempfile.TemporaryDirectory() as folder:
-        for name in ("clients.txt", "realms.txt", "logins.txt"):
-            with open(os.path.join(folder, name), "w") as lines:
-                if name == "realms.txt":
-                    write_lines(lines, size)
+        write_lines(folder, size, ANSWERS)
         program = subprocess.Popen([PROGRAM], cwd=folder, stdout=subprocess.PIPE, text=True)
         printed, at = [], []
         while len(at) < 4:
@@ -81,5 +83,20 @@ def measured(size):
           f"{(refused - made) / ANSWERS * 1e6:.2f} and a ticket {(granted - refused) / ANSWERS * 1e6:.2f} microseconds", flush=True)
 
 
+def count(size):
+    """Prints how many instructions valgrind counts of an account and of an answer: what a run with one more part takes more."""
+    counting, at = ["valgrind", "--tool=callgrind", "--callgrind-out-file=/dev/null", PROGRAM], []
+    for parts in (1, 2, 3, 4):
+        with tempfile.TemporaryDirectory() as folder:
+            write_lines(folder, size, COUNTED, parts)
+            told = subprocess.run(counting, cwd=folder, stdout=subprocess.DEVNULL, stderr=subprocess.PIPE, text=True).stderr
+            at.append(int(told.split("Collected : ")[1].split()[0]))
+    made, refused, granted = (more - fewer for fewer, more in zip(at, at[1:]))
+    print(f"{size} accounts, instructions: made by {made / size:.0f} each; an error {refused / (COUNTED + 1):.0f} and a ticket "
+          f"{granted / (COUNTED + 1):.0f}", flush=True)
+
+
 for size in SIZES:
     measured(size)
+    if shutil.which("valgrind"):
+        count(size)
