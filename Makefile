@@ -14,13 +14,13 @@ help: ## list the targets
 	@sed -n 's/^\([a-z]*\):[^#]*## /\1\t/p' Makefile | expand -t 14
 
 try: ## run a recorded request and a login by password, without proof: one minute
-	cd crates/first_use && $(RT) try </dev/null
+	cd crates/example_login && $(RT) try </dev/null
 
 messages: ## read, change and write messages through picky_krb, without proof: one minute
 	cd crates/example_messages && $(RT) try </dev/null
 
 certificate: ## read a certificate, without proof: one minute
-	cd crates/certificate_reader && $(RT) try --data certificate.der=data/certificate.der </dev/null
+	cd crates/example_certificate && $(RT) try --data certificate.der=data/certificate.der </dev/null
 
 check: crate-named ## prove one crate and what it stands on: make check CRATE=krb_tgs
 	cd crates/$(CRATE) && $(RT) check

@@ -5,9 +5,9 @@
 # First the tests of layouts run in 4 MiB of address space: counts of 2^32 - 1 that a message tells ask for no memory.
 set -e
 top=$(cd "$(dirname "$0")/.." && pwd)
-tests=$top/crates/worked_layouts/out/worked_layouts_tests
+tests=$top/crates/test_layouts/out/test_layouts_tests
 if [ ! -x "$tests" ]; then
-    (cd "$top/crates/worked_layouts" && rt test >/dev/null)
+    (cd "$top/crates/test_layouts" && rt test >/dev/null)
 fi
 for name in $("$tests" --list | sed -n 's/: test$//p'); do
     (ulimit -v 4096 && "$tests" "$name" >/dev/null) || { echo "$name fails in 4 MiB of address space"; exit 1; }

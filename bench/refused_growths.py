@@ -1,6 +1,6 @@
 """Refuses each request for memory of a row in turn: see refused_growths.sh.
 
-A row is a file of lines `STEP .. | WANTED`, as crates/login_rows/data has them (with a message before what is wanted), or as
+A row is a file of lines `STEP .. | WANTED`, as crates/replay_logins/data has them (with a message before what is wanted), or as
 crates/bench_codecs takes them behind `row`. Each step that takes memory stands there twice, the one behind the other.
 
 A row is run once with ample memory, which counts its requests, and once for each of these, which is refused. A library that is loaded
@@ -107,7 +107,7 @@ class Row:
 
 
 class Scripts:
-    """Rows that login_rows plays: the last of its three scripts. It prints each line that tells something else than is wanted."""
+    """Rows that replay_logins plays: the last of its three scripts. It prints each line that tells something else than is wanted."""
 
     def words(self, row, folder):
         for name in ("clients.txt", "realms.txt"):
@@ -137,7 +137,7 @@ class Calls:
         return (lines, None) if len(lines) == len(row.lines) else (row.wanted, error)
 
 
-PROGRAMS = {"bench_codecs": Calls(), "login_rows": Scripts()}
+PROGRAMS = {"bench_codecs": Calls(), "replay_logins": Scripts()}
 
 
 class Runs:

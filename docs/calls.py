@@ -8,7 +8,7 @@ A call that is lent nothing to change leaves everything as it was. `CRATE::TYPE:
 import glob, os, re, sys
 
 # Crates of tests, replays, examples and times.
-NOT_PRODUCT = re.compile(r"(worked|replay|recorded|example|test|bench)_|(login|sealing|aes)_rows$|first_use$|certificate_reader$")
+NOT_PRODUCT = re.compile(r"(replay|example|test|bench)_")
 BLOCK = re.compile(r"(?:unsafe )?(impl|(?:pub(?:\(crate\))? )?trait)\b(?:<.*?>(?= ))? (?:(?P<of>[\w:]+)(?:<.*>)? for )?(?P<name>\w+)")
 CALL = re.compile(r"(?P<indent> *)(?P<pub>pub )?(?:const )?(?:unsafe )?fn (?P<name>\w+)")
 STATED = re.compile(r" *(?P<kind>ensures|requires)(?: (?P<name>\w+))? \{")

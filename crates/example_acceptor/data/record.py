@@ -2,13 +2,13 @@
 """Records the run that the gate repeats: record.py REALM, the built krb_realmd. It needs krb5-user, krb5-gss-samples, socat and faketime.
 
 MIT's kinit gets a ticket from the realm of settings.toml, and MIT's gss-client logs in twice, by Kerberos itself and through SPNEGO.
-All clocks stand at one moment. The acceptor is written here, over the writer in crates/context_rows/data, and shares no code with
+All clocks stand at one moment. The acceptor is written here, over the writer in crates/replay_contexts/data, and shares no code with
 the program. `stdin` is what gss-client sent, and `stdout` what it was given: it ends well only if it verified each of those tokens.
 """
 import os, socket, subprocess, sys, tempfile, time
 
 HERE = os.path.dirname(os.path.abspath(__file__))
-sys.path.insert(0, f"{HERE}/../../context_rows/data")
+sys.path.insert(0, f"{HERE}/../../replay_contexts/data")
 from first_tokens import Login, completed
 from tokens import ACCEPTOR, SUITES, End
 

@@ -3,8 +3,8 @@
 use crate::read::{is_read, is_refused};
 use crate::trusted::{TrustRow, is_judged};
 use crate::written::{WrittenRow, is_written};
-use recorded_lines::Lines;
 use std::alloc::Global;
+use test_support::Lines;
 
 /// Lines about signed data.
 pub(crate) struct SignedLines;

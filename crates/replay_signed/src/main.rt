@@ -8,8 +8,8 @@ mod trusted;
 mod written;
 
 use lines::SignedLines;
-use recorded_lines::replay;
 use std::env;
+use test_support::replay;
 
 /// The files that are replayed where no argument names one.
 const RECORDED: [&str; 5] = [

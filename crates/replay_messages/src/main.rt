@@ -1,0 +1,51 @@
+//! Reads recorded messages of Kerberos as their types, and writes them back.
+#![tactic(auto)]
+
+mod credentials;
+mod names;
+mod odd;
+mod private;
+mod replies;
+mod requests;
+mod sealed;
+mod tickets;
+
+use anyhow::bail;
+use std::alloc::Global;
+use test_support::{Lines, Recorded, recorded_of, replay};
+
+/// Messages, and what they hold.
+struct Messages;
+
+impl Lines for Messages {
+    const NAME: &'static str = "messages";
+
+    fn agrees(&self, alloc: Global, line: &str) -> anyhow::Result<bool> {
+        let recorded = recorded_of(alloc, line)?;
+        agrees(alloc, &recorded)
+    }
+}
+
+fn main(rt: HostRuntime) -> anyhow::Result<()> {
+    replay(&rt, &Messages, "openssl.txt")?;
+    replay(&rt, &Messages, "clients.txt")?;
+    replay(&rt, &Messages, "odd.txt")
+}
+
+/// Whether a message is read as expected, and written back.
+fn agrees(alloc: Global, recorded: &Recorded<'_>) -> anyhow::Result<bool> {
+    let answers = [
+        names::agrees(alloc, recorded),
+        sealed::agrees(alloc, recorded),
+        tickets::agrees(alloc, recorded),
+        requests::agrees(alloc, recorded),
+        replies::agrees(alloc, recorded),
+        private::agrees(alloc, recorded),
+        credentials::agrees(alloc, recorded),
+        odd::agrees(alloc, recorded),
+    ];
+    let Some(answer) = answers.iter().flatten().next() else {
+        bail!("no type {}", recorded.type_name);
+    };
+    Ok((*answer)?)
+}

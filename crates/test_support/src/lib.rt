@@ -1,0 +1,12 @@
+//! What tests and replays share: devices that move a byte a call and fail in mid-stream, and files of recorded lines.
+#![tactic(auto)]
+
+mod columns;
+mod failing_devices;
+mod files;
+mod round_trip;
+
+pub use columns::{Recorded, Wanted, recorded_of};
+pub use failing_devices::{Drip, Trickle};
+pub use files::{Lines, replay};
+pub use round_trip::{Answer, are_wanted, is_read_told, is_refused, is_told, is_written};
