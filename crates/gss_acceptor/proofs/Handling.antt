@@ -1,5 +1,5 @@
 -- What a token holds, and what is done with it.
-use Rattle.std.proofs.Common.{◌≡◌, ℕ, List, Result, Ok, Err, ◌⊎◌, refl, inl, inr}
+use Rattle.std.proofs.Common.{ℕ, List, Result, Ok, Err, refl, inl, inr}
 use Rattle.decision_tables.specs.Tables.{Table}
 use Rattle.krb_service.specs.Service.{ServiceRecord}
 use Rattle.gss_acceptor.specs.Accepting.{EstablishedRecord, Establishes, Handles, Request, carried, held, negotiated}
