@@ -1,5 +1,5 @@
 -- What a token holds, and what is done with it.
-use Rattle.std.proofs.Common.{◌≡◌, ℕ, List, Result, Ok, Err, ◌⊎◌, refl, inl, inr}
+use Rattle.std.proofs.Common.{ℕ, List, Result, Ok, Err, refl, inl, inr}
 use Rattle.decision_tables.specs.Tables.{Table}
 use Rattle.krb_service.specs.Service.{ServiceRecord}
 use Rattle.gss_acceptor.specs.Accepting.{EstablishedRecord, Establishes, Handles, Request, carried, held, negotiated}
@@ -8,7 +8,7 @@ use Rattle.gss_acceptor.specs.Tokens.{IsApReqToken}
 use Rattle.gss_acceptor.specs.declared.answer.Framing.TheVariants.{Bare, Negotiated}
 use Rattle.gss_acceptor.specs.declared.negotiation.Offer.{Offer}
 use Rattle.gss_acceptor.specs.declared.refusal.AcceptRefusal.{AcceptRefusal}
-use Rattle.gss_acceptor.specs.declared.refusal.AcceptRefusal.TheVariants.{NotAToken, NoKerberos, Admit, NoChecksum, OtherChecksum, BadSequenceNumber, UnknownKey, OldSuite, Memory}
+use Rattle.gss_acceptor.specs.declared.refusal.AcceptRefusal.TheVariants.{NotAToken}
 
 -- what one table gives another gives, and so it is handled
 onward : (table other : Table (Result Request AcceptRefusal)) (service after : ServiceRecord) (moment : ℕ) (random : List ℕ) (result : Result EstablishedRecord AcceptRefusal)
@@ -34,32 +34,18 @@ by_negotiation service after moment token random result none x =
 
 -- by what is offered
 pub by_offer : (service after : ServiceRecord) (moment : ℕ) (token random : List ℕ) (offer : Offer) (result : Result EstablishedRecord AcceptRefusal)
-    → (offered token).gives (Ok offer) → Handles (held offer) service moment random result after → Handles (negotiated token) service moment random result after
+    → IsRead (offered token).gives (Ok offer) → Handles (held offer) service moment random result after → Handles (negotiated token) service moment random result after
 unfolding negotiated
-by_offer service after moment token random offer result is x =
+by_offer service after moment token random offer result (inl never) x = absurd (cc (never))
+by_offer service after moment token random offer result (inr is) x =
     onward (held offer) (negotiated token) service after moment random result (λ r y. inl (offer, is, y)) x
-
--- a refusal that was read is the table's, or for want of memory
-refused : {T : Type 0} (gives : Result T AcceptRefusal → Type 0) (refusal : AcceptRefusal) → IsRead gives (Err refusal) → (refusal ≡ Memory) ⊎ gives (Err refusal)
-refused gives NotAToken x = inr x
-refused gives NoKerberos x = inr x
-refused gives (Admit cause) x = inr x
-refused gives NoChecksum x = inr x
-refused gives OtherChecksum x = inr x
-refused gives BadSequenceNumber x = inr x
-refused gives UnknownKey x = inr x
-refused gives OldSuite x = inr x
-refused gives Memory x = inl refl
-
-unoffered : (token : List ℕ) (refusal : AcceptRefusal) → (refusal ≡ Memory) ⊎ (offered token).gives (Err refusal) → (refusal ≡ Memory) ⊎ (negotiated token).gives (Err refusal)
-unfolding negotiated
-unoffered token refusal (inl memory) = inl memory
-unoffered token refusal (inr x) = inr (inr (refusal, x, refl))
 
 -- nothing is offered
 pub by_none : (service : ServiceRecord) (moment : ℕ) (token random : List ℕ) (refusal : AcceptRefusal) → IsRead (offered token).gives (Err refusal)
     → Handles (negotiated token) service moment random (Err refusal) service
-by_none service moment token random refusal x = inr (refusal, refl, refl, unoffered token refusal (refused (offered token).gives refusal x))
+unfolding negotiated
+by_none service moment token random refusal (inl memory) = inr (refusal, refl, refl, inl (cc (memory)))
+by_none service moment token random refusal (inr x) = inr (refusal, refl, refl, inr (inr (refusal, x, refl)))
 
 -- what is offered is a token of Kerberos, or none
 pub by_held : (service after : ServiceRecord) (moment : ℕ) (message random : List ℕ) (offer : Offer) (result : Result EstablishedRecord AcceptRefusal)

@@ -1,5 +1,5 @@
 -- What a first token of SPNEGO offers (RFC 4178, section 4.2.1).
-use Rattle.std.specs.Prelude.{List, [], ◌∷◌, Bool, Option, None, Some, Result, Ok, Err, if◌then◌else◌}
+use Rattle.std.specs.Prelude.{◌≡◌, ◌⊎◌, List, [], ◌∷◌, Bool, Option, None, Some, Result, Ok, Err, if◌then◌else◌}
 use Rattle.std.proofs.Common.{sym, ◌∙◌}
 use Rattle.std.specs.Option.{option_map_or}
 use Rattle.std.specs.Bool.{nat_eq}
@@ -19,7 +19,7 @@ use Rattle.gss_acceptor.specs.Mechanisms.{kerberos_in, spnego_octets}
 use Rattle.gss_acceptor.specs.declared.mechanism.Mechanism.{Mechanism}
 use Rattle.gss_acceptor.specs.declared.negotiation.Offer.{Offer}
 use Rattle.gss_acceptor.specs.declared.refusal.AcceptRefusal.{AcceptRefusal}
-use Rattle.gss_acceptor.specs.declared.refusal.AcceptRefusal.TheVariants.{NoKerberos, NotAToken, Admit, NoChecksum, OtherChecksum, BadSequenceNumber, UnknownKey, OldSuite, Memory}
+use Rattle.gss_acceptor.specs.declared.refusal.AcceptRefusal.TheVariants.{NoKerberos, NotAToken, Memory}
 
 -- under [APPLICATION 0] (RFC 2743, section 3.1)
 abbrev pub neg_init_tree : GssApiNegInit → Tree
@@ -60,13 +60,4 @@ offered token = ask (IsNegInit token) (sole_neg_init token) (done (Err NotAToken
 
 -- memory ran out, or this is given
 abbrev pub IsRead : {T : Type 0} → (Result T AcceptRefusal → Type 0) → Result T AcceptRefusal → Type 0
-IsRead gives (Ok value) = gives (Ok value)
-IsRead gives (Err NotAToken) = gives (Err NotAToken)
-IsRead gives (Err NoKerberos) = gives (Err NoKerberos)
-IsRead gives (Err (Admit cause)) = gives (Err (Admit cause))
-IsRead gives (Err NoChecksum) = gives (Err NoChecksum)
-IsRead gives (Err OtherChecksum) = gives (Err OtherChecksum)
-IsRead gives (Err BadSequenceNumber) = gives (Err BadSequenceNumber)
-IsRead gives (Err UnknownKey) = gives (Err UnknownKey)
-IsRead gives (Err OldSuite) = gives (Err OldSuite)
-IsRead gives (Err Memory) = Unit {0}
+IsRead gives result = (result ≡ Err Memory) ⊎ gives result
