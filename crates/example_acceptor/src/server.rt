@@ -8,7 +8,6 @@ use gss_acceptor::{Acceptor, Established};
 use gss_contexts::Context;
 use krb_moments::Moment;
 use krb_runs::after_epoch;
-use krb_types::data_types::{PrincipalName, Realm};
 use std::alloc::Global;
 use std::time::{Clock, SystemTime, UNIX_EPOCH};
 
@@ -134,9 +133,9 @@ fn begin<W: Sink>(
     if let Some(reply) = reply {
         send(rt.alloc(), writer, CONTEXT, reply)?;
     }
-    let name = name_of(rt.alloc(), &client, &realm)?;
+    let name = client.with_realm(&realm);
     // The login stands where standard error takes nothing.
-    let _ = eprintln!(rt; "{} logged in", name.as_str());
+    let _ = eprintln!(rt; "{name} logged in");
     Ok(context)
 }
 
@@ -175,18 +174,4 @@ fn answer<W: Sink>(
 fn send<W: Sink>(alloc: Global, writer: &mut W, flags: u8, token: Vec<u8>) -> anyhow::Result<()> {
     let frame = Frame { flags, token };
     Ok(write_frame(alloc, writer, &frame)?)
-}
-
-// A principal's name, as NAME@REALM.
-fn name_of(alloc: Global, client: &PrincipalName, realm: &Realm) -> anyhow::Result<String> {
-    let mut text = String::new(alloc);
-    for component in client.name_string.0.as_slice() {
-        if !text.is_empty() {
-            text.push('/')?;
-        }
-        text.push_str(str::from_utf8(component.as_bytes())?)?;
-    }
-    text.push('@')?;
-    text.push_str(str::from_utf8(realm.as_bytes())?)?;
-    Ok(text)
 }
