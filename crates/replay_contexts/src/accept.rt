@@ -1,11 +1,10 @@
 //! Lines of an acceptor: `acceptor EXPECTED SUITE SKEW | KEY`, and `accept EXPECTED MOMENT CLIENT FLAGS | TOKEN WORDS REPLY
 //! BINDINGS`.
 
-use crate::is_named;
 use crate::row::Row;
-use anyhow::{Context as _, bail};
+use crate::{Ends, is_named};
+use anyhow::{Context, bail};
 use gss_acceptor::{Acceptor, Established};
-use gss_contexts::Context;
 use krb_crypto::CipherSuite;
 use krb_moments::Moment;
 use krb_service::Service;
@@ -35,12 +34,7 @@ fn service_of(alloc: Global, suite: CipherSuite, key: &[u8], skew: u64) -> anyho
 }
 
 /// Takes a first token. Its context takes the place of the last one.
-pub(crate) fn accepts(
-    alloc: Global,
-    acceptor: &mut Acceptor,
-    context: &mut Option<Context>,
-    row: &Row<'_>,
-) -> anyhow::Result<bool> {
+pub(crate) fn accepts(alloc: Global, ends: &mut Ends, row: &Row<'_>) -> anyhow::Result<bool> {
     let ([moment, ..], [token, words, ..]) = (row.words.as_slice(), row.columns.as_slice()) else {
         bail!("a line `accept` of another shape");
     };
@@ -48,10 +42,13 @@ pub(crate) fn accepts(
         bail!("too few random octets");
     }
     let moment = Moment::from_text(moment.as_bytes()).context("no moment")?;
+    let Some(acceptor) = &mut ends.acceptor else {
+        return Ok(false);
+    };
     match acceptor.accept(alloc, token, moment, words) {
         Ok(established) => {
             let is_expected = is_established(alloc, &established, row)?;
-            drop(context.replace(established.context));
+            drop(ends.context.replace(established.context));
             Ok(is_expected)
         }
         Err(refusal) => Ok(is_named(alloc, &refusal, row.expected)),
@@ -66,18 +63,23 @@ fn is_established(alloc: Global, made: &Established, row: &Row<'_>) -> anyhow::R
     ) else {
         bail!("a line `accept` of another shape");
     };
+    let asked = flags.parse::<u32>()?;
     let named = name_of(alloc, made)?;
-    let sent = match &made.reply {
-        Some(reply) => reply.as_slice(),
-        None => &[],
-    };
     Ok(
         row.expected == "ok"
             && named.as_str() == *client
-            && made.flags.0 == flags.parse::<u32>()?
-            && sent == reply.as_slice()
+            && made.flags.0 == asked
+            && is_sent(&made.reply, reply)
             && made.bindings.as_slice() == bindings.as_slice(),
     )
+}
+
+/// Whether this token is sent, or none is.
+fn is_sent(reply: &Option<Vec<u8>>, expected: &[u8]) -> bool {
+    match reply {
+        Some(reply) => reply.as_slice() == expected,
+        None => expected.is_empty(),
+    }
 }
 
 /// The client, as NAME@REALM.

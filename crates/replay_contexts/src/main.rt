@@ -19,9 +19,9 @@ const FILES: [&str; 3] = ["tokens.txt", "stock.txt", "first_tokens.txt"];
 
 /// What a line's call is one of.
 #[derive(Drop)]
-struct Ends {
-    acceptor: Option<Acceptor>,
-    context: Option<Context>,
+pub(crate) struct Ends {
+    pub(crate) acceptor: Option<Acceptor>,
+    pub(crate) context: Option<Context>,
 }
 
 fn main(rt: HostRuntime) -> anyhow::Result<()> {
@@ -62,19 +62,11 @@ fn agrees(alloc: Global, ends: &mut Ends, line: &str) -> anyhow::Result<bool> {
     match row.call {
         "new" => begin::begins(alloc, &mut ends.context, &row),
         "acceptor" => accept::begins(alloc, &mut ends.acceptor, &row),
-        "accept" => accepts(alloc, ends, &row),
+        "accept" => accept::accepts(alloc, ends, &row),
         _ => match &mut ends.context {
             Some(context) => Ok(calls_as_expected(alloc, context, &row)),
             None => Ok(false),
         },
-    }
-}
-
-/// Whether the acceptor gives what is expected.
-fn accepts(alloc: Global, ends: &mut Ends, row: &Row<'_>) -> anyhow::Result<bool> {
-    match &mut ends.acceptor {
-        Some(acceptor) => accept::accepts(alloc, acceptor, &mut ends.context, row),
-        None => Ok(false),
     }
 }
 
