@@ -11,7 +11,7 @@ abbrev pub IsOfMessage : Bool → ContextRecord → List ℕ → ContextRecord �
 IsOfMessage true old token new message = (protection : Protection) × TakesWrap old new token protection message
 IsOfMessage false old token new message = (new ≡ old) × (message ≡ token)
 
--- a message's MIC, if it is wanted, or else an empty frame
+-- a message's MIC, if the frame asks for it, or else an empty frame
 abbrev pub Acknowledges : Bool → ContextRecord → List ℕ → ContextRecord → Frame → Type 0
 Acknowledges true old message new answer =
     (answer.flags ≡ 8) × WritesMic (sender_of old) old.sending message answer.token.items × (new ≡ record old { sending = old.sending + 1 })

@@ -91,7 +91,7 @@ established_of framing admission made = record {
   reply = answer framing admission.reply;
 }
 
--- so it is established; or it is refused as it is judged, or for want of memory where it isn't
+-- so it is established; or it is refused as it is judged, or, if it isn't, because memory ran out
 abbrev pub IsEstablished : Framing → AdmissionRecord → Result EstablishedRecord AcceptRefusal → Type 0
 IsEstablished framing admission (Ok established) = (made : Judged) × (judged admission ≡ Ok made) × (established ≡ established_of framing admission made)
 IsEstablished framing admission (Err refusal) = (judged admission ≡ Err refusal) ⊎ ((refusal ≡ Memory) × ((made : Judged) × (judged admission ≡ Ok made)))
@@ -102,8 +102,8 @@ Establishes service moment framing message random result after =
     ((admission : AdmissionRecord) × Admits service moment message random (Ok admission) after × IsEstablished framing admission result)
     ⊎ ((cause : AdmitRefusal) × Admits service moment message random (Err cause) after × (result ≡ Err (Admit cause)))
 
--- by the AP-REQ that a token holds the context is established or not. A token that holds none is refused as the table says, and any may
--- be for want of memory. Then nothing changes
+-- by the AP-REQ that a token holds the context is established or not. A token that holds none is refused as the table says. Any may
+-- be refused because memory ran out. Then nothing changes
 abbrev pub Handles : Table (Result Request AcceptRefusal) → ServiceRecord → Micros → Random → Result EstablishedRecord AcceptRefusal → ServiceRecord → Type 0
 Handles table service moment random result after =
     ((request : Request) × table.gives (Ok request) × Establishes service moment request.framing request.message random result after)
