@@ -4,7 +4,7 @@
 # module that stand in one crate.
 cd "$(dirname "$0")/.." || exit 1
 front=crates/picky_krb/src/lib.rt
-all="$(sed -n 's/^picky_krb: //p' crates.txt) krb_priv_frames negoex_forms"
+all="$(sed -n 's/^picky_krb: //p' crates.txt) kpasswd_messages negoex_forms"
 others=$(echo "$all" | tr ' ' '\n' | grep -vE '^krb_(crypto|agreement)$')
 
 # One line for each item: its path, and the crate or the reason.
@@ -17,10 +17,10 @@ places() {
         module=${above##*::}
         home=
         case $path in
-            crypto::diffie_hellman::*) crates=krb_agreement ;;
-            crypto::des::*) crates='krb_crypto krb_des3 krb_des' ;;
-            crypto::aes::*) crates='krb_crypto krb_aes krb_blocks' ;;
-            crypto::*) crates='krb_crypto krb_profile krb_blocks krb_digests' ;;
+            crypto::diffie_hellman::*) crates=krb_crypto ;;
+            crypto::des::*) crates='krb_crypto krb_des3 des3_cbc' ;;
+            crypto::aes::*) crates='krb_crypto krb_aes aes_cts' ;;
+            crypto::*) crates='krb_crypto krb_profile aes_cts krb_profile' ;;
             *) crates=$others ;;
         esac
         for crate in $crates; do

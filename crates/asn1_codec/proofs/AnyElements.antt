@@ -1,6 +1,6 @@
 -- An expected element of any type begins with its identifier octet.
 use Rattle.std.proofs.Common.{◌≡◌, ℕ, ◌%◌, ◌≤◌, List, ◌∷◌, ◌++◌, length, Some, sym, ap, subst, ◌∙◌, arith}
-use Rattle.asn1_trees.proofs.Elements.{element-begins, length-element}
+use Rattle.asn1_der.proofs.Elements.{element-begins, length-element}
 use Rattle.asn1_codec.specs.Reading.{Reading, IsElement}
 use Rattle.asn1_codec.specs.Values.{IsAnyElement}
 use Rattle.asn1_codec.proofs.FieldsLemmas.{nonempty}

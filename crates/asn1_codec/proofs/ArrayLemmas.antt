@@ -1,14 +1,14 @@
 -- How an array is read as a list.
 use Rattle.std.proofs.Common.{◌≡◌, ℕ, List, ◌++◌, length, sym, ap, subst, ◌∙◌}
-use Rattle.asn1_trees.specs.Length.{element}
-use Rattle.asn1_trees.specs.Tagged.{sequence}
-use Rattle.asn1_trees.specs.Tree.{Tree, Writes, ders, AreWhole, trees_of}
-use Rattle.asn1_trees.proofs.Elements.{element-one}
-use Rattle.asn1_trees.proofs.Spelling.{IsInjective}
-use Rattle.asn1_trees.proofs.Rows.{many-injective}
+use Rattle.asn1_der.specs.Length.{element}
+use Rattle.asn1_der.specs.Tagged.{sequence}
+use Rattle.asn1_der.specs.Tree.{Tree, Writes, ders, AreWhole, trees_of}
+use Rattle.asn1_der.proofs.Elements.{element-one}
+use Rattle.asn1_der.proofs.Spelling.{IsInjective}
+use Rattle.asn1_der.proofs.Rows.{many-injective}
 use Rattle.asn1_codec.specs.Arrays.{array_trees}
 use Rattle.asn1_codec.specs.ArrayLaws.{array-count, array-is}
-use Rattle.asn1_octets.specs.declared.error.Asn1DerError.{Asn1DerError}
+use Rattle.asn1_der.specs.declared.error.Asn1DerError.{Asn1DerError}
 use Rattle.asn1_codec.specs.Reading.{Reading, TookValue, Refused, IsSpelling, IsOwn, stopped}
 use Rattle.asn1_codec.proofs.Chain.{refused-taken}
 

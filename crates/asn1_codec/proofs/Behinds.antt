@@ -1,11 +1,11 @@
 -- How a value is written behind an octet: as an element that holds the octet and the value's spelling.
 use Rattle.std.proofs.Common.{◌≡◌, ℕ, ◌+◌, ◌^◌, ◌≤◌, false, List, [], ◌∷◌, length, Option, None, inr, refl, sym, ap, subst, ◌∙◌, arith}
-use Rattle.asn1_trees.specs.Tree.{Tree, der, wrapped, behind}
-use Rattle.asn1_trees.specs.Length.{element, length_octets}
-use Rattle.asn1_trees.proofs.Elements.{length-element}
-use Rattle.asn1_octets.specs.declared.error.Asn1DerError.{Asn1DerError}
-use Rattle.asn1_octets.specs.declared.error.Asn1DerError.TheVariants.{Memory}
-use Rattle.asn1_octets.specs.declared.error.Unsupported.{Unsupported}
+use Rattle.asn1_der.specs.Tree.{Tree, der, wrapped, behind}
+use Rattle.asn1_der.specs.Length.{element, length_octets}
+use Rattle.asn1_der.proofs.Elements.{length-element}
+use Rattle.asn1_der.specs.declared.error.Asn1DerError.{Asn1DerError}
+use Rattle.asn1_der.specs.declared.error.Asn1DerError.TheVariants.{Memory}
+use Rattle.asn1_der.specs.declared.error.Unsupported.{Unsupported}
 use Rattle.asn1_codec.specs.Writing.{Writing, Wrote, NotWrote, WroteValue, NotWroteValue, halted}
 use Rattle.asn1_codec.proofs.Writes.{wrote-as, wrote-join, wrote-nothing, notwrote-as, notwrote-before, notwrote-after, notwrote-refusal, notwrote-too_long, value-after, element-header, element-size, element-not_written, der-behind_some}
 

@@ -1,7 +1,7 @@
 -- What is read from a source doesn't depend on how the source cuts.
 use Rattle.std.proofs.Common.{◌≡◌, ℕ, List, ◌++◌, Option, Some, Result, Ok, Err, inl, inr, refl, sym, ap, subst, ◌∙◌}
 use Rattle.std.proofs.lemmas.List.{append_cancel_left}
-use Rattle.asn1_octets.specs.declared.error.Asn1DerError.{Asn1DerError}
+use Rattle.asn1_der.specs.declared.error.Asn1DerError.{Asn1DerError}
 use Rattle.asn1_codec.specs.Reads.{IsOneValue}
 use Rattle.asn1_codec.specs.Cuts.{BeginsWithin, IsNextAnswer, IsExcused, ReadsNext, IsSameReading}
 use Rattle.asn1_codec.proofs.Chain.{consumed}

@@ -1,10 +1,10 @@
 -- How the elements of a list are written one after another.
 use Rattle.std.proofs.Common.{◌≡◌, ℕ, suc, ◌+◌, ◌^◌, ◌<◌, ◌≤◌, List, [], ◌∷◌, ◌++◌, length, take, drop, get_or, Option, None, refl, sym, ap, subst, ◌∙◌, arith, append_assoc, length-append, drop-cons}
 use Rattle.std.proofs.lemmas.List.{take-append-drop}
-use Rattle.asn1_trees.specs.Tree.{Tree, der, ders, trees_of}
-use Rattle.asn1_octets.specs.declared.error.Asn1DerError.{Asn1DerError}
-use Rattle.asn1_octets.specs.declared.error.Asn1DerError.TheVariants.{Memory}
-use Rattle.asn1_octets.specs.declared.error.Unsupported.{Unsupported}
+use Rattle.asn1_der.specs.Tree.{Tree, der, ders, trees_of}
+use Rattle.asn1_der.specs.declared.error.Asn1DerError.{Asn1DerError}
+use Rattle.asn1_der.specs.declared.error.Asn1DerError.TheVariants.{Memory}
+use Rattle.asn1_der.specs.declared.error.Unsupported.{Unsupported}
 use Rattle.asn1_codec.specs.Refusals.{refusal_of, refusal_of_list, first_refusal}
 use Rattle.asn1_codec.specs.Writing.{Writing, Wrote, NotWroteValue, NotWroteFields, halted}
 use Rattle.std.proofs.Common.{inr}

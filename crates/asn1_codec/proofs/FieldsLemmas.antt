@@ -1,11 +1,11 @@
 -- What is expected after the fields that were read.
 use Rattle.std.proofs.Common.{◌≡◌, ℕ, ◌+◌, ◌<◌, ◌≤◌, Bool, true, false, List, [], ◌∷◌, ◌++◌, length, Option, None, Some, refl, sym, ap, subst, ◌∙◌, arith, length-append, append_assoc, append-nil}
 use Rattle.std.specs.Prelude.{IsTrue}
-use Rattle.asn1_trees.specs.Tree.{Tree, Trees, more, der, ders, put, trees_of, IsWhole, AreWhole}
-use Rattle.asn1_trees.specs.Firsts.{Firsts, may_begin, apart}
-use Rattle.asn1_trees.proofs.Spelling.{der-front, der-begins, der-nonempty}
-use Rattle.asn1_trees.proofs.Rows.{AllBeginAmong, StartAmong, apart-none}
-use Rattle.asn1_octets.specs.declared.error.Asn1DerError.{Asn1DerError}
+use Rattle.asn1_der.specs.Tree.{Tree, Trees, more, der, ders, put, trees_of, IsWhole, AreWhole}
+use Rattle.asn1_der.specs.Firsts.{Firsts, may_begin, apart}
+use Rattle.asn1_der.proofs.Spelling.{der-front, der-begins, der-nonempty}
+use Rattle.asn1_der.proofs.Rows.{AllBeginAmong, StartAmong, apart-none}
+use Rattle.asn1_der.specs.declared.error.Asn1DerError.{Asn1DerError}
 use Rattle.asn1_codec.specs.Optionals.{ReadIf}
 use Rattle.asn1_codec.specs.Reading.{Reading, Took, TookNone, TookFields, Refused, AreFields, IsSpelling, Tells}
 use Rattle.asn1_codec.proofs.Chain.{Cuts, refused-after, refused-unread, refused-known, took-join, took-unread}

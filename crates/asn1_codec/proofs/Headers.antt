@@ -1,9 +1,9 @@
 -- Identifier and length octets at the front of bytes.
 use Rattle.std.proofs.Common.{Result, Ok, Err, MatchResult, subst, ◌≡◌, ℕ, ◌+◌, ◌≤◌, List, [], ◌∷◌, ◌++◌, length, refl, sym, ap, ◌∙◌, arith, append_assoc, length-take, take, ◌-◌, suc}
 use lib.Seq.{take-append_seam}
-use Rattle.asn1_trees.specs.Length.{element, length_octets}
-use Rattle.asn1_trees.proofs.Elements.{element-split, element-begins, length-element, length_octets-one, length-length_octets-ge}
-use Rattle.asn1_octets.specs.declared.error.Asn1DerError.{Asn1DerError}
+use Rattle.asn1_der.specs.Length.{element, length_octets}
+use Rattle.asn1_der.proofs.Elements.{element-split, element-begins, length-element, length_octets-one, length-length_octets-ge}
+use Rattle.asn1_der.specs.declared.error.Asn1DerError.{Asn1DerError}
 use Rattle.asn1_codec.specs.Reading.{Reading, Took, Refused, IsElement, IsLength, IsOctet}
 use Rattle.asn1_codec.specs.Tails.{IsLengthTail, TookTail}
 use Rattle.asn1_codec.proofs.Chain.{Cuts, took-as, took-join, refused-after}

@@ -1,10 +1,10 @@
 -- How a leaf is read and written: its content, and whether that is the content of a value.
 use Rattle.std.proofs.Common.{◌≡◌, ℕ, Bool, true, None, List, ◌++◌, Result, MatchResult, ap, subst, sym, ◌∙◌}
-use Rattle.asn1_trees.specs.Length.{element}
-use Rattle.asn1_trees.specs.Tree.{Tree, leaf, der, IsWhole}
-use Rattle.asn1_trees.proofs.Elements.{element-one}
-use Rattle.asn1_trees.proofs.Leaf.{leaf-whole, whole-leaf, der-leaf}
-use Rattle.asn1_octets.specs.declared.error.Asn1DerError.{Asn1DerError}
+use Rattle.asn1_der.specs.Length.{element}
+use Rattle.asn1_der.specs.Tree.{Tree, leaf, der, IsWhole}
+use Rattle.asn1_der.proofs.Elements.{element-one}
+use Rattle.asn1_der.proofs.Leaf.{leaf-whole, whole-leaf, der-leaf}
+use Rattle.asn1_der.specs.declared.error.Asn1DerError.{Asn1DerError}
 use Rattle.asn1_codec.specs.Reading.{Reading, Took, TookValue, Refused, IsSpelling, IsElement, IsOwn, stopped}
 use Rattle.asn1_codec.specs.Writing.{Writing, WroteValue, NotWroteValue}
 use Rattle.asn1_codec.proofs.Chain.{refused-as, refused-taken}

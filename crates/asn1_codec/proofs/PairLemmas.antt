@@ -1,9 +1,9 @@
 -- How two octets in front of other fields are written and read.
 use Rattle.std.proofs.Common.{◌≡◌, ℕ, ◌+◌, List, [], ◌∷◌, ◌++◌, length, Option, None, refl, sym, ap, subst, ◌∙◌, arith, length-append}
-use Rattle.asn1_trees.specs.Tree.{Trees, ders, AreWhole}
-use Rattle.asn1_trees.proofs.Spelling.{tails}
-use Rattle.asn1_octets.specs.declared.error.Asn1DerError.{Asn1DerError}
-use Rattle.asn1_octets.specs.declared.error.Unsupported.{Unsupported}
+use Rattle.asn1_der.specs.Tree.{Trees, ders, AreWhole}
+use Rattle.asn1_der.proofs.Spelling.{tails}
+use Rattle.asn1_der.specs.declared.error.Asn1DerError.{Asn1DerError}
+use Rattle.asn1_der.specs.declared.error.Unsupported.{Unsupported}
 use Rattle.asn1_codec.specs.Pairs.{pair_before}
 use Rattle.asn1_codec.specs.Reading.{Reading, Took, TookFields, AreFields, IsOctet}
 use Rattle.asn1_codec.specs.Writing.{Writing, WroteValue, NotWroteFields}

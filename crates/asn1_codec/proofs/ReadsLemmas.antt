@@ -1,7 +1,7 @@
 -- What reading from the front of an input answers.
 use Rattle.std.proofs.Common.{◌≡◌, ◌⊎◌, ℕ, List, [], ◌∷◌, ◌++◌, length, Some, Result, Ok, Err, MatchResult, IfErr, inl, inr, refl, sym, ap, subst, ◌∙◌, ◌≤◌, arith, length-append, append-nil}
-use Rattle.asn1_octets.specs.declared.error.Asn1DerError.{Asn1DerError}
-use Rattle.asn1_octets.specs.declared.error.Asn1DerError.TheVariants.{Memory, Other, TruncatedData, InvalidData, UnsupportedValue, UnsupportedType, InvalidSink, Message}
+use Rattle.asn1_der.specs.declared.error.Asn1DerError.{Asn1DerError}
+use Rattle.asn1_der.specs.declared.error.Asn1DerError.TheVariants.{Memory, Other, TruncatedData, InvalidData, UnsupportedValue, UnsupportedType, InvalidSink, Message}
 use Rattle.std.specs.declared.io.ErrorKind.{ErrorKind}
 use Rattle.asn1_codec.specs.Reading.{Reading, TookBy, Refused, IsReadBy, IsLastBy, IsExcuse, IsMissing, IsOwn, faults_after, whole_input}
 use Rattle.asn1_codec.specs.Reads.{IsOneValue, BeginsBy, ReadsFront, ReadsWhole}

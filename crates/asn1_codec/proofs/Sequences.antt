@@ -1,7 +1,7 @@
 -- The content of a constructed element, value after value.
 use Rattle.std.proofs.Common.{◌≡◌, ℕ, ◌+◌, List, ◌∷◌, ◌++◌, length, sym, ap, refl, subst, ◌∙◌, arith}
-use Rattle.asn1_trees.specs.Length.{element, length_octets}
-use Rattle.asn1_trees.proofs.Elements.{element-split}
+use Rattle.asn1_der.specs.Length.{element, length_octets}
+use Rattle.asn1_der.proofs.Elements.{element-split}
 use Rattle.asn1_codec.specs.Reading.{Reading, Took, within}
 use Rattle.asn1_codec.specs.Sequences.{Opened}
 use Rattle.asn1_codec.proofs.Chain.{took-as, took-within}

@@ -5,9 +5,9 @@ use Rattle.std.proofs.lemmas.Bool.{cases_lt, cases_eq, lt-ltb, le-ltb}
 use Rattle.std.proofs.lemmas.Bool.Decides.{nat_tests}
 use Rattle.std.proofs.lemmas.Int.Digits.{first_digits_of, length-digits_of-le, number_after_append, number_after_ge}
 use Rattle.std.proofs.lemmas.List.{drop-set, take-append-drop}
-use Rattle.asn1_trees.specs.Length.{digits}
-use Rattle.asn1_trees.proofs.Digits.{digits-is, digits-zero, digits-step}
-use Rattle.asn1_octets.specs.declared.error.Asn1DerError.TheVariants.{InvalidData, UnsupportedValue}
+use Rattle.asn1_der.specs.Length.{digits}
+use Rattle.asn1_der.proofs.Digits.{digits-is, digits-zero, digits-step}
+use Rattle.asn1_der.specs.declared.error.Asn1DerError.TheVariants.{InvalidData, UnsupportedValue}
 use Rattle.asn1_codec.specs.Reading.{IsOwn}
 use Rattle.asn1_codec.specs.Unsigned.{with_sign, unsigned_content, IsUnsigned, unsigned_fault}
 use Rattle.asn1_codec.specs.UnsignedLaws.{number-unsigned_content}

@@ -12,13 +12,13 @@ use Rattle.devices.specs.Whole.{after_whole_fault}
 use Rattle.devices.specs.declared.exact.WholeFault.{WholeFault}
 use Rattle.devices.specs.declared.exact.WholeFault.TheVariants as whole
 use Rattle.devices.proofs.Rooms.{taken_room-none, taken_room-join, past-after, past-more, past-whole, unbounded-after, unbounded-whole}
-use Rattle.asn1_trees.specs.Tree.{Tree, primitive, constructed, absent, der, ders, wrapped, behind}
-use Rattle.asn1_trees.specs.Length.{element, length_octets}
-use Rattle.asn1_trees.proofs.Elements.{element-nonempty, element-split, length-element, length_octets-short}
-use Rattle.asn1_octets.specs.declared.error.Asn1DerError.{Asn1DerError}
-use Rattle.asn1_octets.specs.declared.error.Asn1DerError.TheVariants.{InvalidSink, Memory, Other, TruncatedData, InvalidData, UnsupportedValue, UnsupportedType, Message}
-use Rattle.asn1_octets.specs.declared.error.Unsupported.{Unsupported}
-use Rattle.asn1_octets.specs.declared.error.Unsupported.TheVariants.{OneValue, WholeType}
+use Rattle.asn1_der.specs.Tree.{Tree, primitive, constructed, absent, der, ders, wrapped, behind}
+use Rattle.asn1_der.specs.Length.{element, length_octets}
+use Rattle.asn1_der.proofs.Elements.{element-nonempty, element-split, length-element, length_octets-short}
+use Rattle.asn1_der.specs.declared.error.Asn1DerError.{Asn1DerError}
+use Rattle.asn1_der.specs.declared.error.Asn1DerError.TheVariants.{InvalidSink, Memory, Other, TruncatedData, InvalidData, UnsupportedValue, UnsupportedType, Message}
+use Rattle.asn1_der.specs.declared.error.Unsupported.{Unsupported}
+use Rattle.asn1_der.specs.declared.error.Unsupported.TheVariants.{OneValue, WholeType}
 use Rattle.asn1_codec.specs.Refusals.{RefusedAs, first_refusal, refusal_of, refusal_of_list, refusal_in, part_refusal, list_refusal, refusal_of_option}
 use Rattle.asn1_codec.specs.Sinks.{sink_fault, as_too_long}
 use Rattle.asn1_codec.specs.Writing.{Writing, Wrote, NotWrote, WroteValue, NotWroteValue, NotWroteFields, Measured, NotMeasured, IsSinkFault, IsTooLong, halted, left_by}

@@ -2,9 +2,9 @@
 use Rattle.std.proofs.Common.{◌≡◌, ℕ, Bool, true, false, List, length, refl, sym, ap, subst, ◌∙◌}
 use Rattle.std.specs.Prelude.{◌==◌}
 use Rattle.std.proofs.lemmas.Bool.{eqb-true}
-use Rattle.asn1_trees.specs.Tree.{Tree, Trees, ders, AreWhole, trees_of}
-use Rattle.asn1_trees.proofs.Spelling.{IsInjective}
-use Rattle.asn1_trees.proofs.Rows.{AreInjective, many-injective}
+use Rattle.asn1_der.specs.Tree.{Tree, Trees, ders, AreWhole, trees_of}
+use Rattle.asn1_der.proofs.Spelling.{IsInjective}
+use Rattle.asn1_der.proofs.Rows.{AreInjective, many-injective}
 use Rattle.asn1_codec.specs.Arrays.{trees_if, array_trees}
 
 trees_if-whole : (test : Bool) (trees : Trees) → AreWhole (trees_if test trees) → test ≡ true

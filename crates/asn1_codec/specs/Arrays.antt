@@ -1,6 +1,6 @@
 -- The elements of an array, a SEQUENCE of just so many (X.690, section 8.10).
 use Rattle.std.specs.Prelude.{ℕ, Bool, true, false, ◌==◌, List, length}
-use Rattle.asn1_trees.specs.Tree.{Tree, Trees, absent, none, more, trees_of}
+use Rattle.asn1_der.specs.Tree.{Tree, Trees, absent, none, more, trees_of}
 
 -- the trees where they are as many as there have to be; any others have none
 abbrev pub trees_if : Bool → Trees → Trees

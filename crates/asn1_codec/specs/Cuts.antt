@@ -1,7 +1,7 @@
 -- What reading a value from a source answers, by the bytes of the source alone.
 use Rattle.std.specs.Io.KnownBytes.{Consumes}
 use Rattle.std.specs.Prelude.{◌≡◌, ℕ, ◌≤◌, List, ◌++◌, length, Option, Some, ⊤, ◌⊎◌, Result, Ok, Err, MatchResult}
-use Rattle.asn1_octets.specs.declared.error.Asn1DerError.{Asn1DerError}
+use Rattle.asn1_der.specs.declared.error.Asn1DerError.{Asn1DerError}
 use Rattle.asn1_codec.specs.Reading.{IsExcuse, IsNotNext, IsReadBy}
 
 -- the input begins with bytes that are read as the value, at most `limit` of them; `rest` follows them

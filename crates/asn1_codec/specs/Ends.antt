@@ -1,7 +1,7 @@
 -- Where no field is left, nothing starts.
 use Rattle.std.specs.Prelude.{◌≡◌, ℕ, List, [], ◌∷◌, IsTrue}
 use Rattle.std.proofs.Common.{subst}
-use Rattle.asn1_trees.specs.Firsts.{may_begin, one_of}
+use Rattle.asn1_der.specs.Firsts.{may_begin, one_of}
 
 abbrev IsEmptyList : List ℕ → Type 0
 IsEmptyList [] = Unit {0}

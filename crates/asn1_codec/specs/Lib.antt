@@ -22,8 +22,8 @@ pub mod Unsigned
 pub mod UnsignedLaws
 pub mod Values
 pub mod Writing
-pub use Rattle.asn1_trees.specs.Firsts
-pub use Rattle.asn1_trees.specs.Length
-pub use Rattle.asn1_trees.specs.Tagged
-pub use Rattle.asn1_trees.specs.Tags
-pub use Rattle.asn1_trees.specs.Tree
+pub use Rattle.asn1_der.specs.Firsts
+pub use Rattle.asn1_der.specs.Length
+pub use Rattle.asn1_der.specs.Tagged
+pub use Rattle.asn1_der.specs.Tags
+pub use Rattle.asn1_der.specs.Tree

@@ -1,8 +1,8 @@
 -- A value that is written says which it is, and nothing is no spelling.
 use Rattle.std.proofs.Common.{Option, None, Some, ap}
-use Rattle.asn1_trees.specs.Tree.{Tree}
-use Rattle.asn1_trees.specs.Firsts.{Firsts, BeginsAmong}
-use Rattle.asn1_trees.proofs.Spelling.{IsInjective}
+use Rattle.asn1_der.specs.Tree.{Tree}
+use Rattle.asn1_der.specs.Firsts.{Firsts, BeginsAmong}
+use Rattle.asn1_der.proofs.Spelling.{IsInjective}
 use Rattle.asn1_codec.specs.Options.{option_tree}
 
 pub option_tree-begins : {A : Type 0} (tree : A → Tree) (firsts : Firsts) → ((value : A) → BeginsAmong firsts (tree value))

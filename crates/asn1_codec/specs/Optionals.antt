@@ -1,6 +1,6 @@
 -- A value that is read where one begins.
 use Rattle.std.specs.Prelude.{◌≡◌, Bool, true, false, Option, None, Some}
-use Rattle.asn1_trees.specs.Tree.{Tree}
+use Rattle.asn1_der.specs.Tree.{Tree}
 use Rattle.asn1_codec.specs.Reading.{Reading, TookValue}
 
 -- a value was taken where one begins, and else nothing

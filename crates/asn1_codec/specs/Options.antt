@@ -1,7 +1,7 @@
 -- A value that may be missing.
 use Rattle.std.specs.Prelude.{Option, None, Some}
-use Rattle.asn1_trees.specs.Tree.{Tree, absent}
-use Rattle.asn1_octets.specs.declared.error.Unsupported.{Unsupported}
+use Rattle.asn1_der.specs.Tree.{Tree, absent}
+use Rattle.asn1_der.specs.declared.error.Unsupported.{Unsupported}
 
 -- what is missing is written as nothing
 abbrev pub option_tree : {A : Type 0} → (A → Tree) → Option A → Tree

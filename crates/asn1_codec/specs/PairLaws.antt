@@ -1,8 +1,8 @@
 -- Two octets, and the fields behind them, are told by what is written.
 use Rattle.std.proofs.Common.{◌≡◌, ℕ, List, [], ◌∷◌}
-use Rattle.asn1_trees.specs.Tree.{Trees, ders, AreWhole}
-use Rattle.asn1_trees.proofs.Spelling.{heads, tails}
-use Rattle.asn1_trees.proofs.Rows.{AreInjective}
+use Rattle.asn1_der.specs.Tree.{Trees, ders, AreWhole}
+use Rattle.asn1_der.proofs.Spelling.{heads, tails}
+use Rattle.asn1_der.proofs.Rows.{AreInjective}
 use Rattle.asn1_codec.specs.Pairs.{pair_before}
 
 pub pair-injective : {B : Type 0} (trees : B → Trees) → AreInjective trees → (v w : List ℕ) (x y : B) → AreWhole (pair_before v (trees x))

@@ -4,11 +4,11 @@ use Rattle.std.specs.Borrow.{GName}
 use Rattle.std.specs.declared.io.ErrorKind.{ErrorKind}
 use Rattle.std.specs.Io.KnownBytes.{Consumes, Keeps}
 use Rattle.devices.specs.Counting.{one_more}
-use Rattle.asn1_trees.specs.Tree.{Tree, Trees, IsWhole, AreWhole, der, ders, Writes}
-use Rattle.asn1_trees.specs.Length.{element, length_octets}
-use Rattle.asn1_trees.specs.Firsts.{Firsts, may_begin}
-use Rattle.asn1_octets.specs.declared.error.Asn1DerError.{Asn1DerError}
-use Rattle.asn1_octets.specs.declared.error.Asn1DerError.TheVariants.{InvalidData, Memory, Other}
+use Rattle.asn1_der.specs.Tree.{Tree, Trees, IsWhole, AreWhole, der, ders, Writes}
+use Rattle.asn1_der.specs.Length.{element, length_octets}
+use Rattle.asn1_der.specs.Firsts.{Firsts, may_begin}
+use Rattle.asn1_der.specs.declared.error.Asn1DerError.{Asn1DerError}
+use Rattle.asn1_der.specs.declared.error.Asn1DerError.TheVariants.{InvalidData, Memory, Other}
 
 -- the bytes that the source still gives, where they are known, and whether the next of them is looked at; how
 -- many of them may still be taken; whether a call was refused; how many calls of the source failed, and why the

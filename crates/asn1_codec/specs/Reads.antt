@@ -1,8 +1,8 @@
 -- What reading a value from an input answers.
 use Rattle.std.specs.Prelude.{◌≡◌, List, ℕ, ◌++◌, ◌⊎◌, Result, Ok, Err}
-use Rattle.asn1_trees.specs.Tree.{Tree, Writes}
-use Rattle.asn1_octets.specs.declared.error.Asn1DerError.{Asn1DerError}
-use Rattle.asn1_octets.specs.declared.error.Asn1DerError.TheVariants.{Memory}
+use Rattle.asn1_der.specs.Tree.{Tree, Writes}
+use Rattle.asn1_der.specs.declared.error.Asn1DerError.{Asn1DerError}
+use Rattle.asn1_der.specs.declared.error.Asn1DerError.TheVariants.{Memory}
 
 -- the front of a text is read as one value, and is one front; `reads` says which bytes are read as a value
 abbrev pub IsOneValue : {T : Type 0} → (T → List ℕ → Type 0) → Type 0

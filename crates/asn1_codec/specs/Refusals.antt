@@ -1,9 +1,9 @@
 -- Which values a type refuses to write, and how.
 use Rattle.std.specs.Prelude.{◌≡◌, List, [], ◌∷◌, Option, None, Some}
-use Rattle.asn1_octets.specs.declared.error.Asn1DerError.{Asn1DerError}
-use Rattle.asn1_octets.specs.declared.error.Asn1DerError.TheVariants.{UnsupportedValue, UnsupportedType}
-use Rattle.asn1_octets.specs.declared.error.Unsupported.{Unsupported}
-use Rattle.asn1_octets.specs.declared.error.Unsupported.TheVariants.{OneValue, WholeType}
+use Rattle.asn1_der.specs.declared.error.Asn1DerError.{Asn1DerError}
+use Rattle.asn1_der.specs.declared.error.Asn1DerError.TheVariants.{UnsupportedValue, UnsupportedType}
+use Rattle.asn1_der.specs.declared.error.Unsupported.{Unsupported}
+use Rattle.asn1_der.specs.declared.error.Unsupported.TheVariants.{OneValue, WholeType}
 
 -- what a type's refusals say of a value: a type with none refuses none
 abbrev pub refusal_of : {A : Type 0} → Option (A → Option Unsupported) → A → Option Unsupported

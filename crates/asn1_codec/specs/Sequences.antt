@@ -1,8 +1,8 @@
 -- A constructed element of which the content is being read or written.
 use Rattle.std.specs.Prelude.{◌≡◌, ℕ, ◌+◌, ◌<◌, false, List, ◌∷◌, length}
-use Rattle.asn1_trees.specs.Length.{length_octets}
-use Rattle.asn1_octets.specs.declared.error.Asn1DerError.{Asn1DerError}
-use Rattle.asn1_octets.specs.declared.error.Asn1DerError.TheVariants.{InvalidSink}
+use Rattle.asn1_der.specs.Length.{length_octets}
+use Rattle.asn1_der.specs.declared.error.Asn1DerError.{Asn1DerError}
+use Rattle.asn1_der.specs.declared.error.Asn1DerError.TheVariants.{InvalidSink}
 use Rattle.asn1_codec.specs.Reading.{Reading, Took, within}
 use Rattle.asn1_codec.specs.Writing.{Writing}
 

@@ -1,8 +1,8 @@
 -- A sink's fault, as a serializer answers it.
 use Rattle.devices.specs.declared.exact.WholeFault.{WholeFault}
 use Rattle.devices.specs.declared.exact.WholeFault.TheVariants as whole
-use Rattle.asn1_octets.specs.declared.error.Asn1DerError.{Asn1DerError}
-use Rattle.asn1_octets.specs.declared.error.Asn1DerError.TheVariants.{InvalidSink, UnsupportedValue, Memory, Other}
+use Rattle.asn1_der.specs.declared.error.Asn1DerError.{Asn1DerError}
+use Rattle.asn1_der.specs.declared.error.Asn1DerError.TheVariants.{InvalidSink, UnsupportedValue, Memory, Other}
 
 abbrev pub sink_fault : WholeFault → Asn1DerError
 sink_fault whole.Full = InvalidSink

@@ -1,6 +1,6 @@
 -- Length octets behind the first (X.690, section 8.1.3.5).
 use Rattle.std.specs.Prelude.{◌≡◌, ℕ, ◌<◌, List, ◌∷◌}
-use Rattle.asn1_trees.specs.Length.{length_octets}
+use Rattle.asn1_der.specs.Length.{length_octets}
 use Rattle.asn1_codec.specs.Reading.{Reading, Took}
 
 -- the bytes are the length octets behind the first of a length below the limit

@@ -1,9 +1,9 @@
 -- INTEGER, of the numbers that aren't negative (X.690, section 8.3).
 use Rattle.std.specs.Prelude.{◌≡◌, ℕ, ◌<◌, ◌≤◌, ◌&&◌, ◌==◌, nat_lt, if◌then◌else◌, List, [], ◌∷◌, refl}
-use Rattle.asn1_trees.specs.Length.{digits, digits_within}
-use Rattle.asn1_trees.specs.Tree.{Tree, leaf}
-use Rattle.asn1_octets.specs.declared.error.Asn1DerError.{Asn1DerError}
-use Rattle.asn1_octets.specs.declared.error.Asn1DerError.TheVariants.{TruncatedData, InvalidData, UnsupportedValue}
+use Rattle.asn1_der.specs.Length.{digits, digits_within}
+use Rattle.asn1_der.specs.Tree.{Tree, leaf}
+use Rattle.asn1_der.specs.declared.error.Asn1DerError.{Asn1DerError}
+use Rattle.asn1_der.specs.declared.error.Asn1DerError.TheVariants.{TruncatedData, InvalidData, UnsupportedValue}
 
 -- digits behind a zero octet where there are none, or where the first would say that the number is negative
 abbrev pub with_sign : List ℕ → List ℕ

@@ -3,9 +3,9 @@ use Rattle.std.proofs.Common.{◌≡◌, ℕ, List, [], ◌∷◌, refl, sym, ap
 use Rattle.std.specs.Int.Digits.{number_from_digits}
 use Rattle.std.proofs.lemmas.Bool.{cases_lt}
 use Rattle.std.proofs.lemmas.Bool.Decides.{nat_tests}
-use Rattle.asn1_trees.specs.Length.{digits}
-use Rattle.asn1_trees.proofs.Digits.{number-digits}
-use Rattle.asn1_trees.proofs.Tagged.{TagLaws, leaf_laws}
+use Rattle.asn1_der.specs.Length.{digits}
+use Rattle.asn1_der.proofs.Digits.{number-digits}
+use Rattle.asn1_der.proofs.Tagged.{TagLaws, leaf_laws}
 use Rattle.asn1_codec.specs.Unsigned.{with_sign, unsigned_content, unsigned_tree}
 
 number-with_sign : (ds : List ℕ) → number_from_digits 256 (with_sign ds) ≡ number_from_digits 256 ds

@@ -1,11 +1,11 @@
 -- The trees of Rust's own types, and an element of any type.
 use Rattle.std.specs.Prelude.{◌≡◌, ℕ, ◌%◌, Bool, true, false, ⊤, List}
 use Rattle.std.specs.Str.{IsUtf8}
-use Rattle.asn1_trees.specs.Tree.{Tree}
-use Rattle.asn1_trees.specs.Length.{element}
-use Rattle.asn1_trees.specs.Tagged.{leaf_as}
-use Rattle.asn1_octets.specs.declared.error.Asn1DerError.{Asn1DerError}
-use Rattle.asn1_octets.specs.declared.error.Asn1DerError.TheVariants.{UnsupportedType}
+use Rattle.asn1_der.specs.Tree.{Tree}
+use Rattle.asn1_der.specs.Length.{element}
+use Rattle.asn1_der.specs.Tagged.{leaf_as}
+use Rattle.asn1_der.specs.declared.error.Asn1DerError.{Asn1DerError}
+use Rattle.asn1_der.specs.declared.error.Asn1DerError.TheVariants.{UnsupportedType}
 use Rattle.asn1_codec.specs.Reading.{Reading, Refused}
 use Rattle.asn1_codec.specs.Booleans.{bool_content}
 use Rattle.asn1_codec.specs.Nulls.{null_content}

@@ -5,9 +5,9 @@ use Rattle.std.specs.declared.io.ErrorKind.{ErrorKind}
 use Rattle.std.specs.Io.KnownBytes.{Appends}
 use Rattle.devices.specs.Counting.{one_more}
 use Rattle.devices.specs.Room.{TakenRoom, IsPast, IsUnbounded}
-use Rattle.asn1_octets.specs.declared.error.Asn1DerError.{Asn1DerError}
-use Rattle.asn1_octets.specs.declared.error.Asn1DerError.TheVariants.{InvalidSink, Memory, Other}
-use Rattle.asn1_octets.specs.declared.error.Unsupported.{Unsupported}
+use Rattle.asn1_der.specs.declared.error.Asn1DerError.{Asn1DerError}
+use Rattle.asn1_der.specs.declared.error.Asn1DerError.TheVariants.{InvalidSink, Memory, Other}
+use Rattle.asn1_der.specs.declared.error.Unsupported.{Unsupported}
 use Rattle.asn1_codec.specs.Refusals.{RefusedAs}
 
 -- the bytes that the sink holds, and how many more it takes, where they are known; whether a call failed; how many

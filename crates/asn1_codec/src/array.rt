@@ -5,13 +5,13 @@ use crate::de::{Deserialize, Deserializer};
 use crate::elements::Elements;
 use crate::ser::Serializer;
 use crate::tagged::{Tagged, read_sequence};
-use asn1_octets::Asn1DerError;
+use asn1_der::Asn1DerError;
 use devices::{Sink, Source};
 
 /// A SEQUENCE OF (X.690, section 8.10) of exactly `N` elements. Of another count is `InvalidData`.
 impl<const N: usize, T: Deserialize + Drop> Tagged for [T; N] {
-    ghost use Rattle.asn1_trees.specs.Tagged.{sequence};
-    ghost use Rattle.asn1_trees.proofs.Tagged.{sequence_laws};
+    ghost use Rattle.asn1_der.specs.Tagged.{sequence};
+    ghost use Rattle.asn1_der.proofs.Tagged.{sequence_laws};
     ghost use Rattle.asn1_codec.specs.Arrays.{array_trees};
     ghost use Rattle.asn1_codec.specs.ArrayLaws.{array_trees-injective};
     ghost use Rattle.asn1_codec.specs.Refusals.{list_refusal};

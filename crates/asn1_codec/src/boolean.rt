@@ -3,7 +3,7 @@ ghost use Rattle.std.specs.Prelude.{◌≡◌, IfOk};
 
 use crate::leaf::Leaf;
 use crate::ser::Serializer;
-use asn1_octets::{Asn1DerError, Rule};
+use asn1_der::{Asn1DerError, Rule};
 use devices::Sink;
 use std::alloc::{AllocError, Global};
 

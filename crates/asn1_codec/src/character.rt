@@ -4,7 +4,7 @@ ghost use Rattle.asn1_codec.specs.Characters.{is_character, character_content};
 
 use crate::leaf::Leaf;
 use crate::ser::Serializer;
-use asn1_octets::{Asn1DerError, Rule};
+use asn1_der::{Asn1DerError, Rule};
 use devices::Sink;
 use std::alloc::{AllocError, Global};
 use std::str;

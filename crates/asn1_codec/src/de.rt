@@ -2,9 +2,9 @@
 ghost use Rattle.std.specs.Prelude.{◌≡◌, ℕ, ◌+◌, ◌-◌, ◌^◌, ◌<◌, ◌≤◌, List, [], ◌∷◌, ◌++◌, length, MatchResult, MatchOption, IfOk, IfErr, IsTrue, false, true, Some};
 ghost use Rattle.std.specs.Prelude.{◌↔◌, Result, Ok, Err, ◌⊎◌};
 ghost use Rattle.std.specs.Io.KnownBytes.{Consumes};
-ghost use Rattle.asn1_trees.specs.Tree.{Tree, Trees, none, more, bare, IsWhole, AreWhole, wrapped, behind, der, ders};
-ghost use Rattle.asn1_trees.specs.Length.{element, length_octets};
-ghost use Rattle.asn1_trees.specs.Firsts.{may_begin};
+ghost use Rattle.asn1_der.specs.Tree.{Tree, Trees, none, more, bare, IsWhole, AreWhole, wrapped, behind, der, ders};
+ghost use Rattle.asn1_der.specs.Length.{element, length_octets};
+ghost use Rattle.asn1_der.specs.Firsts.{may_begin};
 ghost use Rattle.asn1_codec.specs.Cuts.{TakesNext, MissesNext};
 ghost use Rattle.asn1_codec.specs.Reads.{ReadsFront, ReadsWhole};
 ghost use Rattle.asn1_codec.specs.Tails.{IsLengthTail, TookTail};
@@ -13,8 +13,7 @@ ghost use Rattle.asn1_codec.specs.Reading.{TookValue, TookBy, Refused, IsOwn, Is
 use crate::fields::Fields;
 use crate::row::Row1;
 use crate::ser::Serialize;
-use asn1_octets::{Asn1DerError, Content, MOST_IN_PLACE, PeekableReader};
-use asn1_trees::{following, length_of};
+use asn1_der::{Asn1DerError, Content, MOST_IN_PLACE, PeekableReader, following, length_of};
 use devices::Source;
 use std::alloc::Global;
 use std::marker::Model;
@@ -58,8 +57,8 @@ pub trait FromDer: Sized + Drop {
 }
 
 impl<T: Deserialize + Drop> FromDer for T {
-    ghost use Rattle.asn1_trees.specs.Tree.{Writes};
-    ghost use Rattle.asn1_trees.proofs.Spelling.{one_spelling};
+    ghost use Rattle.asn1_der.specs.Tree.{Writes};
+    ghost use Rattle.asn1_der.proofs.Spelling.{one_spelling};
 
     ghost reads = { λ value bytes. Writes T.tree value bytes };
 
@@ -86,7 +85,7 @@ pub struct Deserializer<R: Source> {
 impl<R: Source> Model for Deserializer<R> {
     ghost use Rattle.std.specs.Prelude.{◌≡◌, ◌<◌, ◌^◌, false};
     ghost use Rattle.asn1_codec.specs.Reading.{Reading};
-    ghost use Rattle.asn1_octets.specs.Peeking.{left_of, failed_of, looked_of, kind_of, names_of};
+    ghost use Rattle.asn1_der.specs.Peeking.{left_of, failed_of, looked_of, kind_of, names_of};
 
     ghost Value = { Reading };
 

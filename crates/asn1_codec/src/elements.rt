@@ -1,10 +1,10 @@
 //! The elements of a SEQUENCE OF.
 ghost use Rattle.std.specs.Prelude.{◌≡◌, ℕ, List, true, IsTrue};
-ghost use Rattle.asn1_trees.specs.Tree.{Tree, Trees, trees_of};
+ghost use Rattle.asn1_der.specs.Tree.{Tree, Trees, trees_of};
 
 use crate::de::{Deserialize, Deserializer};
 use crate::fields::Fields;
-use asn1_octets::Asn1DerError;
+use asn1_der::Asn1DerError;
 use devices::Source;
 use std::marker::Model;
 
@@ -40,7 +40,7 @@ impl<T: Drop> Elements<T> {
 }
 
 impl<T: Deserialize + Drop> Fields for Elements<T> {
-    ghost use Rattle.asn1_trees.proofs.Rows.{many-starts, many-injective};
+    ghost use Rattle.asn1_der.proofs.Rows.{many-starts, many-injective};
 
     ghost trees = { trees_of T.tree };
 

@@ -2,19 +2,19 @@
 //!
 //! `sound` computes whether each field that may be missing is told from what may follow it by its first octet.
 ghost use Rattle.std.specs.Prelude.{◌≡◌, ℕ, Bool, true, false, ◌&&◌, List, [], ◌∷◌, ◌++◌, length, Option, None, MatchResult, IsTrue};
-ghost use Rattle.asn1_trees.specs.Tree.{Tree, Trees, none, more, der, ders, IsWhole, AreWhole, put, trees_of};
+ghost use Rattle.asn1_der.specs.Tree.{Tree, Trees, none, more, der, ders, IsWhole, AreWhole, put, trees_of};
 ghost use Rattle.asn1_codec.specs.Refusals.{refusal_of, first_refusal, refusal_of_option, part_refusal};
 ghost use Rattle.asn1_codec.specs.Writing.{WroteValue, NotWroteFields};
-ghost use Rattle.asn1_trees.specs.Firsts.{Firsts, one_of, may_begin, either, apart};
+ghost use Rattle.asn1_der.specs.Firsts.{Firsts, one_of, may_begin, either, apart};
 
 use crate::de::{Deserialize, Deserializer};
 use crate::ser::{Serialize, Serializer};
-use asn1_octets::Asn1DerError;
+use asn1_der::Asn1DerError;
 use devices::{Sink, Source};
 
 /// Fields that are written.
 pub trait WriteFields {
-    ghost use Rattle.asn1_octets.specs.declared.error.Unsupported.{Unsupported};
+    ghost use Rattle.asn1_der.specs.declared.error.Unsupported.{Unsupported};
     ghost use Rattle.asn1_codec.specs.Writing.{Writing, WroteValue, NotWroteFields};
 
     ghost trees: { Self → Trees };

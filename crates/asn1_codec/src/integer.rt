@@ -1,13 +1,13 @@
 //! Unsigned integers.
 ghost use Rattle.std.specs.Prelude.{◌≡◌, ℕ, ◌+◌, ◌^◌, ◌<◌, ◌≤◌, List, length, drop, None, MatchResult};
-ghost use Rattle.asn1_trees.specs.Length.{element};
+ghost use Rattle.asn1_der.specs.Length.{element};
 ghost use Rattle.asn1_codec.specs.Reading.{TookValue, IsSpelling, Refused};
 ghost use Rattle.asn1_codec.specs.Writing.{WroteValue, NotWroteValue};
 ghost use Rattle.asn1_codec.specs.Unsigned.{unsigned_content, unsigned_tree, unsigned_fault, IsUnsigned};
 
 use crate::de::Deserializer;
 use crate::ser::Serializer;
-use asn1_octets::Asn1DerError;
+use asn1_der::Asn1DerError;
 use devices::{Sink, Source};
 use std::marker::Model;
 

@@ -1,6 +1,6 @@
 //! What is read from a source, as a law.
 ghost use Rattle.std.specs.Prelude.{◌≡◌, ℕ, List, Option, Some, Result};
-ghost use Rattle.asn1_octets.specs.declared.error.Asn1DerError.{Asn1DerError};
+ghost use Rattle.asn1_der.specs.declared.error.Asn1DerError.{Asn1DerError};
 ghost use Rattle.asn1_codec.specs.Cuts.{IsNextAnswer, ReadsNext, IsExcused, IsSameReading};
 
 use crate::de::FromDer;

@@ -1,13 +1,13 @@
 //! How primitive types are written and read: an element, of which the content says the value.
 ghost use Rattle.std.specs.Prelude.{◌≡◌, ℕ, List, Bool, None, IsTrue, IfOk, MatchOption, MatchResult};
-ghost use Rattle.asn1_trees.specs.Tree.{der};
-ghost use Rattle.asn1_trees.specs.Tagged.{leaf_as};
+ghost use Rattle.asn1_der.specs.Tree.{der};
+ghost use Rattle.asn1_der.specs.Tagged.{leaf_as};
 ghost use Rattle.asn1_codec.specs.Reading.{TookValue, IsSpelling, Refused};
 
 use crate::de::Deserializer;
 use crate::ser::Serializer;
 use crate::tagged::Tagged;
-use asn1_octets::{Asn1DerError, Rule};
+use asn1_der::{Asn1DerError, Rule};
 use devices::{Sink, Source};
 use std::alloc::{AllocError, Global};
 
@@ -43,7 +43,7 @@ pub trait Leaf: Sized {
 }
 
 impl<T: Leaf> Tagged for T {
-    ghost use Rattle.asn1_trees.proofs.Tagged.{leaf_laws};
+    ghost use Rattle.asn1_der.proofs.Tagged.{leaf_laws};
 
     type Row = T;
 

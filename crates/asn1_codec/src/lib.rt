@@ -33,7 +33,7 @@ mod tuple;
 mod unsigned;
 mod writing_calls;
 
-pub use asn1_octets::{Asn1DerError, Content, PeekableReader, Rule, Unsupported};
+pub use asn1_der::{Asn1DerError, Content, PeekableReader, Rule, Unsupported};
 pub use de::{
     Deserialize, Deserializer, FromDer, from_bytes, from_exact_bytes, from_reader,
     from_reader_with_max_len,

@@ -1,13 +1,13 @@
 //! Lengths of spellings, without writing them.
 ghost use Rattle.std.specs.Prelude.{◌≡◌, ℕ, List, [], length, false, None, Some, MatchResult};
-ghost use Rattle.asn1_trees.specs.Tree.{der, ders};
+ghost use Rattle.asn1_der.specs.Tree.{der, ders};
 ghost use Rattle.asn1_codec.specs.Refusals.{refusal_of};
 ghost use Rattle.asn1_codec.specs.Sinks.{as_too_long};
 ghost use Rattle.asn1_codec.specs.Writing.{Measured, NotMeasured};
 
 use crate::fields::WriteFields;
 use crate::ser::{Serialize, Serializer};
-use asn1_octets::Asn1DerError;
+use asn1_der::Asn1DerError;
 use devices::{Sink, SinkFault};
 
 /// A sink that keeps nothing.

@@ -6,7 +6,7 @@ use crate::de::Deserializer;
 use crate::fields::{Fields, WriteFields};
 use crate::row::{Item, WriteItem};
 use crate::ser::Serializer;
-use asn1_octets::Asn1DerError;
+use asn1_der::Asn1DerError;
 use devices::{Sink, Source};
 
 /// Two octets of a content that are no element, as the token id of a Kerberos message (RFC 4121, section 4.1). In a row
@@ -45,7 +45,7 @@ fn two_of(octets: &[u8; 2]) -> [u8; 2]
 
 impl Item for OctetPair {
     ghost use Rattle.std.specs.Prelude.{true, refl};
-    ghost use Rattle.asn1_trees.specs.Firsts.{any_octet};
+    ghost use Rattle.asn1_der.specs.Firsts.{any_octet};
     ghost use Rattle.asn1_codec.specs.PairLaws.{pair-injective};
 
     ghost put = { λ pair trees. pair_before pair.0 trees };

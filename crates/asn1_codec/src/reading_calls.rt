@@ -1,8 +1,8 @@
 //! Values read one by one, as a deserializer of serde is asked for them.
 ghost use Rattle.std.specs.Prelude.{◌≡◌, ℕ, ◌^◌, List, ◌∷◌, Some, IsTrue, MatchOption, MatchResult};
 ghost use Rattle.std.specs.String.{string_bytes};
-ghost use Rattle.asn1_trees.specs.Tree.{ders, trees_of, AreWhole};
-ghost use Rattle.asn1_trees.specs.Length.{element};
+ghost use Rattle.asn1_der.specs.Tree.{ders, trees_of, AreWhole};
+ghost use Rattle.asn1_der.specs.Length.{element};
 ghost use Rattle.asn1_codec.specs.Reading.{Took, TookNone, TookValue, Refused, IsSpelling, IsElement, IsList, HasOctets};
 ghost use Rattle.asn1_codec.specs.Unsigned.{unsigned_tree};
 ghost use Rattle.asn1_codec.specs.Values.{bool_tree, null_tree, character_tree, IsAnyElement, IsTextElement, IsUnsupported};
@@ -10,7 +10,7 @@ ghost use Rattle.asn1_codec.specs.Values.{bool_tree, null_tree, character_tree, 
 use crate::de::{Deserialize, Deserializer};
 use crate::elements::Elements;
 use crate::fields::Fields;
-use asn1_octets::{Asn1DerError, Rule};
+use asn1_der::{Asn1DerError, Rule};
 use devices::Source;
 
 impl<R: Source> Deserializer<R> {

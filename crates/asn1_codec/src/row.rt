@@ -3,8 +3,8 @@
 //! A field may be missing as `Optional<Option<A>>`. [`Item`] says how a single field precedes others. `sound`
 //! computes whether each optional field differs in its first octet from all that may follow it.
 ghost use Rattle.std.specs.Prelude.{◌≡◌, ℕ, Bool, true, false, ◌&&◌, List, [], ◌∷◌, Option, None, MatchResult, IsTrue};
-ghost use Rattle.asn1_trees.specs.Tree.{Tree, Trees, none, more, der, ders, IsWhole, AreWhole, put};
-ghost use Rattle.asn1_trees.specs.Firsts.{Firsts, one_of, may_begin, either, apart};
+ghost use Rattle.asn1_der.specs.Tree.{Tree, Trees, none, more, der, ders, IsWhole, AreWhole, put};
+ghost use Rattle.asn1_der.specs.Firsts.{Firsts, one_of, may_begin, either, apart};
 ghost use Rattle.asn1_codec.specs.Reading.{Refused, IsSpelling};
 ghost use Rattle.asn1_codec.specs.Optionals.{ReadIf};
 
@@ -12,12 +12,12 @@ use crate::de::{Deserialize, Deserializer};
 use crate::fields::{Fields, WriteFields, write_field};
 use crate::optional::Optional;
 use crate::ser::{Serialize, Serializer};
-use asn1_octets::Asn1DerError;
+use asn1_der::Asn1DerError;
 use devices::{Sink, Source};
 
 /// A field that is written, in front of others.
 pub trait WriteItem {
-    ghost use Rattle.asn1_octets.specs.declared.error.Unsupported.{Unsupported};
+    ghost use Rattle.asn1_der.specs.declared.error.Unsupported.{Unsupported};
     ghost use Rattle.asn1_codec.specs.Refusals.{first_refusal};
     ghost use Rattle.asn1_codec.specs.Writing.{Writing, WroteValue, NotWroteFields};
 
@@ -40,7 +40,7 @@ pub trait WriteItem {
 
 /// A field that is read, in front of others.
 pub trait Item: Sized {
-    ghost use Rattle.asn1_trees.proofs.Rows.{StartAmong, AreInjective};
+    ghost use Rattle.asn1_der.proofs.Rows.{StartAmong, AreInjective};
     ghost use Rattle.asn1_codec.specs.Reading.{Reading, TookFields, AreFields, Refused};
 
     ghost put: { Self → Trees → Trees };
@@ -170,7 +170,7 @@ impl<H: Item, T: Fields> Fields for (H, T) {
 }
 
 impl<H: Deserialize + Drop> Item for H {
-    ghost use Rattle.asn1_trees.proofs.Rows.{required-starts, required-injective};
+    ghost use Rattle.asn1_der.proofs.Rows.{required-starts, required-injective};
 
     ghost put = { λ item trees. more (H.tree item) trees };
 
@@ -194,7 +194,7 @@ impl<H: Deserialize + Drop> Item for H {
 }
 
 impl<H: Deserialize + Drop> Item for Optional<Option<H>> {
-    ghost use Rattle.asn1_trees.proofs.Rows.{optional-starts, optional-injective};
+    ghost use Rattle.asn1_der.proofs.Rows.{optional-starts, optional-injective};
 
     ghost put = { λ item trees. put H.tree item.0 trees };
 

@@ -4,7 +4,7 @@ ghost use Rattle.asn1_codec.specs.Reading.{TookValue, Refused, IsSpelling, IsEle
 ghost use Rattle.asn1_codec.specs.Sequences.{Opened};
 
 use crate::de::{Deserialize, Deserializer};
-use asn1_octets::Asn1DerError;
+use asn1_der::Asn1DerError;
 use devices::Source;
 use std::marker::Model;
 

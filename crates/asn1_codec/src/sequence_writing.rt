@@ -1,7 +1,7 @@
 //! The content of a constructed element, written value after value.
 ghost use Rattle.std.specs.Prelude.{◌≡◌, ◌+◌, ◌≤◌, ℕ, List, ◌∷◌, length, None, ◌⊎◌, MatchResult};
-ghost use Rattle.asn1_trees.specs.Length.{element, length_octets};
-ghost use Rattle.asn1_trees.specs.Tree.{der};
+ghost use Rattle.asn1_der.specs.Length.{element, length_octets};
+ghost use Rattle.asn1_der.specs.Tree.{der};
 ghost use Rattle.asn1_codec.specs.Refusals.{refusal_of};
 ghost use Rattle.asn1_codec.specs.Sequences.{IsPastContent};
 ghost use Rattle.asn1_codec.specs.Writing.{Wrote, NotWrote, WroteValue, NotWroteValue};
@@ -9,7 +9,7 @@ ghost use Rattle.asn1_codec.specs.Writing.{Wrote, NotWrote, WroteValue, NotWrote
 use crate::measure::len_of;
 use crate::sequence::Sequence;
 use crate::ser::{Serialize, Serializer};
-use asn1_octets::Asn1DerError;
+use asn1_der::Asn1DerError;
 use devices::Sink;
 use std::marker::Model;
 

@@ -1,8 +1,8 @@
 //! Writing values.
 ghost use Rattle.std.specs.Prelude.{◌≡◌, ℕ, ◌+◌, ◌^◌, ◌≤◌, List, [], ◌∷◌, ◌++◌, length, take, MatchResult, IfOk, IfErr, IsOk, false, true, Option, None, Some, ◌⊎◌, ◌<◌};
-ghost use Rattle.asn1_trees.specs.Tree.{Tree, Trees, der, ders, IsWhole, AreWhole};
-ghost use Rattle.asn1_trees.specs.Length.{element, length_octets};
-ghost use Rattle.asn1_trees.specs.Firsts.{Firsts, BeginsAmong};
+ghost use Rattle.asn1_der.specs.Tree.{Tree, Trees, der, ders, IsWhole, AreWhole};
+ghost use Rattle.asn1_der.specs.Length.{element, length_octets};
+ghost use Rattle.asn1_der.specs.Firsts.{Firsts, BeginsAmong};
 ghost use Rattle.asn1_codec.specs.Refusals.{refusal_of, RefusedAs};
 ghost use Rattle.asn1_codec.specs.Sinks.{sink_fault};
 ghost use Rattle.asn1_codec.specs.Writing.{WroteValue, NotWroteValue, NotWroteTo, Measured, NotMeasured, at_sink};
@@ -10,8 +10,7 @@ ghost use Rattle.asn1_codec.specs.Sinks.{as_full};
 
 use crate::fields::WriteFields;
 use crate::measure::{Measure, encoded_len, fields_len, len_of};
-use asn1_octets::{Asn1DerError, Unsupported};
-use asn1_trees::LengthOctets;
+use asn1_der::{Asn1DerError, LengthOctets, Unsupported};
 use devices::{Sink, Space, WholeFault, write_whole};
 use std::alloc::Global;
 use std::marker::Model;
@@ -22,7 +21,7 @@ use std::marker::Model;
 /// whole values have one spelling. A type that refuses to write values says by `refusal` which and how; most
 /// refuse none. These stand above the function, so that a type made of others can name them.
 pub trait Serialize {
-    ghost use Rattle.asn1_octets.specs.declared.error.Unsupported.{Unsupported};
+    ghost use Rattle.asn1_der.specs.declared.error.Unsupported.{Unsupported};
     ghost use Rattle.asn1_codec.specs.Refusals.{refusal_of};
     ghost use Rattle.asn1_codec.specs.Writing.{Writing, WroteValue, NotWroteValue, Measured, NotMeasured};
 
@@ -87,8 +86,8 @@ impl<W: Sink> Model for Serializer<W> {
 }
 
 impl<W: Sink> Serializer<W> {
-    ghost use Rattle.asn1_trees.specs.Tree.{wrapped, behind};
-    ghost use Rattle.asn1_octets.specs.declared.error.Unsupported.{Unsupported};
+    ghost use Rattle.asn1_der.specs.Tree.{wrapped, behind};
+    ghost use Rattle.asn1_der.specs.declared.error.Unsupported.{Unsupported};
     ghost use Rattle.asn1_codec.specs.Writing.{Writing, Wrote, NotWrote, IsTooLong, halted, left_by};
 
     /// A serializer that writes to `writer`.

@@ -1,12 +1,12 @@
 //! The elements of a slice, as fields that are written.
 ghost use Rattle.std.specs.Prelude.{MatchResult};
-ghost use Rattle.asn1_trees.specs.Tree.{ders, trees_of};
+ghost use Rattle.asn1_der.specs.Tree.{ders, trees_of};
 ghost use Rattle.asn1_codec.specs.Writing.{WroteValue, NotWroteFields};
 ghost use Rattle.asn1_codec.specs.Refusals.{refusal_of_list};
 
 use crate::fields::WriteFields;
 use crate::ser::{Serialize, Serializer};
-use asn1_octets::Asn1DerError;
+use asn1_der::Asn1DerError;
 use devices::Sink;
 
 impl<'a, T: Serialize> WriteFields for &'a [T] {

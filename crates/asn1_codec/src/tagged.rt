@@ -1,15 +1,15 @@
 //! Types whose values have one identifier octet, which an implicit tag may change.
 ghost use Rattle.std.specs.Prelude.{◌≡◌, ℕ, Option, None, MatchResult, IsTrue};
-ghost use Rattle.asn1_trees.specs.Tree.{Tree, Trees, der, ders};
-ghost use Rattle.asn1_trees.specs.Firsts.{only};
-ghost use Rattle.asn1_trees.specs.Tagged.{sequence, tagged_tree};
-ghost use Rattle.asn1_trees.proofs.Tagged.{TagLaws};
+ghost use Rattle.asn1_der.specs.Tree.{Tree, Trees, der, ders};
+ghost use Rattle.asn1_der.specs.Firsts.{only};
+ghost use Rattle.asn1_der.specs.Tagged.{sequence, tagged_tree};
+ghost use Rattle.asn1_der.proofs.Tagged.{TagLaws};
 ghost use Rattle.asn1_codec.specs.Reading.{TookValue, IsSpelling, Refused};
 
 use crate::de::{Deserialize, Deserializer};
 use crate::fields::Fields;
 use crate::ser::{Serialize, Serializer};
-use asn1_octets::Asn1DerError;
+use asn1_der::Asn1DerError;
 use devices::{Sink, Source};
 
 /// A type whose values have the identifier octet `FIRST`, and are read and written under any other too.
@@ -19,7 +19,7 @@ use devices::{Sink, Source};
 /// most refuse none.
 pub trait Tagged: Sized {
     ghost use Rattle.asn1_codec.specs.Reading.{Reading, TookValue, IsSpelling, Refused};
-    ghost use Rattle.asn1_octets.specs.declared.error.Unsupported.{Unsupported};
+    ghost use Rattle.asn1_der.specs.declared.error.Unsupported.{Unsupported};
     ghost use Rattle.asn1_codec.specs.Refusals.{refusal_of};
     ghost use Rattle.asn1_codec.specs.Writing.{Writing, WroteValue, NotWroteValue};
 
@@ -59,7 +59,7 @@ pub trait Tagged: Sized {
 }
 
 impl<T: Tagged> Serialize for T {
-    ghost use Rattle.asn1_trees.proofs.Tagged.{tagged-injective};
+    ghost use Rattle.asn1_der.proofs.Tagged.{tagged-injective};
 
     ghost tree = { tagged_tree T.FIRST T.row_tree T.row_of };
 

@@ -8,13 +8,13 @@ use crate::fields::Fields;
 use crate::row::{Row1, Row2, Row3, Row4};
 use crate::ser::Serializer;
 use crate::tagged::{Tagged, read_sequence};
-use asn1_octets::Asn1DerError;
+use asn1_der::Asn1DerError;
 use devices::{Sink, Source};
 
 impl<A: Deserialize + Drop> Tagged for (A,) {
     ghost use Rattle.std.proofs.Common.{refl, true, None, Some};
-    ghost use Rattle.asn1_trees.specs.Tagged.{sequence};
-    ghost use Rattle.asn1_trees.proofs.Tagged.{sequence_laws};
+    ghost use Rattle.asn1_der.specs.Tagged.{sequence};
+    ghost use Rattle.asn1_der.proofs.Tagged.{sequence_laws};
     ghost use Rattle.asn1_codec.specs.Refusals.{refusal_of, first_refusal};
 
     type Row = Row1<A>;
@@ -49,8 +49,8 @@ impl<A: Deserialize + Drop> Tagged for (A,) {
 
 impl<A: Deserialize + Drop, B: Deserialize + Drop> Tagged for (A, B) {
     ghost use Rattle.std.proofs.Common.{ap, refl, true, None, Some};
-    ghost use Rattle.asn1_trees.specs.Tagged.{sequence};
-    ghost use Rattle.asn1_trees.proofs.Tagged.{sequence_laws};
+    ghost use Rattle.asn1_der.specs.Tagged.{sequence};
+    ghost use Rattle.asn1_der.proofs.Tagged.{sequence_laws};
     ghost use Rattle.asn1_codec.specs.Refusals.{refusal_of, first_refusal};
 
     type Row = Row2<A, B>;
@@ -85,8 +85,8 @@ impl<A: Deserialize + Drop, B: Deserialize + Drop> Tagged for (A, B) {
 
 impl<A: Deserialize + Drop, B: Deserialize + Drop, C: Deserialize + Drop> Tagged for (A, B, C) {
     ghost use Rattle.std.proofs.Common.{ap, refl, true, None, Some};
-    ghost use Rattle.asn1_trees.specs.Tagged.{sequence};
-    ghost use Rattle.asn1_trees.proofs.Tagged.{sequence_laws};
+    ghost use Rattle.asn1_der.specs.Tagged.{sequence};
+    ghost use Rattle.asn1_der.proofs.Tagged.{sequence_laws};
     ghost use Rattle.asn1_codec.specs.Refusals.{refusal_of, first_refusal};
 
     type Row = Row3<A, B, C>;
@@ -126,8 +126,8 @@ impl<
     D: Deserialize + Drop,
 > Tagged for (A, B, C, D) {
     ghost use Rattle.std.proofs.Common.{ap, refl, true, None, Some};
-    ghost use Rattle.asn1_trees.specs.Tagged.{sequence};
-    ghost use Rattle.asn1_trees.proofs.Tagged.{sequence_laws};
+    ghost use Rattle.asn1_der.specs.Tagged.{sequence};
+    ghost use Rattle.asn1_der.proofs.Tagged.{sequence_laws};
     ghost use Rattle.asn1_codec.specs.Refusals.{refusal_of, first_refusal};
 
     type Row = Row4<A, B, C, D>;

@@ -8,7 +8,7 @@ use crate::de::Deserializer;
 use crate::integer::{INTEGER, read_unsigned, write_unsigned};
 use crate::ser::Serializer;
 use crate::tagged::Tagged;
-use asn1_octets::Asn1DerError;
+use asn1_der::Asn1DerError;
 use devices::{Sink, Source};
 
 impl Tagged for u8 {

@@ -1,7 +1,7 @@
 //! Values written one by one, as a serializer of serde is asked for them.
 ghost use Rattle.std.specs.Prelude.{◌≡◌, [], None, Some, MatchResult};
-ghost use Rattle.asn1_trees.specs.Tree.{der, ders, trees_of};
-ghost use Rattle.asn1_trees.specs.Length.{element};
+ghost use Rattle.asn1_der.specs.Tree.{der, ders, trees_of};
+ghost use Rattle.asn1_der.specs.Length.{element};
 ghost use Rattle.asn1_codec.specs.Booleans.{bool_content};
 ghost use Rattle.asn1_codec.specs.Characters.{character_content};
 ghost use Rattle.asn1_codec.specs.Refusals.{refusal_of, refusal_of_list};
@@ -11,7 +11,7 @@ ghost use Rattle.asn1_codec.specs.Writing.{WroteValue, NotWroteValue};
 use crate::fields::WriteFields;
 use crate::integer::{INTEGER, write_unsigned};
 use crate::ser::{Serialize, Serializer};
-use asn1_octets::{Asn1DerError, Unsupported};
+use asn1_der::{Asn1DerError, Unsupported};
 use devices::Sink;
 
 /// The types that are written.

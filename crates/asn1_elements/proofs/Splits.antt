@@ -7,13 +7,13 @@ use Rattle.std.specs.Prelude.{◌==◌}
 use Rattle.std.proofs.Math.Nat.{pow-le-pow_right}
 use Rattle.std.proofs.lemmas.Int.Digits.{number_lt, number_after_ge, first_digits_of}
 use Rattle.std.specs.Int.Digits.{number_from_digits_after, number_from_digits, AllBelowBase}
-use Rattle.asn1_trees.specs.Length.{digits, length_octets, element}
-use Rattle.asn1_trees.proofs.Digits.{digits-is, digits-step, digits-zero}
-use Rattle.asn1_trees.proofs.Elements.{fronts, length_octets-short, length_octets-long, length_octets-first, following_digits, element-parts, element-split, element-one, element-begins, length-element}
+use Rattle.asn1_der.specs.Length.{digits, length_octets, element}
+use Rattle.asn1_der.proofs.Digits.{digits-is, digits-step, digits-zero}
+use Rattle.asn1_der.proofs.Elements.{fronts, length_octets-short, length_octets-long, length_octets-first, following_digits, element-parts, element-split, element-one, element-begins, length-element}
 use Rattle.asn1_elements.specs.Raw.{Raw, has_low_number}
 use Rattle.asn1_elements.specs.Splits.{SplitsInto, IsNoSplit, IsOneElement, AreLengthOctets, IsWanting, IsNotOne}
-use Rattle.asn1_octets.specs.declared.error.Asn1DerError.{Asn1DerError}
-use Rattle.asn1_octets.specs.declared.error.Asn1DerError.TheVariants.{TruncatedData, InvalidData, UnsupportedValue, UnsupportedType, InvalidSink, Message, Other, Memory}
+use Rattle.asn1_der.specs.declared.error.Asn1DerError.{Asn1DerError}
+use Rattle.asn1_der.specs.declared.error.Asn1DerError.TheVariants.{TruncatedData, InvalidData, UnsupportedValue, UnsupportedType, InvalidSink, Message, Other, Memory}
 
 -- digits write the number that they were read as, where the first isn't zero
 digits_behind : (n : ℕ) (ds : List ℕ) → 0 < n → AllBelowBase 256 ds → digits (number_from_digits_after 256 n ds) ≡ digits n ++ ds

@@ -3,13 +3,13 @@ use Rattle.std.proofs.Common.{◌≡◌, ℕ, suc, ◌+◌, ◌^◌, ◌<◌, �
 use Rattle.std.proofs.lemmas.List.{append-nil, length-append, take-append-le}
 use Rattle.std.specs.Io.KnownBytes.{Consumes, IsAtEnd}
 use Rattle.std.proofs.KnownBytes.{Consumes-trans}
-use Rattle.asn1_trees.specs.Length.{length_octets}
-use Rattle.asn1_trees.proofs.Elements.{length_octets-first}
+use Rattle.asn1_der.specs.Length.{length_octets}
+use Rattle.asn1_der.proofs.Elements.{length_octets-first}
 use Rattle.asn1_elements.specs.Splits.{AreLengthOctets, IsWanting}
 use Rattle.asn1_elements.specs.Streams.{IsNoOctet, IsWantingIn, IsWantingNext}
 use Rattle.asn1_elements.proofs.Splits.{IsFollowing, no_octet, no_length, nothing}
-use Rattle.asn1_octets.specs.declared.error.Asn1DerError.{Asn1DerError}
-use Rattle.asn1_octets.specs.declared.error.Asn1DerError.TheVariants.{TruncatedData, InvalidData, UnsupportedValue, UnsupportedType, InvalidSink, Message, Other, Memory}
+use Rattle.asn1_der.specs.declared.error.Asn1DerError.{Asn1DerError}
+use Rattle.asn1_der.specs.declared.error.Asn1DerError.TheVariants.{TruncatedData, InvalidData, UnsupportedValue, UnsupportedType, InvalidSink, Message, Other, Memory}
 
 -- where nothing was taken up to the end, the end was there before
 pub end_before : (old new : Option (List ℕ)) → Consumes old new [] → IsAtEnd new → IsAtEnd old

@@ -1,8 +1,8 @@
 -- A path leads to one part at most, and elements are found by splitting off one after another.
 use Rattle.std.proofs.Common.{◌≡◌, ℕ, suc, List, [], ◌∷◌, Some, refl, sym, ap, ◌∙◌, subst, append-nil}
 use Rattle.std.specs.List.{slice_get}
-use Rattle.asn1_trees.specs.Length.{element}
-use Rattle.asn1_trees.proofs.Elements.{element-one, element-parts}
+use Rattle.asn1_der.specs.Length.{element}
+use Rattle.asn1_der.proofs.Elements.{element-one, element-parts}
 use Rattle.asn1_elements.specs.Raw.{Raw}
 use Rattle.asn1_elements.specs.Splits.{SplitsInto, raw_bytes}
 use Rattle.asn1_elements.specs.Parts.{AreElements, IsElementAt, IsPart, IsPartIn, IsStep}

@@ -2,7 +2,7 @@
 -- is constructed isn't asked: the content of an OCTET STRING may be elements too.
 use Rattle.std.specs.Prelude.{◌≡◌, ℕ, suc, List, [], ◌∷◌, Some, refl}
 use Rattle.std.specs.List.{slice_get}
-use Rattle.asn1_trees.specs.Length.{element, length_octets}
+use Rattle.asn1_der.specs.Length.{element, length_octets}
 use Rattle.asn1_elements.specs.Raw.{Raw}
 use Rattle.asn1_elements.specs.Splits.{SplitsInto, raw_bytes}
 

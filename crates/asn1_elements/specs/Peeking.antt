@@ -4,8 +4,8 @@ use Rattle.std.specs.Borrow.{GName}
 use Rattle.std.specs.declared.io.ErrorKind.{ErrorKind}
 use Rattle.std.specs.Io.KnownBytes.{prepend_known}
 use Rattle.devices.specs.Counting.{one_more}
-use Rattle.asn1_octets.specs.declared.error.Asn1DerError.{Asn1DerError}
-use Rattle.asn1_octets.specs.declared.error.Asn1DerError.TheVariants.{Other}
+use Rattle.asn1_der.specs.declared.error.Asn1DerError.{Asn1DerError}
+use Rattle.asn1_der.specs.declared.error.Asn1DerError.TheVariants.{Other}
 
 -- the octets that are looked at, and what the source gives behind them, where that is known; how many octets were taken;
 -- how many calls of the source failed, and why the last of them did; the references that it reads through

@@ -1,6 +1,6 @@
 -- An element of any type, as its identifier octet and its content.
 use Rattle.std.specs.Prelude.{ℕ, ◌%◌, Bool, not, ◌==◌, List}
-use Rattle.asn1_trees.specs.Tree.{Tree, leaf}
+use Rattle.asn1_der.specs.Tree.{Tree, leaf}
 
 pub record Raw : Type 0 where
   pub first : ℕ

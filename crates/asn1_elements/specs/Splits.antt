@@ -1,9 +1,9 @@
 -- The element that begins an input (X.690, section 8.1), where its tag stands in one octet.
 use Rattle.std.specs.Prelude.{◌≡◌, ℕ, ◌<◌, ◌≤◌, ◌^◌, true, List, [], ◌∷◌, ◌++◌, length, refl}
-use Rattle.asn1_trees.specs.Length.{element, length_octets}
+use Rattle.asn1_der.specs.Length.{element, length_octets}
 use Rattle.asn1_elements.specs.Raw.{Raw, has_low_number}
-use Rattle.asn1_octets.specs.declared.error.Asn1DerError.{Asn1DerError}
-use Rattle.asn1_octets.specs.declared.error.Asn1DerError.TheVariants.{TruncatedData, InvalidData}
+use Rattle.asn1_der.specs.declared.error.Asn1DerError.{Asn1DerError}
+use Rattle.asn1_der.specs.declared.error.Asn1DerError.TheVariants.{TruncatedData, InvalidData}
 
 -- all bytes of an element
 abbrev pub raw_bytes : Raw → List ℕ

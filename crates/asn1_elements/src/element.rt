@@ -1,13 +1,12 @@
 //! The element that begins an input, in place.
 ghost use Rattle.std.specs.Prelude.{◌≡◌, ℕ, ◌^◌, ◌<◌, List, ◌∷◌, ◌++◌, true, MatchResult};
-ghost use Rattle.asn1_trees.specs.Length.{element, length_octets};
+ghost use Rattle.asn1_der.specs.Length.{element, length_octets};
 ghost use Rattle.asn1_elements.specs.Raw.{Raw, has_low_number};
 ghost use Rattle.asn1_elements.specs.Parts.{IsStep};
 ghost use Rattle.asn1_elements.specs.Splits.{IsNoSplit, IsOneElement, AreLengthOctets, IsWanting};
 
 use crate::tag::Tag;
-use asn1_octets::Asn1DerError;
-use asn1_trees::{following, length_of};
+use asn1_der::{Asn1DerError, following, length_of};
 use std::marker::Model;
 
 /// One element where it stands in an input: a tag whose number is below 31, a definite length in as few octets as
@@ -23,7 +22,7 @@ pub struct Element<'a> {
 
 impl<'a> Model for Element<'a> {
     ghost use Rattle.std.specs.Prelude.{◌≡◌, true};
-    ghost use Rattle.asn1_trees.specs.Length.{element};
+    ghost use Rattle.asn1_der.specs.Length.{element};
     ghost use Rattle.asn1_elements.specs.Raw.{Raw, has_low_number};
 
     ghost Value = { Raw };

@@ -4,7 +4,7 @@ ghost use Rattle.asn1_codec.specs.Reading.{TookNone, Refused, HasOctets};
 
 use crate::tag::Tag;
 use asn1_codec::Deserializer;
-use asn1_octets::Asn1DerError;
+use asn1_der::Asn1DerError;
 use devices::Source;
 
 /// The tag of what comes next, which stays unread.

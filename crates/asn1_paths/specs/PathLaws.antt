@@ -1,6 +1,6 @@
 -- Where elements stand in others: what a path leads to, put together from its steps.
 use Rattle.std.proofs.Common.{◌≡◌, ℕ, suc, true, List, [], ◌∷◌, ◌++◌, refl, sym, ap, ◌∙◌, subst, append-nil, append_assoc}
-use Rattle.asn1_trees.specs.Length.{element}
+use Rattle.asn1_der.specs.Length.{element}
 use Rattle.asn1_elements.specs.Raw.{Raw, has_low_number}
 use Rattle.asn1_elements.specs.Splits.{SplitsInto}
 use Rattle.asn1_elements.specs.Parts.{AreElements, IsPart, IsPartIn}

@@ -1,8 +1,8 @@
 //! Single calls, and the bytes that they make. bench/refused_growths.sh refuses each growth of such a row in turn.
 
 use anyhow::{Context, bail};
+use gss_message_tokens::{MicToken, WrapToken};
 use krb_crypto::{Cipher, CipherSuite};
-use krb_tokens::{MicToken, WrapToken};
 use negoex_layouts::{Extension, MessageType, Nego, NegoexMessage};
 use pac_layouts::Pac;
 use picky_asn1_x509::{AlgorithmIdentifier, deviations, from_bytes, to_vec};

@@ -1,9 +1,9 @@
 -- Spellings of the parts, put together, spell the whole; and the certificate stands there.
 use Rattle.std.proofs.Common.{◌≡◌, ℕ, ◌+◌, true, List, [], ◌∷◌, ◌++◌, refl, ap, ◌∙◌, subst, arith}
-use Rattle.asn1_trees.specs.Length.{element}
+use Rattle.asn1_der.specs.Length.{element}
 use Rattle.asn1_elements.specs.Raw.{Raw, has_low_number, raw_tree}
-use Rattle.asn1_trees.specs.Tree.{der}
-use Rattle.asn1_trees.proofs.Leaf.{der-leaf}
+use Rattle.asn1_der.specs.Tree.{der}
+use Rattle.asn1_der.proofs.Leaf.{der-leaf}
 use Rattle.asn1_paths.specs.PathLaws.{IsElement, AreSome, LeadsTo, LeadsIn, in_element, some_more, at_front, behind_front, go_on, part_there, held_at, second_at}
 use Rattle.cms_signed_data.specs.Certificate.{Certificate}
 use Rattle.key_functions.specs.declared.functions.Signed.{Signed}

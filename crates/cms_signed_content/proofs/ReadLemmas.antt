@@ -1,8 +1,8 @@
 -- What was read is the one signed content that the bytes are.
 use Rattle.std.proofs.Common.{◌≡◌, ℕ, Bool, true, false, List, Result, Ok, Err, refl, sym, ap, ◌∙◌, subst, inl, inr}
 use Rattle.std.specs.Prelude.{IsErrAnd, IsTrue}
-use Rattle.asn1_trees.specs.Length.{element}
-use Rattle.asn1_trees.proofs.Elements.{element-content}
+use Rattle.asn1_der.specs.Length.{element}
+use Rattle.asn1_der.proofs.Elements.{element-content}
 use Rattle.asn1_elements.specs.Parts.{IsPart}
 use Rattle.asn1_elements.specs.PartLaws.{part-one}
 use Rattle.x509_spelling.specs.Answers.{ReadsSpelling}

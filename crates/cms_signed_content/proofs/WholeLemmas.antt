@@ -2,9 +2,9 @@
 use Rattle.std.proofs.Common.{◌≡◌, ℕ, List, subst}
 use Rattle.std.specs.Prelude.{IsTrue}
 use Rattle.asn1_leaves.specs.ObjectIdentifier.{IsObjectIdentifier, is_object_identifier, oid_content}
-use Rattle.asn1_trees.specs.Tree.{leaf, IsWhole}
-use Rattle.asn1_trees.proofs.Leaf.{whole-leaf}
-use Rattle.asn1_trees.proofs.Spelling.{whole-wrapped}
+use Rattle.asn1_der.specs.Tree.{leaf, IsWhole}
+use Rattle.asn1_der.proofs.Leaf.{whole-leaf}
+use Rattle.asn1_der.proofs.Spelling.{whole-wrapped}
 use Rattle.picky_asn1.specs.declared.wrapper.ObjectIdentifierAsn1.{ObjectIdentifierAsn1}
 use Rattle.cms_signed_data.specs.AlgorithmKinds.{is_parameters_of}
 use Rattle.cms_signed_data.specs.AlgorithmIdentifierSerialize.TheImpl as algorithm_impl

@@ -2,8 +2,8 @@
 use Rattle.std.proofs.Common.{◌≡◌, ℕ, List, Result, Ok, Err, refl, sym, ap, ◌∙◌, subst, inl, inr}
 use Rattle.std.specs.Prelude.{◌⊎◌, Option, None, Some, IfOk}
 use Rattle.asn1_leaves.specs.ObjectIdentifier.{IsObjectIdentifier}
-use Rattle.asn1_trees.specs.Tree.{Tree, der, IsWhole}
-use Rattle.asn1_trees.specs.Tagged.{tagged_tree, leaf_as}
+use Rattle.asn1_der.specs.Tree.{Tree, der, IsWhole}
+use Rattle.asn1_der.specs.Tagged.{tagged_tree, leaf_as}
 use Rattle.picky_asn1.specs.contracts.encoding.oid.ObjectIdentifierAsn1Leaf.TheImpl as oid_leaf
 use Rattle.picky_asn1.specs.declared.wrapper.ObjectIdentifierAsn1.{ObjectIdentifierAsn1}
 use Rattle.x509_oids.specs.Identifiers as oids

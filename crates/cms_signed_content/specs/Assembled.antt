@@ -1,6 +1,6 @@
 -- Signed data put together of the bytes of its parts (RFC 5652, section 5).
 use Rattle.std.specs.Prelude.{ℕ, List, [], ◌++◌}
-use Rattle.asn1_trees.specs.Length.{element}
+use Rattle.asn1_der.specs.Length.{element}
 
 abbrev pub assembled_signer : List ℕ → List ℕ → List ℕ → List ℕ → List ℕ → List ℕ → List ℕ
 assembled_signer version sid digest_algorithm attributes algorithm signature =

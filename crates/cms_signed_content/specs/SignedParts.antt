@@ -1,7 +1,7 @@
 -- Signed data with two of its parts as bytes.
 use Rattle.std.specs.Prelude.{ℕ, List, [], ◌∷◌}
-use Rattle.asn1_trees.specs.Tree.{Tree}
-use Rattle.asn1_trees.specs.Tagged.{tagged_tree}
+use Rattle.asn1_der.specs.Tree.{Tree}
+use Rattle.asn1_der.specs.Tagged.{tagged_tree}
 use Rattle.cms_signed_data.specs.contracts.signed_attributes.SignedAttributesTagged.TheImpl as attributes_impl
 use Rattle.cms_signed_data.specs.declared.content_info.ContentInfo.{ContentInfo}
 use Rattle.cms_signed_data.specs.declared.signed_attributes.SignedAttributes.{SignedAttributes}

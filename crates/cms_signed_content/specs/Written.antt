@@ -1,8 +1,8 @@
 -- Signed content as it is written (RFC 5652, section 5): all but the certificate in DER.
 use Rattle.std.specs.Prelude.{◌≡◌, ℕ, List, Option, None, Some}
 use Rattle.sha2.specs.Sha256.{sha256}
-use Rattle.asn1_trees.specs.Tree.{Tree, der}
-use Rattle.asn1_trees.specs.Tagged.{tagged_tree}
+use Rattle.asn1_der.specs.Tree.{Tree, der}
+use Rattle.asn1_der.specs.Tagged.{tagged_tree}
 use Rattle.asn1_elements.specs.Parts.{IsPart}
 use Rattle.cms_signed_data.specs.CertificateSpelled.TheImpl as certificate
 use Rattle.cms_signed_data.specs.Certificate.{Certificate}

@@ -4,7 +4,7 @@ use Rattle.std.specs.Prelude.{◌&&◌, ◌⊎◌}
 use Rattle.std.specs.Bool.{nat_eq}
 use Rattle.std.specs.Cmp.Lexicographic.{pointwise}
 use Rattle.asn1_leaves.specs.ObjectIdentifier.{oid_content, subidentifier}
-use Rattle.asn1_trees.specs.Tree.{der}
+use Rattle.asn1_der.specs.Tree.{der}
 use Rattle.asn1_elements.specs.Parts.{IsPart}
 use Rattle.asn1_paths.specs.PathLaws.{part_there}
 use Rattle.key_functions.specs.declared.functions.Signed.{Signed}

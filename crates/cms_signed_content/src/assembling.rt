@@ -1,8 +1,8 @@
 //! Elements and SEQUENCEs of spellings.
 ghost use Rattle.std.specs.Prelude.{◌≡◌, ℕ, List, true, IfOk};
 ghost use Rattle.std.specs.List.{flat_map};
-ghost use Rattle.asn1_trees.specs.Length.{element};
-ghost use Rattle.asn1_trees.specs.Tree.{IsWhole, der};
+ghost use Rattle.asn1_der.specs.Length.{element};
+ghost use Rattle.asn1_der.specs.Tree.{IsWhole, der};
 ghost use Rattle.asn1_elements.specs.Raw.{has_low_number};
 
 use picky_asn1_der::{RawElement, Serialize};

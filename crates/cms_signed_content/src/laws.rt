@@ -1,7 +1,7 @@
 //! What holds of all signed content.
 ghost use Rattle.std.specs.Prelude.{◌≡◌, ◌⊎◌, ℕ, List, Option, Result, Ok, Err};
-ghost use Rattle.asn1_trees.specs.Length.{element};
-ghost use Rattle.asn1_trees.specs.Tree.{der};
+ghost use Rattle.asn1_der.specs.Length.{element};
+ghost use Rattle.asn1_der.specs.Tree.{der};
 ghost use Rattle.asn1_elements.specs.Parts.{IsPart};
 ghost use Rattle.key_functions.specs.declared.functions.Signed.{Signed};
 ghost use Rattle.cms_signed_data.specs.Parts.{content_place, digest_place, signature_place};

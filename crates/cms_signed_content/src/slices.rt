@@ -1,6 +1,6 @@
 //! The parts of signed data, where they stand in its bytes.
 ghost use Rattle.std.specs.Prelude.{◌≡◌, ℕ, List, IsSomeAnd, MatchOption};
-ghost use Rattle.asn1_trees.specs.Length.{element};
+ghost use Rattle.asn1_der.specs.Length.{element};
 ghost use Rattle.asn1_elements.specs.Parts.{IsPart};
 ghost use Rattle.cms_signed_data.specs.declared.content_info.ContentInfo.{ContentInfo};
 

@@ -1,7 +1,7 @@
 //! The parts of signed content, as they are written.
 ghost use Rattle.std.specs.Prelude.{◌≡◌, ◌⊎◌, ℕ, IfOk, MatchResult};
 ghost use Rattle.sha2.specs.Sha256.{sha256};
-ghost use Rattle.asn1_trees.specs.Tree.{IsWhole, der};
+ghost use Rattle.asn1_der.specs.Tree.{IsWhole, der};
 ghost use Rattle.cms_signed_data.specs.Certificate.{Certificate};
 ghost use Rattle.cms_signed_data.specs.declared.signed_attributes.SignedAttributes.{SignedAttributes};
 ghost use Rattle.cms_signed_data.specs.declared.signer_info.IssuerAndSerialNumber.{IssuerAndSerialNumber};

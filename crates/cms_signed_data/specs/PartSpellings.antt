@@ -1,8 +1,8 @@
 -- How the parts of signed data are spelled.
 use Rattle.std.proofs.Common.{◌≡◌, ℕ, Bool, List, [], ◌∷◌, ◌++◌, refl}
-use Rattle.asn1_trees.specs.Length.{element}
-use Rattle.asn1_trees.specs.Tree.{Tree, primitive, constructed, wrapped, more, none, leaf, der, IsWhole}
-use Rattle.asn1_trees.proofs.Leaf.{leaf-whole, der-leaf}
+use Rattle.asn1_der.specs.Length.{element}
+use Rattle.asn1_der.specs.Tree.{Tree, primitive, constructed, wrapped, more, none, leaf, der, IsWhole}
+use Rattle.asn1_der.proofs.Leaf.{leaf-whole, der-leaf}
 use Rattle.asn1_paths.specs.PathLaws.{IsElement, LeadsTo, go_on, alone_at, second_at}
 use Rattle.picky_asn1.specs.declared.wrapper.ObjectIdentifierAsn1.{ObjectIdentifierAsn1}
 use Rattle.x509_certificates.specs.AlgorithmIdentifier.{AlgorithmIdentifier}

@@ -1,11 +1,11 @@
 -- Where signed data holds its content, its certificate, and the parts of its signer (RFC 5652, section 5).
 use Rattle.std.proofs.Common.{ℕ, suc, List, [], ◌∷◌, refl, subst}
 use Rattle.std.specs.Prelude.{⊤}
-use Rattle.asn1_trees.specs.Length.{element}
+use Rattle.asn1_der.specs.Length.{element}
 use Rattle.asn1_elements.specs.Parts.{IsPart}
 use Rattle.asn1_paths.specs.PathLaws.{AreSome, LeadsTo, LeadsIn, in_element, go_on, part_there}
 use Rattle.x509_certificates.specs.declared.certificate.Certificate.{Certificate}
-use Rattle.x509_kinds.specs.declared.enclosed.Explicit.{Explicit}
+use Rattle.x509_open_types.specs.declared.enclosed.Explicit.{Explicit}
 use Rattle.x509_parts.specs.declared.raw_algorithm_identifier.RawAlgorithmIdentifier.{RawAlgorithmIdentifier}
 use Rattle.x509_spelling.specs.Spellings.{Holds}
 use Rattle.cms_signed_data.specs.declared.content_info.ContentInfo.{ContentInfo}

@@ -4,7 +4,7 @@ use Rattle.std.specs.Prelude.{⊤}
 use Rattle.picky_asn1.specs.declared.wrapper.ObjectIdentifierAsn1.{ObjectIdentifierAsn1}
 use Rattle.x509_certificates.specs.AlgorithmIdentifier.{AlgorithmIdentifier}
 use Rattle.x509_certificates.specs.declared.certificate.Certificate.{Certificate}
-use Rattle.x509_kinds.specs.declared.enclosed.Explicit.{Explicit}
+use Rattle.x509_open_types.specs.declared.enclosed.Explicit.{Explicit}
 use Rattle.x509_parts.specs.declared.raw_algorithm_identifier.RawAlgorithmIdentifier.{RawAlgorithmIdentifier}
 use Rattle.cms_signed_data.specs.declared.content_info.ContentInfo.{ContentInfo}
 use Rattle.cms_signed_data.specs.declared.encapsulated_content_info.EncapsulatedContentInfo.{EncapsulatedContentInfo}

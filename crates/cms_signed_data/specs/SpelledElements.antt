@@ -1,9 +1,9 @@
 -- A spelling is an element, and a field of a SEQUENCE is an element of its content.
 use Rattle.std.proofs.Common.{◌≡◌, ℕ, suc, ◌+◌, Bool, true, List, [], ◌∷◌, ◌++◌, refl, sym, ◌∙◌, subst}
 use Rattle.std.specs.Prelude.{⊤, IsTrue}
-use Rattle.asn1_trees.specs.Tree.{Tree}
-use Rattle.asn1_trees.specs.Firsts.{Firsts}
-use Rattle.asn1_trees.proofs.Elements.{element-split}
+use Rattle.asn1_der.specs.Tree.{Tree}
+use Rattle.asn1_der.specs.Firsts.{Firsts}
+use Rattle.asn1_der.proofs.Elements.{element-split}
 use Rattle.asn1_elements.specs.Raw.{has_low_number}
 use Rattle.asn1_paths.specs.PathLaws.{IsElement, AreSome, LeadsTo, LeadsIn, in_element, some_more, at_front, behind_front, at_alone, go_on}
 use Rattle.x509_spelling.specs.Spellings.{has_low_tag, Leads, IsEnd, Joins, Holds}

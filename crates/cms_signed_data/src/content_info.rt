@@ -7,7 +7,7 @@ use devices::Sink;
 use picky_asn1::wrapper::ObjectIdentifierAsn1;
 use picky_asn1_der::{Asn1DerError, Serialize, Serializer};
 use std::alloc::Global;
-use x509_kinds::Explicit;
+use x509_open_types::Explicit;
 use x509_spelling::{Counted, Spelled, SpelledFields, X509Fault, read_fields};
 
 /// Signed data under its type.
@@ -29,12 +29,12 @@ type ContentRow = (ObjectIdentifierAsn1, (Explicit<0, SignedData>, ()));
 
 impl Serialize for ContentInfo {
     ghost use Rattle.std.proofs.Common.{refl, true};
-    ghost use Rattle.asn1_trees.specs.Tagged.{sequence};
-    ghost use Rattle.asn1_trees.specs.Firsts.{only};
-    ghost use Rattle.asn1_trees.proofs.Spelling.{may_begin-only};
+    ghost use Rattle.asn1_der.specs.Tagged.{sequence};
+    ghost use Rattle.asn1_der.specs.Firsts.{only};
+    ghost use Rattle.asn1_der.proofs.Spelling.{may_begin-only};
     ghost use Rattle.x509_spelling.specs.Spellings.{Holds};
     ghost use Rattle.x509_spelling.specs.RowLaws.{struct_laws};
-    ghost use Rattle.x509_kinds.specs.HeldLaws.{laws_injective};
+    ghost use Rattle.x509_open_types.specs.HeldLaws.{laws_injective};
     ghost use Rattle.cms_signed_data.specs.SignedRows.{content_row, one_content};
 
     ghost tree = { λ v. sequence ⟦<ContentRow as SpelledFields>⟧.row_trees 48 (content_row v) };
@@ -55,8 +55,8 @@ impl Serialize for ContentInfo {
 
 impl Spelled for ContentInfo {
     ghost use Rattle.std.proofs.Common.{refl, true};
-    ghost use Rattle.asn1_trees.specs.Tagged.{sequence};
-    ghost use Rattle.asn1_trees.specs.Firsts.{only};
+    ghost use Rattle.asn1_der.specs.Tagged.{sequence};
+    ghost use Rattle.asn1_der.specs.Firsts.{only};
     ghost use Rattle.x509_spelling.specs.Spellings.{Holds};
     ghost use Rattle.x509_spelling.specs.RowLaws.{struct_laws};
     ghost use Rattle.cms_signed_data.specs.SignedRows.{content_row, one_content};

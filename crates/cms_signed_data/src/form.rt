@@ -31,7 +31,7 @@ pub trait OfForm: Spelled {
 
 impl OfForm for ContentInfo {
     ghost use Rattle.std.proofs.Common.{refl, true};
-    ghost use Rattle.asn1_trees.specs.Tree.{der};
+    ghost use Rattle.asn1_der.specs.Tree.{der};
     ghost use Rattle.asn1_leaves.specs.ObjectIdentifier.{is_object_identifier};
     ghost use Rattle.cms_signed_data.specs.Form.{has_form};
     ghost use Rattle.cms_signed_data.specs.SpelledElements.{spells_elements};

@@ -1,7 +1,7 @@
 //! A SET OF with one value (X.690, section 8.12).
 ghost use Rattle.std.specs.Prelude.{◌≡◌, true, MatchResult};
-ghost use Rattle.asn1_trees.specs.Tree.{wrapped};
-ghost use Rattle.asn1_trees.specs.Firsts.{only};
+ghost use Rattle.asn1_der.specs.Tree.{wrapped};
+ghost use Rattle.asn1_der.specs.Firsts.{only};
 ghost use Rattle.x509_spelling.specs.Refusals.{part_refusal};
 ghost use Rattle.x509_spelling.specs.Spellings.{Holds};
 ghost use Rattle.x509_spelling.specs.Answers.{Tells};
@@ -9,7 +9,7 @@ ghost use Rattle.x509_spelling.specs.Answers.{Tells};
 use devices::{Sink, Source};
 use picky_asn1_der::{Asn1DerError, Deserialize, Deserializer, Serialize, Serializer};
 use std::alloc::Global;
-use x509_kinds::read_held;
+use x509_open_types::read_held;
 use x509_spelling::{Counted, Spelled, X509Fault};
 
 /// A SET OF with exactly one value: none and several aren't read.
@@ -17,7 +17,7 @@ use x509_spelling::{Counted, Spelled, X509Fault};
 pub struct SetOfOne<T>(pub T);
 
 impl<T: Serialize> Serialize for SetOfOne<T> {
-    ghost use Rattle.asn1_trees.proofs.Spelling.{wrapped-begins, wrapped-injective};
+    ghost use Rattle.asn1_der.proofs.Spelling.{wrapped-begins, wrapped-injective};
 
     ghost tree = { λ value. wrapped 49 (T.tree value.0) };
 
@@ -50,7 +50,7 @@ impl<T: Deserialize + Drop> Deserialize for SetOfOne<T> {
 impl<T: Spelled> Spelled for SetOfOne<T> {
     ghost use Rattle.std.proofs.Common.{ap, refl};
     ghost use Rattle.x509_spelling.specs.Laws.{held_laws};
-    ghost use Rattle.x509_kinds.specs.HeldLaws.{holding_laws};
+    ghost use Rattle.x509_open_types.specs.HeldLaws.{holding_laws};
 
     ghost spells = { λ value. Holds 49 T.spells value.0 };
 

@@ -29,8 +29,8 @@ type ContentTypeAttributeRow = Row2<ObjectIdentifierAsn1, SetOfOne<ObjectIdentif
 
 impl Tagged for ContentTypeAttribute {
     ghost use Rattle.std.proofs.Common.{ap, refl, true};
-    ghost use Rattle.asn1_trees.specs.Tagged.{sequence};
-    ghost use Rattle.asn1_trees.proofs.Tagged.{sequence_laws};
+    ghost use Rattle.asn1_der.specs.Tagged.{sequence};
+    ghost use Rattle.asn1_der.proofs.Tagged.{sequence_laws};
 
     type Row = ContentTypeAttributeRow;
 
@@ -80,8 +80,8 @@ type MessageDigestAttributeRow = Row2<ObjectIdentifierAsn1, SetOfOne<OctetString
 
 impl Tagged for MessageDigestAttribute {
     ghost use Rattle.std.proofs.Common.{ap, refl, true};
-    ghost use Rattle.asn1_trees.specs.Tagged.{sequence};
-    ghost use Rattle.asn1_trees.proofs.Tagged.{sequence_laws};
+    ghost use Rattle.asn1_der.specs.Tagged.{sequence};
+    ghost use Rattle.asn1_der.proofs.Tagged.{sequence_laws};
 
     type Row = MessageDigestAttributeRow;
 
@@ -131,8 +131,8 @@ type SignedAttributesRow = Row2<ContentTypeAttribute, MessageDigestAttribute>;
 
 impl Tagged for SignedAttributes {
     ghost use Rattle.std.proofs.Common.{ap, refl, true};
-    ghost use Rattle.asn1_trees.specs.Tagged.{sequence};
-    ghost use Rattle.asn1_trees.proofs.Tagged.{sequence_laws};
+    ghost use Rattle.asn1_der.specs.Tagged.{sequence};
+    ghost use Rattle.asn1_der.proofs.Tagged.{sequence_laws};
 
     type Row = SignedAttributesRow;
 

@@ -9,7 +9,7 @@ use devices::Sink;
 use picky_asn1_der::{Asn1DerError, Serialize, Serializer};
 use std::alloc::Global;
 use x509_certificates::Certificate;
-use x509_kinds::Explicit;
+use x509_open_types::Explicit;
 use x509_parts::RawAlgorithmIdentifier;
 use x509_spelling::{Counted, Spelled, SpelledFields, X509Fault, read_fields};
 
@@ -52,12 +52,12 @@ type SignedRow = (
 
 impl Serialize for SignedData {
     ghost use Rattle.std.proofs.Common.{refl, true};
-    ghost use Rattle.asn1_trees.specs.Tagged.{sequence};
-    ghost use Rattle.asn1_trees.specs.Firsts.{only};
-    ghost use Rattle.asn1_trees.proofs.Spelling.{may_begin-only};
+    ghost use Rattle.asn1_der.specs.Tagged.{sequence};
+    ghost use Rattle.asn1_der.specs.Firsts.{only};
+    ghost use Rattle.asn1_der.proofs.Spelling.{may_begin-only};
     ghost use Rattle.x509_spelling.specs.Spellings.{Holds};
     ghost use Rattle.x509_spelling.specs.RowLaws.{struct_laws};
-    ghost use Rattle.x509_kinds.specs.HeldLaws.{laws_injective};
+    ghost use Rattle.x509_open_types.specs.HeldLaws.{laws_injective};
     ghost use Rattle.cms_signed_data.specs.SignedRows.{signed_row, one_signed};
 
     ghost tree = { λ v. sequence ⟦<SignedRow as SpelledFields>⟧.row_trees 48 (signed_row v) };
@@ -80,8 +80,8 @@ impl Serialize for SignedData {
 
 impl Spelled for SignedData {
     ghost use Rattle.std.proofs.Common.{refl, true};
-    ghost use Rattle.asn1_trees.specs.Tagged.{sequence};
-    ghost use Rattle.asn1_trees.specs.Firsts.{only};
+    ghost use Rattle.asn1_der.specs.Tagged.{sequence};
+    ghost use Rattle.asn1_der.specs.Firsts.{only};
     ghost use Rattle.x509_spelling.specs.Spellings.{Holds};
     ghost use Rattle.x509_spelling.specs.RowLaws.{struct_laws};
     ghost use Rattle.cms_signed_data.specs.SignedRows.{signed_row, one_signed};

@@ -33,8 +33,8 @@ type IssuerAndSerialNumberRow = Row2<Name, IntegerAsn1>;
 
 impl Tagged for IssuerAndSerialNumber {
     ghost use Rattle.std.proofs.Common.{ap, refl, true};
-    ghost use Rattle.asn1_trees.specs.Tagged.{sequence};
-    ghost use Rattle.asn1_trees.proofs.Tagged.{sequence_laws};
+    ghost use Rattle.asn1_der.specs.Tagged.{sequence};
+    ghost use Rattle.asn1_der.proofs.Tagged.{sequence_laws};
 
     type Row = IssuerAndSerialNumberRow;
 
@@ -109,12 +109,12 @@ type SignerRow = (
 
 impl Serialize for SignerInfo {
     ghost use Rattle.std.proofs.Common.{refl, true};
-    ghost use Rattle.asn1_trees.specs.Tagged.{sequence};
-    ghost use Rattle.asn1_trees.specs.Firsts.{only};
-    ghost use Rattle.asn1_trees.proofs.Spelling.{may_begin-only};
+    ghost use Rattle.asn1_der.specs.Tagged.{sequence};
+    ghost use Rattle.asn1_der.specs.Firsts.{only};
+    ghost use Rattle.asn1_der.proofs.Spelling.{may_begin-only};
     ghost use Rattle.x509_spelling.specs.Spellings.{Holds};
     ghost use Rattle.x509_spelling.specs.RowLaws.{struct_laws};
-    ghost use Rattle.x509_kinds.specs.HeldLaws.{laws_injective};
+    ghost use Rattle.x509_open_types.specs.HeldLaws.{laws_injective};
     ghost use Rattle.cms_signed_data.specs.SignedRows.{signer_row, one_signer};
 
     ghost tree = { λ v. sequence ⟦<SignerRow as SpelledFields>⟧.row_trees 48 (signer_row v) };
@@ -137,8 +137,8 @@ impl Serialize for SignerInfo {
 
 impl Spelled for SignerInfo {
     ghost use Rattle.std.proofs.Common.{refl, true};
-    ghost use Rattle.asn1_trees.specs.Tagged.{sequence};
-    ghost use Rattle.asn1_trees.specs.Firsts.{only};
+    ghost use Rattle.asn1_der.specs.Tagged.{sequence};
+    ghost use Rattle.asn1_der.specs.Firsts.{only};
     ghost use Rattle.x509_spelling.specs.Spellings.{Holds};
     ghost use Rattle.x509_spelling.specs.RowLaws.{struct_laws};
     ghost use Rattle.cms_signed_data.specs.SignedRows.{signer_row, one_signer};

@@ -3,10 +3,9 @@ use devices::{Sink, Source};
 use picky_asn1::wrapper::{IntegerAsn1, OctetStringAsn1};
 use picky_asn1_der::{
     Asn1DerError, Deserializer, ExplicitContextTag0, ExplicitContextTag1, ExplicitContextTag2,
-    ExplicitContextTag3, ExplicitContextTag4, Fields, Optional, Row5, Serializer, Tagged,
-    fields_of, from_fields, read_sequence,
+    ExplicitContextTag3, ExplicitContextTag4, Fields, LentFields, Optional, RecordFields, Row5,
+    Serializer, Tagged, fields_of, from_fields, read_sequence,
 };
-use record_copies::{LentFields, RecordFields};
 use std::alloc::AllocError;
 
 /// Where a smart card's key stands (MS-CSSP, section 2.2.1.2.2.1).
@@ -53,8 +52,8 @@ impl Clone for TsCspDataDetail {
 
 impl Tagged for TsCspDataDetail {
     ghost use Rattle.std.proofs.Common.{ap, refl, true};
-    ghost use Rattle.asn1_trees.specs.Tagged.{sequence};
-    ghost use Rattle.asn1_trees.proofs.Tagged.{sequence_laws};
+    ghost use Rattle.asn1_der.specs.Tagged.{sequence};
+    ghost use Rattle.asn1_der.proofs.Tagged.{sequence_laws};
 
     type Row = TsCspDataDetailRow;
 

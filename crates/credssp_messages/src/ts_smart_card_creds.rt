@@ -4,10 +4,9 @@ use devices::{Sink, Source};
 use picky_asn1::wrapper::OctetStringAsn1;
 use picky_asn1_der::{
     Asn1DerError, Deserializer, ExplicitContextTag0, ExplicitContextTag1, ExplicitContextTag2,
-    ExplicitContextTag3, Fields, Optional, Row4, Serializer, Tagged, fields_of, from_fields,
-    read_sequence,
+    ExplicitContextTag3, Fields, LentFields, Optional, RecordFields, Row4, Serializer, Tagged,
+    fields_of, from_fields, read_sequence,
 };
-use record_copies::{LentFields, RecordFields};
 use std::alloc::AllocError;
 
 /// Credentials by smart card (MS-CSSP, section 2.2.1.2.2).
@@ -49,8 +48,8 @@ impl Clone for TsSmartCardCreds {
 
 impl Tagged for TsSmartCardCreds {
     ghost use Rattle.std.proofs.Common.{ap, refl, true};
-    ghost use Rattle.asn1_trees.specs.Tagged.{sequence};
-    ghost use Rattle.asn1_trees.proofs.Tagged.{sequence_laws};
+    ghost use Rattle.asn1_der.specs.Tagged.{sequence};
+    ghost use Rattle.asn1_der.proofs.Tagged.{sequence_laws};
 
     type Row = TsSmartCardCredsRow;
 

@@ -6,8 +6,8 @@ use anyhow::{Context as _, bail};
 use devices::{Sink, Source, read_full};
 use gss_acceptor::{Acceptor, Established};
 use gss_contexts::Context;
+use krb_kdc::after_epoch;
 use krb_moments::Moment;
-use krb_runs::after_epoch;
 use std::alloc::Global;
 use std::time::{Clock, SystemTime, UNIX_EPOCH};
 

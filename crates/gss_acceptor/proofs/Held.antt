@@ -1,7 +1,7 @@
 -- What octets that are no element of a token, or another one, are not; and what a token holds.
 use Rattle.std.proofs.Common.{◌≡◌, ℕ, List, [], ◌++◌, Option, None, Some, MatchOption, append-nil, refl, sym, ap, ◌∙◌}
-use Rattle.asn1_trees.specs.Length.{element}
-use Rattle.asn1_trees.proofs.Elements.{element-one}
+use Rattle.asn1_der.specs.Length.{element}
+use Rattle.asn1_der.proofs.Elements.{element-one}
 use Rattle.asn1_elements.specs.Splits.{IsNoSplit}
 use Rattle.gss_acceptor.specs.Tokens.{IsApReqToken, ap_req_front}
 

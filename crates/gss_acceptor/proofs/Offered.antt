@@ -1,6 +1,6 @@
 -- What a token of SPNEGO offers, as it is read.
 use Rattle.std.proofs.Common.{ℕ, List, Err, refl, inl, inr}
-use Rattle.gss_messages.specs.declared.gss_api_neg_init.GssApiNegInit.{GssApiNegInit}
+use Rattle.gss_context_tokens.specs.declared.gss_api_neg_init.GssApiNegInit.{GssApiNegInit}
 use Rattle.gss_acceptor.specs.Negotiation.{IsNegInit, IsRead, offer_in, offered}
 use Rattle.gss_acceptor.specs.declared.refusal.AcceptRefusal.TheVariants.{NotAToken}
 

@@ -1,11 +1,11 @@
 -- An established context has what the client chose.
 use Rattle.std.proofs.Common.{◌≡◌, ℕ, Bool, true, false, List, Result, Ok, Err, refl, sym, ap, ◌∙◌, inl, inr, if◌then◌else◌}
 use Rattle.std.specs.Prelude.{max, is_some}
-use Rattle.krb_ap.specs.Admission.{AdmissionRecord}
-use Rattle.krb_ap.specs.Presents.{Choice, Presents, TellsOf}
+use Rattle.krb_ap_requests.specs.Admission.{AdmissionRecord}
+use Rattle.krb_ap_requests.specs.Presents.{Choice, Presents, TellsOf}
 use Rattle.krb_crypto.specs.Keys.{KeyRecord}
-use Rattle.krb_replay_cache.specs.Pair.{PairRecord}
-use Rattle.krb_replay_cache.specs.Seen.{IsWindow}
+use Rattle.krb_service.specs.Pair.{PairRecord}
+use Rattle.krb_service.specs.Seen.{IsWindow}
 use Rattle.krb_service.specs.RememberingService.{IsStep}
 use Rattle.krb_service.specs.Service.{ServiceRecord}
 use Rattle.krb_service.proofs.Admitting.{admitted_as_presented}

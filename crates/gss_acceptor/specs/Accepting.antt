@@ -4,10 +4,10 @@ use Rattle.picky_asn1.specs.Bytes.{Bytes}
 use Rattle.krb_moments.specs.Units.{Micros}
 use Rattle.krb_types.specs.RandomBytes.{Random}
 use Rattle.krb_types.specs.declared.data_types.principal_name.PrincipalName.{PrincipalName}
-use Rattle.krb_replay_cache.specs.Pair.{PairRecord}
-use Rattle.krb_replay_cache.specs.Seen.{IsWindow}
-use Rattle.krb_ap.specs.Admission.{AdmissionRecord}
-use Rattle.krb_ap.specs.declared.refusal.AdmitRefusal.{AdmitRefusal}
+use Rattle.krb_service.specs.Pair.{PairRecord}
+use Rattle.krb_service.specs.Seen.{IsWindow}
+use Rattle.krb_ap_requests.specs.Admission.{AdmissionRecord}
+use Rattle.krb_ap_requests.specs.declared.refusal.AdmitRefusal.{AdmitRefusal}
 use Rattle.krb_service.specs.Service.{ServiceRecord}
 use Rattle.krb_service.specs.RememberingService.{IsStep, remembering}
 use Rattle.gss_contexts.specs.Contexts.{ContextRecord}

@@ -2,7 +2,7 @@
 use Rattle.std.specs.Prelude.{[], ◌∷◌, ◌++◌, Option, None, Some}
 use Rattle.std.specs.Option.{option_map}
 use Rattle.picky_asn1.specs.Bytes.{Bytes}
-use Rattle.asn1_trees.specs.Length.{element}
+use Rattle.asn1_der.specs.Length.{element}
 use Rattle.gss_acceptor.specs.Mechanisms.{mechanism_octets}
 use Rattle.gss_acceptor.specs.Tokens.{ap_rep_token}
 use Rattle.gss_acceptor.specs.declared.answer.Framing.{Framing}

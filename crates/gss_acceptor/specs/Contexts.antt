@@ -1,7 +1,7 @@
 -- The acceptor's end of a context (RFC 4121, sections 2, 4.1.1 and 4.2).
 use Rattle.std.specs.Prelude.{ℕ, ◌-◌, nat_lt, Bool, false, Option, None, Some, Result, Ok, Err, if◌then◌else◌, ℤ, pos, negsuc}
 use Rattle.krb_crypto.specs.Keys.{KeyRecord}
-use Rattle.krb_opening.specs.Keys.{key_in}
+use Rattle.krb_encrypted_data.specs.Keys.{key_in}
 use Rattle.krb_types.specs.declared.data_types.encryption_key.EncryptionKey.{EncryptionKey}
 use Rattle.gss_contexts.specs.Contexts.{ContextRecord, is_newer}
 use Rattle.gss_contexts.specs.declared.side.Side.TheVariants.{Acceptor}

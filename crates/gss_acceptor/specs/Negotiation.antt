@@ -7,14 +7,14 @@ use Rattle.std.specs.Cmp.Lexicographic.{pointwise}
 use Rattle.picky_asn1.specs.Bytes.{Bytes}
 use Rattle.picky_asn1.specs.declared.wrapper.ObjectIdentifierAsn1.{ObjectIdentifierAsn1}
 use Rattle.asn1_leaves.specs.ObjectIdentifier.{oid_content}
-use Rattle.asn1_trees.specs.Tree.{Tree, Writes}
-use Rattle.asn1_trees.specs.Tagged.{tagged_tree}
-use Rattle.asn1_trees.proofs.Tagged.{tagged-injective}
+use Rattle.asn1_der.specs.Tree.{Tree, Writes}
+use Rattle.asn1_der.specs.Tagged.{tagged_tree}
+use Rattle.asn1_der.proofs.Tagged.{tagged-injective}
 use Rattle.decision_tables.specs.One.{IsSole}
 use Rattle.decision_tables.specs.Tables.{Table, ask, done}
-use Rattle.gss_messages.specs.declared.gss_api_neg_init.GssApiNegInit.{GssApiNegInit}
-use Rattle.gss_messages.specs.declared.neg_token_init.NegTokenInit.{NegTokenInit}
-use Rattle.gss_messages.specs.contracts.gss_api_neg_init.GssApiNegInitTagged.TheImpl as neg_init_impl
+use Rattle.gss_context_tokens.specs.declared.gss_api_neg_init.GssApiNegInit.{GssApiNegInit}
+use Rattle.gss_context_tokens.specs.declared.neg_token_init.NegTokenInit.{NegTokenInit}
+use Rattle.gss_context_tokens.specs.contracts.gss_api_neg_init.GssApiNegInitTagged.TheImpl as neg_init_impl
 use Rattle.gss_acceptor.specs.Mechanisms.{kerberos_in, spnego_octets}
 use Rattle.gss_acceptor.specs.declared.mechanism.Mechanism.{Mechanism}
 use Rattle.gss_acceptor.specs.declared.negotiation.Offer.{Offer}

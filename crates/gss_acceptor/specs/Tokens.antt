@@ -2,8 +2,8 @@
 -- (RFC 4121, section 4.1), as the GSS-API frames first tokens (RFC 2743, section 3.1).
 use Rattle.std.proofs.Common.{◌≡◌, [], ◌∷◌, ◌++◌, drop, ap, sym, ◌∙◌}
 use Rattle.picky_asn1.specs.Bytes.{Bytes}
-use Rattle.asn1_trees.specs.Length.{element}
-use Rattle.asn1_trees.proofs.Elements.{element-one}
+use Rattle.asn1_der.specs.Length.{element}
+use Rattle.asn1_der.proofs.Elements.{element-one}
 use Rattle.decision_tables.specs.One.{IsSole}
 
 -- the mechanism's identifier (`06 09 ..`), and the token ids of an AP-REQ and of an AP-REP

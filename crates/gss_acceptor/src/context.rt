@@ -5,7 +5,7 @@ ghost use Rattle.gss_acceptor.specs.Contexts.{context_in, context_key, first_num
 use crate::refusal::AcceptRefusal;
 use gss_contexts::{Context, SequenceNumbers, Side};
 use krb_crypto::Key;
-use krb_opening::key_of;
+use krb_encrypted_data::key_of;
 use krb_types::data_types::EncryptionKey;
 use picky_asn1::wrapper::IntegerAsn1;
 

@@ -1,10 +1,9 @@
 //! Elements of DER around octets.
 ghost use Rattle.std.specs.Prelude.{◌≡◌, ◌++◌, IfOk};
-ghost use Rattle.asn1_trees.specs.Length.{element};
+ghost use Rattle.asn1_der.specs.Length.{element};
 
-use krb_encoding::encoding_of;
 use picky_asn1::wrapper::OctetStringAsn1;
-use picky_asn1_der::Retagged;
+use picky_asn1_der::{Retagged, encoding_of};
 use std::alloc::{AllocError, Global};
 
 /// The element with this identifier octet and this content.

@@ -9,7 +9,7 @@ use crate::checksum::{ContextFlags, InitialChecksum};
 use crate::judge::{Judged, judge};
 use crate::refusal::AcceptRefusal;
 use gss_contexts::Context;
-use krb_ap::Admission;
+use krb_service::Admission;
 use krb_types::data_types::{PrincipalName, Realm};
 use std::alloc::Global;
 use std::marker::Model;

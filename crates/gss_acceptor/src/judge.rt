@@ -6,7 +6,7 @@ use crate::checksum::{InitialChecksum, initial_in};
 use crate::context::{context_in, context_key, first_number};
 use crate::refusal::AcceptRefusal;
 use gss_contexts::Context;
-use krb_ap::Admission;
+use krb_service::Admission;
 
 /// What is judged of an admission: the authenticator's checksum, and the context.
 #[derive(Drop)]

@@ -1,8 +1,8 @@
 //! What holds of every context that is established.
 ghost use Rattle.std.specs.Prelude.{◌≡◌, ℕ, List, Ok};
-ghost use Rattle.krb_ap.specs.Presents.{Choice, Presents};
-ghost use Rattle.krb_replay_cache.specs.Pair.{PairRecord};
-ghost use Rattle.krb_replay_cache.specs.Seen.{IsWindow};
+ghost use Rattle.krb_ap_requests.specs.Presents.{Choice, Presents};
+ghost use Rattle.krb_service.specs.Pair.{PairRecord};
+ghost use Rattle.krb_service.specs.Seen.{IsWindow};
 ghost use Rattle.krb_service.specs.Service.{ServiceRecord};
 ghost use Rattle.gss_acceptor.specs.Accepting.{EstablishedRecord, Handles, Request, carried};
 ghost use Rattle.gss_acceptor.specs.Chosen.{IsChosen};

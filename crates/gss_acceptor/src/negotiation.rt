@@ -4,8 +4,8 @@ ghost use Rattle.gss_acceptor.specs.Negotiation.{IsRead, first_in, is_spnego, me
 
 use crate::mechanism::{Mechanism, kerberos_in};
 use crate::refusal::AcceptRefusal;
-use gss_messages::{ApplicationTag0, GssApiNegInit, NegTokenInit};
-use krb_opening::read_whole;
+use gss_context_tokens::{ApplicationTag0, GssApiNegInit, NegTokenInit};
+use krb_encrypted_data::read_whole;
 use picky_asn1::wrapper::{ObjectIdentifierAsn1, OctetStringAsn1};
 use std::alloc::Global;
 

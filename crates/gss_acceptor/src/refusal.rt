@@ -2,7 +2,7 @@
 ghost use Rattle.std.specs.Prelude.{◌≡◌};
 ghost use Rattle.gss_acceptor.specs.declared.refusal.AcceptRefusal.TheVariants.{Admit, Memory};
 
-use krb_ap::AdmitRefusal;
+use krb_ap_requests::AdmitRefusal;
 use std::alloc::AllocError;
 use thiserror::Error;
 

@@ -1,6 +1,6 @@
 //! Tokens of the Kerberos mechanism that establish a context (RFC 4121, section 4.1).
 ghost use Rattle.std.specs.Prelude.{◌≡◌, ◌++◌, ℕ, List, IfOk, MatchOption};
-ghost use Rattle.asn1_trees.specs.Length.{element};
+ghost use Rattle.asn1_der.specs.Length.{element};
 ghost use Rattle.gss_acceptor.specs.Tokens.{IsApReqToken, ap_rep_token, ap_req_front};
 
 use crate::elements::{element_of, joined};

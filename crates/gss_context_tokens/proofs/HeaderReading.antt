@@ -1,11 +1,11 @@
 -- A header is read from the element that holds it.
 use Rattle.std.proofs.Common.{◌≡◌, ℕ, true, List, ◌++◌, Option, None, Some, inl, inr, refl, sym, ap, subst, ◌∙◌}
-use Rattle.asn1_trees.specs.Tree.{Tree, Writes}
-use Rattle.asn1_trees.specs.Firsts.{Firsts}
-use Rattle.asn1_trees.specs.Length.{element}
-use Rattle.asn1_trees.proofs.Elements.{element-one}
-use Rattle.asn1_trees.proofs.Spelling.{IsInjective}
-use Rattle.asn1_octets.specs.declared.error.Asn1DerError.{Asn1DerError}
+use Rattle.asn1_der.specs.Tree.{Tree, Writes}
+use Rattle.asn1_der.specs.Firsts.{Firsts}
+use Rattle.asn1_der.specs.Length.{element}
+use Rattle.asn1_der.proofs.Elements.{element-one}
+use Rattle.asn1_der.proofs.Spelling.{IsInjective}
+use Rattle.asn1_der.specs.declared.error.Asn1DerError.{Asn1DerError}
 use Rattle.asn1_codec.specs.Reading.{Reading, Took, TookBy, Refused, IsReadBy, IsOwn, stopped}
 use Rattle.asn1_codec.specs.Reads.{BeginsBy}
 use Rattle.asn1_codec.proofs.Chain.{refused-taken, refused-memory}

@@ -3,8 +3,8 @@ use Rattle.std.proofs.Common.{◌≡◌, ℕ, ◌<◌, List, [], ◌++◌, lengt
 use Rattle.std.proofs.lemmas.List.{append_cancel_left}
 use Rattle.std.specs.declared.io.ErrorKind.{ErrorKind}
 use Rattle.asn1_codec.specs.Reads.{IsOneValue, BeginsBy}
-use Rattle.krb_tokens.specs.declared.error.GssApiMessageError.{GssApiMessageError}
-use Rattle.krb_tokens.specs.declared.error.GssApiMessageError.TheVariants.{InvalidId, IoError}
+use Rattle.gss_message_tokens.specs.declared.error.GssApiMessageError.{GssApiMessageError}
+use Rattle.gss_message_tokens.specs.declared.error.GssApiMessageError.TheVariants.{InvalidId, IoError}
 use Rattle.picky_asn1.specs.declared.wrapper.ObjectIdentifierAsn1.{ObjectIdentifierAsn1}
 use Rattle.gss_context_tokens.specs.declared.krb_message.KrbMessage.{KrbMessage}
 use Rattle.gss_context_tokens.specs.declared.iakerb_proxy_message.IAKerbProxyMessage.{IAKerbProxyMessage}

@@ -1,12 +1,12 @@
 -- A token is told in one way.
 use Rattle.std.proofs.Common.{◌≡◌, ℕ, ◌≤◌, List, ◌++◌, length, refl, sym, ap, subst, ◌∙◌, arith, length-append}
-use Rattle.asn1_trees.specs.Tree.{Writes}
-use Rattle.asn1_trees.specs.Length.{element}
+use Rattle.asn1_der.specs.Tree.{Writes}
+use Rattle.asn1_der.specs.Length.{element}
 use Rattle.asn1_elements.specs.Splits.{IsNoSplit}
-use Rattle.asn1_trees.specs.Tagged.{leaf_as}
-use Rattle.asn1_trees.proofs.Tagged.{TagLaws, leaf_laws, tagged-injective}
-use Rattle.asn1_trees.proofs.Spelling.{IsInjective}
-use Rattle.asn1_trees.proofs.Elements.{element-one, fronts}
+use Rattle.asn1_der.specs.Tagged.{leaf_as}
+use Rattle.asn1_der.proofs.Tagged.{TagLaws, leaf_laws, tagged-injective}
+use Rattle.asn1_der.proofs.Spelling.{IsInjective}
+use Rattle.asn1_der.proofs.Elements.{element-one, fronts}
 use Rattle.asn1_leaves.specs.ObjectIdentifier.{is_object_identifier, oid_content}
 use Rattle.asn1_leaves.proofs.OidLemmas.{oid_content-injective}
 use Rattle.picky_asn1.specs.declared.wrapper.ObjectIdentifierAsn1.{ObjectIdentifierAsn1}

@@ -1,15 +1,15 @@
 -- Why nothing was read, from what a part was refused for.
 use Rattle.std.proofs.Common.{◌≡◌, ℕ, List, Option, inl, inr, sym, subst}
-use Rattle.asn1_octets.specs.declared.error.Unsupported.{Unsupported}
+use Rattle.asn1_der.specs.declared.error.Unsupported.{Unsupported}
 use Rattle.std.specs.declared.io.ErrorKind.{ErrorKind}
-use Rattle.asn1_octets.specs.declared.error.Asn1DerError.{Asn1DerError}
-use Rattle.asn1_octets.specs.declared.error.Asn1DerError.TheVariants as der
-use Rattle.krb_tokens.specs.declared.error.GssApiMessageError.{GssApiMessageError}
-use Rattle.krb_tokens.specs.declared.error.GssApiMessageError.TheVariants.{InvalidId, InvalidMechanismOid, IoError, InvalidMicFiller, InvalidWrapFiller, Asn1Error, Memory}
+use Rattle.asn1_der.specs.declared.error.Asn1DerError.{Asn1DerError}
+use Rattle.asn1_der.specs.declared.error.Asn1DerError.TheVariants as der
+use Rattle.gss_message_tokens.specs.declared.error.GssApiMessageError.{GssApiMessageError}
+use Rattle.gss_message_tokens.specs.declared.error.GssApiMessageError.TheVariants.{InvalidId, InvalidMechanismOid, IoError, InvalidMicFiller, InvalidWrapFiller, Asn1Error, Memory}
 use Rattle.gss_context_tokens.specs.Fronts.{IsMissing}
 use Rattle.picky_asn1.specs.declared.wrapper.ObjectIdentifierAsn1.{ObjectIdentifierAsn1}
 use Rattle.gss_context_tokens.specs.Tokens.{IsOfMechanism}
-use Rattle.krb_tokens.specs.Faults.{of_der_fault}
+use Rattle.gss_message_tokens.specs.Faults.{of_der_fault}
 use Rattle.gss_context_tokens.specs.Refusals.{IsUnread, IsOtherMechanism, IsProxyRefusal, IsUnwritten, HasOtherMechanism, HasOtherId}
 
 none_of : {T : Type 0} (fits : T → Type 0) (fault : Asn1DerError) → (fault ≡ der.Memory → ⊥) → IsMissing fits fault → (v : T) → fits v → ⊥

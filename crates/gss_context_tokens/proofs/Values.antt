@@ -1,7 +1,7 @@
 -- A message as a value of DER.
 use Rattle.std.proofs.Common.{◌≡◌, ℕ, List, [], ◌∷◌, ◌++◌, length, ap, arith, append-nil}
-use Rattle.asn1_trees.specs.Tree.{Tree, none, more, der, ders}
-use Rattle.asn1_trees.specs.Length.{element}
+use Rattle.asn1_der.specs.Tree.{Tree, none, more, der, ders}
+use Rattle.asn1_der.specs.Length.{element}
 use Rattle.asn1_codec.specs.Pairs.{pair_before}
 
 -- two octets in front of a value

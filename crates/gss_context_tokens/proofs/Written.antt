@@ -1,12 +1,12 @@
 -- What is written is read again.
 use Rattle.std.proofs.Common.{◌≡◌, ℕ, Bool, true, false, List, [], ◌∷◌, ◌++◌, Option, None, Some, refl, ap, ◌∙◌}
 use Rattle.std.specs.Prelude.{IsTrue}
-use Rattle.asn1_trees.specs.Tree.{Tree, Trees, none, put, der, ders, IsWhole, AreWhole, Writes, wrapped}
-use Rattle.asn1_trees.specs.Length.{element}
-use Rattle.asn1_trees.specs.Firsts.{Firsts, only, may_begin, apart}
-use Rattle.asn1_trees.specs.Tagged.{leaf_as}
-use Rattle.asn1_trees.proofs.Spelling.{der-first, der-begins, wrapped-begins}
-use Rattle.asn1_trees.proofs.Rows.{AllBeginAmong, apart-none}
+use Rattle.asn1_der.specs.Tree.{Tree, Trees, none, put, der, ders, IsWhole, AreWhole, Writes, wrapped}
+use Rattle.asn1_der.specs.Length.{element}
+use Rattle.asn1_der.specs.Firsts.{Firsts, only, may_begin, apart}
+use Rattle.asn1_der.specs.Tagged.{leaf_as}
+use Rattle.asn1_der.proofs.Spelling.{der-first, der-begins, wrapped-begins}
+use Rattle.asn1_der.proofs.Rows.{AllBeginAmong, apart-none}
 use Rattle.picky_asn1.specs.BitString.{Bits}
 use Rattle.picky_asn1.specs.contracts.encoding.bit_string.BitStringAsn1Leaf.TheImpl as bits
 use Rattle.picky_asn1.specs.contracts.encoding.octet_string.OctetStringAsn1Leaf.TheImpl as octets

@@ -1,8 +1,8 @@
 -- A value at the front of some bytes, and the bytes after it.
 use Rattle.std.specs.Prelude.{◌≡◌, ℕ, Bool, true, false, List, [], ◌∷◌, ◌++◌, Option, None, Some, ◌⊎◌}
-use Rattle.asn1_trees.specs.Firsts.{Firsts, may_begin}
-use Rattle.asn1_octets.specs.declared.error.Asn1DerError.{Asn1DerError}
-use Rattle.asn1_octets.specs.declared.error.Asn1DerError.TheVariants.{Memory}
+use Rattle.asn1_der.specs.Firsts.{Firsts, may_begin}
+use Rattle.asn1_der.specs.declared.error.Asn1DerError.{Asn1DerError}
+use Rattle.asn1_der.specs.declared.error.Asn1DerError.TheVariants.{Memory}
 
 -- the bytes begin with some that are read as the value, and `rest` follows them
 abbrev pub Leads : {T : Type 0} → (T → List ℕ → Type 0) → T → List ℕ → List ℕ → Type 0

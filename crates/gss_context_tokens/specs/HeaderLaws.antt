@@ -1,10 +1,10 @@
 -- A content is read as one header.
 use Rattle.std.proofs.Common.{◌≡◌, ℕ, List, ◌++◌, Option, None, Some, refl, sym, ap, subst, ◌∙◌}
-use Rattle.asn1_trees.specs.Tree.{Tree, Writes}
-use Rattle.asn1_trees.specs.Firsts.{Firsts}
-use Rattle.asn1_trees.specs.Length.{element}
-use Rattle.asn1_trees.proofs.Spelling.{IsInjective, one_spelling}
-use Rattle.asn1_trees.proofs.Elements.{element-one}
+use Rattle.asn1_der.specs.Tree.{Tree, Writes}
+use Rattle.asn1_der.specs.Firsts.{Firsts}
+use Rattle.asn1_der.specs.Length.{element}
+use Rattle.asn1_der.proofs.Spelling.{IsInjective, one_spelling}
+use Rattle.asn1_der.proofs.Elements.{element-one}
 use Rattle.gss_context_tokens.specs.Fronts.{Leads, LeadsOptional}
 use Rattle.asn1_codec.specs.Reads.{IsOneValue}
 use Rattle.gss_context_tokens.specs.Headers.{LeadFields, IsHeaderOf}

@@ -1,9 +1,9 @@
 -- The header of a message that a service forwards (draft-ietf-kitten-iakerb-03, section 3). Its elements begin the content of
 -- a SEQUENCE. What follows them there is ignored.
 use Rattle.std.specs.Prelude.{◌≡◌, ℕ, List, Option}
-use Rattle.asn1_trees.specs.Tree.{Tree, Writes}
-use Rattle.asn1_trees.specs.Firsts.{Firsts}
-use Rattle.asn1_trees.specs.Length.{element}
+use Rattle.asn1_der.specs.Tree.{Tree, Writes}
+use Rattle.asn1_der.specs.Firsts.{Firsts}
+use Rattle.asn1_der.specs.Length.{element}
 use Rattle.gss_context_tokens.specs.Fronts.{Leads, LeadsOptional}
 
 -- a field, two that may be missing, and what is ignored

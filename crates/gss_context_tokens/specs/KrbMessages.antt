@@ -1,7 +1,7 @@
 -- Messages of Kerberos as tokens of a mechanism (RFC 4121, section 4.1), alone and through a service (draft-ietf-kitten-iakerb-03,
 -- section 3).
 use Rattle.std.specs.Prelude.{◌≡◌, ℕ, List, ◌++◌, length}
-use Rattle.asn1_trees.specs.Tree.{Tree, der, IsWhole}
+use Rattle.asn1_der.specs.Tree.{Tree, der, IsWhole}
 use Rattle.gss_context_tokens.specs.declared.krb_message.KrbMessage.{KrbMessage}
 use Rattle.gss_context_tokens.specs.declared.iakerb_proxy_message.IAKerbProxyMessage.{IAKerbProxyMessage}
 use Rattle.gss_context_tokens.specs.contracts.iakerb_header.IAKerbHeaderSerialize.TheImpl as header_writing

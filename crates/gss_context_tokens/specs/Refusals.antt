@@ -4,12 +4,12 @@ use Rattle.std.specs.String.{string_bytes}
 use Rattle.std.specs.Io.KnownBytes.{Appends}
 use Rattle.std.specs.declared.io.ErrorKind.{ErrorKind}
 use Rattle.std.specs.declared.io.ErrorKind.TheVariants.{OutOfMemory}
-use Rattle.asn1_octets.specs.declared.error.Unsupported.{Unsupported}
+use Rattle.asn1_der.specs.declared.error.Unsupported.{Unsupported}
 use Rattle.asn1_codec.specs.Refusals.{RefusedAs}
 use Rattle.asn1_leaves.specs.ObjectIdentifier.{dotted_text}
 use Rattle.byte_layouts.specs.Stops.{IsWriteStop}
-use Rattle.krb_tokens.specs.declared.error.GssApiMessageError.{GssApiMessageError}
-use Rattle.krb_tokens.specs.declared.error.GssApiMessageError.TheVariants.{InvalidId, InvalidMechanismOid, IoError, InvalidMicFiller, InvalidWrapFiller, Asn1Error, Memory}
+use Rattle.gss_message_tokens.specs.declared.error.GssApiMessageError.{GssApiMessageError}
+use Rattle.gss_message_tokens.specs.declared.error.GssApiMessageError.TheVariants.{InvalidId, InvalidMechanismOid, IoError, InvalidMicFiller, InvalidWrapFiller, Asn1Error, Memory}
 use Rattle.picky_asn1.specs.declared.wrapper.ObjectIdentifierAsn1.{ObjectIdentifierAsn1}
 use Rattle.gss_context_tokens.specs.Tokens.{IsOfMechanism, IsTold, iakerb, proxy_id}
 

@@ -2,9 +2,9 @@
 -- inner token (RFC 2743, section 3.1). The inner token of a Kerberos mechanism is a token id of two octets, and the message
 -- (RFC 4121, section 4.1).
 use Rattle.std.specs.Prelude.{◌≡◌, ℕ, List, [], ◌∷◌, ◌++◌, length}
-use Rattle.asn1_trees.specs.Tree.{Tree, der, Writes}
-use Rattle.asn1_trees.specs.Length.{element}
-use Rattle.asn1_trees.specs.Tagged.{leaf_as, tagged_tree}
+use Rattle.asn1_der.specs.Tree.{Tree, der, Writes}
+use Rattle.asn1_der.specs.Length.{element}
+use Rattle.asn1_der.specs.Tagged.{leaf_as, tagged_tree}
 use Rattle.asn1_leaves.specs.ObjectIdentifier.{is_object_identifier, oid_content}
 use Rattle.picky_asn1.specs.declared.wrapper.ObjectIdentifierAsn1.{ObjectIdentifierAsn1}
 use Rattle.x509_oids.specs.Identifiers.{iakerb5}

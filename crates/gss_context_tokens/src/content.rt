@@ -3,13 +3,13 @@ ghost use Rattle.std.specs.Prelude.{◌≡◌, ℕ, ◌<◌, List, length, Match
 ghost use Rattle.std.specs.declared.io.ErrorKind.{ErrorKind};
 ghost use Rattle.picky_asn1.specs.declared.wrapper.ObjectIdentifierAsn1.{ObjectIdentifierAsn1};
 ghost use Rattle.asn1_codec.specs.Reads.{BeginsBy};
-ghost use Rattle.krb_tokens.specs.Faults.{of_der_fault};
+ghost use Rattle.gss_message_tokens.specs.Faults.{of_der_fault};
 ghost use Rattle.gss_context_tokens.specs.Fronts.{Leads};
 ghost use Rattle.gss_context_tokens.specs.Tokens.{BeginsToken, IsOfMechanism, IsTold};
 ghost use Rattle.gss_context_tokens.specs.Refusals.{IsUnread};
 
 use crate::front::split_value;
-use krb_tokens::GssApiMessageError;
+use gss_message_tokens::GssApiMessageError;
 use picky_asn1::wrapper::ObjectIdentifierAsn1;
 use picky_asn1_der::{Asn1DerError, FromDer, from_exact_bytes, split_element};
 use std::alloc::Global;

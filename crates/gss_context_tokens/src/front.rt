@@ -1,6 +1,6 @@
 //! Values at the front of some bytes.
 ghost use Rattle.std.specs.Prelude.{◌≡◌, true, MatchResult};
-ghost use Rattle.asn1_trees.specs.Tree.{Writes};
+ghost use Rattle.asn1_der.specs.Tree.{Writes};
 ghost use Rattle.asn1_codec.specs.Reading.{IsOwn};
 ghost use Rattle.asn1_codec.specs.Reads.{BeginsBy};
 ghost use Rattle.gss_context_tokens.specs.Fronts.{Leads, LeadsOptional, begins, IsMissing};

@@ -46,9 +46,9 @@ type IAKerbHeaderRow = Row3<RealmField, Optional<IAKerbCookie>, Optional<Option<
 
 impl Serialize for IAKerbHeader {
     ghost use Rattle.std.proofs.Common.{refl, true};
-    ghost use Rattle.asn1_trees.specs.Firsts.{only};
-    ghost use Rattle.asn1_trees.specs.Tagged.{sequence, tagged_tree};
-    ghost use Rattle.asn1_trees.proofs.Tagged.{sequence_laws, tagged-injective};
+    ghost use Rattle.asn1_der.specs.Firsts.{only};
+    ghost use Rattle.asn1_der.specs.Tagged.{sequence, tagged_tree};
+    ghost use Rattle.asn1_der.proofs.Tagged.{sequence_laws, tagged-injective};
 
     ghost tree = { tagged_tree 48 (sequence ⟦<IAKerbHeaderRow as Fields>⟧.trees) (λ v. (v.target_realm, (v.cookie, (v.flags, tt)))) };
 

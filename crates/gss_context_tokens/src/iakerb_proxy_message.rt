@@ -1,18 +1,18 @@
 //! A Kerberos message that a service forwards.
 ghost use Rattle.std.specs.Prelude.{◌≡◌, MatchResult};
-ghost use Rattle.asn1_trees.specs.Tree.{der};
-ghost use Rattle.asn1_trees.specs.Length.{element};
+ghost use Rattle.asn1_der.specs.Tree.{der};
+ghost use Rattle.asn1_der.specs.Length.{element};
 ghost use Rattle.asn1_codec.specs.Refusals.{refusal_of};
 ghost use Rattle.gss_context_tokens.specs.Tokens.{IsProxied, iakerb, proxy_id};
 ghost use Rattle.gss_context_tokens.specs.Refusals.{IsOtherMechanism, IsProxyRefusal};
 
+use crate::application_tag0::ApplicationTag0;
 use crate::content::{front_value, mechanism_of, split_id, whole_value};
 use crate::iakerb_header::IAKerbHeader;
 use crate::writing::{TokenSequence, put_out, put_value, sequence_of, token_of, told};
 use devices::Sink;
-use gss_messages::ApplicationTag0;
+use gss_message_tokens::GssApiMessageError;
 use krb_constants::gss_api::IAKERB_PROXY_TOKEN_ID;
-use krb_tokens::GssApiMessageError;
 use picky_asn1::wrapper::ObjectIdentifierAsn1;
 use picky_asn1_der::{FromDer, Serialize};
 use std::alloc::Global;

@@ -1,14 +1,14 @@
 //! A message of Kerberos as a token.
 ghost use Rattle.std.specs.Prelude.{◌≡◌, MatchResult};
-ghost use Rattle.asn1_trees.specs.Tree.{der};
-ghost use Rattle.asn1_trees.specs.Length.{element};
+ghost use Rattle.asn1_der.specs.Tree.{der};
+ghost use Rattle.asn1_der.specs.Length.{element};
 ghost use Rattle.asn1_codec.specs.Refusals.{refusal_of};
 
+use crate::application_tag0::ApplicationTag0;
 use crate::content::{mechanism_of, split_id, whole_value};
 use crate::writing::{TokenSequence, put_out, put_value, sequence_of, token_of, told};
 use devices::{Sink, Source};
-use gss_messages::ApplicationTag0;
-use krb_tokens::GssApiMessageError;
+use gss_message_tokens::GssApiMessageError;
 use picky_asn1::wrapper::ObjectIdentifierAsn1;
 use picky_asn1_der::{
     Asn1DerError, Deserialize, Deserializer, Fields, FromDer, OctetPair, Row3, Serialize,
@@ -130,8 +130,8 @@ type KrbMessageRow<T> = Row3<ObjectIdentifierAsn1, OctetPair, T>;
 /// What stands inside a token, as a SEQUENCE; in [`ApplicationTag0`] it is the token.
 impl<T: Deserialize + Drop> Tagged for KrbMessage<T> {
     ghost use Rattle.std.proofs.Common.{ap, refl, true, None, Some};
-    ghost use Rattle.asn1_trees.specs.Tagged.{sequence};
-    ghost use Rattle.asn1_trees.proofs.Tagged.{sequence_laws};
+    ghost use Rattle.asn1_der.specs.Tagged.{sequence};
+    ghost use Rattle.asn1_der.proofs.Tagged.{sequence_laws};
     ghost use Rattle.asn1_codec.specs.Refusals.{first_refusal};
 
     type Row = KrbMessageRow<T>;

@@ -1,14 +1,14 @@
 //! What is written is read again, and a token is read in one way, as laws.
 ghost use Rattle.std.specs.Prelude.{◌≡◌, ℕ, List, ◌++◌, length};
-ghost use Rattle.asn1_trees.specs.Tree.{Writes, der};
-ghost use Rattle.asn1_trees.specs.Length.{element};
+ghost use Rattle.asn1_der.specs.Tree.{Writes, der};
+ghost use Rattle.asn1_der.specs.Length.{element};
 ghost use Rattle.gss_context_tokens.specs.declared.krb_message.KrbMessage.{KrbMessage};
 ghost use Rattle.gss_context_tokens.specs.declared.iakerb_proxy_message.IAKerbProxyMessage.{IAKerbProxyMessage};
 ghost use Rattle.gss_context_tokens.specs.Tokens.{token_bytes};
 ghost use Rattle.gss_context_tokens.specs.KrbMessages.{BeginsKrbMessage, BeginsProxyMessage, IsWholeMessage, IsWholeProxyMessage, krb_message_content, proxy_message_content};
 
+use crate::application_tag0::ApplicationTag0;
 use crate::krb_message::KrbMessage;
-use gss_messages::ApplicationTag0;
 use picky_asn1_der::{Deserialize, FromDer, Serialize};
 
 /// The law that bytes begin with the token of one message at most. It does nothing when it runs: its contract is the law.

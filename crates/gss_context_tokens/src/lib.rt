@@ -5,16 +5,26 @@
 //! the bytes, and is written as that spelling.
 #![tactic(auto)]
 
+mod application_tag0;
 mod content;
 mod front;
+mod gss_api_neg_init;
 mod iakerb_header;
 mod iakerb_proxy_message;
 mod krb_message;
 mod laws;
+mod mech_type;
+mod neg_token_init;
+mod neg_token_targ;
 mod writing;
 
+pub use application_tag0::ApplicationTag0;
+pub use gss_api_neg_init::GssApiNegInit;
 pub use iakerb_header::{IAKerbCookie, IAKerbHeader};
 pub use iakerb_proxy_message::IAKerbProxyMessage;
 pub use krb_message::KrbMessage;
 pub use laws::{message_is_value, one_krb_message, one_proxy_message, written_is_read};
+pub use mech_type::{MechType, MechTypeList};
+pub use neg_token_init::NegTokenInit;
+pub use neg_token_targ::{NegTokenTarg, NegTokenTarg1};
 pub use writing::TokenSequence;

@@ -1,7 +1,7 @@
 //! How tokens are written.
 ghost use Rattle.std.specs.Prelude.{◌≡◌, ◌++◌, MatchResult};
 ghost use Rattle.std.specs.Io.KnownBytes.{Appends};
-ghost use Rattle.asn1_trees.specs.Tree.{der};
+ghost use Rattle.asn1_der.specs.Tree.{der};
 ghost use Rattle.asn1_codec.specs.Refusals.{refusal_of};
 ghost use Rattle.gss_context_tokens.specs.Tokens.{mechanism_tree, token_bytes};
 ghost use Rattle.gss_context_tokens.specs.Refusals.{IsUnwritten, IsStopped};
@@ -10,13 +10,13 @@ ghost use Rattle.gss_context_tokens.specs.Refusals as faults;
 use crate::content::{TOKEN, token_fault};
 use byte_layouts::write_bytes;
 use devices::Sink;
-use krb_tokens::GssApiMessageError;
+use gss_message_tokens::GssApiMessageError;
 use picky_asn1::wrapper::{ObjectIdentifierAsn1, OctetStringAsn1};
 use picky_asn1_der::{Retagged, Serialize, to_byte_buf, to_vec};
 use std::alloc::Global;
 use std::io::ErrorKind;
 
-/// What stands inside a token, as a value of DER: a SEQUENCE (0x30), and 0x60 in [`ApplicationTag0`](gss_messages::ApplicationTag0).
+/// What stands inside a token, as a value of DER: a SEQUENCE (0x30), and 0x60 in [`ApplicationTag0`](crate::application_tag0::ApplicationTag0).
 pub type TokenSequence = Retagged<0x30, OctetStringAsn1>;
 
 /// The value of DER that has this content.

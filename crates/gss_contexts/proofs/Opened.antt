@@ -4,8 +4,8 @@ use Rattle.std.proofs.lemmas.Bool.{false≢true}
 use Rattle.std.proofs.lemmas.List.{length-append, length-drop, take_all}
 use Rattle.std.proofs.lemmas.Slice.Eq.{bytes_eq-Decides}
 use Rattle.byte_layouts.specs.Numbers.{be16_at}
-use Rattle.krb_blocks.specs.declared.error.KerberosCryptoError.{KerberosCryptoError}
-use Rattle.krb_blocks.specs.declared.error.KerberosCryptoError.TheVariants as crypto
+use Rattle.aes_cts.specs.declared.error.KerberosCryptoError.{KerberosCryptoError}
+use Rattle.aes_cts.specs.declared.error.KerberosCryptoError.TheVariants as crypto
 use Rattle.krb_crypto.specs.Sealing.{IsSealedBy, cipher_filled}
 use Rattle.krb_crypto.specs.declared.suite.CipherSuite.{CipherSuite}
 use Rattle.krb_crypto.specs.declared.suite.CipherSuite.TheVariants.{Aes128CtsHmacSha196, Aes256CtsHmacSha196, Des3CbcSha1Kd, Aes128CtsHmacSha256128, Aes256CtsHmacSha384192}

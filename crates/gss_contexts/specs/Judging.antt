@@ -3,8 +3,8 @@ use Rattle.std.specs.Prelude.{◌≡◌, ◌⊎◌, ℕ, ◌+◌, ◌≤◌, ◌
 use Rattle.std.specs.Bool.{beq}
 use Rattle.byte_layouts.specs.Numbers.{be16_at, be64, be64_at}
 use Rattle.byte_layouts.specs.Parts.{part, Stands}
-use Rattle.krb_blocks.specs.declared.error.KerberosCryptoError.{KerberosCryptoError}
-use Rattle.krb_blocks.specs.declared.error.KerberosCryptoError.TheVariants as crypto
+use Rattle.aes_cts.specs.declared.error.KerberosCryptoError.{KerberosCryptoError}
+use Rattle.aes_cts.specs.declared.error.KerberosCryptoError.TheVariants as crypto
 use Rattle.krb_crypto.specs.Sealing.{IsSealedBy}
 use Rattle.gss_contexts.specs.Contexts.{ContextRecord, peer, last_number}
 use Rattle.gss_contexts.specs.Tokens.{is_acceptor, is_set, rotated_right, seal_usage, Carries, IsMicOf, IsWrapOf}

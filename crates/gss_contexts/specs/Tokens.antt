@@ -4,7 +4,7 @@ use Rattle.std.specs.Int.Bits.{bit_and}
 use Rattle.krb_crypto.specs.Sealing.{IsSealedBy, checksum_of}
 use Rattle.krb_crypto.specs.Suites.{cipher_checksum}
 use Rattle.krb_crypto.specs.Keys.{KeyRecord}
-use Rattle.krb_tokens.specs.Tokens.{IsMicToken, IsWrapToken}
+use Rattle.gss_message_tokens.specs.Tokens.{IsMicToken, IsWrapToken}
 use Rattle.gss_contexts.specs.declared.sender.Sender.{Sender}
 use Rattle.gss_contexts.specs.declared.side.Side.{Side}
 use Rattle.gss_contexts.specs.declared.side.Side.TheVariants.{Initiator, Acceptor}

@@ -1,12 +1,12 @@
 //! The headers of tokens (RFC 4121, section 4.2.6).
 ghost use Rattle.std.specs.Prelude.{◌≡◌, ◌≤◌, [], length, IsTrue};
 ghost use Rattle.byte_layouts.specs.Parts.{IsLaidOut};
-ghost use Rattle.krb_tokens.specs.Tokens.{mic_header, wrap_header};
+ghost use Rattle.gss_message_tokens.specs.Tokens.{mic_header, wrap_header};
 ghost use Rattle.gss_contexts.specs.Judging.{is_mic, is_wrap, protection_of};
 ghost use Rattle.gss_contexts.specs.Tokens.{flag_if, header_without_counts, header_without_rrc, is_set};
 
 use crate::side::Protection;
-use krb_tokens::{MicToken, WrapToken};
+use gss_message_tokens::{MicToken, WrapToken};
 use std::alloc::Global;
 
 /// How many octets a header has.

@@ -10,14 +10,14 @@ use Rattle.sha2.specs.Sha512.{sha384}
 use Rattle.sha2.specs.Sha512 as S512
 use Rattle.sha2.proofs.Facts256.{length-sha256}
 use Rattle.sha2.proofs.Facts512.{length-sha384}
-use Rattle.krb_blocks.specs.Aes.{IsAesKey}
-use Rattle.krb_blocks.specs.AesSize.{key_length_of}
-use Rattle.krb_blocks.specs.Bytes.{IsBytes}
-use Rattle.krb_blocks.specs.declared.aes.AesSize.{AesSize}
-use Rattle.krb_blocks.specs.declared.aes.AesSize.TheVariants.{Aes128, Aes256}
-use Rattle.krb_blocks.proofs.States.{IsBytes-append, IsBytes-none, IsBytes-take}
-use Rattle.krb_digests.specs.Hmac.{hmac_of}
-use Rattle.krb_digests.specs.Kdf.{kdf_of}
+use Rattle.aes_cts.specs.Aes.{IsAesKey}
+use Rattle.aes_cts.specs.AesSize.{key_length_of}
+use Rattle.aes_cts.specs.Bytes.{IsBytes}
+use Rattle.aes_cts.specs.declared.aes.AesSize.{AesSize}
+use Rattle.aes_cts.specs.declared.aes.AesSize.TheVariants.{Aes128, Aes256}
+use Rattle.aes_cts.proofs.States.{IsBytes-append, IsBytes-none, IsBytes-take}
+use Rattle.krb_profile.specs.Hmac.{hmac_of}
+use Rattle.krb_profile.specs.Kdf.{kdf_of}
 use Rattle.krb_aes_sha2.specs.Derivation.{hmac_sha2_of, hmac_size_of, sha2_derived_key_of, tag_size_of}
 use Rattle.krb_aes_sha2.specs.Suites.{sha2_tag_of}
 

@@ -2,12 +2,12 @@
 use Rattle.std.proofs.Common.{◌≡◌, ◌≢◌, ◌⊎◌, ◌+◌, ◌≤◌, ◌<◌, ℕ, List, ◌++◌, length, replicate, ap, ◌∙◌, inl, inr, arith}
 use Rattle.std.proofs.lemmas.Bool.{cases_eq, cases_lt}
 use Rattle.std.proofs.lemmas.List.{length-append}
-use Rattle.krb_blocks.specs.Aes.{aes_cipher}
-use Rattle.krb_blocks.specs.AesSize.{key_length_of}
-use Rattle.krb_blocks.specs.declared.aes.AesSize.{AesSize}
-use Rattle.krb_blocks.specs.declared.error.KerberosCryptoError.{KerberosCryptoError}
-use Rattle.krb_blocks.specs.declared.error.KerberosCryptoError.TheVariants.{CipherLength, IntegrityCheck, KeyLength, Memory}
-use Rattle.krb_blocks.proofs.Stealing.{length-stolen}
+use Rattle.aes_cts.specs.Aes.{aes_cipher}
+use Rattle.aes_cts.specs.AesSize.{key_length_of}
+use Rattle.aes_cts.specs.declared.aes.AesSize.{AesSize}
+use Rattle.aes_cts.specs.declared.error.KerberosCryptoError.{KerberosCryptoError}
+use Rattle.aes_cts.specs.declared.error.KerberosCryptoError.TheVariants.{CipherLength, IntegrityCheck, KeyLength, Memory}
+use Rattle.aes_cts.proofs.Stealing.{length-stolen}
 use Rattle.krb_profile.specs.Profile.{ke_of, ki_of}
 use Rattle.krb_profile.specs.Sealing.{IsNothingSealedAs, IsSealedAs, encryption_tag_of}
 use Rattle.krb_aes_sha2.specs.Derivation.{tag_size_of}

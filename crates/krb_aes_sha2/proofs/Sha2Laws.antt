@@ -1,13 +1,13 @@
 -- The laws that carry sealing, of AES with ciphertext stealing and SHA-2.
 use Rattle.std.proofs.Common.{◌≡◌, ◌≤◌, ℕ, List, [], ◌++◌, length, refl, sym, arith}
 use Rattle.std.proofs.lemmas.List.{append-nil}
-use Rattle.krb_blocks.specs.Aes.{aes_cipher, aes_inverse}
-use Rattle.krb_blocks.specs.AesSize.{key_length_of}
-use Rattle.krb_blocks.specs.Bytes.{IsBytes}
-use Rattle.krb_blocks.specs.Chains.{IsBlockCipher, IsStolen}
-use Rattle.krb_blocks.specs.declared.aes.AesSize.{AesSize}
-use Rattle.krb_blocks.proofs.Rounds.{IsAesKey-of_size, aes_block_cipher}
-use Rattle.krb_blocks.proofs.Stealing.{stolen_function, stolen_text}
+use Rattle.aes_cts.specs.Aes.{aes_cipher, aes_inverse}
+use Rattle.aes_cts.specs.AesSize.{key_length_of}
+use Rattle.aes_cts.specs.Bytes.{IsBytes}
+use Rattle.aes_cts.specs.Chains.{IsBlockCipher, IsStolen}
+use Rattle.aes_cts.specs.declared.aes.AesSize.{AesSize}
+use Rattle.aes_cts.proofs.Rounds.{IsAesKey-of_size, aes_block_cipher}
+use Rattle.aes_cts.proofs.Stealing.{stolen_function, stolen_text}
 use Rattle.krb_profile.specs.Derivation.{usage_constant}
 use Rattle.krb_profile.specs.Profile.{ke_of}
 use Rattle.krb_profile.proofs.Laws.{HasLaws}

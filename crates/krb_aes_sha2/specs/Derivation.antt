@@ -2,12 +2,12 @@
 use Rattle.std.specs.Prelude.{ℕ, List, ◌∷◌, ◌++◌, codes}
 use Rattle.sha2.specs.Sha256.{sha256}
 use Rattle.sha2.specs.Sha512.{sha384}
-use Rattle.krb_blocks.specs.AesSize.{key_length_of}
-use Rattle.krb_blocks.specs.declared.aes.AesSize.{AesSize}
-use Rattle.krb_blocks.specs.declared.aes.AesSize.TheVariants.{Aes128, Aes256}
-use Rattle.krb_digests.specs.Hmac.{hmac_of}
-use Rattle.krb_digests.specs.Pbkdf2.{pbkdf2_of}
-use Rattle.krb_digests.specs.Kdf.{kdf_of}
+use Rattle.aes_cts.specs.AesSize.{key_length_of}
+use Rattle.aes_cts.specs.declared.aes.AesSize.{AesSize}
+use Rattle.aes_cts.specs.declared.aes.AesSize.TheVariants.{Aes128, Aes256}
+use Rattle.krb_profile.specs.Hmac.{hmac_of}
+use Rattle.krb_profile.specs.Pbkdf2.{pbkdf2_of}
+use Rattle.krb_profile.specs.Kdf.{kdf_of}
 
 -- HMAC-SHA-256 with keys of 128 bits, HMAC-SHA-384 with keys of 256 bits (RFC 8009, section 5)
 unfoldable pub hmac_sha2_of : AesSize → List ℕ → List ℕ → List ℕ

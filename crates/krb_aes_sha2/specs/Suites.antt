@@ -1,11 +1,11 @@
 -- The suites of AES with SHA-2, by the size of their keys (RFC 8009).
 use Rattle.std.specs.Prelude.{◌≡◌, ◌≢◌, ◌⊎◌, ℕ, ◌+◌, ◌<◌, ◌≤◌, List, ◌++◌, take, replicate}
-use Rattle.krb_blocks.specs.Aes.{aes_cipher}
-use Rattle.krb_blocks.specs.AesSize.{key_length_of}
-use Rattle.krb_blocks.specs.Chains.{IsStolen}
-use Rattle.krb_blocks.specs.declared.aes.AesSize.{AesSize}
-use Rattle.krb_blocks.specs.declared.error.KerberosCryptoError.{KerberosCryptoError}
-use Rattle.krb_blocks.specs.declared.error.KerberosCryptoError.TheVariants.{CipherLength, IntegrityCheck, KeyLength, Memory}
+use Rattle.aes_cts.specs.Aes.{aes_cipher}
+use Rattle.aes_cts.specs.AesSize.{key_length_of}
+use Rattle.aes_cts.specs.Chains.{IsStolen}
+use Rattle.aes_cts.specs.declared.aes.AesSize.{AesSize}
+use Rattle.aes_cts.specs.declared.error.KerberosCryptoError.{KerberosCryptoError}
+use Rattle.aes_cts.specs.declared.error.KerberosCryptoError.TheVariants.{CipherLength, IntegrityCheck, KeyLength, Memory}
 use Rattle.krb_profile.specs.Profile.{Profile}
 use Rattle.krb_aes_sha2.specs.Derivation.{hmac_sha2_of, sha2_derived_key_of, sha2_password_key_of, tag_size_of}
 

@@ -1,15 +1,14 @@
 //! Keys that are derived from keys and from passwords (RFC 8009, sections 3 and 4).
 
 ghost use Rattle.std.specs.Prelude.{◌≡◌, ◌≢◌, [], ◌∷◌, ◌++◌, length, vec_len, Err, IfOk, IfErr};
-ghost use Rattle.krb_blocks.specs.AesSize.{key_length_of};
-ghost use Rattle.krb_blocks.specs.declared.error.KerberosCryptoError.TheVariants.{KeyLength, Memory};
-ghost use Rattle.krb_digests.specs.Pbkdf2.{pbkdf2_of};
+ghost use Rattle.aes_cts.specs.AesSize.{key_length_of};
+ghost use Rattle.aes_cts.specs.declared.error.KerberosCryptoError.TheVariants.{KeyLength, Memory};
+ghost use Rattle.krb_profile.specs.Pbkdf2.{pbkdf2_of};
 ghost use Rattle.krb_aes_sha2.specs.Derivation.{hmac_sha2_of, hmac_size_of, name_of, sha2_derived_key_of, sha2_password_key_of};
 
 use crate::mac::{check_key_length, derived};
-use krb_blocks::{AesSize, KerberosCryptoResult};
-use krb_digests::pbkdf2_hmac;
-use krb_profile::KERBEROS;
+use aes_cts::{AesSize, KerberosCryptoResult};
+use krb_profile::{KERBEROS, pbkdf2_hmac};
 use sha2::{Sha256, Sha384};
 use std::alloc::{AllocError, Global};
 

@@ -1,13 +1,13 @@
 //! HMAC of the two suites: with SHA-256 for AES-128, with SHA-384 for AES-256 (RFC 8009, section 5).
 
 ghost use Rattle.std.specs.Prelude.{◌≡◌, ◌≢◌, ◌≤◌, ◌++◌, length, vec_len, Err, IfOk, IsOk, OnOk};
-ghost use Rattle.krb_blocks.specs.AesSize.{key_length_of};
-ghost use Rattle.krb_blocks.specs.declared.error.KerberosCryptoError.TheVariants.{KeyLength};
+ghost use Rattle.aes_cts.specs.AesSize.{key_length_of};
+ghost use Rattle.aes_cts.specs.declared.error.KerberosCryptoError.TheVariants.{KeyLength};
 ghost use Rattle.krb_aes_sha2.specs.Derivation.{hmac_sha2_of, sha2_derived_key_of, tag_size_of};
 ghost use Rattle.krb_aes_sha2.specs.Suites.{sha2_tag_of};
 
-use krb_blocks::{AesSize, KerberosCryptoError, KerberosCryptoResult};
-use krb_digests::{hmac, kdf_hmac_sha2};
+use aes_cts::{AesSize, KerberosCryptoError, KerberosCryptoResult};
+use krb_profile::{hmac, kdf_hmac_sha2};
 use sha2::{Sha256, Sha384};
 use std::alloc::{AllocError, Global};
 

@@ -2,9 +2,9 @@
 
 ghost use Rattle.std.specs.Prelude.{◌≡◌, ◌≢◌, ◌⊎◌, ◌-◌, ◌<◌, ◌≤◌, ℕ, List, ◌++◌, length, take, drop, vec_len, Err, IfOk, IfErr, OnOk};
 ghost use Rattle.std.specs.Int.{cast_unsigned, w32};
-ghost use Rattle.krb_blocks.specs.AesSize.{key_length_of};
-ghost use Rattle.krb_blocks.specs.Bytes.{IsBytes};
-ghost use Rattle.krb_blocks.specs.declared.error.KerberosCryptoError.TheVariants.{CipherLength, KeyLength, Memory};
+ghost use Rattle.aes_cts.specs.AesSize.{key_length_of};
+ghost use Rattle.aes_cts.specs.Bytes.{IsBytes};
+ghost use Rattle.aes_cts.specs.declared.error.KerberosCryptoError.TheVariants.{CipherLength, KeyLength, Memory};
 ghost use Rattle.krb_profile.specs.Profile.{ki_of};
 ghost use Rattle.krb_profile.specs.Sealing.{IsEncryptedAs, IsNothingSealedAs, IsOpeningAs};
 ghost use Rattle.krb_aes_sha2.specs.Derivation.{tag_size_of};
@@ -12,7 +12,7 @@ ghost use Rattle.krb_aes_sha2.specs.Suites.{IsSha2Refusal, aes_sha2_profile, lea
 
 use crate::mac::{check_key_length, derived, tag, tag_size};
 use crate::sealing::INITIAL_VECTOR;
-use krb_blocks::{
+use aes_cts::{
     AES_BLOCK_SIZE, AesSize, KerberosCryptoError, KerberosCryptoResult, decrypt_aes_cts,
 };
 use krb_profile::{DecryptWithoutChecksum, same_bytes, usage_ke, usage_ki};

@@ -2,14 +2,14 @@
 
 ghost use Rattle.std.specs.Prelude.{◌≡◌, ◌≢◌, List, ℕ, ◌++◌, length, Err, IfOk, IfErr};
 ghost use Rattle.std.specs.Int.{cast_unsigned, w32};
-ghost use Rattle.krb_blocks.specs.AesSize.{key_length_of};
-ghost use Rattle.krb_blocks.specs.declared.error.KerberosCryptoError.TheVariants.{KeyLength, Memory};
+ghost use Rattle.aes_cts.specs.AesSize.{key_length_of};
+ghost use Rattle.aes_cts.specs.declared.error.KerberosCryptoError.TheVariants.{KeyLength, Memory};
 ghost use Rattle.krb_profile.specs.Profile.{ki_of};
 ghost use Rattle.krb_profile.specs.Sealing.{IsEncryptedAs, IsSealedAs, encryption_tag_of, tag_alone_of};
 ghost use Rattle.krb_aes_sha2.specs.Suites.{aes_sha2_profile};
 
 use crate::mac::{check_key_length, derived, tag, tag_size};
-use krb_blocks::{AES_BLOCK_SIZE, AesSize, KerberosCryptoResult, encrypt_aes_cts};
+use aes_cts::{AES_BLOCK_SIZE, AesSize, KerberosCryptoResult, encrypt_aes_cts};
 use krb_profile::{EncryptWithoutChecksum, joined, usage_kc, usage_ke, usage_ki};
 use std::alloc::Global;
 

@@ -2,8 +2,8 @@
 use Rattle.std.proofs.Common.{◌≡◌, ◌≤◌, ◌<◌, ℕ, ◌+◌, min, List, length, drop, Option, Some, Result, Ok, true, false, refl, sym, subst, arith}
 use Rattle.std.proofs.lemmas.List.{length-drop, length-take-le}
 use Rattle.picky_asn1.specs.GeneralizedTime.{seconds_of}
-use Rattle.krb_blocks.specs.Bytes.{IsBytes}
-use Rattle.krb_blocks.proofs.States.{IsBytes-drop, IsBytes-take}
+use Rattle.aes_cts.specs.Bytes.{IsBytes}
+use Rattle.aes_cts.proofs.States.{IsBytes-drop, IsBytes-take}
 use Rattle.krb_moments.specs.Moment.{IsMoment}
 use Rattle.krb_crypto.specs.Suites.{cipher_confounder_size, cipher_key_size}
 use Rattle.krb_crypto.specs.declared.suite.CipherSuite.{CipherSuite}
@@ -21,13 +21,13 @@ use Rattle.krb_tickets.specs.Parts.{kdc_reply_of, reply_part, ticket_of, ticket_
 use Rattle.krb_tickets.specs.ReplyKeys.{ReplyKeyRecord}
 use Rattle.krb_tickets.specs.Sealed.{kdc_reply_bytes, reply_part_bytes, ticket_part_bytes}
 use Rattle.krb_tickets.specs.Times.{asked_end, end_of, old_end, start_of}
-use Rattle.krb_grants.specs.Granted.{IsTicketReply, sole_ticket_reply}
-use Rattle.krb_as.specs.Calls.{IsKeyed}
+use Rattle.krb_tickets.specs.Granted.{IsTicketReply, sole_ticket_reply}
+use Rattle.krb_kdc_requests.specs.Calls.{IsKeyed}
 use Rattle.krb_as.specs.Grants.{replied}
-use Rattle.krb_as.specs.Requests.{IsSpan, is_ended, lasting, sole_span}
-use Rattle.krb_as.specs.declared.span.Span.{Span}
-use Rattle.krb_as.proofs.Seconds.{has_time}
-use Rattle.krb_as.proofs.Written.{IsWritten}
+use Rattle.krb_kdc_requests.specs.Requests.{IsSpan, is_ended, lasting, sole_span}
+use Rattle.krb_kdc_requests.specs.declared.span.Span.{Span}
+use Rattle.krb_kdc_requests.proofs.Seconds.{has_time}
+use Rattle.krb_kdc_requests.proofs.Written.{IsWritten}
 
 -- the front of a place of sixteen of the random bytes
 block_of : (suite : CipherSuite) (from : ℕ) (random : List ℕ) → from + 16 ≤ length random → length (random_part from (cipher_confounder_size suite) random) ≡ cipher_confounder_size suite

@@ -16,24 +16,24 @@ use Rattle.decision_tables.proofs.Outcomes.{HasOutcome, has_asked, has_done, has
 use Rattle.krb_preauth.specs.Entries.{first_of}
 use Rattle.krb_preauth.specs.Stamps.{IsStamp, moment_of, sole_stamp}
 use Rattle.krb_tickets.specs.declared.reply.Exchange.TheVariants.{As}
-use Rattle.krb_blocks.specs.Bytes.{IsBytes}
+use Rattle.aes_cts.specs.Bytes.{IsBytes}
 use Rattle.krb_crypto.specs.Suites.{cipher_key_size}
 use Rattle.krb_types.specs.Names.{components}
 use Rattle.krb_tickets.specs.ReplyKeys.{ReplyKeyRecord, agreed_reply_key, as_reply_key}
 use Rattle.krb_tickets.specs.declared.reply.Exchange.{Exchange}
-use Rattle.krb_agreement.specs.AgreedKeys.{agreed_key}
-use Rattle.krb_agreement.proofs.AgreedKeyLemmas.{agreed_key-sized, agreed_key-bytes}
+use Rattle.krb_crypto.specs.AgreedKeys.{agreed_key}
+use Rattle.krb_crypto.proofs.AgreedKeyLemmas.{agreed_key-sized, agreed_key-bytes}
 use Rattle.krb_pkinit.specs.Rows.{PkinitRows}
 use Rattle.krb_as.specs.AsTable.{as_table, authenticated, authenticated_by, is_later, is_listed, possible, timestamped}
-use Rattle.krb_as.specs.Call.{CallRecord, pkinit_call, skew_of}
-use Rattle.krb_as.specs.Calls.{IsCall, IsKeyed}
+use Rattle.krb_kdc_requests.specs.Call.{CallRecord, pkinit_call, skew_of}
+use Rattle.krb_kdc_requests.specs.Calls.{IsCall, IsKeyed}
 use Rattle.krb_as.specs.Grants.{Principals, first_ticket, granted}
-use Rattle.krb_as.specs.Requests.{addressed, client_of, entries_of, has_refused_option, is_postdated, lasting, service_of}
-use Rattle.krb_as.specs.declared.span.Span.{Span}
+use Rattle.krb_kdc_requests.specs.Requests.{addressed, client_of, entries_of, has_refused_option, is_postdated, lasting, service_of}
+use Rattle.krb_kdc_requests.specs.declared.span.Span.{Span}
 use Rattle.krb_as.proofs.HasGrant.{has_lasting, has_replied}
-use Rattle.krb_as.proofs.RequestTrees.{body_fits, client_fits, nonce_fits, service_fits}
-use Rattle.krb_as.proofs.Short.{Fits}
-use Rattle.krb_as.proofs.Written.{IsWritten, is_written, own_realm_fits, session_short}
+use Rattle.krb_kdc_requests.proofs.RequestTrees.{body_fits, client_fits, nonce_fits, service_fits}
+use Rattle.krb_kdc_requests.proofs.Short.{Fits}
+use Rattle.krb_kdc_requests.proofs.Written.{IsWritten, is_written, own_realm_fits, session_short}
 
 pub has_address : (kind : ℕ) (realm : List ℕ) (request : KdcReq) → HasOutcome (addressed kind realm request)
 has_address kind realm request =

@@ -12,11 +12,11 @@ use Rattle.krb_pkinit.specs.Rows.{PkinitRows}
 use Rattle.krb_types.specs.Names.{components}
 use Rattle.krb_tickets.specs.ReplyKeys.{ReplyKeyRecord}
 use Rattle.krb_as.specs.AsTable.{as_table, authenticated, possible}
-use Rattle.krb_as.specs.Call.{CallRecord}
+use Rattle.krb_kdc_requests.specs.Call.{CallRecord}
 use Rattle.krb_as.specs.Grants.{Principals, granted}
 use Rattle.krb_as.specs.Judged.{IsGranted}
-use Rattle.krb_as.specs.Requests.{addressed, client_of, service_of}
-use Rattle.krb_as.specs.declared.span.Span.{Span}
+use Rattle.krb_kdc_requests.specs.Requests.{addressed, client_of, service_of}
+use Rattle.krb_kdc_requests.specs.declared.span.Span.{Span}
 
 -- the request is for this realm, and names client and service, which have these accounts
 pub record AreKnown (realm : List ℕ) (of_client of_service : Option AccountRecord) (request : KdcReq) (these : Principals) : Type 0 where

@@ -5,7 +5,7 @@ use Rattle.std.specs.Global.{Global}
 use Rattle.krb_accounts.specs.Account.{AccountRecord}
 use Rattle.krb_tickets.specs.declared.grant.Grant.{Grant}
 use Rattle.krb_tickets.specs.ReplyKeys.{ReplyKeyRecord}
-use Rattle.krb_grants.specs.Granted.{IsTicketReply}
+use Rattle.krb_tickets.specs.Granted.{IsTicketReply}
 use Rattle.krb_as.specs.Grants.{replied}
 
 pub replied_by : {E : Type 0} (r : Result (Vec ℕ Global) E) (made wanted : Grant) (own under : ReplyKeyRecord) (service : AccountRecord) (random : List ℕ) → made ≡ wanted → own ≡ under

@@ -19,12 +19,12 @@ use Rattle.decision_tables.specs.Tables.{Table, and_then, ask, done, need, refus
 use Rattle.krb_preauth.specs.Entries.{first_of}
 use Rattle.krb_preauth.specs.Stamps.{IsStamp, moment_of, sole_stamp}
 use Rattle.krb_tickets.specs.ReplyKeys.{ReplyKeyRecord, agreed_reply_key, as_reply_key}
-use Rattle.krb_agreement.specs.AgreedKeys.{agreed_key}
+use Rattle.krb_crypto.specs.AgreedKeys.{agreed_key}
 use Rattle.krb_pkinit.specs.Rows.{PkinitRows}
-use Rattle.krb_as.specs.Call.{CallRecord, pkinit_call, skew_of}
+use Rattle.krb_kdc_requests.specs.Call.{CallRecord, pkinit_call, skew_of}
 use Rattle.krb_as.specs.Grants.{granted}
-use Rattle.krb_as.specs.Requests.{addressed, client_of, entries_of, lasting, service_of}
-use Rattle.krb_as.specs.declared.span.Span.{Span}
+use Rattle.krb_kdc_requests.specs.Requests.{addressed, client_of, entries_of, lasting, service_of}
+use Rattle.krb_kdc_requests.specs.declared.span.Span.{Span}
 
 -- the ticket is to start later than the moment and the skew
 abbrev pub is_later : CallRecord → KdcReqBody → Bool

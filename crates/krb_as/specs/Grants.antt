@@ -10,9 +10,9 @@ use Rattle.decision_tables.specs.Tables.{Table, done, make}
 use Rattle.krb_tickets.specs.declared.grant.Grant.{Grant}
 use Rattle.krb_tickets.specs.Parts.{session_key_of}
 use Rattle.krb_tickets.specs.ReplyKeys.{ReplyKeyRecord}
-use Rattle.krb_grants.specs.Granted.{IsTicketReply, sole_ticket_reply}
-use Rattle.krb_as.specs.Call.{CallRecord}
-use Rattle.krb_as.specs.declared.span.Span.{Span}
+use Rattle.krb_tickets.specs.Granted.{IsTicketReply, sole_ticket_reply}
+use Rattle.krb_kdc_requests.specs.Call.{CallRecord}
+use Rattle.krb_kdc_requests.specs.declared.span.Span.{Span}
 
 -- the client and the service of a request, with their accounts
 pub record Principals : Type 0 where

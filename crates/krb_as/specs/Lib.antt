@@ -1,10 +1,7 @@
-pub mod Call
 pub mod Authenticated
-pub mod Requests
 pub mod Grants
 pub mod AsTable
 pub mod Judged
-pub mod Calls
 pub use Rattle.krb_preauth.specs.TicketGranting
-pub use Rattle.krb_grants.specs.Granted
-pub use Rattle.krb_tickets.specs.MethodData
+pub use Rattle.krb_tickets.specs.Granted
+pub use Rattle.krb_preauth.specs.MethodData

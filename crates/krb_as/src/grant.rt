@@ -2,20 +2,17 @@
 ghost use Rattle.std.specs.Prelude.{◌≡◌, ◌≤◌, Ok, length, IfOk};
 ghost use Rattle.krb_tickets.specs.ReplyKeys.{reply_key_of};
 ghost use Rattle.krb_as.specs.Authenticated.{reply_key_by};
-ghost use Rattle.krb_as.specs.Call.{call_of};
+ghost use Rattle.krb_kdc_requests.specs.Call.{call_of};
 ghost use Rattle.krb_as.specs.Grants.{first_ticket, granted};
 ghost use Rattle.krb_as.specs.Judged.{principals};
 
-use crate::call::Call;
 use crate::judge::Authenticated;
-use crate::requests::session_key;
-use crate::span::Span;
 use krb_accounts::Account;
-use krb_grants::ticket_reply;
+use krb_kdc_requests::{Call, Span, session_key};
 use krb_messages::messages::KdcReqBody;
-use krb_tickets::{Grant, ReplyKey, TicketFlags};
+use krb_tickets::{Grant, ReplyKey, TicketFlags, ticket_reply};
 use krb_types::data_types::PrincipalName;
-use record_copies::LentFields;
+use picky_asn1_der::LentFields;
 use std::alloc::{AllocError, Global};
 
 /// Who asks for a ticket for whom, with their accounts.

@@ -2,15 +2,13 @@
 ghost use Rattle.std.specs.Prelude.{◌≡◌, ◌≤◌, length, Some};
 ghost use Rattle.krb_as.specs.AsTable.{authenticated, authenticated_by, is_later, is_listed, possible, timestamped};
 ghost use Rattle.krb_as.specs.Authenticated.{reply_key_as};
-ghost use Rattle.krb_as.specs.Call.{call_of};
+ghost use Rattle.krb_kdc_requests.specs.Call.{call_of};
 ghost use Rattle.krb_types.specs.Refusals.{IsJudged};
 
-use crate::call::Call;
-use crate::requests::{entries_of, lasting};
-use crate::span::Span;
 use krb_accounts::Account;
-use krb_agreement::agreed_key;
+use krb_crypto::diffie_hellman::agreed_key;
 use krb_crypto::{CipherSuite, Key};
+use krb_kdc_requests::{Call, Span, entries_of, lasting};
 use krb_messages::messages::{KdcReq, KdcReqBody};
 use krb_moments::MICROSECONDS_IN_SECOND;
 use krb_pkinit::{Agreed, Pkinit, PkinitCall};

@@ -1,7 +1,7 @@
 //! What holds of every AS request.
 ghost use Rattle.std.specs.Prelude.{◌≡◌, ℕ, List, [], ◌∷◌, Some, IsSome};
-ghost use Rattle.asn1_trees.specs.Length.{element};
-ghost use Rattle.krb_as.specs.Requests.{body_bytes, entries_of};
+ghost use Rattle.asn1_der.specs.Length.{element};
+ghost use Rattle.krb_kdc_requests.specs.Requests.{body_bytes, entries_of};
 ghost use Rattle.krb_messages.specs.Messages.{IsAsReq};
 ghost use Rattle.krb_messages.specs.declared.messages.kdc_req.KdcReq.{KdcReq};
 ghost use Rattle.krb_preauth.specs.Entries.{first_of};

@@ -2,14 +2,13 @@
 ghost use Rattle.std.specs.Prelude.{◌≤◌, length};
 ghost use Rattle.std.specs.Option.{option_copied};
 ghost use Rattle.krb_as.specs.AsTable.{as_table};
-ghost use Rattle.krb_as.specs.Call.{call_of};
+ghost use Rattle.krb_kdc_requests.specs.Call.{call_of};
 ghost use Rattle.krb_as.specs.Judged.{IsGranted};
 
-use crate::call::Call;
 use crate::grant::{Principals, grant};
 use crate::judge::{authenticate, check_possible};
-use crate::requests::{check_address, client_of, service_of};
 use krb_accounts::Account;
+use krb_kdc_requests::{Call, check_address, client_of, service_of};
 use krb_messages::messages::KdcReq;
 use krb_pkinit::Pkinit;
 use krb_types::Refusal;

@@ -12,7 +12,7 @@ use Rattle.krb_types.specs.RandomBytes.{Random, authenticator_confounder, subkey
 use Rattle.krb_asked.specs.Asked.{ApAskedRecord}
 use Rattle.krb_client.specs.Authenticators.{IsApRequest, IsAuthenticatorOf, sole_presented, sole_authenticator_of}
 use Rattle.krb_client.specs.Client.{ClientRecord, CredentialRecord}
-use Rattle.krb_sealing.specs.Sealing.{encryption_key}
+use Rattle.krb_encrypted_data.specs.Sealing.{encryption_key}
 
 -- the subkey, where one is asked for: that of a seed, which are random bytes from the thirty-third on
 abbrev pub chosen_subkey : Bool → CipherSuite → Random → Option Bytes

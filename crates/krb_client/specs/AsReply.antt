@@ -7,7 +7,7 @@ use Rattle.krb_types.specs.declared.data_types.encrypted_data.EncryptedData.{Enc
 use Rattle.krb_messages.specs.declared.messages.enc_kdc_rep_part.EncKdcRepPart.{EncKdcRepPart}
 use Rattle.krb_messages.specs.declared.messages.kdc_rep.KdcRep.{KdcRep}
 use Rattle.krb_messages.specs.Messages.{IsAsRep, enc_as_rep_part-injective, enc_as_rep_part_tree, sole_as_rep}
-use Rattle.krb_opening.specs.Sealed.{IsSealedIn, sole_sealed}
+use Rattle.krb_encrypted_data.specs.Sealed.{IsSealedIn, sole_sealed}
 use Rattle.decision_tables.specs.One.{IsSole}
 use Rattle.decision_tables.specs.Tables.{Table, and_then, ask, done, refuse}
 use Rattle.krb_asked.specs.Asked.{AsAskedRecord}

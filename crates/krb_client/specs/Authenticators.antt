@@ -18,7 +18,7 @@ use Rattle.krb_client.specs.declared.authenticator.Told.{Told}
 use Rattle.krb_client.specs.Held.{principal_name}
 use Rattle.krb_moments.specs.SecondOf.{IsSecondOf, sole_second}
 use Rattle.krb_client.specs.Messages.{ap_request_bytes, authenticator_bytes}
-use Rattle.krb_sealing.specs.Sealing.{Seals, sole_seals}
+use Rattle.krb_encrypted_data.specs.Sealing.{Seals, sole_seals}
 
 -- what an authenticator tells of the client, and of the microseconds of its time
 abbrev pub told_of : ClientRecord → Micros → Told

@@ -16,7 +16,7 @@ use Rattle.decision_tables.specs.Tables.{done}
 use Rattle.krb_client.specs.Means.{MeansRecord}
 use Rattle.krb_client.specs.Messages.{encrypted_bytes, stamp_bytes}
 use Rattle.krb_client.specs.Requests.{entry_of}
-use Rattle.krb_sealing.specs.Sealing.{Seals, sole_seals}
+use Rattle.krb_encrypted_data.specs.Sealing.{Seals, sole_seals}
 
 -- the client's time, its microseconds always with it
 abbrev pub stamp_of : GeneralizedTime → Micros → PaEncTsEnc

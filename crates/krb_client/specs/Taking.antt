@@ -6,8 +6,8 @@ use Rattle.krb_types.specs.declared.data_types.encrypted_data.EncryptedData.{Enc
 use Rattle.krb_messages.specs.declared.messages.enc_kdc_rep_part.EncKdcRepPart.{EncKdcRepPart}
 use Rattle.krb_messages.specs.declared.messages.kdc_rep.KdcRep.{KdcRep}
 use Rattle.krb_messages.specs.Messages.{enc_tgs_rep_part-injective, enc_tgs_rep_part_tree}
-use Rattle.krb_opening.specs.Keys.{suite_of}
-use Rattle.krb_opening.specs.Sealed.{IsSealedIn, sole_sealed}
+use Rattle.krb_encrypted_data.specs.Keys.{suite_of}
+use Rattle.krb_encrypted_data.specs.Sealed.{IsSealedIn, sole_sealed}
 use Rattle.picky_asn1.specs.Numbers.{is_number}
 use Rattle.picky_asn1.specs.Bytes.{Bytes}
 use Rattle.decision_tables.specs.One.{IsSole}

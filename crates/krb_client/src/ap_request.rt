@@ -2,14 +2,14 @@
 ghost use Rattle.std.specs.Prelude.{◌≡◌, ◌≤◌, ℕ, List, length, IfErr, IfOk};
 ghost use Rattle.std.specs.Option.{option_map};
 ghost use Rattle.krb_client.specs.ApRequest.{AsksAp, ap_asked, chosen_subkey};
-ghost use Rattle.krb_sealing.specs.Sealing.{encryption_key};
+ghost use Rattle.krb_encrypted_data.specs.Sealing.{encryption_key};
 
 use crate::authenticator::ap_request;
 use crate::{AskRefusal, Client, Credential};
 use krb_asked::ApAsked;
 use krb_crypto::CipherSuite;
+use krb_encrypted_data::{confounder_at, encryption_key, key_at};
 use krb_moments::Moment;
-use krb_sealing::{confounder_at, encryption_key, key_at};
 use krb_types::constants::key_usages;
 use krb_types::constants::random_bytes::{AUTHENTICATOR_CONFOUNDER, SUBKEY_SEED};
 use krb_types::data_types::EncryptionKey;

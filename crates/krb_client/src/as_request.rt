@@ -9,13 +9,13 @@ use crate::kdc_request::{kdc_request_of, nonce_of};
 use crate::{AskRefusal, Client, Means};
 use krb_accounts::{are_components, components_of};
 use krb_asked::AsAsked;
-use krb_encoding::tagged_encoding;
 use krb_messages::messages::{KdcReq, KdcReqBody};
 use krb_moments::Moment;
 use krb_types::constants::types::AS_REQ_MSG_TYPE;
 use krb_types::data_types::PaData;
 use picky_asn1::date::GeneralizedTime;
 use picky_asn1::wrapper::GeneralStringAsn1;
+use picky_asn1_der::tagged_encoding;
 use std::alloc::{AllocError, Global};
 
 impl Client {

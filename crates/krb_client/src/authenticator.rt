@@ -8,10 +8,9 @@ ghost use Rattle.krb_client.specs.Messages.{ap_request_bytes, authenticator_byte
 use crate::copies::ticket_copy;
 use crate::names::principal_name;
 use crate::{Client, Credential};
-use krb_encoding::tagged_encoding;
+use krb_encrypted_data::sealed_data;
 use krb_messages::messages::ApReqInner;
 use krb_moments::Moment;
-use krb_sealing::sealed_data;
 use krb_types::constants::types::{
     AP_REQ_MSG_TYPE, AUTHENTICATOR_TYPE, KERBEROS_VERSION, NT_PRINCIPAL,
 };
@@ -20,7 +19,7 @@ use krb_types::data_types::{
 };
 use picky_asn1::date::GeneralizedTime;
 use picky_asn1::wrapper::{BitStringAsn1, GeneralStringAsn1, GeneralizedTimeAsn1, IntegerAsn1};
-use picky_asn1_der::{ExplicitContextTag, Optional};
+use picky_asn1_der::{ExplicitContextTag, Optional, tagged_encoding};
 use results::both;
 use std::alloc::{AllocError, Global};
 

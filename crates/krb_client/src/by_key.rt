@@ -9,17 +9,16 @@ use crate::kdc_request::entry_of;
 use crate::{AskRefusal, Client, Means, TakeRefusal};
 use krb_asked::AsAsked;
 use krb_crypto::Key;
-use krb_encoding::encoding_of;
+use krb_encrypted_data::{confounder_at, sealed_data};
 use krb_messages::messages::{KdcRep, KdcReqBody};
 use krb_moments::Moment;
-use krb_sealing::{confounder_at, sealed_data};
 use krb_types::constants::key_usages;
 use krb_types::constants::random_bytes::STAMP_CONFOUNDER;
 use krb_types::constants::types::PA_ENC_TIMESTAMP;
 use krb_types::data_types::{EncryptedData, PaData, PaEncTsEnc};
 use picky_asn1::date::GeneralizedTime;
 use picky_asn1::wrapper::{GeneralizedTimeAsn1, IntegerAsn1};
-use picky_asn1_der::{ExplicitContextTag, Optional};
+use picky_asn1_der::{ExplicitContextTag, Optional, encoding_of};
 use std::alloc::{AllocError, Global};
 
 /// The means of a client that shares a key with its realm, as that of a password: the padata is the time sealed under the key, and

@@ -1,6 +1,6 @@
 //! What a client is granted.
 ghost use Rattle.std.specs.Prelude.{◌≡◌, Some, IfOk};
-ghost use Rattle.krb_opening.specs.Keys.{key_in};
+ghost use Rattle.krb_encrypted_data.specs.Keys.{key_in};
 ghost use Rattle.krb_client.specs.Taking.{credential_of};
 
 use crate::copies::ticket_copy;

@@ -1,7 +1,7 @@
 //! Reading replies, and opening their sealed parts.
 ghost use Rattle.std.specs.Prelude.{IfOk};
 ghost use Rattle.std.specs.Int.{cast_unsigned, w32};
-ghost use Rattle.krb_opening.specs.Found.{IsFound};
+ghost use Rattle.krb_encrypted_data.specs.Found.{IsFound};
 ghost use Rattle.krb_messages.specs.Messages.{IsApRep, IsAsRep, IsTgsRep};
 ghost use Rattle.krb_client.specs.ApReply.{IsApPart};
 ghost use Rattle.krb_client.specs.AsReply.{IsAsPart};
@@ -10,10 +10,10 @@ ghost use Rattle.krb_client.specs.Taking.{IsTgsPart};
 
 use krb_asked::ApAsked;
 use krb_crypto::Key;
+use krb_encrypted_data::{open_sealed, read_whole};
 use krb_messages::messages::{
     ApRep, ApRepInner, AsRep, EncAsRepPart, EncKdcRepPart, EncTgsRepPart, KdcRep, KrbError, TgsRep,
 };
-use krb_opening::{open_sealed, read_whole};
 use krb_types::constants::key_usages;
 use krb_types::data_types::{EncApRepPart, EncApRepPartInner, EncryptedData};
 use std::alloc::{AllocError, Global};

@@ -1,6 +1,6 @@
 -- A message, or the error in its place, as one of two alternatives.
 use Rattle.std.specs.Prelude.{ℕ, List, Result, Ok, Err}
-use Rattle.asn1_trees.specs.Tree.{Tree}
+use Rattle.asn1_der.specs.Tree.{Tree}
 use Rattle.asn1_codec.specs.Reading.{IsSpelling}
 use Rattle.picky_asn1_der.specs.Choices.{choice_tree}
 use Rattle.picky_asn1_der.specs.declared.application_tag.ApplicationTag.{ApplicationTag}

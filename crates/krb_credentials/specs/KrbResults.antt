@@ -1,7 +1,7 @@
 -- A message, or the error in its place (RFC 4120, section 5.9.1), told by the error's first octet, [APPLICATION 30].
 use Rattle.std.specs.Prelude.{Bool, not, Result, Ok, Err}
-use Rattle.asn1_trees.specs.Tree.{Tree}
-use Rattle.asn1_trees.specs.Firsts.{Firsts, may_begin}
+use Rattle.asn1_der.specs.Tree.{Tree}
+use Rattle.asn1_der.specs.Firsts.{Firsts, may_begin}
 use Rattle.picky_asn1_der.specs.declared.application_tag.ApplicationTag.{ApplicationTag}
 use Rattle.krb_messages.specs.declared.messages.krb_error.KrbErrorInner.{KrbErrorInner}
 use Rattle.krb_messages.specs.Messages.{krb_error_tree}

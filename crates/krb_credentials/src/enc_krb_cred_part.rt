@@ -7,9 +7,9 @@ use picky_asn1::wrapper::{Asn1SequenceOf, IntegerAsn1};
 use picky_asn1_der::{
     ApplicationTag, Asn1DerError, Deserializer, ExplicitContextTag0, ExplicitContextTag1,
     ExplicitContextTag2, ExplicitContextTag3, ExplicitContextTag4, ExplicitContextTag5, Fields,
-    Optional, Row6, Serializer, Tagged, fields_of, from_fields, read_sequence,
+    LentFields, Optional, RecordFields, Row6, Serializer, Tagged, fields_of, from_fields,
+    read_sequence,
 };
-use record_copies::{LentFields, RecordFields};
 use std::alloc::AllocError;
 
 /// What a message that hands tickets on holds under a key that both sides know (RFC 4120, section 5.8.1).
@@ -63,8 +63,8 @@ impl Clone for EncKrbCredPartInner {
 
 impl Tagged for EncKrbCredPartInner {
     ghost use Rattle.std.proofs.Common.{ap, refl, true};
-    ghost use Rattle.asn1_trees.specs.Tagged.{sequence};
-    ghost use Rattle.asn1_trees.proofs.Tagged.{sequence_laws};
+    ghost use Rattle.asn1_der.specs.Tagged.{sequence};
+    ghost use Rattle.asn1_der.proofs.Tagged.{sequence_laws};
 
     type Row = EncKrbCredPartInnerRow;
 

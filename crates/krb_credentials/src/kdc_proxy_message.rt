@@ -1,7 +1,7 @@
 //! Messages to a proxy of KDCs.
 ghost use Rattle.std.specs.Prelude.{◌≡◌, None, IfOk, MatchResult};
 ghost use Rattle.asn1_codec.specs.Reads.{Reads};
-ghost use Rattle.asn1_trees.specs.Tree.{der};
+ghost use Rattle.asn1_der.specs.Tree.{der};
 
 use devices::{Sink, Source};
 use krb_types::data_types::KerberosStringAsn1;
@@ -79,8 +79,8 @@ type KdcProxyMessageRow = Row3<
 
 impl Tagged for KdcProxyMessage {
     ghost use Rattle.std.proofs.Common.{ap, refl, true};
-    ghost use Rattle.asn1_trees.specs.Tagged.{sequence};
-    ghost use Rattle.asn1_trees.proofs.Tagged.{sequence_laws};
+    ghost use Rattle.asn1_der.specs.Tagged.{sequence};
+    ghost use Rattle.asn1_der.proofs.Tagged.{sequence_laws};
 
     type Row = KdcProxyMessageRow;
 

@@ -21,8 +21,8 @@ type KerbPaPacRequestRow = Row1<ExplicitContextTag0<bool>>;
 
 impl Tagged for KerbPaPacRequest {
     ghost use Rattle.std.proofs.Common.{ap, refl, true};
-    ghost use Rattle.asn1_trees.specs.Tagged.{sequence};
-    ghost use Rattle.asn1_trees.proofs.Tagged.{sequence_laws};
+    ghost use Rattle.asn1_der.specs.Tagged.{sequence};
+    ghost use Rattle.asn1_der.proofs.Tagged.{sequence_laws};
 
     type Row = KerbPaPacRequestRow;
 

@@ -7,9 +7,9 @@ use picky_asn1_der::{
     Asn1DerError, Deserializer, ExplicitContextTag0, ExplicitContextTag1, ExplicitContextTag2,
     ExplicitContextTag3, ExplicitContextTag4, ExplicitContextTag5, ExplicitContextTag6,
     ExplicitContextTag7, ExplicitContextTag8, ExplicitContextTag9, ExplicitContextTag10, Fields,
-    Optional, Row11, Serializer, Tagged, fields_of, from_fields, read_sequence, row,
+    LentFields, Optional, RecordFields, Row11, Serializer, Tagged, fields_of, from_fields,
+    read_sequence, row,
 };
-use record_copies::{LentFields, RecordFields};
 use std::alloc::AllocError;
 
 /// What is told of a ticket that is handed on (RFC 4120, section 5.8.1).
@@ -94,8 +94,8 @@ impl Clone for KrbCredInfo {
 
 impl Tagged for KrbCredInfo {
     ghost use Rattle.std.proofs.Common.{ap, refl, true};
-    ghost use Rattle.asn1_trees.specs.Tagged.{sequence};
-    ghost use Rattle.asn1_trees.proofs.Tagged.{sequence_laws};
+    ghost use Rattle.asn1_der.specs.Tagged.{sequence};
+    ghost use Rattle.asn1_der.proofs.Tagged.{sequence_laws};
 
     type Row = KrbCredInfoRow;
 

@@ -1,6 +1,6 @@
 //! A message, or the error in its place.
 ghost use Rattle.std.specs.Prelude.{◌≡◌, Bool, true, false, IsTrue, MatchResult};
-ghost use Rattle.asn1_trees.specs.Tree.{Tree};
+ghost use Rattle.asn1_der.specs.Tree.{Tree};
 ghost use Rattle.krb_credentials.specs.KrbResults.{result_tree, is_no_error};
 
 use devices::Source;
@@ -13,7 +13,7 @@ pub type KrbResult<T> = Result<T, KrbError>;
 /// A message, or the error in its place, that is read.
 pub trait ResultExt<T: Deserialize>: Sized {
     ghost use Rattle.std.specs.Prelude.{Bool, IsTrue};
-    ghost use Rattle.asn1_trees.specs.Tree.{Tree};
+    ghost use Rattle.asn1_der.specs.Tree.{Tree};
     ghost use Rattle.asn1_codec.specs.Reading.{Reading, TookValue, IsSpelling, Refused};
 
     ghost tree: { Self → Tree };

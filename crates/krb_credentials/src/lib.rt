@@ -4,7 +4,6 @@
 //! The names, fields and tags are those of the ported crate.
 #![tactic(auto)]
 
-mod change_passwd_data;
 mod enc_krb_cred_part;
 mod kdc_proxy_message;
 mod kerb_ad_restriction_entry;
@@ -17,7 +16,6 @@ mod pa_pac_options;
 mod tgt_rep;
 mod tgt_req;
 
-pub use change_passwd_data::ChangePasswdData;
 pub use enc_krb_cred_part::{EncKrbCredPart, EncKrbCredPartInner};
 pub use kdc_proxy_message::KdcProxyMessage;
 pub use kerb_ad_restriction_entry::KerbAdRestrictionEntry;

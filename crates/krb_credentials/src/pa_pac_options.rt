@@ -22,8 +22,8 @@ type PaPacOptionsRow = Row1<ExplicitContextTag0<KerberosFlags>>;
 
 impl Tagged for PaPacOptions {
     ghost use Rattle.std.proofs.Common.{ap, refl, true};
-    ghost use Rattle.asn1_trees.specs.Tagged.{sequence};
-    ghost use Rattle.asn1_trees.proofs.Tagged.{sequence_laws};
+    ghost use Rattle.asn1_der.specs.Tagged.{sequence};
+    ghost use Rattle.asn1_der.proofs.Tagged.{sequence_laws};
 
     type Row = PaPacOptionsRow;
 

@@ -1,8 +1,8 @@
 -- The suites, their numbers and sizes.
 use Rattle.std.specs.Prelude.{◌≡◌, ◌≢◌, ℕ, ◌*◌, List, [], ◌∷◌, length, Result, MatchResult}
-use Rattle.krb_blocks.specs.declared.aes.AesSize.TheVariants.{Aes128, Aes256}
-use Rattle.krb_blocks.specs.declared.error.KerberosCryptoError.{KerberosCryptoError}
-use Rattle.krb_blocks.specs.declared.error.KerberosCryptoError.TheVariants.{AlgorithmIdentifier, AlgorithmIdentifierData}
+use Rattle.aes_cts.specs.declared.aes.AesSize.TheVariants.{Aes128, Aes256}
+use Rattle.aes_cts.specs.declared.error.KerberosCryptoError.{KerberosCryptoError}
+use Rattle.aes_cts.specs.declared.error.KerberosCryptoError.TheVariants.{AlgorithmIdentifier, AlgorithmIdentifierData}
 use Rattle.krb_profile.specs.Profile.{Profile}
 use Rattle.krb_aes.specs.Suites.{aes128_profile, aes256_profile}
 use Rattle.krb_aes_sha2.specs.Suites.{aes_sha2_profile}

@@ -6,10 +6,10 @@ ghost use Rattle.krb_crypto.specs.Suites.{checksum_key_size, cipher_checksum, ci
 
 use crate::cipher::{Checksum, Cipher};
 use crate::suite::{ChecksumSuite, CipherSuite};
+use aes_cts::{AES_BLOCK_SIZE, AesSize, KerberosCryptoResult};
+use des3_cbc::{DES3_BLOCK_SIZE, DES3_SEED_LEN};
 use krb_aes::checksum_sha_aes;
 use krb_aes_sha2::checksum_sha2;
-use krb_blocks::{AES_BLOCK_SIZE, AesSize, KerberosCryptoResult};
-use krb_des::{DES3_BLOCK_SIZE, DES3_SEED_LEN};
 use krb_des3::checksum_sha_des3;
 use krb_profile::{DecryptWithoutChecksum, EncryptWithoutChecksum};
 use std::alloc::Global;

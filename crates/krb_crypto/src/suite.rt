@@ -3,7 +3,7 @@
 ghost use Rattle.std.specs.Prelude.{◌≡◌};
 ghost use Rattle.krb_crypto.specs.Suites.{IsChecksumOf, IsCipherOf, IsCipherOfByte, checksum_number, checksum_suites, cipher_key_size, cipher_number, cipher_suites};
 
-use krb_blocks::KerberosCryptoError;
+use aes_cts::KerberosCryptoError;
 
 /// The ways to encrypt (RFC 3962, section 7; RFC 3961, section 6.3; RFC 8009, section 5).
 #[derive(Clone, Copy, Debug, PartialEq, Eq)]

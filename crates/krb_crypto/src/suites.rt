@@ -8,7 +8,7 @@ ghost use Rattle.krb_crypto.specs.declared.suite.CipherSuite.{CipherSuite};
 
 use crate::cipher::{Checksum, Cipher};
 use crate::suite::{ChecksumSuite, CipherSuite};
-use krb_blocks::KerberosCryptoResult;
+use aes_cts::KerberosCryptoResult;
 use krb_profile::{DecryptWithoutChecksum, EncryptWithoutChecksum};
 use std::alloc::Global;
 

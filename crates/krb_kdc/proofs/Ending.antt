@@ -6,9 +6,9 @@ use Rattle.krb_frames.specs.declared.fault.ServeFault.TheVariants as serve_fault
 use Rattle.key_functions.specs.KeyFunctions.{no_functions}
 use Rattle.krb_realm.specs.Answers.{BeginsRequest, RealmReplies}
 use Rattle.krb_realm.specs.Realm.{RealmState}
-use Rattle.krb_runs.specs.Devices.{Devices, Serves}
-use Rattle.krb_runs.specs.declared.outcome.Stop.{Stop}
-use Rattle.krb_runs.specs.declared.outcome.Stop.TheVariants.{Fault}
+use Rattle.krb_kdc.specs.Devices.{Devices, Serves}
+use Rattle.krb_kdc.specs.declared.outcome.Stop.{Stop}
+use Rattle.krb_kdc.specs.declared.outcome.Stop.TheVariants.{Fault}
 use Rattle.krb_kdc.specs.Files.{HasFault, IsRealmFile}
 use Rattle.krb_kdc.specs.Runs.{IsEnd, stop_of}
 use Rattle.krb_kdc.specs.declared.fault.KdcFault.{KdcFault}

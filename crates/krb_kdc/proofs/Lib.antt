@@ -2,3 +2,4 @@ pub mod Adding
 pub mod Checking
 pub mod SoleRealm
 mod Ending
+pub mod Counts

@@ -6,7 +6,8 @@ ghost use Rattle.krb_settings.specs.Written.{shown_realm};
 ghost use Rattle.krb_kdc.specs.Checks.{IsChecked};
 ghost use Rattle.krb_kdc.specs.Realms.{realm_of};
 
-use crate::{KdcFault, realm_of};
+use crate::fault::KdcFault;
+use crate::realm::realm_of;
 use krb_realm::RealmRefusal;
 use krb_settings::{
     Place, RealmSettings, Remark, Rule, SettingsFault, explain, explain_rule, read_settings,

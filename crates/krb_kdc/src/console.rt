@@ -1,9 +1,10 @@
 //! A run of the program with arguments.
 
-use crate::run_settings;
+use crate::clock::after_epoch;
+use crate::outcome::{Outcome, Stop};
+use crate::run::run_settings;
 use devices::Watched;
 use krb_realm::{Moment, ServeFault, Sink, Source};
-use krb_runs::{Outcome, Stop, after_epoch};
 use krb_settings::SETTINGS_LIMIT;
 use std::fs::{self, Files};
 use std::io::{self, ErrorKind, Read};

@@ -1,8 +1,8 @@
 //! Why a settings file is no realm's.
 ghost use Rattle.std.specs.Prelude.{◌≡◌};
 
+use crate::outcome::Stop;
 use krb_realm::{RealmRefusal, ServeFault};
-use krb_runs::Stop;
 use krb_settings::SettingsFault;
 use thiserror::Error;
 

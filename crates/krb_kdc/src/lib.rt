@@ -5,18 +5,23 @@
 #![tactic(auto)]
 
 mod check;
+mod clock;
 mod console;
 mod fault;
 pub mod laws;
+mod outcome;
 mod process;
 mod realm;
 mod run;
+mod serving;
 
 pub use check::{FileCheck, check_file};
+pub use clock::after_epoch;
 pub use console::{read_file, run_with_arguments};
 pub use fault::KdcFault;
 pub use krb_realm::Moment;
-pub use krb_runs::{Outcome, Stop};
+pub use outcome::{Outcome, Stop};
 pub use process::run_process;
 pub use realm::{read_realm, realm_of};
 pub use run::run_settings;
+pub use serving::serve_at;

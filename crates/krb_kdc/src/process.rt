@@ -1,11 +1,12 @@
 //! The program itself: what it is given by its process.
 
-use crate::run_with_arguments;
+use crate::console::run_with_arguments;
+use crate::outcome::{Outcome, Stop};
+use crate::serving::serve_at;
 use devices::Watched;
 use krb_realm::{
     Answering, CipherSuite, Moment, NoKeys, Realm, ServeFault, Settings, Sink, Source,
 };
-use krb_runs::{Outcome, Stop, serve_at};
 use std::alloc::Global;
 use std::env;
 use std::io::{self, BufReader, ErrorKind};

@@ -7,7 +7,7 @@ ghost use Rattle.krb_realm.specs.Realm.{making, made};
 ghost use Rattle.krb_kdc.specs.Files.{HasFault, IsRealmFile};
 ghost use Rattle.krb_kdc.specs.Realms.{adding_account, in_account, in_realm, realm_of, settings_of, with_account, with_accounts};
 
-use crate::KdcFault;
+use crate::fault::KdcFault;
 use krb_realm::{Realm, RealmRefusal, Settings};
 use krb_settings::{AccountSettings, RealmSettings, Secret, SettingsFault, read_settings};
 use std::alloc::Global;

@@ -1,13 +1,14 @@
 //! A run with settings.
 ghost use Rattle.std.specs.Prelude.{◌≡◌, ℕ, Result};
-ghost use Rattle.krb_runs.specs.Devices.{device, devices};
-ghost use Rattle.krb_runs.specs.Outcomes.{line_of, status_of};
-ghost use Rattle.krb_runs.specs.declared.outcome.Stop.{Stop};
+ghost use Rattle.krb_kdc.specs.Devices.{device, devices};
+ghost use Rattle.krb_kdc.specs.Outcomes.{line_of, status_of};
+ghost use Rattle.krb_kdc.specs.declared.outcome.Stop.{Stop};
 ghost use Rattle.krb_kdc.specs.Runs.{IsEnd};
 
-use crate::read_realm;
+use crate::outcome::{Outcome, Stop};
+use crate::realm::read_realm;
+use crate::serving::serve_at;
 use krb_realm::{Answering, Moment, NoKeys, Sink, Source};
-use krb_runs::{Outcome, Stop, serve_at};
 use std::alloc::Global;
 
 /// Answers the frames of `reader` on `writer` for the realm of a settings file, each at one moment and with the next 128

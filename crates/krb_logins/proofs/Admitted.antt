@@ -11,18 +11,18 @@ use Rattle.krb_crypto.specs.Suites.{cipher_confounder_size, cipher_number}
 use Rattle.krb_types.specs.Names.{components, is_same_name, is_same_realm}
 use Rattle.krb_types.specs.RandomBytes.{authenticator_confounder, ticket_confounder}
 use Rattle.krb_types.specs.declared.data_types.authenticator.AuthenticatorInner.{AuthenticatorInner}
-use Rattle.krb_replay_cache.specs.Pair.{is_among}
-use Rattle.krb_sealing.specs.Sealing.{encryption_key}
+use Rattle.krb_service.specs.Pair.{is_among}
+use Rattle.krb_encrypted_data.specs.Sealing.{encryption_key}
 use Rattle.krb_tickets.specs.Parts.{session_key_of, ticket_part}
 use Rattle.krb_tickets.specs.Sealed.{ticket_part_bytes}
 use Rattle.krb_tickets.specs.Times.{asked_end}
 use Rattle.krb_tickets.specs.declared.grant.Grant.{Grant}
-use Rattle.krb_as.specs.declared.span.Span.{Span}
-use Rattle.krb_ap.specs.Acceptable.{IsAcceptable, shown}
-use Rattle.krb_ap.specs.Admission.{AdmissionRecord, admission_of}
-use Rattle.krb_ap.specs.ApReply.{IsReplyTo}
-use Rattle.krb_ap.specs.Presents.{Choice, Presents}
-use Rattle.krb_ap.specs.declared.presented.Presented.{Presented}
+use Rattle.krb_kdc_requests.specs.declared.span.Span.{Span}
+use Rattle.krb_ap_requests.specs.Acceptable.{IsAcceptable, shown}
+use Rattle.krb_ap_requests.specs.Admission.{AdmissionRecord, admission_of}
+use Rattle.krb_service.specs.ApReply.{IsReplyTo}
+use Rattle.krb_ap_requests.specs.Presents.{Choice, Presents}
+use Rattle.krb_ap_requests.specs.declared.presented.Presented.{Presented}
 use Rattle.krb_client.specs.ApReply.{TakesApReply}
 use Rattle.krb_client.specs.ApRequest.{ap_asked}
 use Rattle.krb_client.specs.Authenticators.{IsApRequest, authenticator_with, told_of}

@@ -14,16 +14,16 @@ use Rattle.krb_types.specs.declared.data_types.pa_enc_timestamp.PaEncTsEnc.{PaEn
 use Rattle.krb_messages.specs.declared.messages.kdc_req.KdcReq.{KdcReq}
 use Rattle.krb_accounts.specs.Account.{AccountRecord}
 use Rattle.decision_tables.specs.Tables.{Table, ask, done, need, refuse}
-use Rattle.krb_sealing.specs.Sealing.{sealed_opens}
+use Rattle.krb_encrypted_data.specs.Sealing.{sealed_opens}
 use Rattle.krb_pkinit.specs.Rows.{PkinitRows}
 use Rattle.krb_preauth.specs.Entries.{first_entry, first_of}
 use Rattle.krb_preauth.specs.Stamps as preauth
 use Rattle.krb_preauth.specs.Stamps.{moment_of, sole_stamp, stamp_tree}
 use Rattle.krb_tickets.specs.ReplyKeys.{ReplyKeyRecord, as_reply_key}
 use Rattle.krb_as.specs.AsTable.{authenticated, authenticated_by, timestamped}
-use Rattle.krb_as.specs.Call.{CallRecord, skew_of}
-use Rattle.krb_as.specs.Calls.{AreKeyed}
-use Rattle.krb_as.specs.Requests.{entries_of}
+use Rattle.krb_kdc_requests.specs.Call.{CallRecord, skew_of}
+use Rattle.krb_kdc_requests.specs.Calls.{AreKeyed}
+use Rattle.krb_kdc_requests.specs.Requests.{entries_of}
 use Rattle.krb_client.specs.AsRequest.{as_request_of}
 use Rattle.krb_client.specs.Client.{ClientRecord}
 use Rattle.krb_client.specs.Messages.{encrypted_bytes, stamp_bytes}

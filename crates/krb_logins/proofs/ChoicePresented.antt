@@ -4,9 +4,9 @@ use Rattle.std.proofs.lemmas.Bool.{eq-eqb}
 use Rattle.std.specs.Prelude.{pos}
 use Rattle.asn1_leaves.specs.CharSets.{is_general_string}
 use Rattle.asn1_leaves.specs.declared.date.GeneralizedTime.{GeneralizedTime}
-use Rattle.asn1_trees.specs.Tagged.{tagged_tree}
-use Rattle.asn1_trees.specs.Tree.{IsWhole, Tree, der, leaf}
-use Rattle.asn1_trees.proofs.Spelling.{whole-wrapped}
+use Rattle.asn1_der.specs.Tagged.{tagged_tree}
+use Rattle.asn1_der.specs.Tree.{IsWhole, Tree, der, leaf}
+use Rattle.asn1_der.proofs.Spelling.{whole-wrapped}
 use Rattle.picky_asn1.specs.Bytes.{Bytes}
 use Rattle.picky_asn1.specs.Numbers.{is_number}
 use Rattle.decision_tables.specs.Tables.{Table, and_then, ask, done, need, refuse}
@@ -24,10 +24,10 @@ use Rattle.krb_messages.specs.declared.messages.enc_kdc_rep_part.EncKdcRepPart.{
 use Rattle.krb_messages.specs.declared.messages.kdc_rep.KdcRep.{KdcRep}
 use Rattle.krb_messages.specs.Messages.{IsApReq, IsAsRep, IsTgsRep, ap_req_tree, authenticator_tree}
 use Rattle.krb_messages.specs.Trees.{kdc_rep_inner_tree}
-use Rattle.krb_opening.specs.Keys.{suite_of}
-use Rattle.krb_sealing.specs.Sealing.{encrypted_by}
-use Rattle.krb_ap.specs.Presents.{Presents}
-use Rattle.krb_ap.proofs.Shown.{request-outer}
+use Rattle.krb_encrypted_data.specs.Keys.{suite_of}
+use Rattle.krb_encrypted_data.specs.Sealing.{encrypted_by}
+use Rattle.krb_ap_requests.specs.Presents.{Presents}
+use Rattle.krb_ap_requests.proofs.Shown.{request-outer}
 use Rattle.krb_asked.specs.Answers.{is_answer}
 use Rattle.krb_asked.specs.Asked.{AsAskedRecord, TgsAskedRecord}
 use Rattle.krb_client.specs.ApRequest.{subkey_told}

@@ -20,17 +20,17 @@ use Rattle.krb_messages.specs.declared.messages.kdc_req_body.KdcReqBody.{KdcReqB
 use Rattle.krb_accounts.specs.Account.{AccountRecord}
 use Rattle.krb_pkinit.specs.Rows.{PkinitRows}
 use Rattle.decision_tables.specs.Tables.{Table, and_then, ask, done, need, refuse}
-use Rattle.krb_sealing.specs.Sealing.{is_own_number}
+use Rattle.krb_encrypted_data.specs.Sealing.{is_own_number}
 use Rattle.krb_tickets.specs.declared.grant.Grant.{Grant}
 use Rattle.krb_tickets.specs.Parts.{session_key_of}
 use Rattle.krb_tickets.specs.ReplyKeys.{ReplyKeyRecord}
-use Rattle.krb_grants.specs.Granted.{IsTicketReply}
+use Rattle.krb_tickets.specs.Granted.{IsTicketReply}
 use Rattle.krb_as.specs.AsTable.{as_table, authenticated, is_later, is_listed, possible}
-use Rattle.krb_as.specs.Call.{CallRecord}
+use Rattle.krb_kdc_requests.specs.Call.{CallRecord}
 use Rattle.krb_as.specs.Grants.{Principals, first_ticket, granted}
-use Rattle.krb_as.specs.Requests.{IsSpan, account_of, addressed, client_of, is_ended, lasting, service_of}
+use Rattle.krb_kdc_requests.specs.Requests.{IsSpan, account_of, addressed, client_of, is_ended, lasting, service_of}
 use Rattle.krb_as.specs.TicketGranting.{krbtgt_of}
-use Rattle.krb_as.specs.declared.span.Span.{Span}
+use Rattle.krb_kdc_requests.specs.declared.span.Span.{Span}
 use Rattle.krb_replies.specs.Replies.{Replies, as_reply, hint_of, reply_of, tgs_reply}
 use Rattle.krb_client.specs.AsRequest.{as_body, as_request_of}
 use Rattle.krb_client.specs.Client.{ClientRecord}

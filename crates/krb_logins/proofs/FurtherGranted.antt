@@ -3,9 +3,9 @@ use Rattle.std.proofs.Common.{◌≡◌, ◌<◌, ◌≤◌, ℕ, ◌+◌, ◌*�
 use Rattle.std.proofs.lemmas.Bool.{and_from, eq-eqb, eqb-true, lt-leb}
 use Rattle.std.specs.Option.{is_some}
 use Rattle.std.specs.Prelude.{ℤ, if◌then◌else◌, pos}
-use Rattle.asn1_trees.specs.Length.{element}
-use Rattle.asn1_trees.specs.Tree.{IsWhole, leaf}
-use Rattle.asn1_trees.proofs.Spelling.{whole-wrapped}
+use Rattle.asn1_der.specs.Length.{element}
+use Rattle.asn1_der.specs.Tree.{IsWhole, leaf}
+use Rattle.asn1_der.proofs.Spelling.{whole-wrapped}
 use Rattle.asn1_leaves.specs.CharSets.{is_general_string}
 use Rattle.asn1_leaves.specs.declared.date.GeneralizedTime.{GeneralizedTime}
 use Rattle.picky_asn1.specs.Bytes.{Bytes}
@@ -31,26 +31,26 @@ use Rattle.krb_messages.specs.declared.messages.kdc_req_body.KdcReqBody.{KdcReqB
 use Rattle.krb_messages.specs.Messages.{IsApReq, IsAsReq, IsTgsReq, enc_ticket_part_tree, sole_ap_req, sole_as_req, sole_tgs_req, tgs_req_tree}
 use Rattle.krb_accounts.specs.Account.{AccountRecord}
 use Rattle.decision_tables.specs.Tables.{Table, and_then, ask, done, need, refuse}
-use Rattle.krb_opening.specs.Keys.{suite_of}
-use Rattle.krb_sealing.specs.Sealing.{encryption_key, is_own_number, sealed_opens}
+use Rattle.krb_encrypted_data.specs.Keys.{suite_of}
+use Rattle.krb_encrypted_data.specs.Sealing.{encryption_key, is_own_number, sealed_opens}
 use Rattle.krb_preauth.specs.Entries.{first_entry, first_of}
 use Rattle.krb_tickets.specs.declared.grant.Grant.{Grant}
 use Rattle.krb_tickets.specs.Parts.{session_key_of, ticket_part}
 use Rattle.krb_tickets.specs.ReplyKeys.{ReplyKeyRecord, tgs_reply_key}
 use Rattle.krb_tickets.specs.Sealed.{ticket_part_bytes}
 use Rattle.krb_tickets.specs.Times.{asked_end, end_of, last_second, start_of}
-use Rattle.krb_grants.specs.Granted.{IsTicketReply}
-use Rattle.krb_ap.specs.ApTable.{ap_fields, is_early, is_for, is_late, may_be_under, opened, opened_part, timely, told}
-use Rattle.krb_ap.specs.Entry.{EntryRecord}
-use Rattle.krb_ap.specs.Messages.{IsAuthenticator, IsTicketPart, sole_authenticator, sole_ticket_part}
-use Rattle.krb_ap.specs.Presents.{request_of}
-use Rattle.krb_ap.specs.declared.presented.Authenticated.{Authenticated}
+use Rattle.krb_tickets.specs.Granted.{IsTicketReply}
+use Rattle.krb_ap_requests.specs.ApTable.{ap_fields, is_early, is_for, is_late, may_be_under, opened, opened_part, timely, told}
+use Rattle.krb_ap_requests.specs.Entry.{EntryRecord}
+use Rattle.krb_ap_requests.specs.Messages.{IsAuthenticator, IsTicketPart, sole_authenticator, sole_ticket_part}
+use Rattle.krb_ap_requests.specs.Presents.{request_of}
+use Rattle.krb_ap_requests.specs.declared.presented.Authenticated.{Authenticated}
 use Rattle.krb_pkinit.specs.Rows.{PkinitRows}
-use Rattle.krb_as.specs.Call.{CallRecord, skew_of}
+use Rattle.krb_kdc_requests.specs.Call.{CallRecord, skew_of}
 use Rattle.krb_as.specs.Grants.{replied}
-use Rattle.krb_as.specs.Requests.{IsSpan, account_of, body_bytes, client_of, entries_of, is_ended, lasting, service_of}
+use Rattle.krb_kdc_requests.specs.Requests.{IsSpan, account_of, body_bytes, client_of, entries_of, is_ended, lasting, service_of}
 use Rattle.krb_as.specs.TicketGranting.{krbtgt_of}
-use Rattle.krb_as.specs.declared.span.Span.{Span}
+use Rattle.krb_kdc_requests.specs.declared.span.Span.{Span}
 use Rattle.krb_replies.specs.TgsTable as table
 use Rattle.krb_replies.specs.TgsTable.{carried, counting, covered, further, further_ticket, is_known_checksum, is_of_body, of_carried, of_shown, of_ticket, shown_near, tgs_granted, tgs_table, ticket_granting, to_us}
 use Rattle.krb_replies.specs.Replies.{Replies, as_reply, reply_of, tgs_reply}

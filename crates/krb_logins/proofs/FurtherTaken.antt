@@ -12,13 +12,13 @@ use Rattle.krb_messages.specs.declared.messages.kdc_rep.KdcRep.{KdcRep}
 use Rattle.krb_accounts.specs.Account.{AccountRecord}
 use Rattle.krb_pkinit.specs.Rows.{PkinitRows}
 use Rattle.decision_tables.specs.Tables.{Table, ask, done}
-use Rattle.krb_sealing.specs.Sealing.{sealed_opens}
+use Rattle.krb_encrypted_data.specs.Sealing.{sealed_opens}
 use Rattle.krb_tickets.specs.declared.grant.Grant.{Grant}
 use Rattle.krb_tickets.specs.declared.reply.Exchange.TheVariants.{Tgs}
 use Rattle.krb_tickets.specs.Parts.{kdc_reply_of, reply_part, session_key_of, ticket_of}
 use Rattle.krb_tickets.specs.ReplyKeys.{tgs_reply_key}
 use Rattle.krb_tickets.specs.Sealed.{IsSealedReply, reply_part_bytes}
-use Rattle.krb_grants.specs.Granted.{IsTicketReply}
+use Rattle.krb_tickets.specs.Granted.{IsTicketReply}
 use Rattle.krb_asked.specs.Asked.{TgsAskedRecord}
 use Rattle.krb_client.specs.Client.{ClientRecord, CredentialRecord}
 use Rattle.krb_client.specs.Means.{MeansRecord}

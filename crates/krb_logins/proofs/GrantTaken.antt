@@ -15,9 +15,9 @@ use Rattle.krb_types.specs.declared.data_types.encrypted_data.EncryptedData.{Enc
 use Rattle.krb_messages.specs.declared.messages.kdc_rep.KdcRep.{KdcRep}
 use Rattle.krb_accounts.specs.Account.{AccountRecord}
 use Rattle.decision_tables.specs.Tables.{Table, done, need}
-use Rattle.krb_opening.specs.Keys.{suite_of}
-use Rattle.krb_opening.proofs.KeySizes.{suite_of_sized}
-use Rattle.krb_sealing.specs.Sealing.{encryption_key}
+use Rattle.krb_encrypted_data.specs.Keys.{suite_of}
+use Rattle.krb_encrypted_data.proofs.KeySizes.{suite_of_sized}
+use Rattle.krb_encrypted_data.specs.Sealing.{encryption_key}
 use Rattle.krb_tickets.specs.declared.grant.Grant.{Grant}
 use Rattle.krb_tickets.specs.declared.reply.Exchange.{Exchange}
 use Rattle.krb_tickets.specs.Parts.{kdc_reply_of, reply_part, session_key_of, ticket_of, ticket_part}

@@ -1,6 +1,6 @@
 -- A message under another application tag is no error (RFC 4120, section 5.10).
 use Rattle.std.proofs.Common.{◌≡◌, ℕ, get_or, sym, ap, ◌∙◌}
-use Rattle.asn1_trees.specs.Length.{element}
+use Rattle.asn1_der.specs.Length.{element}
 use Rattle.picky_asn1.specs.Bytes.{Bytes}
 use Rattle.krb_types.specs.Refusals.{Code}
 use Rattle.krb_client.specs.Messages.{IsErrorCode}

@@ -6,19 +6,19 @@ use Rattle.krb_moments.specs.Units.{Micros}
 use Rattle.krb_types.specs.RandomBytes.{Random}
 use Rattle.krb_accounts.specs.Names.{are_components, is_realm_name}
 use Rattle.krb_types.specs.Names.{components}
-use Rattle.krb_sealing.specs.Sealing.{encryption_key}
+use Rattle.krb_encrypted_data.specs.Sealing.{encryption_key}
 use Rattle.decision_tables.specs.Tables.{Table}
 use Rattle.krb_frames.specs.declared.fault.AnswerRefusal.{AnswerRefusal}
 use Rattle.krb_frames.specs.declared.fault.AnswerRefusal.TheVariants as answer_refusal
 use Rattle.krb_pkinit.specs.Rows.{PkinitRows}
 use Rattle.krb_tickets.specs.Parts.{session_key_of}
-use Rattle.krb_as.specs.Call.{CallRecord}
+use Rattle.krb_kdc_requests.specs.Call.{CallRecord}
 use Rattle.krb_as.specs.TicketGranting.{krbtgt_of}
-use Rattle.krb_as.specs.declared.span.Span.{Span}
+use Rattle.krb_kdc_requests.specs.declared.span.Span.{Span}
 use Rattle.krb_replies.specs.Replies.{Replies}
-use Rattle.krb_ap.specs.Admission.{AdmissionRecord}
-use Rattle.krb_ap.specs.declared.refusal.AdmitRefusal.{AdmitRefusal}
-use Rattle.krb_ap.specs.declared.refusal.AdmitRefusal.TheVariants as admit_refusal
+use Rattle.krb_ap_requests.specs.Admission.{AdmissionRecord}
+use Rattle.krb_ap_requests.specs.declared.refusal.AdmitRefusal.{AdmitRefusal}
+use Rattle.krb_ap_requests.specs.declared.refusal.AdmitRefusal.TheVariants as admit_refusal
 use Rattle.krb_asked.specs.Asked.{ApAskedRecord, AsAskedRecord, TgsAskedRecord}
 use Rattle.krb_client.specs.ApReply.{takes_ap_reply}
 use Rattle.krb_client.specs.ApRequest.{ap_asked}

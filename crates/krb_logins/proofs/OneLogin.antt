@@ -5,18 +5,18 @@ use Rattle.picky_asn1.specs.Bytes.{Bytes}
 use Rattle.krb_moments.specs.Units.{Micros}
 use Rattle.krb_types.specs.RandomBytes.{Random}
 use Rattle.krb_accounts.specs.Names.{are_components}
-use Rattle.krb_sealing.specs.Sealing.{encryption_key}
+use Rattle.krb_encrypted_data.specs.Sealing.{encryption_key}
 use Rattle.decision_tables.specs.Tables.{Table}
 use Rattle.krb_frames.specs.declared.fault.AnswerRefusal.{AnswerRefusal}
 use Rattle.krb_frames.specs.declared.fault.AnswerRefusal.TheVariants as answer_refusal
-use Rattle.krb_as.specs.Call.{CallRecord}
+use Rattle.krb_kdc_requests.specs.Call.{CallRecord}
 use Rattle.krb_as.specs.TicketGranting.{krbtgt_of}
 use Rattle.krb_replies.specs.Replies as replies
 use Rattle.krb_pkinit.specs.Rows.{PkinitRows}
-use Rattle.krb_replay_cache.specs.Pair.{PairRecord}
-use Rattle.krb_ap.specs.Admission.{AdmissionRecord}
-use Rattle.krb_ap.specs.declared.refusal.AdmitRefusal.{AdmitRefusal}
-use Rattle.krb_ap.specs.declared.refusal.AdmitRefusal.TheVariants as admit_refusal
+use Rattle.krb_service.specs.Pair.{PairRecord}
+use Rattle.krb_ap_requests.specs.Admission.{AdmissionRecord}
+use Rattle.krb_ap_requests.specs.declared.refusal.AdmitRefusal.{AdmitRefusal}
+use Rattle.krb_ap_requests.specs.declared.refusal.AdmitRefusal.TheVariants as admit_refusal
 use Rattle.krb_asked.specs.Asked.{ApAskedRecord}
 use Rattle.krb_client.specs.ApReply.{takes_ap_reply}
 use Rattle.krb_client.specs.ApRequest.{sole_ap_request}

@@ -9,15 +9,15 @@ use Rattle.krb_types.specs.declared.constants.error_codes.TheConstants.{KRB_AP_E
 use Rattle.krb_messages.specs.declared.messages.ap_req.ApReqInner.{ApReqInner}
 use Rattle.krb_messages.specs.Messages.{IsApReq, sole_ap_req}
 use Rattle.decision_tables.specs.Tables.{Table, and_then, as_made, done, make, refuse}
-use Rattle.krb_replay_cache.specs.Pair.{PairRecord, is_among}
-use Rattle.krb_ap.proofs.Accepted.{presented_as_chosen}
-use Rattle.krb_ap.specs.Acceptable.{shown}
-use Rattle.krb_ap.specs.Admission.{admission_of}
-use Rattle.krb_ap.specs.ApReply.{IsReplyTo, sole_reply_to}
-use Rattle.krb_ap.specs.ApTable.{presented}
-use Rattle.krb_ap.specs.Presents.{Choice, Presents, request_of}
-use Rattle.krb_ap.specs.declared.presented.Presented.{Presented}
-use Rattle.krb_ap.specs.declared.refusal.AdmitRefusal.TheVariants.{Unreadable}
+use Rattle.krb_service.specs.Pair.{PairRecord, is_among}
+use Rattle.krb_ap_requests.proofs.Accepted.{presented_as_chosen}
+use Rattle.krb_ap_requests.specs.Acceptable.{shown}
+use Rattle.krb_ap_requests.specs.Admission.{admission_of}
+use Rattle.krb_service.specs.ApReply.{IsReplyTo, sole_reply_to}
+use Rattle.krb_ap_requests.specs.ApTable.{presented}
+use Rattle.krb_ap_requests.specs.Presents.{Choice, Presents, request_of}
+use Rattle.krb_ap_requests.specs.declared.presented.Presented.{Presented}
+use Rattle.krb_ap_requests.specs.declared.refusal.AdmitRefusal.TheVariants.{Unreadable}
 use Rattle.krb_service.specs.Admissible.{IsAdmissible}
 use Rattle.krb_service.specs.Once.{Admitted, fresh, once, pair_of}
 use Rattle.krb_service.specs.RememberingService.{Outcome, judged, outcome_of, remembering}

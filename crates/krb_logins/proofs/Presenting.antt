@@ -4,7 +4,7 @@ use Rattle.std.proofs.Common.{◌≡◌, ℕ, Bool, true, None, Some, refl, ap, 
 use Rattle.std.proofs.lemmas.Bool.{eq-eqb}
 use Rattle.std.specs.Prelude.{pos}
 use Rattle.asn1_leaves.specs.CharSets.{is_general_string}
-use Rattle.asn1_trees.specs.Tree.{IsWhole, der}
+use Rattle.asn1_der.specs.Tree.{IsWhole, der}
 use Rattle.picky_asn1.specs.Bytes.{Bytes}
 use Rattle.picky_asn1.specs.Numbers.{is_number}
 use Rattle.krb_crypto.specs.Sealing.{IsSealedBy}
@@ -14,12 +14,12 @@ use Rattle.krb_types.specs.declared.data_types.enc_ticket_part.EncTicketPartInne
 use Rattle.krb_types.specs.declared.data_types.encrypted_data.EncryptedData.{EncryptedData}
 use Rattle.krb_messages.specs.Messages.{IsApReq, ap_req_tree, authenticator_tree, enc_ticket_part_tree}
 use Rattle.krb_accounts.specs.Account.{AccountRecord}
-use Rattle.krb_sealing.specs.Sealing.{Seals, encrypted_by}
+use Rattle.krb_encrypted_data.specs.Sealing.{Seals, encrypted_by}
 use Rattle.krb_tickets.specs.Parts.{ticket_of, ticket_part}
 use Rattle.krb_tickets.specs.Sealed.{IsSealedData, ticket_part_bytes}
 use Rattle.krb_tickets.specs.declared.grant.Grant.{Grant}
-use Rattle.krb_ap.specs.Entry.{EntryRecord}
-use Rattle.krb_ap.specs.Presents.{Choice, Presents, SealsTo, request_of}
+use Rattle.krb_ap_requests.specs.Entry.{EntryRecord}
+use Rattle.krb_ap_requests.specs.Presents.{Choice, Presents, SealsTo, request_of}
 use Rattle.krb_client.specs.Authenticators.{IsApRequest, ap_request_of, options_of}
 use Rattle.krb_client.specs.Client.{CredentialRecord}
 use Rattle.krb_client.specs.Messages.{ap_request_bytes, authenticator_bytes}

@@ -2,7 +2,7 @@
 use Rattle.std.proofs.Common.{◌≡◌, ◌/◌, ◌%◌, ◌==◌, true, not, Option, None, Some, Ok, Err, refl, sym, ap, subst, arith}
 use Rattle.std.proofs.lemmas.Bool.{and_from, eq-eqb}
 use Rattle.std.specs.Prelude.{pos}
-use Rattle.asn1_trees.specs.Tree.{IsWhole, der, ders, more, none}
+use Rattle.asn1_der.specs.Tree.{IsWhole, der, ders, more, none}
 use Rattle.picky_asn1.specs.Bytes.{Bytes}
 use Rattle.picky_asn1.specs.GeneralizedTime.{seconds_of}
 use Rattle.picky_asn1.specs.Numbers.{is_number}
@@ -14,10 +14,10 @@ use Rattle.krb_types.specs.declared.data_types.enc_ap_rep_part.EncApRepPartInner
 use Rattle.krb_types.specs.declared.data_types.encrypted_data.EncryptedData.{EncryptedData}
 use Rattle.krb_messages.specs.Messages.{IsApRep, ap_rep_tree, enc_ap_rep_part_tree, sole_ap_rep}
 use Rattle.krb_messages.specs.Trees.{ap_rep_inner_tree}
-use Rattle.krb_sealing.specs.Sealing.{Seals, encrypted_by, sealed_opens}
+use Rattle.krb_encrypted_data.specs.Sealing.{Seals, encrypted_by, sealed_opens}
 use Rattle.decision_tables.specs.Tables.{Table, ask, done}
 use Rattle.krb_types.specs.RandomBytes.{Random, ap_reply_confounder}
-use Rattle.krb_ap.specs.ApReply.{IsReply, IsReplyUnder, ap_rep_of, ap_rep_part}
+use Rattle.krb_service.specs.ApReply.{IsReply, IsReplyUnder, ap_rep_of, ap_rep_part}
 use Rattle.krb_asked.specs.Asked.{ApAskedRecord}
 use Rattle.krb_client.specs.ApReply.{IsApPart, Shown, TakesApReply, sole_ap_part, takes_answer, takes_ap_reply, takes_time, tells}
 use Rattle.krb_client.specs.Messages.{sole_error_code, IsErrorCode}

@@ -8,7 +8,7 @@ use Rattle.krb_moments.specs.Units.{Micros}
 use Rattle.decision_tables.specs.Some.{HasSome}
 use Rattle.krb_tickets.specs.Times.{asked_end, last_second}
 use Rattle.krb_pkinit.specs.Rows.{PkinitRows}
-use Rattle.krb_as.specs.Calls.{AreKeyed}
+use Rattle.krb_kdc_requests.specs.Calls.{AreKeyed}
 use Rattle.krb_replies.specs.Replies.{Replies}
 use Rattle.krb_replies.proofs.HasReply.{has_reply}
 use Rattle.krb_logins.specs.Laws.{AreBytes}

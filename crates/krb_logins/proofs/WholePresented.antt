@@ -2,13 +2,13 @@
 use Rattle.std.proofs.Common.{◌≡◌, ℕ, Bool, true, Option, None, Some}
 use Rattle.asn1_leaves.specs.CharSets.{is_general_string}
 use Rattle.asn1_leaves.specs.declared.date.GeneralizedTime.{GeneralizedTime}
-use Rattle.asn1_trees.specs.Tree.{IsWhole, leaf, wrapped}
-use Rattle.asn1_trees.proofs.Spelling.{whole-wrapped}
+use Rattle.asn1_der.specs.Tree.{IsWhole, leaf, wrapped}
+use Rattle.asn1_der.proofs.Spelling.{whole-wrapped}
 use Rattle.picky_asn1.specs.Bytes.{Bytes}
 use Rattle.krb_crypto.specs.declared.suite.CipherSuite.{CipherSuite}
 use Rattle.krb_types.specs.declared.data_types.checksum.Checksum.{Checksum}
 use Rattle.krb_messages.specs.Messages.{ap_req_tree, authenticator_tree, enc_ticket_part_tree}
-use Rattle.krb_sealing.specs.Sealing.{encrypted_by}
+use Rattle.krb_encrypted_data.specs.Sealing.{encrypted_by}
 use Rattle.krb_tickets.specs.Parts.{ticket_of, ticket_part}
 use Rattle.krb_tickets.specs.declared.grant.Grant.{Grant}
 use Rattle.krb_client.specs.Authenticators.{ap_request_of, authenticator_with, told_of}

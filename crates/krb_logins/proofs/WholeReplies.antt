@@ -1,7 +1,7 @@
 -- The replies of realms can be written: nothing is missing in their trees, nor in those of their parts.
 use Rattle.std.proofs.Common.{◌≡◌, true, Option, None, Some, refl}
-use Rattle.asn1_trees.specs.Tree.{IsWhole, Writes, leaf}
-use Rattle.asn1_trees.proofs.Spelling.{whole-wrapped}
+use Rattle.asn1_der.specs.Tree.{IsWhole, Writes, leaf}
+use Rattle.asn1_der.proofs.Spelling.{whole-wrapped}
 use Rattle.asn1_leaves.specs.CharSets.{is_general_string}
 use Rattle.picky_asn1.specs.Bytes.{Bytes}
 use Rattle.krb_types.specs.Names.{components}

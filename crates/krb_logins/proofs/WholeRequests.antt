@@ -1,8 +1,8 @@
 -- The requests of clients can be written: nothing is missing in their trees.
 use Rattle.std.proofs.Common.{◌≡◌, ℕ, true, List, [], ◌∷◌, None, Some, refl, sym, subst}
 use Rattle.std.proofs.lemmas.Bool.{and_parts}
-use Rattle.asn1_trees.specs.Tree.{AreWhole, IsWhole, Writes, leaf, trees_of}
-use Rattle.asn1_trees.proofs.Spelling.{whole-wrapped}
+use Rattle.asn1_der.specs.Tree.{AreWhole, IsWhole, Writes, leaf, trees_of}
+use Rattle.asn1_der.proofs.Spelling.{whole-wrapped}
 use Rattle.asn1_leaves.specs.CharSets.{is_general_string}
 use Rattle.asn1_leaves.specs.declared.date.GeneralizedTime.{GeneralizedTime}
 use Rattle.picky_asn1.specs.Bytes.{Bytes}

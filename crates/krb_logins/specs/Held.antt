@@ -8,9 +8,9 @@ use Rattle.krb_accounts.specs.Account.{AccountRecord}
 use Rattle.krb_tickets.specs.declared.grant.Grant.{Grant}
 use Rattle.krb_tickets.specs.Parts.{session_key_of, ticket_of, ticket_part}
 use Rattle.krb_tickets.specs.Sealed.{IsSealedData, ticket_part_bytes}
-use Rattle.krb_as.specs.Requests.{IsSpan}
+use Rattle.krb_kdc_requests.specs.Requests.{IsSpan}
 use Rattle.krb_as.specs.TicketGranting.{krbtgt_of}
-use Rattle.krb_as.specs.declared.span.Span.{Span}
+use Rattle.krb_kdc_requests.specs.declared.span.Span.{Span}
 use Rattle.krb_client.specs.Client.{ClientRecord, CredentialRecord}
 use Rattle.krb_client.specs.Held.{principal_name}
 use Rattle.krb_client.specs.Requests.{nonce_of}

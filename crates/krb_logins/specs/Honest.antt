@@ -6,7 +6,7 @@ use Rattle.krb_moments.specs.Units.{Micros}
 use Rattle.krb_types.specs.Names.{components}
 use Rattle.krb_accounts.specs.Account.{AccountRecord}
 use Rattle.krb_accounts.specs.Names.{AreComponents, IsRealmName}
-use Rattle.krb_replay_cache.specs.Pair.{PairRecord, is_among}
+use Rattle.krb_service.specs.Pair.{PairRecord, is_among}
 use Rattle.krb_tickets.specs.Times.{asked_end}
 use Rattle.krb_as.specs.TicketGranting.{krbtgt_of}
 use Rattle.krb_client.specs.Client.{ClientRecord}
@@ -15,7 +15,7 @@ use Rattle.krb_logins.specs.LoginRun.{Login}
 use Rattle.krb_logins.specs.Parties.{LoginRecord, RealmRecord, RememberedRecord}
 use Rattle.krb_logins.specs.declared.refusal.LoginRefusal.{LoginRefusal}
 use Rattle.krb_logins.specs.declared.refusal.LoginRefusal.TheVariants.{Admitted, Answered, Asked, Taken}
-use Rattle.krb_ap.specs.declared.refusal.AdmitRefusal.TheVariants as admit_refusal
+use Rattle.krb_ap_requests.specs.declared.refusal.AdmitRefusal.TheVariants as admit_refusal
 use Rattle.krb_client.specs.declared.refusal.AskRefusal.TheVariants as ask_refusal
 use Rattle.krb_client.specs.declared.refusal.TakeRefusal.TheVariants as take_refusal
 use Rattle.krb_frames.specs.declared.fault.AnswerRefusal.TheVariants as answer_refusal

@@ -2,19 +2,19 @@
 -- opens to one value, and that keys have their length.
 use Rattle.std.specs.Prelude.{◌≡◌, ◌<◌, ◌^◌, false, true, ◌∷◌, length, Option, Some, Result, Ok}
 use Rattle.picky_asn1.specs.Bytes.{Bytes}
-use Rattle.krb_blocks.specs.Bytes.{IsBytes}
+use Rattle.aes_cts.specs.Bytes.{IsBytes}
 use Rattle.krb_types.specs.Names.{components}
-use Rattle.krb_sealing.specs.Sealing.{encryption_key}
+use Rattle.krb_encrypted_data.specs.Sealing.{encryption_key}
 use Rattle.krb_pkinit.specs.Rows.{PkinitRows}
 use Rattle.krb_tickets.specs.Parts.{session_key_of}
 use Rattle.krb_tickets.specs.ReplyKeys.{ReplyKeyRecord, tgs_reply_key}
-use Rattle.krb_grants.specs.Granted.{IsTicketReply}
+use Rattle.krb_tickets.specs.Granted.{IsTicketReply}
 use Rattle.decision_tables.specs.Some.{HasSome}
-use Rattle.krb_as.specs.Calls.{AreKeyed}
+use Rattle.krb_kdc_requests.specs.Calls.{AreKeyed}
 use Rattle.krb_as.specs.TicketGranting.{krbtgt_of}
-use Rattle.krb_as.specs.declared.span.Span.{Span}
+use Rattle.krb_kdc_requests.specs.declared.span.Span.{Span}
 use Rattle.krb_replies.specs.Replies.{Replies}
-use Rattle.krb_ap.specs.Admission.{AdmissionRecord}
+use Rattle.krb_ap_requests.specs.Admission.{AdmissionRecord}
 use Rattle.krb_client.specs.ApReply.{TakesApReply}
 use Rattle.krb_client.specs.ApRequest.{AsksAp, ap_asked}
 use Rattle.krb_client.specs.AsReply.{TakesAsReply}

@@ -6,8 +6,8 @@ use Rattle.krb_moments.specs.Units.{Micros}
 use Rattle.krb_types.specs.RandomBytes.{Random}
 use Rattle.krb_accounts.specs.Accounts.{Look}
 use Rattle.krb_accounts.specs.Settings.{SettingsRecord}
-use Rattle.krb_replay_cache.specs.Pair.{PairRecord}
-use Rattle.krb_as.specs.Call.{CallRecord}
+use Rattle.krb_service.specs.Pair.{PairRecord}
+use Rattle.krb_kdc_requests.specs.Call.{CallRecord}
 
 -- a realm: its name, its settings, and its accounts as they are looked up
 pub record RealmRecord : Type 0 where

@@ -10,7 +10,7 @@ use Rattle.krb_accounts.specs.Names.{are_components}
 use Rattle.krb_frames.specs.declared.fault.AnswerRefusal.{AnswerRefusal}
 use Rattle.krb_frames.specs.declared.fault.AnswerRefusal.TheVariants as answer_refusal
 use Rattle.krb_pkinit.specs.Rows.{PkinitRows}
-use Rattle.krb_as.specs.Call.{CallRecord}
+use Rattle.krb_kdc_requests.specs.Call.{CallRecord}
 use Rattle.krb_replies.specs.Replies.{Replies}
 use Rattle.krb_asked.specs.Asked.{ApAskedRecord, AsAskedRecord, TgsAskedRecord}
 use Rattle.krb_client.specs.ApRequest.{AsksAp, ap_asked}

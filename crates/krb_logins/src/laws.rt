@@ -3,8 +3,8 @@
 ghost use Rattle.std.specs.Prelude.{◌≡◌, ◌⊎◌, ℕ, Bool, List, Result};
 ghost use Rattle.krb_crypto.specs.Suites.{cipher_confounder_size};
 ghost use Rattle.krb_types.specs.RandomBytes.{authenticator_confounder};
-ghost use Rattle.krb_ap.specs.Presents.{Presents};
-ghost use Rattle.krb_as.specs.Calls.{AreKeyed};
+ghost use Rattle.krb_ap_requests.specs.Presents.{Presents};
+ghost use Rattle.krb_kdc_requests.specs.Calls.{AreKeyed};
 ghost use Rattle.krb_client.specs.Client.{ClientRecord, CredentialRecord};
 ghost use Rattle.krb_client.specs.Stamps.{by_key};
 ghost use Rattle.krb_service.specs.Service.{ServiceRecord};
@@ -72,7 +72,7 @@ pub fn one_login<M: Means, P: Pkinit>(means: &M, pkinit: &P)
 {}
 
 /// What `Client::ap_request` writes presents what the client chose, and nothing else presents it: the string of that choice (RFC 4120,
-/// section 3.2.2). Each choice whose etypes and confounders fit has one, by `krb_ap`'s `has_presentation` and `one_presentation`.
+/// section 3.2.2). Each choice whose etypes and confounders fit has one, by `has_presentation` and `one_presentation` of `krb_service`.
 pub fn ap_request_presents_choice<M: Means>(means: &M)
     ensures presents { (client : ClientRecord) (credential : CredentialRecord) (mutual_required with_subkey : Bool) (moment : ℕ) (random bytes key : List ℕ)
         (by : AsksService client (M.means means.now) credential mutual_required with_subkey moment random bytes key)

@@ -2,7 +2,7 @@
 ghost use Rattle.std.specs.Prelude.{◌≡◌};
 ghost use Rattle.krb_logins.specs.Honest.{login_number};
 
-use krb_ap::AdmitRefusal;
+use krb_ap_requests::AdmitRefusal;
 use krb_client::{AskRefusal, TakeRefusal};
 use krb_frames::AnswerRefusal;
 use thiserror::Error;

@@ -2,8 +2,8 @@
 -- 5.9). What is sealed in messages stands at the end.
 use Rattle.std.proofs.Common.{sym, ◌∙◌}
 use Rattle.picky_asn1.specs.Bytes.{Bytes}
-use Rattle.asn1_trees.specs.Tree.{Tree, Writes, wrapped}
-use Rattle.asn1_trees.proofs.Spelling.{IsInjective, wrapped-injective}
+use Rattle.asn1_der.specs.Tree.{Tree, Writes, wrapped}
+use Rattle.asn1_der.proofs.Spelling.{IsInjective, wrapped-injective}
 use Rattle.decision_tables.specs.One.{IsSole}
 use Rattle.krb_types.specs.declared.data_types.authenticator.AuthenticatorInner.{AuthenticatorInner}
 use Rattle.krb_types.specs.declared.data_types.enc_ap_rep_part.EncApRepPartInner.{EncApRepPartInner}

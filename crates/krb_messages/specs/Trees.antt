@@ -1,8 +1,8 @@
 -- The trees of messages inside their application tags (RFC 4120, sections 5.4 to 5.9), each of one value.
-use Rattle.asn1_trees.specs.Tree.{Tree}
-use Rattle.asn1_trees.specs.Tagged.{tagged_tree}
-use Rattle.asn1_trees.proofs.Spelling.{IsInjective}
-use Rattle.asn1_trees.proofs.Tagged.{tagged-injective}
+use Rattle.asn1_der.specs.Tree.{Tree}
+use Rattle.asn1_der.specs.Tagged.{tagged_tree}
+use Rattle.asn1_der.proofs.Spelling.{IsInjective}
+use Rattle.asn1_der.proofs.Tagged.{tagged-injective}
 use Rattle.krb_messages.specs.declared.messages.ap_rep.ApRepInner.{ApRepInner}
 use Rattle.krb_messages.specs.declared.messages.ap_req.ApReqInner.{ApReqInner}
 use Rattle.krb_messages.specs.declared.messages.enc_kdc_rep_part.EncKdcRepPart.{EncKdcRepPart}

@@ -1,13 +1,13 @@
 -- The encrypted timestamp in the encoding of encrypted data is the one in the encrypted data.
 use Rattle.std.proofs.Common.{ℕ, List, Option, None, Some, Result, Ok, Err, sym, subst, ◌∙◌}
 use Rattle.std.specs.Prelude.{IfOk}
-use Rattle.asn1_trees.specs.Tree.{Writes}
+use Rattle.asn1_der.specs.Tree.{Writes}
 use Rattle.krb_accounts.specs.Account.{AccountRecord}
 use Rattle.krb_types.specs.declared.data_types.encrypted_data.EncryptedData.{EncryptedData}
 use Rattle.krb_types.specs.declared.data_types.pa_enc_timestamp.PaEncTsEnc.{PaEncTsEnc}
 use Rattle.krb_types.specs.Trees as held
-use Rattle.krb_opening.specs.Found.{IsFound}
-use Rattle.krb_opening.specs.Sealed.{IsSealedIn}
+use Rattle.krb_encrypted_data.specs.Found.{IsFound}
+use Rattle.krb_encrypted_data.specs.Sealed.{IsSealedIn}
 use Rattle.krb_preauth.specs.Stamps.{IsStamp, stamp_tree}
 use Rattle.krb_types.specs.Trees.{encrypted_data_tree}
 

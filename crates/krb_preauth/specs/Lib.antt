@@ -1,3 +1,4 @@
 pub mod Entries
 pub mod Stamps
 pub mod TicketGranting
+pub mod MethodData

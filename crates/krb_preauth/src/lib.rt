@@ -1,11 +1,12 @@
-//! What both exchanges of a KDC, and their clients, read and name alike: the padata of a request, the time that a client seals
-//! under its own key (RFC 4120, section 5.2.7), and the ticket-granting service (section 7.3).
+//! Preauthentication data (RFC 4120, section 5.2.7): padata of a request, encrypted timestamps, METHOD-DATA.
 #![tactic(auto)]
 
 mod entries;
+mod methods;
 mod names;
 mod stamp;
 
 pub use entries::first_of;
+pub use methods::{method_data, pa_data};
 pub use names::krbtgt_of;
 pub use stamp::{moment_of, open_stamp};

@@ -1,11 +1,11 @@
 //! The time that a client seals under its own key.
 ghost use Rattle.std.specs.Prelude.{◌≡◌, IfOk};
-ghost use Rattle.krb_opening.specs.Found.{IsFound};
+ghost use Rattle.krb_encrypted_data.specs.Found.{IsFound};
 ghost use Rattle.krb_preauth.specs.Stamps.{IsStamp, moment_of};
 
 use krb_accounts::Account;
+use krb_encrypted_data::{open_sealed, read_whole};
 use krb_moments::{Moment, moment_at};
-use krb_opening::{open_sealed, read_whole};
 use krb_types::constants::key_usages;
 use krb_types::data_types::{EncryptedData, PaEncTsEnc};
 use std::alloc::{AllocError, Global};

@@ -3,8 +3,8 @@ use Rattle.std.proofs.Common.{◌≡◌, ℕ, List, Some, inl, inr, subst}
 use Rattle.key_functions.specs.KeyFunctions.{KeysRecord}
 use Rattle.krb_messages.specs.declared.messages.kdc_req.KdcReq.{KdcReq}
 use Rattle.krb_messages.specs.Messages.{IsAsReq, IsTgsReq}
-use Rattle.krb_as.specs.Call.{CallRecord}
-use Rattle.krb_as.specs.Requests.{account_of, client_of, service_of}
+use Rattle.krb_kdc_requests.specs.Call.{CallRecord}
+use Rattle.krb_kdc_requests.specs.Requests.{account_of, client_of, service_of}
 use Rattle.krb_pkinit.specs.Rows.{PkinitRows}
 use Rattle.krb_replies.specs.Replies.{Replies, as_reply, tgs_reply}
 use Rattle.pkinit_requests.specs.PkinitRows.{pkinit_rows}

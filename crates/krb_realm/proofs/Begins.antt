@@ -3,10 +3,10 @@ use Rattle.std.proofs.Common.{◌≡◌, ℕ, true, false, List, None, ap, refl,
 use Rattle.std.proofs.lemmas.Bool.{false≢true}
 use Rattle.std.specs.Option.{option_map_or}
 use Rattle.std.specs.Prelude.{Bool, slice_get}
-use Rattle.asn1_trees.specs.Length.{element}
+use Rattle.asn1_der.specs.Length.{element}
 use Rattle.krb_messages.specs.declared.messages.kdc_req.KdcReq.{KdcReq}
 use Rattle.krb_messages.specs.Messages.{IsAsReq, IsTgsReq}
-use Rattle.krb_as.specs.Call.{CallRecord}
+use Rattle.krb_kdc_requests.specs.Call.{CallRecord}
 use Rattle.krb_pkinit.specs.Rows.{PkinitRows}
 use Rattle.krb_replies.specs.Replies.{Replies}
 use Rattle.krb_realm.specs.Answers.{is_request_octet}

@@ -2,7 +2,7 @@
 use Rattle.std.proofs.Common.{◌≡◌, Result, Ok, Err, IsErrAnd, inl, inr, subst, ap, refl, ◌∙◌}
 use Rattle.picky_asn1.specs.Bytes.{Bytes}
 use Rattle.decision_tables.specs.Tables.{Table}
-use Rattle.krb_as.specs.Call.{CallRecord}
+use Rattle.krb_kdc_requests.specs.Call.{CallRecord}
 use Rattle.krb_as.specs.TicketGranting.{krbtgt_of}
 use Rattle.krb_pkinit.specs.Rows.{PkinitRows}
 use Rattle.krb_asked.specs.Asked.{AsAskedRecord, TgsAskedRecord}

@@ -4,13 +4,13 @@ use Rattle.std.proofs.lemmas.Bool.{eqb-true}
 use Rattle.std.specs.FinMap.{empty, get, get-empty, get-insert, get-remove, insert, remove}
 use Rattle.std.specs.Ordering.{eq_by_cmp}
 use Rattle.picky_asn1.specs.Bytes.{Bytes}
-use Rattle.krb_blocks.specs.Bytes.{IsBytes}
+use Rattle.aes_cts.specs.Bytes.{IsBytes}
 use Rattle.krb_crypto.specs.declared.suite.CipherSuite.{CipherSuite}
 use Rattle.krb_crypto.specs.Suites.{cipher_key_size}
 use Rattle.krb_accounts.specs.Account.{AccountRecord}
 use Rattle.krb_accounts.specs.Accounts.{AccountMap, changing, look_in, name_cmp, name_total, rekeyed}
 use Rattle.krb_accounts.specs.declared.refusal.RealmRefusal.TheVariants.{BadKeyLength, NumberSpent}
-use Rattle.krb_as.specs.Calls.{AreKeyed, IsKeyed}
+use Rattle.krb_kdc_requests.specs.Calls.{AreKeyed, IsKeyed}
 use Rattle.krb_as.specs.TicketGranting.{krbtgt_of}
 use Rattle.krb_realm.specs.Realm.{IsRealm, is_krbtgt}
 use Rattle.krb_realm.proofs.Granting.{inserted, inserted_own, removed}

@@ -3,7 +3,7 @@ use Rattle.std.proofs.Common.{◌≡◌, Result, subst}
 use Rattle.krb_client.specs.Client.{ClientRecord}
 use Rattle.krb_client.specs.Means.{MeansRecord}
 use Rattle.krb_pkinit.specs.Rows.{PkinitRows}
-use Rattle.krb_replay_cache.specs.Seen.{SeenRecord}
+use Rattle.krb_service.specs.Seen.{SeenRecord}
 use Rattle.krb_service.specs.Service.{ServiceRecord}
 use Rattle.krb_logins.specs.Authenticated.{IsAuthenticated}
 use Rattle.krb_logins.specs.Honest.{IsHonestLogin, IsOneKey}

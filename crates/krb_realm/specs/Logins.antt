@@ -3,16 +3,16 @@ use Rattle.std.specs.Prelude.{◌≡◌, ℕ, Vec, List, Result, Ok, Err}
 use Rattle.std.specs.Global.{Global}
 use Rattle.picky_asn1.specs.Bytes.{Bytes}
 use Rattle.krb_types.specs.declared.data_types.encryption_key.EncryptionKey.{EncryptionKey}
-use Rattle.krb_sealing.specs.Sealing.{encryption_key}
-use Rattle.krb_replay_cache.specs.Pair.{PairRecord}
-use Rattle.krb_replay_cache.specs.Seen.{SeenRecord, IsWindow}
-use Rattle.krb_as.specs.Call.{CallRecord}
+use Rattle.krb_encrypted_data.specs.Sealing.{encryption_key}
+use Rattle.krb_service.specs.Pair.{PairRecord}
+use Rattle.krb_service.specs.Seen.{SeenRecord, IsWindow}
+use Rattle.krb_kdc_requests.specs.Call.{CallRecord}
 use Rattle.krb_as.specs.TicketGranting.{krbtgt_of}
 use Rattle.krb_pkinit.specs.Rows.{PkinitRows}
 use Rattle.key_functions.specs.KeyFunctions.{KeysRecord}
 use Rattle.pkinit_requests.specs.PkinitRows.{pkinit_rows}
-use Rattle.krb_ap.specs.Admission.{AdmissionRecord}
-use Rattle.krb_ap.specs.declared.refusal.AdmitRefusal.{AdmitRefusal}
+use Rattle.krb_ap_requests.specs.Admission.{AdmissionRecord}
+use Rattle.krb_ap_requests.specs.declared.refusal.AdmitRefusal.{AdmitRefusal}
 use Rattle.krb_asked.specs.Asked.{ApAskedRecord, AsAskedRecord, TgsAskedRecord}
 use Rattle.krb_client.specs.ApReply.{takes_ap_reply}
 use Rattle.krb_client.specs.AsReply.{takes_as_reply}

@@ -12,8 +12,8 @@ use Rattle.krb_accounts.specs.Accounts.{AccountMap, look_in}
 use Rattle.krb_accounts.specs.Accounts as map
 use Rattle.krb_accounts.specs.Names.{is_realm_name, are_components}
 use Rattle.krb_accounts.specs.Settings.{SettingsRecord}
-use Rattle.krb_as.specs.Call.{CallRecord}
-use Rattle.krb_as.specs.Calls.{AreKeyed}
+use Rattle.krb_kdc_requests.specs.Call.{CallRecord}
+use Rattle.krb_kdc_requests.specs.Calls.{AreKeyed}
 use Rattle.krb_as.specs.TicketGranting.{krbtgt_of}
 use Rattle.krb_logins.specs.Parties.{RealmRecord}
 use Rattle.pkinit_requests.specs.Trust.{TrustRecord}

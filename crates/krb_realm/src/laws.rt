@@ -5,12 +5,12 @@ ghost use Rattle.asn1_elements.specs.Parts.{IsPart};
 ghost use Rattle.pkinit_requests.specs.SignedContents.{IsSignedContent};
 ghost use Rattle.pkinit_requests.specs.SignedParts.{SignedParts};
 ghost use Rattle.pkinit_requests.specs.Parts.{attributes_place, certificate_place};
-ghost use Rattle.krb_blocks.specs.Bytes.{IsBytes};
+ghost use Rattle.aes_cts.specs.Bytes.{IsBytes};
 ghost use Rattle.decision_tables.specs.Some.{HasSome};
 ghost use Rattle.key_functions.specs.KeyFunctions.{KeysRecord};
-ghost use Rattle.krb_as.specs.Call.{CallRecord};
-ghost use Rattle.krb_as.specs.Calls.{IsCall};
-ghost use Rattle.krb_as.specs.Requests.{entries_of};
+ghost use Rattle.krb_kdc_requests.specs.Call.{CallRecord};
+ghost use Rattle.krb_kdc_requests.specs.Calls.{IsCall};
+ghost use Rattle.krb_kdc_requests.specs.Requests.{entries_of};
 ghost use Rattle.krb_logins.specs.Honest.{WantsMemory};
 ghost use Rattle.krb_logins.specs.LoginRun.{Login, LoginRun};
 ghost use Rattle.krb_logins.specs.Parties.{LoginRecord, RealmRecord, RememberedRecord};
@@ -31,13 +31,13 @@ ghost use Rattle.pkinit_requests.specs.Certificates.{IsCertificate, ReadRecord};
 
 use crate::{Client, Settings};
 use key_functions::KeyFunctions;
-pub use krb_ap::laws::{
-    has_judgement, has_presentation, has_reply_to, one_presentation, received_as_chosen,
-};
 pub use krb_as::laws::{as_body_is_part, padata_is_part};
 pub use krb_crypto::laws::has_sealed;
 pub use krb_logins::laws::ap_request_presents_choice;
 pub use krb_replies::body_is_part;
+pub use krb_service::ap_laws::{
+    has_judgement, has_presentation, has_reply_to, one_presentation, received_as_chosen,
+};
 pub use krb_service::laws::{
     admissible_if_admitted, admitted_as_presented, admitted_if_presented, has_outcome,
     once_for_ever, one_outcome, refused_by_moment_alone,

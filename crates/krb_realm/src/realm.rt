@@ -2,12 +2,12 @@
 ghost use Rattle.std.specs.Prelude.{◌≡◌, ◌≤◌, ◌<◌, ◌^◌, false, ℕ, List, Ok, Err, Some, None, OnOk, OnErr, IfOk, IfErr, MatchResult, length, slice_get, ◌⊎◌};
 ghost use Rattle.std.specs.Option.{option_map_or};
 ghost use Rattle.std.specs.FinMap as finite;
-ghost use Rattle.krb_blocks.specs.Bytes.{IsBytes};
+ghost use Rattle.aes_cts.specs.Bytes.{IsBytes};
 ghost use Rattle.krb_accounts.specs.Names.{parts};
 ghost use Rattle.krb_accounts.specs.Refusal.{IsMemoryAside};
 ghost use Rattle.decision_tables.specs.Some.{HasSome};
-ghost use Rattle.krb_as.specs.Call.{call_of};
-ghost use Rattle.krb_as.specs.Calls.{AreKeyed, IsKeyed};
+ghost use Rattle.krb_kdc_requests.specs.Call.{call_of};
+ghost use Rattle.krb_kdc_requests.specs.Calls.{AreKeyed, IsKeyed};
 ghost use Rattle.krb_replies.specs.Replies.{Replies};
 ghost use Rattle.pkinit_requests.specs.PkinitRows.{pkinit_rows};
 ghost use Rattle.pkinit_requests.specs.Trust.{trust_of};

@@ -7,8 +7,8 @@ use Rattle.asn1_leaves.specs.declared.date.GeneralizedTime.{GeneralizedTime}
 use Rattle.krb_types.specs.declared.data_types.principal_name.PrincipalName.{PrincipalName}
 use Rattle.krb_messages.specs.declared.messages.kdc_req.KdcReq.{KdcReq}
 use Rattle.decision_tables.specs.Tables.{Table}
-use Rattle.krb_as.specs.Call.{CallRecord}
-use Rattle.krb_as.specs.Requests.{service_of}
+use Rattle.krb_kdc_requests.specs.Call.{CallRecord}
+use Rattle.krb_kdc_requests.specs.Requests.{service_of}
 use Rattle.krb_replies.specs.Errors.{error_bytes}
 use Rattle.krb_moments.specs.SecondOf.{IsSecondOf}
 use Rattle.krb_replies.specs.Judged.{IsAnswerWith, IsJudgement}

@@ -1,8 +1,8 @@
 -- A call to a realm has a reply: each part of its table has an outcome.
 use Rattle.std.proofs.Common.{◌≡◌, ◌<◌, ℕ, ◌/◌, ◌%◌, ◌^◌, List, length, Option, None, Some, Result, Ok, Err, subst, arith}
-use Rattle.asn1_trees.specs.Tree.{der, wrapped}
+use Rattle.asn1_der.specs.Tree.{der, wrapped}
 use Rattle.asn1_leaves.specs.declared.date.GeneralizedTime.{GeneralizedTime}
-use Rattle.krb_blocks.specs.Bytes.{IsBytes}
+use Rattle.aes_cts.specs.Bytes.{IsBytes}
 use Rattle.krb_moments.specs.Moment.{IsMoment}
 use Rattle.krb_accounts.specs.Account.{AccountRecord}
 use Rattle.krb_accounts.specs.Accounts.{Look}
@@ -16,12 +16,12 @@ use Rattle.decision_tables.specs.Some.{HasSome}
 use Rattle.decision_tables.specs.Tables.{Table, ask, done}
 use Rattle.decision_tables.proofs.Outcomes.{HasOutcome, has_asked, has_done, has_made, some_of}
 use Rattle.krb_as.specs.AsTable.{as_table}
-use Rattle.krb_as.specs.Call.{CallRecord}
-use Rattle.krb_as.specs.Calls.{IsCall, IsKeyed}
-use Rattle.krb_as.specs.Requests.{account_of, client_of, service_of}
+use Rattle.krb_kdc_requests.specs.Call.{CallRecord}
+use Rattle.krb_kdc_requests.specs.Calls.{IsCall, IsKeyed}
+use Rattle.krb_kdc_requests.specs.Requests.{account_of, client_of, service_of}
 use Rattle.krb_as.proofs.HasOutcome.{has_as_outcome}
-use Rattle.krb_as.proofs.Seconds.{has_time}
-use Rattle.krb_as.proofs.Short.{Fits, IsShort, in_wrapped}
+use Rattle.krb_kdc_requests.proofs.Seconds.{has_time}
+use Rattle.krb_kdc_requests.proofs.Short.{Fits, IsShort, in_wrapped}
 use Rattle.krb_tgs.specs.TgsTable.{tgs_table}
 use Rattle.krb_tgs.proofs.HasOutcome.{has_tgs_outcome}
 use Rattle.krb_replies.specs.Errors.{error_bytes}

@@ -5,8 +5,8 @@ use Rattle.krb_types.specs.declared.data_types.principal_name.PrincipalName.{Pri
 use Rattle.krb_accounts.specs.Accounts.{Look}
 use Rattle.krb_pkinit.specs.Rows.{PkinitRows}
 use Rattle.krb_types.specs.Names.{components}
-use Rattle.krb_as.specs.Call.{CallRecord}
-use Rattle.krb_as.specs.Requests.{account_of, client_of, service_of}
+use Rattle.krb_kdc_requests.specs.Call.{CallRecord}
+use Rattle.krb_kdc_requests.specs.Requests.{account_of, client_of, service_of}
 use Rattle.krb_tgs.specs.ByTicket.{IsInvolvedFurther}
 use Rattle.krb_tgs.proofs.Involved.{same_further}
 use Rattle.krb_replies.specs.Involved.{IsNamed, IsOfInvolvedAlone}

@@ -2,7 +2,7 @@
 use Rattle.std.specs.Prelude.{Option, None, pos}
 use Rattle.std.specs.Option.{option_map}
 use Rattle.krb_moments.specs.Units.{Micros}
-use Rattle.asn1_trees.specs.Tree.{der}
+use Rattle.asn1_der.specs.Tree.{der}
 use Rattle.asn1_leaves.specs.declared.date.GeneralizedTime.{GeneralizedTime}
 use Rattle.picky_asn1.specs.Bytes.{Bytes}
 use Rattle.krb_messages.specs.declared.messages.krb_error.KrbErrorInner.{KrbErrorInner}

@@ -7,8 +7,8 @@ use Rattle.krb_accounts.specs.Accounts.{Look}
 use Rattle.krb_pkinit.specs.Rows.{PkinitRows}
 use Rattle.krb_types.specs.Names.{components}
 use Rattle.krb_messages.specs.Messages.{IsAsReq, IsTgsReq}
-use Rattle.krb_as.specs.Call.{CallRecord}
-use Rattle.krb_as.specs.Requests.{client_of, service_of}
+use Rattle.krb_kdc_requests.specs.Call.{CallRecord}
+use Rattle.krb_kdc_requests.specs.Requests.{client_of, service_of}
 use Rattle.krb_tgs.specs.ByTicket.{IsInvolvedFurther}
 use Rattle.krb_replies.specs.Replies.{Replies}
 

@@ -12,8 +12,8 @@ use Rattle.decision_tables.specs.Tables.{Table, done, ask, make}
 use Rattle.krb_as.specs.MethodData.{method_data_bytes}
 use Rattle.krb_messages.specs.Messages.{IsAsReq, IsTgsReq, sole_as_req, sole_tgs_req}
 use Rattle.krb_as.specs.AsTable.{as_table}
-use Rattle.krb_as.specs.Call.{CallRecord}
-use Rattle.krb_as.specs.Requests.{account_of, client_of, service_of}
+use Rattle.krb_kdc_requests.specs.Call.{CallRecord}
+use Rattle.krb_kdc_requests.specs.Requests.{account_of, client_of, service_of}
 use Rattle.krb_tgs.specs.TgsTable.{tgs_table}
 use Rattle.krb_replies.specs.Errors.{ticket_service, error_bytes}
 use Rattle.krb_moments.specs.SecondOf.{IsSecondOf, sole_second}

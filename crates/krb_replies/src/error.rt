@@ -4,9 +4,7 @@ ghost use Rattle.std.specs.Option.{option_map};
 ghost use Rattle.krb_replies.specs.Errors.{error_bytes};
 
 use crate::told::Told;
-use asn1_lent::Lent;
 use devices::Sink;
-use krb_encoding::tagged_encoding;
 use krb_types::constants::types::{KERBEROS_VERSION, KRB_ERROR_MSG_TYPE};
 use krb_types::data_types::{KerberosTime, Microseconds, PrincipalName, Realm};
 use picky_asn1::date::GeneralizedTime;
@@ -14,7 +12,8 @@ use picky_asn1::wrapper::{GeneralStringAsn1, GeneralizedTimeAsn1, IntegerAsn1, O
 use picky_asn1_der::{
     Asn1DerError, ExplicitContextTag, ExplicitContextTag0, ExplicitContextTag1,
     ExplicitContextTag4, ExplicitContextTag5, ExplicitContextTag6, ExplicitContextTag9,
-    ExplicitContextTag10, ExplicitContextTag12, Optional, Serialize, Serializer, fields_of,
+    ExplicitContextTag10, ExplicitContextTag12, Lent, Optional, Serialize, Serializer, fields_of,
+    tagged_encoding,
 };
 use std::alloc::{AllocError, Global};
 use std::marker::Model;
@@ -58,7 +57,7 @@ impl<'a> Model for LentError<'a> {
 
 impl<'a> Serialize for LentError<'a> {
     ghost use Rattle.krb_messages.specs.Trees.{krb_error_inner_tree, krb_error_inner-injective};
-    ghost use Rattle.asn1_trees.specs.Firsts.{only};
+    ghost use Rattle.asn1_der.specs.Firsts.{only};
     ghost use Rattle.krb_messages.specs.contracts.messages.krb_error.KrbErrorInnerTagged.TheImpl as krb_error_impl;
 
     ghost tree = { krb_error_inner_tree };

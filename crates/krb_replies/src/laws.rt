@@ -1,8 +1,8 @@
 //! What holds of every realm's replies.
 ghost use Rattle.std.specs.Prelude.{◌≡◌, ◌<◌, ◌^◌, ℕ, List, Option, length};
-ghost use Rattle.krb_blocks.specs.Bytes.{IsBytes};
-ghost use Rattle.krb_as.specs.Call.{CallRecord};
-ghost use Rattle.krb_as.specs.Calls.{IsCall};
+ghost use Rattle.aes_cts.specs.Bytes.{IsBytes};
+ghost use Rattle.krb_kdc_requests.specs.Call.{CallRecord};
+ghost use Rattle.krb_kdc_requests.specs.Calls.{IsCall};
 ghost use Rattle.krb_replies.specs.Involved.{IsOfInvolvedAlone};
 ghost use Rattle.krb_replies.specs.Replies.{Replies};
 ghost use Rattle.decision_tables.specs.Some.{HasSome};

@@ -11,5 +11,6 @@ mod names;
 mod told;
 
 pub use answer::{answer_as, answer_tgs};
-pub use krb_as::{Call, krbtgt_of, read_as_req, read_tgs_req};
+pub use krb_as::krbtgt_of;
+pub use krb_kdc_requests::{Call, read_as_req, read_tgs_req};
 pub use krb_tgs::laws::body_is_part;

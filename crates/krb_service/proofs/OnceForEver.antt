@@ -1,10 +1,10 @@
 -- No pair of client and time is admitted twice over a list of calls, and a refused call leaves the pairs.
 use Rattle.std.proofs.Common.{◌≡◌, ℕ, ◌+◌, suc, false, List, [], ◌∷◌, length, max, Result, Ok, Err, inl, inr, refl, sym, ap, subst, ◌∙◌, arith}
 use Rattle.krb_types.specs.Refusals.{Code}
-use Rattle.krb_replay_cache.specs.Pair.{PairRecord, is_among}
-use Rattle.krb_ap.specs.Admission.{AdmissionRecord}
-use Rattle.krb_ap.specs.declared.refusal.AdmitRefusal.{AdmitRefusal}
-use Rattle.krb_ap.specs.declared.refusal.AdmitRefusal.TheVariants.{Unreadable, Krb, Memory}
+use Rattle.krb_service.specs.Pair.{PairRecord, is_among}
+use Rattle.krb_ap_requests.specs.Admission.{AdmissionRecord}
+use Rattle.krb_ap_requests.specs.declared.refusal.AdmitRefusal.{AdmitRefusal}
+use Rattle.krb_ap_requests.specs.declared.refusal.AdmitRefusal.TheVariants.{Unreadable, Krb, Memory}
 use Rattle.krb_service.proofs.Admitting.{admissible_if_admitted}
 use Rattle.krb_service.specs.Admissible.{chosen_pair}
 use Rattle.krb_service.specs.Once.{Admitted}

@@ -3,18 +3,20 @@ ghost use Rattle.std.specs.Prelude.{◌≡◌, ◌≤◌, ◌⊎◌, List, lengt
 ghost use Rattle.std.specs.List.{filter};
 ghost use Rattle.std.specs.Set.{distinct_count};
 ghost use Rattle.krb_accounts.specs.Names.{parts};
-ghost use Rattle.krb_replay_cache.specs.Pair.{PairRecord, is_recent, is_same_pair};
-ghost use Rattle.krb_replay_cache.specs.Seen.{IsWindow};
+ghost use Rattle.krb_service.specs.Pair.{PairRecord, is_recent, is_same_pair};
+ghost use Rattle.krb_service.specs.Seen.{IsWindow};
 ghost use Rattle.krb_service.specs.RememberingService.{IsStep, remembering};
 ghost use Rattle.krb_service.specs.Service.{IsServiceEntry, made, making};
 ghost use Rattle.krb_accounts.specs.declared.refusal.RealmRefusal.{RealmRefusal};
 
+use crate::admission::Admission;
+use crate::entry::KeytabEntry;
 use crate::once::admit_once;
+use crate::seen::Seen;
 use krb_accounts::{RealmRefusal, are_components, components_of, is_realm_name, realm_name_of};
-use krb_ap::{Admission, AdmitRefusal, KeytabEntry};
+use krb_ap_requests::AdmitRefusal;
 use krb_crypto::{CipherSuite, Key};
 use krb_moments::Moment;
-use krb_replay_cache::Seen;
 use std::alloc::Global;
 use std::marker::Model;
 

@@ -6,16 +6,16 @@ use Rattle.krb_types.specs.declared.data_types.authenticator.AuthenticatorInner.
 use Rattle.krb_types.specs.declared.data_types.enc_ticket_part.EncTicketPartInner.{EncTicketPartInner}
 use Rattle.krb_types.specs.declared.data_types.encrypted_data.EncryptedData.{EncryptedData}
 use Rattle.krb_types.specs.declared.data_types.pa_data.PaData.{PaData}
-use Rattle.krb_opening.specs.Keys.{suite_of}
+use Rattle.krb_encrypted_data.specs.Keys.{suite_of}
 use Rattle.krb_messages.specs.declared.messages.ap_req.ApReqInner.{ApReqInner}
 use Rattle.krb_messages.specs.Messages.{IsApReq, sole_ap_req}
 use Rattle.decision_tables.specs.Tables.{Table, ask, done, need, refuse}
 use Rattle.decision_tables.specs.One.{IsSole}
 use Rattle.krb_preauth.specs.Entries.{first_of}
-use Rattle.krb_ap.specs.ApTable.{authenticated, opened}
-use Rattle.krb_ap.specs.Messages.{IsAuthenticator, IsTicketPart, sole_authenticator, sole_ticket_part}
-use Rattle.krb_ap.specs.declared.presented.Authenticated.{Authenticated}
-use Rattle.krb_as.specs.Call.{CallRecord, skew_of}
+use Rattle.krb_ap_requests.specs.ApTable.{authenticated, opened}
+use Rattle.krb_ap_requests.specs.Messages.{IsAuthenticator, IsTicketPart, sole_authenticator, sole_ticket_part}
+use Rattle.krb_ap_requests.specs.declared.presented.Authenticated.{Authenticated}
+use Rattle.krb_kdc_requests.specs.Call.{CallRecord, skew_of}
 use Rattle.krb_moments.specs.Skew.{is_far}
 use Rattle.krb_tgs.specs.TgsTable.{carried, shown_near, ticket_granting}
 

@@ -10,11 +10,11 @@ use Rattle.decision_tables.specs.Tables.{Table, need}
 use Rattle.krb_tickets.specs.declared.grant.Grant.{Grant}
 use Rattle.krb_tickets.specs.ReplyKeys.{ReplyKeyRecord}
 use Rattle.krb_as.specs.Granted.{IsTicketReply}
-use Rattle.krb_ap.specs.declared.presented.Authenticated.{Authenticated}
-use Rattle.krb_as.specs.Call.{CallRecord}
+use Rattle.krb_ap_requests.specs.declared.presented.Authenticated.{Authenticated}
+use Rattle.krb_kdc_requests.specs.Call.{CallRecord}
 use Rattle.krb_as.specs.Grants.{replied}
-use Rattle.krb_as.specs.Requests.{lasting}
-use Rattle.krb_as.specs.declared.span.Span.{Span}
+use Rattle.krb_kdc_requests.specs.Requests.{lasting}
+use Rattle.krb_kdc_requests.specs.declared.span.Span.{Span}
 use Rattle.krb_tgs.specs.TgsTable.{first_known, further, further_ticket, reply_key, subkey_in}
 
 module _ (call : CallRecord) (part : EncTicketPartInner) (shown : Authenticated) (service_name : PrincipalName) (service : AccountRecord) (body : KdcReqBody) (span : Span)

@@ -1,7 +1,7 @@
 -- The table of TGS requests has an outcome: each part of it has one.
 use Rattle.std.proofs.Common.{◌≡◌, ◌<◌, ℕ, ◌^◌, not, List, length, Option, None, Some, Result, Ok, Err, inl, inr, refl, sym, subst}
 use Rattle.std.specs.Option.{is_some, option_map}
-use Rattle.krb_blocks.specs.Bytes.{IsBytes}
+use Rattle.aes_cts.specs.Bytes.{IsBytes}
 use Rattle.picky_asn1.specs.GeneralizedTime.{seconds_of}
 use Rattle.picky_asn1.specs.Numbers.{is_number}
 use Rattle.krb_moments.specs.Skew.{is_far}
@@ -15,7 +15,7 @@ use Rattle.krb_types.specs.declared.data_types.enc_ticket_part.EncTicketPartInne
 use Rattle.krb_types.specs.declared.data_types.encryption_key.EncryptionKey.{EncryptionKey}
 use Rattle.krb_types.specs.declared.data_types.pa_data.PaData.{PaData}
 use Rattle.krb_types.specs.declared.data_types.principal_name.PrincipalName.{PrincipalName}
-use Rattle.krb_opening.specs.Keys.{suite_of}
+use Rattle.krb_encrypted_data.specs.Keys.{suite_of}
 use Rattle.krb_messages.specs.declared.messages.ap_req.ApReqInner.{ApReqInner}
 use Rattle.krb_messages.specs.declared.messages.kdc_req.KdcReq.{KdcReq}
 use Rattle.krb_messages.specs.declared.messages.kdc_req_body.KdcReqBody.{KdcReqBody}
@@ -26,22 +26,22 @@ use Rattle.decision_tables.proofs.Outcomes.{HasOutcome, has_asked, has_done, has
 use Rattle.krb_preauth.specs.Entries.{first_of}
 use Rattle.krb_tickets.specs.declared.reply.Exchange.TheVariants.{Tgs}
 use Rattle.krb_tickets.specs.ReplyKeys.{ReplyKeyRecord, tgs_reply_key, tgs_subkey_reply_key}
-use Rattle.krb_ap.specs.declared.presented.Authenticated.{Authenticated}
-use Rattle.krb_as.specs.Call.{CallRecord, skew_of}
-use Rattle.krb_as.specs.Calls.{IsCall, IsKeyed}
+use Rattle.krb_ap_requests.specs.declared.presented.Authenticated.{Authenticated}
+use Rattle.krb_kdc_requests.specs.Call.{CallRecord, skew_of}
+use Rattle.krb_kdc_requests.specs.Calls.{IsCall, IsKeyed}
 use Rattle.krb_as.specs.Grants.{replied}
-use Rattle.krb_as.specs.Requests.{addressed, entries_of, lasting, service_of}
+use Rattle.krb_kdc_requests.specs.Requests.{addressed, entries_of, lasting, service_of}
 use Rattle.krb_as.specs.TicketGranting.{krbtgt_of}
-use Rattle.krb_as.specs.declared.span.Span.{Span}
+use Rattle.krb_kdc_requests.specs.declared.span.Span.{Span}
 use Rattle.krb_as.proofs.HasGrant.{has_lasting, has_replied}
 use Rattle.krb_as.proofs.HasOutcome.{has_address}
-use Rattle.krb_as.proofs.PartTrees.{realm_tree}
-use Rattle.krb_as.proofs.RequestTrees.{body_fits, entry_short, nonce_fits, service_fits}
-use Rattle.krb_as.proofs.Short.{Fits}
-use Rattle.krb_as.proofs.Written.{IsWritten, is_written, own_realm_fits, session_short}
-use Rattle.krb_ap.specs.ApTable.{ap_fields, authenticated, is_early, is_for, is_late, is_version_5, may_be_under, opened_part, timely}
-use Rattle.krb_opening.proofs.KeySizes.{suite_sized}
-use Rattle.krb_ap.proofs.Judgements.{has_authenticated, has_fields, has_opened_part, has_times}
+use Rattle.krb_kdc_requests.proofs.PartTrees.{realm_tree}
+use Rattle.krb_kdc_requests.proofs.RequestTrees.{body_fits, entry_short, nonce_fits, service_fits}
+use Rattle.krb_kdc_requests.proofs.Short.{Fits}
+use Rattle.krb_kdc_requests.proofs.Written.{IsWritten, is_written, own_realm_fits, session_short}
+use Rattle.krb_ap_requests.specs.ApTable.{ap_fields, authenticated, is_early, is_for, is_late, is_version_5, may_be_under, opened_part, timely}
+use Rattle.krb_encrypted_data.proofs.KeySizes.{suite_sized}
+use Rattle.krb_ap_requests.proofs.Judgements.{has_authenticated, has_fields, has_opened_part, has_times}
 use Rattle.krb_tgs.specs.ByTicket.{IsByTicket}
 use Rattle.krb_tgs.specs.TgsTable.{carried, checksum_in, counting, covered, first_known, further, further_ticket, has_account, is_known_checksum, is_of_body, of_carried, of_shown, of_ticket, reply_key, shown_near, subkey_in, tgs_granted, tgs_table, ticket_granting, to_us}
 use Rattle.krb_tgs.proofs.ByTicket.{IsOfKey, by_authenticator, by_entry, by_ticket}

@@ -9,9 +9,9 @@ use Rattle.krb_messages.specs.declared.messages.ap_req.ApReqInner.{ApReqInner}
 use Rattle.krb_messages.specs.declared.messages.kdc_req.KdcReq.{KdcReq}
 use Rattle.std.specs.Option.{is_some}
 use Rattle.decision_tables.specs.Tables.{Table, and_then, need, refuse}
-use Rattle.krb_ap.specs.declared.presented.Authenticated.{Authenticated}
-use Rattle.krb_as.specs.Call.{CallRecord}
-use Rattle.krb_as.specs.Requests.{entries_of, service_of}
+use Rattle.krb_ap_requests.specs.declared.presented.Authenticated.{Authenticated}
+use Rattle.krb_kdc_requests.specs.Call.{CallRecord}
+use Rattle.krb_kdc_requests.specs.Requests.{entries_of, service_of}
 use Rattle.krb_as.specs.TicketGranting.{krbtgt_of}
 use Rattle.krb_tgs.specs.ByTicket.{IsByTicket, IsInvolvedFurther}
 use Rattle.krb_tgs.specs.TgsTable.{carried, covered, further, of_carried, of_shown, of_ticket, shown_near, tgs_granted, tgs_table, ticket_granting, to_us}

@@ -11,8 +11,8 @@ use Rattle.krb_types.specs.declared.refusal.Refusal.{Refusal}
 use Rattle.krb_messages.specs.declared.messages.ap_req.ApReqInner.{ApReqInner}
 use Rattle.krb_messages.specs.declared.messages.kdc_req_body.KdcReqBody.{KdcReqBody}
 use Rattle.decision_tables.specs.Tables.{Table, and_then, done, need}
-use Rattle.krb_ap.specs.ApTable.{ap_fields, opened_part}
-use Rattle.krb_as.specs.Call.{CallRecord}
+use Rattle.krb_ap_requests.specs.ApTable.{ap_fields, opened_part}
+use Rattle.krb_kdc_requests.specs.Call.{CallRecord}
 use Rattle.krb_as.specs.Judged.{IsGranted}
 use Rattle.krb_as.specs.TicketGranting.{krbtgt_of}
 use Rattle.krb_as.proofs.Parts.{part_passed, part_refused}

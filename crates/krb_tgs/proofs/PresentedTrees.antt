@@ -1,8 +1,8 @@
 -- What stands in the AP request of a TGS request, and in what is sealed there, is as short as that.
 use Rattle.std.proofs.Common.{◌≡◌, ℕ, List, Some, subst}
 use Rattle.std.specs.Option.{option_map}
-use Rattle.asn1_trees.specs.Tagged.{tagged_tree}
-use Rattle.asn1_trees.specs.Tree.{Tree, wrapped}
+use Rattle.asn1_der.specs.Tagged.{tagged_tree}
+use Rattle.asn1_der.specs.Tree.{Tree, wrapped}
 use Rattle.krb_types.specs.Trees.{encrypted_data_tree}
 use Rattle.krb_types.specs.declared.data_types.authenticator.AuthenticatorInner.{AuthenticatorInner}
 use Rattle.krb_types.specs.declared.data_types.checksum.Checksum.{Checksum}
@@ -12,9 +12,9 @@ use Rattle.krb_types.specs.declared.data_types.encryption_key.EncryptionKey.{Enc
 use Rattle.krb_types.specs.contracts.data_types.checksum.ChecksumTagged.TheImpl as checksum_impl
 use Rattle.krb_messages.specs.Messages.{IsApReq, ap_req_tree, authenticator_tree, enc_ticket_part_tree}
 use Rattle.krb_messages.specs.declared.messages.ap_req.ApReqInner.{ApReqInner}
-use Rattle.krb_as.proofs.Short.{Fits, IsShort, behind_optional, content_of, head, in_tag, inside, tail}
-use Rattle.krb_as.proofs.PartTrees.{encryption_key_tree, integer_tree, principal_name_tree}
-use Rattle.krb_as.proofs.RequestTrees.{in_optional}
+use Rattle.krb_kdc_requests.proofs.Short.{Fits, IsShort, behind_optional, content_of, head, in_tag, inside, tail}
+use Rattle.krb_kdc_requests.proofs.PartTrees.{encryption_key_tree, integer_tree, principal_name_tree}
+use Rattle.krb_kdc_requests.proofs.RequestTrees.{in_optional}
 
 abbrev checksum_tree : Checksum → Tree
 checksum_tree = tagged_tree 48 checksum_impl.ghosts.row_tree checksum_impl.ghosts.row_of

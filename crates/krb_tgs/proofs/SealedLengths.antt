@@ -2,9 +2,9 @@
 use Rattle.std.proofs.Common.{◌≡◌, ◌≤◌, ◌<◌, ℕ, ◌+◌, ◌-◌, ◌*◌, List, ◌++◌, length, take, drop, replicate, ap, ◌∙◌, inl, inr, subst, arith, lit<}
 use Rattle.std.proofs.lemmas.Bool.{cases_lt}
 use Rattle.std.proofs.lemmas.List.{length-append, length-drop, length-take-le}
-use Rattle.asn1_trees.specs.Tree.{Tree}
-use Rattle.krb_blocks.specs.Chains.{IsChained, IsStolen, block_at, block_count, exchanged, zero_filled}
-use Rattle.krb_blocks.proofs.Stealing.{length-zero_filled}
+use Rattle.asn1_der.specs.Tree.{Tree}
+use Rattle.aes_cts.specs.Chains.{IsChained, IsStolen, block_at, block_count, exchanged, zero_filled}
+use Rattle.aes_cts.proofs.Stealing.{length-zero_filled}
 use Rattle.krb_profile.specs.Profile.{ke_of}
 use Rattle.krb_profile.specs.Sealing.{encryption_tag_of}
 use Rattle.krb_crypto.specs.Sealing.{IsSealedBy}
@@ -12,8 +12,8 @@ use Rattle.krb_crypto.specs.Suites.{cipher_profile}
 use Rattle.krb_crypto.specs.declared.suite.CipherSuite.{CipherSuite}
 use Rattle.krb_crypto.specs.declared.suite.CipherSuite.TheVariants.{Aes128CtsHmacSha196, Aes256CtsHmacSha196, Des3CbcSha1Kd, Aes128CtsHmacSha256128, Aes256CtsHmacSha384192}
 use Rattle.krb_types.specs.declared.data_types.encrypted_data.EncryptedData.{EncryptedData}
-use Rattle.krb_opening.specs.Sealed.{IsSealedIn}
-use Rattle.krb_as.proofs.Short.{Fits, IsShort}
+use Rattle.krb_encrypted_data.specs.Sealed.{IsSealedIn}
+use Rattle.krb_kdc_requests.proofs.Short.{Fits, IsShort}
 
 -- a chain of a padded text is at least as long as the text
 chained_longer : (size : ℕ) (E : List ℕ → List ℕ) (p c : List ℕ) → IsChained size E (zero_filled size p) c → length p ≤ length c

@@ -9,9 +9,9 @@ use Rattle.krb_messages.specs.declared.messages.ap_req.ApReqInner.{ApReqInner}
 use Rattle.krb_messages.specs.declared.messages.kdc_req.KdcReq.{KdcReq}
 use Rattle.krb_messages.specs.Messages.{IsApReq}
 use Rattle.krb_preauth.specs.Entries.{first_of}
-use Rattle.krb_ap.specs.Messages.{IsTicketPart}
-use Rattle.krb_as.specs.Call.{CallRecord}
-use Rattle.krb_as.specs.Requests.{entries_of, service_of}
+use Rattle.krb_ap_requests.specs.Messages.{IsTicketPart}
+use Rattle.krb_kdc_requests.specs.Call.{CallRecord}
+use Rattle.krb_kdc_requests.specs.Requests.{entries_of, service_of}
 use Rattle.krb_as.specs.TicketGranting.{krbtgt_of}
 
 -- the request carries a ticket that has this part, sealed under the key of the realm's ticket-granting service

@@ -23,7 +23,7 @@ use Rattle.krb_types.specs.declared.data_types.pa_data.PaData.{PaData}
 use Rattle.krb_types.specs.declared.data_types.principal_name.PrincipalName.{PrincipalName}
 use Rattle.krb_types.specs.Refusals.{Code}
 use Rattle.krb_types.specs.declared.constants.error_codes.TheConstants.{KDC_ERR_C_PRINCIPAL_UNKNOWN, KDC_ERR_S_PRINCIPAL_UNKNOWN, KDC_ERR_POLICY, KDC_ERR_ETYPE_NOSUPP, KDC_ERR_SUMTYPE_NOSUPP, KDC_ERR_PADATA_TYPE_NOSUPP, KRB_AP_ERR_BAD_INTEGRITY, KRB_AP_ERR_SKEW, KRB_AP_ERR_MODIFIED, KRB_AP_ERR_INAPP_CKSUM, KDC_ERR_WRONG_REALM}
-use Rattle.krb_opening.specs.Keys.{suite_of}
+use Rattle.krb_encrypted_data.specs.Keys.{suite_of}
 use Rattle.krb_messages.specs.declared.messages.ap_req.ApReqInner.{ApReqInner}
 use Rattle.krb_messages.specs.declared.messages.kdc_req.KdcReq.{KdcReq}
 use Rattle.krb_messages.specs.declared.messages.kdc_req_body.KdcReqBody.{KdcReqBody}
@@ -33,14 +33,14 @@ use Rattle.krb_preauth.specs.Entries.{first_of}
 use Rattle.krb_tickets.specs.declared.grant.Grant.{Grant}
 use Rattle.krb_tickets.specs.Parts.{session_key_of}
 use Rattle.krb_tickets.specs.ReplyKeys.{ReplyKeyRecord, tgs_reply_key, tgs_subkey_reply_key}
-use Rattle.krb_ap.specs.ApTable.{ap_fields, authenticated, opened_part, timely}
-use Rattle.krb_ap.specs.declared.presented.Authenticated.{Authenticated}
-use Rattle.krb_as.specs.Call.{CallRecord, skew_of}
+use Rattle.krb_ap_requests.specs.ApTable.{ap_fields, authenticated, opened_part, timely}
+use Rattle.krb_ap_requests.specs.declared.presented.Authenticated.{Authenticated}
+use Rattle.krb_kdc_requests.specs.Call.{CallRecord, skew_of}
 use Rattle.krb_as.specs.Grants.{replied}
-use Rattle.krb_as.specs.Requests.{addressed, entries_of, lasting, service_of}
-pub use Rattle.krb_as.specs.Requests.{body_bytes}
+use Rattle.krb_kdc_requests.specs.Requests.{addressed, entries_of, lasting, service_of}
+pub use Rattle.krb_kdc_requests.specs.Requests.{body_bytes}
 use Rattle.krb_as.specs.TicketGranting.{krbtgt_of}
-use Rattle.krb_as.specs.declared.span.Span.{Span}
+use Rattle.krb_kdc_requests.specs.declared.span.Span.{Span}
 
 -- the request is a TGS request to this realm, without sealed authorization data, which no ticket is granted with
 abbrev pub to_us : Bytes → KdcReq → Table (Result (Unit {0}) Code)

@@ -2,7 +2,7 @@
 ghost use Rattle.std.specs.Prelude.{◌≡◌, IfOk};
 ghost use Rattle.std.specs.Option.{option_copied};
 ghost use Rattle.krb_crypto.specs.Suites.{cipher_checksum};
-ghost use Rattle.krb_as.specs.Requests.{body_bytes};
+ghost use Rattle.krb_kdc_requests.specs.Requests.{body_bytes};
 ghost use Rattle.krb_tgs.specs.TgsTable.{checksum_in, covered, is_known_checksum, is_of_body};
 ghost use Rattle.krb_types.specs.Refusals.{IsJudged};
 

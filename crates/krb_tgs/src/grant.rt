@@ -1,7 +1,7 @@
 //! Granting a ticket by an older one.
 ghost use Rattle.std.specs.Prelude.{◌≡◌, ◌≤◌, length, IfOk};
 ghost use Rattle.std.specs.Option.{is_some, option_copied, option_map};
-ghost use Rattle.krb_as.specs.Call.{call_of};
+ghost use Rattle.krb_kdc_requests.specs.Call.{call_of};
 ghost use Rattle.krb_as.specs.Judged.{IsGranted};
 ghost use Rattle.krb_tickets.specs.ReplyKeys.{reply_key_of};
 ghost use Rattle.krb_crypto.specs.Keys.{KeyRecord};
@@ -9,18 +9,19 @@ ghost use Rattle.krb_tgs.specs.Shown.{IsShownUnder, under};
 ghost use Rattle.krb_tgs.specs.TgsTable.{first_known, first_number, further, further_ticket, reply_key, subkey_in, suite_numbered};
 
 use krb_accounts::Account;
-use krb_ap::Authenticated;
-use krb_as::{Call, Span, lasting, session_key, ticket_reply};
+use krb_ap_requests::Authenticated;
+use krb_as::ticket_reply;
 use krb_crypto::{CipherSuite, Key};
+use krb_encrypted_data::key_of;
+use krb_kdc_requests::{Call, Span, lasting, session_key};
 use krb_messages::messages::KdcReqBody;
-use krb_opening::key_of;
 use krb_tickets::{Grant, ReplyKey, TicketFlags};
 use krb_types::Refusal;
 use krb_types::constants::error_codes;
 use krb_types::data_types::{AuthenticatorInner, EncTicketPartInner, EncryptionKey, PrincipalName};
 use picky_asn1::is_number;
 use picky_asn1::wrapper::IntegerAsn1;
-use record_copies::LentFields;
+use picky_asn1_der::LentFields;
 use std::alloc::{AllocError, Global};
 
 /// The flag of a ticket whose client authenticated itself before the first one was granted (RFC 4120, section 5.3).

@@ -1,16 +1,17 @@
 //! Judging TGS requests: the rows of a realm's table, part by part.
 ghost use Rattle.std.specs.Prelude.{◌≡◌};
-ghost use Rattle.krb_as.specs.Call.{call_of};
+ghost use Rattle.krb_kdc_requests.specs.Call.{call_of};
 ghost use Rattle.krb_as.specs.TicketGranting.{krbtgt_of};
-ghost use Rattle.krb_ap.specs.ApTable.{ap_fields};
+ghost use Rattle.krb_ap_requests.specs.ApTable.{ap_fields};
 ghost use Rattle.krb_tgs.specs.TgsTable.{carried, counting, shown_near, ticket_granting, to_us};
 ghost use Rattle.krb_types.specs.Refusals.{IsJudged};
 
 use krb_accounts::Account;
-use krb_ap::{
+use krb_ap_requests::{
     Authenticated, check_authenticator, check_fields, check_times, open_ticket, read_ap_req,
 };
-use krb_as::{Call, check_address, krbtgt_of};
+use krb_as::krbtgt_of;
+use krb_kdc_requests::{Call, check_address};
 use krb_messages::messages::{ApReqInner, KdcReq};
 use krb_preauth::first_of;
 use krb_types::constants::types::{PA_TGS_REQ, TGS_REQ_MSG_TYPE};

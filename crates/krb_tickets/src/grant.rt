@@ -8,14 +8,12 @@ use crate::parts::ticket_part;
 use crate::seal::sealed_data;
 use krb_accounts::Account;
 use krb_crypto::CipherSuite;
-use krb_encoding::tagged_encoding;
 use krb_types::constants::key_usages;
 use krb_types::constants::types::{ENC_TICKET_PART_TYPE, KERBEROS_VERSION};
 use krb_types::data_types::{EncTicketPartInner, EncryptedData, PrincipalName, TicketInner};
 use picky_asn1::date::GeneralizedTime;
 use picky_asn1::wrapper::{GeneralStringAsn1, IntegerAsn1, OctetStringAsn1};
-use picky_asn1_der::{ExplicitContextTag, fields_of};
-use record_copies::LentFields;
+use picky_asn1_der::{ExplicitContextTag, LentFields, fields_of, tagged_encoding};
 use results::both;
 use std::alloc::{AllocError, Global};
 

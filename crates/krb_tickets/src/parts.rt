@@ -3,8 +3,8 @@ ghost use Rattle.std.specs.Prelude.{◌≡◌, IfOk};
 ghost use Rattle.krb_tickets.specs.Parts.{flags_octet, flags_of, last_requests, no_realms, reply_part, ticket_part};
 
 use crate::grant::{Grant, TicketFlags};
+use krb_encrypted_data::encryption_key;
 use krb_messages::messages::EncKdcRepPart;
-use krb_sealing::encryption_key;
 use krb_types::data_types::{
     EncTicketPartInner, KerberosFlags, LastReq, LastReqInner, TransitedEncoding,
 };
@@ -12,8 +12,7 @@ use picky_asn1::date::GeneralizedTime;
 use picky_asn1::wrapper::{
     Asn1SequenceOf, BitStringAsn1, GeneralizedTimeAsn1, IntegerAsn1, OctetStringAsn1,
 };
-use picky_asn1_der::{ExplicitContextTag, Optional, fields_of};
-use record_copies::LentFields;
+use picky_asn1_der::{ExplicitContextTag, LentFields, Optional, fields_of};
 use results::both;
 use std::alloc::{AllocError, Global};
 

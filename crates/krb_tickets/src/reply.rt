@@ -7,13 +7,12 @@ ghost use Rattle.krb_tickets.specs.Parts.{kdc_reply_of, padata_of, reply_part, r
 ghost use Rattle.krb_tickets.specs.ReplyKeys.{reply_key_of};
 
 use crate::grant::{Grant, ticket_of};
-use crate::methods::pa_data;
 use crate::parts::reply_part;
 use krb_accounts::Account;
 use krb_crypto::Key;
-use krb_encoding::tagged_encoding;
+use krb_encrypted_data::sealed_data;
 use krb_messages::messages::{EncKdcRepPart, KdcRep};
-use krb_sealing::sealed_data;
+use krb_preauth::pa_data;
 use krb_types::constants::key_usages;
 use krb_types::constants::types::{
     AS_REP_MSG_TYPE, ENC_AS_REP_PART_TYPE, ENC_TGS_REP_PART_TYPE, KERBEROS_VERSION,
@@ -22,9 +21,9 @@ use krb_types::constants::types::{
 use krb_types::data_types::{EncryptedData, PaData};
 use picky_asn1::wrapper::{Asn1SequenceOf, IntegerAsn1};
 use picky_asn1_der::{
-    ApplicationTag, ExplicitContextTag, ExplicitContextTag2, Optional, fields_of,
+    ApplicationTag, ExplicitContextTag, ExplicitContextTag2, LentFields, Optional, fields_of,
+    tagged_encoding,
 };
-use record_copies::LentFields;
 use results::both;
 use std::alloc::{AllocError, Global};
 

@@ -21,6 +21,13 @@ pub(crate) fn sealed_data(
     ensures { IfOk result (IsSealedData account.now (cast_unsigned w32 usage) confounder.now plain.now) }
 {
     let number = Some(account.number());
-    let sealed = krb_sealing::sealed_data(alloc, account.key(), number, usage, confounder, plain)?;
+    let sealed = krb_encrypted_data::sealed_data(
+        alloc,
+        account.key(),
+        number,
+        usage,
+        confounder,
+        plain,
+    )?;
     Ok(sealed)
 }

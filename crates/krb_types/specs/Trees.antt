@@ -1,9 +1,9 @@
 -- The trees of what messages hold (RFC 4120, sections 5.2 to 5.5), each of one value; of what stands under an application tag
 -- the tree inside it, which krb_messages's Messages put the tag on.
-use Rattle.asn1_trees.specs.Tree.{Tree}
-use Rattle.asn1_trees.specs.Tagged.{tagged_tree}
-use Rattle.asn1_trees.proofs.Spelling.{IsInjective}
-use Rattle.asn1_trees.proofs.Tagged.{tagged-injective}
+use Rattle.asn1_der.specs.Tree.{Tree}
+use Rattle.asn1_der.specs.Tagged.{tagged_tree}
+use Rattle.asn1_der.proofs.Spelling.{IsInjective}
+use Rattle.asn1_der.proofs.Tagged.{tagged-injective}
 use Rattle.krb_types.specs.declared.data_types.authenticator.AuthenticatorInner.{AuthenticatorInner}
 use Rattle.krb_types.specs.declared.data_types.enc_ap_rep_part.EncApRepPartInner.{EncApRepPartInner}
 use Rattle.krb_types.specs.declared.data_types.enc_ticket_part.EncTicketPartInner.{EncTicketPartInner}

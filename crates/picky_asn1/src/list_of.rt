@@ -70,10 +70,10 @@ impl<const OCTET: u8, T: Eq> Eq for ListOf<OCTET, T> {
 }
 
 impl<const OCTET: u8, T: Deserialize + Drop> Tagged for ListOf<OCTET, T> {
-    ghost use Rattle.asn1_trees.specs.Tree.{trees_of};
-    ghost use Rattle.asn1_trees.proofs.Rows.{many-injective};
-    ghost use Rattle.asn1_trees.specs.Tagged.{sequence};
-    ghost use Rattle.asn1_trees.proofs.Tagged.{sequence_laws};
+    ghost use Rattle.asn1_der.specs.Tree.{trees_of};
+    ghost use Rattle.asn1_der.proofs.Rows.{many-injective};
+    ghost use Rattle.asn1_der.specs.Tagged.{sequence};
+    ghost use Rattle.asn1_der.proofs.Tagged.{sequence_laws};
     ghost use Rattle.picky_asn1_der.specs.Refusals.{list_refusal};
 
     type Row = Elements<T>;

@@ -1,12 +1,12 @@
 -- What is required of a choice, where its first alternative begins and where it doesn't.
 use Rattle.std.proofs.Common.{◌≡◌, ℕ, ◌≤◌, true, false, List, [], ◌++◌, length, Some, sym, ap, subst, ◌∙◌, arith, append-nil}
-use Rattle.asn1_trees.specs.Tree.{Tree, der, Writes}
-use Rattle.asn1_trees.specs.Firsts.{Firsts, may_begin, apart}
-use Rattle.asn1_trees.proofs.Spelling.{der-begins}
-use Rattle.asn1_trees.proofs.Rows.{AllBeginAmong, apart-none}
+use Rattle.asn1_der.specs.Tree.{Tree, der, Writes}
+use Rattle.asn1_der.specs.Firsts.{Firsts, may_begin, apart}
+use Rattle.asn1_der.proofs.Spelling.{der-begins}
+use Rattle.asn1_der.proofs.Rows.{AllBeginAmong, apart-none}
 use Rattle.picky_asn1_der.specs.declared.choice.Choice.{Choice}
 use Rattle.picky_asn1_der.specs.declared.choice.Choice.TheVariants.{This, Other}
-use Rattle.asn1_octets.specs.declared.error.Asn1DerError.{Asn1DerError}
+use Rattle.asn1_der.specs.declared.error.Asn1DerError.{Asn1DerError}
 use Rattle.picky_asn1_der.specs.Choices.{choice_tree}
 use Rattle.asn1_codec.specs.Reading.{Reading, TookNone, Refused, IsSpelling, Tells, HasOctets}
 use Rattle.asn1_codec.proofs.Chain.{refused-known, refused-unread}

@@ -1,9 +1,9 @@
 -- A default value that is spelled out is none of the wanted fields.
 use Rattle.std.proofs.Common.{◌≡◌, ℕ, ◌+◌, ◌≤◌, Bool, true, false, List, ◌++◌, length, Option, None, Some, refl, sym, ap, ◌∙◌, arith, append_assoc}
-use Rattle.asn1_trees.specs.Tree.{Tree, Trees, der, ders, put, IsWhole, AreWhole}
-use Rattle.asn1_trees.specs.Firsts.{Firsts, apart}
-use Rattle.asn1_trees.proofs.Spelling.{IsInjective, der-front, der-begins}
-use Rattle.asn1_trees.proofs.Rows.{AllBeginAmong, StartAmong}
+use Rattle.asn1_der.specs.Tree.{Tree, Trees, der, ders, put, IsWhole, AreWhole}
+use Rattle.asn1_der.specs.Firsts.{Firsts, apart}
+use Rattle.asn1_der.proofs.Spelling.{IsInjective, der-front, der-begins}
+use Rattle.asn1_der.proofs.Rows.{AllBeginAmong, StartAmong}
 use Rattle.picky_asn1_der.specs.Defaults.{unless, told_value}
 use Rattle.asn1_codec.proofs.FieldsLemmas.{nonempty, der_size, no_tail}
 

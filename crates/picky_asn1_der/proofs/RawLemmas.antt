@@ -1,7 +1,7 @@
 -- An element that is expected begins with its identifier octet.
 use Rattle.std.proofs.Common.{◌≡◌, ℕ, true, List, ◌∷◌, ◌++◌, Some, sym, ap, subst, ◌∙◌}
-use Rattle.asn1_trees.proofs.Elements.{element-begins}
-use Rattle.asn1_trees.proofs.Leaf.{leaf-whole, der-leaf}
+use Rattle.asn1_der.proofs.Elements.{element-begins}
+use Rattle.asn1_der.proofs.Leaf.{leaf-whole, der-leaf}
 use Rattle.asn1_elements.specs.Raw.{has_low_number, raw_tree}
 use Rattle.asn1_codec.specs.Reading.{Reading, IsSpelling, IsElement}
 use Rattle.asn1_codec.proofs.FieldsLemmas.{nonempty}

@@ -1,10 +1,10 @@
 -- What a choice begins with, and that no two are spelled alike.
 use Rattle.std.proofs.Common.{◌≡◌, true, sym, ap}
-use Rattle.asn1_trees.specs.Tree.{Tree}
-use Rattle.asn1_trees.specs.Firsts.{Firsts, either, apart}
-use Rattle.asn1_trees.proofs.Spelling.{IsInjective}
-use Rattle.asn1_trees.proofs.Rows.{AllBeginAmong}
-use Rattle.asn1_trees.proofs.Choices.{begins-either_left, begins-either_right, apart-spelled}
+use Rattle.asn1_der.specs.Tree.{Tree}
+use Rattle.asn1_der.specs.Firsts.{Firsts, either, apart}
+use Rattle.asn1_der.proofs.Spelling.{IsInjective}
+use Rattle.asn1_der.proofs.Rows.{AllBeginAmong}
+use Rattle.asn1_der.proofs.Choices.{begins-either_left, begins-either_right, apart-spelled}
 use Rattle.picky_asn1_der.specs.declared.choice.Choice.TheVariants.{This, Other}
 use Rattle.picky_asn1_der.specs.Choices.{choice_tree}
 

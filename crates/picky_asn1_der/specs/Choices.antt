@@ -1,5 +1,5 @@
 -- The tree of a choice is that of the alternative that it is.
-use Rattle.asn1_trees.specs.Tree.{Tree}
+use Rattle.asn1_der.specs.Tree.{Tree}
 use Rattle.picky_asn1_der.specs.declared.choice.Choice.{Choice}
 use Rattle.picky_asn1_der.specs.declared.choice.Choice.TheVariants.{This, Other}
 

@@ -10,11 +10,11 @@ pub use Rattle.asn1_elements.specs.Parts
 pub use Rattle.asn1_elements.specs.Raw
 pub use Rattle.asn1_elements.specs.Splits
 pub use Rattle.asn1_elements.specs.Streams
-pub use Rattle.asn1_trees.specs.Firsts
-pub use Rattle.asn1_trees.specs.Length
-pub use Rattle.asn1_trees.specs.Tagged
-pub use Rattle.asn1_trees.specs.Tags
-pub use Rattle.asn1_trees.specs.Tree
+pub use Rattle.asn1_der.specs.Firsts
+pub use Rattle.asn1_der.specs.Length
+pub use Rattle.asn1_der.specs.Tagged
+pub use Rattle.asn1_der.specs.Tags
+pub use Rattle.asn1_der.specs.Tree
 pub use Rattle.asn1_codec.specs.Reads
 pub use Rattle.asn1_codec.specs.Refusals
 pub use Rattle.asn1_codec.specs.Writing

@@ -1,12 +1,12 @@
 -- Any octet begins an element, and no two elements are spelled alike.
 use Rattle.std.proofs.Common.{◌≡◌, ℕ, Bool, true, false, List, [], ◌++◌, refl, sym, ap, ◌∙◌}
-use Rattle.asn1_trees.specs.Length.{element}
-use Rattle.asn1_trees.specs.Tree.{leaf}
-use Rattle.asn1_trees.specs.Firsts.{any_octet, BeginsAmong}
-use Rattle.asn1_trees.proofs.Elements.{element-one}
-use Rattle.asn1_trees.proofs.Leaf.{leaf-whole, der-leaf}
-use Rattle.asn1_trees.proofs.Spelling.{IsInjective}
-use Rattle.asn1_trees.proofs.Rows.{AllBeginAmong}
+use Rattle.asn1_der.specs.Length.{element}
+use Rattle.asn1_der.specs.Tree.{leaf}
+use Rattle.asn1_der.specs.Firsts.{any_octet, BeginsAmong}
+use Rattle.asn1_der.proofs.Elements.{element-one}
+use Rattle.asn1_der.proofs.Leaf.{leaf-whole, der-leaf}
+use Rattle.asn1_der.proofs.Spelling.{IsInjective}
+use Rattle.asn1_der.proofs.Rows.{AllBeginAmong}
 use Rattle.asn1_elements.specs.Raw.{has_low_number, raw_tree}
 
 begins_any : (valid : Bool) (first : ℕ) (content : List ℕ) → BeginsAmong any_octet (leaf valid first content)

@@ -1,11 +1,11 @@
 //! Values under an application tag.
 ghost use Rattle.std.specs.Prelude.{◌≡◌, ℕ, ◌+◌, ◌%◌, MatchResult};
-ghost use Rattle.asn1_trees.specs.Tree.{Tree, wrapped};
-ghost use Rattle.asn1_trees.specs.Firsts.{only};
+ghost use Rattle.asn1_der.specs.Tree.{Tree, wrapped};
+ghost use Rattle.asn1_der.specs.Firsts.{only};
 ghost use Rattle.asn1_codec.specs.Refusals.{part_refusal};
 
 use asn1_codec::{Deserialize, Deserializer, IsTagNumber, Serialize, Serializer, TagNumber};
-use asn1_octets::Asn1DerError;
+use asn1_der::Asn1DerError;
 use devices::{Sink, Source};
 
 /// A value under the constructed application tag `TAG` (X.690, section 8.14), which is below 31.
@@ -24,7 +24,7 @@ impl<V: Serialize, const TAG: u8> Serialize for ApplicationTag<V, TAG>
 where
     TagNumber<TAG>: IsTagNumber,
 {
-    ghost use Rattle.asn1_trees.proofs.Spelling.{wrapped-begins, wrapped-injective};
+    ghost use Rattle.asn1_der.proofs.Spelling.{wrapped-begins, wrapped-injective};
 
     ghost tree = { λ value. wrapped (96 + TAG % 32) (V.tree value.0) };
 

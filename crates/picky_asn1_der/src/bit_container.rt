@@ -1,9 +1,9 @@
 //! Strings of bits that hold an encoding.
 ghost use Rattle.std.specs.Prelude.{◌≡◌};
-ghost use Rattle.asn1_trees.specs.Tree.{wrapped, behind};
+ghost use Rattle.asn1_der.specs.Tree.{wrapped, behind};
 
 use asn1_codec::{Deserialize, Deserializer, Serializer, Tagged};
-use asn1_octets::Asn1DerError;
+use asn1_der::Asn1DerError;
 use devices::{Sink, Source};
 
 /// A BIT STRING whose bits, of which none is unused, are the encoding of one value (X.690, section 8.6).
@@ -21,7 +21,7 @@ impl<T> From<T> for BitStringContainer<T> {
 }
 
 impl<T: Deserialize + Drop> Tagged for BitStringContainer<T> {
-    ghost use Rattle.asn1_trees.proofs.Tagged.{wrapped_laws, behind_laws};
+    ghost use Rattle.asn1_der.proofs.Tagged.{wrapped_laws, behind_laws};
 
     type Row = T;
 

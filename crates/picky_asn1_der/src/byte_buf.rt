@@ -2,7 +2,7 @@
 ghost use Rattle.std.specs.Prelude.{◌≡◌, IfOk};
 
 use asn1_codec::{Leaf, Serializer};
-use asn1_octets::{Asn1DerError, Rule};
+use asn1_der::{Asn1DerError, Rule};
 use devices::Sink;
 use std::alloc::{AllocError, Global};
 use std::marker::Model;

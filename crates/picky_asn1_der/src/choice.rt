@@ -2,12 +2,12 @@
 //!
 //! The alternatives are told by their first octets; `sound` computes whether they are.
 ghost use Rattle.std.specs.Prelude.{◌≡◌, Bool, true, ◌&&◌, MatchResult, IsTrue};
-ghost use Rattle.asn1_trees.specs.Tree.{Tree, der, IsWhole};
-ghost use Rattle.asn1_trees.specs.Firsts.{Firsts, may_begin, either, apart, BeginsAmong};
+ghost use Rattle.asn1_der.specs.Tree.{Tree, der, IsWhole};
+ghost use Rattle.asn1_der.specs.Firsts.{Firsts, may_begin, either, apart, BeginsAmong};
 ghost use Rattle.picky_asn1_der.specs.Choices.{choice_tree};
 
 use asn1_codec::{Deserialize, Deserializer};
-use asn1_octets::Asn1DerError;
+use asn1_der::Asn1DerError;
 use devices::Source;
 
 /// Alternatives that are read.

@@ -1,9 +1,9 @@
 //! Strings of octets that hold an encoding.
 ghost use Rattle.std.specs.Prelude.{◌≡◌};
-ghost use Rattle.asn1_trees.specs.Tree.{wrapped};
+ghost use Rattle.asn1_der.specs.Tree.{wrapped};
 
 use asn1_codec::{Deserialize, Deserializer, Serializer, Tagged};
-use asn1_octets::Asn1DerError;
+use asn1_der::Asn1DerError;
 use devices::{Sink, Source};
 
 /// An OCTET STRING whose octets are the encoding of one value (X.690, section 8.7).
@@ -19,7 +19,7 @@ impl<T> From<T> for OctetStringContainer<T> {
 }
 
 impl<T: Deserialize + Drop> Tagged for OctetStringContainer<T> {
-    ghost use Rattle.asn1_trees.proofs.Tagged.{wrapped_laws};
+    ghost use Rattle.asn1_der.proofs.Tagged.{wrapped_laws};
 
     type Row = T;
 

@@ -1,14 +1,14 @@
 //! Fields that are left out where they have their default value (X.690, section 11.5).
 ghost use Rattle.std.specs.Prelude.{◌≡◌, Bool, IsTrue, IfOk};
-ghost use Rattle.asn1_trees.specs.Tree.{put};
-ghost use Rattle.asn1_trees.specs.Firsts.{either, apart};
+ghost use Rattle.asn1_der.specs.Tree.{put};
+ghost use Rattle.asn1_der.specs.Firsts.{either, apart};
 
 use crate::wrapper::ExplicitContextTag;
 use asn1_codec::{
     Deserialize, Deserializer, Fields, IsTagNumber, Item, Serializer, TagNumber, WriteFields,
     WriteItem, write_field,
 };
-use asn1_octets::Asn1DerError;
+use asn1_der::Asn1DerError;
 use devices::{Sink, Source};
 use std::alloc::{AllocError, Global};
 
@@ -81,7 +81,7 @@ impl<H: HasDefault + Deserialize> WriteItem for DefaultField<H> {
 }
 
 impl<H: HasDefault + Deserialize> Item for DefaultField<H> {
-    ghost use Rattle.asn1_trees.proofs.Rows.{optional-starts, optional-injective};
+    ghost use Rattle.asn1_der.proofs.Rows.{optional-starts, optional-injective};
     ghost use Rattle.picky_asn1_der.specs.Defaults.{told_value};
     ghost use Rattle.picky_asn1_der.specs.DefaultLaws.{told-one};
 

@@ -1,13 +1,13 @@
 //! Values under an implicit tag.
 ghost use Rattle.std.specs.Prelude.{◌≡◌, ℕ, MatchResult};
-ghost use Rattle.asn1_trees.specs.Tree.{Tree};
-ghost use Rattle.asn1_trees.specs.Firsts.{only};
-ghost use Rattle.asn1_trees.specs.Tags.{implicit_octet};
+ghost use Rattle.asn1_der.specs.Tree.{Tree};
+ghost use Rattle.asn1_der.specs.Firsts.{only};
+ghost use Rattle.asn1_der.specs.Tags.{implicit_octet};
 
 use asn1_codec::{
     Deserialize, Deserializer, IsTagNumber, Serialize, Serializer, TagNumber, Tagged, read_as,
 };
-use asn1_octets::Asn1DerError;
+use asn1_der::Asn1DerError;
 use devices::{Sink, Source};
 
 /// A value under the implicit context tag `N` (X.690, section 8.14.3), which is below 31.
@@ -28,8 +28,8 @@ impl<const N: u8, T: Tagged> Serialize for ImplicitContextTag<N, T>
 where
     TagNumber<N>: IsTagNumber,
 {
-    ghost use Rattle.asn1_trees.specs.Tagged.{tagged_tree};
-    ghost use Rattle.asn1_trees.proofs.Tagged.{tagged-injective};
+    ghost use Rattle.asn1_der.specs.Tagged.{tagged_tree};
+    ghost use Rattle.asn1_der.proofs.Tagged.{tagged-injective};
 
     ghost tree = { λ value. tagged_tree (implicit_octet T.FIRST N) T.row_tree T.row_of value.0 };
 

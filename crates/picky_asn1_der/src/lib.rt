@@ -11,8 +11,11 @@ mod bit_container;
 mod byte_buf;
 mod choice;
 mod container;
+mod copies;
 mod default;
+mod encoding;
 mod implicit_tag;
+mod lent;
 mod raw;
 mod raw_der;
 mod retagged;
@@ -20,34 +23,106 @@ mod rows;
 mod wrapper;
 
 pub use application_tag::ApplicationTag;
-pub use asn1_codec::{
-    Asn1DerError, Content, Deserialize, Deserializer, Elements, Fields, FromDer, IsTagNumber, Item,
-    Leaf, OctetPair, Optional, Row1, Row2, Row3, Row4, Row5, Row6, Row7, Row8, Row9, Row10, Row11,
-    Row12, Row13, Rule, Serialize, Serializer, TagNumber, Tagged, Unsupported, WriteFields,
-    WriteItem, from_bytes, from_exact_bytes, from_reader, from_reader_with_max_len, one_reading,
-    read_sequence, to_byte_buf, to_bytes, to_vec, to_writer,
-};
-pub use asn1_elements::{Element, Tag, TagClass, TagPeeker, misc, split_element};
+pub use asn1_codec::Asn1DerError;
+pub use asn1_codec::Content;
+pub use asn1_codec::Deserialize;
+pub use asn1_codec::Deserializer;
+pub use asn1_codec::Elements;
+pub use asn1_codec::Fields;
+pub use asn1_codec::FromDer;
+pub use asn1_codec::IsTagNumber;
+pub use asn1_codec::Item;
+pub use asn1_codec::Leaf;
+pub use asn1_codec::OctetPair;
+pub use asn1_codec::Optional;
+pub use asn1_codec::Row1;
+pub use asn1_codec::Row2;
+pub use asn1_codec::Row3;
+pub use asn1_codec::Row4;
+pub use asn1_codec::Row5;
+pub use asn1_codec::Row6;
+pub use asn1_codec::Row7;
+pub use asn1_codec::Row8;
+pub use asn1_codec::Row9;
+pub use asn1_codec::Row10;
+pub use asn1_codec::Row11;
+pub use asn1_codec::Row12;
+pub use asn1_codec::Row13;
+pub use asn1_codec::Rule;
+pub use asn1_codec::Serialize;
+pub use asn1_codec::Serializer;
+pub use asn1_codec::TagNumber;
+pub use asn1_codec::Tagged;
+pub use asn1_codec::Unsupported;
+pub use asn1_codec::WriteFields;
+pub use asn1_codec::WriteItem;
+pub use asn1_codec::from_bytes;
+pub use asn1_codec::from_exact_bytes;
+pub use asn1_codec::from_reader;
+pub use asn1_codec::from_reader_with_max_len;
+pub use asn1_codec::one_reading;
+pub use asn1_codec::read_sequence;
+pub use asn1_codec::to_byte_buf;
+pub use asn1_codec::to_bytes;
+pub use asn1_codec::to_vec;
+pub use asn1_codec::to_writer;
+pub use asn1_elements::Element;
+pub use asn1_elements::Tag;
+pub use asn1_elements::TagClass;
+pub use asn1_elements::TagPeeker;
+pub use asn1_elements::misc;
+pub use asn1_elements::split_element;
 pub use bit_container::BitStringContainer;
 pub use byte_buf::ByteBuf;
-pub use choice::{Alternatives, Choice, Last};
+pub use choice::Alternatives;
+pub use choice::Choice;
+pub use choice::Last;
 pub use container::OctetStringContainer;
-pub use default::{DefaultField, HasDefault};
-pub use devices::{Sink, Source, Space, Watched};
-pub use implicit_tag::{
-    ImplicitContextTag, ImplicitContextTag0, ImplicitContextTag1, ImplicitContextTag2,
-    ImplicitContextTag3, ImplicitContextTag4, ImplicitContextTag5, ImplicitContextTag6,
-    ImplicitContextTag7, ImplicitContextTag8, ImplicitContextTag9, ImplicitContextTag10,
-    ImplicitContextTag11, ImplicitContextTag12, ImplicitContextTag13, ImplicitContextTag14,
-    ImplicitContextTag15,
-};
+pub use copies::LentFields;
+pub use copies::RecordFields;
+pub use default::DefaultField;
+pub use default::HasDefault;
+pub use devices::Sink;
+pub use devices::Source;
+pub use devices::Space;
+pub use devices::Watched;
+pub use encoding::encoding_of;
+pub use encoding::tagged_encoding;
+pub use implicit_tag::ImplicitContextTag;
+pub use implicit_tag::ImplicitContextTag0;
+pub use implicit_tag::ImplicitContextTag1;
+pub use implicit_tag::ImplicitContextTag2;
+pub use implicit_tag::ImplicitContextTag3;
+pub use implicit_tag::ImplicitContextTag4;
+pub use implicit_tag::ImplicitContextTag5;
+pub use implicit_tag::ImplicitContextTag6;
+pub use implicit_tag::ImplicitContextTag7;
+pub use implicit_tag::ImplicitContextTag8;
+pub use implicit_tag::ImplicitContextTag9;
+pub use implicit_tag::ImplicitContextTag10;
+pub use implicit_tag::ImplicitContextTag11;
+pub use implicit_tag::ImplicitContextTag12;
+pub use implicit_tag::ImplicitContextTag13;
+pub use implicit_tag::ImplicitContextTag14;
+pub use implicit_tag::ImplicitContextTag15;
+pub use lent::Lent;
 pub use raw::RawElement;
 pub use raw_der::Asn1RawDer;
 pub use retagged::Retagged;
-pub use wrapper::{
-    ExplicitContextTag, ExplicitContextTag0, ExplicitContextTag1, ExplicitContextTag2,
-    ExplicitContextTag3, ExplicitContextTag4, ExplicitContextTag5, ExplicitContextTag6,
-    ExplicitContextTag7, ExplicitContextTag8, ExplicitContextTag9, ExplicitContextTag10,
-    ExplicitContextTag11, ExplicitContextTag12, ExplicitContextTag13, ExplicitContextTag14,
-    ExplicitContextTag15,
-};
+pub use wrapper::ExplicitContextTag;
+pub use wrapper::ExplicitContextTag0;
+pub use wrapper::ExplicitContextTag1;
+pub use wrapper::ExplicitContextTag2;
+pub use wrapper::ExplicitContextTag3;
+pub use wrapper::ExplicitContextTag4;
+pub use wrapper::ExplicitContextTag5;
+pub use wrapper::ExplicitContextTag6;
+pub use wrapper::ExplicitContextTag7;
+pub use wrapper::ExplicitContextTag8;
+pub use wrapper::ExplicitContextTag9;
+pub use wrapper::ExplicitContextTag10;
+pub use wrapper::ExplicitContextTag11;
+pub use wrapper::ExplicitContextTag12;
+pub use wrapper::ExplicitContextTag13;
+pub use wrapper::ExplicitContextTag14;
+pub use wrapper::ExplicitContextTag15;

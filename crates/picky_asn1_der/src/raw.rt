@@ -3,7 +3,7 @@ ghost use Rattle.std.specs.Prelude.{◌≡◌, MatchOption, IfSome, IsTrue};
 ghost use Rattle.asn1_elements.specs.Raw.{Raw, has_low_number};
 
 use asn1_codec::{Deserialize, Deserializer, Serialize, Serializer};
-use asn1_octets::Asn1DerError;
+use asn1_der::Asn1DerError;
 use devices::{Sink, Source};
 use std::alloc::AllocError;
 use std::marker::Model;
@@ -90,7 +90,7 @@ impl Eq for RawElement {
 }
 
 impl Serialize for RawElement {
-    ghost use Rattle.asn1_trees.specs.Firsts.{any_octet};
+    ghost use Rattle.asn1_der.specs.Firsts.{any_octet};
     ghost use Rattle.asn1_elements.specs.Raw.{raw_tree};
     ghost use Rattle.picky_asn1_der.specs.RawLaws.{raw-begins, raw-injective};
 

@@ -1,14 +1,13 @@
 //! Elements of any type, as their bytes.
 ghost use Rattle.std.specs.Prelude.{◌≡◌, ◌≤◌, true, length, drop, MatchResult, IfOk};
-ghost use Rattle.asn1_trees.specs.Length.{element};
+ghost use Rattle.asn1_der.specs.Length.{element};
 ghost use Rattle.asn1_elements.specs.Raw.{Raw, has_low_number};
 ghost use Rattle.asn1_elements.specs.Splits.{IsNotOne};
 
 use crate::raw::RawElement;
 use asn1_codec::{Deserialize, Deserializer, Serialize, Serializer};
+use asn1_der::{Asn1DerError, LengthOctets};
 use asn1_elements::split_element;
-use asn1_octets::Asn1DerError;
-use asn1_trees::LengthOctets;
 use devices::{Sink, Source};
 use std::alloc::{AllocError, Global};
 use std::cmp::Ordering;
@@ -30,7 +29,7 @@ pub struct Asn1RawDer {
 
 impl Model for Asn1RawDer {
     ghost use Rattle.std.specs.Prelude.{◌≡◌, ◌≤◌, true, drop, length};
-    ghost use Rattle.asn1_trees.specs.Length.{element};
+    ghost use Rattle.asn1_der.specs.Length.{element};
     ghost use Rattle.asn1_elements.specs.Raw.{Raw, has_low_number};
 
     ghost Value = { Raw };
@@ -103,7 +102,7 @@ fn one_element(bytes: &[u8]) -> Result<(u8, usize), Asn1DerError>
 }
 
 impl Serialize for Asn1RawDer {
-    ghost use Rattle.asn1_trees.specs.Firsts.{any_octet};
+    ghost use Rattle.asn1_der.specs.Firsts.{any_octet};
     ghost use Rattle.asn1_elements.specs.Raw.{raw_tree};
     ghost use Rattle.picky_asn1_der.specs.RawLaws.{raw-begins, raw-injective};
 

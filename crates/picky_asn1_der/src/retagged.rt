@@ -2,7 +2,7 @@
 ghost use Rattle.std.specs.Prelude.{◌≡◌};
 
 use asn1_codec::{Deserializer, Serializer, Tagged};
-use asn1_octets::Asn1DerError;
+use asn1_der::Asn1DerError;
 use devices::{Sink, Source};
 
 /// A value under the identifier octet `OCTET` in place of its type's own: a SET of fields (X.690, section 8.11) and a SET OF

@@ -1,11 +1,11 @@
 //! Values under a further tag.
 ghost use Rattle.std.specs.Prelude.{◌≡◌, ℕ, ◌+◌, ◌%◌, MatchResult};
-ghost use Rattle.asn1_trees.specs.Tree.{Tree, wrapped};
-ghost use Rattle.asn1_trees.specs.Firsts.{only};
+ghost use Rattle.asn1_der.specs.Tree.{Tree, wrapped};
+ghost use Rattle.asn1_der.specs.Firsts.{only};
 ghost use Rattle.asn1_codec.specs.Refusals.{part_refusal};
 
 use asn1_codec::{Deserialize, Deserializer, IsTagNumber, Serialize, Serializer, TagNumber};
-use asn1_octets::Asn1DerError;
+use asn1_der::Asn1DerError;
 use devices::{Sink, Source};
 
 /// A value under the explicit context tag `N` (X.690, section 8.14.3), which is below 31.
@@ -24,7 +24,7 @@ impl<const N: u8, T: Serialize> Serialize for ExplicitContextTag<N, T>
 where
     TagNumber<N>: IsTagNumber,
 {
-    ghost use Rattle.asn1_trees.proofs.Spelling.{wrapped-begins, wrapped-injective};
+    ghost use Rattle.asn1_der.proofs.Spelling.{wrapped-begins, wrapped-injective};
 
     ghost tree = { λ value. wrapped (160 + N % 32) (T.tree value.0) };
 

@@ -9,7 +9,10 @@ pub use x509_algorithms::{AlgorithmIdentifier, AlgorithmIdentifierParameters, Di
 pub use x509_attributes::{
     AnyValues, Attribute, AttributeValues, Attributes, OpenSslAttributes, RequestedExtensions,
 };
-pub use x509_certificates::{Certificate, CertificateExtensions, TbsCertificate};
+pub use x509_certificates::{
+    Certificate, CertificateExtensions, CertificationRequest, CertificationRequestInfo,
+    TbsCertificate,
+};
 pub use x509_extensions::{
     AuthorityKeyIdentifier, Extension, ExtensionValue, ExtensionView, Extensions, IssuerAltName,
     KeyIdentifier, SubjectAltName, SubjectKeyIdentifier,
@@ -35,7 +38,7 @@ pub use x509_private_keys::{
     ECPrivateKey, EncapsulatedEcSecret, PRIVATE_KEY_INFO_VERSION_1, PRIVATE_KEY_INFO_VERSION_2,
     PrivateKeyInfo, PrivateKeyValue, RsaPrivateKey,
 };
-pub use x509_requests::{CertificationRequest, CertificationRequestInfo};
-pub use x509_signed::{Signed, with_signed_part};
-pub use x509_spelling::{Spelled, X509Fault, deviations, encoded_len, from_bytes, to_vec};
+pub use x509_spelling::{
+    Signed, Spelled, X509Fault, deviations, encoded_len, from_bytes, to_vec, with_signed_part,
+};
 pub use x509_usages::{ExtendedKeyUsage, KeyUsage};

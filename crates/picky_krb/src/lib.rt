@@ -12,8 +12,8 @@
 //! | `picky_asn1_der::to_vec` | writes any of these types but tokens, PACs and NEGOEX, which have calls of their own | |
 #![tactic(auto)]
 
+pub use krb_encrypted_data::{OpenFault, open_part, open_whole, read_whole};
 pub use krb_messages::from_bytes;
-pub use krb_opening::{OpenFault, open_part, open_whole, read_whole};
 
 /// Numbers of the standards.
 pub mod constants {
@@ -52,6 +52,7 @@ pub mod constants {
 
     /// The version, message types, application tags, types of names, of addresses and of data.
     pub mod types {
+        pub use kpasswd_messages::constants::types::{KRB_PRIV, KRB_PRIV_ENC_PART};
         pub use krb_constants::types::{
             AD_AUTH_DATA_AP_OPTION_TYPE, APPLETALK_DDP_ADDR_TYPE, CHAOS_NET_ADDR_TYPE,
             DECNET_PHASE_IV_ADDR_TYPE, DIRECTIONAL_ADDR_TYPE, ENC_KRB_CRED_PART_TYPE,
@@ -62,7 +63,6 @@ pub mod constants {
             PA_PAC_REQUEST_TYPE, PA_PK_AS_REP, PA_PK_AS_REQ, PA_TGS_REQ_TYPE, TGT_REP_MSG_TYPE,
             TGT_REQ_MSG_TYPE, XNS_ADDR_TYPE,
         };
-        pub use krb_priv_messages::constants::types::{KRB_PRIV, KRB_PRIV_ENC_PART};
         pub use krb_types::constants::types::{
             AP_REP_MSG_TYPE, AP_REQ_MSG_TYPE, AS_REP_MSG_TYPE, AS_REQ_MSG_TYPE, AUTHENTICATOR_TYPE,
             ENC_AP_REP_PART_TYPE, ENC_AS_REP_PART_TYPE, ENC_TGS_REP_PART_TYPE,
@@ -90,7 +90,7 @@ pub mod crypto {
 
     /// Keys that a Diffie-Hellman exchange agrees on (RFC 4556, section 3.2.3.1).
     pub mod diffie_hellman {
-        pub use krb_agreement::{
+        pub use krb_crypto::diffie_hellman::{
             DhNonce, DiffieHellmanError, DiffieHellmanResult, generate_key_from_shared_secret,
         };
     }
@@ -98,12 +98,14 @@ pub mod crypto {
 
 /// What messages hold, and the record of a process's integrity level.
 pub mod data_types {
-    pub use krb_credentials::{
-        ChangePasswdData, EncKrbCredPart, EncKrbCredPartInner, KerbAdRestrictionEntry,
-        KerbErrorData, KerbPaPacRequest, KrbCredInfo, KrbResult, PaPacOptions, ResultExt,
+    pub use gss_message_tokens::{
+        LsapTokenInfoIntegrity, LsapTokenInfoIntegrityError, MACHINE_ID_LENGTH,
     };
-    pub use krb_priv_messages::{EncKrbPrivPart, EncKrbPrivPartInner};
-    pub use krb_tokens::{LsapTokenInfoIntegrity, LsapTokenInfoIntegrityError, MACHINE_ID_LENGTH};
+    pub use kpasswd_messages::{ChangePasswdData, EncKrbPrivPart, EncKrbPrivPartInner};
+    pub use krb_credentials::{
+        EncKrbCredPart, EncKrbCredPartInner, KerbAdRestrictionEntry, KerbErrorData,
+        KerbPaPacRequest, KrbCredInfo, KrbResult, PaPacOptions, ResultExt,
+    };
     pub use krb_types::data_types::{
         ApOptions, Authenticator, AuthenticatorInner, AuthorizationData, AuthorizationDataInner,
         Checksum, EncApRepPart, EncApRepPartInner, EncTicketPart, EncTicketPartInner,
@@ -116,24 +118,23 @@ pub mod data_types {
 
 /// Tokens of the GSS-API mechanism (RFC 4121), and those by which a mechanism is negotiated (RFC 4178).
 pub mod gss_api {
-    pub use gss_context_tokens::{IAKerbProxyMessage, KrbMessage, TokenSequence};
-    pub use gss_messages::{
-        ApplicationTag0, GssApiNegInit, MechType, MechTypeList, NegTokenInit, NegTokenTarg,
-        NegTokenTarg1,
+    pub use gss_context_tokens::{
+        ApplicationTag0, GssApiNegInit, IAKerbProxyMessage, KrbMessage, MechType, MechTypeList,
+        NegTokenInit, NegTokenTarg, NegTokenTarg1, TokenSequence,
     };
-    pub use krb_tokens::{GssApiMessageError, MicToken, WrapToken};
+    pub use gss_message_tokens::{GssApiMessageError, MicToken, WrapToken};
 }
 
 /// Messages (RFC 4120, section 5), and the exchange that changes a password (RFC 3244).
 pub mod messages {
     pub use gss_context_tokens::{IAKerbCookie, IAKerbHeader};
+    pub use kpasswd_messages::{
+        ApMessage, KrbPriv, KrbPrivFrame, KrbPrivFrameError, KrbPrivInner, KrbPrivMessage,
+    };
     pub use krb_credentials::{KdcProxyMessage, KrbCred, KrbCredInner, TgtRep, TgtReq};
     pub use krb_messages::messages::{
         ApRep, ApRepInner, ApReq, ApReqInner, AsRep, AsReq, EncAsRepPart, EncKdcRepPart,
         EncTgsRepPart, KdcRep, KdcReq, KdcReqBody, KrbError, KrbErrorInner, TgsRep, TgsReq,
-    };
-    pub use krb_priv_messages::{
-        ApMessage, KrbPriv, KrbPrivFrame, KrbPrivFrameError, KrbPrivInner, KrbPrivMessage,
     };
 }
 
@@ -167,13 +168,10 @@ pub mod pac {
 
 /// Preauthentication by certificate (RFC 4556), and PKU2U, which negotiates on certificates between peers.
 pub mod pkinit {
-    pub use pkinit_auth_packs::{AuthPack, ClientPublicValue, DhAuthPack, EcAuthPack};
     pub use pkinit_messages::{
-        DhDomainParameters, DhNonce, DhRepInfo, DhReqInfo, DhReqKeyInfo,
-        ExternalPrincipalIdentifier, KdcDhKeyInfo, PaPkAsRep, PaPkAsReq, PkAuthenticator,
-        ValidationParams,
-    };
-    pub use pku2u_messages::{
-        KrbFinished, Pku2uNegoBody, Pku2uNegoRep, Pku2uNegoReq, Pku2uNegoReqMetadata,
+        AuthPack, ClientPublicValue, DhAuthPack, DhDomainParameters, DhNonce, DhRepInfo, DhReqInfo,
+        DhReqKeyInfo, EcAuthPack, ExternalPrincipalIdentifier, KdcDhKeyInfo, KrbFinished,
+        PaPkAsRep, PaPkAsReq, PkAuthenticator, Pku2uNegoBody, Pku2uNegoRep, Pku2uNegoReq,
+        Pku2uNegoReqMetadata, ValidationParams,
     };
 }

@@ -9,7 +9,7 @@ use Rattle.krb_types.specs.declared.data_types.pa_data.PaData.{PaData}
 use Rattle.krb_messages.specs.declared.messages.kdc_rep.KdcRep.{KdcRep}
 use Rattle.krb_messages.specs.declared.messages.kdc_req_body.KdcReqBody.{KdcReqBody}
 use Rattle.krb_crypto.specs.Keys.{KeyRecord}
-use Rattle.krb_agreement.specs.AgreedKeys.{agreed_key}
+use Rattle.krb_crypto.specs.AgreedKeys.{agreed_key}
 use Rattle.krb_preauth.specs.Entries.{first_of}
 use Rattle.krb_asked.specs.Asked.{AsAskedRecord}
 use Rattle.krb_client.specs.Client.{ClientRecord}

@@ -2,8 +2,8 @@
 use Rattle.std.specs.Prelude.{◌≡◌, ◌⊎◌, ◌%◌, None, Some}
 use Rattle.std.proofs.Common.{sym, ap, ◌∙◌, subst}
 use Rattle.asn1_leaves.specs.declared.date.GeneralizedTime.{GeneralizedTime}
-use Rattle.asn1_trees.specs.Tree.{der}
-use Rattle.asn1_trees.specs.Tagged.{tagged_tree}
+use Rattle.asn1_der.specs.Tree.{der}
+use Rattle.asn1_der.specs.Tagged.{tagged_tree}
 use Rattle.asn1_elements.specs.Raw.{Raw}
 use Rattle.picky_asn1.specs.Bytes.{Bytes}
 use Rattle.krb_moments.specs.SecondOf.{IsSecondOf, sole_second}

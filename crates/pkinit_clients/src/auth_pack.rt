@@ -3,13 +3,11 @@ ghost use Rattle.std.specs.Prelude.{◌≡◌, IfOk};
 ghost use Rattle.sha1.specs.Sha1.{sha1};
 ghost use Rattle.pkinit_clients.specs.AuthPacks.{auth_pack_bytes, auth_pack_of, authenticator_of, body_bytes};
 
-use krb_encoding::encoding_of;
 use krb_messages::messages::KdcReqBody;
 use picky_asn1::date::GeneralizedTime;
 use picky_asn1::wrapper::{GeneralizedTimeAsn1, IntegerAsn1, OctetStringAsn1};
-use picky_asn1_der::{Asn1RawDer, ExplicitContextTag, Optional, to_vec};
-use pkinit_auth_packs::AuthPack;
-use pkinit_messages::PkAuthenticator;
+use picky_asn1_der::{Asn1RawDer, ExplicitContextTag, Optional, encoding_of, to_vec};
+use pkinit_messages::{AuthPack, PkAuthenticator};
 use results::both;
 use sha1::Sha1;
 use std::alloc::{AllocError, Global};

@@ -5,11 +5,10 @@ ghost use Rattle.pkinit_clients.specs.Requests.{IsNoPkAsReq, IsPkAsReqOf, pk_as_
 use crate::auth_pack::auth_pack_bytes;
 use crate::signed::signed_auth_pack;
 use key_functions::KeyFunctions;
-use krb_encoding::encoding_of;
 use krb_messages::messages::KdcReqBody;
 use krb_moments::Moment;
 use picky_asn1::wrapper::OctetStringAsn1;
-use picky_asn1_der::{ImplicitContextTag, Optional};
+use picky_asn1_der::{ImplicitContextTag, Optional, encoding_of};
 use pkinit_messages::PaPkAsReq;
 use std::alloc::{AllocError, Global};
 

@@ -7,18 +7,18 @@ use Rattle.krb_types.specs.declared.data_types.pa_data.PaData.{PaData}
 use Rattle.krb_messages.specs.declared.messages.kdc_rep.KdcRep.{KdcRep}
 use Rattle.krb_messages.specs.declared.messages.kdc_req_body.KdcReqBody.{KdcReqBody}
 use Rattle.krb_crypto.specs.Keys.{KeyRecord}
-use Rattle.krb_agreement.specs.AgreedKeys.{agreed_key}
+use Rattle.krb_crypto.specs.AgreedKeys.{agreed_key}
 use Rattle.krb_accounts.specs.Account.{AccountRecord}
 use Rattle.decision_tables.specs.One.{same_parts}
 use Rattle.decision_tables.specs.Tables.{done}
 use Rattle.krb_pkinit.specs.Calls.{AgreedRecord, PkinitCallRecord}
 use Rattle.krb_preauth.specs.Entries.{first_entry, first_of}
-use Rattle.krb_tickets.specs.MethodData.{pa_data_of}
+use Rattle.krb_preauth.specs.MethodData.{pa_data_of}
 use Rattle.krb_tickets.specs.Parts.{padata_of}
 use Rattle.krb_tickets.specs.ReplyKeys.{ReplyKeyRecord, agreed_reply_key}
 use Rattle.krb_as.specs.AsTable.{authenticated, authenticated_by}
-use Rattle.krb_as.specs.Call.{CallRecord, pkinit_call, skew_of}
-use Rattle.krb_as.specs.Calls.{AreKeyed}
+use Rattle.krb_kdc_requests.specs.Call.{CallRecord, pkinit_call, skew_of}
+use Rattle.krb_kdc_requests.specs.Calls.{AreKeyed}
 use Rattle.krb_client.specs.AsRequest.{as_request_of}
 use Rattle.krb_client.specs.Client.{ClientRecord}
 use Rattle.krb_client.specs.Requests.{entry_of}

@@ -5,8 +5,8 @@ use Rattle.std.proofs.lemmas.Bool.{lt-ltb}
 use Rattle.sha1.specs.Sha1.{sha1}
 use Rattle.asn1_leaves.specs.ObjectIdentifier.{oid_content, subidentifier}
 use Rattle.asn1_leaves.specs.declared.date.GeneralizedTime.{GeneralizedTime}
-use Rattle.asn1_trees.specs.Tree.{IsWhole}
-use Rattle.asn1_trees.proofs.Spelling.{whole-wrapped}
+use Rattle.asn1_der.specs.Tree.{IsWhole}
+use Rattle.asn1_der.proofs.Spelling.{whole-wrapped}
 use Rattle.asn1_elements.specs.Raw.{Raw, raw_tree}
 use Rattle.picky_asn1.specs.Bytes.{Bytes}
 use Rattle.krb_moments.specs.SecondOf.{IsSecondOf}
@@ -25,7 +25,7 @@ use Rattle.key_functions.specs.declared.functions.Signed.{Signed}
 use Rattle.cms_signed_content.specs.SignedParts.{SignedParts}
 use Rattle.cms_signed_content.specs.Written.{IsWritten, signed_bytes}
 use Rattle.cms_signed_content.specs.WrittenLaws.{written_is, written_parts}
-use Rattle.pkinit_auth_packs.specs.declared.auth_pack.AuthPack.{AuthPack}
+use Rattle.pkinit_messages.specs.declared.auth_pack.AuthPack.{AuthPack}
 use Rattle.pkinit_trust.specs.Anchors.{AnchorRecord}
 use Rattle.pkinit_trust.specs.Certificates.{IsCertificate, ReadRecord}
 use Rattle.pkinit_replies.specs.AgreementBytes.{agreement_bytes}

@@ -2,8 +2,8 @@
 use Rattle.std.proofs.Common.{◌≡◌, true, Option, Ok, inl, refl, ap, eq-eqb}
 use Rattle.std.specs.Prelude.{ℤ, pos, not}
 use Rattle.asn1_leaves.specs.ObjectIdentifier.{oid_content, subidentifier}
-use Rattle.asn1_trees.specs.Tree.{IsWhole, leaf}
-use Rattle.asn1_trees.proofs.Spelling.{whole-wrapped}
+use Rattle.asn1_der.specs.Tree.{IsWhole, leaf}
+use Rattle.asn1_der.proofs.Spelling.{whole-wrapped}
 use Rattle.picky_asn1.specs.BitString.{Bits, bit_content, is_bit_string}
 use Rattle.picky_asn1.specs.Bytes.{Bytes}
 use Rattle.picky_asn1.specs.Numbers.{is_number}

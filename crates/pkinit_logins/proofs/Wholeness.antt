@@ -1,9 +1,9 @@
 -- Elements that are there can be written.
 use Rattle.std.proofs.Common.{◌≡◌, ℕ, Bool, true, false, List, ◌∙◌}
 use Rattle.asn1_elements.specs.Raw.{Raw, has_low_number, raw_tree}
-use Rattle.asn1_trees.specs.Length.{element}
-use Rattle.asn1_trees.specs.Tree.{IsWhole, der, leaf}
-use Rattle.asn1_trees.proofs.Elements.{element-split}
+use Rattle.asn1_der.specs.Length.{element}
+use Rattle.asn1_der.specs.Tree.{IsWhole, der, leaf}
+use Rattle.asn1_der.proofs.Elements.{element-split}
 use Rattle.picky_asn1.specs.BitString.{bit_content, is_bit_string}
 use Rattle.pkinit_replies.specs.PublicKeys.{IsPublicKey}
 use Rattle.pkinit_replies.specs.declared.public_key.AgreementPublicKey.{AgreementPublicKey}

@@ -2,7 +2,7 @@
 //! login by certificate ends with. Each is a function that does nothing when it runs: its contract is the law.
 ghost use Rattle.std.specs.Prelude.{◌≡◌, ℕ, List, Ok, Result, pos};
 ghost use Rattle.krb_pkinit.specs.Calls.{AgreedRecord, PkinitCallRecord};
-ghost use Rattle.krb_as.specs.Calls.{AreKeyed};
+ghost use Rattle.krb_kdc_requests.specs.Calls.{AreKeyed};
 ghost use Rattle.krb_client.specs.Client.{ClientRecord};
 ghost use Rattle.krb_service.specs.Service.{ServiceRecord};
 ghost use Rattle.krb_logins.specs.Honest.{AreEnough, AreParties, IsGranting, IsOneKey};

@@ -3,10 +3,9 @@ use crate::validation_params::ValidationParams;
 use devices::{Sink, Source};
 use picky_asn1::wrapper::IntegerAsn1;
 use picky_asn1_der::{
-    Asn1DerError, Deserializer, Fields, Optional, Row5, Serializer, Tagged, fields_of, from_fields,
-    read_sequence,
+    Asn1DerError, Deserializer, Fields, LentFields, Optional, RecordFields, Row5, Serializer,
+    Tagged, fields_of, from_fields, read_sequence,
 };
-use record_copies::{LentFields, RecordFields};
 use std::alloc::AllocError;
 
 /// A group in which Diffie and Hellman's agreement is made (RFC 3279, section 2.3.3).
@@ -52,8 +51,8 @@ impl Clone for DhDomainParameters {
 
 impl Tagged for DhDomainParameters {
     ghost use Rattle.std.proofs.Common.{ap, refl, true};
-    ghost use Rattle.asn1_trees.specs.Tagged.{sequence};
-    ghost use Rattle.asn1_trees.proofs.Tagged.{sequence_laws};
+    ghost use Rattle.asn1_der.specs.Tagged.{sequence};
+    ghost use Rattle.asn1_der.proofs.Tagged.{sequence_laws};
 
     type Row = DhDomainParametersRow;
 

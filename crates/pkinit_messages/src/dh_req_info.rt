@@ -26,8 +26,8 @@ type DhReqInfoRow = Row2<DhReqKeyInfo, BitStringAsn1>;
 
 impl Tagged for DhReqInfo {
     ghost use Rattle.std.proofs.Common.{ap, refl, true};
-    ghost use Rattle.asn1_trees.specs.Tagged.{sequence};
-    ghost use Rattle.asn1_trees.proofs.Tagged.{sequence_laws};
+    ghost use Rattle.asn1_der.specs.Tagged.{sequence};
+    ghost use Rattle.asn1_der.proofs.Tagged.{sequence_laws};
 
     type Row = DhReqInfoRow;
 

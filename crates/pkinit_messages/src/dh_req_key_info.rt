@@ -26,8 +26,8 @@ type DhReqKeyInfoRow = Row2<ObjectIdentifierAsn1, DhDomainParameters>;
 
 impl Tagged for DhReqKeyInfo {
     ghost use Rattle.std.proofs.Common.{ap, refl, true};
-    ghost use Rattle.asn1_trees.specs.Tagged.{sequence};
-    ghost use Rattle.asn1_trees.proofs.Tagged.{sequence_laws};
+    ghost use Rattle.asn1_der.specs.Tagged.{sequence};
+    ghost use Rattle.asn1_der.proofs.Tagged.{sequence_laws};
 
     type Row = DhReqKeyInfoRow;
 

@@ -1,8 +1,8 @@
-//! Preauthentication by certificate (RFC 4556): what stands in its messages, but for what holds algorithms and keys of X.509.
-//!
-//! The names, fields and tags are those of the ported crate.
+//! What PKINIT (RFC 4556) and PKU2U send and sign.
 #![tactic(auto)]
 
+mod auth_pack;
+mod client_public_value;
 mod dh_domain_parameters;
 mod dh_nonce;
 mod dh_rep_info;
@@ -10,11 +10,18 @@ mod dh_req_info;
 mod dh_req_key_info;
 mod external_principal_identifier;
 mod kdc_dh_key_info;
+mod krb_finished;
 mod pa_pk_as_rep;
 mod pa_pk_as_req;
 mod pk_authenticator;
+mod pku2u_nego_body;
+mod pku2u_nego_rep;
+mod pku2u_nego_req;
+mod pku2u_nego_req_metadata;
 mod validation_params;
 
+pub use auth_pack::{AuthPack, DhAuthPack, EcAuthPack};
+pub use client_public_value::ClientPublicValue;
 pub use dh_domain_parameters::DhDomainParameters;
 pub use dh_nonce::DhNonce;
 pub use dh_rep_info::DhRepInfo;
@@ -22,7 +29,12 @@ pub use dh_req_info::DhReqInfo;
 pub use dh_req_key_info::DhReqKeyInfo;
 pub use external_principal_identifier::ExternalPrincipalIdentifier;
 pub use kdc_dh_key_info::KdcDhKeyInfo;
+pub use krb_finished::KrbFinished;
 pub use pa_pk_as_rep::PaPkAsRep;
 pub use pa_pk_as_req::PaPkAsReq;
 pub use pk_authenticator::PkAuthenticator;
+pub use pku2u_nego_body::Pku2uNegoBody;
+pub use pku2u_nego_rep::Pku2uNegoRep;
+pub use pku2u_nego_req::Pku2uNegoReq;
+pub use pku2u_nego_req_metadata::Pku2uNegoReqMetadata;
 pub use validation_params::ValidationParams;

@@ -30,7 +30,7 @@ type ReplyChoice = Choice<
 
 impl Serialize for PaPkAsRep {
     ghost use Rattle.std.proofs.Common.{refl, true};
-    ghost use Rattle.asn1_trees.proofs.Choices.{injective_as};
+    ghost use Rattle.asn1_der.proofs.Choices.{injective_as};
     ghost use Rattle.pkinit_messages.specs.Replies.{reply_choice, reply_made, reply_back};
 
     ghost tree = { λ v. ⟦<ReplyChoice as Alternatives>⟧.tree (reply_choice v) };

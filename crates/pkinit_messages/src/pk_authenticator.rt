@@ -4,10 +4,9 @@ use krb_types::data_types::KerberosTime;
 use picky_asn1::wrapper::{IntegerAsn1, OctetStringAsn1};
 use picky_asn1_der::{
     Asn1DerError, Deserializer, ExplicitContextTag0, ExplicitContextTag1, ExplicitContextTag2,
-    ExplicitContextTag3, Fields, Optional, Row4, Serializer, Tagged, fields_of, from_fields,
-    read_sequence,
+    ExplicitContextTag3, Fields, LentFields, Optional, RecordFields, Row4, Serializer, Tagged,
+    fields_of, from_fields, read_sequence,
 };
-use record_copies::{LentFields, RecordFields};
 use std::alloc::AllocError;
 
 /// What a client signs with its public value (RFC 4556, section 3.2.1).
@@ -50,8 +49,8 @@ impl Clone for PkAuthenticator {
 
 impl Tagged for PkAuthenticator {
     ghost use Rattle.std.proofs.Common.{ap, refl, true};
-    ghost use Rattle.asn1_trees.specs.Tagged.{sequence};
-    ghost use Rattle.asn1_trees.proofs.Tagged.{sequence_laws};
+    ghost use Rattle.asn1_der.specs.Tagged.{sequence};
+    ghost use Rattle.asn1_der.proofs.Tagged.{sequence_laws};
 
     type Row = PkAuthenticatorRow;
 

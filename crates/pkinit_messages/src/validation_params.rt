@@ -23,8 +23,8 @@ type ValidationParamsRow = Row2<BitStringAsn1, IntegerAsn1>;
 
 impl Tagged for ValidationParams {
     ghost use Rattle.std.proofs.Common.{ap, refl, true};
-    ghost use Rattle.asn1_trees.specs.Tagged.{sequence};
-    ghost use Rattle.asn1_trees.proofs.Tagged.{sequence_laws};
+    ghost use Rattle.asn1_der.specs.Tagged.{sequence};
+    ghost use Rattle.asn1_der.proofs.Tagged.{sequence_laws};
 
     type Row = ValidationParamsRow;
 

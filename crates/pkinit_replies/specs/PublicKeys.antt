@@ -1,8 +1,8 @@
 -- Public values of an agreement (RFC 4556, section 3.2.3.1; RFC 5280, section 4.1.2.7).
 use Rattle.std.proofs.Common.{sym, ◌∙◌}
-use Rattle.asn1_trees.specs.Tree.{Writes, der}
-use Rattle.asn1_trees.specs.Tagged.{tagged_tree}
-use Rattle.asn1_trees.proofs.Tagged.{tagged-injective}
+use Rattle.asn1_der.specs.Tree.{Writes, der}
+use Rattle.asn1_der.specs.Tagged.{tagged_tree}
+use Rattle.asn1_der.proofs.Tagged.{tagged-injective}
 use Rattle.asn1_elements.specs.Raw.{Raw, raw_tree}
 use Rattle.decision_tables.specs.One.{IsSole}
 use Rattle.pkinit_replies.specs.declared.public_key.AgreementPublicKey.{AgreementPublicKey}

@@ -1,8 +1,8 @@
 -- What a realm replies to a client that authenticates by certificate (RFC 4556, section 3.2.3.1).
 use Rattle.std.specs.Prelude.{ℕ, ℤ, List, [], ◌∷◌, None, Result, Ok, Err, Vec}
 use Rattle.std.specs.Global.{Global}
-use Rattle.asn1_trees.specs.Tree.{der}
-use Rattle.asn1_trees.specs.Tagged.{tagged_tree}
+use Rattle.asn1_der.specs.Tree.{der}
+use Rattle.asn1_der.specs.Tagged.{tagged_tree}
 use Rattle.picky_asn1.specs.BitString.{Bits}
 use Rattle.picky_asn1.specs.Bytes.{Bytes}
 use Rattle.decision_tables.specs.Tables.{Table, ask, done, need}

@@ -1,7 +1,7 @@
 -- A SEQUENCE of five fields of which one deviates alone: the fourth, as the certificate in signed data (RFC 5652, section 5.1).
 use Rattle.std.proofs.Common.{◌≡◌, ℕ, ◌+◌, List, [], ◌∷◌, ◌++◌, refl, sym, ap, ◌∙◌, subst, arith}
 use Rattle.std.specs.Prelude.{⊤}
-use Rattle.asn1_trees.specs.Length.{element}
+use Rattle.asn1_der.specs.Length.{element}
 use Rattle.asn1_paths.specs.PathLaws.{AreSome, LeadsTo, in_element}
 use Rattle.x509_spelling.specs.Spellings.{Holds}
 use Rattle.cms_signed_content.specs.SpelledElements.{SpellsElements, Ends, Row, ended, row_some, row_front, row_behind}

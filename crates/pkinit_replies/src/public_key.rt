@@ -25,8 +25,8 @@ type AgreementPublicKeyRow = Row2<Asn1RawDer, BitStringAsn1>;
 
 impl Tagged for AgreementPublicKey {
     ghost use Rattle.std.proofs.Common.{ap, refl, true};
-    ghost use Rattle.asn1_trees.specs.Tagged.{sequence};
-    ghost use Rattle.asn1_trees.proofs.Tagged.{sequence_laws};
+    ghost use Rattle.asn1_der.specs.Tagged.{sequence};
+    ghost use Rattle.asn1_der.proofs.Tagged.{sequence_laws};
 
     type Row = AgreementPublicKeyRow;
 

@@ -5,10 +5,9 @@ ghost use Rattle.cms_signed_content.specs.Written.{IsWritten};
 ghost use Rattle.pkinit_replies.specs.Replies.{dh_key_data, key_info_bytes, key_info_of};
 
 use cms_signed_content::{KeyFunctions, SignedContent, SignedFault};
-use krb_encoding::encoding_of;
 use picky_asn1::oid::ObjectIdentifier;
 use picky_asn1::wrapper::{BitStringAsn1, IntegerAsn1};
-use picky_asn1_der::{ExplicitContextTag, Optional};
+use picky_asn1_der::{ExplicitContextTag, Optional, encoding_of};
 use pkinit_messages::KdcDhKeyInfo;
 use std::alloc::{AllocError, Global};
 

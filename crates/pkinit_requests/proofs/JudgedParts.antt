@@ -1,9 +1,9 @@
 -- What the signatures of a request cover are parts of the padata.
 use Rattle.std.proofs.Common.{ℕ, List, [], ◌∷◌, ◌++◌, Option, None, Some, refl, sym, subst}
-use Rattle.asn1_trees.specs.Length.{element}
-use Rattle.asn1_trees.specs.Tree.{Tree, Trees, primitive, constructed, more, none, der, ders, put, wrapped, trees_of, AreWhole, IsWhole}
-use Rattle.asn1_trees.specs.Tagged.{tagged_tree}
-use Rattle.asn1_trees.proofs.Spelling.{der-wrapped, wrapped-whole}
+use Rattle.asn1_der.specs.Length.{element}
+use Rattle.asn1_der.specs.Tree.{Tree, Trees, primitive, constructed, more, none, der, ders, put, wrapped, trees_of, AreWhole, IsWhole}
+use Rattle.asn1_der.specs.Tagged.{tagged_tree}
+use Rattle.asn1_der.proofs.Spelling.{der-wrapped, wrapped-whole}
 use Rattle.asn1_elements.specs.Parts.{IsPart}
 use Rattle.asn1_paths.specs.PathLaws.{AreSome, IsElement, LeadsTo, at_front, go_on, held_at, in_element, some_more}
 use Rattle.picky_asn1.specs.Bytes.{Bytes}

@@ -5,9 +5,9 @@ use Rattle.std.specs.Option.{option_map}
 use Rattle.std.specs.Cmp.Lexicographic.{pointwise}
 use Rattle.std.proofs.Common.{sym, ◌∙◌}
 use Rattle.sha1.specs.Sha1.{sha1}
-use Rattle.asn1_trees.specs.Tree.{Writes, der}
-use Rattle.asn1_trees.specs.Tagged.{tagged_tree}
-use Rattle.asn1_trees.proofs.Tagged.{tagged-injective}
+use Rattle.asn1_der.specs.Tree.{Writes, der}
+use Rattle.asn1_der.specs.Tagged.{tagged_tree}
+use Rattle.asn1_der.proofs.Tagged.{tagged-injective}
 use Rattle.asn1_elements.specs.Raw.{Raw}
 use Rattle.picky_asn1.specs.Bytes.{Bytes}
 use Rattle.picky_asn1.specs.GeneralizedTime.{seconds_of}
@@ -16,7 +16,7 @@ use Rattle.krb_moments.specs.Times.{moment_at}
 use Rattle.krb_moments.specs.Units.{Micros}
 use Rattle.krb_messages.specs.Trees.{kdc_req_body_tree}
 use Rattle.krb_messages.specs.declared.messages.kdc_req_body.KdcReqBody.{KdcReqBody}
-use Rattle.pkinit_auth_packs.specs.declared.auth_pack.AuthPack.{AuthPack}
+use Rattle.pkinit_messages.specs.declared.auth_pack.AuthPack.{AuthPack}
 use Rattle.pkinit_messages.specs.declared.pa_pk_as_req.PaPkAsReq.{PaPkAsReq}
 use Rattle.pkinit_messages.specs.contracts.pa_pk_as_req.PaPkAsReqTagged.TheImpl as request_impl
 use Rattle.pkinit_requests.specs.contracts.auth_packs.Asn1RawDerAuthPackEncoding.TheImpl as pack_impl

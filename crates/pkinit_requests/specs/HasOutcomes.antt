@@ -19,7 +19,7 @@ use Rattle.key_functions.specs.KeyFunctions.TheirValue.{WholeValue}
 use Rattle.cms_signed_content.specs.SignedContents.{IsSignedContent}
 use Rattle.cms_signed_content.specs.SignedLaws.{one_content}
 use Rattle.cms_signed_content.specs.SignedParts.{SignedParts, content_of}
-use Rattle.pkinit_auth_packs.specs.declared.auth_pack.AuthPack.{AuthPack}
+use Rattle.pkinit_messages.specs.declared.auth_pack.AuthPack.{AuthPack}
 use Rattle.pkinit_trust.specs.Accepted.{accepted, has_unrecognised, is_valid_at, issued}
 use Rattle.pkinit_trust.specs.Certificates.{IsCertificate, ReadRecord, name_bytes, sole_certificate}
 use Rattle.pkinit_trust.specs.Expected.{ExpectedRecord}

@@ -18,7 +18,7 @@ use Rattle.key_functions.specs.KeyFunctions.TheirValue.{WholeValue}
 use Rattle.cms_signed_content.specs.SignedContents.{IsSignedContent}
 use Rattle.cms_signed_content.specs.SignedLaws.{one_content}
 use Rattle.cms_signed_content.specs.SignedParts.{SignedParts, content_of}
-use Rattle.pkinit_auth_packs.specs.declared.auth_pack.AuthPack.{AuthPack}
+use Rattle.pkinit_messages.specs.declared.auth_pack.AuthPack.{AuthPack}
 use Rattle.pkinit_trust.specs.Expected.{ExpectedRecord}
 use Rattle.pkinit_trust.specs.Refusals.{code_of}
 use Rattle.pkinit_trust.specs.SignedContents.{judged_in}

@@ -12,7 +12,7 @@ use krb_types::Refusal;
 use krb_types::constants::error_codes;
 use picky_asn1::wrapper::OctetStringAsn1;
 use picky_asn1_der::{Asn1RawDer, to_vec};
-use pkinit_auth_packs::AuthPack;
+use pkinit_messages::AuthPack;
 use sha1::Sha1;
 use std::alloc::{AllocError, Global};
 

@@ -1,13 +1,13 @@
 //! The encoding of an AuthPack with any public value.
 use picky_asn1_der::{Asn1RawDer, Serialize};
-use pkinit_auth_packs::AuthPack;
+use pkinit_messages::AuthPack;
 
 // How an AuthPack with a public value of this type is encoded.
 pub(crate) trait AuthPackEncoding {
     ghost use Rattle.asn1_elements.specs.Raw.{Raw};
-    ghost use Rattle.asn1_trees.specs.Tree.{Tree};
-    ghost use Rattle.asn1_trees.proofs.Spelling.{IsInjective};
-    ghost use Rattle.pkinit_auth_packs.specs.declared.auth_pack.AuthPack.{AuthPack};
+    ghost use Rattle.asn1_der.specs.Tree.{Tree};
+    ghost use Rattle.asn1_der.proofs.Spelling.{IsInjective};
+    ghost use Rattle.pkinit_messages.specs.declared.auth_pack.AuthPack.{AuthPack};
 
     ghost pack_tree: { AuthPack Raw → Tree };
 

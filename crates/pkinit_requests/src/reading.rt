@@ -1,12 +1,11 @@
 //! Reading what a client authenticates by.
 ghost use Rattle.std.specs.Prelude.{IfOk};
-ghost use Rattle.krb_opening.specs.Found.{IsFound};
+ghost use Rattle.krb_encrypted_data.specs.Found.{IsFound};
 ghost use Rattle.pkinit_requests.specs.AuthPacks.{IsAuthPack, IsPaPkAsReq};
 
-use krb_opening::read_whole;
+use krb_encrypted_data::read_whole;
 use picky_asn1_der::Asn1RawDer;
-use pkinit_auth_packs::AuthPack;
-use pkinit_messages::PaPkAsReq;
+use pkinit_messages::{AuthPack, PaPkAsReq};
 use std::alloc::{AllocError, Global};
 
 /// The PA-PK-AS-REQ that the bytes are, or `None`.

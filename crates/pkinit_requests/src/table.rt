@@ -17,7 +17,7 @@ use krb_pkinit::Agreed;
 use krb_types::Refusal;
 use krb_types::constants::error_codes;
 use picky_asn1_der::Asn1RawDer;
-use pkinit_auth_packs::AuthPack;
+use pkinit_messages::AuthPack;
 use pkinit_replies::pk_as_rep;
 use std::alloc::Global;
 

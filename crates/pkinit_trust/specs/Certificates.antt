@@ -2,8 +2,8 @@
 use Rattle.std.specs.Prelude.{◌≡◌, ◌⊎◌, ℕ, [], ◌∷◌, List, Option, None, Some, Result, Err}
 use Rattle.std.specs.Borrow.{Bor}
 use Rattle.picky_asn1.specs.Bytes.{Bytes}
-use Rattle.asn1_trees.specs.Tree.{der}
-use Rattle.asn1_trees.specs.Tagged.{tagged_tree}
+use Rattle.asn1_der.specs.Tree.{der}
+use Rattle.asn1_der.specs.Tagged.{tagged_tree}
 use Rattle.asn1_elements.specs.Parts.{IsPart}
 use Rattle.asn1_elements.specs.PartLaws.{part-one}
 use Rattle.decision_tables.specs.One.{IsSole}

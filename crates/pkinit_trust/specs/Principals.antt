@@ -6,11 +6,11 @@ use Rattle.std.proofs.Common.{sym, ◌∙◌}
 use Rattle.picky_asn1.specs.Bytes.{Bytes}
 use Rattle.picky_asn1.specs.Integer.{integer_content, natural_octets}
 use Rattle.asn1_leaves.specs.ObjectIdentifier.{oid_content}
-use Rattle.asn1_trees.specs.Length.{element, length_octets}
-use Rattle.asn1_trees.specs.Tree.{Tree, Writes, der}
-use Rattle.asn1_trees.specs.Tagged.{tagged_tree}
-use Rattle.asn1_trees.proofs.Spelling.{IsInjective}
-use Rattle.asn1_trees.proofs.Tagged.{tagged-injective}
+use Rattle.asn1_der.specs.Length.{element, length_octets}
+use Rattle.asn1_der.specs.Tree.{Tree, Writes, der}
+use Rattle.asn1_der.specs.Tagged.{tagged_tree}
+use Rattle.asn1_der.proofs.Spelling.{IsInjective}
+use Rattle.asn1_der.proofs.Tagged.{tagged-injective}
 use Rattle.asn1_elements.specs.Raw.{Raw, raw_tree}
 use Rattle.decision_tables.specs.One.{IsSole}
 use Rattle.decision_tables.specs.Tables.{Table, ask, done, need, refuse}

@@ -6,8 +6,7 @@ ghost use Rattle.pkinit_trust.specs.Certificates.{IsFoundSigned, name_bytes};
 
 use std::alloc::{AllocError, Global};
 use x509_names::Name;
-use x509_signed::{Signed, with_signed_part};
-use x509_spelling::X509Fault;
+use x509_spelling::{Signed, X509Fault, with_signed_part};
 
 /// The value that the bytes spell with the slice of them that is signed, or `None`. It is generic, since a certificate is dear
 /// to drop.

@@ -26,8 +26,8 @@ type Krb5PrincipalNameRow = Row2<ExplicitContextTag0<Realm>, ExplicitContextTag1
 
 impl Tagged for Krb5PrincipalName {
     ghost use Rattle.std.proofs.Common.{ap, refl, true};
-    ghost use Rattle.asn1_trees.specs.Tagged.{sequence};
-    ghost use Rattle.asn1_trees.proofs.Tagged.{sequence_laws};
+    ghost use Rattle.asn1_der.specs.Tagged.{sequence};
+    ghost use Rattle.asn1_der.proofs.Tagged.{sequence_laws};
 
     type Row = Krb5PrincipalNameRow;
 

@@ -2,7 +2,7 @@
 
 use crate::is;
 use crate::row::Row;
-use krb_blocks::{AesSize, decrypt_aes_cbc, decrypt_aes_cts, encrypt_aes_cbc, encrypt_aes_cts};
+use aes_cts::{AesSize, decrypt_aes_cbc, decrypt_aes_cts, encrypt_aes_cbc, encrypt_aes_cts};
 use std::alloc::Global;
 
 fn size_of(row: &Row<'_>) -> AesSize {

@@ -2,8 +2,8 @@
 
 use crate::is;
 use crate::row::Row;
-use krb_agreement::{DhNonce, generate_key_from_shared_secret};
 use krb_crypto::CipherSuite;
+use krb_crypto::diffie_hellman::{DhNonce, generate_key_from_shared_secret};
 use std::alloc::Global;
 
 /// Secret and key, or between them both nonces.

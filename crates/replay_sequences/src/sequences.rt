@@ -3,10 +3,10 @@
 //! A moment before 2000-01-01 has a minus sign.
 
 use anyhow::{Context, bail};
-use krb_ap::{Admission, AdmitRefusal};
+use krb_ap_requests::AdmitRefusal;
 use krb_crypto::CipherSuite;
 use krb_moments::Moment;
-use krb_service::Service;
+use krb_service::{Admission, Service};
 use std::alloc::Global;
 use std::fs;
 use std::mem::replace;

@@ -3,7 +3,7 @@
 use crate::copies::is_copied;
 use anyhow::bail;
 use picky_asn1_der::{Asn1RawDer, FromDer, from_exact_bytes};
-use pkinit_auth_packs::{AuthPack, DhAuthPack, EcAuthPack};
+use pkinit_messages::{AuthPack, DhAuthPack, EcAuthPack};
 use std::alloc::Global;
 use std::fmt::Debug;
 use std::fs;

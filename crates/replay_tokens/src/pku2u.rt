@@ -1,7 +1,7 @@
 //! Messages of PKU2U, by the names of their types. Each type has a function of its own, since one match over all of them is dear
 //! to prove.
 use crate::copies::is_copied;
-use pku2u_messages::{
+use pkinit_messages::{
     KrbFinished, Pku2uNegoBody, Pku2uNegoRep, Pku2uNegoReq, Pku2uNegoReqMetadata,
 };
 use std::alloc::Global;

@@ -3,8 +3,9 @@
 use crate::line::Recorded;
 use crate::told::{Answer, is_told};
 use std::alloc::Global;
-use x509_certificates::{Certificate, TbsCertificate};
-use x509_requests::{CertificationRequest, CertificationRequestInfo};
+use x509_certificates::{
+    Certificate, CertificationRequest, CertificationRequestInfo, TbsCertificate,
+};
 use x509_spelling::X509Fault;
 
 /// Whether a spelling of such a type is read, counted and rewritten as expected; none for any other type.

@@ -2,7 +2,7 @@
 
 use crate::negoex::VERIFY;
 use devices::{Sink, Source};
-use krb_tokens::{GssApiMessageError, LsapTokenInfoIntegrity, MicToken, WrapToken};
+use gss_message_tokens::{GssApiMessageError, LsapTokenInfoIntegrity, MicToken, WrapToken};
 use negoex_layouts::{MessageHeader, NegoexDataType, NegoexMessage, Verify};
 use pac_layouts::{Pac, PacError, PacInfoBuffer};
 use std::alloc::Global;

@@ -1,7 +1,7 @@
 //! Frames of an exchange that changes a password, by RFC 3244, section 2.
 
 use asn1_codec::Asn1DerError;
-use krb_priv_frames::{KrbPrivFrame, KrbPrivFrameError};
+use kpasswd_messages::{KrbPrivFrame, KrbPrivFrameError};
 use picky_asn1_der::Asn1RawDer;
 use std::alloc::Global;
 use std::io::ErrorKind;

@@ -1,6 +1,6 @@
 //! How refusals print.
 
-use krb_blocks::KerberosCryptoError;
+use aes_cts::KerberosCryptoError;
 use std::alloc::Global;
 
 fn is_printed(alloc: Global, refusal: KerberosCryptoError, text: &str) -> bool {

@@ -3,13 +3,13 @@ use Rattle.std.proofs.Common.{◌≡◌, ℕ, Bool, true, false, List, refl, sym
 use Rattle.std.specs.Prelude.{◌&&◌, not, ⊤, IsTrue}
 use Rattle.std.proofs.lemmas.Bool.{and_parts}
 use Rattle.asn1_leaves.specs.ObjectIdentifier.{oid_content}
-use Rattle.asn1_trees.specs.Tree.{Trees}
+use Rattle.asn1_der.specs.Tree.{Trees}
 use Rattle.x509_spelling.specs.declared.implied.Implied.{Implied}
 use Rattle.picky_asn1_der.specs.declared.default.DefaultField.{DefaultField}
-use Rattle.x509_kinds.specs.declared.kinds.KindOf.{KindOf}
-use Rattle.x509_kinds.specs.declared.kinds.KindOf.TheVariants.{This, Other}
-use Rattle.x509_kinds.specs.declared.kinds.LastKind.{LastKind}
-use Rattle.x509_kinds.specs.Kinds.{case_belongs}
+use Rattle.x509_open_types.specs.declared.kinds.KindOf.{KindOf}
+use Rattle.x509_open_types.specs.declared.kinds.KindOf.TheVariants.{This, Other}
+use Rattle.x509_open_types.specs.declared.kinds.LastKind.{LastKind}
+use Rattle.x509_open_types.specs.Kinds.{case_belongs}
 use Rattle.x509_parameters.specs.declared.aes_parameters.AesParameters.{AesParameters}
 use Rattle.x509_parameters.specs.declared.ec_parameters.EcParameters.{EcParameters}
 use Rattle.x509_parameters.specs.declared.rsassa_pss_params.RsassaPssParams.{RsassaPssParams}

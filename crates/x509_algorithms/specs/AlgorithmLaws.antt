@@ -3,8 +3,8 @@ use Rattle.std.proofs.Common.{◌≡◌, ap, sym, ◌∙◌, subst}
 use Rattle.std.proofs.Props.{props}
 use Rattle.std.specs.Prelude.{IsTrue, true}
 use mathlib.Core.HLevel.{is_prop→PathP}
-use Rattle.asn1_trees.specs.Tree.{Tree, IsWhole, der}
-use Rattle.asn1_trees.proofs.Spelling.{IsInjective}
+use Rattle.asn1_der.specs.Tree.{Tree, IsWhole, der}
+use Rattle.asn1_der.proofs.Spelling.{IsInjective}
 use Rattle.picky_asn1.specs.declared.wrapper.ObjectIdentifierAsn1.{ObjectIdentifierAsn1}
 use Rattle.x509_algorithms.specs.declared.algorithm_identifier.AlgorithmIdentifier.{AlgorithmIdentifier}
 use Rattle.x509_algorithms.specs.AlgorithmKinds.{AlgorithmKinds, kinds_of, kinds_by, parameters_made, parameters_back, is_parameters_of}

@@ -1,6 +1,6 @@
 //! Parameters of algorithms (RFC 5280, section 4.1.1.2), and the kinds that an identifier decides.
 ghost use Rattle.std.specs.Prelude.{◌≡◌, IsTrue};
-ghost use Rattle.x509_kinds.specs.declared.kinds.KindOf.TheVariants as kind;
+ghost use Rattle.x509_open_types.specs.declared.kinds.KindOf.TheVariants as kind;
 ghost use Rattle.x509_algorithms.specs.AlgorithmKinds.{kinds_of, belongs};
 
 use crate::algorithm_class::{
@@ -9,7 +9,7 @@ use crate::algorithm_class::{
 use picky_asn1::oid::ObjectIdentifier;
 use picky_asn1_der::DefaultField;
 use std::alloc::AllocError;
-use x509_kinds::{KindOf, LastKind, ToldBy};
+use x509_open_types::{KindOf, LastKind, ToldBy};
 use x509_parameters::{AesParameters, EcParameters, NoNull, Null, RsaNull, RsassaPssParams};
 use x509_spelling::Implied;
 

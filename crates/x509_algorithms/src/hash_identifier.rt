@@ -8,7 +8,7 @@ use devices::Sink;
 use picky_asn1::wrapper::ObjectIdentifierAsn1;
 use picky_asn1_der::{Asn1DerError, Serialize, Serializer};
 use std::alloc::Global;
-use x509_kinds::{Kinds, LastKind, ToldBy, read_identified};
+use x509_open_types::{Kinds, LastKind, ToldBy, read_identified};
 use x509_parameters::{HashNull, Null};
 use x509_spelling::{Counted, Implied, Spelled, SpelledItem, X509Fault};
 
@@ -34,11 +34,11 @@ impl HashIdentifier {
 
 impl Serialize for HashIdentifier {
     ghost use Rattle.std.proofs.Common.{refl, true};
-    ghost use Rattle.asn1_trees.specs.Tagged.{sequence};
-    ghost use Rattle.asn1_trees.specs.Firsts.{only};
-    ghost use Rattle.asn1_trees.proofs.Spelling.{may_begin-only};
-    ghost use Rattle.x509_kinds.specs.HeldLaws.{laws_injective};
-    ghost use Rattle.x509_kinds.specs.KindLaws.{identified_laws};
+    ghost use Rattle.asn1_der.specs.Tagged.{sequence};
+    ghost use Rattle.asn1_der.specs.Firsts.{only};
+    ghost use Rattle.asn1_der.proofs.Spelling.{may_begin-only};
+    ghost use Rattle.x509_open_types.specs.HeldLaws.{laws_injective};
+    ghost use Rattle.x509_open_types.specs.KindLaws.{identified_laws};
     ghost use Rattle.x509_spelling.specs.Spellings.{Holds, Joins};
     ghost use Rattle.x509_algorithms.specs.HashIdentifiers.{hash_row, same_hash_row};
 
@@ -61,9 +61,9 @@ impl Serialize for HashIdentifier {
 
 impl Spelled for HashIdentifier {
     ghost use Rattle.std.proofs.Common.{refl, true};
-    ghost use Rattle.asn1_trees.specs.Tagged.{sequence};
-    ghost use Rattle.asn1_trees.specs.Firsts.{only};
-    ghost use Rattle.x509_kinds.specs.KindLaws.{identified_laws};
+    ghost use Rattle.asn1_der.specs.Tagged.{sequence};
+    ghost use Rattle.asn1_der.specs.Firsts.{only};
+    ghost use Rattle.x509_open_types.specs.KindLaws.{identified_laws};
     ghost use Rattle.x509_spelling.specs.Spellings.{Holds, Joins};
     ghost use Rattle.x509_algorithms.specs.HashIdentifiers.{hash_row, same_hash_row};
 

@@ -2,8 +2,8 @@
 use Rattle.std.proofs.Common.{◌≡◌, ℕ, List, [], ◌∷◌, length, refl, arith}
 use Rattle.std.specs.Prelude.{◌==◌, IsTrue}
 use Rattle.std.proofs.lemmas.Bool.{eqb-true}
-use Rattle.asn1_trees.specs.Tree.{Tree, IsWhole, trees_of}
-use Rattle.asn1_trees.specs.Tagged.{sequence}
+use Rattle.asn1_der.specs.Tree.{Tree, IsWhole, trees_of}
+use Rattle.asn1_der.specs.Tagged.{sequence}
 
 not_empty : {T : Type 0} (x : T) (xs : List T) → IsTrue (length (x ∷ xs) == 0) → ⊥
 not_empty x xs none = omega (arith, eqb-true (length (x ∷ xs)) 0 none)

@@ -13,7 +13,7 @@ use picky_asn1::wrapper::{Asn1SetOf, ObjectIdentifierAsn1, OctetStringAsn1};
 use picky_asn1_der::{Asn1DerError, Serialize, Serializer};
 use std::alloc::{AllocError, Global};
 use x509_extensions::{Extension, Extensions};
-use x509_kinds::{Kinds, read_identified};
+use x509_open_types::{Kinds, read_identified};
 use x509_parts::Time;
 use x509_spelling::{Counted, Spelled, SpelledItem, X509Fault};
 
@@ -129,11 +129,11 @@ fn data_identifier(alloc: Global) -> Result<ObjectIdentifier, AllocError>
 
 impl Serialize for Attribute {
     ghost use Rattle.std.proofs.Common.{refl, true};
-    ghost use Rattle.asn1_trees.specs.Tagged.{sequence};
-    ghost use Rattle.asn1_trees.specs.Firsts.{only};
-    ghost use Rattle.asn1_trees.proofs.Spelling.{may_begin-only};
-    ghost use Rattle.x509_kinds.specs.HeldLaws.{laws_injective};
-    ghost use Rattle.x509_kinds.specs.KindLaws.{identified_laws};
+    ghost use Rattle.asn1_der.specs.Tagged.{sequence};
+    ghost use Rattle.asn1_der.specs.Firsts.{only};
+    ghost use Rattle.asn1_der.proofs.Spelling.{may_begin-only};
+    ghost use Rattle.x509_open_types.specs.HeldLaws.{laws_injective};
+    ghost use Rattle.x509_open_types.specs.KindLaws.{identified_laws};
     ghost use Rattle.x509_spelling.specs.Spellings.{Holds, Joins};
     ghost use Rattle.x509_attributes.specs.AttributeLaws.{row_of, same_attribute};
 
@@ -165,9 +165,9 @@ impl Serialize for Attribute {
 
 impl Spelled for Attribute {
     ghost use Rattle.std.proofs.Common.{refl, true};
-    ghost use Rattle.asn1_trees.specs.Tagged.{sequence};
-    ghost use Rattle.asn1_trees.specs.Firsts.{only};
-    ghost use Rattle.x509_kinds.specs.KindLaws.{identified_laws};
+    ghost use Rattle.asn1_der.specs.Tagged.{sequence};
+    ghost use Rattle.asn1_der.specs.Firsts.{only};
+    ghost use Rattle.x509_open_types.specs.KindLaws.{identified_laws};
     ghost use Rattle.x509_spelling.specs.Spellings.{Holds, Joins};
     ghost use Rattle.x509_attributes.specs.AttributeLaws.{row_of, same_attribute};
 

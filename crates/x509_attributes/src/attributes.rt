@@ -82,11 +82,11 @@ impl From<Vec<Attribute>> for Attributes {
 }
 
 impl Serialize for Attributes {
-    ghost use Rattle.asn1_trees.specs.Tagged.{sequence};
-    ghost use Rattle.asn1_trees.specs.Firsts.{only};
-    ghost use Rattle.asn1_trees.proofs.Spelling.{may_begin-only};
-    ghost use Rattle.asn1_trees.proofs.Rows.{many-injective};
-    ghost use Rattle.asn1_trees.proofs.Tagged.{sequence_laws};
+    ghost use Rattle.asn1_der.specs.Tagged.{sequence};
+    ghost use Rattle.asn1_der.specs.Firsts.{only};
+    ghost use Rattle.asn1_der.proofs.Spelling.{may_begin-only};
+    ghost use Rattle.asn1_der.proofs.Rows.{many-injective};
+    ghost use Rattle.asn1_der.proofs.Tagged.{sequence_laws};
 
     ghost tree = { sequence ⟦<Many<Attribute> as SpelledFields>⟧.row_trees 48 };
 
@@ -104,8 +104,8 @@ impl Serialize for Attributes {
 
 impl Spelled for Attributes {
     ghost use Rattle.std.proofs.Common.{refl, true};
-    ghost use Rattle.asn1_trees.specs.Tagged.{sequence};
-    ghost use Rattle.asn1_trees.specs.Firsts.{only};
+    ghost use Rattle.asn1_der.specs.Tagged.{sequence};
+    ghost use Rattle.asn1_der.specs.Firsts.{only};
     ghost use Rattle.x509_spelling.specs.Spellings.{Holds};
     ghost use Rattle.x509_spelling.specs.RowLaws.{sequence_laws};
 

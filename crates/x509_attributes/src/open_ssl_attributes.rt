@@ -40,11 +40,11 @@ impl OpenSslAttributes {
 }
 
 impl Serialize for OpenSslAttributes {
-    ghost use Rattle.asn1_trees.specs.Tagged.{sequence};
-    ghost use Rattle.asn1_trees.specs.Firsts.{only};
-    ghost use Rattle.asn1_trees.proofs.Spelling.{may_begin-only};
-    ghost use Rattle.asn1_trees.proofs.Rows.{many-injective};
-    ghost use Rattle.asn1_trees.proofs.Tagged.{sequence_laws};
+    ghost use Rattle.asn1_der.specs.Tagged.{sequence};
+    ghost use Rattle.asn1_der.specs.Firsts.{only};
+    ghost use Rattle.asn1_der.proofs.Spelling.{may_begin-only};
+    ghost use Rattle.asn1_der.proofs.Rows.{many-injective};
+    ghost use Rattle.asn1_der.proofs.Tagged.{sequence_laws};
 
     ghost tree = { λ v. sequence ⟦<Many<Attribute> as SpelledFields>⟧.row_trees 160 v.0 };
 
@@ -65,8 +65,8 @@ impl Serialize for OpenSslAttributes {
 
 impl Spelled for OpenSslAttributes {
     ghost use Rattle.std.proofs.Common.{refl, true};
-    ghost use Rattle.asn1_trees.specs.Tagged.{sequence};
-    ghost use Rattle.asn1_trees.specs.Firsts.{only};
+    ghost use Rattle.asn1_der.specs.Tagged.{sequence};
+    ghost use Rattle.asn1_der.specs.Firsts.{only};
     ghost use Rattle.x509_spelling.specs.Spellings.{Holds};
     ghost use Rattle.x509_spelling.specs.RowLaws.{struct_laws};
 

@@ -81,11 +81,11 @@ impl From<Vec<Extensions>> for RequestedExtensions {
 }
 
 impl Serialize for RequestedExtensions {
-    ghost use Rattle.asn1_trees.specs.Tagged.{sequence};
-    ghost use Rattle.asn1_trees.specs.Firsts.{only};
-    ghost use Rattle.asn1_trees.proofs.Spelling.{may_begin-only};
-    ghost use Rattle.asn1_trees.proofs.Rows.{many-injective};
-    ghost use Rattle.asn1_trees.proofs.Tagged.{sequence_laws};
+    ghost use Rattle.asn1_der.specs.Tagged.{sequence};
+    ghost use Rattle.asn1_der.specs.Firsts.{only};
+    ghost use Rattle.asn1_der.proofs.Spelling.{may_begin-only};
+    ghost use Rattle.asn1_der.proofs.Rows.{many-injective};
+    ghost use Rattle.asn1_der.proofs.Tagged.{sequence_laws};
 
     ghost tree = { sequence ⟦<Many<Extensions> as SpelledFields>⟧.row_trees 49 };
 
@@ -103,8 +103,8 @@ impl Serialize for RequestedExtensions {
 
 impl Spelled for RequestedExtensions {
     ghost use Rattle.std.proofs.Common.{refl, true};
-    ghost use Rattle.asn1_trees.specs.Tagged.{sequence};
-    ghost use Rattle.asn1_trees.specs.Firsts.{only};
+    ghost use Rattle.asn1_der.specs.Tagged.{sequence};
+    ghost use Rattle.asn1_der.specs.Firsts.{only};
     ghost use Rattle.x509_spelling.specs.Spellings.{Holds};
     ghost use Rattle.x509_spelling.specs.RowLaws.{sequence_laws};
 

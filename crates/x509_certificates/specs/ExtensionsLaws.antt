@@ -3,11 +3,11 @@ use Rattle.std.proofs.Common.{◌≡◌, ℕ, List, ap}
 use Rattle.std.proofs.Props.{props}
 use Rattle.std.specs.Prelude.{⊤, Option, IsTrue}
 use mathlib.Core.HLevel.{is_prop→PathP}
-use Rattle.asn1_trees.specs.Tree.{Trees}
-use Rattle.asn1_trees.specs.Firsts.{Firsts}
+use Rattle.asn1_der.specs.Tree.{Trees}
+use Rattle.asn1_der.specs.Firsts.{Firsts}
 use Rattle.x509_spelling.specs.Optional.{Optional}
 use Rattle.x509_extensions.specs.declared.extension.Extension.{Extension}
-use Rattle.x509_kinds.specs.declared.enclosed.Explicit.{Explicit}
+use Rattle.x509_open_types.specs.declared.enclosed.Explicit.{Explicit}
 use Rattle.x509_spelling.specs.Laws.{RowLaws}
 use Rattle.x509_certificates.specs.ExtensionsFields.{is_written}
 use Rattle.x509_certificates.specs.declared.certificate_extensions.CertificateExtensions.{CertificateExtensions}

@@ -1,21 +1,21 @@
 //! Certificates (RFC 5280, section 4.1).
 ghost use Rattle.std.specs.Prelude.{◌≡◌, None, Some, IfOk, MatchOption, MatchResult};
 ghost use Rattle.x509_spelling.specs.Answers.{ReadsSpelling};
-ghost use Rattle.x509_signed.specs.SignedParts.{IsSignedPart, value_of};
+ghost use Rattle.x509_spelling.specs.SignedParts.{IsSignedPart, value_of};
 ghost use Rattle.x509_certificates.specs.Certificates.{certificate_row};
 
 use crate::held::first_held;
 use crate::tbs_certificate::TbsCertificate;
 use devices::Sink;
 use picky_asn1::wrapper::BitStringAsn1;
-use picky_asn1_der::{Asn1DerError, Serialize, Serializer, fields_of};
-use record_copies::LentFields;
+use picky_asn1_der::{Asn1DerError, LentFields, Serialize, Serializer, fields_of};
 use std::alloc::{AllocError, Global};
 use x509_extensions::{AuthorityKeyIdentifier, Extension, SubjectKeyIdentifier};
-use x509_keys::{Ahead, AlgorithmIdentifier};
+use x509_keys::AlgorithmIdentifier;
 use x509_parts::BasicConstraints;
-use x509_signed::{Signed, with_signed_part};
-use x509_spelling::{Counted, Spelled, SpelledFields, X509Fault, read_fields};
+use x509_spelling::{
+    Ahead, Counted, Signed, Spelled, SpelledFields, X509Fault, read_fields, with_signed_part,
+};
 
 /// A certificate: who a key belongs to, as its issuer signs it.
 ///
@@ -97,12 +97,12 @@ impl Certificate {
 
 impl Serialize for Certificate {
     ghost use Rattle.std.proofs.Common.{refl, true};
-    ghost use Rattle.asn1_trees.specs.Tagged.{sequence};
-    ghost use Rattle.asn1_trees.specs.Firsts.{only};
-    ghost use Rattle.asn1_trees.proofs.Spelling.{may_begin-only};
+    ghost use Rattle.asn1_der.specs.Tagged.{sequence};
+    ghost use Rattle.asn1_der.specs.Firsts.{only};
+    ghost use Rattle.asn1_der.proofs.Spelling.{may_begin-only};
     ghost use Rattle.x509_spelling.specs.Spellings.{Holds};
     ghost use Rattle.x509_spelling.specs.RowLaws.{struct_laws};
-    ghost use Rattle.x509_kinds.specs.HeldLaws.{laws_injective};
+    ghost use Rattle.x509_open_types.specs.HeldLaws.{laws_injective};
     ghost use Rattle.x509_certificates.specs.Certificates.{certificate_row, one_certificate};
 
     ghost tree = { λ v. sequence ⟦<CertificateRow as SpelledFields>⟧.row_trees 48 (certificate_row v) };
@@ -124,8 +124,8 @@ impl Serialize for Certificate {
 
 impl Spelled for Certificate {
     ghost use Rattle.std.proofs.Common.{refl, true};
-    ghost use Rattle.asn1_trees.specs.Tagged.{sequence};
-    ghost use Rattle.asn1_trees.specs.Firsts.{only};
+    ghost use Rattle.asn1_der.specs.Tagged.{sequence};
+    ghost use Rattle.asn1_der.specs.Firsts.{only};
     ghost use Rattle.x509_spelling.specs.Spellings.{Holds};
     ghost use Rattle.x509_spelling.specs.RowLaws.{struct_laws};
     ghost use Rattle.x509_certificates.specs.Certificates.{certificate_row, one_certificate};
@@ -168,7 +168,7 @@ fn of_row(row: CertificateRow) -> Certificate
 }
 
 impl Signed for Certificate {
-    ghost use Rattle.x509_signed.specs.SignedParts.{holds_first};
+    ghost use Rattle.x509_spelling.specs.SignedParts.{holds_first};
 
     type Part = TbsCertificate;
 

@@ -7,14 +7,13 @@ use crate::version_field::VersionField;
 use devices::Sink;
 use picky_asn1::wrapper::IntegerAsn1;
 use picky_asn1_der::{
-    Asn1DerError, DefaultField, ExplicitContextTag, Serialize, Serializer, fields_of,
+    Asn1DerError, DefaultField, ExplicitContextTag, LentFields, Serialize, Serializer, fields_of,
 };
-use record_copies::LentFields;
 use std::alloc::{AllocError, Global};
 use x509_extensions::Name;
-use x509_keys::{Ahead, AlgorithmIdentifier, SubjectPublicKeyInfo};
+use x509_keys::{AlgorithmIdentifier, SubjectPublicKeyInfo};
 use x509_parts::{Validity, Version};
-use x509_spelling::{Counted, Spelled, SpelledFields, X509Fault, read_fields};
+use x509_spelling::{Ahead, Counted, Spelled, SpelledFields, X509Fault, read_fields};
 
 /// What a certificate's issuer signs.
 ///
@@ -93,12 +92,12 @@ type TbsRow = (
 
 impl Serialize for TbsCertificate {
     ghost use Rattle.std.proofs.Common.{refl, true};
-    ghost use Rattle.asn1_trees.specs.Tagged.{sequence};
-    ghost use Rattle.asn1_trees.specs.Firsts.{only};
-    ghost use Rattle.asn1_trees.proofs.Spelling.{may_begin-only};
+    ghost use Rattle.asn1_der.specs.Tagged.{sequence};
+    ghost use Rattle.asn1_der.specs.Firsts.{only};
+    ghost use Rattle.asn1_der.proofs.Spelling.{may_begin-only};
     ghost use Rattle.x509_spelling.specs.Spellings.{Holds};
     ghost use Rattle.x509_spelling.specs.RowLaws.{struct_laws};
-    ghost use Rattle.x509_kinds.specs.HeldLaws.{laws_injective};
+    ghost use Rattle.x509_open_types.specs.HeldLaws.{laws_injective};
     ghost use Rattle.x509_certificates.specs.Certificates.{tbs_row, one_tbs};
 
     ghost tree = { λ v. sequence ⟦<TbsRow as SpelledFields>⟧.row_trees 48 (tbs_row v) };
@@ -127,8 +126,8 @@ impl Serialize for TbsCertificate {
 
 impl Spelled for TbsCertificate {
     ghost use Rattle.std.proofs.Common.{refl, true};
-    ghost use Rattle.asn1_trees.specs.Tagged.{sequence};
-    ghost use Rattle.asn1_trees.specs.Firsts.{only};
+    ghost use Rattle.asn1_der.specs.Tagged.{sequence};
+    ghost use Rattle.asn1_der.specs.Firsts.{only};
     ghost use Rattle.x509_spelling.specs.Spellings.{Holds};
     ghost use Rattle.x509_spelling.specs.RowLaws.{struct_laws};
     ghost use Rattle.x509_certificates.specs.Certificates.{tbs_row, one_tbs};

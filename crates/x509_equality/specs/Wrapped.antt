@@ -6,9 +6,9 @@ use Rattle.picky_asn1_der.specs.declared.container.OctetStringContainer.{OctetSt
 use Rattle.picky_asn1_der.specs.declared.default.DefaultField.{DefaultField}
 use Rattle.picky_asn1_der.specs.declared.implicit_tag.ImplicitContextTag.{ImplicitContextTag}
 use Rattle.picky_asn1_der.specs.declared.wrapper.ExplicitContextTag.{ExplicitContextTag}
-use Rattle.x509_kinds.specs.declared.enclosed.Explicit.{Explicit}
-use Rattle.x509_keys.specs.declared.fixed_number.FixedNumber.{FixedNumber}
-use Rattle.x509_keys.specs.declared.strict.Strict.{Strict}
+use Rattle.x509_open_types.specs.declared.enclosed.Explicit.{Explicit}
+use Rattle.x509_spelling.specs.declared.fixed_number.FixedNumber.{FixedNumber}
+use Rattle.x509_spelling.specs.declared.strict.Strict.{Strict}
 use Rattle.x509_equality.specs.Equalities.{IsEquality, told_by}
 
 module _ {K : Type 0} {E : K → K → Bool} (same : IsEquality E) where

@@ -8,7 +8,7 @@ ghost use Rattle.x509_equality.specs.contracts.algorithms.AlgorithmIdentifierEqu
 ghost use Rattle.x509_equality.specs.contracts.leaves.BitStringAsn1Equality.TheImpl.Laws.{is_equality-law as bits};
 
 use crate::Equality;
-use x509_requests::{CertificationRequest, CertificationRequestInfo};
+use x509_certificates::{CertificationRequest, CertificationRequestInfo};
 
 impl Equality for CertificationRequestInfo {
     ghost is_equality = { told_by

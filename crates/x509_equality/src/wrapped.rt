@@ -9,8 +9,8 @@ use picky_asn1_der::{
     BitStringContainer, DefaultField, ExplicitContextTag, ImplicitContextTag, OctetStringContainer,
     Optional,
 };
-use x509_keys::{FixedNumber, Strict};
-use x509_kinds::Explicit;
+use x509_open_types::Explicit;
+use x509_spelling::{FixedNumber, Strict};
 
 impl<T: Equality> Equality for Option<T> {
     ghost is_equality = { options T.is_equality };

@@ -1,7 +1,7 @@
 -- An authority key identifier is told by its fields, and they are in order where nothing deviates.
 use Rattle.std.proofs.Common.{◌≡◌, ℕ, ◌+◌, Bool, true, false, List, [], ◌∷◌, ◌++◌, Option, None, Some, refl, sym, ap, ◌∙◌, subst, arith}
 use Rattle.std.specs.Prelude.{◌||◌, ℤ}
-use Rattle.asn1_trees.specs.Tree.{Tree, Trees, none, more, put, trees_of, IsWhole, AreWhole}
+use Rattle.asn1_der.specs.Tree.{Tree, Trees, none, more, put, trees_of, IsWhole, AreWhole}
 use Rattle.picky_asn1_der.specs.declared.wrapper.ExplicitContextTag.{ExplicitContextTag}
 use Rattle.picky_asn1_der.specs.declared.implicit_tag.ImplicitContextTag.{ImplicitContextTag}
 use Rattle.x509_names.specs.declared.general_name.GeneralName.{GeneralName}

@@ -30,7 +30,7 @@ type FieldChoice = Choice<
 
 impl Serialize for AuthorityField {
     ghost use Rattle.std.proofs.Common.{refl, true};
-    ghost use Rattle.asn1_trees.proofs.Choices.{injective_as};
+    ghost use Rattle.asn1_der.proofs.Choices.{injective_as};
     ghost use Rattle.x509_extensions.specs.AuthorityFields.{field_made, field_back};
 
     ghost tree = { λ v. ⟦<FieldChoice as Alternatives>⟧.tree (field_choice v) };

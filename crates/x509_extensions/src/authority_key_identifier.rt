@@ -120,8 +120,8 @@ impl AuthorityKeyIdentifier {
 
 impl Tagged for AuthorityKeyIdentifier {
     ghost use Rattle.std.proofs.Common.{ap, refl, true};
-    ghost use Rattle.asn1_trees.specs.Tagged.{sequence};
-    ghost use Rattle.asn1_trees.proofs.Tagged.{sequence_laws};
+    ghost use Rattle.asn1_der.specs.Tagged.{sequence};
+    ghost use Rattle.asn1_der.proofs.Tagged.{sequence_laws};
 
     type Row = AuthorityRow;
 
@@ -155,13 +155,13 @@ impl Tagged for AuthorityKeyIdentifier {
 
 impl Spelled for AuthorityKeyIdentifier {
     ghost use Rattle.std.proofs.Common.{refl, true};
-    ghost use Rattle.asn1_trees.specs.Tree.{constructed};
-    ghost use Rattle.asn1_trees.specs.Tagged.{sequence};
-    ghost use Rattle.asn1_trees.specs.Firsts.{only};
+    ghost use Rattle.asn1_der.specs.Tree.{constructed};
+    ghost use Rattle.asn1_der.specs.Tagged.{sequence};
+    ghost use Rattle.asn1_der.specs.Firsts.{only};
     ghost use Rattle.x509_spelling.specs.Spellings.{Holds};
     ghost use Rattle.x509_spelling.specs.RowLaws.{sequence_laws};
-    ghost use Rattle.x509_kinds.specs.Kinds.{MadeOf};
-    ghost use Rattle.x509_kinds.specs.HeldLaws.{made_laws};
+    ghost use Rattle.x509_open_types.specs.Kinds.{MadeOf};
+    ghost use Rattle.x509_open_types.specs.HeldLaws.{made_laws};
     ghost use Rattle.x509_extensions.specs.AuthorityFields.{fields_of, authority_of, authority_count};
     ghost use Rattle.x509_extensions.specs.AuthorityLaws.{authority_back, authority_uncounted, authority_only, authority_whole, authority_trees};
 

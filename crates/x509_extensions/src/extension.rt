@@ -14,7 +14,7 @@ use devices::Sink;
 use picky_asn1::wrapper::{IntegerAsn1, ObjectIdentifierAsn1, OctetStringAsn1Container};
 use picky_asn1_der::{Asn1DerError, DefaultField, Serialize, Serializer};
 use std::alloc::{AllocError, Global};
-use x509_kinds::{Kinds, read_identified};
+use x509_open_types::{Kinds, read_identified};
 use x509_parts::BasicConstraints;
 use x509_spelling::{Counted, Spelled, SpelledItem, X509Fault};
 use x509_usages::{ExtendedKeyUsage, KeyUsage};
@@ -226,11 +226,11 @@ impl Extension {
 
 impl Serialize for Extension {
     ghost use Rattle.std.proofs.Common.{refl, true};
-    ghost use Rattle.asn1_trees.specs.Tagged.{sequence};
-    ghost use Rattle.asn1_trees.specs.Firsts.{only};
-    ghost use Rattle.asn1_trees.proofs.Spelling.{may_begin-only};
-    ghost use Rattle.x509_kinds.specs.HeldLaws.{laws_injective};
-    ghost use Rattle.x509_kinds.specs.KindLaws.{identified_laws};
+    ghost use Rattle.asn1_der.specs.Tagged.{sequence};
+    ghost use Rattle.asn1_der.specs.Firsts.{only};
+    ghost use Rattle.asn1_der.proofs.Spelling.{may_begin-only};
+    ghost use Rattle.x509_open_types.specs.HeldLaws.{laws_injective};
+    ghost use Rattle.x509_open_types.specs.KindLaws.{identified_laws};
     ghost use Rattle.x509_spelling.specs.Spellings.{Holds, Joins};
     ghost use Rattle.x509_extensions.specs.ExtensionLaws.{row_of, same_extension};
 
@@ -272,9 +272,9 @@ impl Serialize for Extension {
 
 impl Spelled for Extension {
     ghost use Rattle.std.proofs.Common.{refl, true};
-    ghost use Rattle.asn1_trees.specs.Tagged.{sequence};
-    ghost use Rattle.asn1_trees.specs.Firsts.{only};
-    ghost use Rattle.x509_kinds.specs.KindLaws.{identified_laws};
+    ghost use Rattle.asn1_der.specs.Tagged.{sequence};
+    ghost use Rattle.asn1_der.specs.Firsts.{only};
+    ghost use Rattle.x509_open_types.specs.KindLaws.{identified_laws};
     ghost use Rattle.x509_spelling.specs.Spellings.{Holds, Joins};
     ghost use Rattle.x509_extensions.specs.ExtensionLaws.{row_of, same_extension};
 

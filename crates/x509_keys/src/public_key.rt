@@ -4,11 +4,11 @@ ghost use Rattle.x509_keys.specs.PublicKeys.{is_key_of, kinds_of};
 
 use crate::key_identifiers::{EcIdentifiers, EdIdentifiers, MldsaIdentifiers, RsaIdentifiers};
 use crate::rsa_public_key::EncapsulatedRsaPublicKey;
-use crate::strict::Strict;
 use picky_asn1::oid::ObjectIdentifier;
 use picky_asn1::wrapper::{BitStringAsn1, BitStringAsn1Container, OctetStringAsn1};
 use std::alloc::AllocError;
-use x509_kinds::{Identifiers, KindOf, LastKind, ToldBy};
+use x509_open_types::{Identifiers, KindOf, LastKind, ToldBy};
+use x509_spelling::Strict;
 
 /// A point of an elliptic curve, as octets (RFC 5480, section 2.2).
 pub type EcPoint = OctetStringAsn1;

@@ -3,8 +3,6 @@ ghost use Rattle.std.specs.Prelude.{◌≡◌, ℕ, List, true, false, IsTrue, I
 ghost use Rattle.x509_keys.specs.PublicKeys.{is_key_of, kinds_of};
 ghost use Rattle.x509_algorithms.specs.EcParameters.TheVariants.{NamedCurve};
 
-use crate::ahead::Ahead;
-use crate::chosen::{Identified, read_chosen_in};
 use crate::public_key::{EncapsulatedEcPoint, PublicKey, PublicKinds, is_of, of_kinds};
 use crate::rsa_public_key::RsaPublicKey;
 use devices::{Sink, Source};
@@ -13,8 +11,8 @@ use picky_asn1::wrapper::{BitStringAsn1Container, IntegerAsn1};
 use picky_asn1_der::{Asn1DerError, Deserialize, Deserializer, Serialize, Serializer};
 use std::alloc::{AllocError, Global};
 use x509_algorithms::{AlgorithmIdentifier, EcParameters, read_strict};
-use x509_kinds::Kinds;
-use x509_spelling::{Counted, Spelled, SpelledItem, X509Fault};
+use x509_open_types::{Identified, Kinds, read_chosen_in};
+use x509_spelling::{Ahead, Counted, Spelled, SpelledItem, X509Fault};
 
 /// A public key, and the algorithm that it is for. Inside a message of another kind, as one of Kerberos, the strict spelling alone is
 /// read.
@@ -133,12 +131,12 @@ impl Clone for SubjectPublicKeyInfo {
 
 impl Serialize for SubjectPublicKeyInfo {
     ghost use Rattle.std.proofs.Common.{refl, true};
-    ghost use Rattle.asn1_trees.specs.Tagged.{sequence};
-    ghost use Rattle.asn1_trees.specs.Firsts.{only};
-    ghost use Rattle.asn1_trees.proofs.Spelling.{may_begin-only};
-    ghost use Rattle.x509_kinds.specs.HeldLaws.{laws_injective};
+    ghost use Rattle.asn1_der.specs.Tagged.{sequence};
+    ghost use Rattle.asn1_der.specs.Firsts.{only};
+    ghost use Rattle.asn1_der.proofs.Spelling.{may_begin-only};
+    ghost use Rattle.x509_open_types.specs.HeldLaws.{laws_injective};
     ghost use Rattle.x509_spelling.specs.Spellings.{Holds, Joins};
-    ghost use Rattle.x509_keys.specs.ChosenLaws.{chosen_info_laws};
+    ghost use Rattle.x509_open_types.specs.ChosenLaws.{chosen_info_laws};
     ghost use Rattle.x509_keys.specs.KeyInfoLaws.{public_row, same_public};
 
     ghost tree = { λ v. sequence (λ f. ⟦<AlgorithmIdentifier as SpelledItem>⟧.place f.0 (⟦<PublicKinds as Kinds>⟧.row_trees f.1)) 48 (public_row v) };
@@ -177,10 +175,10 @@ impl Deserialize for SubjectPublicKeyInfo {
 
 impl Spelled for SubjectPublicKeyInfo {
     ghost use Rattle.std.proofs.Common.{refl, true};
-    ghost use Rattle.asn1_trees.specs.Tagged.{sequence};
-    ghost use Rattle.asn1_trees.specs.Firsts.{only};
+    ghost use Rattle.asn1_der.specs.Tagged.{sequence};
+    ghost use Rattle.asn1_der.specs.Firsts.{only};
     ghost use Rattle.x509_spelling.specs.Spellings.{Holds, Joins};
-    ghost use Rattle.x509_keys.specs.ChosenLaws.{chosen_info_laws};
+    ghost use Rattle.x509_open_types.specs.ChosenLaws.{chosen_info_laws};
     ghost use Rattle.x509_keys.specs.KeyInfoLaws.{public_row, same_public};
 
     ghost spells = { λ v. Holds 48 (λ f. Joins ⟦<AlgorithmIdentifier as SpelledItem>⟧.leads ⟦<PublicKinds as Kinds>⟧.spells f.0 f.1) (public_row v) };

@@ -1,10 +1,10 @@
 -- Fields that don't agree are those of no value.
 use Rattle.std.proofs.Common.{◌≡◌, ℕ, List, ◌++◌, Option, None, Some, MatchOption, refl, sym, ap, ◌∙◌}
-use Rattle.asn1_trees.specs.Tree.{Trees, AreWhole, ders}
-use Rattle.asn1_trees.specs.Length.{element}
-use Rattle.asn1_trees.specs.Tagged.{sequence}
-use Rattle.asn1_trees.proofs.Rows.{AreInjective}
-use Rattle.asn1_trees.proofs.Elements.{element-one}
+use Rattle.asn1_der.specs.Tree.{Trees, AreWhole, ders}
+use Rattle.asn1_der.specs.Length.{element}
+use Rattle.asn1_der.specs.Tagged.{sequence}
+use Rattle.asn1_der.proofs.Rows.{AreInjective}
+use Rattle.asn1_der.proofs.Elements.{element-one}
 use Rattle.asn1_codec.specs.Reading.{IsSpelling}
 
 pub none_there : {A : Type 0} (o : Option A) (P : Type 0) (Q : A → Type 0) → MatchOption o P Q → ((x : A) → o ≡ Some x → ⊥) → P

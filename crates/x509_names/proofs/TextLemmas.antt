@@ -2,7 +2,7 @@
 use Rattle.std.proofs.Common.{◌≡◌, ℕ, List, [], ◌∷◌, ◌++◌, length, map, append-nil, refl, sym, ap, ◌∙◌}
 use Rattle.std.specs.List.{flat_map, join_with_byte}
 use Rattle.std.proofs.lemmas.List.Concat.{flat_map-append}
-use Rattle.asn1_trees.specs.Length.{element, length_octets}
+use Rattle.asn1_der.specs.Length.{element, length_octets}
 use Rattle.picky_asn1.specs.IntegerText.{hexadecimal}
 use Rattle.picky_asn1_der.specs.Raw.{Raw}
 use Rattle.x509_names.specs.NameText.{element_text}

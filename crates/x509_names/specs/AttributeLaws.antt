@@ -3,8 +3,8 @@ use Rattle.std.proofs.Common.{◌≡◌, ℕ, Bool, true, false, List, sym, ap, 
 use Rattle.std.proofs.Props.{props}
 use Rattle.std.specs.Prelude.{◌&&◌, ◌||◌, not, IsTrue, ⊤}
 use mathlib.Core.HLevel.{is_prop→PathP}
-use Rattle.asn1_trees.specs.Tree.{Tree}
-use Rattle.asn1_trees.proofs.Tagged.{TagLaws}
+use Rattle.asn1_der.specs.Tree.{Tree}
+use Rattle.asn1_der.proofs.Tagged.{TagLaws}
 use Rattle.asn1_leaves.specs.ObjectIdentifier.{oid_content}
 use Rattle.picky_asn1.specs.declared.wrapper.ObjectIdentifierAsn1.{ObjectIdentifierAsn1}
 use Rattle.asn1_leaves.specs.CharSets.{is_general_string}

@@ -5,7 +5,7 @@ use Rattle.std.specs.Char.Utf16.{utf16_chars}
 use Rattle.std.specs.Fmt.{digits}
 use Rattle.std.proofs.Common.{ap}
 use Rattle.std.proofs.lemmas.Str.{IsUtf8-from_is_utf8, utf8_lossy-IsUtf8}
-use Rattle.asn1_trees.specs.Length.{element, length_octets}
+use Rattle.asn1_der.specs.Length.{element, length_octets}
 use Rattle.asn1_leaves.specs.ObjectIdentifier.{dotted_text}
 use Rattle.asn1_leaves.specs.TextLaws.{utf8_of_printable}
 use Rattle.x509_parts.specs.declared.directory_string.DirectoryString.TheVariants.{PrintableString, Utf8String, BmpString}

@@ -1,7 +1,7 @@
 -- The text of a name: its attributes in order, a comma between each two. An attribute is its identifier, `=` and its value.
 use Rattle.std.specs.Prelude.{ℕ, List, ◌++◌, map, codes}
 use Rattle.std.specs.List.{flat_map, join_with_byte}
-use Rattle.asn1_trees.specs.Length.{element}
+use Rattle.asn1_der.specs.Length.{element}
 use Rattle.asn1_leaves.specs.ObjectIdentifier.{dotted_text}
 use Rattle.picky_asn1.specs.IntegerText.{hexadecimal}
 use Rattle.picky_asn1_der.specs.Raw.{Raw}

@@ -1,6 +1,6 @@
 //! SEQUENCEs of which the fields have to agree.
 ghost use Rattle.std.specs.Prelude.{◌≡◌, true, IsTrue, IfOk, MatchOption, MatchResult};
-ghost use Rattle.asn1_trees.specs.Tagged.{sequence};
+ghost use Rattle.asn1_der.specs.Tagged.{sequence};
 ghost use Rattle.asn1_codec.specs.Reading.{TookValue, IsSpelling, Refused};
 
 use devices::Source;

@@ -259,8 +259,8 @@ impl Agreed<AttributeRow> for AttributeTypeAndValue {
 
 impl Tagged for AttributeTypeAndValue {
     ghost use Rattle.std.proofs.Common.{ap, refl, true};
-    ghost use Rattle.asn1_trees.specs.Tagged.{sequence};
-    ghost use Rattle.asn1_trees.proofs.Tagged.{sequence_laws};
+    ghost use Rattle.asn1_der.specs.Tagged.{sequence};
+    ghost use Rattle.asn1_der.proofs.Tagged.{sequence_laws};
     ghost use Rattle.x509_names.specs.Attributes.{value_raw};
     ghost use Rattle.x509_names.specs.AttributeLaws.{same_attribute, held_tag_laws};
 

@@ -133,7 +133,7 @@ impl GeneralName {
 
 impl Serialize for GeneralName {
     ghost use Rattle.std.proofs.Common.{refl, true};
-    ghost use Rattle.asn1_trees.proofs.Choices.{injective_as};
+    ghost use Rattle.asn1_der.proofs.Choices.{injective_as};
     ghost use Rattle.x509_names.specs.GeneralNames.{general_choice, general_made, general_back};
 
     ghost tree = { λ v. ⟦<GeneralNameChoice as Alternatives>⟧.tree (general_choice v) };

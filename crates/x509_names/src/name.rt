@@ -189,10 +189,10 @@ fn common_name_in(attributes: &[AttributeTypeAndValue]) -> Option<&DirectoryStri
 }
 
 impl Tagged for Name {
-    ghost use Rattle.asn1_trees.specs.Tree.{trees_of};
-    ghost use Rattle.asn1_trees.proofs.Rows.{many-injective};
-    ghost use Rattle.asn1_trees.specs.Tagged.{sequence};
-    ghost use Rattle.asn1_trees.proofs.Tagged.{sequence_laws};
+    ghost use Rattle.asn1_der.specs.Tree.{trees_of};
+    ghost use Rattle.asn1_der.proofs.Rows.{many-injective};
+    ghost use Rattle.asn1_der.specs.Tagged.{sequence};
+    ghost use Rattle.asn1_der.proofs.Tagged.{sequence_laws};
 
     type Row = Elements<RelativeDistinguishedName>;
 

@@ -4,7 +4,7 @@ ghost use Rattle.x509_names.specs.NameText.{attributes_of};
 
 use crate::attribute_type_and_value::{AttributeTypeAndValue, AttributeValue};
 use crate::name::{Name, RelativeDistinguishedName};
-use asn1_trees::LengthOctets;
+use asn1_der::LengthOctets;
 use picky_asn1_der::RawElement;
 use std::fmt;
 

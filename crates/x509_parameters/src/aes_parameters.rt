@@ -111,8 +111,8 @@ impl AesAuthEncParams {
 
 impl Tagged for AesAuthEncParams {
     ghost use Rattle.std.proofs.Common.{ap, refl, true};
-    ghost use Rattle.asn1_trees.specs.Tagged.{sequence};
-    ghost use Rattle.asn1_trees.proofs.Tagged.{sequence_laws};
+    ghost use Rattle.asn1_der.specs.Tagged.{sequence};
+    ghost use Rattle.asn1_der.proofs.Tagged.{sequence_laws};
 
     type Row = AuthEncRow;
 
@@ -145,7 +145,7 @@ impl Exact for AesAuthEncParams {}
 
 impl Serialize for AesParameters {
     ghost use Rattle.std.proofs.Common.{refl, true};
-    ghost use Rattle.asn1_trees.proofs.Choices.{injective_as};
+    ghost use Rattle.asn1_der.proofs.Choices.{injective_as};
     ghost use Rattle.x509_parameters.specs.AesChoices.{aes_choice, aes_made, aes_back};
 
     ghost tree = { λ v. ⟦<AesChoice as Alternatives>⟧.tree (aes_choice v) };

@@ -15,12 +15,12 @@ impl Exact for HashOid {}
 
 impl Serialize for HashAlgorithm {
     ghost use Rattle.std.proofs.Common.{refl, true};
-    ghost use Rattle.asn1_trees.specs.Tagged.{sequence};
-    ghost use Rattle.asn1_trees.specs.Firsts.{only};
-    ghost use Rattle.asn1_trees.proofs.Spelling.{may_begin-only};
+    ghost use Rattle.asn1_der.specs.Tagged.{sequence};
+    ghost use Rattle.asn1_der.specs.Firsts.{only};
+    ghost use Rattle.asn1_der.proofs.Spelling.{may_begin-only};
     ghost use Rattle.x509_spelling.specs.Spellings.{Holds};
     ghost use Rattle.x509_spelling.specs.RowLaws.{struct_laws};
-    ghost use Rattle.x509_kinds.specs.HeldLaws.{laws_injective};
+    ghost use Rattle.x509_open_types.specs.HeldLaws.{laws_injective};
     ghost use Rattle.x509_parameters.specs.HashRows.{one_hash};
 
     ghost tree = { λ v. sequence ⟦<HashRow as SpelledFields>⟧.row_trees 48 (hash_row v) };
@@ -42,8 +42,8 @@ impl Serialize for HashAlgorithm {
 
 impl Spelled for HashAlgorithm {
     ghost use Rattle.std.proofs.Common.{refl, true};
-    ghost use Rattle.asn1_trees.specs.Tagged.{sequence};
-    ghost use Rattle.asn1_trees.specs.Firsts.{only};
+    ghost use Rattle.asn1_der.specs.Tagged.{sequence};
+    ghost use Rattle.asn1_der.specs.Firsts.{only};
     ghost use Rattle.x509_spelling.specs.Spellings.{Holds};
     ghost use Rattle.x509_spelling.specs.RowLaws.{struct_laws};
     ghost use Rattle.x509_parameters.specs.HashRows.{one_hash};

@@ -69,12 +69,12 @@ impl Exact for Mgf1Oid {}
 
 impl Serialize for MaskGenAlgorithm {
     ghost use Rattle.std.proofs.Common.{refl, true};
-    ghost use Rattle.asn1_trees.specs.Tagged.{sequence};
-    ghost use Rattle.asn1_trees.specs.Firsts.{only};
-    ghost use Rattle.asn1_trees.proofs.Spelling.{may_begin-only};
+    ghost use Rattle.asn1_der.specs.Tagged.{sequence};
+    ghost use Rattle.asn1_der.specs.Firsts.{only};
+    ghost use Rattle.asn1_der.proofs.Spelling.{may_begin-only};
     ghost use Rattle.x509_spelling.specs.Spellings.{Holds};
     ghost use Rattle.x509_spelling.specs.RowLaws.{struct_laws};
-    ghost use Rattle.x509_kinds.specs.HeldLaws.{laws_injective};
+    ghost use Rattle.x509_open_types.specs.HeldLaws.{laws_injective};
     ghost use Rattle.x509_parameters.specs.MaskRows.{one_mask};
 
     ghost tree = { λ v. sequence ⟦<MaskRow as SpelledFields>⟧.row_trees 48 (mask_row v) };
@@ -95,8 +95,8 @@ impl Serialize for MaskGenAlgorithm {
 
 impl Spelled for MaskGenAlgorithm {
     ghost use Rattle.std.proofs.Common.{refl, true};
-    ghost use Rattle.asn1_trees.specs.Tagged.{sequence};
-    ghost use Rattle.asn1_trees.specs.Firsts.{only};
+    ghost use Rattle.asn1_der.specs.Tagged.{sequence};
+    ghost use Rattle.asn1_der.specs.Firsts.{only};
     ghost use Rattle.x509_spelling.specs.Spellings.{Holds};
     ghost use Rattle.x509_spelling.specs.RowLaws.{struct_laws};
     ghost use Rattle.x509_parameters.specs.MaskRows.{one_mask};

@@ -8,7 +8,7 @@ use devices::Sink;
 use picky_asn1::wrapper::IntegerAsn1;
 use picky_asn1_der::{Asn1DerError, Row3, Serialize, Serializer, fields_of};
 use std::alloc::{AllocError, Global};
-use x509_kinds::Explicit;
+use x509_open_types::Explicit;
 use x509_spelling::{Counted, Spelled, SpelledFields, X509Fault, read_fields};
 
 /// The hashes and the salt's length of an RSASSA-PSS signature.
@@ -69,12 +69,12 @@ impl RsassaPssParams {
 
 impl Serialize for RsassaPssParams {
     ghost use Rattle.std.proofs.Common.{ap, refl, true};
-    ghost use Rattle.asn1_trees.specs.Tagged.{sequence};
-    ghost use Rattle.asn1_trees.specs.Firsts.{only};
-    ghost use Rattle.asn1_trees.proofs.Spelling.{may_begin-only};
+    ghost use Rattle.asn1_der.specs.Tagged.{sequence};
+    ghost use Rattle.asn1_der.specs.Firsts.{only};
+    ghost use Rattle.asn1_der.proofs.Spelling.{may_begin-only};
     ghost use Rattle.x509_spelling.specs.Spellings.{Holds};
     ghost use Rattle.x509_spelling.specs.RowLaws.{struct_laws};
-    ghost use Rattle.x509_kinds.specs.HeldLaws.{laws_injective};
+    ghost use Rattle.x509_open_types.specs.HeldLaws.{laws_injective};
     ghost use Rattle.x509_parameters.specs.PssRows.{pss_row, one_pss};
 
     ghost tree = { λ v. sequence ⟦<PssRow as SpelledFields>⟧.row_trees 48 (pss_row v) };
@@ -98,8 +98,8 @@ impl Serialize for RsassaPssParams {
 
 impl Spelled for RsassaPssParams {
     ghost use Rattle.std.proofs.Common.{ap, refl, true};
-    ghost use Rattle.asn1_trees.specs.Tagged.{sequence};
-    ghost use Rattle.asn1_trees.specs.Firsts.{only};
+    ghost use Rattle.asn1_der.specs.Tagged.{sequence};
+    ghost use Rattle.asn1_der.specs.Firsts.{only};
     ghost use Rattle.x509_spelling.specs.Spellings.{Holds};
     ghost use Rattle.x509_spelling.specs.RowLaws.{struct_laws};
     ghost use Rattle.x509_parameters.specs.PssRows.{pss_row, one_pss};

@@ -2,11 +2,11 @@
 use Rattle.std.proofs.Common.{◌≡◌, ℕ, true, List, [], ◌∷◌, length, Option, None, Some, refl, sym, ◌∙◌, subst, arith}
 use Rattle.std.specs.Prelude.{Bool, ◌&&◌, ◌==◌, IsTrue}
 use Rattle.std.proofs.lemmas.Bool.{and_parts, eqb-true}
-use Rattle.asn1_trees.specs.Tree.{IsWhole, Writes}
-use Rattle.asn1_trees.specs.Length.{element}
-use Rattle.asn1_trees.proofs.Elements.{element-split}
-use Rattle.asn1_trees.specs.Firsts.{any_octet}
-use Rattle.asn1_trees.proofs.Leaf.{leaf-whole, whole-leaf, der-leaf}
+use Rattle.asn1_der.specs.Tree.{IsWhole, Writes}
+use Rattle.asn1_der.specs.Length.{element}
+use Rattle.asn1_der.proofs.Elements.{element-split}
+use Rattle.asn1_der.specs.Firsts.{any_octet}
+use Rattle.asn1_der.proofs.Leaf.{leaf-whole, whole-leaf, der-leaf}
 use Rattle.picky_asn1_der.specs.Raw.{Raw, has_low_number, raw_tree}
 use Rattle.picky_asn1_der.specs.RawLaws.{raw-injective}
 use Rattle.x509_spelling.specs.Spellings.{IsExact, has_low_tag}

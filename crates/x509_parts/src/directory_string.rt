@@ -158,7 +158,7 @@ impl From<BmpStringAsn1> for DirectoryString {
 
 impl Serialize for DirectoryString {
     ghost use Rattle.std.proofs.Common.{refl, true};
-    ghost use Rattle.asn1_trees.proofs.Choices.{injective_as};
+    ghost use Rattle.asn1_der.proofs.Choices.{injective_as};
     ghost use Rattle.x509_parts.specs.DirectoryStrings.{string_choice, string_made, string_back};
 
     ghost tree = { λ v. ⟦<StringChoice as Alternatives>⟧.tree (string_choice v) };

@@ -30,7 +30,7 @@ impl Serialize for RawParameters {
     ghost use Rattle.std.specs.Prelude.{refl};
     ghost use Rattle.picky_asn1_der.specs.Raw.{raw_tree};
     ghost use Rattle.picky_asn1_der.specs.RawLaws.{raw-begins, raw-injective};
-    ghost use Rattle.asn1_trees.specs.Firsts.{any_octet};
+    ghost use Rattle.asn1_der.specs.Firsts.{any_octet};
 
     ghost tree = { λ v. raw_tree v.0 };
 
@@ -58,7 +58,7 @@ impl Deserialize for RawParameters {
 
 impl Spelled for RawParameters {
     ghost use Rattle.std.specs.Prelude.{refl, true};
-    ghost use Rattle.asn1_trees.specs.Firsts.{any_octet};
+    ghost use Rattle.asn1_der.specs.Firsts.{any_octet};
     ghost use Rattle.picky_asn1_der.specs.Raw.{raw_tree};
     ghost use Rattle.x509_spelling.specs.Spellings.{IsExact};
     ghost use Rattle.x509_parts.specs.RawParameters.{raw_laws};
@@ -195,10 +195,10 @@ impl RawAlgorithmIdentifier {
 
 impl Serialize for RawAlgorithmIdentifier {
     ghost use Rattle.std.proofs.Common.{ap, refl, true};
-    ghost use Rattle.asn1_trees.specs.Tagged.{sequence, tagged_tree};
-    ghost use Rattle.asn1_trees.specs.Firsts.{only};
-    ghost use Rattle.asn1_trees.proofs.Spelling.{may_begin-only};
-    ghost use Rattle.asn1_trees.proofs.Tagged.{sequence_laws, tagged-injective};
+    ghost use Rattle.asn1_der.specs.Tagged.{sequence, tagged_tree};
+    ghost use Rattle.asn1_der.specs.Firsts.{only};
+    ghost use Rattle.asn1_der.proofs.Spelling.{may_begin-only};
+    ghost use Rattle.asn1_der.proofs.Tagged.{sequence_laws, tagged-injective};
 
     ghost tree = { tagged_tree 48 (sequence ⟦<RawAlgorithmRow as Fields>⟧.trees) (λ v. (v.algorithm, (v.parameters, tt))) };
 
@@ -232,8 +232,8 @@ impl Deserialize for RawAlgorithmIdentifier {
 
 impl Spelled for RawAlgorithmIdentifier {
     ghost use Rattle.std.proofs.Common.{ap, refl, true};
-    ghost use Rattle.asn1_trees.specs.Tagged.{sequence};
-    ghost use Rattle.asn1_trees.specs.Firsts.{only};
+    ghost use Rattle.asn1_der.specs.Tagged.{sequence};
+    ghost use Rattle.asn1_der.specs.Firsts.{only};
     ghost use Rattle.x509_spelling.specs.Spellings.{Holds};
     ghost use Rattle.x509_spelling.specs.RowLaws.{struct_laws};
 

@@ -139,7 +139,7 @@ impl From<GeneralizedTimeAsn1> for Time {
 
 impl Serialize for Time {
     ghost use Rattle.std.proofs.Common.{refl, true};
-    ghost use Rattle.asn1_trees.proofs.Choices.{injective_as};
+    ghost use Rattle.asn1_der.proofs.Choices.{injective_as};
     ghost use Rattle.x509_parts.specs.Times.{time_choice, time_made, time_back};
 
     ghost tree = { λ v. ⟦<TimeChoice as Alternatives>⟧.tree (time_choice v) };

@@ -5,7 +5,7 @@ use Rattle.asn1_codec.specs.declared.optional.Optional.{Optional}
 use Rattle.picky_asn1.specs.BitString.{Bits}
 use Rattle.picky_asn1_der.specs.declared.wrapper.ExplicitContextTag.{ExplicitContextTag}
 use Rattle.x509_parameters.specs.declared.ec_parameters.EcParameters.{EcParameters}
-use Rattle.x509_keys.specs.declared.fixed_number.FixedNumber.{FixedNumber}
+use Rattle.x509_spelling.specs.declared.fixed_number.FixedNumber.{FixedNumber}
 use Rattle.x509_private_keys.specs.Under.{under, not_under, not_under-under}
 use Rattle.x509_private_keys.specs.declared.ec_private_key.ECPrivateKey.{ECPrivateKey}
 

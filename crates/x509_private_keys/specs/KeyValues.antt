@@ -1,11 +1,11 @@
 -- Private keys as octet strings that hold them, each kind told from the others (RFC 5958, section 2).
 use Rattle.std.proofs.Common.{◌≡◌, ℕ, List, [], ◌∷◌, ◌++◌, refl, sym, ◌∙◌, arith}
-use Rattle.asn1_trees.specs.Length.{element}
-use Rattle.asn1_trees.specs.Tree.{Tree, Trees, primitive, constructed, absent, none, more, bare, der, ders, IsWhole, wrapped}
-use Rattle.asn1_trees.specs.Firsts.{only, BeginsAmong}
-use Rattle.asn1_trees.proofs.Elements.{element-one, element-content}
-use Rattle.asn1_trees.proofs.Spelling.{IsInjective, heads, der-wrapped, wrapped-whole, wrapped-begins, wrapped-injective}
-use Rattle.asn1_trees.proofs.Choices.{apart-spelled}
+use Rattle.asn1_der.specs.Length.{element}
+use Rattle.asn1_der.specs.Tree.{Tree, Trees, primitive, constructed, absent, none, more, bare, der, ders, IsWhole, wrapped}
+use Rattle.asn1_der.specs.Firsts.{only, BeginsAmong}
+use Rattle.asn1_der.proofs.Elements.{element-one, element-content}
+use Rattle.asn1_der.proofs.Spelling.{IsInjective, heads, der-wrapped, wrapped-whole, wrapped-begins, wrapped-injective}
+use Rattle.asn1_der.proofs.Choices.{apart-spelled}
 use Rattle.x509_private_keys.specs.declared.ec_private_key.ECPrivateKey.{ECPrivateKey}
 use Rattle.x509_private_keys.specs.declared.rsa_private_key.RsaPrivateKey.{RsaPrivateKey}
 use Rattle.x509_private_keys.specs.declared.private_key_value.PrivateKeyValue.{PrivateKeyValue}

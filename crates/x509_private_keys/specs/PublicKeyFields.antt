@@ -3,7 +3,7 @@ use Rattle.std.specs.Prelude.{Option, None, Some}
 use Rattle.asn1_codec.specs.declared.optional.Optional.{Optional}
 use Rattle.picky_asn1.specs.BitString.{Bits}
 use Rattle.picky_asn1_der.specs.declared.implicit_tag.ImplicitContextTag.{ImplicitContextTag}
-use Rattle.x509_keys.specs.declared.strict.Strict.{Strict}
+use Rattle.x509_spelling.specs.declared.strict.Strict.{Strict}
 
 abbrev pub PublicKeyField : Type 0
 PublicKeyField = Optional (Option (Strict (ImplicitContextTag 1 Bits)))

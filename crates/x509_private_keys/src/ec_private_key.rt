@@ -2,16 +2,16 @@
 ghost use Rattle.std.specs.Prelude.{◌≡◌, IfOk};
 
 use crate::lent::{lent_under, plain};
-use asn1_lent::Lent;
 use devices::{Sink, Source};
 use picky_asn1::wrapper::{
     BitStringAsn1, ExplicitContextTag0, ExplicitContextTag1, OctetStringAsn1, Optional,
 };
-use picky_asn1_der::{Asn1DerError, Deserializer, Fields, Row4, Serializer, Tagged, read_sequence};
+use picky_asn1_der::{
+    Asn1DerError, Deserializer, Fields, Lent, Row4, Serializer, Tagged, read_sequence,
+};
 use std::alloc::AllocError;
-use x509_keys::FixedNumber;
 use x509_parameters::EcParameters;
-use x509_spelling::Exact;
+use x509_spelling::{Exact, FixedNumber};
 
 /// A private key on an elliptic curve, as octets.
 ///
@@ -82,8 +82,8 @@ type ECPrivateKeyRow = Row4<
 
 impl Tagged for ECPrivateKey {
     ghost use Rattle.std.proofs.Common.{refl, true};
-    ghost use Rattle.asn1_trees.specs.Tagged.{sequence};
-    ghost use Rattle.asn1_trees.proofs.Tagged.{sequence_laws};
+    ghost use Rattle.asn1_der.specs.Tagged.{sequence};
+    ghost use Rattle.asn1_der.proofs.Tagged.{sequence_laws};
     ghost use Rattle.x509_private_keys.specs.EcRows.{ec_row, same_ec};
 
     type Row = ECPrivateKeyRow;

@@ -2,8 +2,8 @@
 ghost use Rattle.std.specs.Prelude.{◌≡◌};
 ghost use Rattle.x509_private_keys.specs.Under.{under};
 
-use asn1_lent::Lent;
 use picky_asn1::wrapper::{ExplicitContextTag, Optional};
+use picky_asn1_der::Lent;
 
 /// The value under the tag, to be written.
 pub fn lent_under<'a, const N: u8, T>(

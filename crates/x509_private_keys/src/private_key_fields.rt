@@ -9,9 +9,8 @@ use devices::Sink;
 use picky_asn1_der::{Asn1DerError, Serialize, Serializer};
 use std::alloc::{AllocError, Global};
 use x509_algorithms::AlgorithmIdentifier;
-use x509_keys::{Agreeing, Ahead, Identified, read_chosen_behind};
-use x509_kinds::Kinds;
-use x509_spelling::{Counted, Spelled, SpelledItem, X509Fault};
+use x509_open_types::{Identified, Kinds, read_chosen_behind};
+use x509_spelling::{Agreeing, Ahead, Counted, Spelled, SpelledItem, X509Fault};
 
 /// The fields of a private key with its algorithm, of any version.
 #[derive(Debug, Drop, PartialEq, Eq)]
@@ -55,13 +54,13 @@ impl Agreeing for PrivateKeyFields {
 
 impl Serialize for PrivateKeyFields {
     ghost use Rattle.std.proofs.Common.{refl, true};
-    ghost use Rattle.asn1_trees.specs.Tree.{more};
-    ghost use Rattle.asn1_trees.specs.Tagged.{sequence};
-    ghost use Rattle.asn1_trees.specs.Firsts.{only};
-    ghost use Rattle.asn1_trees.proofs.Spelling.{may_begin-only};
-    ghost use Rattle.x509_kinds.specs.HeldLaws.{laws_injective};
+    ghost use Rattle.asn1_der.specs.Tree.{more};
+    ghost use Rattle.asn1_der.specs.Tagged.{sequence};
+    ghost use Rattle.asn1_der.specs.Firsts.{only};
+    ghost use Rattle.asn1_der.proofs.Spelling.{may_begin-only};
+    ghost use Rattle.x509_open_types.specs.HeldLaws.{laws_injective};
     ghost use Rattle.x509_spelling.specs.Spellings.{Holds, Joins, Leads};
-    ghost use Rattle.x509_keys.specs.BehindLaws.{behind_laws};
+    ghost use Rattle.x509_open_types.specs.BehindLaws.{behind_laws};
     ghost use Rattle.x509_private_keys.specs.PrivateLaws.{private_row, same_private};
 
     ghost tree = { λ v. sequence (λ f. more (⟦<u8 as Spelled>⟧.written f.0) (⟦<AlgorithmIdentifier as SpelledItem>⟧.place f.1.0 (⟦<PrivateKinds as Kinds>⟧.row_trees f.1.1))) 48 (private_row v) };
@@ -100,11 +99,11 @@ impl Serialize for PrivateKeyFields {
 
 impl Spelled for PrivateKeyFields {
     ghost use Rattle.std.proofs.Common.{refl, true};
-    ghost use Rattle.asn1_trees.specs.Tree.{more};
-    ghost use Rattle.asn1_trees.specs.Tagged.{sequence};
-    ghost use Rattle.asn1_trees.specs.Firsts.{only};
+    ghost use Rattle.asn1_der.specs.Tree.{more};
+    ghost use Rattle.asn1_der.specs.Tagged.{sequence};
+    ghost use Rattle.asn1_der.specs.Firsts.{only};
     ghost use Rattle.x509_spelling.specs.Spellings.{Holds, Joins, Leads};
-    ghost use Rattle.x509_keys.specs.BehindLaws.{behind_laws};
+    ghost use Rattle.x509_open_types.specs.BehindLaws.{behind_laws};
     ghost use Rattle.x509_private_keys.specs.PrivateLaws.{private_row, same_private};
 
     ghost spells = { λ v. Holds 48 (λ f. Joins (Leads ⟦<u8 as Spelled>⟧.spells) (λ g. Joins ⟦<AlgorithmIdentifier as SpelledItem>⟧.leads ⟦<PrivateKinds as Kinds>⟧.spells g.0 g.1) f.0 f.1) (private_row v) };

@@ -10,8 +10,7 @@ use picky_asn1::wrapper::BitStringAsn1;
 use picky_asn1_der::{Asn1DerError, Serialize, Serializer};
 use std::alloc::{AllocError, Global};
 use x509_algorithms::AlgorithmIdentifier;
-use x509_keys::read_agreeing;
-use x509_spelling::{Counted, Spelled, X509Fault};
+use x509_spelling::{Counted, Spelled, X509Fault, read_agreeing};
 
 /// The version without a public key.
 pub const PRIVATE_KEY_INFO_VERSION_1: u8 = 0;
@@ -110,7 +109,7 @@ impl PrivateKeyInfo {
 }
 
 impl Serialize for PrivateKeyInfo {
-    ghost use Rattle.asn1_trees.specs.Firsts.{only};
+    ghost use Rattle.asn1_der.specs.Firsts.{only};
     ghost use Rattle.x509_private_keys.specs.PrivateInfoLaws.{same_info};
 
     ghost tree = { λ v. ⟦<PrivateKeyFields as Serialize>⟧.tree v.fields };
@@ -128,7 +127,7 @@ impl Serialize for PrivateKeyInfo {
 
 impl Spelled for PrivateKeyInfo {
     ghost use Rattle.std.proofs.Common.{refl, true};
-    ghost use Rattle.asn1_trees.specs.Firsts.{only};
+    ghost use Rattle.asn1_der.specs.Firsts.{only};
     ghost use Rattle.x509_spelling.specs.Laws.{held_laws};
     ghost use Rattle.x509_private_keys.specs.PrivateInfoLaws.{same_info};
 

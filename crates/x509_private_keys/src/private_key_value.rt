@@ -11,8 +11,9 @@ use picky_asn1::wrapper::{
 };
 use picky_asn1_der::{Asn1DerError, Serialize, Serializer};
 use std::alloc::AllocError;
-use x509_keys::{EcIdentifiers, EdIdentifiers, RsaIdentifiers, Strict};
-use x509_kinds::{Enclosed, KindOf, LastKind, ToldBy};
+use x509_keys::{EcIdentifiers, EdIdentifiers, RsaIdentifiers};
+use x509_open_types::{Enclosed, KindOf, LastKind, ToldBy};
+use x509_spelling::Strict;
 
 /// A private key. The identifier of its algorithm decides its kind.
 ///
@@ -52,7 +53,7 @@ impl Clone for PrivateKeyValue {
 
 /// A key is written alone too; it is read only behind its algorithm, whose identifier decides its kind.
 impl Serialize for PrivateKeyValue {
-    ghost use Rattle.asn1_trees.specs.Firsts.{only};
+    ghost use Rattle.asn1_der.specs.Firsts.{only};
     ghost use Rattle.x509_private_keys.specs.KeyValues.{value_tree, value-begins, value-injective, rest_of, versions_apart};
 
     ghost tree = { value_tree ⟦<RsaPrivateKey as Serialize>⟧.tree ⟦<ECPrivateKey as Serialize>⟧.tree ⟦<EncapsulatedEcSecret as Serialize>⟧.tree };

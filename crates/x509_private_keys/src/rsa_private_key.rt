@@ -4,13 +4,11 @@ ghost use Rattle.std.specs.Prelude.{◌≡◌};
 use devices::{Sink, Source};
 use picky_asn1::wrapper::IntegerAsn1;
 use picky_asn1_der::{
-    Asn1DerError, Deserializer, Fields, Row9, Serializer, Tagged, fields_of, from_fields,
-    read_sequence,
+    Asn1DerError, Deserializer, Fields, LentFields, Row9, Serializer, Tagged, fields_of,
+    from_fields, read_sequence,
 };
-use record_copies::LentFields;
 use std::alloc::AllocError;
-use x509_keys::FixedNumber;
-use x509_spelling::Exact;
+use x509_spelling::{Exact, FixedNumber};
 
 /// A private key of RSA, with two primes.
 ///
@@ -154,8 +152,8 @@ impl RsaPrivateKey {
 
 impl Tagged for RsaPrivateKey {
     ghost use Rattle.std.proofs.Common.{ap, refl, true};
-    ghost use Rattle.asn1_trees.specs.Tagged.{sequence};
-    ghost use Rattle.asn1_trees.proofs.Tagged.{sequence_laws};
+    ghost use Rattle.asn1_der.specs.Tagged.{sequence};
+    ghost use Rattle.asn1_der.proofs.Tagged.{sequence_laws};
 
     type Row = RsaPrivateKeyRow;
 

@@ -1,8 +1,8 @@
 -- The elements of a list, read one after another.
 use Rattle.std.proofs.Common.{◌≡◌, Bool, ℕ, ◌+◌, ◌<◌, List, [], ◌∷◌, ◌++◌, length, refl, sym, ap, ◌∙◌, subst, arith, append_assoc, append-nil, length-append}
-use Rattle.asn1_trees.specs.Tree.{Tree}
-use Rattle.asn1_trees.specs.Firsts.{Firsts}
-use Rattle.asn1_trees.proofs.Elements.{length-element}
+use Rattle.asn1_der.specs.Tree.{Tree}
+use Rattle.asn1_der.specs.Firsts.{Firsts}
+use Rattle.asn1_der.proofs.Elements.{length-element}
 use Rattle.x509_spelling.specs.declared.fault.X509Fault.{X509Fault}
 use Rattle.x509_spelling.specs.Answers.{IsRefusal}
 use Rattle.x509_spelling.specs.Spellings.{Leads, AreMany}

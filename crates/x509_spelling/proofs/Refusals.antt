@@ -2,13 +2,13 @@
 use Rattle.std.proofs.Common.{◌≡◌, ℕ, ◌∷◌, length, arith, Bool, true, false, Option, None, Some, append-nil, List, [], ◌++◌, Result, Ok, Err, refl, sym, ap, ◌∙◌, subst, inl, inr}
 use Rattle.std.specs.Prelude.{◌==◌}
 use Rattle.std.proofs.lemmas.Bool.{eqb-true}
-use Rattle.asn1_trees.specs.Tree.{Tree, Writes}
-use Rattle.asn1_trees.specs.Length.{element}
-use Rattle.asn1_trees.specs.Firsts.{Firsts}
-use Rattle.asn1_trees.proofs.Elements.{element-one, element-content, element-split}
+use Rattle.asn1_der.specs.Tree.{Tree, Writes}
+use Rattle.asn1_der.specs.Length.{element}
+use Rattle.asn1_der.specs.Firsts.{Firsts}
+use Rattle.asn1_der.proofs.Elements.{element-one, element-content, element-split}
 use Rattle.picky_asn1_der.specs.Reads.{ReadsWhole}
-use Rattle.asn1_octets.specs.declared.error.Asn1DerError.{Asn1DerError}
-use Rattle.asn1_octets.specs.declared.error.Asn1DerError.TheVariants as der_fault
+use Rattle.asn1_der.specs.declared.error.Asn1DerError.{Asn1DerError}
+use Rattle.asn1_der.specs.declared.error.Asn1DerError.TheVariants as der_fault
 use Rattle.picky_asn1_der.specs.Splits.{IsNoSplit}
 use Rattle.picky_asn1_der.specs.Raw.{has_low_number}
 use Rattle.x509_spelling.specs.declared.fault.X509Fault.{X509Fault}

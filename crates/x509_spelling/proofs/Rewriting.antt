@@ -1,8 +1,8 @@
 -- A value is written as the bytes that it was read from exactly where nothing deviates in them.
 use Rattle.std.proofs.Common.{◌≡◌, ℕ, List, sym, ap, ◌∙◌, subst}
 use Rattle.std.specs.Prelude.{Bool, ◌↔◌}
-use Rattle.asn1_trees.specs.Tree.{Tree, IsWhole, der}
-use Rattle.asn1_trees.specs.Firsts.{Firsts}
+use Rattle.asn1_der.specs.Tree.{Tree, IsWhole, der}
+use Rattle.asn1_der.specs.Firsts.{Firsts}
 use Rattle.x509_spelling.specs.Laws.{SpellingLaws}
 
 module _ {T : Type 0} (is_low : Bool) (firsts : Firsts) (written : T → Tree) (spells : T → List ℕ → ℕ → Type 0) (laws : SpellingLaws is_low firsts written spells)

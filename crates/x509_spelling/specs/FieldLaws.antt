@@ -2,11 +2,11 @@
 use Rattle.std.proofs.Common.{◌≡◌, ℕ, ◌+◌, Bool, true, false, List, [], ◌∷◌, ◌++◌, Option, None, Some, refl, sym, ap, ◌∙◌, subst, inl, inr, arith}
 use Rattle.std.specs.Prelude.{IsTrue, ◌&&◌}
 use Rattle.std.proofs.lemmas.Bool.{and_parts}
-use Rattle.asn1_trees.specs.Tree.{Tree, Trees, more, der, ders, IsWhole, AreWhole, put}
-use Rattle.asn1_trees.specs.Length.{element}
-use Rattle.asn1_trees.specs.Firsts.{Firsts, may_begin, either, apart}
-use Rattle.asn1_trees.proofs.Elements.{element-one, element-parts, element-begins}
-use Rattle.asn1_trees.proofs.Rows.{may_begin-either_left, may_begin-either_right, apart-none}
+use Rattle.asn1_der.specs.Tree.{Tree, Trees, more, der, ders, IsWhole, AreWhole, put}
+use Rattle.asn1_der.specs.Length.{element}
+use Rattle.asn1_der.specs.Firsts.{Firsts, may_begin, either, apart}
+use Rattle.asn1_der.proofs.Elements.{element-one, element-parts, element-begins}
+use Rattle.asn1_der.proofs.Rows.{may_begin-either_left, may_begin-either_right, apart-none}
 use Rattle.picky_asn1_der.specs.Defaults.{unless, told_value}
 use Rattle.x509_spelling.specs.Deviations.{Deviation, counted}
 use Rattle.x509_spelling.specs.Spellings.{Leads, begins, LeadsOptional, LeadsDefault, LeadsImplied}

@@ -3,12 +3,12 @@ use Rattle.std.proofs.Common.{◌≡◌, ℕ, Bool, true, false, List, [], ◌�
 use Rattle.std.specs.Prelude.{◌==◌, IsTrue}
 use Rattle.std.specs.List.{list_all, list_any}
 use Rattle.std.proofs.lemmas.Bool.{and_parts, or_cases, eqb-true}
-use Rattle.asn1_trees.specs.Tree.{Tree, Trees, primitive, constructed, absent, der, ders, IsWhole, AreWhole}
-use Rattle.asn1_trees.specs.Length.{element}
-use Rattle.asn1_trees.specs.Firsts.{Firsts, any_octet, one_of, may_begin, BeginsAmong}
-use Rattle.asn1_trees.proofs.Elements.{element-split}
-use Rattle.asn1_trees.proofs.Spelling.{IsInjective}
-use Rattle.asn1_trees.proofs.Rows.{AllBeginAmong}
+use Rattle.asn1_der.specs.Tree.{Tree, Trees, primitive, constructed, absent, der, ders, IsWhole, AreWhole}
+use Rattle.asn1_der.specs.Length.{element}
+use Rattle.asn1_der.specs.Firsts.{Firsts, any_octet, one_of, may_begin, BeginsAmong}
+use Rattle.asn1_der.proofs.Elements.{element-split}
+use Rattle.asn1_der.proofs.Spelling.{IsInjective}
+use Rattle.asn1_der.proofs.Rows.{AllBeginAmong}
 use Rattle.picky_asn1_der.specs.Raw.{has_low_number}
 use Rattle.x509_spelling.specs.Spellings.{IsExact, has_low_tag}
 

@@ -4,9 +4,11 @@ pub mod Answers
 pub mod Laws
 pub mod FieldLaws
 pub mod RowLaws
-pub use Rattle.asn1_trees.specs.Firsts
-pub use Rattle.asn1_trees.specs.Tagged
-pub use Rattle.asn1_trees.specs.Tree
+pub use Rattle.asn1_der.specs.Firsts
+pub use Rattle.asn1_der.specs.Tagged
+pub use Rattle.asn1_der.specs.Tree
 pub use Rattle.picky_asn1_der.specs.Optional
 pub use Rattle.picky_asn1_der.specs.Raw
 pub use Rattle.picky_asn1_der.specs.Refusals
+pub mod StrictReading
+pub mod SignedParts

@@ -1,12 +1,12 @@
 -- The fields of a SEQUENCE and the elements of a list are told by their spellings.
 use Rattle.std.proofs.Common.{◌≡◌, ℕ, ◌+◌, Bool, true, List, [], ◌∷◌, ◌++◌, refl, sym, ap, ◌∙◌, subst, arith}
 use Rattle.std.specs.Prelude.{IsTrue}
-use Rattle.asn1_trees.specs.Tree.{Tree, Trees, none, ders, AreWhole, trees_of}
-use Rattle.asn1_trees.specs.Length.{element}
-use Rattle.asn1_trees.specs.Tagged.{sequence}
-use Rattle.asn1_trees.specs.Firsts.{Firsts, one_of, only}
-use Rattle.asn1_trees.proofs.Elements.{element-split, element-content}
-use Rattle.asn1_trees.proofs.Spelling.{may_begin-only}
+use Rattle.asn1_der.specs.Tree.{Tree, Trees, none, ders, AreWhole, trees_of}
+use Rattle.asn1_der.specs.Length.{element}
+use Rattle.asn1_der.specs.Tagged.{sequence}
+use Rattle.asn1_der.specs.Firsts.{Firsts, one_of, only}
+use Rattle.asn1_der.proofs.Elements.{element-split, element-content}
+use Rattle.asn1_der.proofs.Spelling.{may_begin-only}
 use Rattle.picky_asn1_der.specs.Raw.{has_low_number}
 use Rattle.x509_spelling.specs.Spellings.{has_low_tag, Leads, IsEnd, Joins, AreMany, Holds, begins}
 use Rattle.x509_spelling.specs.Laws.{SpellingLaws, RowLaws, FieldLaws, Starts, held_laws}

@@ -1,8 +1,8 @@
 -- Which bytes are a spelling of a value, and how many deviations stand in them: a relation of a value, bytes and a count.
 use Rattle.std.specs.Prelude.{◌≡◌, ℕ, ◌+◌, ◌⊎◌, Bool, true, false, List, [], ◌∷◌, ◌++◌, Option, None, Some, IsTrue}
-use Rattle.asn1_trees.specs.Tree.{Tree, IsWhole, Writes}
-use Rattle.asn1_trees.specs.Length.{element}
-use Rattle.asn1_trees.specs.Firsts.{Firsts, may_begin}
+use Rattle.asn1_der.specs.Tree.{Tree, IsWhole, Writes}
+use Rattle.asn1_der.specs.Length.{element}
+use Rattle.asn1_der.specs.Firsts.{Firsts, may_begin}
 use Rattle.picky_asn1_der.specs.Raw.{has_low_number}
 use Rattle.x509_spelling.specs.Deviations.{Deviation, counted}
 

@@ -1,7 +1,7 @@
 //! The fields of a SEQUENCE, as a row of pairs: each field may deviate, and the counts are summed.
 ghost use Rattle.std.specs.Prelude.{◌≡◌, ℕ, Bool, true, ◌&&◌, List, [], IsTrue, MatchResult};
-ghost use Rattle.asn1_trees.specs.Tree.{Trees, none, more, put};
-ghost use Rattle.asn1_trees.specs.Firsts.{Firsts, one_of, either, apart};
+ghost use Rattle.asn1_der.specs.Tree.{Trees, none, more, put};
+ghost use Rattle.asn1_der.specs.Firsts.{Firsts, one_of, either, apart};
 ghost use Rattle.x509_spelling.specs.Spellings.{Leads, LeadsOptional, LeadsDefault, IsEnd, Joins};
 ghost use Rattle.x509_spelling.specs.Laws.{FieldLaws, RowLaws};
 ghost use Rattle.x509_spelling.specs.Answers.{IsRefusal, Tells};

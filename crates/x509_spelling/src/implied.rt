@@ -1,7 +1,7 @@
 //! Fields that are written even where they have their default value, and may be missing in what is read.
 ghost use Rattle.std.specs.Prelude.{◌≡◌, ℕ, List, IsTrue, MatchResult};
-ghost use Rattle.asn1_trees.specs.Tree.{more, IsWhole};
-ghost use Rattle.asn1_trees.specs.Firsts.{either};
+ghost use Rattle.asn1_der.specs.Tree.{more, IsWhole};
+ghost use Rattle.asn1_der.specs.Firsts.{either};
 ghost use Rattle.x509_spelling.specs.Spellings.{LeadsImplied};
 ghost use Rattle.x509_spelling.specs.Answers.{IsRefusal};
 

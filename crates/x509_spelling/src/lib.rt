@@ -5,24 +5,33 @@
 //! reads a value, [`deviations`] counts, and [`to_vec`] writes: it gives the same bytes exactly where the count is 0.
 #![tactic(auto)]
 
+mod agreeing;
+mod ahead;
 mod calls;
 mod counted;
 mod exact;
 mod fault;
 mod fields;
+mod fixed_number;
 mod front;
 mod implied;
 mod laws;
 mod leaves;
 mod list;
+mod reading;
 mod sequence;
+mod signed;
 mod spelled;
+mod strict;
 
+pub use agreeing::{Agreeing, read_agreeing};
+pub use ahead::Ahead;
 pub use calls::{deviations, encoded_len, from_bytes, to_vec};
 pub use counted::{Counted, sum_of};
 pub use exact::{Exact, read_exact};
 pub use fault::X509Fault;
 pub use fields::{Deviates, SpelledFields, SpelledItem};
+pub use fixed_number::FixedNumber;
 pub use front::read_front;
 pub use implied::{Implied, Implies};
 pub use laws::valid_leaf_is_whole;
@@ -30,5 +39,8 @@ pub use list::Many;
 pub use picky_asn1_der::{
     Asn1DerError, Asn1RawDer, Deserialize, Deserializer, Serialize, Serializer, WriteFields,
 };
+pub use reading::read_strict;
 pub use sequence::{content_of, read_fields};
+pub use signed::{Signed, with_signed_part};
 pub use spelled::Spelled;
+pub use strict::Strict;

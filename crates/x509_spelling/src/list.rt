@@ -1,6 +1,6 @@
 //! The elements of a list, each of which may deviate.
 ghost use Rattle.std.specs.Prelude.{◌≡◌, ℕ, List, IsTrue, MatchResult};
-ghost use Rattle.asn1_trees.specs.Tree.{trees_of};
+ghost use Rattle.asn1_der.specs.Tree.{trees_of};
 ghost use Rattle.x509_spelling.specs.Spellings.{AreMany};
 ghost use Rattle.x509_spelling.specs.Answers.{Tells};
 

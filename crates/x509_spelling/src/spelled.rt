@@ -1,7 +1,7 @@
 //! What a type's spellings are.
 ghost use Rattle.std.specs.Prelude.{◌≡◌, ℕ, Bool, List, MatchResult};
-ghost use Rattle.asn1_trees.specs.Tree.{Tree};
-ghost use Rattle.asn1_trees.specs.Firsts.{Firsts, may_begin};
+ghost use Rattle.asn1_der.specs.Tree.{Tree};
+ghost use Rattle.asn1_der.specs.Firsts.{Firsts, may_begin};
 ghost use Rattle.x509_spelling.specs.Laws.{SpellingLaws};
 ghost use Rattle.x509_spelling.specs.Answers.{Tells};
 

@@ -1,12 +1,12 @@
 //! BOOLEAN, by its content.
 ghost use Rattle.std.specs.Prelude.{◌≡◌, Bool, None, MatchResult};
-ghost use Rattle.asn1_trees.specs.Length.{element};
+ghost use Rattle.asn1_der.specs.Length.{element};
 ghost use Rattle.asn1_codec.specs.Booleans.{bool_content};
 ghost use Rattle.asn1_codec.specs.Writing.{WroteValue, NotWroteValue};
 ghost use Rattle.asn1_elements.specs.Contents.{boolean_fault};
 
 use asn1_codec::Serializer;
-use asn1_octets::Asn1DerError;
+use asn1_der::Asn1DerError;
 use devices::Sink;
 
 /// BOOLEAN (X.690, sections 8.2 and 11.1): the content `00` is false and `FF` true.

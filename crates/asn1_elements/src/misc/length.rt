@@ -1,7 +1,7 @@
 //! Lengths alone.
 ghost use Rattle.std.specs.Prelude.{◌≡◌, length, None, false, IfOk, IfErr, MatchResult};
 ghost use Rattle.std.specs.Io.KnownBytes.{Consumes};
-ghost use Rattle.asn1_trees.specs.Length.{length_octets};
+ghost use Rattle.asn1_der.specs.Length.{length_octets};
 ghost use Rattle.asn1_codec.specs.Reading.{TellsKind, result_faults};
 ghost use Rattle.asn1_codec.specs.Writing.{WroteValue, NotWroteTo, at_sink};
 ghost use Rattle.asn1_elements.specs.Splits.{AreLengthOctets};
@@ -10,8 +10,7 @@ ghost use Rattle.asn1_elements.specs.Streams.{IsWantingNext};
 use crate::element::split_length;
 use crate::misc::read_ext::ReadExt;
 use asn1_codec::write_octets;
-use asn1_octets::Asn1DerError;
-use asn1_trees::{LengthOctets, following};
+use asn1_der::{Asn1DerError, LengthOctets, following};
 use devices::{Sink, Source, read_full};
 
 /// The length octets of an element: definite, and as few as there can be (X.690, sections 8.1.3 and 10.1).

@@ -3,7 +3,7 @@ ghost use Rattle.std.specs.Prelude.{◌≡◌, ◌≤◌, ◌<◌, ◌⊎◌, []
 ghost use Rattle.asn1_elements.specs.Peeking.{Peeking, Looked, LookedOn, NotLooked};
 
 use crate::misc::peeked_content::{PEEKED_BUFFER_SIZE, PeekedContent};
-use asn1_octets::Asn1DerError;
+use asn1_der::Asn1DerError;
 use devices::Source;
 use std::io::ErrorKind;
 use std::marker::Model;

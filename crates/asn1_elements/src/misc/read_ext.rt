@@ -4,7 +4,7 @@ ghost use Rattle.std.specs.Io.KnownBytes.{Consumes};
 ghost use Rattle.asn1_codec.specs.Reading.{TellsKind, result_faults};
 ghost use Rattle.asn1_elements.specs.Streams.{IsNoOctet};
 
-use asn1_octets::Asn1DerError;
+use asn1_der::Asn1DerError;
 use devices::{Source, read_full};
 
 /// A source of which single octets are taken.

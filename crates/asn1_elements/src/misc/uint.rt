@@ -1,7 +1,7 @@
 //! The unsigned integers of Rust.
 ghost use Rattle.std.specs.Prelude.{◌≡◌, ℕ, ◌<◌, ◌≤◌, MatchResult};
 
-use asn1_octets::Asn1DerError;
+use asn1_der::Asn1DerError;
 
 /// An unsigned integer of Rust.
 pub trait UInt: Sized + Copy {

@@ -1,12 +1,12 @@
 //! INTEGER of what isn't negative, by its content.
 ghost use Rattle.std.specs.Prelude.{◌≡◌, ℕ, ◌≤◌, None, MatchResult};
-ghost use Rattle.asn1_trees.specs.Length.{element};
+ghost use Rattle.asn1_der.specs.Length.{element};
 ghost use Rattle.asn1_codec.specs.Unsigned.{unsigned_content, unsigned_fault};
 ghost use Rattle.asn1_codec.specs.Writing.{WroteValue, NotWroteValue};
 
 use crate::misc::uint::UInt;
 use asn1_codec::{Serializer, unsigned_of, write_unsigned};
-use asn1_octets::Asn1DerError;
+use asn1_der::Asn1DerError;
 use devices::Sink;
 
 /// An INTEGER (X.690, section 8.3) that isn't negative.

@@ -3,7 +3,7 @@ ghost use Rattle.std.specs.Prelude.{[], ◌∷◌, None, false, MatchResult};
 ghost use Rattle.asn1_codec.specs.Writing.{WroteValue, NotWroteTo, at_sink};
 
 use asn1_codec::write_octets;
-use asn1_octets::Asn1DerError;
+use asn1_der::Asn1DerError;
 use devices::Sink;
 
 /// A sink into which octets are written as they stand.

@@ -37,8 +37,8 @@ type ApRepInnerRow = Row3<
 
 impl Tagged for ApRepInner {
     ghost use Rattle.std.proofs.Common.{ap, refl, true};
-    ghost use Rattle.asn1_trees.specs.Tagged.{sequence};
-    ghost use Rattle.asn1_trees.proofs.Tagged.{sequence_laws};
+    ghost use Rattle.asn1_der.specs.Tagged.{sequence};
+    ghost use Rattle.asn1_der.proofs.Tagged.{sequence_laws};
 
     type Row = ApRepInnerRow;
 

@@ -5,10 +5,9 @@ use krb_types::data_types::{ApOptions, EncryptedData, Ticket};
 use picky_asn1::wrapper::IntegerAsn1;
 use picky_asn1_der::{
     ApplicationTag, Asn1DerError, Deserializer, ExplicitContextTag0, ExplicitContextTag1,
-    ExplicitContextTag2, ExplicitContextTag3, ExplicitContextTag4, Fields, Row5, Serializer,
-    Tagged, fields_of, from_fields, read_sequence,
+    ExplicitContextTag2, ExplicitContextTag3, ExplicitContextTag4, Fields, LentFields,
+    RecordFields, Row5, Serializer, Tagged, fields_of, from_fields, read_sequence,
 };
-use record_copies::{LentFields, RecordFields};
 use std::alloc::AllocError;
 
 /// What a request to a service holds (RFC 4120, section 5.5.1).
@@ -57,8 +56,8 @@ impl Clone for ApReqInner {
 
 impl Tagged for ApReqInner {
     ghost use Rattle.std.proofs.Common.{ap, refl, true};
-    ghost use Rattle.asn1_trees.specs.Tagged.{sequence};
-    ghost use Rattle.asn1_trees.proofs.Tagged.{sequence_laws};
+    ghost use Rattle.asn1_der.specs.Tagged.{sequence};
+    ghost use Rattle.asn1_der.proofs.Tagged.{sequence_laws};
 
     type Row = ApReqInnerRow;
 

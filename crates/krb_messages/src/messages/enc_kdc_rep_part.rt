@@ -10,10 +10,9 @@ use picky_asn1_der::{
     ApplicationTag, Asn1DerError, Deserializer, ExplicitContextTag0, ExplicitContextTag1,
     ExplicitContextTag2, ExplicitContextTag3, ExplicitContextTag4, ExplicitContextTag5,
     ExplicitContextTag6, ExplicitContextTag7, ExplicitContextTag8, ExplicitContextTag9,
-    ExplicitContextTag10, ExplicitContextTag11, ExplicitContextTag12, Fields, Optional, Row13,
-    Serializer, Tagged, fields_of, from_fields, read_sequence, row,
+    ExplicitContextTag10, ExplicitContextTag11, ExplicitContextTag12, Fields, LentFields, Optional,
+    RecordFields, Row13, Serializer, Tagged, fields_of, from_fields, read_sequence, row,
 };
-use record_copies::{LentFields, RecordFields};
 use std::alloc::AllocError;
 
 /// What a reply of a KDC holds under a key that the client knows (RFC 4120, section 5.4.2).
@@ -126,8 +125,8 @@ impl Clone for EncKdcRepPart {
 
 impl Tagged for EncKdcRepPart {
     ghost use Rattle.std.proofs.Common.{ap, refl, true};
-    ghost use Rattle.asn1_trees.specs.Tagged.{sequence};
-    ghost use Rattle.asn1_trees.proofs.Tagged.{sequence_laws};
+    ghost use Rattle.asn1_der.specs.Tagged.{sequence};
+    ghost use Rattle.asn1_der.proofs.Tagged.{sequence_laws};
 
     type Row = EncKdcRepPartRow;
 

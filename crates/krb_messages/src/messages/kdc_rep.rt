@@ -6,10 +6,9 @@ use picky_asn1::wrapper::{Asn1SequenceOf, IntegerAsn1};
 use picky_asn1_der::{
     ApplicationTag, Asn1DerError, Deserializer, ExplicitContextTag0, ExplicitContextTag1,
     ExplicitContextTag2, ExplicitContextTag3, ExplicitContextTag4, ExplicitContextTag5,
-    ExplicitContextTag6, Fields, Optional, Row7, Serializer, Tagged, fields_of, from_fields,
-    read_sequence,
+    ExplicitContextTag6, Fields, LentFields, Optional, RecordFields, Row7, Serializer, Tagged,
+    fields_of, from_fields, read_sequence,
 };
-use record_copies::{LentFields, RecordFields};
 use std::alloc::AllocError;
 
 /// A reply of a KDC (RFC 4120, section 5.4.2).
@@ -78,8 +77,8 @@ impl Clone for KdcRep {
 
 impl Tagged for KdcRep {
     ghost use Rattle.std.proofs.Common.{ap, refl, true};
-    ghost use Rattle.asn1_trees.specs.Tagged.{sequence};
-    ghost use Rattle.asn1_trees.proofs.Tagged.{sequence_laws};
+    ghost use Rattle.asn1_der.specs.Tagged.{sequence};
+    ghost use Rattle.asn1_der.proofs.Tagged.{sequence_laws};
 
     type Row = KdcRepRow;
 

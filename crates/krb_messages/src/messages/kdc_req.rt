@@ -6,10 +6,9 @@ use krb_types::data_types::PaData;
 use picky_asn1::wrapper::{Asn1SequenceOf, IntegerAsn1};
 use picky_asn1_der::{
     ApplicationTag, Asn1DerError, Deserializer, ExplicitContextTag1, ExplicitContextTag2,
-    ExplicitContextTag3, ExplicitContextTag4, Fields, Optional, Row4, Serializer, Tagged,
-    fields_of, from_fields, read_sequence,
+    ExplicitContextTag3, ExplicitContextTag4, Fields, LentFields, Optional, RecordFields, Row4,
+    Serializer, Tagged, fields_of, from_fields, read_sequence,
 };
-use record_copies::{LentFields, RecordFields};
 use std::alloc::AllocError;
 
 /// A request to a KDC (RFC 4120, section 5.4.1).
@@ -66,8 +65,8 @@ impl Clone for KdcReq {
 
 impl Tagged for KdcReq {
     ghost use Rattle.std.proofs.Common.{ap, refl, true};
-    ghost use Rattle.asn1_trees.specs.Tagged.{sequence};
-    ghost use Rattle.asn1_trees.proofs.Tagged.{sequence_laws};
+    ghost use Rattle.asn1_der.specs.Tagged.{sequence};
+    ghost use Rattle.asn1_der.proofs.Tagged.{sequence_laws};
 
     type Row = KdcReqRow;
 

@@ -8,10 +8,9 @@ use picky_asn1_der::{
     Asn1DerError, Deserializer, ExplicitContextTag0, ExplicitContextTag1, ExplicitContextTag2,
     ExplicitContextTag3, ExplicitContextTag4, ExplicitContextTag5, ExplicitContextTag6,
     ExplicitContextTag7, ExplicitContextTag8, ExplicitContextTag9, ExplicitContextTag10,
-    ExplicitContextTag11, Fields, Optional, Row12, Serializer, Tagged, fields_of, from_fields,
-    read_sequence, row,
+    ExplicitContextTag11, Fields, LentFields, Optional, RecordFields, Row12, Serializer, Tagged,
+    fields_of, from_fields, read_sequence, row,
 };
-use record_copies::{LentFields, RecordFields};
 use std::alloc::AllocError;
 
 /// The body of a request to a KDC (RFC 4120, section 5.4.1).
@@ -102,8 +101,8 @@ impl Clone for KdcReqBody {
 
 impl Tagged for KdcReqBody {
     ghost use Rattle.std.proofs.Common.{ap, refl, true};
-    ghost use Rattle.asn1_trees.specs.Tagged.{sequence};
-    ghost use Rattle.asn1_trees.proofs.Tagged.{sequence_laws};
+    ghost use Rattle.asn1_der.specs.Tagged.{sequence};
+    ghost use Rattle.asn1_der.proofs.Tagged.{sequence_laws};
 
     type Row = KdcReqBodyRow;
 

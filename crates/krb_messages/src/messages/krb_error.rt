@@ -7,10 +7,9 @@ use picky_asn1_der::{
     ApplicationTag, Asn1DerError, Deserializer, ExplicitContextTag0, ExplicitContextTag1,
     ExplicitContextTag2, ExplicitContextTag3, ExplicitContextTag4, ExplicitContextTag5,
     ExplicitContextTag6, ExplicitContextTag7, ExplicitContextTag8, ExplicitContextTag9,
-    ExplicitContextTag10, ExplicitContextTag11, ExplicitContextTag12, Fields, Optional, Row13,
-    Serializer, Tagged, fields_of, from_fields, read_sequence, row,
+    ExplicitContextTag10, ExplicitContextTag11, ExplicitContextTag12, Fields, LentFields, Optional,
+    RecordFields, Row13, Serializer, Tagged, fields_of, from_fields, read_sequence, row,
 };
-use record_copies::{LentFields, RecordFields};
 use std::alloc::AllocError;
 use std::fmt;
 
@@ -119,8 +118,8 @@ impl Clone for KrbErrorInner {
 
 impl Tagged for KrbErrorInner {
     ghost use Rattle.std.proofs.Common.{ap, refl, true};
-    ghost use Rattle.asn1_trees.specs.Tagged.{sequence};
-    ghost use Rattle.asn1_trees.proofs.Tagged.{sequence_laws};
+    ghost use Rattle.asn1_der.specs.Tagged.{sequence};
+    ghost use Rattle.asn1_der.proofs.Tagged.{sequence_laws};
 
     type Row = KrbErrorInnerRow;
 

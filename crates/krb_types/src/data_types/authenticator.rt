@@ -8,10 +8,9 @@ use picky_asn1::wrapper::IntegerAsn1;
 use picky_asn1_der::{
     ApplicationTag, Asn1DerError, Deserializer, ExplicitContextTag0, ExplicitContextTag1,
     ExplicitContextTag2, ExplicitContextTag3, ExplicitContextTag4, ExplicitContextTag5,
-    ExplicitContextTag6, ExplicitContextTag7, ExplicitContextTag8, Fields, Optional, Row9,
-    Serializer, Tagged, fields_of, from_fields, read_sequence,
+    ExplicitContextTag6, ExplicitContextTag7, ExplicitContextTag8, Fields, LentFields, Optional,
+    RecordFields, Row9, Serializer, Tagged, fields_of, from_fields, read_sequence,
 };
-use record_copies::{LentFields, RecordFields};
 use std::alloc::AllocError;
 
 /// What an authenticator holds (RFC 4120, section 5.5.1).
@@ -77,8 +76,8 @@ impl Clone for AuthenticatorInner {
 
 impl Tagged for AuthenticatorInner {
     ghost use Rattle.std.proofs.Common.{ap, refl, true};
-    ghost use Rattle.asn1_trees.specs.Tagged.{sequence};
-    ghost use Rattle.asn1_trees.proofs.Tagged.{sequence_laws};
+    ghost use Rattle.asn1_der.specs.Tagged.{sequence};
+    ghost use Rattle.asn1_der.proofs.Tagged.{sequence_laws};
 
     type Row = AuthenticatorInnerRow;
 

@@ -9,10 +9,9 @@ use picky_asn1_der::{
     ApplicationTag, Asn1DerError, Deserializer, ExplicitContextTag0, ExplicitContextTag1,
     ExplicitContextTag2, ExplicitContextTag3, ExplicitContextTag4, ExplicitContextTag5,
     ExplicitContextTag6, ExplicitContextTag7, ExplicitContextTag8, ExplicitContextTag9,
-    ExplicitContextTag10, Fields, Optional, Row11, Serializer, Tagged, fields_of, from_fields,
-    read_sequence,
+    ExplicitContextTag10, Fields, LentFields, Optional, RecordFields, Row11, Serializer, Tagged,
+    fields_of, from_fields, read_sequence,
 };
-use record_copies::{LentFields, RecordFields};
 use std::alloc::AllocError;
 
 /// What a ticket holds under the service's key (RFC 4120, section 5.3).
@@ -86,8 +85,8 @@ impl Clone for EncTicketPartInner {
 
 impl Tagged for EncTicketPartInner {
     ghost use Rattle.std.proofs.Common.{ap, refl, true};
-    ghost use Rattle.asn1_trees.specs.Tagged.{sequence};
-    ghost use Rattle.asn1_trees.proofs.Tagged.{sequence_laws};
+    ghost use Rattle.asn1_der.specs.Tagged.{sequence};
+    ghost use Rattle.asn1_der.proofs.Tagged.{sequence_laws};
 
     type Row = EncTicketPartInnerRow;
 

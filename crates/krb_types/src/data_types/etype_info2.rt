@@ -42,8 +42,8 @@ type EtypeInfo2EntryRow = Row3<
 
 impl Tagged for EtypeInfo2Entry {
     ghost use Rattle.std.proofs.Common.{ap, refl, true};
-    ghost use Rattle.asn1_trees.specs.Tagged.{sequence};
-    ghost use Rattle.asn1_trees.proofs.Tagged.{sequence_laws};
+    ghost use Rattle.asn1_der.specs.Tagged.{sequence};
+    ghost use Rattle.asn1_der.proofs.Tagged.{sequence_laws};
 
     type Row = EtypeInfo2EntryRow;
 

@@ -32,8 +32,8 @@ type HostAddressRow = Row2<ExplicitContextTag0<IntegerAsn1>, ExplicitContextTag1
 
 impl Tagged for HostAddress {
     ghost use Rattle.std.proofs.Common.{ap, refl, true};
-    ghost use Rattle.asn1_trees.specs.Tagged.{sequence};
-    ghost use Rattle.asn1_trees.proofs.Tagged.{sequence_laws};
+    ghost use Rattle.asn1_der.specs.Tagged.{sequence};
+    ghost use Rattle.asn1_der.proofs.Tagged.{sequence_laws};
 
     type Row = HostAddressRow;
 

@@ -29,8 +29,8 @@ type LastReqInnerRow = Row2<ExplicitContextTag0<IntegerAsn1>, ExplicitContextTag
 
 impl Tagged for LastReqInner {
     ghost use Rattle.std.proofs.Common.{ap, refl, true};
-    ghost use Rattle.asn1_trees.specs.Tagged.{sequence};
-    ghost use Rattle.asn1_trees.proofs.Tagged.{sequence_laws};
+    ghost use Rattle.asn1_der.specs.Tagged.{sequence};
+    ghost use Rattle.asn1_der.proofs.Tagged.{sequence_laws};
 
     type Row = LastReqInnerRow;
 

@@ -5,10 +5,9 @@ use devices::{Sink, Source};
 use picky_asn1::wrapper::IntegerAsn1;
 use picky_asn1_der::{
     ApplicationTag, Asn1DerError, Deserializer, ExplicitContextTag0, ExplicitContextTag1,
-    ExplicitContextTag2, ExplicitContextTag3, Fields, Row4, Serializer, Tagged, fields_of,
-    from_fields, read_sequence,
+    ExplicitContextTag2, ExplicitContextTag3, Fields, LentFields, RecordFields, Row4, Serializer,
+    Tagged, fields_of, from_fields, read_sequence,
 };
-use record_copies::{LentFields, RecordFields};
 use std::alloc::AllocError;
 
 /// What a ticket holds (RFC 4120, section 5.3).
@@ -53,8 +52,8 @@ impl Clone for TicketInner {
 
 impl Tagged for TicketInner {
     ghost use Rattle.std.proofs.Common.{ap, refl, true};
-    ghost use Rattle.asn1_trees.specs.Tagged.{sequence};
-    ghost use Rattle.asn1_trees.proofs.Tagged.{sequence_laws};
+    ghost use Rattle.asn1_der.specs.Tagged.{sequence};
+    ghost use Rattle.asn1_der.proofs.Tagged.{sequence_laws};
 
     type Row = TicketInnerRow;
 

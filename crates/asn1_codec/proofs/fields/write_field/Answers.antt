@@ -1,5 +1,5 @@
 use Rattle.std.proofs.Common.{◌++◌, arith, length-append}
-use Rattle.asn1_trees.specs.Tree.{der, ders}
+use Rattle.asn1_der.specs.Tree.{der, ders}
 use Rattle.asn1_codec.proofs.Chain.{at-exit}
 use Rattle.asn1_codec.proofs.Writes.{wrote-join, fields-first, fields-rest, fields-sum}
 use Rattle.asn1_codec.proofs.fields.write_field.Goals as goal

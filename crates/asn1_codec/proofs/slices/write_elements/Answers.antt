@@ -1,6 +1,6 @@
 use Rattle.std.proofs.Common.{◌+◌, ◌∷◌, ◌++◌, [], take, length, sym, ap, ◌∙◌, arith, length-append}
 use Rattle.std.proofs.lemmas.List.{take_more}
-use Rattle.asn1_trees.specs.Tree.{der, ders, trees_of}
+use Rattle.asn1_der.specs.Tree.{der, ders, trees_of}
 use Rattle.asn1_codec.proofs.Writes.{wrote-join, wrote-as, wrote-same}
 use Rattle.asn1_codec.proofs.ElementWrites.{listed-refused, listed-too_long, listed-none}
 use Rattle.asn1_codec.proofs.FieldsLemmas.{trees_more}

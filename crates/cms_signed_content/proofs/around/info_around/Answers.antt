@@ -1,5 +1,5 @@
 use Rattle.std.proofs.Common.{ap, ◌∙◌}
-use Rattle.asn1_trees.specs.Length.{element}
+use Rattle.asn1_der.specs.Length.{element}
 use Rattle.cms_signed_content.proofs.AroundLemmas.{two_same, info_built}
 use Rattle.cms_signed_content.proofs.around.info_around.Goals as goal
 

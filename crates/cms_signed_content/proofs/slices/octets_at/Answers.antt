@@ -1,5 +1,5 @@
 use Rattle.std.proofs.Common.{ℕ, List, subst}
-use Rattle.asn1_trees.specs.Length.{element}
+use Rattle.asn1_der.specs.Length.{element}
 use Rattle.asn1_elements.specs.Parts.{IsPart}
 use Rattle.asn1_elements.specs.PartLaws.{part-one}
 use Rattle.cms_signed_content.proofs.slices.octets_at.Goals as goal

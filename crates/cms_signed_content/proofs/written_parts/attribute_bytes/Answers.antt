@@ -1,5 +1,5 @@
 use Rattle.std.proofs.Common.{ap, ◌∙◌}
-use Rattle.asn1_trees.specs.Tree.{der}
+use Rattle.asn1_der.specs.Tree.{der}
 use Rattle.cms_signed_data.specs.declared.signed_attributes.SignedAttributes.{SignedAttributes}
 use Rattle.cms_signed_content.specs.SignedParts.{attributes_tree}
 use Rattle.cms_signed_content.proofs.WholeLemmas.{attributes_whole}

@@ -1,6 +1,6 @@
 use Rattle.std.proofs.Common.{◌≡◌, true, false, sym, refl, inl, ◌∙◌}
 use Rattle.krb_as.specs.AsTable.{is_later, is_listed}
-use Rattle.krb_as.specs.Call.{call_of}
+use Rattle.krb_kdc_requests.specs.Call.{call_of}
 use Rattle.krb_as.proofs.judge.check_possible.Goals as goal
 
 pub returns-then-not-is_listed : goal.returns-then-not-is_listed

@@ -1,6 +1,6 @@
 use Rattle.std.proofs.Common.{◌≡◌, true, false, None, Some, refl, sym, inl, inr, ◌∙◌}
 use Rattle.krb_moments.specs.Skew.{is_far}
-use Rattle.krb_as.specs.Call.{call_of, skew_of}
+use Rattle.krb_kdc_requests.specs.Call.{call_of, skew_of}
 use Rattle.krb_preauth.specs.Entries.{first_of}
 use Rattle.krb_preauth.specs.Stamps.{moment_of}
 use Rattle.krb_as.proofs.judge.check_timestamp.Goals as goal

@@ -1,6 +1,6 @@
 use Rattle.std.proofs.Common.{[], ◌∷◌, refl}
-use Rattle.asn1_trees.specs.Length.{element}
-use Rattle.krb_as.proofs.RequestParts.{held_in, padata_part, within}
+use Rattle.asn1_der.specs.Length.{element}
+use Rattle.krb_kdc_requests.proofs.RequestParts.{held_in, padata_part, within}
 use Rattle.krb_as.proofs.laws.padata_is_part.Goals as goal
 
 pub returns : goal.returns

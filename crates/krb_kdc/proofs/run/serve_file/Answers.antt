@@ -1,5 +1,5 @@
 use Rattle.std.proofs.Common.{◌≡◌, refl}
-use Rattle.krb_runs.specs.Devices.{device, devices}
+use Rattle.krb_kdc.specs.Devices.{device, devices}
 use Rattle.krb_kdc.proofs.Ending.{exit_stopped, file_stopped}
 use Rattle.krb_kdc.proofs.run.serve_file.Goals as goal
 

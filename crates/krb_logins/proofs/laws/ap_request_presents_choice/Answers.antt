@@ -1,6 +1,6 @@
 use Rattle.krb_types.specs.RandomBytes.{authenticator_confounder}
 use Rattle.krb_crypto.specs.Suites.{cipher_confounder_size}
-use Rattle.krb_ap.proofs.Presentations.{one_request}
+use Rattle.krb_ap_requests.proofs.Presentations.{one_request}
 use Rattle.krb_logins.specs.Choices.{choice_by}
 use Rattle.krb_logins.proofs.ChoicePresented.{presents}
 use Rattle.krb_logins.proofs.laws.ap_request_presents_choice.Goals as goal

@@ -1,6 +1,6 @@
 use Rattle.std.proofs.Common.{refl}
 use Rattle.std.specs.Option.{option_copied}
-use Rattle.krb_as.specs.Call.{call_of}
+use Rattle.krb_kdc_requests.specs.Call.{call_of}
 use Rattle.krb_replies.proofs.Answered.{error_with}
 use Rattle.krb_replies.proofs.answer.answer.Goals as goal
 

@@ -1,6 +1,6 @@
 use Rattle.krb_as.specs.AsTable.{as_table}
-use Rattle.krb_as.specs.Call.{call_of}
-use Rattle.krb_as.specs.Requests.{account_of, client_of, service_of}
+use Rattle.krb_kdc_requests.specs.Call.{call_of}
+use Rattle.krb_kdc_requests.specs.Requests.{account_of, client_of, service_of}
 use Rattle.krb_replies.specs.Replies.{hint_of}
 use Rattle.krb_replies.proofs.Answered.{answers_with}
 use Rattle.krb_replies.proofs.answer.as_answer.Goals as goal

@@ -2,9 +2,9 @@ use Rattle.std.proofs.Common.{◌≡◌, Ok, Err, ap, subst, ◌∙◌}
 use Rattle.std.specs.Option.{option_copied, option_map}
 use Rattle.krb_types.specs.declared.refusal.Refusal.TheVariants.{Krb}
 use Rattle.krb_as.specs.AsTable.{as_table}
-use Rattle.krb_as.specs.Call.{call_of}
+use Rattle.krb_kdc_requests.specs.Call.{call_of}
 use Rattle.krb_as.specs.Judged.{IsGranted}
-use Rattle.krb_as.specs.Requests.{account_of, client_of, service_of}
+use Rattle.krb_kdc_requests.specs.Requests.{account_of, client_of, service_of}
 use Rattle.krb_replies.specs.Replies.{hint_of}
 use Rattle.krb_replies.proofs.answer.judge.Goals as goal
 

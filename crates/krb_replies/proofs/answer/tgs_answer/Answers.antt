@@ -1,5 +1,5 @@
 use Rattle.std.proofs.Common.{None}
-use Rattle.krb_as.specs.Call.{call_of}
+use Rattle.krb_kdc_requests.specs.Call.{call_of}
 use Rattle.krb_tgs.specs.TgsTable.{tgs_table}
 use Rattle.krb_replies.proofs.Answered.{answers_with}
 use Rattle.krb_replies.proofs.answer.tgs_answer.Goals as goal

@@ -2,7 +2,7 @@ use Rattle.std.proofs.Common.{Some, ap, sym, ◌∙◌}
 use Rattle.std.specs.Option.{option_map}
 use Rattle.krb_crypto.specs.Keys.{KeyRecord}
 use Rattle.krb_tickets.specs.ReplyKeys.{reply_key_of}
-use Rattle.krb_as.specs.Call.{call_of}
+use Rattle.krb_kdc_requests.specs.Call.{call_of}
 use Rattle.krb_tgs.specs.Shown.{under}
 use Rattle.krb_tgs.specs.TgsTable.{first_known}
 use Rattle.krb_tgs.proofs.Granted.{given, no_key, no_suite}

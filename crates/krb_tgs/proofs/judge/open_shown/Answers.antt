@@ -1,6 +1,6 @@
 use Rattle.std.proofs.Common.{◌≡◌, true, false, refl, sym, inl, ◌∙◌}
 use Rattle.krb_moments.specs.Skew.{is_far}
-use Rattle.krb_as.specs.Call.{call_of, skew_of}
+use Rattle.krb_kdc_requests.specs.Call.{call_of, skew_of}
 use Rattle.krb_tgs.proofs.judge.open_shown.Goals as goal
 
 pub returns-then-is_far_from : goal.returns-then-is_far_from

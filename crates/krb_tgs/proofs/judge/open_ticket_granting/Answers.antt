@@ -1,5 +1,5 @@
 use Rattle.std.proofs.lemmas.Result.{err_from_is_err_and}
-use Rattle.krb_as.specs.Call.{call_of}
+use Rattle.krb_kdc_requests.specs.Call.{call_of}
 use Rattle.krb_tgs.proofs.Judged.{fields_refused, judged_counting, unopened}
 use Rattle.krb_tgs.proofs.judge.open_ticket_granting.Goals as goal
 

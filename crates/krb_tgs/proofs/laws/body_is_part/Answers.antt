@@ -1,5 +1,5 @@
 use Rattle.std.proofs.Common.{[], ◌∷◌, refl}
-use Rattle.krb_as.proofs.RequestParts.{body_part}
+use Rattle.krb_kdc_requests.proofs.RequestParts.{body_part}
 use Rattle.krb_tgs.proofs.laws.body_is_part.Goals as goal
 use Rattle.picky_asn1_der.specs.PartLaws.{part-one}
 

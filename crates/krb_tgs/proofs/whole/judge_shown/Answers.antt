@@ -2,7 +2,7 @@ use Rattle.std.proofs.Common.{Ok, Err, subst}
 use Rattle.std.proofs.lemmas.Result.{err_from_is_err_and}
 use Rattle.krb_crypto.specs.Keys.{KeyRecord}
 use Rattle.krb_types.specs.Refusals.{IsJudged}
-use Rattle.krb_as.specs.Call.{call_of}
+use Rattle.krb_kdc_requests.specs.Call.{call_of}
 use Rattle.krb_as.proofs.Parts.{grant_passed, grant_refused}
 use Rattle.krb_tgs.specs.TgsTable.{covered, tgs_granted}
 use Rattle.krb_tgs.proofs.whole.judge_shown.Goals as goal

@@ -2,8 +2,8 @@ use Rattle.std.proofs.Common.{Ok, Err, subst}
 use Rattle.std.proofs.lemmas.Result.{err_from_is_err_and}
 use Rattle.decision_tables.specs.Tables.{and_then}
 use Rattle.krb_types.specs.Refusals.{IsJudged}
-use Rattle.krb_as.specs.Call.{call_of}
-use Rattle.krb_as.specs.Requests.{entries_of}
+use Rattle.krb_kdc_requests.specs.Call.{call_of}
+use Rattle.krb_kdc_requests.specs.Requests.{entries_of}
 use Rattle.krb_as.proofs.Parts.{grant_passed, grant_refused}
 use Rattle.krb_tgs.specs.TgsTable.{carried, of_carried, to_us}
 use Rattle.krb_tgs.proofs.whole.judge_tgs.Goals as goal

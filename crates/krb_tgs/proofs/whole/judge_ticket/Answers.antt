@@ -1,5 +1,5 @@
 use Rattle.std.proofs.lemmas.Result.{err_from_is_err_and}
-use Rattle.krb_as.specs.Call.{call_of}
+use Rattle.krb_kdc_requests.specs.Call.{call_of}
 use Rattle.krb_as.proofs.Parts.{grant_passed, grant_refused}
 use Rattle.krb_tgs.specs.TgsTable.{of_shown, shown_near}
 use Rattle.krb_tgs.proofs.ByTicket.{by_authenticator}

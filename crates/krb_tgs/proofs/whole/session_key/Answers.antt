@@ -1,7 +1,7 @@
 use Rattle.std.proofs.Common.{ap, subst, ◌∙◌}
 use Rattle.std.proofs.lemmas.Bool.{false≢true}
 use Rattle.std.specs.Prelude.{IsOk, length}
-use Rattle.krb_opening.proofs.KeySizes.{suite_sized}
+use Rattle.krb_encrypted_data.proofs.KeySizes.{suite_sized}
 use Rattle.krb_tgs.proofs.whole.session_key.Goals as goal
 
 pub unreachable-requires : goal.unreachable-requires

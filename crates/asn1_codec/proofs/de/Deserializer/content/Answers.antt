@@ -1,6 +1,6 @@
 use Rattle.std.proofs.Common.{◌∷◌, ◌++◌, sym, ap, ◌∙◌, arith}
-use Rattle.asn1_trees.specs.Length.{element, length_octets}
-use Rattle.asn1_trees.proofs.Elements.{element-split}
+use Rattle.asn1_der.specs.Length.{element, length_octets}
+use Rattle.asn1_der.proofs.Elements.{element-split}
 use Rattle.asn1_codec.specs.Reading.{IsElement, IsCount}
 use Rattle.asn1_codec.proofs.Chain.{at-exit, refused-after, took-join, took-as}
 use Rattle.asn1_codec.proofs.Headers.{element_content_cut, header_sizes}

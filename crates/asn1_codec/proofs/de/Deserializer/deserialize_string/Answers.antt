@@ -1,7 +1,7 @@
 use Rattle.std.proofs.Common.{◌≡◌, List, ℕ, ◌++◌, ap, sym, subst, ◌∙◌}
 use Rattle.std.specs.Str.{IsUtf8}
-use Rattle.asn1_trees.specs.Length.{element}
-use Rattle.asn1_trees.proofs.Elements.{element-one}
+use Rattle.asn1_der.specs.Length.{element}
+use Rattle.asn1_der.proofs.Elements.{element-one}
 use Rattle.asn1_codec.specs.Reading.{IsElement}
 use Rattle.asn1_codec.specs.Values.{IsTextElement}
 use Rattle.asn1_codec.proofs.Chain.{at-exit, refused-as, refused-taken}

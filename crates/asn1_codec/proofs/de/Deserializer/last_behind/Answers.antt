@@ -1,6 +1,6 @@
 use Rattle.std.proofs.Common.{◌≡◌, ℕ, ◌+◌, List, [], ◌∷◌, ◌++◌, length, refl, sym, ap, ◌∙◌, arith}
-use Rattle.asn1_trees.specs.Tree.{der}
-use Rattle.asn1_trees.proofs.Spelling.{heads, tails}
+use Rattle.asn1_der.specs.Tree.{der}
+use Rattle.asn1_der.proofs.Spelling.{heads, tails}
 use Rattle.asn1_codec.specs.Reading.{IsOctet}
 use Rattle.asn1_codec.proofs.Chain.{at-exit, refused-front, refused-after, refused-taken, took-as, took-join}
 use Rattle.asn1_codec.proofs.de.Deserializer.last_behind.Goals as goal

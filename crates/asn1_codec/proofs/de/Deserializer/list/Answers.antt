@@ -1,7 +1,7 @@
 use Rattle.std.proofs.Common.{◌≡◌, ◌∷◌, ◌++◌, length, sym, ap, subst, ◌∙◌, arith}
-use Rattle.asn1_trees.specs.Tree.{ders}
-use Rattle.asn1_trees.specs.Length.{element, length_octets}
-use Rattle.asn1_trees.proofs.Elements.{element-split, element-content}
+use Rattle.asn1_der.specs.Tree.{ders}
+use Rattle.asn1_der.specs.Length.{element, length_octets}
+use Rattle.asn1_der.proofs.Elements.{element-split, element-content}
 use Rattle.asn1_codec.specs.Reading.{TookFields, Refused, IsElement, IsList, AreFields}
 use Rattle.asn1_codec.proofs.Chain.{at-exit, refused-as, refused-after, refused-within, took-as, took-within}
 use Rattle.asn1_codec.proofs.Headers.{element_content_cut, header_sizes}

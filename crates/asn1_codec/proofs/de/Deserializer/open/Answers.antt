@@ -1,5 +1,5 @@
 use Rattle.std.proofs.Common.{◌≡◌, [], ◌∷◌, ap, arith}
-use Rattle.asn1_trees.specs.Length.{length_octets}
+use Rattle.asn1_der.specs.Length.{length_octets}
 use Rattle.asn1_codec.specs.Reading.{IsElement, IsLength, IsOctet}
 use Rattle.asn1_codec.proofs.Chain.{at-exit, refused-front, refused-after, refused-taken, took-join, took-as}
 use Rattle.asn1_codec.proofs.Headers.{element_front, element_first, element_length_cut, element_content_cut, header_sizes}

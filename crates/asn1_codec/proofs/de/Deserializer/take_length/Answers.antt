@@ -1,6 +1,6 @@
 use Rattle.std.proofs.Common.{◌∷◌, [], sym}
-use Rattle.asn1_trees.specs.Length.{length_octets}
-use Rattle.asn1_trees.proofs.Elements.{length_octets-short}
+use Rattle.asn1_der.specs.Length.{length_octets}
+use Rattle.asn1_der.proofs.Elements.{length_octets-short}
 use Rattle.asn1_codec.specs.Reading.{IsLength, IsOctet}
 use Rattle.asn1_codec.proofs.Chain.{took-as, refused-front, at-exit}
 use Rattle.asn1_codec.proofs.Headers.{length_front, length_tail}

@@ -1,5 +1,5 @@
 use Rattle.std.proofs.Common.{◌≡◌, ◌+◌, ◌^◌, ◌<◌, ◌∷◌, sym, ap, ◌∙◌, arith, refl, inr}
-use Rattle.asn1_trees.proofs.Elements.{fronts}
+use Rattle.asn1_der.proofs.Elements.{fronts}
 use Rattle.asn1_codec.specs.Tails.{IsLengthTail}
 use Rattle.asn1_codec.proofs.Chain.{at-exit, refused-stop, refused-as, refused-taken}
 use Rattle.asn1_codec.proofs.Headers.{filled_size, filled_front}

@@ -1,11 +1,11 @@
 use Rattle.std.proofs.Common.{◌≡◌, ℕ, ◌≤◌, List, [], ◌∷◌, ◌++◌, length, ap, refl, sym, ◌∙◌, arith}
 use Rattle.std.specs.Prelude.{⊤}
-use Rattle.asn1_trees.specs.Tree.{Tree, Trees, ders, der, wrapped, IsWhole, AreWhole}
-use Rattle.asn1_trees.specs.Tree as trees
-use Rattle.asn1_trees.specs.Length.{element, length_octets}
-use Rattle.asn1_trees.proofs.Elements.{element-split, element-content}
-use Rattle.asn1_trees.proofs.Spelling.{wrapped-whole, whole-wrapped, der-wrapped, ders-one}
-use Rattle.asn1_octets.specs.declared.error.Asn1DerError.{Asn1DerError}
+use Rattle.asn1_der.specs.Tree.{Tree, Trees, ders, der, wrapped, IsWhole, AreWhole}
+use Rattle.asn1_der.specs.Tree as trees
+use Rattle.asn1_der.specs.Length.{element, length_octets}
+use Rattle.asn1_der.proofs.Elements.{element-split, element-content}
+use Rattle.asn1_der.proofs.Spelling.{wrapped-whole, whole-wrapped, der-wrapped, ders-one}
+use Rattle.asn1_der.specs.declared.error.Asn1DerError.{Asn1DerError}
 use Rattle.asn1_codec.specs.Reading.{Reading, Took, Refused, IsSpelling, IsElement, IsList, AreFields, within}
 use Rattle.asn1_codec.proofs.Chain.{at-exit, refused-as, refused-after, refused-front, refused-within, took-as, took-within}
 use Rattle.asn1_codec.proofs.FieldsLemmas.{field_trees, required_cut}

@@ -1,9 +1,9 @@
 use Rattle.std.proofs.Common.{◌≡◌, ℕ, List, ◌∷◌, ◌++◌, length, ap, sym, ◌∙◌, arith}
-use Rattle.asn1_trees.specs.Tree.{Tree, Trees, bare, ders, der, wrapped, behind, IsWhole, AreWhole}
-use Rattle.asn1_trees.specs.Tree as trees
-use Rattle.asn1_trees.specs.Length.{element, length_octets}
-use Rattle.asn1_trees.proofs.Elements.{element-split, element-content}
-use Rattle.asn1_trees.proofs.Spelling.{wrapped-whole, whole-wrapped, behind-whole, whole-behind, der-behind, ders-one}
+use Rattle.asn1_der.specs.Tree.{Tree, Trees, bare, ders, der, wrapped, behind, IsWhole, AreWhole}
+use Rattle.asn1_der.specs.Tree as trees
+use Rattle.asn1_der.specs.Length.{element, length_octets}
+use Rattle.asn1_der.proofs.Elements.{element-split, element-content}
+use Rattle.asn1_der.proofs.Spelling.{wrapped-whole, whole-wrapped, behind-whole, whole-behind, der-behind, ders-one}
 use Rattle.asn1_codec.specs.Reading.{IsSpelling, IsElement, IsList, AreFields}
 use Rattle.asn1_codec.proofs.Chain.{at-exit, refused-as, refused-after, refused-within, took-as, took-within}
 use Rattle.asn1_codec.proofs.Headers.{element_content_cut, header_sizes}

@@ -1,5 +1,5 @@
 use Rattle.std.proofs.Common.{◌≡◌, ◌<◌, ◌≤◌, ◌++◌, [], length, sym, ap, ◌∙◌, arith, refl, subst}
-use Rattle.asn1_trees.specs.Tree.{der, ders, trees_of, AreWhole}
+use Rattle.asn1_der.specs.Tree.{der, ders, trees_of, AreWhole}
 use Rattle.asn1_codec.specs.Reading.{IsSpelling, AreFields}
 use Rattle.asn1_codec.proofs.Chain.{at-exit, passed-nothing, passed-as, passed-of, passed-join, took-of, took-as, refused-passed, refused-memory}
 use Rattle.asn1_codec.proofs.FieldsLemmas.{trees_more, whole_more, elements_cut, der_size}

@@ -1,4 +1,4 @@
-use Rattle.asn1_trees.specs.Tree.{ders, trees_of, AreWhole}
+use Rattle.asn1_der.specs.Tree.{ders, trees_of, AreWhole}
 use Rattle.asn1_codec.specs.Reading.{Passed}
 use Rattle.asn1_codec.proofs.elements.ElementsFields.read.Given as goal
 

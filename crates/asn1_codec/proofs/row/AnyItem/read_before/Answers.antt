@@ -1,4 +1,4 @@
-use Rattle.asn1_trees.specs.Tree.{der}
+use Rattle.asn1_der.specs.Tree.{der}
 use Rattle.asn1_codec.proofs.Chain.{at-exit, refused-after, refused-as}
 use Rattle.asn1_codec.proofs.FieldsLemmas.{required_cut}
 use Rattle.asn1_codec.proofs.row.AnyItem.read_before.Goals as goal

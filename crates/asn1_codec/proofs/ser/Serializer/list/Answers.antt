@@ -1,6 +1,6 @@
 use Rattle.std.proofs.Common.{inr, ap, sym, ◌∙◌, arith}
-use Rattle.asn1_trees.specs.Tree.{ders}
-use Rattle.asn1_trees.proofs.Elements.{length-element}
+use Rattle.asn1_der.specs.Tree.{ders}
+use Rattle.asn1_der.proofs.Elements.{length-element}
 use Rattle.asn1_codec.proofs.Chain.{at-exit}
 use Rattle.asn1_codec.proofs.Writes.{element-header, element-size, element-not_written, fields-after, not_measured, wrote-measured}
 use Rattle.asn1_codec.proofs.ser.Serializer.list.Goals as goal

@@ -1,5 +1,5 @@
 use Rattle.std.proofs.Common.{length, ap, inr, sym, ◌∙◌}
-use Rattle.asn1_trees.specs.Tree.{der}
+use Rattle.asn1_der.specs.Tree.{der}
 use Rattle.asn1_codec.proofs.Chain.{at-exit}
 use Rattle.asn1_codec.proofs.Writes.{wrote-as, wrote-nothing, notwrote-as, element-header, element-size, element-not_written, value-after, not_measured, wrote-measured, der-wrapped_some, der-wrapped_nothing, length-wrapped, empty_of_length}
 use Rattle.asn1_codec.proofs.ser.Serializer.wrapped.Goals as goal

@@ -1,5 +1,5 @@
 use Rattle.std.proofs.Common.{◌+◌, length, refl, ap, sym, ◌∙◌, arith}
-use Rattle.asn1_trees.specs.Tree.{der}
+use Rattle.asn1_der.specs.Tree.{der}
 use Rattle.asn1_codec.proofs.Chain.{at-exit}
 use Rattle.asn1_codec.proofs.Writes.{wrote-as, wrote-from, wrote-nothing, wrote-measured, not_measured, der-behind_nothing, length-behind, empty_of_length}
 use Rattle.asn1_codec.proofs.Behinds.{behind-too_long, behind-header, behind-octet, behind-value, behind-wrote}

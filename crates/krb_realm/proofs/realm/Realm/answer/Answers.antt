@@ -1,4 +1,4 @@
-use Rattle.krb_as.specs.Call.{call_of}
+use Rattle.krb_kdc_requests.specs.Call.{call_of}
 use Rattle.krb_realm.specs.Realm.{call_to}
 use Rattle.pkinit_requests.specs.PkinitRows.{pkinit_rows}
 use Rattle.pkinit_requests.specs.Trust.{trust_of}

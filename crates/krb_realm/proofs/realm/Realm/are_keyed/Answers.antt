@@ -1,5 +1,5 @@
 use Rattle.std.proofs.Common.{subst}
-use Rattle.krb_as.specs.Calls.{AreKeyed}
+use Rattle.krb_kdc_requests.specs.Calls.{AreKeyed}
 use Rattle.krb_realm.specs.Realm.{RealmState, realm_of}
 use Rattle.krb_realm.proofs.realm.Realm.are_keyed.Goals as goal
 

@@ -1,6 +1,6 @@
 use Rattle.std.proofs.Common.{subst, inr}
 use Rattle.std.proofs.lemmas.Bool.{and_parts}
-use Rattle.asn1_trees.specs.Firsts.{apart}
+use Rattle.asn1_der.specs.Firsts.{apart}
 use Rattle.picky_asn1_der.specs.Choices.{choice_tree}
 use Rattle.asn1_codec.specs.Reading.{Tells}
 use Rattle.asn1_codec.proofs.Chain.{at-exit, refused-as}

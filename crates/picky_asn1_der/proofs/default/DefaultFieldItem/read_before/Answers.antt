@@ -1,5 +1,5 @@
 use Rattle.std.proofs.Common.{subst}
-use Rattle.asn1_trees.specs.Tree.{der}
+use Rattle.asn1_der.specs.Tree.{der}
 use Rattle.picky_asn1_der.specs.Defaults.{told_value}
 use Rattle.asn1_codec.specs.Reading.{Tells}
 use Rattle.asn1_codec.proofs.Chain.{at-exit, refused-after, refused-as, refused-taken, took-unread}

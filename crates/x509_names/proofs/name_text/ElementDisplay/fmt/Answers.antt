@@ -1,6 +1,6 @@
 use Rattle.std.proofs.Common.{length, sym, ap, ◌∙◌}
 use Rattle.std.proofs.Output.{has_written_of_eq}
-use Rattle.asn1_trees.specs.Length.{length_octets}
+use Rattle.asn1_der.specs.Length.{length_octets}
 use Rattle.x509_names.proofs.TextLemmas.{element_by_parts}
 use Rattle.x509_names.proofs.name_text.ElementDisplay.fmt.Goals as goal
 

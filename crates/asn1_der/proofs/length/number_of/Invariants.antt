@@ -1,0 +1,9 @@
+use Rattle.std.proofs.Common.{◌≡◌, ◌*◌, ◌^◌, ◌<◌, take}
+use Rattle.std.specs.Int.Digits.{number_from_digits}
+use Rattle.asn1_der.proofs.length.number_of.Given as goal
+
+abbrev pub invariant-loop-digit : goal.invariant-loop-digit
+invariant-loop-digit l = record {
+  value : l.number ≡ number_from_digits 256 (take l.digit-index l.digits);
+  fits : l.number < 2 ^ (8 * l.digit-index);
+}

@@ -1,6 +1,0 @@
-use Rattle.std.proofs.Common.{subst}
-use Rattle.asn1_octets.specs.Contents.{IsInPlace}
-use Rattle.asn1_octets.proofs.content.Content.as_bytes.Goals as goal
-
-pub shared_ref_as_front-result : goal.shared_ref_as_front-result
-shared_ref_as_front-result c = subst IsInPlace c.in-InPlace.is c.self.invariant

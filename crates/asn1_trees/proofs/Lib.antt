@@ -1,7 +1,0 @@
-pub mod Digits
-pub mod Elements
-pub mod Spelling
-pub mod Rows
-pub mod Leaf
-pub mod Tagged
-pub mod Choices

@@ -1,5 +1,0 @@
-pub mod Length
-pub mod Tree
-pub mod Firsts
-pub mod Tags
-pub mod Tagged

@@ -1,0 +1,42 @@
+//! The Triple Data Encryption Algorithm (FIPS 46-3) in a chain of blocks, and the keys that Kerberos makes for it
+//! (RFC 3961, section 6.3). The cipher of single blocks is reached through its chain alone.
+#![tactic(auto)]
+
+ghost use Rattle.std.specs.Prelude.{◌≡◌, ◌≢◌, length, IsOk, OnOk, Err};
+ghost use Rattle.aes_cts.specs.declared.error.KerberosCryptoError.TheVariants.{KeyLength};
+
+mod decrypt;
+mod encrypt;
+mod permute;
+mod round;
+mod schedule;
+mod seed;
+
+use aes_cts::{KerberosCryptoError, KerberosCryptoResult};
+pub use decrypt::decrypt_des;
+pub use encrypt::encrypt_des;
+pub use seed::random_to_key;
+
+/// The bytes of a block (RFC 3961, section 6.3).
+pub const DES3_BLOCK_SIZE: usize = 8;
+
+/// The bytes of a key (RFC 3961, section 6.3).
+pub const DES3_KEY_SIZE: usize = 24;
+
+/// The bytes of a checksum (RFC 3961, section 6.3).
+pub const DES3_MAC_SIZE: usize = 20;
+
+/// The bytes that a key is made from (RFC 3961, section 6.3).
+pub const DES3_SEED_LEN: usize = 21;
+
+/// Refuses a key that hasn't 24 bytes.
+fn check_key_length(key: &[u8]) -> KerberosCryptoResult<()>
+    ensures sized { OnOk result (length key.now ≡ 24) }
+    ensures right { length key.now ≡ 24 → IsOk result }
+    ensures wrong { length key.now ≢ 24 → result ≡ Err (KeyLength (length key.now) 24) }
+{
+    if key.len() != DES3_KEY_SIZE {
+        return Err(KerberosCryptoError::KeyLength(key.len(), DES3_KEY_SIZE));
+    }
+    Ok(())
+}

@@ -1,0 +1,15 @@
+use Rattle.std.proofs.Common.{sym, arith}
+use Rattle.gss_message_tokens.proofs.ReadingLaws.{fine-counted, header-refused}
+use Rattle.gss_message_tokens.proofs.token.read_header.Goals as goal
+
+pub returns-in-Ok-clause-count : goal.returns-in-Ok-clause-count
+returns-in-Ok-clause-count g c =
+    fine-counted c.args.kind c.unwrap_or-short.result c.read_front-front.result.fault (g.R.Source.last_fault c.read_front-front.new.reader) _ _
+    c.read_front-front.result.count _ c.read_front-front.new.buffer (omega arith) (omega arith)
+    c.read_front-front.ensures.short c.read_front-front.ensures.fault (sym c.in-Ok.ensures)
+
+pub returns-in-Err-clause-refused : goal.returns-in-Err-clause-refused
+returns-in-Err-clause-refused g c =
+    header-refused c.args.kind c.unwrap_or-short.result _ _ c.read_front-front.result.fault _ _ _
+    c.read_front-front.result.count _ c.read_front-front.new.buffer c.in-Err.fault (omega arith) (omega arith) c.unwrap_or-short.ensures
+    c.read_front-front.ensures.bytes c.read_front-front.ensures.end c.read_front-front.ensures.fault (sym c.in-Err.ensures)

@@ -1,0 +1,51 @@
+-- When bytes begin as a token does, and else what is first wrong with them (RFC 4121, section 4.2.6).
+use Rattle.std.specs.Prelude.{ℕ, List, [], ◌∷◌, length, take, drop, slice_index, Result, Ok, Err, not, ◌&&◌, nat_le, nat_lt, nat_eq, bytes_eq, if◌then◌else◌}
+use Rattle.std.specs.declared.io.ErrorKind.{ErrorKind}
+use Rattle.gss_message_tokens.specs.declared.kind.TokenKind.{TokenKind}
+use Rattle.gss_message_tokens.specs.declared.kind.TokenKind.TheVariants.{Mic, Wrap}
+use Rattle.gss_message_tokens.specs.declared.error.GssApiMessageError.{GssApiMessageError}
+use Rattle.gss_message_tokens.specs.declared.error.GssApiMessageError.TheVariants.{InvalidId, IoError, InvalidMicFiller, InvalidWrapFiller}
+
+-- octets 0 and 1
+abbrev pub id_of : TokenKind → List ℕ
+id_of Mic = 4 ∷ 4 ∷ []
+id_of Wrap = 5 ∷ 4 ∷ []
+
+-- octets 3 to 7 of a MIC token
+abbrev pub mic_filler : List ℕ
+mic_filler = 255 ∷ 255 ∷ 255 ∷ 255 ∷ 255 ∷ []
+
+-- nothing is wrong, or this is
+abbrev pub Verdict : Type 0
+Verdict = Result (Unit {0}) GssApiMessageError
+
+-- an id that is there isn't the token's
+abbrev pub id_judged : TokenKind → List ℕ → Verdict
+id_judged kind whole =
+    if nat_le 2 (length whole) && not (bytes_eq (take 2 whole) (id_of kind)) then Err (InvalidId (id_of kind) (take 2 whole)) else Ok tt
+
+-- a filler that is there isn't all FF
+abbrev pub mic_filler_judged : List ℕ → Verdict
+mic_filler_judged whole =
+    if nat_le 8 (length whole) && not (bytes_eq (take 5 (drop 3 whole)) mic_filler) then Err (InvalidMicFiller (take 5 (drop 3 whole))) else Ok tt
+
+abbrev pub wrap_filler_judged : List ℕ → Verdict
+wrap_filler_judged whole =
+    if nat_le 4 (length whole) && not (nat_eq (slice_index whole 3) 255) then Err (InvalidWrapFiller (slice_index whole 3)) else Ok tt
+
+abbrev pub filler_judged : TokenKind → List ℕ → Verdict
+filler_judged Mic = mic_filler_judged
+filler_judged Wrap = wrap_filler_judged
+
+-- a header that isn't all there: `short` says why
+abbrev pub length_judged : ErrorKind → List ℕ → Verdict
+length_judged short whole = if nat_lt (length whole) 16 then Err (IoError short) else Ok tt
+
+-- what the first says, and else the second
+abbrev pub or_else : Verdict → Verdict → Verdict
+or_else (Ok _) next = next
+or_else (Err e) next = Err e
+
+-- what is first wrong with these bytes as the front of a token
+abbrev pub judged : TokenKind → ErrorKind → List ℕ → Verdict
+judged kind short whole = or_else (id_judged kind whole) (or_else (filler_judged kind whole) (length_judged short whole))

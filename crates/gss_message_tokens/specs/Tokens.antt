@@ -1,0 +1,54 @@
+-- The tokens' tables (RFC 4121, sections 4.2.6.1 and 4.2.6.2).
+use Rattle.std.specs.Prelude.{◌≡◌, ℕ, ◌≤◌, List, [], ◌∷◌, length, drop, Vec, Option, option_map}
+use Rattle.std.specs.Global.{Global}
+use Rattle.byte_layouts.specs.Parts.{Part, part, IsLaidOut}
+use Rattle.byte_layouts.specs.Numbers.{be16, be64}
+use Rattle.gss_message_tokens.specs.declared.mic.MicToken.{MicToken}
+use Rattle.gss_message_tokens.specs.declared.wrap.WrapToken.{WrapToken}
+
+-- what a MIC token carries
+pub record MicFields : Type 0 where
+  pub flags : ℕ
+  pub seq_num : ℕ
+  pub checksum : List ℕ
+
+-- octets 0 and 1 TOK_ID, 2 flags, 3 to 7 filler, 8 to 15 SND_SEQ
+abbrev pub mic_header : MicFields → List Part
+mic_header m =
+    part 0 (4 ∷ 4 ∷ []) ∷ part 2 (m.flags ∷ []) ∷ part 3 (255 ∷ 255 ∷ 255 ∷ 255 ∷ 255 ∷ []) ∷ part 8 (be64 m.seq_num) ∷ []
+
+-- the MIC token is laid out in the bytes: its header, and from octet 16 to the last SGN_CKSUM
+pub record IsMicToken (m : MicFields) (whole : List ℕ) : Type 0 where
+  pub header : IsLaidOut (mic_header m) whole
+  pub long : 16 ≤ length whole
+  pub checksum : drop 16 whole ≡ m.checksum
+
+-- what a wrap token carries
+pub record WrapFields : Type 0 where
+  pub flags : ℕ
+  pub ec : ℕ
+  pub rrc : ℕ
+  pub seq_num : ℕ
+  pub checksum : List ℕ
+
+-- octets 0 and 1 TOK_ID, 2 flags, 3 filler, 4 and 5 EC, 6 and 7 RRC, 8 to 15 SND_SEQ
+abbrev pub wrap_header : WrapFields → List Part
+wrap_header w =
+    part 0 (5 ∷ 4 ∷ []) ∷ part 2 (w.flags ∷ []) ∷ part 3 (255 ∷ []) ∷ part 4 (be16 w.ec) ∷ part 6 (be16 w.rrc) ∷ part 8 (be64 w.seq_num) ∷ []
+
+-- the wrap token is laid out in the bytes: its header, and from octet 16 to the last its data
+pub record IsWrapToken (w : WrapFields) (whole : List ℕ) : Type 0 where
+  pub header : IsLaidOut (wrap_header w) whole
+  pub long : 16 ≤ length whole
+  pub checksum : drop 16 whole ≡ w.checksum
+
+-- what a token carries but for its payload, which is neither written nor read
+abbrev pub mic_of : MicToken → MicFields
+mic_of t = record { flags = t.flags; seq_num = t.seq_num; checksum = t.checksum.items }
+
+abbrev pub wrap_of : WrapToken → WrapFields
+wrap_of t = record { flags = t.flags; ec = t.ec; rrc = t.rrc; seq_num = t.seq_num; checksum = t.checksum.items }
+
+-- a payload's bytes
+abbrev pub payload_of : Option (Vec ℕ Global) → Option (List ℕ)
+payload_of payload = option_map (λ v. v.items) payload

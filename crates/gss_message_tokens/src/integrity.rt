@@ -1,0 +1,113 @@
+//! The record of a process's integrity level (MS-KILE, section 2.2.5).
+ghost use Rattle.std.specs.Prelude.{◌≡◌, ℕ, List, take, Some, IfOk, IfErr, IfSome, MatchResult};
+ghost use Rattle.std.specs.Io.KnownBytes.{Consumes, Appends};
+ghost use Rattle.devices.specs.Counting.{one_more};
+ghost use Rattle.byte_layouts.specs.Stops.{IsWriteStop};
+
+use byte_layouts::{array_at, put_at, u32_le, write_bytes};
+use devices::{Sink, Source, read_full};
+use std::io;
+use std::io::ErrorKind;
+use thiserror::Error;
+
+/// How many bytes name a machine.
+pub const MACHINE_ID_LENGTH: usize = 32;
+
+const RECORD_LEN: usize = 40;
+
+/// What a service is told of the process that asks.
+#[derive(Clone, Copy, Debug, PartialEq, Eq)]
+pub struct LsapTokenInfoIntegrity {
+    /// 0 where the process has its user's whole token, 1 where its token is restricted.
+    pub flags: u32,
+    /// The integrity level.
+    pub token_il: u32,
+    /// The random name of the machine.
+    pub machine_id: [u8; MACHINE_ID_LENGTH],
+}
+
+/// Why a record was not read or written.
+#[derive(Clone, Copy, Debug, PartialEq, Eq, Error)]
+#[error("the record of an integrity level cannot be read or written: {kind}")]
+pub struct LsapTokenInfoIntegrityError {
+    /// The device's fault, or `UnexpectedEof` where fewer than 40 bytes are left. A writer that takes no more is `WriteZero`.
+    pub kind: ErrorKind,
+}
+
+impl From<LsapTokenInfoIntegrityError> for io::Error {
+    ghost use Rattle.std.specs.IoError.{error_kind};
+
+    ghost from_gives = { λ error fault. error_kind fault ≡ error.kind };
+
+    fn from(error: LsapTokenInfoIntegrityError) -> io::Error {
+        io::Error::from(error.kind)
+    }
+}
+
+impl LsapTokenInfoIntegrity {
+    ghost use Rattle.gss_message_tokens.specs.Integrity.{IsIntegrityRecord, FitsRecord, record_at, IsReadStop};
+
+    // Its 40 bytes.
+    fn bytes(&self) -> [u8; RECORD_LEN]
+        ensures { IsIntegrityRecord self.now result }
+    {
+        let mut bytes = [0; RECORD_LEN];
+        put_at(&mut bytes, 0, &self.flags.to_le_bytes());
+        put_at(&mut bytes, 4, &self.token_il.to_le_bytes());
+        put_at(&mut bytes, 8, &self.machine_id);
+        bytes
+    }
+
+    /// Writes the record; a front of it where the writer stops.
+    pub fn encode<W: Sink>(&self, writer: &mut W) -> Result<(), LsapTokenInfoIntegrityError>
+        ensures written { (whole : List ℕ) × IsIntegrityRecord self.now whole
+            × MatchResult result (λ _. Appends (W.written writer.old) (W.written writer.new) whole)
+            (λ _. (n : ℕ) × Appends (W.written writer.old) (W.written writer.new) (take n whole)) }
+        ensures stop { MatchResult result (λ _. W.failed writer.new ≡ W.failed writer.old)
+            (λ e. IsWriteStop (W.failed writer.old) (W.failed writer.new) (W.last_fault writer.new) e.kind) }
+        ensures same { W.through writer.new ≡ W.through writer.old }
+    {
+        match write_bytes(writer, &self.bytes()) {
+            Ok(()) => Ok(()),
+            Err(kind) => Err(LsapTokenInfoIntegrityError { kind }),
+        }
+    }
+
+    // The record that these 40 bytes are.
+    fn of_bytes(bytes: &[u8; RECORD_LEN]) -> LsapTokenInfoIntegrity
+        ensures laid { IsIntegrityRecord result bytes.now }
+        ensures read { result ≡ record_at bytes.now }
+    {
+        LsapTokenInfoIntegrity {
+            flags: u32_le(bytes, 0),
+            token_il: u32_le(bytes, 4),
+            machine_id: array_at::<MACHINE_ID_LENGTH>(bytes, 8),
+        }
+    }
+
+    /// Reads a record, and leaves what follows it. Any bytes are one.
+    pub fn decode<R: Source>(
+        reader: &mut R,
+    ) -> Result<LsapTokenInfoIntegrity, LsapTokenInfoIntegrityError>
+        ensures found { IfOk result (λ r. (whole : List ℕ) × IsIntegrityRecord r whole
+            × Consumes (R.left reader.old) (R.left reader.new) whole) }
+        ensures only { IfSome (R.left reader.old) (λ bytes. (r : LsapTokenInfoIntegrity) → FitsRecord r → IsIntegrityRecord r (take 40 bytes)
+            → MatchResult result (λ read. read ≡ r)
+            (λ e. (R.failed reader.new ≡ one_more (R.failed reader.old)) × (R.last_fault reader.new ≡ Some e.kind))) }
+        ensures refused { IfErr result (λ e. IfSome (R.left reader.old) (λ bytes.
+            IsReadStop bytes (R.failed reader.old) (R.failed reader.new) (R.last_fault reader.new) e.kind)) }
+        ensures same { R.through reader.new ≡ R.through reader.old }
+    {
+        let mut bytes = [0; RECORD_LEN];
+        let count = match read_full(reader, &mut bytes) {
+            Ok(count) => count,
+            Err(kind) => return Err(LsapTokenInfoIntegrityError { kind }),
+        };
+        if count < RECORD_LEN {
+            return Err(LsapTokenInfoIntegrityError {
+                kind: ErrorKind::UnexpectedEof,
+            });
+        }
+        Ok(LsapTokenInfoIntegrity::of_bytes(&bytes))
+    }
+}

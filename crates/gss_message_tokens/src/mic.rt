@@ -1,0 +1,157 @@
+//! The MIC token (RFC 4121, section 4.2.6.1).
+ghost use Rattle.std.specs.Prelude.{◌≡◌, ℕ, ◌<◌, ◌^◌, List, [], length, take, None, Some, Ok, Err, IfOk, IfErr, IfSome, IsTrue, MatchResult};
+ghost use Rattle.std.specs.Io.KnownBytes.{Consumes, IsAtEnd, Appends};
+ghost use Rattle.byte_layouts.specs.Parts.{IsLaidOut};
+ghost use Rattle.gss_message_tokens.specs.Faults.{IsWriteFault};
+ghost use Rattle.gss_message_tokens.specs.Refusals.{IsRefusal, IsExcuse};
+ghost use Rattle.gss_message_tokens.specs.declared.kind.TokenKind.{TokenKind};
+
+use crate::error::GssApiMessageError;
+use crate::kind::{HEADER_LEN, MIC_FILLER, TokenKind, id};
+use crate::token::{read_token, write_token};
+use byte_layouts::{put_at, u64_be};
+use devices::{Sink, Source};
+use std::alloc::{AllocError, Global};
+
+/// What `GSS_GetMIC` makes: a checksum over a payload that travels elsewhere, with a sequence number.
+#[derive(Debug, Drop, PartialEq, Eq)]
+pub struct MicToken {
+    /// Whether the acceptor sent it (1), it was sealed (2), and an acceptor's subkey was used (4).
+    pub flags: u8,
+    /// The sequence number.
+    pub seq_num: u64,
+    /// What the checksum is over. It is neither written nor read.
+    pub payload: Option<Vec<u8>>,
+    /// The checksum.
+    pub checksum: Vec<u8>,
+}
+
+impl Clone for MicToken {
+    ghost use Rattle.gss_message_tokens.specs.Tokens.{mic_of, payload_of};
+
+    ghost is_clone = { λ token copy. (mic_of copy ≡ mic_of token) × (payload_of copy.payload ≡ payload_of token.payload) };
+
+    fn clone(&self) -> Result<MicToken, AllocError> {
+        let payload = self.payload.clone()?;
+        let checksum = self.checksum.clone()?;
+        Ok(MicToken {
+            flags: self.flags,
+            seq_num: self.seq_num,
+            payload,
+            checksum,
+        })
+    }
+}
+
+impl MicToken {
+    ghost use Rattle.gss_message_tokens.specs.Tokens.{MicFields, mic_of, mic_header, IsMicToken};
+
+    /// An initiator's token, under the acceptor's subkey, with number 0 and no checksum yet.
+    pub fn with_initiator_flags(alloc: Global) -> MicToken
+        ensures fields { mic_of result ≡ record { flags = 4; seq_num = 0; checksum = [] } }
+        ensures payload { result.payload ≡ None }
+    {
+        MicToken {
+            flags: 4,
+            seq_num: 0,
+            payload: None,
+            checksum: Vec::new(alloc),
+        }
+    }
+
+    /// An acceptor's token, under the acceptor's subkey, with number 0 and no checksum yet.
+    pub fn with_acceptor_flags(alloc: Global) -> MicToken
+        ensures fields { mic_of result ≡ record { flags = 5; seq_num = 0; checksum = [] } }
+        ensures payload { result.payload ≡ None }
+    {
+        MicToken {
+            flags: 5,
+            seq_num: 0,
+            payload: None,
+            checksum: Vec::new(alloc),
+        }
+    }
+
+    /// The token with this sequence number.
+    pub fn with_seq_number(self, seq_num: u64) -> MicToken
+        ensures { result ≡ record self { seq_num = seq_num } }
+    {
+        let MicToken {
+            flags,
+            seq_num: _,
+            payload,
+            checksum,
+        } = self;
+        MicToken {
+            flags,
+            seq_num,
+            payload,
+            checksum,
+        }
+    }
+
+    /// Its first 16 bytes, over which the checksum is too.
+    pub fn header(&self) -> [u8; HEADER_LEN]
+        ensures laid { IsLaidOut (mic_header (mic_of self.now)) result }
+        ensures size { length result ≡ 16 }
+    {
+        let mut header = [0; HEADER_LEN];
+        put_at(&mut header, 0, &id(TokenKind::Mic));
+        put_at(&mut header, 2, &[self.flags]);
+        put_at(&mut header, 3, &MIC_FILLER);
+        put_at(&mut header, 8, &self.seq_num.to_be_bytes());
+        header
+    }
+
+    /// Sets the checksum.
+    pub fn set_checksum(&mut self, checksum: Vec<u8>)
+        ensures { self.new ≡ record self.old { checksum = checksum } }
+    {
+        self.checksum = checksum;
+    }
+
+    /// Sets the payload.
+    pub fn set_payload(&mut self, payload: Vec<u8>)
+        ensures { self.new ≡ record self.old { payload = Some payload } }
+    {
+        self.payload = Some(payload);
+    }
+
+    /// Writes the token without its payload; a front of it where the writer stops.
+    pub fn encode<W: Sink>(&self, writer: &mut W) -> Result<(), GssApiMessageError>
+        ensures written { (whole : List ℕ) × IsMicToken (mic_of self.now) whole
+            × MatchResult result (λ _. Appends (W.written writer.old) (W.written writer.new) whole)
+            (λ _. (n : ℕ) × Appends (W.written writer.old) (W.written writer.new) (take n whole)) }
+        ensures count { MatchResult result (λ _. W.failed writer.new ≡ W.failed writer.old)
+            (IsWriteFault (W.failed writer.old) (W.failed writer.new) (W.last_fault writer.new)) }
+        ensures memory { result ≡ Err GssApiMessageError.Memory → IsTrue W.grows }
+        ensures same { W.through writer.new ≡ W.through writer.old }
+    {
+        write_token(writer, &self.header(), &self.checksum)
+    }
+
+    /// Reads a token to the end of `reader`; its payload is none.
+    ///
+    /// The first fault in the order of the bytes is returned: InvalidId, InvalidMicFiller, or IoError if they end within the
+    /// first 16. If the device fails after bytes in which nothing is wrong, its fault is returned.
+    pub fn decode<R: Source>(alloc: Global, reader: &mut R) -> Result<MicToken, GssApiMessageError>
+        ensures found { IfOk result (λ t. (whole : List ℕ) × IsMicToken (mic_of t) whole
+            × Consumes (R.left reader.old) (R.left reader.new) whole) }
+        ensures end { IfOk result (λ _. IsAtEnd (R.left reader.new)) }
+        ensures payload { IfOk result (λ t. t.payload ≡ None) }
+        ensures only { IfSome (R.left reader.old) (λ whole. (m : MicFields) → m.seq_num < 2 ^ 64 → IsMicToken m whole
+            → MatchResult result (λ t. mic_of t ≡ m)
+            (IsExcuse TokenKind.Mic whole (R.left reader.new) (R.failed reader.old) (R.failed reader.new) (R.last_fault reader.new))) }
+        ensures refused { IfErr result (λ e. IfSome (R.left reader.old) (λ whole.
+            IsRefusal TokenKind.Mic whole (R.left reader.new) (R.failed reader.old) (R.failed reader.new) (R.last_fault reader.new) e)) }
+        ensures same { R.through reader.new ≡ R.through reader.old }
+    {
+        let token = read_token(alloc, TokenKind::Mic, reader)?;
+        Ok(MicToken {
+            flags: token.header[2],
+            seq_num: u64_be(&token.header, 8),
+            payload: None,
+            checksum: token.checksum,
+        })
+    }
+}

@@ -1,0 +1,47 @@
+use Rattle.byte_layouts.proofs.Exits.{at-exit}
+use Rattle.kpasswd_messages.proofs.ReadingLaws.{no-header, ap-refused, private-refused, refused-only, all-read, read-only}
+use Rattle.kpasswd_messages.proofs.frame.KrbPrivFrame.deserialize.Goals as goal
+
+pub returns-in_err-read_header-clause-only : goal.returns-in_err-read_header-clause-only
+returns-in_err-read_header-clause-only g c =
+    refused-only g.A.FromDer.reads g.P.FromDer.reads (λ m. m.ap_message) (λ m. m.krb_priv) (g.R.Source.left c.args.reader.now) (g.R.Source.left c.read_header.new.reader) _ _ _ _ _ c.from_residual.ensures.1
+    (no-header _ _ (g.R.Source.left c.args.reader.now) (g.R.Source.left c.read_header.new.reader) _ _ _ _ c.in_err-read_header.ensures.refused)
+
+pub returns-in_err-read_header-clause-refused : goal.returns-in_err-read_header-clause-refused
+returns-in_err-read_header-clause-refused g c =
+    at-exit _ _ _ _ c.from_residual.ensures.1
+    (no-header g.A.FromDer.reads g.P.FromDer.reads (g.R.Source.left c.args.reader.now) (g.R.Source.left c.read_header.new.reader) _ _ _ _ c.in_err-read_header.ensures.refused)
+
+pub returns-in_err-ap_message-clause-only : goal.returns-in_err-ap_message-clause-only
+returns-in_err-ap_message-clause-only g c =
+    refused-only g.A.FromDer.reads g.P.FromDer.reads (λ m. m.ap_message) (λ m. m.krb_priv) (g.R.Source.left c.args.reader.now) (g.R.Source.left c.read_part.new.reader) _ _ _ _ _ c.from_residual-in_err-ap_message.ensures.1
+    (ap-refused _ _ (g.R.Source.left c.args.reader.now) (g.R.Source.left c.read_header.new.reader) (g.R.Source.left c.read_part.new.reader) _ _ _ _ _ c.in_ok-read_header.ensures.count c.in_ok-read_header.ensures.found c.in_err-ap_message.ensures.refused)
+
+pub returns-in_err-ap_message-clause-refused : goal.returns-in_err-ap_message-clause-refused
+returns-in_err-ap_message-clause-refused g c =
+    at-exit _ _ _ _ c.from_residual-in_err-ap_message.ensures.1
+    (ap-refused g.A.FromDer.reads g.P.FromDer.reads (g.R.Source.left c.args.reader.now) (g.R.Source.left c.read_header.new.reader) (g.R.Source.left c.read_part.new.reader) _ _ _ _ _
+    c.in_ok-read_header.ensures.count c.in_ok-read_header.ensures.found c.in_err-ap_message.ensures.refused)
+
+pub returns-in_err-krb_priv-clause-only : goal.returns-in_err-krb_priv-clause-only
+returns-in_err-krb_priv-clause-only g c =
+    refused-only g.A.FromDer.reads g.P.FromDer.reads (λ m. m.ap_message) (λ m. m.krb_priv) (g.R.Source.left c.args.reader.now) (g.R.Source.left c.read_part-2.new.reader) _ _ _ _ _ c.from_residual-in_err-krb_priv.ensures.1
+    (private-refused _ _ g.A.FromDer.one_value (g.R.Source.left c.args.reader.now) (g.R.Source.left c.read_header.new.reader) (g.R.Source.left c.read_part.new.reader) (g.R.Source.left c.read_part-2.new.reader) _ _ _ _ _ _ _ c.in_ok-read_header.ensures.count c.in_ok-ap_message.ensures.count
+    c.in_ok-read_header.ensures.found c.in_ok-ap_message.ensures.taken c.in_err-krb_priv.ensures.refused)
+
+pub returns-in_err-krb_priv-clause-refused : goal.returns-in_err-krb_priv-clause-refused
+returns-in_err-krb_priv-clause-refused g c =
+    at-exit _ _ _ _ c.from_residual-in_err-krb_priv.ensures.1
+    (private-refused g.A.FromDer.reads g.P.FromDer.reads g.A.FromDer.one_value (g.R.Source.left c.args.reader.now) (g.R.Source.left c.read_header.new.reader) (g.R.Source.left c.read_part.new.reader) (g.R.Source.left c.read_part-2.new.reader) _ _ _ _ _ _ _
+    c.in_ok-read_header.ensures.count c.in_ok-ap_message.ensures.count
+    c.in_ok-read_header.ensures.found c.in_ok-ap_message.ensures.taken c.in_err-krb_priv.ensures.refused)
+
+pub returns-clause-found : goal.returns-clause-found
+returns-clause-found g c =
+    let (header, is, took) = c.in_ok-read_header.ensures.found in
+    all-read _ _ _ _ _ _ header _ _ is took c.in_ok-ap_message.ensures.taken c.in_ok-krb_priv.ensures.taken
+
+pub returns-clause-only : goal.returns-clause-only
+returns-clause-only g c =
+    read-only g.A.FromDer.reads g.P.FromDer.reads (λ m. m.ap_message) (λ m. m.krb_priv) g.A.FromDer.one_value g.P.FromDer.one_value _ _ _
+    (λ m same also i. record { ap_message = same i; krb_priv = also i }) (returns-clause-found g c)

@@ -1,2 +1,0 @@
-pub mod AgreedKeyLemmas
-pub mod AgreementLemmas

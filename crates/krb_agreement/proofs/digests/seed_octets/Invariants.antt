@@ -1,9 +1,0 @@
-use Rattle.std.proofs.Common.{◌≡◌, ◌*◌, vec_len}
-use Rattle.krb_agreement.specs.Agreement.{numbered_digests}
-use Rattle.krb_agreement.proofs.digests.seed_octets.Given as goal
-
-abbrev pub invariant-loop-number : goal.invariant-loop-number
-invariant-loop-number l = record {
-  digests : l.octets.items ≡ numbered_digests l.secret l.number;
-  sized : vec_len l.octets ≡ 20 * l.number;
-}

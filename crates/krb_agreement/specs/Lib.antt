@@ -1,3 +1,0 @@
-pub mod AgreedKeys
-pub mod Agreement
-pub mod Secrets

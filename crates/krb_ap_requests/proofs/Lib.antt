@@ -1,0 +1,9 @@
+pub mod Tagged
+pub mod Judged
+mod Suites
+pub mod Presentations
+mod HasPresentation
+pub mod Shown
+pub mod Accepted
+pub mod Chosen
+pub mod Judgements

@@ -1,0 +1,23 @@
+use Rattle.std.proofs.Common.{SFits, refl, sym, inl, inr, w32, ◌∙◌}
+use Rattle.std.proofs.lemmas.Int.{to_z-of_z}
+use Rattle.krb_encrypted_data.proofs.FoundKeys.{key_found, no_key_found}
+use Rattle.krb_ap_requests.proofs.judge.open_under.Goals as goal
+
+pub returns-in_default : goal.returns-in_default
+returns-in_default c =
+    let none = no_key_found c.args.key.now (sym c.key_of.ensures ∙ c.in_default.is) in
+    rw none refl
+
+pub returns-in_default-2 : goal.returns-in_default-2
+returns-in_default-2 c =
+    let fits : SFits w32 c.args.usage = c.ranges.usage in
+    let own = key_found c.args.key.now c.in-Some.own (sym c.key_of.ensures ∙ c.in-Some.is) in
+    let none = rw (c.in_default-2.is, sym own.1) at (simp to_z-of_z at c.in_ok-authenticator.ensures) in
+    rw own.0 (inr (none, refl))
+
+pub returns : goal.returns
+returns c =
+    let fits : SFits w32 c.args.usage = c.ranges.usage in
+    let own = key_found c.args.key.now c.in-Some.own (sym c.key_of.ensures ∙ c.in-Some.is) in
+    let found = rw (c.in-Some-2.is, sym own.1) at (simp to_z-of_z at c.in_ok-authenticator.ensures) in
+    rw (own.0, c.suite.ensures) (inl (c.in-Some-2.authenticator, found, refl))

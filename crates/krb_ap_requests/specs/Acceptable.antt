@@ -1,0 +1,52 @@
+-- Which choices of a client present something to a service (RFC 4120, section 3.2.3).
+use Rattle.std.specs.Prelude.{◌≡◌, true, false, length, Some}
+use Rattle.std.specs.Option.{option_map_or}
+use Rattle.picky_asn1.specs.BitString.{bit_of}
+use Rattle.picky_asn1.specs.GeneralizedTime.{seconds_of}
+use Rattle.krb_crypto.specs.declared.suite.CipherSuite.{CipherSuite}
+use Rattle.krb_crypto.specs.Suites.{cipher_key_size, cipher_number}
+use Rattle.krb_encrypted_data.specs.Keys.{suite_of}
+use Rattle.krb_types.specs.Names.{components, is_same_name, is_same_realm}
+use Rattle.picky_asn1.specs.Numbers.{is_number}
+use Rattle.krb_moments.specs.Times.{moment_at}
+use Rattle.krb_moments.specs.Units.{Micros}
+use Rattle.krb_ap_requests.specs.ApTable.{is_early, is_late, is_of_client}
+use Rattle.krb_ap_requests.specs.Entry.{EntryRecord}
+use Rattle.krb_ap_requests.specs.Presents.{Choice}
+use Rattle.krb_ap_requests.specs.declared.presented.Presented.{Presented}
+
+-- the choice is for the service of this entry, its ticket counts at the moment, and its authenticator is of the
+-- ticket's client; `suite` is that of the session key, and `time` the moment that the authenticator tells
+pub record IsAcceptable (entry : EntryRecord) (skew moment : Micros) (choice : Choice) : Type 0 where
+  pub keyed : length entry.key ≡ cipher_key_size entry.suite
+  pub method : bit_of choice.outer.options 1 ≡ false
+  pub version : is_number 5 choice.outer.pvno ≡ true
+  pub ticket_version : is_number 5 choice.outer.tkt_vno ≡ true
+  pub kind : is_number 14 choice.outer.msg_type ≡ true
+  pub realm : is_same_realm choice.outer.realm entry.realm ≡ true
+  pub name : is_same_name (components choice.outer.service) entry.components ≡ true
+  pub number : option_map_or (is_number entry.number) choice.outer.part_kvno true ≡ true
+  pub part_etype : is_number (cipher_number entry.suite) choice.outer.part_etype ≡ true
+  pub started : is_early skew moment choice.part ≡ false
+  pub lasts : is_late skew moment choice.part ≡ false
+  pub suite : CipherSuite
+  pub session : suite_of choice.part.key.0 ≡ Some suite
+  pub etype : is_number (cipher_number suite) choice.outer.etype ≡ true
+  pub authenticator_version : is_number 5 choice.authenticator.authenticator_vno.0 ≡ true
+  pub client : is_of_client choice.part choice.authenticator ≡ true
+  pub time : Micros
+  pub told : moment_at (seconds_of choice.authenticator.ctime.0.0) choice.authenticator.cusec.0 ≡ Some time
+
+-- what the choice presents; it requires a reply if mutual-required is set
+abbrev pub shown_by : Choice → CipherSuite → Micros → Presented
+shown_by choice suite time = record {
+  part = choice.part;
+  suite = suite;
+  authenticator = choice.authenticator;
+  time = time;
+  wants_reply = bit_of choice.outer.options 2;
+}
+
+-- what a choice presents that is acceptable
+abbrev pub shown : (entry : EntryRecord) (skew moment : Micros) (choice : Choice) → IsAcceptable entry skew moment choice → Presented
+shown entry skew moment choice acceptable = shown_by choice acceptable.suite acceptable.time

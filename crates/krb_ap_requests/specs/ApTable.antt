@@ -1,0 +1,139 @@
+-- How an AP request is judged, in parts of one table: the first case that holds counts (RFC 4120, section 3.2.3).
+use Rattle.std.specs.Prelude.{ℕ, ◌+◌, ◌*◌, nat_lt, Bool, true, not, ◌&&◌, ◌||◌, List, Result, Ok, Err}
+use Rattle.std.specs.Option.{option_map_or}
+use Rattle.picky_asn1.specs.BitString.{bit_of}
+use Rattle.picky_asn1.specs.GeneralizedTime.{seconds_of}
+use Rattle.krb_crypto.specs.declared.suite.CipherSuite.{CipherSuite}
+use Rattle.krb_crypto.specs.Suites.{cipher_number}
+use Rattle.krb_types.specs.declared.data_types.authenticator.AuthenticatorInner.{AuthenticatorInner}
+use Rattle.krb_types.specs.declared.data_types.encrypted_data.EncryptedData.{EncryptedData}
+use Rattle.krb_types.specs.declared.data_types.encryption_key.EncryptionKey.{EncryptionKey}
+use Rattle.krb_types.specs.declared.data_types.enc_ticket_part.EncTicketPartInner.{EncTicketPartInner}
+use Rattle.krb_types.specs.declared.data_types.ticket.TicketInner.{TicketInner}
+use Rattle.krb_messages.specs.declared.messages.ap_req.ApReqInner.{ApReqInner}
+use Rattle.krb_encrypted_data.specs.Keys.{suite_of}
+use Rattle.krb_types.specs.Names.{components, is_same_name, is_same_realm}
+use Rattle.krb_types.specs.Refusals.{Code}
+use Rattle.krb_types.specs.declared.constants.error_codes.TheConstants.{KRB_AP_ERR_BAD_INTEGRITY, KRB_AP_ERR_TKT_EXPIRED, KRB_AP_ERR_TKT_NYV, KRB_AP_ERR_NOT_US, KRB_AP_ERR_BADMATCH, KRB_AP_ERR_BADVERSION, KRB_AP_ERR_MSG_TYPE, KRB_AP_ERR_MODIFIED, KRB_AP_ERR_BADKEYVER, KRB_AP_ERR_NOKEY, KRB_AP_ERR_METHOD}
+use Rattle.picky_asn1.specs.Numbers.{is_number}
+use Rattle.picky_asn1.specs.Bytes.{Bytes}
+use Rattle.decision_tables.specs.Tables.{Table, done, ask, and_then, need, refuse}
+use Rattle.krb_moments.specs.Times.{moment_at}
+use Rattle.krb_moments.specs.Units.{Micros, Seconds}
+use Rattle.krb_ap_requests.specs.Entry.{EntryRecord}
+use Rattle.krb_ap_requests.specs.Messages.{IsAuthenticator, IsTicketPart, sole_authenticator, sole_ticket_part}
+use Rattle.krb_ap_requests.specs.declared.presented.Authenticated.{Authenticated}
+use Rattle.krb_ap_requests.specs.declared.presented.Presented.{Presented}
+
+-- the request and its ticket are of version 5
+abbrev pub is_version_5 : ApReqInner → Bool
+is_version_5 request = is_number 5 request.pvno.0 && is_number 5 request.ticket.0.0.tkt_vno.0
+
+-- the ticket is for the service of this realm and this name
+abbrev pub is_for : Bytes → List Bytes → TicketInner → Bool
+is_for realm name ticket = is_same_realm ticket.realm.0 realm && is_same_name (components ticket.sname.0) name
+
+-- the data doesn't say that it is under a key of another number
+abbrev pub may_be_under : ℕ → EncryptedData → Bool
+may_be_under number encrypted = option_map_or (λ told. is_number number told.0) encrypted.kvno.0 true
+
+-- the request's own fields: version 5, an AP request, for the service of this realm and this name under its key of this
+-- number
+abbrev pub ap_fields : Bytes → List Bytes → ℕ → ApReqInner → Table (Result (Unit {0}) Code)
+ap_fields realm name number request =
+    refuse (not (is_version_5 request)) KRB_AP_ERR_BADVERSION
+    (refuse (not (is_number 14 request.msg_type.0)) KRB_AP_ERR_MSG_TYPE
+    (refuse (not (is_for realm name request.ticket.0.0)) KRB_AP_ERR_NOT_US
+    (refuse (not (may_be_under number request.ticket.0.0.enc_part.0)) KRB_AP_ERR_BADKEYVER
+    (done (Ok tt)))))
+
+-- the request isn't under a session key, it is for this service, and sealed as this service can open it
+abbrev pub for_service : Bytes → List Bytes → CipherSuite → ℕ → ApReqInner → Table (Result (Unit {0}) Code)
+for_service realm name suite number request =
+    refuse (bit_of request.ap_options.0 1) KRB_AP_ERR_METHOD
+    (and_then (ap_fields realm name number request) (λ _.
+    refuse (not (is_number (cipher_number suite) request.ticket.0.0.enc_part.0.etype.0)) KRB_AP_ERR_NOKEY
+    (done (Ok tt))))
+
+-- the second in which a ticket starts: where it doesn't tell one, that of the client's first ticket
+abbrev pub ticket_start : EncTicketPartInner → Seconds
+ticket_start part = option_map_or (λ told. seconds_of told.0.0) part.starttime.0 (seconds_of part.auth_time.0.0)
+
+-- the ticket starts later than the moment and the skew, or isn't valid yet (flag 7; RFC 4120, section 2.2)
+abbrev pub is_early : Micros → Micros → EncTicketPartInner → Bool
+is_early skew moment part = nat_lt (moment + skew) (ticket_start part * 1000000) || bit_of part.flags.0 7
+
+-- the moment is past the ticket's end and the skew
+abbrev pub is_late : Micros → Micros → EncTicketPartInner → Bool
+is_late skew moment part = nat_lt (seconds_of part.endtime.0.0 * 1000000 + skew) moment
+
+-- the ticket counts at this moment
+abbrev pub timely : Micros → Micros → EncTicketPartInner → Table (Result (Unit {0}) Code)
+timely skew moment part =
+    refuse (is_early skew moment part) KRB_AP_ERR_TKT_NYV
+    (refuse (is_late skew moment part) KRB_AP_ERR_TKT_EXPIRED
+    (done (Ok tt)))
+
+-- the part that the service's key opens
+abbrev pub opened_part : CipherSuite → Bytes → EncryptedData → Table (Result EncTicketPartInner Code)
+opened_part suite key encrypted =
+    ask (IsTicketPart suite key encrypted) (sole_ticket_part suite key encrypted) (done (Err KRB_AP_ERR_BAD_INTEGRITY)) (λ part.
+    done (Ok part))
+
+-- the part that the service's key opens, of a ticket that counts
+abbrev pub valid_part : CipherSuite → Bytes → Micros → Micros → EncryptedData → Table (Result EncTicketPartInner Code)
+valid_part suite key skew moment encrypted =
+    and_then (opened_part suite key encrypted) (λ part.
+    and_then (timely skew moment part) (λ _.
+    done (Ok part)))
+
+-- the authenticator is of the ticket's client
+abbrev pub is_of_client : EncTicketPartInner → AuthenticatorInner → Bool
+is_of_client part authenticator =
+    is_same_realm authenticator.crealm.0 part.crealm.0 && is_same_name (components authenticator.cname.0) (components part.cname.0)
+
+-- the suite of the ticket's key, and the authenticator that this key opens for the usage
+abbrev pub opened : EncryptionKey → ℕ → EncryptedData → Table (Result (CipherSuite × AuthenticatorInner) Code)
+opened key usage encrypted =
+    need (suite_of key) KRB_AP_ERR_BAD_INTEGRITY (λ suite.
+    ask (IsAuthenticator suite key.key_value.0 usage encrypted) (sole_authenticator suite key.key_value.0 usage encrypted) (done (Err KRB_AP_ERR_BAD_INTEGRITY)) (λ authenticator.
+    done (Ok (suite, authenticator))))
+
+-- the moment that an authenticator of the ticket's client tells
+abbrev pub told : EncTicketPartInner → AuthenticatorInner → Table (Result Micros Code)
+told part authenticator =
+    refuse (not (is_number 5 authenticator.authenticator_vno.0)) KRB_AP_ERR_BADVERSION
+    (refuse (not (is_of_client part authenticator)) KRB_AP_ERR_BADMATCH
+    (need (moment_at (seconds_of authenticator.ctime.0.0) authenticator.cusec.0) KRB_AP_ERR_MODIFIED (λ time.
+    done (Ok time))))
+
+-- the authenticator under the ticket's key, with the key's suite and the moment that it tells; the usage is 11 to a
+-- service, 7 to a ticket-granting service (RFC 4120, section 7.5.1)
+abbrev pub authenticated : ℕ → EncTicketPartInner → EncryptedData → Table (Result Authenticated Code)
+authenticated usage part encrypted =
+    and_then (opened part.key.0 usage encrypted) (λ found.
+    and_then (told part found.1) (λ time.
+    done (Ok (record { suite = found.0; authenticator = found.1; time = time }))))
+
+-- what a request presents with this part and this authenticator; it requires a reply if mutual-required is set
+abbrev pub presented_with : ApReqInner → EncTicketPartInner → Authenticated → Presented
+presented_with request part a = record {
+  part = part;
+  suite = a.suite;
+  authenticator = a.authenticator;
+  time = a.time;
+  wants_reply = bit_of request.ap_options.0 2;
+}
+
+-- what the request presents whose ticket has this part
+abbrev pub valid_authenticator : ApReqInner → EncTicketPartInner → Table (Result Presented Code)
+valid_authenticator request part =
+    and_then (authenticated 11 part request.authenticator.0) (λ a.
+    done (Ok (presented_with request part a)))
+
+-- what the request presents to the service of this key at a moment, up to the time that it tells
+unfoldable pub presented : EntryRecord → Micros → Micros → ApReqInner → Table (Result Presented Code)
+presented entry skew moment request =
+    and_then (for_service entry.realm entry.components entry.suite entry.number request) (λ _.
+    and_then (valid_part entry.suite entry.key skew moment request.ticket.0.0.enc_part.0) (λ part.
+    valid_authenticator request part))

@@ -1,0 +1,9 @@
+pub mod Refusal
+pub mod Messages
+pub mod Entry
+pub mod Admission
+pub mod ApTable
+pub mod Received
+pub mod Presents
+pub mod Acceptable
+pub mod Fitting

@@ -1,0 +1,298 @@
+//! Judging a request: the rows of the table, part by part.
+ghost use Rattle.std.specs.Prelude.{◌≡◌, ◌≤◌};
+ghost use Rattle.krb_crypto.specs.Suites.{cipher_number};
+ghost use Rattle.krb_types.specs.Names.{components};
+ghost use Rattle.krb_types.specs.Refusals.{IsJudged};
+ghost use Rattle.krb_ap_requests.specs.ApTable.{for_service, ap_fields, authenticated, is_early, is_for, is_late, is_of_client, is_version_5, may_be_under, opened, opened_part, presented_with, ticket_start, timely, told, valid_authenticator, valid_part};
+ghost use Rattle.picky_asn1.specs.GeneralizedTime.{seconds_of};
+ghost use Rattle.std.specs.Int.{cast_unsigned, w32};
+
+use crate::messages::{open_authenticator, open_part};
+use crate::presented::{Authenticated, Presented};
+use krb_crypto::{CipherSuite, Key};
+use krb_encrypted_data::key_of;
+use krb_messages::messages::ApReqInner;
+use krb_moments::{MICROSECONDS_IN_SECOND, Moment, moment_at};
+use krb_types::constants::types::{AP_REQ_MSG_TYPE, KERBEROS_VERSION};
+use krb_types::constants::{error_codes, key_usages};
+use krb_types::data_types::{
+    AuthenticatorInner, EncTicketPartInner, EncryptedData, EncryptionKey, TicketInner,
+};
+use krb_types::{Refusal, is_same_name, is_same_realm};
+use picky_asn1::date::GeneralizedTime;
+use picky_asn1::is_number;
+use picky_asn1::wrapper::GeneralStringAsn1;
+use results::if_passed;
+use std::alloc::Global;
+
+/// The option use-session-key of an AP request (RFC 4120, section 5.5.1).
+const USE_SESSION_KEY: usize = 1;
+
+/// The option mutual-required of an AP request.
+const MUTUAL_REQUIRED: usize = 2;
+
+/// The flag of a ticket that isn't valid yet (RFC 4120, section 5.3).
+const INVALID: usize = 7;
+
+/// Judges the request's own fields: it has to be for this service, and sealed as the service can open it.
+pub fn check_address(
+    realm: &GeneralStringAsn1,
+    name: &[GeneralStringAsn1],
+    suite: CipherSuite,
+    number: u32,
+    request: &ApReqInner,
+) -> Result<(), Refusal>
+    ensures { IsJudged (for_service realm.now name.now suite number request.now).gives result }
+{
+    if request.ap_options.0.bit(USE_SESSION_KEY) {
+        return Err(Refusal::Krb(error_codes::KRB_AP_ERR_METHOD));
+    }
+    check_fields(realm, name, number, request)?;
+    if !is_number(&request.ticket.0.0.enc_part.0.etype.0, u32::from(&suite)) {
+        return Err(Refusal::Krb(error_codes::KRB_AP_ERR_NOKEY));
+    }
+    Ok(())
+}
+
+/// Judges the request's own fields (RFC 4120, section 3.2.3): request and ticket have to be of version 5 (code 39), it has
+/// to be an AP request (40), its ticket for the service of this realm and this name (35), and under its key of this
+/// number, where one is told (44).
+pub fn check_fields(
+    realm: &GeneralStringAsn1,
+    name: &[GeneralStringAsn1],
+    number: u32,
+    request: &ApReqInner,
+) -> Result<(), Refusal>
+    ensures { IsJudged (ap_fields realm.now name.now number request.now).gives result }
+{
+    if !is_version_5(request) {
+        return Err(Refusal::Krb(error_codes::KRB_AP_ERR_BADVERSION));
+    }
+    if !is_number(&request.msg_type.0, u32::from(AP_REQ_MSG_TYPE)) {
+        return Err(Refusal::Krb(error_codes::KRB_AP_ERR_MSG_TYPE));
+    }
+    let ticket = &request.ticket.0.0;
+    if !is_for(realm, name, ticket) {
+        return Err(Refusal::Krb(error_codes::KRB_AP_ERR_NOT_US));
+    }
+    if !may_be_under(number, &ticket.enc_part.0) {
+        return Err(Refusal::Krb(error_codes::KRB_AP_ERR_BADKEYVER));
+    }
+    Ok(())
+}
+
+// The request and its ticket are of version 5.
+fn is_version_5(request: &ApReqInner) -> bool
+    ensures { result ≡ is_version_5 request.now }
+{
+    is_number(&request.pvno.0, KERBEROS_VERSION)
+        && is_number(&request.ticket.0.0.tkt_vno.0, KERBEROS_VERSION)
+}
+
+// The ticket is for the service of this realm and this name.
+fn is_for(realm: &GeneralStringAsn1, name: &[GeneralStringAsn1], ticket: &TicketInner) -> bool
+    ensures { result ≡ is_for realm.now name.now ticket.now }
+{
+    is_same_realm(&ticket.realm.0, realm)
+        && is_same_name(ticket.sname.0.name_string.0.as_slice(), name)
+}
+
+// The data doesn't say that it is under a key of another number.
+fn may_be_under(number: u32, encrypted: &EncryptedData) -> bool
+    ensures { result ≡ may_be_under number encrypted.now }
+{
+    match &encrypted.kvno.0 {
+        Some(told) => is_number(&told.0, number),
+        None => true,
+    }
+}
+
+/// Opens the ticket's part, and judges its times and flags at a moment. The skew is in microseconds, a day at most.
+pub fn check_ticket(
+    alloc: Global,
+    key: &Key,
+    skew: u64,
+    moment: Moment,
+    encrypted: &EncryptedData,
+) -> Result<EncTicketPartInner, Refusal>
+    requires { skew ≤ 86400000000 }
+    ensures { IsJudged (valid_part key.now.suite key.now.bytes skew moment encrypted.now).gives result }
+{
+    let part = open_ticket(alloc, key, encrypted)?;
+    let judged = check_times(skew, moment, &part);
+    if_passed(part, judged)
+}
+
+/// The ticket's part, which the service's key has to open (code 31; RFC 4120, section 5.3).
+pub fn open_ticket(
+    alloc: Global,
+    key: &Key,
+    encrypted: &EncryptedData,
+) -> Result<EncTicketPartInner, Refusal>
+    ensures { IsJudged (opened_part key.now.suite key.now.bytes encrypted.now).gives result }
+{
+    let Some(part) = open_part(alloc, key, encrypted)? else {
+        return Err(Refusal::Krb(error_codes::KRB_AP_ERR_BAD_INTEGRITY));
+    };
+    Ok(part)
+}
+
+/// Judges a ticket's times and flags at a moment: it has to have started and be valid (code 33), and must not have ended
+/// (32; RFC 4120, section 3.2.3). The skew is in microseconds, a day at most.
+pub fn check_times(skew: u64, moment: Moment, part: &EncTicketPartInner) -> Result<(), Refusal>
+    requires { skew ≤ 86400000000 }
+    ensures { IsJudged (timely skew moment part.now).gives result }
+{
+    if is_early(skew, moment, part) {
+        return Err(Refusal::Krb(error_codes::KRB_AP_ERR_TKT_NYV));
+    }
+    if is_late(skew, moment, part) {
+        return Err(Refusal::Krb(error_codes::KRB_AP_ERR_TKT_EXPIRED));
+    }
+    Ok(())
+}
+
+// The second in which a ticket starts.
+fn start_of(part: &EncTicketPartInner) -> GeneralizedTime
+    ensures { seconds_of result ≡ ticket_start part.now }
+{
+    match &part.starttime.0 {
+        Some(told) => told.0.0,
+        None => part.auth_time.0.0,
+    }
+}
+
+// The ticket starts later than the moment and the skew, or isn't valid yet.
+fn is_early(skew: u64, moment: Moment, part: &EncTicketPartInner) -> bool
+    requires { skew ≤ 86400000000 }
+    ensures { result ≡ is_early skew moment part.now }
+{
+    moment.micros() + skew < start_of(part).seconds() * MICROSECONDS_IN_SECOND
+        || part.flags.0.bit(INVALID)
+}
+
+// The moment is past the ticket's end and the skew.
+fn is_late(skew: u64, moment: Moment, part: &EncTicketPartInner) -> bool
+    requires { skew ≤ 86400000000 }
+    ensures { result ≡ is_late skew moment part.now }
+{
+    part.endtime.0.0.seconds() * MICROSECONDS_IN_SECOND + skew < moment.micros()
+}
+
+/// What a request presents whose ticket has this part.
+pub fn check_presented(
+    alloc: Global,
+    request: &ApReqInner,
+    part: EncTicketPartInner,
+) -> Result<Presented, Refusal>
+    ensures { IsJudged (valid_authenticator request.now part).gives result }
+{
+    let judged = check_authenticator(
+        alloc,
+        key_usages::AP_REQ_AUTHENTICATOR,
+        &part,
+        &request.authenticator.0,
+    );
+    match judged {
+        Ok(authenticated) => Ok(presented_with(request, part, authenticated)),
+        Err(refusal) => {
+            drop(part);
+            Err(refusal)
+        }
+    }
+}
+
+// What a request presents with this part and this authenticator.
+fn presented_with(
+    request: &ApReqInner,
+    part: EncTicketPartInner,
+    authenticated: Authenticated,
+) -> Presented
+    ensures { result ≡ presented_with request.now part authenticated }
+{
+    let wants_reply = request.ap_options.0.bit(MUTUAL_REQUIRED);
+    let Authenticated {
+        suite,
+        authenticator,
+        time,
+    } = authenticated;
+    Presented {
+        part,
+        suite,
+        authenticator,
+        time,
+        wants_reply,
+    }
+}
+
+/// Opens a request's authenticator under its ticket's key for a usage (code 31), and judges it: it has to be of version 5
+/// (39) and of the ticket's client (36), and its microseconds part of a second (41; RFC 4120, section 3.2.3).
+pub fn check_authenticator(
+    alloc: Global,
+    usage: i32,
+    part: &EncTicketPartInner,
+    encrypted: &EncryptedData,
+) -> Result<Authenticated, Refusal>
+    ensures { IsJudged (authenticated (cast_unsigned w32 usage) part.now encrypted.now).gives result }
+{
+    let (suite, authenticator) = open_under(alloc, &part.key.0, usage, encrypted)?;
+    match check_told(part, &authenticator) {
+        Ok(time) => Ok(Authenticated {
+            suite,
+            authenticator,
+            time,
+        }),
+        Err(refusal) => {
+            drop(authenticator);
+            Err(refusal)
+        }
+    }
+}
+
+// The suite of the ticket's key, and the authenticator that this key opens for the usage.
+fn open_under(
+    alloc: Global,
+    key: &EncryptionKey,
+    usage: i32,
+    encrypted: &EncryptedData,
+) -> Result<(CipherSuite, AuthenticatorInner), Refusal>
+    ensures { IsJudged (opened key.now (cast_unsigned w32 usage) encrypted.now).gives result }
+{
+    let Some(own) = key_of(key) else {
+        return Err(Refusal::Krb(error_codes::KRB_AP_ERR_BAD_INTEGRITY));
+    };
+    let Some(authenticator) = open_authenticator(alloc, &own, usage, encrypted)? else {
+        return Err(Refusal::Krb(error_codes::KRB_AP_ERR_BAD_INTEGRITY));
+    };
+    Ok((own.suite(), authenticator))
+}
+
+// Judges whose the authenticator is, and returns its moment.
+fn check_told(
+    part: &EncTicketPartInner,
+    authenticator: &AuthenticatorInner,
+) -> Result<Moment, Refusal>
+    ensures { IsJudged (told part.now authenticator.now).gives result }
+{
+    if !is_number(&authenticator.authenticator_vno.0, KERBEROS_VERSION) {
+        return Err(Refusal::Krb(error_codes::KRB_AP_ERR_BADVERSION));
+    }
+    if !is_of_client(part, authenticator) {
+        return Err(Refusal::Krb(error_codes::KRB_AP_ERR_BADMATCH));
+    }
+    let Some(time) = moment_at(authenticator.ctime.0.0, &authenticator.cusec.0) else {
+        return Err(Refusal::Krb(error_codes::KRB_AP_ERR_MODIFIED));
+    };
+    Ok(time)
+}
+
+// The authenticator is of the ticket's client.
+fn is_of_client(part: &EncTicketPartInner, authenticator: &AuthenticatorInner) -> bool
+    ensures { result ≡ is_of_client part.now authenticator.now }
+{
+    is_same_realm(&authenticator.crealm.0, &part.crealm.0)
+        && is_same_name(
+            authenticator.cname.0.name_string.0.as_slice(),
+            part.cname.0.name_string.0.as_slice(),
+        )
+}

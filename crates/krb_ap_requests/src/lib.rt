@@ -1,0 +1,15 @@
+//! AP requests as they are presented to a key, of a service or of the ticket-granting service (RFC 4120, section 3.2.3).
+#![tactic(auto)]
+
+mod judge;
+mod messages;
+mod presented;
+mod refusal;
+
+pub use judge::{
+    check_address, check_authenticator, check_fields, check_presented, check_ticket, check_times,
+    open_ticket,
+};
+pub use messages::read_ap_req;
+pub use presented::{Authenticated, Presented};
+pub use refusal::AdmitRefusal;

@@ -1,0 +1,57 @@
+//! Reading a request, and opening what is sealed in it.
+ghost use Rattle.std.specs.Prelude.{IfOk};
+ghost use Rattle.std.specs.Int.{cast_unsigned, w32};
+ghost use Rattle.krb_encrypted_data.specs.Found.{IsFound};
+ghost use Rattle.krb_messages.specs.Messages.{IsApReq};
+ghost use Rattle.krb_ap_requests.specs.Messages.{IsAuthenticator, IsTicketPart};
+
+use krb_crypto::Key;
+use krb_encrypted_data::{open_sealed, read_whole};
+use krb_messages::messages::{ApReq, ApReqInner};
+use krb_types::constants::key_usages;
+use krb_types::data_types::{
+    Authenticator, AuthenticatorInner, EncTicketPart, EncTicketPartInner, EncryptedData,
+};
+use std::alloc::{AllocError, Global};
+
+/// The AP request whose one encoding the bytes are, or none (RFC 4120, section 5.5.1).
+pub fn read_ap_req(alloc: Global, bytes: &[u8]) -> Result<Option<ApReqInner>, AllocError>
+    ensures { IfOk result (IsFound (IsApReq bytes.now)) }
+{
+    let read: Option<ApReq> = read_whole(alloc, bytes)?;
+    match read {
+        Some(request) => Ok(Some(request.0)),
+        None => Ok(None),
+    }
+}
+
+/// The ticket's part that the service's key opens, or none (RFC 4120, section 5.3).
+pub(crate) fn open_part(
+    alloc: Global,
+    key: &Key,
+    encrypted: &EncryptedData,
+) -> Result<Option<EncTicketPartInner>, AllocError>
+    ensures { IfOk result (IsFound (IsTicketPart key.now.suite key.now.bytes encrypted.now)) }
+{
+    let found: Option<EncTicketPart> = open_sealed(alloc, key, key_usages::TICKET, encrypted)?;
+    match found {
+        Some(part) => Ok(Some(part.0)),
+        None => Ok(None),
+    }
+}
+
+/// The authenticator that the session key opens for the usage, or none (RFC 4120, section 5.5.1).
+pub(crate) fn open_authenticator(
+    alloc: Global,
+    key: &Key,
+    usage: i32,
+    encrypted: &EncryptedData,
+) -> Result<Option<AuthenticatorInner>, AllocError>
+    ensures { IfOk result (IsFound (IsAuthenticator key.now.suite key.now.bytes (cast_unsigned w32 usage) encrypted.now)) }
+{
+    let found: Option<Authenticator> = open_sealed(alloc, key, usage, encrypted)?;
+    match found {
+        Some(authenticator) => Ok(Some(authenticator.0)),
+        None => Ok(None),
+    }
+}

@@ -1,6 +1,0 @@
-use Rattle.krb_des.specs.Seeds.{is_weak, weak_keys}
-use Rattle.krb_des.proofs.seed.is_weak.Goals as goal
-
-pub returns : goal.returns
-unfolding is_weak weak_keys
-returns c = c.contains.ensures.value

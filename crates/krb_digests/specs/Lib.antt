@@ -1,5 +1,0 @@
-pub mod Hmac
-pub mod Kdf
-pub mod NFold
-pub mod NFoldSteps
-pub mod Pbkdf2

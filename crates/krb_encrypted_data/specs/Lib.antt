@@ -1,0 +1,6 @@
+pub mod Filled
+pub mod Found
+pub mod Opens
+pub mod Keys
+pub mod Sealed
+pub mod Sealing

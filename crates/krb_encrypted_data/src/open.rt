@@ -1,0 +1,43 @@
+//! Opening the sealed parts of messages.
+ghost use Rattle.std.specs.Prelude.{◌≡◌};
+ghost use Rattle.std.specs.Int.{cast_unsigned, w32};
+ghost use Rattle.krb_crypto.specs.Suites.{cipher_number};
+ghost use Rattle.krb_encrypted_data.specs.Opens.{IsOpened, Opens};
+
+use crate::filled::read_filled;
+use asn1_codec::{Asn1DerError, Deserialize};
+use krb_crypto::{Cipher, CipherSuite, KerberosCryptoError};
+use std::alloc::Global;
+use thiserror::Error;
+
+/// Why a sealed part isn't opened.
+#[derive(Debug, Drop, Error)]
+pub enum OpenFault {
+    /// Nothing is sealed here under this key for this usage.
+    #[error("{0}")]
+    Crypto(KerberosCryptoError),
+    /// What is sealed here is no value of the type.
+    #[error("{0}")]
+    Der(Asn1DerError),
+}
+
+/// The value whose encoding is sealed here under this key for this usage, followed only by the suite's padding (RFC 3961,
+/// section 5.3).
+pub fn open_part<T: Deserialize + Drop>(
+    alloc: Global,
+    suite: CipherSuite,
+    key: &[u8],
+    usage: i32,
+    bytes: &[u8],
+) -> Result<T, OpenFault>
+    ensures { IsOpened (Opens T.tree (cipher_number suite) key.now (cast_unsigned w32 usage) bytes.now) result }
+{
+    let plain = match suite.decrypt(alloc, key, usage, bytes) {
+        Ok(plain) => plain,
+        Err(fault) => return Err(OpenFault::Crypto(fault)),
+    };
+    match read_filled(alloc, suite, &plain) {
+        Ok(value) => Ok(value),
+        Err(fault) => Err(OpenFault::Der(fault)),
+    }
+}

@@ -1,0 +1,7 @@
+pub mod Seconds
+pub mod Short
+pub mod PartTrees
+pub mod RequestTrees
+pub mod RequestParts
+pub mod Written
+mod Spans

@@ -1,0 +1,25 @@
+-- What a call to a realm's table is.
+use Rattle.std.specs.Prelude.{◌≡◌, ◌≤◌, List, length, Some}
+use Rattle.picky_asn1.specs.Bytes.{Bytes}
+use Rattle.aes_cts.specs.Bytes.{IsBytes}
+use Rattle.krb_moments.specs.Moment.{IsMoment}
+use Rattle.krb_crypto.specs.Suites.{cipher_key_size}
+use Rattle.krb_accounts.specs.Account.{AccountRecord}
+use Rattle.krb_accounts.specs.Accounts.{Look}
+use Rattle.krb_kdc_requests.specs.Call.{CallRecord}
+
+-- the account's key is one of its suite
+pub record IsKeyed (account : AccountRecord) : Type 0 where
+  pub sized : length account.key ≡ cipher_key_size account.suite
+  pub bytes : IsBytes account.key
+
+-- each account that is looked up has a key of its suite
+abbrev pub AreKeyed : Look → Type 0
+AreKeyed look = (name : List Bytes) (account : AccountRecord) → look name ≡ Some account → IsKeyed account
+
+-- a moment of the years 0 to 9999, 128 random bytes, and accounts whose keys are keys
+pub record IsCall (call : CallRecord) : Type 0 where
+  pub in_time : IsMoment call.moment
+  pub enough : 128 ≤ length call.random
+  pub bytes : IsBytes call.random
+  pub keyed : AreKeyed call.look

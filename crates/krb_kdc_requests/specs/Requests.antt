@@ -1,0 +1,84 @@
+-- What a request to a KDC asks for, and what AS and TGS requests are judged by alike (RFC 4120, sections 3.1.3, 3.3.3, 5.4.1).
+use Rattle.std.specs.Prelude.{◌≡◌, ℕ, nat_le, Bool, not, ◌||◌, List, [], Option, None, Some, Result, Ok}
+use Rattle.std.specs.Option.{option_map, option_map_or}
+use Rattle.std.proofs.Common.{sym, ◌∙◌}
+use Rattle.krb_moments.specs.Units.{Micros, Seconds}
+use Rattle.asn1_der.specs.Tree.{der}
+use Rattle.picky_asn1.specs.BitString.{Bits, bit_of}
+use Rattle.picky_asn1.specs.GeneralizedTime.{seconds_of}
+use Rattle.picky_asn1.specs.Numbers.{is_number}
+use Rattle.picky_asn1.specs.Bytes.{Bytes}
+use Rattle.asn1_leaves.proofs.TimeLemmas.{seconds_of-injective}
+use Rattle.krb_types.specs.Names.{components, is_same_realm}
+use Rattle.krb_types.specs.declared.data_types.pa_data.PaData.{PaData}
+use Rattle.krb_types.specs.declared.data_types.principal_name.PrincipalName.{PrincipalName}
+use Rattle.krb_types.specs.Refusals.{Code}
+use Rattle.krb_types.specs.declared.constants.error_codes.TheConstants.{KDC_ERR_BAD_PVNO, KDC_ERR_CANNOT_POSTDATE, KDC_ERR_NEVER_VALID, KDC_ERR_BADOPTION, KRB_AP_ERR_MSG_TYPE, KDC_ERR_WRONG_REALM}
+use Rattle.krb_messages.specs.declared.messages.kdc_req.KdcReq.{KdcReq}
+use Rattle.krb_messages.specs.declared.messages.kdc_req_body.KdcReqBody.{KdcReqBody}
+use Rattle.krb_messages.specs.Trees.{kdc_req_body_tree}
+use Rattle.decision_tables.specs.One.{IsSole}
+use Rattle.decision_tables.specs.Tables.{Table, done, make, refuse}
+use Rattle.krb_accounts.specs.Account.{AccountRecord}
+use Rattle.krb_accounts.specs.Accounts.{Look}
+use Rattle.krb_tickets.specs.Times.{end_of, start_of}
+use Rattle.krb_kdc_requests.specs.declared.span.Span.{Span}
+
+-- one of forwarded, proxy, enc-tkt-in-skey, renew and validate (RFC 4120, section 5.4.1)
+abbrev pub has_refused_option : Bits → Bool
+has_refused_option options = bit_of options 2 || bit_of options 4 || bit_of options 28 || bit_of options 30 || bit_of options 31
+
+-- postdated (RFC 4120, section 5.4.1)
+abbrev pub is_postdated : Bits → Bool
+is_postdated options = bit_of options 6
+
+abbrev pub client_of : KdcReqBody → Option PrincipalName
+client_of body = option_map (λ tagged. tagged.0) body.cname.0
+
+abbrev pub service_of : KdcReqBody → Option PrincipalName
+service_of body = option_map (λ tagged. tagged.0) body.sname.0
+
+-- the account of a name, where the name is given and has one
+abbrev pub account_of : Look → Option PrincipalName → Option AccountRecord
+account_of look None = None
+account_of look (Some name) = look (components name)
+
+-- the preauthentication entries of a request
+abbrev pub entries_of : KdcReq → List PaData
+entries_of request = option_map_or (λ tagged. tagged.0) request.padata.0 []
+
+-- the one encoding of a request's body
+unfoldable pub body_bytes : KdcReqBody → Bytes
+body_bytes body = der (kdc_req_body_tree body)
+
+-- the request is of this message type and to this realm, which grants nothing that its options ask for beside a ticket
+abbrev pub addressed : ℕ → Bytes → KdcReq → Table (Result (Unit {0}) Code)
+addressed kind realm request =
+    refuse (not (is_number 5 request.pvno.0)) KDC_ERR_BAD_PVNO
+    (refuse (not (is_number kind request.msg_type.0)) KRB_AP_ERR_MSG_TYPE
+    (refuse (not (is_same_realm request.req_body.0.realm.0 realm)) KDC_ERR_WRONG_REALM
+    (refuse (has_refused_option request.req_body.0.kdc_options.0) KDC_ERR_BADOPTION
+    (refuse (is_postdated request.req_body.0.kdc_options.0) KDC_ERR_CANNOT_POSTDATE
+    (done (Ok tt))))))
+
+-- a ticket lasts from the second of the moment on; where it is granted by an older ticket, not past that one's end
+pub record IsSpan (lifetime : Seconds) (moment : Micros) (old : Option Seconds) (till : Seconds) (span : Span) : Type 0 where
+  pub starts : seconds_of span.start ≡ start_of moment
+  pub ends : seconds_of span.until ≡ end_of lifetime (start_of moment) old till
+
+pub sole_span : (lifetime : Seconds) (moment : Micros) (old : Option Seconds) (till : Seconds) → IsSole (IsSpan lifetime moment old till)
+sole_span lifetime moment old till a b x y = λ i. record {
+  start = seconds_of-injective a.start b.start (x.starts ∙ sym y.starts) i;
+  until = seconds_of-injective a.until b.until (x.ends ∙ sym y.ends) i;
+}
+
+-- it ends where it starts, or earlier
+abbrev pub is_ended : Span → Bool
+is_ended span = nat_le (seconds_of span.until) (seconds_of span.start)
+
+-- what there is of time for the ticket
+abbrev pub lasting : Seconds → Micros → Option Seconds → KdcReqBody → Table (Result Span Code)
+lasting lifetime moment old body =
+    make (IsSpan lifetime moment old (seconds_of body.till.0.0)) (sole_span lifetime moment old (seconds_of body.till.0.0)) (λ span.
+    refuse (is_ended span) KDC_ERR_NEVER_VALID
+    (done (Ok span)))

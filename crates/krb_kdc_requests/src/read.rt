@@ -1,0 +1,30 @@
+//! Reading requests.
+ghost use Rattle.std.specs.Prelude.{◌≡◌, IfOk};
+ghost use Rattle.krb_encrypted_data.specs.Found.{IsFound};
+ghost use Rattle.krb_messages.specs.Messages.{IsAsReq, IsTgsReq};
+
+use krb_encrypted_data::read_whole;
+use krb_messages::messages::{AsReq, KdcReq, TgsReq};
+use std::alloc::{AllocError, Global};
+
+/// The AS request whose one encoding the bytes are, or none (RFC 4120, section 5.4.1).
+pub fn read_as_req(alloc: Global, bytes: &[u8]) -> Result<Option<KdcReq>, AllocError>
+    ensures { IfOk result (IsFound (IsAsReq bytes.now)) }
+{
+    let read: Option<AsReq> = read_whole(alloc, bytes)?;
+    match read {
+        Some(request) => Ok(Some(request.0)),
+        None => Ok(None),
+    }
+}
+
+/// The TGS request whose one encoding the bytes are, or none (RFC 4120, section 5.4.1).
+pub fn read_tgs_req(alloc: Global, bytes: &[u8]) -> Result<Option<KdcReq>, AllocError>
+    ensures { IfOk result (IsFound (IsTgsReq bytes.now)) }
+{
+    let read: Option<TgsReq> = read_whole(alloc, bytes)?;
+    match read {
+        Some(request) => Ok(Some(request.0)),
+        None => Ok(None),
+    }
+}

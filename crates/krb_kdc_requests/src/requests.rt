@@ -1,0 +1,138 @@
+//! What a request to a KDC asks for, and what AS and TGS requests are judged by alike.
+ghost use Rattle.std.specs.Prelude.{◌≡◌, ◌≤◌, length, IfOk};
+ghost use Rattle.std.specs.Option.{option_copied, option_map};
+ghost use Rattle.krb_accounts.specs.Accounts.{look_in};
+ghost use Rattle.krb_kdc_requests.specs.Requests.{account_of, addressed, client_of, entries_of, has_refused_option, is_ended, is_postdated, lasting, service_of};
+ghost use Rattle.krb_tickets.specs.Parts.{session_key_of};
+ghost use Rattle.krb_types.specs.Refusals.{IsJudged};
+ghost use Rattle.picky_asn1.specs.GeneralizedTime.{seconds_of};
+
+use crate::span::Span;
+use krb_accounts::{Account, Accounts, Settings};
+use krb_crypto::CipherSuite;
+use krb_messages::messages::{KdcReq, KdcReqBody};
+use krb_moments::Moment;
+use krb_tickets::{end_of, key_at, start_of};
+use krb_types::constants::error_codes;
+use krb_types::constants::random_bytes::SESSION_SEED;
+use krb_types::constants::types::KERBEROS_VERSION;
+use krb_types::data_types::{PaData, PrincipalName};
+use krb_types::{Refusal, is_same_realm};
+use picky_asn1::date::GeneralizedTime;
+use picky_asn1::is_number;
+use picky_asn1::wrapper::{BitStringAsn1, GeneralStringAsn1, OctetStringAsn1};
+use std::alloc::{AllocError, Global};
+
+/// Judges whether a request is of this message type and to this realm, and its options.
+pub fn check_address(kind: u8, realm: &GeneralStringAsn1, request: &KdcReq) -> Result<(), Refusal>
+    ensures { IsJudged (addressed kind realm.now request.now).gives result }
+{
+    if !is_number(&request.pvno.0, KERBEROS_VERSION) {
+        return Err(Refusal::Krb(error_codes::KDC_ERR_BAD_PVNO));
+    }
+    if !is_number(&request.msg_type.0, u32::from(kind)) {
+        return Err(Refusal::Krb(error_codes::KRB_AP_ERR_MSG_TYPE));
+    }
+    let body = &request.req_body.0;
+    if !is_same_realm(&body.realm.0, realm) {
+        return Err(Refusal::Krb(error_codes::KDC_ERR_WRONG_REALM));
+    }
+    if has_refused_option(&body.kdc_options.0) {
+        return Err(Refusal::Krb(error_codes::KDC_ERR_BADOPTION));
+    }
+    if is_postdated(&body.kdc_options.0) {
+        return Err(Refusal::Krb(error_codes::KDC_ERR_CANNOT_POSTDATE));
+    }
+    Ok(())
+}
+
+// One of forwarded, proxy, enc-tkt-in-skey, renew and validate (RFC 4120, section 5.4.1).
+fn has_refused_option(options: &BitStringAsn1) -> bool
+    ensures { result ≡ has_refused_option options.now }
+{
+    options.bit(2) || options.bit(4) || options.bit(28) || options.bit(30) || options.bit(31)
+}
+
+fn is_postdated(options: &BitStringAsn1) -> bool
+    ensures { result ≡ is_postdated options.now }
+{
+    options.bit(6)
+}
+
+/// The client, where the request names one.
+pub fn client_of(body: &KdcReqBody) -> Option<&PrincipalName>
+    ensures { option_copied result ≡ client_of body.now }
+{
+    match &body.cname.0 {
+        Some(tagged) => Some(&tagged.0),
+        None => None,
+    }
+}
+
+/// The service, where the request names one.
+pub fn service_of(body: &KdcReqBody) -> Option<&PrincipalName>
+    ensures { option_copied result ≡ service_of body.now }
+{
+    match &body.sname.0 {
+        Some(tagged) => Some(&tagged.0),
+        None => None,
+    }
+}
+
+/// The account of a name, where the name is given and has one.
+pub fn account_of<'a>(accounts: &'a Accounts, name: Option<&PrincipalName>) -> Option<&'a Account>
+    ensures { option_copied result ≡ account_of (look_in accounts.now) (option_copied name.entry) }
+{
+    let Some(name) = name else {
+        return None;
+    };
+    accounts.get(name.name_string.0.as_slice())
+}
+
+/// The preauthentication entries of a request.
+pub fn entries_of(request: &KdcReq) -> &[PaData]
+    ensures { result.now ≡ entries_of request.now }
+{
+    match &request.padata.0 {
+        Some(tagged) => tagged.0.as_slice(),
+        None => &[],
+    }
+}
+
+/// How long a ticket may last that is asked for at a moment, by an older ticket that ends in its second, if there is one. It
+/// isn't granted where it would end as it starts.
+pub fn lasting(
+    settings: Settings,
+    moment: Moment,
+    old: Option<GeneralizedTime>,
+    body: &KdcReqBody,
+) -> Result<Span, Refusal>
+    ensures { IsJudged (lasting settings.lifetime moment (option_map seconds_of old) body.now).gives result }
+{
+    let start = start_of(moment);
+    let until = end_of(settings, start, old, body.till.0.0);
+    let span = Span { start, until };
+    if is_ended(span) {
+        return Err(Refusal::Krb(error_codes::KDC_ERR_NEVER_VALID));
+    }
+    Ok(span)
+}
+
+// It ends where it starts, or earlier.
+fn is_ended(span: Span) -> bool
+    ensures { result ≡ is_ended span }
+{
+    span.until.seconds() <= span.start.seconds()
+}
+
+/// The key of a session, of this suite: that of its seed among the random bytes.
+pub fn session_key(
+    alloc: Global,
+    suite: CipherSuite,
+    words: &[u8],
+) -> Result<OctetStringAsn1, AllocError>
+    requires { 128 ≤ length words.now }
+    ensures { IfOk result (λ key. key ≡ session_key_of suite words.now) }
+{
+    key_at(alloc, suite, words, SESSION_SEED)
+}

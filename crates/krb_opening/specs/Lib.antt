@@ -1,5 +1,0 @@
-pub mod Filled
-pub mod Found
-pub mod Opens
-pub mod Keys
-pub mod Sealed

@@ -1,0 +1,74 @@
+-- What a client is told that has to authenticate first: the data of error 25 (RFC 4120, sections 5.2.7.5, 5.9.1).
+use Rattle.std.specs.Prelude.{◌≡◌, ℕ, List, [], ◌∷◌, Option, None, Some, pos, codes, refl, if◌then◌else◌, Bool, true, false}
+use Rattle.std.specs.Option.{option_map}
+use Rattle.asn1_der.specs.Length.{element, length_octets}
+use Rattle.asn1_der.specs.Tree.{Tree, constructed, der, trees_of}
+use Rattle.picky_asn1.specs.CharSets.{is_general_string}
+use Rattle.picky_asn1.specs.Integer.{integer_content, natural_octets}
+use Rattle.picky_asn1.specs.Bytes.{Bytes}
+use Rattle.krb_crypto.specs.declared.suite.CipherSuite.{CipherSuite}
+use Rattle.krb_crypto.specs.declared.suite.CipherSuite.TheVariants.{Aes256CtsHmacSha196}
+use Rattle.krb_crypto.specs.Suites.{cipher_number}
+use Rattle.krb_accounts.specs.Account.{AccountRecord}
+use Rattle.krb_types.specs.declared.data_types.etype_info2.EtypeInfo2Entry.{EtypeInfo2Entry}
+use Rattle.krb_types.specs.declared.data_types.pa_data.PaData.{PaData}
+use Rattle.krb_types.specs.Trees as held
+
+-- how a key is made of a password: the suite, and the salt if there is one
+abbrev pub key_entry : CipherSuite → Option Bytes → EtypeInfo2Entry
+key_entry suite salt = record {
+  etype = record { 0 = pos (cipher_number suite) };
+  salt = record { 0 = option_map (λ s. record { 0 = s }) salt };
+  s2kparams = record { 0 = None };
+}
+
+-- ETYPE-INFO2, a list of one entry
+abbrev pub key_info_tree : List EtypeInfo2Entry → Tree
+key_info_tree entries = constructed 48 (trees_of held.etype_info2_entry_tree entries)
+
+-- a salt that is no GeneralString has no tree, so that nothing is written of it
+unfoldable pub key_info_bytes : AccountRecord → Bytes
+key_info_bytes account = der (key_info_tree (key_entry account.suite account.salt ∷ []))
+
+-- the salt as it is told: as a GeneralString, or not at all
+abbrev pub told_salt : Option Bytes → Option Bytes
+told_salt None = None
+told_salt (Some salt) = if is_general_string salt then Some salt else None
+
+-- data of one type
+abbrev pub pa_data_of : ℕ → Bytes → PaData
+pa_data_of kind value = record { padata_type = record { 0 = pos kind }; padata_data = record { 0 = value } }
+
+-- these two, and PA-PK-AS-REQ without data where certificates are accepted (RFC 4556, section 3.4)
+abbrev pub hints : Bool → PaData → PaData → List PaData
+hints false info timestamp = info ∷ timestamp ∷ []
+hints true info timestamp = info ∷ timestamp ∷ pa_data_of 16 [] ∷ []
+
+-- PA-ETYPE-INFO2, and PA-ENC-TIMESTAMP without data
+unfoldable pub method_data : Bool → AccountRecord → List PaData
+method_data by_certificate account = hints by_certificate (pa_data_of 19 (key_info_bytes account)) (pa_data_of 2 [])
+
+-- METHOD-DATA
+abbrev pub method_data_tree : List PaData → Tree
+method_data_tree methods = constructed 48 (trees_of held.pa_data_tree methods)
+
+unfoldable pub method_data_bytes : Bool → AccountRecord → Bytes
+method_data_bytes by_certificate account = der (method_data_tree (method_data by_certificate account))
+
+-- by the salt Ra, for AES with 256-bit keys
+salted : (key : Bytes) (number : ℕ)
+    → method_data_bytes false (record { suite = Aes256CtsHmacSha196; key = key; number = number; salt = Some (codes "Ra") })
+    ≡ 0x30 ∷ 0x25 ∷ 0x30 ∷ 0x18 ∷ 0xA1 ∷ 0x03 ∷ 0x02 ∷ 0x01 ∷ 0x13 ∷ 0xA2 ∷ 0x11 ∷ 0x04 ∷ 0x0F ∷ 0x30 ∷ 0x0D ∷ 0x30
+    ∷ 0x0B ∷ 0xA0 ∷ 0x03 ∷ 0x02 ∷ 0x01 ∷ 0x12 ∷ 0xA1 ∷ 0x04 ∷ 0x1B ∷ 0x02 ∷ 0x52 ∷ 0x61 ∷ 0x30 ∷ 0x09 ∷ 0xA1 ∷ 0x03
+    ∷ 0x02 ∷ 0x01 ∷ 0x02 ∷ 0xA2 ∷ 0x02 ∷ 0x04 ∷ 0x00 ∷ []
+unfolding method_data_bytes method_data key_info_bytes element length_octets integer_content natural_octets
+salted key number = refl
+
+-- where the realm accepts certificates too
+salted_anchored : (key : Bytes) (number : ℕ)
+    → method_data_bytes true (record { suite = Aes256CtsHmacSha196; key = key; number = number; salt = Some (codes "Ra") })
+    ≡ 0x30 ∷ 0x30 ∷ 0x30 ∷ 0x18 ∷ 0xA1 ∷ 0x03 ∷ 0x02 ∷ 0x01 ∷ 0x13 ∷ 0xA2 ∷ 0x11 ∷ 0x04 ∷ 0x0F ∷ 0x30 ∷ 0x0D ∷ 0x30
+    ∷ 0x0B ∷ 0xA0 ∷ 0x03 ∷ 0x02 ∷ 0x01 ∷ 0x12 ∷ 0xA1 ∷ 0x04 ∷ 0x1B ∷ 0x02 ∷ 0x52 ∷ 0x61 ∷ 0x30 ∷ 0x09 ∷ 0xA1 ∷ 0x03
+    ∷ 0x02 ∷ 0x01 ∷ 0x02 ∷ 0xA2 ∷ 0x02 ∷ 0x04 ∷ 0x00 ∷ 0x30 ∷ 0x09 ∷ 0xA1 ∷ 0x03 ∷ 0x02 ∷ 0x01 ∷ 0x10 ∷ 0xA2 ∷ 0x02 ∷ 0x04 ∷ 0x00 ∷ []
+unfolding method_data_bytes method_data key_info_bytes element length_octets integer_content natural_octets
+salted_anchored key number = refl

@@ -1,3 +1,0 @@
-pub mod Frames
-pub mod Reading
-pub mod Writing

@@ -1,4 +1,0 @@
-pub mod Clock
-pub mod Devices
-pub mod Moments
-pub mod Outcomes

@@ -1,0 +1,15 @@
+-- What a service remembers of the authenticators that it has admitted (RFC 4120, section 3.2.3).
+use Rattle.std.specs.Prelude.{◌≡◌, ◌&&◌, List}
+use Rattle.krb_moments.specs.Units.{Micros}
+use Rattle.krb_service.specs.Pair.{PairRecord, is_among, is_recent}
+
+-- the greatest moment that was handed in, the skew, and the pairs held
+pub record SeenRecord : Type 0 where
+  pub greatest : Micros
+  pub skew : Micros
+  pub held : List PairRecord
+
+-- of the pairs ever admitted those are held that are recent, and no other
+abbrev pub IsWindow : SeenRecord → List PairRecord → Type 0
+IsWindow seen admitted =
+    (pair : PairRecord) → is_among pair seen.held ≡ (is_among pair admitted && is_recent seen.skew seen.greatest pair)

@@ -1,0 +1,154 @@
+//! Admissions.
+ghost use Rattle.std.specs.Prelude.{◌≡◌, ◌≤◌, false, length, IfOk};
+ghost use Rattle.std.specs.Option.{option_map};
+ghost use Rattle.krb_ap_requests.specs.Admission.{admission_of, checksum_of, seq_number_of, subkey_of};
+ghost use Rattle.krb_service.specs.ApReply.{HasSessionKey, IsReplyTo};
+
+use crate::reply::ap_reply;
+use krb_ap_requests::Presented;
+use krb_crypto::Key;
+use krb_encrypted_data::key_of;
+use krb_types::data_types::{
+    AuthenticatorInner, Checksum, EncTicketPartInner, EncryptionKey, PrincipalName, Realm,
+};
+use picky_asn1::wrapper::IntegerAsn1;
+use picky_asn1_der::ExplicitContextTag;
+use std::alloc::{AllocError, Global};
+use std::marker::Model;
+
+/// What a service is told of a client that it admits (RFC 4120, section 3.2.3).
+#[derive(Drop)]
+pub struct Admission {
+    /// The client's realm.
+    pub realm: Realm,
+    /// The client, as its ticket names it.
+    pub client: PrincipalName,
+    /// The session key, which the client knows.
+    pub session: EncryptionKey,
+    /// The key that the client chose for what follows, if it chose one.
+    pub subkey: Option<EncryptionKey>,
+    /// The authenticator's checksum (RFC 4120, section 5.5.1). The service doesn't judge it.
+    pub checksum: Option<Checksum>,
+    /// The first sequence number of the client's messages, as the authenticator has it (RFC 4120, section 5.5.1).
+    pub seq_number: Option<IntegerAsn1>,
+    /// The AP reply, where the client asked for one.
+    pub reply: Option<Vec<u8>>,
+}
+
+impl Model for Admission {
+    ghost use Rattle.std.specs.Option.{option_map};
+    ghost use Rattle.krb_ap_requests.specs.Admission.{AdmissionRecord};
+
+    ghost Value = { AdmissionRecord };
+
+    ghost view = { λ a. record {
+      realm = a.realm;
+      client = a.client;
+      session = a.session;
+      subkey = a.subkey;
+      checksum = a.checksum;
+      seq_number = a.seq_number;
+      reply = option_map (λ v. v.items) a.reply;
+    } };
+}
+
+/// The admission of what was presented, with the reply to it.
+pub fn admission_of(presented: Presented, reply: Option<Vec<u8>>) -> Admission
+    ensures { result ≡ admission_of presented (option_map (λ bytes. bytes.items) reply) }
+{
+    let Presented {
+        part,
+        authenticator,
+        ..
+    } = presented;
+    admission_with(part, taken_from(authenticator), reply)
+}
+
+// What an admission takes from an authenticator.
+#[derive(Drop)]
+struct Taken {
+    subkey: Option<EncryptionKey>,
+    checksum: Option<Checksum>,
+    seq_number: Option<IntegerAsn1>,
+}
+
+// The admission of the ticket's client, with what was taken from the authenticator and this reply.
+fn admission_with(part: EncTicketPartInner, taken: Taken, reply: Option<Vec<u8>>) -> Admission
+    ensures { result ≡ record { realm = part.crealm.0; client = part.cname.0; session = part.key.0; subkey = taken.subkey; checksum = taken.checksum; seq_number = taken.seq_number; reply = option_map (λ v. v.items) reply } }
+{
+    let EncTicketPartInner {
+        key: ExplicitContextTag(session),
+        crealm: ExplicitContextTag(realm),
+        cname: ExplicitContextTag(client),
+        ..
+    } = part;
+    let Taken {
+        subkey,
+        checksum,
+        seq_number,
+    } = taken;
+    Admission {
+        realm,
+        client,
+        session,
+        subkey,
+        checksum,
+        seq_number,
+        reply,
+    }
+}
+
+// The key that the client chose, its checksum and its sequence number.
+fn taken_from(mut authenticator: AuthenticatorInner) -> Taken
+    ensures { result ≡ record { subkey = subkey_of authenticator; checksum = checksum_of authenticator; seq_number = seq_number_of authenticator } }
+{
+    let subkey = authenticator.subkey.0.take();
+    let checksum = authenticator.cksum.0.take();
+    let number = authenticator.seq_number.0.take();
+    drop(authenticator);
+    Taken {
+        subkey: untagged(subkey),
+        checksum: untagged(checksum),
+        seq_number: untagged(number),
+    }
+}
+
+// The value under a tag, if there is one.
+fn untagged<const N: u8, T: Drop>(tagged: Option<ExplicitContextTag<N, T>>) -> Option<T>
+    ensures { result ≡ option_map (λ value. value.0) tagged }
+{
+    if let Some(value) = tagged {
+        return Some(value.0);
+    }
+    None
+}
+
+/// The reply to what was presented, if one is required (RFC 4120, section 3.2.4). Only the first 16 random bytes count. This
+/// fails only if memory runs out. It takes no memory if no reply is required.
+///
+/// The session key has to be one of the presented suite, as `KeytabEntry::receive` gives it.
+pub fn reply_to(
+    alloc: Global,
+    presented: &Presented,
+    words: &[u8],
+) -> Result<Option<Vec<u8>>, AllocError>
+    requires confounder { 16 ≤ length words.now }
+    requires keyed { HasSessionKey presented.now }
+    ensures reply { IfOk result (λ reply. IsReplyTo presented.now words.now (option_map (λ bytes. bytes.items) reply)) }
+    ensures unwanted { presented.now.wants_reply ≡ false → result ≡ Ok None }
+{
+    if !presented.wants_reply {
+        return Ok(None);
+    }
+    let key = session_key(presented);
+    let bytes = ap_reply(alloc, &key, &presented.authenticator, words)?;
+    Ok(Some(bytes))
+}
+
+// The session key, which is one of the presented suite.
+fn session_key(presented: &Presented) -> Key
+    requires { HasSessionKey presented.now }
+    ensures { result ≡ record { suite = presented.now.suite; bytes = presented.now.part.key.0.key_value.0 } }
+{
+    key_of(&presented.part.key.0).unwrap()
+}

@@ -1,0 +1,109 @@
+//! Keys of services.
+ghost use Rattle.std.specs.Prelude.{◌≡◌, ◌≤◌, IfOk};
+ghost use Rattle.krb_service.specs.ApReply.{HasSessionKey};
+ghost use Rattle.krb_ap_requests.specs.ApTable.{presented};
+ghost use Rattle.krb_ap_requests.specs.Received.{Receives};
+ghost use Rattle.krb_types.specs.Refusals.{IsJudged};
+
+use krb_ap_requests::{
+    AdmitRefusal, Presented, check_address, check_presented, check_ticket, read_ap_req,
+};
+use krb_crypto::Key;
+use krb_messages::messages::ApReqInner;
+use krb_moments::Moment;
+use krb_types::Refusal;
+use picky_asn1::wrapper::GeneralStringAsn1;
+use std::alloc::Global;
+use std::marker::Model;
+
+/// The key of a service, as a keytab holds it: the service's realm and name, and the key with its suite and number. A
+/// contract sees these five.
+#[derive(Drop)]
+pub struct KeytabEntry {
+    realm: GeneralStringAsn1,
+    components: Vec<GeneralStringAsn1>,
+    key: Key,
+    number: u32,
+}
+
+impl Model for KeytabEntry {
+    ghost use Rattle.krb_ap_requests.specs.Entry.{EntryRecord};
+
+    ghost Value = { EntryRecord };
+
+    ghost view = { λ e. record {
+      realm = e.realm;
+      components = e.components.items;
+      suite = e.key.suite;
+      key = e.key.bytes;
+      number = e.number;
+    } };
+}
+
+impl KeytabEntry {
+    /// The entry of this service, with this key.
+    pub fn new(
+        realm: GeneralStringAsn1,
+        components: Vec<GeneralStringAsn1>,
+        key: Key,
+        number: u32,
+    ) -> KeytabEntry
+        ensures { result ≡ record { realm = realm; components = components.items; suite = key.suite; key = key.bytes; number = number } }
+    {
+        KeytabEntry {
+            realm,
+            components,
+            key,
+            number,
+        }
+    }
+
+    /// What bytes present to this service at a moment, up to the time that they tell (RFC 4120, section 3.2.3). The skew
+    /// is in microseconds, a day at most.
+    pub fn receive(
+        &self,
+        alloc: Global,
+        skew: u64,
+        moment: Moment,
+        bytes: &[u8],
+    ) -> Result<Presented, AdmitRefusal>
+        requires { skew ≤ 86400000000 }
+        ensures received { Receives self.now skew moment bytes.now result }
+        ensures keyed { IfOk result HasSessionKey }
+    {
+        let Some(request) = read_ap_req(alloc, bytes)? else {
+            return Err(AdmitRefusal::Unreadable);
+        };
+        let judged = self.judge(alloc, skew, moment, &request);
+        drop(request);
+        Ok(judged?)
+    }
+
+    // Judges a request at a moment.
+    fn judge(
+        &self,
+        alloc: Global,
+        skew: u64,
+        moment: Moment,
+        request: &ApReqInner,
+    ) -> Result<Presented, Refusal>
+        requires { skew ≤ 86400000000 }
+        ensures { IsJudged (presented self.now skew moment request.now).gives result }
+    {
+        check_address(
+            &self.realm,
+            self.components.as_slice(),
+            self.key.suite(),
+            self.number,
+            request,
+        )?;
+        let part = check_ticket(
+            alloc,
+            &self.key,
+            skew,
+            moment,
+            &request.ticket.0.0.enc_part.0,
+        )?;
+        check_presented(alloc, request, part)
+    }
+}

@@ -1,0 +1,32 @@
+//! Granting a ticket, in an AS or a TGS exchange (RFC 4120, sections 3.1.3, 3.3.3).
+
+ghost use Rattle.std.specs.Prelude.{◌≤◌, length, IfOk};
+ghost use Rattle.krb_tickets.specs.Granted.{IsTicketReply, reply_key_of};
+
+use crate::confounder_at;
+use crate::grant::{Grant, sealed_ticket};
+use crate::reply::{ReplyKey, reply_bytes, sealed_reply};
+use krb_accounts::Account;
+use krb_types::constants::random_bytes::{REPLY_CONFOUNDER, TICKET_CONFOUNDER};
+use std::alloc::{AllocError, Global};
+
+/// The reply with the ticket (RFC 4120, section 5.4.2): the ticket's part under the service's key, with its number, and the
+/// reply's part under the reply key. The ticket's confounder and the reply's are random bytes in their places. Memory is the
+/// only refusal.
+pub fn ticket_reply(
+    alloc: Global,
+    grant: &Grant,
+    under: &ReplyKey<'_>,
+    service: &Account,
+    words: &[u8],
+) -> Result<Vec<u8>, AllocError>
+    requires { 128 ≤ length words.now }
+    ensures { IfOk result (λ bytes. IsTicketReply grant.now (reply_key_of under.now) service.now words.now bytes.items) }
+{
+    let confounder = confounder_at(service.suite(), words, TICKET_CONFOUNDER);
+    let ticket = sealed_ticket(alloc, grant, service, confounder)?;
+    let confounder = confounder_at(under.key.suite(), words, REPLY_CONFOUNDER);
+    let part = sealed_reply(alloc, grant, under, confounder)?;
+    let bytes = reply_bytes(alloc, under.exchange, under.pk_as_rep, grant, ticket, part)?;
+    Ok(bytes)
+}

@@ -1,4 +1,0 @@
-pub mod HeldLaws
-pub mod KindLaws
-pub mod Kinds
-pub mod OidLaws

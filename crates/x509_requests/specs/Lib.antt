@@ -1,2 +1,0 @@
-pub mod AttributesAdded
-pub mod Requests
