@@ -40,7 +40,7 @@ use Rattle.krb_tickets.specs.ReplyKeys.{ReplyKeyRecord, tgs_reply_key}
 use Rattle.krb_tickets.specs.Sealed.{ticket_part_bytes}
 use Rattle.krb_tickets.specs.Times.{asked_end, end_of, last_second, start_of}
 use Rattle.krb_tickets.specs.Granted.{IsTicketReply}
-use Rattle.krb_ap_requests.specs.ApTable.{ap_fields, is_early, is_for, is_late, may_be_under, opened, opened_part, timely, told}
+use Rattle.krb_ap_requests.specs.ApTable.{ap_fields, is_early, is_for, is_late, kvno_fits, opened, opened_part, timely, told}
 use Rattle.krb_ap_requests.specs.Entry.{EntryRecord}
 use Rattle.krb_ap_requests.specs.Messages.{IsAuthenticator, IsTicketPart, sole_authenticator, sole_ticket_part}
 use Rattle.krb_ap_requests.specs.Presents.{request_of}
@@ -239,7 +239,7 @@ module _ (client : ClientRecord) (means : MeansRecord) (realm : RealmRecord) (ro
     components = krbtgt_of realm.name;
     suite = met.granting.account.suite;
     key = met.granting.account.key;
-    number = met.granting.account.number;
+    kvno = met.granting.account.kvno;
   }
 
   abbrev body : KdcReqBody
@@ -301,18 +301,18 @@ module _ (client : ClientRecord) (means : MeansRecord) (realm : RealmRecord) (ro
           held.sealed held.ticket held.suite held.key asks realm_is (granting_texts client.realm met.parties.realm)
 
       -- the ticket is for the ticket-granting service, which opens it
-      for_us : (ap_fields realm.name (krbtgt_of realm.name) entry.number presented).gives (Ok tt)
+      for_us : (ap_fields realm.name (krbtgt_of realm.name) entry.kvno presented).gives (Ok tt)
       for_us =
           by_refuse {T = Unit {0}} {E = ℕ} (not (is_for realm.name (krbtgt_of realm.name) presented.ticket.0.0)) 35
-          (refuse (not (may_be_under entry.number presented.ticket.0.0.enc_part.0)) 44 (done (Ok tt))) (Ok tt)
+          (refuse (not (kvno_fits entry.kvno presented.ticket.0.0.enc_part.0)) 44 (done (Ok tt))) (Ok tt)
           (ap not (and_from (is_same_realm realm.name realm.name) (is_same_name (krbtgt_of client.realm) (krbtgt_of realm.name)) (own_realm realm.name)
           (same_name (krbtgt_of client.realm) (krbtgt_of realm.name) (ap krbtgt_of met.honest.named.client))))
-          (by_refuse {T = Unit {0}} {E = ℕ} (not (may_be_under entry.number presented.ticket.0.0.enc_part.0)) 44 (done (Ok tt)) (Ok tt) (ap not (own_number entry.number)) refl)
+          (by_refuse {T = Unit {0}} {E = ℕ} (not (kvno_fits entry.kvno presented.ticket.0.0.enc_part.0)) 44 (done (Ok tt)) (Ok tt) (ap not (own_number entry.kvno)) refl)
 
       is_part : IsTicketPart entry.suite entry.key presented.ticket.0.0.enc_part.0 (ticket_part old)
       unfolding ticket_part_bytes
       is_part =
-          sealed_opens {T = EncTicketPartInner} enc_ticket_part_tree (ticket_part old) entry.suite entry.key (Some entry.number) 2 (ticket_confounder (cipher_confounder_size entry.suite) login.realm_random_as)
+          sealed_opens {T = EncTicketPartInner} enc_ticket_part_tree (ticket_part old) entry.suite entry.key (Some entry.kvno) 2 (ticket_confounder (cipher_confounder_size entry.suite) login.realm_random_as)
           (ticket_part_bytes (ticket_part old)) presented.ticket.0.0.enc_part.0
           (whole_part old realm_is (component_texts client.components met.parties.name), refl)
           (record { cipher = held.sealed.cipher; seals = held.sealed.seals; told = refl })

@@ -39,7 +39,7 @@ use Rattle.krb_kdc_requests.proofs.PartTrees.{realm_tree}
 use Rattle.krb_kdc_requests.proofs.RequestTrees.{body_fits, entry_short, nonce_fits, service_fits}
 use Rattle.krb_kdc_requests.proofs.Short.{Fits}
 use Rattle.krb_kdc_requests.proofs.Written.{IsWritten, is_written, own_realm_fits, session_short}
-use Rattle.krb_ap_requests.specs.ApTable.{ap_fields, authenticated, is_early, is_for, is_late, is_version_5, may_be_under, opened_part, timely}
+use Rattle.krb_ap_requests.specs.ApTable.{ap_fields, authenticated, is_early, is_for, is_late, is_version_5, kvno_fits, opened_part, timely}
 use Rattle.krb_encrypted_data.proofs.KeySizes.{suite_sized}
 use Rattle.krb_ap_requests.proofs.Judgements.{has_authenticated, has_fields, has_opened_part, has_times}
 use Rattle.krb_tgs.specs.ByTicket.{IsByTicket}
@@ -69,9 +69,9 @@ has_ticket_granting : (call : CallRecord) (granting : AccountRecord) (presented 
 has_ticket_granting call granting presented =
     let end : EncTicketPartInner → Table (Result EncTicketPartInner ℕ) = λ part. and_then {A = Unit {0}} (counting call part) (λ _. done (Ok part)) in
     let opened : Table (Result EncTicketPartInner ℕ) = opened_part granting.suite granting.key presented.ticket.0.0.enc_part.0 in
-    has_then {A = Unit {0}} (ap_fields call.realm (krbtgt_of call.realm) granting.number presented) (λ _. and_then opened end)
+    has_then {A = Unit {0}} (ap_fields call.realm (krbtgt_of call.realm) granting.kvno presented) (λ _. and_then opened end)
     (has_fields (not (is_version_5 presented)) (not (is_number 14 presented.msg_type.0)) (not (is_for call.realm (krbtgt_of call.realm) presented.ticket.0.0))
-    (not (may_be_under granting.number presented.ticket.0.0.enc_part.0)))
+    (not (kvno_fits granting.kvno presented.ticket.0.0.enc_part.0)))
     (λ _ x.
     has_then opened end (has_opened_part granting.suite granting.key presented.ticket.0.0.enc_part.0)
     (λ part y. has_then {A = Unit {0}} (counting call part) (λ _. done (Ok part)) (has_counting call part) (λ _ z. has_done (Ok part))))

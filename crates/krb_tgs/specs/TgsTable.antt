@@ -65,7 +65,7 @@ counting call part =
 -- the part of a ticket for the realm's ticket-granting service
 abbrev pub ticket_granting : CallRecord → AccountRecord → ApReqInner → Table (Result EncTicketPartInner Code)
 ticket_granting call granting presented =
-    and_then (ap_fields call.realm (krbtgt_of call.realm) granting.number presented) (λ _.
+    and_then (ap_fields call.realm (krbtgt_of call.realm) granting.kvno presented) (λ _.
     and_then (opened_part granting.suite granting.key presented.ticket.0.0.enc_part.0) (λ part.
     and_then (counting call part) (λ _.
     done (Ok part))))

@@ -56,24 +56,24 @@ pub(crate) fn open_ticket_granting(
 ) -> Result<EncTicketPartInner, Refusal>
     ensures { IsJudged (ticket_granting (call_of call.now) granting.now presented.now).gives result }
 {
-    check_name(alloc, call.realm, granting.number(), presented)?;
+    check_name(alloc, call.realm, granting.kvno(), presented)?;
     let sealed = &presented.ticket.0.0.enc_part.0;
     let part = open_ticket(alloc, granting.key(), sealed)?;
     let judged = check_counting(call, &part);
     if_passed(part, judged)
 }
 
-// Judges whether the request presents a ticket for this realm's ticket-granting service, under its key of this number.
+// Judges whether the request presents a ticket for this realm's ticket-granting service, under its key of this kvno.
 fn check_name(
     alloc: Global,
     realm: &GeneralStringAsn1,
-    number: u32,
+    kvno: u32,
     presented: &ApReqInner,
 ) -> Result<(), Refusal>
-    ensures { IsJudged (ap_fields realm.now (krbtgt_of realm.now) number presented.now).gives result }
+    ensures { IsJudged (ap_fields realm.now (krbtgt_of realm.now) kvno presented.now).gives result }
 {
     let name = krbtgt_of(alloc, realm)?;
-    check_fields(realm, &name, number, presented)
+    check_fields(realm, &name, kvno, presented)
 }
 
 // Judges whether the ticket is of a client of the realm, and counts at the moment.

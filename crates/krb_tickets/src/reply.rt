@@ -47,7 +47,7 @@ pub struct ReplyKey<'a> {
     /// The key.
     pub key: &'a Key,
     /// The kvno, if there is one.
-    pub number: Option<u32>,
+    pub kvno: Option<u32>,
     /// What the key is used for (RFC 4120, section 7.5.1).
     pub usage: i32,
     /// The data of PA-PK-AS-REP, if client and realm agreed on the key.
@@ -64,7 +64,7 @@ impl<'a> ReplyKey<'a> {
         ReplyKey {
             exchange: Exchange::As,
             key: client.key(),
-            number: Some(client.number()),
+            kvno: Some(client.kvno()),
             usage: key_usages::AS_REP,
             pk_as_rep: None,
         }
@@ -77,7 +77,7 @@ impl<'a> ReplyKey<'a> {
         ReplyKey {
             exchange: Exchange::Tgs,
             key,
-            number: None,
+            kvno: None,
             usage: key_usages::TGS_REP_SESSION_KEY,
             pk_as_rep: None,
         }
@@ -90,7 +90,7 @@ impl<'a> ReplyKey<'a> {
         ReplyKey {
             exchange: Exchange::Tgs,
             key,
-            number: None,
+            kvno: None,
             usage: key_usages::TGS_REP_SUBKEY,
             pk_as_rep: None,
         }
@@ -103,7 +103,7 @@ impl<'a> ReplyKey<'a> {
         ReplyKey {
             exchange: Exchange::As,
             key,
-            number: None,
+            kvno: None,
             usage: key_usages::AS_REP,
             pk_as_rep: Some(pk_as_rep),
         }
@@ -126,7 +126,7 @@ pub fn sealed_reply(
     let sealed = sealed_data(
         alloc,
         under.key,
-        under.number,
+        under.kvno,
         under.usage,
         confounder,
         &plain,
