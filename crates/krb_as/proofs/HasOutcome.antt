@@ -14,7 +14,7 @@ use Rattle.krb_messages.specs.declared.messages.kdc_req_body.KdcReqBody.{KdcReqB
 use Rattle.decision_tables.specs.Tables.{Table, and_then, ask, done, need, refuse}
 use Rattle.decision_tables.proofs.Outcomes.{HasOutcome, has_asked, has_done, has_needed, has_refused, has_then}
 use Rattle.krb_preauth.specs.Entries.{first_of}
-use Rattle.krb_preauth.specs.Stamps.{IsStamp, moment_of, sole_stamp}
+use Rattle.krb_preauth.specs.EncryptedTimestamps.{IsEncryptedTimestamp, moment_of, sole_encrypted_timestamp}
 use Rattle.krb_tickets.specs.declared.reply.Exchange.TheVariants.{As}
 use Rattle.aes_cts.specs.Bytes.{IsBytes}
 use Rattle.krb_crypto.specs.Suites.{cipher_key_size}
@@ -62,15 +62,15 @@ has_near None far = has_done (Err 24)
 has_near (Some time) far = has_refused {T = Unit {0}} (far time) 37 (done (Ok tt)) (λ _. has_done (Ok tt))
 
 abbrev near : CallRecord → PaEncTsEnc → Table (Result (Unit {0}) ℕ)
-near call stamp = need (moment_of stamp) 24 (λ time. refuse (is_far (skew_of call) call.moment time) 37 (done (Ok tt)))
+near call timestamp = need (moment_of timestamp) 24 (λ time. refuse (is_far (skew_of call) call.moment time) 37 (done (Ok tt)))
 
-abbrev stamped : CallRecord → AccountRecord → List ℕ → Table (Result (Unit {0}) ℕ)
-stamped call client entry = ask (IsStamp client entry) (sole_stamp client entry) (done (Err 24)) (near call)
+abbrev encrypted_timestamp : CallRecord → AccountRecord → List ℕ → Table (Result (Unit {0}) ℕ)
+encrypted_timestamp call client entry = ask (IsEncryptedTimestamp client entry) (sole_encrypted_timestamp client entry) (done (Err 24)) (near call)
 
 has_timestamped : (call : CallRecord) (client : AccountRecord) (entries : List PaData) → HasOutcome (timestamped call client entries)
 has_timestamped call client entries =
-    has_needed (first_of 2 entries) 25 (stamped call client)
-    (λ entry e. has_asked (IsStamp client entry) (sole_stamp client entry) (done (Err 24)) (near call) (has_done (Err 24)) (λ stamp x. has_near (moment_of stamp) (is_far (skew_of call) call.moment)))
+    has_needed (first_of 2 entries) 25 (encrypted_timestamp call client)
+    (λ entry e. has_asked (IsEncryptedTimestamp client entry) (sole_encrypted_timestamp client entry) (done (Err 24)) (near call) (has_done (Err 24)) (λ timestamp x. has_near (moment_of timestamp) (is_far (skew_of call) call.moment)))
 
 -- the client is authenticated by a timestamp or by certificate, or refused
 module _ (call : CallRecord) (rows : PkinitRows) (client : AccountRecord) (name : List (List ℕ)) (request : KdcReq) where

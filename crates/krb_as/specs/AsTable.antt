@@ -17,7 +17,7 @@ use Rattle.krb_messages.specs.declared.messages.kdc_req.KdcReq.{KdcReq}
 use Rattle.krb_messages.specs.declared.messages.kdc_req_body.KdcReqBody.{KdcReqBody}
 use Rattle.decision_tables.specs.Tables.{Table, and_then, ask, done, need, refuse}
 use Rattle.krb_preauth.specs.Entries.{first_of}
-use Rattle.krb_preauth.specs.Stamps.{IsStamp, moment_of, sole_stamp}
+use Rattle.krb_preauth.specs.EncryptedTimestamps.{IsEncryptedTimestamp, moment_of, sole_encrypted_timestamp}
 use Rattle.krb_tickets.specs.ReplyKeys.{ReplyKeyRecord, agreed_reply_key, as_reply_key}
 use Rattle.krb_crypto.specs.AgreedKeys.{agreed_key}
 use Rattle.krb_pkinit.specs.Rows.{PkinitRows}
@@ -46,8 +46,8 @@ possible call suite body =
 abbrev pub timestamped : CallRecord → AccountRecord → List PaData → Table (Result (Unit {0}) Code)
 timestamped call client entries =
     need (first_of 2 entries) KDC_ERR_PREAUTH_REQUIRED (λ entry.
-    ask (IsStamp client entry) (sole_stamp client entry) (done (Err KDC_ERR_PREAUTH_FAILED)) (λ stamp.
-    need (moment_of stamp) KDC_ERR_PREAUTH_FAILED (λ time.
+    ask (IsEncryptedTimestamp client entry) (sole_encrypted_timestamp client entry) (done (Err KDC_ERR_PREAUTH_FAILED)) (λ timestamp.
+    need (moment_of timestamp) KDC_ERR_PREAUTH_FAILED (λ time.
     refuse (is_far (skew_of call) call.moment time) KRB_AP_ERR_SKEW
     (done (Ok tt)))))
 

@@ -12,7 +12,7 @@ use krb_kdc_requests::{Call, Span, entries_of, lasting};
 use krb_messages::messages::{KdcReq, KdcReqBody};
 use krb_moments::MICROSECONDS_IN_SECOND;
 use krb_pkinit::{Agreed, Pkinit, PkinitCall};
-use krb_preauth::{first_of, moment_of, open_stamp};
+use krb_preauth::{first_of, moment_of, open_encrypted_timestamp};
 use krb_types::Refusal;
 use krb_types::constants::error_codes;
 use krb_types::constants::types::{PA_ENC_TIMESTAMP, PA_PK_AS_REQ};
@@ -144,11 +144,11 @@ fn check_timestamp(
     let Some(entry) = first_of(entries, PA_ENC_TIMESTAMP) else {
         return Err(Refusal::Krb(error_codes::KDC_ERR_PREAUTH_REQUIRED));
     };
-    let Some(stamp) = open_stamp(alloc, client, entry.as_bytes())? else {
+    let Some(timestamp) = open_encrypted_timestamp(alloc, client, entry.as_bytes())? else {
         return Err(Refusal::Krb(error_codes::KDC_ERR_PREAUTH_FAILED));
     };
-    let told = moment_of(&stamp);
-    drop(stamp);
+    let told = moment_of(&timestamp);
+    drop(timestamp);
     let Some(time) = told else {
         return Err(Refusal::Krb(error_codes::KDC_ERR_PREAUTH_FAILED));
     };
