@@ -15,7 +15,7 @@ use Rattle.krb_types.specs.declared.data_types.pa_enc_timestamp.PaEncTsEnc.{PaEn
 use Rattle.decision_tables.specs.Tables.{done}
 use Rattle.krb_client.specs.Means.{MeansRecord}
 use Rattle.krb_client.specs.Messages.{encrypted_bytes, timestamp_bytes}
-use Rattle.krb_client.specs.Requests.{entry_of}
+use Rattle.krb_client.specs.Requests.{pa_data_of}
 use Rattle.krb_encrypted_data.specs.Sealing.{Seals, sole_seals}
 
 -- the client's time, its microseconds always with it
@@ -42,14 +42,14 @@ sole_sealed_time suite key moment confounder a b x y =
 pub record IsPaEncTimestamp (suite : CipherSuite) (key : Bytes) (moment : Micros) (random : Random) (padata : PaData) : Type 0 where
   pub encrypted_timestamp : EncryptedData
   pub sealed_time : IsSealedTime suite key moment (timestamp_confounder (cipher_confounder_size suite) random) encrypted_timestamp
-  pub entry : padata ≡ entry_of 2 (encrypted_bytes encrypted_timestamp)
+  pub made : padata ≡ pa_data_of 2 (encrypted_bytes encrypted_timestamp)
 
 pub sole_pa_enc_timestamp : (suite : CipherSuite) (key : Bytes) (moment : Micros) (random : Random) (a b : PaData)
     → IsPaEncTimestamp suite key moment random a → IsPaEncTimestamp suite key moment random b → a ≡ b
 sole_pa_enc_timestamp suite key moment random a b x y =
-    x.entry
-    ∙ ap (λ encrypted_timestamp. entry_of 2 (encrypted_bytes encrypted_timestamp)) (sole_sealed_time suite key moment (timestamp_confounder (cipher_confounder_size suite) random) x.encrypted_timestamp y.encrypted_timestamp x.sealed_time y.sealed_time)
-    ∙ sym y.entry
+    x.made
+    ∙ ap (λ encrypted_timestamp. pa_data_of 2 (encrypted_bytes encrypted_timestamp)) (sole_sealed_time suite key moment (timestamp_confounder (cipher_confounder_size suite) random) x.encrypted_timestamp y.encrypted_timestamp x.sealed_time y.sealed_time)
+    ∙ sym y.made
 
 -- by a key of a suite
 abbrev pub by_key : CipherSuite → Bytes → MeansRecord

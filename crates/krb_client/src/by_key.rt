@@ -1,11 +1,11 @@
 //! Authenticating by a key.
 ghost use Rattle.std.specs.Prelude.{◌≡◌, ◌≤◌, length, IfOk};
 ghost use Rattle.krb_client.specs.Messages.{encrypted_bytes, timestamp_bytes};
-ghost use Rattle.krb_client.specs.Requests.{entry_of};
+ghost use Rattle.krb_client.specs.Requests.{pa_data_of};
 ghost use Rattle.krb_client.specs.EncryptedTimestamps.{IsSealedTime, IsPaEncTimestamp, timestamp_of};
 ghost use Rattle.krb_crypto.specs.Suites.{cipher_confounder_size};
 
-use crate::kdc_request::entry_of;
+use crate::kdc_request::pa_data_of;
 use crate::{AskRefusal, Client, Means, TakeRefusal};
 use krb_asked::AsAsked;
 use krb_crypto::Key;
@@ -109,8 +109,8 @@ fn timestamp_bytes(
 // The padata with the sealed time.
 #[tactic(auto, unfolding(crate::specs::Messages::encrypted_bytes))]
 fn timestamp_padata(alloc: Global, encrypted_timestamp: EncryptedData) -> Result<PaData, AllocError>
-    ensures { IfOk result (λ padata. padata ≡ entry_of 2 (encrypted_bytes encrypted_timestamp)) }
+    ensures { IfOk result (λ padata. padata ≡ pa_data_of 2 (encrypted_bytes encrypted_timestamp)) }
 {
     let value = encoding_of(alloc, encrypted_timestamp)?;
-    entry_of(alloc, PA_ENC_TIMESTAMP, value)
+    pa_data_of(alloc, PA_ENC_TIMESTAMP, value)
 }

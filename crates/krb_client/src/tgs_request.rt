@@ -7,7 +7,7 @@ ghost use Rattle.krb_crypto.specs.Suites.{cipher_confounder_size};
 ghost use Rattle.krb_client.specs.TgsRequest.{AsksTgs, Authenticates, checksum_over, tgs_asked, tgs_body_bytes, tgs_request_of};
 
 use crate::authenticator::ap_request;
-use crate::kdc_request::{entry_of, kdc_request_of, nonce_of};
+use crate::kdc_request::{kdc_request_of, nonce_of, pa_data_of};
 use crate::{AskRefusal, Client, Credential};
 use krb_accounts::{are_components, components_of};
 use krb_asked::TgsAsked;
@@ -136,10 +136,10 @@ impl Client {
     ) -> Result<KdcReq, AllocError>
         ensures { IfOk result (λ made. made ≡ tgs_request_of self.now service.now till nonce request.items) }
     {
-        let entry = entry_of(alloc, PA_TGS_REQ, request);
+        let pa_data = pa_data_of(alloc, PA_TGS_REQ, request);
         let body = self.request_body(alloc, false, service, till, nonce);
-        let (entry, body) = both(entry, body)?;
-        kdc_request_of(alloc, TGS_REQ_MSG_TYPE, entry, body)
+        let (pa_data, body) = both(pa_data, body)?;
+        kdc_request_of(alloc, TGS_REQ_MSG_TYPE, pa_data, body)
     }
 }
 

@@ -16,18 +16,18 @@ use Rattle.krb_accounts.specs.Account.{AccountRecord}
 use Rattle.decision_tables.specs.Tables.{Table, ask, done, need, refuse}
 use Rattle.krb_encrypted_data.specs.Sealing.{sealed_opens}
 use Rattle.krb_pkinit.specs.Rows.{PkinitRows}
-use Rattle.krb_preauth.specs.Entries.{first_entry, first_of}
+use Rattle.krb_preauth.specs.Padata.{first_padata, first_of}
 use Rattle.krb_preauth.specs.EncryptedTimestamps as preauth
 use Rattle.krb_preauth.specs.EncryptedTimestamps.{moment_of, sole_encrypted_timestamp, timestamp_tree}
 use Rattle.krb_tickets.specs.ReplyKeys.{ReplyKeyRecord, as_reply_key}
 use Rattle.krb_as.specs.AsTable.{authenticated, authenticated_by, timestamped}
 use Rattle.krb_kdc_requests.specs.Call.{CallRecord, skew_of}
 use Rattle.krb_kdc_requests.specs.Calls.{AreKeyed}
-use Rattle.krb_kdc_requests.specs.Requests.{entries_of}
+use Rattle.krb_kdc_requests.specs.Requests.{padata_in}
 use Rattle.krb_client.specs.AsRequest.{as_request_of}
 use Rattle.krb_client.specs.Client.{ClientRecord}
 use Rattle.krb_client.specs.Messages.{encrypted_bytes, timestamp_bytes}
-use Rattle.krb_client.specs.Requests.{entry_of}
+use Rattle.krb_client.specs.Requests.{pa_data_of}
 use Rattle.krb_client.specs.EncryptedTimestamps.{IsSealedTime, IsPaEncTimestamp, by_key, timestamp_of}
 use Rattle.krb_service.specs.Service.{ServiceRecord}
 use Rattle.krb_logins.specs.Authenticated.{IsAgreedKey, IsAuthenticated, first_asked, first_body}
@@ -42,13 +42,13 @@ use Rattle.krb_logins.proofs.Times.{lesser, moment_told, near}
 use Rattle.krb_logins.proofs.WholeRequests.{writes_encrypted, writes_timestamp}
 
 -- the first entry is the only one
-no_pkinit : (value : Bytes) → first_of 16 (entry_of 2 value ∷ []) ≡ None
-unfolding first_of first_entry
+no_pkinit : (value : Bytes) → first_of 16 (pa_data_of 2 value ∷ []) ≡ None
+unfolding first_of first_padata
 no_pkinit value = refl
 
-own_entry : (value : Bytes) → first_of 2 (entry_of 2 value ∷ []) ≡ Some value
-unfolding first_of first_entry
-own_entry value = refl
+own_padata : (value : Bytes) → first_of 2 (pa_data_of 2 value ∷ []) ≡ Some value
+unfolding first_of first_padata
+own_padata value = refl
 
 timestamp_told : (second : GeneralizedTime) (moment : Micros) → seconds_of second ≡ moment / 1000000 → moment_of (timestamp_of second (moment % 1000000)) ≡ Some moment
 unfolding moment_of
@@ -68,8 +68,8 @@ timestamp_opens suite key account moment confounder sealed same_suite same_key i
     }
 
 module _ (call : CallRecord) (account : AccountRecord) (value : Bytes) (timestamp : PaEncTsEnc) (moment : Micros) where
-  abbrev entries : List PaData
-  entries = entry_of 2 value ∷ []
+  abbrev padata : List PaData
+  padata = pa_data_of 2 value ∷ []
 
   abbrev near_row : Micros → Table (Result (Unit {0}) ℕ)
   near_row time = refuse (is_far (skew_of call) call.moment time) 37 (done (Ok tt))
@@ -78,23 +78,23 @@ module _ (call : CallRecord) (account : AccountRecord) (value : Bytes) (timestam
   told_row own = need (moment_of own) 24 near_row
 
   abbrev timestamp_row : Bytes → Table (Result (Unit {0}) ℕ)
-  timestamp_row entry = ask (preauth.IsEncryptedTimestamp account entry) (sole_encrypted_timestamp account entry) (done (Err 24)) told_row
+  timestamp_row bytes = ask (preauth.IsEncryptedTimestamp account bytes) (sole_encrypted_timestamp account bytes) (done (Err 24)) told_row
 
   shown_in_time : preauth.IsEncryptedTimestamp account value timestamp → moment_of timestamp ≡ Some moment → is_far (skew_of call) call.moment moment ≡ false
-      → (timestamped call account entries).gives (Ok tt)
+      → (timestamped call account padata).gives (Ok tt)
   shown_in_time is told in_time =
-      by_need {T = Unit {0}} {E = ℕ} (first_of 2 entries) 25 timestamp_row value (Ok tt) (own_entry value)
+      by_need {T = Unit {0}} {E = ℕ} (first_of 2 padata) 25 timestamp_row value (Ok tt) (own_padata value)
       (by_ask (preauth.IsEncryptedTimestamp account value) (sole_encrypted_timestamp account value) (done (Err 24)) told_row timestamp (Ok tt) is
       (by_need {T = Unit {0}} {E = ℕ} (moment_of timestamp) 24 near_row moment (Ok tt) told
       (by_refuse {T = Unit {0}} {E = ℕ} (is_far (skew_of call) call.moment moment) 37 (done (Ok tt)) (Ok tt) in_time refl)))
 
 -- a client that shows its key in time, without PA-PK-AS-REQ, is replied to under that key
-own_key : (call : CallRecord) (rows : PkinitRows) (account : AccountRecord) (name : List Bytes) (request : KdcReq) → first_of 16 (entries_of request) ≡ None
-    → (timestamped call account (entries_of request)).gives (Ok tt) → (r : Result ReplyKeyRecord ℕ) → (authenticated call rows account name request).gives r
+own_key : (call : CallRecord) (rows : PkinitRows) (account : AccountRecord) (name : List Bytes) (request : KdcReq) → first_of 16 (padata_in request) ≡ None
+    → (timestamped call account (padata_in request)).gives (Ok tt) → (r : Result ReplyKeyRecord ℕ) → (authenticated call rows account name request).gives r
     → r ≡ Ok (as_reply_key account)
 own_key call rows account name request none shown r x =
     let timed = subst (λ padata. (authenticated_by call rows account name request padata).gives r) none x in
-    past_then {A = Unit {0}} {T = ReplyKeyRecord} (timestamped call account (entries_of request)) (λ _. done (Ok (as_reply_key account))) tt r shown timed
+    past_then {A = Unit {0}} {T = ReplyKeyRecord} (timestamped call account (padata_in request)) (λ _. done (Ok (as_reply_key account))) tt r shown timed
 
 module _ (client : ClientRecord) (key : Bytes) (realm : RealmRecord) (rows : PkinitRows) (service : ServiceRecord) (before : RememberedRecord) (login : LoginRecord)
     (by : IsHonestByPassword client key realm service before login) where
@@ -113,7 +113,7 @@ module _ (client : ClientRecord) (key : Bytes) (realm : RealmRecord) (rows : Pki
       (lesser (realm.settings.skew * 1000000) service.seen.skew)
 
   shown : (sealed : EncryptedData) → IsSealedTime client.suite key login.client_as confounder sealed
-      → (timestamped call account (entry_of 2 (encrypted_bytes sealed) ∷ [])).gives (Ok tt)
+      → (timestamped call account (pa_data_of 2 (encrypted_bytes sealed) ∷ [])).gives (Ok tt)
   shown sealed it =
       shown_in_time call account (encrypted_bytes sealed) (timestamp_of it.second (login.client_as % 1000000)) login.client_as
       (timestamp_opens client.suite key account login.client_as confounder sealed by.honest.client.suite by.shared it)
@@ -131,7 +131,7 @@ module _ (client : ClientRecord) (key : Bytes) (realm : RealmRecord) (rows : Pki
       → (authenticated call rows account client.components (as_request_of padata (first_body client login))).gives r → r ≡ Ok (as_reply_key account)
   replied_under padata it r x =
       let own = subst (λ p. (authenticated call rows account client.components (as_request_of p (first_body client login))).gives r) it.entry x in
-      own_key call rows account client.components (as_request_of (entry_of 2 (encrypted_bytes it.encrypted_timestamp)) (first_body client login)) (no_pkinit (encrypted_bytes it.encrypted_timestamp))
+      own_key call rows account client.components (as_request_of (pa_data_of 2 (encrypted_bytes it.encrypted_timestamp)) (first_body client login)) (no_pkinit (encrypted_bytes it.encrypted_timestamp))
       (shown it.encrypted_timestamp it.sealed_time) r own
 
   pub authenticated_by_key : IsAuthenticated client (by_key client.suite key) realm rows account login

@@ -2,11 +2,11 @@
 #![tactic(auto)]
 
 mod encrypted_timestamp;
-mod entries;
 mod methods;
 mod names;
+mod padata;
 
 pub use encrypted_timestamp::{moment_of, open_encrypted_timestamp};
-pub use entries::first_of;
 pub use methods::{method_data, pa_data};
 pub use names::krbtgt_of;
+pub use padata::first_of;

@@ -33,14 +33,14 @@ pub(crate) fn check_request(realm: &GeneralStringAsn1, request: &KdcReq) -> Resu
     Ok(())
 }
 
-/// The AP request that the first entry of type 1 is.
-pub(crate) fn carried(alloc: Global, entries: &[PaData]) -> Result<ApReqInner, Refusal>
-    ensures { IsJudged (carried entries.now).gives result }
+/// The AP request that the first padata of type 1 is.
+pub(crate) fn carried(alloc: Global, padata: &[PaData]) -> Result<ApReqInner, Refusal>
+    ensures { IsJudged (carried padata.now).gives result }
 {
-    let Some(entry) = first_of(entries, PA_TGS_REQ) else {
+    let Some(value) = first_of(padata, PA_TGS_REQ) else {
         return Err(Refusal::Krb(error_codes::KDC_ERR_PADATA_TYPE_NOSUPP));
     };
-    let Some(presented) = read_ap_req(alloc, entry.as_bytes())? else {
+    let Some(presented) = read_ap_req(alloc, value.as_bytes())? else {
         return Err(Refusal::Krb(error_codes::KRB_AP_ERR_MODIFIED));
     };
     Ok(presented)
