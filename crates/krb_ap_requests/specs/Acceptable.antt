@@ -7,6 +7,7 @@ use Rattle.krb_crypto.specs.declared.suite.CipherSuite.{CipherSuite}
 use Rattle.krb_crypto.specs.Suites.{cipher_key_size, cipher_number}
 use Rattle.krb_encrypted_data.specs.Keys.{suite_of}
 use Rattle.krb_types.specs.Names.{components, is_same_name, is_same_realm}
+use Rattle.krb_types.specs.declared.constants.ap_options.TheConstants.{MUTUAL_REQUIRED, USE_SESSION_KEY}
 use Rattle.picky_asn1.specs.Numbers.{is_number}
 use Rattle.krb_moments.specs.Times.{moment_at}
 use Rattle.krb_moments.specs.Units.{Micros}
@@ -19,7 +20,7 @@ use Rattle.krb_ap_requests.specs.declared.presented.Presented.{Presented}
 -- ticket's client; `suite` is that of the session key, and `time` the moment that the authenticator tells
 pub record IsAcceptable (entry : EntryRecord) (skew moment : Micros) (choice : Choice) : Type 0 where
   pub keyed : length entry.key ≡ cipher_key_size entry.suite
-  pub method : bit_of choice.outer.options 1 ≡ false
+  pub method : bit_of choice.outer.options USE_SESSION_KEY ≡ false
   pub version : is_number 5 choice.outer.pvno ≡ true
   pub ticket_version : is_number 5 choice.outer.tkt_vno ≡ true
   pub kind : is_number 14 choice.outer.msg_type ≡ true
@@ -44,7 +45,7 @@ shown_by choice suite time = record {
   suite = suite;
   authenticator = choice.authenticator;
   time = time;
-  wants_reply = bit_of choice.outer.options 2;
+  wants_reply = bit_of choice.outer.options MUTUAL_REQUIRED;
 }
 
 -- what a choice presents that is acceptable

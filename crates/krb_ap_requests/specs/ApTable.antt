@@ -15,6 +15,8 @@ use Rattle.krb_encrypted_data.specs.Keys.{suite_of}
 use Rattle.krb_types.specs.Names.{components, is_same_name, is_same_realm}
 use Rattle.krb_types.specs.Refusals.{Code}
 use Rattle.krb_types.specs.declared.constants.error_codes.TheConstants.{KRB_AP_ERR_BAD_INTEGRITY, KRB_AP_ERR_TKT_EXPIRED, KRB_AP_ERR_TKT_NYV, KRB_AP_ERR_NOT_US, KRB_AP_ERR_BADMATCH, KRB_AP_ERR_BADVERSION, KRB_AP_ERR_MSG_TYPE, KRB_AP_ERR_MODIFIED, KRB_AP_ERR_BADKEYVER, KRB_AP_ERR_NOKEY, KRB_AP_ERR_METHOD}
+use Rattle.krb_types.specs.declared.constants.ap_options.TheConstants.{MUTUAL_REQUIRED, USE_SESSION_KEY}
+use Rattle.krb_types.specs.declared.constants.ticket_flags.TheConstants.{INVALID}
 use Rattle.picky_asn1.specs.Numbers.{is_number}
 use Rattle.picky_asn1.specs.Bytes.{Bytes}
 use Rattle.decision_tables.specs.Tables.{Table, done, ask, and_then, need, refuse}
@@ -50,7 +52,7 @@ ap_fields realm name kvno request =
 -- the request isn't under a session key, it is for this service, and sealed as this service can open it
 abbrev pub for_service : Bytes → List Bytes → CipherSuite → ℕ → ApReqInner → Table (Result (Unit {0}) Code)
 for_service realm name suite kvno request =
-    refuse (bit_of request.ap_options.0 1) KRB_AP_ERR_METHOD
+    refuse (bit_of request.ap_options.0 USE_SESSION_KEY) KRB_AP_ERR_METHOD
     (and_then (ap_fields realm name kvno request) (λ _.
     refuse (not (is_number (cipher_number suite) request.ticket.0.0.enc_part.0.etype.0)) KRB_AP_ERR_NOKEY
     (done (Ok tt))))
@@ -61,7 +63,7 @@ ticket_start part = option_map_or (λ told. seconds_of told.0.0) part.starttime.
 
 -- the ticket starts later than the moment and the skew, or isn't valid yet (flag 7; RFC 4120, section 2.2)
 abbrev pub is_early : Micros → Micros → EncTicketPartInner → Bool
-is_early skew moment part = nat_lt (moment + skew) (ticket_start part * 1000000) || bit_of part.flags.0 7
+is_early skew moment part = nat_lt (moment + skew) (ticket_start part * 1000000) || bit_of part.flags.0 INVALID
 
 -- the moment is past the ticket's end and the skew
 abbrev pub is_late : Micros → Micros → EncTicketPartInner → Bool
@@ -122,7 +124,7 @@ presented_with request part a = record {
   suite = a.suite;
   authenticator = a.authenticator;
   time = a.time;
-  wants_reply = bit_of request.ap_options.0 2;
+  wants_reply = bit_of request.ap_options.0 MUTUAL_REQUIRED;
 }
 
 -- what the request presents whose ticket has this part

@@ -14,7 +14,7 @@ use krb_encrypted_data::key_of;
 use krb_messages::messages::ApReqInner;
 use krb_moments::{MICROSECONDS_IN_SECOND, Moment, moment_at};
 use krb_types::constants::types::{AP_REQ_MSG_TYPE, KERBEROS_VERSION};
-use krb_types::constants::{error_codes, key_usages};
+use krb_types::constants::{ap_options, error_codes, key_usages, ticket_flags};
 use krb_types::data_types::{
     AuthenticatorInner, EncTicketPartInner, EncryptedData, EncryptionKey, TicketInner,
 };
@@ -24,15 +24,6 @@ use picky_asn1::is_number;
 use picky_asn1::wrapper::GeneralStringAsn1;
 use results::if_passed;
 use std::alloc::Global;
-
-/// The option use-session-key of an AP request (RFC 4120, section 5.5.1).
-const USE_SESSION_KEY: usize = 1;
-
-/// The option mutual-required of an AP request.
-const MUTUAL_REQUIRED: usize = 2;
-
-/// The flag of a ticket that isn't valid yet (RFC 4120, section 5.3).
-const INVALID: usize = 7;
 
 /// Judges the request's own fields: it has to be for this service, and sealed as the service can open it.
 pub fn check_address(
@@ -44,7 +35,7 @@ pub fn check_address(
 ) -> Result<(), Refusal>
     ensures { IsJudged (for_service realm.now name.now suite kvno request.now).gives result }
 {
-    if request.ap_options.0.bit(USE_SESSION_KEY) {
+    if request.ap_options.0.bit(ap_options::USE_SESSION_KEY) {
         return Err(Refusal::Krb(error_codes::KRB_AP_ERR_METHOD));
     }
     check_fields(realm, name, kvno, request)?;
@@ -168,7 +159,7 @@ fn is_early(skew: u64, moment: Moment, part: &EncTicketPartInner) -> bool
     ensures { result ≡ is_early skew moment part.now }
 {
     moment.micros() + skew < start_of(part).seconds() * MICROSECONDS_IN_SECOND
-        || part.flags.0.bit(INVALID)
+        || part.flags.0.bit(ticket_flags::INVALID)
 }
 
 // The moment is past the ticket's end and the skew.
@@ -210,7 +201,7 @@ fn presented_with(
 ) -> Presented
     ensures { result ≡ presented_with request.now part authenticated }
 {
-    let wants_reply = request.ap_options.0.bit(MUTUAL_REQUIRED);
+    let wants_reply = request.ap_options.0.bit(ap_options::MUTUAL_REQUIRED);
     let Authenticated {
         suite,
         authenticator,

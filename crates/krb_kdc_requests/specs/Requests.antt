@@ -14,6 +14,7 @@ use Rattle.krb_types.specs.declared.data_types.pa_data.PaData.{PaData}
 use Rattle.krb_types.specs.declared.data_types.principal_name.PrincipalName.{PrincipalName}
 use Rattle.krb_types.specs.Refusals.{Code}
 use Rattle.krb_types.specs.declared.constants.error_codes.TheConstants.{KDC_ERR_BAD_PVNO, KDC_ERR_CANNOT_POSTDATE, KDC_ERR_NEVER_VALID, KDC_ERR_BADOPTION, KRB_AP_ERR_MSG_TYPE, KDC_ERR_WRONG_REALM}
+use Rattle.krb_types.specs.declared.constants.kdc_options.TheConstants.{ENC_TKT_IN_SKEY, FORWARDED, POSTDATED, PROXY, RENEW, VALIDATE}
 use Rattle.krb_messages.specs.declared.messages.kdc_req.KdcReq.{KdcReq}
 use Rattle.krb_messages.specs.declared.messages.kdc_req_body.KdcReqBody.{KdcReqBody}
 use Rattle.krb_messages.specs.Trees.{kdc_req_body_tree}
@@ -26,11 +27,12 @@ use Rattle.krb_kdc_requests.specs.declared.span.Span.{Span}
 
 -- one of forwarded, proxy, enc-tkt-in-skey, renew and validate (RFC 4120, section 5.4.1)
 abbrev pub has_refused_option : Bits → Bool
-has_refused_option options = bit_of options 2 || bit_of options 4 || bit_of options 28 || bit_of options 30 || bit_of options 31
+has_refused_option options =
+    bit_of options FORWARDED || bit_of options PROXY || bit_of options ENC_TKT_IN_SKEY || bit_of options RENEW || bit_of options VALIDATE
 
 -- postdated (RFC 4120, section 5.4.1)
 abbrev pub is_postdated : Bits → Bool
-is_postdated options = bit_of options 6
+is_postdated options = bit_of options POSTDATED
 
 abbrev pub client_of : KdcReqBody → Option PrincipalName
 client_of body = option_map (λ tagged. tagged.0) body.cname.0

@@ -13,9 +13,9 @@ use krb_crypto::CipherSuite;
 use krb_messages::messages::{KdcReq, KdcReqBody};
 use krb_moments::Moment;
 use krb_tickets::{end_of, key_at, start_of};
-use krb_types::constants::error_codes;
 use krb_types::constants::random_bytes::SESSION_SEED;
 use krb_types::constants::types::KERBEROS_VERSION;
+use krb_types::constants::{error_codes, kdc_options};
 use krb_types::data_types::{PaData, PrincipalName};
 use krb_types::{Refusal, is_same_realm};
 use picky_asn1::date::GeneralizedTime;
@@ -50,13 +50,17 @@ pub fn check_address(kind: u8, realm: &GeneralStringAsn1, request: &KdcReq) -> R
 fn has_refused_option(options: &BitStringAsn1) -> bool
     ensures { result ≡ has_refused_option options.now }
 {
-    options.bit(2) || options.bit(4) || options.bit(28) || options.bit(30) || options.bit(31)
+    options.bit(kdc_options::FORWARDED)
+        || options.bit(kdc_options::PROXY)
+        || options.bit(kdc_options::ENC_TKT_IN_SKEY)
+        || options.bit(kdc_options::RENEW)
+        || options.bit(kdc_options::VALIDATE)
 }
 
 fn is_postdated(options: &BitStringAsn1) -> bool
     ensures { result ≡ is_postdated options.now }
 {
-    options.bit(6)
+    options.bit(kdc_options::POSTDATED)
 }
 
 /// The client, where the request names one.

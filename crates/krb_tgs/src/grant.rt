@@ -17,15 +17,12 @@ use krb_kdc_requests::{Call, Span, lasting, session_key};
 use krb_messages::messages::KdcReqBody;
 use krb_tickets::{Grant, ReplyKey, TicketFlags};
 use krb_types::Refusal;
-use krb_types::constants::error_codes;
+use krb_types::constants::{error_codes, ticket_flags};
 use krb_types::data_types::{AuthenticatorInner, EncTicketPartInner, EncryptionKey, PrincipalName};
 use picky_asn1::is_number;
 use picky_asn1::wrapper::IntegerAsn1;
 use picky_asn1_der::LentFields;
 use std::alloc::{AllocError, Global};
-
-/// The flag of a ticket whose client authenticated itself before the first one was granted (RFC 4120, section 5.3).
-const PRE_AUTHENTICATED: usize = 10;
 
 /// What the client of an older ticket shows: the ticket's part, its session key, and the authenticator under this key.
 #[derive(Clone, Copy, Drop)]
@@ -158,7 +155,7 @@ fn further_ticket(
         service,
         flags: TicketFlags {
             initial: false,
-            pre_authenticated: part.flags.0.bit(PRE_AUTHENTICATED),
+            pre_authenticated: part.flags.0.bit(ticket_flags::PRE_AUTHENT),
         },
         auth_time: part.auth_time.0.0,
         start: span.start,

@@ -181,6 +181,45 @@ pub mod error_codes {
     pub const KDC_ERR_WRONG_REALM: u32 = 68;
 }
 
+/// The bits of kdc-options that a realm looks at (RFC 4120, section 5.4.1).
+pub mod kdc_options {
+    /// A ticket with another address, by a forwardable one.
+    pub const FORWARDED: usize = 2;
+
+    /// A ticket with another address, by a proxiable one.
+    pub const PROXY: usize = 4;
+
+    /// A ticket that starts later.
+    pub const POSTDATED: usize = 6;
+
+    /// A ticket under the session key of another one.
+    pub const ENC_TKT_IN_SKEY: usize = 28;
+
+    /// The old ticket, to last longer.
+    pub const RENEW: usize = 30;
+
+    /// The old ticket, which is to become valid.
+    pub const VALIDATE: usize = 31;
+}
+
+/// The bits of ap-options (RFC 4120, section 5.5.1).
+pub mod ap_options {
+    /// The ticket is under a session key.
+    pub const USE_SESSION_KEY: usize = 1;
+
+    /// The client requires a reply.
+    pub const MUTUAL_REQUIRED: usize = 2;
+}
+
+/// The bits of a ticket's flags that a service or a realm looks at (RFC 4120, section 5.3).
+pub mod ticket_flags {
+    /// The ticket isn't valid yet.
+    pub const INVALID: usize = 7;
+
+    /// The client was authenticated before the ticket was issued.
+    pub const PRE_AUTHENT: usize = 10;
+}
+
 /// Where each thing begins in the random bytes of a call. A confounder has a place of 16 bytes and a seed one of 32, of which
 /// a suite takes as many from the front as it wants (RFC 3961, section 3). No two things of one message share a byte.
 pub mod random_bytes {
