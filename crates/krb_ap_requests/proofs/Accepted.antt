@@ -47,19 +47,19 @@ field_rows : (version ticket kind realm name kvno : Bool)
     → (refuse {T = Unit {0}} {E = ℕ} (not (version && ticket)) 39 (refuse (not kind) 40 (refuse (not (realm && name)) 35 (refuse (not kvno) 44 (done (Ok tt)))))).gives (Ok tt)
 field_rows version ticket kind realm name kvno v t k r n u = rw (v, t, k, r, n, u) refl
 
-address_rows : (method etype : Bool) (fields : Table (Result (Unit {0}) ℕ)) → method ≡ false → etype ≡ true → fields.gives (Ok tt)
+recipient_rows : (method etype : Bool) (fields : Table (Result (Unit {0}) ℕ)) → method ≡ false → etype ≡ true → fields.gives (Ok tt)
     → (refuse {T = Unit {0}} {E = ℕ} method 48 (and_then {A = Unit {0}} fields (λ _. refuse (not etype) 45 (done (Ok tt))))).gives (Ok tt)
-address_rows method etype fields m e x = rw (m, e) (inl (tt, x, refl))
+recipient_rows method etype fields m e x = rw (m, e) (inl (tt, x, refl))
 
-is_addressed : (entry : EntryRecord) (skew moment : ℕ) (choice : Choice) (part_cipher cipher : List ℕ) → IsAcceptable entry skew moment choice
+is_for_service : (entry : EntryRecord) (skew moment : ℕ) (choice : Choice) (part_cipher cipher : List ℕ) → IsAcceptable entry skew moment choice
     → (for_service entry.realm entry.components entry.suite entry.kvno (request_of choice.outer part_cipher cipher)).gives (Ok tt)
-is_addressed entry skew moment choice part_cipher cipher x =
+is_for_service entry skew moment choice part_cipher cipher x =
     let fields = field_rows (is_number 5 choice.outer.pvno) (is_number 5 choice.outer.tkt_vno) (is_number 14 choice.outer.msg_type)
     (is_same_realm choice.outer.realm entry.realm) (is_same_name (components choice.outer.service) entry.components)
     (kvno_fits entry.kvno (encrypted choice.outer.part_etype choice.outer.part_kvno part_cipher))
     x.version x.ticket_version x.kind x.realm x.name
     (kvno_under entry.kvno choice.outer.part_etype choice.outer.part_kvno part_cipher ∙ x.kvno) in
-    address_rows (bit_of choice.outer.options 1) (is_number (cipher_number entry.suite) choice.outer.part_etype)
+    recipient_rows (bit_of choice.outer.options 1) (is_number (cipher_number entry.suite) choice.outer.part_etype)
     (ap_fields entry.realm entry.components entry.kvno (request_of choice.outer part_cipher cipher)) x.method x.part_etype fields
 
 -- what is sealed by the suite that the key fits is sealed by this suite, which it fits
@@ -120,8 +120,8 @@ pub presented_as_chosen : (entry : EntryRecord) (skew moment : ℕ) (choice : Ch
     → (presented entry skew moment (request_of choice.outer part_cipher cipher)).gives (Ok (shown_by choice x.suite x.time))
 unfolding presented
 presented_as_chosen entry skew moment choice part_cipher cipher x part authenticator =
-    let address = is_addressed entry skew moment choice part_cipher cipher x in
-    inl (tt, address, inl (choice.part, part_held entry skew moment choice part_cipher x part, authenticator_held entry skew moment choice part_cipher cipher x authenticator))
+    let recipient = is_for_service entry skew moment choice part_cipher cipher x in
+    inl (tt, recipient, inl (choice.part, part_held entry skew moment choice part_cipher x part, authenticator_held entry skew moment choice part_cipher cipher x authenticator))
 
 pub received_as_chosen : (entry : EntryRecord) (skew moment : ℕ) (choice : Choice) (bytes : List ℕ) (x : IsAcceptable entry skew moment choice) → Presents entry.key choice bytes
     → Receives entry skew moment bytes (Ok (shown_by choice x.suite x.time))

@@ -28,7 +28,7 @@ use Rattle.krb_ap_requests.specs.Received.{Receives}
 use Rattle.krb_ap_requests.specs.declared.presented.Authenticated.{Authenticated}
 use Rattle.krb_ap_requests.specs.declared.presented.Presented.{Presented}
 use Rattle.krb_ap_requests.proofs.Presentations.{outer_of}
-use Rattle.krb_ap_requests.proofs.Shown.{asked, both, first_of_two, ok_same, past_address, request-outer, seals, shown_asked, shown_part, timed, with_time}
+use Rattle.krb_ap_requests.proofs.Shown.{asked, both, first_of_two, ok_same, past_recipient, request-outer, seals, shown_asked, shown_part, timed, with_time}
 
 -- what a request has that passes the rows of its own fields
 record IsPassed (method version ticket kind realm name kvno etype : Bool) : Type 0 where
@@ -161,8 +161,8 @@ chosen_of : (entry : EntryRecord) (skew moment : ℕ) (bytes : List ℕ) (reques
     → (for_service entry.realm entry.components entry.suite entry.kvno request).gives (Ok tt)
     → IsValidSo entry.suite entry.key skew moment request.ticket.0.0.enc_part.0 part
     → IsAuthenticatedSo 11 part request.authenticator.0 a → p ≡ presented_with request part a → IsReceivedOf entry skew moment bytes p
-chosen_of entry skew moment bytes request part a p read address valid x made =
-    let rows = passed entry.realm entry.components entry.suite entry.kvno request address in
+chosen_of entry skew moment bytes request part a p read recipient valid x made =
+    let rows = passed entry.realm entry.components entry.suite entry.kvno request recipient in
     record {
       choice = record {
         outer = outer_of request;
@@ -206,11 +206,11 @@ pub chosen_as_received : (entry : EntryRecord) (skew moment : ℕ) (bytes : List
 unfolding presented
 chosen_as_received entry skew moment bytes request p read x =
     let sealed = request.ticket.0.0.enc_part.0 in
-    let address = both {A = Unit {0}} (for_service entry.realm entry.components entry.suite entry.kvno request) (λ _. past_address entry skew moment request) p x in
-    let ticket = both (valid_part entry.suite entry.key skew moment sealed) (λ part. valid_authenticator request part) p address.2 in
+    let recipient = both {A = Unit {0}} (for_service entry.realm entry.components entry.suite entry.kvno request) (λ _. past_recipient entry skew moment request) p x in
+    let ticket = both (valid_part entry.suite entry.key skew moment sealed) (λ part. valid_authenticator request part) p recipient.2 in
     let last = both (authenticated 11 ticket.0 request.authenticator.0) (λ a. done (Ok (presented_with request ticket.0 a))) p ticket.2 in
     let made : p ≡ presented_with request ticket.0 last.0 = ok_same p (presented_with request ticket.0 last.0) last.2 in
-    chosen_of entry skew moment bytes request ticket.0 last.0 p read address.1 (valid_so entry.suite entry.key skew moment sealed ticket.0 ticket.1)
+    chosen_of entry skew moment bytes request ticket.0 last.0 p read recipient.1 (valid_so entry.suite entry.key skew moment sealed ticket.0 ticket.1)
     (authenticated_so 11 ticket.0 request.authenticator.0 last.0 last.1) made
 
 -- by the bytes alone

@@ -18,8 +18,8 @@ use Rattle.krb_ap_requests.specs.declared.presented.Presented.{Presented}
 use Rattle.krb_ap_requests.specs.declared.refusal.AdmitRefusal.TheVariants as admit
 
 -- the request is for this service
-abbrev pub IsAddressed : EntryRecord → ApReqInner → Type 0
-IsAddressed entry request = (for_service entry.realm entry.components entry.suite entry.kvno request).gives (Ok tt)
+abbrev pub IsForService : EntryRecord → ApReqInner → Type 0
+IsForService entry request = (for_service entry.realm entry.components entry.suite entry.kvno request).gives (Ok tt)
 
 -- its ticket is judged so
 abbrev pub IsTicketJudged : EntryRecord → ℕ → ℕ → ApReqInner → Result EncTicketPartInner Refusal → Type 0
@@ -27,28 +27,28 @@ IsTicketJudged entry skew moment request r =
     IsJudged (valid_part entry.suite entry.key skew moment request.ticket.0.0.enc_part.0).gives r
 
 -- a request that is for another service is refused for that
-pub address_refused : (entry : EntryRecord) (skew moment : ℕ) (request : ApReqInner) (e : Refusal) (names : List (List ℕ)) (suite : CipherSuite) → names ≡ entry.components → suite ≡ entry.suite
+pub recipient_refused : (entry : EntryRecord) (skew moment : ℕ) (request : ApReqInner) (e : Refusal) (names : List (List ℕ)) (suite : CipherSuite) → names ≡ entry.components → suite ≡ entry.suite
     → IsJudged {T = Unit {0}} (for_service entry.realm names suite entry.kvno request).gives (Err e)
     → IsJudged {T = Presented} (presented entry skew moment request).gives (Err e)
 unfolding presented
-address_refused entry skew moment request (Krb code) names suite named keyed address =
-    let so_named = subst (λ list. (for_service entry.realm list suite entry.kvno request).gives (Err code)) named address in
+recipient_refused entry skew moment request (Krb code) names suite named keyed recipient =
+    let so_named = subst (λ list. (for_service entry.realm list suite entry.kvno request).gives (Err code)) named recipient in
     let own = subst (λ s. (for_service entry.realm entry.components s entry.kvno request).gives (Err code)) keyed so_named in inr (code, own, refl)
-address_refused entry skew moment request Memory names suite named keyed address = tt
+recipient_refused entry skew moment request Memory names suite named keyed recipient = tt
 
 pub ticket_refused : (entry : EntryRecord) (skew moment : ℕ) (request : ApReqInner) (e : Refusal)
-    → IsAddressed entry request → IsTicketJudged entry skew moment request (Err e) → IsJudged {T = Presented} (presented entry skew moment request).gives (Err e)
+    → IsForService entry request → IsTicketJudged entry skew moment request (Err e) → IsJudged {T = Presented} (presented entry skew moment request).gives (Err e)
 unfolding presented
-ticket_refused entry skew moment request (Krb code) address ticket = inl (tt, address, inr (code, ticket, refl))
-ticket_refused entry skew moment request Memory address ticket = tt
+ticket_refused entry skew moment request (Krb code) recipient ticket = inl (tt, recipient, inr (code, ticket, refl))
+ticket_refused entry skew moment request Memory recipient ticket = tt
 
 pub ticket_held : (entry : EntryRecord) (skew moment : ℕ) (request : ApReqInner) (part : EncTicketPartInner) (r : Result Presented Refusal)
-    → IsAddressed entry request → IsTicketJudged entry skew moment request (Ok part)
+    → IsForService entry request → IsTicketJudged entry skew moment request (Ok part)
     → IsJudged {T = Presented} (valid_authenticator request part).gives r → IsJudged {T = Presented} (presented entry skew moment request).gives r
 unfolding presented
-ticket_held entry skew moment request part (Ok made) address ticket shown = inl (tt, address, inl (part, ticket, shown))
-ticket_held entry skew moment request part (Err (Krb code)) address ticket shown = inl (tt, address, inl (part, ticket, shown))
-ticket_held entry skew moment request part (Err Memory) address ticket shown = tt
+ticket_held entry skew moment request part (Ok made) recipient ticket shown = inl (tt, recipient, inl (part, ticket, shown))
+ticket_held entry skew moment request part (Err (Krb code)) recipient ticket shown = inl (tt, recipient, inl (part, ticket, shown))
+ticket_held entry skew moment request part (Err Memory) recipient ticket shown = tt
 
 -- what a request is judged to be is received of its bytes
 pub received : (entry : EntryRecord) (skew moment : ℕ) (bytes : List ℕ) (request : ApReqInner) (p : Presented) → IsApReq bytes request

@@ -20,7 +20,7 @@ use Rattle.krb_ap_requests.specs.Entry.{EntryRecord}
 use Rattle.krb_ap_requests.specs.Messages.{IsAuthenticator, IsTicketPart, sole_authenticator, sole_ticket_part}
 use Rattle.krb_ap_requests.specs.declared.presented.Authenticated.{Authenticated}
 use Rattle.krb_ap_requests.specs.declared.presented.Presented.{Presented}
-use Rattle.krb_ap_requests.proofs.Shown.{asked, past_address, timed, with_time}
+use Rattle.krb_ap_requests.proofs.Shown.{asked, past_recipient, timed, with_time}
 
 pub has_fields : (a b c d : Bool) → HasOutcome (refuse {T = Unit {0}} {E = ℕ} a 39 (refuse b 40 (refuse c 35 (refuse d 44 (done (Ok tt))))))
 has_fields true b c d = has_done (Err 39)
@@ -29,10 +29,10 @@ has_fields false false true d = has_done (Err 35)
 has_fields false false false true = has_done (Err 44)
 has_fields false false false false = has_done (Ok tt)
 
-has_address : (method etype : Bool) (fields : Table (Result (Unit {0}) ℕ)) → HasOutcome fields
+has_recipient : (method etype : Bool) (fields : Table (Result (Unit {0}) ℕ)) → HasOutcome fields
     → HasOutcome (refuse {T = Unit {0}} {E = ℕ} method 48 (and_then {A = Unit {0}} fields (λ _. refuse etype 45 (done (Ok tt)))))
-has_address true etype fields x = has_done (Err 48)
-has_address false etype fields x =
+has_recipient true etype fields x = has_done (Err 48)
+has_recipient false etype fields x =
     let end : Table (Result (Unit {0}) ℕ) = done (Ok tt) in
     has_then {A = Unit {0}} fields (λ _. refuse etype 45 end) x (λ _ _. has_refused etype 45 end (λ _. has_done (Ok tt)))
 
@@ -85,8 +85,8 @@ has_authenticator request part =
 pub has_judgement : (entry : EntryRecord) (skew moment : ℕ) (request : ApReqInner) → HasOutcome (presented entry skew moment request)
 unfolding presented
 has_judgement entry skew moment request =
-    has_then {A = Unit {0}} (for_service entry.realm entry.components entry.suite entry.kvno request) (λ _. past_address entry skew moment request)
-    (has_address (bit_of request.ap_options.0 1) (not (is_number (cipher_number entry.suite) request.ticket.0.0.enc_part.0.etype.0))
+    has_then {A = Unit {0}} (for_service entry.realm entry.components entry.suite entry.kvno request) (λ _. past_recipient entry skew moment request)
+    (has_recipient (bit_of request.ap_options.0 1) (not (is_number (cipher_number entry.suite) request.ticket.0.0.enc_part.0.etype.0))
     (ap_fields entry.realm entry.components entry.kvno request)
     (has_fields (not (rows.is_version_5 request)) (not (is_number 14 request.msg_type.0))
     (not (rows.is_for entry.realm entry.components request.ticket.0.0)) (not (rows.kvno_fits entry.kvno request.ticket.0.0.enc_part.0))))

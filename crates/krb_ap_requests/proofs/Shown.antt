@@ -98,7 +98,7 @@ with_time found time = record { suite = found.0; authenticator = found.1; time =
 abbrev pub timed : EncTicketPartInner → CipherSuite × AuthenticatorInner → Table (Result Authenticated ℕ)
 timed part found = and_then (told part found.1) (λ time. done (Ok (with_time found time)))
 
-abbrev pub past_address : EntryRecord → ℕ → ℕ → ApReqInner → Table (Result Presented ℕ)
-past_address entry skew moment request =
+abbrev pub past_recipient : EntryRecord → ℕ → ℕ → ApReqInner → Table (Result Presented ℕ)
+past_recipient entry skew moment request =
     and_then (valid_part entry.suite entry.key skew moment request.ticket.0.0.enc_part.0) (λ part.
     valid_authenticator request part)

@@ -26,7 +26,7 @@ use results::if_passed;
 use std::alloc::Global;
 
 /// Judges the request's own fields: it has to be for this service, and sealed as the service can open it.
-pub fn check_address(
+pub fn check_recipient(
     realm: &GeneralStringAsn1,
     name: &[GeneralStringAsn1],
     suite: CipherSuite,

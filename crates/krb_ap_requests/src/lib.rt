@@ -7,7 +7,7 @@ mod presented;
 mod refusal;
 
 pub use judge::{
-    check_address, check_authenticator, check_fields, check_presented, check_ticket, check_times,
+    check_authenticator, check_fields, check_presented, check_recipient, check_ticket, check_times,
     open_ticket,
 };
 pub use messages::read_ap_req;

@@ -28,15 +28,15 @@ use Rattle.krb_as.specs.AsTable.{as_table, authenticated, authenticated_by, is_l
 use Rattle.krb_kdc_requests.specs.Call.{CallRecord, pkinit_call, skew_of}
 use Rattle.krb_kdc_requests.specs.Calls.{IsCall, IsKeyed}
 use Rattle.krb_as.specs.Grants.{Principals, first_ticket, granted}
-use Rattle.krb_kdc_requests.specs.Requests.{addressed, client_of, padata_in, has_refused_option, is_postdated, lasting, service_of}
+use Rattle.krb_kdc_requests.specs.Requests.{header_rows, client_of, padata_in, has_refused_option, is_postdated, lasting, service_of}
 use Rattle.krb_kdc_requests.specs.declared.span.Span.{Span}
 use Rattle.krb_as.proofs.HasGrant.{has_lasting, has_replied}
 use Rattle.krb_kdc_requests.proofs.RequestTrees.{body_fits, client_fits, nonce_fits, service_fits}
 use Rattle.krb_kdc_requests.proofs.Short.{Fits}
 use Rattle.krb_kdc_requests.proofs.Written.{IsWritten, is_written, own_realm_fits, session_short}
 
-pub has_address : (kind : ℕ) (realm : List ℕ) (request : KdcReq) → HasOutcome (addressed kind realm request)
-has_address kind realm request =
+pub has_header : (kind : ℕ) (realm : List ℕ) (request : KdcReq) → HasOutcome (header_rows kind realm request)
+has_header kind realm request =
     rows (not (is_number 5 request.pvno.0)) (not (is_number kind request.msg_type.0)) (not (is_same_realm request.req_body.0.realm.0 realm))
     (has_refused_option request.req_body.0.kdc_options.0) (is_postdated request.req_body.0.kdc_options.0)
   where
@@ -139,7 +139,7 @@ module _ (call : CallRecord) (rows : PkinitRows) (of_client of_service : Option 
 
   module _ (is : IsCall call) (n : ℕ) (few : n < 2 ^ 64) (fits : Fits n (kdc_req_inner_tree request)) where
     -- what it is granted can be written
-    first_written : (asked : Principals) (span : Span) → (addressed 10 call.realm request).gives (Ok tt) → AreAsked asked → IsWritten As (first_ticket call asked request.req_body.0 span)
+    first_written : (asked : Principals) (span : Span) → (header_rows 10 call.realm request).gives (Ok tt) → AreAsked asked → IsWritten As (first_ticket call asked request.req_body.0 span)
     first_written asked span to_us these =
         let body = body_fits n request fits in
         is_written n (first_ticket call asked request.req_body.0 span)
@@ -152,7 +152,7 @@ module _ (call : CallRecord) (rows : PkinitRows) (of_client of_service : Option 
           nonce = nonce_fits n request.req_body.0 body;
         }) As
 
-    has_grant : (asked : Principals) → (addressed 10 call.realm request).gives (Ok tt) → AreAsked asked → HasOutcome (to_be_possible asked)
+    has_grant : (asked : Principals) → (header_rows 10 call.realm request).gives (Ok tt) → AreAsked asked → HasOutcome (to_be_possible asked)
     has_grant asked to_us these =
         has_then (possible call asked.client.suite request.req_body.0) (to_prove asked) (has_possible call asked.client.suite request.req_body.0 is)
         (λ span given.
@@ -166,7 +166,7 @@ module _ (call : CallRecord) (rows : PkinitRows) (of_client of_service : Option 
     pub has_as_outcome : ((client : AccountRecord) → of_client ≡ Some client → IsKeyed client) → ((service : AccountRecord) → of_service ≡ Some service → IsKeyed service)
         → HasOutcome (as_table call rows of_client of_service request)
     has_as_outcome client_keyed service_keyed =
-        has_then {A = Unit {0}} (addressed 10 call.realm request) (λ _. to_name) (has_address 10 call.realm request)
+        has_then {A = Unit {0}} (header_rows 10 call.realm request) (λ _. to_name) (has_header 10 call.realm request)
         (λ _ x.
         has_needed (client_of request.req_body.0) 6 by_client_name
         (λ client_name a.

@@ -15,12 +15,12 @@ use Rattle.krb_as.specs.AsTable.{as_table, authenticated, possible}
 use Rattle.krb_kdc_requests.specs.Call.{CallRecord}
 use Rattle.krb_as.specs.Grants.{Principals, granted}
 use Rattle.krb_as.specs.Judged.{IsGranted}
-use Rattle.krb_kdc_requests.specs.Requests.{addressed, client_of, service_of}
+use Rattle.krb_kdc_requests.specs.Requests.{header_rows, client_of, service_of}
 use Rattle.krb_kdc_requests.specs.declared.span.Span.{Span}
 
 -- the request is for this realm, and names client and service, which have these accounts
 pub record AreKnown (realm : List ℕ) (of_client of_service : Option AccountRecord) (request : KdcReq) (these : Principals) : Type 0 where
-  pub address : (addressed 10 realm request).gives (Ok tt)
+  pub header : (header_rows 10 realm request).gives (Ok tt)
   pub client_name : client_of request.req_body.0 ≡ Some these.client_name
   pub client : of_client ≡ Some these.client
   pub service_name : service_of request.req_body.0 ≡ Some these.service_name
@@ -46,8 +46,8 @@ module _ (call : CallRecord) (rows : PkinitRows) (client service : Option Accoun
       granted call these under span request.req_body.0))
 
   known : (r : Result (Vec ℕ Global) Refusal) → AreKnown call.realm client service request these → IsGranted further.gives r → answers r
-  known (Ok bytes) k x = inl (tt, k.address, rw (k.client_name, k.client, k.service_name, k.service) x)
-  known (Err (Krb code)) k x = inl (tt, k.address, rw (k.client_name, k.client, k.service_name, k.service) x)
+  known (Ok bytes) k x = inl (tt, k.header, rw (k.client_name, k.client, k.service_name, k.service) x)
+  known (Err (Krb code)) k x = inl (tt, k.header, rw (k.client_name, k.client, k.service_name, k.service) x)
   known (Err Memory) k x = tt
 
   ticket_refused : (e : Refusal) → of_ticket (Err e) → IsGranted further.gives (Err e)

@@ -23,7 +23,7 @@ use Rattle.krb_crypto.specs.AgreedKeys.{agreed_key}
 use Rattle.krb_pkinit.specs.Rows.{PkinitRows}
 use Rattle.krb_kdc_requests.specs.Call.{CallRecord, pkinit_call, skew_of}
 use Rattle.krb_as.specs.Grants.{granted}
-use Rattle.krb_kdc_requests.specs.Requests.{addressed, client_of, padata_in, lasting, service_of}
+use Rattle.krb_kdc_requests.specs.Requests.{header_rows, client_of, padata_in, lasting, service_of}
 use Rattle.krb_kdc_requests.specs.declared.span.Span.{Span}
 
 -- the ticket is to start later than the moment and the skew
@@ -67,7 +67,7 @@ authenticated call rows client name request = authenticated_by call rows client 
 -- the whole table, of the accounts of client and service if they have one
 abbrev pub as_table : CallRecord → PkinitRows → Option AccountRecord → Option AccountRecord → KdcReq → Table (Result Bytes Code)
 as_table call rows of_client of_service request =
-    and_then (addressed 10 call.realm request) (λ _.
+    and_then (header_rows 10 call.realm request) (λ _.
     need (client_of request.req_body.0) KDC_ERR_C_PRINCIPAL_UNKNOWN (λ client_name.
     need of_client KDC_ERR_C_PRINCIPAL_UNKNOWN (λ client.
     need (service_of request.req_body.0) KDC_ERR_S_PRINCIPAL_UNKNOWN (λ service_name.

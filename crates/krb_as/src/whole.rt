@@ -8,7 +8,7 @@ ghost use Rattle.krb_as.specs.Judged.{IsGranted};
 use crate::grant::{Principals, grant};
 use crate::judge::{authenticate, check_possible};
 use krb_accounts::Account;
-use krb_kdc_requests::{Call, check_address, client_of, service_of};
+use krb_kdc_requests::{Call, check_header, client_of, service_of};
 use krb_messages::messages::KdcReq;
 use krb_pkinit::Pkinit;
 use krb_types::Refusal;
@@ -29,7 +29,7 @@ pub fn judge_as<P: Pkinit>(
     requires { 128 ≤ length call.now.random.now }
     ensures { IsGranted (as_table (call_of call.now) (P.rows pkinit.now) (option_copied client.entry) (option_copied service.entry) request.now).gives result }
 {
-    check_address(AS_REQ_MSG_TYPE, call.realm, request)?;
+    check_header(AS_REQ_MSG_TYPE, call.realm, request)?;
     let body = &request.req_body.0;
     let Some(client_name) = client_of(body) else {
         return Err(Refusal::Krb(error_codes::KDC_ERR_C_PRINCIPAL_UNKNOWN));

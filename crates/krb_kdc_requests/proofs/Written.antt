@@ -21,7 +21,7 @@ use Rattle.krb_tickets.specs.declared.reply.Exchange.{Exchange}
 use Rattle.krb_tickets.specs.declared.reply.Exchange.TheVariants.{As, Tgs}
 use Rattle.krb_tickets.specs.Parts.{flags_octet, reply_part, session_key_of, ticket_part}
 use Rattle.krb_tickets.specs.Sealed.{reply_part_bytes, ticket_part_bytes}
-use Rattle.krb_kdc_requests.specs.Requests.{addressed, has_refused_option, is_postdated}
+use Rattle.krb_kdc_requests.specs.Requests.{header_rows, has_refused_option, is_postdated}
 use Rattle.krb_kdc_requests.proofs.PartTrees.{AreFit, integer_tree, principal_name_tree, realm_tree, reply_fits, ticket_fits}
 use Rattle.krb_kdc_requests.proofs.RequestTrees.{body_fits, realm_fits}
 use Rattle.krb_kdc_requests.proofs.Short.{Fits, IsShort}
@@ -94,8 +94,8 @@ same_bytes (x ∷ a) (y ∷ b) e =
     let rest : a ≡ b = same_bytes a b parts.1 in
     cc
 
-addressed_to : (kind : ℕ) (realm : List ℕ) (request : KdcReq) → (addressed kind realm request).gives (Ok tt) → request.req_body.0.realm.0 ≡ realm
-addressed_to kind realm request x =
+header_realm : (kind : ℕ) (realm : List ℕ) (request : KdcReq) → (header_rows kind realm request).gives (Ok tt) → request.req_body.0.realm.0 ≡ realm
+header_realm kind realm request x =
     same_bytes request.req_body.0.realm.0 realm
     (rows (not (is_number 5 request.pvno.0)) (not (is_number kind request.msg_type.0)) (is_same_realm request.req_body.0.realm.0 realm)
     (has_refused_option request.req_body.0.kdc_options.0) (is_postdated request.req_body.0.kdc_options.0) x)
@@ -107,6 +107,6 @@ addressed_to kind realm request x =
     rows false false false d e y = absurd (cc (y))
 
 -- so the realm's name is as short as the request
-pub own_realm_fits : (n kind : ℕ) (realm : List ℕ) (request : KdcReq) → (addressed kind realm request).gives (Ok tt) → Fits n (kdc_req_inner_tree request) → Fits n (realm_tree realm)
+pub own_realm_fits : (n kind : ℕ) (realm : List ℕ) (request : KdcReq) → (header_rows kind realm request).gives (Ok tt) → Fits n (kdc_req_inner_tree request) → Fits n (realm_tree realm)
 own_realm_fits n kind realm request x fits =
-    subst (λ r. Fits n (realm_tree r)) (addressed_to kind realm request x) (realm_fits n request.req_body.0 (body_fits n request fits))
+    subst (λ r. Fits n (realm_tree r)) (header_realm kind realm request x) (realm_fits n request.req_body.0 (body_fits n request fits))

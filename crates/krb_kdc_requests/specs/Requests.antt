@@ -54,8 +54,8 @@ unfoldable pub body_bytes : KdcReqBody → Bytes
 body_bytes body = der (kdc_req_body_tree body)
 
 -- the request is of this message type and to this realm, which grants nothing that its options ask for beside a ticket
-abbrev pub addressed : ℕ → Bytes → KdcReq → Table (Result (Unit {0}) Code)
-addressed kind realm request =
+abbrev pub header_rows : ℕ → Bytes → KdcReq → Table (Result (Unit {0}) Code)
+header_rows kind realm request =
     refuse (not (is_number 5 request.pvno.0)) KDC_ERR_BAD_PVNO
     (refuse (not (is_number kind request.msg_type.0)) KRB_AP_ERR_MSG_TYPE
     (refuse (not (is_same_realm request.req_body.0.realm.0 realm)) KDC_ERR_WRONG_REALM

@@ -2,7 +2,7 @@
 ghost use Rattle.std.specs.Prelude.{◌≡◌, ◌≤◌, length, IfOk};
 ghost use Rattle.std.specs.Option.{option_copied, option_map};
 ghost use Rattle.krb_accounts.specs.Accounts.{look_in};
-ghost use Rattle.krb_kdc_requests.specs.Requests.{account_of, addressed, client_of, padata_in, has_refused_option, is_ended, is_postdated, lasting, service_of};
+ghost use Rattle.krb_kdc_requests.specs.Requests.{account_of, header_rows, client_of, padata_in, has_refused_option, is_ended, is_postdated, lasting, service_of};
 ghost use Rattle.krb_tickets.specs.Parts.{session_key_of};
 ghost use Rattle.krb_types.specs.Refusals.{IsJudged};
 ghost use Rattle.picky_asn1.specs.GeneralizedTime.{seconds_of};
@@ -24,8 +24,8 @@ use picky_asn1::wrapper::{BitStringAsn1, GeneralStringAsn1, OctetStringAsn1};
 use std::alloc::{AllocError, Global};
 
 /// Judges whether a request is of this message type and to this realm, and its options.
-pub fn check_address(kind: u8, realm: &GeneralStringAsn1, request: &KdcReq) -> Result<(), Refusal>
-    ensures { IsJudged (addressed kind realm.now request.now).gives result }
+pub fn check_header(kind: u8, realm: &GeneralStringAsn1, request: &KdcReq) -> Result<(), Refusal>
+    ensures { IsJudged (header_rows kind realm.now request.now).gives result }
 {
     if !is_number(&request.pvno.0, KERBEROS_VERSION) {
         return Err(Refusal::Krb(error_codes::KDC_ERR_BAD_PVNO));

@@ -28,7 +28,7 @@ use Rattle.krb_tickets.specs.Granted.{IsTicketReply}
 use Rattle.krb_as.specs.AsTable.{as_table, authenticated, is_later, is_listed, possible}
 use Rattle.krb_kdc_requests.specs.Call.{CallRecord}
 use Rattle.krb_as.specs.Grants.{Principals, first_ticket, granted}
-use Rattle.krb_kdc_requests.specs.Requests.{IsSpan, account_of, addressed, client_of, is_ended, lasting, service_of}
+use Rattle.krb_kdc_requests.specs.Requests.{IsSpan, account_of, header_rows, client_of, is_ended, lasting, service_of}
 use Rattle.krb_as.specs.TicketGranting.{krbtgt_of}
 use Rattle.krb_kdc_requests.specs.declared.span.Span.{Span}
 use Rattle.krb_replies.specs.Replies.{Replies, as_reply, hint_of, reply_of, tgs_reply}
@@ -109,7 +109,7 @@ module _ (IsKey : ReplyKeyRecord → Type 0) (call : CallRecord) (rows : PkinitR
   to_name = need (client_of request.req_body.0) 6 by_client_name
 
   granted_by : (asked : Principals) (r : Result Bytes ℕ)
-      → (addressed 10 call.realm request).gives (Ok tt)
+      → (header_rows 10 call.realm request).gives (Ok tt)
       → client_of request.req_body.0 ≡ Some asked.client_name → of_client ≡ Some asked.client
       → service_of request.req_body.0 ≡ Some asked.service_name → of_service ≡ Some asked.service
       → ((s : Result Span ℕ) → (possible call asked.client.suite request.req_body.0).gives s
@@ -118,7 +118,7 @@ module _ (IsKey : ReplyKeyRecord → Type 0) (call : CallRecord) (rows : PkinitR
       → (under : ReplyKeyRecord) × IsKey under × (s ≡ Ok under))
       → (as_table call rows of_client of_service request).gives r → IsGrantedBy IsKey call asked request.req_body.0 r
   granted_by asked r for_us client_name client service_name service can_be can_show x =
-      let a = past_then {A = Unit {0}} {T = Bytes} (addressed 10 call.realm request) (λ _. to_name) tt r for_us x in
+      let a = past_then {A = Unit {0}} {T = Bytes} (header_rows 10 call.realm request) (λ _. to_name) tt r for_us x in
       let b = past_need {T = Bytes} {E = ℕ} (client_of request.req_body.0) 6 by_client_name asked.client_name r client_name a in
       let c = past_need {T = Bytes} {E = ℕ} of_client 6 (by_client asked.client_name) asked.client r client b in
       let d = past_need {T = Bytes} {E = ℕ} (service_of request.req_body.0) 7 (by_service_name asked.client_name asked.client) asked.service_name r service_name c in
@@ -138,7 +138,7 @@ listed client service till nonce suite same =
 
 -- the request's type and options are as they are to be, and its realm is this one
 for_realm : (padata : PaData) (client : ClientRecord) (service : List Bytes) (till : GeneralizedTime) (random : Random) (realm : Bytes) → client.realm ≡ realm
-    → (addressed 10 realm (as_request_of padata (as_body client service till random))).gives (Ok tt)
+    → (header_rows 10 realm (as_request_of padata (as_body client service till random))).gives (Ok tt)
 for_realm padata client service till random realm same =
     by_refuse {T = Unit {0}} {E = ℕ} (not (is_same_realm client.realm realm)) 68 (done (Ok tt)) (Ok tt) (ap not (same_realm client.realm realm same)) refl
 

@@ -6,7 +6,7 @@ ghost use Rattle.krb_ap_requests.specs.Received.{Receives};
 ghost use Rattle.krb_types.specs.Refusals.{IsJudged};
 
 use krb_ap_requests::{
-    AdmitRefusal, Presented, check_address, check_presented, check_ticket, read_ap_req,
+    AdmitRefusal, Presented, check_presented, check_recipient, check_ticket, read_ap_req,
 };
 use krb_crypto::Key;
 use krb_messages::messages::ApReqInner;
@@ -90,7 +90,7 @@ impl KeytabEntry {
         requires { skew ≤ 86400000000 }
         ensures { IsJudged (presented self.now skew moment request.now).gives result }
     {
-        check_address(
+        check_recipient(
             &self.realm,
             self.components.as_slice(),
             self.key.suite(),

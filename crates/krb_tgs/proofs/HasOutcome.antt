@@ -30,11 +30,11 @@ use Rattle.krb_ap_requests.specs.declared.presented.Authenticated.{Authenticated
 use Rattle.krb_kdc_requests.specs.Call.{CallRecord, skew_of}
 use Rattle.krb_kdc_requests.specs.Calls.{IsCall, IsKeyed}
 use Rattle.krb_as.specs.Grants.{replied}
-use Rattle.krb_kdc_requests.specs.Requests.{addressed, padata_in, lasting, service_of}
+use Rattle.krb_kdc_requests.specs.Requests.{header_rows, padata_in, lasting, service_of}
 use Rattle.krb_as.specs.TicketGranting.{krbtgt_of}
 use Rattle.krb_kdc_requests.specs.declared.span.Span.{Span}
 use Rattle.krb_as.proofs.HasGrant.{has_lasting, has_replied}
-use Rattle.krb_as.proofs.HasOutcome.{has_address}
+use Rattle.krb_as.proofs.HasOutcome.{has_header}
 use Rattle.krb_kdc_requests.proofs.PartTrees.{realm_tree}
 use Rattle.krb_kdc_requests.proofs.RequestTrees.{body_fits, padata_short, nonce_fits, service_fits}
 use Rattle.krb_kdc_requests.proofs.Short.{Fits}
@@ -50,7 +50,7 @@ use Rattle.krb_tgs.proofs.SealedLengths.{opened_fits}
 
 has_to_us : (realm : List ℕ) (request : KdcReq) → HasOutcome (to_us realm request)
 has_to_us realm request =
-    has_then {A = Unit {0}} (addressed 12 realm request) (λ _. refuse (is_some request.req_body.0.enc_authorization_data.0) 12 (done (Ok tt))) (has_address 12 realm request)
+    has_then {A = Unit {0}} (header_rows 12 realm request) (λ _. refuse (is_some request.req_body.0.enc_authorization_data.0) 12 (done (Ok tt))) (has_header 12 realm request)
     (λ _ x. has_refused {T = Unit {0}} (is_some request.req_body.0.enc_authorization_data.0) 12 (done (Ok tt)) (λ _. has_done (Ok tt)))
 
 has_carried : (padata : List PaData) → HasOutcome (carried padata)
@@ -193,9 +193,9 @@ module _ (call : CallRecord) (request : KdcReq) (is : IsCall call) (n : ℕ) (fe
       (λ part x. has_of_ticket presented part (record { value = value; first = first; read = read; granting = granting; account = e; opens = by_ticket call granting presented part x })))
 
 -- a request that is for the realm
-addressed_by : (realm : List ℕ) (request : KdcReq) → (to_us realm request).gives (Ok tt) → (addressed 12 realm request).gives (Ok tt)
-addressed_by realm request (inl (_, x, y)) = x
-addressed_by realm request (inr (code, x, e)) = absurd (cc (e))
+header_by : (realm : List ℕ) (request : KdcReq) → (to_us realm request).gives (Ok tt) → (header_rows 12 realm request).gives (Ok tt)
+header_by realm request (inl (_, x, y)) = x
+header_by realm request (inr (code, x, e)) = absurd (cc (e))
 
 pub has_tgs_outcome : (call : CallRecord) (request : KdcReq) → IsCall call → (n : ℕ) → n < 2 ^ 64 → Fits n (kdc_req_inner_tree request) → HasOutcome (tgs_table call request)
 has_tgs_outcome call request is n few fits =
@@ -204,4 +204,4 @@ has_tgs_outcome call request is n few fits =
     has_then (carried (padata_in request)) (of_carried call request.req_body.0) (has_carried (padata_in request))
     (λ presented y.
     let found = by_padata (padata_in request) presented y in
-    has_of_carried call request is n few fits (own_realm_fits n 12 call.realm request (addressed_by call.realm request x) fits) found.0 presented found.1 found.2))
+    has_of_carried call request is n few fits (own_realm_fits n 12 call.realm request (header_by call.realm request x) fits) found.0 presented found.1 found.2))

@@ -38,7 +38,7 @@ use Rattle.krb_ap_requests.specs.ApTable.{ap_fields, authenticated, opened_part,
 use Rattle.krb_ap_requests.specs.declared.presented.Authenticated.{Authenticated}
 use Rattle.krb_kdc_requests.specs.Call.{CallRecord, skew_of}
 use Rattle.krb_as.specs.Grants.{replied}
-use Rattle.krb_kdc_requests.specs.Requests.{addressed, padata_in, lasting, service_of}
+use Rattle.krb_kdc_requests.specs.Requests.{header_rows, padata_in, lasting, service_of}
 pub use Rattle.krb_kdc_requests.specs.Requests.{body_bytes}
 use Rattle.krb_as.specs.TicketGranting.{krbtgt_of}
 use Rattle.krb_kdc_requests.specs.declared.span.Span.{Span}
@@ -46,7 +46,7 @@ use Rattle.krb_kdc_requests.specs.declared.span.Span.{Span}
 -- the request is a TGS request to this realm, without sealed authorization data, which no ticket is granted with
 abbrev pub to_us : Bytes → KdcReq → Table (Result (Unit {0}) Code)
 to_us realm request =
-    and_then (addressed 12 realm request) (λ _.
+    and_then (header_rows 12 realm request) (λ _.
     refuse (is_some request.req_body.0.enc_authorization_data.0) KDC_ERR_POLICY
     (done (Ok tt)))
 

@@ -11,7 +11,7 @@ use krb_ap_requests::{
     Authenticated, check_authenticator, check_fields, check_times, open_ticket, read_ap_req,
 };
 use krb_as::krbtgt_of;
-use krb_kdc_requests::{Call, check_address};
+use krb_kdc_requests::{Call, check_header};
 use krb_messages::messages::{ApReqInner, KdcReq};
 use krb_preauth::first_of;
 use krb_types::constants::types::{PA_TGS_REQ, TGS_REQ_MSG_TYPE};
@@ -26,7 +26,7 @@ use std::alloc::Global;
 pub(crate) fn check_request(realm: &GeneralStringAsn1, request: &KdcReq) -> Result<(), Refusal>
     ensures { IsJudged (to_us realm.now request.now).gives result }
 {
-    check_address(TGS_REQ_MSG_TYPE, realm, request)?;
+    check_header(TGS_REQ_MSG_TYPE, realm, request)?;
     if request.req_body.0.enc_authorization_data.0.is_some() {
         return Err(Refusal::Krb(error_codes::KDC_ERR_POLICY));
     }

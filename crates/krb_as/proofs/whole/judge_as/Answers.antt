@@ -18,7 +18,7 @@ returns-in_err-span g c =
     (record { client_name = c.in-Some.client_name.now; client = c.in-Some-client.client.now; service_name = c.in-Some-service_of.service_name.now; service = c.in-Some-service.service.now })
     refusal
     (record {
-      address = c.in_ok-check_address.ensures;
+      header = c.in_ok-check_header.ensures;
       client_name = sym c.in-Some.ensures;
       client = ap (λ o. option_copied o) c.in-Some-client.is;
       service_name = sym c.in-Some-service_of.ensures;
@@ -36,7 +36,7 @@ returns-in_err-authenticated g c =
     (record { client_name = c.in-Some.client_name.now; client = c.in-Some-client.client.now; service_name = c.in-Some-service_of.service_name.now; service = c.in-Some-service.service.now })
     c.in_ok-span.span refusal
     (record {
-      address = c.in_ok-check_address.ensures;
+      header = c.in_ok-check_header.ensures;
       client_name = sym c.in-Some.ensures;
       client = ap (λ o. option_copied o) c.in-Some-client.is;
       service_name = sym c.in-Some-service_of.ensures;
@@ -52,7 +52,7 @@ returns g c =
     (record { client_name = c.in-Some.client_name.now; client = c.in-Some-client.client.now; service_name = c.in-Some-service_of.service_name.now; service = c.in-Some-service.service.now })
     c.in_ok-span.span (reply_key_by c.in-Some-client.client.now c.in_ok-authenticated.authenticated) c.in_ok-reply.reply
     (record {
-      address = c.in_ok-check_address.ensures;
+      header = c.in_ok-check_header.ensures;
       client_name = sym c.in-Some.ensures;
       client = ap (λ o. option_copied o) c.in-Some-client.is;
       service_name = sym c.in-Some-service_of.ensures;
