@@ -31,7 +31,7 @@ use Rattle.krb_as.specs.Grants.{Principals, first_ticket, granted}
 use Rattle.krb_kdc_requests.specs.Requests.{IsSpan, account_of, header_rows, client_of, is_ended, lasting, service_of}
 use Rattle.krb_as.specs.TicketGranting.{krbtgt_of}
 use Rattle.krb_kdc_requests.specs.declared.span.Span.{Span}
-use Rattle.krb_replies.specs.Replies.{Replies, as_reply, hint_of, reply_of, tgs_reply}
+use Rattle.krb_replies.specs.Replies.{Replies, as_reply, e_data_of, reply_of, tgs_reply}
 use Rattle.krb_client.specs.AsRequest.{as_body, as_request_of}
 use Rattle.krb_client.specs.Client.{ClientRecord}
 use Rattle.krb_client.specs.Held.{principal_name}
@@ -157,7 +157,7 @@ granted_reply : (IsKey : ReplyKeyRecord → Type 0) (call : CallRecord) (rows : 
     → (r : Result Bytes ℕ) × (is : IsGrantedBy IsKey call asked request.req_body.0 r) × (reply ≡ Some is.bytes)
 granted_reply IsKey call rows of_client of_service request asked reply grants x =
     let is = grants x.0 x.1 in
-    (x.0, is, subst (λ r. (reply_of call (hint_of rows.offered of_client) request r).gives reply) is.is x.2)
+    (x.0, is, subst (λ r. (reply_of call (e_data_of rows.offered of_client) request r).gives reply) is.is x.2)
 
 module _ (client : ClientRecord) (means : MeansRecord) (realm : RealmRecord) (rows : PkinitRows) (service : ServiceRecord) (before : RememberedRecord) (login : LoginRecord)
     (met : IsMet client means realm rows service before login) where

@@ -40,13 +40,13 @@ abbrev pub pa_data_of : ℕ → Bytes → PaData
 pa_data_of kind value = record { padata_type = record { 0 = pos kind }; padata_data = record { 0 = value } }
 
 -- these two, and PA-PK-AS-REQ without data where certificates are accepted (RFC 4556, section 3.4)
-abbrev pub hints : Bool → PaData → PaData → List PaData
-hints false info timestamp = info ∷ timestamp ∷ []
-hints true info timestamp = info ∷ timestamp ∷ pa_data_of 16 [] ∷ []
+abbrev pub method_list : Bool → PaData → PaData → List PaData
+method_list false info timestamp = info ∷ timestamp ∷ []
+method_list true info timestamp = info ∷ timestamp ∷ pa_data_of 16 [] ∷ []
 
 -- PA-ETYPE-INFO2, and PA-ENC-TIMESTAMP without data
 unfoldable pub method_data : Bool → AccountRecord → List PaData
-method_data by_certificate account = hints by_certificate (pa_data_of 19 (key_info_bytes account)) (pa_data_of 2 [])
+method_data by_certificate account = method_list by_certificate (pa_data_of 19 (key_info_bytes account)) (pa_data_of 2 [])
 
 -- METHOD-DATA
 abbrev pub method_data_tree : List PaData → Tree

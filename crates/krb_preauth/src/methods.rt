@@ -1,6 +1,6 @@
 //! What a client is told that has to authenticate first.
 ghost use Rattle.std.specs.Prelude.{◌≡◌, IfOk};
-ghost use Rattle.krb_preauth.specs.MethodData.{hints, key_entry, key_info_bytes, method_data_bytes, pa_data_of, told_salt};
+ghost use Rattle.krb_preauth.specs.MethodData.{method_list, key_entry, key_info_bytes, method_data_bytes, pa_data_of, told_salt};
 
 use krb_accounts::Account;
 use krb_types::constants::types::{PA_ENC_TIMESTAMP, PA_ETYPE_INFO2, PA_PK_AS_REQ};
@@ -23,19 +23,19 @@ pub fn method_data(
     let info = key_info(alloc, client)?;
     let info = pa_data(alloc, PA_ETYPE_INFO2, info)?;
     let timestamp = pa_data(alloc, PA_ENC_TIMESTAMP, Vec::new(alloc))?;
-    let methods = hints(alloc, by_certificate, info, timestamp)?;
+    let methods = method_list(alloc, by_certificate, info, timestamp)?;
     let bytes = encoding_of(alloc, methods)?;
     Ok(bytes)
 }
 
 // These two, and PA-PK-AS-REQ without data where the realm accepts certificates (RFC 4556, section 3.4).
-fn hints(
+fn method_list(
     alloc: Global,
     by_certificate: bool,
     info: PaData,
     timestamp: PaData,
 ) -> Result<Asn1SequenceOf<PaData>, AllocError>
-    ensures { IfOk result (λ made. made ≡ hints by_certificate info timestamp) }
+    ensures { IfOk result (λ made. made ≡ method_list by_certificate info timestamp) }
 {
     if by_certificate {
         let request = pa_data(alloc, PA_PK_AS_REQ, Vec::new(alloc))?;

@@ -18,13 +18,13 @@ use Rattle.krb_replies.specs.declared.told.Told.{Told}
 -- the error names the request's service
 pub error_with : (call : CallRecord) (request : KdcReq) (told : Told) (named : Option PrincipalName) (bytes : List ℕ) (time : GeneralizedTime) → named ≡ service_of request.req_body.0
     → IsSecondOf call.moment time
-    → bytes ≡ error_bytes call.realm time (call.moment % 1000000) (named_service call.realm named) told.code (option_map (λ h. h.items) told.hint) → IsAnswerWith call request (Err told) bytes
+    → bytes ≡ error_bytes call.realm time (call.moment % 1000000) (named_service call.realm named) told.code (option_map (λ h. h.items) told.e_data) → IsAnswerWith call request (Err told) bytes
 error_with call request told named bytes time service second e =
-    (time, second, e ∙ ap (λ n. error_bytes call.realm time (call.moment % 1000000) (named_service call.realm n) told.code (option_map (λ h. h.items) told.hint)) service)
+    (time, second, e ∙ ap (λ n. error_bytes call.realm time (call.moment % 1000000) (named_service call.realm n) told.code (option_map (λ h. h.items) told.e_data)) service)
 
-module _ (call : CallRecord) (hint : ℕ → Option (List ℕ)) (request : KdcReq) (table : Table (Result (List ℕ) ℕ)) where
-  answer_of : (judged : Result (Vec ℕ Global) Told) (bytes : List ℕ) → IsJudgement table.gives hint judged → IsAnswerWith call request judged bytes
-      → (answered call hint request table).gives (Some bytes)
+module _ (call : CallRecord) (e_data : ℕ → Option (List ℕ)) (request : KdcReq) (table : Table (Result (List ℕ) ℕ)) where
+  answer_of : (judged : Result (Vec ℕ Global) Told) (bytes : List ℕ) → IsJudgement table.gives e_data judged → IsAnswerWith call request judged bytes
+      → (answered call e_data request table).gives (Some bytes)
   answer_of (Ok ticket) bytes x e = (Ok ticket.items, x, ap Some e)
   answer_of (Err told) bytes x e = (
     Err told.code,
@@ -33,7 +33,7 @@ module _ (call : CallRecord) (hint : ℕ → Option (List ℕ)) (request : KdcRe
   )
 
   -- what is answered where a call succeeds is the reply
-  pub answers_with : {E : Type 0} (r : Result (Vec ℕ Global) E) (judged : Result (Vec ℕ Global) Told) → IsJudgement table.gives hint judged
-      → IfOk r (λ bytes. IsAnswerWith call request judged bytes.items) → IfOk r (λ bytes. (answered call hint request table).gives (Some bytes.items))
+  pub answers_with : {E : Type 0} (r : Result (Vec ℕ Global) E) (judged : Result (Vec ℕ Global) Told) → IsJudgement table.gives e_data judged
+      → IfOk r (λ bytes. IsAnswerWith call request judged bytes.items) → IfOk r (λ bytes. (answered call e_data request table).gives (Some bytes.items))
   answers_with (Ok bytes) judged x e = answer_of judged bytes.items x e
   answers_with (Err wanting) judged x e = tt

@@ -28,10 +28,10 @@ made version kind susec realm time service code told = record {
 }
 
 pub made-bytes : (version kind susec : ℤ) (lent realm : List ℕ) (time : GeneralizedTime) (microseconds : ℕ) (about service : PrincipalName) (code : ℕ)
-    (told : Option (ExplicitContextTag 12 (List ℕ))) (hint : Option (List ℕ))
-    → version ≡ pos 5 → kind ≡ pos 30 → susec ≡ pos microseconds → lent ≡ realm → about ≡ service → told ≡ option_map (λ bytes. record { 0 = bytes }) hint
-    → der (krb_error_tree (made version kind susec lent time about code told)) ≡ error_bytes realm time microseconds service code hint
-made-bytes version kind susec lent realm time microseconds about service code told hint v k s r n t =
+    (told : Option (ExplicitContextTag 12 (List ℕ))) (e_data : Option (List ℕ))
+    → version ≡ pos 5 → kind ≡ pos 30 → susec ≡ pos microseconds → lent ≡ realm → about ≡ service → told ≡ option_map (λ bytes. record { 0 = bytes }) e_data
+    → der (krb_error_tree (made version kind susec lent time about code told)) ≡ error_bytes realm time microseconds service code e_data
+made-bytes version kind susec lent realm time microseconds about service code told e_data v k s r n t =
     ap (λ x. der (krb_error_tree (made x kind susec lent time about code told))) v
     ∙ ap (λ x. der (krb_error_tree (made (pos 5) x susec lent time about code told))) k
     ∙ ap (λ x. der (krb_error_tree (made (pos 5) (pos 30) x lent time about code told))) s

@@ -26,19 +26,19 @@ use Rattle.krb_tgs.specs.TgsTable.{tgs_table}
 use Rattle.krb_tgs.proofs.HasOutcome.{has_tgs_outcome}
 use Rattle.krb_replies.specs.Errors.{error_bytes}
 use Rattle.krb_moments.specs.SecondOf.{IsSecondOf, sole_second}
-use Rattle.krb_replies.specs.Replies.{Replies, answered, as_reply, hint_of, named_service, reply_of, tgs_reply}
+use Rattle.krb_replies.specs.Replies.{Replies, answered, as_reply, e_data_of, named_service, reply_of, tgs_reply}
 
-has_told : (call : CallRecord) (hint : ℕ → Option (List ℕ)) (request : KdcReq) → IsMoment call.moment → (r : Result (List ℕ) ℕ) → HasOutcome (reply_of call hint request r)
-has_told call hint request in_time (Ok bytes) = has_done (Some bytes)
-has_told call hint request in_time (Err code) =
+has_told : (call : CallRecord) (e_data : ℕ → Option (List ℕ)) (request : KdcReq) → IsMoment call.moment → (r : Result (List ℕ) ℕ) → HasOutcome (reply_of call e_data request r)
+has_told call e_data request in_time (Ok bytes) = has_done (Some bytes)
+has_told call e_data request in_time (Err code) =
     let time = has_time (call.moment / 1000000) (omega arith) in
-    let bytes : GeneralizedTime → List ℕ = λ time. error_bytes call.realm time (call.moment % 1000000) (named_service call.realm (service_of request.req_body.0)) code (hint code) in
+    let bytes : GeneralizedTime → List ℕ = λ time. error_bytes call.realm time (call.moment % 1000000) (named_service call.realm (service_of request.req_body.0)) code (e_data code) in
     let rest : GeneralizedTime → Table (Option (List ℕ)) = λ time. done (Some (bytes time)) in
     has_made (IsSecondOf call.moment) (sole_second call.moment) rest (some_of (IsSecondOf call.moment) time.0 time.1) (λ found x. has_done (Some (bytes found)))
 
-has_answered : (call : CallRecord) (hint : ℕ → Option (List ℕ)) (request : KdcReq) (judged : Table (Result (List ℕ) ℕ)) → IsMoment call.moment → HasOutcome judged
-    → HasOutcome (answered call hint request judged)
-has_answered call hint request judged in_time x = has_made judged.gives judged.one (reply_of call hint request) x (λ r y. has_told call hint request in_time r)
+has_answered : (call : CallRecord) (e_data : ℕ → Option (List ℕ)) (request : KdcReq) (judged : Table (Result (List ℕ) ℕ)) → IsMoment call.moment → HasOutcome judged
+    → HasOutcome (answered call e_data request judged)
+has_answered call e_data request judged in_time x = has_made judged.gives judged.one (reply_of call e_data request) x (λ r y. has_told call e_data request in_time r)
 
 -- an account that is looked up is keyed
 keyed_of : (look : Look) (name : Option PrincipalName) (account : AccountRecord) → ((these : List (List ℕ)) (found : AccountRecord) → look these ≡ Some found → IsKeyed found)
@@ -57,7 +57,7 @@ module _ (call : CallRecord) (rows : PkinitRows) (bytes : List ℕ) (is : IsCall
   has_as_reply v found =
       let of_client = account_of call.look (client_of v.req_body.0) in
       let of_service = account_of call.look (service_of v.req_body.0) in
-      has_answered call (hint_of rows.offered of_client) v (as_table call rows of_client of_service v) is.in_time
+      has_answered call (e_data_of rows.offered of_client) v (as_table call rows of_client of_service v) is.in_time
       (has_as_outcome call rows of_client of_service v is (length bytes) few (request_fits 106 bytes v are found.1)
       (λ client e. keyed_of call.look (client_of v.req_body.0) client is.keyed e)
       (λ service e. keyed_of call.look (service_of v.req_body.0) service is.keyed e))

@@ -20,7 +20,7 @@ ticket_service realm = record {
 
 -- the error with this code, at a time and its microseconds, about a service; no optional field but the data
 abbrev pub error_of : Bytes → GeneralizedTime → Micros → PrincipalName → Code → Option Bytes → KrbErrorInner
-error_of realm time microseconds service code hint = record {
+error_of realm time microseconds service code e_data = record {
   pvno = record { 0 = pos 5 };
   msg_type = record { 0 = pos 30 };
   ctime = record { 0 = None };
@@ -33,8 +33,8 @@ error_of realm time microseconds service code hint = record {
   realm = record { 0 = realm };
   sname = record { 0 = service };
   e_text = record { 0 = None };
-  e_data = record { 0 = option_map (λ bytes. record { 0 = bytes }) hint };
+  e_data = record { 0 = option_map (λ bytes. record { 0 = bytes }) e_data };
 }
 
 abbrev pub error_bytes : Bytes → GeneralizedTime → Micros → PrincipalName → Code → Option Bytes → Bytes
-error_bytes realm time microseconds service code hint = der (krb_error_tree (error_of realm time microseconds service code hint))
+error_bytes realm time microseconds service code e_data = der (krb_error_tree (error_of realm time microseconds service code e_data))

@@ -13,14 +13,14 @@ use Rattle.krb_moments.specs.SecondOf.{IsSecondOf}
 use Rattle.krb_replies.specs.Replies.{named_service}
 use Rattle.krb_replies.specs.declared.told.Told.{Told}
 
--- the reply's bytes are an outcome of the table's, or the error's code is, with the hint that belongs to it
+-- the reply's bytes are an outcome of the table's, or the error's code is, with the e-data that belongs to it
 abbrev pub IsJudgement : (Result Bytes Code → Type 0) → (Code → Option Bytes) → Result (Vec ℕ Global) Told → Type 0
-IsJudgement gives hint (Ok bytes) = gives (Ok bytes.items)
-IsJudgement gives hint (Err told) = gives (Err told.code) × (option_map (λ h. h.items) told.hint ≡ hint told.code)
+IsJudgement gives e_data (Ok bytes) = gives (Ok bytes.items)
+IsJudgement gives e_data (Err told) = gives (Err told.code) × (option_map (λ h. h.items) told.e_data ≡ e_data told.code)
 
 -- the bytes are what was granted, or the error that tells this about the request's service, in the second of the moment
 abbrev pub IsAnswerWith : CallRecord → KdcReq → Result (Vec ℕ Global) Told → Bytes → Type 0
 IsAnswerWith call request (Ok ticket) bytes = bytes ≡ ticket.items
 IsAnswerWith call request (Err told) bytes =
     (time : GeneralizedTime) × IsSecondOf call.moment time
-    × (bytes ≡ error_bytes call.realm time (call.moment % 1000000) (named_service call.realm (service_of request.req_body.0)) told.code (option_map (λ h. h.items) told.hint))
+    × (bytes ≡ error_bytes call.realm time (call.moment % 1000000) (named_service call.realm (service_of request.req_body.0)) told.code (option_map (λ h. h.items) told.e_data))

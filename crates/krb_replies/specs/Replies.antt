@@ -25,22 +25,22 @@ named_service realm (Some name) = name
 
 -- what an error tells beside its code: with KDC_ERR_PREAUTH_REQUIRED how the client authenticates first, of PA-PK-AS-REQ where
 -- PKINIT is offered
-abbrev pub hint_of : Bool → Option AccountRecord → Code → Option Bytes
-hint_of offered of_client code = if code == KDC_ERR_PREAUTH_REQUIRED then option_map (method_data_bytes offered) of_client else None
+abbrev pub e_data_of : Bool → Option AccountRecord → Code → Option Bytes
+e_data_of offered of_client code = if code == KDC_ERR_PREAUTH_REQUIRED then option_map (method_data_bytes offered) of_client else None
 
 -- what a judgement is answered: what is granted, or the error with its code, in the second of the moment
 abbrev pub reply_of : CallRecord → (Code → Option Bytes) → KdcReq → Result Bytes Code → Table (Option Bytes)
-reply_of call hint request (Ok bytes) = done (Some bytes)
-reply_of call hint request (Err code) =
+reply_of call e_data request (Ok bytes) = done (Some bytes)
+reply_of call e_data request (Err code) =
     make (IsSecondOf call.moment) (sole_second call.moment) (λ time.
-    done (Some (error_bytes call.realm time (call.moment % 1000000) (named_service call.realm (service_of request.req_body.0)) code (hint code))))
+    done (Some (error_bytes call.realm time (call.moment % 1000000) (named_service call.realm (service_of request.req_body.0)) code (e_data code))))
 
 abbrev pub answered : CallRecord → (Code → Option Bytes) → KdcReq → Table (Result Bytes Code) → Table (Option Bytes)
-answered call hint request judged = make judged.gives judged.one (reply_of call hint request)
+answered call e_data request judged = make judged.gives judged.one (reply_of call e_data request)
 
 -- the reply to an AS request, by these rows for PA-PK-AS-REQ, of the accounts of client and service if they have one
 abbrev pub as_reply : CallRecord → PkinitRows → Option AccountRecord → Option AccountRecord → KdcReq → Table (Option Bytes)
-as_reply call rows of_client of_service request = answered call (hint_of rows.offered of_client) request (as_table call rows of_client of_service request)
+as_reply call rows of_client of_service request = answered call (e_data_of rows.offered of_client) request (as_table call rows of_client of_service request)
 
 -- the reply to a TGS request; its errors tell nothing beside their code
 abbrev pub tgs_reply : CallRecord → KdcReq → Table (Option Bytes)

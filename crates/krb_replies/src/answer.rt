@@ -10,7 +10,7 @@ ghost use Rattle.krb_tgs.specs.TgsTable.{tgs_table};
 ghost use Rattle.krb_replies.specs.Errors.{error_bytes};
 ghost use Rattle.krb_moments.specs.SecondOf.{IsSecondOf};
 ghost use Rattle.krb_replies.specs.Judged.{IsAnswerWith, IsJudgement};
-ghost use Rattle.krb_replies.specs.Replies.{as_reply, hint_of, named_service, tgs_reply};
+ghost use Rattle.krb_replies.specs.Replies.{as_reply, e_data_of, named_service, tgs_reply};
 
 use crate::error::error_reply;
 use crate::names::ticket_service;
@@ -104,7 +104,7 @@ fn judge<P: Pkinit>(
     ensures { IfOk result (λ judged. IsJudgement (as_table (call_of call.now) (P.rows pkinit.now)
         (account_of (look_in call.now.accounts.now) (client_of request.now.req_body.0))
         (account_of (look_in call.now.accounts.now) (service_of request.now.req_body.0)) request.now).gives
-        (hint_of (P.rows pkinit.now).offered (account_of (look_in call.now.accounts.now) (client_of request.now.req_body.0))) judged) }
+        (e_data_of (P.rows pkinit.now).offered (account_of (look_in call.now.accounts.now) (client_of request.now.req_body.0))) judged) }
 {
     let body = &request.req_body.0;
     let client = account_of(call.accounts, client_of(body));
@@ -113,8 +113,8 @@ fn judge<P: Pkinit>(
         Ok(reply) => Ok(Ok(reply)),
         Err(Refusal::Memory) => Err(AllocError),
         Err(Refusal::Krb(code)) => {
-            let hint = hint_of(alloc, pkinit.is_offered(), client, code)?;
-            Ok(Err(Told { code, hint }))
+            let e_data = e_data_of(alloc, pkinit.is_offered(), client, code)?;
+            Ok(Err(Told { code, e_data }))
         }
     }
 }
@@ -131,7 +131,7 @@ fn judge_further(
     match judge_tgs(alloc, call, request) {
         Ok(reply) => Ok(Ok(reply)),
         Err(Refusal::Memory) => Err(AllocError),
-        Err(Refusal::Krb(code)) => Ok(Err(Told { code, hint: None })),
+        Err(Refusal::Krb(code)) => Ok(Err(Told { code, e_data: None })),
     }
 }
 
@@ -145,7 +145,7 @@ fn error_answer(
 ) -> Result<Vec<u8>, AllocError>
     ensures { IfOk result (λ bytes. (time : GeneralizedTime) × IsSecondOf call.now.moment time
         × (bytes.items ≡ error_bytes call.now.realm.now time (call.now.moment % 1000000)
-        (named_service call.now.realm.now (option_copied named.entry)) told.code (option_map (λ h. h.items) told.hint))) }
+        (named_service call.now.realm.now (option_copied named.entry)) told.code (option_map (λ h. h.items) told.e_data))) }
 {
     if let Some(service) = named {
         let reply = error_about(alloc, call, service, told)?;
@@ -164,7 +164,7 @@ fn error_about(
     told: Told,
 ) -> Result<Vec<u8>, AllocError>
     ensures { IfOk result (λ bytes. (time : GeneralizedTime) × IsSecondOf call.now.moment time
-        × (bytes.items ≡ error_bytes call.now.realm.now time (call.now.moment % 1000000) service.now told.code (option_map (λ h. h.items) told.hint))) }
+        × (bytes.items ≡ error_bytes call.now.realm.now time (call.now.moment % 1000000) service.now told.code (option_map (λ h. h.items) told.e_data))) }
 {
     let time = call.moment.second();
     let microseconds = call.moment.microsecond();
@@ -174,13 +174,13 @@ fn error_about(
 
 // The e-data of an error: with the one that asks for preauthentication, how the client authenticates, of PA-PK-AS-REQ where
 // PKINIT is offered.
-fn hint_of(
+fn e_data_of(
     alloc: Global,
     offered: bool,
     client: Option<&Account>,
     code: u32,
 ) -> Result<Option<Vec<u8>>, AllocError>
-    ensures { IfOk result (λ hint. option_map (λ h. h.items) hint ≡ hint_of offered (option_copied client.entry) code) }
+    ensures { IfOk result (λ e_data. option_map (λ h. h.items) e_data ≡ e_data_of offered (option_copied client.entry) code) }
 {
     if code != error_codes::KDC_ERR_PREAUTH_REQUIRED {
         return Ok(None);

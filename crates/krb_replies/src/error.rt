@@ -86,7 +86,7 @@ pub(crate) fn error_reply(
     service: &PrincipalName,
     told: Told,
 ) -> Result<Vec<u8>, AllocError>
-    ensures { IfOk result (λ bytes. bytes.items ≡ error_bytes realm.now time microseconds service.now told.code (option_map (λ bytes. bytes.items) told.hint)) }
+    ensures { IfOk result (λ bytes. bytes.items ≡ error_bytes realm.now time microseconds service.now told.code (option_map (λ bytes. bytes.items) told.e_data)) }
 {
     let version = IntegerAsn1::from_u64(alloc, u64::from(KERBEROS_VERSION))?;
     let kind = IntegerAsn1::from_u64(alloc, u64::from(KRB_ERROR_MSG_TYPE))?;
@@ -99,17 +99,17 @@ pub(crate) fn error_reply(
         error_code: ExplicitContextTag(told.code),
         realm: ExplicitContextTag(Lent::new(realm)),
         sname: ExplicitContextTag(Lent::new(service)),
-        e_data: Optional(data_of(told.hint)),
+        e_data: Optional(data_of(told.e_data)),
     };
     let bytes = tagged_encoding::<LentError<'_>, KRB_ERROR_MSG_TYPE>(alloc, error)?;
     Ok(bytes)
 }
 
 // The data as a field.
-fn data_of(hint: Option<Vec<u8>>) -> Option<ExplicitContextTag12<OctetStringAsn1>>
-    ensures { result ≡ option_map (λ bytes. record { 0 = bytes }) (option_map (λ bytes. bytes.items) hint) }
+fn data_of(e_data: Option<Vec<u8>>) -> Option<ExplicitContextTag12<OctetStringAsn1>>
+    ensures { result ≡ option_map (λ bytes. record { 0 = bytes }) (option_map (λ bytes. bytes.items) e_data) }
 {
-    match hint {
+    match e_data {
         Some(bytes) => Some(ExplicitContextTag(OctetStringAsn1::from(bytes))),
         None => None,
     }

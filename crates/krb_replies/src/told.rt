@@ -6,5 +6,5 @@ pub(crate) struct Told {
     /// The code (RFC 4120, section 7.5.9).
     pub(crate) code: u32,
     /// What belongs to the code.
-    pub(crate) hint: Option<Vec<u8>>,
+    pub(crate) e_data: Option<Vec<u8>>,
 }

@@ -12,4 +12,4 @@ returns c =
     let told = c.args.told in
     let error = c.in_ok-reply-2.ensures in
     rw c.in_default.is
-    (error.0, error.1, error.2 ∙ ap (λ name. error_bytes call.realm.now error.0 (call.moment % 1000000) name told.code (option_map (λ h. h.items) told.hint)) c.in_ok-service.ensures)
+    (error.0, error.1, error.2 ∙ ap (λ name. error_bytes call.realm.now error.0 (call.moment % 1000000) name told.code (option_map (λ h. h.items) told.e_data)) c.in_ok-service.ensures)

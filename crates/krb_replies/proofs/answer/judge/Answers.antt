@@ -5,7 +5,7 @@ use Rattle.krb_as.specs.AsTable.{as_table}
 use Rattle.krb_kdc_requests.specs.Call.{call_of}
 use Rattle.krb_as.specs.Judged.{IsGranted}
 use Rattle.krb_kdc_requests.specs.Requests.{account_of, client_of, service_of}
-use Rattle.krb_replies.specs.Replies.{hint_of}
+use Rattle.krb_replies.specs.Replies.{e_data_of}
 use Rattle.krb_replies.proofs.answer.judge.Goals as goal
 
 pub returns-in-Ok : goal.returns-in-Ok
@@ -21,8 +21,8 @@ returns-in-Ok g c =
     subst (λ a. IsGranted (as_table call rows a (account_of call.look (service_of body)) request).gives (Ok c.in-Ok.reply)) client
     (subst (λ a. IsGranted (as_table call rows (option_copied c.account_of-client.result) a request).gives (Ok c.in-Ok.reply)) service c.in-Ok.ensures)
 
-pub returns-in_ok-hint-in-Err-Krb : goal.returns-in_ok-hint-in-Err-Krb
-returns-in_ok-hint-in-Err-Krb g c =
+pub returns-in_ok-e_data-in-Err-Krb : goal.returns-in_ok-e_data-in-Err-Krb
+returns-in_ok-e_data-in-Err-Krb g c =
     let call = call_of c.args.call.now in
     let rows = g.P.Pkinit.rows c.args.pkinit.now in
     let request = c.args.request.now in
@@ -35,6 +35,6 @@ returns-in_ok-hint-in-Err-Krb g c =
     let judged =
     subst (λ a. IsGranted (as_table call rows a (account_of call.look (service_of body)) request).gives (Err (Krb code))) client
     (subst (λ a. IsGranted (as_table call rows (option_copied c.account_of-client.result) a request).gives (Err (Krb code))) service (rw c.in-Err-Krb.field-0-is at c.in-Err-Krb.ensures)) in
-    let hint : option_map (λ h. h.items) c.in_ok-hint-in-Err-Krb.hint ≡ hint_of rows.offered (account_of call.look (client_of body)) code =
-    c.in_ok-hint-in-Err-Krb.ensures ∙ ap (λ o. hint_of o (option_copied c.account_of-client.result) code) c.is_offered.ensures ∙ ap (λ a. hint_of rows.offered a code) client in
-    (judged, hint)
+    let e_data : option_map (λ h. h.items) c.in_ok-e_data-in-Err-Krb.e_data ≡ e_data_of rows.offered (account_of call.look (client_of body)) code =
+    c.in_ok-e_data-in-Err-Krb.ensures ∙ ap (λ o. e_data_of o (option_copied c.account_of-client.result) code) c.is_offered.ensures ∙ ap (λ a. e_data_of rows.offered a code) client in
+    (judged, e_data)
