@@ -5,9 +5,9 @@ ghost use Rattle.krb_tickets.specs.Sealed.{IsSealedData, ticket_part_bytes};
 ghost use Rattle.krb_tickets.specs.Parts.{ticket_of, ticket_part};
 
 use crate::parts::ticket_part;
-use crate::seal::sealed_data;
 use krb_accounts::Account;
 use krb_crypto::CipherSuite;
+use krb_encrypted_data::sealed_data;
 use krb_types::constants::key_usages;
 use krb_types::constants::types::{ENC_TICKET_PART_TYPE, KERBEROS_VERSION};
 use krb_types::data_types::{EncTicketPartInner, EncryptedData, PrincipalName, TicketInner};
@@ -51,7 +51,7 @@ pub struct TicketFlags {
     pub pre_authenticated: bool,
 }
 
-/// The ticket's part under the service's key, behind the confounder.
+/// The ticket's part under the service's key, behind the confounder, with the key's kvno (RFC 4120, section 5.3).
 pub fn sealed_ticket(
     alloc: Global,
     grant: &Grant,
@@ -63,7 +63,9 @@ pub fn sealed_ticket(
 {
     let part = ticket_part(alloc, grant)?;
     let plain = ticket_part_bytes(alloc, part)?;
-    let sealed = sealed_data(alloc, service, key_usages::TICKET, &plain, confounder)?;
+    let kvno = Some(service.kvno());
+    let usage = key_usages::TICKET;
+    let sealed = sealed_data(alloc, service.key(), kvno, usage, confounder, &plain)?;
     Ok(sealed)
 }
 
