@@ -7,7 +7,7 @@ use gss_acceptor::Acceptor;
 use krb_moments::Moment;
 use krb_service::Service;
 use krb_settings::{
-    AccountSettings, RealmSettings, SETTINGS_LIMIT, Secret, explain, read_settings,
+    AccountSettings, RealmSettings, SETTINGS_LIMIT, Secret, explain, read_settings_file,
 };
 use std::env;
 use std::fs::{self, Files};
@@ -52,7 +52,7 @@ fn time_of(text: &str) -> Option<Time> {
 // The service of this name in a settings file.
 fn service_in(rt: &HostRuntime, path: &str, name: &str) -> anyhow::Result<Service> {
     let text = read_file(rt, path)?;
-    let settings = match read_settings(rt.alloc(), &text) {
+    let settings = match read_settings_file(rt.alloc(), &text) {
         Ok(settings) => settings,
         Err(fault) => {
             let fault = explain(rt.alloc(), &text, fault)?;

@@ -10,7 +10,7 @@ use Rattle.krb_settings.specs.Written.{WrittenRealm}
 use Rattle.krb_settings.specs.declared.fault.SettingsFault.{SettingsFault}
 use Rattle.krb_settings.specs.declared.fault.SettingsFault.TheVariants as settings_fault
 use Rattle.krb_kdc.specs.Files.{IsRealmFile}
-use Rattle.krb_kdc.specs.Realms.{realm_of}
+use Rattle.krb_kdc.specs.Realms.{realm_of_settings}
 use Rattle.krb_kdc.specs.declared.fault.KdcFault.{KdcFault}
 use Rattle.krb_kdc.specs.declared.fault.KdcFault.TheVariants as kdc_fault
 
@@ -18,11 +18,11 @@ pub no_realm_unread : (text : List ℕ) (fault : SettingsFault) → HasFault tex
     → (realm : RealmState) → ¬ IsRealmFile text realm
 no_realm_unread text fault has known realm (written, is, made) = file.no_realm_with_fault text fault written has known is
 
-pub no_realm_refused : (text : List ℕ) (written : WrittenRealm) (fault : KdcFault) → IsRealmText text written → realm_of written ≡ Err fault
+pub no_realm_refused : (text : List ℕ) (written : WrittenRealm) (fault : KdcFault) → IsRealmText text written → realm_of_settings written ≡ Err fault
     → (realm : RealmState) → ¬ IsRealmFile text realm
 no_realm_refused text written fault is refused realm (other, q, given) =
     let same : written ≡ other = file.one_realm text written other is q in
-    let clash : ◌≡◌ {A = Result RealmState KdcFault} (Err fault) (Ok realm) = sym refused ∙ ap realm_of same ∙ given in
+    let clash : ◌≡◌ {A = Result RealmState KdcFault} (Err fault) (Ok realm) = sym refused ∙ ap realm_of_settings same ∙ given in
     cc
 
 -- a realm, or the fault for which there is none

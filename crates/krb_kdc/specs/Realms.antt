@@ -53,7 +53,7 @@ with_accounts number realm [] = Ok realm
 with_accounts number realm (account ∷ rest) =
     in_account number (adding_account realm account) >>= (λ _. with_accounts (suc number) (with_account realm account) rest)
 
-abbrev pub realm_of : WrittenRealm → Result RealmState KdcFault
-realm_of written = settings_of written.skew written.lifetime >>= (λ settings.
+abbrev pub realm_of_settings : WrittenRealm → Result RealmState KdcFault
+realm_of_settings written = settings_of written.skew written.lifetime >>= (λ settings.
     in_realm (making written.name written.suite written.key) >>= (λ _.
     with_accounts 1 (made written.name written.suite written.key settings) written.accounts))

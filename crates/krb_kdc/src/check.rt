@@ -4,13 +4,13 @@ ghost use Rattle.krb_realm.specs.Realm.{RealmState};
 ghost use Rattle.krb_settings.specs.Files.{IsRealmText};
 ghost use Rattle.krb_settings.specs.Written.{shown_realm};
 ghost use Rattle.krb_kdc.specs.Checks.{IsChecked};
-ghost use Rattle.krb_kdc.specs.Realms.{realm_of};
+ghost use Rattle.krb_kdc.specs.Realms.{realm_of_settings};
 
 use crate::fault::KdcFault;
-use crate::realm::realm_of;
+use crate::realm::realm_of_settings;
 use krb_realm::RealmRefusal;
 use krb_settings::{
-    Place, RealmSettings, Remark, Rule, SettingsFault, explain, explain_rule, read_settings,
+    Place, RealmSettings, Remark, Rule, SettingsFault, explain, explain_rule, read_settings_file,
     warnings_of,
 };
 use std::alloc::{AllocError, Global};
@@ -29,7 +29,7 @@ pub enum FileCheck {
 pub fn check_file(alloc: Global, text: &[u8]) -> Result<FileCheck, AllocError>
     ensures { IfOk result (IsChecked text.now) }
 {
-    match read_settings(alloc, text) {
+    match read_settings_file(alloc, text) {
         Ok(written) => check_written(alloc, text, &written),
         Err(SettingsFault::Memory) => Err(AllocError),
         Err(fault) => Ok(FileCheck::Fault(explain(alloc, text, fault)?)),
@@ -55,10 +55,10 @@ fn check_written(
 // Why these settings are no realm's.
 fn fault_of(alloc: Global, written: &RealmSettings) -> Option<KdcFault>
     ensures { MatchOption result
-        ((realm : RealmState) × (realm_of (shown_realm written.now) ≡ Ok realm))
-        (λ fault. (fault ≡ KdcFault.Memory) ⊎ (realm_of (shown_realm written.now) ≡ Err fault)) }
+        ((realm : RealmState) × (realm_of_settings (shown_realm written.now) ≡ Ok realm))
+        (λ fault. (fault ≡ KdcFault.Memory) ⊎ (realm_of_settings (shown_realm written.now) ≡ Err fault)) }
 {
-    realm_of(alloc, written).err()
+    realm_of_settings(alloc, written).err()
 }
 
 // The message of what the realm refuses in a file.

@@ -22,6 +22,6 @@ pub use fault::KdcFault;
 pub use krb_realm::Moment;
 pub use outcome::{Outcome, Stop};
 pub use process::run_process;
-pub use realm::{read_realm, realm_of};
+pub use realm::{realm_of_file, realm_of_settings};
 pub use run::run_settings;
 pub use serving::serve_at;

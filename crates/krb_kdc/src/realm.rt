@@ -5,30 +5,30 @@ ghost use Rattle.krb_settings.specs.Steps.{IsAside};
 ghost use Rattle.krb_settings.specs.Written.{shown_account, shown_realm};
 ghost use Rattle.krb_realm.specs.Realm.{making, made};
 ghost use Rattle.krb_kdc.specs.Files.{HasFault, IsRealmFile};
-ghost use Rattle.krb_kdc.specs.Realms.{adding_account, in_account, in_realm, realm_of, settings_of, with_account, with_accounts};
+ghost use Rattle.krb_kdc.specs.Realms.{adding_account, in_account, in_realm, realm_of_settings, settings_of, with_account, with_accounts};
 
 use crate::fault::KdcFault;
 use krb_realm::{Realm, RealmRefusal, Settings};
-use krb_settings::{AccountSettings, RealmSettings, Secret, SettingsFault, read_settings};
+use krb_settings::{AccountSettings, RealmSettings, Secret, SettingsFault, read_settings_file};
 use std::alloc::Global;
 
 /// The realm that a settings file writes, or what is wrong with the file.
 ///
 /// Faults of the file itself come first, then those of skew and lifetime, of the realm's name and key, and of the accounts
 /// in the file's order. `Memory` says nothing of the file.
-pub fn read_realm(alloc: Global, text: &[u8]) -> Result<Realm, KdcFault>
+pub fn realm_of_file(alloc: Global, text: &[u8]) -> Result<Realm, KdcFault>
     ensures { MatchResult result (IsRealmFile text.now) (HasFault text.now) }
 {
-    match read_settings(alloc, text) {
-        Ok(written) => realm_of(alloc, &written),
+    match read_settings_file(alloc, text) {
+        Ok(written) => realm_of_settings(alloc, &written),
         Err(SettingsFault::Memory) => Err(KdcFault::Memory),
         Err(fault) => Err(KdcFault::File(fault)),
     }
 }
 
 /// The realm of these settings, with each account added in their order.
-pub fn realm_of(alloc: Global, written: &RealmSettings) -> Result<Realm, KdcFault>
-    ensures { IsAside KdcFault.Memory (λ realm. realm) (realm_of (shown_realm written.now)) result }
+pub fn realm_of_settings(alloc: Global, written: &RealmSettings) -> Result<Realm, KdcFault>
+    ensures { IsAside KdcFault.Memory (λ realm. realm) (realm_of_settings (shown_realm written.now)) result }
 {
     let settings = settings_of(alloc, written.skew, written.lifetime)?;
     let mut realm = new_realm(alloc, written, settings)?;

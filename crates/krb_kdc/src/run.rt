@@ -6,7 +6,7 @@ ghost use Rattle.krb_kdc.specs.declared.outcome.Stop.{Stop};
 ghost use Rattle.krb_kdc.specs.Runs.{IsEnd};
 
 use crate::outcome::{Outcome, Stop};
-use crate::realm::read_realm;
+use crate::realm::realm_of_file;
 use crate::serving::serve_at;
 use krb_realm::{Answering, Moment, NoKeys, Sink, Source};
 use std::alloc::Global;
@@ -47,7 +47,7 @@ fn serve_file<K: Source, R: Source, W: Sink>(
         (devices (device (K.left words_reader.new) (K.failed words_reader.new)) (device (R.left reader.new) (R.failed reader.new)) (device (W.written writer.new) (W.failed writer.new)))
         result }
 {
-    let realm = match read_realm(alloc, settings) {
+    let realm = match realm_of_file(alloc, settings) {
         Ok(realm) => realm,
         Err(fault) => return Err(fault.stop()),
     };

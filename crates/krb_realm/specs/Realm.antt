@@ -28,8 +28,8 @@ pub record RealmState : Type 0 where
   pub accounts : AccountMap
 
 -- the realm as logins see it
-abbrev pub realm_of : RealmState → RealmRecord
-realm_of realm = record { name = realm.name; settings = realm.settings; look = look_in realm.accounts }
+abbrev pub realm_record : RealmState → RealmRecord
+realm_record realm = record { name = realm.name; settings = realm.settings; look = look_in realm.accounts }
 
 -- a call to the realm at a moment, with random bytes
 abbrev pub call_to : RealmState → Micros → Random → CallRecord

@@ -12,7 +12,7 @@ ghost use Rattle.krb_service.specs.Pair.{PairRecord};
 ghost use Rattle.krb_service.specs.Seen.{IsWindow};
 ghost use Rattle.krb_realm.specs.Logins.{Admit, Answer, ApAsk, AsAsk, AsTake, Keyed, Remembers, Show, TgsAsk, TgsTake, realm_rows, remembered};
 ghost use Rattle.krb_realm.specs.Clients.{ByKey, means_of};
-ghost use Rattle.krb_realm.specs.Realm.{realm_of};
+ghost use Rattle.krb_realm.specs.Realm.{realm_record};
 ghost use Rattle.key_functions.specs.KeyFunctions.{no_functions};
 ghost use Rattle.krb_crypto.specs.Keys.{KeyRecord};
 ghost use Rattle.krb_encrypted_data.specs.Sealing.{encryption_key};
@@ -47,14 +47,14 @@ pub fn login_by_password(
     requires realm_tgs { 128 ≤ length input.now.realm_words_tgs.now }
     requires service { 16 ≤ length input.now.service_words.now }
     ensures run { (admitted : List PairRecord) → IsWindow service.old.seen admitted
-        → Remembers service.new.seen (LoginRun client.now.client (means_of client.now no_functions) (realm_of realm.now) (realm_rows realm.now no_functions)
+        → Remembers service.new.seen (LoginRun client.now.client (means_of client.now no_functions) (realm_record realm.now) (realm_rows realm.now no_functions)
         service.old (login_of input.now) (remembered service.old admitted) result) }
     ensures rest { service.new ≡ record service.old { seen = service.new.seen } }
     ensures skew { service.new.seen.skew ≡ service.old.seen.skew }
 
     // An honest login by a key that client and realm share ends with one key on both sides.
     ensures honest { (key : KeyRecord) (admitted : List PairRecord) → client.now.by ≡ ByKey key → IsWindow service.old.seen admitted
-        → IsHonestByPassword client.now.client key.bytes (realm_of realm.now) service.old (remembered service.old admitted) (login_of input.now)
+        → IsHonestByPassword client.now.client key.bytes (realm_record realm.now) service.old (remembered service.old admitted) (login_of input.now)
         → IsOneKey client.now.client result }
 {
     keyed_ends_with_one_key(client, realm, service, input);
@@ -91,15 +91,15 @@ pub fn login_by_certificate<C: KeyFunctions, R: KeyFunctions>(
     requires realm_tgs { 128 ≤ length input.now.realm_words_tgs.now }
     requires service { 16 ≤ length input.now.service_words.now }
     ensures run { (admitted : List PairRecord) → IsWindow service.old.seen admitted
-        → Remembers service.new.seen (LoginRun client.now.client (means_of client.now (C.functions client_keys.now)) (realm_of realm.now) (realm_rows realm.now (R.functions realm_keys.now))
+        → Remembers service.new.seen (LoginRun client.now.client (means_of client.now (C.functions client_keys.now)) (realm_record realm.now) (realm_rows realm.now (R.functions realm_keys.now))
         service.old (login_of input.now) (remembered service.old admitted) result) }
     ensures rest { service.new ≡ record service.old { seen = service.new.seen } }
     ensures skew { service.new.seen.skew ≡ service.old.seen.skew }
 
     // An honest login of a client that the realm authenticates ends with one key on both sides.
     ensures honest { (admitted : List PairRecord) → IsWindow service.old.seen admitted
-        → (honest : IsHonestLogin client.now.client (realm_of realm.now) service.old (remembered service.old admitted) (login_of input.now))
-        → IsAuthenticated client.now.client (means_of client.now (C.functions client_keys.now)) (realm_of realm.now) (realm_rows realm.now (R.functions realm_keys.now))
+        → (honest : IsHonestLogin client.now.client (realm_record realm.now) service.old (remembered service.old admitted) (login_of input.now))
+        → IsAuthenticated client.now.client (means_of client.now (C.functions client_keys.now)) (realm_record realm.now) (realm_rows realm.now (R.functions realm_keys.now))
         honest.client.account (login_of input.now) → IsOneKey client.now.client result }
 {
     let means = client.means(client_keys);
@@ -131,13 +131,13 @@ fn login<M: Means, R: KeyFunctions>(
     requires realm_tgs { 128 ≤ length input.now.realm_words_tgs.now }
     requires service { 16 ≤ length input.now.service_words.now }
     ensures run { (admitted : List PairRecord) → IsWindow service.old.seen admitted
-        → Remembers service.new.seen (LoginRun client.now (M.means means.now) (realm_of realm.now) (realm_rows realm.now (R.functions keys.now))
+        → Remembers service.new.seen (LoginRun client.now (M.means means.now) (realm_record realm.now) (realm_rows realm.now (R.functions keys.now))
         service.old (login_of input.now) (remembered service.old admitted) result) }
     ensures rest { service.new ≡ record service.old { seen = service.new.seen } }
     ensures skew { service.new.seen.skew ≡ service.old.seen.skew }
     ensures honest { (admitted : List PairRecord) → IsWindow service.old.seen admitted
-        → (honest : IsHonestLogin client.now (realm_of realm.now) service.old (remembered service.old admitted) (login_of input.now))
-        → IsAuthenticated client.now (M.means means.now) (realm_of realm.now) (realm_rows realm.now (R.functions keys.now)) honest.client.account (login_of input.now)
+        → (honest : IsHonestLogin client.now (realm_record realm.now) service.old (remembered service.old admitted) (login_of input.now))
+        → IsAuthenticated client.now (M.means means.now) (realm_record realm.now) (realm_rows realm.now (R.functions keys.now)) honest.client.account (login_of input.now)
         → IsOneKey client.now result }
 {
     ends_with_one_key(client, means, realm, service, input, keys);
@@ -156,9 +156,9 @@ fn ends_with_one_key<M: Means, R: KeyFunctions>(
 )
     requires { AreEnough (login_of input.now) }
     ensures { (before : RememberedRecord) (result : Result Login LoginRefusal) (after : RememberedRecord)
-        → (honest : IsHonestLogin client.now (realm_of realm.now) service.now before (login_of input.now))
-        → IsAuthenticated client.now (M.means means.now) (realm_of realm.now) (realm_rows realm.now (R.functions keys.now)) honest.client.account (login_of input.now)
-        → LoginRun client.now (M.means means.now) (realm_of realm.now) (realm_rows realm.now (R.functions keys.now)) service.now (login_of input.now) before result after
+        → (honest : IsHonestLogin client.now (realm_record realm.now) service.now before (login_of input.now))
+        → IsAuthenticated client.now (M.means means.now) (realm_record realm.now) (realm_rows realm.now (R.functions keys.now)) honest.client.account (login_of input.now)
+        → LoginRun client.now (M.means means.now) (realm_record realm.now) (realm_rows realm.now (R.functions keys.now)) service.now (login_of input.now) before result after
         → IsOneKey client.now result }
 {
     client.is_well_formed();
@@ -178,8 +178,8 @@ fn keyed_ends_with_one_key(
     requires { AreEnough (login_of input.now) }
     ensures { (key : KeyRecord) (before : RememberedRecord) (result : Result Login LoginRefusal) (after : RememberedRecord)
         → client.now.by ≡ ByKey key
-        → IsHonestByPassword client.now.client key.bytes (realm_of realm.now) service.now before (login_of input.now)
-        → LoginRun client.now.client (means_of client.now no_functions) (realm_of realm.now) (realm_rows realm.now no_functions) service.now (login_of input.now) before result after
+        → IsHonestByPassword client.now.client key.bytes (realm_record realm.now) service.now before (login_of input.now)
+        → LoginRun client.now.client (means_of client.now no_functions) (realm_record realm.now) (realm_rows realm.now no_functions) service.now (login_of input.now) before result after
         → IsOneKey client.now.client result }
 {
     client.is_well_formed();
@@ -202,7 +202,7 @@ fn exchange<M: Means, R: KeyFunctions>(
     requires client_tgs { 96 ≤ length input.now.words_tgs.now }
     requires realm_as { 128 ≤ length input.now.realm_words_as.now }
     requires realm_tgs { 128 ≤ length input.now.realm_words_tgs.now }
-    ensures { Exchanges client.now (M.means means.now) (realm_of realm.now) (realm_rows realm.now (R.functions keys.now)) (login_of input.now) result }
+    ensures { Exchanges client.now (M.means means.now) (realm_record realm.now) (realm_rows realm.now (R.functions keys.now)) (login_of input.now) result }
 {
     let granting = as_exchange(alloc, client, means, realm, input, keys)?;
     tgs_exchange(alloc, client, realm, &granting, input, keys)
@@ -219,7 +219,7 @@ fn as_exchange<M: Means, R: KeyFunctions>(
 ) -> Result<Credential, LoginRefusal>
     requires client { 96 ≤ length input.now.words_as.now }
     requires realm { 128 ≤ length input.now.realm_words_as.now }
-    ensures { AsExchange client.now (M.means means.now) (realm_of realm.now) (realm_rows realm.now (R.functions keys.now)) (login_of input.now) result }
+    ensures { AsExchange client.now (M.means means.now) (realm_record realm.now) (realm_rows realm.now (R.functions keys.now)) (login_of input.now) result }
 {
     let (request, asked) = ask_as(alloc, client, means, input)?;
     let reply = answer(
@@ -244,7 +244,7 @@ fn tgs_exchange<R: KeyFunctions>(
 ) -> Result<Credential, LoginRefusal>
     requires client { 96 ≤ length input.now.words_tgs.now }
     requires realm { 128 ≤ length input.now.realm_words_tgs.now }
-    ensures { TgsExchange client.now (realm_of realm.now) (realm_rows realm.now (R.functions keys.now)) (login_of input.now) granting.now result }
+    ensures { TgsExchange client.now (realm_record realm.now) (realm_rows realm.now (R.functions keys.now)) (login_of input.now) granting.now result }
 {
     let (request, asked) = ask_tgs(alloc, client, granting, input)?;
     let reply = answer(
@@ -359,7 +359,7 @@ fn answer<R: KeyFunctions>(
     keys: &R,
 ) -> Result<Vec<u8>, LoginRefusal>
     requires { 128 ≤ length words.now }
-    ensures { Answer (call_at (realm_of realm.now) moment words.now) (realm_rows realm.now (R.functions keys.now)) request.now result }
+    ensures { Answer (call_at (realm_record realm.now) moment words.now) (realm_rows realm.now (R.functions keys.now)) request.now result }
 {
     match realm.answer(alloc, request, moment, words, keys) {
         Ok(reply) => Ok(reply),

@@ -72,7 +72,7 @@ impl Model for Realm {
 
 impl Realm {
     ghost use Rattle.krb_accounts.specs.Account.{AccountRecord};
-    ghost use Rattle.krb_realm.specs.Realm.{making, made, adding, adding_by_password, changing, first_key, realm_of, removing};
+    ghost use Rattle.krb_realm.specs.Realm.{making, made, adding, adding_by_password, changing, first_key, realm_record, removing};
     ghost use Rattle.krb_accounts.specs.Passwords.{password_account, password_salt};
     ghost use Rattle.krb_accounts.specs.declared.refusal.RealmRefusal.{RealmRefusal};
     ghost use Rattle.krb_logins.specs.Honest.{IsGranting};
@@ -114,7 +114,7 @@ impl Realm {
 
     /// What every realm has: the account of its ticket-granting service. It does nothing when it runs.
     pub fn is_granting(&self)
-        ensures { IsGranting (realm_of self.now) }
+        ensures { IsGranting (realm_record self.now) }
     {
         // The clause is of the fields: the proof sees them where one is read.
         let _settings = &self.settings;
@@ -122,7 +122,7 @@ impl Realm {
 
     /// What every realm has: accounts whose keys are keys of their suites. It does nothing when it runs.
     pub fn are_keyed(&self)
-        ensures { AreKeyed (realm_of self.now).look }
+        ensures { AreKeyed (realm_record self.now).look }
     {
         // The clause is of the fields: the proof sees them where one is read.
         let _settings = &self.settings;

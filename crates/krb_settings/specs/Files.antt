@@ -2,7 +2,7 @@
 use Rattle.std.specs.Prelude.{◌≡◌, ℕ, ◌≤◌, ◌<◌, ◌⊎◌, IsUtf8, List, length, Some, Ok, Err}
 use Rattle.toml.specs.Data.{Members}
 use Rattle.toml.specs.Parse.{parse_document}
-use Rattle.krb_settings.specs.Realms.{realm_of}
+use Rattle.krb_settings.specs.Realms.{realm_in_table}
 use Rattle.krb_settings.specs.Written.{WrittenRealm}
 use Rattle.krb_settings.specs.declared.fault.SettingsFault.{SettingsFault}
 use Rattle.krb_settings.specs.declared.fault.SettingsFault.TheVariants.{NotToml, TooLong, Memory}
@@ -15,7 +15,7 @@ pub record IsDocument (text : List ℕ) (document : Members) : Type 0 where
 
 -- the bytes write this realm
 abbrev pub IsRealmText : List ℕ → WrittenRealm → Type 0
-IsRealmText text realm = (document : Members) × IsDocument text document × (realm_of document ≡ Ok realm)
+IsRealmText text realm = (document : Members) × IsDocument text document × (realm_in_table document ≡ Ok realm)
 
 -- the bytes have no document, and this is why. A text that is too long has no other fault
 abbrev pub IsUnread : List ℕ → SettingsFault → Type 0
@@ -26,4 +26,4 @@ IsUnread text _ = ⊥
 -- the bytes have this fault. Want of memory says nothing of them
 abbrev pub HasFault : List ℕ → SettingsFault → Type 0
 HasFault text fault =
-    (fault ≡ Memory) ⊎ IsUnread text fault ⊎ ((document : Members) × IsDocument text document × (realm_of document ≡ Err fault))
+    (fault ≡ Memory) ⊎ IsUnread text fault ⊎ ((document : Members) × IsDocument text document × (realm_in_table document ≡ Err fault))

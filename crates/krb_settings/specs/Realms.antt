@@ -21,6 +21,6 @@ realm_with document accounts =
     Ok (record { name = name; suite = suite; key = key; skew = skew; lifetime = lifetime; accounts = accounts }))))))
 
 -- an unknown key comes first, then the accounts' faults
-abbrev pub realm_of : Members → Result WrittenRealm SettingsFault
-realm_of document =
+abbrev pub realm_in_table : Members → Result WrittenRealm SettingsFault
+realm_in_table document =
     in_file (only realm_fields document) >>= (λ _. accounts_at document >>= (λ accounts. in_file (realm_with document accounts)))

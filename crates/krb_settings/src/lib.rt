@@ -13,7 +13,7 @@
 //! password = "correct horse battery staple"
 //! ```
 //!
-//! [`read_settings`] gives what a file writes, or the first of its faults. [`explain`] gives a fault's message: line, word, and
+//! [`read_settings_file`] gives what a file writes, or the first of its faults. [`explain`] gives a fault's message: line, word, and
 //! what was expected. None of them shows a key or a password.
 #![tactic(auto)]
 
@@ -38,7 +38,7 @@ mod words;
 
 pub use fault::{SettingsFault, TableFault};
 pub use field::Field;
-pub use file::{SETTINGS_LIMIT, read_settings};
+pub use file::{SETTINGS_LIMIT, read_settings_file};
 pub use messages::explain;
 pub use place::Place;
 pub use remark::Remark;

@@ -2,7 +2,7 @@
 ghost use Rattle.std.specs.Prelude.{◌≡◌, map};
 ghost use Rattle.toml.specs.View.{table_view};
 ghost use Rattle.krb_settings.specs.Steps.{IsAside};
-ghost use Rattle.krb_settings.specs.Realms.{realm_of, realm_with};
+ghost use Rattle.krb_settings.specs.Realms.{realm_in_table, realm_with};
 ghost use Rattle.krb_settings.specs.Written.{shown_account, shown_realm};
 
 use crate::account::accounts_at;
@@ -22,8 +22,8 @@ pub(crate) const REALM_FIELDS: [Field; 6] = [
 ];
 
 // The realm that a file's table writes.
-pub(crate) fn realm_of(alloc: Global, table: &Table) -> Result<RealmSettings, SettingsFault>
-    ensures { IsAside SettingsFault.Memory shown_realm (realm_of (table_view table.now)) result }
+pub(crate) fn realm_in_table(alloc: Global, table: &Table) -> Result<RealmSettings, SettingsFault>
+    ensures { IsAside SettingsFault.Memory shown_realm (realm_in_table (table_view table.now)) result }
 {
     if let Err(fault) = check_keys(table, &REALM_FIELDS) {
         return Err(SettingsFault::in_file(fault));

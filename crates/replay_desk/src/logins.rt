@@ -80,7 +80,10 @@ fn outcome_of(
     count: u64,
 ) -> anyhow::Result<String> {
     let times = times_of(alloc, times)?;
-    let sides = both(client_of(alloc, parties.client), realm_of(alloc, parties));
+    let sides = both(
+        client_of(alloc, parties.client),
+        realm_of_parties(alloc, parties),
+    );
     let ((client, realm), mut service) = both(sides, service_of(alloc, parties.service))?;
     let outcome = outcome_by(alloc, &client, &realm, &mut service, &times, count);
     drop(client);
@@ -255,7 +258,7 @@ fn client_of(alloc: Global, words: &str) -> anyhow::Result<Keyed<Client>> {
 }
 
 /// The realm, with its key functions' words: skew, lifetime, keys, and the certificates of its anchor and its own.
-fn realm_of(alloc: Global, parties: Parties<'_>) -> anyhow::Result<Keyed<Realm>> {
+fn realm_of_parties(alloc: Global, parties: Parties<'_>) -> anyhow::Result<Keyed<Realm>> {
     let words = parts_of(alloc, parties.realm, ' ')?;
     let [skew, lifetime, keys, anchor, own] = words.as_slice() else {
         bail!("a realm of other than five words");

@@ -119,13 +119,13 @@ pub(crate) fn realms_of(rt: &HostRuntime, file: &str) -> anyhow::Result<PkinitRe
     let mut realms = Vec::new(rt.alloc());
     for line in text.lines() {
         if !line.starts_with('#') {
-            realms.push(realm_of(rt.alloc(), line)?)?;
+            realms.push(realm_of_line(rt.alloc(), line)?)?;
         }
     }
     Ok(PkinitRealms { realms })
 }
 
-fn realm_of(alloc: Global, line: &str) -> anyhow::Result<PkinitRealm> {
+fn realm_of_line(alloc: Global, line: &str) -> anyhow::Result<PkinitRealm> {
     let columns = parts_of(alloc, line, '\t')?;
     let [name, anchor, own] = columns.as_slice() else {
         bail!("a realm of other than three columns");

@@ -3,7 +3,7 @@ use Rattle.krb_logins.specs.Input.{login_of}
 use Rattle.krb_realm.specs.Clients.{means_by, means_of}
 use Rattle.krb_realm.specs.HeldClients.{client_by}
 use Rattle.krb_realm.specs.Logins.{realm_rows, remembered}
-use Rattle.krb_realm.specs.Realm.{realm_of}
+use Rattle.krb_realm.specs.Realm.{realm_record}
 use Rattle.krb_realm.proofs.ClientMeans.{same_means}
 use Rattle.krb_realm.proofs.LoginMeans.{run_as}
 use Rattle.krb_realm.proofs.login.login_by_password.Goals as goal
@@ -20,7 +20,7 @@ keyed_ends_with_one_key-requires c = record {
 
 pub returns-clause-run : goal.returns-clause-run
 returns-clause-run c = λ admitted window.
-    run_as (realm_of c.args.realm.now) (realm_rows c.args.realm.now no_functions) c.args.service.now (remembered c.args.service.now admitted) (login_of c.args.input.now) c.login.result
+    run_as (realm_record c.args.realm.now) (realm_rows c.args.realm.now no_functions) c.args.service.now (remembered c.args.service.now admitted) (login_of c.args.input.now) c.login.result
     c.asking.result.now c.args.client.now.client c.asking.ensures
     (means_by (client_by c.means-means.result.held.now) no_functions) (means_of c.args.client.now no_functions)
     (same_means (λ keys. no_functions) c.means-means.ensures.by c.means-means.ensures.keys)
