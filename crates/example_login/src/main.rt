@@ -97,8 +97,8 @@ fn log_in<K: KeyFunctions>(
     keys: &K,
 ) -> anyhow::Result<Credential> {
     let (request, asked) = ask_realm(rt, client, keys)?;
-    let random = random_bytes::<128>(rt)?;
-    let reply = realm.answer(rt.alloc(), &request, now()?, &random, keys)?;
+    let words = random_bytes::<128>(rt)?;
+    let reply = realm.answer(rt.alloc(), &request, now()?, &words, keys)?;
     print_reply(rt, &reply)?;
     let credential = client.take_as_reply(rt.alloc(), &asked, &reply, keys)?;
     Ok(credential)
@@ -112,8 +112,8 @@ fn ask_realm<K: KeyFunctions>(
 ) -> anyhow::Result<(Vec<u8>, AsAsked)> {
     let host = name_of(rt.alloc(), HOST)?;
     let till = moment_of(b"20000101100000Z")?.second();
-    let random = random_bytes::<96>(rt)?;
-    let asked = client.as_request(rt.alloc(), &host, till, now()?, &random, keys)?;
+    let words = random_bytes::<96>(rt)?;
+    let asked = client.as_request(rt.alloc(), &host, till, now()?, &words, keys)?;
     Ok(asked)
 }
 
@@ -137,8 +137,8 @@ fn ask_service(
     client: &Client,
     credential: &Credential,
 ) -> anyhow::Result<Vec<u8>> {
-    let random = random_bytes::<96>(rt)?;
-    let (request, _) = client.ap_request(rt.alloc(), credential, false, false, now()?, &random)?;
+    let words = random_bytes::<96>(rt)?;
+    let (request, _) = client.ap_request(rt.alloc(), credential, false, false, now()?, &words)?;
     Ok(request)
 }
 
@@ -155,8 +155,8 @@ fn present(
     request: &[u8],
     credential: &Credential,
 ) -> anyhow::Result<()> {
-    let random = random_bytes::<16>(rt)?;
-    match service.admit(rt.alloc(), request, now()?, &random) {
+    let words = random_bytes::<16>(rt)?;
+    match service.admit(rt.alloc(), request, now()?, &words) {
         Ok(admission) => show(rt, &admission, credential)?,
         Err(refusal) => println!(rt; "{refusal}")?,
     }

@@ -30,34 +30,34 @@ use Rattle.krb_kdc_requests.proofs.Seconds.{has_time}
 use Rattle.krb_kdc_requests.proofs.Written.{IsWritten}
 
 -- the front of a place of sixteen of the random bytes
-block_of : (suite : CipherSuite) (from : ℕ) (random : List ℕ) → from + 16 ≤ length random → length (random_part from (cipher_confounder_size suite) random) ≡ cipher_confounder_size suite
-block_of suite from random long =
-    length-take-le (cipher_confounder_size suite) (drop from random) (omega (arith, length-drop from random, confounder_below suite))
+block_of : (suite : CipherSuite) (from : ℕ) (words : List ℕ) → from + 16 ≤ length words → length (random_part from (cipher_confounder_size suite) words) ≡ cipher_confounder_size suite
+block_of suite from words long =
+    length-take-le (cipher_confounder_size suite) (drop from words) (omega (arith, length-drop from words, confounder_below suite))
 
-has_data : (suite : CipherSuite) (key : List ℕ) (kvno : Option ℕ) (usage from : ℕ) (random plain : List ℕ) → length key ≡ cipher_key_size suite → IsBytes key
-    → from + 16 ≤ length random → IsBytes random → IsBytes plain → (made : EncryptedData) × Seals suite key kvno usage (random_part from (cipher_confounder_size suite) random) plain made
-has_data suite key kvno usage from random plain sized key_bytes long random_bytes plain_bytes =
+has_data : (suite : CipherSuite) (key : List ℕ) (kvno : Option ℕ) (usage from : ℕ) (words plain : List ℕ) → length key ≡ cipher_key_size suite → IsBytes key
+    → from + 16 ≤ length words → IsBytes words → IsBytes plain → (made : EncryptedData) × Seals suite key kvno usage (random_part from (cipher_confounder_size suite) words) plain made
+has_data suite key kvno usage from words plain sized key_bytes long random_bytes plain_bytes =
     let size = cipher_confounder_size suite in
-    let made = has_sealed suite key usage (random_part from size random) plain sized key_bytes (block_of suite from random long)
-    (IsBytes-take size (drop from random) (IsBytes-drop from random random_bytes)) plain_bytes in
+    let made = has_sealed suite key usage (random_part from size words) plain sized key_bytes (block_of suite from words long)
+    (IsBytes-take size (drop from words) (IsBytes-drop from words random_bytes)) plain_bytes in
     (encrypted_by suite kvno made.0, record { cipher = made.0; seals = made.1; told = refl })
 
-has_ticket_reply : (grant : Grant) (under : ReplyKeyRecord) (service : AccountRecord) (random : List ℕ) → length under.key ≡ cipher_key_size under.suite → IsBytes under.key → IsKeyed service
-    → 128 ≤ length random → IsBytes random → IsWritten under.exchange grant → (bytes : List ℕ) × IsTicketReply grant under service random bytes
-has_ticket_reply grant under service random sized key_bytes service_key long random_bytes written =
-    let ticket = has_data service.suite service.key (Some service.kvno) 2 32 random (ticket_part_bytes (ticket_part grant)) service_key.sized service_key.bytes (omega arith) random_bytes written.ticket in
-    let reply = has_data under.suite under.key under.kvno under.usage 48 random (reply_part_bytes under.exchange (reply_part grant)) sized key_bytes (omega arith) random_bytes written.reply in (
+has_ticket_reply : (grant : Grant) (under : ReplyKeyRecord) (service : AccountRecord) (words : List ℕ) → length under.key ≡ cipher_key_size under.suite → IsBytes under.key → IsKeyed service
+    → 128 ≤ length words → IsBytes words → IsWritten under.exchange grant → (bytes : List ℕ) × IsTicketReply grant under service words bytes
+has_ticket_reply grant under service words sized key_bytes service_key long random_bytes written =
+    let ticket = has_data service.suite service.key (Some service.kvno) 2 32 words (ticket_part_bytes (ticket_part grant)) service_key.sized service_key.bytes (omega arith) random_bytes written.ticket in
+    let reply = has_data under.suite under.key under.kvno under.usage 48 words (reply_part_bytes under.exchange (reply_part grant)) sized key_bytes (omega arith) random_bytes written.reply in (
       kdc_reply_bytes under.exchange (kdc_reply_of under.exchange under.pk_as_rep grant (ticket_of grant ticket.0) reply.0),
       record { ticket_data = ticket.0; ticket_sealed = ticket.1; reply_data = reply.0; reply_sealed = reply.1; encoding = refl },
     )
 
-pub has_replied : (grant : Grant) (under : ReplyKeyRecord) (service : AccountRecord) (random : List ℕ) → length under.key ≡ cipher_key_size under.suite → IsBytes under.key → IsKeyed service
-    → 128 ≤ length random → IsBytes random → IsWritten under.exchange grant → HasOutcome (replied grant under service random)
-has_replied grant under service random sized key_bytes service_key long random_bytes written =
-    let made = has_ticket_reply grant under service random sized key_bytes service_key long random_bytes written in
+pub has_replied : (grant : Grant) (under : ReplyKeyRecord) (service : AccountRecord) (words : List ℕ) → length under.key ≡ cipher_key_size under.suite → IsBytes under.key → IsKeyed service
+    → 128 ≤ length words → IsBytes words → IsWritten under.exchange grant → HasOutcome (replied grant under service words)
+has_replied grant under service words sized key_bytes service_key long random_bytes written =
+    let made = has_ticket_reply grant under service words sized key_bytes service_key long random_bytes written in
     let end : List ℕ → Table (Result (List ℕ) ℕ) = λ bytes. done (Ok bytes) in
-    has_made (IsTicketReply grant under service random) (sole_ticket_reply grant under service random) end
-    (some_of (IsTicketReply grant under service random) made.0 made.1) (λ bytes y. has_done (Ok bytes))
+    has_made (IsTicketReply grant under service words) (sole_ticket_reply grant under service words) end
+    (some_of (IsTicketReply grant under service words) made.0 made.1) (λ bytes y. has_done (Ok bytes))
 
 -- a ticket starts and ends in seconds that times have
 least : (a b c : ℕ) → min a (min b (min c 315569519999)) < 315569520000

@@ -145,7 +145,7 @@ module _ (call : CallRecord) (rows : PkinitRows) (of_client of_service : Option 
         is_written n (first_ticket call asked request.req_body.0 span)
         (record {
           few = few;
-          session = session_short asked.client.suite call.random is.enough is.bytes;
+          session = session_short asked.client.suite call.words is.enough is.bytes;
           realm = own_realm_fits n 10 call.realm request to_us fits;
           client = client_fits n request.req_body.0 body asked.client_name these.client_name;
           service = service_fits n request.req_body.0 body asked.service_name these.service_name;
@@ -160,7 +160,7 @@ module _ (call : CallRecord) (rows : PkinitRows) (of_client of_service : Option 
         (has_authenticated call rows asked.client (components asked.client_name) request)
         (λ under x.
         let is_under = under_by call rows asked.client (components asked.client_name) request these.client (first_of 16 (padata_in request)) under x in
-        has_replied (first_ticket call asked request.req_body.0 span) under asked.service call.random is_under.sized is_under.bytes these.service is.enough is.bytes
+        has_replied (first_ticket call asked request.req_body.0 span) under asked.service call.words is_under.sized is_under.bytes these.service is.enough is.bytes
         (subst (λ (e : Exchange). IsWritten e (first_ticket call asked request.req_body.0 span)) (sym is_under.exchange) (first_written asked span to_us these))))
 
     pub has_as_outcome : ((client : AccountRecord) → of_client ≡ Some client → IsKeyed client) → ((service : AccountRecord) → of_service ≡ Some service → IsKeyed service)

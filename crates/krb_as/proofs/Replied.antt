@@ -8,8 +8,8 @@ use Rattle.krb_tickets.specs.ReplyKeys.{ReplyKeyRecord}
 use Rattle.krb_tickets.specs.Granted.{IsTicketReply}
 use Rattle.krb_as.specs.Grants.{replied}
 
-pub replied_by : {E : Type 0} (r : Result (Vec ℕ Global) E) (made wanted : Grant) (own under : ReplyKeyRecord) (service : AccountRecord) (random : List ℕ) → made ≡ wanted → own ≡ under
-    → IfOk r (λ bytes. IsTicketReply made own service random bytes.items) → IfOk r (λ bytes. (replied wanted under service random).gives (Ok bytes.items))
-replied_by (Ok bytes) made wanted own under service random same key x =
-    (bytes.items, subst (λ g. IsTicketReply g under service random bytes.items) same (subst (λ k. IsTicketReply made k service random bytes.items) key x), refl)
-replied_by (Err e) made wanted own under service random same key x = tt
+pub replied_by : {E : Type 0} (r : Result (Vec ℕ Global) E) (made wanted : Grant) (own under : ReplyKeyRecord) (service : AccountRecord) (words : List ℕ) → made ≡ wanted → own ≡ under
+    → IfOk r (λ bytes. IsTicketReply made own service words bytes.items) → IfOk r (λ bytes. (replied wanted under service words).gives (Ok bytes.items))
+replied_by (Ok bytes) made wanted own under service words same key x =
+    (bytes.items, subst (λ g. IsTicketReply g under service words bytes.items) same (subst (λ k. IsTicketReply made k service words bytes.items) key x), refl)
+replied_by (Err e) made wanted own under service words same key x = tt

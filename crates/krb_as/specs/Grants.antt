@@ -25,7 +25,7 @@ pub record Principals : Type 0 where
 abbrev pub first_ticket : CallRecord → Principals → KdcReqBody → Span → Grant
 first_ticket call asked body span = record {
   suite = asked.client.suite;
-  session = session_key_of asked.client.suite call.random;
+  session = session_key_of asked.client.suite call.words;
   realm = call.realm;
   client = asked.client_name;
   service = asked.service_name;
@@ -38,9 +38,9 @@ first_ticket call asked body span = record {
 
 -- the one reply that grants a ticket, its own part sealed under this key
 abbrev pub replied : Grant → ReplyKeyRecord → AccountRecord → Random → Table (Result Bytes Code)
-replied grant under service random =
-    make (IsTicketReply grant under service random) (sole_ticket_reply grant under service random) (λ bytes.
+replied grant under service words =
+    make (IsTicketReply grant under service words) (sole_ticket_reply grant under service words) (λ bytes.
     done (Ok bytes))
 
 abbrev pub granted : CallRecord → Principals → ReplyKeyRecord → Span → KdcReqBody → Table (Result Bytes Code)
-granted call asked under span body = replied (first_ticket call asked body span) under asked.service call.random
+granted call asked under span body = replied (first_ticket call asked body span) under asked.service call.words

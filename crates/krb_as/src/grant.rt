@@ -37,12 +37,12 @@ pub(crate) fn grant(
     span: Span,
     body: &KdcReqBody,
 ) -> Result<Vec<u8>, AllocError>
-    requires { 128 ≤ length call.now.random.now }
+    requires { 128 ≤ length call.now.words.now }
     ensures { IfOk result (λ bytes. (granted (call_of call.now) (principals asked.entry) (reply_key_by asked.entry.client.now authenticated.now) span body.now).gives (Ok bytes.items)) }
 {
     let ticket = first_ticket(alloc, call, asked, span, body)?;
     let under = reply_key_by(authenticated, asked.client);
-    let made = ticket_reply(alloc, &ticket, &under, asked.service, call.random);
+    let made = ticket_reply(alloc, &ticket, &under, asked.service, call.words);
     drop(ticket);
     made
 }
@@ -65,11 +65,11 @@ fn first_ticket(
     span: Span,
     body: &KdcReqBody,
 ) -> Result<Grant, AllocError>
-    requires { 128 ≤ length call.now.random.now }
+    requires { 128 ≤ length call.now.words.now }
     ensures { IfOk result (λ grant. grant ≡ first_ticket (call_of call.now) (principals asked.entry) body.now span) }
 {
     let suite = asked.client.suite();
-    let session = session_key(alloc, suite, call.random)?;
+    let session = session_key(alloc, suite, call.words)?;
     let lent = (
         call.realm,
         (asked.client_name, (asked.service_name, (&body.nonce.0, ()))),

@@ -80,7 +80,7 @@ pub(crate) fn authenticate<P: Pkinit>(
     name: &[GeneralStringAsn1],
     request: &KdcReq,
 ) -> Result<Authenticated, Refusal>
-    requires { 128 ≤ length call.now.random.now }
+    requires { 128 ≤ length call.now.words.now }
     ensures { IsJudged (authenticated (call_of call.now) (P.rows pkinit.now) client.now name.now request.now).gives (reply_key_as client.now result) }
 {
     let padata = padata_in(request);
@@ -109,7 +109,7 @@ fn agree_by<P: Pkinit>(
     request: &KdcReq,
     padata: &[u8],
 ) -> Result<Authenticated, Refusal>
-    requires { 128 ≤ length call.now.random.now }
+    requires { 128 ≤ length call.now.words.now }
     ensures { IsJudged (authenticated_by (call_of call.now) (P.rows pkinit.now) client.now name.now request.now (Some padata.now)).gives (reply_key_as client.now result) }
 {
     let asked = PkinitCall {
@@ -118,7 +118,7 @@ fn agree_by<P: Pkinit>(
         client: name,
         body: &request.req_body.0,
         moment: call.moment,
-        random: call.random,
+        words: call.words,
     };
     let agreed = pkinit.judge(alloc, &asked, padata)?;
     let (secret, reply) = parts_of(agreed);

@@ -26,7 +26,7 @@ pub fn judge_as<P: Pkinit>(
     service: Option<&Account>,
     request: &KdcReq,
 ) -> Result<Vec<u8>, Refusal>
-    requires { 128 ≤ length call.now.random.now }
+    requires { 128 ≤ length call.now.words.now }
     ensures { IsGranted (as_table (call_of call.now) (P.rows pkinit.now) (option_copied client.entry) (option_copied service.entry) request.now).gives result }
 {
     check_header(AS_REQ_MSG_TYPE, call.realm, request)?;

@@ -16,32 +16,32 @@ use Rattle.krb_encrypted_data.specs.Sealing.{encryption_key}
 
 -- the subkey, where one is asked for: that of a seed, which are random bytes from the thirty-third on
 abbrev pub chosen_subkey : Bool → CipherSuite → Random → Option Bytes
-chosen_subkey with_subkey suite random = if with_subkey then Some (seed_key_of suite (subkey_seed (cipher_seed_size suite) random)) else None
+chosen_subkey with_subkey suite words = if with_subkey then Some (seed_key_of suite (subkey_seed (cipher_seed_size suite) words)) else None
 
 -- the subkey with the number of its suite
 abbrev pub subkey_told : Bool → CipherSuite → Random → Option EncryptionKey
-subkey_told with_subkey suite random = option_map (encryption_key suite) (chosen_subkey with_subkey suite random)
+subkey_told with_subkey suite words = option_map (encryption_key suite) (chosen_subkey with_subkey suite words)
 
 -- the bytes are the client's request, by the credential, at the moment, with or without an answer and a subkey, under usage
 -- 11 (RFC 4120, section 7.5.1); of the random bytes the first are the confounder
-pub record AsksAp (client : ClientRecord) (credential : CredentialRecord) (mutual_required with_subkey : Bool) (moment : Micros) (random : Random) (bytes : Bytes) : Type 0 where
+pub record AsksAp (client : ClientRecord) (credential : CredentialRecord) (mutual_required with_subkey : Bool) (moment : Micros) (words : Random) (bytes : Bytes) : Type 0 where
   pub authenticator : AuthenticatorInner
-  pub authenticates : IsAuthenticatorOf client moment None (subkey_told with_subkey credential.suite random) authenticator
-  pub presents : IsApRequest credential 11 mutual_required authenticator (authenticator_confounder (cipher_confounder_size credential.suite) random) bytes
+  pub authenticates : IsAuthenticatorOf client moment None (subkey_told with_subkey credential.suite words) authenticator
+  pub presents : IsApRequest credential 11 mutual_required authenticator (authenticator_confounder (cipher_confounder_size credential.suite) words) bytes
 
 -- what the client remembers of it
 abbrev pub ap_asked : CredentialRecord → Bool → Micros → Random → ApAskedRecord
-ap_asked credential with_subkey moment random = record {
+ap_asked credential with_subkey moment words = record {
   suite = credential.suite;
   key = credential.key;
   time = moment;
-  subkey = chosen_subkey with_subkey credential.suite random;
+  subkey = chosen_subkey with_subkey credential.suite words;
 }
 
 -- there is one such request at most
-pub sole_ap_request : (client : ClientRecord) (credential : CredentialRecord) (mutual_required with_subkey : Bool) (moment : Micros) (random : Random) (a b : Bytes)
-    → AsksAp client credential mutual_required with_subkey moment random a → AsksAp client credential mutual_required with_subkey moment random b → a ≡ b
-sole_ap_request client credential mutual_required with_subkey moment random a b x y =
-    sole_presented credential 11 mutual_required (authenticator_confounder (cipher_confounder_size credential.suite) random) x.authenticator y.authenticator a b
-    (sole_authenticator_of client moment None (subkey_told with_subkey credential.suite random) x.authenticator y.authenticator x.authenticates y.authenticates)
+pub sole_ap_request : (client : ClientRecord) (credential : CredentialRecord) (mutual_required with_subkey : Bool) (moment : Micros) (words : Random) (a b : Bytes)
+    → AsksAp client credential mutual_required with_subkey moment words a → AsksAp client credential mutual_required with_subkey moment words b → a ≡ b
+sole_ap_request client credential mutual_required with_subkey moment words a b x y =
+    sole_presented credential 11 mutual_required (authenticator_confounder (cipher_confounder_size credential.suite) words) x.authenticator y.authenticator a b
+    (sole_authenticator_of client moment None (subkey_told with_subkey credential.suite words) x.authenticator y.authenticator x.authenticates y.authenticates)
     x.presents y.presents

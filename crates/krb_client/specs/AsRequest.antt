@@ -19,37 +19,37 @@ use Rattle.krb_client.specs.declared.refusal.AskRefusal.TheVariants.{BadName}
 
 -- the request's body, in which the client is named
 abbrev pub as_body : ClientRecord → List Bytes → GeneralizedTime → Random → KdcReqBody
-as_body client service till random = request_body client true service till (nonce_of random)
+as_body client service till words = request_body client true service till (nonce_of words)
 
 -- the request with its padata
 abbrev pub as_request_of : PaData → KdcReqBody → KdcReq
 as_request_of padata body = kdc_request_of 10 padata body
 
 -- the bytes are the client's request for a ticket for the service till that time, at the moment, with the padata of its means
-pub record AsksAs (client : ClientRecord) (means : MeansRecord) (service : List Bytes) (till : GeneralizedTime) (moment : Micros) (random : Random) (bytes : Bytes) : Type 0 where
+pub record AsksAs (client : ClientRecord) (means : MeansRecord) (service : List Bytes) (till : GeneralizedTime) (moment : Micros) (words : Random) (bytes : Bytes) : Type 0 where
   pub padata : PaData
-  pub shown : means.asks (as_body client service till random) moment random padata
-  pub encoding : bytes ≡ as_request_bytes (as_request_of padata (as_body client service till random))
+  pub shown : means.asks (as_body client service till words) moment words padata
+  pub encoding : bytes ≡ as_request_bytes (as_request_of padata (as_body client service till words))
 
 -- what the client remembers of it
 abbrev pub as_asked : List Bytes → Micros → Random → AsAskedRecord
-as_asked service moment random = record {
+as_asked service moment words = record {
   service = service;
-  nonce = nonce_of random;
+  nonce = nonce_of words;
   moment = moment;
-  agreement = agreement_part random;
+  agreement = agreement_part words;
 }
 
 -- why the client doesn't ask: the service's name is none, or there is no padata
 abbrev pub IsUnasked : ClientRecord → MeansRecord → List Bytes → GeneralizedTime → Micros → Random → AskRefusal → Type 0
-IsUnasked client means service till moment random refusal =
-    ((refusal ≡ BadName) × (are_components service ≡ false)) ⊎ IsUnshown means (as_body client service till random) moment random refusal
+IsUnasked client means service till moment words refusal =
+    ((refusal ≡ BadName) × (are_components service ≡ false)) ⊎ IsUnshown means (as_body client service till words) moment words refusal
 
 -- there is one such request at most
-pub sole_as_request : (client : ClientRecord) (means : MeansRecord) (service : List Bytes) (till : GeneralizedTime) (moment : Micros) (random : Random) (a b : Bytes)
-    → AsksAs client means service till moment random a → AsksAs client means service till moment random b → a ≡ b
-sole_as_request client means service till moment random a b x y =
+pub sole_as_request : (client : ClientRecord) (means : MeansRecord) (service : List Bytes) (till : GeneralizedTime) (moment : Micros) (words : Random) (a b : Bytes)
+    → AsksAs client means service till moment words a → AsksAs client means service till moment words b → a ≡ b
+sole_as_request client means service till moment words a b x y =
     x.encoding
-    ∙ ap (λ padata. as_request_bytes (as_request_of padata (as_body client service till random)))
-    (means.sole_asks (as_body client service till random) moment random x.padata y.padata x.shown y.shown)
+    ∙ ap (λ padata. as_request_bytes (as_request_of padata (as_body client service till words)))
+    (means.sole_asks (as_body client service till words) moment words x.padata y.padata x.shown y.shown)
     ∙ sym y.encoding

@@ -39,23 +39,23 @@ sole_sealed_time suite key moment confounder a b x y =
     sole_seals suite key None 1 confounder (timestamp_bytes (timestamp_of y.second (moment % 1000000))) a b first y.sealed
 
 -- the padata is PA-ENC-TIMESTAMP (RFC 4120, section 7.5.2) of the moment; of the random bytes the first are the confounder
-pub record IsPaEncTimestamp (suite : CipherSuite) (key : Bytes) (moment : Micros) (random : Random) (padata : PaData) : Type 0 where
+pub record IsPaEncTimestamp (suite : CipherSuite) (key : Bytes) (moment : Micros) (words : Random) (padata : PaData) : Type 0 where
   pub encrypted_timestamp : EncryptedData
-  pub sealed_time : IsSealedTime suite key moment (timestamp_confounder (cipher_confounder_size suite) random) encrypted_timestamp
+  pub sealed_time : IsSealedTime suite key moment (timestamp_confounder (cipher_confounder_size suite) words) encrypted_timestamp
   pub made : padata ≡ pa_data_of 2 (encrypted_bytes encrypted_timestamp)
 
-pub sole_pa_enc_timestamp : (suite : CipherSuite) (key : Bytes) (moment : Micros) (random : Random) (a b : PaData)
-    → IsPaEncTimestamp suite key moment random a → IsPaEncTimestamp suite key moment random b → a ≡ b
-sole_pa_enc_timestamp suite key moment random a b x y =
+pub sole_pa_enc_timestamp : (suite : CipherSuite) (key : Bytes) (moment : Micros) (words : Random) (a b : PaData)
+    → IsPaEncTimestamp suite key moment words a → IsPaEncTimestamp suite key moment words b → a ≡ b
+sole_pa_enc_timestamp suite key moment words a b x y =
     x.made
-    ∙ ap (λ encrypted_timestamp. pa_data_of 2 (encrypted_bytes encrypted_timestamp)) (sole_sealed_time suite key moment (timestamp_confounder (cipher_confounder_size suite) random) x.encrypted_timestamp y.encrypted_timestamp x.sealed_time y.sealed_time)
+    ∙ ap (λ encrypted_timestamp. pa_data_of 2 (encrypted_bytes encrypted_timestamp)) (sole_sealed_time suite key moment (timestamp_confounder (cipher_confounder_size suite) words) x.encrypted_timestamp y.encrypted_timestamp x.sealed_time y.sealed_time)
     ∙ sym y.made
 
 -- by a key of a suite
 abbrev pub by_key : CipherSuite → Bytes → MeansRecord
 by_key suite key = record {
-  asks = λ body moment random. IsPaEncTimestamp suite key moment random;
-  sole_asks = λ body moment random. sole_pa_enc_timestamp suite key moment random;
-  refuses = λ body moment random. ⊥;
+  asks = λ body moment words. IsPaEncTimestamp suite key moment words;
+  sole_asks = λ body moment words. sole_pa_enc_timestamp suite key moment words;
+  refuses = λ body moment words. ⊥;
   reply_key = λ client asked reply. done (Ok (record { suite = suite; bytes = key }));
 }

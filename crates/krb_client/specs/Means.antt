@@ -18,10 +18,10 @@ use Rattle.krb_client.specs.declared.refusal.TakeRefusal.{TakeRefusal}
 -- there is no such padata; and the key that the reply is encrypted under, or why the client doesn't take the reply
 pub record MeansRecord : Type 1 where
   pub asks : KdcReqBody → Micros → Random → PaData → Type 0
-  pub sole_asks : (body : KdcReqBody) (moment : Micros) (random : Random) → IsSole (asks body moment random)
+  pub sole_asks : (body : KdcReqBody) (moment : Micros) (words : Random) → IsSole (asks body moment words)
   pub refuses : KdcReqBody → Micros → Random → Type 0
   pub reply_key : ClientRecord → AsAskedRecord → KdcRep → Table (Result KeyRecord TakeRefusal)
 
 -- why a request with this body has no padata: memory ran out, or key functions answer none
 abbrev pub IsUnshown : MeansRecord → KdcReqBody → Micros → Random → AskRefusal → Type 0
-IsUnshown means body moment random refusal = (refusal ≡ Memory) ⊎ ((refusal ≡ NoKeyFunction) × means.refuses body moment random)
+IsUnshown means body moment words refusal = (refusal ≡ Memory) ⊎ ((refusal ≡ NoKeyFunction) × means.refuses body moment words)

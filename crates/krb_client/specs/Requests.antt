@@ -16,7 +16,7 @@ use Rattle.krb_client.specs.Held.{principal_name}
 
 -- the nonce: four of the random bytes, big-endian, of which 31 bits count
 abbrev pub nonce_of : Random → ℕ
-nonce_of random = from_be_bytes w32 (nonce_bytes random) % 2147483648
+nonce_of words = from_be_bytes w32 (nonce_bytes words) % 2147483648
 
 -- no option is asked for
 abbrev pub no_options : Bits

@@ -48,20 +48,20 @@ tgs_body_bytes client service till nonce = request_body_bytes (request_body clie
 
 -- the bytes are the client's request for a ticket for the service till that time, by the credential, at the moment; of the
 -- random bytes the first are the confounder
-pub record AsksTgs (client : ClientRecord) (credential : CredentialRecord) (service : List Bytes) (till : GeneralizedTime) (moment : Micros) (random : Random) (bytes : Bytes) : Type 0 where
+pub record AsksTgs (client : ClientRecord) (credential : CredentialRecord) (service : List Bytes) (till : GeneralizedTime) (moment : Micros) (words : Random) (bytes : Bytes) : Type 0 where
   pub request : Bytes
-  pub authenticates : Authenticates client credential moment (authenticator_confounder (cipher_confounder_size credential.suite) random) (tgs_body_bytes client service till (nonce_of random)) request
-  pub encoding : bytes ≡ tgs_request_bytes (tgs_request_of client service till (nonce_of random) request)
+  pub authenticates : Authenticates client credential moment (authenticator_confounder (cipher_confounder_size credential.suite) words) (tgs_body_bytes client service till (nonce_of words)) request
+  pub encoding : bytes ≡ tgs_request_bytes (tgs_request_of client service till (nonce_of words) request)
 
 -- what the client remembers of it
 abbrev pub tgs_asked : CredentialRecord → List Bytes → Random → TgsAskedRecord
-tgs_asked credential service random = record { service = service; nonce = nonce_of random; suite = credential.suite; key = credential.key }
+tgs_asked credential service words = record { service = service; nonce = nonce_of words; suite = credential.suite; key = credential.key }
 
 -- there is one such request at most
-pub sole_tgs_request : (client : ClientRecord) (credential : CredentialRecord) (service : List Bytes) (till : GeneralizedTime) (moment : Micros) (random : Random) (a b : Bytes)
-    → AsksTgs client credential service till moment random a → AsksTgs client credential service till moment random b → a ≡ b
-sole_tgs_request client credential service till moment random a b x y =
+pub sole_tgs_request : (client : ClientRecord) (credential : CredentialRecord) (service : List Bytes) (till : GeneralizedTime) (moment : Micros) (words : Random) (a b : Bytes)
+    → AsksTgs client credential service till moment words a → AsksTgs client credential service till moment words b → a ≡ b
+sole_tgs_request client credential service till moment words a b x y =
     x.encoding
-    ∙ ap (λ request. tgs_request_bytes (tgs_request_of client service till (nonce_of random) request))
-    (sole_authentication client credential moment (authenticator_confounder (cipher_confounder_size credential.suite) random) (tgs_body_bytes client service till (nonce_of random)) x.request y.request x.authenticates y.authenticates)
+    ∙ ap (λ request. tgs_request_bytes (tgs_request_of client service till (nonce_of words) request))
+    (sole_authentication client credential moment (authenticator_confounder (cipher_confounder_size credential.suite) words) (tgs_body_bytes client service till (nonce_of words)) x.request y.request x.authenticates y.authenticates)
     ∙ sym y.encoding

@@ -32,16 +32,16 @@ pub record IsWritten (exchange : Exchange) (grant : Grant) : Type 0 where
   pub reply : IsBytes (reply_part_bytes exchange (reply_part grant))
 
 -- the session's key
-seed_sized : (suite : CipherSuite) (random : List ℕ) → 128 ≤ length random → length (session_seed (cipher_seed_size suite) random) ≡ cipher_seed_size suite
-seed_sized suite random long =
-    length-take-le (cipher_seed_size suite) (drop 0 random) (omega (arith, length-drop 0 random, seed_below suite))
+seed_sized : (suite : CipherSuite) (words : List ℕ) → 128 ≤ length words → length (session_seed (cipher_seed_size suite) words) ≡ cipher_seed_size suite
+seed_sized suite words long =
+    length-take-le (cipher_seed_size suite) (drop 0 words) (omega (arith, length-drop 0 words, seed_below suite))
 
-pub session_short : (suite : CipherSuite) (random : List ℕ) → 128 ≤ length random → IsBytes random → IsShort 32 (session_key_of suite random)
-session_short suite random long bytes =
-    let seed : List ℕ = session_seed (cipher_seed_size suite) random in
+pub session_short : (suite : CipherSuite) (words : List ℕ) → 128 ≤ length words → IsBytes words → IsShort 32 (session_key_of suite words)
+session_short suite words long bytes =
+    let seed : List ℕ = session_seed (cipher_seed_size suite) words in
     record {
-      bytes = seed_key_bytes suite seed (IsBytes-take (cipher_seed_size suite) (drop 0 random) (IsBytes-drop 0 random bytes));
-      short = omega (arith, seed_key_sized suite seed (seed_sized suite random long), key_below suite);
+      bytes = seed_key_bytes suite seed (IsBytes-take (cipher_seed_size suite) (drop 0 words) (IsBytes-drop 0 words bytes));
+      short = omega (arith, seed_key_sized suite seed (seed_sized suite words long), key_below suite);
     }
 
 octet_below : (a b : Bool) → (if a then 0x40 else 0x00) + (if b then 0x20 else 0x00) < 256

@@ -15,7 +15,7 @@ pub record CallRecord : Type 0 where
   pub settings : SettingsRecord
   pub look : Look
   pub moment : Micros
-  pub random : Random
+  pub words : Random
 
 abbrev pub call_of : held.Call → CallRecord
 call_of call = record {
@@ -23,7 +23,7 @@ call_of call = record {
   settings = call.settings;
   look = look_in call.accounts.now;
   moment = call.moment;
-  random = call.random.now;
+  words = call.words.now;
 }
 
 -- the skew that the settings say
@@ -38,5 +38,5 @@ pkinit_call call name body = record {
   client = name;
   body = body;
   moment = call.moment;
-  random = call.random;
+  words = call.words;
 }

@@ -20,6 +20,6 @@ AreKeyed look = (name : List Bytes) (account : AccountRecord) → look name ≡ 
 -- a moment of the years 0 to 9999, 128 random bytes, and accounts whose keys are keys
 pub record IsCall (call : CallRecord) : Type 0 where
   pub in_time : IsMoment call.moment
-  pub enough : 128 ≤ length call.random
-  pub bytes : IsBytes call.random
+  pub enough : 128 ≤ length call.words
+  pub bytes : IsBytes call.words
   pub keyed : AreKeyed call.look

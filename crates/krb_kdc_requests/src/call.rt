@@ -17,7 +17,7 @@ pub struct Call<'a> {
     /// The moment at which it is called.
     pub moment: Moment,
     /// The random bytes.
-    pub random: &'a [u8],
+    pub words: &'a [u8],
 }
 
 impl Call<'_> {

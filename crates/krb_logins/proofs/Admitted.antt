@@ -96,10 +96,10 @@ module _ (client : ClientRecord) (means : MeansRecord) (realm : RealmRecord) (ro
 
       -- the confounders of the ticket's part, and of the authenticator
       abbrev for_part : Bytes
-      for_part = ticket_confounder (cipher_confounder_size met.honest.service.account.suite) login.realm_random_tgs
+      for_part = ticket_confounder (cipher_confounder_size met.honest.service.account.suite) login.realm_words_tgs
 
       abbrev for_authenticator : Bytes
-      for_authenticator = authenticator_confounder (cipher_confounder_size client.suite) login.random_ap
+      for_authenticator = authenticator_confounder (cipher_confounder_size client.suite) login.words_ap
 
       abbrev choice : Choice
       choice = choice_of true service.entry grant authenticator for_part for_authenticator
@@ -119,7 +119,7 @@ module _ (client : ClientRecord) (means : MeansRecord) (realm : RealmRecord) (ro
         started = not_early grant service.seen.skew (clock_of before login) begun;
         lasts = not_late grant service.seen.skew (clock_of before login) further_reaches;
         suite = client.suite;
-        session = suite_of_key client.suite (session_key_of client.suite login.realm_random_tgs) (session_key_sized client.suite login.realm_random_tgs met.enough.realm_tgs);
+        session = suite_of_key client.suite (session_key_of client.suite login.realm_words_tgs) (session_key_sized client.suite login.realm_words_tgs met.enough.realm_tgs);
         etype = own_number (cipher_number client.suite);
         authenticator_version = refl;
         client = and_from (is_same_realm client.realm realm.name) (is_same_name client.components client.components) (same_realm client.realm realm.name met.honest.named.client) (own_name client.components);
@@ -143,7 +143,7 @@ module _ (client : ClientRecord) (means : MeansRecord) (realm : RealmRecord) (ro
         first = subst (λ p. is_among p before.admitted ≡ false) (sym pair) met.honest.fresh;
       }
 
-      module _ (credential : CredentialRecord) (held : IsHeld met.honest.service.account login.realm_random_tgs grant credential) where
+      module _ (credential : CredentialRecord) (held : IsHeld met.honest.service.account login.realm_words_tgs grant credential) where
         shows : (bytes : Bytes) → IsApRequest credential 11 true authenticator for_authenticator bytes → Presents service.entry.key choice bytes
         shows bytes asks =
             let account = met.honest.service.account in
@@ -156,23 +156,23 @@ module _ (client : ClientRecord) (means : MeansRecord) (realm : RealmRecord) (ro
             (whole_authenticator client (login.client_ap % 1000000) second None (realm_text client.realm met.parties.realm) names)
 
         -- the reply is taken
-        taken_so : (reply : Option Bytes) → IsReplyTo presented login.service_random reply → (taken : Result (Unit {0}) TakeRefusal)
-            → TakesApReply (ap_asked credential false login.client_ap login.random_ap) (reply_bytes reply) taken → taken ≡ Ok tt
+        taken_so : (reply : Option Bytes) → IsReplyTo presented login.service_words reply → (taken : Result (Unit {0}) TakeRefusal)
+            → TakesApReply (ap_asked credential false login.client_ap login.words_ap) (reply_bytes reply) taken → taken ≡ Ok tt
         unfolding ticket_part acceptable
         taken_so reply x taken y =
-            wanted_taken (ap_asked credential false login.client_ap login.random_ap) login.service_random client.suite (session_key_of client.suite login.realm_random_tgs) authenticator reply taken
+            wanted_taken (ap_asked credential false login.client_ap login.words_ap) login.service_words client.suite (session_key_of client.suite login.realm_words_tgs) authenticator reply taken
             (sym held.suite) (sym held.key) of_moment refl x y
 
         -- and the service tells key and client
         admitted : (bytes : Bytes) (outcome : Outcome) → IsApRequest credential 11 true authenticator for_authenticator bytes
-            → (remembering service (clock_of before login) before.admitted bytes login.service_random).gives outcome
+            → (remembering service (clock_of before login) before.admitted bytes login.service_words).gives outcome
             → (admission : AdmissionRecord) × (outcome ≡ (Ok admission, login_pair client login ∷ before.admitted))
-            × (admission.session ≡ encryption_key client.suite (session_key_of client.suite login.realm_random_tgs))
+            × (admission.session ≡ encryption_key client.suite (session_key_of client.suite login.realm_words_tgs))
             × (admission.realm ≡ client.realm) × (components admission.client ≡ client.components)
-            × ((taken : Result (Unit {0}) TakeRefusal) → TakesApReply (ap_asked credential false login.client_ap login.random_ap) (reply_bytes admission.reply) taken → taken ≡ Ok tt)
+            × ((taken : Result (Unit {0}) TakeRefusal) → TakesApReply (ap_asked credential false login.client_ap login.words_ap) (reply_bytes admission.reply) taken → taken ≡ Ok tt)
         unfolding ticket_part acceptable admissible
         admitted bytes outcome asks given =
-            let made = admits service (clock_of before login) before.admitted bytes login.service_random choice admissible (shows bytes asks) outcome given in (
+            let made = admits service (clock_of before login) before.admitted bytes login.service_words choice admissible (shows bytes asks) outcome given in (
               admission_of presented made.0,
               made.2 ∙ ap (λ p. (Ok (admission_of presented made.0), p ∷ before.admitted)) pair,
               refl,
@@ -187,6 +187,6 @@ module _ (client : ClientRecord) (means : MeansRecord) (realm : RealmRecord) (ro
   client_admitted first span credential request outcome first_is further_is held asks given =
       let second = asks.authenticates.second in
       let of_moment = asks.authenticates.of_moment in
-      let own = subst (λ suite. IsApRequest credential 11 true asks.authenticator (authenticator_confounder (cipher_confounder_size suite) login.random_ap) request) held.suite asks.presents in
-      let presents_so = subst (λ a. IsApRequest credential 11 true a (authenticator_confounder (cipher_confounder_size client.suite) login.random_ap) request) asks.authenticates.told own in
+      let own = subst (λ suite. IsApRequest credential 11 true asks.authenticator (authenticator_confounder (cipher_confounder_size suite) login.words_ap) request) held.suite asks.presents in
+      let presents_so = subst (λ a. IsApRequest credential 11 true a (authenticator_confounder (cipher_confounder_size client.suite) login.words_ap) request) asks.authenticates.told own in
       admitted first span first_is further_is second of_moment credential held request outcome presents_so given

@@ -99,13 +99,13 @@ own_key call rows account name request none shown r x =
 module _ (client : ClientRecord) (key : Bytes) (realm : RealmRecord) (rows : PkinitRows) (service : ServiceRecord) (before : RememberedRecord) (login : LoginRecord)
     (by : IsHonestByPassword client key realm service before login) where
   abbrev call : CallRecord
-  call = call_at realm login.realm_as login.realm_random_as
+  call = call_at realm login.realm_as login.realm_words_as
 
   abbrev account : AccountRecord
   account = by.honest.client.account
 
   abbrev confounder : Bytes
-  confounder = timestamp_confounder (cipher_confounder_size client.suite) login.random_as
+  confounder = timestamp_confounder (cipher_confounder_size client.suite) login.words_as
 
   in_time : is_far (skew_of call) login.realm_as login.client_as ≡ false
   in_time =
@@ -127,7 +127,7 @@ module _ (client : ClientRecord) (key : Bytes) (realm : RealmRecord) (rows : Pki
     taken = λ reply padata k given. given ∙ (λ i. Ok (record { suite = sym by.honest.client.suite i; bytes = sym by.shared i }));
   }
 
-  replied_under : (padata : PaData) → IsPaEncTimestamp client.suite key login.client_as login.random_as padata → (r : Result ReplyKeyRecord ℕ)
+  replied_under : (padata : PaData) → IsPaEncTimestamp client.suite key login.client_as login.words_as padata → (r : Result ReplyKeyRecord ℕ)
       → (authenticated call rows account client.components (as_request_of padata (first_body client login))).gives r → r ≡ Ok (as_reply_key account)
   replied_under padata it r x =
       let own = subst (λ p. (authenticated call rows account client.components (as_request_of p (first_body client login))).gives r) it.entry x in
@@ -155,4 +155,4 @@ met_by_password client key realm rows service before login parties enough granti
 
 -- a key refuses no request
 pub decided_by_key : (suite : CipherSuite) (key : Bytes) → AreDecided (by_key suite key)
-decided_by_key suite key = λ body moment random padata asks none. none
+decided_by_key suite key = λ body moment words padata asks none. none

@@ -166,19 +166,19 @@ whole_own client micros second (Some key) realm names =
 own_number : (number : ℕ) → is_number number (pos number) ≡ true
 own_number number = eq-eqb number number refl
 
-pub presents : (client : ClientRecord) (means : MeansRecord) (credential : CredentialRecord) (mutual_required with_subkey : Bool) (moment : ℕ) (random bytes key : Bytes)
-    (by : AsksService client means credential mutual_required with_subkey moment random bytes key)
-    → Presents key (choice_by credential mutual_required by.part by.part_confounder by.asks.authenticator (authenticator_confounder (cipher_confounder_size credential.suite) random)) bytes
+pub presents : (client : ClientRecord) (means : MeansRecord) (credential : CredentialRecord) (mutual_required with_subkey : Bool) (moment : ℕ) (words bytes key : Bytes)
+    (by : AsksService client means credential mutual_required with_subkey moment words bytes key)
+    → Presents key (choice_by credential mutual_required by.part by.part_confounder by.asks.authenticator (authenticator_confounder (cipher_confounder_size credential.suite) words)) bytes
 unfolding ap_request_bytes authenticator_bytes
-presents client means credential mutual_required with_subkey moment random bytes key by =
+presents client means credential mutual_required with_subkey moment words bytes key by =
     let shown = by.asks.presents in
     let told = by.asks.authenticates in
     let cipher : Bytes = shown.sealed.cipher in
-    let confounder : Bytes = authenticator_confounder (cipher_confounder_size credential.suite) random in
+    let confounder : Bytes = authenticator_confounder (cipher_confounder_size credential.suite) words in
     let request : ApReqInner = ap_request_of mutual_required credential.ticket (encrypted_by credential.suite None cipher) in
     let encoding : bytes ≡ der (ap_req_tree request) = shown.encoding ∙ ap (λ part. der (ap_req_tree (ap_request_of mutual_required credential.ticket part))) shown.sealed.told in
     let written : IsApReq bytes request = (whole_request mutual_required credential.ticket credential.suite cipher (whole_ticket means credential by.of_reply), encoding) in
-    let own = whole_own client (moment % 1000000) told.second (subkey_told with_subkey credential.suite random) (realm_text client.realm by.realm) (component_texts client.components by.name) in
+    let own = whole_own client (moment % 1000000) told.second (subkey_told with_subkey credential.suite words) (realm_text client.realm by.realm) (component_texts client.components by.name) in
     record {
       part_cipher = credential.ticket.enc_part.0.cipher.0;
       cipher = cipher;

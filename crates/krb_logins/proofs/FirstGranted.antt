@@ -78,7 +78,7 @@ record IsGrantedBy (IsKey : ReplyKeyRecord → Type 0) (call : CallRecord) (aske
   under : ReplyKeyRecord
   is_key : IsKey under
   bytes : Bytes
-  replied : IsTicketReply (first_ticket call asked body span) under asked.service call.random bytes
+  replied : IsTicketReply (first_ticket call asked body span) under asked.service call.words bytes
   is : r ≡ Ok bytes
 
 -- the rows, from the last one on
@@ -137,9 +137,9 @@ listed client service till nonce suite same =
     (or_left (is_number (cipher_number client.suite) (pos (cipher_number client.suite))) false (is_own_number client.suite))
 
 -- the request's type and options are as they are to be, and its realm is this one
-for_realm : (padata : PaData) (client : ClientRecord) (service : List Bytes) (till : GeneralizedTime) (random : Random) (realm : Bytes) → client.realm ≡ realm
-    → (header_rows 10 realm (as_request_of padata (as_body client service till random))).gives (Ok tt)
-for_realm padata client service till random realm same =
+for_realm : (padata : PaData) (client : ClientRecord) (service : List Bytes) (till : GeneralizedTime) (words : Random) (realm : Bytes) → client.realm ≡ realm
+    → (header_rows 10 realm (as_request_of padata (as_body client service till words))).gives (Ok tt)
+for_realm padata client service till words realm same =
     by_refuse {T = Unit {0}} {E = ℕ} (not (is_same_realm client.realm realm)) 68 (done (Ok tt)) (Ok tt) (ap not (same_realm client.realm realm same)) refl
 
 -- a realm replies to an AS request by its table
@@ -162,7 +162,7 @@ granted_reply IsKey call rows of_client of_service request asked reply grants x 
 module _ (client : ClientRecord) (means : MeansRecord) (realm : RealmRecord) (rows : PkinitRows) (service : ServiceRecord) (before : RememberedRecord) (login : LoginRecord)
     (met : IsMet client means realm rows service before login) where
   abbrev call : CallRecord
-  call = call_at realm login.realm_as login.realm_random_as
+  call = call_at realm login.realm_as login.realm_words_as
 
   abbrev asked : Principals
   asked = record {
@@ -187,27 +187,27 @@ module _ (client : ClientRecord) (means : MeansRecord) (realm : RealmRecord) (ro
       (a_second (common_skew realm service) realm.settings.lifetime met.honest.lasting.lifetime) is
 
   can_be : (r : Result Span ℕ) → (possible call asked.client.suite body).gives r → (span : Span) × IsFirstSpan realm login span × (r ≡ Ok span)
-  can_be = found_possible call asked.client.suite body refl (listed client (krbtgt_of client.realm) login.till (nonce_of login.random_as) asked.client.suite met.honest.client.suite) not_ended
+  can_be = found_possible call asked.client.suite body refl (listed client (krbtgt_of client.realm) login.till (nonce_of login.words_as) asked.client.suite met.honest.client.suite) not_ended
 
   abbrev IsAgreed : ReplyKeyRecord → Type 0
   IsAgreed under = IsAgreedKey client means (first_asked client login) under
 
-  can_show : (padata : PaData) → means.asks body login.client_as login.random_as padata
+  can_show : (padata : PaData) → means.asks body login.client_as login.words_as padata
       → (r : Result ReplyKeyRecord ℕ) → (authenticated call rows asked.client client.components (request_with padata)).gives r → (under : ReplyKeyRecord) × IsAgreed under × (r ≡ Ok under)
   can_show padata it r x = let own = met.authenticated.shown padata it r x in (own.0, own.2, own.1)
 
-  grants : (padata : PaData) → means.asks body login.client_as login.random_as padata
+  grants : (padata : PaData) → means.asks body login.client_as login.words_as padata
       → (r : Result Bytes ℕ) → (as_table call rows (realm.look client.components) (realm.look (krbtgt_of client.realm)) (request_with padata)).gives r → IsGrantedBy IsAgreed call asked body r
   grants padata it r x =
       granted_by IsAgreed call rows (realm.look client.components) (realm.look (krbtgt_of client.realm)) (request_with padata) asked r
-      (for_realm padata client (krbtgt_of client.realm) login.till login.random_as realm.name met.honest.named.client)
+      (for_realm padata client (krbtgt_of client.realm) login.till login.words_as realm.name met.honest.named.client)
       refl met.honest.client.found refl granting_found can_be (can_show padata it) x
 
   -- with the client's suite in place of its account's
   abbrev grant_in : Span → CipherSuite → Grant
   grant_in span suite = record {
     suite = suite;
-    session = session_key_of suite login.realm_random_as;
+    session = session_key_of suite login.realm_words_as;
     realm = realm.name;
     client = principal_name 1 client.components;
     service = principal_name 2 (krbtgt_of client.realm);
@@ -215,15 +215,15 @@ module _ (client : ClientRecord) (means : MeansRecord) (realm : RealmRecord) (ro
     auth_time = span.start;
     start = span.start;
     until = span.until;
-    nonce = pos (nonce_of login.random_as);
+    nonce = pos (nonce_of login.words_as);
   }
 
   pub first_granted : IsFirstGranted client means realm rows service before login met
   unfolding IsFirstGranted
   first_granted request asks = (
-    λ are. replies_at realm rows login.till login.realm_as login.realm_random_as request met.keyed met.honest.lasting.first met.enough.realm_as are,
+    λ are. replies_at realm rows login.till login.realm_as login.realm_words_as request met.keyed met.honest.lasting.first met.enough.realm_as are,
     λ reply replied.
-        let written = as_request_written asks.padata client (krbtgt_of client.realm) login.till login.random_as request
+        let written = as_request_written asks.padata client (krbtgt_of client.realm) login.till login.words_as request
         (realm_text client.realm met.parties.realm) (component_texts client.components met.parties.name) (granting_texts client.realm met.parties.realm) asks.encoding in
         let found = granted_reply IsAgreed call rows (realm.look client.components) (realm.look (krbtgt_of client.realm)) (request_with asks.padata) asked reply (grants asks.padata asks.shown)
         (replied_to call rows request reply (request_with asks.padata) written replied) in (
@@ -235,7 +235,7 @@ module _ (client : ClientRecord) (means : MeansRecord) (realm : RealmRecord) (ro
             (
               found.1.bytes,
               found.2,
-              subst (λ suite. IsTicketReply (grant_in found.1.span suite) found.1.under asked.service login.realm_random_as found.1.bytes) met.honest.client.suite found.1.replied,
+              subst (λ suite. IsTicketReply (grant_in found.1.span suite) found.1.under asked.service login.realm_words_as found.1.bytes) met.honest.client.suite found.1.replied,
             ),
           ),
         ),

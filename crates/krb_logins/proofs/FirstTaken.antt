@@ -100,21 +100,21 @@ module _ (client : ClientRecord) (means : MeansRecord) (asked : AsAskedRecord) w
       (takes_part client asked.service asked.nonce reply) part taken is x
 
 -- what is granted is taken, where it is what was asked for
-taken_of : (client : ClientRecord) (means : MeansRecord) (under : ReplyKeyRecord) (service : AccountRecord) (asked : AsAskedRecord) (grant : Grant) (random : Random) (granted : Bytes) (taken : Taken)
+taken_of : (client : ClientRecord) (means : MeansRecord) (under : ReplyKeyRecord) (service : AccountRecord) (asked : AsAskedRecord) (grant : Grant) (words : Random) (granted : Bytes) (taken : Taken)
     → IsAgreedKey client means asked under → AreTexts grant → IsAskedFor client asked.service asked.nonce grant
     → length grant.session ≡ cipher_key_size grant.suite
-    → IsTicketReply grant under service random granted → TakesAsReply client means asked granted taken
-    → (credential : CredentialRecord) × (taken ≡ Ok credential) × IsHeld service random grant credential
-taken_of client means under service asked grant random granted taken agreed texts is sized replied x =
-    let it : IsTicketReply grant (of_as under) service random granted = subst (λ u. IsTicketReply grant u service random granted) (is_of_as under agreed.exchange agreed.usage) replied in
+    → IsTicketReply grant under service words granted → TakesAsReply client means asked granted taken
+    → (credential : CredentialRecord) × (taken ≡ Ok credential) × IsHeld service words grant credential
+taken_of client means under service asked grant words granted taken agreed texts is sized replied x =
+    let it : IsTicketReply grant (of_as under) service words granted = subst (λ u. IsTicketReply grant u service words granted) (is_of_as under agreed.exchange agreed.usage) replied in
     let key : KeyRecord = record { suite = under.suite; bytes = under.key } in
     let reply : KdcRep = kdc_reply_of As under.pk_as_rep grant (ticket_of grant it.ticket_data) it.reply_data in
     let as_read = read client means asked granted reply taken (reply_written As under.pk_as_rep grant it.ticket_data it.reply_data granted texts it.encoding) x in
     let as_keyed = keyed client means asked reply key taken (typed under.pk_as_rep grant it.ticket_data it.reply_data)
     (agreed.taken reply (told under.pk_as_rep grant it.ticket_data it.reply_data)) as_read in
     let as_opened = opened client means asked reply key (reply_part grant) taken
-    (part_opened under.suite under.key under.kvno under.pk_as_rep grant (reply_confounder (cipher_confounder_size under.suite) random) it.ticket_data it.reply_data texts it.reply_sealed) as_keyed in
-    taken_held client asked.service asked.nonce As under.pk_as_rep grant it.ticket_data it.reply_data service random taken is sized it.ticket_sealed as_opened
+    (part_opened under.suite under.key under.kvno under.pk_as_rep grant (reply_confounder (cipher_confounder_size under.suite) words) it.ticket_data it.reply_data texts it.reply_sealed) as_keyed in
+    taken_held client asked.service asked.nonce As under.pk_as_rep grant it.ticket_data it.reply_data service words taken is sized it.ticket_sealed as_opened
 
 pub first_taken : (client : ClientRecord) (means : MeansRecord) (realm : RealmRecord) (rows : PkinitRows) (service : ServiceRecord) (before : RememberedRecord) (login : LoginRecord)
     (met : IsMet client means realm rows service before login)
@@ -126,7 +126,7 @@ first_taken client means realm rows service before login met span under granted 
       client = component_texts client.components met.parties.name;
       service = granting_texts client.realm met.parties.realm;
     } in
-    taken_of client means under met.granting.account (first_asked client login) (first_grant client realm login span) login.realm_random_as granted taken
+    taken_of client means under met.granting.account (first_asked client login) (first_grant client realm login span) login.realm_words_as granted taken
     agreed texts
     (record { nonce = refl; realm = sym met.honest.named.client; name = refl; service = refl })
-    (session_key_sized client.suite login.realm_random_as met.enough.realm_as) it x
+    (session_key_sized client.suite login.realm_words_as met.enough.realm_as) it x

@@ -224,13 +224,13 @@ module _ (client : ClientRecord) (means : MeansRecord) (realm : RealmRecord) (ro
     (met : IsMet client means realm rows service before login)
     (first : Span) (first_is : IsFirstSpan realm login first) where
   abbrev call : CallRecord
-  call = call_at realm login.realm_tgs login.realm_random_tgs
+  call = call_at realm login.realm_tgs login.realm_words_tgs
 
   abbrev old : Grant
   old = first_grant client realm login first
 
   abbrev session : Bytes
-  session = session_key_of client.suite login.realm_random_as
+  session = session_key_of client.suite login.realm_words_as
 
   -- the account of the ticket-granting service, as a service has it
   abbrev entry : EntryRecord
@@ -243,7 +243,7 @@ module _ (client : ClientRecord) (means : MeansRecord) (realm : RealmRecord) (ro
   }
 
   abbrev body : KdcReqBody
-  body = request_body client false login.service login.till (nonce_of login.random_tgs)
+  body = request_body client false login.service login.till (nonce_of login.words_tgs)
 
   least : common_skew realm service ≤ skew_of call
   least = lesser (realm.settings.skew * 1000000) service.seen.skew
@@ -277,10 +277,10 @@ module _ (client : ClientRecord) (means : MeansRecord) (realm : RealmRecord) (ro
       (first_outlasts met.honest.near.start (common_skew realm service) realm.settings.lifetime login.realm_as login.realm_tgs login.till first
       met.honest.near.realm_as.begun met.honest.near.realm_tgs.lasts met.honest.lasting.lifetime met.honest.lasting.further first_is) is
 
-  module _ (granting : CredentialRecord) (held : IsHeld met.granting.account login.realm_random_as old granting)
+  module _ (granting : CredentialRecord) (held : IsHeld met.granting.account login.realm_words_as old granting)
       (second : GeneralizedTime) (of_moment : seconds_of second ≡ login.client_tgs / 1000000) (shown_bytes : Bytes) where
     abbrev text : Bytes
-    text = tgs_body_bytes client login.service login.till (nonce_of login.random_tgs)
+    text = tgs_body_bytes client login.service login.till (nonce_of login.words_tgs)
 
     abbrev sum : Checksum
     sum = checksum_over granting text
@@ -291,13 +291,13 @@ module _ (client : ClientRecord) (means : MeansRecord) (realm : RealmRecord) (ro
     abbrev shown : Authenticated
     shown = record { suite = client.suite; authenticator = authenticator; time = login.client_tgs }
 
-    module _ (asks : IsApRequest granting 7 false authenticator (authenticator_confounder (cipher_confounder_size granting.suite) login.random_tgs) shown_bytes) where
+    module _ (asks : IsApRequest granting 7 false authenticator (authenticator_confounder (cipher_confounder_size granting.suite) login.words_tgs) shown_bytes) where
       abbrev presented : ApReqInner
-      presented = request_of (choice_of false entry old authenticator (ticket_confounder (cipher_confounder_size entry.suite) login.realm_random_as) (authenticator_confounder (cipher_confounder_size granting.suite) login.random_tgs)).outer held.sealed.cipher asks.sealed.cipher
+      presented = request_of (choice_of false entry old authenticator (ticket_confounder (cipher_confounder_size entry.suite) login.realm_words_as) (authenticator_confounder (cipher_confounder_size granting.suite) login.words_tgs)).outer held.sealed.cipher asks.sealed.cipher
 
       is_presented : IsApReq shown_bytes presented
       is_presented =
-          written 7 false entry old granting authenticator (ticket_confounder (cipher_confounder_size entry.suite) login.realm_random_as) (authenticator_confounder (cipher_confounder_size granting.suite) login.random_tgs) shown_bytes held.part
+          written 7 false entry old granting authenticator (ticket_confounder (cipher_confounder_size entry.suite) login.realm_words_as) (authenticator_confounder (cipher_confounder_size granting.suite) login.words_tgs) shown_bytes held.part
           held.sealed held.ticket held.suite held.key asks realm_is (granting_texts client.realm met.parties.realm)
 
       -- the ticket is for the ticket-granting service, which opens it
@@ -312,7 +312,7 @@ module _ (client : ClientRecord) (means : MeansRecord) (realm : RealmRecord) (ro
       is_part : IsTicketPart entry.suite entry.key presented.ticket.0.0.enc_part.0 (ticket_part old)
       unfolding ticket_part_bytes
       is_part =
-          sealed_opens {T = EncTicketPartInner} enc_ticket_part_tree (ticket_part old) entry.suite entry.key (Some entry.kvno) 2 (ticket_confounder (cipher_confounder_size entry.suite) login.realm_random_as)
+          sealed_opens {T = EncTicketPartInner} enc_ticket_part_tree (ticket_part old) entry.suite entry.key (Some entry.kvno) 2 (ticket_confounder (cipher_confounder_size entry.suite) login.realm_words_as)
           (ticket_part_bytes (ticket_part old)) presented.ticket.0.0.enc_part.0
           (whole_part old realm_is (component_texts client.components met.parties.name), refl)
           (record { cipher = held.sealed.cipher; seals = held.sealed.seals; told = refl })
@@ -331,13 +331,13 @@ module _ (client : ClientRecord) (means : MeansRecord) (realm : RealmRecord) (ro
       is_authenticator = record {
         numbered = own_number (cipher_number client.suite);
         opens = record {
-          conf = authenticator_confounder (cipher_confounder_size granting.suite) login.random_tgs;
+          conf = authenticator_confounder (cipher_confounder_size granting.suite) login.words_tgs;
           plain = authenticator_bytes authenticator;
           writes = (whole_authenticator client (login.client_tgs % 1000000) second (Some sum) (realm_text client.realm met.parties.realm) (component_texts client.components met.parties.name), refl);
           sealed = (
             granting.suite,
             ap cipher_number held.suite,
-            subst (λ k. IsSealedBy granting.suite k 7 (authenticator_confounder (cipher_confounder_size granting.suite) login.random_tgs) (authenticator_bytes authenticator) asks.sealed.cipher) held.key asks.sealed.seals,
+            subst (λ k. IsSealedBy granting.suite k 7 (authenticator_confounder (cipher_confounder_size granting.suite) login.words_tgs) (authenticator_bytes authenticator) asks.sealed.cipher) held.key asks.sealed.seals,
           );
         };
       }
@@ -353,7 +353,7 @@ module _ (client : ClientRecord) (means : MeansRecord) (realm : RealmRecord) (ro
       unfolding ticket_part
       shown_opens =
           by_need {T = CipherSuite × AuthenticatorInner} {E = ℕ} (suite_of (encryption_key client.suite session)) 31 by_suite client.suite (Ok (client.suite, authenticator))
-          (suite_of_key client.suite session (session_key_sized client.suite login.realm_random_as met.enough.realm_as))
+          (suite_of_key client.suite session (session_key_sized client.suite login.realm_words_as met.enough.realm_as))
           (by_ask (IsAuthenticator client.suite session 7 presented.authenticator.0) (sole_authenticator client.suite session 7 presented.authenticator.0) (done (Err 31)) found authenticator
           (Ok (client.suite, authenticator)) is_authenticator refl)
 
@@ -382,16 +382,16 @@ module _ (client : ClientRecord) (means : MeansRecord) (realm : RealmRecord) (ro
       covers_body = covers client.suite session body authenticator sum (λ i. checksum_by (held.suite i) (held.key i) text) refl
 
       abbrev request : KdcReq
-      request = tgs_request_of client login.service login.till (nonce_of login.random_tgs) shown_bytes
+      request = tgs_request_of client login.service login.till (nonce_of login.words_tgs) shown_bytes
 
       -- what the table gives
       abbrev IsGrantedBy : Result Bytes ℕ → Type 0
       IsGrantedBy r =
           (span : Span) × IsFurtherSpan realm login first span × ((bytes : Bytes)
-          × IsTicketReply (further_grant client realm login first span) (tgs_reply_key client.suite session) met.honest.service.account login.realm_random_tgs bytes × (r ≡ Ok bytes))
+          × IsTicketReply (further_grant client realm login first span) (tgs_reply_key client.suite session) met.honest.service.account login.realm_words_tgs bytes × (r ≡ Ok bytes))
 
       abbrev under_key : Span → CipherSuite → ReplyKeyRecord → Table (Result Bytes ℕ)
-      under_key span suite under = replied (further_ticket call (ticket_part old) (principal_name 2 login.service) suite body span) under met.honest.service.account call.random
+      under_key span suite under = replied (further_ticket call (ticket_part old) (principal_name 2 login.service) suite body span) under met.honest.service.account call.words
 
       abbrev in_suite : Span → CipherSuite → Table (Result Bytes ℕ)
       in_suite span suite =
@@ -433,7 +433,7 @@ module _ (client : ClientRecord) (means : MeansRecord) (realm : RealmRecord) (ro
       table_grants : (r : Result Bytes ℕ) → (tgs_table call request).gives r → IsGrantedBy r
       table_grants r x =
           let a = past_then {A = Unit {0}} {T = Bytes} (to_us realm.name request) (λ _. and_then (carried (padata_in request)) (of_carried call body)) tt r
-          (for_realm client login.service login.till (nonce_of login.random_tgs) shown_bytes realm.name met.honest.named.client) x in
+          (for_realm client login.service login.till (nonce_of login.words_tgs) shown_bytes realm.name met.honest.named.client) x in
           let b = past_then {A = ApReqInner} {T = Bytes} (carried (padata_in request)) (of_carried call body) presented r (is_carried shown_bytes presented is_presented) a in
           let c = past_need {T = Bytes} {E = ℕ} (realm.look (krbtgt_of realm.name)) 7 by_account met.granting.account r met.granting.found b in
           let d = past_then {A = EncTicketPartInner} {T = Bytes} (ticket_granting call met.granting.account presented) (of_ticket call body presented) (ticket_part old) r of_granting c in
@@ -442,10 +442,10 @@ module _ (client : ClientRecord) (means : MeansRecord) (realm : RealmRecord) (ro
 
       granted : (bytes : Bytes) (reply : Option Bytes) → bytes ≡ tgs_request_bytes request → Replies call rows bytes reply
           → (span : Span) × IsFurtherSpan realm login first span × ((made : Bytes) × (reply ≡ Some made)
-          × IsTicketReply (further_grant client realm login first span) (tgs_reply_key client.suite session) met.honest.service.account login.realm_random_tgs made)
+          × IsTicketReply (further_grant client realm login first span) (tgs_reply_key client.suite session) met.honest.service.account login.realm_words_tgs made)
       granted bytes reply e x =
           let asked = subst (λ n. are_texts n ≡ true) (sym met.honest.named.asked) (component_texts service.entry.components met.parties.entry.1) in
-          let is = tgs_request_written client login.service login.till (nonce_of login.random_tgs) shown_bytes bytes (realm_text client.realm met.parties.realm) asked e in
+          let is = tgs_request_written client login.service login.till (nonce_of login.words_tgs) shown_bytes bytes (realm_text client.realm met.parties.realm) asked e in
           let judged = replied_to call rows bytes reply request is (no_as_request _ bytes is.1) x in
           let made = table_grants judged.0 judged.1 in
           (made.0, made.1, (made.2.0, subst (λ r. (reply_of call (λ code. None) request r).gives reply) made.2.2 judged.2, made.2.1))
@@ -457,8 +457,8 @@ pub further_granted : (client : ClientRecord) (means : MeansRecord) (realm : Rea
 unfolding IsFurtherGranted
 further_granted client means realm rows service before login met first granting request first_is held asks =
     let shown = asks.authenticates in
-    let presents = subst (λ a. IsApRequest granting 7 false a (authenticator_confounder (cipher_confounder_size granting.suite) login.random_tgs) asks.request) shown.authenticates.told shown.presents in (
-      λ are. replies_at realm rows login.till login.realm_tgs login.realm_random_tgs request met.keyed met.honest.lasting.further met.enough.realm_tgs are,
+    let presents = subst (λ a. IsApRequest granting 7 false a (authenticator_confounder (cipher_confounder_size granting.suite) login.words_tgs) asks.request) shown.authenticates.told shown.presents in (
+      λ are. replies_at realm rows login.till login.realm_tgs login.realm_words_tgs request met.keyed met.honest.lasting.further met.enough.realm_tgs are,
       λ reply replied.
           granted client means realm rows service before login met first first_is granting held shown.authenticates.second shown.authenticates.of_moment asks.request presents request reply asks.encoding replied,
     )

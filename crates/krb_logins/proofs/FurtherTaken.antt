@@ -78,31 +78,31 @@ module _ (client : ClientRecord) (asked : TgsAskedRecord) where
       (past_refuse {T = CredentialRecord} {E = TakeRefusal} (not (is_of_type 13 reply.pvno.0 reply.msg_type.0)) Unreadable (by_key reply) taken (ap not of_type) x)
 
 -- what is granted is taken, where it is what was asked for
-taken_of : (client : ClientRecord) (suite : CipherSuite) (key : Bytes) (account : AccountRecord) (asked : TgsAskedRecord) (grant : Grant) (random : Random) (granted : Bytes) (taken : Taken)
+taken_of : (client : ClientRecord) (suite : CipherSuite) (key : Bytes) (account : AccountRecord) (asked : TgsAskedRecord) (grant : Grant) (words : Random) (granted : Bytes) (taken : Taken)
     → suite ≡ asked.suite → key ≡ asked.key → AreTexts grant → IsAskedFor client asked.service asked.nonce grant
     → length grant.session ≡ cipher_key_size grant.suite
-    → IsTicketReply grant (tgs_reply_key suite key) account random granted → TakesTgsReply client asked granted taken
-    → (credential : CredentialRecord) × (taken ≡ Ok credential) × IsHeld account random grant credential
-taken_of client suite key account asked grant random granted taken same_suite same_key texts is sized it x =
+    → IsTicketReply grant (tgs_reply_key suite key) account words granted → TakesTgsReply client asked granted taken
+    → (credential : CredentialRecord) × (taken ≡ Ok credential) × IsHeld account words grant credential
+taken_of client suite key account asked grant words granted taken same_suite same_key texts is sized it x =
     let reply = kdc_reply_of Tgs None grant (ticket_of grant it.ticket_data) it.reply_data in
     let as_read = read client asked granted reply taken (reply_written Tgs None grant it.ticket_data it.reply_data granted texts it.encoding) x in
     let as_opened = opened client asked reply (reply_part grant) taken (typed grant it.ticket_data it.reply_data)
-    (part_opened suite asked.suite key asked.key grant (reply_confounder (cipher_confounder_size suite) random) it.ticket_data it.reply_data same_suite same_key texts it.reply_sealed) as_read in
-    taken_held client asked.service asked.nonce Tgs None grant it.ticket_data it.reply_data account random taken is sized it.ticket_sealed as_opened
+    (part_opened suite asked.suite key asked.key grant (reply_confounder (cipher_confounder_size suite) words) it.ticket_data it.reply_data same_suite same_key texts it.reply_sealed) as_read in
+    taken_held client asked.service asked.nonce Tgs None grant it.ticket_data it.reply_data account words taken is sized it.ticket_sealed as_opened
 
 pub further_taken : (client : ClientRecord) (means : MeansRecord) (realm : RealmRecord) (rows : PkinitRows) (service : ServiceRecord) (before : RememberedRecord) (login : LoginRecord)
     (met : IsMet client means realm rows service before login)
     → IsFurtherTaken client means realm rows service before login met
 unfolding IsFurtherTaken
 further_taken client means realm rows service before login met first span granting granted taken held it x =
-    let asked = tgs_asked granting login.service login.random_tgs in
+    let asked = tgs_asked granting login.service login.words_tgs in
     let grant = further_grant client realm login first span in
     let texts : AreTexts grant = record {
       realm = subst (λ name. is_general_string name ≡ true) met.honest.named.client (realm_text client.realm met.parties.realm);
       client = component_texts client.components met.parties.name;
       service = subst (λ name. are_texts name ≡ true) (sym met.honest.named.asked) (component_texts service.entry.components met.parties.entry.1);
     } in
-    taken_of client client.suite (session_key_of client.suite login.realm_random_as) met.honest.service.account asked grant login.realm_random_tgs granted taken
+    taken_of client client.suite (session_key_of client.suite login.realm_words_as) met.honest.service.account asked grant login.realm_words_tgs granted taken
     (sym held.suite) (sym held.key) texts
     (record { nonce = refl; realm = sym met.honest.named.client; name = refl; service = refl })
-    (session_key_sized client.suite login.realm_random_tgs met.enough.realm_tgs) it x
+    (session_key_sized client.suite login.realm_words_tgs met.enough.realm_tgs) it x

@@ -32,9 +32,9 @@ use Rattle.krb_logins.proofs.Names.{same_name, same_realm}
 use Rattle.krb_logins.proofs.Passing.{past_need, past_refuse}
 
 -- a session's key has the length of its suite's keys
-pub session_key_sized : (suite : CipherSuite) (random : Random) → 128 ≤ length random → length (session_key_of suite random) ≡ cipher_key_size suite
-session_key_sized suite random enough =
-    seed_key_sized suite (session_seed (cipher_seed_size suite) random) (length-take-le (cipher_seed_size suite) random (omega (arith, enough, seed_below suite)))
+pub session_key_sized : (suite : CipherSuite) (words : Random) → 128 ≤ length words → length (session_key_of suite words) ≡ cipher_key_size suite
+session_key_sized suite words enough =
+    seed_key_sized suite (session_seed (cipher_seed_size suite) words) (length-take-le (cipher_seed_size suite) words (omega (arith, enough, seed_below suite)))
 
 -- so it is one of the suite
 pub suite_of_key : (suite : CipherSuite) (key : Bytes) → length key ≡ cipher_key_size suite → suite_of (encryption_key suite key) ≡ Some suite
@@ -69,23 +69,23 @@ module _ (client : ClientRecord) (asked : List Bytes) (number : ℕ) (exchange :
   unfolding reply_part
   part_suite sized = suite_of_key grant.suite grant.session sized
 
-  held : (account : AccountRecord) (random : Random) → IsSealedData account 2 (ticket_confounder (cipher_confounder_size account.suite) random) (ticket_part_bytes (ticket_part grant)) ticket
-      → IsHeld account random grant (credential_of reply (reply_part grant) grant.suite)
+  held : (account : AccountRecord) (words : Random) → IsSealedData account 2 (ticket_confounder (cipher_confounder_size account.suite) words) (ticket_part_bytes (ticket_part grant)) ticket
+      → IsHeld account words grant (credential_of reply (reply_part grant) grant.suite)
   unfolding kdc_reply_of reply_part
-  held account random it = record { part = ticket; sealed = it; ticket = refl; suite = refl; key = refl; realm = refl; service = refl }
+  held account words it = record { part = ticket; sealed = it; ticket = refl; suite = refl; key = refl; realm = refl; service = refl }
 
   abbrev with_suite : CipherSuite → Table Taken
   with_suite suite = done (Ok (credential_of reply (reply_part grant) suite))
 
   -- it is held
-  pub taken_held : (account : AccountRecord) (random : Random) (taken : Taken) → IsAskedFor client asked number grant → length grant.session ≡ cipher_key_size grant.suite
-      → IsSealedData account 2 (ticket_confounder (cipher_confounder_size account.suite) random) (ticket_part_bytes (ticket_part grant)) ticket
+  pub taken_held : (account : AccountRecord) (words : Random) (taken : Taken) → IsAskedFor client asked number grant → length grant.session ≡ cipher_key_size grant.suite
+      → IsSealedData account 2 (ticket_confounder (cipher_confounder_size account.suite) words) (ticket_part_bytes (ticket_part grant)) ticket
       → (takes_part client asked number reply (reply_part grant)).gives taken
-      → (credential : CredentialRecord) × (taken ≡ Ok credential) × IsHeld account random grant credential
-  taken_held account random taken is sized it x =
+      → (credential : CredentialRecord) × (taken ≡ Ok credential) × IsHeld account words grant credential
+  taken_held account words taken is sized it x =
       let answers = past_refuse {T = CredentialRecord} {E = TakeRefusal} (not (is_answer client.realm client.components asked number reply (reply_part grant))) NotAsked
       (need (suite_of (reply_part grant).key.0) NotAsked with_suite) taken (ap not (answered is)) x in (
         credential_of reply (reply_part grant) grant.suite,
         past_need {T = CredentialRecord} {E = TakeRefusal} (suite_of (reply_part grant).key.0) NotAsked with_suite grant.suite taken (part_suite sized) answers,
-        held account random it,
+        held account words it,
       )

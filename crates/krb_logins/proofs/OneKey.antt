@@ -93,11 +93,11 @@ asked_memory service refusal named (inl x) = x
 asked_memory service refusal named (inr x) = absurd (subst IsTrueName (sym named ∙ x.1) tt)
 
 -- and a first ticket for it, where the means don't refuse the request
-first_memory : (client : ClientRecord) (means : MeansRecord) (service : List Bytes) (till : GeneralizedTime) (moment : Micros) (random : Random) (refusal : AskRefusal) → are_components service ≡ true
-    → (means.refuses (as_body client service till random) moment random → ⊥) → IsUnasked client means service till moment random refusal → refusal ≡ ask_refusal.Memory
-first_memory client means service till moment random refusal named asks (inl x) = absurd (subst IsTrueName (sym named ∙ x.1) tt)
-first_memory client means service till moment random refusal named asks (inr (inl x)) = x
-first_memory client means service till moment random refusal named asks (inr (inr x)) = absurd (asks x.1)
+first_memory : (client : ClientRecord) (means : MeansRecord) (service : List Bytes) (till : GeneralizedTime) (moment : Micros) (words : Random) (refusal : AskRefusal) → are_components service ≡ true
+    → (means.refuses (as_body client service till words) moment words → ⊥) → IsUnasked client means service till moment words refusal → refusal ≡ ask_refusal.Memory
+first_memory client means service till moment words refusal named asks (inl x) = absurd (subst IsTrueName (sym named ∙ x.1) tt)
+first_memory client means service till moment words refusal named asks (inr (inl x)) = x
+first_memory client means service till moment words refusal named asks (inr (inr x)) = absurd (asks x.1)
 
 -- what is given by a table that gives values alone is taken, memory aside
 taken_memory : {T : Type 0} (table : Table (Result T TakeRefusal)) (refusal : TakeRefusal) → ((taken : Result T TakeRefusal) → table.gives taken → (value : T) × (taken ≡ Ok value))
@@ -137,12 +137,12 @@ module _ (client : ClientRecord) (means : MeansRecord) (realm : RealmRecord) (ro
     (met : IsMet client means realm rows service before login) (laws : AreLaws client means realm rows service before login met) where
   -- the client holds the first ticket
   abbrev HoldsFirst : CredentialRecord → Type 0
-  HoldsFirst credential = (first : Span) × IsFirstSpan realm login first × IsHeld met.granting.account login.realm_random_as (first_grant client realm login first) credential
+  HoldsFirst credential = (first : Span) × IsFirstSpan realm login first × IsHeld met.granting.account login.realm_words_as (first_grant client realm login first) credential
 
   abbrev as_call : CallRecord
-  as_call = call_at realm login.realm_as login.realm_random_as
+  as_call = call_at realm login.realm_as login.realm_words_as
 
-  module _ (sent : Bytes × AsAskedRecord) (asked : IsAsAsked client means (krbtgt_of client.realm) login.till login.client_as login.random_as (Ok sent)) where
+  module _ (sent : Bytes × AsAskedRecord) (asked : IsAsAsked client means (krbtgt_of client.realm) login.till login.client_as login.words_as (Ok sent)) where
     as_granted : (reply : Option Bytes) → Replies as_call rows sent.0 reply → (granted : Bytes) × (reply ≡ Some granted)
     unfolding IsAsAsked IsFirstGranted
     as_granted reply replied = let it = (laws.first_granted sent.0 asked.0).1 reply replied in (it.2.2.0, it.2.2.1)
@@ -173,15 +173,15 @@ module _ (client : ClientRecord) (means : MeansRecord) (realm : RealmRecord) (ro
         (λ reply answered. as_taken result reply (answered_reply as_call rows sent.0 reply answered))
         (λ refusal. answered_memory as_call rows sent.0 refusal as_granted)
 
-  as_unasked : (refusal : AskRefusal) → IsAsAsked client means (krbtgt_of client.realm) login.till login.client_as login.random_as (Err refusal) → refusal ≡ ask_refusal.Memory
+  as_unasked : (refusal : AskRefusal) → IsAsAsked client means (krbtgt_of client.realm) login.till login.client_as login.words_as (Err refusal) → refusal ≡ ask_refusal.Memory
   unfolding IsAsAsked
   as_unasked refusal x =
-      first_memory client means (krbtgt_of client.realm) login.till login.client_as login.random_as refusal (granting_name client.realm met.parties.realm) met.authenticated.asks x.0
+      first_memory client means (krbtgt_of client.realm) login.till login.client_as login.words_as refusal (granting_name client.realm met.parties.realm) met.authenticated.asks x.0
 
   as_ends : (result : Result CredentialRecord LoginRefusal) → AsExchange client means realm rows login result → Ends HoldsFirst result
   unfolding AsExchange
   as_ends result =
-      followed_ends (IsAsAsked client means (krbtgt_of client.realm) login.till login.client_as login.random_as) Asked
+      followed_ends (IsAsAsked client means (krbtgt_of client.realm) login.till login.client_as login.words_as) Asked
       (λ sent. followed (IsAnswered as_call rows sent.0) Answered (λ reply. followed (IsTaken (takes_as_reply client means sent.1 reply)) Taken ended)) HoldsFirst result
       (λ sent asked. as_answered sent asked result)
       as_unasked
@@ -190,12 +190,12 @@ module _ (client : ClientRecord) (means : MeansRecord) (realm : RealmRecord) (ro
   abbrev HoldsFurther : CredentialRecord → Type 0
   HoldsFurther credential =
       (first : Span) × IsFirstSpan realm login first × ((span : Span) × IsFurtherSpan realm login first span
-      × IsHeld met.honest.service.account login.realm_random_tgs (further_grant client realm login first span) credential)
+      × IsHeld met.honest.service.account login.realm_words_tgs (further_grant client realm login first span) credential)
 
   abbrev tgs_call : CallRecord
-  tgs_call = call_at realm login.realm_tgs login.realm_random_tgs
+  tgs_call = call_at realm login.realm_tgs login.realm_words_tgs
 
-  module _ (granting : CredentialRecord) (holds : HoldsFirst granting) (sent : Bytes × TgsAskedRecord) (asked : IsTgsAsked client granting login.service login.till login.client_tgs login.random_tgs (Ok sent)) where
+  module _ (granting : CredentialRecord) (holds : HoldsFirst granting) (sent : Bytes × TgsAskedRecord) (asked : IsTgsAsked client granting login.service login.till login.client_tgs login.words_tgs (Ok sent)) where
     tgs_granted : (reply : Option Bytes) → Replies tgs_call rows sent.0 reply → (granted : Bytes) × (reply ≡ Some granted)
     unfolding IsTgsAsked IsFurtherGranted
     tgs_granted reply replied = let it = (laws.further_granted holds.0 granting sent.0 holds.1 holds.2 asked.0).1 reply replied in (it.2.0, it.2.1)
@@ -206,7 +206,7 @@ module _ (client : ClientRecord) (means : MeansRecord) (realm : RealmRecord) (ro
     tgs_value reply taken replied x =
         let granted = (laws.further_granted holds.0 granting sent.0 holds.1 holds.2 asked.0).1 (Some reply) replied in
         let own = subst (λ a. TakesTgsReply client a reply taken) asked.1 x in
-        let same = subst (λ r. TakesTgsReply client (tgs_asked granting login.service login.random_tgs) r taken) (one_reply reply granted.2.0 granted.2.1) own in
+        let same = subst (λ r. TakesTgsReply client (tgs_asked granting login.service login.words_tgs) r taken) (one_reply reply granted.2.0 granted.2.1) own in
         let it = laws.further_taken holds.0 granted.0 granting granted.2.0 taken holds.2 granted.2.2 same in
         (it.0, it.1, (holds.0, holds.1, (granted.0, granted.1, it.2)))
 
@@ -230,14 +230,14 @@ module _ (client : ClientRecord) (means : MeansRecord) (realm : RealmRecord) (ro
   service_name : are_components login.service ≡ true
   service_name = subst (λ name. are_components name ≡ true) (sym met.honest.named.asked) met.parties.entry.1
 
-  tgs_unasked : (granting : CredentialRecord) (refusal : AskRefusal) → IsTgsAsked client granting login.service login.till login.client_tgs login.random_tgs (Err refusal) → refusal ≡ ask_refusal.Memory
+  tgs_unasked : (granting : CredentialRecord) (refusal : AskRefusal) → IsTgsAsked client granting login.service login.till login.client_tgs login.words_tgs (Err refusal) → refusal ≡ ask_refusal.Memory
   unfolding IsTgsAsked
   tgs_unasked granting refusal = asked_memory login.service refusal service_name
 
   tgs_ends : (granting : CredentialRecord) (result : Result CredentialRecord LoginRefusal) → HoldsFirst granting → TgsExchange client realm rows login granting result → Ends HoldsFurther result
   unfolding TgsExchange
   tgs_ends granting result holds =
-      followed_ends (IsTgsAsked client granting login.service login.till login.client_tgs login.random_tgs) Asked
+      followed_ends (IsTgsAsked client granting login.service login.till login.client_tgs login.words_tgs) Asked
       (λ sent. followed (IsAnswered tgs_call rows sent.0) Answered (λ reply. followed (IsTaken (takes_tgs_reply client sent.1 reply)) Taken ended)) HoldsFurther result
       (λ sent asked. tgs_answered granting holds sent asked result)
       (tgs_unasked granting)
@@ -251,20 +251,20 @@ module _ (client : ClientRecord) (means : MeansRecord) (realm : RealmRecord) (ro
   abbrev HaveOneKey : Login → Type 0
   HaveOneKey made = (made.0 ≡ made.1.session) × (made.1.realm ≡ client.realm) × (components made.1.client ≡ client.components)
 
-  module _ (credential : CredentialRecord) (holds : HoldsFurther credential) (sent : Bytes × ApAskedRecord) (asked : IsApAsked client credential login.client_ap login.random_ap (Ok sent)) where
+  module _ (credential : CredentialRecord) (holds : HoldsFurther credential) (sent : Bytes × ApAskedRecord) (asked : IsApAsked client credential login.client_ap login.words_ap (Ok sent)) where
     -- the outcome is that the client is admitted
     abbrev IsIn : Outcome → AdmissionRecord → Type 0
     IsIn outcome admission =
         (outcome ≡ (Ok admission, login_pair client login ∷ before.admitted))
-        × (admission.session ≡ encryption_key client.suite (session_key_of client.suite login.realm_random_tgs))
+        × (admission.session ≡ encryption_key client.suite (session_key_of client.suite login.realm_words_tgs))
         × (admission.realm ≡ client.realm) × (components admission.client ≡ client.components)
-        × ((taken : Result (Unit {0}) TakeRefusal) → (takes_ap_reply (ap_asked credential false login.client_ap login.random_ap) (reply_bytes admission.reply)).gives taken → taken ≡ Ok tt)
+        × ((taken : Result (Unit {0}) TakeRefusal) → (takes_ap_reply (ap_asked credential false login.client_ap login.words_ap) (reply_bytes admission.reply)).gives taken → taken ≡ Ok tt)
 
-    outcome_is : (greatest : ℕ) (outcome : Outcome) → greatest ≡ clock_of before login → (remembering service greatest before.admitted sent.0 login.service_random).gives outcome
+    outcome_is : (greatest : ℕ) (outcome : Outcome) → greatest ≡ clock_of before login → (remembering service greatest before.admitted sent.0 login.service_words).gives outcome
         → (admission : AdmissionRecord) × IsIn outcome admission
     unfolding IsApAsked IsClientAdmitted
     outcome_is greatest outcome clock x =
-        let judged = subst (λ g. (remembering service g before.admitted sent.0 login.service_random).gives outcome) clock x in
+        let judged = subst (λ g. (remembering service g before.admitted sent.0 login.service_words).gives outcome) clock x in
         let it = laws.client_admitted holds.0 holds.2.0 credential sent.0 outcome holds.1 holds.2.1 holds.2.2 asked.0 judged in
         (it.0, (it.1, it.2, it.3, it.4, it.5))
 
@@ -295,7 +295,7 @@ module _ (client : ClientRecord) (means : MeansRecord) (realm : RealmRecord) (ro
     served (Err admit_refusal.Unreadable) after result x y = absurd (no_refusal _ _ (ap (λ o. o.0) (outcome_is after.greatest (Err admit_refusal.Unreadable, after.admitted) x.0 x.1).1.0))
     served (Err (admit_refusal.Krb code)) after result x y = absurd (no_refusal _ _ (ap (λ o. o.0) (outcome_is after.greatest (Err (admit_refusal.Krb code), after.admitted) x.0 x.1).1.0))
 
-  ap_unasked : (credential : CredentialRecord) (refusal : AskRefusal) → IsApAsked client credential login.client_ap login.random_ap (Err refusal) → refusal ≡ ask_refusal.Memory
+  ap_unasked : (credential : CredentialRecord) (refusal : AskRefusal) → IsApAsked client credential login.client_ap login.words_ap (Err refusal) → refusal ≡ ask_refusal.Memory
   unfolding IsApAsked
   ap_unasked credential refusal x = x
 

@@ -118,50 +118,50 @@ none_asked service refusal other (inr x) (inl wants) = inr (inl wants)
 none_asked service refusal other (inr x) (inr y) = inr (inr (ap Err (x.0 ∙ sym y.0)))
 
 -- a first ticket is asked for or not, by means that refuse no request that they have padata for
-first_or_not : (client : ClientRecord) (means : MeansRecord) (service : List Bytes) (till : GeneralizedTime) (moment : Micros) (random : Random) (bytes : Bytes) (refusal : AskRefusal) → AreDecided means
-    → AsksAs client means service till moment random bytes → are_components service ≡ true → IsUnasked client means service till moment random refusal → AskWants refusal
-first_or_not client means service till moment random bytes refusal decided asks named (inl x) = cc (named, x.1)
-first_or_not client means service till moment random bytes refusal decided asks named (inr (inl wants)) = wants
-first_or_not client means service till moment random bytes refusal decided asks named (inr (inr x)) =
-    absurd (decided (as_body client service till random) moment random asks.padata asks.shown x.1)
+first_or_not : (client : ClientRecord) (means : MeansRecord) (service : List Bytes) (till : GeneralizedTime) (moment : Micros) (words : Random) (bytes : Bytes) (refusal : AskRefusal) → AreDecided means
+    → AsksAs client means service till moment words bytes → are_components service ≡ true → IsUnasked client means service till moment words refusal → AskWants refusal
+first_or_not client means service till moment words bytes refusal decided asks named (inl x) = cc (named, x.1)
+first_or_not client means service till moment words bytes refusal decided asks named (inr (inl wants)) = wants
+first_or_not client means service till moment words bytes refusal decided asks named (inr (inr x)) =
+    absurd (decided (as_body client service till words) moment words asks.padata asks.shown x.1)
 
 -- what refuses it is one
 abbrev FirstNamed : List Bytes → AskRefusal → Type 0
 FirstNamed service refusal = are_components service ≡ false → refusal ≡ ask_refusal.BadName
 
-none_first : {A : Type 0} (client : ClientRecord) (means : MeansRecord) (service : List Bytes) (till : GeneralizedTime) (moment : Micros) (random : Random) (refusal other : AskRefusal)
-    → IsUnasked client means service till moment random refusal → FirstNamed service refusal → IsUnasked client means service till moment random other → FirstNamed service other
+none_first : {A : Type 0} (client : ClientRecord) (means : MeansRecord) (service : List Bytes) (till : GeneralizedTime) (moment : Micros) (words : Random) (refusal other : AskRefusal)
+    → IsUnasked client means service till moment words refusal → FirstNamed service refusal → IsUnasked client means service till moment words other → FirstNamed service other
     → AreOne {A = A} AskWants (Err refusal) (Err other)
-none_first client means service till moment random refusal other (inl x) named y other_named = inr (inr (ap Err (x.0 ∙ sym (other_named x.1))))
-none_first client means service till moment random refusal other (inr (inl wants)) named y other_named = inl wants
-none_first client means service till moment random refusal other (inr (inr x)) named (inl y) other_named = inr (inr (ap Err (named y.1 ∙ sym y.0)))
-none_first client means service till moment random refusal other (inr (inr x)) named (inr (inl wants)) other_named = inr (inl wants)
-none_first client means service till moment random refusal other (inr (inr x)) named (inr (inr y)) other_named = inr (inr (ap Err (x.0 ∙ sym y.0)))
+none_first client means service till moment words refusal other (inl x) named y other_named = inr (inr (ap Err (x.0 ∙ sym (other_named x.1))))
+none_first client means service till moment words refusal other (inr (inl wants)) named y other_named = inl wants
+none_first client means service till moment words refusal other (inr (inr x)) named (inl y) other_named = inr (inr (ap Err (named y.1 ∙ sym y.0)))
+none_first client means service till moment words refusal other (inr (inr x)) named (inr (inl wants)) other_named = inr (inl wants)
+none_first client means service till moment words refusal other (inr (inr x)) named (inr (inr y)) other_named = inr (inr (ap Err (x.0 ∙ sym y.0)))
 
-one_as_asked : (client : ClientRecord) (means : MeansRecord) (service : List Bytes) (till : GeneralizedTime) (moment : Micros) (random : Random) → AreDecided means
-    → IsOne AskWants (IsAsAsked client means service till moment random)
+one_as_asked : (client : ClientRecord) (means : MeansRecord) (service : List Bytes) (till : GeneralizedTime) (moment : Micros) (words : Random) → AreDecided means
+    → IsOne AskWants (IsAsAsked client means service till moment words)
 unfolding IsAsAsked
-one_as_asked client means service till moment random decided (Ok sent) (Ok other) x y =
-    inr (inr (ap Ok (same_pair sent other (sole_as_request client means service till moment random sent.0 other.0 x.0 y.0) (x.1 ∙ sym y.1))))
-one_as_asked client means service till moment random decided (Ok sent) (Err refusal) x y = inr (inl (first_or_not client means service till moment random sent.0 refusal decided x.0 x.2 y.0))
-one_as_asked client means service till moment random decided (Err refusal) (Ok sent) x y = inl (first_or_not client means service till moment random sent.0 refusal decided y.0 y.2 x.0)
-one_as_asked client means service till moment random decided (Err refusal) (Err other) x y = none_first client means service till moment random refusal other x.0 x.1 y.0 y.1
+one_as_asked client means service till moment words decided (Ok sent) (Ok other) x y =
+    inr (inr (ap Ok (same_pair sent other (sole_as_request client means service till moment words sent.0 other.0 x.0 y.0) (x.1 ∙ sym y.1))))
+one_as_asked client means service till moment words decided (Ok sent) (Err refusal) x y = inr (inl (first_or_not client means service till moment words sent.0 refusal decided x.0 x.2 y.0))
+one_as_asked client means service till moment words decided (Err refusal) (Ok sent) x y = inl (first_or_not client means service till moment words sent.0 refusal decided y.0 y.2 x.0)
+one_as_asked client means service till moment words decided (Err refusal) (Err other) x y = none_first client means service till moment words refusal other x.0 x.1 y.0 y.1
 
-one_tgs_asked : (client : ClientRecord) (credential : CredentialRecord) (service : List Bytes) (till : GeneralizedTime) (moment : Micros) (random : Random)
-    → IsOne AskWants (IsTgsAsked client credential service till moment random)
+one_tgs_asked : (client : ClientRecord) (credential : CredentialRecord) (service : List Bytes) (till : GeneralizedTime) (moment : Micros) (words : Random)
+    → IsOne AskWants (IsTgsAsked client credential service till moment words)
 unfolding IsTgsAsked
-one_tgs_asked client credential service till moment random (Ok sent) (Ok other) x y =
-    inr (inr (ap Ok (same_pair sent other (sole_tgs_request client credential service till moment random sent.0 other.0 x.0 y.0) (x.1 ∙ sym y.1))))
-one_tgs_asked client credential service till moment random (Ok sent) (Err refusal) x y = inr (inl (asked_or_not service sent refusal x.2 y))
-one_tgs_asked client credential service till moment random (Err refusal) (Ok sent) x y = inl (asked_or_not service sent refusal y.2 x)
-one_tgs_asked client credential service till moment random (Err refusal) (Err other) x y = none_asked service refusal other x y
+one_tgs_asked client credential service till moment words (Ok sent) (Ok other) x y =
+    inr (inr (ap Ok (same_pair sent other (sole_tgs_request client credential service till moment words sent.0 other.0 x.0 y.0) (x.1 ∙ sym y.1))))
+one_tgs_asked client credential service till moment words (Ok sent) (Err refusal) x y = inr (inl (asked_or_not service sent refusal x.2 y))
+one_tgs_asked client credential service till moment words (Err refusal) (Ok sent) x y = inl (asked_or_not service sent refusal y.2 x)
+one_tgs_asked client credential service till moment words (Err refusal) (Err other) x y = none_asked service refusal other x y
 
-one_ap_asked : (client : ClientRecord) (credential : CredentialRecord) (moment : Micros) (random : Random) → IsOne AskWants (IsApAsked client credential moment random)
+one_ap_asked : (client : ClientRecord) (credential : CredentialRecord) (moment : Micros) (words : Random) → IsOne AskWants (IsApAsked client credential moment words)
 unfolding IsApAsked
-one_ap_asked client credential moment random (Ok sent) (Ok other) x y =
-    inr (inr (ap Ok (same_pair sent other (sole_ap_request client credential true false moment random sent.0 other.0 x.0 y.0) (x.1 ∙ sym y.1))))
-one_ap_asked client credential moment random (Ok sent) (Err refusal) x y = inr (inl y)
-one_ap_asked client credential moment random (Err refusal) other x y = inl x
+one_ap_asked client credential moment words (Ok sent) (Ok other) x y =
+    inr (inr (ap Ok (same_pair sent other (sole_ap_request client credential true false moment words sent.0 other.0 x.0 y.0) (x.1 ∙ sym y.1))))
+one_ap_asked client credential moment words (Ok sent) (Err refusal) x y = inr (inl y)
+one_ap_asked client credential moment words (Err refusal) other x y = inl x
 
 -- the realm's reply is one
 one_answered : (call : CallRecord) (rows : PkinitRows) (request : Bytes) → IsOne AnswerWants (IsAnswered call rows request)
@@ -207,28 +207,28 @@ one_taking table = one_followed TakeWants (IsTaken table) Taken ended one_ended 
 
 module _ (client : ClientRecord) (means : MeansRecord) (decided : AreDecided means) (realm : RealmRecord) (rows : PkinitRows) (service : ServiceRecord) (before : RememberedRecord) (login : LoginRecord) where
   abbrev as_call : CallRecord
-  as_call = call_at realm login.realm_as login.realm_random_as
+  as_call = call_at realm login.realm_as login.realm_words_as
 
   abbrev tgs_call : CallRecord
-  tgs_call = call_at realm login.realm_tgs login.realm_random_tgs
+  tgs_call = call_at realm login.realm_tgs login.realm_words_tgs
 
   one_as_exchange : IsOne IsWantOfMemory (AsExchange client means realm rows login)
   unfolding AsExchange
   one_as_exchange =
-      one_followed AskWants (IsAsAsked client means (krbtgt_of client.realm) login.till login.client_as login.random_as) Asked
+      one_followed AskWants (IsAsAsked client means (krbtgt_of client.realm) login.till login.client_as login.words_as) Asked
       (λ sent. followed (IsAnswered as_call rows sent.0) Answered (λ reply. followed (IsTaken (takes_as_reply client means sent.1 reply)) Taken ended))
       (λ sent. one_followed AnswerWants (IsAnswered as_call rows sent.0) Answered (λ reply. followed (IsTaken (takes_as_reply client means sent.1 reply)) Taken ended)
       (λ reply. one_taking (takes_as_reply client means sent.1 reply)) answer_aside (one_answered as_call rows sent.0))
-      ask_aside (one_as_asked client means (krbtgt_of client.realm) login.till login.client_as login.random_as decided)
+      ask_aside (one_as_asked client means (krbtgt_of client.realm) login.till login.client_as login.words_as decided)
 
   one_tgs_exchange : (granting : CredentialRecord) → IsOne IsWantOfMemory (TgsExchange client realm rows login granting)
   unfolding TgsExchange
   one_tgs_exchange granting =
-      one_followed AskWants (IsTgsAsked client granting login.service login.till login.client_tgs login.random_tgs) Asked
+      one_followed AskWants (IsTgsAsked client granting login.service login.till login.client_tgs login.words_tgs) Asked
       (λ sent. followed (IsAnswered tgs_call rows sent.0) Answered (λ reply. followed (IsTaken (takes_tgs_reply client sent.1 reply)) Taken ended))
       (λ sent. one_followed AnswerWants (IsAnswered tgs_call rows sent.0) Answered (λ reply. followed (IsTaken (takes_tgs_reply client sent.1 reply)) Taken ended)
       (λ reply. one_taking (takes_tgs_reply client sent.1 reply)) answer_aside (one_answered tgs_call rows sent.0))
-      ask_aside (one_tgs_asked client granting login.service login.till login.client_tgs login.random_tgs)
+      ask_aside (one_tgs_asked client granting login.service login.till login.client_tgs login.words_tgs)
 
   -- the first exchange, and the one that follows it
   abbrev Followed : Result CredentialRecord LoginRefusal → Type 0
@@ -266,11 +266,11 @@ module _ (client : ClientRecord) (means : MeansRecord) (decided : AreDecided mea
   unfolding IsAdmitted
   one_admission request answer other after other_after x y =
       let same : after.greatest ≡ other_after.greatest = x.0 ∙ sym y.0 in
-      let table : Table Outcome = remembering service after.greatest before.admitted request login.service_random in
+      let table : Table Outcome = remembering service after.greatest before.admitted request login.service_words in
       one_outcome table answer other after other_after same
       (admitted_by table.gives before.admitted after.admitted answer x.1)
       (admitted_by table.gives before.admitted other_after.admitted other
-      (subst (λ g. runs.IsAnswered (remembering service g before.admitted request login.service_random).gives before.admitted other other_after.admitted) (sym same) y.1))
+      (subst (λ g. runs.IsAnswered (remembering service g before.admitted request login.service_words).gives before.admitted other other_after.admitted) (sym same) y.1))
 
   -- what the client shows of an admission
   one_shown : (asked : ApAskedRecord) (answer : Result AdmissionRecord AdmitRefusal) → IsOne IsWantOfMemory (shown asked answer)
@@ -300,7 +300,7 @@ module _ (client : ClientRecord) (means : MeansRecord) (decided : AreDecided mea
   -- the AP exchange
   module _ (credential : CredentialRecord) where
     abbrev Asks : Result (Bytes × ApAskedRecord) AskRefusal → Type 0
-    Asks = IsApAsked client credential login.client_ap login.random_ap
+    Asks = IsApAsked client credential login.client_ap login.words_ap
 
     abbrev Goes : Bytes × ApAskedRecord → Result Login LoginRefusal → RememberedRecord → Type 0
     Goes sent result after = (answer : Result AdmissionRecord AdmitRefusal) × IsAdmitted service login sent.0 before answer after × shown sent.1 answer result
@@ -325,7 +325,7 @@ module _ (client : ClientRecord) (means : MeansRecord) (decided : AreDecided mea
         → AreOneRun IsWantOfMemory result other after other_after
     unfolding ApExchange
     one_ap_exchange result other after other_after (inl x) (inl y) =
-        both_gone x.0 y.0 result other after other_after x.2 y.2 (one_ap_asked client credential login.client_ap login.random_ap (Ok x.0) (Ok y.0) x.1 y.1)
+        both_gone x.0 y.0 result other after other_after x.2 y.2 (one_ap_asked client credential login.client_ap login.words_ap (Ok x.0) (Ok y.0) x.1 y.1)
     one_ap_exchange result other after other_after (inr x) y = inl (refused_wants x.0 result x.1 x.2)
     one_ap_exchange result other after other_after (inl x) (inr y) = inr (inl (refused_wants y.0 other y.1 y.2))
 

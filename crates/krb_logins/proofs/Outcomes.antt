@@ -28,7 +28,7 @@ abbrev admitted_by : Presented → Option Bytes → Admitted
 admitted_by p reply = record { admission = admission_of p reply; pair = pair_of p }
 
 abbrev replied : Random → Presented → PairRecord → Table (Result Admitted Code)
-replied random p pair = make (IsReplyTo p random) (sole_reply_to p random) (λ reply. done (Ok (record { admission = admission_of p reply; pair = pair })))
+replied words p pair = make (IsReplyTo p words) (sole_reply_to p words) (λ reply. done (Ok (record { admission = admission_of p reply; pair = pair })))
 
 -- a fresh pair is that
 own_pair : (admitted : List PairRecord) (p : Presented) → is_among (pair_of p) admitted ≡ false → (fresh admitted p).gives (Ok (pair_of p))
@@ -36,14 +36,14 @@ unfolding fresh
 own_pair admitted p new = subst (λ b. (refuse {T = PairRecord} {E = Code} b KRB_AP_ERR_REPEAT (done (Ok (pair_of p)))).gives (Ok (pair_of p))) (sym new) refl
 
 -- what is near and fresh is admitted, with the reply to it
-admitted_once : (skew moment : Micros) (admitted : List PairRecord) (random : Random) (p : Presented) (r : Result Admitted Code) → is_far skew moment p.time ≡ false → is_among (pair_of p) admitted ≡ false
-    → (once skew moment admitted random p).gives r → (reply : Option Bytes) × IsReplyTo p random reply × (r ≡ Ok (admitted_by p reply))
+admitted_once : (skew moment : Micros) (admitted : List PairRecord) (words : Random) (p : Presented) (r : Result Admitted Code) → is_far skew moment p.time ≡ false → is_among (pair_of p) admitted ≡ false
+    → (once skew moment admitted words p).gives r → (reply : Option Bytes) × IsReplyTo p words reply × (r ≡ Ok (admitted_by p reply))
 unfolding once
-admitted_once skew moment admitted random p r near new x =
-    let past = past_refuse (is_far skew moment p.time) KRB_AP_ERR_SKEW (and_then (fresh admitted p) (replied random p)) r near x in
-    past_then (fresh admitted p) (replied random p) (pair_of p) r (own_pair admitted p new) past
+admitted_once skew moment admitted words p r near new x =
+    let past = past_refuse (is_far skew moment p.time) KRB_AP_ERR_SKEW (and_then (fresh admitted p) (replied words p)) r near x in
+    past_then (fresh admitted p) (replied words p) (pair_of p) r (own_pair admitted p new) past
 
-module _ (service : ServiceRecord) (moment : Micros) (admitted : List PairRecord) (bytes : Bytes) (random : Random) (choice : Choice) (x : IsAdmissible service moment admitted choice)
+module _ (service : ServiceRecord) (moment : Micros) (admitted : List PairRecord) (bytes : Bytes) (words : Random) (choice : Choice) (x : IsAdmissible service moment admitted choice)
     (y : Presents service.entry.key choice bytes) where
   abbrev own_shown : Presented
   own_shown = shown service.entry service.seen.skew moment choice x.acceptable
@@ -51,12 +51,12 @@ module _ (service : ServiceRecord) (moment : Micros) (admitted : List PairRecord
   abbrev own_request : ApReqInner
   own_request = request_of choice.outer y.part_cipher y.cipher
 
-  pub admits : (outcome : Outcome) → (remembering service moment admitted bytes random).gives outcome
-      → (reply : Option Bytes) × IsReplyTo own_shown random reply × (outcome ≡ (Ok (admission_of own_shown reply), pair_of own_shown ∷ admitted))
+  pub admits : (outcome : Outcome) → (remembering service moment admitted bytes words).gives outcome
+      → (reply : Option Bytes) × IsReplyTo own_shown words reply × (outcome ≡ (Ok (admission_of own_shown reply), pair_of own_shown ∷ admitted))
   unfolding remembering
   admits outcome given =
-      let read = past_ask (IsApReq bytes) (sole_ap_req bytes) (done (Err Unreadable, admitted)) (λ request. as_made (outcome_of admitted) (judged service moment admitted request random)) own_request outcome y.writes given in
+      let read = past_ask (IsApReq bytes) (sole_ap_req bytes) (done (Err Unreadable, admitted)) (λ request. as_made (outcome_of admitted) (judged service moment admitted request words)) own_request outcome y.writes given in
       let shows = presented_as_chosen service.entry service.seen.skew moment choice y.part_cipher y.cipher x.acceptable y.part y.authenticator in
-      let past = past_then (presented service.entry service.seen.skew moment own_request) (once service.seen.skew moment admitted random) own_shown read.0 shows read.1 in
-      let made = admitted_once service.seen.skew moment admitted random own_shown read.0 x.near x.first past in
+      let past = past_then (presented service.entry service.seen.skew moment own_request) (once service.seen.skew moment admitted words) own_shown read.0 shows read.1 in
+      let made = admitted_once service.seen.skew moment admitted words own_shown read.0 x.near x.first past in
       (made.0, made.1, read.2 ∙ ap (outcome_of admitted) made.2)

@@ -75,9 +75,9 @@ reply_taken asked suite key confounder bytes authenticator taken same_suite same
     answer_taken asked x.part (ap_rep_part authenticator) taken (tells_time asked.time authenticator second micros) opened answer
 
 -- if a reply is required, there is one, and the client takes it
-pub wanted_taken : (asked : ApAskedRecord) (random : Random) (suite : CipherSuite) (key : Bytes) (authenticator : AuthenticatorInner) (reply : Option Bytes) (taken : Shown) → suite ≡ asked.suite → key ≡ asked.key
+pub wanted_taken : (asked : ApAskedRecord) (words : Random) (suite : CipherSuite) (key : Bytes) (authenticator : AuthenticatorInner) (reply : Option Bytes) (taken : Shown) → suite ≡ asked.suite → key ≡ asked.key
     → seconds_of authenticator.ctime.0.0 ≡ asked.time / 1000000 → authenticator.cusec.0 ≡ pos (asked.time % 1000000)
-    → IsReply true random suite key authenticator reply → TakesApReply asked (reply_bytes reply) taken → taken ≡ Ok tt
-wanted_taken asked random suite key authenticator None taken same_suite same_key second micros x y = absurd x
-wanted_taken asked random suite key authenticator (Some bytes) taken same_suite same_key second micros x y =
-    reply_taken asked suite key (ap_reply_confounder (cipher_confounder_size suite) random) bytes authenticator taken same_suite same_key second micros x y
+    → IsReply true words suite key authenticator reply → TakesApReply asked (reply_bytes reply) taken → taken ≡ Ok tt
+wanted_taken asked words suite key authenticator None taken same_suite same_key second micros x y = absurd x
+wanted_taken asked words suite key authenticator (Some bytes) taken same_suite same_key second micros x y =
+    reply_taken asked suite key (ap_reply_confounder (cipher_confounder_size suite) words) bytes authenticator taken same_suite same_key second micros x y

@@ -21,7 +21,7 @@ in_time till moment before =
     let last : asked_end (seconds_of till) ≤ last_second = asked_below (seconds_of till) (omega (arith, second_below till)) in
     omega (arith, before, last)
 
-pub replies_at : (realm : RealmRecord) (rows : PkinitRows) (till : GeneralizedTime) (moment : Micros) (random request : Bytes) → AreKeyed realm.look → moment < asked_end (seconds_of till) * 1000000
-    → 128 ≤ length random → AreBytes random request → HasSome (Replies (call_at realm moment random) rows request)
-replies_at realm rows till moment random request keyed before enough are =
-    has_reply (call_at realm moment random) rows request (record { in_time = in_time till moment before; enough = enough; bytes = are.words; keyed = keyed }) are.asked are.few
+pub replies_at : (realm : RealmRecord) (rows : PkinitRows) (till : GeneralizedTime) (moment : Micros) (words request : Bytes) → AreKeyed realm.look → moment < asked_end (seconds_of till) * 1000000
+    → 128 ≤ length words → AreBytes words request → HasSome (Replies (call_at realm moment words) rows request)
+replies_at realm rows till moment words request keyed before enough are =
+    has_reply (call_at realm moment words) rows request (record { in_time = in_time till moment before; enough = enough; bytes = are.bytes; keyed = keyed }) are.asked are.few

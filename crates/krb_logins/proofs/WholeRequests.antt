@@ -51,10 +51,10 @@ unfolding timestamp_bytes
 writes_timestamp timestamp = (whole_timestamp timestamp, refl)
 
 -- the request for a first ticket, with any padata
-whole_as_request : (padata : PaData) (client : ClientRecord) (service : List Bytes) (till : GeneralizedTime) (random : Random)
+whole_as_request : (padata : PaData) (client : ClientRecord) (service : List Bytes) (till : GeneralizedTime) (words : Random)
     → is_general_string client.realm ≡ true → are_texts client.components ≡ true → are_texts service ≡ true
-    → IsWhole (as_req_tree (as_request_of padata (as_body client service till random)))
-whole_as_request padata client service till random realm name of_service = (
+    → IsWhole (as_req_tree (as_request_of padata (as_body client service till words)))
+whole_as_request padata client service till words realm name of_service = (
   (
     (tt, tt),
     (
@@ -83,8 +83,8 @@ whole_as_request padata client service till random realm name of_service = (
   tt,
 )
 
-pub as_request_written : (padata : PaData) (client : ClientRecord) (service : List Bytes) (till : GeneralizedTime) (random : Random) (bytes : Bytes)
+pub as_request_written : (padata : PaData) (client : ClientRecord) (service : List Bytes) (till : GeneralizedTime) (words : Random) (bytes : Bytes)
     → is_general_string client.realm ≡ true → are_texts client.components ≡ true → are_texts service ≡ true
-    → bytes ≡ as_request_bytes (as_request_of padata (as_body client service till random)) → IsAsReq bytes (as_request_of padata (as_body client service till random))
+    → bytes ≡ as_request_bytes (as_request_of padata (as_body client service till words)) → IsAsReq bytes (as_request_of padata (as_body client service till words))
 unfolding as_request_bytes
-as_request_written padata client service till random bytes realm name of_service e = (whole_as_request padata client service till random realm name of_service, e)
+as_request_written padata client service till words bytes realm name of_service e = (whole_as_request padata client service till words realm name of_service, e)

@@ -22,11 +22,11 @@ use Rattle.krb_logins.specs.Parties.{LoginRecord, RealmRecord, call_at}
 
 -- the body of a login's request for a first ticket
 abbrev pub first_body : ClientRecord → LoginRecord → KdcReqBody
-first_body client login = as_body client (krbtgt_of client.realm) login.till login.random_as
+first_body client login = as_body client (krbtgt_of client.realm) login.till login.words_as
 
 -- what the client remembers of that request
 abbrev pub first_asked : ClientRecord → LoginRecord → AsAskedRecord
-first_asked client login = as_asked (krbtgt_of client.realm) login.client_as login.random_as
+first_asked client login = as_asked (krbtgt_of client.realm) login.client_as login.words_as
 
 -- the realm's reply key is of an AS exchange (usage 3; RFC 4120, section 7.5.1). Of each reply whose padata is the same PA-PK-AS-REP,
 -- or none where there is none, the client takes that key and nothing else
@@ -39,8 +39,8 @@ pub record IsAgreedKey (client : ClientRecord) (means : MeansRecord) (asked : As
 -- the client's means don't refuse its request. By each padata that they have for it the realm authenticates the client, and replies
 -- under a key that both agree on
 pub record IsAuthenticated (client : ClientRecord) (means : MeansRecord) (realm : RealmRecord) (rows : PkinitRows) (account : AccountRecord) (login : LoginRecord) : Type 0 where
-  pub asks : means.refuses (first_body client login) login.client_as login.random_as → ⊥
-  pub shown : (padata : PaData) → means.asks (first_body client login) login.client_as login.random_as padata
+  pub asks : means.refuses (first_body client login) login.client_as login.words_as → ⊥
+  pub shown : (padata : PaData) → means.asks (first_body client login) login.client_as login.words_as padata
       → (r : Result ReplyKeyRecord Code)
-      → (authenticated (call_at realm login.realm_as login.realm_random_as) rows account client.components (as_request_of padata (first_body client login))).gives r
+      → (authenticated (call_at realm login.realm_as login.realm_words_as) rows account client.components (as_request_of padata (first_body client login))).gives r
       → (under : ReplyKeyRecord) × (r ≡ Ok under) × IsAgreedKey client means (first_asked client login) under

@@ -46,7 +46,7 @@ IsOfReply means credential = (client : ClientRecord) × (reply : Bytes)
 
 -- a client that has a name asks by a credential, whose ticket seals a part under the service's key (usage 2; RFC 4120, section 7.5.1). The
 -- session key in that part is the credential's
-pub record AsksService (client : ClientRecord) (means : MeansRecord) (credential : CredentialRecord) (mutual_required with_subkey : Bool) (moment : Micros) (random : Random) (bytes key : Bytes) : Type 0 where
+pub record AsksService (client : ClientRecord) (means : MeansRecord) (credential : CredentialRecord) (mutual_required with_subkey : Bool) (moment : Micros) (words : Random) (bytes key : Bytes) : Type 0 where
   pub realm : IsRealmName client.realm
   pub name : AreComponents client.components
   pub of_reply : IsOfReply means credential
@@ -54,4 +54,4 @@ pub record AsksService (client : ClientRecord) (means : MeansRecord) (credential
   pub part_confounder : Bytes
   pub sealed : SealsTo {T = EncTicketPartInner} enc_ticket_part_tree credential.ticket.enc_part.0.etype.0 key 2 part_confounder part credential.ticket.enc_part.0.cipher.0
   pub session : part.key.0.key_value.0 ≡ credential.key
-  pub asks : AsksAp client credential mutual_required with_subkey moment random bytes
+  pub asks : AsksAp client credential mutual_required with_subkey moment words bytes

@@ -20,7 +20,7 @@ use Rattle.krb_logins.specs.Parties.{LoginRecord, RealmRecord}
 abbrev pub first_grant : ClientRecord → RealmRecord → LoginRecord → Span → Grant
 first_grant client realm login span = record {
   suite = client.suite;
-  session = session_key_of client.suite login.realm_random_as;
+  session = session_key_of client.suite login.realm_words_as;
   realm = realm.name;
   client = principal_name 1 client.components;
   service = principal_name 2 (krbtgt_of client.realm);
@@ -28,7 +28,7 @@ first_grant client realm login span = record {
   auth_time = span.start;
   start = span.start;
   until = span.until;
-  nonce = pos (nonce_of login.random_as);
+  nonce = pos (nonce_of login.words_as);
 }
 
 -- it lasts from the second of the realm's moment on
@@ -40,7 +40,7 @@ IsFirstSpan realm login span = IsSpan realm.settings.lifetime login.realm_as Non
 abbrev pub further_grant : ClientRecord → RealmRecord → LoginRecord → Span → Span → Grant
 further_grant client realm login first span = record {
   suite = client.suite;
-  session = session_key_of client.suite login.realm_random_tgs;
+  session = session_key_of client.suite login.realm_words_tgs;
   realm = realm.name;
   client = principal_name 1 client.components;
   service = principal_name 2 login.service;
@@ -48,7 +48,7 @@ further_grant client realm login first span = record {
   auth_time = first.start;
   start = span.start;
   until = span.until;
-  nonce = pos (nonce_of login.random_tgs);
+  nonce = pos (nonce_of login.words_tgs);
 }
 
 -- it doesn't last longer than the first one
@@ -58,9 +58,9 @@ IsFurtherSpan realm login first span =
 
 -- the client holds what was granted: the ticket, whose part is sealed under the service's key (usage 2; RFC 4120, section
 -- 7.5.1), its session key, and the service that it is for
-pub record IsHeld (account : AccountRecord) (random : Random) (grant : Grant) (credential : CredentialRecord) : Type 0 where
+pub record IsHeld (account : AccountRecord) (words : Random) (grant : Grant) (credential : CredentialRecord) : Type 0 where
   pub part : EncryptedData
-  pub sealed : IsSealedData account 2 (ticket_confounder (cipher_confounder_size account.suite) random) (ticket_part_bytes (ticket_part grant)) part
+  pub sealed : IsSealedData account 2 (ticket_confounder (cipher_confounder_size account.suite) words) (ticket_part_bytes (ticket_part grant)) part
   pub ticket : credential.ticket ≡ ticket_of grant part
   pub suite : credential.suite ≡ grant.suite
   pub key : credential.key ≡ grant.session

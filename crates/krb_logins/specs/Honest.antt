@@ -28,12 +28,12 @@ pub record AreParties (client : ClientRecord) (service : ServiceRecord) : Type 0
 
 -- the random bytes that the calls of a login ask for
 pub record AreEnough (login : LoginRecord) : Type 0 where
-  pub client_as : 96 ≤ length login.random_as
-  pub client_tgs : 96 ≤ length login.random_tgs
-  pub client_ap : 96 ≤ length login.random_ap
-  pub realm_as : 128 ≤ length login.realm_random_as
-  pub realm_tgs : 128 ≤ length login.realm_random_tgs
-  pub service : 16 ≤ length login.service_random
+  pub client_as : 96 ≤ length login.words_as
+  pub client_tgs : 96 ≤ length login.words_tgs
+  pub client_ap : 96 ≤ length login.words_ap
+  pub realm_as : 128 ≤ length login.realm_words_as
+  pub realm_tgs : 128 ≤ length login.realm_words_tgs
+  pub service : 16 ≤ length login.service_words
 
 -- client, realm and service are of one realm, and the service is the one that is asked for
 pub record AreNamed (asking : ClientRecord) (realm : RealmRecord) (asked_for : ServiceRecord) (login : LoginRecord) : Type 0 where

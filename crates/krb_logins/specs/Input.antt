@@ -13,10 +13,10 @@ login_of input = record {
   realm_tgs = input.moments.realm_tgs;
   client_ap = input.moments.client_ap;
   service_ap = input.moments.service_ap;
-  random_as = input.words_as.now;
-  random_tgs = input.words_tgs.now;
-  random_ap = input.words_ap.now;
-  realm_random_as = input.realm_words_as.now;
-  realm_random_tgs = input.realm_words_tgs.now;
-  service_random = input.service_words.now;
+  words_as = input.words_as.now;
+  words_tgs = input.words_tgs.now;
+  words_ap = input.words_ap.now;
+  realm_words_as = input.realm_words_as.now;
+  realm_words_tgs = input.realm_words_tgs.now;
+  service_words = input.service_words.now;
 }

@@ -44,8 +44,8 @@ pub record IsMet (client : ClientRecord) (means : MeansRecord) (realm : RealmRec
   pub authenticated : IsAuthenticated client means realm rows honest.client.account login
 
 -- the random bytes of a call to a realm and its request are bytes, as many as a slice can hold
-pub record AreBytes (random request : Bytes) : Type 0 where
-  pub words : IsBytes random
+pub record AreBytes (words request : Bytes) : Type 0 where
+  pub bytes : IsBytes words
   pub asked : IsBytes request
   pub few : length request < 2 ^ 64
 
@@ -54,51 +54,51 @@ module _ (client : ClientRecord) (means : MeansRecord) (realm : RealmRecord) (ro
   -- the realm has a reply to the client's request, and grants the first ticket that the client asks for, under a key that both agree on
   unfoldable pub IsFirstGranted : Type 0
   IsFirstGranted = (request : Bytes)
-      → AsksAs client means (krbtgt_of client.realm) login.till login.client_as login.random_as request
-      → (AreBytes login.realm_random_as request → HasSome (Replies (call_at realm login.realm_as login.realm_random_as) rows request))
+      → AsksAs client means (krbtgt_of client.realm) login.till login.client_as login.words_as request
+      → (AreBytes login.realm_words_as request → HasSome (Replies (call_at realm login.realm_as login.realm_words_as) rows request))
       × ((reply : Option Bytes)
-      → Replies (call_at realm login.realm_as login.realm_random_as) rows request reply
+      → Replies (call_at realm login.realm_as login.realm_words_as) rows request reply
       → (span : Span) × IsFirstSpan realm login span × ((under : ReplyKeyRecord) × IsAgreedKey client means (first_asked client login) under
-      × ((granted : Bytes) × (reply ≡ Some granted) × IsTicketReply (first_grant client realm login span) under met.granting.account login.realm_random_as granted)))
+      × ((granted : Bytes) × (reply ≡ Some granted) × IsTicketReply (first_grant client realm login span) under met.granting.account login.realm_words_as granted)))
 
   -- the realm has a reply to the request by the first ticket, and grants the one for the service
   unfoldable pub IsFurtherGranted : Type 0
   IsFurtherGranted = (first : Span) (granting : CredentialRecord) (request : Bytes)
       → IsFirstSpan realm login first
-      → IsHeld met.granting.account login.realm_random_as (first_grant client realm login first) granting
-      → AsksTgs client granting login.service login.till login.client_tgs login.random_tgs request
-      → (AreBytes login.realm_random_tgs request → HasSome (Replies (call_at realm login.realm_tgs login.realm_random_tgs) rows request))
+      → IsHeld met.granting.account login.realm_words_as (first_grant client realm login first) granting
+      → AsksTgs client granting login.service login.till login.client_tgs login.words_tgs request
+      → (AreBytes login.realm_words_tgs request → HasSome (Replies (call_at realm login.realm_tgs login.realm_words_tgs) rows request))
       × ((reply : Option Bytes)
-      → Replies (call_at realm login.realm_tgs login.realm_random_tgs) rows request reply
+      → Replies (call_at realm login.realm_tgs login.realm_words_tgs) rows request reply
       → (span : Span) × IsFurtherSpan realm login first span × ((granted : Bytes) × (reply ≡ Some granted)
-      × IsTicketReply (further_grant client realm login first span) (tgs_reply_key client.suite (session_key_of client.suite login.realm_random_as)) met.honest.service.account login.realm_random_tgs granted))
+      × IsTicketReply (further_grant client realm login first span) (tgs_reply_key client.suite (session_key_of client.suite login.realm_words_as)) met.honest.service.account login.realm_words_tgs granted))
 
   -- the client takes the first ticket that is granted
   unfoldable pub IsFirstTaken : Type 0
   IsFirstTaken = (span : Span) (under : ReplyKeyRecord) (granted : Bytes) (taken : Taken)
       → IsAgreedKey client means (first_asked client login) under
-      → IsTicketReply (first_grant client realm login span) under met.granting.account login.realm_random_as granted
+      → IsTicketReply (first_grant client realm login span) under met.granting.account login.realm_words_as granted
       → TakesAsReply client means (first_asked client login) granted taken
       → (credential : CredentialRecord) × (taken ≡ Ok credential)
-      × IsHeld met.granting.account login.realm_random_as (first_grant client realm login span) credential
+      × IsHeld met.granting.account login.realm_words_as (first_grant client realm login span) credential
 
   -- and the one for the service
   unfoldable pub IsFurtherTaken : Type 0
   IsFurtherTaken = (first span : Span) (granting : CredentialRecord) (granted : Bytes) (taken : Taken)
-      → IsHeld met.granting.account login.realm_random_as (first_grant client realm login first) granting
-      → IsTicketReply (further_grant client realm login first span) (tgs_reply_key client.suite (session_key_of client.suite login.realm_random_as)) met.honest.service.account login.realm_random_tgs granted
-      → TakesTgsReply client (tgs_asked granting login.service login.random_tgs) granted taken
+      → IsHeld met.granting.account login.realm_words_as (first_grant client realm login first) granting
+      → IsTicketReply (further_grant client realm login first span) (tgs_reply_key client.suite (session_key_of client.suite login.realm_words_as)) met.honest.service.account login.realm_words_tgs granted
+      → TakesTgsReply client (tgs_asked granting login.service login.words_tgs) granted taken
       → (credential : CredentialRecord) × (taken ≡ Ok credential)
-      × IsHeld met.honest.service.account login.realm_random_tgs (further_grant client realm login first span) credential
+      × IsHeld met.honest.service.account login.realm_words_tgs (further_grant client realm login first span) credential
 
   -- the service admits the client by that one: the admission has the session key and the client, and the client takes the reply
   unfoldable pub IsClientAdmitted : Type 0
   IsClientAdmitted = (first span : Span) (credential : CredentialRecord) (request : Bytes) (outcome : Outcome)
       → IsFirstSpan realm login first → IsFurtherSpan realm login first span
-      → IsHeld met.honest.service.account login.realm_random_tgs (further_grant client realm login first span) credential
-      → AsksAp client credential true false login.client_ap login.random_ap request
-      → (remembering service (clock_of before login) before.admitted request login.service_random).gives outcome
+      → IsHeld met.honest.service.account login.realm_words_tgs (further_grant client realm login first span) credential
+      → AsksAp client credential true false login.client_ap login.words_ap request
+      → (remembering service (clock_of before login) before.admitted request login.service_words).gives outcome
       → (admission : AdmissionRecord) × (outcome ≡ (Ok admission, login_pair client login ∷ before.admitted))
-      × (admission.session ≡ encryption_key client.suite (session_key_of client.suite login.realm_random_tgs))
+      × (admission.session ≡ encryption_key client.suite (session_key_of client.suite login.realm_words_tgs))
       × (admission.realm ≡ client.realm) × (components admission.client ≡ client.components)
-      × ((taken : Result (Unit {0}) TakeRefusal) → TakesApReply (ap_asked credential false login.client_ap login.random_ap) (reply_bytes admission.reply) taken → taken ≡ Ok tt)
+      × ((taken : Result (Unit {0}) TakeRefusal) → TakesApReply (ap_asked credential false login.client_ap login.words_ap) (reply_bytes admission.reply) taken → taken ≡ Ok tt)

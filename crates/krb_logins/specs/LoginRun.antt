@@ -37,15 +37,15 @@ ended made result = result ≡ Ok made
 -- the AS exchange, by the client's means: a ticket for the ticket-granting service of its realm
 unfoldable pub AsExchange : ClientRecord → MeansRecord → RealmRecord → PkinitRows → LoginRecord → Result CredentialRecord LoginRefusal → Type 0
 AsExchange client means realm rows login =
-    followed (IsAsAsked client means (krbtgt_of client.realm) login.till login.client_as login.random_as) Asked (λ sent.
-    followed (IsAnswered (call_at realm login.realm_as login.realm_random_as) rows sent.0) Answered (λ reply.
+    followed (IsAsAsked client means (krbtgt_of client.realm) login.till login.client_as login.words_as) Asked (λ sent.
+    followed (IsAnswered (call_at realm login.realm_as login.realm_words_as) rows sent.0) Answered (λ reply.
     followed (IsTaken (takes_as_reply client means sent.1 reply)) Taken ended))
 
 -- the TGS exchange: by that ticket one for the service
 unfoldable pub TgsExchange : ClientRecord → RealmRecord → PkinitRows → LoginRecord → CredentialRecord → Result CredentialRecord LoginRefusal → Type 0
 TgsExchange client realm rows login granting =
-    followed (IsTgsAsked client granting login.service login.till login.client_tgs login.random_tgs) Asked (λ sent.
-    followed (IsAnswered (call_at realm login.realm_tgs login.realm_random_tgs) rows sent.0) Answered (λ reply.
+    followed (IsTgsAsked client granting login.service login.till login.client_tgs login.words_tgs) Asked (λ sent.
+    followed (IsAnswered (call_at realm login.realm_tgs login.realm_words_tgs) rows sent.0) Answered (λ reply.
     followed (IsTaken (takes_tgs_reply client sent.1 reply)) Taken ended))
 
 -- both: the ticket for the service, with its session key
@@ -67,14 +67,14 @@ shown asked (Err refusal) = λ result. result ≡ Err (Admitted refusal)
 unfoldable pub IsAdmitted : ServiceRecord → LoginRecord → Bytes → RememberedRecord → Result AdmissionRecord AdmitRefusal → RememberedRecord → Type 0
 IsAdmitted service login request before answer after =
     (after.greatest ≡ max before.greatest login.service_ap)
-    × runs.IsAnswered (remembering service after.greatest before.admitted request login.service_random).gives before.admitted answer after.admitted
+    × runs.IsAnswered (remembering service after.greatest before.admitted request login.service_words).gives before.admitted answer after.admitted
 
 -- the AP exchange: by the ticket for the service the client is admitted, and the service shows that it could open the ticket
 unfoldable pub ApExchange : ClientRecord → ServiceRecord → LoginRecord → CredentialRecord → RememberedRecord → Result Login LoginRefusal → RememberedRecord → Type 0
 ApExchange client service login credential before result after =
-    ((sent : Bytes × ApAskedRecord) × IsApAsked client credential login.client_ap login.random_ap (Ok sent)
+    ((sent : Bytes × ApAskedRecord) × IsApAsked client credential login.client_ap login.words_ap (Ok sent)
     × ((answer : Result AdmissionRecord AdmitRefusal) × IsAdmitted service login sent.0 before answer after × shown sent.1 answer result))
-    ⊎ ((refusal : AskRefusal) × IsApAsked client credential login.client_ap login.random_ap (Err refusal) × (result ≡ Err (Asked refusal)) × (after ≡ before))
+    ⊎ ((refusal : AskRefusal) × IsApAsked client credential login.client_ap login.words_ap (Err refusal) × (result ≡ Err (Asked refusal)) × (after ≡ before))
 
 -- what a login by the client's means answers at a realm that judges PA-PK-AS-REQ by these rows, and what the service remembers after
 -- it; a login that is refused before the service is asked leaves what it remembers

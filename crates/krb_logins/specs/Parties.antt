@@ -17,12 +17,12 @@ pub record RealmRecord : Type 0 where
 
 -- a call to the realm at a moment, with random bytes
 abbrev pub call_at : RealmRecord → Micros → Random → CallRecord
-call_at realm moment random = record {
+call_at realm moment words = record {
   realm = realm.name;
   settings = realm.settings;
   look = realm.look;
   moment = moment;
-  random = random;
+  words = words;
 }
 
 -- what a service goes by: all pairs of client and time that it ever admitted, and the greatest moment that it was handed
@@ -41,9 +41,9 @@ pub record LoginRecord : Type 0 where
   pub realm_tgs : Micros
   pub client_ap : Micros
   pub service_ap : Micros
-  pub random_as : Random
-  pub random_tgs : Random
-  pub random_ap : Random
-  pub realm_random_as : Random
-  pub realm_random_tgs : Random
-  pub service_random : Random
+  pub words_as : Random
+  pub words_tgs : Random
+  pub words_ap : Random
+  pub realm_words_as : Random
+  pub realm_words_tgs : Random
+  pub service_words : Random

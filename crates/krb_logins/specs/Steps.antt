@@ -24,14 +24,14 @@ use Rattle.krb_client.specs.declared.refusal.AskRefusal.TheVariants as ask_refus
 -- the means refuse no request that they have padata for
 abbrev pub AreDecided : MeansRecord → Type 0
 AreDecided means =
-    (body : KdcReqBody) (moment : Micros) (random : Random) (padata : PaData) → means.asks body moment random padata → means.refuses body moment random → ⊥
+    (body : KdcReqBody) (moment : Micros) (words : Random) (padata : PaData) → means.asks body moment words padata → means.refuses body moment words → ⊥
 
 -- the client asks for a first ticket by its means; a service's name that is none is refused before the means are asked
 unfoldable pub IsAsAsked : ClientRecord → MeansRecord → List Bytes → GeneralizedTime → Micros → Random → Result (Bytes × AsAskedRecord) AskRefusal → Type 0
-IsAsAsked client means service till moment random (Ok sent) =
-    AsksAs client means service till moment random sent.0 × (sent.1 ≡ as_asked service moment random) × (are_components service ≡ true)
-IsAsAsked client means service till moment random (Err refusal) =
-    IsUnasked client means service till moment random refusal × (are_components service ≡ false → refusal ≡ ask_refusal.BadName)
+IsAsAsked client means service till moment words (Ok sent) =
+    AsksAs client means service till moment words sent.0 × (sent.1 ≡ as_asked service moment words) × (are_components service ≡ true)
+IsAsAsked client means service till moment words (Err refusal) =
+    IsUnasked client means service till moment words refusal × (are_components service ≡ false → refusal ≡ ask_refusal.BadName)
 
 -- by a ticket a client asks for exactly the services whose names are names, unless memory runs out
 abbrev pub IsUnnamed : List Bytes → AskRefusal → Type 0
@@ -39,15 +39,15 @@ IsUnnamed service refusal = (refusal ≡ ask_refusal.Memory) ⊎ ((refusal ≡ a
 
 -- by a ticket it asks for a further one
 unfoldable pub IsTgsAsked : ClientRecord → CredentialRecord → List Bytes → GeneralizedTime → Micros → Random → Result (Bytes × TgsAskedRecord) AskRefusal → Type 0
-IsTgsAsked client credential service till moment random (Ok sent) =
-    AsksTgs client credential service till moment random sent.0 × (sent.1 ≡ tgs_asked credential service random) × (are_components service ≡ true)
-IsTgsAsked client credential service till moment random (Err refusal) = IsUnnamed service refusal
+IsTgsAsked client credential service till moment words (Ok sent) =
+    AsksTgs client credential service till moment words sent.0 × (sent.1 ≡ tgs_asked credential service words) × (are_components service ≡ true)
+IsTgsAsked client credential service till moment words (Err refusal) = IsUnnamed service refusal
 
 -- by a ticket for the service it asks the service, which is to reply, and chooses no subkey
 unfoldable pub IsApAsked : ClientRecord → CredentialRecord → Micros → Random → Result (Bytes × ApAskedRecord) AskRefusal → Type 0
-IsApAsked client credential moment random (Ok sent) =
-    AsksAp client credential true false moment random sent.0 × (sent.1 ≡ ap_asked credential false moment random)
-IsApAsked client credential moment random (Err refusal) = refusal ≡ ask_refusal.Memory
+IsApAsked client credential moment words (Ok sent) =
+    AsksAp client credential true false moment words sent.0 × (sent.1 ≡ ap_asked credential false moment words)
+IsApAsked client credential moment words (Err refusal) = refusal ≡ ask_refusal.Memory
 
 -- the realm answers a request
 unfoldable pub IsAnswered : CallRecord → PkinitRows → Bytes → Result Bytes AnswerRefusal → Type 0

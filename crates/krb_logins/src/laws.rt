@@ -74,12 +74,12 @@ pub fn one_login<M: Means, P: Pkinit>(means: &M, pkinit: &P)
 /// What `Client::ap_request` writes presents what the client chose, and nothing else presents it: the string of that choice (RFC 4120,
 /// section 3.2.2). Each choice whose etypes and confounders fit has one, by `has_presentation` and `one_presentation` of `krb_service`.
 pub fn ap_request_presents_choice<M: Means>(means: &M)
-    ensures presents { (client : ClientRecord) (credential : CredentialRecord) (mutual_required with_subkey : Bool) (moment : ℕ) (random bytes key : List ℕ)
-        (by : AsksService client (M.means means.now) credential mutual_required with_subkey moment random bytes key)
+    ensures presents { (client : ClientRecord) (credential : CredentialRecord) (mutual_required with_subkey : Bool) (moment : ℕ) (words bytes key : List ℕ)
+        (by : AsksService client (M.means means.now) credential mutual_required with_subkey moment words bytes key)
         → Presents key (choice_by credential mutual_required by.part by.part_confounder by.asks.authenticator
-        (authenticator_confounder (cipher_confounder_size credential.suite) random)) bytes }
-    ensures only { (client : ClientRecord) (credential : CredentialRecord) (mutual_required with_subkey : Bool) (moment : ℕ) (random bytes key : List ℕ)
-        (by : AsksService client (M.means means.now) credential mutual_required with_subkey moment random bytes key) (other : List ℕ)
+        (authenticator_confounder (cipher_confounder_size credential.suite) words)) bytes }
+    ensures only { (client : ClientRecord) (credential : CredentialRecord) (mutual_required with_subkey : Bool) (moment : ℕ) (words bytes key : List ℕ)
+        (by : AsksService client (M.means means.now) credential mutual_required with_subkey moment words bytes key) (other : List ℕ)
         → Presents key (choice_by credential mutual_required by.part by.part_confounder by.asks.authenticator
-        (authenticator_confounder (cipher_confounder_size credential.suite) random)) other → other ≡ bytes }
+        (authenticator_confounder (cipher_confounder_size credential.suite) words)) other → other ≡ bytes }
 {}

@@ -16,7 +16,7 @@ pub record PkinitCallRecord : Type 0 where
   pub client : List Bytes
   pub body : KdcReqBody
   pub moment : Micros
-  pub random : Random
+  pub words : Random
 
 abbrev pub call_of : held.PkinitCall → PkinitCallRecord
 call_of call = record {
@@ -25,7 +25,7 @@ call_of call = record {
   client = call.client.now;
   body = call.body.now;
   moment = call.moment;
-  random = call.random.now;
+  words = call.words.now;
 }
 
 -- the secret that client and realm share, and the data of PA-PK-AS-REP

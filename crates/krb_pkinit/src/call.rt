@@ -17,7 +17,7 @@ pub struct PkinitCall<'a> {
     /// The moment at which the realm is called.
     pub moment: Moment,
     /// The random bytes, of which those from 64 to 127 are the agreement's.
-    pub random: &'a [u8],
+    pub words: &'a [u8],
 }
 
 /// What client and realm agree on.

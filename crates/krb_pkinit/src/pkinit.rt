@@ -21,7 +21,7 @@ pub trait Pkinit {
     /// What the data of a padata PA-PK-AS-REQ agrees on, or the error code of the first row that refuses it (RFC 4556, section
     /// 3.2.2).
     fn judge(&self, alloc: Global, call: &PkinitCall<'_>, padata: &[u8]) -> Result<Agreed, Refusal>
-        requires long { 128 ≤ length call.now.random.now }
+        requires long { 128 ≤ length call.now.words.now }
         requires near { call.now.skew ≤ 86400000000 }
         ensures { IsJudged ((rows self.now).judges (call_of call.now) padata.now).gives (agreed_as result) };
 }

@@ -31,7 +31,7 @@ module _ (service : ServiceRecord) (login : LoginRecord) (request : Bytes) (admi
   clock = max service.seen.greatest login.service_ap
 
   abbrev DidStep : Result AdmissionRecord AdmitRefusal → Type 0
-  DidStep answer = IsStep (remembering service clock admitted request login.service_random).gives admitted answer seen
+  DidStep answer = IsStep (remembering service clock admitted request login.service_words).gives admitted answer seen
 
   abbrev after_of : List PairRecord → RememberedRecord
   after_of pairs = record { admitted = pairs; greatest = clock }

@@ -23,21 +23,21 @@ module _ (client : ClientRecord) (named : IsRealmName client.realm) (means : Mea
   no_memory = (Memory, (inr (inl refl), λ bad. let never = sym bad ∙ is_name in absurd (cc (never))), refl)
 
   module _ (name : List Bytes) (same : name ≡ krbtgt_of client.realm) where
-    pub asked : (sent : Made × AsAskedRecord) → AsksAs client means name login.till login.client_as login.random_as sent.0.items → sent.1 ≡ as_asked name login.client_as login.random_as
+    pub asked : (sent : Made × AsAskedRecord) → AsksAs client means name login.till login.client_as login.words_as sent.0.items → sent.1 ≡ as_asked name login.client_as login.words_as
         → AsAsk client means login (Ok sent)
     unfolding AsAsk IsAsAsked
     asked sent asks remembered = (
-      subst (λ (n : List Bytes). AsksAs client means n login.till login.client_as login.random_as sent.0.items) same asks,
-      remembered ∙ ap (λ (n : List Bytes). as_asked n login.client_as login.random_as) same,
+      subst (λ (n : List Bytes). AsksAs client means n login.till login.client_as login.words_as sent.0.items) same asks,
+      remembered ∙ ap (λ (n : List Bytes). as_asked n login.client_as login.words_as) same,
       is_name,
     )
 
-    pub unasked : (refusal : AskRefusal) → IsUnasked client means name login.till login.client_as login.random_as refusal → AsAsk client means login (Err (Asked refusal))
+    pub unasked : (refusal : AskRefusal) → IsUnasked client means name login.till login.client_as login.words_as refusal → AsAsk client means login (Err (Asked refusal))
     unfolding AsAsk IsAsAsked
     unasked refusal is = (
       refusal,
       (
-        subst (λ (n : List Bytes). IsUnasked client means n login.till login.client_as login.random_as refusal) same is,
+        subst (λ (n : List Bytes). IsUnasked client means n login.till login.client_as login.words_as refusal) same is,
         λ bad. let never = sym bad ∙ is_name in absurd (cc (never)),
       ),
       refl,

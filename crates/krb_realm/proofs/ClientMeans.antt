@@ -20,8 +20,8 @@ same_means functions by keys i = means_by (by i) (functions (keys i))
 
 -- they refuse no request that they have padata for
 pub are_decided : (by : ClientBy) (keys : KeysRecord) → AreDecided (means_by by keys)
-are_decided (ByKey key) keys = λ body moment random padata asks none. none
-are_decided (ByCertificate certificate anchor) keys = λ body moment random padata asks refused. decided_by_certificate keys certificate body moment random padata asks refused
+are_decided (ByKey key) keys = λ body moment words padata asks none. none
+are_decided (ByCertificate certificate anchor) keys = λ body moment words padata asks refused. decided_by_certificate keys certificate body moment words padata asks refused
 
 -- of a client that has a certificate
 pub means_by_certificate : {K : Type 0} (functions : K → KeysRecord) {own : held.Held} {certificate : Vec ℕ Global} {anchor lent_anchor : AnchorRecord} {lent : Bytes} {keys lent_keys : K}

@@ -62,10 +62,10 @@ module _ {A : Type 0} (asks : Result (Bytes × A) AskRefusal → Type 0) (call :
 module _ (client : ClientRecord) (means : MeansRecord) (realm : RealmRecord) (rows : PkinitRows) (login : LoginRecord) (result : Result CredentialRecord LoginRefusal) where
   -- the AS exchange
   abbrev asks_as : Result (Bytes × AsAskedRecord) AskRefusal → Type 0
-  asks_as = IsAsAsked client means (krbtgt_of client.realm) login.till login.client_as login.random_as
+  asks_as = IsAsAsked client means (krbtgt_of client.realm) login.till login.client_as login.words_as
 
   abbrev as_call : CallRecord
-  as_call = call_at realm login.realm_as login.realm_random_as
+  as_call = call_at realm login.realm_as login.realm_words_as
 
   pub as_unasked : (refusal : LoginRefusal) → AsAsk client means login (Err refusal) → result ≡ Err refusal → AsExchange client means realm rows login result
   unfolding AsAsk AsExchange
@@ -83,10 +83,10 @@ module _ (client : ClientRecord) (means : MeansRecord) (realm : RealmRecord) (ro
 -- the TGS exchange
 module _ (client : ClientRecord) (realm : RealmRecord) (rows : PkinitRows) (login : LoginRecord) (result : Result CredentialRecord LoginRefusal) (granting : CredentialRecord) where
   abbrev asks_tgs : Result (Bytes × TgsAskedRecord) AskRefusal → Type 0
-  asks_tgs = IsTgsAsked client granting login.service login.till login.client_tgs login.random_tgs
+  asks_tgs = IsTgsAsked client granting login.service login.till login.client_tgs login.words_tgs
 
   abbrev tgs_call : CallRecord
-  tgs_call = call_at realm login.realm_tgs login.realm_random_tgs
+  tgs_call = call_at realm login.realm_tgs login.realm_words_tgs
 
   pub tgs_unasked : (refusal : LoginRefusal) → TgsAsk client login granting (Err refusal) → result ≡ Err refusal → TgsExchange client realm rows login granting result
   unfolding TgsAsk TgsExchange

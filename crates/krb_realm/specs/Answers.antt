@@ -29,4 +29,4 @@ IsAnswer replies (Err Memory) = Unit {0}
 
 -- the reply that a realm with these key functions may give to a message at a moment, with random bytes
 abbrev pub RealmReplies : RealmState → KeysRecord → Bytes → Micros → Random → Option Bytes → Type 0
-RealmReplies realm keys message moment random = Replies (call_to realm moment random) (pkinit_rows realm.trust keys) message
+RealmReplies realm keys message moment words = Replies (call_to realm moment words) (pkinit_rows realm.trust keys) message

@@ -43,13 +43,13 @@ abbrev pub sent_as : {A : Type 0} → Made × A → Bytes × A
 sent_as sent = (sent.0.items, sent.1)
 
 unfoldable pub AsAsk : ClientRecord → MeansRecord → LoginRecord → Result (Made × AsAskedRecord) LoginRefusal → Type 0
-AsAsk client means login = told sent_as (IsAsAsked client means (krbtgt_of client.realm) login.till login.client_as login.random_as) Asked
+AsAsk client means login = told sent_as (IsAsAsked client means (krbtgt_of client.realm) login.till login.client_as login.words_as) Asked
 
 unfoldable pub TgsAsk : ClientRecord → LoginRecord → CredentialRecord → Result (Made × TgsAskedRecord) LoginRefusal → Type 0
-TgsAsk client login granting = told sent_as (IsTgsAsked client granting login.service login.till login.client_tgs login.random_tgs) Asked
+TgsAsk client login granting = told sent_as (IsTgsAsked client granting login.service login.till login.client_tgs login.words_tgs) Asked
 
 unfoldable pub ApAsk : ClientRecord → LoginRecord → CredentialRecord → Result (Made × ApAskedRecord) LoginRefusal → Type 0
-ApAsk client login credential = told sent_as (IsApAsked client credential login.client_ap login.random_ap) Asked
+ApAsk client login credential = told sent_as (IsApAsked client credential login.client_ap login.words_ap) Asked
 
 -- the rows by which a realm with these key functions judges requests by certificate
 abbrev pub realm_rows : RealmState → KeysRecord → PkinitRows

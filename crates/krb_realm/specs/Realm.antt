@@ -33,12 +33,12 @@ realm_record realm = record { name = realm.name; settings = realm.settings; look
 
 -- a call to the realm at a moment, with random bytes
 abbrev pub call_to : RealmState → Micros → Random → CallRecord
-call_to realm moment random = record {
+call_to realm moment words = record {
   realm = realm.name;
   settings = realm.settings;
   look = look_in realm.accounts;
   moment = moment;
-  random = random;
+  words = words;
 }
 
 -- an account by a first key

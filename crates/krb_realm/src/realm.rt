@@ -286,14 +286,14 @@ impl Realm {
     // What a request at a moment, with these random bytes, is answered by.
     fn call<'a>(&'a self, moment: Moment, words: &'a [u8]) -> Call<'a>
         ensures call { call_of result ≡ call_to self.now moment words.now }
-        ensures random { result.random.now ≡ words.now }
+        ensures words { result.words.now ≡ words.now }
     {
         Call {
             realm: &self.name,
             settings: self.settings.limits(),
             accounts: &self.accounts,
             moment,
-            random: words,
+            words,
         }
     }
 

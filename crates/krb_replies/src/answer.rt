@@ -34,7 +34,7 @@ pub fn answer_as<P: Pkinit>(
     pkinit: &P,
     request: KdcReq,
 ) -> Result<Vec<u8>, AllocError>
-    requires { 128 ≤ length call.now.random.now }
+    requires { 128 ≤ length call.now.words.now }
     ensures { IfOk result (λ bytes. (as_reply (call_of call.now) (P.rows pkinit.now)
         (account_of (look_in call.now.accounts.now) (client_of request.req_body.0))
         (account_of (look_in call.now.accounts.now) (service_of request.req_body.0)) request).gives (Some bytes.items)) }
@@ -44,7 +44,7 @@ pub fn answer_as<P: Pkinit>(
 
 /// The reply to a TGS request: a ticket, or the error with its code (RFC 4120, section 3.3). It lends the request on.
 pub fn answer_tgs(alloc: Global, call: &Call<'_>, request: KdcReq) -> Result<Vec<u8>, AllocError>
-    requires { 128 ≤ length call.now.random.now }
+    requires { 128 ≤ length call.now.words.now }
     ensures { IfOk result (λ bytes. (tgs_reply (call_of call.now) request).gives (Some bytes.items)) }
 {
     tgs_answer(alloc, call, &request)
@@ -57,7 +57,7 @@ fn as_answer<P: Pkinit>(
     pkinit: &P,
     request: &KdcReq,
 ) -> Result<Vec<u8>, AllocError>
-    requires { 128 ≤ length call.now.random.now }
+    requires { 128 ≤ length call.now.words.now }
     ensures { IfOk result (λ bytes. (as_reply (call_of call.now) (P.rows pkinit.now)
         (account_of (look_in call.now.accounts.now) (client_of request.now.req_body.0))
         (account_of (look_in call.now.accounts.now) (service_of request.now.req_body.0)) request.now).gives (Some bytes.items)) }
@@ -68,7 +68,7 @@ fn as_answer<P: Pkinit>(
 
 // The reply to a TGS request.
 fn tgs_answer(alloc: Global, call: &Call<'_>, request: &KdcReq) -> Result<Vec<u8>, AllocError>
-    requires { 128 ≤ length call.now.random.now }
+    requires { 128 ≤ length call.now.words.now }
     ensures { IfOk result (λ bytes. (tgs_reply (call_of call.now) request.now).gives (Some bytes.items)) }
 {
     let judged = judge_further(alloc, call, request)?;
@@ -100,7 +100,7 @@ fn judge<P: Pkinit>(
     pkinit: &P,
     request: &KdcReq,
 ) -> Result<Result<Vec<u8>, Told>, AllocError>
-    requires { 128 ≤ length call.now.random.now }
+    requires { 128 ≤ length call.now.words.now }
     ensures { IfOk result (λ judged. IsJudgement (as_table (call_of call.now) (P.rows pkinit.now)
         (account_of (look_in call.now.accounts.now) (client_of request.now.req_body.0))
         (account_of (look_in call.now.accounts.now) (service_of request.now.req_body.0)) request.now).gives
@@ -125,7 +125,7 @@ fn judge_further(
     call: &Call<'_>,
     request: &KdcReq,
 ) -> Result<Result<Vec<u8>, Told>, AllocError>
-    requires { 128 ≤ length call.now.random.now }
+    requires { 128 ≤ length call.now.words.now }
     ensures { IfOk result (λ judged. IsJudgement (tgs_table (call_of call.now) request.now).gives (λ code. None) judged) }
 {
     match judge_tgs(alloc, call, request) {

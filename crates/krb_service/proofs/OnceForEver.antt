@@ -36,7 +36,7 @@ pub refused_by_moment_alone : (service : ServiceRecord) (greatest : ℕ) (admitt
 unfolding IsRun
 refused_by_moment_alone service greatest admitted call calls refusal answers after (next, answered, rest) =
     subst (λ pairs. IsRun service (max greatest call.moment) pairs calls answers after)
-    (kept_refused service (max greatest call.moment) admitted call.bytes call.random refusal next answered) rest
+    (kept_refused service (max greatest call.moment) admitted call.bytes call.words refusal next answered) rest
 
 -- what is admitted adds one pair, which is new
 added : (service : ServiceRecord) (moment : ℕ) (admitted : List PairRecord) (bytes words : List ℕ) (admission : AdmissionRecord) (next : List PairRecord) → AreOnce admitted
@@ -52,7 +52,7 @@ once_for_ever service greatest admitted [] [] after once e = (subst AreOnce (sym
 once_for_ever service greatest admitted [] (answer ∷ answers) after once none = absurd none
 once_for_ever service greatest admitted (call ∷ calls) [] after once none = absurd none
 once_for_ever service greatest admitted (call ∷ calls) (Ok admission ∷ answers) after once (next, answered, rest) =
-    let more = added service (max greatest call.moment) admitted call.bytes call.random admission next once answered in
+    let more = added service (max greatest call.moment) admitted call.bytes call.words admission next once answered in
     let others = once_for_ever service (max greatest call.moment) next calls answers after more.0 rest in
     (others.0, omega (arith, others.1, more.1))
 once_for_ever service greatest admitted (call ∷ calls) (Err refusal ∷ answers) after once run =

@@ -46,16 +46,16 @@ sole_reply_under suite key confounder authenticator a b x y =
 
 -- the reply, if one is required, with the first of the random bytes as confounder
 abbrev pub IsReply : Bool → Random → CipherSuite → Bytes → AuthenticatorInner → Option Bytes → Type 0
-IsReply false random suite key authenticator reply = reply ≡ None
-IsReply true random suite key authenticator None = ⊥
-IsReply true random suite key authenticator (Some bytes) = IsReplyUnder suite key (ap_reply_confounder (cipher_confounder_size suite) random) authenticator bytes
+IsReply false words suite key authenticator reply = reply ≡ None
+IsReply true words suite key authenticator None = ⊥
+IsReply true words suite key authenticator (Some bytes) = IsReplyUnder suite key (ap_reply_confounder (cipher_confounder_size suite) words) authenticator bytes
 
-pub sole_reply : (wanted : Bool) (random : Random) (suite : CipherSuite) (key : Bytes) (authenticator : AuthenticatorInner)
-    → IsSole (IsReply wanted random suite key authenticator)
-sole_reply false random suite key authenticator a b p q = p ∙ sym q
-sole_reply true random suite key authenticator None b p q = absurd p
-sole_reply true random suite key authenticator (Some a) None p q = absurd q
-sole_reply true random suite key authenticator (Some a) (Some b) p q = ap Some (sole_reply_under suite key (ap_reply_confounder (cipher_confounder_size suite) random) authenticator a b p q)
+pub sole_reply : (wanted : Bool) (words : Random) (suite : CipherSuite) (key : Bytes) (authenticator : AuthenticatorInner)
+    → IsSole (IsReply wanted words suite key authenticator)
+sole_reply false words suite key authenticator a b p q = p ∙ sym q
+sole_reply true words suite key authenticator None b p q = absurd p
+sole_reply true words suite key authenticator (Some a) None p q = absurd q
+sole_reply true words suite key authenticator (Some a) (Some b) p q = ap Some (sole_reply_under suite key (ap_reply_confounder (cipher_confounder_size suite) words) authenticator a b p q)
 
 -- by its type and its length the session key is one of the presented suite (RFC 4120, section 5.2.9)
 abbrev pub HasSessionKey : Presented → Type 0
@@ -63,7 +63,7 @@ HasSessionKey p = suite_of p.part.key.0 ≡ Some p.suite
 
 -- the reply to what was presented, under the session key
 abbrev pub IsReplyTo : Presented → Random → Option Bytes → Type 0
-IsReplyTo p random reply = IsReply p.wants_reply random p.suite p.part.key.0.key_value.0 p.authenticator reply
+IsReplyTo p words reply = IsReply p.wants_reply words p.suite p.part.key.0.key_value.0 p.authenticator reply
 
-pub sole_reply_to : (p : Presented) (random : Random) → IsSole (IsReplyTo p random)
-sole_reply_to p random = sole_reply p.wants_reply random p.suite p.part.key.0.key_value.0 p.authenticator
+pub sole_reply_to : (p : Presented) (words : Random) → IsSole (IsReplyTo p words)
+sole_reply_to p words = sole_reply p.wants_reply words p.suite p.part.key.0.key_value.0 p.authenticator

@@ -23,7 +23,7 @@ module _ (call : CallRecord) (part : EncTicketPartInner) (shown : Authenticated)
   key = reply_key shown.suite part.key.0.key_value.0 (subkey_in shown.authenticator)
 
   abbrev to_seal : CipherSuite → ReplyKeyRecord → Table (Result (List ℕ) ℕ)
-  to_seal suite under = replied (further_ticket call part service_name suite body span) under service call.random
+  to_seal suite under = replied (further_ticket call part service_name suite body span) under service call.words
 
   abbrev to_key : CipherSuite → Table (Result (List ℕ) ℕ)
   to_key suite = need key 31 (to_seal suite)
@@ -41,7 +41,7 @@ module _ (call : CallRecord) (part : EncTicketPartInner) (shown : Authenticated)
       inl (span, lasts, subst (λ o. (need o 14 to_key).gives (Err 31)) some (subst (λ k. (need k 31 (to_seal suite)).gives (Err 31)) none refl))
 
   pub given : (suite : CipherSuite) (under : ReplyKeyRecord) (ticket : Grant) (bytes : List ℕ) → Some suite ≡ first_known body.etype.0 → Some under ≡ key
-      → ticket ≡ further_ticket call part service_name suite body span → IsTicketReply ticket under service call.random bytes → answers (Ok bytes)
+      → ticket ≡ further_ticket call part service_name suite body span → IsTicketReply ticket under service call.words bytes → answers (Ok bytes)
   given suite under ticket bytes some keyed same reply =
-      let own = subst (λ g. IsTicketReply g under service call.random bytes) same reply in
+      let own = subst (λ g. IsTicketReply g under service call.words bytes) same reply in
       inl (span, lasts, subst (λ o. (need o 14 to_key).gives (Ok bytes)) some (subst (λ k. (need k 31 (to_seal suite)).gives (Ok bytes)) keyed (bytes, own, refl)))

@@ -125,7 +125,7 @@ module _ (call : CallRecord) (request : KdcReq) (is : IsCall call) (n : ℕ) (fe
       is_written n (further_ticket call part service suite body span)
       (record {
         few = few;
-        session = session_short suite call.random is.enough is.bytes;
+        session = session_short suite call.words is.enough is.bytes;
         realm = own_realm;
         client = part_name_fits n part opened;
         service = service_fits n body asked service named;
@@ -149,7 +149,7 @@ module _ (call : CallRecord) (request : KdcReq) (is : IsCall call) (n : ℕ) (fe
       → IsByTicket call request presented part → IsOfKey presented part shown → service_of body ≡ Some service_name → IsKeyed service → HasOutcome (further call part shown service_name service body)
   has_further presented part shown service_name service by of_key named keyed =
       let old : Option ℕ = Some (seconds_of part.endtime.0.0) in
-      let to_seal : Span → CipherSuite → ReplyKeyRecord → Table (Result (List ℕ) ℕ) = λ span suite under. replied (further_ticket call part service_name suite body span) under service call.random in
+      let to_seal : Span → CipherSuite → ReplyKeyRecord → Table (Result (List ℕ) ℕ) = λ span suite under. replied (further_ticket call part service_name suite body span) under service call.words in
       let to_key : Span → CipherSuite → Table (Result (List ℕ) ℕ) = λ span suite. need (reply_key shown.suite part.key.0.key_value.0 (subkey_in shown.authenticator)) 31 (to_seal span suite) in
       let to_suite : Span → Table (Result (List ℕ) ℕ) = λ span. need (first_known body.etype.0) 14 (to_key span) in
       has_then (lasting call.settings.lifetime call.moment old body) to_suite (has_lasting call.settings.lifetime call.moment old body is.in_time)
@@ -160,7 +160,7 @@ module _ (call : CallRecord) (request : KdcReq) (is : IsCall call) (n : ℕ) (fe
       (λ under f.
       let ready = usable presented part shown by of_key (subkey_in shown.authenticator) refl under f in
       let ready_to_write = further_written presented part service_name suite span by named in
-      has_replied (further_ticket call part service_name suite body span) under service call.random ready.sized ready.bytes keyed is.enough is.bytes
+      has_replied (further_ticket call part service_name suite body span) under service call.words ready.sized ready.bytes keyed is.enough is.bytes
       (subst (λ exchange. IsWritten exchange (further_ticket call part service_name suite body span)) (sym ready.exchange) ready_to_write))))
 
   has_granted : (presented : ApReqInner) (part : EncTicketPartInner) (shown : Authenticated) → IsByTicket call request presented part → IsOfKey presented part shown → HasOutcome (tgs_granted call part shown body)

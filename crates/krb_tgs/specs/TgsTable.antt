@@ -131,7 +131,7 @@ reply_key suite key (Some subkey) = under_subkey subkey
 abbrev pub further_ticket : CallRecord → EncTicketPartInner → PrincipalName → CipherSuite → KdcReqBody → Span → Grant
 further_ticket call part service suite body span = record {
   suite = suite;
-  session = session_key_of suite call.random;
+  session = session_key_of suite call.words;
   realm = call.realm;
   client = part.cname.0;
   service = service;
@@ -148,7 +148,7 @@ further call part shown service_name service body =
     and_then (lasting call.settings.lifetime call.moment (Some (seconds_of part.endtime.0.0)) body) (λ span.
     need (first_known body.etype.0) KDC_ERR_ETYPE_NOSUPP (λ suite.
     need (reply_key shown.suite part.key.0.key_value.0 (subkey_in shown.authenticator)) KRB_AP_ERR_BAD_INTEGRITY (λ under.
-    replied (further_ticket call part service_name suite body span) under service call.random)))
+    replied (further_ticket call part service_name suite body span) under service call.words)))
 
 -- the name has an account
 abbrev pub has_account : CallRecord → PrincipalName → Bool

@@ -44,7 +44,7 @@ pub(crate) fn grant(
     service: &Account,
     body: &KdcReqBody,
 ) -> Result<Vec<u8>, Refusal>
-    requires random { 128 ≤ length call.now.random.now }
+    requires words { 128 ≤ length call.now.words.now }
     requires key { IsShownUnder shown.now }
     ensures { IsGranted (further (call_of call.now) shown.now.part.now shown.now.authenticated.now service_name.now service.now body.now).gives result }
 {
@@ -58,7 +58,7 @@ pub(crate) fn grant(
     };
     let under = reply_key(shown.key, &subkey);
     let ticket = further_ticket(alloc, call, part, service_name, suite, body, span)?;
-    let made = ticket_reply(alloc, &ticket, &under, service, call.random);
+    let made = ticket_reply(alloc, &ticket, &under, service, call.words);
     drop(ticket);
     let reply = made?;
     Ok(reply)
@@ -138,10 +138,10 @@ fn further_ticket(
     body: &KdcReqBody,
     span: Span,
 ) -> Result<Grant, AllocError>
-    requires { 128 ≤ length call.now.random.now }
+    requires { 128 ≤ length call.now.words.now }
     ensures { IfOk result (λ grant. grant ≡ further_ticket (call_of call.now) part.now service_name.now suite body.now span) }
 {
-    let session = session_key(alloc, suite, call.random)?;
+    let session = session_key(alloc, suite, call.words)?;
     let lent = (
         call.realm,
         (&part.cname.0, (service_name, (&body.nonce.0, ()))),

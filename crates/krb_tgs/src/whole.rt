@@ -27,7 +27,7 @@ use std::alloc::{AllocError, Global};
 /// The reply that grants a ticket by an older one, or the code of the error, by the table of the realm that is called (RFC
 /// 4120, section 3.3.3).
 pub fn judge_tgs(alloc: Global, call: &Call<'_>, request: &KdcReq) -> Result<Vec<u8>, Refusal>
-    requires { 128 ≤ length call.now.random.now }
+    requires { 128 ≤ length call.now.words.now }
     ensures { IsGranted (tgs_table (call_of call.now) request.now).gives result }
 {
     check_request(call.realm, request)?;
@@ -45,7 +45,7 @@ fn judge_carried(
     body: &KdcReqBody,
     presented: &ApReqInner,
 ) -> Result<Vec<u8>, Refusal>
-    requires { 128 ≤ length call.now.random.now }
+    requires { 128 ≤ length call.now.words.now }
     ensures { IsGranted (of_carried (call_of call.now) body.now presented.now).gives result }
 {
     let Some(granting) = granting_account(alloc, call.realm, call.accounts)? else {
@@ -77,7 +77,7 @@ fn judge_ticket(
     presented: &ApReqInner,
     part: &EncTicketPartInner,
 ) -> Result<Vec<u8>, Refusal>
-    requires { 128 ≤ length call.now.random.now }
+    requires { 128 ≤ length call.now.words.now }
     ensures { IsGranted (of_ticket (call_of call.now) body.now presented.now part.now).gives result }
 {
     let shown = open_shown(alloc, call, part, presented)?;
@@ -94,7 +94,7 @@ fn judge_shown(
     part: &EncTicketPartInner,
     shown: &Authenticated,
 ) -> Result<Vec<u8>, Refusal>
-    requires random { 128 ≤ length call.now.random.now }
+    requires words { 128 ≤ length call.now.words.now }
     requires suite { suite_of part.now.key.0 ≡ Some shown.now.suite }
     ensures { IsGranted (of_shown (call_of call.now) body.now part.now shown.now).gives result }
 {
@@ -126,7 +126,7 @@ fn judge_accounts(
     shown: &Shown<'_>,
     body: &KdcReqBody,
 ) -> Result<Vec<u8>, Refusal>
-    requires random { 128 ≤ length call.now.random.now }
+    requires words { 128 ≤ length call.now.words.now }
     requires key { IsShownUnder shown.now }
     ensures { IsGranted (tgs_granted (call_of call.now) shown.now.part.now shown.now.authenticated.now body.now).gives result }
 {

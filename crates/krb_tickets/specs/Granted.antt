@@ -13,19 +13,19 @@ pub use Rattle.krb_tickets.specs.ReplyKeys.{ReplyKeyRecord, agreed_reply_key, as
 
 -- the bytes are the encoding of the reply in which the ticket's part is sealed under the service's key (usage 2; RFC 4120,
 -- section 7.5.1), and the reply's part under the reply key
-pub record IsTicketReply (grant : Grant) (under : ReplyKeyRecord) (service : AccountRecord) (random : Random) (bytes : Bytes) : Type 0 where
+pub record IsTicketReply (grant : Grant) (under : ReplyKeyRecord) (service : AccountRecord) (words : Random) (bytes : Bytes) : Type 0 where
   pub ticket_data : EncryptedData
-  pub ticket_sealed : IsSealedData service 2 (ticket_confounder (cipher_confounder_size service.suite) random) (ticket_part_bytes (ticket_part grant)) ticket_data
+  pub ticket_sealed : IsSealedData service 2 (ticket_confounder (cipher_confounder_size service.suite) words) (ticket_part_bytes (ticket_part grant)) ticket_data
   pub reply_data : EncryptedData
-  pub reply_sealed : IsSealedReply under (reply_confounder (cipher_confounder_size under.suite) random) (reply_part_bytes under.exchange (reply_part grant)) reply_data
+  pub reply_sealed : IsSealedReply under (reply_confounder (cipher_confounder_size under.suite) words) (reply_part_bytes under.exchange (reply_part grant)) reply_data
   pub encoding : bytes ≡ kdc_reply_bytes under.exchange (kdc_reply_of under.exchange under.pk_as_rep grant (ticket_of grant ticket_data) reply_data)
 
 -- there is one at most
-pub sole_ticket_reply : (grant : Grant) (under : ReplyKeyRecord) (service : AccountRecord) (random : Random) (a b : Bytes)
-    → IsTicketReply grant under service random a → IsTicketReply grant under service random b → a ≡ b
-sole_ticket_reply grant under service random a b x y =
-    let ticket = sole_sealed_data service 2 (ticket_confounder (cipher_confounder_size service.suite) random) (ticket_part_bytes (ticket_part grant)) x.ticket_data y.ticket_data x.ticket_sealed y.ticket_sealed in
-    let reply = sole_sealed_reply under (reply_confounder (cipher_confounder_size under.suite) random) (reply_part_bytes under.exchange (reply_part grant)) x.reply_data y.reply_data x.reply_sealed y.reply_sealed in
+pub sole_ticket_reply : (grant : Grant) (under : ReplyKeyRecord) (service : AccountRecord) (words : Random) (a b : Bytes)
+    → IsTicketReply grant under service words a → IsTicketReply grant under service words b → a ≡ b
+sole_ticket_reply grant under service words a b x y =
+    let ticket = sole_sealed_data service 2 (ticket_confounder (cipher_confounder_size service.suite) words) (ticket_part_bytes (ticket_part grant)) x.ticket_data y.ticket_data x.ticket_sealed y.ticket_sealed in
+    let reply = sole_sealed_reply under (reply_confounder (cipher_confounder_size under.suite) words) (reply_part_bytes under.exchange (reply_part grant)) x.reply_data y.reply_data x.reply_sealed y.reply_sealed in
     x.encoding
     ∙ ap (λ d. kdc_reply_bytes under.exchange (kdc_reply_of under.exchange under.pk_as_rep grant (ticket_of grant d) x.reply_data)) ticket
     ∙ ap (λ d. kdc_reply_bytes under.exchange (kdc_reply_of under.exchange under.pk_as_rep grant (ticket_of grant y.ticket_data) d)) reply

@@ -26,7 +26,7 @@ use Rattle.krb_tickets.specs.declared.reply.Exchange.TheVariants.{As, Tgs}
 
 -- the session's key: that of a seed
 abbrev pub session_key_of : CipherSuite → Random → Bytes
-session_key_of suite random = seed_key_of suite (session_seed (cipher_seed_size suite) random)
+session_key_of suite words = seed_key_of suite (session_seed (cipher_seed_size suite) words)
 
 -- initial is bit 9 of 32, and preauthenticated bit 10 (RFC 4120, section 5.3)
 abbrev pub flags_octet : TicketFlags → ℕ

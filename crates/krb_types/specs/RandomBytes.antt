@@ -9,7 +9,7 @@ Random = List ℕ
 
 -- what begins behind so many bytes, and has so many
 abbrev pub random_part : ℕ → ℕ → Random → Bytes
-random_part start size random = take size (drop start random)
+random_part start size words = take size (drop start words)
 
 -- an AS request: the confounder of its encrypted timestamp, of so many bytes, and the bytes of its nonce
 abbrev pub timestamp_confounder : ℕ → Random → Bytes

@@ -28,5 +28,5 @@ module _ (keys : KeysRecord) (certificate : Bytes) (body : KdcReqBody) (moment :
   asked_or_not words bytes asked (inr (inl unsigned)) = signed_or_not words bytes asked unsigned
   asked_or_not words bytes asked (inr (inr none)) = none asked.is_signed.value asked.is_signed.count asked.is_signed.certificate_spelled
 
-  pub decided_by_certificate : (random : Random) (padata : PaData) → IsPkinitPadata keys certificate body moment random padata → IsNoPkinitPadata keys certificate body moment random → ⊥
-  decided_by_certificate random padata shown = asked_or_not _ shown.value shown.is_request
+  pub decided_by_certificate : (words : Random) (padata : PaData) → IsPkinitPadata keys certificate body moment words padata → IsNoPkinitPadata keys certificate body moment words → ⊥
+  decided_by_certificate words padata shown = asked_or_not _ shown.value shown.is_request

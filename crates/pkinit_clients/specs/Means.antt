@@ -25,19 +25,19 @@ use Rattle.pkinit_clients.specs.Replies.{secret_of}
 use Rattle.pkinit_clients.specs.Requests.{IsNoPkAsReq, IsPkAsReqOf, sole_pk_as_req}
 
 -- the padata is PA-PK-AS-REQ (RFC 4556, section 3.1.3) for a request with this body, at the moment
-pub record IsPkinitPadata (keys : KeysRecord) (certificate : Bytes) (body : KdcReqBody) (moment : Micros) (random : Random) (padata : PaData) : Type 0 where
+pub record IsPkinitPadata (keys : KeysRecord) (certificate : Bytes) (body : KdcReqBody) (moment : Micros) (words : Random) (padata : PaData) : Type 0 where
   pub value : Bytes
-  pub is_request : IsPkAsReqOf keys certificate body moment (client_agreement_bytes random) value
+  pub is_request : IsPkAsReqOf keys certificate body moment (client_agreement_bytes words) value
   pub made : padata ≡ pa_data_of 16 value
 
-pub sole_pkinit_padata : (keys : KeysRecord) (certificate : Bytes) (body : KdcReqBody) (moment : Micros) (random : Random) (a b : PaData)
-    → IsPkinitPadata keys certificate body moment random a → IsPkinitPadata keys certificate body moment random b → a ≡ b
-sole_pkinit_padata keys certificate body moment random a b x y =
-    x.made ∙ ap (pa_data_of 16) (sole_pk_as_req keys certificate body moment (client_agreement_bytes random) x.value y.value x.is_request y.is_request) ∙ sym y.made
+pub sole_pkinit_padata : (keys : KeysRecord) (certificate : Bytes) (body : KdcReqBody) (moment : Micros) (words : Random) (a b : PaData)
+    → IsPkinitPadata keys certificate body moment words a → IsPkinitPadata keys certificate body moment words b → a ≡ b
+sole_pkinit_padata keys certificate body moment words a b x y =
+    x.made ∙ ap (pa_data_of 16) (sole_pk_as_req keys certificate body moment (client_agreement_bytes words) x.value y.value x.is_request y.is_request) ∙ sym y.made
 
 -- there is no such padata
 abbrev pub IsNoPkinitPadata : KeysRecord → Bytes → KdcReqBody → Micros → Random → Type 0
-IsNoPkinitPadata keys certificate body moment random = IsNoPkAsReq keys certificate body moment (client_agreement_bytes random)
+IsNoPkinitPadata keys certificate body moment words = IsNoPkAsReq keys certificate body moment (client_agreement_bytes words)
 
 -- the data of the first padata PA-PK-AS-REP of a reply (RFC 4556, section 3.1.3)
 abbrev pub pk_as_rep_in : KdcRep → Option Bytes

@@ -27,10 +27,10 @@ pub struct PkinitAsked<'a> {
 }
 
 /// Of the random bytes of a request those of its agreement, from 32 to 95.
-pub fn agreement_words(random: &[u8]) -> &[u8]
-    requires { 96 ≤ length random.now }
-    ensures part { result.now ≡ client_agreement_bytes random.now }
+pub fn agreement_words(words: &[u8]) -> &[u8]
+    requires { 96 ≤ length words.now }
+    ensures part { result.now ≡ client_agreement_bytes words.now }
     ensures size { length result.now ≡ 64 }
 {
-    &random[AGREEMENT..AGREEMENT_END]
+    &words[AGREEMENT..AGREEMENT_END]
 }

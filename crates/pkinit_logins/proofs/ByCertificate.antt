@@ -66,7 +66,7 @@ module _ (client : ClientRecord) (certificate : Bytes) (anchor : AnchorRecord) (
     (service : ServiceRecord) (before : RememberedRecord) (login : LoginRecord)
     (by : IsHonestByCertificate client certificate anchor client_keys realm trust realm_keys service before login) where
   abbrev call : CallRecord
-  call = call_at realm login.realm_as login.realm_random_as
+  call = call_at realm login.realm_as login.realm_words_as
 
   abbrev account : AccountRecord
   account = by.honest.client.account
@@ -85,7 +85,7 @@ module _ (client : ClientRecord) (certificate : Bytes) (anchor : AnchorRecord) (
       near by.honest.near.start (common_skew realm service) (skew_of call) login.realm_as login.client_as by.honest.near.realm_as by.honest.near.client_as
       (lesser (realm.settings.skew * 1000000) service.seen.skew)
 
-  abbrev request : IsHonestRequest client_keys realm_keys certificate login.client_as (client_agreement_bytes login.random_as) trust judged
+  abbrev request : IsHonestRequest client_keys realm_keys certificate login.client_as (client_agreement_bytes login.words_as) trust judged
   request = record {
     anchor = by.realm_anchor;
     has_anchor = by.has_anchor;
@@ -99,7 +99,7 @@ module _ (client : ClientRecord) (certificate : Bytes) (anchor : AnchorRecord) (
     agreeing = by.agreeing;
   }
 
-  abbrev reply_there : IsHonestReply client_keys realm_keys by.own (agreement_bytes login.realm_random_as) remembered
+  abbrev reply_there : IsHonestReply client_keys realm_keys by.own (agreement_bytes login.realm_words_as) remembered
   reply_there = record { realm = by.realm_trusted; agreeing = by.agreeing }
 
   -- the realm agreed on the secret, and replies so
@@ -114,7 +114,7 @@ module _ (client : ClientRecord) (certificate : Bytes) (anchor : AnchorRecord) (
     -- the client's secret is the realm's
     one_secret : (secret : Secret) → (secret_of client_keys remembered agreed.reply).gives secret → secret ≡ Ok agreed.secret
     one_secret secret gives =
-        taking.taken client_keys realm_keys by.own (agreement_bytes login.realm_random_as) remembered reply_there agreed.reply is.1 secret gives ∙ ap Ok (sym is.0)
+        taking.taken client_keys realm_keys by.own (agreement_bytes login.realm_words_as) remembered reply_there agreed.reply is.1 secret gives ∙ ap Ok (sym is.0)
 
     one_key : (key : Result KeyRecord TakeRefusal) → (key_in client_keys anchor client (first_asked client login) agreed.reply).gives key
         → key ≡ Ok (record { suite = account.suite; bytes = agreed_key account.suite agreed.secret })
@@ -133,10 +133,10 @@ module _ (client : ClientRecord) (certificate : Bytes) (anchor : AnchorRecord) (
           (told_reply reply agreed.reply padata) gives);
     }
 
-  module _ (padata : PaData) (it : IsPkinitPadata client_keys certificate body login.client_as login.random_as padata) where
+  module _ (padata : PaData) (it : IsPkinitPadata client_keys certificate body login.client_as login.words_as padata) where
     found : (s : Result AgreedRecord ℕ) → (pkinit_table realm_keys trust judged it.value).gives s → (agreed : AgreedRecord) × IsAgreed agreed × (s ≡ Ok agreed)
     found s gives =
-        let granted = granting.granted client_keys realm_keys certificate login.client_as (client_agreement_bytes login.random_as) trust judged request it.value it.is_request s gives in
+        let granted = granting.granted client_keys realm_keys certificate login.client_as (client_agreement_bytes login.words_as) trust judged request it.value it.is_request s gives in
         (granted.agreed, (granted.same_secret, granted.is_reply), granted.is_agreed)
 
     replied_under : (r : Result ReplyKeyRecord ℕ) → (authenticated call (pkinit_rows trust realm_keys) account client.components (as_request_of padata body)).gives r
@@ -148,7 +148,7 @@ module _ (client : ClientRecord) (certificate : Bytes) (anchor : AnchorRecord) (
 
   pub authenticated_by_certificate : IsAuthenticated client (by_certificate certificate anchor client_keys) realm (pkinit_rows trust realm_keys) account login
   authenticated_by_certificate = record {
-    asks = granting.asked client_keys realm_keys certificate login.client_as (client_agreement_bytes login.random_as) trust judged request;
+    asks = granting.asked client_keys realm_keys certificate login.client_as (client_agreement_bytes login.words_as) trust judged request;
     shown = λ padata it r x.
         let replied = replied_under padata it r x in
         (key_under replied.0, replied.2, agreed_one replied.0 replied.1);
@@ -170,5 +170,5 @@ met_by_certificate client certificate anchor client_keys realm trust realm_keys 
 
 -- a certificate refuses no request that it has padata for
 pub decided_by_certificate : (certificate : Bytes) (anchor : AnchorRecord) (keys : KeysRecord) → AreDecided (by_certificate certificate anchor keys)
-decided_by_certificate certificate anchor keys = λ body moment random padata asks none.
-    clients.decided_by_certificate keys certificate body moment random padata asks none
+decided_by_certificate certificate anchor keys = λ body moment words padata asks none.
+    clients.decided_by_certificate keys certificate body moment words padata asks none

@@ -105,27 +105,27 @@ written_over own other certificate read reads signs content =
     some_written own.sign dh_key_data content certificate read.certificate reads.count made.0 refl reads.spelled made.1 made.2
 
 -- so it has a reply
-replies : (keys : KeysRecord) (own : Bytes) (nonce : ℤ) (random : Random) (element : Raw) (key : AgreementPublicKey) (signed : Bytes)
-    → keys.public_value (agreement_bytes random) ≡ Some element → IsPublicKey element key
+replies : (keys : KeysRecord) (own : Bytes) (nonce : ℤ) (words : Random) (element : Raw) (key : AgreementPublicKey) (signed : Bytes)
+    → keys.public_value (agreement_bytes words) ≡ Some element → IsPublicKey element key
     → IsWritten keys.sign dh_key_data (key_info_bytes (key_info_of key.subject_public_key nonce)) own signed
-    → (pk_as_rep keys own nonce random).gives (Ok (dh_reply_bytes (dh_reply_of signed)))
-replies keys own nonce random element key signed value is written =
-    by_need {A = Raw} {T = Bytes} {E = Code} (keys.public_value (agreement_bytes random)) KRB_ERR_GENERIC _ element (Ok (dh_reply_bytes (dh_reply_of signed))) value
+    → (pk_as_rep keys own nonce words).gives (Ok (dh_reply_bytes (dh_reply_of signed)))
+replies keys own nonce words element key signed value is written =
+    by_need {A = Raw} {T = Bytes} {E = Code} (keys.public_value (agreement_bytes words)) KRB_ERR_GENERIC _ element (Ok (dh_reply_bytes (dh_reply_of signed))) value
     (inl (key, is, inl (signed, written, refl)))
 
 -- and both agree
 agrees : (keys : KeysRecord) (judging : JudgingRecord) (asked : AskedRecord) (secret reply : Bytes)
-    → is_far judging.skew judging.expected.moment asked.time ≡ false → keys.agree (WholeValue asked.value) (agreement_bytes judging.random) ≡ Some secret
-    → (pk_as_rep keys judging.certificate asked.nonce judging.random).gives (Ok reply)
+    → is_far judging.skew judging.expected.moment asked.time ≡ false → keys.agree (WholeValue asked.value) (agreement_bytes judging.words) ≡ Some secret
+    → (pk_as_rep keys judging.certificate asked.nonce judging.words).gives (Ok reply)
     → (agreed_on keys judging asked).gives (Ok (record { secret = secret; reply = reply }))
 agrees keys judging asked secret reply near agreed replied =
     by_refuse {T = AgreedRecord} {E = Code} (is_far judging.skew judging.expected.moment asked.time) KRB_AP_ERR_SKEW _ (Ok (record { secret = secret; reply = reply })) near
-    (by_need {A = Bytes} {T = AgreedRecord} {E = Code} (keys.agree (WholeValue asked.value) (agreement_bytes judging.random)) KDC_ERR_KEY_TOO_WEAK _ secret
+    (by_need {A = Bytes} {T = AgreedRecord} {E = Code} (keys.agree (WholeValue asked.value) (agreement_bytes judging.words)) KDC_ERR_KEY_TOO_WEAK _ secret
     (Ok (record { secret = secret; reply = reply })) agreed (inl (reply, replied, refl)))
 
 module _ (client_keys realm_keys : KeysRecord) (certificate : Bytes) (client_moment : Micros) (client_words : Bytes) (trust : TrustRecord) (call : PkinitCallRecord)
     (honest : IsHonestRequest client_keys realm_keys certificate client_moment client_words trust call) where
-  abbrev agreeing : AreAgreeing client_keys realm_keys client_words (agreement_bytes call.random)
+  abbrev agreeing : AreAgreeing client_keys realm_keys client_words (agreement_bytes call.words)
   agreeing = honest.agreeing
 
   abbrev judging : JudgingRecord
@@ -159,8 +159,8 @@ module _ (client_keys realm_keys : KeysRecord) (certificate : Bytes) (client_mom
     value_whole : IsWhole (raw_tree is.value)
     value_whole = subst (λ (r : Raw). IsWhole (raw_tree r)) (sym same_value) (key_element agreeing.client_element agreeing.client_key agreeing.is_client_key)
 
-    value_agrees : realm_keys.agree (WholeValue is.value) (agreement_bytes call.random) ≡ Some agreeing.secret
-    value_agrees = subst (λ (r : Raw). realm_keys.agree (WholeValue r) (agreement_bytes call.random) ≡ Some agreeing.secret) (sym same_value) agreeing.realm_agrees
+    value_agrees : realm_keys.agree (WholeValue is.value) (agreement_bytes call.words) ≡ Some agreeing.secret
+    value_agrees = subst (λ (r : Raw). realm_keys.agree (WholeValue r) (agreement_bytes call.words) ≡ Some agreeing.secret) (sym same_value) agreeing.realm_agrees
 
     given_by_pack : (of_auth_pack realm_keys judging parts (pack_of call.body client_moment is.second is.value)).gives (Ok agreed)
     given_by_pack =
@@ -171,7 +171,7 @@ module _ (client_keys realm_keys : KeysRecord) (certificate : Bytes) (client_mom
             tt,
             inl (tt, is_trusted client_keys realm_keys client.auth_data (pack_bytes call.body client_moment is.second is.value) certificate is.signed is.is_signed judging.expected honest.client, refl),
             agrees realm_keys judging (asked_for call.body client_moment is.value) agreeing.secret (dh_reply_bytes (dh_reply_of reply_signed.0)) honest.near value_agrees
-                (replies realm_keys honest.own call.body.nonce.0 call.random agreeing.realm_element agreeing.realm_key reply_signed.0 agreeing.realm_value agreeing.is_realm_key reply_signed.1),
+                (replies realm_keys honest.own call.body.nonce.0 call.words agreeing.realm_element agreeing.realm_key reply_signed.0 agreeing.realm_value agreeing.is_realm_key reply_signed.1),
           ),
         )
 

@@ -30,7 +30,7 @@ pub record IsHonestRequest (client_keys realm_keys : KeysRecord) (certificate : 
   pub read : ReadRecord
   pub reads : IsCertificate own read
   pub signs : Signs realm_keys client_keys read.certificate
-  pub agreeing : AreAgreeing client_keys realm_keys client_words (agreement_bytes call.random)
+  pub agreeing : AreAgreeing client_keys realm_keys client_words (agreement_bytes call.words)
 
 -- the client accepts the realm's certificate, whose holder signs, and both agree
 pub record IsHonestReply (client_keys realm_keys : KeysRecord) (own realm_words : Bytes) (asked : PkinitAskedRecord) : Type 0 where

@@ -33,4 +33,4 @@ pub record IsHonestByCertificate (client : ClientRecord) (certificate : Bytes) (
   pub has_own : trust.certificate ≡ Some own
   pub client_trusted : IsTrusted client_keys realm_keys (client_under realm_anchor client realm login) certificate
   pub realm_trusted : IsTrusted realm_keys client_keys (realm_under anchor client login) own
-  pub agreeing : AreAgreeing client_keys realm_keys (agreement_part login.random_as) (agreement_bytes login.realm_random_as)
+  pub agreeing : AreAgreeing client_keys realm_keys (agreement_part login.words_as) (agreement_bytes login.realm_words_as)

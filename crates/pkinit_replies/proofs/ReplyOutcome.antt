@@ -14,7 +14,7 @@ use Rattle.pkinit_replies.specs.PublicKeys.{IsPublicKey, sole_public_key}
 use Rattle.pkinit_replies.specs.Replies.{dh_key_data, dh_reply_bytes, dh_reply_of, key_info_bytes, key_info_of, pk_as_rep}
 use Rattle.pkinit_replies.specs.WrittenOnce.{one_written}
 
-module _ (keys : KeysRecord) (certificate : Bytes) (nonce : ℤ) (random : Random) where
+module _ (keys : KeysRecord) (certificate : Bytes) (nonce : ℤ) (words : Random) where
   abbrev info : AgreementPublicKey → Bytes
   info key = key_info_bytes (key_info_of key.subject_public_key nonce)
 
@@ -29,7 +29,7 @@ module _ (keys : KeysRecord) (certificate : Bytes) (nonce : ℤ) (random : Rando
       has_asked (IsWritten keys.sign dh_key_data (info key) certificate) (one_written keys.sign dh_key_data (info key) certificate) (done (Err KRB_ERR_GENERIC))
       (λ signed. done (Ok (dh_reply_bytes (dh_reply_of signed)))) (has_done (Err KRB_ERR_GENERIC)) (λ signed s. has_done (Ok (dh_reply_bytes (dh_reply_of signed))))
 
-  pub has_reply : HasOutcome (pk_as_rep keys certificate nonce random)
+  pub has_reply : HasOutcome (pk_as_rep keys certificate nonce words)
   has_reply =
-      has_needed (keys.public_value (agreement_bytes random)) KRB_ERR_GENERIC (λ element. ask (IsPublicKey element) (sole_public_key element) (done (Err KRB_ERR_GENERIC)) of_key)
+      has_needed (keys.public_value (agreement_bytes words)) KRB_ERR_GENERIC (λ element. ask (IsPublicKey element) (sole_public_key element) (done (Err KRB_ERR_GENERIC)) of_key)
       (λ element e. has_asked (IsPublicKey element) (sole_public_key element) (done (Err KRB_ERR_GENERIC)) of_key (has_done (Err KRB_ERR_GENERIC)) (λ key k. has_of_key key))

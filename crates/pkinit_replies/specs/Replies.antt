@@ -46,8 +46,8 @@ dh_reply_bytes reply = der (reply_impl.ghosts.tree reply)
 
 -- PA-PK-AS-REP to an authenticator with this nonce: the public value of the random bytes, signed by the holder of the certificate
 abbrev pub pk_as_rep : KeysRecord → Bytes → ℤ → Random → Table (Result Bytes Code)
-pk_as_rep keys certificate nonce random =
-    need (keys.public_value (agreement_bytes random)) KRB_ERR_GENERIC (λ element.
+pk_as_rep keys certificate nonce words =
+    need (keys.public_value (agreement_bytes words)) KRB_ERR_GENERIC (λ element.
     ask (IsPublicKey element) (sole_public_key element) (done (Err KRB_ERR_GENERIC)) (λ key.
     ask (IsWritten keys.sign dh_key_data (key_info_bytes (key_info_of key.subject_public_key nonce)) certificate)
     (one_written keys.sign dh_key_data (key_info_bytes (key_info_of key.subject_public_key nonce)) certificate) (done (Err KRB_ERR_GENERIC)) (λ signed.

@@ -27,12 +27,12 @@ pub fn pk_as_rep<K: KeyFunctions>(
     keys: &K,
     certificate: &[u8],
     nonce: &IntegerAsn1,
-    random: &[u8],
+    words: &[u8],
 ) -> Result<Vec<u8>, Refusal>
-    requires { 128 ≤ length random.now }
-    ensures { IsJudged (pk_as_rep (K.functions keys.now) certificate.now nonce.now random.now).gives (as_bytes result) }
+    requires { 128 ≤ length words.now }
+    ensures { IsJudged (pk_as_rep (K.functions keys.now) certificate.now nonce.now words.now).gives (as_bytes result) }
 {
-    let Some(element) = keys.public_value(alloc, &random[64..128])? else {
+    let Some(element) = keys.public_value(alloc, &words[64..128])? else {
         return Err(Refusal::Krb(error_codes::KRB_ERR_GENERIC));
     };
     let Some(key) = public_key_in(alloc, &element)? else {

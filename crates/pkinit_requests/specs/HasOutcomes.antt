@@ -100,9 +100,9 @@ has_trusted keys expected judged =
 has_agreed : (keys : KeysRecord) (judging : JudgingRecord) (asked : AskedRecord) → HasOutcome (agreed_on keys judging asked)
 has_agreed keys judging asked =
     has_refused {T = AgreedRecord} (is_far judging.skew judging.expected.moment asked.time) KRB_AP_ERR_SKEW _
-    (λ _. has_needed (keys.agree (WholeValue asked.value) (agreement_bytes judging.random)) KDC_ERR_KEY_TOO_WEAK _
-    (λ secret e. has_then (pk_as_rep keys judging.certificate asked.nonce judging.random) (λ reply. done (Ok (record { secret = secret; reply = reply })))
-    (has_reply keys judging.certificate asked.nonce judging.random) (λ reply r. has_done (Ok (record { secret = secret; reply = reply })))))
+    (λ _. has_needed (keys.agree (WholeValue asked.value) (agreement_bytes judging.words)) KDC_ERR_KEY_TOO_WEAK _
+    (λ secret e. has_then (pk_as_rep keys judging.certificate asked.nonce judging.words) (λ reply. done (Ok (record { secret = secret; reply = reply })))
+    (has_reply keys judging.certificate asked.nonce judging.words) (λ reply r. has_done (Ok (record { secret = secret; reply = reply })))))
 
 has_asked_by : (body : KdcReqBody) (pack : AuthPack Raw) → HasOutcome (asked_by body pack)
 has_asked_by body pack =

@@ -14,7 +14,7 @@ pub record JudgingRecord : Type 0 where
   pub certificate : Bytes
   pub skew : Micros
   pub body : KdcReqBody
-  pub random : Random
+  pub words : Random
 
 abbrev pub judging_of : held.Judging → JudgingRecord
 judging_of judging = record {
@@ -22,7 +22,7 @@ judging_of judging = record {
   certificate = judging.certificate.now;
   skew = judging.skew;
   body = judging.body.now;
-  random = judging.random.now;
+  words = judging.words.now;
 }
 
 abbrev pub judging_by : PkinitCallRecord → AnchorRecord → Bytes → JudgingRecord
@@ -31,5 +31,5 @@ judging_by call anchor certificate = record {
   certificate = certificate;
   skew = call.skew;
   body = call.body;
-  random = call.random;
+  words = call.words;
 }

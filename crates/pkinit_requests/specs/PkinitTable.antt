@@ -46,8 +46,8 @@ signed_by_client keys expected content = and_then_told code_of (trusted keys exp
 abbrev pub agreed_on : KeysRecord → JudgingRecord → AskedRecord → Table (Result AgreedRecord Code)
 agreed_on keys judging asked =
     refuse (is_far judging.skew judging.expected.moment asked.time) KRB_AP_ERR_SKEW
-    (need (keys.agree (WholeValue asked.value) (agreement_bytes judging.random)) KDC_ERR_KEY_TOO_WEAK (λ secret.
-    and_then (pk_as_rep keys judging.certificate asked.nonce judging.random) (λ reply.
+    (need (keys.agree (WholeValue asked.value) (agreement_bytes judging.words)) KDC_ERR_KEY_TOO_WEAK (λ secret.
+    and_then (pk_as_rep keys judging.certificate asked.nonce judging.words) (λ reply.
     done (Ok (record { secret = secret; reply = reply })))))
 
 -- of an AuthPack

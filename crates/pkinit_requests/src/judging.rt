@@ -14,5 +14,5 @@ pub(crate) struct Judging<'a> {
     /// The request's body.
     pub(crate) body: &'a KdcReqBody,
     /// The random bytes.
-    pub(crate) random: &'a [u8],
+    pub(crate) words: &'a [u8],
 }

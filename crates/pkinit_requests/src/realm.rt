@@ -57,7 +57,7 @@ fn judge_pk_as_req<K: KeyFunctions>(
     call: &PkinitCall<'_>,
     padata: &[u8],
 ) -> Result<Agreed, Refusal>
-    requires long { 128 ≤ length call.now.random.now }
+    requires long { 128 ≤ length call.now.words.now }
     requires near { call.now.skew ≤ 86400000000 }
     ensures { IsJudged (pkinit_table (K.functions own.now.keys.now) (trust_of own.now.anchor own.now.certificate) (call_of call.now) padata.now).gives (agreed_as result) }
 {
@@ -77,7 +77,7 @@ fn judge_pk_as_req<K: KeyFunctions>(
         certificate,
         skew: call.skew,
         body: call.body,
-        random: call.random,
+        words: call.words,
     };
     judge_request(alloc, own.keys, &judging, padata)
 }

@@ -31,7 +31,7 @@ pub(crate) fn judge_request<K: KeyFunctions>(
     judging: &Judging<'_>,
     padata: &[u8],
 ) -> Result<Agreed, Refusal>
-    requires long { 128 ≤ length judging.now.random.now }
+    requires long { 128 ≤ length judging.now.words.now }
     requires near { judging.now.skew ≤ 86400000000 }
     ensures { IsJudged (of_request (K.functions keys.now) (judging_of judging.now) padata.now).gives (agreed_as result) }
 {
@@ -50,7 +50,7 @@ fn judge_signed<K: KeyFunctions>(
     judging: &Judging<'_>,
     bytes: &[u8],
 ) -> Result<Agreed, Refusal>
-    requires long { 128 ≤ length judging.now.random.now }
+    requires long { 128 ≤ length judging.now.words.now }
     requires near { judging.now.skew ≤ 86400000000 }
     ensures { IsJudged (of_signed (K.functions keys.now) (judging_of judging.now) bytes.now).gives (agreed_as result) }
 {
@@ -76,7 +76,7 @@ fn judge_content<K: KeyFunctions>(
     judging: &Judging<'_>,
     content: &SignedContent<'_>,
 ) -> Result<Agreed, Refusal>
-    requires long { 128 ≤ length judging.now.random.now }
+    requires long { 128 ≤ length judging.now.words.now }
     requires near { judging.now.skew ≤ 86400000000 }
     ensures { IsJudged (of_content (K.functions keys.now) (judging_of judging.now) content.now).gives (agreed_as result) }
 {
@@ -106,7 +106,7 @@ fn judge_auth_pack<K: KeyFunctions>(
     content: &SignedContent<'_>,
     pack: &AuthPack<Asn1RawDer>,
 ) -> Result<Agreed, Refusal>
-    requires long { 128 ≤ length judging.now.random.now }
+    requires long { 128 ≤ length judging.now.words.now }
     requires near { judging.now.skew ≤ 86400000000 }
     ensures { IsJudged (of_auth_pack (K.functions keys.now) (judging_of judging.now) content.now pack.now).gives (agreed_as result) }
 {
@@ -122,7 +122,7 @@ fn agree_on<K: KeyFunctions>(
     judging: &Judging<'_>,
     asked: &Asked<'_>,
 ) -> Result<Agreed, Refusal>
-    requires long { 128 ≤ length judging.now.random.now }
+    requires long { 128 ≤ length judging.now.words.now }
     requires near { judging.now.skew ≤ 86400000000 }
     ensures { IsJudged (agreed_on (K.functions keys.now) (judging_of judging.now) asked.now).gives (agreed_as result) }
 {
@@ -134,15 +134,9 @@ fn agree_on<K: KeyFunctions>(
         return Err(Refusal::Krb(error_codes::KRB_AP_ERR_SKEW));
     }
     let theirs = Theirs::Whole(asked.value);
-    let Some(secret) = keys.agree(alloc, theirs, &judging.random[64..128])? else {
+    let Some(secret) = keys.agree(alloc, theirs, &judging.words[64..128])? else {
         return Err(Refusal::Krb(KDC_ERR_KEY_TOO_WEAK));
     };
-    let reply = pk_as_rep(
-        alloc,
-        keys,
-        judging.certificate,
-        asked.nonce,
-        judging.random,
-    )?;
+    let reply = pk_as_rep(alloc, keys, judging.certificate, asked.nonce, judging.words)?;
     Ok(Agreed { secret, reply })
 }

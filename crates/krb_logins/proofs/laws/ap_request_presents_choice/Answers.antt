@@ -9,7 +9,7 @@ pub returns-clause-presents : goal.returns-clause-presents
 returns-clause-presents g c = λ client. presents client (g.M.Means.means c.args.means.now)
 
 pub returns-clause-only : goal.returns-clause-only
-returns-clause-only g c = λ client credential mutual_required with_subkey moment random bytes key by other shown.
+returns-clause-only g c = λ client credential mutual_required with_subkey moment words bytes key by other shown.
     one_request key
-    (choice_by credential mutual_required by.part by.part_confounder by.asks.authenticator (authenticator_confounder (cipher_confounder_size credential.suite) random))
-    other bytes shown (presents client (g.M.Means.means c.args.means.now) credential mutual_required with_subkey moment random bytes key by)
+    (choice_by credential mutual_required by.part by.part_confounder by.asks.authenticator (authenticator_confounder (cipher_confounder_size credential.suite) words))
+    other bytes shown (presents client (g.M.Means.means c.args.means.now) credential mutual_required with_subkey moment words bytes key by)
