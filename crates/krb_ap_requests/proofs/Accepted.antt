@@ -123,8 +123,8 @@ presented_as_chosen entry skew moment choice part_cipher cipher x part authentic
     let recipient = is_for_service entry skew moment choice part_cipher cipher x in
     inl (tt, recipient, inl (choice.part, part_held entry skew moment choice part_cipher x part, authenticator_held entry skew moment choice part_cipher cipher x authenticator))
 
-pub received_as_chosen : (entry : EntryRecord) (skew moment : ℕ) (choice : Choice) (bytes : List ℕ) (x : IsAcceptable entry skew moment choice) → Presents entry.key choice bytes
-    → Receives entry skew moment bytes (Ok (shown_by choice x.suite x.time))
+pub received_as_chosen : (entry : EntryRecord) (skew moment : ℕ) (choice : Choice) (message : List ℕ) (x : IsAcceptable entry skew moment choice) → Presents entry.key choice message
+    → Receives entry skew moment message (Ok (shown_by choice x.suite x.time))
 unfolding Receives
-received_as_chosen entry skew moment choice bytes x p =
+received_as_chosen entry skew moment choice message x p =
     (request_of choice.outer p.part_cipher p.cipher, p.writes, presented_as_chosen entry skew moment choice p.part_cipher p.cipher x p.part p.authenticator)

@@ -151,17 +151,17 @@ authenticated_so usage part sealed a x =
     (record { session = found.0; found = found.1; version = rows.0; client = rows.1; moment = rows.2 })
 
 -- an acceptable choice that presents the bytes, and shows this
-pub record IsReceivedOf (entry : EntryRecord) (skew moment : ℕ) (bytes : List ℕ) (p : Presented) : Type 0 where
+pub record IsReceivedOf (entry : EntryRecord) (skew moment : ℕ) (message : List ℕ) (p : Presented) : Type 0 where
   pub choice : Choice
-  pub presents : Presents entry.key choice bytes
+  pub presents : Presents entry.key choice message
   pub acceptable : IsAcceptable entry skew moment choice
   pub shown : p ≡ shown_by choice acceptable.suite acceptable.time
 
-chosen_of : (entry : EntryRecord) (skew moment : ℕ) (bytes : List ℕ) (request : ApReqInner) (part : EncTicketPartInner) (a : Authenticated) (p : Presented) → IsApReq bytes request
+chosen_of : (entry : EntryRecord) (skew moment : ℕ) (message : List ℕ) (request : ApReqInner) (part : EncTicketPartInner) (a : Authenticated) (p : Presented) → IsApReq message request
     → (for_service entry.realm entry.components entry.suite entry.kvno request).gives (Ok tt)
     → IsValidSo entry.suite entry.key skew moment request.ticket.0.0.enc_part.0 part
-    → IsAuthenticatedSo 11 part request.authenticator.0 a → p ≡ presented_with request part a → IsReceivedOf entry skew moment bytes p
-chosen_of entry skew moment bytes request part a p read recipient valid x made =
+    → IsAuthenticatedSo 11 part request.authenticator.0 a → p ≡ presented_with request part a → IsReceivedOf entry skew moment message p
+chosen_of entry skew moment message request part a p read recipient valid x made =
     let rows = passed entry.realm entry.components entry.suite entry.kvno request recipient in
     record {
       choice = record {
@@ -174,7 +174,7 @@ chosen_of entry skew moment bytes request part a p read recipient valid x made =
       presents = record {
         part_cipher = request.ticket.0.0.enc_part.0.cipher.0;
         cipher = request.authenticator.0.cipher.0;
-        writes = subst (λ (r : ApReqInner). IsApReq bytes r) (sym (request-outer request)) read;
+        writes = subst (λ (r : ApReqInner). IsApReq message r) (sym (request-outer request)) read;
         part = seals enc_ticket_part_tree entry.suite entry.key 2 request.ticket.0.0.enc_part.0 part valid.found;
         authenticator = seals authenticator_tree a.suite part.key.0.key_value.0 11 request.authenticator.0 a.authenticator x.found;
       };
@@ -201,21 +201,21 @@ chosen_of entry skew moment bytes request part a p read recipient valid x made =
       shown = made;
     }
 
-pub chosen_as_received : (entry : EntryRecord) (skew moment : ℕ) (bytes : List ℕ) (request : ApReqInner) (p : Presented) → IsApReq bytes request
-    → (presented entry skew moment request).gives (Ok p) → IsReceivedOf entry skew moment bytes p
+pub chosen_as_received : (entry : EntryRecord) (skew moment : ℕ) (message : List ℕ) (request : ApReqInner) (p : Presented) → IsApReq message request
+    → (presented entry skew moment request).gives (Ok p) → IsReceivedOf entry skew moment message p
 unfolding presented
-chosen_as_received entry skew moment bytes request p read x =
+chosen_as_received entry skew moment message request p read x =
     let sealed = request.ticket.0.0.enc_part.0 in
     let recipient = both {A = Unit {0}} (for_service entry.realm entry.components entry.suite entry.kvno request) (λ _. past_recipient entry skew moment request) p x in
     let ticket = both (valid_part entry.suite entry.key skew moment sealed) (λ part. valid_authenticator request part) p recipient.2 in
     let last = both (authenticated 11 ticket.0 request.authenticator.0) (λ a. done (Ok (presented_with request ticket.0 a))) p ticket.2 in
     let made : p ≡ presented_with request ticket.0 last.0 = ok_same p (presented_with request ticket.0 last.0) last.2 in
-    chosen_of entry skew moment bytes request ticket.0 last.0 p read recipient.1 (valid_so entry.suite entry.key skew moment sealed ticket.0 ticket.1)
+    chosen_of entry skew moment message request ticket.0 last.0 p read recipient.1 (valid_so entry.suite entry.key skew moment sealed ticket.0 ticket.1)
     (authenticated_so 11 ticket.0 request.authenticator.0 last.0 last.1) made
 
 -- by the bytes alone
-pub received_is_chosen : (entry : EntryRecord) (skew moment : ℕ) (bytes : List ℕ) (p : Presented) → Receives entry skew moment bytes (Ok p)
-    → (choice : Choice) × Presents entry.key choice bytes × (x : IsAcceptable entry skew moment choice) × (p ≡ shown_by choice x.suite x.time)
+pub received_is_chosen : (entry : EntryRecord) (skew moment : ℕ) (message : List ℕ) (p : Presented) → Receives entry skew moment message (Ok p)
+    → (choice : Choice) × Presents entry.key choice message × (x : IsAcceptable entry skew moment choice) × (p ≡ shown_by choice x.suite x.time)
 unfolding Receives
-received_is_chosen entry skew moment bytes p x =
-    let by = chosen_as_received entry skew moment bytes x.0 p x.1 x.2 in (by.choice, by.presents, by.acceptable, by.shown)
+received_is_chosen entry skew moment message p x =
+    let by = chosen_as_received entry skew moment message x.0 p x.1 x.2 in (by.choice, by.presents, by.acceptable, by.shown)

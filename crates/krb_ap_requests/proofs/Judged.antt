@@ -51,26 +51,26 @@ ticket_held entry skew moment request part (Err (Krb code)) recipient ticket sho
 ticket_held entry skew moment request part (Err Memory) recipient ticket shown = tt
 
 -- what a request is judged to be is received of its bytes
-pub received : (entry : EntryRecord) (skew moment : ℕ) (bytes : List ℕ) (request : ApReqInner) (p : Presented) → IsApReq bytes request
-    → IsJudged {T = Presented} (presented entry skew moment request).gives (Ok p) → Receives entry skew moment bytes (Ok p)
+pub received : (entry : EntryRecord) (skew moment : ℕ) (message : List ℕ) (request : ApReqInner) (p : Presented) → IsApReq message request
+    → IsJudged {T = Presented} (presented entry skew moment request).gives (Ok p) → Receives entry skew moment message (Ok p)
 unfolding Receives
-received entry skew moment bytes request p found x = (request, found, x)
+received entry skew moment message request p found x = (request, found, x)
 
 -- and what it is refused for
-pub received_refused : (entry : EntryRecord) (skew moment : ℕ) (bytes : List ℕ) (request : ApReqInner) (e : Refusal) → IsApReq bytes request
-    → IsJudged {T = Presented} (presented entry skew moment request).gives (Err e) → Receives entry skew moment bytes (Err (refused_for e))
+pub received_refused : (entry : EntryRecord) (skew moment : ℕ) (message : List ℕ) (request : ApReqInner) (e : Refusal) → IsApReq message request
+    → IsJudged {T = Presented} (presented entry skew moment request).gives (Err e) → Receives entry skew moment message (Err (refused_for e))
 unfolding Receives
-received_refused entry skew moment bytes request (Krb code) found x = (request, found, x)
-received_refused entry skew moment bytes request Memory found x = tt
+received_refused entry skew moment message request (Krb code) found x = (request, found, x)
+received_refused entry skew moment message request Memory found x = tt
 
 -- bytes that no request has
-pub received_none : (entry : EntryRecord) (skew moment : ℕ) (bytes : List ℕ) → ((request : ApReqInner) → IsApReq bytes request → ⊥)
-    → Receives entry skew moment bytes (Err admit.Unreadable)
+pub received_none : (entry : EntryRecord) (skew moment : ℕ) (message : List ℕ) → ((request : ApReqInner) → IsApReq message request → ⊥)
+    → Receives entry skew moment message (Err admit.Unreadable)
 unfolding Receives
-received_none entry skew moment bytes none = none
+received_none entry skew moment message none = none
 
 -- where memory runs out nothing is promised
-pub received_wanting : (entry : EntryRecord) (skew moment : ℕ) (bytes : List ℕ) → Receives entry skew moment bytes (Err admit.Memory)
+pub received_wanting : (entry : EntryRecord) (skew moment : ℕ) (message : List ℕ) → Receives entry skew moment message (Err admit.Memory)
 unfolding Receives
 received_wanting entry skew moment bytes = tt
 

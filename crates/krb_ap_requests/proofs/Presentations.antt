@@ -89,11 +89,11 @@ outer-request outer part_cipher cipher = λ i. record {
   kvno = told-encrypted outer.etype outer.kvno cipher i;
 }
 
-pub one_presentation : (key bytes : List ℕ) (a b : Choice) → Presents key a bytes → Presents key b bytes → a ≡ b
-one_presentation key bytes a b x y =
+pub one_presentation : (key message : List ℕ) (a b : Choice) → Presents key a message → Presents key b message → a ≡ b
+one_presentation key message a b x y =
     let first : ApReqInner = request_of a.outer x.part_cipher x.cipher in
     let second : ApReqInner = request_of b.outer y.part_cipher y.cipher in
-    let request : first ≡ second = sole_ap_req bytes first second x.writes y.writes in
+    let request : first ≡ second = sole_ap_req message first second x.writes y.writes in
     let outer : a.outer ≡ b.outer = sym (outer-request a.outer x.part_cipher x.cipher) ∙ ap outer_of request ∙ outer-request b.outer y.part_cipher y.cipher in
     let part_cipher : x.part_cipher ≡ y.part_cipher = ap (λ (r : ApReqInner). r.ticket.0.0.enc_part.0.cipher.0) request in
     let cipher : x.cipher ≡ y.cipher = ap (λ (r : ApReqInner). r.authenticator.0.cipher.0) request in

@@ -73,10 +73,10 @@ pub record SealsTo {T : Type 0} (tree : T → Tree) (etype : ℤ) (key : Bytes) 
 
 -- the bytes are the one encoding of an AP request with these outer fields, whose ticket seals the part under the
 -- service's key (usage 2), and whose authenticator is sealed under the part's key (usage 11; RFC 4120, section 7.5.1)
-pub record Presents (key : Bytes) (choice : Choice) (bytes : Bytes) : Type 0 where
+pub record Presents (key : Bytes) (choice : Choice) (message : Bytes) : Type 0 where
   pub part_cipher : Bytes
   pub cipher : Bytes
-  pub writes : IsApReq bytes (request_of choice.outer part_cipher cipher)
+  pub writes : IsApReq message (request_of choice.outer part_cipher cipher)
   pub part : SealsTo {T = EncTicketPartInner} enc_ticket_part_tree choice.outer.part_etype key 2 choice.part_confounder choice.part part_cipher
   pub authenticator : SealsTo {T = AuthenticatorInner} authenticator_tree choice.outer.etype choice.part.key.0.key_value.0 11 choice.confounder choice.authenticator cipher
 

@@ -13,7 +13,7 @@ use Rattle.krb_ap_requests.specs.declared.refusal.AdmitRefusal.TheVariants.{Unre
 -- the bytes are the one encoding of a request, which presents this or is refused for that, or they are of none; or memory
 -- was wanting
 unfoldable pub Receives : EntryRecord → Micros → Micros → Bytes → Result Presented AdmitRefusal → Type 0
-Receives entry skew moment bytes (Ok p) = (request : ApReqInner) × IsApReq bytes request × (presented entry skew moment request).gives (Ok p)
-Receives entry skew moment bytes (Err (Krb code)) = (request : ApReqInner) × IsApReq bytes request × (presented entry skew moment request).gives (Err code)
-Receives entry skew moment bytes (Err Unreadable) = (request : ApReqInner) → IsApReq bytes request → ⊥
-Receives entry skew moment bytes (Err Memory) = Unit {0}
+Receives entry skew moment message (Ok p) = (request : ApReqInner) × IsApReq message request × (presented entry skew moment request).gives (Ok p)
+Receives entry skew moment message (Err (Krb code)) = (request : ApReqInner) × IsApReq message request × (presented entry skew moment request).gives (Err code)
+Receives entry skew moment message (Err Unreadable) = (request : ApReqInner) → IsApReq message request → ⊥
+Receives entry skew moment message (Err Memory) = Unit {0}

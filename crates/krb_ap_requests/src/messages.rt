@@ -15,10 +15,10 @@ use krb_types::data_types::{
 use std::alloc::{AllocError, Global};
 
 /// The AP request whose one encoding the bytes are, or none (RFC 4120, section 5.5.1).
-pub fn read_ap_req(alloc: Global, bytes: &[u8]) -> Result<Option<ApReqInner>, AllocError>
-    ensures { IfOk result (IsFound (IsApReq bytes.now)) }
+pub fn read_ap_req(alloc: Global, message: &[u8]) -> Result<Option<ApReqInner>, AllocError>
+    ensures { IfOk result (IsFound (IsApReq message.now)) }
 {
-    let read: Option<ApReq> = read_whole(alloc, bytes)?;
+    let read: Option<ApReq> = read_whole(alloc, message)?;
     match read {
         Some(request) => Ok(Some(request.0)),
         None => Ok(None),

@@ -8,10 +8,10 @@ use krb_messages::messages::{AsReq, KdcReq, TgsReq};
 use std::alloc::{AllocError, Global};
 
 /// The AS request whose one encoding the bytes are, or none (RFC 4120, section 5.4.1).
-pub fn read_as_req(alloc: Global, bytes: &[u8]) -> Result<Option<KdcReq>, AllocError>
-    ensures { IfOk result (IsFound (IsAsReq bytes.now)) }
+pub fn read_as_req(alloc: Global, message: &[u8]) -> Result<Option<KdcReq>, AllocError>
+    ensures { IfOk result (IsFound (IsAsReq message.now)) }
 {
-    let read: Option<AsReq> = read_whole(alloc, bytes)?;
+    let read: Option<AsReq> = read_whole(alloc, message)?;
     match read {
         Some(request) => Ok(Some(request.0)),
         None => Ok(None),
@@ -19,10 +19,10 @@ pub fn read_as_req(alloc: Global, bytes: &[u8]) -> Result<Option<KdcReq>, AllocE
 }
 
 /// The TGS request whose one encoding the bytes are, or none (RFC 4120, section 5.4.1).
-pub fn read_tgs_req(alloc: Global, bytes: &[u8]) -> Result<Option<KdcReq>, AllocError>
-    ensures { IfOk result (IsFound (IsTgsReq bytes.now)) }
+pub fn read_tgs_req(alloc: Global, message: &[u8]) -> Result<Option<KdcReq>, AllocError>
+    ensures { IfOk result (IsFound (IsTgsReq message.now)) }
 {
-    let read: Option<TgsReq> = read_whole(alloc, bytes)?;
+    let read: Option<TgsReq> = read_whole(alloc, message)?;
     match read {
         Some(request) => Ok(Some(request.0)),
         None => Ok(None),

@@ -353,15 +353,15 @@ fn ask_ap(
 fn answer<R: KeyFunctions>(
     alloc: Global,
     realm: &Realm,
-    request: &[u8],
+    message: &[u8],
     moment: Moment,
     words: &[u8],
     keys: &R,
 ) -> Result<Vec<u8>, LoginRefusal>
     requires { 128 ≤ length words.now }
-    ensures { Answer (call_at (realm_record realm.now) moment words.now) (realm_rows realm.now (R.functions keys.now)) request.now result }
+    ensures { Answer (call_at (realm_record realm.now) moment words.now) (realm_rows realm.now (R.functions keys.now)) message.now result }
 {
-    match realm.answer(alloc, request, moment, words, keys) {
+    match realm.answer(alloc, message, moment, words, keys) {
         Ok(reply) => Ok(reply),
         Err(refusal) => Err(LoginRefusal::Answered(refusal)),
     }
@@ -404,18 +404,18 @@ fn take_tgs(
 fn admit(
     alloc: Global,
     service: &mut Service,
-    request: &[u8],
+    message: &[u8],
     input: &LoginInput<'_>,
 ) -> Result<Admission, LoginRefusal>
     requires { 16 ≤ length input.now.service_words.now }
     ensures admits { (admitted : List PairRecord) → IsWindow service.old.seen admitted
-        → Admit service.old (login_of input.now) request.now (remembered service.old admitted) result service.new.seen }
+        → Admit service.old (login_of input.now) message.now (remembered service.old admitted) result service.new.seen }
     ensures rest { service.new ≡ record service.old { seen = service.new.seen } }
     ensures skew { service.new.seen.skew ≡ service.old.seen.skew }
 {
     match service.admit(
         alloc,
-        request,
+        message,
         input.moments.service_ap,
         input.service_words,
     ) {

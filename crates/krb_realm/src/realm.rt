@@ -129,13 +129,13 @@ impl Realm {
     }
 
     /// There is a reply to each request at each moment, by `laws::one_reply` exactly one. It does nothing when it runs.
-    pub fn has_reply<K: KeyFunctions>(&self, request: &[u8], moment: Moment, words: &[u8], keys: &K)
+    pub fn has_reply<K: KeyFunctions>(&self, message: &[u8], moment: Moment, words: &[u8], keys: &K)
         requires { 128 ≤ length words.now }
-        ensures { HasSome (Replies (call_to self.now moment words.now) (pkinit_rows self.now.trust (K.functions keys.now)) request.now) }
+        ensures { HasSome (Replies (call_to self.now moment words.now) (pkinit_rows self.now.trust (K.functions keys.now)) message.now) }
     {
         self.are_keyed();
         let _micros = moment.micros();
-        is_slice(request);
+        is_slice(message);
         is_slice(words);
         has_reply();
     }
@@ -259,25 +259,25 @@ impl Realm {
     pub fn answer<K: KeyFunctions>(
         &self,
         alloc: Global,
-        request: &[u8],
+        message: &[u8],
         moment: Moment,
         words: &[u8],
         keys: &K,
     ) -> Result<Vec<u8>, AnswerRefusal>
         requires { 128 ≤ length words.now }
-        ensures answer { IsAnswer (Replies (call_to self.now moment words.now) (pkinit_rows self.now.trust (K.functions keys.now)) request.now) result }
-        ensures memory { IfErr result (λ refusal. refusal ≡ AnswerRefusal.Memory → BeginsRequest request.now) }
+        ensures answer { IsAnswer (Replies (call_to self.now moment words.now) (pkinit_rows self.now.trust (K.functions keys.now)) message.now) result }
+        ensures memory { IfErr result (λ refusal. refusal ≡ AnswerRefusal.Memory → BeginsRequest message.now) }
     {
-        if !begins_request(request) {
+        if !begins_request(message) {
             return Err(AnswerRefusal::Unreadable);
         }
-        if let Some(asked) = read_as_req(alloc, request)? {
+        if let Some(request) = read_as_req(alloc, message)? {
             let pkinit = self.pkinit(keys);
-            let reply = answer_as(alloc, &self.call(moment, words), &pkinit, asked)?;
+            let reply = answer_as(alloc, &self.call(moment, words), &pkinit, request)?;
             return Ok(reply);
         }
-        if let Some(asked) = read_tgs_req(alloc, request)? {
-            let reply = answer_tgs(alloc, &self.call(moment, words), asked)?;
+        if let Some(request) = read_tgs_req(alloc, message)? {
+            let reply = answer_tgs(alloc, &self.call(moment, words), request)?;
             return Ok(reply);
         }
         Err(AnswerRefusal::Unreadable)
@@ -306,11 +306,11 @@ impl Realm {
     }
 }
 
-// Whether bytes begin with the identifier octet of an AS request or of a TGS request.
-fn begins_request(bytes: &[u8]) -> bool
-    ensures { result ≡ option_map_or is_request_octet (slice_get bytes.now 0) false }
+// Whether a message begins with the identifier octet of an AS request or of a TGS request.
+fn begins_request(message: &[u8]) -> bool
+    ensures { result ≡ option_map_or is_request_octet (slice_get message.now 0) false }
 {
-    match bytes.first() {
+    match message.first() {
         Some(&octet) => {
             octet == APPLICATION + AS_REQ_MSG_TYPE || octet == APPLICATION + TGS_REQ_MSG_TYPE
         }

@@ -11,9 +11,9 @@ use Rattle.krb_ap_requests.specs.declared.presented.Presented.{Presented}
 use Rattle.krb_ap_requests.proofs.Chosen.{received_is_chosen}
 
 -- so it is of what is received
-pub received_keyed : (entry : EntryRecord) (skew moment : ℕ) (bytes : List ℕ) (p : Presented) → Receives entry skew moment bytes (Ok p) → HasSessionKey p
-received_keyed entry skew moment bytes p x =
-    let by = received_is_chosen entry skew moment bytes p x in
+pub received_keyed : (entry : EntryRecord) (skew moment : ℕ) (message : List ℕ) (p : Presented) → Receives entry skew moment message (Ok p) → HasSessionKey p
+received_keyed entry skew moment message p x =
+    let by = received_is_chosen entry skew moment message p x in
     subst (λ (q : Presented). HasSessionKey q) (sym by.3) by.2.session
 
 -- the key that is found is that one

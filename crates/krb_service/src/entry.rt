@@ -65,13 +65,13 @@ impl KeytabEntry {
         alloc: Global,
         skew: u64,
         moment: Moment,
-        bytes: &[u8],
+        message: &[u8],
     ) -> Result<Presented, AdmitRefusal>
         requires { skew ≤ 86400000000 }
-        ensures received { Receives self.now skew moment bytes.now result }
+        ensures received { Receives self.now skew moment message.now result }
         ensures keyed { IfOk result HasSessionKey }
     {
-        let Some(request) = read_ap_req(alloc, bytes)? else {
+        let Some(request) = read_ap_req(alloc, message)? else {
             return Err(AdmitRefusal::Unreadable);
         };
         let judged = self.judge(alloc, skew, moment, &request);

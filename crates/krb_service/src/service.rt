@@ -105,7 +105,7 @@ impl Service {
     pub fn admit(
         &mut self,
         alloc: Global,
-        bytes: &[u8],
+        message: &[u8],
         moment: Moment,
         words: &[u8],
     ) -> Result<Admission, AdmitRefusal>
@@ -114,12 +114,12 @@ impl Service {
         ensures skew { self.new.seen.skew ≡ self.old.seen.skew }
         ensures rest { self.new ≡ record self.old { seen = self.new.seen } }
         ensures remembers { (admitted : List PairRecord) → IsWindow self.old.seen admitted
-            → IsStep (remembering self.old (max self.old.seen.greatest moment) admitted bytes.now words.now).gives admitted result self.new.seen }
+            → IsStep (remembering self.old (max self.old.seen.greatest moment) admitted message.now words.now).gives admitted result self.new.seen }
     {
         self.seen.raise(moment);
         let now = self.seen.greatest();
         let skew = self.seen.skew();
-        let presented = self.entry.receive(alloc, skew, now, bytes)?;
+        let presented = self.entry.receive(alloc, skew, now, message)?;
         admit_once(&mut self.seen, alloc, now, presented, words)
     }
 

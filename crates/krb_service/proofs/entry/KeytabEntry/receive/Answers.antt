@@ -14,13 +14,13 @@ pub returns-in_err-judged-clause-received : goal.returns-in_err-judged-clause-re
 returns-in_err-judged-clause-received c =
     let exit = err_from_is_err_and c.from_residual-in_err-judged.result c.from_residual-in_err-judged.ensures.1 in
     rw (exit.1, exit.2)
-    (received_refused c.args.self.now c.args.skew c.args.moment c.args.bytes.now c.in-Some.request c.in_err-judged.field-0.0 (rw c.in-Some.is at c.in_ok-request.ensures) c.in_err-judged.ensures)
+    (received_refused c.args.self.now c.args.skew c.args.moment c.args.message.now c.in-Some.request c.in_err-judged.field-0.0 (rw c.in-Some.is at c.in_ok-request.ensures) c.in_err-judged.ensures)
 
 pub returns-clause-received : goal.returns-clause-received
 returns-clause-received c =
-    received c.args.self.now c.args.skew c.args.moment c.args.bytes.now c.in-Some.request c.in_ok-judged.field-0 (rw c.in-Some.is at c.in_ok-request.ensures) c.in_ok-judged.ensures
+    received c.args.self.now c.args.skew c.args.moment c.args.message.now c.in-Some.request c.in_ok-judged.field-0 (rw c.in-Some.is at c.in_ok-request.ensures) c.in_ok-judged.ensures
 
 pub returns-clause-keyed : goal.returns-clause-keyed
 returns-clause-keyed c =
-    received_keyed c.args.self.now c.args.skew c.args.moment c.args.bytes.now c.in_ok-judged.field-0
-    (received c.args.self.now c.args.skew c.args.moment c.args.bytes.now c.in-Some.request c.in_ok-judged.field-0 (rw c.in-Some.is at c.in_ok-request.ensures) c.in_ok-judged.ensures)
+    received_keyed c.args.self.now c.args.skew c.args.moment c.args.message.now c.in_ok-judged.field-0
+    (received c.args.self.now c.args.skew c.args.moment c.args.message.now c.in-Some.request c.in_ok-judged.field-0 (rw c.in-Some.is at c.in_ok-request.ensures) c.in_ok-judged.ensures)
