@@ -23,7 +23,7 @@ use krb_accounts::{
 use krb_crypto::CipherSuite;
 use krb_frames::AnswerRefusal;
 use krb_moments::Moment;
-use krb_replies::{Call, answer_as, answer_tgs, krbtgt_of, read_as_req, read_tgs_req};
+use krb_replies::{Call, as_reply, krbtgt_of, read_as_req, read_tgs_req, tgs_reply};
 use krb_types::constants::types::{AS_REQ_MSG_TYPE, TGS_REQ_MSG_TYPE};
 use picky_asn1::wrapper::GeneralStringAsn1;
 use pkinit_requests::RealmPkinit;
@@ -273,11 +273,11 @@ impl Realm {
         }
         if let Some(request) = read_as_req(alloc, message)? {
             let pkinit = self.pkinit(keys);
-            let reply = answer_as(alloc, &self.call(moment, words), &pkinit, request)?;
+            let reply = as_reply(alloc, &self.call(moment, words), &pkinit, request)?;
             return Ok(reply);
         }
         if let Some(request) = read_tgs_req(alloc, message)? {
-            let reply = answer_tgs(alloc, &self.call(moment, words), request)?;
+            let reply = tgs_reply(alloc, &self.call(moment, words), request)?;
             return Ok(reply);
         }
         Err(AnswerRefusal::Unreadable)

@@ -12,7 +12,7 @@ ghost use Rattle.krb_moments.specs.SecondOf.{IsSecondOf};
 ghost use Rattle.krb_replies.specs.Judged.{IsAnswerWith, IsJudgement};
 ghost use Rattle.krb_replies.specs.Replies.{as_reply, e_data_of, named_service, tgs_reply};
 
-use crate::error::error_reply;
+use crate::error::error_message;
 use crate::names::ticket_service;
 use crate::told::Told;
 use krb_accounts::Account;
@@ -28,7 +28,7 @@ use std::alloc::{AllocError, Global};
 
 /// The reply to an AS request: a ticket, or the error with its code (RFC 4120, section 3.1; RFC 4556, section 3.1). `pkinit`
 /// judges a request by certificate. It lends the request on, so that one way out alone drops it.
-pub fn answer_as<P: Pkinit>(
+pub fn as_reply<P: Pkinit>(
     alloc: Global,
     call: &Call<'_>,
     pkinit: &P,
@@ -39,19 +39,19 @@ pub fn answer_as<P: Pkinit>(
         (account_of (look_in call.now.accounts.now) (client_of request.req_body.0))
         (account_of (look_in call.now.accounts.now) (service_of request.req_body.0)) request).gives (Some bytes.items)) }
 {
-    as_answer(alloc, call, pkinit, &request)
+    as_reply_to(alloc, call, pkinit, &request)
 }
 
 /// The reply to a TGS request: a ticket, or the error with its code (RFC 4120, section 3.3). It lends the request on.
-pub fn answer_tgs(alloc: Global, call: &Call<'_>, request: KdcReq) -> Result<Vec<u8>, AllocError>
+pub fn tgs_reply(alloc: Global, call: &Call<'_>, request: KdcReq) -> Result<Vec<u8>, AllocError>
     requires { 128 ≤ length call.now.words.now }
     ensures { IfOk result (λ bytes. (tgs_reply (call_of call.now) request).gives (Some bytes.items)) }
 {
-    tgs_answer(alloc, call, &request)
+    tgs_reply_to(alloc, call, &request)
 }
 
 // The reply to an AS request.
-fn as_answer<P: Pkinit>(
+fn as_reply_to<P: Pkinit>(
     alloc: Global,
     call: &Call<'_>,
     pkinit: &P,
@@ -62,21 +62,21 @@ fn as_answer<P: Pkinit>(
         (account_of (look_in call.now.accounts.now) (client_of request.now.req_body.0))
         (account_of (look_in call.now.accounts.now) (service_of request.now.req_body.0)) request.now).gives (Some bytes.items)) }
 {
-    let judged = judge(alloc, call, pkinit, request)?;
-    answer(alloc, call, request, judged)
+    let judged = as_judgement(alloc, call, pkinit, request)?;
+    judged_reply(alloc, call, request, judged)
 }
 
 // The reply to a TGS request.
-fn tgs_answer(alloc: Global, call: &Call<'_>, request: &KdcReq) -> Result<Vec<u8>, AllocError>
+fn tgs_reply_to(alloc: Global, call: &Call<'_>, request: &KdcReq) -> Result<Vec<u8>, AllocError>
     requires { 128 ≤ length call.now.words.now }
     ensures { IfOk result (λ bytes. (tgs_reply (call_of call.now) request.now).gives (Some bytes.items)) }
 {
-    let judged = judge_further(alloc, call, request)?;
-    answer(alloc, call, request, judged)
+    let judged = tgs_judgement(alloc, call, request)?;
+    judged_reply(alloc, call, request, judged)
 }
 
 // What is granted, or the error with this code and e-data about the request's service.
-fn answer(
+fn judged_reply(
     alloc: Global,
     call: &Call<'_>,
     request: &KdcReq,
@@ -87,14 +87,14 @@ fn answer(
     match judged {
         Ok(ticket) => Ok(ticket),
         Err(told) => {
-            let reply = error_answer(alloc, call, service_of(&request.req_body.0), told)?;
+            let reply = error_reply(alloc, call, service_of(&request.req_body.0), told)?;
             Ok(reply)
         }
     }
 }
 
 // The ticket that an AS request is granted, or the code and e-data of the error that answers it.
-fn judge<P: Pkinit>(
+fn as_judgement<P: Pkinit>(
     alloc: Global,
     call: &Call<'_>,
     pkinit: &P,
@@ -120,7 +120,7 @@ fn judge<P: Pkinit>(
 }
 
 // The ticket that a TGS request is granted, or the code and e-data of the error that answers it.
-fn judge_further(
+fn tgs_judgement(
     alloc: Global,
     call: &Call<'_>,
     request: &KdcReq,
@@ -137,7 +137,7 @@ fn judge_further(
 
 // The error with this code and e-data that answers a request for this service. If the request names none, the error is
 // about the realm's ticket-granting service.
-fn error_answer(
+fn error_reply(
     alloc: Global,
     call: &Call<'_>,
     named: Option<&PrincipalName>,
@@ -148,27 +148,11 @@ fn error_answer(
         (named_service call.now.realm.now (option_copied named.entry)) told.code (option_map (λ h. h.items) told.e_data))) }
 {
     if let Some(service) = named {
-        let reply = error_about(alloc, call, service, told)?;
+        let reply = error_message(alloc, call.realm, call.moment, service, told)?;
         return Ok(reply);
     }
     let service = ticket_service(alloc, call.realm)?;
-    let reply = error_about(alloc, call, &service, told)?;
-    Ok(reply)
-}
-
-// The error with this code and e-data about a service.
-fn error_about(
-    alloc: Global,
-    call: &Call<'_>,
-    service: &PrincipalName,
-    told: Told,
-) -> Result<Vec<u8>, AllocError>
-    ensures { IfOk result (λ bytes. (time : GeneralizedTime) × IsSecondOf call.now.moment time
-        × (bytes.items ≡ error_bytes call.now.realm.now time (call.now.moment % 1000000) service.now told.code (option_map (λ h. h.items) told.e_data))) }
-{
-    let time = call.moment.second();
-    let microseconds = call.moment.microsecond();
-    let reply = error_reply(alloc, call.realm, time, microseconds, service, told)?;
+    let reply = error_message(alloc, call.realm, call.moment, &service, told)?;
     Ok(reply)
 }
 

@@ -1,13 +1,15 @@
 //! Writing errors.
-ghost use Rattle.std.specs.Prelude.{◌≡◌, IfOk};
+ghost use Rattle.std.specs.Prelude.{◌≡◌, ◌%◌, IfOk};
 ghost use Rattle.std.specs.Option.{option_map};
+ghost use Rattle.asn1_leaves.specs.declared.date.GeneralizedTime.{GeneralizedTime};
+ghost use Rattle.krb_moments.specs.SecondOf.{IsSecondOf};
 ghost use Rattle.krb_replies.specs.Errors.{error_bytes};
 
 use crate::told::Told;
 use devices::Sink;
+use krb_moments::Moment;
 use krb_types::constants::types::{KERBEROS_VERSION, KRB_ERROR_MSG_TYPE};
 use krb_types::data_types::{KerberosTime, Microseconds, PrincipalName, Realm};
-use picky_asn1::date::GeneralizedTime;
 use picky_asn1::wrapper::{GeneralStringAsn1, GeneralizedTimeAsn1, IntegerAsn1, OctetStringAsn1};
 use picky_asn1_der::{
     Asn1DerError, ExplicitContextTag, ExplicitContextTag0, ExplicitContextTag1,
@@ -76,18 +78,19 @@ impl<'a> Serialize for LentError<'a> {
     }
 }
 
-/// The encoding of an error with this code and e-data, at a time and its microseconds, about a service (RFC 4120, section
-/// 5.9.1).
-pub(crate) fn error_reply(
+/// The encoding of an error with this code and e-data, at a moment, about a service (RFC 4120, section 5.9.1).
+pub(crate) fn error_message(
     alloc: Global,
     realm: &GeneralStringAsn1,
-    time: GeneralizedTime,
-    microseconds: u32,
+    moment: Moment,
     service: &PrincipalName,
     told: Told,
 ) -> Result<Vec<u8>, AllocError>
-    ensures { IfOk result (λ bytes. bytes.items ≡ error_bytes realm.now time microseconds service.now told.code (option_map (λ bytes. bytes.items) told.e_data)) }
+    ensures { IfOk result (λ bytes. (time : GeneralizedTime) × IsSecondOf moment time
+        × (bytes.items ≡ error_bytes realm.now time (moment % 1000000) service.now told.code (option_map (λ bytes. bytes.items) told.e_data))) }
 {
+    let time = moment.second();
+    let microseconds = moment.microsecond();
     let version = IntegerAsn1::from_u64(alloc, u64::from(KERBEROS_VERSION))?;
     let kind = IntegerAsn1::from_u64(alloc, u64::from(KRB_ERROR_MSG_TYPE))?;
     let susec = IntegerAsn1::from_u64(alloc, microseconds as u64)?;

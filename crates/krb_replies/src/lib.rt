@@ -10,7 +10,7 @@ pub mod laws;
 mod names;
 mod told;
 
-pub use answer::{answer_as, answer_tgs};
+pub use answer::{as_reply, tgs_reply};
 pub use krb_as::krbtgt_of;
 pub use krb_kdc_requests::{Call, read_as_req, read_tgs_req};
 pub use krb_tgs::laws::body_is_part;

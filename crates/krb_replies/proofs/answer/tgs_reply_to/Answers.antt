@@ -2,10 +2,10 @@ use Rattle.std.proofs.Common.{None}
 use Rattle.krb_kdc_requests.specs.Call.{call_of}
 use Rattle.krb_tgs.specs.TgsTable.{tgs_table}
 use Rattle.krb_replies.proofs.Answered.{answers_with}
-use Rattle.krb_replies.proofs.answer.tgs_answer.Goals as goal
+use Rattle.krb_replies.proofs.answer.tgs_reply_to.Goals as goal
 
 pub returns : goal.returns
 returns c =
     let call = call_of c.args.call.now in
     let request = c.args.request.now in
-    answers_with call (λ code. None) request (tgs_table call request) c.answer.result c.in_ok-judged.judged c.in_ok-judged.ensures c.answer.ensures
+    answers_with call (λ code. None) request (tgs_table call request) c.judged_reply.result c.in_ok-judged.judged c.in_ok-judged.ensures c.judged_reply.ensures

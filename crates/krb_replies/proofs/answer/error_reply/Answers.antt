@@ -1,7 +1,7 @@
 use Rattle.std.proofs.Common.{◌%◌, ap, ◌∙◌}
 use Rattle.std.specs.Option.{option_map}
 use Rattle.krb_replies.specs.Errors.{error_bytes}
-use Rattle.krb_replies.proofs.answer.error_answer.Goals as goal
+use Rattle.krb_replies.proofs.answer.error_reply.Goals as goal
 
 pub returns-in-Some : goal.returns-in-Some
 returns-in-Some c = rw c.in-Some.is c.in_ok-reply.ensures

@@ -2,7 +2,7 @@ use Rattle.std.proofs.Common.{refl}
 use Rattle.std.specs.Option.{option_copied}
 use Rattle.krb_kdc_requests.specs.Call.{call_of}
 use Rattle.krb_replies.proofs.Answered.{error_with}
-use Rattle.krb_replies.proofs.answer.answer.Goals as goal
+use Rattle.krb_replies.proofs.answer.judged_reply.Goals as goal
 
 pub returns-in-Ok : goal.returns-in-Ok
 returns-in-Ok c = rw c.in-Ok.is refl

@@ -6,7 +6,7 @@ use Rattle.krb_kdc_requests.specs.Call.{call_of}
 use Rattle.krb_as.specs.Judged.{IsGranted}
 use Rattle.krb_kdc_requests.specs.Requests.{account_of, client_of, service_of}
 use Rattle.krb_replies.specs.Replies.{e_data_of}
-use Rattle.krb_replies.proofs.answer.judge.Goals as goal
+use Rattle.krb_replies.proofs.answer.as_judgement.Goals as goal
 
 pub returns-in-Ok : goal.returns-in-Ok
 returns-in-Ok g c =

@@ -3,7 +3,7 @@ use Rattle.krb_kdc_requests.specs.Call.{call_of}
 use Rattle.krb_kdc_requests.specs.Requests.{account_of, client_of, service_of}
 use Rattle.krb_replies.specs.Replies.{e_data_of}
 use Rattle.krb_replies.proofs.Answered.{answers_with}
-use Rattle.krb_replies.proofs.answer.as_answer.Goals as goal
+use Rattle.krb_replies.proofs.answer.as_reply_to.Goals as goal
 
 pub returns : goal.returns
 returns g c =
@@ -12,4 +12,4 @@ returns g c =
     let request = c.args.request.now in
     let client = account_of call.look (client_of request.req_body.0) in
     let service = account_of call.look (service_of request.req_body.0) in
-    answers_with call (e_data_of rows.offered client) request (as_table call rows client service request) c.answer.result c.in_ok-judged.judged c.in_ok-judged.ensures c.answer.ensures
+    answers_with call (e_data_of rows.offered client) request (as_table call rows client service request) c.judged_reply.result c.in_ok-judged.judged c.in_ok-judged.ensures c.judged_reply.ensures
