@@ -40,10 +40,10 @@ pub(crate) fn grant(
     requires { 128 ≤ length call.now.words.now }
     ensures { IfOk result (λ bytes. (granted (call_of call.now) (principals asked.entry) (reply_key_by asked.entry.client.now authenticated.now) span body.now).gives (Ok bytes.items)) }
 {
-    let ticket = first_ticket(alloc, call, asked, span, body)?;
+    let grant = first_ticket(alloc, call, asked, span, body)?;
     let under = reply_key_by(authenticated, asked.client);
-    let made = ticket_reply(alloc, &ticket, &under, asked.service, call.words);
-    drop(ticket);
+    let made = ticket_reply(alloc, &grant, &under, asked.service, call.words);
+    drop(grant);
     made
 }
 

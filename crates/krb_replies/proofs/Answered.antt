@@ -25,7 +25,7 @@ error_with call request told named bytes time service second e =
 module _ (call : CallRecord) (e_data : ℕ → Option (List ℕ)) (request : KdcReq) (table : Table (Result (List ℕ) ℕ)) where
   answer_of : (judged : Result (Vec ℕ Global) Told) (bytes : List ℕ) → IsJudgement table.gives e_data judged → IsAnswerWith call request judged bytes
       → (answered call e_data request table).gives (Some bytes)
-  answer_of (Ok ticket) bytes x e = (Ok ticket.items, x, ap Some e)
+  answer_of (Ok reply) bytes x e = (Ok reply.items, x, ap Some e)
   answer_of (Err told) bytes x e = (
     Err told.code,
     x.0,

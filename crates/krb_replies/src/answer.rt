@@ -85,7 +85,7 @@ fn judged_reply(
     ensures { IfOk result (λ bytes. IsAnswerWith (call_of call.now) request.now judged bytes.items) }
 {
     match judged {
-        Ok(ticket) => Ok(ticket),
+        Ok(reply) => Ok(reply),
         Err(told) => {
             let reply = error_reply(alloc, call, service_of(&request.req_body.0), told)?;
             Ok(reply)
@@ -93,7 +93,7 @@ fn judged_reply(
     }
 }
 
-// The ticket that an AS request is granted, or the code and e-data of the error that answers it.
+// The reply with the ticket that an AS request is granted, or the code and e-data of the error that answers it.
 fn as_judgement<P: Pkinit>(
     alloc: Global,
     call: &Call<'_>,
@@ -119,7 +119,7 @@ fn as_judgement<P: Pkinit>(
     }
 }
 
-// The ticket that a TGS request is granted, or the code and e-data of the error that answers it.
+// The reply with the ticket that a TGS request is granted, or the code and e-data of the error that answers it.
 fn tgs_judgement(
     alloc: Global,
     call: &Call<'_>,

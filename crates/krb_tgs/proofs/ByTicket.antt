@@ -32,28 +32,28 @@ passed false code rest a x = x
 abbrev read : List ℕ → Table (Result ApReqInner ℕ)
 read value = ask (IsApReq value) (sole_ap_req value) (done (Err 41)) (λ v. done (Ok v))
 
-pub by_padata : (padata : List PaData) (presented : ApReqInner) → (carried padata).gives (Ok presented) → (value : List ℕ) × (first_of 1 padata ≡ Some value) × IsApReq value presented
-by_padata padata presented x = of_padata (first_of 1 padata) refl x
+pub by_padata : (padata : List PaData) (ap_req : ApReqInner) → (carried padata).gives (Ok ap_req) → (value : List ℕ) × (first_of 1 padata ≡ Some value) × IsApReq value ap_req
+by_padata padata ap_req x = of_padata (first_of 1 padata) refl x
   where
-    of_padata : (found : Option (List ℕ)) → first_of 1 padata ≡ found → (need {A = List ℕ} {T = ApReqInner} {E = ℕ} found 16 read).gives (Ok presented)
-        → (value : List ℕ) × (first_of 1 padata ≡ Some value) × IsApReq value presented
+    of_padata : (found : Option (List ℕ)) → first_of 1 padata ≡ found → (need {A = List ℕ} {T = ApReqInner} {E = ℕ} found 16 read).gives (Ok ap_req)
+        → (value : List ℕ) × (first_of 1 padata ≡ Some value) × IsApReq value ap_req
     of_padata None e y = absurd (cc (y))
-    of_padata (Some value) e y = (value, e, asked_for (IsApReq value) (sole_ap_req value) 41 presented y)
+    of_padata (Some value) e y = (value, e, asked_for (IsApReq value) (sole_ap_req value) 41 ap_req y)
 
-pub by_ticket : (call : CallRecord) (granting : AccountRecord) (presented : ApReqInner) (part : EncTicketPartInner) → (ticket_granting call granting presented).gives (Ok part)
-    → IsTicketPart granting.suite granting.key presented.ticket.0.0.enc_part.0 part
-by_ticket call granting presented part (inl (_, fields, inl (own, opened, inl (_, counts, e)))) =
+pub by_ticket : (call : CallRecord) (granting : AccountRecord) (ap_req : ApReqInner) (part : EncTicketPartInner) → (ticket_granting call granting ap_req).gives (Ok part)
+    → IsTicketPart granting.suite granting.key ap_req.ticket.0.0.enc_part.0 part
+by_ticket call granting ap_req part (inl (_, fields, inl (own, opened, inl (_, counts, e)))) =
     let same : part ≡ own = cc (e) in
-    subst (λ p. IsTicketPart granting.suite granting.key presented.ticket.0.0.enc_part.0 p) (sym same)
-    (asked_for (IsTicketPart granting.suite granting.key presented.ticket.0.0.enc_part.0) (sole_ticket_part granting.suite granting.key presented.ticket.0.0.enc_part.0) 31 own opened)
-by_ticket call granting presented part (inl (_, fields, inl (own, opened, inr (code, counts, e)))) = absurd (cc (e))
-by_ticket call granting presented part (inl (_, fields, inr (code, opened, e))) = absurd (cc (e))
-by_ticket call granting presented part (inr (code, fields, e)) = absurd (cc (e))
+    subst (λ p. IsTicketPart granting.suite granting.key ap_req.ticket.0.0.enc_part.0 p) (sym same)
+    (asked_for (IsTicketPart granting.suite granting.key ap_req.ticket.0.0.enc_part.0) (sole_ticket_part granting.suite granting.key ap_req.ticket.0.0.enc_part.0) 31 own opened)
+by_ticket call granting ap_req part (inl (_, fields, inl (own, opened, inr (code, counts, e)))) = absurd (cc (e))
+by_ticket call granting ap_req part (inl (_, fields, inr (code, opened, e))) = absurd (cc (e))
+by_ticket call granting ap_req part (inr (code, fields, e)) = absurd (cc (e))
 
 -- the suite is that of the ticket's key, and the authenticator is sealed under it
-pub record IsOfKey (presented : ApReqInner) (part : EncTicketPartInner) (shown : Authenticated) : Type 0 where
+pub record IsOfKey (ap_req : ApReqInner) (part : EncTicketPartInner) (shown : Authenticated) : Type 0 where
   pub suite : suite_of part.key.0 ≡ Some shown.suite
-  pub opens : IsAuthenticator shown.suite part.key.0.key_value.0 7 presented.authenticator.0 shown.authenticator
+  pub opens : IsAuthenticator shown.suite part.key.0.key_value.0 7 ap_req.authenticator.0 shown.authenticator
 
 abbrev under : List ℕ → EncryptedData → CipherSuite → Table (Result (CipherSuite × AuthenticatorInner) ℕ)
 under key sealed suite = ask (IsAuthenticator suite key 7 sealed) (sole_authenticator suite key 7 sealed) (done (Err 31)) (λ authenticator. done (Ok (suite, authenticator)))
@@ -66,17 +66,17 @@ of_suite key sealed (Some suite) pair (inl (authenticator, opens, z)) =
     subst (λ (p : CipherSuite × AuthenticatorInner). (Some suite ≡ Some p.0) × IsAuthenticator p.0 key 7 sealed p.1) (sym same) (refl, opens)
 of_suite key sealed (Some suite) pair (inr (none, z)) = absurd (cc (z))
 
-of_shown : (presented : ApReqInner) (part : EncTicketPartInner) (own : Authenticated) → (authenticated 7 part presented.authenticator.0).gives (Ok own) → IsOfKey presented part own
-of_shown presented part own (inl (pair, opens, inl (time, tells, e))) =
+of_shown : (ap_req : ApReqInner) (part : EncTicketPartInner) (own : Authenticated) → (authenticated 7 part ap_req.authenticator.0).gives (Ok own) → IsOfKey ap_req part own
+of_shown ap_req part own (inl (pair, opens, inl (time, tells, e))) =
     let same : own ≡ record { suite = pair.0; authenticator = pair.1; time = time } = cc (e) in
-    let found = of_suite part.key.0.key_value.0 presented.authenticator.0 (suite_of part.key.0) pair opens in
-    subst (λ s. IsOfKey presented part s) (sym same) (record { suite = found.0; opens = found.1 })
-of_shown presented part own (inl (pair, opens, inr (code, tells, e))) = absurd (cc (e))
-of_shown presented part own (inr (code, opens, e)) = absurd (cc (e))
+    let found = of_suite part.key.0.key_value.0 ap_req.authenticator.0 (suite_of part.key.0) pair opens in
+    subst (λ s. IsOfKey ap_req part s) (sym same) (record { suite = found.0; opens = found.1 })
+of_shown ap_req part own (inl (pair, opens, inr (code, tells, e))) = absurd (cc (e))
+of_shown ap_req part own (inr (code, opens, e)) = absurd (cc (e))
 
-pub by_authenticator : (call : CallRecord) (part : EncTicketPartInner) (presented : ApReqInner) (shown : Authenticated) → (shown_near call part presented).gives (Ok shown) → IsOfKey presented part shown
-by_authenticator call part presented shown (inl (own, x, y)) =
+pub by_authenticator : (call : CallRecord) (part : EncTicketPartInner) (ap_req : ApReqInner) (shown : Authenticated) → (shown_near call part ap_req).gives (Ok shown) → IsOfKey ap_req part shown
+by_authenticator call part ap_req shown (inl (own, x, y)) =
     let near = passed (is_far (skew_of call) call.moment own.time) 37 (done (Ok own)) shown y in
     let same : shown ≡ own = cc (near) in
-    subst (λ s. IsOfKey presented part s) (sym same) (of_shown presented part own x)
-by_authenticator call part presented shown (inr (code, x, e)) = absurd (cc (e))
+    subst (λ s. IsOfKey ap_req part s) (sym same) (of_shown ap_req part own x)
+by_authenticator call part ap_req shown (inr (code, x, e)) = absurd (cc (e))

@@ -56,43 +56,43 @@ has_to_us realm request =
 has_carried : (padata : List PaData) → HasOutcome (carried padata)
 has_carried padata =
     let none : Table (Result ApReqInner ℕ) = done (Err 41) in
-    let end : ApReqInner → Table (Result ApReqInner ℕ) = λ presented. done (Ok presented) in
+    let end : ApReqInner → Table (Result ApReqInner ℕ) = λ ap_req. done (Ok ap_req) in
     let read : List ℕ → Table (Result ApReqInner ℕ) = λ value. ask (IsApReq value) (sole_ap_req value) none end in
     has_needed (first_of 1 padata) 16 read
-    (λ value e. has_asked (IsApReq value) (sole_ap_req value) none end (has_done (Err 41)) (λ presented x. has_done (Ok presented)))
+    (λ value e. has_asked (IsApReq value) (sole_ap_req value) none end (has_done (Err 41)) (λ ap_req x. has_done (Ok ap_req)))
 
 has_counting : (call : CallRecord) (part : EncTicketPartInner) → HasOutcome (counting call part)
 has_counting call part =
     has_refused {T = Unit {0}} (not (is_same_realm part.crealm.0 call.realm)) 68 (timely (skew_of call) call.moment part) (λ _. has_times (is_early (skew_of call) call.moment part) (is_late (skew_of call) call.moment part))
 
-has_ticket_granting : (call : CallRecord) (granting : AccountRecord) (presented : ApReqInner) → HasOutcome (ticket_granting call granting presented)
-has_ticket_granting call granting presented =
+has_ticket_granting : (call : CallRecord) (granting : AccountRecord) (ap_req : ApReqInner) → HasOutcome (ticket_granting call granting ap_req)
+has_ticket_granting call granting ap_req =
     let end : EncTicketPartInner → Table (Result EncTicketPartInner ℕ) = λ part. and_then {A = Unit {0}} (counting call part) (λ _. done (Ok part)) in
-    let opened : Table (Result EncTicketPartInner ℕ) = opened_part granting.suite granting.key presented.ticket.0.0.enc_part.0 in
-    has_then {A = Unit {0}} (ap_fields call.realm (krbtgt_of call.realm) granting.kvno presented) (λ _. and_then opened end)
-    (has_fields (not (is_version_5 presented)) (not (is_number 14 presented.msg_type.0)) (not (is_for call.realm (krbtgt_of call.realm) presented.ticket.0.0))
-    (not (kvno_fits granting.kvno presented.ticket.0.0.enc_part.0)))
+    let opened : Table (Result EncTicketPartInner ℕ) = opened_part granting.suite granting.key ap_req.ticket.0.0.enc_part.0 in
+    has_then {A = Unit {0}} (ap_fields call.realm (krbtgt_of call.realm) granting.kvno ap_req) (λ _. and_then opened end)
+    (has_fields (not (is_version_5 ap_req)) (not (is_number 14 ap_req.msg_type.0)) (not (is_for call.realm (krbtgt_of call.realm) ap_req.ticket.0.0))
+    (not (kvno_fits granting.kvno ap_req.ticket.0.0.enc_part.0)))
     (λ _ x.
-    has_then opened end (has_opened_part granting.suite granting.key presented.ticket.0.0.enc_part.0)
+    has_then opened end (has_opened_part granting.suite granting.key ap_req.ticket.0.0.enc_part.0)
     (λ part y. has_then {A = Unit {0}} (counting call part) (λ _. done (Ok part)) (has_counting call part) (λ _ z. has_done (Ok part))))
 
-has_shown : (call : CallRecord) (part : EncTicketPartInner) (presented : ApReqInner) → HasOutcome (shown_near call part presented)
-has_shown call part presented =
+has_shown : (call : CallRecord) (part : EncTicketPartInner) (ap_req : ApReqInner) → HasOutcome (shown_near call part ap_req)
+has_shown call part ap_req =
     let rest : Authenticated → Table (Result Authenticated ℕ) = λ shown. refuse (is_far (skew_of call) call.moment shown.time) 37 (done (Ok shown)) in
-    has_then (authenticated 7 part presented.authenticator.0) rest (has_authenticated 7 part presented.authenticator.0)
+    has_then (authenticated 7 part ap_req.authenticator.0) rest (has_authenticated 7 part ap_req.authenticator.0)
     (λ shown x. has_refused {T = Authenticated} (is_far (skew_of call) call.moment shown.time) 37 (done (Ok shown)) (λ _. has_done (Ok shown)))
 
 has_covered : (suite : CipherSuite) (key : List ℕ) (authenticator : AuthenticatorInner) (body : KdcReqBody) → HasOutcome (covered suite key authenticator body)
 has_covered suite key authenticator body =
-    let last : Checksum → Table (Result (Unit {0}) ℕ) = λ told. refuse (not (is_of_body (cipher_checksum suite) key body told)) 41 (done (Ok tt)) in
-    let second : Checksum → Table (Result (Unit {0}) ℕ) = λ told. refuse (not (is_number (checksum_number (cipher_checksum suite)) told.cksumtype.0)) 50 (last told) in
-    let first : Checksum → Table (Result (Unit {0}) ℕ) = λ told. refuse (not (is_known_checksum told.cksumtype.0)) 15 (second told) in
+    let last : Checksum → Table (Result (Unit {0}) ℕ) = λ checksum. refuse (not (is_of_body (cipher_checksum suite) key body checksum)) 41 (done (Ok tt)) in
+    let second : Checksum → Table (Result (Unit {0}) ℕ) = λ checksum. refuse (not (is_number (checksum_number (cipher_checksum suite)) checksum.cksumtype.0)) 50 (last checksum) in
+    let first : Checksum → Table (Result (Unit {0}) ℕ) = λ checksum. refuse (not (is_known_checksum checksum.cksumtype.0)) 15 (second checksum) in
     has_needed (checksum_in authenticator) 50 first
-    (λ told e.
-    has_refused {T = Unit {0}} (not (is_known_checksum told.cksumtype.0)) 15 (second told)
+    (λ checksum e.
+    has_refused {T = Unit {0}} (not (is_known_checksum checksum.cksumtype.0)) 15 (second checksum)
     (λ _.
-    has_refused {T = Unit {0}} (not (is_number (checksum_number (cipher_checksum suite)) told.cksumtype.0)) 50 (last told)
-    (λ _. has_refused {T = Unit {0}} (not (is_of_body (cipher_checksum suite) key body told)) 41 (done (Ok tt)) (λ _. has_done (Ok tt)))))
+    has_refused {T = Unit {0}} (not (is_number (checksum_number (cipher_checksum suite)) checksum.cksumtype.0)) 50 (last checksum)
+    (λ _. has_refused {T = Unit {0}} (not (is_of_body (cipher_checksum suite) key body checksum)) 41 (done (Ok tt)) (λ _. has_done (Ok tt)))))
 
 -- the reply's key is one of its suite
 record IsUsable (under : ReplyKeyRecord) : Type 0 where
@@ -105,22 +105,22 @@ module _ (call : CallRecord) (request : KdcReq) (is : IsCall call) (n : ℕ) (fe
   body = request.req_body.0
 
   -- the AP request that it carries is as short, and so is what is sealed there
-  carried_fits : (presented : ApReqInner) (part : EncTicketPartInner) → IsByTicket call request presented part → Fits n (ap_req_tree presented)
-  carried_fits presented part by = request_fits n by.value presented by.read (padata_short n 1 request by.value fits by.first)
+  carried_fits : (ap_req : ApReqInner) (part : EncTicketPartInner) → IsByTicket call request ap_req part → Fits n (ap_req_tree ap_req)
+  carried_fits ap_req part by = request_fits n by.value ap_req by.read (padata_short n 1 request by.value fits by.first)
 
-  subkey_bytes : (presented : ApReqInner) (part : EncTicketPartInner) (shown : Authenticated) (subkey : EncryptionKey) → IsByTicket call request presented part → IsOfKey presented part shown
+  subkey_bytes : (ap_req : ApReqInner) (part : EncTicketPartInner) (shown : Authenticated) (subkey : EncryptionKey) → IsByTicket call request ap_req part → IsOfKey ap_req part shown
       → subkey_in shown.authenticator ≡ Some subkey → IsBytes subkey.key_value.0
-  subkey_bytes presented part shown subkey by of_key e =
-      let opened = opened_fits {T = AuthenticatorInner} authenticator_tree shown.suite part.key.0.key_value.0 7 presented.authenticator.0 shown.authenticator n of_key.opens
-      (authenticator_short n presented (carried_fits presented part by)) in
+  subkey_bytes ap_req part shown subkey by of_key e =
+      let opened = opened_fits {T = AuthenticatorInner} authenticator_tree shown.suite part.key.0.key_value.0 7 ap_req.authenticator.0 shown.authenticator n of_key.opens
+      (authenticator_short n ap_req (carried_fits ap_req part by)) in
       (subkey_short n shown.authenticator subkey opened e).bytes
 
   -- what is granted can be written
-  further_written : (presented : ApReqInner) (part : EncTicketPartInner) (service : PrincipalName) (suite : CipherSuite) (span : Span) → IsByTicket call request presented part → service_of body ≡ Some service
+  further_written : (ap_req : ApReqInner) (part : EncTicketPartInner) (service : PrincipalName) (suite : CipherSuite) (span : Span) → IsByTicket call request ap_req part → service_of body ≡ Some service
       → IsWritten Tgs (further_ticket call part service suite body span)
-  further_written presented part service suite span by named =
-      let opened = opened_fits {T = EncTicketPartInner} enc_ticket_part_tree by.granting.suite by.granting.key 2 presented.ticket.0.0.enc_part.0 part n by.opens
-      (ticket_short n presented (carried_fits presented part by)) in
+  further_written ap_req part service suite span by named =
+      let opened = opened_fits {T = EncTicketPartInner} enc_ticket_part_tree by.granting.suite by.granting.key 2 ap_req.ticket.0.0.enc_part.0 part n by.opens
+      (ticket_short n ap_req (carried_fits ap_req part by)) in
       let asked = body_fits n request fits in
       is_written n (further_ticket call part service suite body span)
       (record {
@@ -132,22 +132,22 @@ module _ (call : CallRecord) (request : KdcReq) (is : IsCall call) (n : ℕ) (fe
         nonce = nonce_fits n body asked;
       }) Tgs
 
-  usable : (presented : ApReqInner) (part : EncTicketPartInner) (shown : Authenticated) → IsByTicket call request presented part → IsOfKey presented part shown
+  usable : (ap_req : ApReqInner) (part : EncTicketPartInner) (shown : Authenticated) → IsByTicket call request ap_req part → IsOfKey ap_req part shown
       → (subkey : Option EncryptionKey) → subkey_in shown.authenticator ≡ subkey → (under : ReplyKeyRecord) → reply_key shown.suite part.key.0.key_value.0 subkey ≡ Some under → IsUsable under
-  usable presented part shown by of_key None none under e =
+  usable ap_req part shown by of_key None none under e =
       let same : under ≡ tgs_reply_key shown.suite part.key.0.key_value.0 = cc (e) in
       subst IsUsable (sym same) (record { sized = suite_sized part.key.0 shown.suite of_key.suite; bytes = of_key.opens.opens.sealed.2.key_bytes; exchange = refl })
-  usable presented part shown by of_key (Some subkey) some under e = by_suite (suite_of subkey) refl e
+  usable ap_req part shown by of_key (Some subkey) some under e = by_suite (suite_of subkey) refl e
     where
       by_suite : (found : Option CipherSuite) → suite_of subkey ≡ found → option_map (λ suite. tgs_subkey_reply_key suite subkey.key_value.0) found ≡ Some under → IsUsable under
       by_suite None f e = absurd (cc (e))
       by_suite (Some suite) f e =
           let same : under ≡ tgs_subkey_reply_key suite subkey.key_value.0 = cc (e) in
-          subst IsUsable (sym same) (record { sized = suite_sized subkey suite f; bytes = subkey_bytes presented part shown subkey by of_key some; exchange = refl })
+          subst IsUsable (sym same) (record { sized = suite_sized subkey suite f; bytes = subkey_bytes ap_req part shown subkey by of_key some; exchange = refl })
 
-  has_further : (presented : ApReqInner) (part : EncTicketPartInner) (shown : Authenticated) (service_name : PrincipalName) (service : AccountRecord)
-      → IsByTicket call request presented part → IsOfKey presented part shown → service_of body ≡ Some service_name → IsKeyed service → HasOutcome (further call part shown service_name service body)
-  has_further presented part shown service_name service by of_key named keyed =
+  has_further : (ap_req : ApReqInner) (part : EncTicketPartInner) (shown : Authenticated) (service_name : PrincipalName) (service : AccountRecord)
+      → IsByTicket call request ap_req part → IsOfKey ap_req part shown → service_of body ≡ Some service_name → IsKeyed service → HasOutcome (further call part shown service_name service body)
+  has_further ap_req part shown service_name service by of_key named keyed =
       let old : Option ℕ = Some (seconds_of part.endtime.0.0) in
       let to_seal : Span → CipherSuite → ReplyKeyRecord → Table (Result (List ℕ) ℕ) = λ span suite under. replied (further_ticket call part service_name suite body span) under service call.words in
       let to_key : Span → CipherSuite → Table (Result (List ℕ) ℕ) = λ span suite. need (reply_key shown.suite part.key.0.key_value.0 (subkey_in shown.authenticator)) 31 (to_seal span suite) in
@@ -158,13 +158,13 @@ module _ (call : CallRecord) (request : KdcReq) (is : IsCall call) (n : ℕ) (fe
       (λ suite e.
       has_needed (reply_key shown.suite part.key.0.key_value.0 (subkey_in shown.authenticator)) 31 (to_seal span suite)
       (λ under f.
-      let ready = usable presented part shown by of_key (subkey_in shown.authenticator) refl under f in
-      let ready_to_write = further_written presented part service_name suite span by named in
+      let ready = usable ap_req part shown by of_key (subkey_in shown.authenticator) refl under f in
+      let ready_to_write = further_written ap_req part service_name suite span by named in
       has_replied (further_ticket call part service_name suite body span) under service call.words ready.sized ready.bytes keyed is.enough is.bytes
       (subst (λ exchange. IsWritten exchange (further_ticket call part service_name suite body span)) (sym ready.exchange) ready_to_write))))
 
-  has_granted : (presented : ApReqInner) (part : EncTicketPartInner) (shown : Authenticated) → IsByTicket call request presented part → IsOfKey presented part shown → HasOutcome (tgs_granted call part shown body)
-  has_granted presented part shown by of_key =
+  has_granted : (ap_req : ApReqInner) (part : EncTicketPartInner) (shown : Authenticated) → IsByTicket call request ap_req part → IsOfKey ap_req part shown → HasOutcome (tgs_granted call part shown body)
+  has_granted ap_req part shown by of_key =
       let by_service : PrincipalName → AccountRecord → Table (Result (List ℕ) ℕ) = λ service_name service. further call part shown service_name service body in
       let by_name : PrincipalName → Table (Result (List ℕ) ℕ) = λ service_name. need (call.look (components service_name)) 7 (by_service service_name) in
       has_refused {T = List ℕ} (not (has_account call part.cname.0)) 6 (need (service_of body) 7 by_name)
@@ -172,25 +172,25 @@ module _ (call : CallRecord) (request : KdcReq) (is : IsCall call) (n : ℕ) (fe
       has_needed (service_of body) 7 by_name
       (λ service_name b.
       has_needed (call.look (components service_name)) 7 (by_service service_name)
-      (λ service c. has_further presented part shown service_name service by of_key b (is.keyed (components service_name) service c))))
+      (λ service c. has_further ap_req part shown service_name service by of_key b (is.keyed (components service_name) service c))))
 
-  has_of_shown : (presented : ApReqInner) (part : EncTicketPartInner) (shown : Authenticated) → IsByTicket call request presented part → IsOfKey presented part shown → HasOutcome (of_shown call body part shown)
-  has_of_shown presented part shown by of_key =
+  has_of_shown : (ap_req : ApReqInner) (part : EncTicketPartInner) (shown : Authenticated) → IsByTicket call request ap_req part → IsOfKey ap_req part shown → HasOutcome (of_shown call body part shown)
+  has_of_shown ap_req part shown by of_key =
       has_then {A = Unit {0}} (covered shown.suite part.key.0.key_value.0 shown.authenticator body) (λ _. tgs_granted call part shown body)
-      (has_covered shown.suite part.key.0.key_value.0 shown.authenticator body) (λ _ x. has_granted presented part shown by of_key)
+      (has_covered shown.suite part.key.0.key_value.0 shown.authenticator body) (λ _ x. has_granted ap_req part shown by of_key)
 
-  has_of_ticket : (presented : ApReqInner) (part : EncTicketPartInner) → IsByTicket call request presented part → HasOutcome (of_ticket call body presented part)
-  has_of_ticket presented part by =
-      has_then (shown_near call part presented) (of_shown call body part) (has_shown call part presented)
-      (λ shown x. has_of_shown presented part shown by (by_authenticator call part presented shown x))
+  has_of_ticket : (ap_req : ApReqInner) (part : EncTicketPartInner) → IsByTicket call request ap_req part → HasOutcome (of_ticket call body ap_req part)
+  has_of_ticket ap_req part by =
+      has_then (shown_near call part ap_req) (of_shown call body part) (has_shown call part ap_req)
+      (λ shown x. has_of_shown ap_req part shown by (by_authenticator call part ap_req shown x))
 
-  pub has_of_carried : (value : List ℕ) (presented : ApReqInner) → first_of 1 (padata_in request) ≡ Some value → IsApReq value presented → HasOutcome (of_carried call body presented)
-  has_of_carried value presented first read =
-      let rest : AccountRecord → Table (Result (List ℕ) ℕ) = λ granting. and_then (ticket_granting call granting presented) (of_ticket call body presented) in
+  pub has_of_carried : (value : List ℕ) (ap_req : ApReqInner) → first_of 1 (padata_in request) ≡ Some value → IsApReq value ap_req → HasOutcome (of_carried call body ap_req)
+  has_of_carried value ap_req first read =
+      let rest : AccountRecord → Table (Result (List ℕ) ℕ) = λ granting. and_then (ticket_granting call granting ap_req) (of_ticket call body ap_req) in
       has_needed (call.look (krbtgt_of call.realm)) 7 rest
       (λ granting e.
-      has_then (ticket_granting call granting presented) (of_ticket call body presented) (has_ticket_granting call granting presented)
-      (λ part x. has_of_ticket presented part (record { value = value; first = first; read = read; granting = granting; account = e; opens = by_ticket call granting presented part x })))
+      has_then (ticket_granting call granting ap_req) (of_ticket call body ap_req) (has_ticket_granting call granting ap_req)
+      (λ part x. has_of_ticket ap_req part (record { value = value; first = first; read = read; granting = granting; account = e; opens = by_ticket call granting ap_req part x })))
 
 -- a request that is for the realm
 header_by : (realm : List ℕ) (request : KdcReq) → (to_us realm request).gives (Ok tt) → (header_rows 12 realm request).gives (Ok tt)
@@ -202,6 +202,6 @@ has_tgs_outcome call request is n few fits =
     has_then {A = Unit {0}} (to_us call.realm request) (λ _. and_then (carried (padata_in request)) (of_carried call request.req_body.0)) (has_to_us call.realm request)
     (λ _ x.
     has_then (carried (padata_in request)) (of_carried call request.req_body.0) (has_carried (padata_in request))
-    (λ presented y.
-    let found = by_padata (padata_in request) presented y in
-    has_of_carried call request is n few fits (own_realm_fits n 12 call.realm request (header_by call.realm request x) fits) found.0 presented found.1 found.2))
+    (λ ap_req y.
+    let found = by_padata (padata_in request) ap_req y in
+    has_of_carried call request is n few fits (own_realm_fits n 12 call.realm request (header_by call.realm request x) fits) found.0 ap_req found.1 found.2))

@@ -40,34 +40,34 @@ module _ (call : CallRecord) (other : Look) (request : KdcReq) (agree : (these :
   abbrev beside : CallRecord
   beside = record call { look = other }
 
-  same_granted : (presented : ApReqInner) (part : EncTicketPartInner) (shown : Authenticated) → IsByTicket call request presented part
+  same_granted : (ap_req : ApReqInner) (part : EncTicketPartInner) (shown : Authenticated) → IsByTicket call request ap_req part
       → (tgs_granted call part shown request.req_body.0).gives r → (tgs_granted beside part shown request.req_body.0).gives r
-  same_granted presented part shown by =
+  same_granted ap_req part shown by =
       let body = request.req_body.0 in
       let given : PrincipalName → AccountRecord → Table (Result (List ℕ) ℕ) = λ name service. further call part shown name service body in
       let by_name : Look → PrincipalName → Table (Result (List ℕ) ℕ) = λ look name. need (look (components name)) 7 (given name) in
       let to_service : Look → Table (Result (List ℕ) ℕ) = λ look. need (service_of body) 7 (by_name look) in
-      same_refuse (call.look (components part.cname.0)) (other (components part.cname.0)) (agree (components part.cname.0) (inr (inr (presented, part, by, refl)))) 6 (to_service call.look) (to_service other) r
+      same_refuse (call.look (components part.cname.0)) (other (components part.cname.0)) (agree (components part.cname.0) (inr (inr (ap_req, part, by, refl)))) 6 (to_service call.look) (to_service other) r
       (same_need (service_of body) (service_of body) refl 7 (by_name call.look) (by_name other) r
       (λ name b. same_need (call.look (components name)) (other (components name)) (agree (components name) (inr (inl (name, b, refl)))) 7 (given name) (given name) r (λ service c x. x)))
 
-  same_of_carried : (presented : ApReqInner) → (carried (padata_in request)).gives (Ok presented)
-      → (of_carried call request.req_body.0 presented).gives r → (of_carried beside request.req_body.0 presented).gives r
-  same_of_carried presented x =
-      let found = by_padata (padata_in request) presented x in
+  same_of_carried : (ap_req : ApReqInner) → (carried (padata_in request)).gives (Ok ap_req)
+      → (of_carried call request.req_body.0 ap_req).gives r → (of_carried beside request.req_body.0 ap_req).gives r
+  same_of_carried ap_req x =
+      let found = by_padata (padata_in request) ap_req x in
       let body = request.req_body.0 in
       same_need (call.look (krbtgt_of call.realm)) (other (krbtgt_of call.realm)) (agree (krbtgt_of call.realm) (inl refl)) 7
-      (λ granting. and_then (ticket_granting call granting presented) (of_ticket call body presented))
-      (λ granting. and_then (ticket_granting call granting presented) (of_ticket beside body presented)) r
+      (λ granting. and_then (ticket_granting call granting ap_req) (of_ticket call body ap_req))
+      (λ granting. and_then (ticket_granting call granting ap_req) (of_ticket beside body ap_req)) r
       (λ granting e.
-      same_then (ticket_granting call granting presented) (of_ticket call body presented) (of_ticket beside body presented) r
+      same_then (ticket_granting call granting ap_req) (of_ticket call body ap_req) (of_ticket beside body ap_req) r
       (λ part y.
-      same_then (shown_near call part presented) (of_shown call body part) (of_shown beside body part) r
+      same_then (shown_near call part ap_req) (of_shown call body part) (of_shown beside body part) r
       (λ shown z.
       same_then {A = Unit {0}} (covered shown.suite part.key.0.key_value.0 shown.authenticator body) (λ _. tgs_granted call part shown body) (λ _. tgs_granted beside part shown body) r
       (λ _ w.
-      same_granted presented part shown
-      (record { value = found.0; first = found.1; read = found.2; granting = granting; account = e; opens = by_ticket call granting presented part y })))))
+      same_granted ap_req part shown
+      (record { value = found.0; first = found.1; read = found.2; granting = granting; account = e; opens = by_ticket call granting ap_req part y })))))
 
   pub same_further : (tgs_table call request).gives r → (tgs_table beside request).gives r
   same_further =
@@ -75,4 +75,4 @@ module _ (call : CallRecord) (other : Look) (request : KdcReq) (agree : (these :
       (λ _. and_then (carried (padata_in request)) (of_carried beside request.req_body.0)) r
       (λ _ x.
       same_then (carried (padata_in request)) (of_carried call request.req_body.0) (of_carried beside request.req_body.0) r
-      (λ presented y. same_of_carried presented y))
+      (λ ap_req y. same_of_carried ap_req y))

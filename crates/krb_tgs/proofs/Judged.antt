@@ -19,18 +19,18 @@ use Rattle.krb_as.proofs.Parts.{part_passed, part_refused}
 use Rattle.krb_tgs.specs.TgsTable.{counting, of_carried, of_ticket, ticket_granting}
 
 -- the ticket that a request presents is judged, by equal keys
-module _ (call : CallRecord) (granting : AccountRecord) (presented : ApReqInner) (kvno : ℕ) (numbered : kvno ≡ granting.kvno) where
+module _ (call : CallRecord) (granting : AccountRecord) (ap_req : ApReqInner) (kvno : ℕ) (numbered : kvno ≡ granting.kvno) where
   abbrev fields : ℕ → Table (Result (Unit {0}) ℕ)
-  fields n = ap_fields call.realm (krbtgt_of call.realm) n presented
+  fields n = ap_fields call.realm (krbtgt_of call.realm) n ap_req
 
   abbrev opening : CipherSuite → List ℕ → Table (Result EncTicketPartInner ℕ)
-  opening suite key = opened_part suite key presented.ticket.0.0.enc_part.0
+  opening suite key = opened_part suite key ap_req.ticket.0.0.enc_part.0
 
   abbrev end : EncTicketPartInner → Table (Result EncTicketPartInner ℕ)
   end part = and_then {A = Unit {0}} (counting call part) (λ _. done (Ok part))
 
   abbrev pub judged : Result EncTicketPartInner Refusal → Type 0
-  judged r = IsJudged (ticket_granting call granting presented).gives r
+  judged r = IsJudged (ticket_granting call granting ap_req).gives r
 
   own : (r : Result (Unit {0}) Refusal) → IsJudged (fields kvno).gives r → IsJudged (fields granting.kvno).gives r
   own r x = subst (λ n. IsJudged (fields n).gives r) numbered x
@@ -65,13 +65,13 @@ module _ (call : CallRecord) (granting : AccountRecord) (presented : ApReqInner)
     judged_counting part y (Err e) z r p q = subst judged (sym (q e refl)) (uncounted part e y z)
 
 -- by the account of the ticket-granting service, or where it has none
-module _ (call : CallRecord) (body : KdcReqBody) (presented : ApReqInner) (found : Option AccountRecord) (account : found ≡ call.look (krbtgt_of call.realm)) where
+module _ (call : CallRecord) (body : KdcReqBody) (ap_req : ApReqInner) (found : Option AccountRecord) (account : found ≡ call.look (krbtgt_of call.realm)) where
   abbrev rest : AccountRecord → Table (Result (List ℕ) ℕ)
-  rest granting = and_then (ticket_granting call granting presented) (of_ticket call body presented)
+  rest granting = and_then (ticket_granting call granting ap_req) (of_ticket call body ap_req)
 
-  pub unknown : found ≡ None → (of_carried call body presented).gives (Err 7)
+  pub unknown : found ≡ None → (of_carried call body ap_req).gives (Err 7)
   unknown none = subst (λ o. (need {A = AccountRecord} o 7 rest).gives (Err 7)) account (subst (λ o. (need {A = AccountRecord} o 7 rest).gives (Err 7)) (sym none) refl)
 
-  pub known : (granting : AccountRecord) (r : Result (Vec ℕ Global) Refusal) → found ≡ Some granting → IsGranted (rest granting).gives r → IsGranted (of_carried call body presented).gives r
+  pub known : (granting : AccountRecord) (r : Result (Vec ℕ Global) Refusal) → found ≡ Some granting → IsGranted (rest granting).gives r → IsGranted (of_carried call body ap_req).gives r
   known granting r some x =
       subst (λ o. IsGranted (need {A = AccountRecord} o 7 rest).gives r) account (subst (λ o. IsGranted (need {A = AccountRecord} o 7 rest).gives r) (sym some) x)

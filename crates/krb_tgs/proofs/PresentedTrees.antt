@@ -25,22 +25,22 @@ cipher_short n encrypted x =
     content_of n 4 encrypted.cipher.0 (in_tag n 162 _ (head n _ _ from_cipher))
 
 -- the bytes of an AP request that are short, as its tree
-pub request_fits : (n : ℕ) (bytes : List ℕ) (presented : ApReqInner) → IsApReq bytes presented → IsShort n bytes → Fits n (ap_req_tree presented)
-request_fits n bytes presented is x = record { written = subst (IsShort n) is.1 x }
+pub request_fits : (n : ℕ) (bytes : List ℕ) (ap_req : ApReqInner) → IsApReq bytes ap_req → IsShort n bytes → Fits n (ap_req_tree ap_req)
+request_fits n bytes ap_req is x = record { written = subst (IsShort n) is.1 x }
 
-module _ (n : ℕ) (presented : ApReqInner) (x : Fits n (ap_req_tree presented)) where
+module _ (n : ℕ) (ap_req : ApReqInner) (x : Fits n (ap_req_tree ap_req)) where
   -- the ticket's ciphertext
-  pub ticket_short : IsShort n presented.ticket.0.0.enc_part.0.cipher.0
+  pub ticket_short : IsShort n ap_req.ticket.0.0.enc_part.0.cipher.0
   ticket_short =
       let from_ticket = tail n _ _ (tail n _ _ (tail n _ _ (inside n 48 _ (in_tag n 110 _ x)))) in
       let fields = inside n 48 _ (in_tag n 97 _ (in_tag n 163 _ (head n _ _ from_ticket))) in
-      cipher_short n presented.ticket.0.0.enc_part.0 (in_tag n 163 _ (head n _ _ (tail n _ _ (tail n _ _ (tail n _ _ fields)))))
+      cipher_short n ap_req.ticket.0.0.enc_part.0 (in_tag n 163 _ (head n _ _ (tail n _ _ (tail n _ _ (tail n _ _ fields)))))
 
   -- and the authenticator's
-  pub authenticator_short : IsShort n presented.authenticator.0.cipher.0
+  pub authenticator_short : IsShort n ap_req.authenticator.0.cipher.0
   authenticator_short =
       let from_ticket = tail n _ _ (tail n _ _ (tail n _ _ (inside n 48 _ (in_tag n 110 _ x)))) in
-      cipher_short n presented.authenticator.0 (in_tag n 164 _ (head n _ _ (tail n _ _ from_ticket)))
+      cipher_short n ap_req.authenticator.0 (in_tag n 164 _ (head n _ _ (tail n _ _ from_ticket)))
 
 -- the client's name in a ticket's part
 pub part_name_fits : (n : ℕ) (part : EncTicketPartInner) → Fits n (enc_ticket_part_tree part) → Fits n (principal_name_tree part.cname.0)

@@ -15,17 +15,17 @@ use Rattle.krb_kdc_requests.specs.Requests.{padata_in, service_of}
 use Rattle.krb_as.specs.TicketGranting.{krbtgt_of}
 
 -- the request carries a ticket that has this part, sealed under the key of the realm's ticket-granting service
-pub record IsByTicket (call : CallRecord) (request : KdcReq) (presented : ApReqInner) (part : EncTicketPartInner) : Type 0 where
+pub record IsByTicket (call : CallRecord) (request : KdcReq) (ap_req : ApReqInner) (part : EncTicketPartInner) : Type 0 where
   pub value : Bytes
   pub first : first_of 1 (padata_in request) ≡ Some value
-  pub read : IsApReq value presented
+  pub read : IsApReq value ap_req
   pub granting : AccountRecord
   pub account : call.look (krbtgt_of call.realm) ≡ Some granting
-  pub opens : IsTicketPart granting.suite granting.key presented.ticket.0.0.enc_part.0 part
+  pub opens : IsTicketPart granting.suite granting.key ap_req.ticket.0.0.enc_part.0 part
 
 -- the ticket-granting service, the service that the request names, and the client of the ticket that it comes with
 abbrev pub IsInvolvedFurther : CallRecord → KdcReq → List Bytes → Type 0
 IsInvolvedFurther call request these =
     (these ≡ krbtgt_of call.realm)
     ⊎ ((name : PrincipalName) × (service_of request.req_body.0 ≡ Some name) × (these ≡ components name))
-    ⊎ ((presented : ApReqInner) × (part : EncTicketPartInner) × IsByTicket call request presented part × (these ≡ components part.cname.0))
+    ⊎ ((ap_req : ApReqInner) × (part : EncTicketPartInner) × IsByTicket call request ap_req part × (these ≡ components part.cname.0))

@@ -54,8 +54,8 @@ to_us realm request =
 abbrev pub carried : List PaData → Table (Result ApReqInner Code)
 carried padata =
     need (first_of 1 padata) KDC_ERR_PADATA_TYPE_NOSUPP (λ value.
-    ask (IsApReq value) (sole_ap_req value) (done (Err KRB_AP_ERR_MODIFIED)) (λ presented.
-    done (Ok presented)))
+    ask (IsApReq value) (sole_ap_req value) (done (Err KRB_AP_ERR_MODIFIED)) (λ ap_req.
+    done (Ok ap_req)))
 
 -- the ticket is of a client of the realm, and counts at the moment
 abbrev pub counting : CallRecord → EncTicketPartInner → Table (Result (Unit {0}) Code)
@@ -65,16 +65,16 @@ counting call part =
 
 -- the part of a ticket for the realm's ticket-granting service
 abbrev pub ticket_granting : CallRecord → AccountRecord → ApReqInner → Table (Result EncTicketPartInner Code)
-ticket_granting call granting presented =
-    and_then (ap_fields call.realm (krbtgt_of call.realm) granting.kvno presented) (λ _.
-    and_then (opened_part granting.suite granting.key presented.ticket.0.0.enc_part.0) (λ part.
+ticket_granting call granting ap_req =
+    and_then (ap_fields call.realm (krbtgt_of call.realm) granting.kvno ap_req) (λ _.
+    and_then (opened_part granting.suite granting.key ap_req.ticket.0.0.enc_part.0) (λ part.
     and_then (counting call part) (λ _.
     done (Ok part))))
 
 -- the authenticator of the ticket's client, of a time near the moment
 abbrev pub shown_near : CallRecord → EncTicketPartInner → ApReqInner → Table (Result Authenticated Code)
-shown_near call part presented =
-    and_then (authenticated 7 part presented.authenticator.0) (λ shown.
+shown_near call part ap_req =
+    and_then (authenticated 7 part ap_req.authenticator.0) (λ shown.
     refuse (is_far (skew_of call) call.moment shown.time) KRB_AP_ERR_SKEW
     (done (Ok shown)))
 
@@ -87,15 +87,15 @@ is_known_checksum kind = list_any (λ suite. is_number (checksum_number suite) k
 
 -- the checksum is that of the body's encoding under the session's key (usage 6; RFC 4120, section 7.5.1)
 abbrev pub is_of_body : ChecksumSuite → Bytes → KdcReqBody → Checksum → Bool
-is_of_body kind key body told = pointwise nat_eq told.checksum.0 (checksum_of kind key 6 (body_bytes body))
+is_of_body kind key body checksum = pointwise nat_eq checksum.checksum.0 (checksum_of kind key 6 (body_bytes body))
 
 -- the authenticator covers the request's body
 abbrev pub covered : CipherSuite → Bytes → AuthenticatorInner → KdcReqBody → Table (Result (Unit {0}) Code)
 covered suite key authenticator body =
-    need (checksum_in authenticator) KRB_AP_ERR_INAPP_CKSUM (λ told.
-    refuse (not (is_known_checksum told.cksumtype.0)) KDC_ERR_SUMTYPE_NOSUPP
-    (refuse (not (is_number (checksum_number (cipher_checksum suite)) told.cksumtype.0)) KRB_AP_ERR_INAPP_CKSUM
-    (refuse (not (is_of_body (cipher_checksum suite) key body told)) KRB_AP_ERR_MODIFIED
+    need (checksum_in authenticator) KRB_AP_ERR_INAPP_CKSUM (λ checksum.
+    refuse (not (is_known_checksum checksum.cksumtype.0)) KDC_ERR_SUMTYPE_NOSUPP
+    (refuse (not (is_number (checksum_number (cipher_checksum suite)) checksum.cksumtype.0)) KRB_AP_ERR_INAPP_CKSUM
+    (refuse (not (is_of_body (cipher_checksum suite) key body checksum)) KRB_AP_ERR_MODIFIED
     (done (Ok tt)))))
 
 -- the suite of a number
@@ -170,16 +170,16 @@ of_shown call body part shown =
 
 -- with the ticket's part
 abbrev pub of_ticket : CallRecord → KdcReqBody → ApReqInner → EncTicketPartInner → Table (Result Bytes Code)
-of_ticket call body presented part =
-    and_then (shown_near call part presented)
+of_ticket call body ap_req part =
+    and_then (shown_near call part ap_req)
     (of_shown call body part)
 
 -- with the AP request; a realm has its ticket-granting service's account, and one without it knows no such service
 abbrev pub of_carried : CallRecord → KdcReqBody → ApReqInner → Table (Result Bytes Code)
-of_carried call body presented =
+of_carried call body ap_req =
     need (call.look (krbtgt_of call.realm)) KDC_ERR_S_PRINCIPAL_UNKNOWN (λ granting.
-    and_then (ticket_granting call granting presented)
-    (of_ticket call body presented))
+    and_then (ticket_granting call granting ap_req)
+    (of_ticket call body ap_req))
 
 -- the whole table
 abbrev pub tgs_table : CallRecord → KdcReq → Table (Result Bytes Code)

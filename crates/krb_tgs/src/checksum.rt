@@ -26,17 +26,17 @@ pub(crate) fn check_covered(
 ) -> Result<(), Refusal>
     ensures { IsJudged (covered key.now.suite key.now.bytes authenticator.now body.now).gives result }
 {
-    let Some(told) = checksum_in(authenticator) else {
+    let Some(checksum) = checksum_in(authenticator) else {
         return Err(Refusal::Krb(error_codes::KRB_AP_ERR_INAPP_CKSUM));
     };
-    if !is_known_checksum(&told.cksumtype.0) {
+    if !is_known_checksum(&checksum.cksumtype.0) {
         return Err(Refusal::Krb(error_codes::KDC_ERR_SUMTYPE_NOSUPP));
     }
     let kind = key.suite().checksum_type();
-    if !is_number(&told.cksumtype.0, u32::from(&kind)) {
+    if !is_number(&checksum.cksumtype.0, u32::from(&kind)) {
         return Err(Refusal::Krb(error_codes::KRB_AP_ERR_INAPP_CKSUM));
     }
-    if !is_of_body(alloc, key, body, told)? {
+    if !is_of_body(alloc, key, body, checksum)? {
         return Err(Refusal::Krb(error_codes::KRB_AP_ERR_MODIFIED));
     }
     Ok(())
@@ -65,13 +65,13 @@ fn is_of_body(
     alloc: Global,
     key: &Key,
     body: &KdcReqBody,
-    told: &Checksum,
+    checksum: &Checksum,
 ) -> Result<bool, AllocError>
-    ensures { IfOk result (λ is. is ≡ is_of_body (cipher_checksum key.now.suite) key.now.bytes body.now told.now) }
+    ensures { IfOk result (λ is. is ≡ is_of_body (cipher_checksum key.now.suite) key.now.bytes body.now checksum.now) }
 {
     let bytes = body_bytes(alloc, body)?;
     let sum = key.checksum(alloc, key_usages::TGS_REQ_CHECKSUM, &bytes)?;
-    Ok(told.checksum.0.as_bytes() == sum.as_slice())
+    Ok(checksum.checksum.0.as_bytes() == sum.as_slice())
 }
 
 // The body's one encoding.

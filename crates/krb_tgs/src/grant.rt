@@ -57,9 +57,9 @@ pub(crate) fn grant(
         return Err(Refusal::Krb(error_codes::KRB_AP_ERR_BAD_INTEGRITY));
     };
     let under = reply_key(shown.key, &subkey);
-    let ticket = further_ticket(alloc, call, part, service_name, suite, body, span)?;
-    let made = ticket_reply(alloc, &ticket, &under, service, call.words);
-    drop(ticket);
+    let grant = further_ticket(alloc, call, part, service_name, suite, body, span)?;
+    let made = ticket_reply(alloc, &grant, &under, service, call.words);
+    drop(grant);
     let reply = made?;
     Ok(reply)
 }

@@ -40,10 +40,10 @@ pub(crate) fn carried(alloc: Global, padata: &[PaData]) -> Result<ApReqInner, Re
     let Some(value) = first_of(padata, PA_TGS_REQ) else {
         return Err(Refusal::Krb(error_codes::KDC_ERR_PADATA_TYPE_NOSUPP));
     };
-    let Some(presented) = read_ap_req(alloc, value.as_bytes())? else {
+    let Some(ap_req) = read_ap_req(alloc, value.as_bytes())? else {
         return Err(Refusal::Krb(error_codes::KRB_AP_ERR_MODIFIED));
     };
-    Ok(presented)
+    Ok(ap_req)
 }
 
 /// Opens the ticket, and judges whether it is one for this realm's ticket-granting service, of a client of the realm, that
@@ -52,12 +52,12 @@ pub(crate) fn open_ticket_granting(
     alloc: Global,
     call: &Call<'_>,
     granting: &Account,
-    presented: &ApReqInner,
+    ap_req: &ApReqInner,
 ) -> Result<EncTicketPartInner, Refusal>
-    ensures { IsJudged (ticket_granting (call_of call.now) granting.now presented.now).gives result }
+    ensures { IsJudged (ticket_granting (call_of call.now) granting.now ap_req.now).gives result }
 {
-    check_name(alloc, call.realm, granting.kvno(), presented)?;
-    let sealed = &presented.ticket.0.0.enc_part.0;
+    check_name(alloc, call.realm, granting.kvno(), ap_req)?;
+    let sealed = &ap_req.ticket.0.0.enc_part.0;
     let part = open_ticket(alloc, granting.key(), sealed)?;
     let judged = check_counting(call, &part);
     if_passed(part, judged)
@@ -68,12 +68,12 @@ fn check_name(
     alloc: Global,
     realm: &GeneralStringAsn1,
     kvno: u32,
-    presented: &ApReqInner,
+    ap_req: &ApReqInner,
 ) -> Result<(), Refusal>
-    ensures { IsJudged (ap_fields realm.now (krbtgt_of realm.now) kvno presented.now).gives result }
+    ensures { IsJudged (ap_fields realm.now (krbtgt_of realm.now) kvno ap_req.now).gives result }
 {
     let name = krbtgt_of(alloc, realm)?;
-    check_fields(realm, &name, kvno, presented)
+    check_fields(realm, &name, kvno, ap_req)
 }
 
 // Judges whether the ticket is of a client of the realm, and counts at the moment.
@@ -91,15 +91,15 @@ pub(crate) fn open_shown(
     alloc: Global,
     call: &Call<'_>,
     part: &EncTicketPartInner,
-    presented: &ApReqInner,
+    ap_req: &ApReqInner,
 ) -> Result<Authenticated, Refusal>
-    ensures { IsJudged (shown_near (call_of call.now) part.now presented.now).gives result }
+    ensures { IsJudged (shown_near (call_of call.now) part.now ap_req.now).gives result }
 {
     let shown = check_authenticator(
         alloc,
         key_usages::TGS_REQ_AUTHENTICATOR,
         part,
-        &presented.authenticator.0,
+        &ap_req.authenticator.0,
     )?;
     if call.moment.is_far_from(shown.time, call.skew()) {
         drop(shown);

@@ -31,10 +31,10 @@ pub fn judge_tgs(alloc: Global, call: &Call<'_>, request: &KdcReq) -> Result<Vec
     ensures { IsGranted (tgs_table (call_of call.now) request.now).gives result }
 {
     check_request(call.realm, request)?;
-    let presented = carried(alloc, padata_in(request))?;
+    let ap_req = carried(alloc, padata_in(request))?;
     let body = &request.req_body.0;
-    let judged = judge_carried(alloc, call, body, &presented);
-    drop(presented);
+    let judged = judge_carried(alloc, call, body, &ap_req);
+    drop(ap_req);
     judged
 }
 
@@ -43,16 +43,16 @@ fn judge_carried(
     alloc: Global,
     call: &Call<'_>,
     body: &KdcReqBody,
-    presented: &ApReqInner,
+    ap_req: &ApReqInner,
 ) -> Result<Vec<u8>, Refusal>
     requires { 128 ≤ length call.now.words.now }
-    ensures { IsGranted (of_carried (call_of call.now) body.now presented.now).gives result }
+    ensures { IsGranted (of_carried (call_of call.now) body.now ap_req.now).gives result }
 {
     let Some(granting) = granting_account(alloc, call.realm, call.accounts)? else {
         return Err(Refusal::Krb(error_codes::KDC_ERR_S_PRINCIPAL_UNKNOWN));
     };
-    let part = open_ticket_granting(alloc, call, granting, presented)?;
-    let judged = judge_ticket(alloc, call, body, presented, &part);
+    let part = open_ticket_granting(alloc, call, granting, ap_req)?;
+    let judged = judge_ticket(alloc, call, body, ap_req, &part);
     drop(part);
     judged
 }
@@ -74,13 +74,13 @@ fn judge_ticket(
     alloc: Global,
     call: &Call<'_>,
     body: &KdcReqBody,
-    presented: &ApReqInner,
+    ap_req: &ApReqInner,
     part: &EncTicketPartInner,
 ) -> Result<Vec<u8>, Refusal>
     requires { 128 ≤ length call.now.words.now }
-    ensures { IsGranted (of_ticket (call_of call.now) body.now presented.now part.now).gives result }
+    ensures { IsGranted (of_ticket (call_of call.now) body.now ap_req.now part.now).gives result }
 {
-    let shown = open_shown(alloc, call, part, presented)?;
+    let shown = open_shown(alloc, call, part, ap_req)?;
     let judged = judge_shown(alloc, call, body, part, &shown);
     drop(shown);
     judged

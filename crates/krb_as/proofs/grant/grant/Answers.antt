@@ -9,6 +9,6 @@ use Rattle.krb_as.proofs.grant.grant.Goals as goal
 pub returns : goal.returns
 returns c =
     let asked = principals c.args.asked in
-    replied_by c.ticket_reply-made.result c.in_ok-ticket.ticket (first_ticket (call_of c.args.call.now) asked c.args.body.now c.args.span)
+    replied_by c.ticket_reply-made.result c.in_ok-grant.grant (first_ticket (call_of c.args.call.now) asked c.args.body.now c.args.span)
     (reply_key_of c.reply_key_by-under.result) (reply_key_by asked.client c.args.authenticated.now) asked.service c.args.call.now.words.now
-    c.in_ok-ticket.ensures c.reply_key_by-under.ensures c.ticket_reply-made.ensures
+    c.in_ok-grant.ensures c.reply_key_by-under.ensures c.ticket_reply-made.ensures

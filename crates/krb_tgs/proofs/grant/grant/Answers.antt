@@ -28,9 +28,9 @@ returns c =
     let part = c.args.shown.now.part.now in
     let session : KeyRecord = record { suite = shown.suite; bytes = part.key.0.key_value.0 } in
     given (call_of c.args.call.now) part shown c.args.service_name.now c.args.service.now c.args.body.now c.in_ok-span.span c.in_ok-span.ensures c.in-Some.suite
-    (reply_key_of c.reply_key-under.result) c.in_ok-ticket.ticket c.in_ok-reply.reply.items
+    (reply_key_of c.reply_key-under.result) c.in_ok-grant.grant c.in_ok-reply.reply.items
     (sym c.in-Some.is ∙ c.first_known.ensures ∙ ap (λ l. first_known l) c.as_slice.ensures)
     (sym
     (c.subkey_of.ensures session ∙ ap (λ o. option_map (under session) o) c.in-Some-subkey_of.is
     ∙ ap Some (sym (c.reply_key-under.ensures ∙ ap (λ k. under k c.in-Some-subkey_of.subkey) c.requires.key))))
-    c.in_ok-ticket.ensures c.in_ok-reply.ensures
+    c.in_ok-grant.ensures c.in_ok-reply.ensures

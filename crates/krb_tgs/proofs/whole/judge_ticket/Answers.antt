@@ -10,13 +10,13 @@ returns-in_err-shown c =
     let call = call_of c.args.call.now in
     let exit = err_from_is_err_and c.from_residual.result c.from_residual.ensures.1 in
     rw (exit.1, exit.2)
-    (grant_refused (shown_near call c.args.part.now c.args.presented.now) (of_shown call c.args.body.now c.args.part.now) c.in_err-shown.field-0.0 c.in_err-shown.ensures)
+    (grant_refused (shown_near call c.args.part.now c.args.ap_req.now) (of_shown call c.args.body.now c.args.part.now) c.in_err-shown.field-0.0 c.in_err-shown.ensures)
 
 pub returns : goal.returns
 returns c =
     let call = call_of c.args.call.now in
-    grant_passed (shown_near call c.args.part.now c.args.presented.now) (of_shown call c.args.body.now c.args.part.now) c.in_ok-shown.shown c.judge_shown-judged.result c.in_ok-shown.ensures c.judge_shown-judged.ensures
+    grant_passed (shown_near call c.args.part.now c.args.ap_req.now) (of_shown call c.args.body.now c.args.part.now) c.in_ok-shown.shown c.judge_shown-judged.result c.in_ok-shown.ensures c.judge_shown-judged.ensures
 
 pub judge_shown-judged-requires-clause-suite : goal.judge_shown-judged-requires-clause-suite
 judge_shown-judged-requires-clause-suite c =
-    (by_authenticator (call_of c.args.call.now) c.args.part.now c.args.presented.now c.in_ok-shown.shown c.in_ok-shown.ensures).suite
+    (by_authenticator (call_of c.args.call.now) c.args.part.now c.args.ap_req.now c.in_ok-shown.shown c.in_ok-shown.ensures).suite
