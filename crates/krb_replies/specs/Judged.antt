@@ -20,7 +20,7 @@ IsJudgement gives e_data (Err told) = gives (Err told.code) × (option_map (λ h
 
 -- the bytes are what was granted, or the error that tells this about the request's service, in the second of the moment
 abbrev pub IsAnswerWith : CallRecord → KdcReq → Result (Vec ℕ Global) Told → Bytes → Type 0
-IsAnswerWith call request (Ok ticket) bytes = bytes ≡ ticket.items
+IsAnswerWith call request (Ok reply) bytes = bytes ≡ reply.items
 IsAnswerWith call request (Err told) bytes =
     (time : GeneralizedTime) × IsSecondOf call.moment time
     × (bytes ≡ error_bytes call.realm time (call.moment % 1000000) (named_service call.realm (service_of request.req_body.0)) told.code (option_map (λ h. h.items) told.e_data))
