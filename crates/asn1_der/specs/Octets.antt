@@ -23,6 +23,24 @@ object_identifier_octet = 6
 abbrev pub utf8_string_octet : ℕ
 utf8_string_octet = 12
 
+abbrev pub printable_string_octet : ℕ
+printable_string_octet = 19
+
+abbrev pub ia5_string_octet : ℕ
+ia5_string_octet = 22
+
+abbrev pub utc_time_octet : ℕ
+utc_time_octet = 23
+
+abbrev pub generalized_time_octet : ℕ
+generalized_time_octet = 24
+
+abbrev pub general_string_octet : ℕ
+general_string_octet = 27
+
+abbrev pub bmp_string_octet : ℕ
+bmp_string_octet = 30
+
 abbrev pub sequence_octet : ℕ
 sequence_octet = 48
 

@@ -22,6 +22,24 @@ pub const OBJECT_IDENTIFIER: u8 = 6;
 /// UTF8String.
 pub const UTF8_STRING: u8 = 12;
 
+/// PrintableString.
+pub const PRINTABLE_STRING: u8 = 19;
+
+/// IA5String.
+pub const IA5_STRING: u8 = 22;
+
+/// UTCTime.
+pub const UTC_TIME: u8 = 23;
+
+/// GeneralizedTime.
+pub const GENERALIZED_TIME: u8 = 24;
+
+/// GeneralString.
+pub const GENERAL_STRING: u8 = 27;
+
+/// BMPString.
+pub const BMP_STRING: u8 = 30;
+
 /// SEQUENCE and SEQUENCE OF.
 pub const SEQUENCE: u8 = 48;
 

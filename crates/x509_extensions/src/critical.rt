@@ -1,6 +1,8 @@
 //! Whether an extension is critical (RFC 5280, section 4.2).
 ghost use Rattle.std.specs.Prelude.{◌≡◌, MatchResult, IsTrue, IfOk};
+ghost use Rattle.asn1_der.specs.Octets.{boolean_octet};
 
+use asn1_der::octets::BOOLEAN;
 use devices::{Sink, Source};
 use picky_asn1_der::{Asn1DerError, Deserializer, HasDefault, Serializer, Tagged};
 use std::alloc::{AllocError, Global};
@@ -13,9 +15,9 @@ pub struct Critical(pub bool);
 impl Tagged for Critical {
     type Row = bool;
 
-    const FIRST: u8 = 1;
+    const FIRST: u8 = BOOLEAN;
 
-    ghost FIRST = { 1 };
+    ghost FIRST = { boolean_octet };
 
     ghost row_tree = { ⟦<bool as Tagged>⟧.row_tree };
 

@@ -1,6 +1,8 @@
 //! Basic constraints (RFC 5280, section 4.2.1.9).
 ghost use Rattle.std.specs.Prelude.{◌≡◌, ℕ, List, MatchResult, IsTrue, IfOk};
+ghost use Rattle.asn1_der.specs.Octets.{boolean_octet, sequence_octet};
 
+use asn1_der::octets::{BOOLEAN, SEQUENCE};
 use devices::{Sink, Source};
 use picky_asn1_der::{
     Asn1DerError, DefaultField, Deserializer, Fields, HasDefault, Optional, Row2, Serializer,
@@ -16,9 +18,9 @@ pub struct CaFlag(pub bool);
 impl Tagged for CaFlag {
     type Row = bool;
 
-    const FIRST: u8 = 1;
+    const FIRST: u8 = BOOLEAN;
 
-    ghost FIRST = { 1 };
+    ghost FIRST = { boolean_octet };
 
     ghost row_tree = { ⟦<bool as Tagged>⟧.row_tree };
 
@@ -116,9 +118,9 @@ impl Tagged for BasicConstraints {
 
     type Row = BasicConstraintsRow;
 
-    const FIRST: u8 = 48;
+    const FIRST: u8 = SEQUENCE;
 
-    ghost FIRST = { 48 };
+    ghost FIRST = { sequence_octet };
 
     ghost row_tree = { sequence ⟦<BasicConstraintsRow as Fields>⟧.trees };
 
@@ -148,24 +150,24 @@ impl Spelled for BasicConstraints {
     ghost use Rattle.x509_spelling.specs.Spellings.{Holds};
     ghost use Rattle.x509_spelling.specs.RowLaws.{struct_laws};
 
-    ghost spells = { λ v. Holds 48 ⟦<BasicConstraintsRow as SpelledFields>⟧.spells (v.ca, (v.path_len, tt)) };
+    ghost spells = { λ v. Holds sequence_octet ⟦<BasicConstraintsRow as SpelledFields>⟧.spells (v.ca, (v.path_len, tt)) };
 
-    ghost written = { λ v. sequence ⟦<BasicConstraintsRow as SpelledFields>⟧.row_trees 48 (v.ca, (v.path_len, tt)) };
+    ghost written = { λ v. sequence ⟦<BasicConstraintsRow as SpelledFields>⟧.row_trees sequence_octet (v.ca, (v.path_len, tt)) };
 
-    ghost begun = { only 48 };
+    ghost begun = { only sequence_octet };
 
     ghost has_low_tags = { true };
 
-    ghost laws = { struct_laws 48 refl ⟦<BasicConstraintsRow as SpelledFields>⟧.row_firsts ⟦<BasicConstraintsRow as SpelledFields>⟧.row_trees
+    ghost laws = { struct_laws sequence_octet refl ⟦<BasicConstraintsRow as SpelledFields>⟧.row_firsts ⟦<BasicConstraintsRow as SpelledFields>⟧.row_trees
         ⟦<BasicConstraintsRow as SpelledFields>⟧.spells (⟦<BasicConstraintsRow as SpelledFields>⟧.row_laws (refl {a = true}))
         (λ v. (v.ca, (v.path_len, tt))) (λ v w e. ap (λ f. record { ca = f.0; path_len = f.1.0 }) e) };
 
     fn may_begin_with(first: u8) -> bool {
-        first == 48
+        first == SEQUENCE
     }
 
     fn read_counted(alloc: Global, bytes: &[u8]) -> Result<Counted<Self>, X509Fault> {
-        let read: Counted<BasicConstraintsRow> = read_fields(alloc, 48, bytes)?;
+        let read: Counted<BasicConstraintsRow> = read_fields(alloc, SEQUENCE, bytes)?;
         let count = read.count;
         let (ca, (path_len, ())) = read.into_value();
         let value = BasicConstraints { ca, path_len };
