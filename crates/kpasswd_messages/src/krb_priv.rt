@@ -1,5 +1,5 @@
 //! Private messages.
-use crate::constants::types::KRB_PRIV;
+use krb_constants::types::KRB_PRIV;
 use devices::{Sink, Source};
 use krb_types::data_types::EncryptedData;
 use picky_asn1::wrapper::IntegerAsn1;

@@ -9,7 +9,7 @@ use crate::{Client, TakeRefusal};
 use krb_asked::ApAsked;
 use krb_messages::messages::ApRepInner;
 use krb_moments::Moment;
-use krb_types::constants::types::AP_REP_MSG_TYPE;
+use krb_constants::types::AP_REP_MSG_TYPE;
 use krb_types::data_types::EncApRepPartInner;
 use picky_asn1::is_number;
 use std::alloc::Global;

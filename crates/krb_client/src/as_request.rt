@@ -11,7 +11,7 @@ use krb_accounts::{are_components, components_of};
 use krb_asked::AsAsked;
 use krb_messages::messages::{KdcReq, KdcReqBody};
 use krb_moments::Moment;
-use krb_types::constants::types::AS_REQ_MSG_TYPE;
+use krb_constants::types::AS_REQ_MSG_TYPE;
 use krb_types::data_types::PaData;
 use picky_asn1::date::GeneralizedTime;
 use picky_asn1::wrapper::GeneralStringAsn1;

@@ -11,9 +11,7 @@ use crate::{Client, Credential};
 use krb_encrypted_data::sealed_data;
 use krb_messages::messages::ApReqInner;
 use krb_moments::Moment;
-use krb_types::constants::types::{
-    AP_REQ_MSG_TYPE, AUTHENTICATOR_TYPE, KERBEROS_VERSION, NT_PRINCIPAL,
-};
+use krb_constants::types::{AP_REQ_MSG_TYPE, AUTHENTICATOR_TYPE, KERBEROS_VERSION, NT_PRINCIPAL};
 use krb_types::data_types::{
     ApOptions, AuthenticatorInner, Checksum, EncryptedData, EncryptionKey, PrincipalName, Ticket,
 };

@@ -8,7 +8,7 @@ use crate::{Client, Credential, TakeRefusal};
 use krb_asked::is_answer;
 use krb_encrypted_data::key_of;
 use krb_messages::messages::{EncKdcRepPart, KdcRep};
-use krb_types::constants::types::KERBEROS_VERSION;
+use krb_constants::types::KERBEROS_VERSION;
 use picky_asn1::is_number;
 use picky_asn1::wrapper::{GeneralStringAsn1, IntegerAsn1};
 

@@ -22,7 +22,7 @@ use krb_messages::messages::KdcReq;
 use krb_pkinit::Pkinit;
 use krb_tgs::judge_tgs;
 use krb_types::Refusal;
-use krb_types::constants::error_codes;
+use krb_constants::error_codes;
 use krb_types::data_types::PrincipalName;
 use std::alloc::{AllocError, Global};
 

@@ -5,7 +5,7 @@ ghost use Rattle.krb_replies.specs.Errors.{error_bytes};
 
 use crate::told::Told;
 use devices::Sink;
-use krb_types::constants::types::{KERBEROS_VERSION, KRB_ERROR_MSG_TYPE};
+use krb_constants::types::{KERBEROS_VERSION, KRB_ERROR_MSG_TYPE};
 use krb_types::data_types::{KerberosTime, Microseconds, PrincipalName, Realm};
 use picky_asn1::date::GeneralizedTime;
 use picky_asn1::wrapper::{GeneralStringAsn1, GeneralizedTimeAsn1, IntegerAsn1, OctetStringAsn1};

@@ -9,7 +9,7 @@ ghost use Rattle.krb_types.specs.Refusals.{IsJudged};
 use krb_crypto::{ChecksumSuite, Cipher, Key};
 use krb_messages::messages::KdcReqBody;
 use krb_types::Refusal;
-use krb_types::constants::{error_codes, key_usages};
+use krb_constants::{error_codes, key_usages};
 use krb_types::data_types::{AuthenticatorInner, Checksum};
 use picky_asn1::is_number;
 use picky_asn1::wrapper::IntegerAsn1;
@@ -70,7 +70,7 @@ fn is_of_body(
     ensures { IfOk result (λ is. is ≡ is_of_body (cipher_checksum key.now.suite) key.now.bytes body.now told.now) }
 {
     let bytes = body_bytes(alloc, body)?;
-    let sum = key.checksum(alloc, key_usages::TGS_REQ_CHECKSUM, &bytes)?;
+    let sum = key.checksum(alloc, key_usages::TGS_REQ_PA_DATA_AP_REQ_AUTHENTICATOR_CKSUM, &bytes)?;
     Ok(told.checksum.0.as_bytes() == sum.as_slice())
 }
 

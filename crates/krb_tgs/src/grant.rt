@@ -17,7 +17,7 @@ use krb_kdc_requests::{Call, Span, lasting, session_key};
 use krb_messages::messages::KdcReqBody;
 use krb_tickets::{Grant, ReplyKey, TicketFlags};
 use krb_types::Refusal;
-use krb_types::constants::error_codes;
+use krb_constants::error_codes;
 use krb_types::data_types::{AuthenticatorInner, EncTicketPartInner, EncryptionKey, PrincipalName};
 use picky_asn1::is_number;
 use picky_asn1::wrapper::IntegerAsn1;

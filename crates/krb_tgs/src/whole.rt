@@ -19,7 +19,7 @@ use krb_crypto::Key;
 use krb_kdc_requests::{Call, entries_of, service_of};
 use krb_messages::messages::{ApReqInner, KdcReq, KdcReqBody};
 use krb_types::Refusal;
-use krb_types::constants::error_codes;
+use krb_constants::error_codes;
 use krb_types::data_types::{EncTicketPartInner, PrincipalName};
 use picky_asn1::wrapper::GeneralStringAsn1;
 use std::alloc::{AllocError, Global};

@@ -8,8 +8,8 @@ use crate::parts::ticket_part;
 use crate::seal::sealed_data;
 use krb_accounts::Account;
 use krb_crypto::CipherSuite;
-use krb_types::constants::key_usages;
-use krb_types::constants::types::{ENC_TICKET_PART_TYPE, KERBEROS_VERSION};
+use krb_constants::key_usages;
+use krb_constants::types::{ENC_TICKET_PART_TYPE, KERBEROS_VERSION};
 use krb_types::data_types::{EncTicketPartInner, EncryptedData, PrincipalName, TicketInner};
 use picky_asn1::date::GeneralizedTime;
 use picky_asn1::wrapper::{GeneralStringAsn1, IntegerAsn1, OctetStringAsn1};
@@ -63,7 +63,7 @@ pub fn sealed_ticket(
 {
     let part = ticket_part(alloc, grant)?;
     let plain = ticket_part_bytes(alloc, part)?;
-    let sealed = sealed_data(alloc, service, key_usages::TICKET, &plain, confounder)?;
+    let sealed = sealed_data(alloc, service, key_usages::TICKET_REP, &plain, confounder)?;
     Ok(sealed)
 }
 

@@ -19,7 +19,7 @@ use krb_crypto::diffie_hellman::agreed_key;
 use krb_messages::messages::{KdcRep, KdcReqBody};
 use krb_moments::Moment;
 use krb_preauth::first_of;
-use krb_types::constants::types::PA_PK_AS_REQ;
+use krb_constants::padata_types::PA_PK_AS_REQ;
 use krb_types::data_types::PaData;
 use picky_asn1::wrapper::{IntegerAsn1, OctetStringAsn1};
 use picky_asn1_der::ExplicitContextTag;

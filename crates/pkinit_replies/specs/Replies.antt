@@ -8,7 +8,7 @@ use Rattle.picky_asn1.specs.Bytes.{Bytes}
 use Rattle.decision_tables.specs.Tables.{Table, ask, done, need}
 use Rattle.krb_types.specs.RandomBytes.{Random}
 use Rattle.krb_types.specs.Refusals.{Code}
-use Rattle.krb_types.specs.declared.constants.error_codes.TheConstants.{KRB_ERR_GENERIC}
+use Rattle.krb_constants.specs.declared.error_codes.TheConstants.{KRB_ERR_GENERIC}
 use Rattle.krb_types.specs.declared.refusal.Refusal.{Refusal}
 use Rattle.cms_signed_content.specs.KeyFunctions.{KeysRecord}
 use Rattle.pkinit_messages.specs.declared.kdc_dh_key_info.KdcDhKeyInfo.{KdcDhKeyInfo}

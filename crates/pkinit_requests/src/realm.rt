@@ -10,7 +10,7 @@ use crate::table::judge_request;
 use key_functions::KeyFunctions;
 use krb_pkinit::{Agreed, Pkinit, PkinitCall};
 use krb_types::Refusal;
-use krb_types::constants::error_codes;
+use krb_constants::error_codes;
 use pkinit_trust::{Anchor, ExpectedSigner};
 use std::alloc::Global;
 

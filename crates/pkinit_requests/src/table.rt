@@ -15,7 +15,7 @@ use key_functions::{KeyFunctions, Theirs};
 use krb_constants::error_codes::KDC_ERR_KEY_TOO_WEAK;
 use krb_pkinit::Agreed;
 use krb_types::Refusal;
-use krb_types::constants::error_codes;
+use krb_constants::error_codes;
 use picky_asn1_der::Asn1RawDer;
 use pkinit_messages::AuthPack;
 use pkinit_replies::pk_as_rep;

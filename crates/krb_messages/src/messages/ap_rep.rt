@@ -1,6 +1,6 @@
 //! Replies of a service.
 use devices::{Sink, Source};
-use krb_types::constants::types::AP_REP_MSG_TYPE;
+use krb_constants::types::AP_REP_MSG_TYPE;
 use krb_types::data_types::EncryptedData;
 use picky_asn1::wrapper::IntegerAsn1;
 use picky_asn1_der::{

@@ -1,6 +1,6 @@
 //! Requests to a service.
 use devices::{Sink, Source};
-use krb_types::constants::types::AP_REQ_MSG_TYPE;
+use krb_constants::types::AP_REQ_MSG_TYPE;
 use krb_types::data_types::{ApOptions, EncryptedData, Ticket};
 use picky_asn1::wrapper::IntegerAsn1;
 use picky_asn1_der::{

@@ -1,6 +1,6 @@
 //! The sealed part of a KDC's reply.
 use devices::{Sink, Source};
-use krb_types::constants::types::{ENC_AS_REP_PART_TYPE, ENC_TGS_REP_PART_TYPE};
+use krb_constants::types::{ENC_AS_REP_PART_TYPE, ENC_TGS_REP_PART_TYPE};
 use krb_types::data_types::{
     EncryptionKey, HostAddresses, KerberosFlags, KerberosTime, LastReq, PaData, PrincipalName,
     Realm,

@@ -1,6 +1,6 @@
 //! Replies of a KDC.
 use devices::{Sink, Source};
-use krb_types::constants::types::{AS_REP_MSG_TYPE, TGS_REP_MSG_TYPE};
+use krb_constants::types::{AS_REP_MSG_TYPE, TGS_REP_MSG_TYPE};
 use krb_types::data_types::{EncryptedData, PaData, PrincipalName, Realm, Ticket};
 use picky_asn1::wrapper::{Asn1SequenceOf, IntegerAsn1};
 use picky_asn1_der::{

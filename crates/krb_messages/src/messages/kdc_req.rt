@@ -1,7 +1,7 @@
 //! Requests to a KDC.
 use crate::messages::KdcReqBody;
 use devices::{Sink, Source};
-use krb_types::constants::types::{AS_REQ_MSG_TYPE, TGS_REQ_MSG_TYPE};
+use krb_constants::types::{AS_REQ_MSG_TYPE, TGS_REQ_MSG_TYPE};
 use krb_types::data_types::PaData;
 use picky_asn1::wrapper::{Asn1SequenceOf, IntegerAsn1};
 use picky_asn1_der::{

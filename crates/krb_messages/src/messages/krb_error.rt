@@ -1,6 +1,6 @@
 //! Errors.
 use devices::{Sink, Source};
-use krb_types::constants::types::KRB_ERROR_MSG_TYPE;
+use krb_constants::types::KRB_ERROR_MSG_TYPE;
 use krb_types::data_types::{KerberosStringAsn1, KerberosTime, Microseconds, PrincipalName, Realm};
 use picky_asn1::wrapper::{IntegerAsn1, OctetStringAsn1};
 use picky_asn1_der::{

@@ -1,5 +1,5 @@
 //! Authenticators.
-use crate::constants::types::AUTHENTICATOR_TYPE;
+use krb_constants::types::AUTHENTICATOR_TYPE;
 use crate::data_types::{
     AuthorizationData, Checksum, EncryptionKey, KerberosTime, Microseconds, PrincipalName, Realm,
 };

@@ -1,5 +1,5 @@
 //! The sealed part of a service's reply.
-use crate::constants::types::ENC_AP_REP_PART_TYPE;
+use krb_constants::types::ENC_AP_REP_PART_TYPE;
 use crate::data_types::{EncryptionKey, KerberosTime, Microseconds};
 use devices::{Sink, Source};
 use picky_asn1::wrapper::IntegerAsn1;

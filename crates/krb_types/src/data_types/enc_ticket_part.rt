@@ -1,5 +1,5 @@
 //! The sealed part of a ticket.
-use crate::constants::types::ENC_TICKET_PART_TYPE;
+use krb_constants::types::ENC_TICKET_PART_TYPE;
 use crate::data_types::{
     AuthorizationData, EncryptionKey, HostAddresses, KerberosFlags, KerberosTime, PrincipalName,
     Realm, TransitedEncoding,

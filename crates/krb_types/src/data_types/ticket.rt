@@ -1,5 +1,5 @@
 //! Tickets.
-use crate::constants::types::TICKET_TYPE;
+use krb_constants::types::TICKET_TYPE;
 use crate::data_types::{EncryptedData, PrincipalName, Realm};
 use devices::{Sink, Source};
 use picky_asn1::wrapper::IntegerAsn1;
