@@ -6,7 +6,6 @@ ghost use Rattle.x509_extensions.specs.declared.extension_value.ExtensionValue.T
 ghost use Rattle.asn1_der.specs.Octets.{sequence_octet};
 
 use crate::authority_key_identifier::AuthorityKeyIdentifier;
-use crate::critical::Critical;
 use crate::extension_value::{
     ExtensionKinds, ExtensionValue, IssuerAltName, SubjectAltName, SubjectKeyIdentifier, of_kinds,
 };
@@ -18,7 +17,7 @@ use picky_asn1_der::{Asn1DerError, DefaultField, Serialize, Serializer};
 use std::alloc::{AllocError, Global};
 use x509_open_types::{Kinds, read_identified};
 use x509_parts::BasicConstraints;
-use x509_spelling::{Counted, Spelled, SpelledItem, X509Fault};
+use x509_spelling::{Counted, Critical, DefaultFalse, Spelled, SpelledItem, X509Fault};
 use x509_usages::{ExtendedKeyUsage, KeyUsage};
 
 /// An extension: an identifier, and a value of the kind that it decides.
@@ -95,7 +94,7 @@ impl Extension {
     pub fn set_critical(&mut self, critical: bool)
         ensures { (self.new.critical.0.0 ≡ critical) × (self.new.extn_id ≡ self.old.extn_id) × (self.new.extn_value ≡ self.old.extn_value) }
     {
-        self.critical = DefaultField(Critical(critical));
+        self.critical = DefaultField(DefaultFalse(critical));
     }
 
     // The extension, critical or not.
@@ -109,7 +108,7 @@ impl Extension {
         } = self;
         Extension {
             extn_id,
-            critical: DefaultField(Critical(critical)),
+            critical: DefaultField(DefaultFalse(critical)),
             extn_value,
         }
     }
@@ -121,7 +120,7 @@ impl Extension {
         let oid = x509_oids::key_usage(alloc)?;
         Ok(Extension {
             extn_id: ObjectIdentifierAsn1(oid),
-            critical: DefaultField(Critical(false)),
+            critical: DefaultField(DefaultFalse(false)),
             extn_value: ExtensionValue::KeyUsage(OctetStringAsn1Container(usage)),
         })
     }
@@ -136,7 +135,7 @@ impl Extension {
         let oid = x509_oids::subject_key_identifier(alloc)?;
         Ok(Extension {
             extn_id: ObjectIdentifierAsn1(oid),
-            critical: DefaultField(Critical(false)),
+            critical: DefaultField(DefaultFalse(false)),
             extn_value: ExtensionValue::SubjectKeyIdentifier(OctetStringAsn1Container(key)),
         })
     }
@@ -151,7 +150,7 @@ impl Extension {
         let oid = x509_oids::basic_constraints(alloc)?;
         Ok(Extension {
             extn_id: ObjectIdentifierAsn1(oid),
-            critical: DefaultField(Critical(false)),
+            critical: DefaultField(DefaultFalse(false)),
             extn_value: ExtensionValue::BasicConstraints(OctetStringAsn1Container(constraints)),
         })
     }
@@ -166,7 +165,7 @@ impl Extension {
         let oid = x509_oids::extended_key_usage(alloc)?;
         Ok(Extension {
             extn_id: ObjectIdentifierAsn1(oid),
-            critical: DefaultField(Critical(false)),
+            critical: DefaultField(DefaultFalse(false)),
             extn_value: ExtensionValue::ExtendedKeyUsage(OctetStringAsn1Container(purposes)),
         })
     }
@@ -181,7 +180,7 @@ impl Extension {
         let oid = x509_oids::subject_alternative_name(alloc)?;
         Ok(Extension {
             extn_id: ObjectIdentifierAsn1(oid),
-            critical: DefaultField(Critical(false)),
+            critical: DefaultField(DefaultFalse(false)),
             extn_value: ExtensionValue::SubjectAltName(OctetStringAsn1Container(names)),
         })
     }
@@ -193,7 +192,7 @@ impl Extension {
         let oid = x509_oids::issuer_alternative_name(alloc)?;
         Ok(Extension {
             extn_id: ObjectIdentifierAsn1(oid),
-            critical: DefaultField(Critical(false)),
+            critical: DefaultField(DefaultFalse(false)),
             extn_value: ExtensionValue::IssuerAltName(OctetStringAsn1Container(names)),
         })
     }
@@ -205,7 +204,7 @@ impl Extension {
         let oid = x509_oids::crl_number(alloc)?;
         Ok(Extension {
             extn_id: ObjectIdentifierAsn1(oid),
-            critical: DefaultField(Critical(false)),
+            critical: DefaultField(DefaultFalse(false)),
             extn_value: ExtensionValue::CrlNumber(OctetStringAsn1Container(number)),
         })
     }
@@ -220,7 +219,7 @@ impl Extension {
         let oid = x509_oids::authority_key_identifier(alloc)?;
         Ok(Extension {
             extn_id: ObjectIdentifierAsn1(oid),
-            critical: DefaultField(Critical(false)),
+            critical: DefaultField(DefaultFalse(false)),
             extn_value: ExtensionValue::AuthorityKeyIdentifier(OctetStringAsn1Container(key)),
         })
     }
