@@ -25,7 +25,7 @@ cat >"$work/krb5.conf" <<CONF
     }
 CONF
 
-# A keytab of one entry: krbtgt/R@R, AES-256, key number 1.
+# A keytab of one entry: krbtgt/R@R, AES-256, kvno 1.
 {
     printf '\5\2\0\0\0\101\0\2\0\1R\0\6krbtgt\0\1R\0\0\0\1\0\0\0\0\1\0\22\0\40'
     head -c 32 /dev/zero

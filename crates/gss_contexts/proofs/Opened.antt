@@ -6,7 +6,7 @@ use Rattle.std.proofs.lemmas.Slice.Eq.{bytes_eq-Decides}
 use Rattle.byte_layouts.specs.Numbers.{be16_at}
 use Rattle.aes_cts.specs.declared.error.KerberosCryptoError.{KerberosCryptoError}
 use Rattle.aes_cts.specs.declared.error.KerberosCryptoError.TheVariants as crypto
-use Rattle.krb_crypto.specs.Sealing.{IsSealedBy, cipher_filled}
+use Rattle.krb_crypto.specs.Sealing.{IsSealedBy, cipher_padded}
 use Rattle.krb_crypto.specs.declared.suite.CipherSuite.{CipherSuite}
 use Rattle.krb_crypto.specs.declared.suite.CipherSuite.TheVariants.{Aes128CtsHmacSha196, Aes256CtsHmacSha196, Des3CbcSha1Kd, Aes128CtsHmacSha256128, Aes256CtsHmacSha384192}
 use Rattle.gss_contexts.specs.Contexts.{is_newer}
@@ -21,18 +21,18 @@ use Rattle.gss_contexts.proofs.Ends.{same_back, same_front}
 use Rattle.gss_contexts.proofs.Rotated.{one_text}
 
 -- the newer suites don't pad
-filled_same : (suite : CipherSuite) → is_newer suite ≡ true → (text : List ℕ) → cipher_filled suite text ≡ text
-filled_same Aes128CtsHmacSha196 newer text = refl
-filled_same Aes256CtsHmacSha196 newer text = refl
-filled_same Des3CbcSha1Kd newer text = absurd (false≢true newer)
-filled_same Aes128CtsHmacSha256128 newer text = refl
-filled_same Aes256CtsHmacSha384192 newer text = refl
+padded_same : (suite : CipherSuite) → is_newer suite ≡ true → (text : List ℕ) → cipher_padded suite text ≡ text
+padded_same Aes128CtsHmacSha196 newer text = refl
+padded_same Aes256CtsHmacSha196 newer text = refl
+padded_same Des3CbcSha1Kd newer text = absurd (false≢true newer)
+padded_same Aes128CtsHmacSha256128 newer text = refl
+padded_same Aes256CtsHmacSha384192 newer text = refl
 
 module _ (s : Sender) (newer : is_newer s.key.suite ≡ true) (token text : List ℕ) where
   -- this text is sealed, and no other
   abbrev Opens : ℕ → List ℕ → Type 0
   Opens usage plain = (d : List ℕ) × IsSealedBy s.key.suite s.key.bytes usage d plain text
-      × ((c q : List ℕ) → IsSealedBy s.key.suite s.key.bytes usage c q text → (c ≡ d) × (cipher_filled s.key.suite q ≡ plain))
+      × ((c q : List ℕ) → IsSealedBy s.key.suite s.key.bytes usage c q text → (c ≡ d) × (cipher_padded s.key.suite q ≡ plain))
 
   -- a message stands before filler and header
   abbrev Ends : List ℕ → List ℕ → Type 0
@@ -42,7 +42,7 @@ module _ (s : Sender) (newer : is_newer s.key.suite ≡ true) (token text : List
   all_of plain opened d m x = (
     x.filler,
     x.counted,
-    sym ((opened.2 d (m ++ (x.filler ++ header_without_rrc token)) x.sealed).1) ∙ filled_same s.key.suite newer (m ++ (x.filler ++ header_without_rrc token)),
+    sym ((opened.2 d (m ++ (x.filler ++ header_without_rrc token)) x.sealed).1) ∙ padded_same s.key.suite newer (m ++ (x.filler ++ header_without_rrc token)),
   )
 
   pub sealed_is : (usage : ℕ) (plain m : List ℕ) → usage ≡ seal_usage s.side → Opens usage plain → Ends plain m

@@ -3,9 +3,9 @@ use Rattle.std.specs.Prelude.{ℕ, Option}
 use Rattle.picky_asn1.specs.Bytes.{Bytes}
 use Rattle.krb_crypto.specs.declared.suite.CipherSuite.{CipherSuite}
 
--- the suite, the key's octets, its number, which counts from 1, and the salt of a password's key
+-- the suite, the key's octets, its kvno, which counts from 1, and the salt of a password's key
 pub record AccountRecord : Type 0 where
   pub suite : CipherSuite
   pub key : Bytes
-  pub number : ℕ
+  pub kvno : ℕ
   pub salt : Option Bytes

@@ -34,11 +34,11 @@ inserting accounts name = if contains_key accounts name then Err Exists else Ok 
 abbrev pub removing : AccountMap → List Bytes → Result (Unit {0}) RealmRefusal
 removing accounts name = if contains_key accounts name then Ok tt else Err Unknown
 
--- the account with its next key, which has the number that follows and no salt; numbers are below 2^32
+-- the account with its next key, which has the next kvno and no salt; a kvno is below 2^32
 abbrev pub with_key : CipherSuite → Bytes → AccountRecord → Result AccountRecord RealmRefusal
 with_key suite key account =
-    if account.number == 4294967295 then Err NumberSpent
-    else Ok (record { suite = suite; key = key; number = account.number + 1; salt = None })
+    if account.kvno == 4294967295 then Err NumberSpent
+    else Ok (record { suite = suite; key = key; kvno = account.kvno + 1; salt = None })
 
 -- what a name's account becomes by a key, in the order of refusals
 abbrev pub rekeyed : CipherSuite → Bytes → Option AccountRecord → Result AccountRecord RealmRefusal

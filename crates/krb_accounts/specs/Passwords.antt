@@ -15,6 +15,6 @@ abbrev pub password_account : CipherSuite → Bytes → Bytes → AccountRecord
 password_account suite password salt = record {
   suite = suite;
   key = password_key_of suite password salt;
-  number = 1;
+  kvno = 1;
   salt = Some salt;
 }

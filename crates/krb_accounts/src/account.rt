@@ -11,12 +11,12 @@ use picky_asn1::wrapper::OctetStringAsn1;
 use std::alloc::Global;
 use std::marker::Model;
 
-/// What a realm knows of a principal: a key, its number, which counts from 1, and the salt with which the key was made of a
+/// What a realm knows of a principal: a key, its kvno, which counts from 1, and the salt with which the key was made of a
 /// password, if it was. A contract sees these, of the key its suite and its octets.
 #[derive(Drop)]
 pub struct Account {
     key: Key,
-    number: u32,
+    kvno: u32,
     salt: Option<OctetStringAsn1>,
 }
 
@@ -26,25 +26,25 @@ impl Model for Account {
 
     ghost Value = { AccountRecord };
 
-    ghost view = { λ a. record { suite = a.key.suite; key = a.key.bytes; number = a.number; salt = a.salt } };
+    ghost view = { λ a. record { suite = a.key.suite; key = a.key.bytes; kvno = a.kvno; salt = a.salt } };
 
-    ghost invariant = { λ a. 1 ≤ a.number };
+    ghost invariant = { λ a. 1 ≤ a.kvno };
 }
 
 impl Account {
     ghost use Rattle.krb_accounts.specs.Accounts.{with_key};
 
     /// An account with this key.
-    pub fn new(key: Key, number: u32, salt: Option<OctetStringAsn1>) -> Account
-        requires { 1 ≤ number }
-        ensures { result ≡ record { suite = key.suite; key = key.bytes; number = number; salt = salt } }
+    pub fn new(key: Key, kvno: u32, salt: Option<OctetStringAsn1>) -> Account
+        requires { 1 ≤ kvno }
+        ensures { result ≡ record { suite = key.suite; key = key.bytes; kvno = kvno; salt = salt } }
     {
-        Account { key, number, salt }
+        Account { key, kvno, salt }
     }
 
     /// An account with this first key and no salt. A key that isn't of the suite's length is refused.
     pub fn by_key(suite: CipherSuite, key: &[u8]) -> Result<Account, RealmRefusal>
-        ensures ok { IfOk result (λ a. a ≡ record { suite = suite; key = key.now; number = 1; salt = None }) }
+        ensures ok { IfOk result (λ a. a ≡ record { suite = suite; key = key.now; kvno = 1; salt = None }) }
         ensures key_size { IfOk result (λ _. length key.now ≡ cipher_key_size suite) }
         ensures bad_length { (result ≡ Err RealmRefusal.BadKeyLength) ↔ (length key.now ≢ cipher_key_size suite) }
         ensures refusal { IfErr result (λ e. e ≡ RealmRefusal.BadKeyLength) }
@@ -68,14 +68,14 @@ impl Account {
         Ok(Account::new(key, 1, Some(salt)))
     }
 
-    /// The account with its next key, with the number that follows and no salt. Where no number follows it is refused.
+    /// The account with its next key, with the next kvno and no salt. Where there is no next kvno it is refused.
     pub(crate) fn with_key(&self, key: Key) -> Result<Account, RealmRefusal>
         ensures { result ≡ with_key key.suite key.bytes self.now }
     {
-        if self.number == u32::MAX {
+        if self.kvno == u32::MAX {
             return Err(RealmRefusal::NumberSpent);
         }
-        Ok(Account::new(key, self.number + 1, None))
+        Ok(Account::new(key, self.kvno + 1, None))
     }
 
     /// The suite of the key.
@@ -93,11 +93,11 @@ impl Account {
     }
 
     /// The key's kvno (RFC 4120, section 5.2.9).
-    pub fn number(&self) -> u32
-        ensures value { result ≡ self.now.number }
+    pub fn kvno(&self) -> u32
+        ensures value { result ≡ self.now.kvno }
         ensures from_one { 1 ≤ result }
     {
-        self.number
+        self.kvno
     }
 
     /// The salt with which the key was made of a password (RFC 3961, section 3).

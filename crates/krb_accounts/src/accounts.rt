@@ -180,10 +180,10 @@ impl Accounts {
         Ok(())
     }
 
-    /// Gives a name's account its next key, with the number that follows and no salt. It takes no memory.
+    /// Gives a name's account its next key, with the next kvno and no salt. It takes no memory.
     ///
     /// It is refused, in this order: `BadKeyLength`; `Unknown` for a name that has no account; and `NumberSpent` where the
-    /// account's number is the greatest.
+    /// account's kvno is the greatest.
     pub fn change_key(
         &mut self,
         name: &[Vec<u8>],

@@ -21,7 +21,7 @@ use Rattle.decision_tables.specs.Tables.{Table, and_then, done, need, refuse}
 use Rattle.krb_encrypted_data.specs.Sealed.{IsSealedIn}
 use Rattle.krb_moments.specs.Times.{moment_at}
 use Rattle.krb_ap_requests.specs.Acceptable.{IsAcceptable, shown_by}
-use Rattle.krb_ap_requests.specs.ApTable.{for_service, ap_fields, is_early, is_late, is_of_client, may_be_under, opened, presented, told, valid_authenticator, valid_part}
+use Rattle.krb_ap_requests.specs.ApTable.{for_service, ap_fields, is_early, is_late, is_of_client, kvno_fits, opened, presented, told, valid_authenticator, valid_part}
 use Rattle.krb_ap_requests.specs.Entry.{EntryRecord}
 use Rattle.krb_messages.specs.Messages.{authenticator_tree, enc_ticket_part_tree}
 use Rattle.krb_ap_requests.specs.Messages.{IsAuthenticator}
@@ -32,9 +32,9 @@ use Rattle.krb_ap_requests.proofs.Shown.{asked}
 use Rattle.krb_ap_requests.proofs.Suites.{suite_by_number}
 
 -- a kvno by its tagged form, and the other way
-under_number : (number : ℕ) (etype : ℤ) (kvno : Option ℤ) (cipher : List ℕ) → may_be_under number (encrypted etype kvno cipher) ≡ option_map_or (is_number number) kvno true
-under_number number etype None cipher = refl
-under_number number etype (Some told) cipher = refl
+kvno_under : (number : ℕ) (etype : ℤ) (kvno : Option ℤ) (cipher : List ℕ) → kvno_fits number (encrypted etype kvno cipher) ≡ option_map_or (is_number number) kvno true
+kvno_under number etype None cipher = refl
+kvno_under number etype (Some told) cipher = refl
 
 number_under : (number : ℕ) (kvno : Option (ExplicitContextTag 1 ℤ))
     → option_map_or (is_number number) (option_map (λ (tagged : ExplicitContextTag 1 ℤ). tagged.0) kvno) true ≡ option_map_or (λ (tagged : ExplicitContextTag 1 ℤ). is_number number tagged.0) kvno true
@@ -42,25 +42,25 @@ number_under number None = refl
 number_under number (Some tagged) = refl
 
 -- the rows that a request of this service passes
-field_rows : (version ticket kind realm name number : Bool)
-    → version ≡ true → ticket ≡ true → kind ≡ true → realm ≡ true → name ≡ true → number ≡ true
-    → (refuse {T = Unit {0}} {E = ℕ} (not (version && ticket)) 39 (refuse (not kind) 40 (refuse (not (realm && name)) 35 (refuse (not number) 44 (done (Ok tt)))))).gives (Ok tt)
-field_rows version ticket kind realm name number v t k r n u = rw (v, t, k, r, n, u) refl
+field_rows : (version ticket kind realm name kvno : Bool)
+    → version ≡ true → ticket ≡ true → kind ≡ true → realm ≡ true → name ≡ true → kvno ≡ true
+    → (refuse {T = Unit {0}} {E = ℕ} (not (version && ticket)) 39 (refuse (not kind) 40 (refuse (not (realm && name)) 35 (refuse (not kvno) 44 (done (Ok tt)))))).gives (Ok tt)
+field_rows version ticket kind realm name kvno v t k r n u = rw (v, t, k, r, n, u) refl
 
 address_rows : (method etype : Bool) (fields : Table (Result (Unit {0}) ℕ)) → method ≡ false → etype ≡ true → fields.gives (Ok tt)
     → (refuse {T = Unit {0}} {E = ℕ} method 48 (and_then {A = Unit {0}} fields (λ _. refuse (not etype) 45 (done (Ok tt))))).gives (Ok tt)
 address_rows method etype fields m e x = rw (m, e) (inl (tt, x, refl))
 
 is_addressed : (entry : EntryRecord) (skew moment : ℕ) (choice : Choice) (part_cipher cipher : List ℕ) → IsAcceptable entry skew moment choice
-    → (for_service entry.realm entry.components entry.suite entry.number (request_of choice.outer part_cipher cipher)).gives (Ok tt)
+    → (for_service entry.realm entry.components entry.suite entry.kvno (request_of choice.outer part_cipher cipher)).gives (Ok tt)
 is_addressed entry skew moment choice part_cipher cipher x =
     let fields = field_rows (is_number 5 choice.outer.pvno) (is_number 5 choice.outer.tkt_vno) (is_number 14 choice.outer.msg_type)
     (is_same_realm choice.outer.realm entry.realm) (is_same_name (components choice.outer.service) entry.components)
-    (may_be_under entry.number (encrypted choice.outer.part_etype choice.outer.part_kvno part_cipher))
+    (kvno_fits entry.kvno (encrypted choice.outer.part_etype choice.outer.part_kvno part_cipher))
     x.version x.ticket_version x.kind x.realm x.name
-    (under_number entry.number choice.outer.part_etype choice.outer.part_kvno part_cipher ∙ x.number) in
+    (kvno_under entry.kvno choice.outer.part_etype choice.outer.part_kvno part_cipher ∙ x.kvno) in
     address_rows (bit_of choice.outer.options 1) (is_number (cipher_number entry.suite) choice.outer.part_etype)
-    (ap_fields entry.realm entry.components entry.number (request_of choice.outer part_cipher cipher)) x.method x.part_etype fields
+    (ap_fields entry.realm entry.components entry.kvno (request_of choice.outer part_cipher cipher)) x.method x.part_etype fields
 
 -- what is sealed by the suite that the key fits is sealed by this suite, which it fits
 own_suite : {T : Type 0} (tree : T → Tree) (suite : CipherSuite) (key : List ℕ) (usage : ℕ) (confounder : List ℕ) (value : T) (etype : ℤ) (kvno : Option ℤ) (cipher : List ℕ)

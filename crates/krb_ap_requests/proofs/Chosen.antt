@@ -19,7 +19,7 @@ use Rattle.picky_asn1.specs.Numbers.{is_number}
 use Rattle.decision_tables.specs.Tables.{Table, and_then, done, need, refuse}
 use Rattle.krb_moments.specs.Times.{moment_at}
 use Rattle.krb_ap_requests.specs.Acceptable.{IsAcceptable, shown_by}
-use Rattle.krb_ap_requests.specs.ApTable.{for_service, ap_fields, authenticated, is_early, is_late, is_of_client, may_be_under, opened, opened_part, presented, presented_with, timely, told, valid_authenticator, valid_part}
+use Rattle.krb_ap_requests.specs.ApTable.{for_service, ap_fields, authenticated, is_early, is_late, is_of_client, kvno_fits, opened, opened_part, presented, presented_with, timely, told, valid_authenticator, valid_part}
 use Rattle.krb_ap_requests.specs.Entry.{EntryRecord}
 use Rattle.krb_messages.specs.Messages.{IsApReq, authenticator_tree, enc_ticket_part_tree}
 use Rattle.krb_ap_requests.specs.Messages.{IsAuthenticator, IsTicketPart}
@@ -31,24 +31,24 @@ use Rattle.krb_ap_requests.proofs.Presentations.{outer_of}
 use Rattle.krb_ap_requests.proofs.Shown.{asked, both, first_of_two, ok_same, past_address, request-outer, seals, shown_asked, shown_part, timed, with_time}
 
 -- what a request has that passes the rows of its own fields
-record IsPassed (method version ticket kind realm name number etype : Bool) : Type 0 where
+record IsPassed (method version ticket kind realm name kvno etype : Bool) : Type 0 where
   method_is : method ≡ false
   version_is : version ≡ true
   ticket_is : ticket ≡ true
   kind_is : kind ≡ true
   realm_is : realm ≡ true
   name_is : name ≡ true
-  number_is : number ≡ true
+  kvno_is : kvno ≡ true
   etype_is : etype ≡ true
 
-fields_passed : (version ticket kind realm name number : Bool)
-    → (refuse {T = Unit {0}} {E = ℕ} (not (version && ticket)) 39 (refuse (not kind) 40 (refuse (not (realm && name)) 35 (refuse (not number) 44 (done (Ok tt)))))).gives (Ok tt)
-    → (version ≡ true) × (ticket ≡ true) × (kind ≡ true) × (realm ≡ true) × (name ≡ true) × (number ≡ true)
-fields_passed false ticket kind realm name number x = absurd (cc (x))
-fields_passed true false kind realm name number x = absurd (cc (x))
-fields_passed true true false realm name number x = absurd (cc (x))
-fields_passed true true true false name number x = absurd (cc (x))
-fields_passed true true true true false number x = absurd (cc (x))
+fields_passed : (version ticket kind realm name kvno : Bool)
+    → (refuse {T = Unit {0}} {E = ℕ} (not (version && ticket)) 39 (refuse (not kind) 40 (refuse (not (realm && name)) 35 (refuse (not kvno) 44 (done (Ok tt)))))).gives (Ok tt)
+    → (version ≡ true) × (ticket ≡ true) × (kind ≡ true) × (realm ≡ true) × (name ≡ true) × (kvno ≡ true)
+fields_passed false ticket kind realm name kvno x = absurd (cc (x))
+fields_passed true false kind realm name kvno x = absurd (cc (x))
+fields_passed true true false realm name kvno x = absurd (cc (x))
+fields_passed true true true false name kvno x = absurd (cc (x))
+fields_passed true true true true false kvno x = absurd (cc (x))
 fields_passed true true true true true false x = absurd (cc (x))
 fields_passed true true true true true true x = (refl, refl, refl, refl, refl, refl)
 
@@ -60,15 +60,15 @@ past_method false false fields (inl x) = absurd (cc (x.2))
 past_method false true fields (inl x) = (refl, x.1, refl)
 past_method false etype fields (inr x) = absurd (cc (x.2))
 
-passed : (realm : List ℕ) (name : List (List ℕ)) (suite : CipherSuite) (number : ℕ) (request : ApReqInner) → (for_service realm name suite number request).gives (Ok tt)
+passed : (realm : List ℕ) (name : List (List ℕ)) (suite : CipherSuite) (kvno : ℕ) (request : ApReqInner) → (for_service realm name suite kvno request).gives (Ok tt)
     → IsPassed (bit_of request.ap_options.0 1) (is_number 5 request.pvno.0) (is_number 5 request.ticket.0.0.tkt_vno.0) (is_number 14 request.msg_type.0)
     (is_same_realm request.ticket.0.0.realm.0 realm) (is_same_name (components request.ticket.0.0.sname.0) name)
-    (may_be_under number request.ticket.0.0.enc_part.0) (is_number (cipher_number suite) request.ticket.0.0.enc_part.0.etype.0)
-passed realm name suite number request x =
-    let outer = past_method (bit_of request.ap_options.0 1) (is_number (cipher_number suite) request.ticket.0.0.enc_part.0.etype.0) (ap_fields realm name number request) x in
+    (kvno_fits kvno request.ticket.0.0.enc_part.0) (is_number (cipher_number suite) request.ticket.0.0.enc_part.0.etype.0)
+passed realm name suite kvno request x =
+    let outer = past_method (bit_of request.ap_options.0 1) (is_number (cipher_number suite) request.ticket.0.0.enc_part.0.etype.0) (ap_fields realm name kvno request) x in
     let fields = fields_passed (is_number 5 request.pvno.0) (is_number 5 request.ticket.0.0.tkt_vno.0) (is_number 14 request.msg_type.0)
     (is_same_realm request.ticket.0.0.realm.0 realm) (is_same_name (components request.ticket.0.0.sname.0) name)
-    (may_be_under number request.ticket.0.0.enc_part.0) outer.1 in
+    (kvno_fits kvno request.ticket.0.0.enc_part.0) outer.1 in
     record {
       method_is = outer.0;
       version_is = fields.0;
@@ -76,7 +76,7 @@ passed realm name suite number request x =
       kind_is = fields.2;
       realm_is = fields.3;
       name_is = fields.4;
-      number_is = fields.5;
+      kvno_is = fields.5;
       etype_is = outer.2;
     }
 
@@ -158,11 +158,11 @@ pub record IsReceivedOf (entry : EntryRecord) (skew moment : ℕ) (bytes : List 
   pub shown : p ≡ shown_by choice acceptable.suite acceptable.time
 
 chosen_of : (entry : EntryRecord) (skew moment : ℕ) (bytes : List ℕ) (request : ApReqInner) (part : EncTicketPartInner) (a : Authenticated) (p : Presented) → IsApReq bytes request
-    → (for_service entry.realm entry.components entry.suite entry.number request).gives (Ok tt)
+    → (for_service entry.realm entry.components entry.suite entry.kvno request).gives (Ok tt)
     → IsValidSo entry.suite entry.key skew moment request.ticket.0.0.enc_part.0 part
     → IsAuthenticatedSo 11 part request.authenticator.0 a → p ≡ presented_with request part a → IsReceivedOf entry skew moment bytes p
 chosen_of entry skew moment bytes request part a p read address valid x made =
-    let rows = passed entry.realm entry.components entry.suite entry.number request address in
+    let rows = passed entry.realm entry.components entry.suite entry.kvno request address in
     record {
       choice = record {
         outer = outer_of request;
@@ -186,7 +186,7 @@ chosen_of entry skew moment bytes request part a p read address valid x made =
         kind = rows.kind_is;
         realm = rows.realm_is;
         name = rows.name_is;
-        number = number_under entry.number request.ticket.0.0.enc_part.0.kvno.0 ∙ rows.number_is;
+        kvno = number_under entry.kvno request.ticket.0.0.enc_part.0.kvno.0 ∙ rows.kvno_is;
         part_etype = rows.etype_is;
         started = valid.started;
         lasts = valid.lasts;
@@ -206,7 +206,7 @@ pub chosen_as_received : (entry : EntryRecord) (skew moment : ℕ) (bytes : List
 unfolding presented
 chosen_as_received entry skew moment bytes request p read x =
     let sealed = request.ticket.0.0.enc_part.0 in
-    let address = both {A = Unit {0}} (for_service entry.realm entry.components entry.suite entry.number request) (λ _. past_address entry skew moment request) p x in
+    let address = both {A = Unit {0}} (for_service entry.realm entry.components entry.suite entry.kvno request) (λ _. past_address entry skew moment request) p x in
     let ticket = both (valid_part entry.suite entry.key skew moment sealed) (λ part. valid_authenticator request part) p address.2 in
     let last = both (authenticated 11 ticket.0 request.authenticator.0) (λ a. done (Ok (presented_with request ticket.0 a))) p ticket.2 in
     let made : p ≡ presented_with request ticket.0 last.0 = ok_same p (presented_with request ticket.0 last.0) last.2 in

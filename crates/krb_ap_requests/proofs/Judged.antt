@@ -19,7 +19,7 @@ use Rattle.krb_ap_requests.specs.declared.refusal.AdmitRefusal.TheVariants as ad
 
 -- the request is for this service
 abbrev pub IsAddressed : EntryRecord → ApReqInner → Type 0
-IsAddressed entry request = (for_service entry.realm entry.components entry.suite entry.number request).gives (Ok tt)
+IsAddressed entry request = (for_service entry.realm entry.components entry.suite entry.kvno request).gives (Ok tt)
 
 -- its ticket is judged so
 abbrev pub IsTicketJudged : EntryRecord → ℕ → ℕ → ApReqInner → Result EncTicketPartInner Refusal → Type 0
@@ -28,12 +28,12 @@ IsTicketJudged entry skew moment request r =
 
 -- a request that is for another service is refused for that
 pub address_refused : (entry : EntryRecord) (skew moment : ℕ) (request : ApReqInner) (e : Refusal) (names : List (List ℕ)) (suite : CipherSuite) → names ≡ entry.components → suite ≡ entry.suite
-    → IsJudged {T = Unit {0}} (for_service entry.realm names suite entry.number request).gives (Err e)
+    → IsJudged {T = Unit {0}} (for_service entry.realm names suite entry.kvno request).gives (Err e)
     → IsJudged {T = Presented} (presented entry skew moment request).gives (Err e)
 unfolding presented
 address_refused entry skew moment request (Krb code) names suite named keyed address =
-    let so_named = subst (λ list. (for_service entry.realm list suite entry.number request).gives (Err code)) named address in
-    let own = subst (λ s. (for_service entry.realm entry.components s entry.number request).gives (Err code)) keyed so_named in inr (code, own, refl)
+    let so_named = subst (λ list. (for_service entry.realm list suite entry.kvno request).gives (Err code)) named address in
+    let own = subst (λ s. (for_service entry.realm entry.components s entry.kvno request).gives (Err code)) keyed so_named in inr (code, own, refl)
 address_refused entry skew moment request Memory names suite named keyed address = tt
 
 pub ticket_refused : (entry : EntryRecord) (skew moment : ℕ) (request : ApReqInner) (e : Refusal)

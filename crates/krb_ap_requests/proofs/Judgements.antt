@@ -85,11 +85,11 @@ has_authenticator request part =
 pub has_judgement : (entry : EntryRecord) (skew moment : ℕ) (request : ApReqInner) → HasOutcome (presented entry skew moment request)
 unfolding presented
 has_judgement entry skew moment request =
-    has_then {A = Unit {0}} (for_service entry.realm entry.components entry.suite entry.number request) (λ _. past_address entry skew moment request)
+    has_then {A = Unit {0}} (for_service entry.realm entry.components entry.suite entry.kvno request) (λ _. past_address entry skew moment request)
     (has_address (bit_of request.ap_options.0 1) (not (is_number (cipher_number entry.suite) request.ticket.0.0.enc_part.0.etype.0))
-    (ap_fields entry.realm entry.components entry.number request)
+    (ap_fields entry.realm entry.components entry.kvno request)
     (has_fields (not (rows.is_version_5 request)) (not (is_number 14 request.msg_type.0))
-    (not (rows.is_for entry.realm entry.components request.ticket.0.0)) (not (rows.may_be_under entry.number request.ticket.0.0.enc_part.0))))
+    (not (rows.is_for entry.realm entry.components request.ticket.0.0)) (not (rows.kvno_fits entry.kvno request.ticket.0.0.enc_part.0))))
     (λ _ x.
     has_then (valid_part entry.suite entry.key skew moment request.ticket.0.0.enc_part.0) (λ part. valid_authenticator request part)
     (has_part entry.suite entry.key skew moment request.ticket.0.0.enc_part.0) (λ part y. has_authenticator request part))

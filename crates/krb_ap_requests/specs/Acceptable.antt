@@ -25,7 +25,7 @@ pub record IsAcceptable (entry : EntryRecord) (skew moment : Micros) (choice : C
   pub kind : is_number 14 choice.outer.msg_type ≡ true
   pub realm : is_same_realm choice.outer.realm entry.realm ≡ true
   pub name : is_same_name (components choice.outer.service) entry.components ≡ true
-  pub number : option_map_or (is_number entry.number) choice.outer.part_kvno true ≡ true
+  pub kvno : option_map_or (is_number entry.kvno) choice.outer.part_kvno true ≡ true
   pub part_etype : is_number (cipher_number entry.suite) choice.outer.part_etype ≡ true
   pub started : is_early skew moment choice.part ≡ false
   pub lasts : is_late skew moment choice.part ≡ false

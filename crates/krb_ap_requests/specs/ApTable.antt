@@ -33,25 +33,25 @@ is_version_5 request = is_number 5 request.pvno.0 && is_number 5 request.ticket.
 abbrev pub is_for : Bytes → List Bytes → TicketInner → Bool
 is_for realm name ticket = is_same_realm ticket.realm.0 realm && is_same_name (components ticket.sname.0) name
 
--- the data doesn't say that it is under a key of another number
-abbrev pub may_be_under : ℕ → EncryptedData → Bool
-may_be_under number encrypted = option_map_or (λ told. is_number number told.0) encrypted.kvno.0 true
+-- the data has the kvno, or none
+abbrev pub kvno_fits : ℕ → EncryptedData → Bool
+kvno_fits kvno encrypted = option_map_or (λ told. is_number kvno told.0) encrypted.kvno.0 true
 
 -- the request's own fields: version 5, an AP request, for the service of this realm and this name under its key of this
--- number
+-- kvno
 abbrev pub ap_fields : Bytes → List Bytes → ℕ → ApReqInner → Table (Result (Unit {0}) Code)
-ap_fields realm name number request =
+ap_fields realm name kvno request =
     refuse (not (is_version_5 request)) KRB_AP_ERR_BADVERSION
     (refuse (not (is_number 14 request.msg_type.0)) KRB_AP_ERR_MSG_TYPE
     (refuse (not (is_for realm name request.ticket.0.0)) KRB_AP_ERR_NOT_US
-    (refuse (not (may_be_under number request.ticket.0.0.enc_part.0)) KRB_AP_ERR_BADKEYVER
+    (refuse (not (kvno_fits kvno request.ticket.0.0.enc_part.0)) KRB_AP_ERR_BADKEYVER
     (done (Ok tt)))))
 
 -- the request isn't under a session key, it is for this service, and sealed as this service can open it
 abbrev pub for_service : Bytes → List Bytes → CipherSuite → ℕ → ApReqInner → Table (Result (Unit {0}) Code)
-for_service realm name suite number request =
+for_service realm name suite kvno request =
     refuse (bit_of request.ap_options.0 1) KRB_AP_ERR_METHOD
-    (and_then (ap_fields realm name number request) (λ _.
+    (and_then (ap_fields realm name kvno request) (λ _.
     refuse (not (is_number (cipher_number suite) request.ticket.0.0.enc_part.0.etype.0)) KRB_AP_ERR_NOKEY
     (done (Ok tt))))
 
@@ -134,6 +134,6 @@ valid_authenticator request part =
 -- what the request presents to the service of this key at a moment, up to the time that it tells
 unfoldable pub presented : EntryRecord → Micros → Micros → ApReqInner → Table (Result Presented Code)
 presented entry skew moment request =
-    and_then (for_service entry.realm entry.components entry.suite entry.number request) (λ _.
+    and_then (for_service entry.realm entry.components entry.suite entry.kvno request) (λ _.
     and_then (valid_part entry.suite entry.key skew moment request.ticket.0.0.enc_part.0) (λ part.
     valid_authenticator request part))

@@ -3,7 +3,7 @@ ghost use Rattle.std.specs.Prelude.{◌≡◌, ◌≤◌};
 ghost use Rattle.krb_crypto.specs.Suites.{cipher_number};
 ghost use Rattle.krb_types.specs.Names.{components};
 ghost use Rattle.krb_types.specs.Refusals.{IsJudged};
-ghost use Rattle.krb_ap_requests.specs.ApTable.{for_service, ap_fields, authenticated, is_early, is_for, is_late, is_of_client, is_version_5, may_be_under, opened, opened_part, presented_with, ticket_start, timely, told, valid_authenticator, valid_part};
+ghost use Rattle.krb_ap_requests.specs.ApTable.{for_service, ap_fields, authenticated, is_early, is_for, is_late, is_of_client, is_version_5, kvno_fits, opened, opened_part, presented_with, ticket_start, timely, told, valid_authenticator, valid_part};
 ghost use Rattle.picky_asn1.specs.GeneralizedTime.{seconds_of};
 ghost use Rattle.std.specs.Int.{cast_unsigned, w32};
 
@@ -39,15 +39,15 @@ pub fn check_address(
     realm: &GeneralStringAsn1,
     name: &[GeneralStringAsn1],
     suite: CipherSuite,
-    number: u32,
+    kvno: u32,
     request: &ApReqInner,
 ) -> Result<(), Refusal>
-    ensures { IsJudged (for_service realm.now name.now suite number request.now).gives result }
+    ensures { IsJudged (for_service realm.now name.now suite kvno request.now).gives result }
 {
     if request.ap_options.0.bit(USE_SESSION_KEY) {
         return Err(Refusal::Krb(error_codes::KRB_AP_ERR_METHOD));
     }
-    check_fields(realm, name, number, request)?;
+    check_fields(realm, name, kvno, request)?;
     if !is_number(&request.ticket.0.0.enc_part.0.etype.0, u32::from(&suite)) {
         return Err(Refusal::Krb(error_codes::KRB_AP_ERR_NOKEY));
     }
@@ -56,14 +56,14 @@ pub fn check_address(
 
 /// Judges the request's own fields (RFC 4120, section 3.2.3): request and ticket have to be of version 5 (code 39), it has
 /// to be an AP request (40), its ticket for the service of this realm and this name (35), and under its key of this
-/// number, where one is told (44).
+/// kvno, where it has one (44).
 pub fn check_fields(
     realm: &GeneralStringAsn1,
     name: &[GeneralStringAsn1],
-    number: u32,
+    kvno: u32,
     request: &ApReqInner,
 ) -> Result<(), Refusal>
-    ensures { IsJudged (ap_fields realm.now name.now number request.now).gives result }
+    ensures { IsJudged (ap_fields realm.now name.now kvno request.now).gives result }
 {
     if !is_version_5(request) {
         return Err(Refusal::Krb(error_codes::KRB_AP_ERR_BADVERSION));
@@ -75,7 +75,7 @@ pub fn check_fields(
     if !is_for(realm, name, ticket) {
         return Err(Refusal::Krb(error_codes::KRB_AP_ERR_NOT_US));
     }
-    if !may_be_under(number, &ticket.enc_part.0) {
+    if !kvno_fits(kvno, &ticket.enc_part.0) {
         return Err(Refusal::Krb(error_codes::KRB_AP_ERR_BADKEYVER));
     }
     Ok(())
@@ -97,12 +97,12 @@ fn is_for(realm: &GeneralStringAsn1, name: &[GeneralStringAsn1], ticket: &Ticket
         && is_same_name(ticket.sname.0.name_string.0.as_slice(), name)
 }
 
-// The data doesn't say that it is under a key of another number.
-fn may_be_under(number: u32, encrypted: &EncryptedData) -> bool
-    ensures { result ≡ may_be_under number encrypted.now }
+// The data has the kvno, or none.
+fn kvno_fits(kvno: u32, encrypted: &EncryptedData) -> bool
+    ensures { result ≡ kvno_fits kvno encrypted.now }
 {
     match &encrypted.kvno.0 {
-        Some(told) => is_number(&told.0, number),
+        Some(told) => is_number(&told.0, kvno),
         None => true,
     }
 }

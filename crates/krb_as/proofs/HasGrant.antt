@@ -34,19 +34,19 @@ block_of : (suite : CipherSuite) (from : ℕ) (random : List ℕ) → from + 16 
 block_of suite from random long =
     length-take-le (cipher_confounder_size suite) (drop from random) (omega (arith, length-drop from random, confounder_below suite))
 
-has_data : (suite : CipherSuite) (key : List ℕ) (number : Option ℕ) (usage from : ℕ) (random plain : List ℕ) → length key ≡ cipher_key_size suite → IsBytes key
-    → from + 16 ≤ length random → IsBytes random → IsBytes plain → (made : EncryptedData) × Seals suite key number usage (random_part from (cipher_confounder_size suite) random) plain made
-has_data suite key number usage from random plain sized key_bytes long random_bytes plain_bytes =
+has_data : (suite : CipherSuite) (key : List ℕ) (kvno : Option ℕ) (usage from : ℕ) (random plain : List ℕ) → length key ≡ cipher_key_size suite → IsBytes key
+    → from + 16 ≤ length random → IsBytes random → IsBytes plain → (made : EncryptedData) × Seals suite key kvno usage (random_part from (cipher_confounder_size suite) random) plain made
+has_data suite key kvno usage from random plain sized key_bytes long random_bytes plain_bytes =
     let size = cipher_confounder_size suite in
     let made = has_sealed suite key usage (random_part from size random) plain sized key_bytes (block_of suite from random long)
     (IsBytes-take size (drop from random) (IsBytes-drop from random random_bytes)) plain_bytes in
-    (encrypted_by suite number made.0, record { cipher = made.0; seals = made.1; told = refl })
+    (encrypted_by suite kvno made.0, record { cipher = made.0; seals = made.1; told = refl })
 
 has_ticket_reply : (grant : Grant) (under : ReplyKeyRecord) (service : AccountRecord) (random : List ℕ) → length under.key ≡ cipher_key_size under.suite → IsBytes under.key → IsKeyed service
     → 128 ≤ length random → IsBytes random → IsWritten under.exchange grant → (bytes : List ℕ) × IsTicketReply grant under service random bytes
 has_ticket_reply grant under service random sized key_bytes service_key long random_bytes written =
-    let ticket = has_data service.suite service.key (Some service.number) 2 32 random (ticket_part_bytes (ticket_part grant)) service_key.sized service_key.bytes (omega arith) random_bytes written.ticket in
-    let reply = has_data under.suite under.key under.number under.usage 48 random (reply_part_bytes under.exchange (reply_part grant)) sized key_bytes (omega arith) random_bytes written.reply in (
+    let ticket = has_data service.suite service.key (Some service.kvno) 2 32 random (ticket_part_bytes (ticket_part grant)) service_key.sized service_key.bytes (omega arith) random_bytes written.ticket in
+    let reply = has_data under.suite under.key under.kvno under.usage 48 random (reply_part_bytes under.exchange (reply_part grant)) sized key_bytes (omega arith) random_bytes written.reply in (
       kdc_reply_bytes under.exchange (kdc_reply_of under.exchange under.pk_as_rep grant (ticket_of grant ticket.0) reply.0),
       record { ticket_data = ticket.0; ticket_sealed = ticket.1; reply_data = reply.0; reply_sealed = reply.1; encoding = refl },
     )

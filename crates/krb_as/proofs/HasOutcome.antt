@@ -13,8 +13,8 @@ use Rattle.krb_messages.specs.declared.messages.kdc_req.KdcReq.{KdcReq}
 use Rattle.krb_messages.specs.declared.messages.kdc_req_body.KdcReqBody.{KdcReqBody}
 use Rattle.decision_tables.specs.Tables.{Table, and_then, ask, done, need, refuse}
 use Rattle.decision_tables.proofs.Outcomes.{HasOutcome, has_asked, has_done, has_needed, has_refused, has_then}
-use Rattle.krb_preauth.specs.Entries.{first_of}
-use Rattle.krb_preauth.specs.Stamps.{IsStamp, moment_of, sole_stamp}
+use Rattle.krb_preauth.specs.Padata.{first_of}
+use Rattle.krb_preauth.specs.EncryptedTimestamps.{IsEncryptedTimestamp, moment_of, sole_encrypted_timestamp}
 use Rattle.krb_tickets.specs.declared.reply.Exchange.TheVariants.{As}
 use Rattle.aes_cts.specs.Bytes.{IsBytes}
 use Rattle.krb_crypto.specs.Suites.{cipher_key_size}
@@ -28,7 +28,7 @@ use Rattle.krb_as.specs.AsTable.{as_table, authenticated, authenticated_by, is_l
 use Rattle.krb_kdc_requests.specs.Call.{CallRecord, pkinit_call, skew_of}
 use Rattle.krb_kdc_requests.specs.Calls.{IsCall, IsKeyed}
 use Rattle.krb_as.specs.Grants.{Principals, first_ticket, granted}
-use Rattle.krb_kdc_requests.specs.Requests.{addressed, client_of, entries_of, has_refused_option, is_postdated, lasting, service_of}
+use Rattle.krb_kdc_requests.specs.Requests.{addressed, client_of, padata_in, has_refused_option, is_postdated, lasting, service_of}
 use Rattle.krb_kdc_requests.specs.declared.span.Span.{Span}
 use Rattle.krb_as.proofs.HasGrant.{has_lasting, has_replied}
 use Rattle.krb_kdc_requests.proofs.RequestTrees.{body_fits, client_fits, nonce_fits, service_fits}
@@ -62,28 +62,28 @@ has_near None far = has_done (Err 24)
 has_near (Some time) far = has_refused {T = Unit {0}} (far time) 37 (done (Ok tt)) (λ _. has_done (Ok tt))
 
 abbrev near : CallRecord → PaEncTsEnc → Table (Result (Unit {0}) ℕ)
-near call stamp = need (moment_of stamp) 24 (λ time. refuse (is_far (skew_of call) call.moment time) 37 (done (Ok tt)))
+near call timestamp = need (moment_of timestamp) 24 (λ time. refuse (is_far (skew_of call) call.moment time) 37 (done (Ok tt)))
 
-abbrev stamped : CallRecord → AccountRecord → List ℕ → Table (Result (Unit {0}) ℕ)
-stamped call client entry = ask (IsStamp client entry) (sole_stamp client entry) (done (Err 24)) (near call)
+abbrev encrypted_timestamp : CallRecord → AccountRecord → List ℕ → Table (Result (Unit {0}) ℕ)
+encrypted_timestamp call client value = ask (IsEncryptedTimestamp client value) (sole_encrypted_timestamp client value) (done (Err 24)) (near call)
 
-has_timestamped : (call : CallRecord) (client : AccountRecord) (entries : List PaData) → HasOutcome (timestamped call client entries)
-has_timestamped call client entries =
-    has_needed (first_of 2 entries) 25 (stamped call client)
-    (λ entry e. has_asked (IsStamp client entry) (sole_stamp client entry) (done (Err 24)) (near call) (has_done (Err 24)) (λ stamp x. has_near (moment_of stamp) (is_far (skew_of call) call.moment)))
+has_timestamped : (call : CallRecord) (client : AccountRecord) (padata : List PaData) → HasOutcome (timestamped call client padata)
+has_timestamped call client padata =
+    has_needed (first_of 2 padata) 25 (encrypted_timestamp call client)
+    (λ value e. has_asked (IsEncryptedTimestamp client value) (sole_encrypted_timestamp client value) (done (Err 24)) (near call) (has_done (Err 24)) (λ timestamp x. has_near (moment_of timestamp) (is_far (skew_of call) call.moment)))
 
 -- the client is authenticated by a timestamp or by certificate, or refused
 module _ (call : CallRecord) (rows : PkinitRows) (client : AccountRecord) (name : List (List ℕ)) (request : KdcReq) where
   has_by : (padata : Option (List ℕ)) → HasOutcome (authenticated_by call rows client name request padata)
   has_by None =
-      has_then {A = Unit {0}} (timestamped call client (entries_of request)) (λ _. done (Ok (as_reply_key client))) (has_timestamped call client (entries_of request)) (λ _ _. has_done (Ok (as_reply_key client)))
+      has_then {A = Unit {0}} (timestamped call client (padata_in request)) (λ _. done (Ok (as_reply_key client))) (has_timestamped call client (padata_in request)) (λ _ _. has_done (Ok (as_reply_key client)))
   has_by (Some padata) =
       has_then (rows.judges (pkinit_call call name request.req_body.0) padata)
       (λ agreed. done (Ok (agreed_reply_key client.suite (agreed_key client.suite agreed.secret) agreed.reply)))
       (rows.some (pkinit_call call name request.req_body.0) padata) (λ agreed a. has_done (Ok (agreed_reply_key client.suite (agreed_key client.suite agreed.secret) agreed.reply)))
 
   has_authenticated : HasOutcome (authenticated call rows client name request)
-  has_authenticated = has_by (first_of 16 (entries_of request))
+  has_authenticated = has_by (first_of 16 (padata_in request))
 
   -- under a key of its suite, in an AS exchange
   pub record IsUnder (under : ReplyKeyRecord) : Type 0 where
@@ -159,7 +159,7 @@ module _ (call : CallRecord) (rows : PkinitRows) (of_client of_service : Option 
         has_then (authenticated call rows asked.client (components asked.client_name) request) (λ under. granted call asked under span request.req_body.0)
         (has_authenticated call rows asked.client (components asked.client_name) request)
         (λ under x.
-        let is_under = under_by call rows asked.client (components asked.client_name) request these.client (first_of 16 (entries_of request)) under x in
+        let is_under = under_by call rows asked.client (components asked.client_name) request these.client (first_of 16 (padata_in request)) under x in
         has_replied (first_ticket call asked request.req_body.0 span) under asked.service call.random is_under.sized is_under.bytes these.service is.enough is.bytes
         (subst (λ (e : Exchange). IsWritten e (first_ticket call asked request.req_body.0 span)) (sym is_under.exchange) (first_written asked span to_us these))))
 

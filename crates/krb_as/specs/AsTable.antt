@@ -16,14 +16,14 @@ use Rattle.krb_constants.specs.declared.error_codes.TheConstants.{KDC_ERR_C_PRIN
 use Rattle.krb_messages.specs.declared.messages.kdc_req.KdcReq.{KdcReq}
 use Rattle.krb_messages.specs.declared.messages.kdc_req_body.KdcReqBody.{KdcReqBody}
 use Rattle.decision_tables.specs.Tables.{Table, and_then, ask, done, need, refuse}
-use Rattle.krb_preauth.specs.Entries.{first_of}
-use Rattle.krb_preauth.specs.Stamps.{IsStamp, moment_of, sole_stamp}
+use Rattle.krb_preauth.specs.Padata.{first_of}
+use Rattle.krb_preauth.specs.EncryptedTimestamps.{IsEncryptedTimestamp, moment_of, sole_encrypted_timestamp}
 use Rattle.krb_tickets.specs.ReplyKeys.{ReplyKeyRecord, agreed_reply_key, as_reply_key}
 use Rattle.krb_crypto.specs.AgreedKeys.{agreed_key}
 use Rattle.krb_pkinit.specs.Rows.{PkinitRows}
 use Rattle.krb_kdc_requests.specs.Call.{CallRecord, pkinit_call, skew_of}
 use Rattle.krb_as.specs.Grants.{granted}
-use Rattle.krb_kdc_requests.specs.Requests.{addressed, client_of, entries_of, lasting, service_of}
+use Rattle.krb_kdc_requests.specs.Requests.{addressed, client_of, padata_in, lasting, service_of}
 use Rattle.krb_kdc_requests.specs.declared.span.Span.{Span}
 
 -- the ticket is to start later than the moment and the skew
@@ -44,17 +44,17 @@ possible call suite body =
 
 -- the client shows that it has its key by an encrypted timestamp
 abbrev pub timestamped : CallRecord → AccountRecord → List PaData → Table (Result (Unit {0}) Code)
-timestamped call client entries =
-    need (first_of 2 entries) KDC_ERR_PREAUTH_REQUIRED (λ entry.
-    ask (IsStamp client entry) (sole_stamp client entry) (done (Err KDC_ERR_PREAUTH_FAILED)) (λ stamp.
-    need (moment_of stamp) KDC_ERR_PREAUTH_FAILED (λ time.
+timestamped call client padata =
+    need (first_of 2 padata) KDC_ERR_PREAUTH_REQUIRED (λ value.
+    ask (IsEncryptedTimestamp client value) (sole_encrypted_timestamp client value) (done (Err KDC_ERR_PREAUTH_FAILED)) (λ timestamp.
+    need (moment_of timestamp) KDC_ERR_PREAUTH_FAILED (λ time.
     refuse (is_far (skew_of call) call.moment time) KRB_AP_ERR_SKEW
     (done (Ok tt)))))
 
 -- the key under which the client is replied to: its own, or by certificate the key that both agree on (RFC 4556, section 3.2.3.1)
 abbrev pub authenticated_by : CallRecord → PkinitRows → AccountRecord → List Bytes → KdcReq → Option Bytes → Table (Result ReplyKeyRecord Code)
 authenticated_by call rows client name request None =
-    and_then (timestamped call client (entries_of request)) (λ _.
+    and_then (timestamped call client (padata_in request)) (λ _.
     done (Ok (as_reply_key client)))
 authenticated_by call rows client name request (Some padata) =
     and_then (rows.judges (pkinit_call call name request.req_body.0) padata) (λ agreed.
@@ -62,7 +62,7 @@ authenticated_by call rows client name request (Some padata) =
 
 -- padata of type 16, PA-PK-AS-REQ, wins over an encrypted timestamp
 abbrev pub authenticated : CallRecord → PkinitRows → AccountRecord → List Bytes → KdcReq → Table (Result ReplyKeyRecord Code)
-authenticated call rows client name request = authenticated_by call rows client name request (first_of 16 (entries_of request))
+authenticated call rows client name request = authenticated_by call rows client name request (first_of 16 (padata_in request))
 
 -- the whole table, of the accounts of client and service if they have one
 abbrev pub as_table : CallRecord → PkinitRows → Option AccountRecord → Option AccountRecord → KdcReq → Table (Result Bytes Code)

@@ -8,11 +8,11 @@ ghost use Rattle.krb_types.specs.Refusals.{IsJudged};
 use krb_accounts::Account;
 use krb_crypto::diffie_hellman::agreed_key;
 use krb_crypto::{CipherSuite, Key};
-use krb_kdc_requests::{Call, Span, entries_of, lasting};
+use krb_kdc_requests::{Call, Span, lasting, padata_in};
 use krb_messages::messages::{KdcReq, KdcReqBody};
 use krb_moments::MICROSECONDS_IN_SECOND;
 use krb_pkinit::{Agreed, Pkinit, PkinitCall};
-use krb_preauth::{first_of, moment_of, open_stamp};
+use krb_preauth::{first_of, moment_of, open_encrypted_timestamp};
 use krb_types::Refusal;
 use krb_constants::error_codes;
 use krb_constants::padata_types::{PA_ENC_TIMESTAMP, PA_PK_AS_REQ};
@@ -83,9 +83,9 @@ pub(crate) fn authenticate<P: Pkinit>(
     requires { 128 ≤ length call.now.random.now }
     ensures { IsJudged (authenticated (call_of call.now) (P.rows pkinit.now) client.now name.now request.now).gives (reply_key_as client.now result) }
 {
-    let entries = entries_of(request);
-    let Some(padata) = first_of(entries, PA_PK_AS_REQ) else {
-        check_timestamp(alloc, call, client, entries)?;
+    let padata = padata_in(request);
+    let Some(pk_as_req) = first_of(padata, PA_PK_AS_REQ) else {
+        check_timestamp(alloc, call, client, padata)?;
         return Ok(Authenticated::ByTimestamp);
     };
     agree_by(
@@ -95,7 +95,7 @@ pub(crate) fn authenticate<P: Pkinit>(
         client,
         name,
         request,
-        padata.as_bytes(),
+        pk_as_req.as_bytes(),
     )
 }
 
@@ -137,18 +137,18 @@ fn check_timestamp(
     alloc: Global,
     call: &Call<'_>,
     client: &Account,
-    entries: &[PaData],
+    padata: &[PaData],
 ) -> Result<(), Refusal>
-    ensures { IsJudged (timestamped (call_of call.now) client.now entries.now).gives result }
+    ensures { IsJudged (timestamped (call_of call.now) client.now padata.now).gives result }
 {
-    let Some(entry) = first_of(entries, PA_ENC_TIMESTAMP) else {
+    let Some(value) = first_of(padata, PA_ENC_TIMESTAMP) else {
         return Err(Refusal::Krb(error_codes::KDC_ERR_PREAUTH_REQUIRED));
     };
-    let Some(stamp) = open_stamp(alloc, client, entry.as_bytes())? else {
+    let Some(timestamp) = open_encrypted_timestamp(alloc, client, value.as_bytes())? else {
         return Err(Refusal::Krb(error_codes::KDC_ERR_PREAUTH_FAILED));
     };
-    let told = moment_of(&stamp);
-    drop(stamp);
+    let told = moment_of(&timestamp);
+    drop(timestamp);
     let Some(time) = told else {
         return Err(Refusal::Krb(error_codes::KDC_ERR_PREAUTH_FAILED));
     };

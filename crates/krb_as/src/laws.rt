@@ -1,10 +1,10 @@
 //! What holds of every AS request.
 ghost use Rattle.std.specs.Prelude.{◌≡◌, ℕ, List, [], ◌∷◌, Some, IsSome};
 ghost use Rattle.asn1_der.specs.Length.{element};
-ghost use Rattle.krb_kdc_requests.specs.Requests.{body_bytes, entries_of};
+ghost use Rattle.krb_kdc_requests.specs.Requests.{body_bytes, padata_in};
 ghost use Rattle.krb_messages.specs.Messages.{IsAsReq};
 ghost use Rattle.krb_messages.specs.declared.messages.kdc_req.KdcReq.{KdcReq};
-ghost use Rattle.krb_preauth.specs.Entries.{first_of};
+ghost use Rattle.krb_preauth.specs.Padata.{first_of};
 ghost use Rattle.picky_asn1.specs.Bytes.{Bytes};
 ghost use Rattle.picky_asn1_der.specs.Parts.{IsPart};
 
@@ -22,7 +22,7 @@ pub fn as_body_is_part()
 /// each part of the data. The entries are the SEQUENCE's element number 2 (RFC 4120, sections 5.2.7 and 5.4.1). It does nothing
 /// when it runs: its contract is the law.
 pub fn padata_is_part()
-    ensures { (bytes padata : Bytes) (kind : ℕ) (request : KdcReq) → IsAsReq bytes request → first_of kind (entries_of request) ≡ Some padata
+    ensures { (bytes padata : Bytes) (kind : ℕ) (request : KdcReq) → IsAsReq bytes request → first_of kind (padata_in request) ≡ Some padata
         → ((entry : ℕ) × IsPart bytes (0 ∷ 2 ∷ 0 ∷ entry ∷ 1 ∷ 0 ∷ []) (element 4 padata)
         × ((n : ℕ) (path : List ℕ) (part : Bytes) → IsPart padata (n ∷ path) part → IsPart bytes (0 ∷ 2 ∷ 0 ∷ entry ∷ 1 ∷ 0 ∷ 0 ∷ n ∷ path) part)) }
 {}

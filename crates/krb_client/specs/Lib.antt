@@ -4,7 +4,7 @@ pub mod Messages
 pub mod Held
 pub mod Requests
 pub mod Means
-pub mod Stamps
+pub mod EncryptedTimestamps
 pub mod ByPassword
 pub mod AsRequest
 pub mod Authenticators

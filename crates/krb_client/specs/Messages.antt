@@ -17,8 +17,8 @@ use Rattle.krb_messages.specs.Trees.{kdc_req_body_tree}
 use Rattle.decision_tables.specs.One.{IsSole}
 
 -- the encoding of a client's time
-unfoldable pub stamp_bytes : PaEncTsEnc → Bytes
-stamp_bytes value = der (held.pa_enc_ts_enc_tree value)
+unfoldable pub timestamp_bytes : PaEncTsEnc → Bytes
+timestamp_bytes value = der (held.pa_enc_ts_enc_tree value)
 
 -- the encoding of encrypted data
 unfoldable pub encrypted_bytes : EncryptedData → Bytes

@@ -44,14 +44,14 @@ request_body client named service till nonce = record {
 }
 
 -- preauthentication data of a type (RFC 4120, section 7.5.2)
-abbrev pub entry_of : ℕ → Bytes → PaData
-entry_of kind value = record { padata_type = record { 0 = pos kind }; padata_data = record { 0 = value } }
+abbrev pub pa_data_of : ℕ → Bytes → PaData
+pa_data_of kind value = record { padata_type = record { 0 = pos kind }; padata_data = record { 0 = value } }
 
--- the request of a type, with one entry of preauthentication data
+-- the request of a type, with one PA-DATA as its padata
 abbrev pub kdc_request_of : ℕ → PaData → KdcReqBody → KdcReq
-kdc_request_of kind entry body = record {
+kdc_request_of kind pa_data body = record {
   pvno = record { 0 = pos 5 };
   msg_type = record { 0 = pos kind };
-  padata = record { 0 = Some (record { 0 = entry ∷ [] }) };
+  padata = record { 0 = Some (record { 0 = pa_data ∷ [] }) };
   req_body = record { 0 = body };
 }

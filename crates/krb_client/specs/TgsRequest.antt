@@ -15,7 +15,7 @@ use Rattle.krb_asked.specs.Asked.{TgsAskedRecord}
 use Rattle.krb_client.specs.Authenticators.{IsApRequest, IsAuthenticatorOf, sole_presented, sole_authenticator_of}
 use Rattle.krb_client.specs.Client.{ClientRecord, CredentialRecord}
 use Rattle.krb_client.specs.Messages.{request_body_bytes, tgs_request_bytes}
-use Rattle.krb_client.specs.Requests.{entry_of, nonce_of, request_body, kdc_request_of}
+use Rattle.krb_client.specs.Requests.{pa_data_of, nonce_of, request_body, kdc_request_of}
 
 -- the checksum of the session's suite over a text (usage 6; RFC 4120, section 7.5.1)
 abbrev pub checksum_over : CredentialRecord → Bytes → Checksum
@@ -40,7 +40,7 @@ sole_authentication client credential moment confounder text a b x y =
 
 -- the request with its AP request, PA-TGS-REQ (RFC 4120, section 7.5.2); the client's name stands in the ticket alone
 abbrev pub tgs_request_of : ClientRecord → List Bytes → GeneralizedTime → ℕ → Bytes → KdcReq
-tgs_request_of client service till nonce request = kdc_request_of 12 (entry_of 1 request) (request_body client false service till nonce)
+tgs_request_of client service till nonce request = kdc_request_of 12 (pa_data_of 1 request) (request_body client false service till nonce)
 
 -- the encoding of the request's body
 abbrev pub tgs_body_bytes : ClientRecord → List Bytes → GeneralizedTime → ℕ → Bytes

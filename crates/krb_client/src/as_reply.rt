@@ -6,10 +6,10 @@ use crate::read::{open_as_part, open_tgs_part, read_as_reply, read_error_code};
 use crate::taking::is_of_type;
 use crate::{Client, Credential, Means, TakeRefusal};
 use krb_asked::AsAsked;
-use krb_crypto::Key;
-use krb_messages::messages::KdcRep;
 use krb_constants::key_usages;
 use krb_constants::types::AS_REP_MSG_TYPE;
+use krb_crypto::Key;
+use krb_messages::messages::KdcRep;
 use std::alloc::Global;
 
 impl Client {

@@ -1,21 +1,21 @@
 //! Authenticating by a key.
 ghost use Rattle.std.specs.Prelude.{◌≡◌, ◌≤◌, length, IfOk};
-ghost use Rattle.krb_client.specs.Messages.{encrypted_bytes, stamp_bytes};
-ghost use Rattle.krb_client.specs.Requests.{entry_of};
-ghost use Rattle.krb_client.specs.Stamps.{IsSealedTime, IsStamped, stamp_of};
+ghost use Rattle.krb_client.specs.Messages.{encrypted_bytes, timestamp_bytes};
+ghost use Rattle.krb_client.specs.Requests.{pa_data_of};
+ghost use Rattle.krb_client.specs.EncryptedTimestamps.{IsSealedTime, IsPaEncTimestamp, timestamp_of};
 ghost use Rattle.krb_crypto.specs.Suites.{cipher_confounder_size};
 
-use crate::kdc_request::entry_of;
+use crate::kdc_request::pa_data_of;
 use crate::{AskRefusal, Client, Means, TakeRefusal};
 use krb_asked::AsAsked;
+use krb_constants::key_usages;
+use krb_constants::padata_types::PA_ENC_TIMESTAMP;
 use krb_crypto::Key;
 use krb_encrypted_data::{confounder_at, sealed_data};
 use krb_messages::messages::{KdcRep, KdcReqBody};
 use krb_moments::Moment;
-use krb_constants::key_usages;
-use krb_types::random_bytes::STAMP_CONFOUNDER;
-use krb_constants::padata_types::PA_ENC_TIMESTAMP;
 use krb_types::data_types::{EncryptedData, PaData, PaEncTsEnc};
+use krb_types::random_bytes::TIMESTAMP_CONFOUNDER;
 use picky_asn1::date::GeneralizedTime;
 use picky_asn1::wrapper::{GeneralizedTimeAsn1, IntegerAsn1};
 use picky_asn1_der::{ExplicitContextTag, Optional, encoding_of};
@@ -30,7 +30,7 @@ pub struct ByKey {
 }
 
 impl Means for ByKey {
-    ghost use Rattle.krb_client.specs.Stamps.{by_key};
+    ghost use Rattle.krb_client.specs.EncryptedTimestamps.{by_key};
 
     ghost means = { λ own. by_key own.key.suite own.key.bytes };
 
@@ -41,7 +41,7 @@ impl Means for ByKey {
         moment: Moment,
         words: &[u8],
     ) -> Result<PaData, AskRefusal> {
-        let padata = stamped(alloc, &self.key, moment, words)?;
+        let padata = padata_of_moment(alloc, &self.key, moment, words)?;
         Ok(padata)
     }
 
@@ -57,13 +57,18 @@ impl Means for ByKey {
 }
 
 // The padata of the moment.
-fn stamped(alloc: Global, key: &Key, moment: Moment, words: &[u8]) -> Result<PaData, AllocError>
+fn padata_of_moment(
+    alloc: Global,
+    key: &Key,
+    moment: Moment,
+    words: &[u8],
+) -> Result<PaData, AllocError>
     requires { 96 ≤ length words.now }
-    ensures { IfOk result (IsStamped key.now.suite key.now.bytes moment words.now) }
+    ensures { IfOk result (IsPaEncTimestamp key.now.suite key.now.bytes moment words.now) }
 {
-    let confounder = confounder_at(key.suite(), words, STAMP_CONFOUNDER);
-    let stamp = sealed_time(alloc, key, moment, confounder)?;
-    stamp_entry(alloc, stamp)
+    let confounder = confounder_at(key.suite(), words, TIMESTAMP_CONFOUNDER);
+    let encrypted_timestamp = sealed_time(alloc, key, moment, confounder)?;
+    timestamp_padata(alloc, encrypted_timestamp)
 }
 
 // The moment, sealed under the key.
@@ -77,35 +82,35 @@ fn sealed_time(
     ensures { IfOk result (IsSealedTime key.now.suite key.now.bytes moment confounder.now) }
 {
     let second = moment.second();
-    let plain = stamp_bytes(alloc, second, moment.microsecond())?;
+    let plain = timestamp_bytes(alloc, second, moment.microsecond())?;
     let usage = key_usages::AS_REQ_TIMESTAMP;
     let sealed = sealed_data(alloc, key, None, usage, confounder, &plain)?;
     Ok(sealed)
 }
 
 // The encoding of the client's time.
-#[tactic(auto, unfolding(crate::specs::Messages::stamp_bytes))]
-fn stamp_bytes(
+#[tactic(auto, unfolding(crate::specs::Messages::timestamp_bytes))]
+fn timestamp_bytes(
     alloc: Global,
     second: GeneralizedTime,
     microsecond: u32,
 ) -> Result<Vec<u8>, AllocError>
-    ensures { IfOk result (λ bytes. bytes.items ≡ stamp_bytes (stamp_of second microsecond)) }
+    ensures { IfOk result (λ bytes. bytes.items ≡ timestamp_bytes (timestamp_of second microsecond)) }
 {
     let microsecond = IntegerAsn1::from_u64(alloc, u64::from(microsecond))?;
-    let stamp = PaEncTsEnc {
+    let timestamp = PaEncTsEnc {
         patimestamp: ExplicitContextTag(GeneralizedTimeAsn1(second)),
         pausec: Optional(Some(ExplicitContextTag(microsecond))),
     };
-    let bytes = encoding_of(alloc, stamp)?;
+    let bytes = encoding_of(alloc, timestamp)?;
     Ok(bytes)
 }
 
 // The padata with the sealed time.
 #[tactic(auto, unfolding(crate::specs::Messages::encrypted_bytes))]
-fn stamp_entry(alloc: Global, stamp: EncryptedData) -> Result<PaData, AllocError>
-    ensures { IfOk result (λ padata. padata ≡ entry_of 2 (encrypted_bytes stamp)) }
+fn timestamp_padata(alloc: Global, encrypted_timestamp: EncryptedData) -> Result<PaData, AllocError>
+    ensures { IfOk result (λ padata. padata ≡ pa_data_of 2 (encrypted_bytes encrypted_timestamp)) }
 {
-    let value = encoding_of(alloc, stamp)?;
-    entry_of(alloc, PA_ENC_TIMESTAMP, value)
+    let value = encoding_of(alloc, encrypted_timestamp)?;
+    pa_data_of(alloc, PA_ENC_TIMESTAMP, value)
 }

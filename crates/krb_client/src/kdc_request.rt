@@ -1,14 +1,14 @@
 //! Requests to a KDC: what those for a first ticket and for further ones have in common.
 ghost use Rattle.std.specs.Prelude.{◌≡◌, ◌≤◌, [], ◌∷◌, length, pos, IfOk};
 ghost use Rattle.krb_crypto.specs.Suites.{cipher_number};
-ghost use Rattle.krb_client.specs.Requests.{entry_of, name_where, no_options, nonce_of, request_body, kdc_request_of};
+ghost use Rattle.krb_client.specs.Requests.{pa_data_of, name_where, no_options, nonce_of, request_body, kdc_request_of};
 
 use crate::Client;
 use crate::names::principal_name;
-use krb_messages::messages::{KdcReq, KdcReqBody};
-use krb_types::random_bytes::NONCE;
 use krb_constants::types::{KERBEROS_VERSION, NT_PRINCIPAL, NT_SRV_INST};
+use krb_messages::messages::{KdcReq, KdcReqBody};
 use krb_types::data_types::{KerberosFlags, PaData, PrincipalName};
+use krb_types::random_bytes::NONCE;
 use picky_asn1::date::GeneralizedTime;
 use picky_asn1::wrapper::{
     Asn1SequenceOf, BitStringAsn1, GeneralStringAsn1, GeneralizedTimeAsn1, IntegerAsn1,
@@ -83,26 +83,23 @@ impl Client {
     }
 }
 
-/// The request of this type, with an entry of preauthentication data.
+/// The request of this type, with one PA-DATA as its padata.
 pub(crate) fn kdc_request_of(
     alloc: Global,
     kind: u8,
-    entry: PaData,
+    pa_data: PaData,
     body: KdcReqBody,
 ) -> Result<KdcReq, AllocError>
-    ensures { IfOk result (λ request. request ≡ kdc_request_of kind entry body) }
+    ensures { IfOk result (λ request. request ≡ kdc_request_of kind pa_data body) }
 {
     let version = IntegerAsn1::from_u64(alloc, u64::from(KERBEROS_VERSION));
     let number = IntegerAsn1::from_u64(alloc, u64::from(kind));
-    let entries = entries_of(alloc, entry);
-    let ((version, number), (entries, body)) = both(
-        both(version, number),
-        both(entries, Ok(body)),
-    )?;
+    let padata = padata_in(alloc, pa_data);
+    let ((version, number), (padata, body)) = both(both(version, number), both(padata, Ok(body)))?;
     Ok(KdcReq {
         pvno: ExplicitContextTag(version),
         msg_type: ExplicitContextTag(number),
-        padata: Optional(Some(ExplicitContextTag(entries))),
+        padata: Optional(Some(ExplicitContextTag(padata))),
         req_body: ExplicitContextTag(body),
     })
 }
@@ -118,8 +115,8 @@ pub(crate) fn nonce_of(words: &[u8]) -> u32
 }
 
 /// Preauthentication data of this type.
-pub(crate) fn entry_of(alloc: Global, kind: u32, value: Vec<u8>) -> Result<PaData, AllocError>
-    ensures { IfOk result (λ entry. entry ≡ entry_of kind value.items) }
+pub(crate) fn pa_data_of(alloc: Global, kind: u32, value: Vec<u8>) -> Result<PaData, AllocError>
+    ensures { IfOk result (λ pa_data. pa_data ≡ pa_data_of kind value.items) }
 {
     let kind = IntegerAsn1::from_u64(alloc, u64::from(kind))?;
     Ok(PaData {
@@ -128,12 +125,12 @@ pub(crate) fn entry_of(alloc: Global, kind: u32, value: Vec<u8>) -> Result<PaDat
     })
 }
 
-// Preauthentication data of one entry.
-fn entries_of(alloc: Global, entry: PaData) -> Result<Asn1SequenceOf<PaData>, AllocError>
-    ensures { IfOk result (λ entries. entries ≡ entry ∷ []) }
+// The padata of one PA-DATA.
+fn padata_in(alloc: Global, pa_data: PaData) -> Result<Asn1SequenceOf<PaData>, AllocError>
+    ensures { IfOk result (λ padata. padata ≡ pa_data ∷ []) }
 {
-    let entries = vec![in alloc; entry]?;
-    Ok(Asn1SequenceOf::from(entries))
+    let padata = vec![in alloc; pa_data]?;
+    Ok(Asn1SequenceOf::from(padata))
 }
 
 fn no_options(alloc: Global) -> Result<KerberosFlags, AllocError>

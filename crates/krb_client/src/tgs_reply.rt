@@ -6,9 +6,9 @@ use crate::read::{open_tgs_part, read_error_code, read_tgs_reply};
 use crate::taking::is_of_type;
 use crate::{Client, Credential, TakeRefusal};
 use krb_asked::TgsAsked;
-use krb_messages::messages::KdcRep;
 use krb_constants::key_usages;
 use krb_constants::types::TGS_REP_MSG_TYPE;
+use krb_messages::messages::KdcRep;
 use std::alloc::Global;
 
 impl Client {

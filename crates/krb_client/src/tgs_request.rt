@@ -7,19 +7,19 @@ ghost use Rattle.krb_crypto.specs.Suites.{cipher_confounder_size};
 ghost use Rattle.krb_client.specs.TgsRequest.{AsksTgs, Authenticates, checksum_over, tgs_asked, tgs_body_bytes, tgs_request_of};
 
 use crate::authenticator::ap_request;
-use crate::kdc_request::{entry_of, kdc_request_of, nonce_of};
+use crate::kdc_request::{kdc_request_of, nonce_of, pa_data_of};
 use crate::{AskRefusal, Client, Credential};
 use krb_accounts::{are_components, components_of};
 use krb_asked::TgsAsked;
+use krb_constants::key_usages;
+use krb_constants::padata_types::PA_TGS_REQ;
+use krb_constants::types::TGS_REQ_MSG_TYPE;
 use krb_crypto::Cipher;
 use krb_encrypted_data::confounder_at;
 use krb_messages::messages::{KdcReq, KdcReqBody};
 use krb_moments::Moment;
-use krb_constants::key_usages;
-use krb_types::random_bytes::AUTHENTICATOR_CONFOUNDER;
-use krb_constants::padata_types::PA_TGS_REQ;
-use krb_constants::types::TGS_REQ_MSG_TYPE;
 use krb_types::data_types::Checksum;
+use krb_types::random_bytes::AUTHENTICATOR_CONFOUNDER;
 use picky_asn1::date::GeneralizedTime;
 use picky_asn1::wrapper::{GeneralStringAsn1, IntegerAsn1, OctetStringAsn1};
 use picky_asn1_der::{ExplicitContextTag, encoding_of, tagged_encoding};
@@ -137,10 +137,10 @@ impl Client {
     ) -> Result<KdcReq, AllocError>
         ensures { IfOk result (λ made. made ≡ tgs_request_of self.now service.now till nonce request.items) }
     {
-        let entry = entry_of(alloc, PA_TGS_REQ, request);
+        let pa_data = pa_data_of(alloc, PA_TGS_REQ, request);
         let body = self.request_body(alloc, false, service, till, nonce);
-        let (entry, body) = both(entry, body)?;
-        kdc_request_of(alloc, TGS_REQ_MSG_TYPE, entry, body)
+        let (pa_data, body) = both(pa_data, body)?;
+        kdc_request_of(alloc, TGS_REQ_MSG_TYPE, pa_data, body)
     }
 }
 
@@ -154,9 +154,11 @@ fn checksum_over(
 {
     let suite = Cipher::checksum_type(&credential.suite());
     let number = IntegerAsn1::from_u64(alloc, u64::from(u8::from(suite)))?;
-    let sum = credential
-        .key()
-        .checksum(alloc, key_usages::TGS_REQ_PA_DATA_AP_REQ_AUTHENTICATOR_CKSUM, text)?;
+    let sum = credential.key().checksum(
+        alloc,
+        key_usages::TGS_REQ_PA_DATA_AP_REQ_AUTHENTICATOR_CKSUM,
+        text,
+    )?;
     Ok(Checksum {
         cksumtype: ExplicitContextTag(number),
         checksum: ExplicitContextTag(OctetStringAsn1::from(sum)),

@@ -1,7 +1,7 @@
 //! The suites as a `Cipher` and a `Checksum`.
 
 ghost use Rattle.std.specs.Prelude.{◌≡◌, length};
-ghost use Rattle.krb_crypto.specs.Sealing.{IsEncryptedBy, IsOpeningRefusal, IsRefusedPassword, IsSealedBy, checksum_of, cipher_filled, encryption_checksum_of, integrity_key_of, password_key_of, seed_key_of};
+ghost use Rattle.krb_crypto.specs.Sealing.{IsEncryptedBy, IsOpeningRefusal, IsRefusedPassword, IsSealedBy, checksum_of, cipher_padded, encryption_checksum_of, integrity_key_of, password_key_of, seed_key_of};
 ghost use Rattle.krb_crypto.specs.Suites.{checksum_key_size, cipher_checksum, cipher_confounder_size, cipher_key_size, cipher_seed_bits, cipher_tag_size};
 
 use crate::cipher::{Checksum, Cipher};
@@ -57,7 +57,7 @@ impl Cipher for CipherSuite {
 
     ghost seals = { IsSealedBy };
 
-    ghost filled = { cipher_filled };
+    ghost padded = { cipher_padded };
 
     ghost refuses = { IsOpeningRefusal };
 

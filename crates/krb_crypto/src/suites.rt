@@ -1,7 +1,7 @@
 //! The suites as types of their own (RFC 3962, section 7; RFC 3961, section 6.3; RFC 8009, section 5).
 
 ghost use Rattle.std.specs.Prelude.{◌≡◌};
-ghost use Rattle.krb_crypto.specs.Sealing.{IsEncryptedBy, IsOpeningRefusal, IsRefusedPassword, IsSealedBy, checksum_of, cipher_filled, encryption_checksum_of, integrity_key_of, password_key_of, seed_key_of};
+ghost use Rattle.krb_crypto.specs.Sealing.{IsEncryptedBy, IsOpeningRefusal, IsRefusedPassword, IsSealedBy, checksum_of, cipher_padded, encryption_checksum_of, integrity_key_of, password_key_of, seed_key_of};
 ghost use Rattle.krb_crypto.specs.Suites.{checksum_key_size, cipher_checksum, cipher_confounder_size, cipher_key_size, cipher_seed_bits, cipher_tag_size};
 ghost use Rattle.krb_crypto.specs.declared.suite.ChecksumSuite.{ChecksumSuite};
 ghost use Rattle.krb_crypto.specs.declared.suite.CipherSuite.{CipherSuite};
@@ -200,7 +200,7 @@ impl<T: CipherType> Cipher for T {
 
     ghost seals = { λ t. IsSealedBy (T.stands_for t) };
 
-    ghost filled = { λ t. cipher_filled (T.stands_for t) };
+    ghost padded = { λ t. cipher_padded (T.stands_for t) };
 
     ghost refuses = { λ t. IsOpeningRefusal (T.stands_for t) };
 

@@ -1,6 +1,6 @@
 pub mod KeySizes
 pub mod FoundKeys
 pub mod Opening
-mod FilledTexts
+mod PaddedTexts
 pub mod Reading
 mod Opened

@@ -1,4 +1,4 @@
-pub mod Filled
+pub mod Padded
 pub mod Found
 pub mod Opens
 pub mod Keys

@@ -8,7 +8,7 @@ use Rattle.aes_cts.specs.declared.error.KerberosCryptoError.{KerberosCryptoError
 use Rattle.aes_cts.specs.declared.error.KerberosCryptoError.TheVariants as crypto
 use Rattle.krb_crypto.specs.Sealing.{IsSealed}
 use Rattle.krb_crypto.specs.declared.suite.CipherSuite.{CipherSuite}
-use Rattle.krb_crypto.proofs.SealingLemmas.{filled_front, one_sealed}
+use Rattle.krb_crypto.proofs.SealingLemmas.{padded_front, one_sealed}
 use Rattle.asn1_der.specs.declared.error.Asn1DerError.{Asn1DerError}
 use Rattle.asn1_der.specs.declared.error.Asn1DerError.TheVariants as der_fault
 use Rattle.krb_encrypted_data.specs.declared.open.OpenFault.{OpenFault}
@@ -38,6 +38,6 @@ pub sole_opens : {T : Type 0} (tree : T → Tree) → IsInjective {T = T} tree �
 sole_opens {T} tree injective number key usage bytes v w x y =
     let suite : CipherSuite = x.sealed.0 in
     let text = (one_sealed number key usage x.conf x.plain y.conf y.plain bytes x.sealed y.sealed).1 in
-    let first = filled_front suite x.plain in
-    let second = filled_front suite y.plain in
+    let first = padded_front suite x.plain in
+    let second = padded_front suite y.plain in
     (one_spelling {T = T} tree injective v w x.plain y.plain first.0 second.0 x.writes y.writes (sym first.1 ∙ text ∙ second.1)).0

@@ -1,11 +1,11 @@
 //! EncryptedData (RFC 4120, section 5.2.9): encryption of a value's encoding under a key, and decryption.
 #![tactic(auto)]
 
-mod filled;
 mod find;
 mod key;
 mod keys;
 mod open;
+mod padded;
 mod random;
 mod seal;
 mod sealed;

@@ -4,7 +4,7 @@ ghost use Rattle.std.specs.Int.{cast_unsigned, w32};
 ghost use Rattle.krb_crypto.specs.Suites.{cipher_number};
 ghost use Rattle.krb_encrypted_data.specs.Opens.{IsOpened, Opens};
 
-use crate::filled::read_filled;
+use crate::padded::read_padded;
 use asn1_codec::{Asn1DerError, Deserialize};
 use krb_crypto::{Cipher, CipherSuite, KerberosCryptoError};
 use std::alloc::Global;
@@ -36,7 +36,7 @@ pub fn open_part<T: Deserialize + Drop>(
         Ok(plain) => plain,
         Err(fault) => return Err(OpenFault::Crypto(fault)),
     };
-    match read_filled(alloc, suite, &plain) {
+    match read_padded(alloc, suite, &plain) {
         Ok(value) => Ok(value),
         Err(fault) => Err(OpenFault::Der(fault)),
     }

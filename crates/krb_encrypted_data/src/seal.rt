@@ -2,7 +2,7 @@
 ghost use Rattle.std.specs.Prelude.{◌≡◌, length, IfOk};
 ghost use Rattle.std.specs.Int.{cast_unsigned, w32};
 ghost use Rattle.krb_crypto.specs.Suites.{cipher_confounder_size};
-ghost use Rattle.krb_encrypted_data.specs.Sealing.{Seals, encrypted_by, key_number};
+ghost use Rattle.krb_encrypted_data.specs.Sealing.{Seals, encrypted_by, tagged_kvno};
 
 use krb_crypto::{CipherSuite, Key};
 use krb_types::data_types::EncryptedData;
@@ -15,30 +15,30 @@ use std::alloc::{AllocError, Global};
 pub fn sealed_data(
     alloc: Global,
     key: &Key,
-    number: Option<u32>,
+    kvno: Option<u32>,
     usage: i32,
     confounder: &[u8],
     plain: &[u8],
 ) -> Result<EncryptedData, AllocError>
     requires { length confounder.now ≡ cipher_confounder_size key.now.suite }
-    ensures { IfOk result (Seals key.now.suite key.now.bytes number (cast_unsigned w32 usage) confounder.now plain.now) }
+    ensures { IfOk result (Seals key.now.suite key.now.bytes kvno (cast_unsigned w32 usage) confounder.now plain.now) }
 {
     let cipher = key.encrypt(alloc, usage, plain, confounder)?;
-    let sealed = encrypted_by(alloc, key.suite(), number, cipher)?;
+    let sealed = encrypted_by(alloc, key.suite(), kvno, cipher)?;
     Ok(sealed)
 }
 
-// The ciphertext with the number of its suite and of the key.
+// The ciphertext with the number of its suite and the kvno of its key.
 fn encrypted_by(
     alloc: Global,
     suite: CipherSuite,
-    number: Option<u32>,
+    kvno: Option<u32>,
     cipher: Vec<u8>,
 ) -> Result<EncryptedData, AllocError>
-    ensures { IfOk result (λ made. made ≡ encrypted_by suite number cipher.items) }
+    ensures { IfOk result (λ made. made ≡ encrypted_by suite kvno cipher.items) }
 {
     let etype = IntegerAsn1::from_u64(alloc, u64::from(u8::from(suite)))?;
-    let kvno = key_number(alloc, number)?;
+    let kvno = tagged_kvno(alloc, kvno)?;
     Ok(EncryptedData {
         etype: ExplicitContextTag(etype),
         kvno: Optional(kvno),
@@ -46,15 +46,15 @@ fn encrypted_by(
     })
 }
 
-fn key_number(
+fn tagged_kvno(
     alloc: Global,
-    number: Option<u32>,
+    kvno: Option<u32>,
 ) -> Result<Option<ExplicitContextTag1<IntegerAsn1>>, AllocError>
-    ensures { IfOk result (λ made. made ≡ key_number number) }
+    ensures { IfOk result (λ made. made ≡ tagged_kvno kvno) }
 {
-    let Some(number) = number else {
+    let Some(kvno) = kvno else {
         return Ok(None);
     };
-    let number = IntegerAsn1::from_u64(alloc, u64::from(number))?;
-    Ok(Some(ExplicitContextTag(number)))
+    let kvno = IntegerAsn1::from_u64(alloc, u64::from(kvno))?;
+    Ok(Some(ExplicitContextTag(kvno)))
 }

@@ -17,8 +17,8 @@ use Rattle.krb_types.specs.Trees.{pa_data_tree}
 use Rattle.krb_types.specs.declared.data_types.pa_data.PaData.{PaData}
 use Rattle.krb_messages.specs.Trees.{kdc_req_body_tree, kdc_req_inner_tree}
 use Rattle.krb_messages.specs.declared.messages.kdc_req.KdcReq.{KdcReq}
-use Rattle.krb_preauth.specs.Entries.{first_entry, first_of}
-use Rattle.krb_kdc_requests.specs.Requests.{body_bytes, entries_of}
+use Rattle.krb_preauth.specs.Padata.{first_padata, first_of}
+use Rattle.krb_kdc_requests.specs.Requests.{body_bytes, padata_in}
 
 -- a part of a part is a part
 pub within : (path further bytes inner part : List ℕ) → IsPart bytes path inner → IsPart inner further part → IsPart bytes (path ++ further) part
@@ -118,43 +118,43 @@ unfolding body_bytes
 body_part first low bytes request is there =
     subst (λ (l : List ℕ). IsPart l (0 ∷ 3 ∷ 0 ∷ []) (body_bytes request.req_body.0)) (sym is.1)
     (body_in (integer_tree request.pvno.0) (integer_tree request.msg_type.0) (kdc_req_body_tree request.req_body.0)
-    (λ entries. constructed 48 (trees_of pa_data_tree entries.0)) first request.padata.0 _ low refl there is.0)
+    (λ padata. constructed 48 (trees_of pa_data_tree padata.0)) first request.padata.0 _ low refl there is.0)
 
 -- padata, as elements
 abbrev raw_of : PaData → Raw
-raw_of entry = record { first = 48; content = ders (more (wrapped 161 (integer_tree entry.padata_type.0)) (more (wrapped 162 (primitive 4 entry.padata_data.0)) none)) }
+raw_of pa_data = record { first = 48; content = ders (more (wrapped 161 (integer_tree pa_data.padata_type.0)) (more (wrapped 162 (primitive 4 pa_data.padata_data.0)) none)) }
 
 abbrev raws_of : List PaData → List Raw
 raws_of [] = []
-raws_of (entry ∷ entries) = raw_of entry ∷ raws_of entries
+raws_of (pa_data ∷ padata) = raw_of pa_data ∷ raws_of padata
 
-are_padata : (entries : List PaData) → AreElements (raws_of entries) (ders (trees_of pa_data_tree entries))
+are_padata : (padata : List PaData) → AreElements (raws_of padata) (ders (trees_of pa_data_tree padata))
 are_padata [] = refl
-are_padata (entry ∷ entries) = (_, (refl, refl), are_padata entries)
+are_padata (pa_data ∷ padata) = (_, (refl, refl), are_padata padata)
 
 -- one that is found has a number
-numbered : (test : PaData → Bool) (entries : List PaData) (entry : PaData) → find test entries ≡ Some entry → (n : ℕ) × (slice_get (raws_of entries) n ≡ Some (raw_of entry))
-numbered test [] entry e = absurd (cc (e))
-numbered test (own ∷ entries) entry e = by_test (test own) (λ f. numbered test entries entry f) e
+numbered : (test : PaData → Bool) (padata : List PaData) (pa_data : PaData) → find test padata ≡ Some pa_data → (n : ℕ) × (slice_get (raws_of padata) n ≡ Some (raw_of pa_data))
+numbered test [] pa_data e = absurd (cc (e))
+numbered test (own ∷ padata) pa_data e = by_test (test own) (λ f. numbered test padata pa_data f) e
   where
-    by_test : (b : Bool) → (find test entries ≡ Some entry → (n : ℕ) × (slice_get (raws_of entries) n ≡ Some (raw_of entry)))
-        → (if b then Some own else find test entries) ≡ Some entry → (n : ℕ) × (slice_get (raws_of (own ∷ entries)) n ≡ Some (raw_of entry))
-    by_test true rest f = let same : own ≡ entry = cc (f) in (0, ap (λ v. Some (raw_of v)) same)
+    by_test : (b : Bool) → (find test padata ≡ Some pa_data → (n : ℕ) × (slice_get (raws_of padata) n ≡ Some (raw_of pa_data)))
+        → (if b then Some own else find test padata) ≡ Some pa_data → (n : ℕ) × (slice_get (raws_of (own ∷ padata)) n ≡ Some (raw_of pa_data))
+    by_test true rest f = let same : own ≡ pa_data = cc (f) in (0, ap (λ v. Some (raw_of v)) same)
     by_test false rest f = let later = rest f in (suc later.0, later.1)
 
 -- its data is an OCTET STRING
-data_in : (entry : PaData) → IsPart (der (pa_data_tree entry)) (1 ∷ 0 ∷ []) (element 4 entry.padata_data.0)
-data_in entry =
-    let octets : Raw = record { first = 4; content = entry.padata_data.0 } in
-    let two : Raw = tagged 162 (primitive 4 entry.padata_data.0) in
-    let one : Raw = tagged 161 (integer_tree entry.padata_type.0) in (
-      raw_of entry,
-      der (wrapped 162 (primitive 4 entry.padata_data.0)),
-      (refl, sym (append-nil (element 48 (raw_of entry).content))),
-      (one ∷ two ∷ [], two, (_, split_tagged 161 (integer_tree entry.padata_type.0) _ refl (tt, tt), (_, split_tagged 162 (primitive 4 entry.padata_data.0) _ refl (tt, tt), refl)), refl, der-wrapped 162 (primitive 4 entry.padata_data.0) tt),
-      in_tagged 162 (primitive 4 entry.padata_data.0) 0 [] (element 4 entry.padata_data.0) refl (tt, tt) (
-        element 4 entry.padata_data.0,
-        (octets ∷ [], octets, ([], (refl, sym (append-nil (element 4 entry.padata_data.0))), refl), refl, refl),
+data_in : (pa_data : PaData) → IsPart (der (pa_data_tree pa_data)) (1 ∷ 0 ∷ []) (element 4 pa_data.padata_data.0)
+data_in pa_data =
+    let octets : Raw = record { first = 4; content = pa_data.padata_data.0 } in
+    let two : Raw = tagged 162 (primitive 4 pa_data.padata_data.0) in
+    let one : Raw = tagged 161 (integer_tree pa_data.padata_type.0) in (
+      raw_of pa_data,
+      der (wrapped 162 (primitive 4 pa_data.padata_data.0)),
+      (refl, sym (append-nil (element 48 (raw_of pa_data).content))),
+      (one ∷ two ∷ [], two, (_, split_tagged 161 (integer_tree pa_data.padata_type.0) _ refl (tt, tt), (_, split_tagged 162 (primitive 4 pa_data.padata_data.0) _ refl (tt, tt), refl)), refl, der-wrapped 162 (primitive 4 pa_data.padata_data.0) tt),
+      in_tagged 162 (primitive 4 pa_data.padata_data.0) 0 [] (element 4 pa_data.padata_data.0) refl (tt, tt) (
+        element 4 pa_data.padata_data.0,
+        (octets ∷ [], octets, ([], (refl, sym (append-nil (element 4 pa_data.padata_data.0))), refl), refl, refl),
         refl,
       ),
     )
@@ -169,53 +169,53 @@ held_in value m path part (raw, inner, splits, at, further) = (
   (raw, inner, splits, at, further),
 )
 
--- the data of the first entry of a type is at a place in the padata
-entry_in : (entries : List PaData) (kind : ℕ) (value : List ℕ) → first_of kind entries ≡ Some value
-    → (n : ℕ) × IsPart (der (constructed 48 (trees_of pa_data_tree entries))) (n ∷ 1 ∷ 0 ∷ []) (element 4 value)
-unfolding first_of first_entry
-entry_in entries kind value e = by_entry (find (λ entry. is_number kind entry.padata_type.0) entries) refl e
+-- the data of the first padata of a type is at a place in the padata
+padata_value_in : (padata : List PaData) (kind : ℕ) (value : List ℕ) → first_of kind padata ≡ Some value
+    → (n : ℕ) × IsPart (der (constructed 48 (trees_of pa_data_tree padata))) (n ∷ 1 ∷ 0 ∷ []) (element 4 value)
+unfolding first_of first_padata
+padata_value_in padata kind value e = by_padata (find (λ pa_data. is_number kind pa_data.padata_type.0) padata) refl e
   where
-    by_entry : (found : Option PaData) → find (λ entry. is_number kind entry.padata_type.0) entries ≡ found → option_map (λ entry. entry.padata_data.0) found ≡ Some value
-        → (n : ℕ) × IsPart (der (constructed 48 (trees_of pa_data_tree entries))) (n ∷ 1 ∷ 0 ∷ []) (element 4 value)
-    by_entry None is f = absurd (cc (f))
-    by_entry (Some entry) is f =
-        let same : entry.padata_data.0 ≡ value = cc (f) in
-        let at = numbered (λ entry. is_number kind entry.padata_type.0) entries entry is in (
+    by_padata : (found : Option PaData) → find (λ pa_data. is_number kind pa_data.padata_type.0) padata ≡ found → option_map (λ pa_data. pa_data.padata_data.0) found ≡ Some value
+        → (n : ℕ) × IsPart (der (constructed 48 (trees_of pa_data_tree padata))) (n ∷ 1 ∷ 0 ∷ []) (element 4 value)
+    by_padata None is f = absurd (cc (f))
+    by_padata (Some pa_data) is f =
+        let same : pa_data.padata_data.0 ≡ value = cc (f) in
+        let at = numbered (λ pa_data. is_number kind pa_data.padata_type.0) padata pa_data is in (
           at.0,
-          subst (λ (v : List ℕ). IsPart (der (constructed 48 (trees_of pa_data_tree entries))) (at.0 ∷ 1 ∷ 0 ∷ []) (element 4 v)) same (
-            record { first = 48; content = ders (trees_of pa_data_tree entries) },
-            der (pa_data_tree entry),
-            (refl, sym (append-nil (element 48 (ders (trees_of pa_data_tree entries))))),
-            (raws_of entries, raw_of entry, are_padata entries, at.1, refl),
-            data_in entry,
+          subst (λ (v : List ℕ). IsPart (der (constructed 48 (trees_of pa_data_tree padata))) (at.0 ∷ 1 ∷ 0 ∷ []) (element 4 v)) same (
+            record { first = 48; content = ders (trees_of pa_data_tree padata) },
+            der (pa_data_tree pa_data),
+            (refl, sym (append-nil (element 48 (ders (trees_of pa_data_tree padata))))),
+            (raws_of padata, raw_of pa_data, are_padata padata, at.1, refl),
+            data_in pa_data,
           ),
         )
 
-no_entry : (kind : ℕ) (value : List ℕ) → first_of kind [] ≡ Some value → ⊥
-unfolding first_of first_entry
-no_entry kind value e = cc (e)
+no_padata : (kind : ℕ) (value : List ℕ) → first_of kind [] ≡ Some value → ⊥
+unfolding first_of first_padata
+no_padata kind value e = cc (e)
 
 -- what a request is made of, with other padata or none
 abbrev with_padata : ℕ → KdcReq → Option (ExplicitContextTag 3 (List PaData)) → Tree
 with_padata first request given =
-    wrapped first (constructed 48 (fields (integer_tree request.pvno.0) (integer_tree request.msg_type.0) (kdc_req_body_tree request.req_body.0) (λ entries. constructed 48 (trees_of pa_data_tree entries.0)) given))
+    wrapped first (constructed 48 (fields (integer_tree request.pvno.0) (integer_tree request.msg_type.0) (kdc_req_body_tree request.req_body.0) (λ padata. constructed 48 (trees_of pa_data_tree padata.0)) given))
 
 in_given : (first : ℕ) → has_low_number first ≡ true → (request : KdcReq) (kind : ℕ) (value : List ℕ) (given : Option (ExplicitContextTag 3 (List PaData)))
-    → IsWhole (with_padata first request given) → first_of kind (option_map_or (λ entries. entries.0) given []) ≡ Some value
+    → IsWhole (with_padata first request given) → first_of kind (option_map_or (λ padata. padata.0) given []) ≡ Some value
     → (n : ℕ) × IsPart (der (with_padata first request given)) (0 ∷ 2 ∷ 0 ∷ n ∷ 1 ∷ 0 ∷ []) (element 4 value)
-in_given first low request kind value None whole e = absurd (no_entry kind value e)
-in_given first low request kind value (Some entries) whole e =
-    let at = entry_in entries.0 kind value e in
-    let sequence = constructed 48 (trees_of pa_data_tree entries.0) in (
+in_given first low request kind value None whole e = absurd (no_padata kind value e)
+in_given first low request kind value (Some padata) whole e =
+    let at = padata_value_in padata.0 kind value e in
+    let sequence = constructed 48 (trees_of pa_data_tree padata.0) in (
       at.0,
-      within (0 ∷ 2 ∷ 0 ∷ []) (at.0 ∷ 1 ∷ 0 ∷ []) (der (with_padata first request (Some entries))) (der sequence) (element 4 value)
-          (in_third (integer_tree request.pvno.0) (integer_tree request.msg_type.0) sequence (kdc_req_body_tree request.req_body.0) first (trees_of pa_data_tree entries.0) low refl whole)
+      within (0 ∷ 2 ∷ 0 ∷ []) (at.0 ∷ 1 ∷ 0 ∷ []) (der (with_padata first request (Some padata))) (der sequence) (element 4 value)
+          (in_third (integer_tree request.pvno.0) (integer_tree request.msg_type.0) sequence (kdc_req_body_tree request.req_body.0) first (trees_of pa_data_tree padata.0) low refl whole)
           at.1,
     )
 
--- the data of the first entry of a type, in a request
+-- the data of the first padata of a type, in a request
 pub padata_part : (first : ℕ) → has_low_number first ≡ true → (bytes : Bytes) (request : KdcReq) (kind : ℕ) (value : List ℕ) → Writes (λ r. wrapped first (kdc_req_inner_tree r)) request bytes
-    → first_of kind (entries_of request) ≡ Some value → (n : ℕ) × IsPart bytes (0 ∷ 2 ∷ 0 ∷ n ∷ 1 ∷ 0 ∷ []) (element 4 value)
+    → first_of kind (padata_in request) ≡ Some value → (n : ℕ) × IsPart bytes (0 ∷ 2 ∷ 0 ∷ n ∷ 1 ∷ 0 ∷ []) (element 4 value)
 padata_part first low bytes request kind value is e =
     let found = in_given first low request kind value request.padata.0 is.0 e in
     (found.0, subst (λ (l : List ℕ). IsPart l (0 ∷ 2 ∷ 0 ∷ found.0 ∷ 1 ∷ 0 ∷ []) (element 4 value)) (sym is.1) found.1)

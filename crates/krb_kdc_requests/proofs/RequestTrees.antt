@@ -11,7 +11,7 @@ use Rattle.krb_types.specs.declared.data_types.principal_name.PrincipalName.{Pri
 use Rattle.krb_messages.specs.Trees.{kdc_req_body_tree, kdc_req_inner_tree}
 use Rattle.krb_messages.specs.declared.messages.kdc_req.KdcReq.{KdcReq}
 use Rattle.krb_messages.specs.declared.messages.kdc_req_body.KdcReqBody.{KdcReqBody}
-use Rattle.krb_preauth.specs.Entries.{first_entry, first_of}
+use Rattle.krb_preauth.specs.Padata.{first_padata, first_of}
 use Rattle.krb_kdc_requests.proofs.Short.{AllFit, Fits, IsShort, behind_optional, content_of, head, in_tag, in_wrapped, inside, looser_all, no_trees, tail}
 use Rattle.krb_kdc_requests.proofs.PartTrees.{integer_tree, principal_name_tree, realm_tree, time_tree}
 
@@ -26,7 +26,7 @@ in_optional n first tree get (Some a) trees b e x =
 -- the body of a request
 pub body_fits : (n : ℕ) (request : KdcReq) → Fits n (kdc_req_inner_tree request) → Fits n (kdc_req_body_tree request.req_body.0)
 body_fits n request x =
-    in_tag n 164 _ (head n _ _ (behind_optional n (λ entries. wrapped 163 (constructed 48 (trees_of pa_data_tree entries.0))) request.padata.0 _ (tail n _ _ (tail n _ _ (inside n 48 _ x)))))
+    in_tag n 164 _ (head n _ _ (behind_optional n (λ padata. wrapped 163 (constructed 48 (trees_of pa_data_tree padata.0))) request.padata.0 _ (tail n _ _ (tail n _ _ (inside n 48 _ x)))))
 
 module _ (n : ℕ) (body : KdcReqBody) (x : Fits n (kdc_req_body_tree body)) where
   pub client_fits : (name : PrincipalName) → option_map (λ tagged. tagged.0) body.cname.0 ≡ Some name → Fits n (principal_name_tree name)
@@ -50,28 +50,28 @@ module _ (n : ℕ) (body : KdcReqBody) (x : Fits n (kdc_req_body_tree body)) whe
       let from_nonce = behind_optional n (λ tagged. wrapped 166 (time_tree tagged.0.0)) body.rtime.0 _ (tail n _ _ from_end) in
       in_tag n 167 (integer_tree body.nonce.0) (head n _ _ from_nonce)
 
--- the data of the entries of a request
-entry_fits : (n : ℕ) (entry : PaData) → Fits n (pa_data_tree entry) → IsShort n entry.padata_data.0
-entry_fits n entry x = content_of n 4 entry.padata_data.0 (in_tag n 162 _ (head n _ _ (tail n _ _ (inside n 48 _ x))))
+-- the data of the padata of a request
+pa_data_fits : (n : ℕ) (pa_data : PaData) → Fits n (pa_data_tree pa_data) → IsShort n pa_data.padata_data.0
+pa_data_fits n pa_data x = content_of n 4 pa_data.padata_data.0 (in_tag n 162 _ (head n _ _ (tail n _ _ (inside n 48 _ x))))
 
-found_fits : (n : ℕ) (test : PaData → Bool) (entries : List PaData) (entry : PaData) → AllFit n (trees_of pa_data_tree entries) → find test entries ≡ Some entry → Fits n (pa_data_tree entry)
-found_fits n test [] entry x e = absurd (cc (e))
-found_fits n test (own ∷ entries) entry x e =
-    by_test (test own) refl (λ f. found_fits n test entries entry (tail n (pa_data_tree own) (trees_of pa_data_tree entries) x) f) e
+found_fits : (n : ℕ) (test : PaData → Bool) (padata : List PaData) (pa_data : PaData) → AllFit n (trees_of pa_data_tree padata) → find test padata ≡ Some pa_data → Fits n (pa_data_tree pa_data)
+found_fits n test [] pa_data x e = absurd (cc (e))
+found_fits n test (own ∷ padata) pa_data x e =
+    by_test (test own) refl (λ f. found_fits n test padata pa_data (tail n (pa_data_tree own) (trees_of pa_data_tree padata) x) f) e
   where
-    by_test : (b : Bool) → test own ≡ b → (find test entries ≡ Some entry → Fits n (pa_data_tree entry)) → (if b then Some own else find test entries) ≡ Some entry → Fits n (pa_data_tree entry)
-    by_test true is rest e = let same : own ≡ entry = cc (e) in subst (λ v. Fits n (pa_data_tree v)) same (head n (pa_data_tree own) (trees_of pa_data_tree entries) x)
+    by_test : (b : Bool) → test own ≡ b → (find test padata ≡ Some pa_data → Fits n (pa_data_tree pa_data)) → (if b then Some own else find test padata) ≡ Some pa_data → Fits n (pa_data_tree pa_data)
+    by_test true is rest e = let same : own ≡ pa_data = cc (e) in subst (λ v. Fits n (pa_data_tree v)) same (head n (pa_data_tree own) (trees_of pa_data_tree padata) x)
     by_test false is rest e = rest e
 
-data_fits : (n kind : ℕ) (entries : List PaData) (data_bytes : List ℕ) → AllFit n (trees_of pa_data_tree entries) → first_of kind entries ≡ Some data_bytes → IsShort n data_bytes
-unfolding first_of first_entry
-data_fits n kind entries data_bytes x e = by_entry (find (λ entry. is_number kind entry.padata_type.0) entries) refl e
+data_fits : (n kind : ℕ) (padata : List PaData) (data_bytes : List ℕ) → AllFit n (trees_of pa_data_tree padata) → first_of kind padata ≡ Some data_bytes → IsShort n data_bytes
+unfolding first_of first_padata
+data_fits n kind padata data_bytes x e = by_padata (find (λ pa_data. is_number kind pa_data.padata_type.0) padata) refl e
   where
-    by_entry : (found : Option PaData) → find (λ entry. is_number kind entry.padata_type.0) entries ≡ found → option_map (λ entry. entry.padata_data.0) found ≡ Some data_bytes → IsShort n data_bytes
-    by_entry None is e = absurd (cc (e))
-    by_entry (Some entry) is e =
-        let same : entry.padata_data.0 ≡ data_bytes = cc (e) in
-        subst (IsShort n) same (entry_fits n entry (found_fits n (λ entry. is_number kind entry.padata_type.0) entries entry x is))
+    by_padata : (found : Option PaData) → find (λ pa_data. is_number kind pa_data.padata_type.0) padata ≡ found → option_map (λ pa_data. pa_data.padata_data.0) found ≡ Some data_bytes → IsShort n data_bytes
+    by_padata None is e = absurd (cc (e))
+    by_padata (Some pa_data) is e =
+        let same : pa_data.padata_data.0 ≡ data_bytes = cc (e) in
+        subst (IsShort n) same (pa_data_fits n pa_data (found_fits n (λ pa_data. is_number kind pa_data.padata_type.0) padata pa_data x is))
 
 pub entries_fit : (n : ℕ) (request : KdcReq) → Fits n (kdc_req_inner_tree request) → AllFit n (trees_of pa_data_tree (option_map_or (λ tagged. tagged.0) request.padata.0 []))
 entries_fit n request x = by_data request.padata.0 (tail n _ _ (tail n _ _ (inside n 48 _ x)))
@@ -81,6 +81,6 @@ entries_fit n request x = by_data request.padata.0 (tail n _ _ (tail n _ _ (insi
     by_data None y = looser_all 0 n none (omega arith) no_trees
     by_data (Some tagged) y = inside n 48 _ (in_tag n 163 _ (head n _ _ y))
 
-pub entry_short : (n kind : ℕ) (request : KdcReq) (entry : List ℕ) → Fits n (kdc_req_inner_tree request)
-    → first_of kind (option_map_or (λ tagged. tagged.0) request.padata.0 []) ≡ Some entry → IsShort n entry
-entry_short n kind request entry x e = data_fits n kind (option_map_or (λ tagged. tagged.0) request.padata.0 []) entry (entries_fit n request x) e
+pub padata_short : (n kind : ℕ) (request : KdcReq) (value : List ℕ) → Fits n (kdc_req_inner_tree request)
+    → first_of kind (option_map_or (λ tagged. tagged.0) request.padata.0 []) ≡ Some value → IsShort n value
+padata_short n kind request value x e = data_fits n kind (option_map_or (λ tagged. tagged.0) request.padata.0 []) value (entries_fit n request x) e

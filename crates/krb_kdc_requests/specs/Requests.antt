@@ -43,9 +43,9 @@ abbrev pub account_of : Look → Option PrincipalName → Option AccountRecord
 account_of look None = None
 account_of look (Some name) = look (components name)
 
--- the preauthentication entries of a request
-abbrev pub entries_of : KdcReq → List PaData
-entries_of request = option_map_or (λ tagged. tagged.0) request.padata.0 []
+-- the padata of a request
+abbrev pub padata_in : KdcReq → List PaData
+padata_in request = option_map_or (λ tagged. tagged.0) request.padata.0 []
 
 -- the one encoding of a request's body
 unfoldable pub body_bytes : KdcReqBody → Bytes

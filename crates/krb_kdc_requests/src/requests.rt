@@ -2,7 +2,7 @@
 ghost use Rattle.std.specs.Prelude.{◌≡◌, ◌≤◌, length, IfOk};
 ghost use Rattle.std.specs.Option.{option_copied, option_map};
 ghost use Rattle.krb_accounts.specs.Accounts.{look_in};
-ghost use Rattle.krb_kdc_requests.specs.Requests.{account_of, addressed, client_of, entries_of, has_refused_option, is_ended, is_postdated, lasting, service_of};
+ghost use Rattle.krb_kdc_requests.specs.Requests.{account_of, addressed, client_of, padata_in, has_refused_option, is_ended, is_postdated, lasting, service_of};
 ghost use Rattle.krb_tickets.specs.Parts.{session_key_of};
 ghost use Rattle.krb_types.specs.Refusals.{IsJudged};
 ghost use Rattle.picky_asn1.specs.GeneralizedTime.{seconds_of};
@@ -89,9 +89,9 @@ pub fn account_of<'a>(accounts: &'a Accounts, name: Option<&PrincipalName>) -> O
     accounts.get(name.name_string.0.as_slice())
 }
 
-/// The preauthentication entries of a request.
-pub fn entries_of(request: &KdcReq) -> &[PaData]
-    ensures { result.now ≡ entries_of request.now }
+/// The padata of a request.
+pub fn padata_in(request: &KdcReq) -> &[PaData]
+    ensures { result.now ≡ padata_in request.now }
 {
     match &request.padata.0 {
         Some(tagged) => tagged.0.as_slice(),

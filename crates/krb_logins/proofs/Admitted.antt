@@ -114,7 +114,7 @@ module _ (client : ClientRecord) (means : MeansRecord) (realm : RealmRecord) (ro
         kind = refl;
         realm = same_realm realm.name service.entry.realm (sym met.honest.named.service);
         name = same_name login.service service.entry.components met.honest.named.asked;
-        number = own_number service.entry.number;
+        kvno = own_number service.entry.kvno;
         part_etype = own_number (cipher_number service.entry.suite);
         started = not_early grant service.seen.skew (clock_of before login) begun;
         lasts = not_late grant service.seen.skew (clock_of before login) further_reaches;
@@ -148,7 +148,7 @@ module _ (client : ClientRecord) (means : MeansRecord) (realm : RealmRecord) (ro
         shows bytes asks =
             let account = met.honest.service.account in
             let plain : Bytes = ticket_part_bytes (ticket_part grant) in
-            let sealed = under_entry account service.entry 2 for_part plain held.part met.honest.service.suite met.honest.service.key met.honest.service.number held.sealed in
+            let sealed = under_entry account service.entry 2 for_part plain held.part met.honest.service.suite met.honest.service.key met.honest.service.kvno held.sealed in
             let names = component_texts client.components met.parties.name in
             let asked = subst (λ n. are_texts n ≡ true) (sym met.honest.named.asked) (component_texts service.entry.components met.parties.entry.1) in
             presents true service.entry grant credential authenticator for_part for_authenticator bytes held.part

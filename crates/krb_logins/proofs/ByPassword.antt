@@ -7,7 +7,7 @@ use Rattle.krb_moments.specs.Skew.{is_far}
 use Rattle.krb_moments.specs.Units.{Micros}
 use Rattle.krb_crypto.specs.Suites.{cipher_confounder_size}
 use Rattle.krb_crypto.specs.declared.suite.CipherSuite.{CipherSuite}
-use Rattle.krb_types.specs.RandomBytes.{stamp_confounder}
+use Rattle.krb_types.specs.RandomBytes.{timestamp_confounder}
 use Rattle.krb_types.specs.declared.data_types.encrypted_data.EncryptedData.{EncryptedData}
 use Rattle.krb_types.specs.declared.data_types.pa_data.PaData.{PaData}
 use Rattle.krb_types.specs.declared.data_types.pa_enc_timestamp.PaEncTsEnc.{PaEncTsEnc}
@@ -16,19 +16,19 @@ use Rattle.krb_accounts.specs.Account.{AccountRecord}
 use Rattle.decision_tables.specs.Tables.{Table, ask, done, need, refuse}
 use Rattle.krb_encrypted_data.specs.Sealing.{sealed_opens}
 use Rattle.krb_pkinit.specs.Rows.{PkinitRows}
-use Rattle.krb_preauth.specs.Entries.{first_entry, first_of}
-use Rattle.krb_preauth.specs.Stamps as preauth
-use Rattle.krb_preauth.specs.Stamps.{moment_of, sole_stamp, stamp_tree}
+use Rattle.krb_preauth.specs.Padata.{first_padata, first_of}
+use Rattle.krb_preauth.specs.EncryptedTimestamps as preauth
+use Rattle.krb_preauth.specs.EncryptedTimestamps.{moment_of, sole_encrypted_timestamp, timestamp_tree}
 use Rattle.krb_tickets.specs.ReplyKeys.{ReplyKeyRecord, as_reply_key}
 use Rattle.krb_as.specs.AsTable.{authenticated, authenticated_by, timestamped}
 use Rattle.krb_kdc_requests.specs.Call.{CallRecord, skew_of}
 use Rattle.krb_kdc_requests.specs.Calls.{AreKeyed}
-use Rattle.krb_kdc_requests.specs.Requests.{entries_of}
+use Rattle.krb_kdc_requests.specs.Requests.{padata_in}
 use Rattle.krb_client.specs.AsRequest.{as_request_of}
 use Rattle.krb_client.specs.Client.{ClientRecord}
-use Rattle.krb_client.specs.Messages.{encrypted_bytes, stamp_bytes}
-use Rattle.krb_client.specs.Requests.{entry_of}
-use Rattle.krb_client.specs.Stamps.{IsSealedTime, IsStamped, by_key, stamp_of}
+use Rattle.krb_client.specs.Messages.{encrypted_bytes, timestamp_bytes}
+use Rattle.krb_client.specs.Requests.{pa_data_of}
+use Rattle.krb_client.specs.EncryptedTimestamps.{IsSealedTime, IsPaEncTimestamp, by_key, timestamp_of}
 use Rattle.krb_service.specs.Service.{ServiceRecord}
 use Rattle.krb_logins.specs.Authenticated.{IsAgreedKey, IsAuthenticated, first_asked, first_body}
 use Rattle.krb_logins.specs.Honest.{AreEnough, AreParties, IsGranting, IsHonestByPassword, common_skew}
@@ -39,37 +39,37 @@ use Rattle.krb_logins.proofs.Giving.{by_ask, by_need, by_refuse}
 use Rattle.krb_logins.proofs.Opened.{opened_by}
 use Rattle.krb_logins.proofs.Passing.{past_then}
 use Rattle.krb_logins.proofs.Times.{lesser, moment_told, near}
-use Rattle.krb_logins.proofs.WholeRequests.{writes_encrypted, writes_stamp}
+use Rattle.krb_logins.proofs.WholeRequests.{writes_encrypted, writes_timestamp}
 
 -- the first entry is the only one
-no_pkinit : (value : Bytes) → first_of 16 (entry_of 2 value ∷ []) ≡ None
-unfolding first_of first_entry
+no_pkinit : (value : Bytes) → first_of 16 (pa_data_of 2 value ∷ []) ≡ None
+unfolding first_of first_padata
 no_pkinit value = refl
 
-own_entry : (value : Bytes) → first_of 2 (entry_of 2 value ∷ []) ≡ Some value
-unfolding first_of first_entry
-own_entry value = refl
+own_padata : (value : Bytes) → first_of 2 (pa_data_of 2 value ∷ []) ≡ Some value
+unfolding first_of first_padata
+own_padata value = refl
 
-stamp_told : (second : GeneralizedTime) (moment : Micros) → seconds_of second ≡ moment / 1000000 → moment_of (stamp_of second (moment % 1000000)) ≡ Some moment
+timestamp_told : (second : GeneralizedTime) (moment : Micros) → seconds_of second ≡ moment / 1000000 → moment_of (timestamp_of second (moment % 1000000)) ≡ Some moment
 unfolding moment_of
-stamp_told second moment e = moment_told moment (seconds_of second) e
+timestamp_told second moment e = moment_told moment (seconds_of second) e
 
 -- the account opens what the client sealed
-stamp_opens : (suite : CipherSuite) (key : Bytes) (account : AccountRecord) (moment : Micros) (confounder : Bytes) (sealed : EncryptedData)
+timestamp_opens : (suite : CipherSuite) (key : Bytes) (account : AccountRecord) (moment : Micros) (confounder : Bytes) (sealed : EncryptedData)
     → account.suite ≡ suite → account.key ≡ key → (it : IsSealedTime suite key moment confounder sealed)
-    → preauth.IsStamp account (encrypted_bytes sealed) (stamp_of it.second (moment % 1000000))
-stamp_opens suite key account moment confounder sealed same_suite same_key it =
-    let value = stamp_of it.second (moment % 1000000) in
+    → preauth.IsEncryptedTimestamp account (encrypted_bytes sealed) (timestamp_of it.second (moment % 1000000))
+timestamp_opens suite key account moment confounder sealed same_suite same_key it =
+    let value = timestamp_of it.second (moment % 1000000) in
     record {
       sealed = sealed;
       writes = writes_encrypted sealed;
-      opens = opened_by {T = PaEncTsEnc} stamp_tree suite account.suite key account.key 1 sealed value (sym same_suite) (sym same_key)
-          (sealed_opens {T = PaEncTsEnc} stamp_tree value suite key None 1 confounder (stamp_bytes value) sealed (writes_stamp value) it.sealed);
+      opens = opened_by {T = PaEncTsEnc} timestamp_tree suite account.suite key account.key 1 sealed value (sym same_suite) (sym same_key)
+          (sealed_opens {T = PaEncTsEnc} timestamp_tree value suite key None 1 confounder (timestamp_bytes value) sealed (writes_timestamp value) it.sealed);
     }
 
-module _ (call : CallRecord) (account : AccountRecord) (value : Bytes) (stamp : PaEncTsEnc) (moment : Micros) where
-  abbrev entries : List PaData
-  entries = entry_of 2 value ∷ []
+module _ (call : CallRecord) (account : AccountRecord) (value : Bytes) (timestamp : PaEncTsEnc) (moment : Micros) where
+  abbrev padata : List PaData
+  padata = pa_data_of 2 value ∷ []
 
   abbrev near_row : Micros → Table (Result (Unit {0}) ℕ)
   near_row time = refuse (is_far (skew_of call) call.moment time) 37 (done (Ok tt))
@@ -77,24 +77,24 @@ module _ (call : CallRecord) (account : AccountRecord) (value : Bytes) (stamp : 
   abbrev told_row : PaEncTsEnc → Table (Result (Unit {0}) ℕ)
   told_row own = need (moment_of own) 24 near_row
 
-  abbrev stamp_row : Bytes → Table (Result (Unit {0}) ℕ)
-  stamp_row entry = ask (preauth.IsStamp account entry) (sole_stamp account entry) (done (Err 24)) told_row
+  abbrev timestamp_row : Bytes → Table (Result (Unit {0}) ℕ)
+  timestamp_row bytes = ask (preauth.IsEncryptedTimestamp account bytes) (sole_encrypted_timestamp account bytes) (done (Err 24)) told_row
 
-  shown_in_time : preauth.IsStamp account value stamp → moment_of stamp ≡ Some moment → is_far (skew_of call) call.moment moment ≡ false
-      → (timestamped call account entries).gives (Ok tt)
+  shown_in_time : preauth.IsEncryptedTimestamp account value timestamp → moment_of timestamp ≡ Some moment → is_far (skew_of call) call.moment moment ≡ false
+      → (timestamped call account padata).gives (Ok tt)
   shown_in_time is told in_time =
-      by_need {T = Unit {0}} {E = ℕ} (first_of 2 entries) 25 stamp_row value (Ok tt) (own_entry value)
-      (by_ask (preauth.IsStamp account value) (sole_stamp account value) (done (Err 24)) told_row stamp (Ok tt) is
-      (by_need {T = Unit {0}} {E = ℕ} (moment_of stamp) 24 near_row moment (Ok tt) told
+      by_need {T = Unit {0}} {E = ℕ} (first_of 2 padata) 25 timestamp_row value (Ok tt) (own_padata value)
+      (by_ask (preauth.IsEncryptedTimestamp account value) (sole_encrypted_timestamp account value) (done (Err 24)) told_row timestamp (Ok tt) is
+      (by_need {T = Unit {0}} {E = ℕ} (moment_of timestamp) 24 near_row moment (Ok tt) told
       (by_refuse {T = Unit {0}} {E = ℕ} (is_far (skew_of call) call.moment moment) 37 (done (Ok tt)) (Ok tt) in_time refl)))
 
 -- a client that shows its key in time, without PA-PK-AS-REQ, is replied to under that key
-own_key : (call : CallRecord) (rows : PkinitRows) (account : AccountRecord) (name : List Bytes) (request : KdcReq) → first_of 16 (entries_of request) ≡ None
-    → (timestamped call account (entries_of request)).gives (Ok tt) → (r : Result ReplyKeyRecord ℕ) → (authenticated call rows account name request).gives r
+own_key : (call : CallRecord) (rows : PkinitRows) (account : AccountRecord) (name : List Bytes) (request : KdcReq) → first_of 16 (padata_in request) ≡ None
+    → (timestamped call account (padata_in request)).gives (Ok tt) → (r : Result ReplyKeyRecord ℕ) → (authenticated call rows account name request).gives r
     → r ≡ Ok (as_reply_key account)
 own_key call rows account name request none shown r x =
     let timed = subst (λ padata. (authenticated_by call rows account name request padata).gives r) none x in
-    past_then {A = Unit {0}} {T = ReplyKeyRecord} (timestamped call account (entries_of request)) (λ _. done (Ok (as_reply_key account))) tt r shown timed
+    past_then {A = Unit {0}} {T = ReplyKeyRecord} (timestamped call account (padata_in request)) (λ _. done (Ok (as_reply_key account))) tt r shown timed
 
 module _ (client : ClientRecord) (key : Bytes) (realm : RealmRecord) (rows : PkinitRows) (service : ServiceRecord) (before : RememberedRecord) (login : LoginRecord)
     (by : IsHonestByPassword client key realm service before login) where
@@ -105,7 +105,7 @@ module _ (client : ClientRecord) (key : Bytes) (realm : RealmRecord) (rows : Pki
   account = by.honest.client.account
 
   abbrev confounder : Bytes
-  confounder = stamp_confounder (cipher_confounder_size client.suite) login.random_as
+  confounder = timestamp_confounder (cipher_confounder_size client.suite) login.random_as
 
   in_time : is_far (skew_of call) login.realm_as login.client_as ≡ false
   in_time =
@@ -113,11 +113,11 @@ module _ (client : ClientRecord) (key : Bytes) (realm : RealmRecord) (rows : Pki
       (lesser (realm.settings.skew * 1000000) service.seen.skew)
 
   shown : (sealed : EncryptedData) → IsSealedTime client.suite key login.client_as confounder sealed
-      → (timestamped call account (entry_of 2 (encrypted_bytes sealed) ∷ [])).gives (Ok tt)
+      → (timestamped call account (pa_data_of 2 (encrypted_bytes sealed) ∷ [])).gives (Ok tt)
   shown sealed it =
-      shown_in_time call account (encrypted_bytes sealed) (stamp_of it.second (login.client_as % 1000000)) login.client_as
-      (stamp_opens client.suite key account login.client_as confounder sealed by.honest.client.suite by.shared it)
-      (stamp_told it.second login.client_as it.of_moment) in_time
+      shown_in_time call account (encrypted_bytes sealed) (timestamp_of it.second (login.client_as % 1000000)) login.client_as
+      (timestamp_opens client.suite key account login.client_as confounder sealed by.honest.client.suite by.shared it)
+      (timestamp_told it.second login.client_as it.of_moment) in_time
 
   -- the reply key is that key
   agreed : IsAgreedKey client (by_key client.suite key) (first_asked client login) (as_reply_key account)
@@ -127,12 +127,12 @@ module _ (client : ClientRecord) (key : Bytes) (realm : RealmRecord) (rows : Pki
     taken = λ reply padata k given. given ∙ (λ i. Ok (record { suite = sym by.honest.client.suite i; bytes = sym by.shared i }));
   }
 
-  replied_under : (padata : PaData) → IsStamped client.suite key login.client_as login.random_as padata → (r : Result ReplyKeyRecord ℕ)
+  replied_under : (padata : PaData) → IsPaEncTimestamp client.suite key login.client_as login.random_as padata → (r : Result ReplyKeyRecord ℕ)
       → (authenticated call rows account client.components (as_request_of padata (first_body client login))).gives r → r ≡ Ok (as_reply_key account)
   replied_under padata it r x =
       let own = subst (λ p. (authenticated call rows account client.components (as_request_of p (first_body client login))).gives r) it.entry x in
-      own_key call rows account client.components (as_request_of (entry_of 2 (encrypted_bytes it.stamp)) (first_body client login)) (no_pkinit (encrypted_bytes it.stamp))
-      (shown it.stamp it.stamped) r own
+      own_key call rows account client.components (as_request_of (pa_data_of 2 (encrypted_bytes it.encrypted_timestamp)) (first_body client login)) (no_pkinit (encrypted_bytes it.encrypted_timestamp))
+      (shown it.encrypted_timestamp it.sealed_time) r own
 
   pub authenticated_by_key : IsAuthenticated client (by_key client.suite key) realm rows account login
   authenticated_by_key = record {

@@ -52,19 +52,19 @@ unfolding kdc_reply_of
 told pk_as_rep grant ticket sealed = refl
 
 -- its part is what was sealed for the client
-part_opened : (suite : CipherSuite) (key : Bytes) (number : Option ℕ) (pk_as_rep : Option Bytes) (grant : Grant) (confounder : Bytes) (ticket sealed : EncryptedData)
-    → AreTexts grant → Seals suite key number 3 confounder (reply_part_bytes As (reply_part grant)) sealed
+part_opened : (suite : CipherSuite) (key : Bytes) (kvno : Option ℕ) (pk_as_rep : Option Bytes) (grant : Grant) (confounder : Bytes) (ticket sealed : EncryptedData)
+    → AreTexts grant → Seals suite key kvno 3 confounder (reply_part_bytes As (reply_part grant)) sealed
     → IsAsPart suite key (kdc_reply_of As pk_as_rep grant (ticket_of grant ticket) sealed).enc_part.0 (reply_part grant)
 unfolding IsAsPart kdc_reply_of
-part_opened suite key number pk_as_rep grant confounder ticket sealed texts it =
-    sealed_opens {T = EncKdcRepPart} enc_as_rep_part_tree (reply_part grant) suite key number 3 confounder (reply_part_bytes As (reply_part grant)) sealed (writes_part As grant texts) it
+part_opened suite key kvno pk_as_rep grant confounder ticket sealed texts it =
+    sealed_opens {T = EncKdcRepPart} enc_as_rep_part_tree (reply_part grant) suite key kvno 3 confounder (reply_part_bytes As (reply_part grant)) sealed (writes_part As grant texts) it
 
 -- a reply key that both agree on is of an AS exchange
 abbrev of_as : ReplyKeyRecord → ReplyKeyRecord
-of_as under = record { exchange = As; suite = under.suite; key = under.key; number = under.number; usage = 3; pk_as_rep = under.pk_as_rep }
+of_as under = record { exchange = As; suite = under.suite; key = under.key; kvno = under.kvno; usage = 3; pk_as_rep = under.pk_as_rep }
 
 is_of_as : (under : ReplyKeyRecord) → under.exchange ≡ As → under.usage ≡ 3 → under ≡ of_as under
-is_of_as under exchange usage = λ i. record { exchange = exchange i; suite = under.suite; key = under.key; number = under.number; usage = usage i; pk_as_rep = under.pk_as_rep }
+is_of_as under exchange usage = λ i. record { exchange = exchange i; suite = under.suite; key = under.key; kvno = under.kvno; usage = usage i; pk_as_rep = under.pk_as_rep }
 
 module _ (client : ClientRecord) (means : MeansRecord) (asked : AsAskedRecord) where
   -- the bytes are read as the reply, which is opened
@@ -113,7 +113,7 @@ taken_of client means under service asked grant random granted taken agreed text
     let as_keyed = keyed client means asked reply key taken (typed under.pk_as_rep grant it.ticket_data it.reply_data)
     (agreed.taken reply (told under.pk_as_rep grant it.ticket_data it.reply_data)) as_read in
     let as_opened = opened client means asked reply key (reply_part grant) taken
-    (part_opened under.suite under.key under.number under.pk_as_rep grant (reply_confounder (cipher_confounder_size under.suite) random) it.ticket_data it.reply_data texts it.reply_sealed) as_keyed in
+    (part_opened under.suite under.key under.kvno under.pk_as_rep grant (reply_confounder (cipher_confounder_size under.suite) random) it.ticket_data it.reply_data texts it.reply_sealed) as_keyed in
     taken_held client asked.service asked.nonce As under.pk_as_rep grant it.ticket_data it.reply_data service random taken is sized it.ticket_sealed as_opened
 
 pub first_taken : (client : ClientRecord) (means : MeansRecord) (realm : RealmRecord) (rows : PkinitRows) (service : ServiceRecord) (before : RememberedRecord) (login : LoginRecord)

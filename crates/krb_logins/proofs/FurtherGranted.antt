@@ -33,14 +33,14 @@ use Rattle.krb_accounts.specs.Account.{AccountRecord}
 use Rattle.decision_tables.specs.Tables.{Table, and_then, ask, done, need, refuse}
 use Rattle.krb_encrypted_data.specs.Keys.{suite_of}
 use Rattle.krb_encrypted_data.specs.Sealing.{encryption_key, is_own_number, sealed_opens}
-use Rattle.krb_preauth.specs.Entries.{first_entry, first_of}
+use Rattle.krb_preauth.specs.Padata.{first_padata, first_of}
 use Rattle.krb_tickets.specs.declared.grant.Grant.{Grant}
 use Rattle.krb_tickets.specs.Parts.{session_key_of, ticket_part}
 use Rattle.krb_tickets.specs.ReplyKeys.{ReplyKeyRecord, tgs_reply_key}
 use Rattle.krb_tickets.specs.Sealed.{ticket_part_bytes}
 use Rattle.krb_tickets.specs.Times.{asked_end, end_of, last_second, start_of}
 use Rattle.krb_tickets.specs.Granted.{IsTicketReply}
-use Rattle.krb_ap_requests.specs.ApTable.{ap_fields, is_early, is_for, is_late, may_be_under, opened, opened_part, timely, told}
+use Rattle.krb_ap_requests.specs.ApTable.{ap_fields, is_early, is_for, is_late, kvno_fits, opened, opened_part, timely, told}
 use Rattle.krb_ap_requests.specs.Entry.{EntryRecord}
 use Rattle.krb_ap_requests.specs.Messages.{IsAuthenticator, IsTicketPart, sole_authenticator, sole_ticket_part}
 use Rattle.krb_ap_requests.specs.Presents.{request_of}
@@ -48,7 +48,7 @@ use Rattle.krb_ap_requests.specs.declared.presented.Authenticated.{Authenticated
 use Rattle.krb_pkinit.specs.Rows.{PkinitRows}
 use Rattle.krb_kdc_requests.specs.Call.{CallRecord, skew_of}
 use Rattle.krb_as.specs.Grants.{replied}
-use Rattle.krb_kdc_requests.specs.Requests.{IsSpan, account_of, body_bytes, client_of, entries_of, is_ended, lasting, service_of}
+use Rattle.krb_kdc_requests.specs.Requests.{IsSpan, account_of, body_bytes, client_of, padata_in, is_ended, lasting, service_of}
 use Rattle.krb_as.specs.TicketGranting.{krbtgt_of}
 use Rattle.krb_kdc_requests.specs.declared.span.Span.{Span}
 use Rattle.krb_replies.specs.TgsTable as table
@@ -58,7 +58,7 @@ use Rattle.krb_client.specs.Authenticators.{IsApRequest, authenticator_with, tol
 use Rattle.krb_client.specs.Client.{ClientRecord, CredentialRecord}
 use Rattle.krb_client.specs.Held.{principal_name}
 use Rattle.krb_client.specs.Messages.{authenticator_bytes, request_body_bytes, tgs_request_bytes}
-use Rattle.krb_client.specs.Requests.{entry_of, nonce_of, request_body}
+use Rattle.krb_client.specs.Requests.{pa_data_of, nonce_of, request_body}
 use Rattle.krb_client.specs.TgsRequest.{checksum_over, tgs_body_bytes, tgs_request_of}
 use Rattle.krb_service.specs.Service.{ServiceRecord}
 use Rattle.krb_client.specs.Means.{MeansRecord}
@@ -115,19 +115,19 @@ for_realm client service till nonce shown realm same =
     inl (tt, by_refuse {T = Unit {0}} {E = ℕ} (not (is_same_realm client.realm realm)) 68 (done (Ok tt)) (Ok tt) (ap not (same_realm client.realm realm same)) refl, refl)
 
 -- the AP request is the first entry
-own_entry : (value : Bytes) → first_of 1 (entry_of 1 value ∷ []) ≡ Some value
-unfolding first_of first_entry
-own_entry value = refl
+own_padata : (value : Bytes) → first_of 1 (pa_data_of 1 value ∷ []) ≡ Some value
+unfolding first_of first_padata
+own_padata value = refl
 
 abbrev read_in : ApReqInner → Table (Result ApReqInner ℕ)
 read_in presented = done (Ok presented)
 
-abbrev entry_row : Bytes → Table (Result ApReqInner ℕ)
-entry_row entry = ask (IsApReq entry) (sole_ap_req entry) (done (Err 41)) read_in
+abbrev padata_row : Bytes → Table (Result ApReqInner ℕ)
+padata_row value = ask (IsApReq value) (sole_ap_req value) (done (Err 41)) read_in
 
-is_carried : (value : Bytes) (presented : ApReqInner) → IsApReq value presented → (carried (entry_of 1 value ∷ [])).gives (Ok presented)
+is_carried : (value : Bytes) (presented : ApReqInner) → IsApReq value presented → (carried (pa_data_of 1 value ∷ [])).gives (Ok presented)
 is_carried value presented is =
-    by_need {T = ApReqInner} {E = ℕ} (first_of 1 (entry_of 1 value ∷ [])) 16 entry_row value (Ok presented) (own_entry value)
+    by_need {T = ApReqInner} {E = ℕ} (first_of 1 (pa_data_of 1 value ∷ [])) 16 padata_row value (Ok presented) (own_padata value)
     (by_ask (IsApReq value) (sole_ap_req value) (done (Err 41)) read_in presented (Ok presented) is refl)
 
 own_number : (number : ℕ) → is_number number (pos number) ≡ true
@@ -239,7 +239,7 @@ module _ (client : ClientRecord) (means : MeansRecord) (realm : RealmRecord) (ro
     components = krbtgt_of realm.name;
     suite = met.granting.account.suite;
     key = met.granting.account.key;
-    number = met.granting.account.number;
+    kvno = met.granting.account.kvno;
   }
 
   abbrev body : KdcReqBody
@@ -301,18 +301,18 @@ module _ (client : ClientRecord) (means : MeansRecord) (realm : RealmRecord) (ro
           held.sealed held.ticket held.suite held.key asks realm_is (granting_texts client.realm met.parties.realm)
 
       -- the ticket is for the ticket-granting service, which opens it
-      for_us : (ap_fields realm.name (krbtgt_of realm.name) entry.number presented).gives (Ok tt)
+      for_us : (ap_fields realm.name (krbtgt_of realm.name) entry.kvno presented).gives (Ok tt)
       for_us =
           by_refuse {T = Unit {0}} {E = ℕ} (not (is_for realm.name (krbtgt_of realm.name) presented.ticket.0.0)) 35
-          (refuse (not (may_be_under entry.number presented.ticket.0.0.enc_part.0)) 44 (done (Ok tt))) (Ok tt)
+          (refuse (not (kvno_fits entry.kvno presented.ticket.0.0.enc_part.0)) 44 (done (Ok tt))) (Ok tt)
           (ap not (and_from (is_same_realm realm.name realm.name) (is_same_name (krbtgt_of client.realm) (krbtgt_of realm.name)) (own_realm realm.name)
           (same_name (krbtgt_of client.realm) (krbtgt_of realm.name) (ap krbtgt_of met.honest.named.client))))
-          (by_refuse {T = Unit {0}} {E = ℕ} (not (may_be_under entry.number presented.ticket.0.0.enc_part.0)) 44 (done (Ok tt)) (Ok tt) (ap not (own_number entry.number)) refl)
+          (by_refuse {T = Unit {0}} {E = ℕ} (not (kvno_fits entry.kvno presented.ticket.0.0.enc_part.0)) 44 (done (Ok tt)) (Ok tt) (ap not (own_number entry.kvno)) refl)
 
       is_part : IsTicketPart entry.suite entry.key presented.ticket.0.0.enc_part.0 (ticket_part old)
       unfolding ticket_part_bytes
       is_part =
-          sealed_opens {T = EncTicketPartInner} enc_ticket_part_tree (ticket_part old) entry.suite entry.key (Some entry.number) 2 (ticket_confounder (cipher_confounder_size entry.suite) login.realm_random_as)
+          sealed_opens {T = EncTicketPartInner} enc_ticket_part_tree (ticket_part old) entry.suite entry.key (Some entry.kvno) 2 (ticket_confounder (cipher_confounder_size entry.suite) login.realm_random_as)
           (ticket_part_bytes (ticket_part old)) presented.ticket.0.0.enc_part.0
           (whole_part old realm_is (component_texts client.components met.parties.name), refl)
           (record { cipher = held.sealed.cipher; seals = held.sealed.seals; told = refl })
@@ -432,9 +432,9 @@ module _ (client : ClientRecord) (means : MeansRecord) (realm : RealmRecord) (ro
 
       table_grants : (r : Result Bytes ℕ) → (tgs_table call request).gives r → IsGrantedBy r
       table_grants r x =
-          let a = past_then {A = Unit {0}} {T = Bytes} (to_us realm.name request) (λ _. and_then (carried (entries_of request)) (of_carried call body)) tt r
+          let a = past_then {A = Unit {0}} {T = Bytes} (to_us realm.name request) (λ _. and_then (carried (padata_in request)) (of_carried call body)) tt r
           (for_realm client login.service login.till (nonce_of login.random_tgs) shown_bytes realm.name met.honest.named.client) x in
-          let b = past_then {A = ApReqInner} {T = Bytes} (carried (entries_of request)) (of_carried call body) presented r (is_carried shown_bytes presented is_presented) a in
+          let b = past_then {A = ApReqInner} {T = Bytes} (carried (padata_in request)) (of_carried call body) presented r (is_carried shown_bytes presented is_presented) a in
           let c = past_need {T = Bytes} {E = ℕ} (realm.look (krbtgt_of realm.name)) 7 by_account met.granting.account r met.granting.found b in
           let d = past_then {A = EncTicketPartInner} {T = Bytes} (ticket_granting call met.granting.account presented) (of_ticket call body presented) (ticket_part old) r of_granting c in
           let e = past_then {A = Authenticated} {T = Bytes} (shown_near call (ticket_part old) presented) (of_shown call body (ticket_part old)) shown r is_shown d in

@@ -27,12 +27,12 @@ use Rattle.krb_logins.proofs.Names.{are_texts}
 use Rattle.krb_logins.proofs.WholePresented.{whole_request}
 
 -- what is sealed under an account is sealed under the key of the service that the account is of
-pub under_entry : (account : AccountRecord) (entry : EntryRecord) (usage : ℕ) (confounder plain : Bytes) (sealed : EncryptedData) → account.suite ≡ entry.suite → account.key ≡ entry.key → account.number ≡ entry.number
-    → IsSealedData account usage confounder plain sealed → Seals entry.suite entry.key (Some entry.number) usage confounder plain sealed
-under_entry account entry usage confounder plain sealed suite key number x =
-    let numbered = subst (λ n. Seals account.suite account.key (Some n) usage confounder plain sealed) number x in
-    let keyed = subst (λ k. Seals account.suite k (Some entry.number) usage confounder plain sealed) key numbered in
-    subst (λ s. Seals s entry.key (Some entry.number) usage confounder plain sealed) suite keyed
+pub under_entry : (account : AccountRecord) (entry : EntryRecord) (usage : ℕ) (confounder plain : Bytes) (sealed : EncryptedData) → account.suite ≡ entry.suite → account.key ≡ entry.key → account.kvno ≡ entry.kvno
+    → IsSealedData account usage confounder plain sealed → Seals entry.suite entry.key (Some entry.kvno) usage confounder plain sealed
+under_entry account entry usage confounder plain sealed suite key kvno x =
+    let numbered = subst (λ n. Seals account.suite account.key (Some n) usage confounder plain sealed) kvno x in
+    let keyed = subst (λ k. Seals account.suite k (Some entry.kvno) usage confounder plain sealed) key numbered in
+    subst (λ s. Seals s entry.key (Some entry.kvno) usage confounder plain sealed) suite keyed
 
 -- a number is told as itself
 own_number : (number : ℕ) → is_number number (pos number) ≡ true
@@ -49,7 +49,7 @@ choice_of wanted entry grant authenticator part_confounder confounder = record {
     realm = grant.realm;
     service = grant.service;
     part_etype = pos (cipher_number entry.suite);
-    part_kvno = Some (pos entry.number);
+    part_kvno = Some (pos entry.kvno);
     etype = pos (cipher_number grant.suite);
     kvno = None;
   };
@@ -60,7 +60,7 @@ choice_of wanted entry grant authenticator part_confounder confounder = record {
 }
 
 module _ (usage : ℕ) (wanted : Bool) (entry : EntryRecord) (grant : Grant) (credential : CredentialRecord) (authenticator : AuthenticatorInner) (part_confounder confounder bytes : Bytes) (part : EncryptedData)
-    (sealed : Seals entry.suite entry.key (Some entry.number) 2 part_confounder (ticket_part_bytes (ticket_part grant)) part)
+    (sealed : Seals entry.suite entry.key (Some entry.kvno) 2 part_confounder (ticket_part_bytes (ticket_part grant)) part)
     (ticket : credential.ticket ≡ ticket_of grant part) (suite : credential.suite ≡ grant.suite) (key : credential.key ≡ grant.session)
     (asks : IsApRequest credential usage wanted authenticator confounder bytes) where
   -- the request, with its two ciphertexts
@@ -70,11 +70,11 @@ module _ (usage : ℕ) (wanted : Bool) (entry : EntryRecord) (grant : Grant) (cr
   written realm names =
       let carried = ticket ∙ ap (ticket_of grant) sealed.told in
       let shown = asks.sealed.told ∙ ap (λ s. encrypted_by s None asks.sealed.cipher) suite in
-      let whole = whole_request wanted grant entry.suite grant.suite entry.number sealed.cipher asks.sealed.cipher realm names in (
+      let whole = whole_request wanted grant entry.suite grant.suite entry.kvno sealed.cipher asks.sealed.cipher realm names in (
         whole,
         asks.encoding
             ∙ ap (λ t. der (ap_req_tree (ap_request_of wanted t asks.part))) carried
-            ∙ ap (λ a. der (ap_req_tree (ap_request_of wanted (ticket_of grant (encrypted_by entry.suite (Some entry.number) sealed.cipher)) a))) shown,
+            ∙ ap (λ a. der (ap_req_tree (ap_request_of wanted (ticket_of grant (encrypted_by entry.suite (Some entry.kvno) sealed.cipher)) a))) shown,
       )
 
   pub seals_part : IsWhole (enc_ticket_part_tree (ticket_part grant)) → SealsTo {T = EncTicketPartInner} enc_ticket_part_tree (pos (cipher_number entry.suite)) entry.key 2 part_confounder (ticket_part grant) sealed.cipher
@@ -93,7 +93,7 @@ module _ (usage : ℕ) (wanted : Bool) (entry : EntryRecord) (grant : Grant) (cr
 
 -- and shows to a service
 pub presents : (wanted : Bool) (entry : EntryRecord) (grant : Grant) (credential : CredentialRecord) (authenticator : AuthenticatorInner) (part_confounder confounder bytes : Bytes) (part : EncryptedData)
-    → Seals entry.suite entry.key (Some entry.number) 2 part_confounder (ticket_part_bytes (ticket_part grant)) part
+    → Seals entry.suite entry.key (Some entry.kvno) 2 part_confounder (ticket_part_bytes (ticket_part grant)) part
     → credential.ticket ≡ ticket_of grant part → credential.suite ≡ grant.suite → credential.key ≡ grant.session → IsApRequest credential 11 wanted authenticator confounder bytes
     → is_general_string grant.realm ≡ true → are_texts grant.service.name_string.0 ≡ true → IsWhole (enc_ticket_part_tree (ticket_part grant)) → IsWhole (authenticator_tree authenticator)
     → Presents entry.key (choice_of wanted entry grant authenticator part_confounder confounder) bytes

@@ -21,11 +21,11 @@ tagged_text : (tag : ℕ) (text : Bytes) → is_general_string text ≡ true →
 tagged_text tag text is = whole-wrapped tag (leaf (is_general_string text) 27 text) (whole_text 27 text is)
 
 -- a client's request with the ticket of a grant
-pub whole_request : (wanted : Bool) (grant : Grant) (ticket_suite suite : CipherSuite) (number : ℕ) (part_cipher cipher : Bytes) → is_general_string grant.realm ≡ true
+pub whole_request : (wanted : Bool) (grant : Grant) (ticket_suite suite : CipherSuite) (kvno : ℕ) (part_cipher cipher : Bytes) → is_general_string grant.realm ≡ true
     → are_texts grant.service.name_string.0 ≡ true
-    → IsWhole (ap_req_tree (ap_request_of wanted (ticket_of grant (encrypted_by ticket_suite (Some number) part_cipher)) (encrypted_by suite None cipher)))
+    → IsWhole (ap_req_tree (ap_request_of wanted (ticket_of grant (encrypted_by ticket_suite (Some kvno) part_cipher)) (encrypted_by suite None cipher)))
 unfolding ticket_of
-whole_request wanted grant ticket_suite suite number part_cipher cipher realm names =
+whole_request wanted grant ticket_suite suite kvno part_cipher cipher realm names =
     (((tt, tt), ((tt, tt), ((tt, tt), (((((tt, tt), (tagged_text 161 grant.realm realm, ((((tt, tt), ((whole_texts 27 grant.service.name_string.0 names, tt), tt)), tt), ((((tt, tt), ((tt, tt), ((tt, tt), tt))), tt), tt)))), tt), tt), ((((tt, tt), ((tt, tt), tt)), tt), tt))))), tt)
 
 -- a grant's ticket part

@@ -14,7 +14,7 @@ use Rattle.krb_types.specs.declared.data_types.pa_enc_timestamp.PaEncTsEnc.{PaEn
 use Rattle.krb_messages.specs.Messages.{IsAsReq, as_req_tree}
 use Rattle.krb_client.specs.AsRequest.{as_body, as_request_of}
 use Rattle.krb_client.specs.Client.{ClientRecord}
-use Rattle.krb_client.specs.Messages.{as_request_bytes, encrypted_bytes, stamp_bytes}
+use Rattle.krb_client.specs.Messages.{as_request_bytes, encrypted_bytes, timestamp_bytes}
 use Rattle.krb_logins.proofs.Names.{are_texts}
 
 pub whole_text : (first : ℕ) (text : Bytes) → is_general_string text ≡ true → IsWhole (leaf (is_general_string text) first text)
@@ -39,16 +39,16 @@ unfolding encrypted_bytes
 writes_encrypted encrypted = (whole_encrypted encrypted, refl)
 
 -- a client's time
-whole_stamp : (stamp : PaEncTsEnc) → IsWhole (held.pa_enc_ts_enc_tree stamp)
-whole_stamp stamp =
-    elim stamp.pausec.0 as (λ o. IsWhole (held.pa_enc_ts_enc_tree (record { patimestamp = stamp.patimestamp; pausec = record { 0 = o } }))) [
+whole_timestamp : (timestamp : PaEncTsEnc) → IsWhole (held.pa_enc_ts_enc_tree timestamp)
+whole_timestamp timestamp =
+    elim timestamp.pausec.0 as (λ o. IsWhole (held.pa_enc_ts_enc_tree (record { patimestamp = timestamp.patimestamp; pausec = record { 0 = o } }))) [
       | None ↦ ((tt, tt), tt)
       | Some micros ↦ ((tt, tt), ((tt, tt), tt))
     ]
 
-pub writes_stamp : (stamp : PaEncTsEnc) → Writes held.pa_enc_ts_enc_tree stamp (stamp_bytes stamp)
-unfolding stamp_bytes
-writes_stamp stamp = (whole_stamp stamp, refl)
+pub writes_timestamp : (timestamp : PaEncTsEnc) → Writes held.pa_enc_ts_enc_tree timestamp (timestamp_bytes timestamp)
+unfolding timestamp_bytes
+writes_timestamp timestamp = (whole_timestamp timestamp, refl)
 
 -- the request for a first ticket, with any padata
 whole_as_request : (padata : PaData) (client : ClientRecord) (service : List Bytes) (till : GeneralizedTime) (random : Random)

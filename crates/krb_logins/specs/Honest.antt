@@ -53,7 +53,7 @@ pub record IsServiceKnown (service : ServiceRecord) (realm : RealmRecord) : Type
   pub found : realm.look service.entry.components ≡ Some account
   pub suite : account.suite ≡ service.entry.suite
   pub key : account.key ≡ service.entry.key
-  pub number : account.number ≡ service.entry.number
+  pub kvno : account.kvno ≡ service.entry.kvno
 
 -- the realm has the account of its ticket-granting service, as every realm has
 pub record IsGranting (realm : RealmRecord) : Type 0 where

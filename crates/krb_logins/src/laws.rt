@@ -6,7 +6,7 @@ ghost use Rattle.krb_types.specs.RandomBytes.{authenticator_confounder};
 ghost use Rattle.krb_ap_requests.specs.Presents.{Presents};
 ghost use Rattle.krb_kdc_requests.specs.Calls.{AreKeyed};
 ghost use Rattle.krb_client.specs.Client.{ClientRecord, CredentialRecord};
-ghost use Rattle.krb_client.specs.Stamps.{by_key};
+ghost use Rattle.krb_client.specs.EncryptedTimestamps.{by_key};
 ghost use Rattle.krb_service.specs.Service.{ServiceRecord};
 ghost use Rattle.krb_logins.specs.Choices.{AsksService, choice_by};
 ghost use Rattle.krb_logins.specs.Honest.{AreEnough, AreParties, IsGranting, IsHonestByPassword, IsOneKey, WantsMemory};

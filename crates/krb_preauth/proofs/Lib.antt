@@ -1,1 +1,1 @@
-mod Stamped
+mod EncryptedTimestamp

@@ -1,4 +1,4 @@
-pub mod Entries
-pub mod Stamps
+pub mod Padata
+pub mod EncryptedTimestamps
 pub mod TicketGranting
 pub mod MethodData

@@ -56,19 +56,19 @@ unfoldable pub method_data_bytes : Bool → AccountRecord → Bytes
 method_data_bytes by_certificate account = der (method_data_tree (method_data by_certificate account))
 
 -- by the salt Ra, for AES with 256-bit keys
-salted : (key : Bytes) (number : ℕ)
-    → method_data_bytes false (record { suite = Aes256CtsHmacSha196; key = key; number = number; salt = Some (codes "Ra") })
+salted : (key : Bytes) (kvno : ℕ)
+    → method_data_bytes false (record { suite = Aes256CtsHmacSha196; key = key; kvno = kvno; salt = Some (codes "Ra") })
     ≡ 0x30 ∷ 0x25 ∷ 0x30 ∷ 0x18 ∷ 0xA1 ∷ 0x03 ∷ 0x02 ∷ 0x01 ∷ 0x13 ∷ 0xA2 ∷ 0x11 ∷ 0x04 ∷ 0x0F ∷ 0x30 ∷ 0x0D ∷ 0x30
     ∷ 0x0B ∷ 0xA0 ∷ 0x03 ∷ 0x02 ∷ 0x01 ∷ 0x12 ∷ 0xA1 ∷ 0x04 ∷ 0x1B ∷ 0x02 ∷ 0x52 ∷ 0x61 ∷ 0x30 ∷ 0x09 ∷ 0xA1 ∷ 0x03
     ∷ 0x02 ∷ 0x01 ∷ 0x02 ∷ 0xA2 ∷ 0x02 ∷ 0x04 ∷ 0x00 ∷ []
 unfolding method_data_bytes method_data key_info_bytes element length_octets integer_content natural_octets
-salted key number = refl
+salted key kvno = refl
 
 -- where the realm accepts certificates too
-salted_anchored : (key : Bytes) (number : ℕ)
-    → method_data_bytes true (record { suite = Aes256CtsHmacSha196; key = key; number = number; salt = Some (codes "Ra") })
+salted_anchored : (key : Bytes) (kvno : ℕ)
+    → method_data_bytes true (record { suite = Aes256CtsHmacSha196; key = key; kvno = kvno; salt = Some (codes "Ra") })
     ≡ 0x30 ∷ 0x30 ∷ 0x30 ∷ 0x18 ∷ 0xA1 ∷ 0x03 ∷ 0x02 ∷ 0x01 ∷ 0x13 ∷ 0xA2 ∷ 0x11 ∷ 0x04 ∷ 0x0F ∷ 0x30 ∷ 0x0D ∷ 0x30
     ∷ 0x0B ∷ 0xA0 ∷ 0x03 ∷ 0x02 ∷ 0x01 ∷ 0x12 ∷ 0xA1 ∷ 0x04 ∷ 0x1B ∷ 0x02 ∷ 0x52 ∷ 0x61 ∷ 0x30 ∷ 0x09 ∷ 0xA1 ∷ 0x03
     ∷ 0x02 ∷ 0x01 ∷ 0x02 ∷ 0xA2 ∷ 0x02 ∷ 0x04 ∷ 0x00 ∷ 0x30 ∷ 0x09 ∷ 0xA1 ∷ 0x03 ∷ 0x02 ∷ 0x01 ∷ 0x10 ∷ 0xA2 ∷ 0x02 ∷ 0x04 ∷ 0x00 ∷ []
 unfolding method_data_bytes method_data key_info_bytes element length_octets integer_content natural_octets
-salted_anchored key number = refl
+salted_anchored key kvno = refl

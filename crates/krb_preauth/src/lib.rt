@@ -1,12 +1,12 @@
 //! Preauthentication data (RFC 4120, section 5.2.7): padata of a request, encrypted timestamps, METHOD-DATA.
 #![tactic(auto)]
 
-mod entries;
+mod encrypted_timestamp;
 mod methods;
 mod names;
-mod stamp;
+mod padata;
 
-pub use entries::first_of;
+pub use encrypted_timestamp::{moment_of, open_encrypted_timestamp};
 pub use methods::{method_data, pa_data};
 pub use names::krbtgt_of;
-pub use stamp::{moment_of, open_stamp};
+pub use padata::first_of;

@@ -66,7 +66,7 @@ kept_realm (Ok value) Made realm old new has made ok err = made ok
 kept_realm (Err refusal) Made realm old new has made ok err = subst (IsRealm realm) (sym err) has
 
 abbrev next_account : CipherSuite → Bytes → AccountRecord → AccountRecord
-next_account suite key old = record { suite = suite; key = key; number = old.number + 1; salt = None }
+next_account suite key old = record { suite = suite; key = key; kvno = old.kvno + 1; salt = None }
 
 -- an account that is given its next key has a key of its suite
 pub changed_keyed : (accounts : AccountMap) (name : List Bytes) (suite : CipherSuite) (key : Bytes) (account : AccountRecord) → IsBytes key → changing accounts name suite key ≡ Ok account → IsKeyed account
@@ -81,7 +81,7 @@ changed_keyed accounts name suite key account bytes e = by_length (length key ==
 
     by_found : (found : Option AccountRecord) → (length key == cipher_key_size suite) ≡ true → rekeyed suite key found ≡ Ok account → IsKeyed account
     by_found None sized f = absurd (cc (f))
-    by_found (Some old) sized f = by_number old (old.number == 4294967295) sized f
+    by_found (Some old) sized f = by_number old (old.kvno == 4294967295) sized f
 
     by_length : (fits : Bool) → (length key == cipher_key_size suite) ≡ fits → (if not fits then Err BadKeyLength else rekeyed suite key (get accounts name)) ≡ Ok account → IsKeyed account
     by_length false short f = absurd (cc (f))

@@ -2,7 +2,7 @@
 use Rattle.std.proofs.Common.{◌≡◌, Result, subst, sym, ◌∙◌}
 use Rattle.krb_crypto.specs.Keys.{KeyRecord}
 use Rattle.krb_client.specs.Means.{MeansRecord}
-use Rattle.krb_client.specs.Stamps.{by_key}
+use Rattle.krb_client.specs.EncryptedTimestamps.{by_key}
 use Rattle.krb_service.specs.Service.{ServiceRecord}
 use Rattle.key_functions.specs.KeyFunctions.{no_functions}
 use Rattle.krb_pkinit.specs.Rows.{PkinitRows}

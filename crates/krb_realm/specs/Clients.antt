@@ -8,7 +8,7 @@ use Rattle.krb_accounts.specs.Names.{are_components, is_realm_name}
 use Rattle.krb_accounts.specs.Passwords.{password_salt}
 use Rattle.krb_client.specs.Client.{ClientRecord, client_of}
 use Rattle.krb_client.specs.Means.{MeansRecord}
-use Rattle.krb_client.specs.Stamps.{by_key}
+use Rattle.krb_client.specs.EncryptedTimestamps.{by_key}
 use Rattle.krb_client.specs.declared.refusal.AskRefusal.{AskRefusal}
 use Rattle.krb_client.specs.declared.refusal.AskRefusal.TheVariants.{BadCertificate, BadName, Memory}
 use Rattle.key_functions.specs.KeyFunctions.{KeysRecord}

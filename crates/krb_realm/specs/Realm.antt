@@ -43,7 +43,7 @@ call_to realm moment random = record {
 
 -- an account by a first key
 abbrev pub first_key : CipherSuite → Bytes → AccountRecord
-first_key suite key = record { suite = suite; key = key; number = 1; salt = None }
+first_key suite key = record { suite = suite; key = key; kvno = 1; salt = None }
 
 -- the accounts have that of the ticket-granting service of the realm of this name
 abbrev pub has_krbtgt : Bytes → AccountMap → Bool

@@ -10,14 +10,14 @@ ghost use Rattle.decision_tables.specs.Some.{HasSome};
 ghost use Rattle.key_functions.specs.KeyFunctions.{KeysRecord};
 ghost use Rattle.krb_kdc_requests.specs.Call.{CallRecord};
 ghost use Rattle.krb_kdc_requests.specs.Calls.{IsCall};
-ghost use Rattle.krb_kdc_requests.specs.Requests.{entries_of};
+ghost use Rattle.krb_kdc_requests.specs.Requests.{padata_in};
 ghost use Rattle.krb_logins.specs.Honest.{WantsMemory};
 ghost use Rattle.krb_logins.specs.LoginRun.{Login, LoginRun};
 ghost use Rattle.krb_logins.specs.Parties.{LoginRecord, RealmRecord, RememberedRecord};
 ghost use Rattle.krb_logins.specs.declared.refusal.LoginRefusal.{LoginRefusal};
 ghost use Rattle.krb_messages.specs.Messages.{IsAsReq};
 ghost use Rattle.krb_messages.specs.declared.messages.kdc_req.KdcReq.{KdcReq};
-ghost use Rattle.krb_preauth.specs.Entries.{first_of};
+ghost use Rattle.krb_preauth.specs.Padata.{first_of};
 ghost use Rattle.krb_realm.specs.Clients.{means_of};
 ghost use Rattle.krb_replies.specs.Involved.{IsOfInvolvedAlone};
 ghost use Rattle.krb_replies.specs.Replies.{Replies};
@@ -88,10 +88,10 @@ pub fn one_login<C: KeyFunctions, R: KeyFunctions>(
 /// spelled (RFC 4556, section 3.2.1). The padata stand at the request's `0, 2, 0`, and `entry` counts them. It does nothing when it
 /// runs: its contract is the law.
 pub fn verified_is_part()
-    ensures attributes { (bytes padata : Bytes) (asked : KdcReq) (request : PaPkAsReq) (content : SignedParts) → IsAsReq bytes asked → first_of 16 (entries_of asked) ≡ Some padata
+    ensures attributes { (bytes padata : Bytes) (asked : KdcReq) (request : PaPkAsReq) (content : SignedParts) → IsAsReq bytes asked → first_of 16 (padata_in asked) ≡ Some padata
         → IsPaPkAsReq padata request → IsSignedContent request.signed_auth_pack.0 content
         → ((entry : ℕ) × IsPart bytes (0 ∷ 2 ∷ 0 ∷ entry ∷ 1 ∷ 0 ∷ 0 ∷ 0 ∷ 0 ∷ attributes_place) content.signed_attributes) }
-    ensures certificate { (bytes padata : Bytes) (asked : KdcReq) (request : PaPkAsReq) (content : SignedParts) (read : ReadRecord) → IsAsReq bytes asked → first_of 16 (entries_of asked) ≡ Some padata
+    ensures certificate { (bytes padata : Bytes) (asked : KdcReq) (request : PaPkAsReq) (content : SignedParts) (read : ReadRecord) → IsAsReq bytes asked → first_of 16 (padata_in asked) ≡ Some padata
         → IsPaPkAsReq padata request → IsSignedContent request.signed_auth_pack.0 content → IsCertificate content.certificate read
         → ((entry : ℕ) × IsPart bytes (0 ∷ 2 ∷ 0 ∷ entry ∷ 1 ∷ 0 ∷ 0 ∷ 0 ∷ 0 ∷ (certificate_place ++ 0 ∷ [])) read.signed) }
 {

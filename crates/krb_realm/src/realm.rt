@@ -225,7 +225,7 @@ impl Realm {
         self.accounts.remove(name)
     }
 
-    /// Gives a principal's account its next key, with the number that follows and no salt (RFC 4120, section 5.2.9). A
+    /// Gives a principal's account its next key, with the next kvno and no salt (RFC 4120, section 5.2.9). A
     /// refused command changes nothing. It takes no memory.
     ///
     /// It is refused, in this order: `BadName`, `BadKeyLength`, `Unknown`, `NumberSpent`.

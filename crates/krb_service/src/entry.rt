@@ -16,14 +16,14 @@ use picky_asn1::wrapper::GeneralStringAsn1;
 use std::alloc::Global;
 use std::marker::Model;
 
-/// The key of a service, as a keytab holds it: the service's realm and name, and the key with its suite and number. A
+/// The key of a service, as a keytab holds it: the service's realm and name, and the key with its suite and kvno. A
 /// contract sees these five.
 #[derive(Drop)]
 pub struct KeytabEntry {
     realm: GeneralStringAsn1,
     components: Vec<GeneralStringAsn1>,
     key: Key,
-    number: u32,
+    kvno: u32,
 }
 
 impl Model for KeytabEntry {
@@ -36,7 +36,7 @@ impl Model for KeytabEntry {
       components = e.components.items;
       suite = e.key.suite;
       key = e.key.bytes;
-      number = e.number;
+      kvno = e.kvno;
     } };
 }
 
@@ -46,15 +46,15 @@ impl KeytabEntry {
         realm: GeneralStringAsn1,
         components: Vec<GeneralStringAsn1>,
         key: Key,
-        number: u32,
+        kvno: u32,
     ) -> KeytabEntry
-        ensures { result ≡ record { realm = realm; components = components.items; suite = key.suite; key = key.bytes; number = number } }
+        ensures { result ≡ record { realm = realm; components = components.items; suite = key.suite; key = key.bytes; kvno = kvno } }
     {
         KeytabEntry {
             realm,
             components,
             key,
-            number,
+            kvno,
         }
     }
 
@@ -94,7 +94,7 @@ impl KeytabEntry {
             &self.realm,
             self.components.as_slice(),
             self.key.suite(),
-            self.number,
+            self.kvno,
             request,
         )?;
         let part = check_ticket(

@@ -24,7 +24,7 @@ use std::marker::Model;
 const SKEW_LIMIT: u64 = 86_400;
 
 /// A service: its key with its realm and its name, and what it has seen. A contract sees both. Realm and name are names, the
-/// key has as many bytes as its suite's keys, and its number is 1 or more.
+/// key has as many bytes as its suite's keys, and its kvno is 1 or more.
 #[derive(Drop)]
 pub struct Service {
     entry: KeytabEntry,
@@ -42,27 +42,27 @@ impl Model for Service {
 }
 
 impl Service {
-    /// A service of this realm and this name, with a key and its number. The skew is in seconds.
+    /// A service of this realm and this name, with a key and its kvno. The skew is in seconds.
     ///
     /// It is refused, in this order: `BadName` for what are no names of a realm and of a principal; `BadKeyLength`;
-    /// `BadSetting` for a skew of more than a day, or number 0.
+    /// `BadSetting` for a skew of more than a day, or kvno 0.
     pub fn new(
         alloc: Global,
         realm: &[u8],
         name: &[Vec<u8>],
         suite: CipherSuite,
         key: &[u8],
-        number: u32,
+        kvno: u32,
         skew: u64,
     ) -> Result<Service, RealmRefusal>
         ensures made { MatchResult result
-            (λ service. (making realm.now (parts name.now) suite key.now number skew ≡ Ok tt)
-            × (service ≡ made realm.now (parts name.now) suite key.now number skew))
+            (λ service. (making realm.now (parts name.now) suite key.now kvno skew ≡ Ok tt)
+            × (service ≡ made realm.now (parts name.now) suite key.now kvno skew))
             (λ refusal. (refusal ≡ RealmRefusal.Memory)
-            ⊎ (making realm.now (parts name.now) suite key.now number skew ≡ Err refusal)) }
+            ⊎ (making realm.now (parts name.now) suite key.now kvno skew ≡ Err refusal)) }
 
         // Want of memory hides no other refusal.
-        ensures first { (refusal : RealmRefusal) → making realm.now (parts name.now) suite key.now number skew ≡ Err refusal → result ≡ Err refusal }
+        ensures first { (refusal : RealmRefusal) → making realm.now (parts name.now) suite key.now kvno skew ≡ Err refusal → result ≡ Err refusal }
     {
         if !is_realm_name(realm) || !are_components(name) {
             return Err(RealmRefusal::BadName);
@@ -70,13 +70,13 @@ impl Service {
         let Ok(key) = Key::new(suite, key) else {
             return Err(RealmRefusal::BadKeyLength);
         };
-        if SKEW_LIMIT < skew || number == 0 {
+        if SKEW_LIMIT < skew || kvno == 0 {
             return Err(RealmRefusal::BadSetting);
         }
         let realm = realm_name_of(alloc, realm)?;
         let components = components_of(alloc, name)?;
         Ok(Service {
-            entry: KeytabEntry::new(realm, components, key, number),
+            entry: KeytabEntry::new(realm, components, key, kvno),
             seen: Seen::new(alloc, skew),
         })
     }

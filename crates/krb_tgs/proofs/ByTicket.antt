@@ -11,7 +11,7 @@ use Rattle.krb_messages.specs.declared.messages.ap_req.ApReqInner.{ApReqInner}
 use Rattle.krb_messages.specs.Messages.{IsApReq, sole_ap_req}
 use Rattle.decision_tables.specs.Tables.{Table, ask, done, need, refuse}
 use Rattle.decision_tables.specs.One.{IsSole}
-use Rattle.krb_preauth.specs.Entries.{first_of}
+use Rattle.krb_preauth.specs.Padata.{first_of}
 use Rattle.krb_ap_requests.specs.ApTable.{authenticated, opened}
 use Rattle.krb_ap_requests.specs.Messages.{IsAuthenticator, IsTicketPart, sole_authenticator, sole_ticket_part}
 use Rattle.krb_ap_requests.specs.declared.presented.Authenticated.{Authenticated}
@@ -30,15 +30,15 @@ passed true code rest a x = absurd (cc (x))
 passed false code rest a x = x
 
 abbrev read : List ℕ → Table (Result ApReqInner ℕ)
-read entry = ask (IsApReq entry) (sole_ap_req entry) (done (Err 41)) (λ v. done (Ok v))
+read value = ask (IsApReq value) (sole_ap_req value) (done (Err 41)) (λ v. done (Ok v))
 
-pub by_entry : (entries : List PaData) (presented : ApReqInner) → (carried entries).gives (Ok presented) → (entry : List ℕ) × (first_of 1 entries ≡ Some entry) × IsApReq entry presented
-by_entry entries presented x = of_entry (first_of 1 entries) refl x
+pub by_padata : (padata : List PaData) (presented : ApReqInner) → (carried padata).gives (Ok presented) → (value : List ℕ) × (first_of 1 padata ≡ Some value) × IsApReq value presented
+by_padata padata presented x = of_padata (first_of 1 padata) refl x
   where
-    of_entry : (found : Option (List ℕ)) → first_of 1 entries ≡ found → (need {A = List ℕ} {T = ApReqInner} {E = ℕ} found 16 read).gives (Ok presented)
-        → (entry : List ℕ) × (first_of 1 entries ≡ Some entry) × IsApReq entry presented
-    of_entry None e y = absurd (cc (y))
-    of_entry (Some entry) e y = (entry, e, asked_for (IsApReq entry) (sole_ap_req entry) 41 presented y)
+    of_padata : (found : Option (List ℕ)) → first_of 1 padata ≡ found → (need {A = List ℕ} {T = ApReqInner} {E = ℕ} found 16 read).gives (Ok presented)
+        → (value : List ℕ) × (first_of 1 padata ≡ Some value) × IsApReq value presented
+    of_padata None e y = absurd (cc (y))
+    of_padata (Some value) e y = (value, e, asked_for (IsApReq value) (sole_ap_req value) 41 presented y)
 
 pub by_ticket : (call : CallRecord) (granting : AccountRecord) (presented : ApReqInner) (part : EncTicketPartInner) → (ticket_granting call granting presented).gives (Ok part)
     → IsTicketPart granting.suite granting.key presented.ticket.0.0.enc_part.0 part

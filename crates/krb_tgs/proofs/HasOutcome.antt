@@ -23,28 +23,28 @@ use Rattle.krb_messages.specs.Messages.{IsApReq, ap_req_tree, authenticator_tree
 use Rattle.krb_messages.specs.Trees.{kdc_req_inner_tree}
 use Rattle.decision_tables.specs.Tables.{Table, and_then, ask, done, need, refuse}
 use Rattle.decision_tables.proofs.Outcomes.{HasOutcome, has_asked, has_done, has_needed, has_refused, has_then}
-use Rattle.krb_preauth.specs.Entries.{first_of}
+use Rattle.krb_preauth.specs.Padata.{first_of}
 use Rattle.krb_tickets.specs.declared.reply.Exchange.TheVariants.{Tgs}
 use Rattle.krb_tickets.specs.ReplyKeys.{ReplyKeyRecord, tgs_reply_key, tgs_subkey_reply_key}
 use Rattle.krb_ap_requests.specs.declared.presented.Authenticated.{Authenticated}
 use Rattle.krb_kdc_requests.specs.Call.{CallRecord, skew_of}
 use Rattle.krb_kdc_requests.specs.Calls.{IsCall, IsKeyed}
 use Rattle.krb_as.specs.Grants.{replied}
-use Rattle.krb_kdc_requests.specs.Requests.{addressed, entries_of, lasting, service_of}
+use Rattle.krb_kdc_requests.specs.Requests.{addressed, padata_in, lasting, service_of}
 use Rattle.krb_as.specs.TicketGranting.{krbtgt_of}
 use Rattle.krb_kdc_requests.specs.declared.span.Span.{Span}
 use Rattle.krb_as.proofs.HasGrant.{has_lasting, has_replied}
 use Rattle.krb_as.proofs.HasOutcome.{has_address}
 use Rattle.krb_kdc_requests.proofs.PartTrees.{realm_tree}
-use Rattle.krb_kdc_requests.proofs.RequestTrees.{body_fits, entry_short, nonce_fits, service_fits}
+use Rattle.krb_kdc_requests.proofs.RequestTrees.{body_fits, padata_short, nonce_fits, service_fits}
 use Rattle.krb_kdc_requests.proofs.Short.{Fits}
 use Rattle.krb_kdc_requests.proofs.Written.{IsWritten, is_written, own_realm_fits, session_short}
-use Rattle.krb_ap_requests.specs.ApTable.{ap_fields, authenticated, is_early, is_for, is_late, is_version_5, may_be_under, opened_part, timely}
+use Rattle.krb_ap_requests.specs.ApTable.{ap_fields, authenticated, is_early, is_for, is_late, is_version_5, kvno_fits, opened_part, timely}
 use Rattle.krb_encrypted_data.proofs.KeySizes.{suite_sized}
 use Rattle.krb_ap_requests.proofs.Judgements.{has_authenticated, has_fields, has_opened_part, has_times}
 use Rattle.krb_tgs.specs.ByTicket.{IsByTicket}
 use Rattle.krb_tgs.specs.TgsTable.{carried, checksum_in, counting, covered, first_known, further, further_ticket, has_account, is_known_checksum, is_of_body, of_carried, of_shown, of_ticket, reply_key, shown_near, subkey_in, tgs_granted, tgs_table, ticket_granting, to_us}
-use Rattle.krb_tgs.proofs.ByTicket.{IsOfKey, by_authenticator, by_entry, by_ticket}
+use Rattle.krb_tgs.proofs.ByTicket.{IsOfKey, by_authenticator, by_padata, by_ticket}
 use Rattle.krb_tgs.proofs.PresentedTrees.{authenticator_short, part_name_fits, request_fits, subkey_short, ticket_short}
 use Rattle.krb_tgs.proofs.SealedLengths.{opened_fits}
 
@@ -53,13 +53,13 @@ has_to_us realm request =
     has_then {A = Unit {0}} (addressed 12 realm request) (λ _. refuse (is_some request.req_body.0.enc_authorization_data.0) 12 (done (Ok tt))) (has_address 12 realm request)
     (λ _ x. has_refused {T = Unit {0}} (is_some request.req_body.0.enc_authorization_data.0) 12 (done (Ok tt)) (λ _. has_done (Ok tt)))
 
-has_carried : (entries : List PaData) → HasOutcome (carried entries)
-has_carried entries =
+has_carried : (padata : List PaData) → HasOutcome (carried padata)
+has_carried padata =
     let none : Table (Result ApReqInner ℕ) = done (Err 41) in
     let end : ApReqInner → Table (Result ApReqInner ℕ) = λ presented. done (Ok presented) in
-    let read : List ℕ → Table (Result ApReqInner ℕ) = λ entry. ask (IsApReq entry) (sole_ap_req entry) none end in
-    has_needed (first_of 1 entries) 16 read
-    (λ entry e. has_asked (IsApReq entry) (sole_ap_req entry) none end (has_done (Err 41)) (λ presented x. has_done (Ok presented)))
+    let read : List ℕ → Table (Result ApReqInner ℕ) = λ value. ask (IsApReq value) (sole_ap_req value) none end in
+    has_needed (first_of 1 padata) 16 read
+    (λ value e. has_asked (IsApReq value) (sole_ap_req value) none end (has_done (Err 41)) (λ presented x. has_done (Ok presented)))
 
 has_counting : (call : CallRecord) (part : EncTicketPartInner) → HasOutcome (counting call part)
 has_counting call part =
@@ -69,9 +69,9 @@ has_ticket_granting : (call : CallRecord) (granting : AccountRecord) (presented 
 has_ticket_granting call granting presented =
     let end : EncTicketPartInner → Table (Result EncTicketPartInner ℕ) = λ part. and_then {A = Unit {0}} (counting call part) (λ _. done (Ok part)) in
     let opened : Table (Result EncTicketPartInner ℕ) = opened_part granting.suite granting.key presented.ticket.0.0.enc_part.0 in
-    has_then {A = Unit {0}} (ap_fields call.realm (krbtgt_of call.realm) granting.number presented) (λ _. and_then opened end)
+    has_then {A = Unit {0}} (ap_fields call.realm (krbtgt_of call.realm) granting.kvno presented) (λ _. and_then opened end)
     (has_fields (not (is_version_5 presented)) (not (is_number 14 presented.msg_type.0)) (not (is_for call.realm (krbtgt_of call.realm) presented.ticket.0.0))
-    (not (may_be_under granting.number presented.ticket.0.0.enc_part.0)))
+    (not (kvno_fits granting.kvno presented.ticket.0.0.enc_part.0)))
     (λ _ x.
     has_then opened end (has_opened_part granting.suite granting.key presented.ticket.0.0.enc_part.0)
     (λ part y. has_then {A = Unit {0}} (counting call part) (λ _. done (Ok part)) (has_counting call part) (λ _ z. has_done (Ok part))))
@@ -106,7 +106,7 @@ module _ (call : CallRecord) (request : KdcReq) (is : IsCall call) (n : ℕ) (fe
 
   -- the AP request that it carries is as short, and so is what is sealed there
   carried_fits : (presented : ApReqInner) (part : EncTicketPartInner) → IsByTicket call request presented part → Fits n (ap_req_tree presented)
-  carried_fits presented part by = request_fits n by.entry presented by.read (entry_short n 1 request by.entry fits by.first)
+  carried_fits presented part by = request_fits n by.value presented by.read (padata_short n 1 request by.value fits by.first)
 
   subkey_bytes : (presented : ApReqInner) (part : EncTicketPartInner) (shown : Authenticated) (subkey : EncryptionKey) → IsByTicket call request presented part → IsOfKey presented part shown
       → subkey_in shown.authenticator ≡ Some subkey → IsBytes subkey.key_value.0
@@ -184,13 +184,13 @@ module _ (call : CallRecord) (request : KdcReq) (is : IsCall call) (n : ℕ) (fe
       has_then (shown_near call part presented) (of_shown call body part) (has_shown call part presented)
       (λ shown x. has_of_shown presented part shown by (by_authenticator call part presented shown x))
 
-  pub has_of_carried : (entry : List ℕ) (presented : ApReqInner) → first_of 1 (entries_of request) ≡ Some entry → IsApReq entry presented → HasOutcome (of_carried call body presented)
-  has_of_carried entry presented first read =
+  pub has_of_carried : (value : List ℕ) (presented : ApReqInner) → first_of 1 (padata_in request) ≡ Some value → IsApReq value presented → HasOutcome (of_carried call body presented)
+  has_of_carried value presented first read =
       let rest : AccountRecord → Table (Result (List ℕ) ℕ) = λ granting. and_then (ticket_granting call granting presented) (of_ticket call body presented) in
       has_needed (call.look (krbtgt_of call.realm)) 7 rest
       (λ granting e.
       has_then (ticket_granting call granting presented) (of_ticket call body presented) (has_ticket_granting call granting presented)
-      (λ part x. has_of_ticket presented part (record { entry = entry; first = first; read = read; granting = granting; account = e; opens = by_ticket call granting presented part x })))
+      (λ part x. has_of_ticket presented part (record { value = value; first = first; read = read; granting = granting; account = e; opens = by_ticket call granting presented part x })))
 
 -- a request that is for the realm
 addressed_by : (realm : List ℕ) (request : KdcReq) → (to_us realm request).gives (Ok tt) → (addressed 12 realm request).gives (Ok tt)
@@ -199,9 +199,9 @@ addressed_by realm request (inr (code, x, e)) = absurd (cc (e))
 
 pub has_tgs_outcome : (call : CallRecord) (request : KdcReq) → IsCall call → (n : ℕ) → n < 2 ^ 64 → Fits n (kdc_req_inner_tree request) → HasOutcome (tgs_table call request)
 has_tgs_outcome call request is n few fits =
-    has_then {A = Unit {0}} (to_us call.realm request) (λ _. and_then (carried (entries_of request)) (of_carried call request.req_body.0)) (has_to_us call.realm request)
+    has_then {A = Unit {0}} (to_us call.realm request) (λ _. and_then (carried (padata_in request)) (of_carried call request.req_body.0)) (has_to_us call.realm request)
     (λ _ x.
-    has_then (carried (entries_of request)) (of_carried call request.req_body.0) (has_carried (entries_of request))
+    has_then (carried (padata_in request)) (of_carried call request.req_body.0) (has_carried (padata_in request))
     (λ presented y.
-    let found = by_entry (entries_of request) presented y in
+    let found = by_padata (padata_in request) presented y in
     has_of_carried call request is n few fits (own_realm_fits n 12 call.realm request (addressed_by call.realm request x) fits) found.0 presented found.1 found.2))

@@ -11,11 +11,11 @@ use Rattle.std.specs.Option.{is_some}
 use Rattle.decision_tables.specs.Tables.{Table, and_then, need, refuse}
 use Rattle.krb_ap_requests.specs.declared.presented.Authenticated.{Authenticated}
 use Rattle.krb_kdc_requests.specs.Call.{CallRecord}
-use Rattle.krb_kdc_requests.specs.Requests.{entries_of, service_of}
+use Rattle.krb_kdc_requests.specs.Requests.{padata_in, service_of}
 use Rattle.krb_as.specs.TicketGranting.{krbtgt_of}
 use Rattle.krb_tgs.specs.ByTicket.{IsByTicket, IsInvolvedFurther}
 use Rattle.krb_tgs.specs.TgsTable.{carried, covered, further, of_carried, of_shown, of_ticket, shown_near, tgs_granted, tgs_table, ticket_granting, to_us}
-use Rattle.krb_tgs.proofs.ByTicket.{by_entry, by_ticket}
+use Rattle.krb_tgs.proofs.ByTicket.{by_padata, by_ticket}
 
 -- the value that is needed is the same, and what follows gives the same of it
 same_need : {A : Type 0} (o p : Option A) → o ≡ p → (code : ℕ) (f g : A → Table (Result (List ℕ) ℕ)) (r : Result (List ℕ) ℕ)
@@ -51,10 +51,10 @@ module _ (call : CallRecord) (other : Look) (request : KdcReq) (agree : (these :
       (same_need (service_of body) (service_of body) refl 7 (by_name call.look) (by_name other) r
       (λ name b. same_need (call.look (components name)) (other (components name)) (agree (components name) (inr (inl (name, b, refl)))) 7 (given name) (given name) r (λ service c x. x)))
 
-  same_of_carried : (presented : ApReqInner) → (carried (entries_of request)).gives (Ok presented)
+  same_of_carried : (presented : ApReqInner) → (carried (padata_in request)).gives (Ok presented)
       → (of_carried call request.req_body.0 presented).gives r → (of_carried beside request.req_body.0 presented).gives r
   same_of_carried presented x =
-      let found = by_entry (entries_of request) presented x in
+      let found = by_padata (padata_in request) presented x in
       let body = request.req_body.0 in
       same_need (call.look (krbtgt_of call.realm)) (other (krbtgt_of call.realm)) (agree (krbtgt_of call.realm) (inl refl)) 7
       (λ granting. and_then (ticket_granting call granting presented) (of_ticket call body presented))
@@ -67,12 +67,12 @@ module _ (call : CallRecord) (other : Look) (request : KdcReq) (agree : (these :
       same_then {A = Unit {0}} (covered shown.suite part.key.0.key_value.0 shown.authenticator body) (λ _. tgs_granted call part shown body) (λ _. tgs_granted beside part shown body) r
       (λ _ w.
       same_granted presented part shown
-      (record { entry = found.0; first = found.1; read = found.2; granting = granting; account = e; opens = by_ticket call granting presented part y })))))
+      (record { value = found.0; first = found.1; read = found.2; granting = granting; account = e; opens = by_ticket call granting presented part y })))))
 
   pub same_further : (tgs_table call request).gives r → (tgs_table beside request).gives r
   same_further =
-      same_then {A = Unit {0}} (to_us call.realm request) (λ _. and_then (carried (entries_of request)) (of_carried call request.req_body.0))
-      (λ _. and_then (carried (entries_of request)) (of_carried beside request.req_body.0)) r
+      same_then {A = Unit {0}} (to_us call.realm request) (λ _. and_then (carried (padata_in request)) (of_carried call request.req_body.0))
+      (λ _. and_then (carried (padata_in request)) (of_carried beside request.req_body.0)) r
       (λ _ x.
-      same_then (carried (entries_of request)) (of_carried call request.req_body.0) (of_carried beside request.req_body.0) r
+      same_then (carried (padata_in request)) (of_carried call request.req_body.0) (of_carried beside request.req_body.0) r
       (λ presented y. same_of_carried presented y))

@@ -19,7 +19,7 @@ use Rattle.krb_as.proofs.Parts.{part_passed, part_refused}
 use Rattle.krb_tgs.specs.TgsTable.{counting, of_carried, of_ticket, ticket_granting}
 
 -- the ticket that a request presents is judged, by equal keys
-module _ (call : CallRecord) (granting : AccountRecord) (presented : ApReqInner) (number : ℕ) (numbered : number ≡ granting.number) where
+module _ (call : CallRecord) (granting : AccountRecord) (presented : ApReqInner) (kvno : ℕ) (numbered : kvno ≡ granting.kvno) where
   abbrev fields : ℕ → Table (Result (Unit {0}) ℕ)
   fields n = ap_fields call.realm (krbtgt_of call.realm) n presented
 
@@ -32,19 +32,19 @@ module _ (call : CallRecord) (granting : AccountRecord) (presented : ApReqInner)
   abbrev pub judged : Result EncTicketPartInner Refusal → Type 0
   judged r = IsJudged (ticket_granting call granting presented).gives r
 
-  own : (r : Result (Unit {0}) Refusal) → IsJudged (fields number).gives r → IsJudged (fields granting.number).gives r
+  own : (r : Result (Unit {0}) Refusal) → IsJudged (fields kvno).gives r → IsJudged (fields granting.kvno).gives r
   own r x = subst (λ n. IsJudged (fields n).gives r) numbered x
 
   -- another service's, or under another key
-  pub fields_refused : (e : Refusal) → IsJudged (fields number).gives (Err e) → judged (Err e)
-  fields_refused e x = part_refused (fields granting.number) (λ _. and_then (opening granting.suite granting.key) end) e (own (Err e) x)
+  pub fields_refused : (e : Refusal) → IsJudged (fields kvno).gives (Err e) → judged (Err e)
+  fields_refused e x = part_refused (fields granting.kvno) (λ _. and_then (opening granting.suite granting.key) end) e (own (Err e) x)
 
-  module _ (key : KeyRecord) (keyed : key ≡ record { suite = granting.suite; bytes = granting.key }) (x : (fields number).gives (Ok tt)) where
+  module _ (key : KeyRecord) (keyed : key ≡ record { suite = granting.suite; bytes = granting.key }) (x : (fields kvno).gives (Ok tt)) where
     opened : (r : Result EncTicketPartInner Refusal) → IsJudged (opening key.suite key.bytes).gives r → IsJudged (opening granting.suite granting.key).gives r
     opened r y = subst (λ (k : KeyRecord). IsJudged (opening k.suite k.bytes).gives r) keyed y
 
     further : (r : Result EncTicketPartInner Refusal) → IsJudged (and_then (opening granting.suite granting.key) end).gives r → judged r
-    further r y = part_passed (fields granting.number) (λ _. and_then (opening granting.suite granting.key) end) tt r (own (Ok tt) x) y
+    further r y = part_passed (fields granting.kvno) (λ _. and_then (opening granting.suite granting.key) end) tt r (own (Ok tt) x) y
 
     -- it doesn't open
     pub unopened : (e : Refusal) → IsJudged (opening key.suite key.bytes).gives (Err e) → judged (Err e)

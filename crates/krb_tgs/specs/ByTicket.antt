@@ -8,17 +8,17 @@ use Rattle.krb_types.specs.declared.data_types.principal_name.PrincipalName.{Pri
 use Rattle.krb_messages.specs.declared.messages.ap_req.ApReqInner.{ApReqInner}
 use Rattle.krb_messages.specs.declared.messages.kdc_req.KdcReq.{KdcReq}
 use Rattle.krb_messages.specs.Messages.{IsApReq}
-use Rattle.krb_preauth.specs.Entries.{first_of}
+use Rattle.krb_preauth.specs.Padata.{first_of}
 use Rattle.krb_ap_requests.specs.Messages.{IsTicketPart}
 use Rattle.krb_kdc_requests.specs.Call.{CallRecord}
-use Rattle.krb_kdc_requests.specs.Requests.{entries_of, service_of}
+use Rattle.krb_kdc_requests.specs.Requests.{padata_in, service_of}
 use Rattle.krb_as.specs.TicketGranting.{krbtgt_of}
 
 -- the request carries a ticket that has this part, sealed under the key of the realm's ticket-granting service
 pub record IsByTicket (call : CallRecord) (request : KdcReq) (presented : ApReqInner) (part : EncTicketPartInner) : Type 0 where
-  pub entry : Bytes
-  pub first : first_of 1 (entries_of request) ≡ Some entry
-  pub read : IsApReq entry presented
+  pub value : Bytes
+  pub first : first_of 1 (padata_in request) ≡ Some value
+  pub read : IsApReq value presented
   pub granting : AccountRecord
   pub account : call.look (krbtgt_of call.realm) ≡ Some granting
   pub opens : IsTicketPart granting.suite granting.key presented.ticket.0.0.enc_part.0 part

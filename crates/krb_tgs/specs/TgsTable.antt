@@ -29,7 +29,7 @@ use Rattle.krb_messages.specs.declared.messages.kdc_req.KdcReq.{KdcReq}
 use Rattle.krb_messages.specs.declared.messages.kdc_req_body.KdcReqBody.{KdcReqBody}
 use Rattle.krb_messages.specs.Messages.{IsApReq, sole_ap_req}
 use Rattle.decision_tables.specs.Tables.{Table, and_then, ask, done, need, refuse}
-use Rattle.krb_preauth.specs.Entries.{first_of}
+use Rattle.krb_preauth.specs.Padata.{first_of}
 use Rattle.krb_tickets.specs.declared.grant.Grant.{Grant}
 use Rattle.krb_tickets.specs.Parts.{session_key_of}
 use Rattle.krb_tickets.specs.ReplyKeys.{ReplyKeyRecord, tgs_reply_key, tgs_subkey_reply_key}
@@ -37,7 +37,7 @@ use Rattle.krb_ap_requests.specs.ApTable.{ap_fields, authenticated, opened_part,
 use Rattle.krb_ap_requests.specs.declared.presented.Authenticated.{Authenticated}
 use Rattle.krb_kdc_requests.specs.Call.{CallRecord, skew_of}
 use Rattle.krb_as.specs.Grants.{replied}
-use Rattle.krb_kdc_requests.specs.Requests.{addressed, entries_of, lasting, service_of}
+use Rattle.krb_kdc_requests.specs.Requests.{addressed, padata_in, lasting, service_of}
 pub use Rattle.krb_kdc_requests.specs.Requests.{body_bytes}
 use Rattle.krb_as.specs.TicketGranting.{krbtgt_of}
 use Rattle.krb_kdc_requests.specs.declared.span.Span.{Span}
@@ -49,11 +49,11 @@ to_us realm request =
     refuse (is_some request.req_body.0.enc_authorization_data.0) KDC_ERR_POLICY
     (done (Ok tt)))
 
--- the AP request that the first entry of type 1 is
+-- the AP request that the first padata of type 1 is
 abbrev pub carried : List PaData → Table (Result ApReqInner Code)
-carried entries =
-    need (first_of 1 entries) KDC_ERR_PADATA_TYPE_NOSUPP (λ entry.
-    ask (IsApReq entry) (sole_ap_req entry) (done (Err KRB_AP_ERR_MODIFIED)) (λ presented.
+carried padata =
+    need (first_of 1 padata) KDC_ERR_PADATA_TYPE_NOSUPP (λ value.
+    ask (IsApReq value) (sole_ap_req value) (done (Err KRB_AP_ERR_MODIFIED)) (λ presented.
     done (Ok presented)))
 
 -- the ticket is of a client of the realm, and counts at the moment
@@ -65,7 +65,7 @@ counting call part =
 -- the part of a ticket for the realm's ticket-granting service
 abbrev pub ticket_granting : CallRecord → AccountRecord → ApReqInner → Table (Result EncTicketPartInner Code)
 ticket_granting call granting presented =
-    and_then (ap_fields call.realm (krbtgt_of call.realm) granting.number presented) (λ _.
+    and_then (ap_fields call.realm (krbtgt_of call.realm) granting.kvno presented) (λ _.
     and_then (opened_part granting.suite granting.key presented.ticket.0.0.enc_part.0) (λ part.
     and_then (counting call part) (λ _.
     done (Ok part))))
@@ -184,5 +184,5 @@ of_carried call body presented =
 abbrev pub tgs_table : CallRecord → KdcReq → Table (Result Bytes Code)
 tgs_table call request =
     and_then (to_us call.realm request) (λ _.
-    and_then (carried (entries_of request))
+    and_then (carried (padata_in request))
     (of_carried call request.req_body.0))

@@ -34,14 +34,14 @@ pub(crate) fn check_request(realm: &GeneralStringAsn1, request: &KdcReq) -> Resu
     Ok(())
 }
 
-/// The AP request that the first entry of type 1 is.
-pub(crate) fn carried(alloc: Global, entries: &[PaData]) -> Result<ApReqInner, Refusal>
-    ensures { IsJudged (carried entries.now).gives result }
+/// The AP request that the first padata of type 1 is.
+pub(crate) fn carried(alloc: Global, padata: &[PaData]) -> Result<ApReqInner, Refusal>
+    ensures { IsJudged (carried padata.now).gives result }
 {
-    let Some(entry) = first_of(entries, PA_TGS_REQ) else {
+    let Some(value) = first_of(padata, PA_TGS_REQ) else {
         return Err(Refusal::Krb(error_codes::KDC_ERR_PADATA_TYPE_NOSUPP));
     };
-    let Some(presented) = read_ap_req(alloc, entry.as_bytes())? else {
+    let Some(presented) = read_ap_req(alloc, value.as_bytes())? else {
         return Err(Refusal::Krb(error_codes::KRB_AP_ERR_MODIFIED));
     };
     Ok(presented)
@@ -57,24 +57,24 @@ pub(crate) fn open_ticket_granting(
 ) -> Result<EncTicketPartInner, Refusal>
     ensures { IsJudged (ticket_granting (call_of call.now) granting.now presented.now).gives result }
 {
-    check_name(alloc, call.realm, granting.number(), presented)?;
+    check_name(alloc, call.realm, granting.kvno(), presented)?;
     let sealed = &presented.ticket.0.0.enc_part.0;
     let part = open_ticket(alloc, granting.key(), sealed)?;
     let judged = check_counting(call, &part);
     if_passed(part, judged)
 }
 
-// Judges whether the request presents a ticket for this realm's ticket-granting service, under its key of this number.
+// Judges whether the request presents a ticket for this realm's ticket-granting service, under its key of this kvno.
 fn check_name(
     alloc: Global,
     realm: &GeneralStringAsn1,
-    number: u32,
+    kvno: u32,
     presented: &ApReqInner,
 ) -> Result<(), Refusal>
-    ensures { IsJudged (ap_fields realm.now (krbtgt_of realm.now) number presented.now).gives result }
+    ensures { IsJudged (ap_fields realm.now (krbtgt_of realm.now) kvno presented.now).gives result }
 {
     let name = krbtgt_of(alloc, realm)?;
-    check_fields(realm, &name, number, presented)
+    check_fields(realm, &name, kvno, presented)
 }
 
 // Judges whether the ticket is of a client of the realm, and counts at the moment.

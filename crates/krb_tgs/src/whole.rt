@@ -16,7 +16,7 @@ use krb_accounts::{Account, Accounts};
 use krb_ap_requests::Authenticated;
 use krb_as::krbtgt_of;
 use krb_crypto::Key;
-use krb_kdc_requests::{Call, entries_of, service_of};
+use krb_kdc_requests::{Call, padata_in, service_of};
 use krb_messages::messages::{ApReqInner, KdcReq, KdcReqBody};
 use krb_types::Refusal;
 use krb_constants::error_codes;
@@ -31,7 +31,7 @@ pub fn judge_tgs(alloc: Global, call: &Call<'_>, request: &KdcReq) -> Result<Vec
     ensures { IsGranted (tgs_table (call_of call.now) request.now).gives result }
 {
     check_request(call.realm, request)?;
-    let presented = carried(alloc, entries_of(request))?;
+    let presented = carried(alloc, padata_in(request))?;
     let body = &request.req_body.0;
     let judged = judge_carried(alloc, call, body, &presented);
     drop(presented);

@@ -9,13 +9,13 @@ use Rattle.krb_tickets.specs.declared.reply.Exchange.{Exchange}
 use Rattle.krb_tickets.specs.declared.reply.Exchange.TheVariants.{As, Tgs}
 use Rattle.krb_tickets.specs.declared.reply.ReplyKey as held
 
--- the exchange that is replied in, the key with its suite and, where one is told, its number, the key usage, and the data of
+-- the exchange that is replied in, the key with its suite and, where the ciphertext has one, its kvno, the key usage, and the data of
 -- PA-PK-AS-REP where client and realm agreed on the key
 pub record ReplyKeyRecord : Type 0 where
   pub exchange : Exchange
   pub suite : CipherSuite
   pub key : Bytes
-  pub number : Option ℕ
+  pub kvno : Option ℕ
   pub usage : ℕ
   pub pk_as_rep : Option Bytes
 
@@ -25,23 +25,23 @@ reply_key_of this = record {
   exchange = this.exchange;
   suite = this.key.now.suite;
   key = this.key.now.bytes;
-  number = this.number;
+  kvno = this.kvno;
   usage = cast_unsigned w32 this.usage;
   pk_as_rep = option_map (λ reply. reply.now) this.pk_as_rep;
 }
 
 -- in an AS exchange the client's key
 abbrev pub as_reply_key : AccountRecord → ReplyKeyRecord
-as_reply_key client = record { exchange = As; suite = client.suite; key = client.key; number = Some client.number; usage = 3; pk_as_rep = None }
+as_reply_key client = record { exchange = As; suite = client.suite; key = client.key; kvno = Some client.kvno; usage = 3; pk_as_rep = None }
 
 -- in a TGS exchange the old ticket's session key
 abbrev pub tgs_reply_key : CipherSuite → Bytes → ReplyKeyRecord
-tgs_reply_key suite key = record { exchange = Tgs; suite = suite; key = key; number = None; usage = 8; pk_as_rep = None }
+tgs_reply_key suite key = record { exchange = Tgs; suite = suite; key = key; kvno = None; usage = 8; pk_as_rep = None }
 
 -- or the authenticator's subkey, where there is one
 abbrev pub tgs_subkey_reply_key : CipherSuite → Bytes → ReplyKeyRecord
-tgs_subkey_reply_key suite key = record { exchange = Tgs; suite = suite; key = key; number = None; usage = 9; pk_as_rep = None }
+tgs_subkey_reply_key suite key = record { exchange = Tgs; suite = suite; key = key; kvno = None; usage = 9; pk_as_rep = None }
 
 -- in an AS exchange by certificate the key that both agreed on, and PA-PK-AS-REP (RFC 4556, section 3.2.3.1)
 abbrev pub agreed_reply_key : CipherSuite → Bytes → Bytes → ReplyKeyRecord
-agreed_reply_key suite key reply = record { exchange = As; suite = suite; key = key; number = None; usage = 3; pk_as_rep = Some reply }
+agreed_reply_key suite key reply = record { exchange = As; suite = suite; key = key; kvno = None; usage = 3; pk_as_rep = Some reply }

@@ -36,18 +36,18 @@ kdc_reply_bytes exchange reply = der (kdc_reply_tree exchange reply)
 
 -- the data is the plaintext, sealed under the account's key for the usage, after the confounder, with the kvno
 abbrev pub IsSealedData : AccountRecord → ℕ → Bytes → Bytes → EncryptedData → Type 0
-IsSealedData account = Seals account.suite account.key (Some account.number)
+IsSealedData account = Seals account.suite account.key (Some account.kvno)
 
 -- there is one at most
 pub sole_sealed_data : (account : AccountRecord) (usage : ℕ) (confounder plain : Bytes) (a b : EncryptedData)
     → IsSealedData account usage confounder plain a → IsSealedData account usage confounder plain b → a ≡ b
-sole_sealed_data account = sole_seals account.suite account.key (Some account.number)
+sole_sealed_data account = sole_seals account.suite account.key (Some account.kvno)
 
 -- the data is the plaintext, sealed under the reply key, behind the confounder
 abbrev pub IsSealedReply : ReplyKeyRecord → Bytes → Bytes → EncryptedData → Type 0
-IsSealedReply under = Seals under.suite under.key under.number under.usage
+IsSealedReply under = Seals under.suite under.key under.kvno under.usage
 
 -- there is one at most
 pub sole_sealed_reply : (under : ReplyKeyRecord) (confounder plain : Bytes) (a b : EncryptedData)
     → IsSealedReply under confounder plain a → IsSealedReply under confounder plain b → a ≡ b
-sole_sealed_reply under = sole_seals under.suite under.key under.number under.usage
+sole_sealed_reply under = sole_seals under.suite under.key under.kvno under.usage

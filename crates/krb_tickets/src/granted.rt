@@ -10,7 +10,7 @@ use krb_accounts::Account;
 use krb_types::random_bytes::{REPLY_CONFOUNDER, TICKET_CONFOUNDER};
 use std::alloc::{AllocError, Global};
 
-/// The reply with the ticket (RFC 4120, section 5.4.2): the ticket's part under the service's key, with its number, and the
+/// The reply with the ticket (RFC 4120, section 5.4.2): the ticket's part under the service's key, with its kvno, and the
 /// reply's part under the reply key. The ticket's confounder and the reply's are random bytes in their places. Memory is the
 /// only refusal.
 pub fn ticket_reply(

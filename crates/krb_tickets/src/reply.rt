@@ -9,12 +9,15 @@ ghost use Rattle.krb_tickets.specs.ReplyKeys.{reply_key_of};
 use crate::grant::{Grant, ticket_of};
 use crate::parts::reply_part;
 use krb_accounts::Account;
+use krb_constants::key_usages;
+use krb_constants::types::{
+    AS_REP_MSG_TYPE, ENC_AS_REP_PART_TYPE, ENC_TGS_REP_PART_TYPE, KERBEROS_VERSION,
+    TGS_REP_MSG_TYPE,
+};
 use krb_crypto::Key;
 use krb_encrypted_data::sealed_data;
 use krb_messages::messages::{EncKdcRepPart, KdcRep};
 use krb_preauth::pa_data;
-use krb_constants::key_usages;
-use krb_constants::types::{AS_REP_MSG_TYPE, ENC_AS_REP_PART_TYPE, ENC_TGS_REP_PART_TYPE, KERBEROS_VERSION, TGS_REP_MSG_TYPE};
 use krb_types::data_types::{EncryptedData, PaData};
 use picky_asn1::wrapper::{Asn1SequenceOf, IntegerAsn1};
 use picky_asn1_der::{
@@ -44,7 +47,7 @@ pub struct ReplyKey<'a> {
     /// The key.
     pub key: &'a Key,
     /// The kvno, if there is one.
-    pub number: Option<u32>,
+    pub kvno: Option<u32>,
     /// What the key is used for (RFC 4120, section 7.5.1).
     pub usage: i32,
     /// The data of PA-PK-AS-REP, if client and realm agreed on the key.
@@ -61,7 +64,7 @@ impl<'a> ReplyKey<'a> {
         ReplyKey {
             exchange: Exchange::As,
             key: client.key(),
-            number: Some(client.number()),
+            kvno: Some(client.kvno()),
             usage: key_usages::AS_REP_ENC,
             pk_as_rep: None,
         }
@@ -74,7 +77,7 @@ impl<'a> ReplyKey<'a> {
         ReplyKey {
             exchange: Exchange::Tgs,
             key,
-            number: None,
+            kvno: None,
             usage: key_usages::TGS_REP_ENC_SESSION_KEY,
             pk_as_rep: None,
         }
@@ -87,7 +90,7 @@ impl<'a> ReplyKey<'a> {
         ReplyKey {
             exchange: Exchange::Tgs,
             key,
-            number: None,
+            kvno: None,
             usage: key_usages::TGS_REP_ENC_SUB_KEY,
             pk_as_rep: None,
         }
@@ -100,7 +103,7 @@ impl<'a> ReplyKey<'a> {
         ReplyKey {
             exchange: Exchange::As,
             key,
-            number: None,
+            kvno: None,
             usage: key_usages::AS_REP_ENC,
             pk_as_rep: Some(pk_as_rep),
         }
@@ -123,7 +126,7 @@ pub fn sealed_reply(
     let sealed = sealed_data(
         alloc,
         under.key,
-        under.number,
+        under.kvno,
         under.usage,
         confounder,
         &plain,

@@ -9,7 +9,7 @@ use krb_types::data_types::EncryptedData;
 use std::alloc::{AllocError, Global};
 
 /// The plaintext, sealed under the account's key for the usage, behind the confounder, with the key's
-/// number (RFC 4120, section 5.2.9).
+/// kvno (RFC 4120, section 5.2.9).
 pub(crate) fn sealed_data(
     alloc: Global,
     account: &Account,
@@ -20,11 +20,11 @@ pub(crate) fn sealed_data(
     requires { length confounder.now ≡ cipher_confounder_size account.now.suite }
     ensures { IfOk result (IsSealedData account.now (cast_unsigned w32 usage) confounder.now plain.now) }
 {
-    let number = Some(account.number());
+    let kvno = Some(account.kvno());
     let sealed = krb_encrypted_data::sealed_data(
         alloc,
         account.key(),
-        number,
+        kvno,
         usage,
         confounder,
         plain,

@@ -12,8 +12,8 @@ abbrev pub random_part : ℕ → ℕ → Random → Bytes
 random_part start size random = take size (drop start random)
 
 -- an AS request: the confounder of its encrypted timestamp, of so many bytes, and the bytes of its nonce
-abbrev pub stamp_confounder : ℕ → Random → Bytes
-stamp_confounder = random_part 0
+abbrev pub timestamp_confounder : ℕ → Random → Bytes
+timestamp_confounder = random_part 0
 
 abbrev pub nonce_bytes : Random → Bytes
 nonce_bytes = random_part 16 4

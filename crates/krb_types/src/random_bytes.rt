@@ -2,7 +2,7 @@
 //! a suite takes as many from the front as it wants (RFC 3961, section 3). No two things of one message share a byte.
 
 /// The confounder of an AS request's encrypted timestamp.
-pub const STAMP_CONFOUNDER: usize = 0;
+pub const TIMESTAMP_CONFOUNDER: usize = 0;
 
 /// The nonce of an AS or a TGS request, of four bytes.
 pub const NONCE: usize = 16;

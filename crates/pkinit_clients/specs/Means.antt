@@ -10,11 +10,11 @@ use Rattle.krb_messages.specs.declared.messages.kdc_rep.KdcRep.{KdcRep}
 use Rattle.krb_messages.specs.declared.messages.kdc_req_body.KdcReqBody.{KdcReqBody}
 use Rattle.krb_crypto.specs.Keys.{KeyRecord}
 use Rattle.krb_crypto.specs.AgreedKeys.{agreed_key}
-use Rattle.krb_preauth.specs.Entries.{first_of}
+use Rattle.krb_preauth.specs.Padata.{first_of}
 use Rattle.krb_asked.specs.Asked.{AsAskedRecord}
 use Rattle.krb_client.specs.Client.{ClientRecord}
 use Rattle.krb_client.specs.Means.{MeansRecord}
-use Rattle.krb_client.specs.Requests.{entry_of}
+use Rattle.krb_client.specs.Requests.{pa_data_of}
 use Rattle.krb_client.specs.declared.refusal.TakeRefusal.{TakeRefusal}
 use Rattle.krb_client.specs.declared.refusal.TakeRefusal.TheVariants.{NotTrusted}
 use Rattle.decision_tables.specs.Tables.{Table, and_then_told, done, need}
@@ -28,12 +28,12 @@ use Rattle.pkinit_clients.specs.Requests.{IsNoPkAsReq, IsPkAsReqOf, sole_pk_as_r
 pub record IsPkinitPadata (keys : KeysRecord) (certificate : Bytes) (body : KdcReqBody) (moment : Micros) (random : Random) (padata : PaData) : Type 0 where
   pub value : Bytes
   pub is_request : IsPkAsReqOf keys certificate body moment (client_agreement_bytes random) value
-  pub entry : padata ≡ entry_of 16 value
+  pub made : padata ≡ pa_data_of 16 value
 
 pub sole_pkinit_padata : (keys : KeysRecord) (certificate : Bytes) (body : KdcReqBody) (moment : Micros) (random : Random) (a b : PaData)
     → IsPkinitPadata keys certificate body moment random a → IsPkinitPadata keys certificate body moment random b → a ≡ b
 sole_pkinit_padata keys certificate body moment random a b x y =
-    x.entry ∙ ap (entry_of 16) (sole_pk_as_req keys certificate body moment (client_agreement_bytes random) x.value y.value x.is_request y.is_request) ∙ sym y.entry
+    x.made ∙ ap (pa_data_of 16) (sole_pk_as_req keys certificate body moment (client_agreement_bytes random) x.value y.value x.is_request y.is_request) ∙ sym y.made
 
 -- there is no such padata
 abbrev pub IsNoPkinitPadata : KeysRecord → Bytes → KdcReqBody → Micros → Random → Type 0

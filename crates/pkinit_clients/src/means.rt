@@ -2,7 +2,7 @@
 ghost use Rattle.std.specs.Prelude.{◌≡◌, ◌≤◌, ◌⊎◌, length, IfErr, IfOk};
 ghost use Rattle.std.specs.Option.{option_copied};
 ghost use Rattle.krb_client.specs.Refusals.{IsTaken};
-ghost use Rattle.krb_client.specs.Requests.{entry_of};
+ghost use Rattle.krb_client.specs.Requests.{pa_data_of};
 ghost use Rattle.pkinit_clients.specs.Faults.{IsTakenAs, as_secret};
 ghost use Rattle.pkinit_clients.specs.Means.{IsNoPkinitPadata, IsPkinitPadata, key_in, pk_as_rep_in, pkinit_asked, reply_key};
 ghost use Rattle.pkinit_clients.specs.Replies.{secret_of};
@@ -86,13 +86,13 @@ fn pkinit_padata<K: KeyFunctions>(
     let Some(value) = made else {
         return Err(AskRefusal::NoKeyFunction);
     };
-    let padata = entry_of(alloc, value)?;
+    let padata = pa_data_of(alloc, value)?;
     Ok(padata)
 }
 
 // The padata with these data.
-fn entry_of(alloc: Global, value: Vec<u8>) -> Result<PaData, AllocError>
-    ensures { IfOk result (λ padata. padata ≡ entry_of 16 value.items) }
+fn pa_data_of(alloc: Global, value: Vec<u8>) -> Result<PaData, AllocError>
+    ensures { IfOk result (λ padata. padata ≡ pa_data_of 16 value.items) }
 {
     let kind = IntegerAsn1::from_u64(alloc, u64::from(PA_PK_AS_REQ))?;
     Ok(PaData {

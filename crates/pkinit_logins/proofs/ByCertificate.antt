@@ -12,7 +12,7 @@ use Rattle.krb_accounts.specs.Account.{AccountRecord}
 use Rattle.decision_tables.specs.One.{same_parts}
 use Rattle.decision_tables.specs.Tables.{done}
 use Rattle.krb_pkinit.specs.Calls.{AgreedRecord, PkinitCallRecord}
-use Rattle.krb_preauth.specs.Entries.{first_entry, first_of}
+use Rattle.krb_preauth.specs.Padata.{first_padata, first_of}
 use Rattle.krb_preauth.specs.MethodData.{pa_data_of}
 use Rattle.krb_tickets.specs.Parts.{padata_of}
 use Rattle.krb_tickets.specs.ReplyKeys.{ReplyKeyRecord, agreed_reply_key}
@@ -21,7 +21,6 @@ use Rattle.krb_kdc_requests.specs.Call.{CallRecord, pkinit_call, skew_of}
 use Rattle.krb_kdc_requests.specs.Calls.{AreKeyed}
 use Rattle.krb_client.specs.AsRequest.{as_request_of}
 use Rattle.krb_client.specs.Client.{ClientRecord}
-use Rattle.krb_client.specs.Requests.{entry_of}
 use Rattle.krb_client.specs.declared.refusal.TakeRefusal.{TakeRefusal}
 use Rattle.krb_client.specs.declared.refusal.TakeRefusal.TheVariants.{NotTrusted}
 use Rattle.krb_service.specs.Service.{ServiceRecord}
@@ -51,12 +50,12 @@ use Rattle.pkinit_logins.proofs.Taken as taking
 use Rattle.pkinit_logins.proofs.Rows.{past_need}
 
 -- the one entry is the first of its type
-own_request : (value : Bytes) → first_of 16 (entry_of 16 value ∷ []) ≡ Some value
-unfolding first_of first_entry
+own_request : (value : Bytes) → first_of 16 (pa_data_of 16 value ∷ []) ≡ Some value
+unfolding first_of first_padata
 own_request value = refl
 
 own_reply : (value : Bytes) → first_of 17 (pa_data_of 17 value ∷ []) ≡ Some value
-unfolding first_of first_entry
+unfolding first_of first_padata
 own_reply value = refl
 
 -- PA-PK-AS-REP of a reply whose padata is that alone
@@ -145,7 +144,7 @@ module _ (client : ClientRecord) (certificate : Bytes) (anchor : AnchorRecord) (
     replied_under r x =
         let own = subst (λ p. (authenticated call (pkinit_rows trust realm_keys) account client.components (as_request_of p body)).gives r) it.entry x in
         past_found {A = AgreedRecord} {T = ReplyKeyRecord} {E = ℕ} IsAgreed (pkinit_table realm_keys trust judged it.value) (λ agreed. done (Ok (key_under agreed))) r found
-        (subst (λ first. (authenticated_by call (pkinit_rows trust realm_keys) account client.components (as_request_of (entry_of 16 it.value) body) first).gives r) (own_request it.value) own)
+        (subst (λ first. (authenticated_by call (pkinit_rows trust realm_keys) account client.components (as_request_of (pa_data_of 16 it.value) body) first).gives r) (own_request it.value) own)
 
   pub authenticated_by_certificate : IsAuthenticated client (by_certificate certificate anchor client_keys) realm (pkinit_rows trust realm_keys) account login
   authenticated_by_certificate = record {

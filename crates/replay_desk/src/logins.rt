@@ -332,7 +332,7 @@ fn change(alloc: Global, realm: &mut Realm, words: &str) -> anyhow::Result<()> {
 /// The service `h` of these words: suite, key, its kvno and the skew.
 fn service_of(alloc: Global, words: &str) -> anyhow::Result<Service> {
     let words = parts_of(alloc, words, ' ')?;
-    let [suite, key, number, skew] = words.as_slice() else {
+    let [suite, key, kvno, skew] = words.as_slice() else {
         bail!("a service of other than four words");
     };
     let (suite, key) = (suite_of(*suite)?, bytes_of(alloc, *key)?);
@@ -343,7 +343,7 @@ fn service_of(alloc: Global, words: &str) -> anyhow::Result<Service> {
         &name,
         suite,
         &key,
-        number.parse()?,
+        kvno.parse()?,
         skew.parse()?,
     )?;
     Ok(service)

@@ -9,15 +9,15 @@ use std::alloc::Global;
 
 /// Makes the service `h`.
 pub(crate) fn service(stage: &mut Stage, alloc: Global, words: &[&str]) -> anyhow::Result<String> {
-    let [realm, suite, key, number, skew] = words else {
-        bail!("service REALM SUITE KEY NUMBER SKEW");
+    let [realm, suite, key, kvno, skew] = words else {
+        bail!("service REALM SUITE KEY KVNO SKEW");
     };
     let realm = bytes_of(alloc, realm)?;
     let suite = suite_of(suite)?;
     let key = bytes_of(alloc, key)?;
-    let number = number.parse::<u32>()?;
+    let kvno = kvno.parse::<u32>()?;
     let skew = skew.parse::<u64>()?;
-    make_service(stage, alloc, &realm, suite, &key, number, skew)
+    make_service(stage, alloc, &realm, suite, &key, kvno, skew)
 }
 
 fn make_service(
@@ -26,11 +26,11 @@ fn make_service(
     realm: &[u8],
     suite: CipherSuite,
     key: &[u8],
-    number: u32,
+    kvno: u32,
     skew: u64,
 ) -> anyhow::Result<String> {
     let name = name_of(alloc, "h")?;
-    match Service::new(alloc, realm, &name, suite, key, number, skew) {
+    match Service::new(alloc, realm, &name, suite, key, kvno, skew) {
         Ok(service) => {
             drop(stage.service.replace(service));
             ok(alloc)

@@ -7,10 +7,10 @@ use std::alloc::Global;
 
 /// Key, text, what it is enciphered to, and what that is deciphered to.
 pub(crate) fn is_chained(alloc: Global, row: &Row<'_>) -> bool {
-    let [key, text, cipher, filled] = row.columns.as_slice() else {
+    let [key, text, cipher, padded] = row.columns.as_slice() else {
         return false;
     };
-    is(encrypt_des(alloc, key, text), cipher) && is(decrypt_des(alloc, key, cipher), filled)
+    is(encrypt_des(alloc, key, text), cipher) && is(decrypt_des(alloc, key, cipher), padded)
 }
 
 /// Seed and key.

@@ -41,7 +41,7 @@ fn is_opened(alloc: Global, row: &Row<'_>, suite: CipherSuite) -> bool {
         return false;
     };
     match opened.strip_prefix(text.as_slice()) {
-        Some(fill) => suite.is_fill(text, fill),
+        Some(padding) => suite.is_padding(text, padding),
         None => false,
     }
 }

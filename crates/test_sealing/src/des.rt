@@ -39,10 +39,10 @@ fn sealed(rt: HostRuntime) {
 // What is opened has its padding.
 #[test]
 fn opened(rt: HostRuntime) {
-    let filled = b"\xEC\0\0\0\0\0\0\0";
-    assert!(rt; is(Des3CbcSha1Kd.decrypt(rt.alloc(), KEY, 5, SEALED), filled));
-    assert!(rt; DES3.is_fill(TEXT, &[0; 7]) && !DES3.is_fill(TEXT, &[0; 15]));
-    assert!(rt; !DES3.is_fill(TEXT, &[0, 0, 0, 0, 0, 0, 1]) && !DES3.is_fill(TEXT, &[0; 6]));
+    let padded = b"\xEC\0\0\0\0\0\0\0";
+    assert!(rt; is(Des3CbcSha1Kd.decrypt(rt.alloc(), KEY, 5, SEALED), padded));
+    assert!(rt; DES3.is_padding(TEXT, &[0; 7]) && !DES3.is_padding(TEXT, &[0; 15]));
+    assert!(rt; !DES3.is_padding(TEXT, &[0, 0, 0, 0, 0, 0, 1]) && !DES3.is_padding(TEXT, &[0; 6]));
 }
 
 fn summed_by(alloc: Global, hasher: &dyn Checksum) -> KerberosCryptoResult<Vec<u8>> {

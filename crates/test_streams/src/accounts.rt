@@ -84,7 +84,7 @@ fn account_7(alloc: Global) -> Option<Account> {
 fn is_account_7(account: &Account) -> bool {
     account.suite() == AES256
         && account.key().as_bytes() == [2; 32].as_slice()
-        && account.number() == 7
+        && account.kvno() == 7
         && account.salt().is_some_and(is_user_salt)
 }
 

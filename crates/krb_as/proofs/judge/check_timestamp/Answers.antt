@@ -1,37 +1,37 @@
 use Rattle.std.proofs.Common.{◌≡◌, true, false, None, Some, refl, sym, inl, inr, ◌∙◌}
 use Rattle.krb_moments.specs.Skew.{is_far}
 use Rattle.krb_kdc_requests.specs.Call.{call_of, skew_of}
-use Rattle.krb_preauth.specs.Entries.{first_of}
-use Rattle.krb_preauth.specs.Stamps.{moment_of}
+use Rattle.krb_preauth.specs.Padata.{first_of}
+use Rattle.krb_preauth.specs.EncryptedTimestamps.{moment_of}
 use Rattle.krb_as.proofs.judge.check_timestamp.Goals as goal
 
 pub returns-in_default-2 : goal.returns-in_default-2
 returns-in_default-2 c =
-    let present : first_of 2 c.args.entries.now ≡ Some c.in-Some.entry.now = sym c.in-Some.ensures in
-    let none = rw (c.in_default-2.is, c.as_bytes.ensures) at c.in_ok-stamp.ensures in
+    let present : first_of 2 c.args.padata.now ≡ Some c.in-Some.value.now = sym c.in-Some.ensures in
+    let none = rw (c.in_default-2.is, c.as_bytes.ensures) at c.in_ok-timestamp.ensures in
     rw present (inr (none, refl))
 
 pub returns-in_default-told : goal.returns-in_default-told
 returns-in_default-told c =
-    let present : first_of 2 c.args.entries.now ≡ Some c.in-Some.entry.now = sym c.in-Some.ensures in
-    let found = rw (c.in-Some-2.is, c.as_bytes.ensures) at c.in_ok-stamp.ensures in
-    let time : moment_of c.in-Some-2.stamp ≡ None = sym c.moment_of-told.ensures ∙ c.in_default-told.is in
-    rw present (inl (c.in-Some-2.stamp, found, rw time refl))
+    let present : first_of 2 c.args.padata.now ≡ Some c.in-Some.value.now = sym c.in-Some.ensures in
+    let found = rw (c.in-Some-2.is, c.as_bytes.ensures) at c.in_ok-timestamp.ensures in
+    let time : moment_of c.in-Some-2.timestamp ≡ None = sym c.moment_of-told.ensures ∙ c.in_default-told.is in
+    rw present (inl (c.in-Some-2.timestamp, found, rw time refl))
 
 pub returns-then-is_far_from : goal.returns-then-is_far_from
 returns-then-is_far_from c =
-    let present : first_of 2 c.args.entries.now ≡ Some c.in-Some.entry.now = sym c.in-Some.ensures in
-    let found = rw (c.in-Some-2.is, c.as_bytes.ensures) at c.in_ok-stamp.ensures in
-    let time : moment_of c.in-Some-2.stamp ≡ Some c.in-Some-told.time = sym c.moment_of-told.ensures ∙ c.in-Some-told.is in
+    let present : first_of 2 c.args.padata.now ≡ Some c.in-Some.value.now = sym c.in-Some.ensures in
+    let found = rw (c.in-Some-2.is, c.as_bytes.ensures) at c.in_ok-timestamp.ensures in
+    let time : moment_of c.in-Some-2.timestamp ≡ Some c.in-Some-told.time = sym c.moment_of-told.ensures ∙ c.in-Some-told.is in
     let far : is_far (skew_of (call_of c.args.call.now)) c.args.call.now.moment c.in-Some-told.time ≡ true =
     rw c.skew.ensures.value at (sym c.is_far_from.ensures ∙ c.if-is_far_from.true) in
-    rw present (inl (c.in-Some-2.stamp, found, rw (time, far) refl))
+    rw present (inl (c.in-Some-2.timestamp, found, rw (time, far) refl))
 
 pub returns : goal.returns
 returns c =
-    let present : first_of 2 c.args.entries.now ≡ Some c.in-Some.entry.now = sym c.in-Some.ensures in
-    let found = rw (c.in-Some-2.is, c.as_bytes.ensures) at c.in_ok-stamp.ensures in
-    let time : moment_of c.in-Some-2.stamp ≡ Some c.in-Some-told.time = sym c.moment_of-told.ensures ∙ c.in-Some-told.is in
+    let present : first_of 2 c.args.padata.now ≡ Some c.in-Some.value.now = sym c.in-Some.ensures in
+    let found = rw (c.in-Some-2.is, c.as_bytes.ensures) at c.in_ok-timestamp.ensures in
+    let time : moment_of c.in-Some-2.timestamp ≡ Some c.in-Some-told.time = sym c.moment_of-told.ensures ∙ c.in-Some-told.is in
     let far : is_far (skew_of (call_of c.args.call.now)) c.args.call.now.moment c.in-Some-told.time ≡ false =
     rw c.skew.ensures.value at (sym c.is_far_from.ensures ∙ c.if-is_far_from.false) in
-    rw present (inl (c.in-Some-2.stamp, found, rw (time, far) refl))
+    rw present (inl (c.in-Some-2.timestamp, found, rw (time, far) refl))

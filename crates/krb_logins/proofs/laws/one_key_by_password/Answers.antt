@@ -1,4 +1,4 @@
-use Rattle.krb_client.specs.Stamps.{by_key}
+use Rattle.krb_client.specs.EncryptedTimestamps.{by_key}
 use Rattle.krb_logins.proofs.ByPassword.{met_by_password}
 use Rattle.krb_logins.proofs.EndsWithOneKey.{ends_with_one_key}
 use Rattle.krb_logins.proofs.laws.one_key_by_password.Goals as goal

@@ -1,15 +1,15 @@
 use Rattle.std.proofs.Common.{◌≡◌, Some, refl, sym, inl, inr}
-use Rattle.krb_preauth.specs.Entries.{first_of}
+use Rattle.krb_preauth.specs.Padata.{first_of}
 use Rattle.krb_tgs.proofs.judge.carried.Goals as goal
 
 pub returns-in_default-2 : goal.returns-in_default-2
 returns-in_default-2 c =
-    let present : first_of 1 c.args.entries.now ≡ Some c.in-Some.entry.now = sym c.in-Some.ensures in
+    let present : first_of 1 c.args.padata.now ≡ Some c.in-Some.value.now = sym c.in-Some.ensures in
     let none = rw (c.in_default-2.is, c.as_bytes.ensures) at c.in_ok-presented.ensures in
     rw present (inr (none, refl))
 
 pub returns : goal.returns
 returns c =
-    let present : first_of 1 c.args.entries.now ≡ Some c.in-Some.entry.now = sym c.in-Some.ensures in
+    let present : first_of 1 c.args.padata.now ≡ Some c.in-Some.value.now = sym c.in-Some.ensures in
     let found = rw (c.in-Some-2.is, c.as_bytes.ensures) at c.in_ok-presented.ensures in
     rw present (inl (c.in-Some-2.presented, found, refl))

@@ -3,7 +3,7 @@ use Rattle.std.proofs.lemmas.Result.{err_from_is_err_and}
 use Rattle.decision_tables.specs.Tables.{and_then}
 use Rattle.krb_types.specs.Refusals.{IsJudged}
 use Rattle.krb_kdc_requests.specs.Call.{call_of}
-use Rattle.krb_kdc_requests.specs.Requests.{entries_of}
+use Rattle.krb_kdc_requests.specs.Requests.{padata_in}
 use Rattle.krb_as.proofs.Parts.{grant_passed, grant_refused}
 use Rattle.krb_tgs.specs.TgsTable.{carried, of_carried, to_us}
 use Rattle.krb_tgs.proofs.whole.judge_tgs.Goals as goal
@@ -14,7 +14,7 @@ returns-in_err-check_request c =
     let request = c.args.request.now in
     let exit = err_from_is_err_and c.from_residual.result c.from_residual.ensures.1 in
     rw (exit.1, exit.2)
-    (grant_refused {A = Unit {0}} (to_us call.realm request) (λ _. and_then (carried (entries_of request)) (of_carried call request.req_body.0)) c.in_err-check_request.field-0.0 c.in_err-check_request.ensures)
+    (grant_refused {A = Unit {0}} (to_us call.realm request) (λ _. and_then (carried (padata_in request)) (of_carried call request.req_body.0)) c.in_err-check_request.field-0.0 c.in_err-check_request.ensures)
 
 pub returns-in_err-presented : goal.returns-in_err-presented
 returns-in_err-presented c =
@@ -23,14 +23,14 @@ returns-in_err-presented c =
     let refusal = c.in_err-presented.field-0.0 in
     let exit = err_from_is_err_and c.from_residual-in_err-presented.result c.from_residual-in_err-presented.ensures.1 in
     rw (exit.1, exit.2)
-    (grant_passed {A = Unit {0}} (to_us call.realm request) (λ _. and_then (carried (entries_of request)) (of_carried call request.req_body.0)) tt (Err refusal) c.in_ok-check_request.ensures
-    (grant_refused (carried (entries_of request)) (of_carried call request.req_body.0) refusal
-    (subst (λ entries. IsJudged (carried entries).gives (Err refusal)) c.entries_of.ensures c.in_err-presented.ensures)))
+    (grant_passed {A = Unit {0}} (to_us call.realm request) (λ _. and_then (carried (padata_in request)) (of_carried call request.req_body.0)) tt (Err refusal) c.in_ok-check_request.ensures
+    (grant_refused (carried (padata_in request)) (of_carried call request.req_body.0) refusal
+    (subst (λ padata. IsJudged (carried padata).gives (Err refusal)) c.padata_in.ensures c.in_err-presented.ensures)))
 
 pub returns : goal.returns
 returns c =
     let call = call_of c.args.call.now in
     let request = c.args.request.now in
-    grant_passed {A = Unit {0}} (to_us call.realm request) (λ _. and_then (carried (entries_of request)) (of_carried call request.req_body.0)) tt c.judge_carried-judged.result c.in_ok-check_request.ensures
-    (grant_passed (carried (entries_of request)) (of_carried call request.req_body.0) c.in_ok-presented.presented c.judge_carried-judged.result
-    (subst (λ entries. (carried entries).gives (Ok c.in_ok-presented.presented)) c.entries_of.ensures c.in_ok-presented.ensures) c.judge_carried-judged.ensures)
+    grant_passed {A = Unit {0}} (to_us call.realm request) (λ _. and_then (carried (padata_in request)) (of_carried call request.req_body.0)) tt c.judge_carried-judged.result c.in_ok-check_request.ensures
+    (grant_passed (carried (padata_in request)) (of_carried call request.req_body.0) c.in_ok-presented.presented c.judge_carried-judged.result
+    (subst (λ padata. (carried padata).gives (Ok c.in_ok-presented.presented)) c.padata_in.ensures c.in_ok-presented.ensures) c.judge_carried-judged.ensures)

@@ -13,22 +13,22 @@ use Rattle.krb_encrypted_data.specs.Sealed.{IsSealedIn, sole_sealed}
 use Rattle.krb_moments.specs.Times.{moment_at}
 use Rattle.krb_moments.specs.Units.{Micros}
 
-abbrev pub stamp_tree : PaEncTsEnc → Tree
-stamp_tree = held.pa_enc_ts_enc_tree
+abbrev pub timestamp_tree : PaEncTsEnc → Tree
+timestamp_tree = held.pa_enc_ts_enc_tree
 
 -- the bytes are the encoding of encrypted data in which the timestamp is sealed under the account's key (key usage 1;
 -- RFC 4120, section 7.5.1)
-pub record IsStamp (account : AccountRecord) (bytes : Bytes) (stamp : PaEncTsEnc) : Type 0 where
+pub record IsEncryptedTimestamp (account : AccountRecord) (bytes : Bytes) (timestamp : PaEncTsEnc) : Type 0 where
   pub sealed : EncryptedData
   pub writes : Writes held.encrypted_data_tree sealed bytes
-  pub opens : IsSealedIn {T = PaEncTsEnc} stamp_tree account.suite account.key 1 sealed stamp
+  pub opens : IsSealedIn {T = PaEncTsEnc} timestamp_tree account.suite account.key 1 sealed timestamp
 
 -- there is one at most
-pub sole_stamp : (account : AccountRecord) (bytes : Bytes) (v w : PaEncTsEnc) → IsStamp account bytes v → IsStamp account bytes w → v ≡ w
-sole_stamp account bytes v w x y =
+pub sole_encrypted_timestamp : (account : AccountRecord) (bytes : Bytes) (v w : PaEncTsEnc) → IsEncryptedTimestamp account bytes v → IsEncryptedTimestamp account bytes w → v ≡ w
+sole_encrypted_timestamp account bytes v w x y =
     let same = held.encrypted_data-injective x.sealed y.sealed x.writes.0 y.writes.0 (sym x.writes.1 ∙ y.writes.1) in
-    let first = subst (λ s. IsSealedIn {T = PaEncTsEnc} stamp_tree account.suite account.key 1 s v) same x.opens in
-    sole_sealed stamp_tree held.pa_enc_ts_enc-injective account.suite account.key 1 y.sealed v w first y.opens
+    let first = subst (λ s. IsSealedIn {T = PaEncTsEnc} timestamp_tree account.suite account.key 1 s v) same x.opens in
+    sole_sealed timestamp_tree held.pa_enc_ts_enc-injective account.suite account.key 1 y.sealed v w first y.opens
 
 -- missing microseconds are zero
 abbrev pub or_zero : Option ℤ → ℤ
@@ -37,4 +37,4 @@ or_zero (Some micros) = micros
 
 -- the moment of the timestamp, or none if its microseconds are no part of a second
 unfoldable pub moment_of : PaEncTsEnc → Option Micros
-moment_of stamp = moment_at (seconds_of stamp.patimestamp.0.0) (or_zero (option_map (λ tagged. tagged.0) stamp.pausec.0))
+moment_of timestamp = moment_at (seconds_of timestamp.patimestamp.0.0) (or_zero (option_map (λ tagged. tagged.0) timestamp.pausec.0))

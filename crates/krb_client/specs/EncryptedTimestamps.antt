@@ -8,54 +8,54 @@ use Rattle.picky_asn1.specs.Bytes.{Bytes}
 use Rattle.asn1_leaves.specs.declared.date.GeneralizedTime.{GeneralizedTime}
 use Rattle.krb_crypto.specs.Suites.{cipher_confounder_size}
 use Rattle.krb_crypto.specs.declared.suite.CipherSuite.{CipherSuite}
-use Rattle.krb_types.specs.RandomBytes.{Random, stamp_confounder}
+use Rattle.krb_types.specs.RandomBytes.{Random, timestamp_confounder}
 use Rattle.krb_types.specs.declared.data_types.encrypted_data.EncryptedData.{EncryptedData}
 use Rattle.krb_types.specs.declared.data_types.pa_data.PaData.{PaData}
 use Rattle.krb_types.specs.declared.data_types.pa_enc_timestamp.PaEncTsEnc.{PaEncTsEnc}
 use Rattle.decision_tables.specs.Tables.{done}
 use Rattle.krb_client.specs.Means.{MeansRecord}
-use Rattle.krb_client.specs.Messages.{encrypted_bytes, stamp_bytes}
-use Rattle.krb_client.specs.Requests.{entry_of}
+use Rattle.krb_client.specs.Messages.{encrypted_bytes, timestamp_bytes}
+use Rattle.krb_client.specs.Requests.{pa_data_of}
 use Rattle.krb_encrypted_data.specs.Sealing.{Seals, sole_seals}
 
 -- the client's time, its microseconds always with it
-abbrev pub stamp_of : GeneralizedTime → Micros → PaEncTsEnc
-stamp_of second microsecond = record {
+abbrev pub timestamp_of : GeneralizedTime → Micros → PaEncTsEnc
+timestamp_of second microsecond = record {
   patimestamp = record { 0 = record { 0 = second } };
   pausec = record { 0 = Some (record { 0 = pos microsecond }) };
 }
 
 -- the moment, sealed under the key (usage 1; RFC 4120, section 7.5.1) behind the confounder
-pub record IsSealedTime (suite : CipherSuite) (key : Bytes) (moment : Micros) (confounder : Bytes) (stamp : EncryptedData) : Type 0 where
+pub record IsSealedTime (suite : CipherSuite) (key : Bytes) (moment : Micros) (confounder : Bytes) (encrypted_timestamp : EncryptedData) : Type 0 where
   pub second : GeneralizedTime
   pub of_moment : IsSecondOf moment second
-  pub sealed : Seals suite key None 1 confounder (stamp_bytes (stamp_of second (moment % 1000000))) stamp
+  pub sealed : Seals suite key None 1 confounder (timestamp_bytes (timestamp_of second (moment % 1000000))) encrypted_timestamp
 
 pub sole_sealed_time : (suite : CipherSuite) (key : Bytes) (moment : Micros) (confounder : Bytes) (a b : EncryptedData)
     → IsSealedTime suite key moment confounder a → IsSealedTime suite key moment confounder b → a ≡ b
 sole_sealed_time suite key moment confounder a b x y =
     let same = sole_second moment x.second y.second x.of_moment y.of_moment in
-    let first = subst (λ (second : GeneralizedTime). Seals suite key None 1 confounder (stamp_bytes (stamp_of second (moment % 1000000))) a) same x.sealed in
-    sole_seals suite key None 1 confounder (stamp_bytes (stamp_of y.second (moment % 1000000))) a b first y.sealed
+    let first = subst (λ (second : GeneralizedTime). Seals suite key None 1 confounder (timestamp_bytes (timestamp_of second (moment % 1000000))) a) same x.sealed in
+    sole_seals suite key None 1 confounder (timestamp_bytes (timestamp_of y.second (moment % 1000000))) a b first y.sealed
 
 -- the padata is PA-ENC-TIMESTAMP (RFC 4120, section 7.5.2) of the moment; of the random bytes the first are the confounder
-pub record IsStamped (suite : CipherSuite) (key : Bytes) (moment : Micros) (random : Random) (padata : PaData) : Type 0 where
-  pub stamp : EncryptedData
-  pub stamped : IsSealedTime suite key moment (stamp_confounder (cipher_confounder_size suite) random) stamp
-  pub entry : padata ≡ entry_of 2 (encrypted_bytes stamp)
+pub record IsPaEncTimestamp (suite : CipherSuite) (key : Bytes) (moment : Micros) (random : Random) (padata : PaData) : Type 0 where
+  pub encrypted_timestamp : EncryptedData
+  pub sealed_time : IsSealedTime suite key moment (timestamp_confounder (cipher_confounder_size suite) random) encrypted_timestamp
+  pub made : padata ≡ pa_data_of 2 (encrypted_bytes encrypted_timestamp)
 
-pub sole_stamped : (suite : CipherSuite) (key : Bytes) (moment : Micros) (random : Random) (a b : PaData)
-    → IsStamped suite key moment random a → IsStamped suite key moment random b → a ≡ b
-sole_stamped suite key moment random a b x y =
-    x.entry
-    ∙ ap (λ stamp. entry_of 2 (encrypted_bytes stamp)) (sole_sealed_time suite key moment (stamp_confounder (cipher_confounder_size suite) random) x.stamp y.stamp x.stamped y.stamped)
-    ∙ sym y.entry
+pub sole_pa_enc_timestamp : (suite : CipherSuite) (key : Bytes) (moment : Micros) (random : Random) (a b : PaData)
+    → IsPaEncTimestamp suite key moment random a → IsPaEncTimestamp suite key moment random b → a ≡ b
+sole_pa_enc_timestamp suite key moment random a b x y =
+    x.made
+    ∙ ap (λ encrypted_timestamp. pa_data_of 2 (encrypted_bytes encrypted_timestamp)) (sole_sealed_time suite key moment (timestamp_confounder (cipher_confounder_size suite) random) x.encrypted_timestamp y.encrypted_timestamp x.sealed_time y.sealed_time)
+    ∙ sym y.made
 
 -- by a key of a suite
 abbrev pub by_key : CipherSuite → Bytes → MeansRecord
 by_key suite key = record {
-  asks = λ body moment random. IsStamped suite key moment random;
-  sole_asks = λ body moment random. sole_stamped suite key moment random;
+  asks = λ body moment random. IsPaEncTimestamp suite key moment random;
+  sole_asks = λ body moment random. sole_pa_enc_timestamp suite key moment random;
   refuses = λ body moment random. ⊥;
   reply_key = λ client asked reply. done (Ok (record { suite = suite; bytes = key }));
 }

@@ -1,23 +1,23 @@
 //! Reads a value whose encoding a suite's padding may follow.
-ghost use Rattle.krb_encrypted_data.specs.Filled.{ReadsFilled};
+ghost use Rattle.krb_encrypted_data.specs.Padded.{ReadsPadded};
 
 use asn1_codec::{Asn1DerError, Deserialize, from_reader_with_max_len};
 use krb_crypto::CipherSuite;
 use std::alloc::Global;
 
 /// The value whose encoding, as the suite pads it, is the text.
-pub(crate) fn read_filled<T: Deserialize + Drop>(
+pub(crate) fn read_padded<T: Deserialize + Drop>(
     alloc: Global,
     suite: CipherSuite,
     text: &[u8],
 ) -> Result<T, Asn1DerError>
-    ensures { ReadsFilled T.tree suite text.now result }
+    ensures { ReadsPadded T.tree suite text.now result }
 {
     let mut rest = text;
     match from_reader_with_max_len(alloc, &mut rest, text.len()) {
         Ok(value) => {
-            let (encoding, fill) = text.split_at(text.len() - rest.len());
-            if suite.is_fill(encoding, fill) {
+            let (encoding, padding) = text.split_at(text.len() - rest.len());
+            if suite.is_padding(encoding, padding) {
                 Ok(value)
             } else {
                 Err(Asn1DerError::InvalidData)

@@ -6,10 +6,10 @@ use Rattle.krb_types.specs.declared.data_types.pa_data.PaData.{PaData}
 use Rattle.picky_asn1.specs.Numbers.{is_number}
 use Rattle.picky_asn1.specs.Bytes.{Bytes}
 
--- the first entry of a type
-unfoldable pub first_entry : ℕ → List PaData → Option PaData
-first_entry kind entries = find (λ entry. is_number kind entry.padata_type.0) entries
+-- the first padata of a type
+unfoldable pub first_padata : ℕ → List PaData → Option PaData
+first_padata kind padata = find (λ pa_data. is_number kind pa_data.padata_type.0) padata
 
 -- its data, which counts alone
 unfoldable pub first_of : ℕ → List PaData → Option Bytes
-first_of kind entries = option_map (λ entry. entry.padata_data.0) (first_entry kind entries)
+first_of kind padata = option_map (λ pa_data. pa_data.padata_data.0) (first_padata kind padata)
