@@ -1,6 +1,6 @@
 //! The sealed part of a private message.
-use krb_constants::types::KRB_PRIV_ENC_PART;
 use devices::{Sink, Source};
+use krb_constants::types::KRB_PRIV_ENC_PART;
 use krb_types::data_types::{HostAddress, KerberosTime, Microseconds};
 use picky_asn1::wrapper::{IntegerAsn1, OctetStringAsn1};
 use picky_asn1_der::{

@@ -1,6 +1,6 @@
 //! Private messages.
-use krb_constants::types::KRB_PRIV;
 use devices::{Sink, Source};
+use krb_constants::types::KRB_PRIV;
 use krb_types::data_types::EncryptedData;
 use picky_asn1::wrapper::IntegerAsn1;
 use picky_asn1_der::{

@@ -1,9 +1,9 @@
 //! Authenticators.
-use krb_constants::types::AUTHENTICATOR_TYPE;
 use crate::data_types::{
     AuthorizationData, Checksum, EncryptionKey, KerberosTime, Microseconds, PrincipalName, Realm,
 };
 use devices::{Sink, Source};
+use krb_constants::types::AUTHENTICATOR_TYPE;
 use picky_asn1::wrapper::IntegerAsn1;
 use picky_asn1_der::{
     ApplicationTag, Asn1DerError, Deserializer, ExplicitContextTag0, ExplicitContextTag1,

@@ -1,7 +1,7 @@
 //! The sealed part of a service's reply.
-use krb_constants::types::ENC_AP_REP_PART_TYPE;
 use crate::data_types::{EncryptionKey, KerberosTime, Microseconds};
 use devices::{Sink, Source};
+use krb_constants::types::ENC_AP_REP_PART_TYPE;
 use picky_asn1::wrapper::IntegerAsn1;
 use picky_asn1_der::{
     ApplicationTag, Asn1DerError, Deserializer, ExplicitContextTag0, ExplicitContextTag1,

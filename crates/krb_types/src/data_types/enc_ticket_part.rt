@@ -1,10 +1,10 @@
 //! The sealed part of a ticket.
-use krb_constants::types::ENC_TICKET_PART_TYPE;
 use crate::data_types::{
     AuthorizationData, EncryptionKey, HostAddresses, KerberosFlags, KerberosTime, PrincipalName,
     Realm, TransitedEncoding,
 };
 use devices::{Sink, Source};
+use krb_constants::types::ENC_TICKET_PART_TYPE;
 use picky_asn1_der::{
     ApplicationTag, Asn1DerError, Deserializer, ExplicitContextTag0, ExplicitContextTag1,
     ExplicitContextTag2, ExplicitContextTag3, ExplicitContextTag4, ExplicitContextTag5,

@@ -1,7 +1,7 @@
 //! Tickets.
-use krb_constants::types::TICKET_TYPE;
 use crate::data_types::{EncryptedData, PrincipalName, Realm};
 use devices::{Sink, Source};
+use krb_constants::types::TICKET_TYPE;
 use picky_asn1::wrapper::IntegerAsn1;
 use picky_asn1_der::{
     ApplicationTag, Asn1DerError, Deserializer, ExplicitContextTag0, ExplicitContextTag1,
