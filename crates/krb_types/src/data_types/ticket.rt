@@ -1,5 +1,8 @@
 //! Tickets.
+ghost use Rattle.asn1_der.specs.Octets.{sequence_octet};
+
 use crate::data_types::{EncryptedData, PrincipalName, Realm};
+use asn1_der::octets::SEQUENCE;
 use devices::{Sink, Source};
 use krb_constants::types::TICKET_TYPE;
 use picky_asn1::wrapper::IntegerAsn1;
@@ -57,9 +60,9 @@ impl Tagged for TicketInner {
 
     type Row = TicketInnerRow;
 
-    const FIRST: u8 = 48;
+    const FIRST: u8 = SEQUENCE;
 
-    ghost FIRST = { 48 };
+    ghost FIRST = { sequence_octet };
 
     ghost row_tree = { sequence ⟦<TicketInnerRow as Fields>⟧.trees };
 
