@@ -4,8 +4,8 @@
 # module that stand in one crate.
 cd "$(dirname "$0")/.." || exit 1
 front=crates/picky_krb/src/lib.rt
-all="$(sed -n 's/^picky_krb: //p' crates.txt) kpasswd_messages negoex_forms"
-others=$(echo "$all" | tr ' ' '\n' | grep -vE '^krb_(crypto|agreement)$')
+all="$(sed -n 's/^picky_krb: //p' crates.txt) negoex_forms"
+others=$(echo "$all" | tr ' ' '\n' | grep -vx krb_crypto)
 
 # One line for each item: its path, and the crate or the reason.
 places() {
@@ -20,7 +20,7 @@ places() {
             crypto::diffie_hellman::*) crates=krb_crypto ;;
             crypto::des::*) crates='krb_crypto krb_des3 des3_cbc' ;;
             crypto::aes::*) crates='krb_crypto krb_aes aes_cts' ;;
-            crypto::*) crates='krb_crypto krb_profile aes_cts krb_profile' ;;
+            crypto::*) crates='krb_crypto krb_profile aes_cts' ;;
             *) crates=$others ;;
         esac
         for crate in $crates; do
@@ -33,7 +33,7 @@ places() {
         if grep -qw "$name" "$front"; then handed=yes; fi
         case $path in
             crypto::aes::* | crypto::des::*) if grep -qw "$name" "crates/krb_crypto/src/$module.rt"; then handed=yes; fi ;;
-            constants::*) if grep -qE "pub use krb_constants::\{.*\b$module\b" "$front"; then handed=yes; fi ;;
+            constants::*) if grep -qw "$module" "$front"; then handed=yes; fi ;;
         esac
         if [ -n "$dash" ]; then
             echo "$path | absent: $reason"

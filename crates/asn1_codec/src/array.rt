@@ -1,11 +1,13 @@
 //! Arrays, each a SEQUENCE of just so many elements.
 ghost use Rattle.std.specs.Prelude.{◌≡◌, ◌≢◌, length, MatchOption};
+ghost use Rattle.asn1_der.specs.Octets.{sequence_octet};
 
 use crate::de::{Deserialize, Deserializer};
 use crate::elements::Elements;
 use crate::ser::Serializer;
 use crate::tagged::{Tagged, read_sequence};
 use asn1_der::Asn1DerError;
+use asn1_der::octets::SEQUENCE;
 use devices::{Sink, Source};
 
 /// A SEQUENCE OF (X.690, section 8.10) of exactly `N` elements. Of another count is `InvalidData`.
@@ -18,9 +20,9 @@ impl<const N: usize, T: Deserialize + Drop> Tagged for [T; N] {
 
     type Row = [T; N];
 
-    const FIRST: u8 = 48;
+    const FIRST: u8 = SEQUENCE;
 
-    ghost FIRST = { 48 };
+    ghost FIRST = { sequence_octet };
 
     ghost row_tree = { sequence (array_trees N T.tree) };
 

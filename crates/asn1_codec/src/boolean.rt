@@ -1,8 +1,10 @@
 //! BOOLEAN.
 ghost use Rattle.std.specs.Prelude.{◌≡◌, IfOk};
+ghost use Rattle.asn1_der.specs.Octets.{boolean_octet};
 
 use crate::leaf::Leaf;
 use crate::ser::Serializer;
+use asn1_der::octets::BOOLEAN;
 use asn1_der::{Asn1DerError, Rule};
 use devices::Sink;
 use std::alloc::{AllocError, Global};
@@ -13,11 +15,11 @@ impl Leaf for bool {
     ghost use Rattle.asn1_codec.specs.Booleans.{bool_content};
     ghost use Rattle.asn1_codec.specs.BooleanLaws.{bool_content-injective};
 
-    const OCTET: u8 = 1;
+    const OCTET: u8 = BOOLEAN;
 
     const RULE: Rule = Rule::Boolean;
 
-    ghost OCTET = { 1 };
+    ghost OCTET = { boolean_octet };
 
     ghost is_valid = { λ _. true };
 

@@ -1,9 +1,11 @@
 //! Characters.
 ghost use Rattle.std.specs.Prelude.{◌≡◌, ℕ, IfOk, MatchOption, IsTrue};
 ghost use Rattle.asn1_codec.specs.Characters.{is_character, character_content};
+ghost use Rattle.asn1_der.specs.Octets.{utf8_string_octet};
 
 use crate::leaf::Leaf;
 use crate::ser::Serializer;
+use asn1_der::octets::UTF8_STRING;
 use asn1_der::{Asn1DerError, Rule};
 use devices::Sink;
 use std::alloc::{AllocError, Global};
@@ -14,11 +16,11 @@ impl Leaf for char {
     ghost use Rattle.asn1_codec.specs.Characters.{is_character, character_content};
     ghost use Rattle.asn1_codec.specs.CharacterLaws.{character_content-injective};
 
-    const OCTET: u8 = 12;
+    const OCTET: u8 = UTF8_STRING;
 
     const RULE: Rule = Rule::Characters;
 
-    ghost OCTET = { 12 };
+    ghost OCTET = { utf8_string_octet };
 
     ghost is_valid = { is_character };
 

@@ -11,9 +11,6 @@ use asn1_der::Asn1DerError;
 use devices::{Sink, Source};
 use std::marker::Model;
 
-/// The identifier octet of an INTEGER (X.690, section 8.3.1).
-pub(crate) const INTEGER: u8 = 2;
-
 /// Takes an INTEGER of at most `most`, under the identifier octet `tag`.
 pub(crate) fn read_unsigned<R: Source>(
     tag: u8,

@@ -1,8 +1,10 @@
 //! NULL.
 ghost use Rattle.std.specs.Prelude.{◌≡◌, IfOk};
+ghost use Rattle.asn1_der.specs.Octets.{null_octet};
 
 use crate::leaf::Leaf;
 use crate::ser::Serializer;
+use asn1_der::octets::NULL;
 use asn1_der::{Asn1DerError, Rule};
 use devices::Sink;
 use std::alloc::{AllocError, Global};
@@ -12,11 +14,11 @@ impl Leaf for () {
     ghost use Rattle.std.specs.Prelude.{true, refl};
     ghost use Rattle.asn1_codec.specs.Nulls.{null_content};
 
-    const OCTET: u8 = 5;
+    const OCTET: u8 = NULL;
 
     const RULE: Rule = Rule::Null;
 
-    ghost OCTET = { 5 };
+    ghost OCTET = { null_octet };
 
     ghost is_valid = { λ _. true };
 

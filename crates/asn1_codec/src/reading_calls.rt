@@ -6,10 +6,12 @@ ghost use Rattle.asn1_der.specs.Length.{element};
 ghost use Rattle.asn1_codec.specs.Reading.{Took, TookNone, TookValue, Refused, IsSpelling, IsElement, IsList, HasOctets};
 ghost use Rattle.asn1_codec.specs.Unsigned.{unsigned_tree};
 ghost use Rattle.asn1_codec.specs.Values.{bool_tree, null_tree, character_tree, IsAnyElement, IsTextElement, IsUnsupported};
+ghost use Rattle.asn1_der.specs.Octets.{octet_string_octet, sequence_octet, utf8_string_octet};
 
 use crate::de::{Deserialize, Deserializer};
 use crate::elements::Elements;
 use crate::fields::Fields;
+use asn1_der::octets::{OCTET_STRING, SEQUENCE, UTF8_STRING};
 use asn1_der::{Asn1DerError, Rule};
 use devices::Source;
 
@@ -80,28 +82,28 @@ impl<R: Source> Deserializer<R> {
     /// Takes an OCTET STRING (X.690, section 8.7), and gives its octets.
     pub fn deserialize_bytes(&mut self) -> Result<Vec<u8>, Asn1DerError>
         ensures { MatchResult result
-            (λ octets. Took (element 4 octets.items) self.old self.new)
-            (λ fault. Refused (IsElement 4) self.old self.new fault) }
+            (λ octets. Took (element octet_string_octet octets.items) self.old self.new)
+            (λ fault. Refused (IsElement octet_string_octet) self.old self.new fault) }
     {
-        self.content(4)
+        self.content(OCTET_STRING)
     }
 
     /// Takes an OCTET STRING (X.690, section 8.7), and gives its octets.
     pub fn deserialize_byte_buf(&mut self) -> Result<Vec<u8>, Asn1DerError>
         ensures { MatchResult result
-            (λ octets. Took (element 4 octets.items) self.old self.new)
-            (λ fault. Refused (IsElement 4) self.old self.new fault) }
+            (λ octets. Took (element octet_string_octet octets.items) self.old self.new)
+            (λ fault. Refused (IsElement octet_string_octet) self.old self.new fault) }
     {
-        self.content(4)
+        self.content(OCTET_STRING)
     }
 
     /// Takes a UTF8String (X.690, section 8.23).
     pub fn deserialize_string(&mut self) -> Result<String, Asn1DerError>
         ensures { MatchResult result
-            (λ text. Took (element 12 (string_bytes text)) self.old self.new)
+            (λ text. Took (element utf8_string_octet (string_bytes text)) self.old self.new)
             (λ fault. Refused IsTextElement self.old self.new fault) }
     {
-        let content = self.content(12)?;
+        let content = self.content(UTF8_STRING)?;
         match String::from_utf8(content) {
             Ok(text) => Ok(text),
             Err(_) => Err(self.refuse(Asn1DerError::Message(Rule::Characters))),
@@ -111,7 +113,7 @@ impl<R: Source> Deserializer<R> {
     /// Takes a UTF8String (X.690, section 8.23).
     pub fn deserialize_str(&mut self) -> Result<String, Asn1DerError>
         ensures { MatchResult result
-            (λ text. Took (element 12 (string_bytes text)) self.old self.new)
+            (λ text. Took (element utf8_string_octet (string_bytes text)) self.old self.new)
             (λ fault. Refused IsTextElement self.old self.new fault) }
     {
         self.deserialize_string()
@@ -158,10 +160,10 @@ impl<R: Source> Deserializer<R> {
     /// Takes a SEQUENCE OF values of one type (X.690, section 8.10).
     pub fn deserialize_seq<T: Deserialize + Drop>(&mut self) -> Result<Vec<T>, Asn1DerError>
         ensures { MatchResult result
-            (λ values. AreWhole (trees_of T.tree values.items) × Took (element 48 (ders (trees_of T.tree values.items))) self.old self.new)
-            (λ fault. Refused (IsList 48 (trees_of T.tree)) self.old self.new fault) }
+            (λ values. AreWhole (trees_of T.tree values.items) × Took (element sequence_octet (ders (trees_of T.tree values.items))) self.old self.new)
+            (λ fault. Refused (IsList sequence_octet (trees_of T.tree)) self.old self.new fault) }
     {
-        let elements: Elements<T> = self.list(48)?;
+        let elements: Elements<T> = self.list(SEQUENCE)?;
         Ok(elements.into_vec())
     }
 
@@ -169,30 +171,30 @@ impl<R: Source> Deserializer<R> {
     pub fn deserialize_tuple<F: Fields>(&mut self) -> Result<F, Asn1DerError>
         requires { IsTrue F.sound }
         ensures { MatchResult result
-            (λ fields. AreWhole (F.trees fields) × Took (element 48 (ders (F.trees fields))) self.old self.new)
-            (λ fault. Refused (IsList 48 F.trees) self.old self.new fault) }
+            (λ fields. AreWhole (F.trees fields) × Took (element sequence_octet (ders (F.trees fields))) self.old self.new)
+            (λ fault. Refused (IsList sequence_octet F.trees) self.old self.new fault) }
     {
-        self.list(48)
+        self.list(SEQUENCE)
     }
 
     /// Takes a SEQUENCE of the parts of a struct without names of fields (X.690, section 8.9).
     pub fn deserialize_tuple_struct<F: Fields>(&mut self) -> Result<F, Asn1DerError>
         requires { IsTrue F.sound }
         ensures { MatchResult result
-            (λ fields. AreWhole (F.trees fields) × Took (element 48 (ders (F.trees fields))) self.old self.new)
-            (λ fault. Refused (IsList 48 F.trees) self.old self.new fault) }
+            (λ fields. AreWhole (F.trees fields) × Took (element sequence_octet (ders (F.trees fields))) self.old self.new)
+            (λ fault. Refused (IsList sequence_octet F.trees) self.old self.new fault) }
     {
-        self.list(48)
+        self.list(SEQUENCE)
     }
 
     /// Takes a SEQUENCE of the fields of a struct (X.690, section 8.9).
     pub fn deserialize_struct<F: Fields>(&mut self) -> Result<F, Asn1DerError>
         requires { IsTrue F.sound }
         ensures { MatchResult result
-            (λ fields. AreWhole (F.trees fields) × Took (element 48 (ders (F.trees fields))) self.old self.new)
-            (λ fault. Refused (IsList 48 F.trees) self.old self.new fault) }
+            (λ fields. AreWhole (F.trees fields) × Took (element sequence_octet (ders (F.trees fields))) self.old self.new)
+            (λ fault. Refused (IsList sequence_octet F.trees) self.old self.new fault) }
     {
-        self.list(48)
+        self.list(SEQUENCE)
     }
 
     /// The identifier octet of what comes next, which stays unread.

@@ -2,6 +2,7 @@
 //!
 //! An element that may be missing wants a type of its own (`Tagged`), and so do more than four.
 ghost use Rattle.std.specs.Prelude.{◌≡◌};
+ghost use Rattle.asn1_der.specs.Octets.{sequence_octet};
 
 use crate::de::{Deserialize, Deserializer};
 use crate::fields::Fields;
@@ -9,6 +10,7 @@ use crate::row::{Row1, Row2, Row3, Row4};
 use crate::ser::Serializer;
 use crate::tagged::{Tagged, read_sequence};
 use asn1_der::Asn1DerError;
+use asn1_der::octets::SEQUENCE;
 use devices::{Sink, Source};
 
 impl<A: Deserialize + Drop> Tagged for (A,) {
@@ -19,9 +21,9 @@ impl<A: Deserialize + Drop> Tagged for (A,) {
 
     type Row = Row1<A>;
 
-    const FIRST: u8 = 48;
+    const FIRST: u8 = SEQUENCE;
 
-    ghost FIRST = { 48 };
+    ghost FIRST = { sequence_octet };
 
     ghost row_tree = { sequence ⟦<Row1<A> as Fields>⟧.trees };
 
@@ -55,9 +57,9 @@ impl<A: Deserialize + Drop, B: Deserialize + Drop> Tagged for (A, B) {
 
     type Row = Row2<A, B>;
 
-    const FIRST: u8 = 48;
+    const FIRST: u8 = SEQUENCE;
 
-    ghost FIRST = { 48 };
+    ghost FIRST = { sequence_octet };
 
     ghost row_tree = { sequence ⟦<Row2<A, B> as Fields>⟧.trees };
 
@@ -91,9 +93,9 @@ impl<A: Deserialize + Drop, B: Deserialize + Drop, C: Deserialize + Drop> Tagged
 
     type Row = Row3<A, B, C>;
 
-    const FIRST: u8 = 48;
+    const FIRST: u8 = SEQUENCE;
 
-    ghost FIRST = { 48 };
+    ghost FIRST = { sequence_octet };
 
     ghost row_tree = { sequence ⟦<Row3<A, B, C> as Fields>⟧.trees };
 
@@ -132,9 +134,9 @@ impl<
 
     type Row = Row4<A, B, C, D>;
 
-    const FIRST: u8 = 48;
+    const FIRST: u8 = SEQUENCE;
 
-    ghost FIRST = { 48 };
+    ghost FIRST = { sequence_octet };
 
     ghost row_tree = { sequence ⟦<Row4<A, B, C, D> as Fields>⟧.trees };
 

@@ -3,12 +3,14 @@
 //! What is no INTEGER in its fewest octets is refused as `InvalidData` or `TruncatedData`, and a number that is negative
 //! or beyond the type as `UnsupportedValue`.
 ghost use Rattle.std.specs.Prelude.{◌≡◌, ◌^◌};
+ghost use Rattle.asn1_der.specs.Octets.{integer_octet};
 
 use crate::de::Deserializer;
-use crate::integer::{INTEGER, read_unsigned, write_unsigned};
+use crate::integer::{read_unsigned, write_unsigned};
 use crate::ser::Serializer;
 use crate::tagged::Tagged;
 use asn1_der::Asn1DerError;
+use asn1_der::octets::INTEGER;
 use devices::{Sink, Source};
 
 impl Tagged for u8 {
@@ -20,7 +22,7 @@ impl Tagged for u8 {
 
     const FIRST: u8 = INTEGER;
 
-    ghost FIRST = { 2 };
+    ghost FIRST = { integer_octet };
 
     ghost row_tree = { unsigned_tree (2 ^ 8) };
 
@@ -53,7 +55,7 @@ impl Tagged for u16 {
 
     const FIRST: u8 = INTEGER;
 
-    ghost FIRST = { 2 };
+    ghost FIRST = { integer_octet };
 
     ghost row_tree = { unsigned_tree (2 ^ 16) };
 
@@ -86,7 +88,7 @@ impl Tagged for u32 {
 
     const FIRST: u8 = INTEGER;
 
-    ghost FIRST = { 2 };
+    ghost FIRST = { integer_octet };
 
     ghost row_tree = { unsigned_tree (2 ^ 32) };
 
@@ -119,7 +121,7 @@ impl Tagged for u64 {
 
     const FIRST: u8 = INTEGER;
 
-    ghost FIRST = { 2 };
+    ghost FIRST = { integer_octet };
 
     ghost row_tree = { unsigned_tree (2 ^ 64) };
 
@@ -152,7 +154,7 @@ impl Tagged for u128 {
 
     const FIRST: u8 = INTEGER;
 
-    ghost FIRST = { 2 };
+    ghost FIRST = { integer_octet };
 
     ghost row_tree = { unsigned_tree (2 ^ 128) };
 

@@ -7,10 +7,12 @@ ghost use Rattle.asn1_codec.specs.Characters.{character_content};
 ghost use Rattle.asn1_codec.specs.Refusals.{refusal_of, refusal_of_list};
 ghost use Rattle.asn1_codec.specs.Unsigned.{unsigned_content};
 ghost use Rattle.asn1_codec.specs.Writing.{WroteValue, NotWroteValue};
+ghost use Rattle.asn1_der.specs.Octets.{boolean_octet, integer_octet, null_octet, octet_string_octet, sequence_octet, utf8_string_octet};
 
 use crate::fields::WriteFields;
-use crate::integer::{INTEGER, write_unsigned};
+use crate::integer::write_unsigned;
 use crate::ser::{Serialize, Serializer};
+use asn1_der::octets::{INTEGER, NULL, OCTET_STRING, SEQUENCE, UTF8_STRING};
 use asn1_der::{Asn1DerError, Unsupported};
 use devices::Sink;
 
@@ -19,8 +21,8 @@ impl<W: Sink> Serializer<W> {
     /// Writes a BOOLEAN (X.690, section 8.2).
     pub fn serialize_bool(&mut self, value: bool) -> Result<usize, Asn1DerError>
         ensures { MatchResult result
-            (WroteValue None (element 1 (bool_content value)) self.old self.new)
-            (NotWroteValue None (element 1 (bool_content value)) self.old self.new) }
+            (WroteValue None (element boolean_octet (bool_content value)) self.old self.new)
+            (NotWroteValue None (element boolean_octet (bool_content value)) self.old self.new) }
     {
         value.serialize(self)
     }
@@ -28,8 +30,8 @@ impl<W: Sink> Serializer<W> {
     /// Writes an INTEGER (X.690, section 8.3).
     pub fn serialize_u8(&mut self, value: u8) -> Result<usize, Asn1DerError>
         ensures { MatchResult result
-            (WroteValue None (element 2 (unsigned_content value)) self.old self.new)
-            (NotWroteValue None (element 2 (unsigned_content value)) self.old self.new) }
+            (WroteValue None (element integer_octet (unsigned_content value)) self.old self.new)
+            (NotWroteValue None (element integer_octet (unsigned_content value)) self.old self.new) }
     {
         write_unsigned(INTEGER, self, u128::from(value))
     }
@@ -37,8 +39,8 @@ impl<W: Sink> Serializer<W> {
     /// Writes an INTEGER (X.690, section 8.3).
     pub fn serialize_u16(&mut self, value: u16) -> Result<usize, Asn1DerError>
         ensures { MatchResult result
-            (WroteValue None (element 2 (unsigned_content value)) self.old self.new)
-            (NotWroteValue None (element 2 (unsigned_content value)) self.old self.new) }
+            (WroteValue None (element integer_octet (unsigned_content value)) self.old self.new)
+            (NotWroteValue None (element integer_octet (unsigned_content value)) self.old self.new) }
     {
         write_unsigned(INTEGER, self, u128::from(value))
     }
@@ -46,8 +48,8 @@ impl<W: Sink> Serializer<W> {
     /// Writes an INTEGER (X.690, section 8.3).
     pub fn serialize_u32(&mut self, value: u32) -> Result<usize, Asn1DerError>
         ensures { MatchResult result
-            (WroteValue None (element 2 (unsigned_content value)) self.old self.new)
-            (NotWroteValue None (element 2 (unsigned_content value)) self.old self.new) }
+            (WroteValue None (element integer_octet (unsigned_content value)) self.old self.new)
+            (NotWroteValue None (element integer_octet (unsigned_content value)) self.old self.new) }
     {
         write_unsigned(INTEGER, self, u128::from(value))
     }
@@ -55,8 +57,8 @@ impl<W: Sink> Serializer<W> {
     /// Writes an INTEGER (X.690, section 8.3).
     pub fn serialize_u64(&mut self, value: u64) -> Result<usize, Asn1DerError>
         ensures { MatchResult result
-            (WroteValue None (element 2 (unsigned_content value)) self.old self.new)
-            (NotWroteValue None (element 2 (unsigned_content value)) self.old self.new) }
+            (WroteValue None (element integer_octet (unsigned_content value)) self.old self.new)
+            (NotWroteValue None (element integer_octet (unsigned_content value)) self.old self.new) }
     {
         write_unsigned(INTEGER, self, u128::from(value))
     }
@@ -64,8 +66,8 @@ impl<W: Sink> Serializer<W> {
     /// Writes an INTEGER (X.690, section 8.3).
     pub fn serialize_u128(&mut self, value: u128) -> Result<usize, Asn1DerError>
         ensures { MatchResult result
-            (WroteValue None (element 2 (unsigned_content value)) self.old self.new)
-            (NotWroteValue None (element 2 (unsigned_content value)) self.old self.new) }
+            (WroteValue None (element integer_octet (unsigned_content value)) self.old self.new)
+            (NotWroteValue None (element integer_octet (unsigned_content value)) self.old self.new) }
     {
         write_unsigned(INTEGER, self, value)
     }
@@ -73,45 +75,45 @@ impl<W: Sink> Serializer<W> {
     /// Writes a UTF8String of one character (X.690, section 8.23).
     pub fn serialize_char(&mut self, value: char) -> Result<usize, Asn1DerError>
         ensures { MatchResult result
-            (WroteValue None (element 12 (character_content value)) self.old self.new)
-            (NotWroteValue None (element 12 (character_content value)) self.old self.new) }
+            (WroteValue None (element utf8_string_octet (character_content value)) self.old self.new)
+            (NotWroteValue None (element utf8_string_octet (character_content value)) self.old self.new) }
     {
         let mut octets = [0u8; 4];
-        self.element(12, value.encode_utf8(&mut octets).as_bytes())
+        self.element(UTF8_STRING, value.encode_utf8(&mut octets).as_bytes())
     }
 
     /// Writes a UTF8String (X.690, section 8.23).
     pub fn serialize_str(&mut self, value: &str) -> Result<usize, Asn1DerError>
         ensures { MatchResult result
-            (WroteValue None (element 12 value.now) self.old self.new)
-            (NotWroteValue None (element 12 value.now) self.old self.new) }
+            (WroteValue None (element utf8_string_octet value.now) self.old self.new)
+            (NotWroteValue None (element utf8_string_octet value.now) self.old self.new) }
     {
-        self.element(12, value.as_bytes())
+        self.element(UTF8_STRING, value.as_bytes())
     }
 
     /// Writes an OCTET STRING (X.690, section 8.7).
     pub fn serialize_bytes(&mut self, value: &[u8]) -> Result<usize, Asn1DerError>
         ensures { MatchResult result
-            (WroteValue None (element 4 value.now) self.old self.new)
-            (NotWroteValue None (element 4 value.now) self.old self.new) }
+            (WroteValue None (element octet_string_octet value.now) self.old self.new)
+            (NotWroteValue None (element octet_string_octet value.now) self.old self.new) }
     {
-        self.element(4, value)
+        self.element(OCTET_STRING, value)
     }
 
     /// Writes NULL (X.690, section 8.8).
     pub fn serialize_unit(&mut self) -> Result<usize, Asn1DerError>
         ensures { MatchResult result
-            (WroteValue None (element 5 []) self.old self.new)
-            (NotWroteValue None (element 5 []) self.old self.new) }
+            (WroteValue None (element null_octet []) self.old self.new)
+            (NotWroteValue None (element null_octet []) self.old self.new) }
     {
-        self.element(5, &[])
+        self.element(NULL, &[])
     }
 
     /// Writes NULL (X.690, section 8.8), for a struct of no fields.
     pub fn serialize_unit_struct(&mut self) -> Result<usize, Asn1DerError>
         ensures { MatchResult result
-            (WroteValue None (element 5 []) self.old self.new)
-            (NotWroteValue None (element 5 []) self.old self.new) }
+            (WroteValue None (element null_octet []) self.old self.new)
+            (NotWroteValue None (element null_octet []) self.old self.new) }
     {
         self.serialize_unit()
     }
@@ -148,20 +150,20 @@ impl<W: Sink> Serializer<W> {
 
     /// Writes a SEQUENCE OF the values (X.690, section 8.10).
     pub fn serialize_seq<T: Serialize>(&mut self, values: &[T]) -> Result<usize, Asn1DerError>
-        ensures { let bytes = element 48 (ders (trees_of T.tree values.now)) in MatchResult result
+        ensures { let bytes = element sequence_octet (ders (trees_of T.tree values.now)) in MatchResult result
             (WroteValue (refusal_of_list T.refusal values.now) bytes self.old self.new)
             (NotWroteValue (refusal_of_list T.refusal values.now) bytes self.old self.new) }
     {
-        self.list(48, &values)
+        self.list(SEQUENCE, &values)
     }
 
     /// Writes a SEQUENCE of the parts of a tuple (X.690, section 8.9).
     pub fn serialize_tuple<F: WriteFields>(&mut self, fields: &F) -> Result<usize, Asn1DerError>
         ensures { MatchResult result
-            (WroteValue (F.refusal fields.now) (element 48 (ders (F.trees fields.now))) self.old self.new)
-            (NotWroteValue (F.refusal fields.now) (element 48 (ders (F.trees fields.now))) self.old self.new) }
+            (WroteValue (F.refusal fields.now) (element sequence_octet (ders (F.trees fields.now))) self.old self.new)
+            (NotWroteValue (F.refusal fields.now) (element sequence_octet (ders (F.trees fields.now))) self.old self.new) }
     {
-        self.list(48, fields)
+        self.list(SEQUENCE, fields)
     }
 
     /// Writes a SEQUENCE of the parts of a struct without names of fields (X.690, section 8.9).
@@ -170,19 +172,19 @@ impl<W: Sink> Serializer<W> {
         fields: &F,
     ) -> Result<usize, Asn1DerError>
         ensures { MatchResult result
-            (WroteValue (F.refusal fields.now) (element 48 (ders (F.trees fields.now))) self.old self.new)
-            (NotWroteValue (F.refusal fields.now) (element 48 (ders (F.trees fields.now))) self.old self.new) }
+            (WroteValue (F.refusal fields.now) (element sequence_octet (ders (F.trees fields.now))) self.old self.new)
+            (NotWroteValue (F.refusal fields.now) (element sequence_octet (ders (F.trees fields.now))) self.old self.new) }
     {
-        self.list(48, fields)
+        self.list(SEQUENCE, fields)
     }
 
     /// Writes a SEQUENCE of the fields of a struct (X.690, section 8.9).
     pub fn serialize_struct<F: WriteFields>(&mut self, fields: &F) -> Result<usize, Asn1DerError>
         ensures { MatchResult result
-            (WroteValue (F.refusal fields.now) (element 48 (ders (F.trees fields.now))) self.old self.new)
-            (NotWroteValue (F.refusal fields.now) (element 48 (ders (F.trees fields.now))) self.old self.new) }
+            (WroteValue (F.refusal fields.now) (element sequence_octet (ders (F.trees fields.now))) self.old self.new)
+            (NotWroteValue (F.refusal fields.now) (element sequence_octet (ders (F.trees fields.now))) self.old self.new) }
     {
-        self.list(48, fields)
+        self.list(SEQUENCE, fields)
     }
 }
 

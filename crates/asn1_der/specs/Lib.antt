@@ -3,6 +3,7 @@ pub mod Tree
 pub mod Firsts
 pub mod Tags
 pub mod Tagged
+pub mod Octets
 pub mod Contents
 pub mod Numbers
 pub mod Peeking

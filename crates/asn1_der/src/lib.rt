@@ -6,6 +6,7 @@ ghost use Rattle.std.specs.Prelude.{◌≡◌};
 mod content;
 mod error;
 mod length;
+pub mod octets;
 mod peek;
 
 pub use content::{Content, MOST_IN_PLACE};

@@ -5,6 +5,7 @@ use Rattle.std.specs.List.{slice_get}
 use Rattle.asn1_der.specs.Length.{element, length_octets}
 use Rattle.asn1_elements.specs.Raw.{Raw}
 use Rattle.asn1_elements.specs.Splits.{SplitsInto, raw_bytes}
+use Rattle.asn1_der.specs.Octets.{integer_octet, null_octet, sequence_octet}
 
 -- the bytes are these elements, one after another
 abbrev pub AreElements : List Raw → List ℕ → Type 0
@@ -39,9 +40,9 @@ pub record IsStep (input : List ℕ) (raw : Raw) (rest : List ℕ) : Type 0 wher
 
 -- a SEQUENCE of the INTEGER 7 and of NULL
 integer_7 : Raw
-integer_7 = record { first = 2; content = 7 ∷ [] }
+integer_7 = record { first = integer_octet; content = 7 ∷ [] }
 
-two_elements : AreElements (integer_7 ∷ record { first = 5; content = [] } ∷ []) (2 ∷ 1 ∷ 7 ∷ 5 ∷ 0 ∷ [])
+two_elements : AreElements (integer_7 ∷ record { first = null_octet; content = [] } ∷ []) (2 ∷ 1 ∷ 7 ∷ 5 ∷ 0 ∷ [])
 unfolding integer_7 element length_octets
 two_elements = (5 ∷ 0 ∷ [], (refl, refl), ([], (refl, refl), refl))
 
@@ -51,19 +52,19 @@ part_itself = refl
 part_first : IsPart (48 ∷ 5 ∷ 2 ∷ 1 ∷ 7 ∷ 5 ∷ 0 ∷ []) (0 ∷ []) (2 ∷ 1 ∷ 7 ∷ [])
 unfolding integer_7 element length_octets
 part_first = (
-  record { first = 48; content = 2 ∷ 1 ∷ 7 ∷ 5 ∷ 0 ∷ [] },
+  record { first = sequence_octet; content = 2 ∷ 1 ∷ 7 ∷ 5 ∷ 0 ∷ [] },
   2 ∷ 1 ∷ 7 ∷ [],
   (refl, refl),
-  (integer_7 ∷ record { first = 5; content = [] } ∷ [], integer_7, two_elements, refl, refl),
+  (integer_7 ∷ record { first = null_octet; content = [] } ∷ [], integer_7, two_elements, refl, refl),
   refl,
 )
 
 part_second : IsPart (48 ∷ 5 ∷ 2 ∷ 1 ∷ 7 ∷ 5 ∷ 0 ∷ []) (1 ∷ []) (5 ∷ 0 ∷ [])
 unfolding integer_7 element length_octets
 part_second = (
-  record { first = 48; content = 2 ∷ 1 ∷ 7 ∷ 5 ∷ 0 ∷ [] },
+  record { first = sequence_octet; content = 2 ∷ 1 ∷ 7 ∷ 5 ∷ 0 ∷ [] },
   5 ∷ 0 ∷ [],
   (refl, refl),
-  (integer_7 ∷ record { first = 5; content = [] } ∷ [], record { first = 5; content = [] }, two_elements, refl, refl),
+  (integer_7 ∷ record { first = null_octet; content = [] } ∷ [], record { first = null_octet; content = [] }, two_elements, refl, refl),
   refl,
 )

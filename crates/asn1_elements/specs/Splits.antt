@@ -4,6 +4,7 @@ use Rattle.asn1_der.specs.Length.{element, length_octets}
 use Rattle.asn1_elements.specs.Raw.{Raw, has_low_number}
 use Rattle.asn1_der.specs.declared.error.Asn1DerError.{Asn1DerError}
 use Rattle.asn1_der.specs.declared.error.Asn1DerError.TheVariants.{TruncatedData, InvalidData}
+use Rattle.asn1_der.specs.Octets.{sequence_octet}
 
 -- all bytes of an element
 abbrev pub raw_bytes : Raw → List ℕ
@@ -37,6 +38,6 @@ IsNotOne bytes InvalidData = (more : List ℕ) → IsOneElement (bytes ++ more) 
 IsNotOne bytes fault = ⊥
 
 -- `30 03 02 01 07 05 00` begins with the SEQUENCE of the INTEGER 7
-split-sequence : SplitsInto (48 ∷ 3 ∷ 2 ∷ 1 ∷ 7 ∷ 5 ∷ 0 ∷ []) (record { first = 48; content = 2 ∷ 1 ∷ 7 ∷ [] }) (5 ∷ 0 ∷ [])
+split-sequence : SplitsInto (48 ∷ 3 ∷ 2 ∷ 1 ∷ 7 ∷ 5 ∷ 0 ∷ []) (record { first = sequence_octet; content = 2 ∷ 1 ∷ 7 ∷ [] }) (5 ∷ 0 ∷ [])
 unfolding element length_octets
 split-sequence = (refl, refl)

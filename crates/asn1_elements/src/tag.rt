@@ -2,6 +2,10 @@
 ghost use Rattle.std.specs.Prelude.{◌≡◌};
 ghost use Rattle.asn1_elements.specs.Identifiers.{class_of, is_constructed_octet, number_in};
 
+use asn1_der::octets::{
+    BIT_STRING, BMP_STRING, BOOLEAN, GENERAL_STRING, GENERALIZED_TIME, IA5_STRING, INTEGER, NULL,
+    OBJECT_IDENTIFIER, OCTET_STRING, PRINTABLE_STRING, SEQUENCE, SET, UTC_TIME, UTF8_STRING,
+};
 use std::marker::Model;
 
 /// The class of a tag (X.690, section 8.1.2.2, table 1).
@@ -55,49 +59,59 @@ impl From<Tag> for u8 {
 
 impl Tag {
     /// A truth value.
-    pub const BOOLEAN: Tag = Tag { octet: 1 };
+    pub const BOOLEAN: Tag = Tag { octet: BOOLEAN };
 
     /// A whole number.
-    pub const INTEGER: Tag = Tag { octet: 2 };
+    pub const INTEGER: Tag = Tag { octet: INTEGER };
 
     /// A row of bits, in one piece.
-    pub const BIT_STRING: Tag = Tag { octet: 3 };
+    pub const BIT_STRING: Tag = Tag { octet: BIT_STRING };
 
     /// A row of octets, in one piece.
-    pub const OCTET_STRING: Tag = Tag { octet: 4 };
+    pub const OCTET_STRING: Tag = Tag {
+        octet: OCTET_STRING,
+    };
 
     /// The one value NULL.
-    pub const NULL: Tag = Tag { octet: 5 };
+    pub const NULL: Tag = Tag { octet: NULL };
 
     /// An OBJECT IDENTIFIER.
-    pub const OID: Tag = Tag { octet: 6 };
+    pub const OID: Tag = Tag {
+        octet: OBJECT_IDENTIFIER,
+    };
 
     /// A UTF8String.
-    pub const UTF8_STRING: Tag = Tag { octet: 12 };
+    pub const UTF8_STRING: Tag = Tag { octet: UTF8_STRING };
 
     /// A SEQUENCE, also a SEQUENCE OF.
-    pub const SEQUENCE: Tag = Tag { octet: 48 };
+    pub const SEQUENCE: Tag = Tag { octet: SEQUENCE };
 
     /// A SET, also a SET OF.
-    pub const SET: Tag = Tag { octet: 49 };
+    pub const SET: Tag = Tag { octet: SET };
 
     /// A PrintableString.
-    pub const PRINTABLE_STRING: Tag = Tag { octet: 19 };
+    pub const PRINTABLE_STRING: Tag = Tag {
+        octet: PRINTABLE_STRING,
+    };
 
     /// An IA5String.
-    pub const IA5_STRING: Tag = Tag { octet: 22 };
+    pub const IA5_STRING: Tag = Tag { octet: IA5_STRING };
 
     /// A UTCTime.
-    pub const UTC_TIME: Tag = Tag { octet: 23 };
+    pub const UTC_TIME: Tag = Tag { octet: UTC_TIME };
 
     /// A GeneralizedTime.
-    pub const GENERALIZED_TIME: Tag = Tag { octet: 24 };
+    pub const GENERALIZED_TIME: Tag = Tag {
+        octet: GENERALIZED_TIME,
+    };
 
     /// A GeneralString.
-    pub const GENERAL_STRING: Tag = Tag { octet: 27 };
+    pub const GENERAL_STRING: Tag = Tag {
+        octet: GENERAL_STRING,
+    };
 
     /// A BMPString.
-    pub const BMP_STRING: Tag = Tag { octet: 30 };
+    pub const BMP_STRING: Tag = Tag { octet: BMP_STRING };
 
     /// The class, which the bits 8 and 7 say.
     pub fn class(self) -> TagClass

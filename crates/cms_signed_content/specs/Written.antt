@@ -20,6 +20,7 @@ use Rattle.cms_signed_data.specs.declared.signer_info.IssuerAndSerialNumber.{Iss
 use Rattle.cms_signed_data.specs.declared.signer_info.SignerInfo.{SignerInfo}
 use Rattle.cms_signed_data.specs.Parts.{certificate_place}
 use Rattle.cms_signed_content.specs.SignedParts.{as_set, attributes_tree}
+use Rattle.asn1_der.specs.Octets.{sequence_octet}
 
 -- SHA-256 with NULL
 abbrev pub sha256_algorithm : RawAlgorithmIdentifier
@@ -40,7 +41,7 @@ abbrev pub id_of : Certificate → IssuerAndSerialNumber
 id_of value = record { issuer = value.tbs_certificate.issuer; serial_number = value.tbs_certificate.serial_number }
 
 abbrev pub id_tree : IssuerAndSerialNumber → Tree
-id_tree = tagged_tree 48 id_impl.ghosts.row_tree id_impl.ghosts.row_of
+id_tree = tagged_tree sequence_octet id_impl.ghosts.row_tree id_impl.ghosts.row_of
 
 abbrev pub encapsulated_of : List ℕ → List ℕ → EncapsulatedContentInfo
 encapsulated_of content_type content = record { content_type = record { 0 = content_type }; content = record { 0 = content } }

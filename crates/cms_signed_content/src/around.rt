@@ -6,6 +6,7 @@ ghost use Rattle.cms_signed_content.specs.Around.{IsDataAround, IsInfoAround};
 
 use crate::assembling::{element_of, sequence_of, spelled};
 use crate::written_parts::{encapsulated_bytes, sha256_bytes, signed_data_oid};
+use asn1_der::octets::SET;
 use cms_signed_data::{Certificate, SignerInfo};
 use picky_asn1::oid::ObjectIdentifier;
 use std::alloc::{AllocError, Global};
@@ -44,10 +45,10 @@ fn data_around(
 {
     let version = spelled(alloc, &3u8)?;
     let digest_algorithm = sha256_bytes(alloc)?;
-    let digest_algorithms = element_of(alloc, 49, &digest_algorithm)?;
+    let digest_algorithms = element_of(alloc, SET, &digest_algorithm)?;
     let encapsulated = encapsulated_bytes(alloc, content_type, content)?;
     let certificates = element_of(alloc, 160, certificate)?;
-    let signers = element_of(alloc, 49, signer)?;
+    let signers = element_of(alloc, SET, signer)?;
     let bytes = sequence_of(
         alloc,
         &[

@@ -4,7 +4,9 @@ ghost use Rattle.std.specs.List.{flat_map};
 ghost use Rattle.asn1_der.specs.Length.{element};
 ghost use Rattle.asn1_der.specs.Tree.{IsWhole, der};
 ghost use Rattle.asn1_elements.specs.Raw.{has_low_number};
+ghost use Rattle.asn1_der.specs.Octets.{sequence_octet};
 
+use asn1_der::octets::SEQUENCE;
 use picky_asn1_der::{RawElement, Serialize};
 use std::alloc::{AllocError, Global};
 use x509_spelling::{Spelled, to_vec};
@@ -44,12 +46,12 @@ pub(crate) fn element_of(alloc: Global, first: u8, content: &[u8]) -> Result<Vec
 
 /// A SEQUENCE of these spellings.
 pub(crate) fn sequence_of(alloc: Global, parts: &[&[u8]]) -> Result<Vec<u8>, AllocError>
-    ensures { IfOk result (λ bytes. bytes.items ≡ element 48 (flat_map (λ part. part.now) parts.now)) }
+    ensures { IfOk result (λ bytes. bytes.items ≡ element sequence_octet (flat_map (λ part. part.now) parts.now)) }
 {
     let mut content = Vec::new(alloc);
     for part in parts {
         content.extend_from_slice(part)?;
     }
-    let bytes = element_of(alloc, 48, &content)?;
+    let bytes = element_of(alloc, SEQUENCE, &content)?;
     Ok(bytes)
 }

@@ -9,6 +9,7 @@ ghost use Rattle.cms_signed_content.specs.SignedContents.{IsSignedContent, Reads
 ghost use Rattle.cms_signed_content.specs.WrittenLaws.{written_parts};
 ghost use Rattle.cms_signed_content.specs.SignedParts.{SignedParts, content_of, digest_of, signature_of, attributes_tree};
 ghost use Rattle.cms_signed_content.specs.Written.{IsWritten};
+ghost use Rattle.asn1_der.specs.Octets.{octet_string_octet};
 
 use crate::fault::SignedFault;
 use cms_signed_data::Certificate;
@@ -27,9 +28,9 @@ pub fn parts_are_spelled()
         → (n : ℕ) × ⟦<Certificate as Spelled>⟧.spells parts.info.content.0.certificates.0 parts.certificate n }
     ensures attributes { (bytes : List ℕ) (parts : SignedParts) → IsSignedContent bytes parts
         → parts.signed_attributes ≡ der (attributes_tree parts.info.content.0.signer_infos.0.signed_attributes) }
-    ensures content { (bytes : List ℕ) (parts : SignedParts) → IsSignedContent bytes parts → IsPart bytes content_place (element 4 (content_of parts.info)) }
-    ensures digest { (bytes : List ℕ) (parts : SignedParts) → IsSignedContent bytes parts → IsPart bytes digest_place (element 4 (digest_of parts.info)) }
-    ensures signature { (bytes : List ℕ) (parts : SignedParts) → IsSignedContent bytes parts → IsPart bytes signature_place (element 4 (signature_of parts.info)) }
+    ensures content { (bytes : List ℕ) (parts : SignedParts) → IsSignedContent bytes parts → IsPart bytes content_place (element octet_string_octet (content_of parts.info)) }
+    ensures digest { (bytes : List ℕ) (parts : SignedParts) → IsSignedContent bytes parts → IsPart bytes digest_place (element octet_string_octet (digest_of parts.info)) }
+    ensures signature { (bytes : List ℕ) (parts : SignedParts) → IsSignedContent bytes parts → IsPart bytes signature_place (element octet_string_octet (signature_of parts.info)) }
 {}
 
 /// What is written is read back: type, content, the given certificate, its issuer and serial number, the SHA-256 of the content,

@@ -3,6 +3,7 @@ ghost use Rattle.std.specs.Prelude.{◌≡◌, ℕ, List, IsSomeAnd, MatchOption
 ghost use Rattle.asn1_der.specs.Length.{element};
 ghost use Rattle.asn1_elements.specs.Parts.{IsPart};
 ghost use Rattle.cms_signed_data.specs.declared.content_info.ContentInfo.{ContentInfo};
+ghost use Rattle.asn1_der.specs.Octets.{octet_string_octet};
 
 use asn1_paths::part_at;
 use cms_signed_data::ContentInfo;
@@ -43,8 +44,8 @@ impl<'a> Slices<'a> {
 // The content of the OCTET STRING at a path.
 fn octets_at<'a>(bytes: &'a [u8], path: &[usize]) -> Option<&'a [u8]>
     ensures { MatchOption result
-        ((octets : List ℕ) → IsPart bytes.now path.now (element 4 octets) → ⊥)
-        (λ found. IsPart bytes.now path.now (element 4 found.now)) }
+        ((octets : List ℕ) → IsPart bytes.now path.now (element octet_string_octet octets) → ⊥)
+        (λ found. IsPart bytes.now path.now (element octet_string_octet found.now)) }
 {
     let Some(part) = part_at(bytes, path) else {
         return None;

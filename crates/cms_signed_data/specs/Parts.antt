@@ -17,6 +17,7 @@ use Rattle.cms_signed_data.specs.contracts.form.ContentInfoOfForm.TheImpl as of_
 use Rattle.cms_signed_data.specs.PartSpellings.{PartSpellings}
 use Rattle.cms_signed_data.specs.SignedRows.{signer_row, signed_row, content_row}
 use Rattle.cms_signed_data.specs.SpelledElements.{SpellsElements, Ends, Row, Found, ended, held_are, row_some, row_front, row_behind, found_on, alone_in, second_in}
+use Rattle.asn1_der.specs.Octets.{octet_string_octet, sequence_octet}
 
 -- paths from the whole: to the content's OCTET STRING, to the certificate, to the signed attributes, to the OCTET STRING of
 -- the digest in them, and to that of the signature
@@ -39,9 +40,9 @@ signature_place = 1 ∷ 0 ∷ 4 ∷ 0 ∷ 5 ∷ []
 pub record HasParts (certificate attributes : List ℕ → ℕ → Type 0) (content digest signature bytes : List ℕ) : Type 0 where
   pub certificate_at : Found certificate bytes certificate_place
   pub attributes_at : Found attributes bytes attributes_place
-  pub content_at : IsPart bytes content_place (element 4 content)
-  pub digest_at : IsPart bytes digest_place (element 4 digest)
-  pub signature_at : IsPart bytes signature_place (element 4 signature)
+  pub content_at : IsPart bytes content_place (element octet_string_octet content)
+  pub digest_at : IsPart bytes digest_place (element octet_string_octet digest)
+  pub signature_at : IsPart bytes signature_place (element octet_string_octet signature)
 
 -- of six fields of a SEQUENCE, the number 3 and the number 5
 module _ {V I D A G S : Type 0} (v_spells : V → List ℕ → ℕ → Type 0) (v_are : SpellsElements v_spells) (i_spells : I → List ℕ → ℕ → Type 0) (i_are : SpellsElements i_spells)
@@ -193,10 +194,10 @@ module _ (p : PartSpellings) where
   IsContentInfo v = Holds 48 (Row p.oid (Row IsTagged Ends)) (content_row v)
 
   pub signer_are : SpellsElements IsSignerInfo
-  signer_are v b n s = (48, s.0, refl, s.2)
+  signer_are v b n s = (sequence_octet, s.0, refl, s.2)
 
   pub signed_are : SpellsElements IsSignedData
-  signed_are v b n s = (48, s.0, refl, s.2)
+  signed_are v b n s = (sequence_octet, s.0, refl, s.2)
 
   pub digests_are : SpellsElements AreDigests
   digests_are = held_are p.digest_algorithm 49 refl (λ w. w.0)
@@ -257,23 +258,23 @@ module _ (p : PartSpellings) where
         (signature_in p.version p.version_are p.sid p.sid_are p.digest_algorithm p.digest_algorithm_are p.attributes p.attributes_are p.algorithm p.algorithm_are p.octets p.octets_are
         (signer_row signer) signer_at.inner signer_at.count signer_at.is)
 
-    content_led : LeadsTo b content_place (element 4 signs.encap_content_info.content.0)
+    content_led : LeadsTo b content_place (element octet_string_octet signs.encap_content_info.content.0)
     content_led =
-        go_on b signed_at.inner (element 4 signs.encap_content_info.content.0) (1 ∷ 0 ∷ []) (2 ∷ 1 ∷ 0 ∷ []) signed_at.leads
-        (go_on signed_at.inner encapsulated_at.inner (element 4 signs.encap_content_info.content.0) (2 ∷ []) (1 ∷ 0 ∷ []) encapsulated_at.leads
+        go_on b signed_at.inner (element octet_string_octet signs.encap_content_info.content.0) (1 ∷ 0 ∷ []) (2 ∷ 1 ∷ 0 ∷ []) signed_at.leads
+        (go_on signed_at.inner encapsulated_at.inner (element octet_string_octet signs.encap_content_info.content.0) (2 ∷ []) (1 ∷ 0 ∷ []) encapsulated_at.leads
         (p.content_there signs.encap_content_info encapsulated_at.inner encapsulated_at.count encapsulated_at.is))
 
-    digest_led : LeadsTo b digest_place (element 4 signer.signed_attributes.message_digest.values.0)
+    digest_led : LeadsTo b digest_place (element octet_string_octet signer.signed_attributes.message_digest.values.0)
     digest_led =
-        go_on b attributes_found.inner (element 4 signer.signed_attributes.message_digest.values.0) attributes_place (1 ∷ 1 ∷ 0 ∷ []) attributes_found.leads
+        go_on b attributes_found.inner (element octet_string_octet signer.signed_attributes.message_digest.values.0) attributes_place (1 ∷ 1 ∷ 0 ∷ []) attributes_found.leads
         (p.digest_there signer.signed_attributes attributes_found.inner attributes_found.count attributes_found.is)
 
     pub has_parts : Holding v b
     has_parts = record {
       certificate_at = found_on (IsSignedData signs) (p.certificate signs.certificates.0) b (1 ∷ 0 ∷ []) (3 ∷ 0 ∷ []) signed_at certificate_in;
       attributes_at = attributes_found;
-      content_at = part_there b (element 4 signs.encap_content_info.content.0) content_place content_led;
-      digest_at = part_there b (element 4 signer.signed_attributes.message_digest.values.0) digest_place digest_led;
+      content_at = part_there b (element octet_string_octet signs.encap_content_info.content.0) content_place content_led;
+      digest_at = part_there b (element octet_string_octet signer.signed_attributes.message_digest.values.0) digest_place digest_led;
       signature_at =
           subst (λ (l : List ℕ). IsPart b signature_place l) (p.octets_is signer.signature signature_found.inner signature_found.count signature_found.is)
           (part_there b signature_found.inner signature_place signature_found.leads);

@@ -1,8 +1,10 @@
 //! Signed data as a message carries it (RFC 5652, section 3).
 ghost use Rattle.std.specs.Prelude.{◌≡◌, MatchResult};
 ghost use Rattle.cms_signed_data.specs.SignedRows.{content_row};
+ghost use Rattle.asn1_der.specs.Octets.{sequence_octet};
 
 use crate::signed_data::SignedData;
+use asn1_der::octets::SEQUENCE;
 use devices::Sink;
 use picky_asn1::wrapper::ObjectIdentifierAsn1;
 use picky_asn1_der::{Asn1DerError, Serialize, Serializer};
@@ -37,19 +39,19 @@ impl Serialize for ContentInfo {
     ghost use Rattle.x509_open_types.specs.HeldLaws.{laws_injective};
     ghost use Rattle.cms_signed_data.specs.SignedRows.{content_row, one_content};
 
-    ghost tree = { λ v. sequence ⟦<ContentRow as SpelledFields>⟧.row_trees 48 (content_row v) };
+    ghost tree = { λ v. sequence ⟦<ContentRow as SpelledFields>⟧.row_trees sequence_octet (content_row v) };
 
-    ghost firsts = { only 48 };
+    ghost firsts = { only sequence_octet };
 
-    ghost begins = { λ _. may_begin-only 48 };
+    ghost begins = { λ _. may_begin-only sequence_octet };
 
-    ghost injective = { laws_injective true (only 48) (λ v. sequence ⟦<ContentRow as SpelledFields>⟧.row_trees 48 (content_row v))
-        (λ v. Holds 48 ⟦<ContentRow as SpelledFields>⟧.spells (content_row v))
-        (struct_laws 48 refl ⟦<ContentRow as SpelledFields>⟧.row_firsts ⟦<ContentRow as SpelledFields>⟧.row_trees ⟦<ContentRow as SpelledFields>⟧.spells
+    ghost injective = { laws_injective true (only sequence_octet) (λ v. sequence ⟦<ContentRow as SpelledFields>⟧.row_trees sequence_octet (content_row v))
+        (λ v. Holds sequence_octet ⟦<ContentRow as SpelledFields>⟧.spells (content_row v))
+        (struct_laws sequence_octet refl ⟦<ContentRow as SpelledFields>⟧.row_firsts ⟦<ContentRow as SpelledFields>⟧.row_trees ⟦<ContentRow as SpelledFields>⟧.spells
         (⟦<ContentRow as SpelledFields>⟧.row_laws (refl {a = true})) content_row one_content) };
 
     fn serialize<W: Sink>(&self, to: &mut Serializer<W>) -> Result<usize, Asn1DerError> {
-        to.list(48, &(&self.content_type, (&self.content, ())))
+        to.list(SEQUENCE, &(&self.content_type, (&self.content, ())))
     }
 }
 
@@ -61,23 +63,23 @@ impl Spelled for ContentInfo {
     ghost use Rattle.x509_spelling.specs.RowLaws.{struct_laws};
     ghost use Rattle.cms_signed_data.specs.SignedRows.{content_row, one_content};
 
-    ghost spells = { λ v. Holds 48 ⟦<ContentRow as SpelledFields>⟧.spells (content_row v) };
+    ghost spells = { λ v. Holds sequence_octet ⟦<ContentRow as SpelledFields>⟧.spells (content_row v) };
 
-    ghost written = { λ v. sequence ⟦<ContentRow as SpelledFields>⟧.row_trees 48 (content_row v) };
+    ghost written = { λ v. sequence ⟦<ContentRow as SpelledFields>⟧.row_trees sequence_octet (content_row v) };
 
-    ghost begun = { only 48 };
+    ghost begun = { only sequence_octet };
 
     ghost has_low_tags = { true };
 
-    ghost laws = { struct_laws 48 refl ⟦<ContentRow as SpelledFields>⟧.row_firsts ⟦<ContentRow as SpelledFields>⟧.row_trees ⟦<ContentRow as SpelledFields>⟧.spells
+    ghost laws = { struct_laws sequence_octet refl ⟦<ContentRow as SpelledFields>⟧.row_firsts ⟦<ContentRow as SpelledFields>⟧.row_trees ⟦<ContentRow as SpelledFields>⟧.spells
         (⟦<ContentRow as SpelledFields>⟧.row_laws (refl {a = true})) content_row one_content };
 
     fn may_begin_with(first: u8) -> bool {
-        first == 48
+        first == SEQUENCE
     }
 
     fn read_counted(alloc: Global, bytes: &[u8]) -> Result<Counted<Self>, X509Fault> {
-        let read: Counted<ContentRow> = read_fields(alloc, 48, bytes)?;
+        let read: Counted<ContentRow> = read_fields(alloc, SEQUENCE, bytes)?;
         let count = read.count;
         let value = of_row(read.into_value());
         Ok(Counted { value, count })

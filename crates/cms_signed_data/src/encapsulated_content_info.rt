@@ -1,6 +1,8 @@
 //! A content with its type (RFC 5652, section 5.2).
 ghost use Rattle.std.specs.Prelude.{◌≡◌, MatchResult};
+ghost use Rattle.asn1_der.specs.Octets.{sequence_octet};
 
+use asn1_der::octets::SEQUENCE;
 use devices::{Sink, Source};
 use picky_asn1::wrapper::{ExplicitContextTag0, ObjectIdentifierAsn1, OctetStringAsn1};
 use picky_asn1_der::{
@@ -33,9 +35,9 @@ impl Tagged for EncapsulatedContentInfo {
 
     type Row = EncapsulatedContentInfoRow;
 
-    const FIRST: u8 = 48;
+    const FIRST: u8 = SEQUENCE;
 
-    ghost FIRST = { 48 };
+    ghost FIRST = { sequence_octet };
 
     ghost row_tree = { sequence ⟦<EncapsulatedContentInfoRow as Fields>⟧.trees };
 

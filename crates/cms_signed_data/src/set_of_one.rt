@@ -5,7 +5,9 @@ ghost use Rattle.asn1_der.specs.Firsts.{only};
 ghost use Rattle.x509_spelling.specs.Refusals.{part_refusal};
 ghost use Rattle.x509_spelling.specs.Spellings.{Holds};
 ghost use Rattle.x509_spelling.specs.Answers.{Tells};
+ghost use Rattle.asn1_der.specs.Octets.{set_octet};
 
+use asn1_der::octets::SET;
 use devices::{Sink, Source};
 use picky_asn1_der::{Asn1DerError, Deserialize, Deserializer, Serialize, Serializer};
 use std::alloc::Global;
@@ -19,16 +21,16 @@ pub struct SetOfOne<T>(pub T);
 impl<T: Serialize> Serialize for SetOfOne<T> {
     ghost use Rattle.asn1_der.proofs.Spelling.{wrapped-begins, wrapped-injective};
 
-    ghost tree = { λ value. wrapped 49 (T.tree value.0) };
+    ghost tree = { λ value. wrapped set_octet (T.tree value.0) };
 
     ghost refusal = { part_refusal (λ value. value.0) T.refusal };
 
-    ghost firsts = { only 49 };
+    ghost firsts = { only set_octet };
 
-    ghost begins = { λ value. wrapped-begins 49 (T.tree value.0) };
+    ghost begins = { λ value. wrapped-begins set_octet (T.tree value.0) };
 
     ghost injective = { λ v w whole also e.
-        let same = wrapped-injective 49 T.tree T.injective v.0 w.0 whole also e
+        let same = wrapped-injective set_octet T.tree T.injective v.0 w.0 whole also e
         in λ i. record { 0 = same i } };
 
     fn serialize<W: Sink>(&self, to: &mut Serializer<W>) -> Result<usize, Asn1DerError> {
@@ -38,7 +40,7 @@ impl<T: Serialize> Serialize for SetOfOne<T> {
 
 impl<T: Deserialize + Drop> Deserialize for SetOfOne<T> {
     fn may_start(first: u8) -> bool {
-        first == 49
+        first == SET
     }
 
     fn deserialize<R: Source>(from: &mut Deserializer<R>) -> Result<Self, Asn1DerError> {
@@ -52,19 +54,19 @@ impl<T: Spelled> Spelled for SetOfOne<T> {
     ghost use Rattle.x509_spelling.specs.Laws.{held_laws};
     ghost use Rattle.x509_open_types.specs.HeldLaws.{holding_laws};
 
-    ghost spells = { λ value. Holds 49 T.spells value.0 };
+    ghost spells = { λ value. Holds set_octet T.spells value.0 };
 
-    ghost written = { λ value. wrapped 49 (T.written value.0) };
+    ghost written = { λ value. wrapped set_octet (T.written value.0) };
 
-    ghost begun = { only 49 };
+    ghost begun = { only set_octet };
 
     ghost has_low_tags = { true };
 
-    ghost laws = { held_laws true (only 49) (λ v. wrapped 49 (T.written v)) (Holds 49 T.spells)
-        (holding_laws 49 refl T.has_low_tags T.begun T.written T.spells T.laws) (λ value. value.0) (λ v w e. λ i. record { 0 = e i }) };
+    ghost laws = { held_laws true (only set_octet) (λ v. wrapped set_octet (T.written v)) (Holds set_octet T.spells)
+        (holding_laws set_octet refl T.has_low_tags T.begun T.written T.spells T.laws) (λ value. value.0) (λ v w e. λ i. record { 0 = e i }) };
 
     fn may_begin_with(first: u8) -> bool {
-        first == 49
+        first == SET
     }
 
     fn read_counted(alloc: Global, bytes: &[u8]) -> Result<Counted<Self>, X509Fault> {
@@ -74,5 +76,5 @@ impl<T: Spelled> Spelled for SetOfOne<T> {
         Ok(Counted { value, count })
     }
 
-    ghost written_is = { ap (λ tree value. wrapped 49 (tree value.0)) T.written_is };
+    ghost written_is = { ap (λ tree value. wrapped set_octet (tree value.0)) T.written_is };
 }

@@ -1,7 +1,9 @@
 //! The attributes that a signature covers (RFC 5652, sections 5.3 and 11).
 ghost use Rattle.std.specs.Prelude.{◌≡◌, MatchResult};
+ghost use Rattle.asn1_der.specs.Octets.{sequence_octet};
 
 use crate::set_of_one::SetOfOne;
+use asn1_der::octets::SEQUENCE;
 use devices::{Sink, Source};
 use picky_asn1::wrapper::{ObjectIdentifierAsn1, OctetStringAsn1};
 use picky_asn1_der::{
@@ -34,9 +36,9 @@ impl Tagged for ContentTypeAttribute {
 
     type Row = ContentTypeAttributeRow;
 
-    const FIRST: u8 = 48;
+    const FIRST: u8 = SEQUENCE;
 
-    ghost FIRST = { 48 };
+    ghost FIRST = { sequence_octet };
 
     ghost row_tree = { sequence ⟦<ContentTypeAttributeRow as Fields>⟧.trees };
 
@@ -85,9 +87,9 @@ impl Tagged for MessageDigestAttribute {
 
     type Row = MessageDigestAttributeRow;
 
-    const FIRST: u8 = 48;
+    const FIRST: u8 = SEQUENCE;
 
-    ghost FIRST = { 48 };
+    ghost FIRST = { sequence_octet };
 
     ghost row_tree = { sequence ⟦<MessageDigestAttributeRow as Fields>⟧.trees };
 

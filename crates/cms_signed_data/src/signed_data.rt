@@ -1,10 +1,12 @@
 //! Signed data (RFC 5652, section 5.1).
 ghost use Rattle.std.specs.Prelude.{◌≡◌, MatchResult};
 ghost use Rattle.cms_signed_data.specs.SignedRows.{signed_row};
+ghost use Rattle.asn1_der.specs.Octets.{sequence_octet};
 
 use crate::encapsulated_content_info::EncapsulatedContentInfo;
 use crate::set_of_one::SetOfOne;
 use crate::signer_info::SignerInfo;
+use asn1_der::octets::SEQUENCE;
 use devices::Sink;
 use picky_asn1_der::{Asn1DerError, Serialize, Serializer};
 use std::alloc::Global;
@@ -60,21 +62,21 @@ impl Serialize for SignedData {
     ghost use Rattle.x509_open_types.specs.HeldLaws.{laws_injective};
     ghost use Rattle.cms_signed_data.specs.SignedRows.{signed_row, one_signed};
 
-    ghost tree = { λ v. sequence ⟦<SignedRow as SpelledFields>⟧.row_trees 48 (signed_row v) };
+    ghost tree = { λ v. sequence ⟦<SignedRow as SpelledFields>⟧.row_trees sequence_octet (signed_row v) };
 
-    ghost firsts = { only 48 };
+    ghost firsts = { only sequence_octet };
 
-    ghost begins = { λ _. may_begin-only 48 };
+    ghost begins = { λ _. may_begin-only sequence_octet };
 
-    ghost injective = { laws_injective true (only 48) (λ v. sequence ⟦<SignedRow as SpelledFields>⟧.row_trees 48 (signed_row v))
-        (λ v. Holds 48 ⟦<SignedRow as SpelledFields>⟧.spells (signed_row v))
-        (struct_laws 48 refl ⟦<SignedRow as SpelledFields>⟧.row_firsts ⟦<SignedRow as SpelledFields>⟧.row_trees ⟦<SignedRow as SpelledFields>⟧.spells
+    ghost injective = { laws_injective true (only sequence_octet) (λ v. sequence ⟦<SignedRow as SpelledFields>⟧.row_trees sequence_octet (signed_row v))
+        (λ v. Holds sequence_octet ⟦<SignedRow as SpelledFields>⟧.spells (signed_row v))
+        (struct_laws sequence_octet refl ⟦<SignedRow as SpelledFields>⟧.row_firsts ⟦<SignedRow as SpelledFields>⟧.row_trees ⟦<SignedRow as SpelledFields>⟧.spells
         (⟦<SignedRow as SpelledFields>⟧.row_laws (refl {a = true})) signed_row one_signed) };
 
     fn serialize<W: Sink>(&self, to: &mut Serializer<W>) -> Result<usize, Asn1DerError> {
         let behind = (&self.certificates, (&self.signer_infos, ()));
         let digested = (&self.digest_algorithms, (&self.encap_content_info, behind));
-        to.list(48, &(&self.version, digested))
+        to.list(SEQUENCE, &(&self.version, digested))
     }
 }
 
@@ -86,23 +88,23 @@ impl Spelled for SignedData {
     ghost use Rattle.x509_spelling.specs.RowLaws.{struct_laws};
     ghost use Rattle.cms_signed_data.specs.SignedRows.{signed_row, one_signed};
 
-    ghost spells = { λ v. Holds 48 ⟦<SignedRow as SpelledFields>⟧.spells (signed_row v) };
+    ghost spells = { λ v. Holds sequence_octet ⟦<SignedRow as SpelledFields>⟧.spells (signed_row v) };
 
-    ghost written = { λ v. sequence ⟦<SignedRow as SpelledFields>⟧.row_trees 48 (signed_row v) };
+    ghost written = { λ v. sequence ⟦<SignedRow as SpelledFields>⟧.row_trees sequence_octet (signed_row v) };
 
-    ghost begun = { only 48 };
+    ghost begun = { only sequence_octet };
 
     ghost has_low_tags = { true };
 
-    ghost laws = { struct_laws 48 refl ⟦<SignedRow as SpelledFields>⟧.row_firsts ⟦<SignedRow as SpelledFields>⟧.row_trees ⟦<SignedRow as SpelledFields>⟧.spells
+    ghost laws = { struct_laws sequence_octet refl ⟦<SignedRow as SpelledFields>⟧.row_firsts ⟦<SignedRow as SpelledFields>⟧.row_trees ⟦<SignedRow as SpelledFields>⟧.spells
         (⟦<SignedRow as SpelledFields>⟧.row_laws (refl {a = true})) signed_row one_signed };
 
     fn may_begin_with(first: u8) -> bool {
-        first == 48
+        first == SEQUENCE
     }
 
     fn read_counted(alloc: Global, bytes: &[u8]) -> Result<Counted<Self>, X509Fault> {
-        let read: Counted<SignedRow> = read_fields(alloc, 48, bytes)?;
+        let read: Counted<SignedRow> = read_fields(alloc, SEQUENCE, bytes)?;
         let count = read.count;
         let value = of_row(read.into_value());
         Ok(Counted { value, count })

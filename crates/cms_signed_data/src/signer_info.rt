@@ -1,8 +1,10 @@
 //! A signer (RFC 5652, section 5.3).
 ghost use Rattle.std.specs.Prelude.{◌≡◌, MatchResult};
 ghost use Rattle.cms_signed_data.specs.SignedRows.{signer_row};
+ghost use Rattle.asn1_der.specs.Octets.{sequence_octet};
 
 use crate::signed_attributes::SignedAttributes;
+use asn1_der::octets::SEQUENCE;
 use devices::{Sink, Source};
 use picky_asn1::wrapper::{IntegerAsn1, OctetStringAsn1};
 use picky_asn1_der::{
@@ -38,9 +40,9 @@ impl Tagged for IssuerAndSerialNumber {
 
     type Row = IssuerAndSerialNumberRow;
 
-    const FIRST: u8 = 48;
+    const FIRST: u8 = SEQUENCE;
 
-    ghost FIRST = { 48 };
+    ghost FIRST = { sequence_octet };
 
     ghost row_tree = { sequence ⟦<IssuerAndSerialNumberRow as Fields>⟧.trees };
 
@@ -117,21 +119,21 @@ impl Serialize for SignerInfo {
     ghost use Rattle.x509_open_types.specs.HeldLaws.{laws_injective};
     ghost use Rattle.cms_signed_data.specs.SignedRows.{signer_row, one_signer};
 
-    ghost tree = { λ v. sequence ⟦<SignerRow as SpelledFields>⟧.row_trees 48 (signer_row v) };
+    ghost tree = { λ v. sequence ⟦<SignerRow as SpelledFields>⟧.row_trees sequence_octet (signer_row v) };
 
-    ghost firsts = { only 48 };
+    ghost firsts = { only sequence_octet };
 
-    ghost begins = { λ _. may_begin-only 48 };
+    ghost begins = { λ _. may_begin-only sequence_octet };
 
-    ghost injective = { laws_injective true (only 48) (λ v. sequence ⟦<SignerRow as SpelledFields>⟧.row_trees 48 (signer_row v))
-        (λ v. Holds 48 ⟦<SignerRow as SpelledFields>⟧.spells (signer_row v))
-        (struct_laws 48 refl ⟦<SignerRow as SpelledFields>⟧.row_firsts ⟦<SignerRow as SpelledFields>⟧.row_trees ⟦<SignerRow as SpelledFields>⟧.spells
+    ghost injective = { laws_injective true (only sequence_octet) (λ v. sequence ⟦<SignerRow as SpelledFields>⟧.row_trees sequence_octet (signer_row v))
+        (λ v. Holds sequence_octet ⟦<SignerRow as SpelledFields>⟧.spells (signer_row v))
+        (struct_laws sequence_octet refl ⟦<SignerRow as SpelledFields>⟧.row_firsts ⟦<SignerRow as SpelledFields>⟧.row_trees ⟦<SignerRow as SpelledFields>⟧.spells
         (⟦<SignerRow as SpelledFields>⟧.row_laws (refl {a = true})) signer_row one_signer) };
 
     fn serialize<W: Sink>(&self, to: &mut Serializer<W>) -> Result<usize, Asn1DerError> {
         let behind = Ahead(&self.signature_algorithm, (&self.signature, ()));
         let digested = (&self.digest_algorithm, (&self.signed_attributes, behind));
-        to.list(48, &(&self.version, (&self.sid, digested)))
+        to.list(SEQUENCE, &(&self.version, (&self.sid, digested)))
     }
 }
 
@@ -143,23 +145,23 @@ impl Spelled for SignerInfo {
     ghost use Rattle.x509_spelling.specs.RowLaws.{struct_laws};
     ghost use Rattle.cms_signed_data.specs.SignedRows.{signer_row, one_signer};
 
-    ghost spells = { λ v. Holds 48 ⟦<SignerRow as SpelledFields>⟧.spells (signer_row v) };
+    ghost spells = { λ v. Holds sequence_octet ⟦<SignerRow as SpelledFields>⟧.spells (signer_row v) };
 
-    ghost written = { λ v. sequence ⟦<SignerRow as SpelledFields>⟧.row_trees 48 (signer_row v) };
+    ghost written = { λ v. sequence ⟦<SignerRow as SpelledFields>⟧.row_trees sequence_octet (signer_row v) };
 
-    ghost begun = { only 48 };
+    ghost begun = { only sequence_octet };
 
     ghost has_low_tags = { true };
 
-    ghost laws = { struct_laws 48 refl ⟦<SignerRow as SpelledFields>⟧.row_firsts ⟦<SignerRow as SpelledFields>⟧.row_trees ⟦<SignerRow as SpelledFields>⟧.spells
+    ghost laws = { struct_laws sequence_octet refl ⟦<SignerRow as SpelledFields>⟧.row_firsts ⟦<SignerRow as SpelledFields>⟧.row_trees ⟦<SignerRow as SpelledFields>⟧.spells
         (⟦<SignerRow as SpelledFields>⟧.row_laws (refl {a = true})) signer_row one_signer };
 
     fn may_begin_with(first: u8) -> bool {
-        first == 48
+        first == SEQUENCE
     }
 
     fn read_counted(alloc: Global, bytes: &[u8]) -> Result<Counted<Self>, X509Fault> {
-        let read: Counted<SignerRow> = read_fields(alloc, 48, bytes)?;
+        let read: Counted<SignerRow> = read_fields(alloc, SEQUENCE, bytes)?;
         let count = read.count;
         let value = of_row(read.into_value());
         Ok(Counted { value, count })

@@ -1,4 +1,7 @@
 //! Credentials of any kind.
+ghost use Rattle.asn1_der.specs.Octets.{sequence_octet};
+
+use asn1_der::octets::SEQUENCE;
 use devices::{Sink, Source};
 use picky_asn1::wrapper::{IntegerAsn1, OctetStringAsn1};
 use picky_asn1_der::{
@@ -33,9 +36,9 @@ impl Tagged for TsCredentials {
 
     type Row = TsCredentialsRow;
 
-    const FIRST: u8 = 48;
+    const FIRST: u8 = SEQUENCE;
 
-    ghost FIRST = { 48 };
+    ghost FIRST = { sequence_octet };
 
     ghost row_tree = { sequence ⟦<TsCredentialsRow as Fields>⟧.trees };
 

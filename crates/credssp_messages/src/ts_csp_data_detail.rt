@@ -1,4 +1,7 @@
 //! Where a smart card's key stands.
+ghost use Rattle.asn1_der.specs.Octets.{sequence_octet};
+
+use asn1_der::octets::SEQUENCE;
 use devices::{Sink, Source};
 use picky_asn1::wrapper::{IntegerAsn1, OctetStringAsn1};
 use picky_asn1_der::{
@@ -57,9 +60,9 @@ impl Tagged for TsCspDataDetail {
 
     type Row = TsCspDataDetailRow;
 
-    const FIRST: u8 = 48;
+    const FIRST: u8 = SEQUENCE;
 
-    ghost FIRST = { 48 };
+    ghost FIRST = { sequence_octet };
 
     ghost row_tree = { sequence ⟦<TsCspDataDetailRow as Fields>⟧.trees };
 

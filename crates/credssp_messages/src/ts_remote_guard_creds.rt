@@ -1,5 +1,8 @@
 //! Credentials of remote guard.
+ghost use Rattle.asn1_der.specs.Octets.{sequence_octet};
+
 use crate::ts_remote_guard_package_cred::TsRemoteGuardPackageCred;
+use asn1_der::octets::SEQUENCE;
 use devices::{Sink, Source};
 use picky_asn1::wrapper::Asn1SequenceOf;
 use picky_asn1_der::{
@@ -36,9 +39,9 @@ impl Tagged for TsRemoteGuardCreds {
 
     type Row = TsRemoteGuardCredsRow;
 
-    const FIRST: u8 = 48;
+    const FIRST: u8 = SEQUENCE;
 
-    ghost FIRST = { 48 };
+    ghost FIRST = { sequence_octet };
 
     ghost row_tree = { sequence ⟦<TsRemoteGuardCredsRow as Fields>⟧.trees };
 

@@ -1,5 +1,8 @@
 //! Credentials by smart card.
+ghost use Rattle.asn1_der.specs.Octets.{sequence_octet};
+
 use crate::ts_csp_data_detail::TsCspDataDetail;
+use asn1_der::octets::SEQUENCE;
 use devices::{Sink, Source};
 use picky_asn1::wrapper::OctetStringAsn1;
 use picky_asn1_der::{
@@ -53,9 +56,9 @@ impl Tagged for TsSmartCardCreds {
 
     type Row = TsSmartCardCredsRow;
 
-    const FIRST: u8 = 48;
+    const FIRST: u8 = SEQUENCE;
 
-    ghost FIRST = { 48 };
+    ghost FIRST = { sequence_octet };
 
     ghost row_tree = { sequence ⟦<TsSmartCardCredsRow as Fields>⟧.trees };
 

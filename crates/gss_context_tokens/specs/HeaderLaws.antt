@@ -8,6 +8,7 @@ use Rattle.asn1_der.proofs.Elements.{element-one}
 use Rattle.gss_context_tokens.specs.Fronts.{Leads, LeadsOptional}
 use Rattle.asn1_codec.specs.Reads.{IsOneValue}
 use Rattle.gss_context_tokens.specs.Headers.{LeadFields, IsHeaderOf}
+use Rattle.asn1_der.specs.Octets.{sequence_octet}
 
 -- bytes are led by one value, with one rest
 pub leads-one : {T : Type 0} (tree : T → Tree) → IsInjective tree → (v w : T) (bytes x y : List ℕ) → Leads (Writes tree) v bytes x → Leads (Writes tree) w bytes y → (v ≡ w) × (x ≡ y)
@@ -38,8 +39,8 @@ pub header-one : {H A B C : Type 0} (ta : A → Tree) → IsInjective ta → (fb
     → (a_of : H → A) (b_of : H → Option B) (c_of : H → Option C) → ((v w : H) → a_of v ≡ a_of w → b_of v ≡ b_of w → c_of v ≡ c_of w → v ≡ w)
     → IsOneValue (IsHeaderOf ta fb tb fc tc a_of b_of c_of)
 header-one ta ja fb tb jb fc tc jc a_of b_of c_of join v w a b x y (k, a_is, first) (l, b_is, other) e =
-    let texts : element 48 k ++ x ≡ element 48 l ++ y = sym (ap (λ (t : List ℕ). t ++ x) a_is) ∙ e ∙ ap (λ (t : List ℕ). t ++ y) b_is in
+    let texts : element sequence_octet k ++ x ≡ element sequence_octet l ++ y = sym (ap (λ (t : List ℕ). t ++ x) a_is) ∙ e ∙ ap (λ (t : List ℕ). t ++ y) b_is in
     let same : k ≡ l = (element-one 48 48 k l x y texts).1 in
     let there = subst (λ (c : List ℕ). LeadFields ta fb tb fc tc (a_of w) (b_of w) (c_of w) c) (sym same) other in
     let parts = fields-one ta ja fb tb jb fc tc jc (a_of v) (a_of w) (b_of v) (b_of w) (c_of v) (c_of w) k first there in
-    (join v w parts.0 parts.1 parts.2, a_is ∙ ap (element 48) same ∙ sym b_is)
+    (join v w parts.0 parts.1 parts.2, a_is ∙ ap (element sequence_octet) same ∙ sym b_is)

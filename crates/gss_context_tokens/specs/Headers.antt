@@ -5,6 +5,7 @@ use Rattle.asn1_der.specs.Tree.{Tree, Writes}
 use Rattle.asn1_der.specs.Firsts.{Firsts}
 use Rattle.asn1_der.specs.Length.{element}
 use Rattle.gss_context_tokens.specs.Fronts.{Leads, LeadsOptional}
+use Rattle.asn1_der.specs.Octets.{sequence_octet}
 
 -- a field, two that may be missing, and what is ignored
 abbrev pub LeadFields : {A B C : Type 0} → (A → Tree) → Firsts → (B → Tree) → Firsts → (C → Tree) → A → Option B → Option C → List ℕ → Type 0
@@ -16,4 +17,4 @@ LeadFields first_tree second_firsts second_tree third_firsts third_tree a b c co
 abbrev pub IsHeaderOf : {H A B C : Type 0} → (A → Tree) → Firsts → (B → Tree) → Firsts → (C → Tree) → (H → A) → (H → Option B) → (H → Option C)
     → H → List ℕ → Type 0
 IsHeaderOf ta fb tb fc tc a_of b_of c_of v bytes =
-    (content : List ℕ) × (bytes ≡ element 48 content) × LeadFields ta fb tb fc tc (a_of v) (b_of v) (c_of v) content
+    (content : List ℕ) × (bytes ≡ element sequence_octet content) × LeadFields ta fb tb fc tc (a_of v) (b_of v) (c_of v) content

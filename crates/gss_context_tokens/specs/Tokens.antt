@@ -9,10 +9,11 @@ use Rattle.asn1_leaves.specs.ObjectIdentifier.{is_object_identifier, oid_content
 use Rattle.picky_asn1.specs.declared.wrapper.ObjectIdentifierAsn1.{ObjectIdentifierAsn1}
 use Rattle.x509_oids.specs.Identifiers.{iakerb5}
 use Rattle.gss_context_tokens.specs.Fronts.{Leads}
+use Rattle.asn1_der.specs.Octets.{object_identifier_octet}
 
 -- an OBJECT IDENTIFIER (X.690, section 8.19)
 abbrev pub mechanism_tree : ObjectIdentifierAsn1 → Tree
-mechanism_tree = tagged_tree 6 (leaf_as (λ oid. is_object_identifier oid.0) (λ oid. oid_content oid.0)) (λ oid. oid)
+mechanism_tree = tagged_tree object_identifier_octet (leaf_as (λ oid. is_object_identifier oid.0) (λ oid. oid_content oid.0)) (λ oid. oid)
 
 -- the bytes begin with a token that has this content
 abbrev pub BeginsToken : List ℕ → List ℕ → Type 0

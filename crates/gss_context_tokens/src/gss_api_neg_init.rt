@@ -1,5 +1,8 @@
 //! The first token of a negotiation, as the GSS-API frames it.
+ghost use Rattle.asn1_der.specs.Octets.{sequence_octet};
+
 use crate::neg_token_init::NegTokenInit;
+use asn1_der::octets::SEQUENCE;
 use devices::{Sink, Source};
 use picky_asn1::wrapper::ObjectIdentifierAsn1;
 use picky_asn1_der::{
@@ -36,9 +39,9 @@ impl Tagged for GssApiNegInit {
 
     type Row = GssApiNegInitRow;
 
-    const FIRST: u8 = 48;
+    const FIRST: u8 = SEQUENCE;
 
-    ghost FIRST = { 48 };
+    ghost FIRST = { sequence_octet };
 
     ghost row_tree = { sequence ⟦<GssApiNegInitRow as Fields>⟧.trees };
 

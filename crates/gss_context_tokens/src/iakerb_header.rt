@@ -4,8 +4,10 @@ ghost use Rattle.asn1_codec.specs.Reading.{IsOwn, IsReadBy, Refused, TookBy};
 ghost use Rattle.std.specs.Prelude.{Option};
 ghost use Rattle.gss_context_tokens.specs.Fronts.{IsMissing};
 ghost use Rattle.gss_context_tokens.specs.Headers.{IsHeaderOf, LeadFields};
+ghost use Rattle.asn1_der.specs.Octets.{sequence_octet};
 
 use crate::front::{split_optional, split_value};
+use asn1_der::octets::SEQUENCE;
 use devices::{Sink, Source};
 use picky_asn1::wrapper::{BitStringAsn1, OctetStringAsn1, Utf8StringAsn1};
 use picky_asn1_der::{
@@ -50,19 +52,19 @@ impl Serialize for IAKerbHeader {
     ghost use Rattle.asn1_der.specs.Tagged.{sequence, tagged_tree};
     ghost use Rattle.asn1_der.proofs.Tagged.{sequence_laws, tagged-injective};
 
-    ghost tree = { tagged_tree 48 (sequence ⟦<IAKerbHeaderRow as Fields>⟧.trees) (λ v. (v.target_realm, (v.cookie, (v.flags, tt)))) };
+    ghost tree = { tagged_tree sequence_octet (sequence ⟦<IAKerbHeaderRow as Fields>⟧.trees) (λ v. (v.target_realm, (v.cookie, (v.flags, tt)))) };
 
-    ghost firsts = { only 48 };
+    ghost firsts = { only sequence_octet };
 
-    ghost begins = { λ v. (sequence_laws ⟦<IAKerbHeaderRow as Fields>⟧.trees (⟦<IAKerbHeaderRow as Fields>⟧.injective (refl {a = true}))).begins 48 (v.target_realm, (v.cookie, (v.flags, tt))) };
+    ghost begins = { λ v. (sequence_laws ⟦<IAKerbHeaderRow as Fields>⟧.trees (⟦<IAKerbHeaderRow as Fields>⟧.injective (refl {a = true}))).begins sequence_octet (v.target_realm, (v.cookie, (v.flags, tt))) };
 
-    ghost injective = { tagged-injective 48 (sequence ⟦<IAKerbHeaderRow as Fields>⟧.trees)
+    ghost injective = { tagged-injective sequence_octet (sequence ⟦<IAKerbHeaderRow as Fields>⟧.trees)
         (sequence_laws ⟦<IAKerbHeaderRow as Fields>⟧.trees (⟦<IAKerbHeaderRow as Fields>⟧.injective (refl {a = true})))
         (λ v. (v.target_realm, (v.cookie, (v.flags, tt))))
         (λ v w e. λ i. record { target_realm = (e i).0; cookie = (e i).1.0; flags = (e i).1.1.0 }) };
 
     fn serialize<W: Sink>(&self, to: &mut Serializer<W>) -> Result<usize, Asn1DerError> {
-        to.list(48, &fields_of![self; target_realm, cookie, flags])
+        to.list(SEQUENCE, &fields_of![self; target_realm, cookie, flags])
     }
 }
 
@@ -98,7 +100,7 @@ fn read_header<A: Deserialize + Drop, B: Deserialize + Drop, C: Deserialize + Dr
         (λ f. TookBy (IsHeaderOf A.tree B.firsts B.tree C.firsts C.tree (λ (f : A × Option B × Option C). f.0) (λ f. f.1) (λ f. f.2)) f from.old from.new)
         (λ fault. Refused (IsReadBy (IsHeaderOf A.tree B.firsts B.tree C.firsts C.tree (λ (f : A × Option B × Option C). f.0) (λ f. f.1) (λ f. f.2))) from.old from.new fault) }
 {
-    let content = from.content(48)?;
+    let content = from.content(SEQUENCE)?;
     match lead_fields(from.allocator(), content.as_slice()) {
         Ok(fields) => Ok(fields),
         Err(fault) => Err(from.refuse(fault)),

@@ -5,6 +5,7 @@ ghost use Rattle.asn1_der.specs.Length.{element};
 ghost use Rattle.asn1_codec.specs.Refusals.{refusal_of};
 ghost use Rattle.gss_context_tokens.specs.Tokens.{IsProxied, iakerb, proxy_id};
 ghost use Rattle.gss_context_tokens.specs.Refusals.{IsOtherMechanism, IsProxyRefusal};
+ghost use Rattle.asn1_der.specs.Octets.{sequence_octet};
 
 use crate::application_tag0::ApplicationTag0;
 use crate::content::{front_value, mechanism_of, split_id, whole_value};
@@ -150,7 +151,7 @@ impl<T: Serialize> IAKerbProxyMessage<T> {
     /// It holds the content's octets. A message isn't such a value itself, since its header is read from more than one spelling.
     pub fn to_sequence(&self, alloc: Global) -> Result<TokenSequence, GssApiMessageError>
         ensures { MatchResult result
-            (λ value. (der (⟦<TokenSequence as Serialize>⟧.tree value) ≡ element 48 (proxy_message_content T.tree self.now))
+            (λ value. (der (⟦<TokenSequence as Serialize>⟧.tree value) ≡ element sequence_octet (proxy_message_content T.tree self.now))
             × (der (⟦<ApplicationTag0<TokenSequence> as Serialize>⟧.tree (record { 0 = value })) ≡ token_bytes (proxy_message_content T.tree self.now)))
             (IsUnwritten (refusal_of T.refusal self.now.krb_msg)) }
     {

@@ -3,10 +3,12 @@ ghost use Rattle.std.specs.Prelude.{◌≡◌, MatchResult};
 ghost use Rattle.asn1_der.specs.Tree.{der};
 ghost use Rattle.asn1_der.specs.Length.{element};
 ghost use Rattle.asn1_codec.specs.Refusals.{refusal_of};
+ghost use Rattle.asn1_der.specs.Octets.{sequence_octet};
 
 use crate::application_tag0::ApplicationTag0;
 use crate::content::{mechanism_of, split_id, whole_value};
 use crate::writing::{TokenSequence, put_out, put_value, sequence_of, token_of, told};
+use asn1_der::octets::SEQUENCE;
 use devices::{Sink, Source};
 use gss_message_tokens::GssApiMessageError;
 use picky_asn1::wrapper::ObjectIdentifierAsn1;
@@ -102,7 +104,7 @@ impl<T: Serialize> KrbMessage<T> {
     /// It holds the content's octets. A message of a type that is read is such a value itself, and takes no memory to be written.
     pub fn to_sequence(&self, alloc: Global) -> Result<TokenSequence, GssApiMessageError>
         ensures { MatchResult result
-            (λ value. (der (⟦<TokenSequence as Serialize>⟧.tree value) ≡ element 48 (krb_message_content T.tree self.now))
+            (λ value. (der (⟦<TokenSequence as Serialize>⟧.tree value) ≡ element sequence_octet (krb_message_content T.tree self.now))
             × (der (⟦<ApplicationTag0<TokenSequence> as Serialize>⟧.tree (record { 0 = value })) ≡ token_bytes (krb_message_content T.tree self.now)))
             (IsUnwritten (refusal_of T.refusal self.now.krb_msg)) }
     {
@@ -136,9 +138,9 @@ impl<T: Deserialize + Drop> Tagged for KrbMessage<T> {
 
     type Row = KrbMessageRow<T>;
 
-    const FIRST: u8 = 48;
+    const FIRST: u8 = SEQUENCE;
 
-    ghost FIRST = { 48 };
+    ghost FIRST = { sequence_octet };
 
     ghost row_tree = { sequence ⟦<KrbMessageRow<T> as Fields>⟧.trees };
 

@@ -6,6 +6,7 @@ ghost use Rattle.gss_context_tokens.specs.declared.krb_message.KrbMessage.{KrbMe
 ghost use Rattle.gss_context_tokens.specs.declared.iakerb_proxy_message.IAKerbProxyMessage.{IAKerbProxyMessage};
 ghost use Rattle.gss_context_tokens.specs.Tokens.{token_bytes};
 ghost use Rattle.gss_context_tokens.specs.KrbMessages.{BeginsKrbMessage, BeginsProxyMessage, IsWholeMessage, IsWholeProxyMessage, krb_message_content, proxy_message_content};
+ghost use Rattle.asn1_der.specs.Octets.{sequence_octet};
 
 use crate::application_tag0::ApplicationTag0;
 use crate::krb_message::KrbMessage;
@@ -36,7 +37,7 @@ pub fn written_is_read<T: Deserialize>()
 /// does nothing.
 pub fn message_is_value<T: Deserialize + Drop>()
     ensures sequence { (m : KrbMessage T) → length m.krb5_token_id ≡ 2
-        → der (⟦<KrbMessage<T> as Serialize>⟧.tree m) ≡ element 48 (krb_message_content T.tree m) }
+        → der (⟦<KrbMessage<T> as Serialize>⟧.tree m) ≡ element sequence_octet (krb_message_content T.tree m) }
     ensures token { (m : KrbMessage T) → length m.krb5_token_id ≡ 2
         → der (⟦<ApplicationTag0<KrbMessage<T>> as Serialize>⟧.tree (record { 0 = m })) ≡ token_bytes (krb_message_content T.tree m) }
 {}

@@ -1,5 +1,8 @@
 //! The first token of a negotiation.
+ghost use Rattle.asn1_der.specs.Octets.{sequence_octet};
+
 use crate::mech_type::MechTypeList;
+use asn1_der::octets::SEQUENCE;
 use devices::{Sink, Source};
 use picky_asn1::wrapper::{BitStringAsn1, OctetStringAsn1};
 use picky_asn1_der::{
@@ -44,9 +47,9 @@ impl Tagged for NegTokenInit {
 
     type Row = NegTokenInitRow;
 
-    const FIRST: u8 = 48;
+    const FIRST: u8 = SEQUENCE;
 
-    ghost FIRST = { 48 };
+    ghost FIRST = { sequence_octet };
 
     ghost row_tree = { sequence ⟦<NegTokenInitRow as Fields>⟧.trees };
 

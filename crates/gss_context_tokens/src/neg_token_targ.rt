@@ -1,5 +1,8 @@
 //! The tokens of a negotiation behind the first.
+ghost use Rattle.asn1_der.specs.Octets.{sequence_octet};
+
 use crate::mech_type::MechType;
+use asn1_der::octets::SEQUENCE;
 use devices::{Sink, Source};
 use picky_asn1::wrapper::OctetStringAsn1;
 use picky_asn1_der::{
@@ -51,9 +54,9 @@ impl Tagged for NegTokenTarg {
 
     type Row = NegTokenTargRow;
 
-    const FIRST: u8 = 48;
+    const FIRST: u8 = SEQUENCE;
 
-    ghost FIRST = { 48 };
+    ghost FIRST = { sequence_octet };
 
     ghost row_tree = { sequence ⟦<NegTokenTargRow as Fields>⟧.trees };
 

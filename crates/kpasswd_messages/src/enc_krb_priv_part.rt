@@ -1,6 +1,9 @@
 //! The sealed part of a private message.
-use crate::constants::types::KRB_PRIV_ENC_PART;
+ghost use Rattle.asn1_der.specs.Octets.{sequence_octet};
+
+use asn1_der::octets::SEQUENCE;
 use devices::{Sink, Source};
+use krb_constants::types::KRB_PRIV_ENC_PART;
 use krb_types::data_types::{HostAddress, KerberosTime, Microseconds};
 use picky_asn1::wrapper::{IntegerAsn1, OctetStringAsn1};
 use picky_asn1_der::{
@@ -67,9 +70,9 @@ impl Tagged for EncKrbPrivPartInner {
 
     type Row = EncKrbPrivPartInnerRow;
 
-    const FIRST: u8 = 48;
+    const FIRST: u8 = SEQUENCE;
 
-    ghost FIRST = { 48 };
+    ghost FIRST = { sequence_octet };
 
     ghost row_tree = { sequence ⟦<EncKrbPrivPartInnerRow as Fields>⟧.trees };
 

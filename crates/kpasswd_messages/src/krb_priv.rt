@@ -1,6 +1,9 @@
 //! Private messages.
-use crate::constants::types::KRB_PRIV;
+ghost use Rattle.asn1_der.specs.Octets.{sequence_octet};
+
+use asn1_der::octets::SEQUENCE;
 use devices::{Sink, Source};
+use krb_constants::types::KRB_PRIV;
 use krb_types::data_types::EncryptedData;
 use picky_asn1::wrapper::IntegerAsn1;
 use picky_asn1_der::{
@@ -43,9 +46,9 @@ impl Tagged for KrbPrivInner {
 
     type Row = KrbPrivInnerRow;
 
-    const FIRST: u8 = 48;
+    const FIRST: u8 = SEQUENCE;
 
-    ghost FIRST = { 48 };
+    ghost FIRST = { sequence_octet };
 
     ghost row_tree = { sequence ⟦<KrbPrivInnerRow as Fields>⟧.trees };
 

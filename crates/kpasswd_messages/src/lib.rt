@@ -3,7 +3,6 @@
 
 mod ap_message;
 mod change_passwd_data;
-pub mod constants;
 mod enc_krb_priv_part;
 mod error;
 mod frame;

@@ -7,7 +7,7 @@ use Rattle.krb_crypto.specs.declared.suite.CipherSuite.{CipherSuite}
 use Rattle.krb_crypto.specs.Suites.{cipher_key_size, cipher_number}
 use Rattle.krb_encrypted_data.specs.Keys.{suite_of}
 use Rattle.krb_types.specs.Names.{components, is_same_name, is_same_realm}
-use Rattle.krb_types.specs.declared.constants.ap_options.TheConstants.{MUTUAL_REQUIRED, USE_SESSION_KEY}
+use Rattle.krb_constants.specs.declared.ap_options.TheConstants.{MUTUAL_REQUIRED, USE_SESSION_KEY}
 use Rattle.picky_asn1.specs.Numbers.{is_number}
 use Rattle.krb_moments.specs.Times.{moment_at}
 use Rattle.krb_moments.specs.Units.{Micros}

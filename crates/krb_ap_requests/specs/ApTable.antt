@@ -14,9 +14,9 @@ use Rattle.krb_messages.specs.declared.messages.ap_req.ApReqInner.{ApReqInner}
 use Rattle.krb_encrypted_data.specs.Keys.{suite_of}
 use Rattle.krb_types.specs.Names.{components, is_same_name, is_same_realm}
 use Rattle.krb_types.specs.Refusals.{Code}
-use Rattle.krb_types.specs.declared.constants.error_codes.TheConstants.{KRB_AP_ERR_BAD_INTEGRITY, KRB_AP_ERR_TKT_EXPIRED, KRB_AP_ERR_TKT_NYV, KRB_AP_ERR_NOT_US, KRB_AP_ERR_BADMATCH, KRB_AP_ERR_BADVERSION, KRB_AP_ERR_MSG_TYPE, KRB_AP_ERR_MODIFIED, KRB_AP_ERR_BADKEYVER, KRB_AP_ERR_NOKEY, KRB_AP_ERR_METHOD}
-use Rattle.krb_types.specs.declared.constants.ap_options.TheConstants.{MUTUAL_REQUIRED, USE_SESSION_KEY}
-use Rattle.krb_types.specs.declared.constants.ticket_flags.TheConstants.{INVALID}
+use Rattle.krb_constants.specs.declared.ap_options.TheConstants.{MUTUAL_REQUIRED, USE_SESSION_KEY}
+use Rattle.krb_constants.specs.declared.error_codes.TheConstants.{KRB_AP_ERR_BAD_INTEGRITY, KRB_AP_ERR_TKT_EXPIRED, KRB_AP_ERR_TKT_NYV, KRB_AP_ERR_NOT_US, KRB_AP_ERR_BADMATCH, KRB_AP_ERR_BADVERSION, KRB_AP_ERR_MSG_TYPE, KRB_AP_ERR_MODIFIED, KRB_AP_ERR_BADKEYVER, KRB_AP_ERR_NOKEY, KRB_AP_ERR_METHOD}
+use Rattle.krb_constants.specs.declared.ticket_flags.TheConstants.{INVALID}
 use Rattle.picky_asn1.specs.Numbers.{is_number}
 use Rattle.picky_asn1.specs.Bytes.{Bytes}
 use Rattle.decision_tables.specs.Tables.{Table, done, ask, and_then, need, refuse}

@@ -9,12 +9,12 @@ ghost use Rattle.std.specs.Int.{cast_unsigned, w32};
 
 use crate::messages::{open_authenticator, open_part};
 use crate::presented::{Authenticated, Presented};
+use krb_constants::types::{AP_REQ_MSG_TYPE, KERBEROS_VERSION};
+use krb_constants::{ap_options, error_codes, key_usages, ticket_flags};
 use krb_crypto::{CipherSuite, Key};
 use krb_encrypted_data::key_of;
 use krb_messages::messages::ApReqInner;
 use krb_moments::{MICROSECONDS_IN_SECOND, Moment, moment_at};
-use krb_types::constants::types::{AP_REQ_MSG_TYPE, KERBEROS_VERSION};
-use krb_types::constants::{ap_options, error_codes, key_usages, ticket_flags};
 use krb_types::data_types::{
     AuthenticatorInner, EncTicketPartInner, EncryptedData, EncryptionKey, TicketInner,
 };

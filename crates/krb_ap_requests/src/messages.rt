@@ -5,10 +5,10 @@ ghost use Rattle.krb_encrypted_data.specs.Found.{IsFound};
 ghost use Rattle.krb_messages.specs.Messages.{IsApReq};
 ghost use Rattle.krb_ap_requests.specs.Messages.{IsAuthenticator, IsTicketPart};
 
+use krb_constants::key_usages;
 use krb_crypto::Key;
 use krb_encrypted_data::{open_sealed, read_whole};
 use krb_messages::messages::{ApReq, ApReqInner};
-use krb_types::constants::key_usages;
 use krb_types::data_types::{
     Authenticator, AuthenticatorInner, EncTicketPart, EncTicketPartInner, EncryptedData,
 };
@@ -33,7 +33,7 @@ pub(crate) fn open_part(
 ) -> Result<Option<EncTicketPartInner>, AllocError>
     ensures { IfOk result (IsFound (IsTicketPart key.now.suite key.now.bytes encrypted.now)) }
 {
-    let found: Option<EncTicketPart> = open_sealed(alloc, key, key_usages::TICKET, encrypted)?;
+    let found: Option<EncTicketPart> = open_sealed(alloc, key, key_usages::TICKET_REP, encrypted)?;
     match found {
         Some(part) => Ok(Some(part.0)),
         None => Ok(None),

@@ -6,6 +6,8 @@ ghost use Rattle.krb_kdc_requests.specs.Call.{call_of};
 ghost use Rattle.krb_types.specs.Refusals.{IsJudged};
 
 use krb_accounts::Account;
+use krb_constants::error_codes;
+use krb_constants::padata_types::{PA_ENC_TIMESTAMP, PA_PK_AS_REQ};
 use krb_crypto::diffie_hellman::agreed_key;
 use krb_crypto::{CipherSuite, Key};
 use krb_kdc_requests::{Call, Span, lasting, padata_in};
@@ -14,8 +16,6 @@ use krb_moments::MICROSECONDS_IN_SECOND;
 use krb_pkinit::{Agreed, Pkinit, PkinitCall};
 use krb_preauth::{first_of, moment_of, open_encrypted_timestamp};
 use krb_types::Refusal;
-use krb_types::constants::error_codes;
-use krb_types::constants::types::{PA_ENC_TIMESTAMP, PA_PK_AS_REQ};
 use krb_types::data_types::PaData;
 use picky_asn1::is_number;
 use picky_asn1::wrapper::GeneralStringAsn1;

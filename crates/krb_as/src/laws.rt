@@ -7,6 +7,7 @@ ghost use Rattle.krb_messages.specs.declared.messages.kdc_req.KdcReq.{KdcReq};
 ghost use Rattle.krb_preauth.specs.Padata.{first_of};
 ghost use Rattle.picky_asn1.specs.Bytes.{Bytes};
 ghost use Rattle.picky_asn1_der.specs.Parts.{IsPart};
+ghost use Rattle.asn1_der.specs.Octets.{octet_string_octet};
 
 /// What the checksum of a PKINIT authenticator is computed over, the one encoding of the request's body, stands in the request's
 /// own bytes (RFC 4556, section 3.2.1). Its place leads to nothing else. The place is the SEQUENCE's element number 3, counted
@@ -23,6 +24,6 @@ pub fn as_body_is_part()
 /// when it runs: its contract is the law.
 pub fn padata_is_part()
     ensures { (bytes padata : Bytes) (kind : ℕ) (request : KdcReq) → IsAsReq bytes request → first_of kind (padata_in request) ≡ Some padata
-        → ((entry : ℕ) × IsPart bytes (0 ∷ 2 ∷ 0 ∷ entry ∷ 1 ∷ 0 ∷ []) (element 4 padata)
+        → ((entry : ℕ) × IsPart bytes (0 ∷ 2 ∷ 0 ∷ entry ∷ 1 ∷ 0 ∷ []) (element octet_string_octet padata)
         × ((n : ℕ) (path : List ℕ) (part : Bytes) → IsPart padata (n ∷ path) part → IsPart bytes (0 ∷ 2 ∷ 0 ∷ entry ∷ 1 ∷ 0 ∷ 0 ∷ n ∷ path) part)) }
 {}

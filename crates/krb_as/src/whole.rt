@@ -8,12 +8,12 @@ ghost use Rattle.krb_as.specs.Judged.{IsGranted};
 use crate::grant::{Principals, grant};
 use crate::judge::{authenticate, check_possible};
 use krb_accounts::Account;
+use krb_constants::error_codes;
+use krb_constants::types::AS_REQ_MSG_TYPE;
 use krb_kdc_requests::{Call, check_header, client_of, service_of};
 use krb_messages::messages::KdcReq;
 use krb_pkinit::Pkinit;
 use krb_types::Refusal;
-use krb_types::constants::error_codes;
-use krb_types::constants::types::AS_REQ_MSG_TYPE;
 use std::alloc::Global;
 
 /// The reply that grants a first ticket, or the code of the error, by the table of the realm that is called, of these

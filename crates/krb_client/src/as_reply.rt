@@ -6,10 +6,10 @@ use crate::read::{open_as_part, open_tgs_part, read_as_reply, read_error_code};
 use crate::taking::is_of_type;
 use crate::{Client, Credential, Means, TakeRefusal};
 use krb_asked::AsAsked;
+use krb_constants::key_usages;
+use krb_constants::types::AS_REP_MSG_TYPE;
 use krb_crypto::Key;
 use krb_messages::messages::KdcRep;
-use krb_types::constants::key_usages;
-use krb_types::constants::types::AS_REP_MSG_TYPE;
 use std::alloc::Global;
 
 impl Client {
@@ -74,7 +74,7 @@ impl Client {
             drop(part);
             return taken;
         }
-        let usage = key_usages::AS_REP;
+        let usage = key_usages::AS_REP_ENC;
         let Some(part) = open_tgs_part(alloc, key, usage, sealed)? else {
             return Err(TakeRefusal::NotSealed);
         };

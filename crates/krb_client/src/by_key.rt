@@ -8,14 +8,14 @@ ghost use Rattle.krb_crypto.specs.Suites.{cipher_confounder_size};
 use crate::kdc_request::pa_data_of;
 use crate::{AskRefusal, Client, Means, TakeRefusal};
 use krb_asked::AsAsked;
+use krb_constants::key_usages;
+use krb_constants::padata_types::PA_ENC_TIMESTAMP;
 use krb_crypto::Key;
 use krb_encrypted_data::{confounder_at, sealed_data};
 use krb_messages::messages::{KdcRep, KdcReqBody};
 use krb_moments::Moment;
-use krb_types::constants::key_usages;
-use krb_types::constants::random_bytes::TIMESTAMP_CONFOUNDER;
-use krb_types::constants::types::PA_ENC_TIMESTAMP;
 use krb_types::data_types::{EncryptedData, PaData, PaEncTsEnc};
+use krb_types::random_bytes::TIMESTAMP_CONFOUNDER;
 use picky_asn1::date::GeneralizedTime;
 use picky_asn1::wrapper::{GeneralizedTimeAsn1, IntegerAsn1};
 use picky_asn1_der::{ExplicitContextTag, Optional, encoding_of};
@@ -83,7 +83,7 @@ fn sealed_time(
 {
     let second = moment.second();
     let plain = timestamp_bytes(alloc, second, moment.microsecond())?;
-    let usage = key_usages::PA_ENC_TIMESTAMP;
+    let usage = key_usages::AS_REQ_TIMESTAMP;
     let sealed = sealed_data(alloc, key, None, usage, confounder, &plain)?;
     Ok(sealed)
 }

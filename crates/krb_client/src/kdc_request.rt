@@ -5,10 +5,10 @@ ghost use Rattle.krb_client.specs.Requests.{pa_data_of, name_where, no_options, 
 
 use crate::Client;
 use crate::names::principal_name;
+use krb_constants::types::{KERBEROS_VERSION, NT_PRINCIPAL, NT_SRV_INST};
 use krb_messages::messages::{KdcReq, KdcReqBody};
-use krb_types::constants::random_bytes::NONCE;
-use krb_types::constants::types::{KERBEROS_VERSION, NT_PRINCIPAL, NT_SRV_INST};
 use krb_types::data_types::{KerberosFlags, PaData, PrincipalName};
+use krb_types::random_bytes::NONCE;
 use picky_asn1::date::GeneralizedTime;
 use picky_asn1::wrapper::{
     Asn1SequenceOf, BitStringAsn1, GeneralStringAsn1, GeneralizedTimeAsn1, IntegerAsn1,

@@ -9,12 +9,12 @@ ghost use Rattle.krb_client.specs.Messages.{IsErrorCode};
 ghost use Rattle.krb_client.specs.Taking.{IsTgsPart};
 
 use krb_asked::ApAsked;
+use krb_constants::key_usages;
 use krb_crypto::Key;
 use krb_encrypted_data::{open_sealed, read_whole};
 use krb_messages::messages::{
     ApRep, ApRepInner, AsRep, EncAsRepPart, EncKdcRepPart, EncTgsRepPart, KdcRep, KrbError, TgsRep,
 };
-use krb_types::constants::key_usages;
 use krb_types::data_types::{EncApRepPart, EncApRepPartInner, EncryptedData};
 use std::alloc::{AllocError, Global};
 
@@ -75,7 +75,7 @@ pub(crate) fn open_as_part(
 ) -> Result<Option<EncKdcRepPart>, AllocError>
     ensures { IfOk result (IsFound (IsAsPart key.now.suite key.now.bytes sealed.now)) }
 {
-    let opened: Option<EncAsRepPart> = open_sealed(alloc, key, key_usages::AS_REP, sealed)?;
+    let opened: Option<EncAsRepPart> = open_sealed(alloc, key, key_usages::AS_REP_ENC, sealed)?;
     match opened {
         Some(part) => Ok(Some(part.0)),
         None => Ok(None),
@@ -109,7 +109,12 @@ pub(crate) fn open_ap_part(
 ) -> Result<Option<EncApRepPartInner>, AllocError>
     ensures { IfOk result (IsFound (IsApPart asked.now sealed.now)) }
 {
-    let opened: Option<EncApRepPart> = open_sealed(alloc, asked.key(), key_usages::AP_REP, sealed)?;
+    let opened: Option<EncApRepPart> = open_sealed(
+        alloc,
+        asked.key(),
+        key_usages::AP_REP_ENC,
+        sealed,
+    )?;
     match opened {
         Some(part) => Ok(Some(part.0)),
         None => Ok(None),

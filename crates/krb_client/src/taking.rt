@@ -6,9 +6,9 @@ ghost use Rattle.krb_client.specs.Taking.{is_of_type, takes_part};
 
 use crate::{Client, Credential, TakeRefusal};
 use krb_asked::is_answer;
+use krb_constants::types::KERBEROS_VERSION;
 use krb_encrypted_data::key_of;
 use krb_messages::messages::{EncKdcRepPart, KdcRep};
-use krb_types::constants::types::KERBEROS_VERSION;
 use picky_asn1::is_number;
 use picky_asn1::wrapper::{GeneralStringAsn1, IntegerAsn1};
 

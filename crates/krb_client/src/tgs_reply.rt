@@ -6,9 +6,9 @@ use crate::read::{open_tgs_part, read_error_code, read_tgs_reply};
 use crate::taking::is_of_type;
 use crate::{Client, Credential, TakeRefusal};
 use krb_asked::TgsAsked;
+use krb_constants::key_usages;
+use krb_constants::types::TGS_REP_MSG_TYPE;
 use krb_messages::messages::KdcRep;
-use krb_types::constants::key_usages;
-use krb_types::constants::types::TGS_REP_MSG_TYPE;
 use std::alloc::Global;
 
 impl Client {
@@ -49,7 +49,7 @@ impl Client {
         if !is_of_type(TGS_REP_MSG_TYPE, &reply.pvno.0, &reply.msg_type.0) {
             return Err(TakeRefusal::Unreadable);
         }
-        let usage = key_usages::TGS_REP_SESSION_KEY;
+        let usage = key_usages::TGS_REP_ENC_SESSION_KEY;
         let sealed = &reply.enc_part.0;
         let Some(part) = open_tgs_part(alloc, asked.key(), usage, sealed)? else {
             return Err(TakeRefusal::NotSealed);

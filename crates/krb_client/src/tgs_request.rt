@@ -11,14 +11,15 @@ use crate::kdc_request::{kdc_request_of, nonce_of, pa_data_of};
 use crate::{AskRefusal, Client, Credential};
 use krb_accounts::{are_components, components_of};
 use krb_asked::TgsAsked;
+use krb_constants::key_usages;
+use krb_constants::padata_types::PA_TGS_REQ;
+use krb_constants::types::TGS_REQ_MSG_TYPE;
 use krb_crypto::Cipher;
 use krb_encrypted_data::confounder_at;
 use krb_messages::messages::{KdcReq, KdcReqBody};
 use krb_moments::Moment;
-use krb_types::constants::key_usages;
-use krb_types::constants::random_bytes::AUTHENTICATOR_CONFOUNDER;
-use krb_types::constants::types::{PA_TGS_REQ, TGS_REQ_MSG_TYPE};
 use krb_types::data_types::Checksum;
+use krb_types::random_bytes::AUTHENTICATOR_CONFOUNDER;
 use picky_asn1::date::GeneralizedTime;
 use picky_asn1::wrapper::{GeneralStringAsn1, IntegerAsn1, OctetStringAsn1};
 use picky_asn1_der::{ExplicitContextTag, encoding_of, tagged_encoding};
@@ -117,7 +118,7 @@ impl Client {
         let request = ap_request(
             alloc,
             credential,
-            key_usages::TGS_REQ_AUTHENTICATOR,
+            key_usages::TGS_REQ_PA_DATA_AP_REQ_AUTHENTICATOR,
             false,
             authenticator,
             confounder,
@@ -153,9 +154,11 @@ fn checksum_over(
 {
     let suite = Cipher::checksum_type(&credential.suite());
     let number = IntegerAsn1::from_u64(alloc, u64::from(u8::from(suite)))?;
-    let sum = credential
-        .key()
-        .checksum(alloc, key_usages::TGS_REQ_CHECKSUM, text)?;
+    let sum = credential.key().checksum(
+        alloc,
+        key_usages::TGS_REQ_PA_DATA_AP_REQ_AUTHENTICATOR_CKSUM,
+        text,
+    )?;
     Ok(Checksum {
         cksumtype: ExplicitContextTag(number),
         checksum: ExplicitContextTag(OctetStringAsn1::from(sum)),

@@ -1,4 +1,4 @@
-//! Codes of a KRB-ERROR (RFC 4120, section 7.5.9; RFC 4556, section 3.1.3) that no realm of this repository answers.
+//! Codes of a KRB-ERROR (RFC 4120, section 7.5.9; RFC 4556, section 3.1.3).
 
 /// No error.
 pub const KDC_ERR_NONE: u32 = 0;
@@ -9,17 +9,47 @@ pub const KDC_ERR_NAME_EXP: u32 = 1;
 /// The service's entry has expired.
 pub const KDC_ERR_SERVICE_EXP: u32 = 2;
 
+/// The protocol version isn't 5.
+pub const KDC_ERR_BAD_PVNO: u32 = 3;
+
 /// The client's key is under an old master key.
 pub const KDC_ERR_C_OLD_MAST_KVNO: u32 = 4;
 
 /// The service's key is under an old master key.
 pub const KDC_ERR_S_OLD_MAST_KVNO: u32 = 5;
 
+/// The client isn't known.
+pub const KDC_ERR_C_PRINCIPAL_UNKNOWN: u32 = 6;
+
+/// The service isn't known.
+pub const KDC_ERR_S_PRINCIPAL_UNKNOWN: u32 = 7;
+
 /// A name has several entries.
 pub const KDC_ERR_PRINCIPAL_NOT_UNIQUE: u32 = 8;
 
 /// The client or the service has a null key.
 pub const KDC_ERR_NULL_KEY: u32 = 9;
+
+/// A ticket can't be postdated.
+pub const KDC_ERR_CANNOT_POSTDATE: u32 = 10;
+
+/// The ticket would end where it starts, or earlier.
+pub const KDC_ERR_NEVER_VALID: u32 = 11;
+
+/// A request asks for what the realm doesn't grant.
+pub const KDC_ERR_POLICY: u32 = 12;
+
+/// An option isn't granted.
+pub const KDC_ERR_BADOPTION: u32 = 13;
+
+/// No suite that the request lists is at hand.
+pub const KDC_ERR_ETYPE_NOSUPP: u32 = 14;
+
+/// The checksum's type isn't known.
+pub const KDC_ERR_SUMTYPE_NOSUPP: u32 = 15;
+
+/// The preauthentication isn't supported.
+pub const KDC_ERR_PADATA_TYPE_NOSUPP: u32 = 16;
 
 /// The transited encoding has a type that is not supported.
 pub const KDC_ERR_TRTYPE_NOSUPP: u32 = 17;
@@ -42,6 +72,12 @@ pub const KDC_ERR_SERVICE_NOTYET: u32 = 22;
 /// The password has expired.
 pub const KDC_ERR_KEY_EXPIRED: u32 = 23;
 
+/// The preauthentication doesn't show that the client has its key.
+pub const KDC_ERR_PREAUTH_FAILED: u32 = 24;
+
+/// The client has to authenticate first.
+pub const KDC_ERR_PREAUTH_REQUIRED: u32 = 25;
+
 /// The service and the ticket do not match.
 pub const KDC_ERR_SERVER_NOMATCH: u32 = 26;
 
@@ -54,11 +90,47 @@ pub const KDC_ERR_PATH_NOT_ACCEPTED: u32 = 28;
 /// A service is not available.
 pub const KDC_ERR_SVC_UNAVAILABLE: u32 = 29;
 
+/// What is sealed doesn't open under the key.
+pub const KRB_AP_ERR_BAD_INTEGRITY: u32 = 31;
+
+/// The ticket has ended.
+pub const KRB_AP_ERR_TKT_EXPIRED: u32 = 32;
+
+/// The ticket isn't valid yet.
+pub const KRB_AP_ERR_TKT_NYV: u32 = 33;
+
+/// The request was admitted before.
+pub const KRB_AP_ERR_REPEAT: u32 = 34;
+
+/// The ticket is for another service.
+pub const KRB_AP_ERR_NOT_US: u32 = 35;
+
+/// The authenticator is another client's than the ticket.
+pub const KRB_AP_ERR_BADMATCH: u32 = 36;
+
+/// The clocks differ by more than the skew.
+pub const KRB_AP_ERR_SKEW: u32 = 37;
+
 /// The address is another one.
 pub const KRB_AP_ERR_BADADDR: u32 = 38;
 
+/// The protocol version of a ticket or an authenticator isn't 5.
+pub const KRB_AP_ERR_BADVERSION: u32 = 39;
+
+/// The message type isn't the request's.
+pub const KRB_AP_ERR_MSG_TYPE: u32 = 40;
+
+/// A message was modified.
+pub const KRB_AP_ERR_MODIFIED: u32 = 41;
+
 /// The message is out of order.
 pub const KRB_AP_ERR_BADORDER: u32 = 42;
+
+/// The ticket is under a key of another number.
+pub const KRB_AP_ERR_BADKEYVER: u32 = 44;
+
+/// The service has no key of the ticket's suite.
+pub const KRB_AP_ERR_NOKEY: u32 = 45;
 
 /// Mutual authentication failed.
 pub const KRB_AP_ERR_MUT_FAIL: u32 = 46;
@@ -66,14 +138,23 @@ pub const KRB_AP_ERR_MUT_FAIL: u32 = 46;
 /// The direction of the message is wrong.
 pub const KRB_AP_ERR_BADDIRECTION: u32 = 47;
 
+/// The service doesn't authenticate in this way.
+pub const KRB_AP_ERR_METHOD: u32 = 48;
+
 /// The sequence number is wrong.
 pub const KRB_AP_ERR_BADSEQ: u32 = 49;
+
+/// There is no checksum, or one of another key's suite.
+pub const KRB_AP_ERR_INAPP_CKSUM: u32 = 50;
 
 /// The service's policy refuses the path of the ticket.
 pub const KRB_AP_PATH_NOT_ACCEPTED: u32 = 51;
 
 /// The reply is too long for UDP; try again over TCP.
 pub const KRB_ERR_RESPONSE_TOO_BIG: u32 = 52;
+
+/// An error that has no code of its own.
+pub const KRB_ERR_GENERIC: u32 = 60;
 
 /// A field is too long for this program.
 pub const KRB_ERR_FIELD_TOOLONG: u32 = 61;
@@ -95,6 +176,9 @@ pub const KDC_ERR_CERTIFICATE_MISMATCH: u32 = 66;
 
 /// There is no ticket-granting ticket for user to user.
 pub const KRB_AP_ERR_NO_TGT: u32 = 67;
+
+/// The realm is another one.
+pub const KDC_ERR_WRONG_REALM: u32 = 68;
 
 /// The ticket is to be one of user to user.
 pub const KRB_AP_ERR_USER_TO_USER_REQUIRED: u32 = 69;

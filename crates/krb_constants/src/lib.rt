@@ -1,14 +1,17 @@
-//! Numbers of the standards that no realm, client or service of this repository needs, for those who read and write other
-//! messages.
+//! Numbers of the standards: each stands here once. Those of encryption types that are supported are `krb_crypto::CipherSuite`'s own.
 //!
-//! The numbers that they need stand in `krb_types`. `picky_krb` hands all of them on under the paths of the ported crate.
+//! `picky_krb` hands them on under the paths of the ported crate.
 #![tactic(auto)]
 
+pub mod ap_options;
 pub mod cksum_types;
 pub mod cred_ssp;
 pub mod error_codes;
 pub mod etypes;
 pub mod gss_api;
+pub mod kdc_options;
 pub mod key_usages;
 pub mod krb_priv;
+pub mod padata_types;
+pub mod ticket_flags;
 pub mod types;

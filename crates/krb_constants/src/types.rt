@@ -1,4 +1,25 @@
-//! Message types, application tags, types of names, of addresses and of data.
+//! The version, message types, which are application tags too, further application tags, types of names, of addresses and of data.
+
+/// The version of Kerberos, of messages, tickets and authenticators (RFC 4120, section 5.4.1).
+pub const KERBEROS_VERSION: u32 = 5;
+
+/// An AS-REQ (RFC 4120, section 5.10).
+pub const AS_REQ_MSG_TYPE: u8 = 10;
+
+/// An AS-REP (RFC 4120, section 5.10).
+pub const AS_REP_MSG_TYPE: u8 = 11;
+
+/// A TGS-REQ (RFC 4120, section 5.10).
+pub const TGS_REQ_MSG_TYPE: u8 = 12;
+
+/// A TGS-REP (RFC 4120, section 5.10).
+pub const TGS_REP_MSG_TYPE: u8 = 13;
+
+/// An AP-REQ (RFC 4120, section 5.10).
+pub const AP_REQ_MSG_TYPE: u8 = 14;
+
+/// An AP-REP (RFC 4120, section 5.10).
+pub const AP_REP_MSG_TYPE: u8 = 15;
 
 /// A request for a ticket-granting ticket of user to user (draft-swift-win2k-krb-user2user, section 4).
 pub const TGT_REQ_MSG_TYPE: u8 = 16;
@@ -6,11 +27,47 @@ pub const TGT_REQ_MSG_TYPE: u8 = 16;
 /// The reply to it (draft-swift-win2k-krb-user2user, section 4).
 pub const TGT_REP_MSG_TYPE: u8 = 17;
 
+/// A KRB-PRIV (RFC 4120, section 5.10).
+pub const KRB_PRIV: u8 = 21;
+
 /// A KRB-CRED (RFC 4120, section 5.10).
 pub const KRB_CRED_MSG_TYPE: u8 = 22;
 
+/// A KRB-ERROR (RFC 4120, section 5.10).
+pub const KRB_ERROR_MSG_TYPE: u8 = 30;
+
+/// A ticket (RFC 4120, section 5.10).
+pub const TICKET_TYPE: u8 = 1;
+
+/// An authenticator (RFC 4120, section 5.10).
+pub const AUTHENTICATOR_TYPE: u8 = 2;
+
+/// The sealed part of a ticket (RFC 4120, section 5.10).
+pub const ENC_TICKET_PART_TYPE: u8 = 3;
+
+/// The sealed part of an AS-REP (RFC 4120, section 5.10).
+pub const ENC_AS_REP_PART_TYPE: u8 = 25;
+
+/// The sealed part of a TGS-REP (RFC 4120, section 5.10).
+pub const ENC_TGS_REP_PART_TYPE: u8 = 26;
+
+/// The sealed part of an AP-REP (RFC 4120, section 5.10).
+pub const ENC_AP_REP_PART_TYPE: u8 = 27;
+
+/// The sealed part of a KRB-PRIV (RFC 4120, section 5.10).
+pub const KRB_PRIV_ENC_PART: u8 = 28;
+
+/// The sealed part of a KRB-CRED (RFC 4120, section 5.10).
+pub const ENC_KRB_CRED_PART_TYPE: u8 = 29;
+
 /// A name of no known type (RFC 4120, section 6.2).
 pub const NT_UNKNOWN: u8 = 0;
+
+/// The name of a principal (RFC 4120, section 6.2).
+pub const NT_PRINCIPAL: u8 = 1;
+
+/// The name of a service and its instance (RFC 4120, section 6.2).
+pub const NT_SRV_INST: u8 = 2;
 
 /// The name of a service and its host (RFC 4120, section 6.2).
 pub const NT_SRV_HST: u8 = 3;
@@ -53,9 +110,6 @@ pub const PA_PK_AS_REQ: [u8; 1] = [0x10];
 
 /// Data by public keys of a reply (RFC 4556, section 3.1.3).
 pub const PA_PK_AS_REP: [u8; 1] = [0x11];
-
-/// The sealed part of a KRB-CRED (RFC 4120, section 5.10).
-pub const ENC_KRB_CRED_PART_TYPE: u8 = 29;
 
 /// An address of IPv4 (RFC 4120, section 7.5.3).
 pub const IP_V4_ADDR_TYPE: u8 = 2;

@@ -3,6 +3,7 @@ use Rattle.asn1_der.specs.Tree.{Tree}
 use Rattle.asn1_der.specs.Tagged.{tagged_tree}
 use Rattle.krb_credentials.specs.declared.kdc_proxy_message.KdcProxyMessage.{KdcProxyMessage}
 use Rattle.krb_credentials.specs.contracts.kdc_proxy_message.KdcProxyMessageTagged.TheImpl as kdc_proxy_message_impl
+use Rattle.asn1_der.specs.Octets.{sequence_octet}
 
 abbrev pub kdc_proxy_message_tree : KdcProxyMessage → Tree
-kdc_proxy_message_tree = tagged_tree 48 kdc_proxy_message_impl.ghosts.row_tree kdc_proxy_message_impl.ghosts.row_of
+kdc_proxy_message_tree = tagged_tree sequence_octet kdc_proxy_message_impl.ghosts.row_tree kdc_proxy_message_impl.ghosts.row_of

@@ -1,5 +1,8 @@
 //! The sealed part of a message that hands tickets on.
+ghost use Rattle.asn1_der.specs.Octets.{sequence_octet};
+
 use crate::krb_cred_info::KrbCredInfo;
+use asn1_der::octets::SEQUENCE;
 use devices::{Sink, Source};
 use krb_constants::types::ENC_KRB_CRED_PART_TYPE;
 use krb_types::data_types::{HostAddress, KerberosTime, Microseconds};
@@ -68,9 +71,9 @@ impl Tagged for EncKrbCredPartInner {
 
     type Row = EncKrbCredPartInnerRow;
 
-    const FIRST: u8 = 48;
+    const FIRST: u8 = SEQUENCE;
 
-    ghost FIRST = { 48 };
+    ghost FIRST = { sequence_octet };
 
     ghost row_tree = { sequence ⟦<EncKrbCredPartInnerRow as Fields>⟧.trees };
 

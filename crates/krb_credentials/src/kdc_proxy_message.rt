@@ -2,7 +2,9 @@
 ghost use Rattle.std.specs.Prelude.{◌≡◌, None, IfOk, MatchResult};
 ghost use Rattle.asn1_codec.specs.Reads.{Reads};
 ghost use Rattle.asn1_der.specs.Tree.{der};
+ghost use Rattle.asn1_der.specs.Octets.{sequence_octet};
 
+use asn1_der::octets::SEQUENCE;
 use devices::{Sink, Source};
 use krb_types::data_types::KerberosStringAsn1;
 use picky_asn1::wrapper::{IntegerAsn1, OctetStringAsn1};
@@ -84,9 +86,9 @@ impl Tagged for KdcProxyMessage {
 
     type Row = KdcProxyMessageRow;
 
-    const FIRST: u8 = 48;
+    const FIRST: u8 = SEQUENCE;
 
-    ghost FIRST = { 48 };
+    ghost FIRST = { sequence_octet };
 
     ghost row_tree = { sequence ⟦<KdcProxyMessageRow as Fields>⟧.trees };
 

@@ -1,4 +1,7 @@
 //! Whether a PAC is to be included.
+ghost use Rattle.asn1_der.specs.Octets.{sequence_octet};
+
+use asn1_der::octets::SEQUENCE;
 use devices::{Sink, Source};
 use picky_asn1_der::{
     Asn1DerError, Deserializer, ExplicitContextTag0, Fields, Row1, Serializer, Tagged, fields_of,
@@ -26,9 +29,9 @@ impl Tagged for KerbPaPacRequest {
 
     type Row = KerbPaPacRequestRow;
 
-    const FIRST: u8 = 48;
+    const FIRST: u8 = SEQUENCE;
 
-    ghost FIRST = { 48 };
+    ghost FIRST = { sequence_octet };
 
     ghost row_tree = { sequence ⟦<KerbPaPacRequestRow as Fields>⟧.trees };
 

@@ -1,4 +1,7 @@
 //! Messages that hand tickets on.
+ghost use Rattle.asn1_der.specs.Octets.{sequence_octet};
+
+use asn1_der::octets::SEQUENCE;
 use devices::{Sink, Source};
 use krb_constants::types::KRB_CRED_MSG_TYPE;
 use krb_types::data_types::{EncryptedData, Ticket};
@@ -57,9 +60,9 @@ impl Tagged for KrbCredInner {
 
     type Row = KrbCredInnerRow;
 
-    const FIRST: u8 = 48;
+    const FIRST: u8 = SEQUENCE;
 
-    ghost FIRST = { 48 };
+    ghost FIRST = { sequence_octet };
 
     ghost row_tree = { sequence ⟦<KrbCredInnerRow as Fields>⟧.trees };
 

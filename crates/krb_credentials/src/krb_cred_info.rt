@@ -1,4 +1,7 @@
 //! What is told of a ticket that is handed on.
+ghost use Rattle.asn1_der.specs.Octets.{sequence_octet};
+
+use asn1_der::octets::SEQUENCE;
 use devices::{Sink, Source};
 use krb_types::data_types::{
     EncryptionKey, HostAddresses, KerberosFlags, KerberosTime, PrincipalName, Realm,
@@ -99,9 +102,9 @@ impl Tagged for KrbCredInfo {
 
     type Row = KrbCredInfoRow;
 
-    const FIRST: u8 = 48;
+    const FIRST: u8 = SEQUENCE;
 
-    ghost FIRST = { 48 };
+    ghost FIRST = { sequence_octet };
 
     ghost row_tree = { sequence ⟦<KrbCredInfoRow as Fields>⟧.trees };
 

@@ -1,4 +1,7 @@
 //! Options of PACs.
+ghost use Rattle.asn1_der.specs.Octets.{sequence_octet};
+
+use asn1_der::octets::SEQUENCE;
 use devices::{Sink, Source};
 use krb_types::data_types::KerberosFlags;
 use picky_asn1_der::{
@@ -27,9 +30,9 @@ impl Tagged for PaPacOptions {
 
     type Row = PaPacOptionsRow;
 
-    const FIRST: u8 = 48;
+    const FIRST: u8 = SEQUENCE;
 
-    ghost FIRST = { 48 };
+    ghost FIRST = { sequence_octet };
 
     ghost row_tree = { sequence ⟦<PaPacOptionsRow as Fields>⟧.trees };
 

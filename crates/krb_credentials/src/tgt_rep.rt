@@ -1,4 +1,7 @@
 //! Replies with a ticket of user to user.
+ghost use Rattle.asn1_der.specs.Octets.{sequence_octet};
+
+use asn1_der::octets::SEQUENCE;
 use devices::{Sink, Source};
 use krb_types::data_types::Ticket;
 use picky_asn1::wrapper::IntegerAsn1;
@@ -38,9 +41,9 @@ impl Tagged for TgtRep {
 
     type Row = TgtRepRow;
 
-    const FIRST: u8 = 48;
+    const FIRST: u8 = SEQUENCE;
 
-    ghost FIRST = { 48 };
+    ghost FIRST = { sequence_octet };
 
     ghost row_tree = { sequence ⟦<TgtRepRow as Fields>⟧.trees };
 

@@ -1,4 +1,7 @@
 //! Requests for a ticket of user to user.
+ghost use Rattle.asn1_der.specs.Octets.{sequence_octet};
+
+use asn1_der::octets::SEQUENCE;
 use devices::{Sink, Source};
 use krb_types::data_types::PrincipalName;
 use picky_asn1::wrapper::IntegerAsn1;
@@ -39,9 +42,9 @@ impl Tagged for TgtReq {
 
     type Row = TgtReqRow;
 
-    const FIRST: u8 = 48;
+    const FIRST: u8 = SEQUENCE;
 
-    ghost FIRST = { 48 };
+    ghost FIRST = { sequence_octet };
 
     ghost row_tree = { sequence ⟦<TgtReqRow as Fields>⟧.trees };
 

@@ -13,8 +13,8 @@ use Rattle.krb_types.specs.Names.{components, is_same_realm}
 use Rattle.krb_types.specs.declared.data_types.pa_data.PaData.{PaData}
 use Rattle.krb_types.specs.declared.data_types.principal_name.PrincipalName.{PrincipalName}
 use Rattle.krb_types.specs.Refusals.{Code}
-use Rattle.krb_types.specs.declared.constants.error_codes.TheConstants.{KDC_ERR_BAD_PVNO, KDC_ERR_CANNOT_POSTDATE, KDC_ERR_NEVER_VALID, KDC_ERR_BADOPTION, KRB_AP_ERR_MSG_TYPE, KDC_ERR_WRONG_REALM}
-use Rattle.krb_types.specs.declared.constants.kdc_options.TheConstants.{ENC_TKT_IN_SKEY, FORWARDED, POSTDATED, PROXY, RENEW, VALIDATE}
+use Rattle.krb_constants.specs.declared.error_codes.TheConstants.{KDC_ERR_BAD_PVNO, KDC_ERR_CANNOT_POSTDATE, KDC_ERR_NEVER_VALID, KDC_ERR_BADOPTION, KRB_AP_ERR_MSG_TYPE, KDC_ERR_WRONG_REALM}
+use Rattle.krb_constants.specs.declared.kdc_options.TheConstants.{ENC_TKT_IN_SKEY, FORWARDED, POSTDATED, PROXY, RENEW, VALIDATE}
 use Rattle.krb_messages.specs.declared.messages.kdc_req.KdcReq.{KdcReq}
 use Rattle.krb_messages.specs.declared.messages.kdc_req_body.KdcReqBody.{KdcReqBody}
 use Rattle.krb_messages.specs.Trees.{kdc_req_body_tree}

@@ -9,14 +9,14 @@ ghost use Rattle.picky_asn1.specs.GeneralizedTime.{seconds_of};
 
 use crate::span::Span;
 use krb_accounts::{Account, Accounts, Settings};
+use krb_constants::types::KERBEROS_VERSION;
+use krb_constants::{error_codes, kdc_options};
 use krb_crypto::CipherSuite;
 use krb_messages::messages::{KdcReq, KdcReqBody};
 use krb_moments::Moment;
 use krb_tickets::{end_of, key_at, start_of};
-use krb_types::constants::random_bytes::SESSION_SEED;
-use krb_types::constants::types::KERBEROS_VERSION;
-use krb_types::constants::{error_codes, kdc_options};
 use krb_types::data_types::{PaData, PrincipalName};
+use krb_types::random_bytes::SESSION_SEED;
 use krb_types::{Refusal, is_same_realm};
 use picky_asn1::date::GeneralizedTime;
 use picky_asn1::is_number;

@@ -5,7 +5,7 @@ use Rattle.krb_moments.specs.Skew.{is_far}
 use Rattle.krb_moments.specs.Units.{Micros}
 use Rattle.krb_types.specs.RandomBytes.{Random}
 use Rattle.krb_types.specs.Refusals.{Code}
-use Rattle.krb_types.specs.declared.constants.error_codes.TheConstants.{KRB_AP_ERR_REPEAT, KRB_AP_ERR_SKEW}
+use Rattle.krb_constants.specs.declared.error_codes.TheConstants.{KRB_AP_ERR_REPEAT, KRB_AP_ERR_SKEW}
 use Rattle.krb_messages.specs.declared.messages.ap_req.ApReqInner.{ApReqInner}
 use Rattle.krb_messages.specs.Messages.{IsApReq, sole_ap_req}
 use Rattle.decision_tables.specs.Tables.{Table, and_then, as_made, done, make, refuse}

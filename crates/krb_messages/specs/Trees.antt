@@ -17,45 +17,46 @@ use Rattle.krb_messages.specs.contracts.messages.kdc_rep.KdcRepTagged.TheImpl as
 use Rattle.krb_messages.specs.contracts.messages.kdc_req.KdcReqTagged.TheImpl as kdc_req_impl
 use Rattle.krb_messages.specs.contracts.messages.kdc_req_body.KdcReqBodyTagged.TheImpl as kdc_req_body_impl
 use Rattle.krb_messages.specs.contracts.messages.krb_error.KrbErrorInnerTagged.TheImpl as krb_error_impl
+use Rattle.asn1_der.specs.Octets.{sequence_octet}
 
 abbrev pub ap_rep_inner_tree : ApRepInner → Tree
-ap_rep_inner_tree = tagged_tree 48 ap_rep_impl.ghosts.row_tree ap_rep_impl.ghosts.row_of
+ap_rep_inner_tree = tagged_tree sequence_octet ap_rep_impl.ghosts.row_tree ap_rep_impl.ghosts.row_of
 
 pub ap_rep_inner-injective : IsInjective ap_rep_inner_tree
 ap_rep_inner-injective = tagged-injective 48 ap_rep_impl.ghosts.row_tree ap_rep_impl.ghosts.row_laws ap_rep_impl.ghosts.row_of ap_rep_impl.ghosts.one_row
 
 abbrev pub ap_req_inner_tree : ApReqInner → Tree
-ap_req_inner_tree = tagged_tree 48 ap_req_impl.ghosts.row_tree ap_req_impl.ghosts.row_of
+ap_req_inner_tree = tagged_tree sequence_octet ap_req_impl.ghosts.row_tree ap_req_impl.ghosts.row_of
 
 pub ap_req_inner-injective : IsInjective ap_req_inner_tree
 ap_req_inner-injective = tagged-injective 48 ap_req_impl.ghosts.row_tree ap_req_impl.ghosts.row_laws ap_req_impl.ghosts.row_of ap_req_impl.ghosts.one_row
 
 abbrev pub enc_kdc_rep_part_inner_tree : EncKdcRepPart → Tree
-enc_kdc_rep_part_inner_tree = tagged_tree 48 enc_kdc_rep_part_impl.ghosts.row_tree enc_kdc_rep_part_impl.ghosts.row_of
+enc_kdc_rep_part_inner_tree = tagged_tree sequence_octet enc_kdc_rep_part_impl.ghosts.row_tree enc_kdc_rep_part_impl.ghosts.row_of
 
 pub enc_kdc_rep_part_inner-injective : IsInjective enc_kdc_rep_part_inner_tree
 enc_kdc_rep_part_inner-injective = tagged-injective 48 enc_kdc_rep_part_impl.ghosts.row_tree enc_kdc_rep_part_impl.ghosts.row_laws enc_kdc_rep_part_impl.ghosts.row_of enc_kdc_rep_part_impl.ghosts.one_row
 
 abbrev pub kdc_rep_inner_tree : KdcRep → Tree
-kdc_rep_inner_tree = tagged_tree 48 kdc_rep_impl.ghosts.row_tree kdc_rep_impl.ghosts.row_of
+kdc_rep_inner_tree = tagged_tree sequence_octet kdc_rep_impl.ghosts.row_tree kdc_rep_impl.ghosts.row_of
 
 pub kdc_rep_inner-injective : IsInjective kdc_rep_inner_tree
 kdc_rep_inner-injective = tagged-injective 48 kdc_rep_impl.ghosts.row_tree kdc_rep_impl.ghosts.row_laws kdc_rep_impl.ghosts.row_of kdc_rep_impl.ghosts.one_row
 
 abbrev pub kdc_req_inner_tree : KdcReq → Tree
-kdc_req_inner_tree = tagged_tree 48 kdc_req_impl.ghosts.row_tree kdc_req_impl.ghosts.row_of
+kdc_req_inner_tree = tagged_tree sequence_octet kdc_req_impl.ghosts.row_tree kdc_req_impl.ghosts.row_of
 
 pub kdc_req_inner-injective : IsInjective kdc_req_inner_tree
 kdc_req_inner-injective = tagged-injective 48 kdc_req_impl.ghosts.row_tree kdc_req_impl.ghosts.row_laws kdc_req_impl.ghosts.row_of kdc_req_impl.ghosts.one_row
 
 abbrev pub kdc_req_body_tree : KdcReqBody → Tree
-kdc_req_body_tree = tagged_tree 48 kdc_req_body_impl.ghosts.row_tree kdc_req_body_impl.ghosts.row_of
+kdc_req_body_tree = tagged_tree sequence_octet kdc_req_body_impl.ghosts.row_tree kdc_req_body_impl.ghosts.row_of
 
 pub kdc_req_body-injective : IsInjective kdc_req_body_tree
 kdc_req_body-injective = tagged-injective 48 kdc_req_body_impl.ghosts.row_tree kdc_req_body_impl.ghosts.row_laws kdc_req_body_impl.ghosts.row_of kdc_req_body_impl.ghosts.one_row
 
 abbrev pub krb_error_inner_tree : KrbErrorInner → Tree
-krb_error_inner_tree = tagged_tree 48 krb_error_impl.ghosts.row_tree krb_error_impl.ghosts.row_of
+krb_error_inner_tree = tagged_tree sequence_octet krb_error_impl.ghosts.row_tree krb_error_impl.ghosts.row_of
 
 pub krb_error_inner-injective : IsInjective krb_error_inner_tree
 krb_error_inner-injective = tagged-injective 48 krb_error_impl.ghosts.row_tree krb_error_impl.ghosts.row_laws krb_error_impl.ghosts.row_of krb_error_impl.ghosts.one_row

@@ -13,6 +13,7 @@ use Rattle.krb_accounts.specs.Account.{AccountRecord}
 use Rattle.krb_types.specs.declared.data_types.etype_info2.EtypeInfo2Entry.{EtypeInfo2Entry}
 use Rattle.krb_types.specs.declared.data_types.pa_data.PaData.{PaData}
 use Rattle.krb_types.specs.Trees as held
+use Rattle.asn1_der.specs.Octets.{sequence_octet}
 
 -- how a key is made of a password: the suite, and the salt if there is one
 abbrev pub key_entry : CipherSuite → Option Bytes → EtypeInfo2Entry
@@ -24,7 +25,7 @@ key_entry suite salt = record {
 
 -- ETYPE-INFO2, a list of one entry
 abbrev pub key_info_tree : List EtypeInfo2Entry → Tree
-key_info_tree entries = constructed 48 (trees_of held.etype_info2_entry_tree entries)
+key_info_tree entries = constructed sequence_octet (trees_of held.etype_info2_entry_tree entries)
 
 -- a salt that is no GeneralString has no tree, so that nothing is written of it
 unfoldable pub key_info_bytes : AccountRecord → Bytes
@@ -50,7 +51,7 @@ method_data by_certificate account = method_list by_certificate (pa_data_of 19 (
 
 -- METHOD-DATA
 abbrev pub method_data_tree : List PaData → Tree
-method_data_tree methods = constructed 48 (trees_of held.pa_data_tree methods)
+method_data_tree methods = constructed sequence_octet (trees_of held.pa_data_tree methods)
 
 unfoldable pub method_data_bytes : Bool → AccountRecord → Bytes
 method_data_bytes by_certificate account = der (method_data_tree (method_data by_certificate account))

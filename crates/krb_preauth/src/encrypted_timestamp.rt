@@ -4,9 +4,9 @@ ghost use Rattle.krb_encrypted_data.specs.Found.{IsFound};
 ghost use Rattle.krb_preauth.specs.EncryptedTimestamps.{IsEncryptedTimestamp, moment_of};
 
 use krb_accounts::Account;
+use krb_constants::key_usages;
 use krb_encrypted_data::{open_sealed, read_whole};
 use krb_moments::{Moment, moment_at};
-use krb_types::constants::key_usages;
 use krb_types::data_types::{EncryptedData, PaEncTsEnc};
 use std::alloc::{AllocError, Global};
 
@@ -22,7 +22,7 @@ pub fn open_encrypted_timestamp(
     let Some(sealed) = read else {
         return Ok(None);
     };
-    let timestamp = open_sealed(alloc, account.key(), key_usages::PA_ENC_TIMESTAMP, &sealed);
+    let timestamp = open_sealed(alloc, account.key(), key_usages::AS_REQ_TIMESTAMP, &sealed);
     drop(sealed);
     timestamp
 }

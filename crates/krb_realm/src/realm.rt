@@ -20,11 +20,11 @@ use key_functions::KeyFunctions;
 use krb_accounts::{
     Account, Accounts, RealmRefusal, are_components, is_realm_name, password_salt, realm_name_of,
 };
+use krb_constants::types::{AS_REQ_MSG_TYPE, TGS_REQ_MSG_TYPE};
 use krb_crypto::CipherSuite;
 use krb_frames::AnswerRefusal;
 use krb_moments::Moment;
 use krb_replies::{Call, as_reply, krbtgt_of, read_as_req, read_tgs_req, tgs_reply};
-use krb_types::constants::types::{AS_REQ_MSG_TYPE, TGS_REQ_MSG_TYPE};
 use picky_asn1::wrapper::GeneralStringAsn1;
 use pkinit_requests::RealmPkinit;
 use std::alloc::Global;

@@ -5,7 +5,7 @@ use Rattle.picky_asn1.specs.Bytes.{Bytes}
 use Rattle.krb_messages.specs.declared.messages.kdc_req.KdcReq.{KdcReq}
 use Rattle.krb_types.specs.declared.data_types.principal_name.PrincipalName.{PrincipalName}
 use Rattle.krb_types.specs.Refusals.{Code}
-use Rattle.krb_types.specs.declared.constants.error_codes.TheConstants.{KDC_ERR_PREAUTH_REQUIRED}
+use Rattle.krb_constants.specs.declared.error_codes.TheConstants.{KDC_ERR_PREAUTH_REQUIRED}
 use Rattle.krb_accounts.specs.Account.{AccountRecord}
 use Rattle.krb_pkinit.specs.Rows.{PkinitRows}
 use Rattle.decision_tables.specs.Tables.{Table, done, ask, make}

@@ -17,12 +17,12 @@ use crate::names::ticket_service;
 use crate::told::Told;
 use krb_accounts::Account;
 use krb_as::{judge_as, method_data};
+use krb_constants::error_codes;
 use krb_kdc_requests::{Call, account_of, client_of, service_of};
 use krb_messages::messages::KdcReq;
 use krb_pkinit::Pkinit;
 use krb_tgs::judge_tgs;
 use krb_types::Refusal;
-use krb_types::constants::error_codes;
 use krb_types::data_types::PrincipalName;
 use std::alloc::{AllocError, Global};
 

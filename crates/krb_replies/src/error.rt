@@ -4,11 +4,13 @@ ghost use Rattle.std.specs.Option.{option_map};
 ghost use Rattle.asn1_leaves.specs.declared.date.GeneralizedTime.{GeneralizedTime};
 ghost use Rattle.krb_moments.specs.SecondOf.{IsSecondOf};
 ghost use Rattle.krb_replies.specs.Errors.{error_bytes};
+ghost use Rattle.asn1_der.specs.Octets.{sequence_octet};
 
 use crate::told::Told;
+use asn1_der::octets::SEQUENCE;
 use devices::Sink;
+use krb_constants::types::{KERBEROS_VERSION, KRB_ERROR_MSG_TYPE};
 use krb_moments::Moment;
-use krb_types::constants::types::{KERBEROS_VERSION, KRB_ERROR_MSG_TYPE};
 use krb_types::data_types::{KerberosTime, Microseconds, PrincipalName, Realm};
 use picky_asn1::wrapper::{GeneralStringAsn1, GeneralizedTimeAsn1, IntegerAsn1, OctetStringAsn1};
 use picky_asn1_der::{
@@ -64,9 +66,9 @@ impl<'a> Serialize for LentError<'a> {
 
     ghost tree = { krb_error_inner_tree };
 
-    ghost firsts = { only 48 };
+    ghost firsts = { only sequence_octet };
 
-    ghost begins = { λ value. krb_error_impl.ghosts.row_laws.begins 48 (krb_error_impl.ghosts.row_of value) };
+    ghost begins = { λ value. krb_error_impl.ghosts.row_laws.begins sequence_octet (krb_error_impl.ghosts.row_of value) };
 
     ghost injective = { krb_error_inner-injective };
 
@@ -74,7 +76,7 @@ impl<'a> Serialize for LentError<'a> {
         let fields = fields_of![self;
             pvno, msg_type, stime, susec, error_code, realm, sname, e_data
         ];
-        to.list(48, &fields)
+        to.list(SEQUENCE, &fields)
     }
 }
 

@@ -6,13 +6,13 @@ ghost use Rattle.krb_service.specs.ApReply.{IsReplyUnder, ap_rep_of, ap_rep_part
 ghost use Rattle.krb_types.specs.RandomBytes.{ap_reply_confounder};
 ghost use Rattle.krb_messages.specs.Messages.{ap_rep_tree, enc_ap_rep_part_tree};
 
+use krb_constants::key_usages;
+use krb_constants::types::{AP_REP_MSG_TYPE, KERBEROS_VERSION};
 use krb_crypto::Key;
 use krb_encrypted_data::{confounder_at, sealed_data};
 use krb_messages::messages::{ApRep, ApRepInner};
-use krb_types::constants::key_usages;
-use krb_types::constants::random_bytes::AP_REPLY_CONFOUNDER;
-use krb_types::constants::types::{AP_REP_MSG_TYPE, KERBEROS_VERSION};
 use krb_types::data_types::{AuthenticatorInner, EncApRepPart, EncApRepPartInner, EncryptedData};
+use krb_types::random_bytes::AP_REPLY_CONFOUNDER;
 use picky_asn1::wrapper::{IntegerAsn1, OctetStringAsn1};
 use picky_asn1_der::{ApplicationTag, ExplicitContextTag, Optional, encoding_of};
 use results::both;
@@ -31,7 +31,7 @@ pub(crate) fn ap_reply(
 {
     let plain = part_bytes(alloc, authenticator)?;
     let confounder = confounder_at(key.suite(), words, AP_REPLY_CONFOUNDER);
-    let part = sealed_data(alloc, key, None, key_usages::AP_REP, confounder, &plain)?;
+    let part = sealed_data(alloc, key, None, key_usages::AP_REP_ENC, confounder, &plain)?;
     let bytes = reply_bytes(alloc, part)?;
     Ok(bytes)
 }

@@ -22,8 +22,8 @@ use Rattle.krb_types.specs.declared.data_types.encryption_key.EncryptionKey.{Enc
 use Rattle.krb_types.specs.declared.data_types.pa_data.PaData.{PaData}
 use Rattle.krb_types.specs.declared.data_types.principal_name.PrincipalName.{PrincipalName}
 use Rattle.krb_types.specs.Refusals.{Code}
-use Rattle.krb_types.specs.declared.constants.error_codes.TheConstants.{KDC_ERR_C_PRINCIPAL_UNKNOWN, KDC_ERR_S_PRINCIPAL_UNKNOWN, KDC_ERR_POLICY, KDC_ERR_ETYPE_NOSUPP, KDC_ERR_SUMTYPE_NOSUPP, KDC_ERR_PADATA_TYPE_NOSUPP, KRB_AP_ERR_BAD_INTEGRITY, KRB_AP_ERR_SKEW, KRB_AP_ERR_MODIFIED, KRB_AP_ERR_INAPP_CKSUM, KDC_ERR_WRONG_REALM}
-use Rattle.krb_types.specs.declared.constants.ticket_flags.TheConstants.{PRE_AUTHENT}
+use Rattle.krb_constants.specs.declared.error_codes.TheConstants.{KDC_ERR_C_PRINCIPAL_UNKNOWN, KDC_ERR_S_PRINCIPAL_UNKNOWN, KDC_ERR_POLICY, KDC_ERR_ETYPE_NOSUPP, KDC_ERR_SUMTYPE_NOSUPP, KDC_ERR_PADATA_TYPE_NOSUPP, KRB_AP_ERR_BAD_INTEGRITY, KRB_AP_ERR_SKEW, KRB_AP_ERR_MODIFIED, KRB_AP_ERR_INAPP_CKSUM, KDC_ERR_WRONG_REALM}
+use Rattle.krb_constants.specs.declared.ticket_flags.TheConstants.{PRE_AUTHENT}
 use Rattle.krb_encrypted_data.specs.Keys.{suite_of}
 use Rattle.krb_messages.specs.declared.messages.ap_req.ApReqInner.{ApReqInner}
 use Rattle.krb_messages.specs.declared.messages.kdc_req.KdcReq.{KdcReq}

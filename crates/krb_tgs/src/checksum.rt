@@ -6,10 +6,10 @@ ghost use Rattle.krb_kdc_requests.specs.Requests.{body_bytes};
 ghost use Rattle.krb_tgs.specs.TgsTable.{checksum_in, covered, is_known_checksum, is_of_body};
 ghost use Rattle.krb_types.specs.Refusals.{IsJudged};
 
+use krb_constants::{error_codes, key_usages};
 use krb_crypto::{ChecksumSuite, Cipher, Key};
 use krb_messages::messages::KdcReqBody;
 use krb_types::Refusal;
-use krb_types::constants::{error_codes, key_usages};
 use krb_types::data_types::{AuthenticatorInner, Checksum};
 use picky_asn1::is_number;
 use picky_asn1::wrapper::IntegerAsn1;
@@ -70,7 +70,11 @@ fn is_of_body(
     ensures { IfOk result (λ is. is ≡ is_of_body (cipher_checksum key.now.suite) key.now.bytes body.now checksum.now) }
 {
     let bytes = body_bytes(alloc, body)?;
-    let sum = key.checksum(alloc, key_usages::TGS_REQ_CHECKSUM, &bytes)?;
+    let sum = key.checksum(
+        alloc,
+        key_usages::TGS_REQ_PA_DATA_AP_REQ_AUTHENTICATOR_CKSUM,
+        &bytes,
+    )?;
     Ok(checksum.checksum.0.as_bytes() == sum.as_slice())
 }
 

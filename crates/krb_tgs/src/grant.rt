@@ -11,13 +11,13 @@ ghost use Rattle.krb_tgs.specs.TgsTable.{first_known, first_number, further, fur
 use krb_accounts::Account;
 use krb_ap_requests::Authenticated;
 use krb_as::ticket_reply;
+use krb_constants::{error_codes, ticket_flags};
 use krb_crypto::{CipherSuite, Key};
 use krb_encrypted_data::key_of;
 use krb_kdc_requests::{Call, Span, lasting, session_key};
 use krb_messages::messages::KdcReqBody;
 use krb_tickets::{Grant, ReplyKey, TicketFlags};
 use krb_types::Refusal;
-use krb_types::constants::{error_codes, ticket_flags};
 use krb_types::data_types::{AuthenticatorInner, EncTicketPartInner, EncryptionKey, PrincipalName};
 use picky_asn1::is_number;
 use picky_asn1::wrapper::IntegerAsn1;

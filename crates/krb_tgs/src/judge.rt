@@ -11,11 +11,12 @@ use krb_ap_requests::{
     Authenticated, check_authenticator, check_fields, check_times, open_ticket, read_ap_req,
 };
 use krb_as::krbtgt_of;
+use krb_constants::padata_types::PA_TGS_REQ;
+use krb_constants::types::TGS_REQ_MSG_TYPE;
+use krb_constants::{error_codes, key_usages};
 use krb_kdc_requests::{Call, check_header};
 use krb_messages::messages::{ApReqInner, KdcReq};
 use krb_preauth::first_of;
-use krb_types::constants::types::{PA_TGS_REQ, TGS_REQ_MSG_TYPE};
-use krb_types::constants::{error_codes, key_usages};
 use krb_types::data_types::{EncTicketPartInner, PaData};
 use krb_types::{Refusal, is_same_realm};
 use picky_asn1::wrapper::GeneralStringAsn1;
@@ -97,7 +98,7 @@ pub(crate) fn open_shown(
 {
     let shown = check_authenticator(
         alloc,
-        key_usages::TGS_REQ_AUTHENTICATOR,
+        key_usages::TGS_REQ_PA_DATA_AP_REQ_AUTHENTICATOR,
         part,
         &ap_req.authenticator.0,
     )?;

@@ -6,10 +6,10 @@ ghost use Rattle.krb_tickets.specs.Parts.{ticket_of, ticket_part};
 
 use crate::parts::ticket_part;
 use krb_accounts::Account;
+use krb_constants::key_usages;
+use krb_constants::types::{ENC_TICKET_PART_TYPE, KERBEROS_VERSION};
 use krb_crypto::CipherSuite;
 use krb_encrypted_data::sealed_data;
-use krb_types::constants::key_usages;
-use krb_types::constants::types::{ENC_TICKET_PART_TYPE, KERBEROS_VERSION};
 use krb_types::data_types::{EncTicketPartInner, EncryptedData, PrincipalName, TicketInner};
 use picky_asn1::date::GeneralizedTime;
 use picky_asn1::wrapper::{GeneralStringAsn1, IntegerAsn1, OctetStringAsn1};
@@ -64,7 +64,7 @@ pub fn sealed_ticket(
     let part = ticket_part(alloc, grant)?;
     let plain = ticket_part_bytes(alloc, part)?;
     let kvno = Some(service.kvno());
-    let usage = key_usages::TICKET;
+    let usage = key_usages::TICKET_REP;
     let sealed = sealed_data(alloc, service.key(), kvno, usage, confounder, &plain)?;
     Ok(sealed)
 }

@@ -7,7 +7,7 @@ use crate::confounder_at;
 use crate::grant::{Grant, sealed_ticket};
 use crate::reply::{ReplyKey, reply_bytes, sealed_reply};
 use krb_accounts::Account;
-use krb_types::constants::random_bytes::{REPLY_CONFOUNDER, TICKET_CONFOUNDER};
+use krb_types::random_bytes::{REPLY_CONFOUNDER, TICKET_CONFOUNDER};
 use std::alloc::{AllocError, Global};
 
 /// The reply with the ticket (RFC 4120, section 5.4.2): the ticket's part under the service's key, with its kvno, and the

@@ -9,15 +9,15 @@ ghost use Rattle.krb_tickets.specs.ReplyKeys.{reply_key_of};
 use crate::grant::{Grant, ticket_of};
 use crate::parts::reply_part;
 use krb_accounts::Account;
+use krb_constants::key_usages;
+use krb_constants::types::{
+    AS_REP_MSG_TYPE, ENC_AS_REP_PART_TYPE, ENC_TGS_REP_PART_TYPE, KERBEROS_VERSION,
+    TGS_REP_MSG_TYPE,
+};
 use krb_crypto::Key;
 use krb_encrypted_data::sealed_data;
 use krb_messages::messages::{EncKdcRepPart, KdcRep};
 use krb_preauth::pa_data;
-use krb_types::constants::key_usages;
-use krb_types::constants::types::{
-    AS_REP_MSG_TYPE, ENC_AS_REP_PART_TYPE, ENC_TGS_REP_PART_TYPE, KERBEROS_VERSION,
-    TGS_REP_MSG_TYPE,
-};
 use krb_types::data_types::{EncryptedData, PaData};
 use picky_asn1::wrapper::{Asn1SequenceOf, IntegerAsn1};
 use picky_asn1_der::{
@@ -65,7 +65,7 @@ impl<'a> ReplyKey<'a> {
             exchange: Exchange::As,
             key: client.key(),
             kvno: Some(client.kvno()),
-            usage: key_usages::AS_REP,
+            usage: key_usages::AS_REP_ENC,
             pk_as_rep: None,
         }
     }
@@ -78,7 +78,7 @@ impl<'a> ReplyKey<'a> {
             exchange: Exchange::Tgs,
             key,
             kvno: None,
-            usage: key_usages::TGS_REP_SESSION_KEY,
+            usage: key_usages::TGS_REP_ENC_SESSION_KEY,
             pk_as_rep: None,
         }
     }
@@ -91,7 +91,7 @@ impl<'a> ReplyKey<'a> {
             exchange: Exchange::Tgs,
             key,
             kvno: None,
-            usage: key_usages::TGS_REP_SUBKEY,
+            usage: key_usages::TGS_REP_ENC_SUB_KEY,
             pk_as_rep: None,
         }
     }
@@ -104,7 +104,7 @@ impl<'a> ReplyKey<'a> {
             exchange: Exchange::As,
             key,
             kvno: None,
-            usage: key_usages::AS_REP,
+            usage: key_usages::AS_REP_ENC,
             pk_as_rep: Some(pk_as_rep),
         }
     }

@@ -1,11 +1,11 @@
-//! What Kerberos messages hold (RFC 4120, sections 5.2 to 5.5), the numbers of the standard, and how requests are refused.
+//! What Kerberos messages hold (RFC 4120, sections 5.2 to 5.5), and how requests are refused.
 //!
 //! The names, fields and tags are the standard's. `picky_krb` hands these modules on beside the messages.
 #![tactic(auto)]
 
-pub mod constants;
 pub mod data_types;
 mod names;
+pub mod random_bytes;
 mod refusal;
 
 pub use names::{is_same_name, is_same_realm};

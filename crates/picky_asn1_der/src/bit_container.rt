@@ -1,9 +1,11 @@
 //! Strings of bits that hold an encoding.
 ghost use Rattle.std.specs.Prelude.{◌≡◌};
 ghost use Rattle.asn1_der.specs.Tree.{wrapped, behind};
+ghost use Rattle.asn1_der.specs.Octets.{bit_string_octet};
 
 use asn1_codec::{Deserialize, Deserializer, Serializer, Tagged};
 use asn1_der::Asn1DerError;
+use asn1_der::octets::BIT_STRING;
 use devices::{Sink, Source};
 
 /// A BIT STRING whose bits, of which none is unused, are the encoding of one value (X.690, section 8.6).
@@ -25,9 +27,9 @@ impl<T: Deserialize + Drop> Tagged for BitStringContainer<T> {
 
     type Row = T;
 
-    const FIRST: u8 = 3;
+    const FIRST: u8 = BIT_STRING;
 
-    ghost FIRST = { 3 };
+    ghost FIRST = { bit_string_octet };
 
     ghost row_tree = { λ octet value. behind 0 (wrapped octet (T.tree value)) };
 

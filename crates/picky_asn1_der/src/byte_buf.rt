@@ -1,7 +1,9 @@
 //! Octets of any kind.
 ghost use Rattle.std.specs.Prelude.{◌≡◌, IfOk};
+ghost use Rattle.asn1_der.specs.Octets.{octet_string_octet};
 
 use asn1_codec::{Leaf, Serializer};
+use asn1_der::octets::OCTET_STRING;
 use asn1_der::{Asn1DerError, Rule};
 use devices::Sink;
 use std::alloc::{AllocError, Global};
@@ -49,11 +51,11 @@ impl From<Vec<u8>> for ByteBuf {
 impl Leaf for ByteBuf {
     ghost use Rattle.std.specs.Prelude.{true};
 
-    const OCTET: u8 = 4;
+    const OCTET: u8 = OCTET_STRING;
 
     const RULE: Rule = Rule::Characters;
 
-    ghost OCTET = { 4 };
+    ghost OCTET = { octet_string_octet };
 
     ghost is_valid = { λ _. true };
 

@@ -1,9 +1,11 @@
 //! Strings of octets that hold an encoding.
 ghost use Rattle.std.specs.Prelude.{◌≡◌};
 ghost use Rattle.asn1_der.specs.Tree.{wrapped};
+ghost use Rattle.asn1_der.specs.Octets.{octet_string_octet};
 
 use asn1_codec::{Deserialize, Deserializer, Serializer, Tagged};
 use asn1_der::Asn1DerError;
+use asn1_der::octets::OCTET_STRING;
 use devices::{Sink, Source};
 
 /// An OCTET STRING whose octets are the encoding of one value (X.690, section 8.7).
@@ -23,9 +25,9 @@ impl<T: Deserialize + Drop> Tagged for OctetStringContainer<T> {
 
     type Row = T;
 
-    const FIRST: u8 = 4;
+    const FIRST: u8 = OCTET_STRING;
 
-    ghost FIRST = { 4 };
+    ghost FIRST = { octet_string_octet };
 
     ghost row_tree = { λ octet value. wrapped octet (T.tree value) };
 

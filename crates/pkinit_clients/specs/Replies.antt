@@ -28,6 +28,7 @@ use Rattle.pkinit_clients.specs.Asked.{PkinitAskedRecord, expected_realm}
 use Rattle.pkinit_clients.specs.Faults.{Secret}
 use Rattle.pkinit_clients.specs.declared.fault.ReplyFault.{ReplyFault}
 use Rattle.pkinit_clients.specs.declared.fault.ReplyFault.TheVariants.{NotTrusted}
+use Rattle.asn1_der.specs.Octets.{sequence_octet}
 
 -- the bytes are the one encoding of the PA-PK-AS-REP
 unfoldable pub IsPaPkAsRep : Bytes → PaPkAsRep → Type 0
@@ -39,7 +40,7 @@ sole_pa_pk_as_rep bytes v w p q = reply_impl.ghosts.injective v w p.0 q.0 (sym p
 
 -- the bytes are the one encoding of the KDCDHKeyInfo
 unfoldable pub IsKdcDhKeyInfo : Bytes → KdcDhKeyInfo → Type 0
-IsKdcDhKeyInfo bytes info = Writes (tagged_tree 48 info_impl.ghosts.row_tree info_impl.ghosts.row_of) info bytes
+IsKdcDhKeyInfo bytes info = Writes (tagged_tree sequence_octet info_impl.ghosts.row_tree info_impl.ghosts.row_of) info bytes
 
 pub sole_kdc_dh_key_info : (bytes : Bytes) → IsSole (IsKdcDhKeyInfo bytes)
 unfolding IsKdcDhKeyInfo

@@ -15,6 +15,7 @@ use Rattle.pkinit_messages.specs.declared.pa_pk_as_req.PaPkAsReq.{PaPkAsReq}
 use Rattle.pkinit_messages.specs.contracts.pa_pk_as_req.PaPkAsReqTagged.TheImpl as request_impl
 use Rattle.pkinit_replies.specs.WrittenOnce.{one_written}
 use Rattle.pkinit_clients.specs.AuthPacks.{auth_data, auth_pack_bytes, auth_pack_of, authenticator_of}
+use Rattle.asn1_der.specs.Octets.{sequence_octet}
 
 -- PA-PK-AS-REQ: what is signed, and neither whom the client trusts nor a key of the KDC's that it knows
 abbrev pub pk_as_req_of : Bytes → PaPkAsReq
@@ -25,7 +26,7 @@ pk_as_req_of signed = record {
 }
 
 unfoldable pub pk_as_req_bytes : PaPkAsReq → Bytes
-pk_as_req_bytes request = der (tagged_tree 48 request_impl.ghosts.row_tree request_impl.ghosts.row_of request)
+pk_as_req_bytes request = der (tagged_tree sequence_octet request_impl.ghosts.row_tree request_impl.ghosts.row_of request)
 
 -- the AuthPack of a request with this body, at the moment, which lies in the second
 abbrev pub pack_bytes : KdcReqBody → Micros → GeneralizedTime → Raw → Bytes

@@ -16,7 +16,7 @@ use Rattle.krb_moments.specs.Units.{Micros, Seconds}
 use Rattle.krb_constants.specs.declared.error_codes.TheConstants.{KDC_ERR_KEY_TOO_WEAK}
 use Rattle.krb_types.specs.RandomBytes.{Random}
 use Rattle.krb_types.specs.Refusals.{Code}
-use Rattle.krb_types.specs.declared.constants.error_codes.TheConstants.{KDC_ERR_PADATA_TYPE_NOSUPP, KDC_ERR_PREAUTH_FAILED, KRB_AP_ERR_SKEW, KRB_ERR_GENERIC}
+use Rattle.krb_constants.specs.declared.error_codes.TheConstants.{KDC_ERR_PADATA_TYPE_NOSUPP, KDC_ERR_PREAUTH_FAILED, KRB_AP_ERR_SKEW, KRB_ERR_GENERIC}
 use Rattle.krb_messages.specs.declared.messages.kdc_req_body.KdcReqBody.{KdcReqBody}
 use Rattle.krb_pkinit.specs.Calls.{AgreedRecord, PkinitCallRecord}
 use Rattle.key_functions.specs.KeyFunctions.{KeysRecord}

@@ -1,8 +1,11 @@
 //! What a client signs.
+ghost use Rattle.asn1_der.specs.Octets.{sequence_octet};
+
 use crate::client_public_value::ClientPublicValue;
 use crate::dh_nonce::DhNonce;
 use crate::dh_req_info::DhReqInfo;
 use crate::pk_authenticator::PkAuthenticator;
+use asn1_der::octets::SEQUENCE;
 use devices::{Sink, Source};
 use picky_asn1::wrapper::Asn1SequenceOf;
 use picky_asn1_der::{
@@ -74,9 +77,9 @@ impl<V: Deserialize + ClientPublicValue + Drop> Tagged for AuthPack<V> {
 
     type Row = AuthPackRow<V>;
 
-    const FIRST: u8 = 48;
+    const FIRST: u8 = SEQUENCE;
 
-    ghost FIRST = { 48 };
+    ghost FIRST = { sequence_octet };
 
     ghost row_tree = { sequence ⟦<AuthPackRow<V> as Fields>⟧.trees };
 

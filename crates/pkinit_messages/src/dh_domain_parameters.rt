@@ -1,5 +1,8 @@
 //! Groups of Diffie and Hellman.
+ghost use Rattle.asn1_der.specs.Octets.{sequence_octet};
+
 use crate::validation_params::ValidationParams;
+use asn1_der::octets::SEQUENCE;
 use devices::{Sink, Source};
 use picky_asn1::wrapper::IntegerAsn1;
 use picky_asn1_der::{
@@ -56,9 +59,9 @@ impl Tagged for DhDomainParameters {
 
     type Row = DhDomainParametersRow;
 
-    const FIRST: u8 = 48;
+    const FIRST: u8 = SEQUENCE;
 
-    ghost FIRST = { 48 };
+    ghost FIRST = { sequence_octet };
 
     ghost row_tree = { sequence ⟦<DhDomainParametersRow as Fields>⟧.trees };
 

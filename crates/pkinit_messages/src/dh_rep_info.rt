@@ -1,5 +1,8 @@
 //! A KDC's share of an agreement.
+ghost use Rattle.asn1_der.specs.Octets.{sequence_octet};
+
 use crate::dh_nonce::DhNonce;
+use asn1_der::octets::SEQUENCE;
 use devices::{Sink, Source};
 use picky_asn1::wrapper::OctetStringAsn1;
 use picky_asn1_der::{
@@ -35,9 +38,9 @@ impl Tagged for DhRepInfo {
 
     type Row = DhRepInfoRow;
 
-    const FIRST: u8 = 48;
+    const FIRST: u8 = SEQUENCE;
 
-    ghost FIRST = { 48 };
+    ghost FIRST = { sequence_octet };
 
     ghost row_tree = { sequence ⟦<DhRepInfoRow as Fields>⟧.trees };
 

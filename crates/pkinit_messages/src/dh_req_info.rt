@@ -1,5 +1,8 @@
 //! A client's public value.
+ghost use Rattle.asn1_der.specs.Octets.{sequence_octet};
+
 use crate::dh_req_key_info::DhReqKeyInfo;
+use asn1_der::octets::SEQUENCE;
 use devices::{Sink, Source};
 use picky_asn1::wrapper::BitStringAsn1;
 use picky_asn1_der::{
@@ -31,9 +34,9 @@ impl Tagged for DhReqInfo {
 
     type Row = DhReqInfoRow;
 
-    const FIRST: u8 = 48;
+    const FIRST: u8 = SEQUENCE;
 
-    ghost FIRST = { 48 };
+    ghost FIRST = { sequence_octet };
 
     ghost row_tree = { sequence ⟦<DhReqInfoRow as Fields>⟧.trees };
 

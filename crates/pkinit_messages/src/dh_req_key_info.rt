@@ -1,5 +1,8 @@
 //! Which agreement it is.
+ghost use Rattle.asn1_der.specs.Octets.{sequence_octet};
+
 use crate::dh_domain_parameters::DhDomainParameters;
+use asn1_der::octets::SEQUENCE;
 use devices::{Sink, Source};
 use picky_asn1::wrapper::ObjectIdentifierAsn1;
 use picky_asn1_der::{
@@ -31,9 +34,9 @@ impl Tagged for DhReqKeyInfo {
 
     type Row = DhReqKeyInfoRow;
 
-    const FIRST: u8 = 48;
+    const FIRST: u8 = SEQUENCE;
 
-    ghost FIRST = { 48 };
+    ghost FIRST = { sequence_octet };
 
     ghost row_tree = { sequence ⟦<DhReqKeyInfoRow as Fields>⟧.trees };
 

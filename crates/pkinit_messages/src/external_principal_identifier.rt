@@ -1,4 +1,7 @@
 //! Certifiers.
+ghost use Rattle.asn1_der.specs.Octets.{sequence_octet};
+
+use asn1_der::octets::SEQUENCE;
 use devices::{Sink, Source};
 use picky_asn1::wrapper::OctetStringAsn1;
 use picky_asn1_der::{
@@ -41,9 +44,9 @@ impl Tagged for ExternalPrincipalIdentifier {
 
     type Row = ExternalPrincipalIdentifierRow;
 
-    const FIRST: u8 = 48;
+    const FIRST: u8 = SEQUENCE;
 
-    ghost FIRST = { 48 };
+    ghost FIRST = { sequence_octet };
 
     ghost row_tree = { sequence ⟦<ExternalPrincipalIdentifierRow as Fields>⟧.trees };
 

@@ -1,4 +1,7 @@
 //! A KDC's public value.
+ghost use Rattle.asn1_der.specs.Octets.{sequence_octet};
+
+use asn1_der::octets::SEQUENCE;
 use devices::{Sink, Source};
 use krb_types::data_types::KerberosTime;
 use picky_asn1::wrapper::{BitStringAsn1, IntegerAsn1};
@@ -39,9 +42,9 @@ impl Tagged for KdcDhKeyInfo {
 
     type Row = KdcDhKeyInfoRow;
 
-    const FIRST: u8 = 48;
+    const FIRST: u8 = SEQUENCE;
 
-    ghost FIRST = { 48 };
+    ghost FIRST = { sequence_octet };
 
     ghost row_tree = { sequence ⟦<KdcDhKeyInfoRow as Fields>⟧.trees };
 

@@ -1,4 +1,7 @@
 //! The end of an exchange.
+ghost use Rattle.asn1_der.specs.Octets.{sequence_octet};
+
+use asn1_der::octets::SEQUENCE;
 use devices::{Sink, Source};
 use krb_types::data_types::Checksum;
 use picky_asn1_der::{
@@ -28,9 +31,9 @@ impl Tagged for KrbFinished {
 
     type Row = KrbFinishedRow;
 
-    const FIRST: u8 = 48;
+    const FIRST: u8 = SEQUENCE;
 
-    ghost FIRST = { 48 };
+    ghost FIRST = { sequence_octet };
 
     ghost row_tree = { sequence ⟦<KrbFinishedRow as Fields>⟧.trees };
 

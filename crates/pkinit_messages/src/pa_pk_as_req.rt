@@ -1,5 +1,8 @@
 //! Preauthentication by certificate.
+ghost use Rattle.asn1_der.specs.Octets.{sequence_octet};
+
 use crate::external_principal_identifier::ExternalPrincipalIdentifier;
+use asn1_der::octets::SEQUENCE;
 use devices::{Sink, Source};
 use picky_asn1::wrapper::{Asn1SequenceOf, OctetStringAsn1};
 use picky_asn1_der::{
@@ -42,9 +45,9 @@ impl Tagged for PaPkAsReq {
 
     type Row = PaPkAsReqRow;
 
-    const FIRST: u8 = 48;
+    const FIRST: u8 = SEQUENCE;
 
-    ghost FIRST = { 48 };
+    ghost FIRST = { sequence_octet };
 
     ghost row_tree = { sequence ⟦<PaPkAsReqRow as Fields>⟧.trees };
 

@@ -1,4 +1,7 @@
 //! What binds a signature to its request.
+ghost use Rattle.asn1_der.specs.Octets.{sequence_octet};
+
+use asn1_der::octets::SEQUENCE;
 use devices::{Sink, Source};
 use krb_types::data_types::KerberosTime;
 use picky_asn1::wrapper::{IntegerAsn1, OctetStringAsn1};
@@ -54,9 +57,9 @@ impl Tagged for PkAuthenticator {
 
     type Row = PkAuthenticatorRow;
 
-    const FIRST: u8 = 48;
+    const FIRST: u8 = SEQUENCE;
 
-    ghost FIRST = { 48 };
+    ghost FIRST = { sequence_octet };
 
     ghost row_tree = { sequence ⟦<PkAuthenticatorRow as Fields>⟧.trees };
 

@@ -1,4 +1,7 @@
 //! Whom a negotiation is with.
+ghost use Rattle.asn1_der.specs.Octets.{sequence_octet};
+
+use asn1_der::octets::SEQUENCE;
 use devices::{Sink, Source};
 use krb_types::data_types::{PrincipalName, Realm};
 use picky_asn1_der::{
@@ -30,9 +33,9 @@ impl Tagged for Pku2uNegoBody {
 
     type Row = Pku2uNegoBodyRow;
 
-    const FIRST: u8 = 48;
+    const FIRST: u8 = SEQUENCE;
 
-    ghost FIRST = { 48 };
+    ghost FIRST = { sequence_octet };
 
     ghost row_tree = { sequence ⟦<Pku2uNegoBodyRow as Fields>⟧.trees };
 

@@ -1,5 +1,8 @@
 //! Replies of a negotiation.
+ghost use Rattle.asn1_der.specs.Octets.{sequence_octet};
+
 use crate::pku2u_nego_req_metadata::Pku2uNegoReqMetadata;
+use asn1_der::octets::SEQUENCE;
 use devices::{Sink, Source};
 use picky_asn1::wrapper::Asn1SequenceOf;
 use picky_asn1_der::{
@@ -28,9 +31,9 @@ impl Tagged for Pku2uNegoRep {
 
     type Row = Pku2uNegoRepRow;
 
-    const FIRST: u8 = 48;
+    const FIRST: u8 = SEQUENCE;
 
-    ghost FIRST = { 48 };
+    ghost FIRST = { sequence_octet };
 
     ghost row_tree = { sequence ⟦<Pku2uNegoRepRow as Fields>⟧.trees };
 

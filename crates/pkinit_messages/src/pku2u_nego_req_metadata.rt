@@ -1,4 +1,7 @@
 //! Metadata of PKU2U.
+ghost use Rattle.asn1_der.specs.Octets.{sequence_octet};
+
+use asn1_der::octets::SEQUENCE;
 use devices::{Sink, Source};
 use picky_asn1::wrapper::OctetStringAsn1;
 use picky_asn1_der::{
@@ -27,9 +30,9 @@ impl Tagged for Pku2uNegoReqMetadata {
 
     type Row = Pku2uNegoReqMetadataRow;
 
-    const FIRST: u8 = 48;
+    const FIRST: u8 = SEQUENCE;
 
-    ghost FIRST = { 48 };
+    ghost FIRST = { sequence_octet };
 
     ghost row_tree = { sequence ⟦<Pku2uNegoReqMetadataRow as Fields>⟧.trees };
 

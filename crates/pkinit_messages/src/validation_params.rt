@@ -1,4 +1,7 @@
 //! How a prime was made.
+ghost use Rattle.asn1_der.specs.Octets.{sequence_octet};
+
+use asn1_der::octets::SEQUENCE;
 use devices::{Sink, Source};
 use picky_asn1::wrapper::{BitStringAsn1, IntegerAsn1};
 use picky_asn1_der::{
@@ -28,9 +31,9 @@ impl Tagged for ValidationParams {
 
     type Row = ValidationParamsRow;
 
-    const FIRST: u8 = 48;
+    const FIRST: u8 = SEQUENCE;
 
-    ghost FIRST = { 48 };
+    ghost FIRST = { sequence_octet };
 
     ghost row_tree = { sequence ⟦<ValidationParamsRow as Fields>⟧.trees };
 

@@ -3,7 +3,7 @@ use Rattle.std.proofs.Common.{ℤ, Result, Ok, Err}
 use Rattle.picky_asn1.specs.Bytes.{Bytes}
 use Rattle.krb_types.specs.RandomBytes.{Random}
 use Rattle.krb_types.specs.Refusals.{Code}
-use Rattle.krb_types.specs.declared.constants.error_codes.TheConstants.{KRB_ERR_GENERIC}
+use Rattle.krb_constants.specs.declared.error_codes.TheConstants.{KRB_ERR_GENERIC}
 use Rattle.decision_tables.specs.Tables.{Table, ask, done}
 use Rattle.decision_tables.proofs.Outcomes.{HasOutcome, has_asked, has_done, has_needed}
 use Rattle.cms_signed_content.specs.KeyFunctions.{KeysRecord}

@@ -7,10 +7,11 @@ use Rattle.asn1_elements.specs.Raw.{Raw, raw_tree}
 use Rattle.decision_tables.specs.One.{IsSole}
 use Rattle.pkinit_replies.specs.declared.public_key.AgreementPublicKey.{AgreementPublicKey}
 use Rattle.pkinit_replies.specs.contracts.public_key.AgreementPublicKeyTagged.TheImpl as key_impl
+use Rattle.asn1_der.specs.Octets.{sequence_octet}
 
 -- the element is the one encoding of the public key
 unfoldable pub IsPublicKey : Raw → AgreementPublicKey → Type 0
-IsPublicKey element key = Writes (tagged_tree 48 key_impl.ghosts.row_tree key_impl.ghosts.row_of) key (der (raw_tree element))
+IsPublicKey element key = Writes (tagged_tree sequence_octet key_impl.ghosts.row_tree key_impl.ghosts.row_of) key (der (raw_tree element))
 
 pub sole_public_key : (element : Raw) → IsSole (IsPublicKey element)
 unfolding IsPublicKey

@@ -8,7 +8,7 @@ use Rattle.picky_asn1.specs.Bytes.{Bytes}
 use Rattle.decision_tables.specs.Tables.{Table, ask, done, need}
 use Rattle.krb_types.specs.RandomBytes.{Random}
 use Rattle.krb_types.specs.Refusals.{Code}
-use Rattle.krb_types.specs.declared.constants.error_codes.TheConstants.{KRB_ERR_GENERIC}
+use Rattle.krb_constants.specs.declared.error_codes.TheConstants.{KRB_ERR_GENERIC}
 use Rattle.krb_types.specs.declared.refusal.Refusal.{Refusal}
 use Rattle.cms_signed_content.specs.KeyFunctions.{KeysRecord}
 use Rattle.pkinit_messages.specs.declared.kdc_dh_key_info.KdcDhKeyInfo.{KdcDhKeyInfo}
@@ -20,6 +20,7 @@ use Rattle.cms_signed_content.specs.Written.{IsWritten}
 use Rattle.pkinit_replies.specs.AgreementBytes.{agreement_bytes}
 use Rattle.pkinit_replies.specs.PublicKeys.{IsPublicKey, sole_public_key}
 use Rattle.pkinit_replies.specs.WrittenOnce.{one_written}
+use Rattle.asn1_der.specs.Octets.{sequence_octet}
 
 -- id-pkinit-DHKeyData, 1.3.6.1.5.2.3.2
 abbrev pub dh_key_data : List ℕ
@@ -35,7 +36,7 @@ key_info_of value nonce = record {
 }
 
 unfoldable pub key_info_bytes : KdcDhKeyInfo → Bytes
-key_info_bytes info = der (tagged_tree 48 info_impl.ghosts.row_tree info_impl.ghosts.row_of info)
+key_info_bytes info = der (tagged_tree sequence_octet info_impl.ghosts.row_tree info_impl.ghosts.row_of info)
 
 -- PA-PK-AS-REP with DHRepInfo: what is signed, and no nonce of the realm
 abbrev pub dh_reply_of : Bytes → PaPkAsRep

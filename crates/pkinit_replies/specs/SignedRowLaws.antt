@@ -5,6 +5,7 @@ use Rattle.asn1_der.specs.Length.{element}
 use Rattle.asn1_paths.specs.PathLaws.{AreSome, LeadsTo, in_element}
 use Rattle.x509_spelling.specs.Spellings.{Holds}
 use Rattle.cms_signed_content.specs.SpelledElements.{SpellsElements, Ends, Row, ended, row_some, row_front, row_behind}
+use Rattle.asn1_der.specs.Octets.{sequence_octet}
 
 -- a value has one spelling in which nothing deviates
 abbrev pub HasOneStrict : {T : Type 0} → (T → List ℕ → ℕ → Type 0) → Type 0
@@ -74,7 +75,7 @@ module _ {V D E C G : Type 0} (v_spells : V → List ℕ → ℕ → Type 0) (d_
         let rest2 : s.1.4.0 ≡ t.1.4.0 = s.1.4.4.3.3 ∙ (λ i. e i ++ rest3 i) ∙ sym t.1.4.4.3.3 in
         let rest1 : s.1.0 ≡ t.1.0 = s.1.4.3.3 ∙ (λ i. d i ++ rest2 i) ∙ sym t.1.4.3.3 in
         let content : s.0 ≡ t.0 = s.1.3.3 ∙ (λ i. v i ++ rest1 i) ∙ sym t.1.3.3 in
-        s.2 ∙ ap (element 48) content ∙ sym t.2
+        s.2 ∙ ap (element sequence_octet) content ∙ sym t.2
 
 -- the same of two fields, of which the second deviates alone
 module _ {O T : Type 0} (o_spells : O → List ℕ → ℕ → Type 0) (t_spells : T → List ℕ → ℕ → Type 0) (f : O × (T × ⊤)) where
@@ -94,4 +95,4 @@ module _ {O T : Type 0} (o_spells : O → List ℕ → ℕ → Type 0) (t_spells
       let end : s.1.4.0 ≡ t.1.4.0 = s.1.4.4.0 ∙ sym t.1.4.4.0 in
       let rest : s.1.0 ≡ t.1.0 = s.1.4.3.3 ∙ (λ i. same i ++ end i) ∙ sym t.1.4.3.3 in
       let content : s.0 ≡ t.0 = s.1.3.3 ∙ (λ i. o i ++ rest i) ∙ sym t.1.3.3 in
-      s.2 ∙ ap (element 48) content ∙ sym t.2
+      s.2 ∙ ap (element sequence_octet) content ∙ sym t.2

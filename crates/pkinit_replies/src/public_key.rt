@@ -1,4 +1,7 @@
 //! Public keys of agreements.
+ghost use Rattle.asn1_der.specs.Octets.{sequence_octet};
+
+use asn1_der::octets::SEQUENCE;
 use devices::{Sink, Source};
 use picky_asn1::wrapper::BitStringAsn1;
 use picky_asn1_der::{
@@ -30,9 +33,9 @@ impl Tagged for AgreementPublicKey {
 
     type Row = AgreementPublicKeyRow;
 
-    const FIRST: u8 = 48;
+    const FIRST: u8 = SEQUENCE;
 
-    ghost FIRST = { 48 };
+    ghost FIRST = { sequence_octet };
 
     ghost row_tree = { sequence ⟦<AgreementPublicKeyRow as Fields>⟧.trees };
 

@@ -8,9 +8,9 @@ ghost use Rattle.pkinit_replies.specs.Replies.{as_bytes, dh_reply_bytes, dh_repl
 use crate::public_key::AgreementPublicKey;
 use crate::signed::{key_info_bytes, signed_key_info};
 use cms_signed_content::KeyFunctions;
+use krb_constants::error_codes;
 use krb_encrypted_data::read_whole;
 use krb_types::Refusal;
-use krb_types::constants::error_codes;
 use picky_asn1::wrapper::{IntegerAsn1, OctetStringAsn1};
 use picky_asn1_der::{
     Asn1RawDer, ExplicitContextTag, ImplicitContextTag, Optional, encoding_of, to_vec,

@@ -20,10 +20,11 @@ use Rattle.pkinit_messages.specs.declared.auth_pack.AuthPack.{AuthPack}
 use Rattle.pkinit_messages.specs.declared.pa_pk_as_req.PaPkAsReq.{PaPkAsReq}
 use Rattle.pkinit_messages.specs.contracts.pa_pk_as_req.PaPkAsReqTagged.TheImpl as request_impl
 use Rattle.pkinit_requests.specs.contracts.auth_packs.Asn1RawDerAuthPackEncoding.TheImpl as pack_impl
+use Rattle.asn1_der.specs.Octets.{sequence_octet}
 
 -- the bytes are the one encoding of the PA-PK-AS-REQ
 unfoldable pub IsPaPkAsReq : Bytes → PaPkAsReq → Type 0
-IsPaPkAsReq bytes request = Writes (tagged_tree 48 request_impl.ghosts.row_tree request_impl.ghosts.row_of) request bytes
+IsPaPkAsReq bytes request = Writes (tagged_tree sequence_octet request_impl.ghosts.row_tree request_impl.ghosts.row_of) request bytes
 
 pub sole_pa_pk_as_req : (bytes : Bytes) → IsSole (IsPaPkAsReq bytes)
 unfolding IsPaPkAsReq

@@ -8,9 +8,9 @@ ghost use Rattle.pkinit_requests.specs.Trust.{trust_of};
 use crate::judging::Judging;
 use crate::table::judge_request;
 use key_functions::KeyFunctions;
+use krb_constants::error_codes;
 use krb_pkinit::{Agreed, Pkinit, PkinitCall};
 use krb_types::Refusal;
-use krb_types::constants::error_codes;
 use pkinit_trust::{Anchor, ExpectedSigner};
 use std::alloc::Global;
 

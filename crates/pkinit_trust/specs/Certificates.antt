@@ -11,6 +11,7 @@ use Rattle.x509_names.specs.declared.attribute_type_and_value.AttributeTypeAndVa
 use Rattle.x509_names.specs.contracts.name.NameTagged.TheImpl as name_impl
 use Rattle.x509_certificates.specs.declared.certificate.Certificate.{Certificate}
 use Rattle.x509_certificates.specs.contracts.certificate.CertificateSpelled.TheImpl as certificate_impl
+use Rattle.asn1_der.specs.Octets.{sequence_octet}
 
 -- a certificate, and the bytes that its issuer signed
 pub record ReadRecord : Type 0 where
@@ -42,4 +43,4 @@ GivesOf {T} spells bytes error judged_by answer =
 
 -- the encoding of a name
 unfoldable pub name_bytes : List (List AttributeTypeAndValue) → Bytes
-name_bytes name = der (tagged_tree 48 name_impl.ghosts.row_tree name_impl.ghosts.row_of name)
+name_bytes name = der (tagged_tree sequence_octet name_impl.ghosts.row_tree name_impl.ghosts.row_of name)

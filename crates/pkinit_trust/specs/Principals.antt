@@ -28,9 +28,10 @@ use Rattle.pkinit_trust.specs.declared.principal_name.Krb5PrincipalName.{Krb5Pri
 use Rattle.pkinit_trust.specs.contracts.principal_name.Krb5PrincipalNameTagged.TheImpl as name_impl
 use Rattle.pkinit_trust.specs.declared.refusal.TrustRefusal.{TrustRefusal}
 use Rattle.pkinit_trust.specs.declared.refusal.TrustRefusal.TheVariants.{NameMismatch}
+use Rattle.asn1_der.specs.Octets.{sequence_octet}
 
 abbrev pub principal_tree : Krb5PrincipalName → Tree
-principal_tree = tagged_tree 48 name_impl.ghosts.row_tree name_impl.ghosts.row_of
+principal_tree = tagged_tree sequence_octet name_impl.ghosts.row_tree name_impl.ghosts.row_of
 
 principal-injective : IsInjective principal_tree
 principal-injective = tagged-injective 48 name_impl.ghosts.row_tree name_impl.ghosts.row_laws name_impl.ghosts.row_of name_impl.ghosts.one_row

@@ -1,4 +1,7 @@
 //! The name of a principal in a certificate.
+ghost use Rattle.asn1_der.specs.Octets.{sequence_octet};
+
+use asn1_der::octets::SEQUENCE;
 use devices::{Sink, Source};
 use krb_types::data_types::{PrincipalName, Realm};
 use picky_asn1_der::{
@@ -31,9 +34,9 @@ impl Tagged for Krb5PrincipalName {
 
     type Row = Krb5PrincipalNameRow;
 
-    const FIRST: u8 = 48;
+    const FIRST: u8 = SEQUENCE;
 
-    ghost FIRST = { 48 };
+    ghost FIRST = { sequence_octet };
 
     ghost row_tree = { sequence ⟦<Krb5PrincipalNameRow as Fields>⟧.trees };
 

@@ -1,6 +1,7 @@
 //! The forms of types. The bytes are those of the standards' examples, and what `openssl asn1parse -genconf` writes.
 use crate::sample::{LONG_SAMPLE, SHORT_SAMPLE, Sample, sample_of};
 use crate::spelling::{front_fault_of, is_spelled, is_written};
+use asn1_der::octets::INTEGER;
 use picky_asn1_der::{
     Alternatives, ApplicationTag, Asn1DerError, BitStringContainer, Choice, Deserializer, Elements,
     ExplicitContextTag0, ExplicitContextTag1, ExplicitContextTag3, ImplicitContextTag1,
@@ -87,7 +88,7 @@ fn is_element_written(alloc: Global, bytes: &[u8]) -> Option<bool> {
 
 fn is_element_read(alloc: Global, bytes: &[u8]) -> bool {
     match from_exact_bytes::<ExplicitContextTag0<RawElement>>(alloc, bytes) {
-        Ok(read) => read.0.first() == 2 && read.0.content() == [7].as_slice(),
+        Ok(read) => read.0.first() == INTEGER && read.0.content() == [7].as_slice(),
         Err(_) => false,
     }
 }

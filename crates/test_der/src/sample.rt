@@ -1,4 +1,7 @@
 //! A SEQUENCE with an optional field in its middle, and its bytes, as `openssl asn1parse -genconf` writes them.
+ghost use Rattle.asn1_der.specs.Octets.{sequence_octet};
+
+use asn1_der::octets::SEQUENCE;
 use devices::{Sink, Source};
 use picky_asn1_der::{
     Asn1DerError, Deserializer, ExplicitContextTag0, ExplicitContextTag1, ExplicitContextTag2,
@@ -25,9 +28,9 @@ impl Tagged for Sample {
 
     type Row = SampleRow;
 
-    const FIRST: u8 = 48;
+    const FIRST: u8 = SEQUENCE;
 
-    ghost FIRST = { 48 };
+    ghost FIRST = { sequence_octet };
 
     ghost row_tree = { sequence ⟦<SampleRow as Fields>⟧.trees };
 

@@ -4,8 +4,10 @@ ghost use Rattle.std.specs.List.{list_any};
 ghost use Rattle.std.specs.Bool.{nat_eq};
 ghost use Rattle.std.specs.Cmp.Lexicographic.{pointwise};
 ghost use Rattle.x509_algorithms.specs.AlgorithmKinds.{is_parameters_of, kinds_of};
+ghost use Rattle.asn1_der.specs.Octets.{sequence_octet};
 
 use crate::algorithm_kinds::{AlgorithmIdentifierParameters, AlgorithmKinds, of_kinds};
+use asn1_der::octets::SEQUENCE;
 use devices::{Sink, Source};
 use picky_asn1::oid::ObjectIdentifier;
 use picky_asn1::wrapper::ObjectIdentifierAsn1;
@@ -111,16 +113,16 @@ impl Serialize for AlgorithmIdentifier {
     ghost use Rattle.x509_algorithms.specs.AlgorithmKinds.{same_trees};
     ghost use Rattle.x509_algorithms.specs.AlgorithmLaws.{row_of, written_row, same_algorithm, injective_by};
 
-    ghost tree = { λ v. sequence (λ f. ⟦<ObjectIdentifierAsn1 as SpelledItem>⟧.place f.0 (⟦<AlgorithmKinds as Kinds>⟧.row_trees f.1)) 48 (written_row v) };
+    ghost tree = { λ v. sequence (λ f. ⟦<ObjectIdentifierAsn1 as SpelledItem>⟧.place f.0 (⟦<AlgorithmKinds as Kinds>⟧.row_trees f.1)) sequence_octet (written_row v) };
 
-    ghost firsts = { only 48 };
+    ghost firsts = { only sequence_octet };
 
-    ghost begins = { λ _. may_begin-only 48 };
+    ghost begins = { λ _. may_begin-only sequence_octet };
 
-    ghost injective = { injective_by (λ v. sequence (λ f. ⟦<ObjectIdentifierAsn1 as SpelledItem>⟧.place f.0 (⟦<AlgorithmKinds as Kinds>⟧.row_trees f.1)) 48 (written_row v)) (λ v. sequence (λ f. ⟦<ObjectIdentifierAsn1 as SpelledItem>⟧.place f.0 (⟦<AlgorithmKinds as Kinds>⟧.row_trees f.1)) 48 (row_of v))
-        (λ v i. constructed 48 (⟦<ObjectIdentifierAsn1 as SpelledItem>⟧.place v.algorithm (same_trees ⟦<AlgorithmKinds as Kinds>⟧.row_trees refl refl true true
+    ghost injective = { injective_by (λ v. sequence (λ f. ⟦<ObjectIdentifierAsn1 as SpelledItem>⟧.place f.0 (⟦<AlgorithmKinds as Kinds>⟧.row_trees f.1)) sequence_octet (written_row v)) (λ v. sequence (λ f. ⟦<ObjectIdentifierAsn1 as SpelledItem>⟧.place f.0 (⟦<AlgorithmKinds as Kinds>⟧.row_trees f.1)) sequence_octet (row_of v))
+        (λ v i. constructed sequence_octet (⟦<ObjectIdentifierAsn1 as SpelledItem>⟧.place v.algorithm (same_trees ⟦<AlgorithmKinds as Kinds>⟧.row_trees refl refl true true
         (is_rsa (oid_content v.algorithm.0)) (is_signature (oid_content v.algorithm.0)) v.parameters i)))
-        (laws_injective true (only 48) (λ v. sequence (λ f. ⟦<ObjectIdentifierAsn1 as SpelledItem>⟧.place f.0 (⟦<AlgorithmKinds as Kinds>⟧.row_trees f.1)) 48 (row_of v)) (λ v. Holds 48 (λ f. Joins ⟦<ObjectIdentifierAsn1 as SpelledItem>⟧.leads ⟦<AlgorithmKinds as Kinds>⟧.spells f.0 f.1) (row_of v))
+        (laws_injective true (only sequence_octet) (λ v. sequence (λ f. ⟦<ObjectIdentifierAsn1 as SpelledItem>⟧.place f.0 (⟦<AlgorithmKinds as Kinds>⟧.row_trees f.1)) sequence_octet (row_of v)) (λ v. Holds sequence_octet (λ f. Joins ⟦<ObjectIdentifierAsn1 as SpelledItem>⟧.leads ⟦<AlgorithmKinds as Kinds>⟧.spells f.0 f.1) (row_of v))
         (identified_laws ⟦<ObjectIdentifierAsn1 as SpelledItem>⟧.before ⟦<ObjectIdentifierAsn1 as SpelledItem>⟧.is_told ⟦<ObjectIdentifierAsn1 as SpelledItem>⟧.place
         ⟦<ObjectIdentifierAsn1 as SpelledItem>⟧.leads ⟦<ObjectIdentifierAsn1 as SpelledItem>⟧.field_laws
         ⟦<AlgorithmKinds as Kinds>⟧.belongs ⟦<AlgorithmKinds as Kinds>⟧.row_firsts ⟦<AlgorithmKinds as Kinds>⟧.row_trees ⟦<AlgorithmKinds as Kinds>⟧.spells
@@ -129,18 +131,21 @@ impl Serialize for AlgorithmIdentifier {
     fn serialize<W: Sink>(&self, to: &mut Serializer<W>) -> Result<usize, Asn1DerError> {
         let id = &self.algorithm;
         match &self.parameters {
-            AlgorithmIdentifierParameters::None => to.list(48, &(id, ())),
-            AlgorithmIdentifierParameters::Null => to.list(48, &(id, (&(), ()))),
-            AlgorithmIdentifierParameters::Aes(params) => to.list(48, &(id, (params, ()))),
-            AlgorithmIdentifierParameters::Ec(curve) => to.list(48, &(id, (curve, ()))),
-            AlgorithmIdentifierParameters::RsassaPss(params) => to.list(48, &(id, (params, ()))),
+            AlgorithmIdentifierParameters::None => to.list(SEQUENCE, &(id, ())),
+            AlgorithmIdentifierParameters::Null => to.list(SEQUENCE, &(id, (&(), ()))),
+            AlgorithmIdentifierParameters::Aes(params) => to.list(SEQUENCE, &(id, (params, ()))),
+            AlgorithmIdentifierParameters::Ec(curve) => to.list(SEQUENCE, &(id, (curve, ()))),
+            AlgorithmIdentifierParameters::RsassaPss(params) => to.list(
+                SEQUENCE,
+                &(id, (params, ())),
+            ),
         }
     }
 }
 
 impl Deserialize for AlgorithmIdentifier {
     fn may_start(first: u8) -> bool {
-        first == 48
+        first == SEQUENCE
     }
 
     fn deserialize<R: Source>(from: &mut Deserializer<R>) -> Result<Self, Asn1DerError> {
@@ -160,11 +165,11 @@ impl Spelled for AlgorithmIdentifier {
     ghost use Rattle.x509_algorithms.specs.AlgorithmKinds.{same_trees};
     ghost use Rattle.x509_algorithms.specs.AlgorithmLaws.{row_of, same_algorithm};
 
-    ghost spells = { λ v. Holds 48 (λ f. Joins ⟦<ObjectIdentifierAsn1 as SpelledItem>⟧.leads ⟦<AlgorithmKinds as Kinds>⟧.spells f.0 f.1) (row_of v) };
+    ghost spells = { λ v. Holds sequence_octet (λ f. Joins ⟦<ObjectIdentifierAsn1 as SpelledItem>⟧.leads ⟦<AlgorithmKinds as Kinds>⟧.spells f.0 f.1) (row_of v) };
 
-    ghost written = { λ v. sequence (λ f. ⟦<ObjectIdentifierAsn1 as SpelledItem>⟧.place f.0 (⟦<AlgorithmKinds as Kinds>⟧.row_trees f.1)) 48 (row_of v) };
+    ghost written = { λ v. sequence (λ f. ⟦<ObjectIdentifierAsn1 as SpelledItem>⟧.place f.0 (⟦<AlgorithmKinds as Kinds>⟧.row_trees f.1)) sequence_octet (row_of v) };
 
-    ghost begun = { only 48 };
+    ghost begun = { only sequence_octet };
 
     ghost has_low_tags = { true };
 
@@ -174,7 +179,7 @@ impl Spelled for AlgorithmIdentifier {
         (⟦<AlgorithmKinds as Kinds>⟧.kind_laws (refl {a = true})) (refl {a = true}) row_of same_algorithm (λ v. v.of_its_algorithm) };
 
     fn may_begin_with(first: u8) -> bool {
-        first == 48
+        first == SEQUENCE
     }
 
     fn read_counted(alloc: Global, bytes: &[u8]) -> Result<Counted<Self>, X509Fault> {
@@ -191,6 +196,6 @@ impl Spelled for AlgorithmIdentifier {
         Ok(Counted { value, count })
     }
 
-    ghost written_is = { λ i v. constructed 48 (⟦<ObjectIdentifierAsn1 as SpelledItem>⟧.place v.algorithm (same_trees ⟦<AlgorithmKinds as Kinds>⟧.row_trees refl refl true true
+    ghost written_is = { λ i v. constructed sequence_octet (⟦<ObjectIdentifierAsn1 as SpelledItem>⟧.place v.algorithm (same_trees ⟦<AlgorithmKinds as Kinds>⟧.row_trees refl refl true true
         (is_rsa (oid_content v.algorithm.0)) (is_signature (oid_content v.algorithm.0)) v.parameters i)) };
 }

@@ -2,10 +2,12 @@
 ghost use Rattle.std.specs.Prelude.{◌≡◌, ℕ, List, true, IsTrue, MatchResult};
 ghost use Rattle.asn1_leaves.specs.ObjectIdentifier.{oid_content};
 ghost use Rattle.x509_algorithms.specs.AlgorithmClasses.{is_hash};
+ghost use Rattle.asn1_der.specs.Octets.{sequence_octet};
 
 use crate::algorithm_identifier::AlgorithmIdentifier;
 use crate::algorithm_kinds::{AlgorithmIdentifierParameters, AlgorithmKinds};
 use crate::hash_identifier::HashIdentifier;
+use asn1_der::octets::SEQUENCE;
 use devices::Sink;
 use picky_asn1::wrapper::{ObjectIdentifierAsn1, OctetStringAsn1};
 use picky_asn1_der::{Asn1DerError, Row2, Serialize, Serializer, fields_of};
@@ -65,22 +67,22 @@ impl Serialize for DigestInfo {
     ghost use Rattle.x509_algorithms.specs.AlgorithmLaws.{injective_by};
     ghost use Rattle.x509_algorithms.specs.DigestRows.{digest_row, one_digest, has_null};
 
-    ghost tree = { λ v. constructed 48 (more (⟦<AlgorithmIdentifier as Serialize>⟧.tree v.oid) (more (⟦<OctetStringAsn1 as Serialize>⟧.tree v.digest) none)) };
+    ghost tree = { λ v. constructed sequence_octet (more (⟦<AlgorithmIdentifier as Serialize>⟧.tree v.oid) (more (⟦<OctetStringAsn1 as Serialize>⟧.tree v.digest) none)) };
 
-    ghost firsts = { only 48 };
+    ghost firsts = { only sequence_octet };
 
-    ghost begins = { λ _. may_begin-only 48 };
+    ghost begins = { λ _. may_begin-only sequence_octet };
 
-    ghost injective = { injective_by (λ v. constructed 48 (more (⟦<AlgorithmIdentifier as Serialize>⟧.tree v.oid) (more (⟦<OctetStringAsn1 as Serialize>⟧.tree v.digest) none)))
-        (λ v. sequence ⟦<DigestRow as SpelledFields>⟧.row_trees 48 (digest_row v))
-        (λ v i. constructed 48 (more (constructed 48 (⟦<ObjectIdentifierAsn1 as SpelledItem>⟧.place v.oid.algorithm (⟦<AlgorithmKinds as Kinds>⟧.row_trees (kinds_by true true (has_null v i)))))
+    ghost injective = { injective_by (λ v. constructed sequence_octet (more (⟦<AlgorithmIdentifier as Serialize>⟧.tree v.oid) (more (⟦<OctetStringAsn1 as Serialize>⟧.tree v.digest) none)))
+        (λ v. sequence ⟦<DigestRow as SpelledFields>⟧.row_trees sequence_octet (digest_row v))
+        (λ v i. constructed sequence_octet (more (constructed sequence_octet (⟦<ObjectIdentifierAsn1 as SpelledItem>⟧.place v.oid.algorithm (⟦<AlgorithmKinds as Kinds>⟧.row_trees (kinds_by true true (has_null v i)))))
         (more (⟦<OctetStringAsn1 as Serialize>⟧.tree v.digest) none)))
-        (laws_injective true (only 48) (λ v. sequence ⟦<DigestRow as SpelledFields>⟧.row_trees 48 (digest_row v)) (λ v. Holds 48 ⟦<DigestRow as SpelledFields>⟧.spells (digest_row v))
-        (struct_laws 48 refl ⟦<DigestRow as SpelledFields>⟧.row_firsts ⟦<DigestRow as SpelledFields>⟧.row_trees ⟦<DigestRow as SpelledFields>⟧.spells
+        (laws_injective true (only sequence_octet) (λ v. sequence ⟦<DigestRow as SpelledFields>⟧.row_trees sequence_octet (digest_row v)) (λ v. Holds sequence_octet ⟦<DigestRow as SpelledFields>⟧.spells (digest_row v))
+        (struct_laws sequence_octet refl ⟦<DigestRow as SpelledFields>⟧.row_firsts ⟦<DigestRow as SpelledFields>⟧.row_trees ⟦<DigestRow as SpelledFields>⟧.spells
         (⟦<DigestRow as SpelledFields>⟧.row_laws (refl {a = true})) digest_row one_digest)) };
 
     fn serialize<W: Sink>(&self, to: &mut Serializer<W>) -> Result<usize, Asn1DerError> {
-        to.list(48, &fields_of![self; oid, digest])
+        to.list(SEQUENCE, &fields_of![self; oid, digest])
     }
 }
 
@@ -94,23 +96,23 @@ impl Spelled for DigestInfo {
     ghost use Rattle.x509_algorithms.specs.AlgorithmKinds.{kinds_by};
     ghost use Rattle.x509_algorithms.specs.DigestRows.{digest_row, one_digest, has_null};
 
-    ghost spells = { λ v. Holds 48 ⟦<DigestRow as SpelledFields>⟧.spells (digest_row v) };
+    ghost spells = { λ v. Holds sequence_octet ⟦<DigestRow as SpelledFields>⟧.spells (digest_row v) };
 
-    ghost written = { λ v. sequence ⟦<DigestRow as SpelledFields>⟧.row_trees 48 (digest_row v) };
+    ghost written = { λ v. sequence ⟦<DigestRow as SpelledFields>⟧.row_trees sequence_octet (digest_row v) };
 
-    ghost begun = { only 48 };
+    ghost begun = { only sequence_octet };
 
     ghost has_low_tags = { true };
 
-    ghost laws = { struct_laws 48 refl ⟦<DigestRow as SpelledFields>⟧.row_firsts ⟦<DigestRow as SpelledFields>⟧.row_trees ⟦<DigestRow as SpelledFields>⟧.spells
+    ghost laws = { struct_laws sequence_octet refl ⟦<DigestRow as SpelledFields>⟧.row_firsts ⟦<DigestRow as SpelledFields>⟧.row_trees ⟦<DigestRow as SpelledFields>⟧.spells
         (⟦<DigestRow as SpelledFields>⟧.row_laws (refl {a = true})) digest_row one_digest };
 
     fn may_begin_with(first: u8) -> bool {
-        first == 48
+        first == SEQUENCE
     }
 
     fn read_counted(alloc: Global, bytes: &[u8]) -> Result<Counted<Self>, X509Fault> {
-        let read: Counted<DigestRow> = read_fields(alloc, 48, bytes)?;
+        let read: Counted<DigestRow> = read_fields(alloc, SEQUENCE, bytes)?;
         let count = read.count;
         let (hash, (digest, ())) = read.into_value();
         let oid = AlgorithmIdentifier::of_hash(hash);
@@ -118,6 +120,6 @@ impl Spelled for DigestInfo {
         Ok(Counted { value, count })
     }
 
-    ghost written_is = { λ i v. constructed 48 (more (constructed 48 (⟦<ObjectIdentifierAsn1 as SpelledItem>⟧.place v.oid.algorithm (⟦<AlgorithmKinds as Kinds>⟧.row_trees (kinds_by true true (has_null v i)))))
+    ghost written_is = { λ i v. constructed sequence_octet (more (constructed sequence_octet (⟦<ObjectIdentifierAsn1 as SpelledItem>⟧.place v.oid.algorithm (⟦<AlgorithmKinds as Kinds>⟧.row_trees (kinds_by true true (has_null v i)))))
         (more (⟦<OctetStringAsn1 as Serialize>⟧.tree v.digest) none)) };
 }

@@ -2,8 +2,10 @@
 ghost use Rattle.std.specs.Prelude.{◌≡◌, ℕ, List, true, IsTrue, MatchResult};
 ghost use Rattle.asn1_leaves.specs.ObjectIdentifier.{oid_content};
 ghost use Rattle.x509_algorithms.specs.AlgorithmClasses.{is_hash};
+ghost use Rattle.asn1_der.specs.Octets.{sequence_octet};
 
 use crate::algorithm_class::Hashes;
+use asn1_der::octets::SEQUENCE;
 use devices::Sink;
 use picky_asn1::wrapper::ObjectIdentifierAsn1;
 use picky_asn1_der::{Asn1DerError, Serialize, Serializer};
@@ -42,20 +44,20 @@ impl Serialize for HashIdentifier {
     ghost use Rattle.x509_spelling.specs.Spellings.{Holds, Joins};
     ghost use Rattle.x509_algorithms.specs.HashIdentifiers.{hash_row, same_hash_row};
 
-    ghost tree = { λ v. sequence (λ f. ⟦<ObjectIdentifierAsn1 as SpelledItem>⟧.place f.0 (⟦<HashKinds as Kinds>⟧.row_trees f.1)) 48 (hash_row v) };
+    ghost tree = { λ v. sequence (λ f. ⟦<ObjectIdentifierAsn1 as SpelledItem>⟧.place f.0 (⟦<HashKinds as Kinds>⟧.row_trees f.1)) sequence_octet (hash_row v) };
 
-    ghost firsts = { only 48 };
+    ghost firsts = { only sequence_octet };
 
-    ghost begins = { λ _. may_begin-only 48 };
+    ghost begins = { λ _. may_begin-only sequence_octet };
 
-    ghost injective = { laws_injective true (only 48) (λ v. sequence (λ f. ⟦<ObjectIdentifierAsn1 as SpelledItem>⟧.place f.0 (⟦<HashKinds as Kinds>⟧.row_trees f.1)) 48 (hash_row v)) (λ v. Holds 48 (λ f. Joins ⟦<ObjectIdentifierAsn1 as SpelledItem>⟧.leads ⟦<HashKinds as Kinds>⟧.spells f.0 f.1) (hash_row v))
+    ghost injective = { laws_injective true (only sequence_octet) (λ v. sequence (λ f. ⟦<ObjectIdentifierAsn1 as SpelledItem>⟧.place f.0 (⟦<HashKinds as Kinds>⟧.row_trees f.1)) sequence_octet (hash_row v)) (λ v. Holds sequence_octet (λ f. Joins ⟦<ObjectIdentifierAsn1 as SpelledItem>⟧.leads ⟦<HashKinds as Kinds>⟧.spells f.0 f.1) (hash_row v))
         (identified_laws ⟦<ObjectIdentifierAsn1 as SpelledItem>⟧.before ⟦<ObjectIdentifierAsn1 as SpelledItem>⟧.is_told ⟦<ObjectIdentifierAsn1 as SpelledItem>⟧.place
         ⟦<ObjectIdentifierAsn1 as SpelledItem>⟧.leads ⟦<ObjectIdentifierAsn1 as SpelledItem>⟧.field_laws
         ⟦<HashKinds as Kinds>⟧.belongs ⟦<HashKinds as Kinds>⟧.row_firsts ⟦<HashKinds as Kinds>⟧.row_trees ⟦<HashKinds as Kinds>⟧.spells
         (⟦<HashKinds as Kinds>⟧.kind_laws (refl {a = true})) (refl {a = true}) hash_row same_hash_row (λ v. v.of_a_hash)) };
 
     fn serialize<W: Sink>(&self, to: &mut Serializer<W>) -> Result<usize, Asn1DerError> {
-        to.list(48, &(&self.oid, (&(), ())))
+        to.list(SEQUENCE, &(&self.oid, (&(), ())))
     }
 }
 
@@ -67,11 +69,11 @@ impl Spelled for HashIdentifier {
     ghost use Rattle.x509_spelling.specs.Spellings.{Holds, Joins};
     ghost use Rattle.x509_algorithms.specs.HashIdentifiers.{hash_row, same_hash_row};
 
-    ghost spells = { λ v. Holds 48 (λ f. Joins ⟦<ObjectIdentifierAsn1 as SpelledItem>⟧.leads ⟦<HashKinds as Kinds>⟧.spells f.0 f.1) (hash_row v) };
+    ghost spells = { λ v. Holds sequence_octet (λ f. Joins ⟦<ObjectIdentifierAsn1 as SpelledItem>⟧.leads ⟦<HashKinds as Kinds>⟧.spells f.0 f.1) (hash_row v) };
 
-    ghost written = { λ v. sequence (λ f. ⟦<ObjectIdentifierAsn1 as SpelledItem>⟧.place f.0 (⟦<HashKinds as Kinds>⟧.row_trees f.1)) 48 (hash_row v) };
+    ghost written = { λ v. sequence (λ f. ⟦<ObjectIdentifierAsn1 as SpelledItem>⟧.place f.0 (⟦<HashKinds as Kinds>⟧.row_trees f.1)) sequence_octet (hash_row v) };
 
-    ghost begun = { only 48 };
+    ghost begun = { only sequence_octet };
 
     ghost has_low_tags = { true };
 
@@ -81,7 +83,7 @@ impl Spelled for HashIdentifier {
         (⟦<HashKinds as Kinds>⟧.kind_laws (refl {a = true})) (refl {a = true}) hash_row same_hash_row (λ v. v.of_a_hash) };
 
     fn may_begin_with(first: u8) -> bool {
-        first == 48
+        first == SEQUENCE
     }
 
     fn read_counted(alloc: Global, bytes: &[u8]) -> Result<Counted<Self>, X509Fault> {

@@ -1,6 +1,8 @@
 //! Values of any type (RFC 2986, section 4.1).
 ghost use Rattle.std.specs.Prelude.{◌≡◌, MatchResult};
+ghost use Rattle.asn1_der.specs.Octets.{set_octet};
 
+use asn1_der::octets::SET;
 use devices::{Sink, Source};
 use picky_asn1::wrapper::Asn1SetOf;
 use picky_asn1_der::{Asn1DerError, Deserializer, Elements, RawElement, Serializer, Tagged};
@@ -27,9 +29,9 @@ impl Clone for AnyValues {
 impl Tagged for AnyValues {
     type Row = Elements<RawElement>;
 
-    const FIRST: u8 = 49;
+    const FIRST: u8 = SET;
 
-    ghost FIRST = { 49 };
+    ghost FIRST = { set_octet };
 
     ghost row_tree = { ⟦<Asn1SetOf<RawElement> as Tagged>⟧.row_tree };
 

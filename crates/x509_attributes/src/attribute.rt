@@ -3,9 +3,11 @@ ghost use Rattle.std.specs.Prelude.{◌≡◌, ℕ, List, [], ◌∷◌, true, I
 ghost use Rattle.x509_oids.specs.Identifiers as oids;
 ghost use Rattle.x509_attributes.specs.AttributeValues.{is_value_of, kinds_of, id_data};
 ghost use Rattle.x509_attributes.specs.declared.attribute_values.AttributeValues.TheVariants as kind;
+ghost use Rattle.asn1_der.specs.Octets.{sequence_octet};
 
 use crate::attribute_values::{AttributeKinds, AttributeValues, of_kinds};
 use crate::requested_extensions::RequestedExtensions;
+use asn1_der::octets::SEQUENCE;
 use devices::Sink;
 use picky_asn1::LeafFault;
 use picky_asn1::oid::ObjectIdentifier;
@@ -137,14 +139,14 @@ impl Serialize for Attribute {
     ghost use Rattle.x509_spelling.specs.Spellings.{Holds, Joins};
     ghost use Rattle.x509_attributes.specs.AttributeLaws.{row_of, same_attribute};
 
-    ghost tree = { λ v. sequence (λ f. ⟦<ObjectIdentifierAsn1 as SpelledItem>⟧.place f.0 (⟦<AttributeKinds as Kinds>⟧.row_trees f.1)) 48 (row_of v) };
+    ghost tree = { λ v. sequence (λ f. ⟦<ObjectIdentifierAsn1 as SpelledItem>⟧.place f.0 (⟦<AttributeKinds as Kinds>⟧.row_trees f.1)) sequence_octet (row_of v) };
 
-    ghost firsts = { only 48 };
+    ghost firsts = { only sequence_octet };
 
-    ghost begins = { λ _. may_begin-only 48 };
+    ghost begins = { λ _. may_begin-only sequence_octet };
 
-    ghost injective = { laws_injective true (only 48) (λ v. sequence (λ f. ⟦<ObjectIdentifierAsn1 as SpelledItem>⟧.place f.0 (⟦<AttributeKinds as Kinds>⟧.row_trees f.1)) 48 (row_of v))
-        (λ v. Holds 48 (λ f. Joins ⟦<ObjectIdentifierAsn1 as SpelledItem>⟧.leads ⟦<AttributeKinds as Kinds>⟧.spells f.0 f.1) (row_of v))
+    ghost injective = { laws_injective true (only sequence_octet) (λ v. sequence (λ f. ⟦<ObjectIdentifierAsn1 as SpelledItem>⟧.place f.0 (⟦<AttributeKinds as Kinds>⟧.row_trees f.1)) sequence_octet (row_of v))
+        (λ v. Holds sequence_octet (λ f. Joins ⟦<ObjectIdentifierAsn1 as SpelledItem>⟧.leads ⟦<AttributeKinds as Kinds>⟧.spells f.0 f.1) (row_of v))
         (identified_laws ⟦<ObjectIdentifierAsn1 as SpelledItem>⟧.before ⟦<ObjectIdentifierAsn1 as SpelledItem>⟧.is_told ⟦<ObjectIdentifierAsn1 as SpelledItem>⟧.place
         ⟦<ObjectIdentifierAsn1 as SpelledItem>⟧.leads ⟦<ObjectIdentifierAsn1 as SpelledItem>⟧.field_laws
         ⟦<AttributeKinds as Kinds>⟧.belongs ⟦<AttributeKinds as Kinds>⟧.row_firsts ⟦<AttributeKinds as Kinds>⟧.row_trees ⟦<AttributeKinds as Kinds>⟧.spells
@@ -153,12 +155,12 @@ impl Serialize for Attribute {
     fn serialize<W: Sink>(&self, to: &mut Serializer<W>) -> Result<usize, Asn1DerError> {
         let ty = &self.ty;
         match &self.value {
-            AttributeValues::Extensions(values) => to.list(48, &(ty, (values, ()))),
-            AttributeValues::ContentType(values) => to.list(48, &(ty, (values, ()))),
-            AttributeValues::SpcStatementType(values) => to.list(48, &(ty, (values, ()))),
-            AttributeValues::MessageDigest(values) => to.list(48, &(ty, (values, ()))),
-            AttributeValues::SigningTime(values) => to.list(48, &(ty, (values, ()))),
-            AttributeValues::Custom(values) => to.list(48, &(ty, (values, ()))),
+            AttributeValues::Extensions(values) => to.list(SEQUENCE, &(ty, (values, ()))),
+            AttributeValues::ContentType(values) => to.list(SEQUENCE, &(ty, (values, ()))),
+            AttributeValues::SpcStatementType(values) => to.list(SEQUENCE, &(ty, (values, ()))),
+            AttributeValues::MessageDigest(values) => to.list(SEQUENCE, &(ty, (values, ()))),
+            AttributeValues::SigningTime(values) => to.list(SEQUENCE, &(ty, (values, ()))),
+            AttributeValues::Custom(values) => to.list(SEQUENCE, &(ty, (values, ()))),
         }
     }
 }
@@ -171,11 +173,11 @@ impl Spelled for Attribute {
     ghost use Rattle.x509_spelling.specs.Spellings.{Holds, Joins};
     ghost use Rattle.x509_attributes.specs.AttributeLaws.{row_of, same_attribute};
 
-    ghost spells = { λ v. Holds 48 (λ f. Joins ⟦<ObjectIdentifierAsn1 as SpelledItem>⟧.leads ⟦<AttributeKinds as Kinds>⟧.spells f.0 f.1) (row_of v) };
+    ghost spells = { λ v. Holds sequence_octet (λ f. Joins ⟦<ObjectIdentifierAsn1 as SpelledItem>⟧.leads ⟦<AttributeKinds as Kinds>⟧.spells f.0 f.1) (row_of v) };
 
-    ghost written = { λ v. sequence (λ f. ⟦<ObjectIdentifierAsn1 as SpelledItem>⟧.place f.0 (⟦<AttributeKinds as Kinds>⟧.row_trees f.1)) 48 (row_of v) };
+    ghost written = { λ v. sequence (λ f. ⟦<ObjectIdentifierAsn1 as SpelledItem>⟧.place f.0 (⟦<AttributeKinds as Kinds>⟧.row_trees f.1)) sequence_octet (row_of v) };
 
-    ghost begun = { only 48 };
+    ghost begun = { only sequence_octet };
 
     ghost has_low_tags = { true };
 
@@ -185,7 +187,7 @@ impl Spelled for Attribute {
         (⟦<AttributeKinds as Kinds>⟧.kind_laws (refl {a = true})) (refl {a = true}) row_of same_attribute (λ v. v.of_its_type) };
 
     fn may_begin_with(first: u8) -> bool {
-        first == 48
+        first == SEQUENCE
     }
 
     fn read_counted(alloc: Global, bytes: &[u8]) -> Result<Counted<Self>, X509Fault> {

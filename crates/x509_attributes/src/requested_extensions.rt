@@ -1,6 +1,8 @@
 //! Extensions that a certificate is requested with (RFC 2985, section 5.4.2).
 ghost use Rattle.std.specs.Prelude.{◌≡◌, MatchResult};
+ghost use Rattle.asn1_der.specs.Octets.{set_octet};
 
+use asn1_der::octets::SET;
 use devices::Sink;
 use picky_asn1_der::{Asn1DerError, Serialize, Serializer};
 use std::alloc::{AllocError, Global};
@@ -87,17 +89,17 @@ impl Serialize for RequestedExtensions {
     ghost use Rattle.asn1_der.proofs.Rows.{many-injective};
     ghost use Rattle.asn1_der.proofs.Tagged.{sequence_laws};
 
-    ghost tree = { sequence ⟦<Many<Extensions> as SpelledFields>⟧.row_trees 49 };
+    ghost tree = { sequence ⟦<Many<Extensions> as SpelledFields>⟧.row_trees set_octet };
 
-    ghost firsts = { only 49 };
+    ghost firsts = { only set_octet };
 
-    ghost begins = { λ _. may_begin-only 49 };
+    ghost begins = { λ _. may_begin-only set_octet };
 
-    ghost injective = { (sequence_laws ⟦<Many<Extensions> as SpelledFields>⟧.row_trees (many-injective _ ⟦<Extensions as Serialize>⟧.tree ⟦<Extensions as Serialize>⟧.injective)).injective 49 };
+    ghost injective = { (sequence_laws ⟦<Many<Extensions> as SpelledFields>⟧.row_trees (many-injective _ ⟦<Extensions as Serialize>⟧.tree ⟦<Extensions as Serialize>⟧.injective)).injective set_octet };
 
     fn serialize<W: Sink>(&self, to: &mut Serializer<W>) -> Result<usize, Asn1DerError> {
         let items = self.as_slice();
-        to.list(49, &items)
+        to.list(SET, &items)
     }
 }
 
@@ -108,23 +110,23 @@ impl Spelled for RequestedExtensions {
     ghost use Rattle.x509_spelling.specs.Spellings.{Holds};
     ghost use Rattle.x509_spelling.specs.RowLaws.{sequence_laws};
 
-    ghost spells = { Holds 49 ⟦<Many<Extensions> as SpelledFields>⟧.spells };
+    ghost spells = { Holds set_octet ⟦<Many<Extensions> as SpelledFields>⟧.spells };
 
-    ghost written = { sequence ⟦<Many<Extensions> as SpelledFields>⟧.row_trees 49 };
+    ghost written = { sequence ⟦<Many<Extensions> as SpelledFields>⟧.row_trees set_octet };
 
-    ghost begun = { only 49 };
+    ghost begun = { only set_octet };
 
     ghost has_low_tags = { true };
 
-    ghost laws = { sequence_laws 49 refl ⟦<Many<Extensions> as SpelledFields>⟧.row_firsts ⟦<Many<Extensions> as SpelledFields>⟧.row_trees
+    ghost laws = { sequence_laws set_octet refl ⟦<Many<Extensions> as SpelledFields>⟧.row_firsts ⟦<Many<Extensions> as SpelledFields>⟧.row_trees
         ⟦<Many<Extensions> as SpelledFields>⟧.spells (⟦<Many<Extensions> as SpelledFields>⟧.row_laws (refl {a = true})) };
 
     fn may_begin_with(first: u8) -> bool {
-        first == 49
+        first == SET
     }
 
     fn read_counted(alloc: Global, bytes: &[u8]) -> Result<Counted<Self>, X509Fault> {
-        let read: Counted<Many<Extensions>> = read_fields(alloc, 49, bytes)?;
+        let read: Counted<Many<Extensions>> = read_fields(alloc, SET, bytes)?;
         let count = read.count;
         let value = RequestedExtensions::from(read.into_value().into_vec());
         Ok(Counted { value, count })

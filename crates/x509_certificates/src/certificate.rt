@@ -3,9 +3,11 @@ ghost use Rattle.std.specs.Prelude.{◌≡◌, None, Some, IfOk, MatchOption, Ma
 ghost use Rattle.x509_spelling.specs.Answers.{ReadsSpelling};
 ghost use Rattle.x509_spelling.specs.SignedParts.{IsSignedPart, value_of};
 ghost use Rattle.x509_certificates.specs.Certificates.{certificate_row};
+ghost use Rattle.asn1_der.specs.Octets.{sequence_octet};
 
 use crate::held::first_held;
 use crate::tbs_certificate::TbsCertificate;
+use asn1_der::octets::SEQUENCE;
 use devices::Sink;
 use picky_asn1::wrapper::BitStringAsn1;
 use picky_asn1_der::{Asn1DerError, LentFields, Serialize, Serializer, fields_of};
@@ -105,20 +107,20 @@ impl Serialize for Certificate {
     ghost use Rattle.x509_open_types.specs.HeldLaws.{laws_injective};
     ghost use Rattle.x509_certificates.specs.Certificates.{certificate_row, one_certificate};
 
-    ghost tree = { λ v. sequence ⟦<CertificateRow as SpelledFields>⟧.row_trees 48 (certificate_row v) };
+    ghost tree = { λ v. sequence ⟦<CertificateRow as SpelledFields>⟧.row_trees sequence_octet (certificate_row v) };
 
-    ghost firsts = { only 48 };
+    ghost firsts = { only sequence_octet };
 
-    ghost begins = { λ _. may_begin-only 48 };
+    ghost begins = { λ _. may_begin-only sequence_octet };
 
-    ghost injective = { laws_injective true (only 48) (λ v. sequence ⟦<CertificateRow as SpelledFields>⟧.row_trees 48 (certificate_row v))
-        (λ v. Holds 48 ⟦<CertificateRow as SpelledFields>⟧.spells (certificate_row v))
-        (struct_laws 48 refl ⟦<CertificateRow as SpelledFields>⟧.row_firsts ⟦<CertificateRow as SpelledFields>⟧.row_trees ⟦<CertificateRow as SpelledFields>⟧.spells
+    ghost injective = { laws_injective true (only sequence_octet) (λ v. sequence ⟦<CertificateRow as SpelledFields>⟧.row_trees sequence_octet (certificate_row v))
+        (λ v. Holds sequence_octet ⟦<CertificateRow as SpelledFields>⟧.spells (certificate_row v))
+        (struct_laws sequence_octet refl ⟦<CertificateRow as SpelledFields>⟧.row_firsts ⟦<CertificateRow as SpelledFields>⟧.row_trees ⟦<CertificateRow as SpelledFields>⟧.spells
         (⟦<CertificateRow as SpelledFields>⟧.row_laws (refl {a = true})) certificate_row one_certificate) };
 
     fn serialize<W: Sink>(&self, to: &mut Serializer<W>) -> Result<usize, Asn1DerError> {
         let signature = Ahead(&self.signature_algorithm, (&self.signature_value, ()));
-        to.list(48, &(&self.tbs_certificate, signature))
+        to.list(SEQUENCE, &(&self.tbs_certificate, signature))
     }
 }
 
@@ -130,23 +132,23 @@ impl Spelled for Certificate {
     ghost use Rattle.x509_spelling.specs.RowLaws.{struct_laws};
     ghost use Rattle.x509_certificates.specs.Certificates.{certificate_row, one_certificate};
 
-    ghost spells = { λ v. Holds 48 ⟦<CertificateRow as SpelledFields>⟧.spells (certificate_row v) };
+    ghost spells = { λ v. Holds sequence_octet ⟦<CertificateRow as SpelledFields>⟧.spells (certificate_row v) };
 
-    ghost written = { λ v. sequence ⟦<CertificateRow as SpelledFields>⟧.row_trees 48 (certificate_row v) };
+    ghost written = { λ v. sequence ⟦<CertificateRow as SpelledFields>⟧.row_trees sequence_octet (certificate_row v) };
 
-    ghost begun = { only 48 };
+    ghost begun = { only sequence_octet };
 
     ghost has_low_tags = { true };
 
-    ghost laws = { struct_laws 48 refl ⟦<CertificateRow as SpelledFields>⟧.row_firsts ⟦<CertificateRow as SpelledFields>⟧.row_trees ⟦<CertificateRow as SpelledFields>⟧.spells
+    ghost laws = { struct_laws sequence_octet refl ⟦<CertificateRow as SpelledFields>⟧.row_firsts ⟦<CertificateRow as SpelledFields>⟧.row_trees ⟦<CertificateRow as SpelledFields>⟧.spells
         (⟦<CertificateRow as SpelledFields>⟧.row_laws (refl {a = true})) certificate_row one_certificate };
 
     fn may_begin_with(first: u8) -> bool {
-        first == 48
+        first == SEQUENCE
     }
 
     fn read_counted(alloc: Global, bytes: &[u8]) -> Result<Counted<Self>, X509Fault> {
-        let read: Counted<CertificateRow> = read_fields(alloc, 48, bytes)?;
+        let read: Counted<CertificateRow> = read_fields(alloc, SEQUENCE, bytes)?;
         let count = read.count;
         let value = of_row(read.into_value());
         Ok(Counted { value, count })

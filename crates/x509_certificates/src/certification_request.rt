@@ -3,8 +3,10 @@ ghost use Rattle.std.specs.Prelude.{◌≡◌, IfOk, MatchResult};
 ghost use Rattle.x509_spelling.specs.Answers.{ReadsSpelling};
 ghost use Rattle.x509_spelling.specs.SignedParts.{IsSignedPart, value_of};
 ghost use Rattle.x509_certificates.specs.Requests.{request_row};
+ghost use Rattle.asn1_der.specs.Octets.{sequence_octet};
 
 use crate::certification_request_info::CertificationRequestInfo;
+use asn1_der::octets::SEQUENCE;
 use devices::Sink;
 use picky_asn1::wrapper::BitStringAsn1;
 use picky_asn1_der::{Asn1DerError, LentFields, Serialize, Serializer, fields_of};
@@ -72,20 +74,20 @@ impl Serialize for CertificationRequest {
     ghost use Rattle.x509_open_types.specs.HeldLaws.{laws_injective};
     ghost use Rattle.x509_certificates.specs.Requests.{request_row, one_request};
 
-    ghost tree = { λ v. sequence ⟦<RequestRow as SpelledFields>⟧.row_trees 48 (request_row v) };
+    ghost tree = { λ v. sequence ⟦<RequestRow as SpelledFields>⟧.row_trees sequence_octet (request_row v) };
 
-    ghost firsts = { only 48 };
+    ghost firsts = { only sequence_octet };
 
-    ghost begins = { λ _. may_begin-only 48 };
+    ghost begins = { λ _. may_begin-only sequence_octet };
 
-    ghost injective = { laws_injective true (only 48) (λ v. sequence ⟦<RequestRow as SpelledFields>⟧.row_trees 48 (request_row v))
-        (λ v. Holds 48 ⟦<RequestRow as SpelledFields>⟧.spells (request_row v))
-        (struct_laws 48 refl ⟦<RequestRow as SpelledFields>⟧.row_firsts ⟦<RequestRow as SpelledFields>⟧.row_trees ⟦<RequestRow as SpelledFields>⟧.spells
+    ghost injective = { laws_injective true (only sequence_octet) (λ v. sequence ⟦<RequestRow as SpelledFields>⟧.row_trees sequence_octet (request_row v))
+        (λ v. Holds sequence_octet ⟦<RequestRow as SpelledFields>⟧.spells (request_row v))
+        (struct_laws sequence_octet refl ⟦<RequestRow as SpelledFields>⟧.row_firsts ⟦<RequestRow as SpelledFields>⟧.row_trees ⟦<RequestRow as SpelledFields>⟧.spells
         (⟦<RequestRow as SpelledFields>⟧.row_laws (refl {a = true})) request_row one_request) };
 
     fn serialize<W: Sink>(&self, to: &mut Serializer<W>) -> Result<usize, Asn1DerError> {
         let behind = Ahead(&self.signature_algorithm, (&self.signature, ()));
-        to.list(48, &(&self.certification_request_info, behind))
+        to.list(SEQUENCE, &(&self.certification_request_info, behind))
     }
 }
 
@@ -97,23 +99,23 @@ impl Spelled for CertificationRequest {
     ghost use Rattle.x509_spelling.specs.RowLaws.{struct_laws};
     ghost use Rattle.x509_certificates.specs.Requests.{request_row, one_request};
 
-    ghost spells = { λ v. Holds 48 ⟦<RequestRow as SpelledFields>⟧.spells (request_row v) };
+    ghost spells = { λ v. Holds sequence_octet ⟦<RequestRow as SpelledFields>⟧.spells (request_row v) };
 
-    ghost written = { λ v. sequence ⟦<RequestRow as SpelledFields>⟧.row_trees 48 (request_row v) };
+    ghost written = { λ v. sequence ⟦<RequestRow as SpelledFields>⟧.row_trees sequence_octet (request_row v) };
 
-    ghost begun = { only 48 };
+    ghost begun = { only sequence_octet };
 
     ghost has_low_tags = { true };
 
-    ghost laws = { struct_laws 48 refl ⟦<RequestRow as SpelledFields>⟧.row_firsts ⟦<RequestRow as SpelledFields>⟧.row_trees ⟦<RequestRow as SpelledFields>⟧.spells
+    ghost laws = { struct_laws sequence_octet refl ⟦<RequestRow as SpelledFields>⟧.row_firsts ⟦<RequestRow as SpelledFields>⟧.row_trees ⟦<RequestRow as SpelledFields>⟧.spells
         (⟦<RequestRow as SpelledFields>⟧.row_laws (refl {a = true})) request_row one_request };
 
     fn may_begin_with(first: u8) -> bool {
-        first == 48
+        first == SEQUENCE
     }
 
     fn read_counted(alloc: Global, bytes: &[u8]) -> Result<Counted<Self>, X509Fault> {
-        let read: Counted<RequestRow> = read_fields(alloc, 48, bytes)?;
+        let read: Counted<RequestRow> = read_fields(alloc, SEQUENCE, bytes)?;
         let count = read.count;
         let value = of_row(read.into_value());
         Ok(Counted { value, count })

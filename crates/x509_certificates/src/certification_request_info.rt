@@ -1,7 +1,9 @@
 //! What the subject of a certification request signs (RFC 2986, section 4.1).
 ghost use Rattle.std.specs.Prelude.{◌≡◌, [], IfOk, MatchResult};
 ghost use Rattle.x509_certificates.specs.Requests.{info_row};
+ghost use Rattle.asn1_der.specs.Octets.{sequence_octet};
 
+use asn1_der::octets::SEQUENCE;
 use devices::Sink;
 use picky_asn1_der::{Asn1DerError, LentFields, Serialize, Serializer, fields_of};
 use std::alloc::{AllocError, Global};
@@ -108,20 +110,20 @@ impl Serialize for CertificationRequestInfo {
     ghost use Rattle.x509_open_types.specs.HeldLaws.{laws_injective};
     ghost use Rattle.x509_certificates.specs.Requests.{info_row, one_info};
 
-    ghost tree = { λ v. sequence ⟦<InfoRow as SpelledFields>⟧.row_trees 48 (info_row v) };
+    ghost tree = { λ v. sequence ⟦<InfoRow as SpelledFields>⟧.row_trees sequence_octet (info_row v) };
 
-    ghost firsts = { only 48 };
+    ghost firsts = { only sequence_octet };
 
-    ghost begins = { λ _. may_begin-only 48 };
+    ghost begins = { λ _. may_begin-only sequence_octet };
 
-    ghost injective = { laws_injective true (only 48) (λ v. sequence ⟦<InfoRow as SpelledFields>⟧.row_trees 48 (info_row v)) (λ v. Holds 48 ⟦<InfoRow as SpelledFields>⟧.spells (info_row v))
-        (struct_laws 48 refl ⟦<InfoRow as SpelledFields>⟧.row_firsts ⟦<InfoRow as SpelledFields>⟧.row_trees ⟦<InfoRow as SpelledFields>⟧.spells
+    ghost injective = { laws_injective true (only sequence_octet) (λ v. sequence ⟦<InfoRow as SpelledFields>⟧.row_trees sequence_octet (info_row v)) (λ v. Holds sequence_octet ⟦<InfoRow as SpelledFields>⟧.spells (info_row v))
+        (struct_laws sequence_octet refl ⟦<InfoRow as SpelledFields>⟧.row_firsts ⟦<InfoRow as SpelledFields>⟧.row_trees ⟦<InfoRow as SpelledFields>⟧.spells
         (⟦<InfoRow as SpelledFields>⟧.row_laws (refl {a = true})) info_row one_info) };
 
     fn serialize<W: Sink>(&self, to: &mut Serializer<W>) -> Result<usize, Asn1DerError> {
         let attributes = (&self.attributes, ());
         let subject = (&self.subject, (&self.subject_public_key_info, attributes));
-        to.list(48, &(&self.version, subject))
+        to.list(SEQUENCE, &(&self.version, subject))
     }
 }
 
@@ -133,23 +135,23 @@ impl Spelled for CertificationRequestInfo {
     ghost use Rattle.x509_spelling.specs.RowLaws.{struct_laws};
     ghost use Rattle.x509_certificates.specs.Requests.{info_row, one_info};
 
-    ghost spells = { λ v. Holds 48 ⟦<InfoRow as SpelledFields>⟧.spells (info_row v) };
+    ghost spells = { λ v. Holds sequence_octet ⟦<InfoRow as SpelledFields>⟧.spells (info_row v) };
 
-    ghost written = { λ v. sequence ⟦<InfoRow as SpelledFields>⟧.row_trees 48 (info_row v) };
+    ghost written = { λ v. sequence ⟦<InfoRow as SpelledFields>⟧.row_trees sequence_octet (info_row v) };
 
-    ghost begun = { only 48 };
+    ghost begun = { only sequence_octet };
 
     ghost has_low_tags = { true };
 
-    ghost laws = { struct_laws 48 refl ⟦<InfoRow as SpelledFields>⟧.row_firsts ⟦<InfoRow as SpelledFields>⟧.row_trees ⟦<InfoRow as SpelledFields>⟧.spells
+    ghost laws = { struct_laws sequence_octet refl ⟦<InfoRow as SpelledFields>⟧.row_firsts ⟦<InfoRow as SpelledFields>⟧.row_trees ⟦<InfoRow as SpelledFields>⟧.spells
         (⟦<InfoRow as SpelledFields>⟧.row_laws (refl {a = true})) info_row one_info };
 
     fn may_begin_with(first: u8) -> bool {
-        first == 48
+        first == SEQUENCE
     }
 
     fn read_counted(alloc: Global, bytes: &[u8]) -> Result<Counted<Self>, X509Fault> {
-        let read: Counted<InfoRow> = read_fields(alloc, 48, bytes)?;
+        let read: Counted<InfoRow> = read_fields(alloc, SEQUENCE, bytes)?;
         let count = read.count;
         let value = of_row(read.into_value());
         Ok(Counted { value, count })

@@ -1,9 +1,11 @@
 //! What a certificate's issuer signs (RFC 5280, section 4.1).
 ghost use Rattle.std.specs.Prelude.{◌≡◌, MatchResult};
 ghost use Rattle.x509_certificates.specs.Certificates.{tbs_row};
+ghost use Rattle.asn1_der.specs.Octets.{sequence_octet};
 
 use crate::certificate_extensions::CertificateExtensions;
 use crate::version_field::VersionField;
+use asn1_der::octets::SEQUENCE;
 use devices::Sink;
 use picky_asn1::wrapper::IntegerAsn1;
 use picky_asn1_der::{
@@ -100,14 +102,14 @@ impl Serialize for TbsCertificate {
     ghost use Rattle.x509_open_types.specs.HeldLaws.{laws_injective};
     ghost use Rattle.x509_certificates.specs.Certificates.{tbs_row, one_tbs};
 
-    ghost tree = { λ v. sequence ⟦<TbsRow as SpelledFields>⟧.row_trees 48 (tbs_row v) };
+    ghost tree = { λ v. sequence ⟦<TbsRow as SpelledFields>⟧.row_trees sequence_octet (tbs_row v) };
 
-    ghost firsts = { only 48 };
+    ghost firsts = { only sequence_octet };
 
-    ghost begins = { λ _. may_begin-only 48 };
+    ghost begins = { λ _. may_begin-only sequence_octet };
 
-    ghost injective = { laws_injective true (only 48) (λ v. sequence ⟦<TbsRow as SpelledFields>⟧.row_trees 48 (tbs_row v)) (λ v. Holds 48 ⟦<TbsRow as SpelledFields>⟧.spells (tbs_row v))
-        (struct_laws 48 refl ⟦<TbsRow as SpelledFields>⟧.row_firsts ⟦<TbsRow as SpelledFields>⟧.row_trees ⟦<TbsRow as SpelledFields>⟧.spells
+    ghost injective = { laws_injective true (only sequence_octet) (λ v. sequence ⟦<TbsRow as SpelledFields>⟧.row_trees sequence_octet (tbs_row v)) (λ v. Holds sequence_octet ⟦<TbsRow as SpelledFields>⟧.spells (tbs_row v))
+        (struct_laws sequence_octet refl ⟦<TbsRow as SpelledFields>⟧.row_firsts ⟦<TbsRow as SpelledFields>⟧.row_trees ⟦<TbsRow as SpelledFields>⟧.spells
         (⟦<TbsRow as SpelledFields>⟧.row_laws (refl {a = true})) tbs_row one_tbs) };
 
     fn serialize<W: Sink>(&self, to: &mut Serializer<W>) -> Result<usize, Asn1DerError> {
@@ -132,23 +134,23 @@ impl Spelled for TbsCertificate {
     ghost use Rattle.x509_spelling.specs.RowLaws.{struct_laws};
     ghost use Rattle.x509_certificates.specs.Certificates.{tbs_row, one_tbs};
 
-    ghost spells = { λ v. Holds 48 ⟦<TbsRow as SpelledFields>⟧.spells (tbs_row v) };
+    ghost spells = { λ v. Holds sequence_octet ⟦<TbsRow as SpelledFields>⟧.spells (tbs_row v) };
 
-    ghost written = { λ v. sequence ⟦<TbsRow as SpelledFields>⟧.row_trees 48 (tbs_row v) };
+    ghost written = { λ v. sequence ⟦<TbsRow as SpelledFields>⟧.row_trees sequence_octet (tbs_row v) };
 
-    ghost begun = { only 48 };
+    ghost begun = { only sequence_octet };
 
     ghost has_low_tags = { true };
 
-    ghost laws = { struct_laws 48 refl ⟦<TbsRow as SpelledFields>⟧.row_firsts ⟦<TbsRow as SpelledFields>⟧.row_trees ⟦<TbsRow as SpelledFields>⟧.spells
+    ghost laws = { struct_laws sequence_octet refl ⟦<TbsRow as SpelledFields>⟧.row_firsts ⟦<TbsRow as SpelledFields>⟧.row_trees ⟦<TbsRow as SpelledFields>⟧.spells
         (⟦<TbsRow as SpelledFields>⟧.row_laws (refl {a = true})) tbs_row one_tbs };
 
     fn may_begin_with(first: u8) -> bool {
-        first == 48
+        first == SEQUENCE
     }
 
     fn read_counted(alloc: Global, bytes: &[u8]) -> Result<Counted<Self>, X509Fault> {
-        let read: Counted<TbsRow> = read_fields(alloc, 48, bytes)?;
+        let read: Counted<TbsRow> = read_fields(alloc, SEQUENCE, bytes)?;
         let count = read.count;
         let value = of_row(read.into_value());
         Ok(Counted { value, count })

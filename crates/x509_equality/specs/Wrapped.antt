@@ -1,5 +1,7 @@
 -- `==` of values under a tag, in a container, that may be missing or that have a default.
 use Rattle.std.proofs.Common.{ℕ, Bool, true, refl}
+use Rattle.std.specs.Cmp.{booleans_Decides}
+use mathlib.Core.Bool.{beq}
 use Rattle.asn1_codec.specs.declared.optional.Optional.{Optional}
 use Rattle.picky_asn1_der.specs.declared.bit_container.BitStringContainer.{BitStringContainer}
 use Rattle.picky_asn1_der.specs.declared.container.OctetStringContainer.{OctetStringContainer}
@@ -7,6 +9,7 @@ use Rattle.picky_asn1_der.specs.declared.default.DefaultField.{DefaultField}
 use Rattle.picky_asn1_der.specs.declared.implicit_tag.ImplicitContextTag.{ImplicitContextTag}
 use Rattle.picky_asn1_der.specs.declared.wrapper.ExplicitContextTag.{ExplicitContextTag}
 use Rattle.x509_open_types.specs.declared.enclosed.Explicit.{Explicit}
+use Rattle.x509_spelling.specs.declared.default_false.DefaultFalse.{DefaultFalse}
 use Rattle.x509_spelling.specs.declared.fixed_number.FixedNumber.{FixedNumber}
 use Rattle.x509_spelling.specs.declared.strict.Strict.{Strict}
 use Rattle.x509_equality.specs.Equalities.{IsEquality, told_by}
@@ -36,6 +39,10 @@ module _ {K : Type 0} {E : K → K → Bool} (same : IsEquality E) where
 
   pub strict : IsEquality (λ (v w : Strict K). E v.0 w.0)
   strict = told_by (λ v. v.0) same (λ v w e i. record { 0 = e i })
+
+-- a BOOLEAN that is FALSE by default
+pub default_false : {N : ℕ} → IsEquality (λ (v w : DefaultFalse N). beq v.0 w.0)
+default_false = told_by (λ v. v.0) booleans_Decides (λ v w e i. record { 0 = e i })
 
 -- a number that its type tells
 pub fixed_number : {N : ℕ} → IsEquality (λ (v w : FixedNumber N). true)

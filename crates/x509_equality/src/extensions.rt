@@ -1,8 +1,8 @@
 //! Extensions (RFC 5280, section 4.2).
-ghost use Rattle.std.specs.Cmp.{booleans_Decides, signed_Decides};
+ghost use Rattle.std.specs.Cmp.{signed_Decides};
 ghost use Rattle.std.specs.Cmp.Lexicographic.{bytes_decides, pointwise_decides};
 ghost use Rattle.x509_equality.specs.Equalities.{told_by, both, options, variants, or_field};
-ghost use Rattle.x509_equality.specs.Wrapped.{optional, default_field, octet_container, explicit_tag, implicit_tag};
+ghost use Rattle.x509_equality.specs.Wrapped.{optional, default_field, default_false, octet_container, explicit_tag, implicit_tag};
 ghost use Rattle.x509_equality.specs.contracts.names.GeneralNameEquality.TheImpl.Laws.{is_equality-law as general_name};
 ghost use Rattle.x509_equality.specs.contracts.usages.KeyUsageEquality.TheImpl.Laws.{is_equality-law as key_usage};
 ghost use Rattle.x509_equality.specs.contracts.parts.BasicConstraintsEquality.TheImpl.Laws.{is_equality-law as basic_constraints};
@@ -10,7 +10,7 @@ ghost use Rattle.x509_equality.specs.contracts.usages.ExtendedKeyUsageEquality.T
 ghost use Rattle.x509_equality.specs.contracts.leaves.ObjectIdentifierAsn1Equality.TheImpl.Laws.{is_equality-law as oid};
 
 use crate::Equality;
-use x509_extensions::{AuthorityKeyIdentifier, Critical, Extension, ExtensionValue, Extensions};
+use x509_extensions::{AuthorityKeyIdentifier, Extension, ExtensionValue, Extensions};
 
 impl Equality for AuthorityKeyIdentifier {
     ghost is_equality = { told_by
@@ -22,10 +22,6 @@ impl Equality for AuthorityKeyIdentifier {
           authority_cert_issuer = (e i).1.0;
           authority_cert_serial_number = (e i).1.1;
         }) };
-}
-
-impl Equality for Critical {
-    ghost is_equality = { told_by (λ v. v.0) booleans_Decides (λ v w e i. record { 0 = e i }) };
 }
 
 impl Equality for ExtensionValue {
@@ -45,13 +41,12 @@ impl Equality for ExtensionValue {
 }
 
 impl Equality for Extension {
-    ghost use Rattle.x509_equality.specs.contracts.extensions.CriticalEquality.TheImpl.Laws.{is_equality-law as critical};
     ghost use Rattle.x509_equality.specs.contracts.extensions.ExtensionValueEquality.TheImpl.Laws.{is_equality-law as extension_value};
     ghost use Rattle.x509_extensions.specs.ExtensionLaws.{same_parts};
 
     ghost is_equality = { told_by
         (λ v. (v.extn_id, (v.critical, v.extn_value)))
-        (both oid (both (default_field critical) extension_value))
+        (both oid (both (default_field default_false) extension_value))
         (λ v w e. same_parts v w (λ i. (e i).0) (λ i. (e i).1.0) (λ i. (e i).1.1)) };
 }
 

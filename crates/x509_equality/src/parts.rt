@@ -1,8 +1,8 @@
 //! Parts that many types have.
-ghost use Rattle.std.specs.Cmp.{booleans_Decides, unsigned_Decides};
+ghost use Rattle.std.specs.Cmp.{unsigned_Decides};
 ghost use Rattle.std.specs.Cmp.Lexicographic.{bytes_decides};
 ghost use Rattle.x509_equality.specs.Equalities.{told_by, both, options, bare, variants, or_field};
-ghost use Rattle.x509_equality.specs.Wrapped.{optional, default_field};
+ghost use Rattle.x509_equality.specs.Wrapped.{optional, default_field, default_false};
 ghost use Rattle.x509_equality.specs.contracts.leaves.RawElementEquality.TheImpl.Laws.{is_equality-law as raw};
 ghost use Rattle.x509_equality.specs.contracts.leaves.ObjectIdentifierAsn1Equality.TheImpl.Laws.{is_equality-law as oid};
 ghost use Rattle.x509_equality.specs.contracts.leaves.UTCTimeAsn1Equality.TheImpl.Laws.{is_equality-law as utc_time};
@@ -10,8 +10,8 @@ ghost use Rattle.x509_equality.specs.contracts.leaves.GeneralizedTimeAsn1Equalit
 
 use crate::Equality;
 use x509_parts::{
-    BasicConstraints, CaFlag, DirectoryString, RawAlgorithmIdentifier, RawParameters, Time,
-    Validity, Version,
+    BasicConstraints, DirectoryString, RawAlgorithmIdentifier, RawParameters, Time, Validity,
+    Version,
 };
 use x509_spelling::X509Fault;
 
@@ -21,16 +21,10 @@ impl Equality for X509Fault {
     ghost is_equality = { bare the_type tt };
 }
 
-impl Equality for CaFlag {
-    ghost is_equality = { told_by (λ v. v.0) booleans_Decides (λ v w e i. record { 0 = e i }) };
-}
-
 impl Equality for BasicConstraints {
-    ghost use Rattle.x509_equality.specs.contracts.parts.CaFlagEquality.TheImpl.Laws.{is_equality-law as ca_flag};
-
     ghost is_equality = { told_by
         (λ v. (v.ca, v.path_len))
-        (both (default_field ca_flag) (optional (options unsigned_Decides)))
+        (both (default_field default_false) (optional (options unsigned_Decides)))
         (λ v w e i. record { ca = (e i).0; path_len = (e i).1 }) };
 }
 

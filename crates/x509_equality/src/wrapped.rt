@@ -1,7 +1,7 @@
 //! Values under a tag, in a container, that may be missing or that have a default, and lists.
 ghost use Rattle.std.specs.Cmp.Lexicographic.{pointwise_decides};
 ghost use Rattle.x509_equality.specs.Equalities.{options};
-ghost use Rattle.x509_equality.specs.Wrapped.{fixed_number, optional, default_field, octet_container, bit_container, explicit_tag, implicit_tag, explicit, strict};
+ghost use Rattle.x509_equality.specs.Wrapped.{default_false, fixed_number, optional, default_field, octet_container, bit_container, explicit_tag, implicit_tag, explicit, strict};
 
 use crate::Equality;
 use picky_asn1::wrapper::{Asn1SequenceOf, Asn1SetOf};
@@ -10,7 +10,7 @@ use picky_asn1_der::{
     Optional,
 };
 use x509_open_types::Explicit;
-use x509_spelling::{FixedNumber, Strict};
+use x509_spelling::{DefaultFalse, FixedNumber, Strict};
 
 impl<T: Equality> Equality for Option<T> {
     ghost is_equality = { options T.is_equality };
@@ -58,4 +58,8 @@ impl<T: Equality> Equality for Asn1SetOf<T> {
 
 impl<const N: u8> Equality for FixedNumber<N> {
     ghost is_equality = { fixed_number };
+}
+
+impl<const FIELD: u8> Equality for DefaultFalse<FIELD> {
+    ghost is_equality = { default_false };
 }

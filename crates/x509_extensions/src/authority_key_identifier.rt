@@ -2,8 +2,10 @@
 ghost use Rattle.std.specs.Prelude.{◌≡◌, IfOk, ℕ, Bool, List, Option, None, Some, MatchOption, MatchResult};
 ghost use Rattle.x509_extensions.specs.AuthorityFields.{stands, nothing, before, gathered_onto, implicit, explicit};
 ghost use Rattle.x509_extensions.specs.AuthorityFields as fields;
+ghost use Rattle.asn1_der.specs.Octets.{sequence_octet};
 
 use crate::authority_field::AuthorityField;
+use asn1_der::octets::SEQUENCE;
 use devices::{Sink, Source};
 use picky_asn1::wrapper::{
     ExplicitContextTag, ExplicitContextTag1, ImplicitContextTag, ImplicitContextTag0,
@@ -125,9 +127,9 @@ impl Tagged for AuthorityKeyIdentifier {
 
     type Row = AuthorityRow;
 
-    const FIRST: u8 = 48;
+    const FIRST: u8 = SEQUENCE;
 
-    ghost FIRST = { 48 };
+    ghost FIRST = { sequence_octet };
 
     ghost row_tree = { sequence ⟦<AuthorityRow as Fields>⟧.trees };
 
@@ -165,25 +167,25 @@ impl Spelled for AuthorityKeyIdentifier {
     ghost use Rattle.x509_extensions.specs.AuthorityFields.{fields_of, authority_of, authority_count};
     ghost use Rattle.x509_extensions.specs.AuthorityLaws.{authority_back, authority_uncounted, authority_only, authority_whole, authority_trees};
 
-    ghost spells = { MadeOf (Holds 48 ⟦<Many<AuthorityField> as SpelledFields>⟧.spells) authority_of authority_count };
+    ghost spells = { MadeOf (Holds sequence_octet ⟦<Many<AuthorityField> as SpelledFields>⟧.spells) authority_of authority_count };
 
-    ghost written = { λ v. sequence ⟦<Many<AuthorityField> as SpelledFields>⟧.row_trees 48 (fields_of v) };
+    ghost written = { λ v. sequence ⟦<Many<AuthorityField> as SpelledFields>⟧.row_trees sequence_octet (fields_of v) };
 
-    ghost begun = { only 48 };
+    ghost begun = { only sequence_octet };
 
     ghost has_low_tags = { true };
 
-    ghost laws = { made_laws true (only 48) (sequence ⟦<Many<AuthorityField> as SpelledFields>⟧.row_trees 48) (Holds 48 ⟦<Many<AuthorityField> as SpelledFields>⟧.spells)
-        (sequence_laws 48 refl ⟦<Many<AuthorityField> as SpelledFields>⟧.row_firsts ⟦<Many<AuthorityField> as SpelledFields>⟧.row_trees
+    ghost laws = { made_laws true (only sequence_octet) (sequence ⟦<Many<AuthorityField> as SpelledFields>⟧.row_trees sequence_octet) (Holds sequence_octet ⟦<Many<AuthorityField> as SpelledFields>⟧.spells)
+        (sequence_laws sequence_octet refl ⟦<Many<AuthorityField> as SpelledFields>⟧.row_firsts ⟦<Many<AuthorityField> as SpelledFields>⟧.row_trees
         ⟦<Many<AuthorityField> as SpelledFields>⟧.spells (⟦<Many<AuthorityField> as SpelledFields>⟧.row_laws (refl {a = true})))
         authority_of authority_count fields_of authority_back authority_uncounted authority_only (authority_whole ⟦<AuthorityField as Spelled>⟧.written) };
 
     fn may_begin_with(first: u8) -> bool {
-        first == 48
+        first == SEQUENCE
     }
 
     fn read_counted(alloc: Global, bytes: &[u8]) -> Result<Counted<Self>, X509Fault> {
-        let read: Counted<Many<AuthorityField>> = read_fields(alloc, 48, bytes)?;
+        let read: Counted<Many<AuthorityField>> = read_fields(alloc, SEQUENCE, bytes)?;
         let held = read.count;
         let gathered = gather(read.into_value().into_vec())?;
         let own = sum_of(usize::from(gathered.is_disordered), gathered.repeats)?;
@@ -194,7 +196,7 @@ impl Spelled for AuthorityKeyIdentifier {
         })
     }
 
-    ghost written_is = { λ i v. constructed 48 (authority_trees ⟦<AuthorityField as Spelled>⟧.written v i) };
+    ghost written_is = { λ i v. constructed sequence_octet (authority_trees ⟦<AuthorityField as Spelled>⟧.written v i) };
 }
 
 // What the fields make, taken from the last of them to the first.

@@ -3,20 +3,21 @@ ghost use Rattle.std.specs.Prelude.{◌≡◌, ℕ, List, true, false, IsTrue, I
 ghost use Rattle.x509_oids.specs.Identifiers as oids;
 ghost use Rattle.x509_extensions.specs.ExtensionValues.{is_value_of, kinds_of};
 ghost use Rattle.x509_extensions.specs.declared.extension_value.ExtensionValue.TheVariants as kind;
+ghost use Rattle.asn1_der.specs.Octets.{sequence_octet};
 
 use crate::authority_key_identifier::AuthorityKeyIdentifier;
-use crate::critical::Critical;
 use crate::extension_value::{
     ExtensionKinds, ExtensionValue, IssuerAltName, SubjectAltName, SubjectKeyIdentifier, of_kinds,
 };
 use crate::extension_view::ExtensionView;
+use asn1_der::octets::SEQUENCE;
 use devices::Sink;
 use picky_asn1::wrapper::{IntegerAsn1, ObjectIdentifierAsn1, OctetStringAsn1Container};
 use picky_asn1_der::{Asn1DerError, DefaultField, Serialize, Serializer};
 use std::alloc::{AllocError, Global};
 use x509_open_types::{Kinds, read_identified};
 use x509_parts::BasicConstraints;
-use x509_spelling::{Counted, Spelled, SpelledItem, X509Fault};
+use x509_spelling::{Counted, Critical, DefaultFalse, Spelled, SpelledItem, X509Fault};
 use x509_usages::{ExtendedKeyUsage, KeyUsage};
 
 /// An extension: an identifier, and a value of the kind that it decides.
@@ -93,7 +94,7 @@ impl Extension {
     pub fn set_critical(&mut self, critical: bool)
         ensures { (self.new.critical.0.0 ≡ critical) × (self.new.extn_id ≡ self.old.extn_id) × (self.new.extn_value ≡ self.old.extn_value) }
     {
-        self.critical = DefaultField(Critical(critical));
+        self.critical = DefaultField(DefaultFalse(critical));
     }
 
     // The extension, critical or not.
@@ -107,7 +108,7 @@ impl Extension {
         } = self;
         Extension {
             extn_id,
-            critical: DefaultField(Critical(critical)),
+            critical: DefaultField(DefaultFalse(critical)),
             extn_value,
         }
     }
@@ -119,7 +120,7 @@ impl Extension {
         let oid = x509_oids::key_usage(alloc)?;
         Ok(Extension {
             extn_id: ObjectIdentifierAsn1(oid),
-            critical: DefaultField(Critical(false)),
+            critical: DefaultField(DefaultFalse(false)),
             extn_value: ExtensionValue::KeyUsage(OctetStringAsn1Container(usage)),
         })
     }
@@ -134,7 +135,7 @@ impl Extension {
         let oid = x509_oids::subject_key_identifier(alloc)?;
         Ok(Extension {
             extn_id: ObjectIdentifierAsn1(oid),
-            critical: DefaultField(Critical(false)),
+            critical: DefaultField(DefaultFalse(false)),
             extn_value: ExtensionValue::SubjectKeyIdentifier(OctetStringAsn1Container(key)),
         })
     }
@@ -149,7 +150,7 @@ impl Extension {
         let oid = x509_oids::basic_constraints(alloc)?;
         Ok(Extension {
             extn_id: ObjectIdentifierAsn1(oid),
-            critical: DefaultField(Critical(false)),
+            critical: DefaultField(DefaultFalse(false)),
             extn_value: ExtensionValue::BasicConstraints(OctetStringAsn1Container(constraints)),
         })
     }
@@ -164,7 +165,7 @@ impl Extension {
         let oid = x509_oids::extended_key_usage(alloc)?;
         Ok(Extension {
             extn_id: ObjectIdentifierAsn1(oid),
-            critical: DefaultField(Critical(false)),
+            critical: DefaultField(DefaultFalse(false)),
             extn_value: ExtensionValue::ExtendedKeyUsage(OctetStringAsn1Container(purposes)),
         })
     }
@@ -179,7 +180,7 @@ impl Extension {
         let oid = x509_oids::subject_alternative_name(alloc)?;
         Ok(Extension {
             extn_id: ObjectIdentifierAsn1(oid),
-            critical: DefaultField(Critical(false)),
+            critical: DefaultField(DefaultFalse(false)),
             extn_value: ExtensionValue::SubjectAltName(OctetStringAsn1Container(names)),
         })
     }
@@ -191,7 +192,7 @@ impl Extension {
         let oid = x509_oids::issuer_alternative_name(alloc)?;
         Ok(Extension {
             extn_id: ObjectIdentifierAsn1(oid),
-            critical: DefaultField(Critical(false)),
+            critical: DefaultField(DefaultFalse(false)),
             extn_value: ExtensionValue::IssuerAltName(OctetStringAsn1Container(names)),
         })
     }
@@ -203,7 +204,7 @@ impl Extension {
         let oid = x509_oids::crl_number(alloc)?;
         Ok(Extension {
             extn_id: ObjectIdentifierAsn1(oid),
-            critical: DefaultField(Critical(false)),
+            critical: DefaultField(DefaultFalse(false)),
             extn_value: ExtensionValue::CrlNumber(OctetStringAsn1Container(number)),
         })
     }
@@ -218,7 +219,7 @@ impl Extension {
         let oid = x509_oids::authority_key_identifier(alloc)?;
         Ok(Extension {
             extn_id: ObjectIdentifierAsn1(oid),
-            critical: DefaultField(Critical(false)),
+            critical: DefaultField(DefaultFalse(false)),
             extn_value: ExtensionValue::AuthorityKeyIdentifier(OctetStringAsn1Container(key)),
         })
     }
@@ -234,14 +235,14 @@ impl Serialize for Extension {
     ghost use Rattle.x509_spelling.specs.Spellings.{Holds, Joins};
     ghost use Rattle.x509_extensions.specs.ExtensionLaws.{row_of, same_extension};
 
-    ghost tree = { λ v. sequence (λ f. ⟦<ObjectIdentifierAsn1 as SpelledItem>⟧.place f.0 (⟦<ExtensionRow as Kinds>⟧.row_trees f.1)) 48 (row_of v) };
+    ghost tree = { λ v. sequence (λ f. ⟦<ObjectIdentifierAsn1 as SpelledItem>⟧.place f.0 (⟦<ExtensionRow as Kinds>⟧.row_trees f.1)) sequence_octet (row_of v) };
 
-    ghost firsts = { only 48 };
+    ghost firsts = { only sequence_octet };
 
-    ghost begins = { λ _. may_begin-only 48 };
+    ghost begins = { λ _. may_begin-only sequence_octet };
 
-    ghost injective = { laws_injective true (only 48) (λ v. sequence (λ f. ⟦<ObjectIdentifierAsn1 as SpelledItem>⟧.place f.0 (⟦<ExtensionRow as Kinds>⟧.row_trees f.1)) 48 (row_of v))
-        (λ v. Holds 48 (λ f. Joins ⟦<ObjectIdentifierAsn1 as SpelledItem>⟧.leads ⟦<ExtensionRow as Kinds>⟧.spells f.0 f.1) (row_of v))
+    ghost injective = { laws_injective true (only sequence_octet) (λ v. sequence (λ f. ⟦<ObjectIdentifierAsn1 as SpelledItem>⟧.place f.0 (⟦<ExtensionRow as Kinds>⟧.row_trees f.1)) sequence_octet (row_of v))
+        (λ v. Holds sequence_octet (λ f. Joins ⟦<ObjectIdentifierAsn1 as SpelledItem>⟧.leads ⟦<ExtensionRow as Kinds>⟧.spells f.0 f.1) (row_of v))
         (identified_laws ⟦<ObjectIdentifierAsn1 as SpelledItem>⟧.before ⟦<ObjectIdentifierAsn1 as SpelledItem>⟧.is_told ⟦<ObjectIdentifierAsn1 as SpelledItem>⟧.place
         ⟦<ObjectIdentifierAsn1 as SpelledItem>⟧.leads ⟦<ObjectIdentifierAsn1 as SpelledItem>⟧.field_laws
         ⟦<ExtensionRow as Kinds>⟧.belongs ⟦<ExtensionRow as Kinds>⟧.row_firsts ⟦<ExtensionRow as Kinds>⟧.row_trees ⟦<ExtensionRow as Kinds>⟧.spells
@@ -259,13 +260,25 @@ impl Serialize for Extension {
                 48,
                 &(id, (critical, (value, ()))),
             ),
-            ExtensionValue::KeyUsage(value) => to.list(48, &(id, (critical, (value, ())))),
-            ExtensionValue::SubjectAltName(value) => to.list(48, &(id, (critical, (value, ())))),
-            ExtensionValue::IssuerAltName(value) => to.list(48, &(id, (critical, (value, ())))),
-            ExtensionValue::BasicConstraints(value) => to.list(48, &(id, (critical, (value, ())))),
-            ExtensionValue::ExtendedKeyUsage(value) => to.list(48, &(id, (critical, (value, ())))),
-            ExtensionValue::CrlNumber(value) => to.list(48, &(id, (critical, (value, ())))),
-            ExtensionValue::Generic(value) => to.list(48, &(id, (critical, (value, ())))),
+            ExtensionValue::KeyUsage(value) => to.list(SEQUENCE, &(id, (critical, (value, ())))),
+            ExtensionValue::SubjectAltName(value) => to.list(
+                SEQUENCE,
+                &(id, (critical, (value, ()))),
+            ),
+            ExtensionValue::IssuerAltName(value) => to.list(
+                SEQUENCE,
+                &(id, (critical, (value, ()))),
+            ),
+            ExtensionValue::BasicConstraints(value) => to.list(
+                SEQUENCE,
+                &(id, (critical, (value, ()))),
+            ),
+            ExtensionValue::ExtendedKeyUsage(value) => to.list(
+                SEQUENCE,
+                &(id, (critical, (value, ()))),
+            ),
+            ExtensionValue::CrlNumber(value) => to.list(SEQUENCE, &(id, (critical, (value, ())))),
+            ExtensionValue::Generic(value) => to.list(SEQUENCE, &(id, (critical, (value, ())))),
         }
     }
 }
@@ -278,11 +291,11 @@ impl Spelled for Extension {
     ghost use Rattle.x509_spelling.specs.Spellings.{Holds, Joins};
     ghost use Rattle.x509_extensions.specs.ExtensionLaws.{row_of, same_extension};
 
-    ghost spells = { λ v. Holds 48 (λ f. Joins ⟦<ObjectIdentifierAsn1 as SpelledItem>⟧.leads ⟦<ExtensionRow as Kinds>⟧.spells f.0 f.1) (row_of v) };
+    ghost spells = { λ v. Holds sequence_octet (λ f. Joins ⟦<ObjectIdentifierAsn1 as SpelledItem>⟧.leads ⟦<ExtensionRow as Kinds>⟧.spells f.0 f.1) (row_of v) };
 
-    ghost written = { λ v. sequence (λ f. ⟦<ObjectIdentifierAsn1 as SpelledItem>⟧.place f.0 (⟦<ExtensionRow as Kinds>⟧.row_trees f.1)) 48 (row_of v) };
+    ghost written = { λ v. sequence (λ f. ⟦<ObjectIdentifierAsn1 as SpelledItem>⟧.place f.0 (⟦<ExtensionRow as Kinds>⟧.row_trees f.1)) sequence_octet (row_of v) };
 
-    ghost begun = { only 48 };
+    ghost begun = { only sequence_octet };
 
     ghost has_low_tags = { true };
 
@@ -292,7 +305,7 @@ impl Spelled for Extension {
         (⟦<ExtensionRow as Kinds>⟧.kind_laws (refl {a = true})) (refl {a = true}) row_of same_extension (λ v. v.of_its_id) };
 
     fn may_begin_with(first: u8) -> bool {
-        first == 48
+        first == SEQUENCE
     }
 
     fn read_counted(alloc: Global, bytes: &[u8]) -> Result<Counted<Self>, X509Fault> {

@@ -1,7 +1,9 @@
 //! Lists of extensions (RFC 5280, section 4.1).
 ghost use Rattle.std.specs.Prelude.{◌≡◌, MatchResult};
+ghost use Rattle.asn1_der.specs.Octets.{sequence_octet};
 
 use crate::extension::Extension;
+use asn1_der::octets::SEQUENCE;
 use devices::Sink;
 use picky_asn1_der::{Asn1DerError, Serialize, Serializer};
 use std::alloc::{AllocError, Global};
@@ -83,17 +85,17 @@ impl Serialize for Extensions {
     ghost use Rattle.asn1_der.proofs.Rows.{many-injective};
     ghost use Rattle.asn1_der.proofs.Tagged.{sequence_laws};
 
-    ghost tree = { sequence ⟦<Many<Extension> as SpelledFields>⟧.row_trees 48 };
+    ghost tree = { sequence ⟦<Many<Extension> as SpelledFields>⟧.row_trees sequence_octet };
 
-    ghost firsts = { only 48 };
+    ghost firsts = { only sequence_octet };
 
-    ghost begins = { λ _. may_begin-only 48 };
+    ghost begins = { λ _. may_begin-only sequence_octet };
 
-    ghost injective = { (sequence_laws ⟦<Many<Extension> as SpelledFields>⟧.row_trees (many-injective _ ⟦<Extension as Serialize>⟧.tree ⟦<Extension as Serialize>⟧.injective)).injective 48 };
+    ghost injective = { (sequence_laws ⟦<Many<Extension> as SpelledFields>⟧.row_trees (many-injective _ ⟦<Extension as Serialize>⟧.tree ⟦<Extension as Serialize>⟧.injective)).injective sequence_octet };
 
     fn serialize<W: Sink>(&self, to: &mut Serializer<W>) -> Result<usize, Asn1DerError> {
         let items = self.as_slice();
-        to.list(48, &items)
+        to.list(SEQUENCE, &items)
     }
 }
 
@@ -104,23 +106,23 @@ impl Spelled for Extensions {
     ghost use Rattle.x509_spelling.specs.Spellings.{Holds};
     ghost use Rattle.x509_spelling.specs.RowLaws.{sequence_laws};
 
-    ghost spells = { Holds 48 ⟦<Many<Extension> as SpelledFields>⟧.spells };
+    ghost spells = { Holds sequence_octet ⟦<Many<Extension> as SpelledFields>⟧.spells };
 
-    ghost written = { sequence ⟦<Many<Extension> as SpelledFields>⟧.row_trees 48 };
+    ghost written = { sequence ⟦<Many<Extension> as SpelledFields>⟧.row_trees sequence_octet };
 
-    ghost begun = { only 48 };
+    ghost begun = { only sequence_octet };
 
     ghost has_low_tags = { true };
 
-    ghost laws = { sequence_laws 48 refl ⟦<Many<Extension> as SpelledFields>⟧.row_firsts ⟦<Many<Extension> as SpelledFields>⟧.row_trees
+    ghost laws = { sequence_laws sequence_octet refl ⟦<Many<Extension> as SpelledFields>⟧.row_firsts ⟦<Many<Extension> as SpelledFields>⟧.row_trees
         ⟦<Many<Extension> as SpelledFields>⟧.spells (⟦<Many<Extension> as SpelledFields>⟧.row_laws (refl {a = true})) };
 
     fn may_begin_with(first: u8) -> bool {
-        first == 48
+        first == SEQUENCE
     }
 
     fn read_counted(alloc: Global, bytes: &[u8]) -> Result<Counted<Self>, X509Fault> {
-        let read: Counted<Many<Extension>> = read_fields(alloc, 48, bytes)?;
+        let read: Counted<Many<Extension>> = read_fields(alloc, SEQUENCE, bytes)?;
         let count = read.count;
         let value = Extensions::from(read.into_value().into_vec());
         Ok(Counted { value, count })

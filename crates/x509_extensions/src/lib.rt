@@ -3,7 +3,6 @@
 
 mod authority_field;
 mod authority_key_identifier;
-mod critical;
 mod extension;
 mod extension_value;
 mod extension_view;
@@ -11,7 +10,6 @@ mod extensions;
 
 pub use authority_field::AuthorityField;
 pub use authority_key_identifier::AuthorityKeyIdentifier;
-pub use critical::Critical;
 pub use extension::Extension;
 pub use extension_value::{
     ExtensionValue, IssuerAltName, KeyIdentifier, SubjectAltName, SubjectKeyIdentifier,
@@ -19,3 +17,4 @@ pub use extension_value::{
 pub use extension_view::ExtensionView;
 pub use extensions::Extensions;
 pub use x509_names::Name;
+pub use x509_spelling::Critical;

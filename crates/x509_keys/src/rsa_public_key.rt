@@ -1,6 +1,8 @@
 //! Public keys of RSA (RFC 8017, appendix A.1.1).
 ghost use Rattle.std.specs.Prelude.{◌≡◌};
+ghost use Rattle.asn1_der.specs.Octets.{sequence_octet};
 
+use asn1_der::octets::SEQUENCE;
 use devices::{Sink, Source};
 use picky_asn1::wrapper::{BitStringAsn1Container, IntegerAsn1};
 use picky_asn1_der::{
@@ -50,9 +52,9 @@ impl Tagged for RsaPublicKey {
 
     type Row = RsaPublicKeyRow;
 
-    const FIRST: u8 = 48;
+    const FIRST: u8 = SEQUENCE;
 
-    ghost FIRST = { 48 };
+    ghost FIRST = { sequence_octet };
 
     ghost row_tree = { sequence ⟦<RsaPublicKeyRow as Fields>⟧.trees };
 

@@ -2,9 +2,11 @@
 ghost use Rattle.std.specs.Prelude.{◌≡◌, ℕ, List, true, false, IsTrue, IfOk, MatchResult};
 ghost use Rattle.x509_keys.specs.PublicKeys.{is_key_of, kinds_of};
 ghost use Rattle.x509_algorithms.specs.EcParameters.TheVariants.{NamedCurve};
+ghost use Rattle.asn1_der.specs.Octets.{sequence_octet};
 
 use crate::public_key::{EncapsulatedEcPoint, PublicKey, PublicKinds, is_of, of_kinds};
 use crate::rsa_public_key::RsaPublicKey;
+use asn1_der::octets::SEQUENCE;
 use devices::{Sink, Source};
 use picky_asn1::oid::ObjectIdentifier;
 use picky_asn1::wrapper::{BitStringAsn1Container, IntegerAsn1};
@@ -139,14 +141,14 @@ impl Serialize for SubjectPublicKeyInfo {
     ghost use Rattle.x509_open_types.specs.ChosenLaws.{chosen_info_laws};
     ghost use Rattle.x509_keys.specs.KeyInfoLaws.{public_row, same_public};
 
-    ghost tree = { λ v. sequence (λ f. ⟦<AlgorithmIdentifier as SpelledItem>⟧.place f.0 (⟦<PublicKinds as Kinds>⟧.row_trees f.1)) 48 (public_row v) };
+    ghost tree = { λ v. sequence (λ f. ⟦<AlgorithmIdentifier as SpelledItem>⟧.place f.0 (⟦<PublicKinds as Kinds>⟧.row_trees f.1)) sequence_octet (public_row v) };
 
-    ghost firsts = { only 48 };
+    ghost firsts = { only sequence_octet };
 
-    ghost begins = { λ _. may_begin-only 48 };
+    ghost begins = { λ _. may_begin-only sequence_octet };
 
-    ghost injective = { laws_injective true (only 48) (λ v. sequence (λ f. ⟦<AlgorithmIdentifier as SpelledItem>⟧.place f.0 (⟦<PublicKinds as Kinds>⟧.row_trees f.1)) 48 (public_row v))
-        (λ v. Holds 48 (λ f. Joins ⟦<AlgorithmIdentifier as SpelledItem>⟧.leads ⟦<PublicKinds as Kinds>⟧.spells f.0 f.1) (public_row v))
+    ghost injective = { laws_injective true (only sequence_octet) (λ v. sequence (λ f. ⟦<AlgorithmIdentifier as SpelledItem>⟧.place f.0 (⟦<PublicKinds as Kinds>⟧.row_trees f.1)) sequence_octet (public_row v))
+        (λ v. Holds sequence_octet (λ f. Joins ⟦<AlgorithmIdentifier as SpelledItem>⟧.leads ⟦<PublicKinds as Kinds>⟧.spells f.0 f.1) (public_row v))
         (chosen_info_laws ⟦<AlgorithmIdentifier as SpelledItem>⟧.before ⟦<AlgorithmIdentifier as SpelledItem>⟧.is_told ⟦<AlgorithmIdentifier as SpelledItem>⟧.place
         ⟦<AlgorithmIdentifier as SpelledItem>⟧.leads ⟦<AlgorithmIdentifier as SpelledItem>⟧.field_laws
         ⟦<PublicKinds as Kinds>⟧.belongs ⟦<PublicKinds as Kinds>⟧.row_firsts ⟦<PublicKinds as Kinds>⟧.row_trees ⟦<PublicKinds as Kinds>⟧.spells
@@ -155,17 +157,17 @@ impl Serialize for SubjectPublicKeyInfo {
     fn serialize<W: Sink>(&self, to: &mut Serializer<W>) -> Result<usize, Asn1DerError> {
         let algorithm = &self.algorithm;
         match &self.subject_public_key {
-            PublicKey::Rsa(key) => to.list(48, &Ahead(algorithm, (key, ()))),
-            PublicKey::Ec(key) => to.list(48, &Ahead(algorithm, (key, ()))),
-            PublicKey::Ed(key) => to.list(48, &Ahead(algorithm, (key, ()))),
-            PublicKey::Mldsa(key) => to.list(48, &Ahead(algorithm, (key, ()))),
+            PublicKey::Rsa(key) => to.list(SEQUENCE, &Ahead(algorithm, (key, ()))),
+            PublicKey::Ec(key) => to.list(SEQUENCE, &Ahead(algorithm, (key, ()))),
+            PublicKey::Ed(key) => to.list(SEQUENCE, &Ahead(algorithm, (key, ()))),
+            PublicKey::Mldsa(key) => to.list(SEQUENCE, &Ahead(algorithm, (key, ()))),
         }
     }
 }
 
 impl Deserialize for SubjectPublicKeyInfo {
     fn may_start(first: u8) -> bool {
-        first == 48
+        first == SEQUENCE
     }
 
     fn deserialize<R: Source>(from: &mut Deserializer<R>) -> Result<Self, Asn1DerError> {
@@ -181,11 +183,11 @@ impl Spelled for SubjectPublicKeyInfo {
     ghost use Rattle.x509_open_types.specs.ChosenLaws.{chosen_info_laws};
     ghost use Rattle.x509_keys.specs.KeyInfoLaws.{public_row, same_public};
 
-    ghost spells = { λ v. Holds 48 (λ f. Joins ⟦<AlgorithmIdentifier as SpelledItem>⟧.leads ⟦<PublicKinds as Kinds>⟧.spells f.0 f.1) (public_row v) };
+    ghost spells = { λ v. Holds sequence_octet (λ f. Joins ⟦<AlgorithmIdentifier as SpelledItem>⟧.leads ⟦<PublicKinds as Kinds>⟧.spells f.0 f.1) (public_row v) };
 
-    ghost written = { λ v. sequence (λ f. ⟦<AlgorithmIdentifier as SpelledItem>⟧.place f.0 (⟦<PublicKinds as Kinds>⟧.row_trees f.1)) 48 (public_row v) };
+    ghost written = { λ v. sequence (λ f. ⟦<AlgorithmIdentifier as SpelledItem>⟧.place f.0 (⟦<PublicKinds as Kinds>⟧.row_trees f.1)) sequence_octet (public_row v) };
 
-    ghost begun = { only 48 };
+    ghost begun = { only sequence_octet };
 
     ghost has_low_tags = { true };
 
@@ -195,7 +197,7 @@ impl Spelled for SubjectPublicKeyInfo {
         (⟦<PublicKinds as Kinds>⟧.kind_laws (refl {a = true})) (refl {a = true}) ⟦<AlgorithmIdentifier as Identified>⟧.arcs_of public_row same_public (λ v. v.of_its_algorithm) };
 
     fn may_begin_with(first: u8) -> bool {
-        first == 48
+        first == SEQUENCE
     }
 
     fn read_counted(alloc: Global, bytes: &[u8]) -> Result<Counted<Self>, X509Fault> {

@@ -11,6 +11,7 @@ use Rattle.x509_parts.specs.declared.directory_string.DirectoryString.{Directory
 use Rattle.x509_parts.specs.declared.directory_string.DirectoryString.TheVariants.{PrintableString, Utf8String, BmpString}
 use Rattle.x509_names.specs.declared.attribute_type_and_value.AttributeValue.{AttributeValue}
 use Rattle.x509_names.specs.declared.attribute_type_and_value.AttributeValue.TheVariants.{Directory, Email, Custom}
+use Rattle.asn1_der.specs.Octets.{bmp_string_octet, ia5_string_octet, printable_string_octet, utf8_string_octet}
 
 -- the attributes of X.520 that have a value of type DirectoryString here, as arcs behind id-at
 abbrev pub is_string_attribute : ℕ → Bool
@@ -46,14 +47,14 @@ is_directory_text (Utf8String octets) = is_utf8 octets
 is_directory_text (BmpString octets) = is_bmp_string octets
 
 abbrev pub directory_raw : DirectoryString → Raw
-directory_raw (PrintableString octets) = record { first = 19; content = octets }
-directory_raw (Utf8String octets) = record { first = 12; content = octets }
-directory_raw (BmpString octets) = record { first = 30; content = octets }
+directory_raw (PrintableString octets) = record { first = printable_string_octet; content = octets }
+directory_raw (Utf8String octets) = record { first = utf8_string_octet; content = octets }
+directory_raw (BmpString octets) = record { first = bmp_string_octet; content = octets }
 
 -- the element that the value is written as
 abbrev pub value_raw : AttributeValue → Raw
 value_raw (Directory string) = directory_raw string
-value_raw (Email octets) = record { first = 22; content = octets }
+value_raw (Email octets) = record { first = ia5_string_octet; content = octets }
 value_raw (Custom raw) = raw
 
 -- the value is one of the type that the identifier decides

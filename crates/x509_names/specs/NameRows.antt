@@ -14,6 +14,7 @@ use Rattle.x509_names.specs.declared.attribute_type_and_value.AttributeValue.The
 use Rattle.x509_names.specs.declared.attribute_type_and_value.AttributeTypeAndValue.{AttributeTypeAndValue}
 use Rattle.x509_names.specs.Attributes.{is_value_of}
 use Rattle.x509_names.specs.NameText.{name_text}
+use Rattle.asn1_der.specs.Octets.{utf8_string_octet}
 
 -- an attribute behind id-at
 abbrev Attribute : ℕ → AttributeValue → Type 0
@@ -25,12 +26,12 @@ attribute number value told = record { ty = record { 0 = 2 ∷ 5 ∷ 4 ∷ numbe
 -- four sets; of the second one's attribute the type isn't known
 pub name_text-unknown :
     (o : Attribute 10 (Directory (Utf8String (codes "Example"))))
-    → (t : IsTrue (is_value_of (1 ∷ 2 ∷ 3 ∷ 4 ∷ []) (Custom (record { first = 12; content = codes "text" }))))
+    → (t : IsTrue (is_value_of (1 ∷ 2 ∷ 3 ∷ 4 ∷ []) (Custom (record { first = utf8_string_octet; content = codes "text" }))))
     → (f : Attribute 3 (Directory (Utf8String (codes "first"))))
     → (l : Attribute 3 (Directory (Utf8String (codes "last"))))
     → name_text
     ((attribute 10 (Directory (Utf8String (codes "Example"))) o ∷ [])
-    ∷ (record { ty = record { 0 = 1 ∷ 2 ∷ 3 ∷ 4 ∷ [] }; value = Custom (record { first = 12; content = codes "text" }); of_its_type = t } ∷ [])
+    ∷ (record { ty = record { 0 = 1 ∷ 2 ∷ 3 ∷ 4 ∷ [] }; value = Custom (record { first = utf8_string_octet; content = codes "text" }); of_its_type = t } ∷ [])
     ∷ (attribute 3 (Directory (Utf8String (codes "first"))) f ∷ [])
     ∷ (attribute 3 (Directory (Utf8String (codes "last"))) l ∷ [])
     ∷ [])

@@ -6,10 +6,12 @@ ghost use Rattle.x509_parts.specs.declared.directory_string.DirectoryString.{Dir
 ghost use Rattle.asn1_leaves.specs.CharSets.{is_general_string};
 ghost use Rattle.asn1_leaves.specs.ObjectIdentifier.{oid_content};
 ghost use Rattle.std.specs.Prelude.{◌≡◌, ◌==◌, ℕ, List, None, Some, true, IsTrue, IfOk, MatchOption, MatchResult};
+ghost use Rattle.asn1_der.specs.Octets.{ia5_string_octet, sequence_octet};
 
 use crate::agreed::{Agreed, read_agreed};
 use crate::attribute_parameters::AttributeTypeAndValueParameters;
 use crate::name_attr::NameAttr;
+use asn1_der::octets::{IA5_STRING, SEQUENCE};
 use devices::{Sink, Source};
 use picky_asn1::oid::ObjectIdentifier;
 use picky_asn1::wrapper::{
@@ -266,9 +268,9 @@ impl Tagged for AttributeTypeAndValue {
 
     type Row = AttributeTypeAndValue;
 
-    const FIRST: u8 = 48;
+    const FIRST: u8 = SEQUENCE;
 
-    ghost FIRST = { 48 };
+    ghost FIRST = { sequence_octet };
 
     ghost row_tree = { λ octet v. sequence ⟦<AttributeRow as Fields>⟧.trees octet (v.ty, (value_raw v.value, tt)) };
 
@@ -381,10 +383,10 @@ fn is_email_address(oid: &ObjectIdentifier) -> bool
 // The address that the element is, none where it is none.
 fn email_of(alloc: Global, raw: &RawElement) -> Result<Option<IA5StringAsn1>, AllocError>
     ensures { IfOk result (λ read. MatchOption read
-        ((address : List ℕ) → IsTrue (is_general_string address) → record { first = 22; content = address } ≡ raw.now → ⊥)
-        (λ address. IsTrue (is_general_string address) × (record { first = 22; content = address } ≡ raw.now))) }
+        ((address : List ℕ) → IsTrue (is_general_string address) → record { first = ia5_string_octet; content = address } ≡ raw.now → ⊥)
+        (λ address. IsTrue (is_general_string address) × (record { first = ia5_string_octet; content = address } ≡ raw.now))) }
 {
-    if raw.first() != 22 {
+    if raw.first() != IA5_STRING {
         return Ok(None);
     }
     IA5StringAsn1::from_content(alloc, raw.content())

@@ -1,6 +1,8 @@
 //! Names of partners of electronic data interchange (RFC 5280, section 4.2.1.6).
 ghost use Rattle.std.specs.Prelude.{◌≡◌, MatchResult};
+ghost use Rattle.asn1_der.specs.Octets.{sequence_octet};
 
+use asn1_der::octets::SEQUENCE;
 use devices::{Sink, Source};
 use picky_asn1::wrapper::{ExplicitContextTag, ExplicitContextTag0, ExplicitContextTag1, Optional};
 use picky_asn1_der::{
@@ -54,9 +56,9 @@ impl Tagged for EdiPartyName {
 
     type Row = EdiPartyNameRow;
 
-    const FIRST: u8 = 48;
+    const FIRST: u8 = SEQUENCE;
 
-    ghost FIRST = { 48 };
+    ghost FIRST = { sequence_octet };
 
     ghost row_tree = { sequence ⟦<EdiPartyNameRow as Fields>⟧.trees };
 

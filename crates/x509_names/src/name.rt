@@ -1,9 +1,11 @@
 //! Names (RFC 5280, section 4.1.2.4).
 ghost use Rattle.std.specs.Prelude.{◌≡◌, ◌++◌, None, Some, IfOk, MatchOption, MatchResult};
 ghost use Rattle.x509_names.specs.Parameters.{common_name_among, first_common_name};
+ghost use Rattle.asn1_der.specs.Octets.{sequence_octet};
 
 use crate::attribute_type_and_value::AttributeTypeAndValue;
 use crate::name_attr::NameAttr;
+use asn1_der::octets::SEQUENCE;
 use devices::{Sink, Source};
 use picky_asn1::wrapper::{Asn1SequenceOf, Asn1SetOf, IA5StringAsn1};
 use picky_asn1_der::{
@@ -196,9 +198,9 @@ impl Tagged for Name {
 
     type Row = Elements<RelativeDistinguishedName>;
 
-    const FIRST: u8 = 48;
+    const FIRST: u8 = SEQUENCE;
 
-    ghost FIRST = { 48 };
+    ghost FIRST = { sequence_octet };
 
     ghost row_tree = { sequence (trees_of ⟦<RelativeDistinguishedName as Serialize>⟧.tree) };
 

@@ -1,6 +1,8 @@
 //! Names of other kinds (RFC 5280, section 4.2.1.6).
 ghost use Rattle.std.specs.Prelude.{◌≡◌, MatchResult};
+ghost use Rattle.asn1_der.specs.Octets.{sequence_octet};
 
+use asn1_der::octets::SEQUENCE;
 use devices::{Sink, Source};
 use picky_asn1::wrapper::{ExplicitContextTag, ExplicitContextTag0, ObjectIdentifierAsn1};
 use picky_asn1_der::{
@@ -47,9 +49,9 @@ impl Tagged for OtherName {
 
     type Row = OtherNameRow;
 
-    const FIRST: u8 = 48;
+    const FIRST: u8 = SEQUENCE;
 
-    ghost FIRST = { 48 };
+    ghost FIRST = { sequence_octet };
 
     ghost row_tree = { sequence ⟦<OtherNameRow as Fields>⟧.trees };
 

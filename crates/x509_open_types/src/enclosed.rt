@@ -6,6 +6,7 @@ ghost use Rattle.x509_spelling.specs.Refusals.{part_refusal};
 ghost use Rattle.x509_spelling.specs.Raw.{has_low_number};
 ghost use Rattle.x509_spelling.specs.Spellings.{Holds};
 ghost use Rattle.x509_spelling.specs.Answers.{Tells};
+ghost use Rattle.asn1_der.specs.Octets.{octet_string_octet};
 
 use devices::Sink;
 use std::alloc::Global;
@@ -22,11 +23,11 @@ pub struct Explicit<const N: u8, T>(pub T);
 impl<T: Serialize> Serialize for Enclosed<T> {
     ghost use Rattle.asn1_der.proofs.Spelling.{wrapped-begins, wrapped-injective};
 
-    ghost tree = { λ value. wrapped 4 (T.tree value.0) };
+    ghost tree = { λ value. wrapped octet_string_octet (T.tree value.0) };
 
     ghost refusal = { part_refusal (λ value. value.0) T.refusal };
 
-    ghost firsts = { only 4 };
+    ghost firsts = { only octet_string_octet };
 
     ghost begins = { λ value. wrapped-begins 4 (T.tree value.0) };
 
@@ -46,13 +47,13 @@ impl<T: Spelled> Spelled for Enclosed<T> {
 
     ghost spells = { λ value. Holds 4 T.spells value.0 };
 
-    ghost written = { λ value. wrapped 4 (T.written value.0) };
+    ghost written = { λ value. wrapped octet_string_octet (T.written value.0) };
 
-    ghost begun = { only 4 };
+    ghost begun = { only octet_string_octet };
 
     ghost has_low_tags = { true };
 
-    ghost laws = { held_laws true (only 4) (λ v. wrapped 4 (T.written v)) (Holds 4 T.spells)
+    ghost laws = { held_laws true (only octet_string_octet) (λ v. wrapped octet_string_octet (T.written v)) (Holds 4 T.spells)
         (holding_laws 4 refl T.has_low_tags T.begun T.written T.spells T.laws) (λ value. value.0) (λ v w e. λ i. record { 0 = e i }) };
 
     fn may_begin_with(first: u8) -> bool {
@@ -66,7 +67,7 @@ impl<T: Spelled> Spelled for Enclosed<T> {
         Ok(Counted { value, count })
     }
 
-    ghost written_is = { ap (λ tree value. wrapped 4 (tree value.0)) T.written_is };
+    ghost written_is = { ap (λ tree value. wrapped octet_string_octet (tree value.0)) T.written_is };
 }
 
 impl<const N: u8, T: Serialize> Serialize for Explicit<N, T> {

@@ -183,16 +183,3 @@ impl<K: WriteFields, B: WriteFields> WriteFields for KindOf<K, B> {
         }
     }
 }
-
-/// Fields that are lent to be written.
-pub struct Lent<'a, F>(pub &'a F);
-
-impl<'a, F: WriteFields> WriteFields for Lent<'a, F> {
-    ghost trees = { λ lent. F.trees lent.0.now };
-
-    ghost refusal = { λ lent. F.refusal lent.0.now };
-
-    fn write<W: Sink>(&self, to: &mut Serializer<W>) -> Result<usize, Asn1DerError> {
-        self.0.write(to)
-    }
-}

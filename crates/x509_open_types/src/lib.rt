@@ -11,5 +11,5 @@ mod told_by;
 pub use chosen::{Identified, read_chosen, read_chosen_behind, read_chosen_in};
 pub use enclosed::{Enclosed, Explicit, read_held};
 pub use identified::read_identified;
-pub use kinds::{Kind, KindOf, Kinds, LastKind, Lent};
+pub use kinds::{Kind, KindOf, Kinds, LastKind};
 pub use told_by::{Identifiers, ToldBy};

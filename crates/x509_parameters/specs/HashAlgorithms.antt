@@ -7,6 +7,7 @@ use Rattle.x509_parameters.specs.Arcs.{nist_hashes, octet_behind, or_zero}
 use Rattle.x509_parameters.specs.declared.hash_algorithm.HashAlgorithm.{HashAlgorithm}
 use Rattle.x509_parameters.specs.declared.hash_algorithm.HashAlgorithm.TheVariants as hash
 use Rattle.x509_parameters.specs.declared.hash_algorithm.HashOid.{HashOid}
+use Rattle.asn1_der.specs.Octets.{sequence_octet}
 
 abbrev pub hash_arcs : HashAlgorithm → List ℕ
 hash_arcs hash.SHA224 = oids.sha224
@@ -37,11 +38,11 @@ hash_content h = nist_hashes ++ hash_number h ∷ []
 abbrev pub hash_len : HashAlgorithm → ℕ
 hash_len hash.SHA224 = 28
 hash_len hash.SHA256 = 32
-hash_len hash.SHA384 = 48
+hash_len hash.SHA384 = sequence_octet
 hash_len hash.SHA512 = 64
 hash_len hash.SHA3_224 = 28
 hash_len hash.SHA3_256 = 32
-hash_len hash.SHA3_384 = 48
+hash_len hash.SHA3_384 = sequence_octet
 hash_len hash.SHA3_512 = 64
 
 pub hash_content_is : (h : HashAlgorithm) → oid_content (hash_arcs h) ≡ hash_content h

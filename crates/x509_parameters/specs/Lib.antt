@@ -6,3 +6,4 @@ pub mod HashRows
 pub mod MaskRows
 pub mod PssRows
 pub mod ShaVariants
+pub mod Unsupported

@@ -1,6 +1,8 @@
 //! Parameters of AES (RFC 3565, section 2.3.2; RFC 5084, section 3).
 ghost use Rattle.std.specs.Prelude.{◌≡◌, MatchResult};
+ghost use Rattle.asn1_der.specs.Octets.{sequence_octet};
 
+use asn1_der::octets::SEQUENCE;
 use devices::{Sink, Source};
 use picky_asn1::wrapper::{IntegerAsn1, OctetStringAsn1};
 use picky_asn1_der::{
@@ -116,9 +118,9 @@ impl Tagged for AesAuthEncParams {
 
     type Row = AuthEncRow;
 
-    const FIRST: u8 = 48;
+    const FIRST: u8 = SEQUENCE;
 
-    ghost FIRST = { 48 };
+    ghost FIRST = { sequence_octet };
 
     ghost row_tree = { sequence ⟦<AuthEncRow as Fields>⟧.trees };
 

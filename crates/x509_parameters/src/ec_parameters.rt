@@ -1,6 +1,8 @@
 //! Parameters of keys on elliptic curves (RFC 5480, section 2.1.1).
 ghost use Rattle.std.specs.Prelude.{◌≡◌, MatchResult};
+ghost use Rattle.asn1_der.specs.Octets.{object_identifier_octet};
 
+use asn1_der::octets::OBJECT_IDENTIFIER;
 use devices::{Sink, Source};
 use picky_asn1::oid::ObjectIdentifier;
 use picky_asn1::wrapper::ObjectIdentifierAsn1;
@@ -60,9 +62,9 @@ impl Tagged for EcParameters {
 
     type Row = ObjectIdentifierAsn1;
 
-    const FIRST: u8 = 6;
+    const FIRST: u8 = OBJECT_IDENTIFIER;
 
-    ghost FIRST = { 6 };
+    ghost FIRST = { object_identifier_octet };
 
     ghost row_tree = { ⟦<ObjectIdentifierAsn1 as Tagged>⟧.row_tree };
 

@@ -1,9 +1,11 @@
 //! Hashes of RSASSA-PSS signatures (RFC 8017, appendix A.2.3).
 ghost use Rattle.std.specs.Prelude.{◌≡◌, ℕ, false, List, IfOk, IsTrue, MatchOption, MatchResult};
 ghost use Rattle.x509_parameters.specs.HashAlgorithms.{hash_arcs, hash_content, hash_number, hash_len};
+ghost use Rattle.asn1_der.specs.Octets.{object_identifier_octet};
 
 use crate::arcs::nist_hash;
 use crate::unsupported::UnsupportedAlgorithmError;
+use asn1_der::octets::OBJECT_IDENTIFIER;
 use devices::Sink;
 use picky_asn1::oid::ObjectIdentifier;
 use picky_asn1::wrapper::ObjectIdentifierAsn1;
@@ -142,11 +144,11 @@ impl Leaf for HashOid {
     ghost use Rattle.std.specs.Prelude.{true};
     ghost use Rattle.x509_parameters.specs.HashAlgorithms.{one_hash_oid};
 
-    const OCTET: u8 = 6;
+    const OCTET: u8 = OBJECT_IDENTIFIER;
 
     const RULE: Rule = Rule::ObjectIdentifier;
 
-    ghost OCTET = { 6 };
+    ghost OCTET = { object_identifier_octet };
 
     ghost is_valid = { λ _. true };
 

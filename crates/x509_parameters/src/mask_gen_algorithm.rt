@@ -1,8 +1,10 @@
 //! Mask generation functions (RFC 8017, appendix B.2).
 ghost use Rattle.std.specs.Prelude.{◌≡◌, ℕ, List, IfOk, IsTrue, MatchOption, MatchResult};
 ghost use Rattle.x509_parameters.specs.MaskRows.{mgf1_content, mask_row};
+ghost use Rattle.asn1_der.specs.Octets.{object_identifier_octet, sequence_octet};
 
 use crate::hash_algorithm::HashAlgorithm;
+use asn1_der::octets::{OBJECT_IDENTIFIER, SEQUENCE};
 use devices::Sink;
 use picky_asn1_der::{Asn1DerError, Leaf, Row2, Rule, Serialize, Serializer};
 use std::alloc::{AllocError, Global};
@@ -37,11 +39,11 @@ impl MaskGenAlgorithm {
 impl Leaf for Mgf1Oid {
     ghost use Rattle.std.specs.Prelude.{true, refl};
 
-    const OCTET: u8 = 6;
+    const OCTET: u8 = OBJECT_IDENTIFIER;
 
     const RULE: Rule = Rule::ObjectIdentifier;
 
-    ghost OCTET = { 6 };
+    ghost OCTET = { object_identifier_octet };
 
     ghost is_valid = { λ _. true };
 
@@ -77,19 +79,19 @@ impl Serialize for MaskGenAlgorithm {
     ghost use Rattle.x509_open_types.specs.HeldLaws.{laws_injective};
     ghost use Rattle.x509_parameters.specs.MaskRows.{one_mask};
 
-    ghost tree = { λ v. sequence ⟦<MaskRow as SpelledFields>⟧.row_trees 48 (mask_row v) };
+    ghost tree = { λ v. sequence ⟦<MaskRow as SpelledFields>⟧.row_trees sequence_octet (mask_row v) };
 
-    ghost firsts = { only 48 };
+    ghost firsts = { only sequence_octet };
 
-    ghost begins = { λ _. may_begin-only 48 };
+    ghost begins = { λ _. may_begin-only sequence_octet };
 
-    ghost injective = { laws_injective true (only 48) (λ v. sequence ⟦<MaskRow as SpelledFields>⟧.row_trees 48 (mask_row v))
-        (λ v. Holds 48 ⟦<MaskRow as SpelledFields>⟧.spells (mask_row v))
-        (struct_laws 48 refl ⟦<MaskRow as SpelledFields>⟧.row_firsts ⟦<MaskRow as SpelledFields>⟧.row_trees ⟦<MaskRow as SpelledFields>⟧.spells
+    ghost injective = { laws_injective true (only sequence_octet) (λ v. sequence ⟦<MaskRow as SpelledFields>⟧.row_trees sequence_octet (mask_row v))
+        (λ v. Holds sequence_octet ⟦<MaskRow as SpelledFields>⟧.spells (mask_row v))
+        (struct_laws sequence_octet refl ⟦<MaskRow as SpelledFields>⟧.row_firsts ⟦<MaskRow as SpelledFields>⟧.row_trees ⟦<MaskRow as SpelledFields>⟧.spells
         (⟦<MaskRow as SpelledFields>⟧.row_laws (refl {a = true})) mask_row one_mask) };
 
     fn serialize<W: Sink>(&self, to: &mut Serializer<W>) -> Result<usize, Asn1DerError> {
-        to.list(48, &(&Mgf1Oid, (&self.hash_algorithm, ())))
+        to.list(SEQUENCE, &(&Mgf1Oid, (&self.hash_algorithm, ())))
     }
 }
 
@@ -101,23 +103,23 @@ impl Spelled for MaskGenAlgorithm {
     ghost use Rattle.x509_spelling.specs.RowLaws.{struct_laws};
     ghost use Rattle.x509_parameters.specs.MaskRows.{one_mask};
 
-    ghost spells = { λ v. Holds 48 ⟦<MaskRow as SpelledFields>⟧.spells (mask_row v) };
+    ghost spells = { λ v. Holds sequence_octet ⟦<MaskRow as SpelledFields>⟧.spells (mask_row v) };
 
-    ghost written = { λ v. sequence ⟦<MaskRow as SpelledFields>⟧.row_trees 48 (mask_row v) };
+    ghost written = { λ v. sequence ⟦<MaskRow as SpelledFields>⟧.row_trees sequence_octet (mask_row v) };
 
-    ghost begun = { only 48 };
+    ghost begun = { only sequence_octet };
 
     ghost has_low_tags = { true };
 
-    ghost laws = { struct_laws 48 refl ⟦<MaskRow as SpelledFields>⟧.row_firsts ⟦<MaskRow as SpelledFields>⟧.row_trees ⟦<MaskRow as SpelledFields>⟧.spells
+    ghost laws = { struct_laws sequence_octet refl ⟦<MaskRow as SpelledFields>⟧.row_firsts ⟦<MaskRow as SpelledFields>⟧.row_trees ⟦<MaskRow as SpelledFields>⟧.spells
         (⟦<MaskRow as SpelledFields>⟧.row_laws (refl {a = true})) mask_row one_mask };
 
     fn may_begin_with(first: u8) -> bool {
-        first == 48
+        first == SEQUENCE
     }
 
     fn read_counted(alloc: Global, bytes: &[u8]) -> Result<Counted<Self>, X509Fault> {
-        let read: Counted<MaskRow> = read_fields(alloc, 48, bytes)?;
+        let read: Counted<MaskRow> = read_fields(alloc, SEQUENCE, bytes)?;
         let count = read.count;
         let (Mgf1Oid, (hash_algorithm, ())) = read.into_value();
         let value = MaskGenAlgorithm { hash_algorithm };

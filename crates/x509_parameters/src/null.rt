@@ -1,6 +1,8 @@
 //! NULL as parameters of an algorithm, where its want or its presence deviates.
 ghost use Rattle.std.specs.Prelude.{◌≡◌, IfOk, IsTrue, MatchResult};
+ghost use Rattle.asn1_der.specs.Octets.{null_octet};
 
+use asn1_der::octets::NULL;
 use devices::{Sink, Source};
 use picky_asn1_der::{Asn1DerError, Deserializer, HasDefault, Serializer, Tagged};
 use std::alloc::{AllocError, Global};
@@ -69,9 +71,9 @@ impl<R> Null<R> {
 impl<K> Tagged for Null<K> {
     type Row = ();
 
-    const FIRST: u8 = 5;
+    const FIRST: u8 = NULL;
 
-    ghost FIRST = { 5 };
+    ghost FIRST = { null_octet };
 
     ghost row_tree = { ⟦<() as Tagged>⟧.row_tree };
 

@@ -1,9 +1,11 @@
 //! Parameters of RSASSA-PSS signatures (RFC 8017, appendix A.2.3).
 ghost use Rattle.std.specs.Prelude.{◌≡◌, ℕ, pos, List, IfOk, IsTrue, MatchResult};
 ghost use Rattle.x509_parameters.specs.HashAlgorithms.{hash_len};
+ghost use Rattle.asn1_der.specs.Octets.{sequence_octet};
 
 use crate::hash_algorithm::HashAlgorithm;
 use crate::mask_gen_algorithm::MaskGenAlgorithm;
+use asn1_der::octets::SEQUENCE;
 use devices::Sink;
 use picky_asn1::wrapper::IntegerAsn1;
 use picky_asn1_der::{Asn1DerError, Row3, Serialize, Serializer, fields_of};
@@ -77,15 +79,15 @@ impl Serialize for RsassaPssParams {
     ghost use Rattle.x509_open_types.specs.HeldLaws.{laws_injective};
     ghost use Rattle.x509_parameters.specs.PssRows.{pss_row, one_pss};
 
-    ghost tree = { λ v. sequence ⟦<PssRow as SpelledFields>⟧.row_trees 48 (pss_row v) };
+    ghost tree = { λ v. sequence ⟦<PssRow as SpelledFields>⟧.row_trees sequence_octet (pss_row v) };
 
-    ghost firsts = { only 48 };
+    ghost firsts = { only sequence_octet };
 
-    ghost begins = { λ _. may_begin-only 48 };
+    ghost begins = { λ _. may_begin-only sequence_octet };
 
-    ghost injective = { laws_injective true (only 48) (λ v. sequence ⟦<PssRow as SpelledFields>⟧.row_trees 48 (pss_row v))
-        (λ v. Holds 48 ⟦<PssRow as SpelledFields>⟧.spells (pss_row v))
-        (struct_laws 48 refl ⟦<PssRow as SpelledFields>⟧.row_firsts ⟦<PssRow as SpelledFields>⟧.row_trees ⟦<PssRow as SpelledFields>⟧.spells
+    ghost injective = { laws_injective true (only sequence_octet) (λ v. sequence ⟦<PssRow as SpelledFields>⟧.row_trees sequence_octet (pss_row v))
+        (λ v. Holds sequence_octet ⟦<PssRow as SpelledFields>⟧.spells (pss_row v))
+        (struct_laws sequence_octet refl ⟦<PssRow as SpelledFields>⟧.row_firsts ⟦<PssRow as SpelledFields>⟧.row_trees ⟦<PssRow as SpelledFields>⟧.spells
         (⟦<PssRow as SpelledFields>⟧.row_laws (refl {a = true})) pss_row one_pss) };
 
     fn serialize<W: Sink>(&self, to: &mut Serializer<W>) -> Result<usize, Asn1DerError> {
@@ -104,23 +106,23 @@ impl Spelled for RsassaPssParams {
     ghost use Rattle.x509_spelling.specs.RowLaws.{struct_laws};
     ghost use Rattle.x509_parameters.specs.PssRows.{pss_row, one_pss};
 
-    ghost spells = { λ v. Holds 48 ⟦<PssRow as SpelledFields>⟧.spells (pss_row v) };
+    ghost spells = { λ v. Holds sequence_octet ⟦<PssRow as SpelledFields>⟧.spells (pss_row v) };
 
-    ghost written = { λ v. sequence ⟦<PssRow as SpelledFields>⟧.row_trees 48 (pss_row v) };
+    ghost written = { λ v. sequence ⟦<PssRow as SpelledFields>⟧.row_trees sequence_octet (pss_row v) };
 
-    ghost begun = { only 48 };
+    ghost begun = { only sequence_octet };
 
     ghost has_low_tags = { true };
 
-    ghost laws = { struct_laws 48 refl ⟦<PssRow as SpelledFields>⟧.row_firsts ⟦<PssRow as SpelledFields>⟧.row_trees ⟦<PssRow as SpelledFields>⟧.spells
+    ghost laws = { struct_laws sequence_octet refl ⟦<PssRow as SpelledFields>⟧.row_firsts ⟦<PssRow as SpelledFields>⟧.row_trees ⟦<PssRow as SpelledFields>⟧.spells
         (⟦<PssRow as SpelledFields>⟧.row_laws (refl {a = true})) pss_row one_pss };
 
     fn may_begin_with(first: u8) -> bool {
-        first == 48
+        first == SEQUENCE
     }
 
     fn read_counted(alloc: Global, bytes: &[u8]) -> Result<Counted<Self>, X509Fault> {
-        let read: Counted<PssRow> = read_fields(alloc, 48, bytes)?;
+        let read: Counted<PssRow> = read_fields(alloc, SEQUENCE, bytes)?;
         let count = read.count;
         let (hash_algorithm, (mask_gen_algorithm, (salt_length, ()))) = read.into_value();
         let value = RsassaPssParams {

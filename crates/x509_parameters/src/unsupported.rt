@@ -1,5 +1,6 @@
 //! Algorithms that aren't known here.
 ghost use Rattle.std.specs.Prelude.{◌≡◌};
+ghost use Rattle.x509_parameters.specs.Unsupported.{hash_name};
 
 use crate::sha_variant::ShaVariant;
 use picky_asn1::wrapper::ObjectIdentifierAsn1;
@@ -66,10 +67,37 @@ impl Clone for Algorithm {
 }
 
 impl fmt::Display for Algorithm {
+    ghost use Rattle.std.specs.Prelude.{Some};
+    ghost use Rattle.x509_parameters.specs.Unsupported.{algorithm_text};
+
+    ghost output = { λ algorithm. Some (algorithm_text algorithm) };
+
     fn fmt<W: fmt::Write>(&self, f: &mut fmt::Formatter<W>) -> fmt::Result {
         match self {
-            Algorithm::Hash(hash) => write!(f, "{hash:?}"),
+            Algorithm::Hash(hash) => write!(f, "{}", hash_name(*hash)),
             Algorithm::Identifier(oid) => write!(f, "{}", oid.0),
         }
+    }
+}
+
+/// The name of a hash in an error's text.
+fn hash_name(hash: ShaVariant) -> &'static str
+    ensures { result.now ≡ hash_name hash }
+{
+    match hash {
+        ShaVariant::MD5 => "MD5",
+        ShaVariant::SHA1 => "SHA1",
+        ShaVariant::SHA2_224 => "SHA2_224",
+        ShaVariant::SHA2_256 => "SHA2_256",
+        ShaVariant::SHA2_384 => "SHA2_384",
+        ShaVariant::SHA2_512 => "SHA2_512",
+        ShaVariant::SHA2_512_224 => "SHA2_512_224",
+        ShaVariant::SHA2_512_256 => "SHA2_512_256",
+        ShaVariant::SHA3_224 => "SHA3_224",
+        ShaVariant::SHA3_256 => "SHA3_256",
+        ShaVariant::SHA3_384 => "SHA3_384",
+        ShaVariant::SHA3_512 => "SHA3_512",
+        ShaVariant::SHAKE128 => "SHAKE128",
+        ShaVariant::SHAKE256 => "SHAKE256",
     }
 }

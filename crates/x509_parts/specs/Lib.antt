@@ -1,4 +1,3 @@
-pub mod Defaults
 pub mod DirectoryStrings
 pub mod RawParameters
 pub mod Times

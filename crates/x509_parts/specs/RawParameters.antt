@@ -12,13 +12,14 @@ use Rattle.picky_asn1_der.specs.RawLaws.{raw-injective}
 use Rattle.x509_spelling.specs.Spellings.{IsExact, has_low_tag}
 use Rattle.x509_spelling.specs.Laws.{SpellingLaws}
 use Rattle.x509_parts.specs.declared.raw_algorithm_identifier.RawParameters.{RawParameters}
+use Rattle.asn1_der.specs.Octets.{null_octet}
 
 -- NULL (X.690, section 8.8)
 abbrev pub is_null : Raw → Bool
 is_null raw = (raw.first == 5) && (length raw.content == 0)
 
 abbrev pub null : Raw
-null = record { first = 5; content = [] }
+null = record { first = null_octet; content = [] }
 
 -- the element that parameters are written as
 abbrev pub parameters_of : Option Raw → Raw

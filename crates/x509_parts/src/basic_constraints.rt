@@ -1,70 +1,17 @@
 //! Basic constraints (RFC 5280, section 4.2.1.9).
 ghost use Rattle.std.specs.Prelude.{◌≡◌, ℕ, List, MatchResult, IsTrue, IfOk};
+ghost use Rattle.asn1_der.specs.Octets.{sequence_octet};
 
+use asn1_der::octets::SEQUENCE;
 use devices::{Sink, Source};
 use picky_asn1_der::{
     Asn1DerError, DefaultField, Deserializer, Fields, HasDefault, Optional, Row2, Serializer,
     Tagged, fields_of, from_fields, read_sequence,
 };
 use std::alloc::{AllocError, Global};
-use x509_spelling::{Counted, Deviates, Exact, Spelled, SpelledFields, X509Fault, read_fields};
-
-/// Whether a certificate is an authority's: FALSE by default.
-#[derive(Clone, Copy, Debug, PartialEq, Eq)]
-pub struct CaFlag(pub bool);
-
-impl Tagged for CaFlag {
-    type Row = bool;
-
-    const FIRST: u8 = 1;
-
-    ghost FIRST = { 1 };
-
-    ghost row_tree = { ⟦<bool as Tagged>⟧.row_tree };
-
-    ghost row_laws = { ⟦<bool as Tagged>⟧.row_laws };
-
-    ghost row_of = { λ v. v.0 };
-
-    ghost one_row = { λ v w e. λ i. record { 0 = e i } };
-
-    fn read_row<R: Source>(tag: u8, from: &mut Deserializer<R>) -> Result<bool, Asn1DerError> {
-        bool::read_row(tag, from)
-    }
-
-    fn of_row(row: bool) -> Self {
-        CaFlag(row)
-    }
-
-    fn write_row<W: Sink>(&self, tag: u8, to: &mut Serializer<W>) -> Result<usize, Asn1DerError> {
-        self.0.write_row(tag, to)
-    }
-}
-
-impl Exact for CaFlag {}
-
-impl HasDefault for CaFlag {
-    ghost use Rattle.std.specs.Prelude.{not};
-    ghost use Rattle.x509_parts.specs.Defaults.{one_false};
-
-    ghost is_default_value = { λ flag. not flag.0 };
-
-    ghost one_default = { λ v w a b. let same = one_false v.0 w.0 a b in λ i. record { 0 = same i } };
-
-    fn is_default(&self) -> bool {
-        !self.0
-    }
-
-    fn default_value(_alloc: Global) -> Result<Self, AllocError> {
-        Ok(CaFlag(false))
-    }
-}
-
-impl Deviates for CaFlag {
-    ghost use Rattle.x509_spelling.specs.Deviations.{ca_false_spelled};
-
-    ghost deviation = { ca_false_spelled };
-}
+use x509_spelling::{
+    CaFlag, Counted, DefaultFalse, Spelled, SpelledFields, X509Fault, read_fields,
+};
 
 /// Whether a certificate is an authority's, and how many others may stand below it on a path.
 ///
@@ -89,7 +36,7 @@ impl BasicConstraints {
         ensures { (result.ca.0.0 ≡ ca) × (result.path_len.0 ≡ path_len) }
     {
         BasicConstraints {
-            ca: DefaultField(CaFlag(ca)),
+            ca: DefaultField(DefaultFalse(ca)),
             path_len: Optional(path_len),
         }
     }
@@ -116,9 +63,9 @@ impl Tagged for BasicConstraints {
 
     type Row = BasicConstraintsRow;
 
-    const FIRST: u8 = 48;
+    const FIRST: u8 = SEQUENCE;
 
-    ghost FIRST = { 48 };
+    ghost FIRST = { sequence_octet };
 
     ghost row_tree = { sequence ⟦<BasicConstraintsRow as Fields>⟧.trees };
 
@@ -148,24 +95,24 @@ impl Spelled for BasicConstraints {
     ghost use Rattle.x509_spelling.specs.Spellings.{Holds};
     ghost use Rattle.x509_spelling.specs.RowLaws.{struct_laws};
 
-    ghost spells = { λ v. Holds 48 ⟦<BasicConstraintsRow as SpelledFields>⟧.spells (v.ca, (v.path_len, tt)) };
+    ghost spells = { λ v. Holds sequence_octet ⟦<BasicConstraintsRow as SpelledFields>⟧.spells (v.ca, (v.path_len, tt)) };
 
-    ghost written = { λ v. sequence ⟦<BasicConstraintsRow as SpelledFields>⟧.row_trees 48 (v.ca, (v.path_len, tt)) };
+    ghost written = { λ v. sequence ⟦<BasicConstraintsRow as SpelledFields>⟧.row_trees sequence_octet (v.ca, (v.path_len, tt)) };
 
-    ghost begun = { only 48 };
+    ghost begun = { only sequence_octet };
 
     ghost has_low_tags = { true };
 
-    ghost laws = { struct_laws 48 refl ⟦<BasicConstraintsRow as SpelledFields>⟧.row_firsts ⟦<BasicConstraintsRow as SpelledFields>⟧.row_trees
+    ghost laws = { struct_laws sequence_octet refl ⟦<BasicConstraintsRow as SpelledFields>⟧.row_firsts ⟦<BasicConstraintsRow as SpelledFields>⟧.row_trees
         ⟦<BasicConstraintsRow as SpelledFields>⟧.spells (⟦<BasicConstraintsRow as SpelledFields>⟧.row_laws (refl {a = true}))
         (λ v. (v.ca, (v.path_len, tt))) (λ v w e. ap (λ f. record { ca = f.0; path_len = f.1.0 }) e) };
 
     fn may_begin_with(first: u8) -> bool {
-        first == 48
+        first == SEQUENCE
     }
 
     fn read_counted(alloc: Global, bytes: &[u8]) -> Result<Counted<Self>, X509Fault> {
-        let read: Counted<BasicConstraintsRow> = read_fields(alloc, 48, bytes)?;
+        let read: Counted<BasicConstraintsRow> = read_fields(alloc, SEQUENCE, bytes)?;
         let count = read.count;
         let (ca, (path_len, ())) = read.into_value();
         let value = BasicConstraints { ca, path_len };

@@ -12,10 +12,10 @@ mod time;
 mod validity;
 mod version;
 
-pub use basic_constraints::{BasicConstraints, CaFlag};
+pub use basic_constraints::BasicConstraints;
 pub use directory_string::DirectoryString;
 pub use raw_algorithm_identifier::{RawAlgorithmIdentifier, RawParameters};
 pub use time::Time;
 pub use validity::Validity;
 pub use version::Version;
-pub use x509_spelling::{X509Fault, deviations, encoded_len, from_bytes, to_vec};
+pub use x509_spelling::{CaFlag, X509Fault, deviations, encoded_len, from_bytes, to_vec};

@@ -1,7 +1,9 @@
 //! Algorithm identifiers of which nothing is known (RFC 5280, section 4.1.1.2).
 ghost use Rattle.std.specs.Prelude.{◌≡◌, ℕ, List, MatchOption, MatchResult, IsFalse, IsTrue, IfOk};
 ghost use Rattle.x509_parts.specs.RawParameters.{is_null, null, parameters_of};
+ghost use Rattle.asn1_der.specs.Octets.{sequence_octet};
 
+use asn1_der::octets::{NULL, SEQUENCE};
 use devices::{Sink, Source};
 use picky_asn1::wrapper::ObjectIdentifierAsn1;
 use picky_asn1_der::{
@@ -92,7 +94,7 @@ impl HasDefault for RawParameters {
     ghost one_default = { λ v w a b. let same = one_null v.0 w.0 a b in λ i. record { 0 = same i } };
 
     fn is_default(&self) -> bool {
-        self.0.first() == 5 && self.0.content().is_empty()
+        self.0.first() == NULL && self.0.content().is_empty()
     }
 
     fn default_value(alloc: Global) -> Result<Self, AllocError> {
@@ -200,24 +202,24 @@ impl Serialize for RawAlgorithmIdentifier {
     ghost use Rattle.asn1_der.proofs.Spelling.{may_begin-only};
     ghost use Rattle.asn1_der.proofs.Tagged.{sequence_laws, tagged-injective};
 
-    ghost tree = { tagged_tree 48 (sequence ⟦<RawAlgorithmRow as Fields>⟧.trees) (λ v. (v.algorithm, (v.parameters, tt))) };
+    ghost tree = { tagged_tree sequence_octet (sequence ⟦<RawAlgorithmRow as Fields>⟧.trees) (λ v. (v.algorithm, (v.parameters, tt))) };
 
-    ghost firsts = { only 48 };
+    ghost firsts = { only sequence_octet };
 
-    ghost begins = { λ _. may_begin-only 48 };
+    ghost begins = { λ _. may_begin-only sequence_octet };
 
-    ghost injective = { tagged-injective 48 (sequence ⟦<RawAlgorithmRow as Fields>⟧.trees)
+    ghost injective = { tagged-injective sequence_octet (sequence ⟦<RawAlgorithmRow as Fields>⟧.trees)
         (sequence_laws ⟦<RawAlgorithmRow as Fields>⟧.trees (⟦<RawAlgorithmRow as Fields>⟧.injective (refl {a = true})))
         (λ v. (v.algorithm, (v.parameters, tt))) (λ v w e. ap (λ f. record { algorithm = f.0; parameters = f.1.0 }) e) };
 
     fn serialize<W: Sink>(&self, to: &mut Serializer<W>) -> Result<usize, Asn1DerError> {
-        to.list(48, &fields_of![self; algorithm, parameters])
+        to.list(SEQUENCE, &fields_of![self; algorithm, parameters])
     }
 }
 
 impl Deserialize for RawAlgorithmIdentifier {
     fn may_start(first: u8) -> bool {
-        first == 48
+        first == SEQUENCE
     }
 
     fn deserialize<R: Source>(from: &mut Deserializer<R>) -> Result<Self, Asn1DerError> {
@@ -237,24 +239,24 @@ impl Spelled for RawAlgorithmIdentifier {
     ghost use Rattle.x509_spelling.specs.Spellings.{Holds};
     ghost use Rattle.x509_spelling.specs.RowLaws.{struct_laws};
 
-    ghost spells = { λ v. Holds 48 ⟦<RawAlgorithmSpelling as SpelledFields>⟧.spells (v.algorithm, (record { 0 = v.parameters }, tt)) };
+    ghost spells = { λ v. Holds sequence_octet ⟦<RawAlgorithmSpelling as SpelledFields>⟧.spells (v.algorithm, (record { 0 = v.parameters }, tt)) };
 
-    ghost written = { λ v. sequence ⟦<RawAlgorithmSpelling as SpelledFields>⟧.row_trees 48 (v.algorithm, (record { 0 = v.parameters }, tt)) };
+    ghost written = { λ v. sequence ⟦<RawAlgorithmSpelling as SpelledFields>⟧.row_trees sequence_octet (v.algorithm, (record { 0 = v.parameters }, tt)) };
 
-    ghost begun = { only 48 };
+    ghost begun = { only sequence_octet };
 
     ghost has_low_tags = { true };
 
-    ghost laws = { struct_laws 48 refl ⟦<RawAlgorithmSpelling as SpelledFields>⟧.row_firsts ⟦<RawAlgorithmSpelling as SpelledFields>⟧.row_trees
+    ghost laws = { struct_laws sequence_octet refl ⟦<RawAlgorithmSpelling as SpelledFields>⟧.row_firsts ⟦<RawAlgorithmSpelling as SpelledFields>⟧.row_trees
         ⟦<RawAlgorithmSpelling as SpelledFields>⟧.spells (⟦<RawAlgorithmSpelling as SpelledFields>⟧.row_laws (refl {a = true}))
         (λ v. (v.algorithm, (record { 0 = v.parameters }, tt))) (λ v w e. ap (λ f. record { algorithm = f.0; parameters = f.1.0.0 }) e) };
 
     fn may_begin_with(first: u8) -> bool {
-        first == 48
+        first == SEQUENCE
     }
 
     fn read_counted(alloc: Global, bytes: &[u8]) -> Result<Counted<Self>, X509Fault> {
-        let read: Counted<RawAlgorithmSpelling> = read_fields(alloc, 48, bytes)?;
+        let read: Counted<RawAlgorithmSpelling> = read_fields(alloc, SEQUENCE, bytes)?;
         let count = read.count;
         let (algorithm, (Implied(parameters), ())) = read.into_value();
         let value = RawAlgorithmIdentifier {

@@ -1,7 +1,9 @@
 //! The time in which a certificate is valid (RFC 5280, section 4.1.2.5).
 ghost use Rattle.std.specs.Prelude.{◌≡◌, MatchResult};
+ghost use Rattle.asn1_der.specs.Octets.{sequence_octet};
 
 use crate::time::Time;
+use asn1_der::octets::SEQUENCE;
 use devices::{Sink, Source};
 use picky_asn1_der::{
     Asn1DerError, Deserializer, Fields, Row2, Serializer, Tagged, fields_of, from_fields,
@@ -33,9 +35,9 @@ impl Tagged for Validity {
 
     type Row = ValidityRow;
 
-    const FIRST: u8 = 48;
+    const FIRST: u8 = SEQUENCE;
 
-    ghost FIRST = { 48 };
+    ghost FIRST = { sequence_octet };
 
     ghost row_tree = { sequence ⟦<ValidityRow as Fields>⟧.trees };
 

@@ -1,6 +1,8 @@
 //! Versions of certificates (RFC 5280, section 4.1.2.1).
 ghost use Rattle.std.specs.Prelude.{◌≡◌, ℕ, IfOk, IsTrue, MatchOption};
+ghost use Rattle.asn1_der.specs.Octets.{integer_octet};
 
+use asn1_der::octets::INTEGER;
 use devices::Sink;
 use picky_asn1_der::{Asn1DerError, HasDefault, Leaf, Rule, Serializer};
 use std::alloc::{AllocError, Global};
@@ -64,11 +66,11 @@ impl Leaf for Version {
     ghost use Rattle.std.specs.Prelude.{true};
     ghost use Rattle.x509_parts.specs.Versions.{version_content, version_content-injective};
 
-    const OCTET: u8 = 2;
+    const OCTET: u8 = INTEGER;
 
     const RULE: Rule = Rule::Integer;
 
-    ghost OCTET = { 2 };
+    ghost OCTET = { integer_octet };
 
     ghost is_valid = { λ _. true };
 

@@ -10,12 +10,13 @@ use Rattle.x509_private_keys.specs.declared.ec_private_key.ECPrivateKey.{ECPriva
 use Rattle.x509_private_keys.specs.declared.rsa_private_key.RsaPrivateKey.{RsaPrivateKey}
 use Rattle.x509_private_keys.specs.declared.private_key_value.PrivateKeyValue.{PrivateKeyValue}
 use Rattle.x509_private_keys.specs.declared.private_key_value.PrivateKeyValue.TheVariants as kind
+use Rattle.asn1_der.specs.Octets.{integer_octet, octet_string_octet, sequence_octet}
 
 -- an octet string that holds the key
 abbrev pub value_tree : (RsaPrivateKey → Tree) → (ECPrivateKey → Tree) → (List ℕ → Tree) → PrivateKeyValue → Tree
-value_tree rsa ec ed (kind.Rsa key) = wrapped 4 (rsa key.0)
-value_tree rsa ec ed (kind.EC key) = wrapped 4 (ec key.0)
-value_tree rsa ec ed (kind.ED key) = wrapped 4 (ed key.0)
+value_tree rsa ec ed (kind.Rsa key) = wrapped octet_string_octet (rsa key.0)
+value_tree rsa ec ed (kind.EC key) = wrapped octet_string_octet (ec key.0)
+value_tree rsa ec ed (kind.ED key) = wrapped octet_string_octet (ed key.0)
 
 -- what follows the first part
 abbrev rest_of_parts : Trees → Trees
@@ -29,30 +30,30 @@ rest_of (primitive octet content) = none
 rest_of absent = none
 
 -- keys of RSA have the version 0, and those on elliptic curves the version 1
-pub versions_apart : (a b : Trees) → der (constructed 48 (more (primitive 2 (0 ∷ [])) a)) ≡ der (constructed 48 (more (primitive 2 (1 ∷ [])) b)) → ⊥
+pub versions_apart : (a b : Trees) → der (constructed 48 (more (primitive integer_octet (0 ∷ [])) a)) ≡ der (constructed 48 (more (primitive integer_octet (1 ∷ [])) b)) → ⊥
 versions_apart a b e =
-    let contents = element-content 48 (element 2 (0 ∷ []) ++ ders a) (element 2 (1 ∷ []) ++ ders b) e in
+    let contents = element-content 48 (element integer_octet (0 ∷ []) ++ ders a) (element integer_octet (1 ∷ []) ++ ders b) e in
     let versions : 0 ≡ 1 = heads 0 1 [] [] (element-one 2 2 (0 ∷ []) (1 ∷ []) (ders a) (ders b) contents).1 in
     omega (arith, versions)
 
 -- what octet strings of one spelling hold is spelled alike
-held_alike : (t u : Tree) → IsWhole (wrapped 4 t) → IsWhole (wrapped 4 u) → der (wrapped 4 t) ≡ der (wrapped 4 u) → der t ≡ der u
+held_alike : (t u : Tree) → IsWhole (wrapped octet_string_octet t) → IsWhole (wrapped octet_string_octet u) → der (wrapped octet_string_octet t) ≡ der (wrapped octet_string_octet u) → der t ≡ der u
 held_alike t u whole also e =
-    element-content 4 (der t) (der u) (sym (der-wrapped 4 t (wrapped-whole 4 t whole)) ∙ e ∙ der-wrapped 4 u (wrapped-whole 4 u also))
+    element-content 4 (der t) (der u) (sym (der-wrapped octet_string_octet t (wrapped-whole 4 t whole)) ∙ e ∙ der-wrapped octet_string_octet u (wrapped-whole 4 u also))
 
 module _ (rsa : RsaPrivateKey → Tree) (ec : ECPrivateKey → Tree) (ed : List ℕ → Tree) where
-  pub value-begins : (v : PrivateKeyValue) → BeginsAmong (only 4) (value_tree rsa ec ed v)
+  pub value-begins : (v : PrivateKeyValue) → BeginsAmong (only octet_string_octet) (value_tree rsa ec ed v)
   value-begins (kind.Rsa key) = wrapped-begins 4 (rsa key.0)
   value-begins (kind.EC key) = wrapped-begins 4 (ec key.0)
   value-begins (kind.ED key) = wrapped-begins 4 (ed key.0)
 
   -- keys of different kinds aren't spelled alike
-  otherwise : (t u : Tree) → BeginsAmong (only 48) t → BeginsAmong (only 4) u → IsWhole (wrapped 4 t) → IsWhole (wrapped 4 u) → der (wrapped 4 t) ≡ der (wrapped 4 u) → ⊥
+  otherwise : (t u : Tree) → BeginsAmong (only sequence_octet) t → BeginsAmong (only octet_string_octet) u → IsWhole (wrapped octet_string_octet t) → IsWhole (wrapped octet_string_octet u) → der (wrapped octet_string_octet t) ≡ der (wrapped octet_string_octet u) → ⊥
   otherwise t u begins also whole other e =
-      apart-spelled (only 48) (only 4) refl t u begins also (wrapped-whole 4 t whole) (wrapped-whole 4 u other) (held_alike t u whole other e)
+      apart-spelled (only sequence_octet) (only octet_string_octet) refl t u begins also (wrapped-whole 4 t whole) (wrapped-whole 4 u other) (held_alike t u whole other e)
 
   pub value-injective : IsInjective rsa → IsInjective ec → IsInjective ed
-      → ((v : RsaPrivateKey) → BeginsAmong (only 48) (rsa v)) → ((v : ECPrivateKey) → BeginsAmong (only 48) (ec v)) → ((v : List ℕ) → BeginsAmong (only 4) (ed v))
+      → ((v : RsaPrivateKey) → BeginsAmong (only sequence_octet) (rsa v)) → ((v : ECPrivateKey) → BeginsAmong (only sequence_octet) (ec v)) → ((v : List ℕ) → BeginsAmong (only octet_string_octet) (ed v))
       → ((v : RsaPrivateKey) (w : ECPrivateKey) → der (rsa v) ≡ der (ec w) → ⊥)
       → IsInjective (value_tree rsa ec ed)
   value-injective one_rsa one_ec one_ed rsa_first ec_first ed_first versions (kind.Rsa v) (kind.Rsa w) whole also e =

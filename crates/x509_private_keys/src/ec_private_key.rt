@@ -1,7 +1,9 @@
 //! Private keys on elliptic curves (RFC 5915, section 3).
 ghost use Rattle.std.specs.Prelude.{◌≡◌, IfOk};
+ghost use Rattle.asn1_der.specs.Octets.{sequence_octet};
 
 use crate::lent::{lent_under, plain};
+use asn1_der::octets::SEQUENCE;
 use devices::{Sink, Source};
 use picky_asn1::wrapper::{
     BitStringAsn1, ExplicitContextTag0, ExplicitContextTag1, OctetStringAsn1, Optional,
@@ -88,9 +90,9 @@ impl Tagged for ECPrivateKey {
 
     type Row = ECPrivateKeyRow;
 
-    const FIRST: u8 = 48;
+    const FIRST: u8 = SEQUENCE;
 
-    ghost FIRST = { 48 };
+    ghost FIRST = { sequence_octet };
 
     ghost row_tree = { sequence ⟦<ECPrivateKeyRow as Fields>⟧.trees };
 

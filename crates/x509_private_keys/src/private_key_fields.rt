@@ -1,10 +1,12 @@
 //! Private keys with their algorithms, without the rule on their version (RFC 5958, section 2).
 ghost use Rattle.std.specs.Prelude.{◌≡◌, ◌==◌, ℕ, List, true, IsTrue, MatchResult};
 ghost use Rattle.x509_private_keys.specs.PrivateKeys.{is_private_of, private_kinds, version_with};
+ghost use Rattle.asn1_der.specs.Octets.{sequence_octet};
 
 use crate::private_key_value::{
     PrivateKeyValue, PrivateKinds, PublicKeyField, copied_field, parts_of,
 };
+use asn1_der::octets::SEQUENCE;
 use devices::Sink;
 use picky_asn1_der::{Asn1DerError, Serialize, Serializer};
 use std::alloc::{AllocError, Global};
@@ -63,14 +65,14 @@ impl Serialize for PrivateKeyFields {
     ghost use Rattle.x509_open_types.specs.BehindLaws.{behind_laws};
     ghost use Rattle.x509_private_keys.specs.PrivateLaws.{private_row, same_private};
 
-    ghost tree = { λ v. sequence (λ f. more (⟦<u8 as Spelled>⟧.written f.0) (⟦<AlgorithmIdentifier as SpelledItem>⟧.place f.1.0 (⟦<PrivateKinds as Kinds>⟧.row_trees f.1.1))) 48 (private_row v) };
+    ghost tree = { λ v. sequence (λ f. more (⟦<u8 as Spelled>⟧.written f.0) (⟦<AlgorithmIdentifier as SpelledItem>⟧.place f.1.0 (⟦<PrivateKinds as Kinds>⟧.row_trees f.1.1))) sequence_octet (private_row v) };
 
-    ghost firsts = { only 48 };
+    ghost firsts = { only sequence_octet };
 
-    ghost begins = { λ _. may_begin-only 48 };
+    ghost begins = { λ _. may_begin-only sequence_octet };
 
-    ghost injective = { laws_injective true (only 48) (λ v. sequence (λ f. more (⟦<u8 as Spelled>⟧.written f.0) (⟦<AlgorithmIdentifier as SpelledItem>⟧.place f.1.0 (⟦<PrivateKinds as Kinds>⟧.row_trees f.1.1))) 48 (private_row v))
-        (λ v. Holds 48 (λ f. Joins (Leads ⟦<u8 as Spelled>⟧.spells) (λ g. Joins ⟦<AlgorithmIdentifier as SpelledItem>⟧.leads ⟦<PrivateKinds as Kinds>⟧.spells g.0 g.1) f.0 f.1) (private_row v))
+    ghost injective = { laws_injective true (only sequence_octet) (λ v. sequence (λ f. more (⟦<u8 as Spelled>⟧.written f.0) (⟦<AlgorithmIdentifier as SpelledItem>⟧.place f.1.0 (⟦<PrivateKinds as Kinds>⟧.row_trees f.1.1))) sequence_octet (private_row v))
+        (λ v. Holds sequence_octet (λ f. Joins (Leads ⟦<u8 as Spelled>⟧.spells) (λ g. Joins ⟦<AlgorithmIdentifier as SpelledItem>⟧.leads ⟦<PrivateKinds as Kinds>⟧.spells g.0 g.1) f.0 f.1) (private_row v))
         (behind_laws ⟦<AlgorithmIdentifier as SpelledItem>⟧.before ⟦<AlgorithmIdentifier as SpelledItem>⟧.is_told ⟦<AlgorithmIdentifier as SpelledItem>⟧.place
         ⟦<AlgorithmIdentifier as SpelledItem>⟧.leads ⟦<AlgorithmIdentifier as SpelledItem>⟧.field_laws
         ⟦<PrivateKinds as Kinds>⟧.belongs ⟦<PrivateKinds as Kinds>⟧.row_firsts ⟦<PrivateKinds as Kinds>⟧.row_trees ⟦<PrivateKinds as Kinds>⟧.spells
@@ -106,11 +108,11 @@ impl Spelled for PrivateKeyFields {
     ghost use Rattle.x509_open_types.specs.BehindLaws.{behind_laws};
     ghost use Rattle.x509_private_keys.specs.PrivateLaws.{private_row, same_private};
 
-    ghost spells = { λ v. Holds 48 (λ f. Joins (Leads ⟦<u8 as Spelled>⟧.spells) (λ g. Joins ⟦<AlgorithmIdentifier as SpelledItem>⟧.leads ⟦<PrivateKinds as Kinds>⟧.spells g.0 g.1) f.0 f.1) (private_row v) };
+    ghost spells = { λ v. Holds sequence_octet (λ f. Joins (Leads ⟦<u8 as Spelled>⟧.spells) (λ g. Joins ⟦<AlgorithmIdentifier as SpelledItem>⟧.leads ⟦<PrivateKinds as Kinds>⟧.spells g.0 g.1) f.0 f.1) (private_row v) };
 
-    ghost written = { λ v. sequence (λ f. more (⟦<u8 as Spelled>⟧.written f.0) (⟦<AlgorithmIdentifier as SpelledItem>⟧.place f.1.0 (⟦<PrivateKinds as Kinds>⟧.row_trees f.1.1))) 48 (private_row v) };
+    ghost written = { λ v. sequence (λ f. more (⟦<u8 as Spelled>⟧.written f.0) (⟦<AlgorithmIdentifier as SpelledItem>⟧.place f.1.0 (⟦<PrivateKinds as Kinds>⟧.row_trees f.1.1))) sequence_octet (private_row v) };
 
-    ghost begun = { only 48 };
+    ghost begun = { only sequence_octet };
 
     ghost has_low_tags = { true };
 
@@ -121,7 +123,7 @@ impl Spelled for PrivateKeyFields {
         (refl {a = true}) (refl {a = true}) ⟦<AlgorithmIdentifier as Identified>⟧.arcs_of private_row same_private (λ v. v.of_its_algorithm) };
 
     fn may_begin_with(first: u8) -> bool {
-        first == 48
+        first == SEQUENCE
     }
 
     fn read_counted(alloc: Global, bytes: &[u8]) -> Result<Counted<Self>, X509Fault> {

@@ -2,9 +2,11 @@
 ghost use Rattle.std.specs.Prelude.{◌≡◌, ◌==◌, ℕ, List, true, None, Some, IsTrue, IfOk, MatchOption, MatchResult};
 ghost use Rattle.x509_private_keys.specs.PrivateKeys.{version_with, is_private_of};
 ghost use Rattle.x509_private_keys.specs.PublicKeyFields.{field_of_key, key_of_field};
+ghost use Rattle.asn1_der.specs.Octets.{sequence_octet};
 
 use crate::private_key_fields::PrivateKeyFields;
 use crate::private_key_value::{PrivateKeyValue, as_field, in_field};
+use asn1_der::octets::SEQUENCE;
 use devices::Sink;
 use picky_asn1::wrapper::BitStringAsn1;
 use picky_asn1_der::{Asn1DerError, Serialize, Serializer};
@@ -114,7 +116,7 @@ impl Serialize for PrivateKeyInfo {
 
     ghost tree = { λ v. ⟦<PrivateKeyFields as Serialize>⟧.tree v.fields };
 
-    ghost firsts = { only 48 };
+    ghost firsts = { only sequence_octet };
 
     ghost begins = { λ v. ⟦<PrivateKeyFields as Serialize>⟧.begins v.fields };
 
@@ -135,15 +137,15 @@ impl Spelled for PrivateKeyInfo {
 
     ghost written = { λ v. ⟦<PrivateKeyFields as Spelled>⟧.written v.fields };
 
-    ghost begun = { only 48 };
+    ghost begun = { only sequence_octet };
 
     ghost has_low_tags = { true };
 
-    ghost laws = { held_laws true (only 48) ⟦<PrivateKeyFields as Spelled>⟧.written ⟦<PrivateKeyFields as Spelled>⟧.spells ⟦<PrivateKeyFields as Spelled>⟧.laws
+    ghost laws = { held_laws true (only sequence_octet) ⟦<PrivateKeyFields as Spelled>⟧.written ⟦<PrivateKeyFields as Spelled>⟧.spells ⟦<PrivateKeyFields as Spelled>⟧.laws
         (λ v. v.fields) same_info };
 
     fn may_begin_with(first: u8) -> bool {
-        first == 48
+        first == SEQUENCE
     }
 
     fn read_counted(alloc: Global, bytes: &[u8]) -> Result<Counted<Self>, X509Fault> {

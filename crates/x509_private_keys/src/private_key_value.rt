@@ -2,6 +2,7 @@
 ghost use Rattle.std.specs.Prelude.{◌≡◌, None, Some, IfOk, MatchOption};
 ghost use Rattle.x509_private_keys.specs.PrivateKeys.{private_kinds};
 ghost use Rattle.x509_private_keys.specs.PublicKeyFields.{field_of_key, key_of_field};
+ghost use Rattle.asn1_der.specs.Octets.{octet_string_octet};
 
 use crate::ec_private_key::{ECPrivateKey, EncapsulatedEcSecret};
 use crate::rsa_private_key::RsaPrivateKey;
@@ -58,7 +59,7 @@ impl Serialize for PrivateKeyValue {
 
     ghost tree = { value_tree ⟦<RsaPrivateKey as Serialize>⟧.tree ⟦<ECPrivateKey as Serialize>⟧.tree ⟦<EncapsulatedEcSecret as Serialize>⟧.tree };
 
-    ghost firsts = { only 4 };
+    ghost firsts = { only octet_string_octet };
 
     ghost begins = { value-begins ⟦<RsaPrivateKey as Serialize>⟧.tree ⟦<ECPrivateKey as Serialize>⟧.tree ⟦<EncapsulatedEcSecret as Serialize>⟧.tree };
 

@@ -1,6 +1,8 @@
 //! Private keys of RSA (RFC 8017, appendix A.1.2).
 ghost use Rattle.std.specs.Prelude.{◌≡◌};
+ghost use Rattle.asn1_der.specs.Octets.{sequence_octet};
 
+use asn1_der::octets::SEQUENCE;
 use devices::{Sink, Source};
 use picky_asn1::wrapper::IntegerAsn1;
 use picky_asn1_der::{
@@ -157,9 +159,9 @@ impl Tagged for RsaPrivateKey {
 
     type Row = RsaPrivateKeyRow;
 
-    const FIRST: u8 = 48;
+    const FIRST: u8 = SEQUENCE;
 
-    ghost FIRST = { 48 };
+    ghost FIRST = { sequence_octet };
 
     ghost row_tree = { sequence ⟦<RsaPrivateKeyRow as Fields>⟧.trees };
 

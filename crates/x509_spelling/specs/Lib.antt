@@ -12,3 +12,4 @@ pub use Rattle.picky_asn1_der.specs.Raw
 pub use Rattle.picky_asn1_der.specs.Refusals
 pub mod StrictReading
 pub mod SignedParts
+pub mod Defaults

@@ -10,6 +10,7 @@ use Rattle.asn1_elements.specs.Splits.{SplitsInto}
 use Rattle.asn1_elements.specs.Parts.{AreElements, IsPart}
 use Rattle.x509_spelling.specs.Spellings.{has_low_tag, Leads, IsEnd, Joins, Holds}
 use Rattle.x509_spelling.specs.Laws.{SpellingLaws}
+use Rattle.asn1_der.specs.Octets.{sequence_octet}
 
 -- the value alone, where it was read with another
 abbrev pub value_of : {T S E : Type 0} → Result (T × S) E → Result T E
@@ -23,7 +24,7 @@ pub record HoldsFirst {P : Type 0} (spells : P → List ℕ → ℕ → Type 0) 
   pub own : ℕ
   pub others : ℕ
   pub raws : List Raw
-  pub is : bytes ≡ element 48 content
+  pub is : bytes ≡ element sequence_octet content
   pub leads : Leads spells part content rest own
   pub are : AreElements raws rest
   pub sum : n ≡ own + others

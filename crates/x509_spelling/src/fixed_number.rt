@@ -1,6 +1,8 @@
 //! Numbers of which a type has one.
 ghost use Rattle.std.specs.Prelude.{◌≡◌, ◌%◌, IfOk};
+ghost use Rattle.asn1_der.specs.Octets.{integer_octet};
 
+use asn1_der::octets::INTEGER;
 use devices::Sink;
 use picky_asn1_der::{Asn1DerError, Leaf, Rule, Serializer};
 use std::alloc::{AllocError, Global};
@@ -12,11 +14,11 @@ pub struct FixedNumber<const N: u8>;
 impl<const N: u8> Leaf for FixedNumber<N> {
     ghost use Rattle.std.specs.Prelude.{true, refl, ◌∷◌, []};
 
-    const OCTET: u8 = 2;
+    const OCTET: u8 = INTEGER;
 
     const RULE: Rule = Rule::Integer;
 
-    ghost OCTET = { 2 };
+    ghost OCTET = { integer_octet };
 
     ghost is_valid = { λ _. true };
 

@@ -5,7 +5,9 @@ ghost use Rattle.std.specs.Cmp.Lexicographic.{pointwise};
 ghost use Rattle.std.specs.List.{list_any};
 ghost use Rattle.std.specs.Slice.Iter.{iter_rest, iter_mut_rest};
 ghost use Rattle.std.specs.Borrow.{sem};
+ghost use Rattle.asn1_der.specs.Octets.{sequence_octet};
 
+use asn1_der::octets::SEQUENCE;
 use devices::{Sink, Source};
 use picky_asn1::oid::ObjectIdentifier;
 use picky_asn1::wrapper::ObjectIdentifierAsn1;
@@ -126,9 +128,9 @@ impl Tagged for ExtendedKeyUsage {
 
     type Row = Elements<ObjectIdentifierAsn1>;
 
-    const FIRST: u8 = 48;
+    const FIRST: u8 = SEQUENCE;
 
-    ghost FIRST = { 48 };
+    ghost FIRST = { sequence_octet };
 
     ghost row_tree = { sequence (trees_of ⟦<ObjectIdentifierAsn1 as Serialize>⟧.tree) };
 

@@ -2,7 +2,9 @@
 ghost use Rattle.std.specs.Prelude.{◌≡◌, ℕ, ◌<◌, ◌≤◌, false, slice_index, IfOk, MatchResult};
 ghost use Rattle.picky_asn1.specs.BitString.{Bits, IsBitString, bit_count, bit_of};
 ghost use Rattle.x509_usages.specs.Uses.{IsSet, IsWidened};
+ghost use Rattle.asn1_der.specs.Octets.{bit_string_octet};
 
+use asn1_der::octets::BIT_STRING;
 use devices::{Sink, Source};
 use picky_asn1::LeafFault;
 use picky_asn1::wrapper::BitStringAsn1;
@@ -254,9 +256,9 @@ impl From<BitStringAsn1> for KeyUsage {
 impl Tagged for KeyUsage {
     type Row = BitStringAsn1;
 
-    const FIRST: u8 = 3;
+    const FIRST: u8 = BIT_STRING;
 
-    ghost FIRST = { 3 };
+    ghost FIRST = { bit_string_octet };
 
     ghost row_tree = { ⟦<BitStringAsn1 as Tagged>⟧.row_tree };
 

@@ -4,6 +4,7 @@ ghost use Rattle.asn1_der.specs.Length.{element};
 ghost use Rattle.asn1_codec.specs.Booleans.{bool_content};
 ghost use Rattle.asn1_codec.specs.Writing.{WroteValue, NotWroteValue};
 ghost use Rattle.asn1_elements.specs.Contents.{boolean_fault};
+ghost use Rattle.asn1_der.specs.Octets.{boolean_octet};
 
 use asn1_codec::Serializer;
 use asn1_der::Asn1DerError;
@@ -16,8 +17,8 @@ impl Boolean {
     /// Writes a BOOLEAN, and gives how many bytes that took.
     pub fn serialize<W: Sink>(value: bool, to: &mut Serializer<W>) -> Result<usize, Asn1DerError>
         ensures { MatchResult result
-            (WroteValue None (element 1 (bool_content value)) to.old to.new)
-            (NotWroteValue None (element 1 (bool_content value)) to.old to.new) }
+            (WroteValue None (element boolean_octet (bool_content value)) to.old to.new)
+            (NotWroteValue None (element boolean_octet (bool_content value)) to.old to.new) }
     {
         to.serialize_bool(value)
     }

@@ -2,6 +2,7 @@
 ghost use Rattle.std.specs.Prelude.{◌≡◌, [], None, MatchResult};
 ghost use Rattle.asn1_der.specs.Length.{element};
 ghost use Rattle.asn1_codec.specs.Writing.{WroteValue, NotWroteValue};
+ghost use Rattle.asn1_der.specs.Octets.{null_octet};
 
 use asn1_codec::Serializer;
 use asn1_der::Asn1DerError;
@@ -14,8 +15,8 @@ impl Null {
     /// Writes `05 00`, and gives how many bytes that took.
     pub fn serialize<W: Sink>(to: &mut Serializer<W>) -> Result<usize, Asn1DerError>
         ensures { MatchResult result
-            (WroteValue None (element 5 []) to.old to.new)
-            (NotWroteValue None (element 5 []) to.old to.new) }
+            (WroteValue None (element null_octet []) to.old to.new)
+            (NotWroteValue None (element null_octet []) to.old to.new) }
     {
         to.serialize_unit()
     }

@@ -3,6 +3,7 @@ ghost use Rattle.std.specs.Prelude.{◌≡◌, ℕ, ◌≤◌, None, MatchResult
 ghost use Rattle.asn1_der.specs.Length.{element};
 ghost use Rattle.asn1_codec.specs.Unsigned.{unsigned_content, unsigned_fault};
 ghost use Rattle.asn1_codec.specs.Writing.{WroteValue, NotWroteValue};
+ghost use Rattle.asn1_der.specs.Octets.{integer_octet};
 
 use crate::misc::uint::UInt;
 use asn1_codec::{Serializer, unsigned_of, write_unsigned};
@@ -19,8 +20,8 @@ impl UnsignedInteger {
         to: &mut Serializer<W>,
     ) -> Result<usize, Asn1DerError>
         ensures { MatchResult result
-            (WroteValue None (element 2 (unsigned_content (T.number_of value))) to.old to.new)
-            (NotWroteValue None (element 2 (unsigned_content (T.number_of value))) to.old to.new) }
+            (WroteValue None (element integer_octet (unsigned_content (T.number_of value))) to.old to.new)
+            (NotWroteValue None (element integer_octet (unsigned_content (T.number_of value))) to.old to.new) }
     {
         write_unsigned(2, to, value.into_u128())
     }

@@ -3,6 +3,7 @@ ghost use Rattle.std.specs.Prelude.{◌≡◌, None, MatchResult};
 ghost use Rattle.std.specs.Str.{IsUtf8};
 ghost use Rattle.asn1_der.specs.Length.{element};
 ghost use Rattle.asn1_codec.specs.Writing.{WroteValue, NotWroteValue};
+ghost use Rattle.asn1_der.specs.Octets.{utf8_string_octet};
 
 use asn1_codec::Serializer;
 use asn1_der::Asn1DerError;
@@ -16,8 +17,8 @@ impl Utf8String {
     /// Writes a UTF8String, and gives how many bytes that took.
     pub fn serialize<W: Sink>(value: &str, to: &mut Serializer<W>) -> Result<usize, Asn1DerError>
         ensures { MatchResult result
-            (WroteValue None (element 12 value.now) to.old to.new)
-            (NotWroteValue None (element 12 value.now) to.old to.new) }
+            (WroteValue None (element utf8_string_octet value.now) to.old to.new)
+            (NotWroteValue None (element utf8_string_octet value.now) to.old to.new) }
     {
         to.serialize_str(value)
     }

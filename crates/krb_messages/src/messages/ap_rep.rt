@@ -1,6 +1,9 @@
 //! Replies of a service.
+ghost use Rattle.asn1_der.specs.Octets.{sequence_octet};
+
+use asn1_der::octets::SEQUENCE;
 use devices::{Sink, Source};
-use krb_types::constants::types::AP_REP_MSG_TYPE;
+use krb_constants::types::AP_REP_MSG_TYPE;
 use krb_types::data_types::EncryptedData;
 use picky_asn1::wrapper::IntegerAsn1;
 use picky_asn1_der::{
@@ -42,9 +45,9 @@ impl Tagged for ApRepInner {
 
     type Row = ApRepInnerRow;
 
-    const FIRST: u8 = 48;
+    const FIRST: u8 = SEQUENCE;
 
-    ghost FIRST = { 48 };
+    ghost FIRST = { sequence_octet };
 
     ghost row_tree = { sequence ⟦<ApRepInnerRow as Fields>⟧.trees };
 

@@ -1,6 +1,9 @@
 //! The sealed part of a KDC's reply.
+ghost use Rattle.asn1_der.specs.Octets.{sequence_octet};
+
+use asn1_der::octets::SEQUENCE;
 use devices::{Sink, Source};
-use krb_types::constants::types::{ENC_AS_REP_PART_TYPE, ENC_TGS_REP_PART_TYPE};
+use krb_constants::types::{ENC_AS_REP_PART_TYPE, ENC_TGS_REP_PART_TYPE};
 use krb_types::data_types::{
     EncryptionKey, HostAddresses, KerberosFlags, KerberosTime, LastReq, PaData, PrincipalName,
     Realm,
@@ -130,9 +133,9 @@ impl Tagged for EncKdcRepPart {
 
     type Row = EncKdcRepPartRow;
 
-    const FIRST: u8 = 48;
+    const FIRST: u8 = SEQUENCE;
 
-    ghost FIRST = { 48 };
+    ghost FIRST = { sequence_octet };
 
     ghost row_tree = { sequence ⟦<EncKdcRepPartRow as Fields>⟧.trees };
 

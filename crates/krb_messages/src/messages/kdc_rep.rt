@@ -1,6 +1,9 @@
 //! Replies of a KDC.
+ghost use Rattle.asn1_der.specs.Octets.{sequence_octet};
+
+use asn1_der::octets::SEQUENCE;
 use devices::{Sink, Source};
-use krb_types::constants::types::{AS_REP_MSG_TYPE, TGS_REP_MSG_TYPE};
+use krb_constants::types::{AS_REP_MSG_TYPE, TGS_REP_MSG_TYPE};
 use krb_types::data_types::{EncryptedData, PaData, PrincipalName, Realm, Ticket};
 use picky_asn1::wrapper::{Asn1SequenceOf, IntegerAsn1};
 use picky_asn1_der::{
@@ -82,9 +85,9 @@ impl Tagged for KdcRep {
 
     type Row = KdcRepRow;
 
-    const FIRST: u8 = 48;
+    const FIRST: u8 = SEQUENCE;
 
-    ghost FIRST = { 48 };
+    ghost FIRST = { sequence_octet };
 
     ghost row_tree = { sequence ⟦<KdcRepRow as Fields>⟧.trees };
 

@@ -1,7 +1,10 @@
 //! Requests to a KDC.
+ghost use Rattle.asn1_der.specs.Octets.{sequence_octet};
+
 use crate::messages::KdcReqBody;
+use asn1_der::octets::SEQUENCE;
 use devices::{Sink, Source};
-use krb_types::constants::types::{AS_REQ_MSG_TYPE, TGS_REQ_MSG_TYPE};
+use krb_constants::types::{AS_REQ_MSG_TYPE, TGS_REQ_MSG_TYPE};
 use krb_types::data_types::PaData;
 use picky_asn1::wrapper::{Asn1SequenceOf, IntegerAsn1};
 use picky_asn1_der::{
@@ -70,9 +73,9 @@ impl Tagged for KdcReq {
 
     type Row = KdcReqRow;
 
-    const FIRST: u8 = 48;
+    const FIRST: u8 = SEQUENCE;
 
-    ghost FIRST = { 48 };
+    ghost FIRST = { sequence_octet };
 
     ghost row_tree = { sequence ⟦<KdcReqRow as Fields>⟧.trees };
 

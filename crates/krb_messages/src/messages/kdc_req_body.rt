@@ -1,4 +1,7 @@
 //! The body of a request.
+ghost use Rattle.asn1_der.specs.Octets.{sequence_octet};
+
+use asn1_der::octets::SEQUENCE;
 use devices::{Sink, Source};
 use krb_types::data_types::{
     EncryptedData, HostAddresses, KerberosFlags, KerberosTime, PrincipalName, Realm, Ticket,
@@ -106,9 +109,9 @@ impl Tagged for KdcReqBody {
 
     type Row = KdcReqBodyRow;
 
-    const FIRST: u8 = 48;
+    const FIRST: u8 = SEQUENCE;
 
-    ghost FIRST = { 48 };
+    ghost FIRST = { sequence_octet };
 
     ghost row_tree = { sequence ⟦<KdcReqBodyRow as Fields>⟧.trees };
 

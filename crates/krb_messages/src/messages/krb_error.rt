@@ -1,6 +1,9 @@
 //! Errors.
+ghost use Rattle.asn1_der.specs.Octets.{sequence_octet};
+
+use asn1_der::octets::SEQUENCE;
 use devices::{Sink, Source};
-use krb_types::constants::types::KRB_ERROR_MSG_TYPE;
+use krb_constants::types::KRB_ERROR_MSG_TYPE;
 use krb_types::data_types::{KerberosStringAsn1, KerberosTime, Microseconds, PrincipalName, Realm};
 use picky_asn1::wrapper::{IntegerAsn1, OctetStringAsn1};
 use picky_asn1_der::{
@@ -123,9 +126,9 @@ impl Tagged for KrbErrorInner {
 
     type Row = KrbErrorInnerRow;
 
-    const FIRST: u8 = 48;
+    const FIRST: u8 = SEQUENCE;
 
-    ghost FIRST = { 48 };
+    ghost FIRST = { sequence_octet };
 
     ghost row_tree = { sequence ⟦<KrbErrorInnerRow as Fields>⟧.trees };
 

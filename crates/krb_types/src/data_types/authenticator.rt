@@ -1,9 +1,12 @@
 //! Authenticators.
-use crate::constants::types::AUTHENTICATOR_TYPE;
+ghost use Rattle.asn1_der.specs.Octets.{sequence_octet};
+
 use crate::data_types::{
     AuthorizationData, Checksum, EncryptionKey, KerberosTime, Microseconds, PrincipalName, Realm,
 };
+use asn1_der::octets::SEQUENCE;
 use devices::{Sink, Source};
+use krb_constants::types::AUTHENTICATOR_TYPE;
 use picky_asn1::wrapper::IntegerAsn1;
 use picky_asn1_der::{
     ApplicationTag, Asn1DerError, Deserializer, ExplicitContextTag0, ExplicitContextTag1,
@@ -81,9 +84,9 @@ impl Tagged for AuthenticatorInner {
 
     type Row = AuthenticatorInnerRow;
 
-    const FIRST: u8 = 48;
+    const FIRST: u8 = SEQUENCE;
 
-    ghost FIRST = { 48 };
+    ghost FIRST = { sequence_octet };
 
     ghost row_tree = { sequence ⟦<AuthenticatorInnerRow as Fields>⟧.trees };
 

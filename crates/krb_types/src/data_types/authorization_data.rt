@@ -1,4 +1,7 @@
 //! Authorization data.
+ghost use Rattle.asn1_der.specs.Octets.{sequence_octet};
+
+use asn1_der::octets::SEQUENCE;
 use devices::{Sink, Source};
 use picky_asn1::wrapper::{Asn1SequenceOf, IntegerAsn1, OctetStringAsn1};
 use picky_asn1_der::{
@@ -36,9 +39,9 @@ impl Tagged for AuthorizationDataInner {
 
     type Row = AuthorizationDataInnerRow;
 
-    const FIRST: u8 = 48;
+    const FIRST: u8 = SEQUENCE;
 
-    ghost FIRST = { 48 };
+    ghost FIRST = { sequence_octet };
 
     ghost row_tree = { sequence ⟦<AuthorizationDataInnerRow as Fields>⟧.trees };
 

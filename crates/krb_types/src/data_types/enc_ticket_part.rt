@@ -1,10 +1,13 @@
 //! The sealed part of a ticket.
-use crate::constants::types::ENC_TICKET_PART_TYPE;
+ghost use Rattle.asn1_der.specs.Octets.{sequence_octet};
+
 use crate::data_types::{
     AuthorizationData, EncryptionKey, HostAddresses, KerberosFlags, KerberosTime, PrincipalName,
     Realm, TransitedEncoding,
 };
+use asn1_der::octets::SEQUENCE;
 use devices::{Sink, Source};
+use krb_constants::types::ENC_TICKET_PART_TYPE;
 use picky_asn1_der::{
     ApplicationTag, Asn1DerError, Deserializer, ExplicitContextTag0, ExplicitContextTag1,
     ExplicitContextTag2, ExplicitContextTag3, ExplicitContextTag4, ExplicitContextTag5,
@@ -90,9 +93,9 @@ impl Tagged for EncTicketPartInner {
 
     type Row = EncTicketPartInnerRow;
 
-    const FIRST: u8 = 48;
+    const FIRST: u8 = SEQUENCE;
 
-    ghost FIRST = { 48 };
+    ghost FIRST = { sequence_octet };
 
     ghost row_tree = { sequence ⟦<EncTicketPartInnerRow as Fields>⟧.trees };
 

@@ -1,5 +1,8 @@
 //! How a client makes its key.
+ghost use Rattle.asn1_der.specs.Octets.{sequence_octet};
+
 use crate::data_types::KerberosStringAsn1;
+use asn1_der::octets::SEQUENCE;
 use devices::{Sink, Source};
 use picky_asn1::wrapper::{Asn1SequenceOf, IntegerAsn1, OctetStringAsn1};
 use picky_asn1_der::{
@@ -47,9 +50,9 @@ impl Tagged for EtypeInfo2Entry {
 
     type Row = EtypeInfo2EntryRow;
 
-    const FIRST: u8 = 48;
+    const FIRST: u8 = SEQUENCE;
 
-    ghost FIRST = { 48 };
+    ghost FIRST = { sequence_octet };
 
     ghost row_tree = { sequence ⟦<EtypeInfo2EntryRow as Fields>⟧.trees };
 

@@ -1,5 +1,8 @@
 //! Last requests.
+ghost use Rattle.asn1_der.specs.Octets.{sequence_octet};
+
 use crate::data_types::KerberosTime;
+use asn1_der::octets::SEQUENCE;
 use devices::{Sink, Source};
 use picky_asn1::wrapper::{Asn1SequenceOf, IntegerAsn1};
 use picky_asn1_der::{
@@ -34,9 +37,9 @@ impl Tagged for LastReqInner {
 
     type Row = LastReqInnerRow;
 
-    const FIRST: u8 = 48;
+    const FIRST: u8 = SEQUENCE;
 
-    ghost FIRST = { 48 };
+    ghost FIRST = { sequence_octet };
 
     ghost row_tree = { sequence ⟦<LastReqInnerRow as Fields>⟧.trees };
 

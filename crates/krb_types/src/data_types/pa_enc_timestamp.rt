@@ -1,5 +1,8 @@
 //! Preauthentication by a sealed time.
+ghost use Rattle.asn1_der.specs.Octets.{sequence_octet};
+
 use crate::data_types::{EncryptedData, KerberosTime, Microseconds};
+use asn1_der::octets::SEQUENCE;
 use devices::{Sink, Source};
 use picky_asn1_der::{
     Asn1DerError, Deserializer, ExplicitContextTag0, ExplicitContextTag1, Fields, Optional, Row2,
@@ -40,9 +43,9 @@ impl Tagged for PaEncTsEnc {
 
     type Row = PaEncTsEncRow;
 
-    const FIRST: u8 = 48;
+    const FIRST: u8 = SEQUENCE;
 
-    ghost FIRST = { 48 };
+    ghost FIRST = { sequence_octet };
 
     ghost row_tree = { sequence ⟦<PaEncTsEncRow as Fields>⟧.trees };
 

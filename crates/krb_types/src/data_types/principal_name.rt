@@ -1,7 +1,9 @@
 //! Names of principals.
 ghost use Rattle.std.specs.Prelude.{◌≡◌};
+ghost use Rattle.asn1_der.specs.Octets.{sequence_octet};
 
 use crate::data_types::KerberosStringAsn1;
+use asn1_der::octets::SEQUENCE;
 use devices::{Sink, Source};
 use picky_asn1::wrapper::{Asn1SequenceOf, IntegerAsn1};
 use picky_asn1_der::{
@@ -50,9 +52,9 @@ impl Tagged for PrincipalName {
 
     type Row = PrincipalNameRow;
 
-    const FIRST: u8 = 48;
+    const FIRST: u8 = SEQUENCE;
 
-    ghost FIRST = { 48 };
+    ghost FIRST = { sequence_octet };
 
     ghost row_tree = { sequence ⟦<PrincipalNameRow as Fields>⟧.trees };
 

@@ -1,7 +1,9 @@
 //! A BIT STRING in DER.
 ghost use Rattle.std.specs.Prelude.{◌≡◌, IfOk};
+ghost use Rattle.asn1_der.specs.Octets.{bit_string_octet};
 
 use crate::bit_string::BitStringAsn1;
+use asn1_der::octets::BIT_STRING;
 use devices::Sink;
 use picky_asn1_der::{Asn1DerError, Leaf, Rule, Serializer};
 use std::alloc::{AllocError, Global};
@@ -10,11 +12,11 @@ impl Leaf for BitStringAsn1 {
     ghost use Rattle.picky_asn1.specs.BitString.{is_bit_string, bit_content};
     ghost use Rattle.picky_asn1.specs.BitStringLaws.{bit_content-injective};
 
-    const OCTET: u8 = 3;
+    const OCTET: u8 = BIT_STRING;
 
     const RULE: Rule = Rule::BitString;
 
-    ghost OCTET = { 3 };
+    ghost OCTET = { bit_string_octet };
 
     ghost is_valid = { is_bit_string };
 

@@ -1,7 +1,9 @@
 //! GeneralString in DER (X.690, section 8.23).
 ghost use Rattle.std.specs.Prelude.{◌≡◌, IfOk};
+ghost use Rattle.asn1_der.specs.Octets.{general_string_octet};
 
 use crate::general_string::GeneralStringAsn1;
+use asn1_der::octets::GENERAL_STRING;
 use devices::Sink;
 use picky_asn1_der::{Asn1DerError, Leaf, Rule, Serializer};
 use std::alloc::{AllocError, Global};
@@ -9,11 +11,11 @@ use std::alloc::{AllocError, Global};
 impl Leaf for GeneralStringAsn1 {
     ghost use Rattle.asn1_leaves.specs.CharSets.{is_general_string};
 
-    const OCTET: u8 = 27;
+    const OCTET: u8 = GENERAL_STRING;
 
     const RULE: Rule = Rule::Characters;
 
-    ghost OCTET = { 27 };
+    ghost OCTET = { general_string_octet };
 
     ghost is_valid = { is_general_string };
 

@@ -1,7 +1,9 @@
 //! An INTEGER in DER.
 ghost use Rattle.std.specs.Prelude.{◌≡◌, IfOk};
+ghost use Rattle.asn1_der.specs.Octets.{integer_octet};
 
 use crate::integer::IntegerAsn1;
+use asn1_der::octets::INTEGER;
 use devices::Sink;
 use picky_asn1_der::{Asn1DerError, Leaf, Rule, Serializer};
 use std::alloc::{AllocError, Global};
@@ -11,11 +13,11 @@ impl Leaf for IntegerAsn1 {
     ghost use Rattle.picky_asn1.specs.Integer.{integer_content};
     ghost use Rattle.picky_asn1.specs.IntegerLaws.{integer_content-injective};
 
-    const OCTET: u8 = 2;
+    const OCTET: u8 = INTEGER;
 
     const RULE: Rule = Rule::Integer;
 
-    ghost OCTET = { 2 };
+    ghost OCTET = { integer_octet };
 
     ghost is_valid = { λ _. true };
 

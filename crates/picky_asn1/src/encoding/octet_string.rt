@@ -1,7 +1,9 @@
 //! An OCTET STRING in DER.
 ghost use Rattle.std.specs.Prelude.{◌≡◌, IfOk};
+ghost use Rattle.asn1_der.specs.Octets.{octet_string_octet};
 
 use crate::octet_string::OctetStringAsn1;
+use asn1_der::octets::OCTET_STRING;
 use devices::Sink;
 use picky_asn1_der::{Asn1DerError, Leaf, Rule, Serializer};
 use std::alloc::{AllocError, Global};
@@ -9,11 +11,11 @@ use std::alloc::{AllocError, Global};
 impl Leaf for OctetStringAsn1 {
     ghost use Rattle.std.specs.Prelude.{true};
 
-    const OCTET: u8 = 4;
+    const OCTET: u8 = OCTET_STRING;
 
     const RULE: Rule = Rule::Characters;
 
-    ghost OCTET = { 4 };
+    ghost OCTET = { octet_string_octet };
 
     ghost is_valid = { λ _. true };
 

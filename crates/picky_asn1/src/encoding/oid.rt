@@ -1,8 +1,10 @@
 //! An OBJECT IDENTIFIER in DER.
 ghost use Rattle.std.specs.Prelude.{◌≡◌, IfOk};
+ghost use Rattle.asn1_der.specs.Octets.{object_identifier_octet};
 
 use crate::oid::ObjectIdentifier;
 use crate::wrapper::ObjectIdentifierAsn1;
+use asn1_der::octets::OBJECT_IDENTIFIER;
 use devices::Sink;
 use picky_asn1_der::{Asn1DerError, Leaf, Rule, Serializer};
 use std::alloc::{AllocError, Global};
@@ -11,11 +13,11 @@ impl Leaf for ObjectIdentifierAsn1 {
     ghost use Rattle.asn1_leaves.specs.ObjectIdentifier.{is_object_identifier, oid_content};
     ghost use Rattle.asn1_leaves.proofs.OidLemmas.{oid_content-injective};
 
-    const OCTET: u8 = 6;
+    const OCTET: u8 = OBJECT_IDENTIFIER;
 
     const RULE: Rule = Rule::ObjectIdentifier;
 
-    ghost OCTET = { 6 };
+    ghost OCTET = { object_identifier_octet };
 
     ghost is_valid = { λ oid. is_object_identifier oid.0 };
 

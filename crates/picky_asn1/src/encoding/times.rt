@@ -1,8 +1,10 @@
 //! Times in DER.
 ghost use Rattle.std.specs.Prelude.{◌≡◌, IfOk};
+ghost use Rattle.asn1_der.specs.Octets.{generalized_time_octet, utc_time_octet};
 
 use crate::date::{GeneralizedTime, UTCTime};
 use crate::wrapper::{GeneralizedTimeAsn1, UTCTimeAsn1};
+use asn1_der::octets::{GENERALIZED_TIME, UTC_TIME};
 use devices::Sink;
 use picky_asn1_der::{Asn1DerError, Leaf, Rule, Serializer};
 use std::alloc::{AllocError, Global};
@@ -12,11 +14,11 @@ impl Leaf for GeneralizedTimeAsn1 {
     ghost use Rattle.asn1_leaves.specs.GeneralizedTime.{time_text};
     ghost use Rattle.asn1_leaves.specs.TimeLaws.{time_text-injective};
 
-    const OCTET: u8 = 24;
+    const OCTET: u8 = GENERALIZED_TIME;
 
     const RULE: Rule = Rule::Time;
 
-    ghost OCTET = { 24 };
+    ghost OCTET = { generalized_time_octet };
 
     ghost is_valid = { λ _. true };
 
@@ -45,11 +47,11 @@ impl Leaf for UTCTimeAsn1 {
     ghost use Rattle.asn1_leaves.specs.UtcTime.{utc_text};
     ghost use Rattle.asn1_leaves.specs.TimeLaws.{utc_text-injective};
 
-    const OCTET: u8 = 23;
+    const OCTET: u8 = UTC_TIME;
 
     const RULE: Rule = Rule::Time;
 
-    ghost OCTET = { 23 };
+    ghost OCTET = { utc_time_octet };
 
     ghost is_valid = { λ _. true };
 

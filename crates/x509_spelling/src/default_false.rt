@@ -1,21 +1,30 @@
-//! Whether an extension is critical (RFC 5280, section 4.2).
+//! Fields that are a BOOLEAN and FALSE by default (X.690, section 11.5).
 ghost use Rattle.std.specs.Prelude.{◌≡◌, MatchResult, IsTrue, IfOk};
+ghost use Rattle.asn1_der.specs.Octets.{boolean_octet};
 
+use crate::exact::Exact;
+use crate::fields::Deviates;
+use asn1_der::octets::BOOLEAN;
 use devices::{Sink, Source};
 use picky_asn1_der::{Asn1DerError, Deserializer, HasDefault, Serializer, Tagged};
 use std::alloc::{AllocError, Global};
-use x509_spelling::{Deviates, Exact};
 
-/// Whether an extension is critical: a verifier that doesn't recognise it must reject the certificate. FALSE by default.
+/// Whether an extension is critical (RFC 5280, section 4.2): a verifier that doesn't recognise it must reject the certificate.
+pub type Critical = DefaultFalse<0>;
+
+/// Whether a certificate is an authority's (RFC 5280, section 4.2.1.9).
+pub type CaFlag = DefaultFalse<1>;
+
+/// A BOOLEAN that is FALSE by default. `FIELD` says in which field it stands: a deviation is counted by its field.
 #[derive(Clone, Copy, Debug, PartialEq, Eq)]
-pub struct Critical(pub bool);
+pub struct DefaultFalse<const FIELD: u8>(pub bool);
 
-impl Tagged for Critical {
+impl<const FIELD: u8> Tagged for DefaultFalse<FIELD> {
     type Row = bool;
 
-    const FIRST: u8 = 1;
+    const FIRST: u8 = BOOLEAN;
 
-    ghost FIRST = { 1 };
+    ghost FIRST = { boolean_octet };
 
     ghost row_tree = { ⟦<bool as Tagged>⟧.row_tree };
 
@@ -30,7 +39,7 @@ impl Tagged for Critical {
     }
 
     fn of_row(row: bool) -> Self {
-        Critical(row)
+        DefaultFalse(row)
     }
 
     fn write_row<W: Sink>(&self, tag: u8, to: &mut Serializer<W>) -> Result<usize, Asn1DerError> {
@@ -38,11 +47,11 @@ impl Tagged for Critical {
     }
 }
 
-impl Exact for Critical {}
+impl<const FIELD: u8> Exact for DefaultFalse<FIELD> {}
 
-impl HasDefault for Critical {
+impl<const FIELD: u8> HasDefault for DefaultFalse<FIELD> {
     ghost use Rattle.std.specs.Prelude.{not};
-    ghost use Rattle.x509_parts.specs.Defaults.{one_false};
+    ghost use Rattle.x509_spelling.specs.Defaults.{one_false};
 
     ghost is_default_value = { λ flag. not flag.0 };
 
@@ -53,7 +62,7 @@ impl HasDefault for Critical {
     }
 
     fn default_value(_alloc: Global) -> Result<Self, AllocError> {
-        Ok(Critical(false))
+        Ok(DefaultFalse(false))
     }
 }
 
@@ -61,4 +70,10 @@ impl Deviates for Critical {
     ghost use Rattle.x509_spelling.specs.Deviations.{critical_false_spelled};
 
     ghost deviation = { critical_false_spelled };
+}
+
+impl Deviates for CaFlag {
+    ghost use Rattle.x509_spelling.specs.Deviations.{ca_false_spelled};
+
+    ghost deviation = { ca_false_spelled };
 }

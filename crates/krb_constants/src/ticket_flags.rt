@@ -1,0 +1,7 @@
+//! The bits of a ticket's flags that a service or a realm looks at (RFC 4120, section 5.3).
+
+/// The ticket isn't valid yet.
+pub const INVALID: usize = 7;
+
+/// The client was authenticated before the ticket was issued.
+pub const PRE_AUTHENT: usize = 10;
