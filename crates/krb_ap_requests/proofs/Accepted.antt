@@ -21,7 +21,7 @@ use Rattle.decision_tables.specs.Tables.{Table, and_then, done, need, refuse}
 use Rattle.krb_encrypted_data.specs.Sealed.{IsSealedIn}
 use Rattle.krb_moments.specs.Times.{moment_at}
 use Rattle.krb_ap_requests.specs.Acceptable.{IsAcceptable, shown_by}
-use Rattle.krb_ap_requests.specs.ApTable.{for_service, ap_fields, is_early, is_late, is_of_client, kvno_fits, opened, presented, told, valid_authenticator, valid_part}
+use Rattle.krb_ap_requests.specs.ApTable.{for_service, ap_fields, is_early, is_late, is_of_client, kvno_fits, opened, presented, authenticator_time, valid_authenticator, valid_part}
 use Rattle.krb_ap_requests.specs.Entry.{EntryRecord}
 use Rattle.krb_messages.specs.Messages.{authenticator_tree, enc_ticket_part_tree}
 use Rattle.krb_ap_requests.specs.Messages.{IsAuthenticator}

@@ -19,7 +19,7 @@ use Rattle.picky_asn1.specs.Numbers.{is_number}
 use Rattle.decision_tables.specs.Tables.{Table, and_then, done, need, refuse}
 use Rattle.krb_moments.specs.Times.{moment_at}
 use Rattle.krb_ap_requests.specs.Acceptable.{IsAcceptable, shown_by}
-use Rattle.krb_ap_requests.specs.ApTable.{for_service, ap_fields, authenticated, is_early, is_late, is_of_client, kvno_fits, opened, opened_part, presented, presented_with, timely, told, valid_authenticator, valid_part}
+use Rattle.krb_ap_requests.specs.ApTable.{for_service, ap_fields, authenticated, is_early, is_late, is_of_client, kvno_fits, opened, opened_part, presented, presented_with, timely, authenticator_time, valid_authenticator, valid_part}
 use Rattle.krb_ap_requests.specs.Entry.{EntryRecord}
 use Rattle.krb_messages.specs.Messages.{IsApReq, authenticator_tree, enc_ticket_part_tree}
 use Rattle.krb_ap_requests.specs.Messages.{IsAuthenticator, IsTicketPart}
@@ -143,7 +143,7 @@ pub authenticated_so : (usage : ℕ) (part : EncTicketPartInner) (sealed : Encry
     → IsAuthenticatedSo usage part sealed a
 authenticated_so usage part sealed a x =
     let own = both (opened part.key.0 usage sealed) (timed part) a x in
-    let last = both (told part own.0.1) (λ time. done (Ok (with_time own.0 time))) a own.2 in
+    let last = both (authenticator_time part own.0.1) (λ time. done (Ok (with_time own.0 time))) a own.2 in
     let found = session_suite part.key.0 usage sealed own.0 own.1 in
     let rows = told_so (is_number 5 own.0.1.authenticator_vno.0) (is_of_client part own.0.1) (moment_at (seconds_of own.0.1.ctime.0.0) own.0.1.cusec.0) last.0 last.1 in
     let same : a ≡ with_time own.0 last.0 = ok_same a (with_time own.0 last.0) last.2 in

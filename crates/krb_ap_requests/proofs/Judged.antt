@@ -8,7 +8,7 @@ use Rattle.krb_messages.specs.declared.messages.ap_req.ApReqInner.{ApReqInner}
 use Rattle.krb_types.specs.Refusals.{IsJudged}
 use Rattle.krb_types.specs.declared.refusal.Refusal.{Refusal}
 use Rattle.krb_types.specs.declared.refusal.Refusal.TheVariants.{Krb, Memory}
-use Rattle.krb_ap_requests.specs.ApTable.{for_service, authenticated, opened, opened_part, presented, presented_with, timely, told, valid_authenticator, valid_part}
+use Rattle.krb_ap_requests.specs.ApTable.{for_service, authenticated, opened, opened_part, presented, presented_with, timely, authenticator_time, valid_authenticator, valid_part}
 use Rattle.krb_ap_requests.specs.Entry.{EntryRecord}
 use Rattle.krb_messages.specs.Messages.{IsApReq}
 use Rattle.krb_ap_requests.specs.Received.{Receives}
@@ -106,13 +106,13 @@ unopened usage part sealed Memory x = tt
 
 -- and one that tells no such moment for that
 pub untold : (usage : ℕ) (part : EncTicketPartInner) (sealed : EncryptedData) (suite : CipherSuite) (authenticator : AuthenticatorInner) (e : Refusal)
-    → (opened part.key.0 usage sealed).gives (Ok (suite, authenticator)) → IsJudged {T = ℕ} (told part authenticator).gives (Err e)
+    → (opened part.key.0 usage sealed).gives (Ok (suite, authenticator)) → IsJudged {T = ℕ} (authenticator_time part authenticator).gives (Err e)
     → IsJudged {T = Authenticated} (authenticated usage part sealed).gives (Err e)
 untold usage part sealed suite authenticator (Krb code) o x = inl ((suite, authenticator), o, inr (code, x, refl))
 untold usage part sealed suite authenticator Memory o x = tt
 
 pub told_by : (usage : ℕ) (part : EncTicketPartInner) (sealed : EncryptedData) (suite : CipherSuite) (authenticator : AuthenticatorInner) (time : ℕ)
-    → (opened part.key.0 usage sealed).gives (Ok (suite, authenticator)) → (told part authenticator).gives (Ok time)
+    → (opened part.key.0 usage sealed).gives (Ok (suite, authenticator)) → (authenticator_time part authenticator).gives (Ok time)
     → (authenticated usage part sealed).gives (Ok (record { suite = suite; authenticator = authenticator; time = time }))
 told_by usage part sealed suite authenticator time o t = inl ((suite, authenticator), o, inl (time, t, refl))
 

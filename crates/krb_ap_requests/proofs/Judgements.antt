@@ -14,7 +14,7 @@ use Rattle.picky_asn1.specs.Numbers.{is_number}
 use Rattle.decision_tables.specs.Tables.{Table, and_then, done, need, refuse}
 use Rattle.krb_moments.specs.Times.{moment_at}
 use Rattle.decision_tables.proofs.Outcomes.{HasOutcome, has_asked, has_done, has_needed, has_refused, has_then}
-use Rattle.krb_ap_requests.specs.ApTable.{for_service, ap_fields, authenticated, is_early, is_late, is_of_client, opened, opened_part, presented, presented_with, timely, told, valid_authenticator, valid_part}
+use Rattle.krb_ap_requests.specs.ApTable.{for_service, ap_fields, authenticated, is_early, is_late, is_of_client, opened, opened_part, presented, presented_with, timely, authenticator_time, valid_authenticator, valid_part}
 use Rattle.krb_ap_requests.specs.ApTable as rows
 use Rattle.krb_ap_requests.specs.Entry.{EntryRecord}
 use Rattle.krb_ap_requests.specs.Messages.{IsAuthenticator, IsTicketPart, sole_authenticator, sole_ticket_part}
@@ -73,7 +73,7 @@ has_authenticated usage part sealed =
     has_then (opened part.key.0 usage sealed) (timed part) (has_opened part.key.0 usage sealed)
     (λ found x.
     let end : ℕ → Table (Result Authenticated ℕ) = λ time. done (Ok (with_time found time)) in
-    has_then (told part found.1) end
+    has_then (authenticator_time part found.1) end
     (has_told (not (is_number 5 found.1.authenticator_vno.0)) (not (is_of_client part found.1)) (moment_at (seconds_of found.1.ctime.0.0) found.1.cusec.0))
     (λ time y. has_done (Ok (with_time found time))))
 

@@ -42,20 +42,20 @@ module _ {T : Type 0} (tree : T → Tree) (etype : ℤ) (key : List ℕ) (usage 
       one_string y.suite key usage confounder y.plain c d moved y.sealed
 
 -- the kvno of encrypted data, if it has one
-abbrev pub told : EncryptedData → Option ℤ
-told sealed = option_map (λ tagged. tagged.0) sealed.kvno.0
+abbrev pub kvno_of : EncryptedData → Option ℤ
+kvno_of sealed = option_map (λ tagged. tagged.0) sealed.kvno.0
 
-told-encrypted : (etype : ℤ) (kvno : Option ℤ) (cipher : List ℕ) → told (encrypted etype kvno cipher) ≡ kvno
-told-encrypted etype None cipher = refl
-told-encrypted etype (Some number) cipher = refl
+kvno_of-encrypted : (etype : ℤ) (kvno : Option ℤ) (cipher : List ℕ) → kvno_of (encrypted etype kvno cipher) ≡ kvno
+kvno_of-encrypted etype None cipher = refl
+kvno_of-encrypted etype (Some number) cipher = refl
 
 -- the number of the tagged one is the tagged one again
 twice : {A B : Type 0} (option : Option B) (tagged : A → B) (untagged : B → A) → ((b : B) → tagged (untagged b) ≡ b) → option_map tagged (option_map untagged option) ≡ option
 twice None tagged untagged same = refl
 twice (Some b) tagged untagged same = ap Some (same b)
 
-pub untold-told : (sealed : EncryptedData) → encrypted sealed.etype.0 (told sealed) sealed.cipher.0 ≡ sealed
-untold-told sealed = λ i. record {
+pub encrypted-kvno_of : (sealed : EncryptedData) → encrypted sealed.etype.0 (kvno_of sealed) sealed.cipher.0 ≡ sealed
+encrypted-kvno_of sealed = λ i. record {
   etype = sealed.etype;
   kvno = record { 0 = twice {A = ℤ} sealed.kvno.0 (λ number. record { 0 = number }) (λ tagged. tagged.0) (λ b. refl) i };
   cipher = sealed.cipher;
@@ -70,9 +70,9 @@ outer_of request = record {
   realm = request.ticket.0.0.realm.0;
   service = request.ticket.0.0.sname.0;
   part_etype = request.ticket.0.0.enc_part.0.etype.0;
-  part_kvno = told request.ticket.0.0.enc_part.0;
+  part_kvno = kvno_of request.ticket.0.0.enc_part.0;
   etype = request.authenticator.0.etype.0;
-  kvno = told request.authenticator.0;
+  kvno = kvno_of request.authenticator.0;
 }
 
 outer-request : (outer : Outer) (part_cipher cipher : List ℕ) → outer_of (request_of outer part_cipher cipher) ≡ outer
@@ -84,9 +84,9 @@ outer-request outer part_cipher cipher = λ i. record {
   realm = outer.realm;
   service = outer.service;
   part_etype = outer.part_etype;
-  part_kvno = told-encrypted outer.part_etype outer.part_kvno part_cipher i;
+  part_kvno = kvno_of-encrypted outer.part_etype outer.part_kvno part_cipher i;
   etype = outer.etype;
-  kvno = told-encrypted outer.etype outer.kvno cipher i;
+  kvno = kvno_of-encrypted outer.etype outer.kvno cipher i;
 }
 
 pub one_presentation : (key message : List ℕ) (a b : Choice) → Presents key a message → Presents key b message → a ≡ b

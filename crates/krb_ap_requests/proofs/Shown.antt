@@ -10,13 +10,13 @@ use Rattle.krb_types.specs.declared.data_types.encrypted_data.EncryptedData.{Enc
 use Rattle.krb_types.specs.declared.data_types.encryption_key.EncryptionKey.{EncryptionKey}
 use Rattle.krb_types.specs.declared.data_types.enc_ticket_part.EncTicketPartInner.{EncTicketPartInner}
 use Rattle.krb_messages.specs.declared.messages.ap_req.ApReqInner.{ApReqInner}
-use Rattle.krb_ap_requests.specs.ApTable.{opened_part, told, valid_authenticator, valid_part}
+use Rattle.krb_ap_requests.specs.ApTable.{opened_part, authenticator_time, valid_authenticator, valid_part}
 use Rattle.krb_ap_requests.specs.Entry.{EntryRecord}
 use Rattle.krb_ap_requests.specs.Messages.{IsAuthenticator, IsTicketPart, sole_authenticator}
 use Rattle.krb_ap_requests.specs.Presents.{SealsTo, request_of}
 use Rattle.krb_ap_requests.specs.declared.presented.Authenticated.{Authenticated}
 use Rattle.krb_ap_requests.specs.declared.presented.Presented.{Presented}
-use Rattle.krb_ap_requests.proofs.Presentations.{outer_of, untold-told}
+use Rattle.krb_ap_requests.proofs.Presentations.{outer_of, encrypted-kvno_of}
 
 -- two judgements are one
 abbrev pub Same : {T : Type 0} → Result T ℕ → Result T ℕ → Type 0
@@ -53,11 +53,11 @@ request-outer request = λ i. record {
         tkt_vno = request.ticket.0.0.tkt_vno;
         realm = request.ticket.0.0.realm;
         sname = request.ticket.0.0.sname;
-        enc_part = record { 0 = untold-told request.ticket.0.0.enc_part.0 i };
+        enc_part = record { 0 = encrypted-kvno_of request.ticket.0.0.enc_part.0 i };
       };
     };
   };
-  authenticator = record { 0 = untold-told request.authenticator.0 i };
+  authenticator = record { 0 = encrypted-kvno_of request.authenticator.0 i };
 }
 
 -- one of two, of which the second can't be
@@ -96,7 +96,7 @@ abbrev pub with_time : CipherSuite × AuthenticatorInner → ℕ → Authenticat
 with_time found time = record { suite = found.0; authenticator = found.1; time = time }
 
 abbrev pub timed : EncTicketPartInner → CipherSuite × AuthenticatorInner → Table (Result Authenticated ℕ)
-timed part found = and_then (told part found.1) (λ time. done (Ok (with_time found time)))
+timed part found = and_then (authenticator_time part found.1) (λ time. done (Ok (with_time found time)))
 
 abbrev pub past_recipient : EntryRecord → ℕ → ℕ → ApReqInner → Table (Result Presented ℕ)
 past_recipient entry skew moment request =

@@ -20,13 +20,13 @@ pub record AdmissionRecord : Type 0 where
   pub reply : Option Bytes
 
 abbrev pub subkey_of : AuthenticatorInner → Option EncryptionKey
-subkey_of authenticator = option_map (λ told. told.0) authenticator.subkey.0
+subkey_of authenticator = option_map (λ tagged. tagged.0) authenticator.subkey.0
 
 abbrev pub checksum_of : AuthenticatorInner → Option Checksum
-checksum_of authenticator = option_map (λ told. told.0) authenticator.cksum.0
+checksum_of authenticator = option_map (λ tagged. tagged.0) authenticator.cksum.0
 
 abbrev pub seq_number_of : AuthenticatorInner → Option ℤ
-seq_number_of authenticator = option_map (λ told. told.0) authenticator.seq_number.0
+seq_number_of authenticator = option_map (λ tagged. tagged.0) authenticator.seq_number.0
 
 abbrev pub admission_of : Presented → Option Bytes → AdmissionRecord
 admission_of presented reply = record {

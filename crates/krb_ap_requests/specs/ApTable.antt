@@ -37,7 +37,7 @@ is_for realm name ticket = is_same_realm ticket.realm.0 realm && is_same_name (c
 
 -- the data has the kvno, or none
 abbrev pub kvno_fits : ℕ → EncryptedData → Bool
-kvno_fits kvno encrypted = option_map_or (λ told. is_number kvno told.0) encrypted.kvno.0 true
+kvno_fits kvno encrypted = option_map_or (λ tagged. is_number kvno tagged.0) encrypted.kvno.0 true
 
 -- the request's own fields: version 5, an AP request, for the service of this realm and this name under its key of this
 -- kvno
@@ -59,7 +59,7 @@ for_service realm name suite kvno request =
 
 -- the second in which a ticket starts: where it doesn't tell one, that of the client's first ticket
 abbrev pub ticket_start : EncTicketPartInner → Seconds
-ticket_start part = option_map_or (λ told. seconds_of told.0.0) part.starttime.0 (seconds_of part.auth_time.0.0)
+ticket_start part = option_map_or (λ tagged. seconds_of tagged.0.0) part.starttime.0 (seconds_of part.auth_time.0.0)
 
 -- the ticket starts later than the moment and the skew, or isn't valid yet (flag 7; RFC 4120, section 2.2)
 abbrev pub is_early : Micros → Micros → EncTicketPartInner → Bool
@@ -102,8 +102,8 @@ opened key usage encrypted =
     done (Ok (suite, authenticator))))
 
 -- the moment that an authenticator of the ticket's client tells
-abbrev pub told : EncTicketPartInner → AuthenticatorInner → Table (Result Micros Code)
-told part authenticator =
+abbrev pub authenticator_time : EncTicketPartInner → AuthenticatorInner → Table (Result Micros Code)
+authenticator_time part authenticator =
     refuse (not (is_number 5 authenticator.authenticator_vno.0)) KRB_AP_ERR_BADVERSION
     (refuse (not (is_of_client part authenticator)) KRB_AP_ERR_BADMATCH
     (need (moment_at (seconds_of authenticator.ctime.0.0) authenticator.cusec.0) KRB_AP_ERR_MODIFIED (λ time.
@@ -114,7 +114,7 @@ told part authenticator =
 abbrev pub authenticated : ℕ → EncTicketPartInner → EncryptedData → Table (Result Authenticated Code)
 authenticated usage part encrypted =
     and_then (opened part.key.0 usage encrypted) (λ found.
-    and_then (told part found.1) (λ time.
+    and_then (authenticator_time part found.1) (λ time.
     done (Ok (record { suite = found.0; authenticator = found.1; time = time }))))
 
 -- what a request presents with this part and this authenticator; it requires a reply if mutual-required is set

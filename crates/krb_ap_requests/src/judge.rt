@@ -3,7 +3,7 @@ ghost use Rattle.std.specs.Prelude.{◌≡◌, ◌≤◌};
 ghost use Rattle.krb_crypto.specs.Suites.{cipher_number};
 ghost use Rattle.krb_types.specs.Names.{components};
 ghost use Rattle.krb_types.specs.Refusals.{IsJudged};
-ghost use Rattle.krb_ap_requests.specs.ApTable.{for_service, ap_fields, authenticated, is_early, is_for, is_late, is_of_client, is_version_5, kvno_fits, opened, opened_part, presented_with, ticket_start, timely, told, valid_authenticator, valid_part};
+ghost use Rattle.krb_ap_requests.specs.ApTable.{for_service, ap_fields, authenticated, is_early, is_for, is_late, is_of_client, is_version_5, kvno_fits, opened, opened_part, presented_with, ticket_start, timely, authenticator_time, valid_authenticator, valid_part};
 ghost use Rattle.picky_asn1.specs.GeneralizedTime.{seconds_of};
 ghost use Rattle.std.specs.Int.{cast_unsigned, w32};
 
@@ -93,7 +93,7 @@ fn kvno_fits(kvno: u32, encrypted: &EncryptedData) -> bool
     ensures { result ≡ kvno_fits kvno encrypted.now }
 {
     match &encrypted.kvno.0 {
-        Some(told) => is_number(&told.0, kvno),
+        Some(tagged) => is_number(&tagged.0, kvno),
         None => true,
     }
 }
@@ -148,7 +148,7 @@ fn start_of(part: &EncTicketPartInner) -> GeneralizedTime
     ensures { seconds_of result ≡ ticket_start part.now }
 {
     match &part.starttime.0 {
-        Some(told) => told.0.0,
+        Some(tagged) => tagged.0.0,
         None => part.auth_time.0.0,
     }
 }
@@ -227,7 +227,7 @@ pub fn check_authenticator(
     ensures { IsJudged (authenticated (cast_unsigned w32 usage) part.now encrypted.now).gives result }
 {
     let (suite, authenticator) = open_under(alloc, &part.key.0, usage, encrypted)?;
-    match check_told(part, &authenticator) {
+    match authenticator_time(part, &authenticator) {
         Ok(time) => Ok(Authenticated {
             suite,
             authenticator,
@@ -259,11 +259,11 @@ fn open_under(
 }
 
 // Judges whose the authenticator is, and returns its moment.
-fn check_told(
+fn authenticator_time(
     part: &EncTicketPartInner,
     authenticator: &AuthenticatorInner,
 ) -> Result<Moment, Refusal>
-    ensures { IsJudged (told part.now authenticator.now).gives result }
+    ensures { IsJudged (authenticator_time part.now authenticator.now).gives result }
 {
     if !is_number(&authenticator.authenticator_vno.0, KERBEROS_VERSION) {
         return Err(Refusal::Krb(error_codes::KRB_AP_ERR_BADVERSION));

@@ -40,7 +40,7 @@ use Rattle.krb_tickets.specs.ReplyKeys.{ReplyKeyRecord, tgs_reply_key}
 use Rattle.krb_tickets.specs.Sealed.{ticket_part_bytes}
 use Rattle.krb_tickets.specs.Times.{asked_end, end_of, last_second, start_of}
 use Rattle.krb_tickets.specs.Granted.{IsTicketReply}
-use Rattle.krb_ap_requests.specs.ApTable.{ap_fields, is_early, is_for, is_late, kvno_fits, opened, opened_part, timely, told}
+use Rattle.krb_ap_requests.specs.ApTable.{ap_fields, is_early, is_for, is_late, kvno_fits, opened, opened_part, timely, authenticator_time}
 use Rattle.krb_ap_requests.specs.Entry.{EntryRecord}
 use Rattle.krb_ap_requests.specs.Messages.{IsAuthenticator, IsTicketPart, sole_authenticator, sole_ticket_part}
 use Rattle.krb_ap_requests.specs.Presents.{request_of}
@@ -360,7 +360,7 @@ module _ (client : ClientRecord) (means : MeansRecord) (realm : RealmRecord) (ro
       abbrev at_time : ℕ → Table (Result ℕ ℕ)
       at_time time = done (Ok time)
 
-      shown_told : (told (ticket_part old) authenticator).gives (Ok login.client_tgs)
+      shown_told : (authenticator_time (ticket_part old) authenticator).gives (Ok login.client_tgs)
       unfolding ticket_part
       shown_told =
           by_refuse {T = ℕ} {E = ℕ} (not (is_same_realm client.realm realm.name && is_same_name client.components client.components)) 36
