@@ -7,8 +7,10 @@
 ghost use Rattle.std.specs.Prelude.{◌≡◌};
 ghost use Rattle.asn1_codec.specs.Reads.{ReadsAll};
 
+mod krb_result;
 pub mod messages;
 
+pub use krb_result::{KrbResult, ResultExt};
 use picky_asn1_der::{Asn1DerError, Deserialize, from_exact_bytes};
 use std::alloc::Global;
 

@@ -51,11 +51,12 @@ pub mod data_types {
     pub use gss_message_tokens::{
         LsapTokenInfoIntegrity, LsapTokenInfoIntegrityError, MACHINE_ID_LENGTH,
     };
-    pub use kpasswd_messages::{ChangePasswdData, EncKrbPrivPart, EncKrbPrivPartInner};
-    pub use krb_credentials::{
-        EncKrbCredPart, EncKrbCredPartInner, KerbAdRestrictionEntry, KerbErrorData,
-        KerbPaPacRequest, KrbCredInfo, KrbResult, PaPacOptions, ResultExt,
+    pub use kile_messages::{
+        KerbAdRestrictionEntry, KerbErrorData, KerbPaPacRequest, PaPacOptions,
     };
+    pub use kpasswd_messages::{ChangePasswdData, EncKrbPrivPart, EncKrbPrivPartInner};
+    pub use krb_credentials::{EncKrbCredPart, EncKrbCredPartInner, KrbCredInfo};
+    pub use krb_messages::{KrbResult, ResultExt};
     pub use krb_types::data_types::{
         ApOptions, Authenticator, AuthenticatorInner, AuthorizationData, AuthorizationDataInner,
         Checksum, EncApRepPart, EncApRepPartInner, EncTicketPart, EncTicketPartInner,
@@ -78,10 +79,11 @@ pub mod gss_api {
 /// Messages (RFC 4120, section 5), and the exchange that changes a password (RFC 3244).
 pub mod messages {
     pub use gss_context_tokens::{IAKerbCookie, IAKerbHeader};
+    pub use kile_messages::{KdcProxyMessage, TgtRep, TgtReq};
     pub use kpasswd_messages::{
         ApMessage, KrbPriv, KrbPrivFrame, KrbPrivFrameError, KrbPrivInner, KrbPrivMessage,
     };
-    pub use krb_credentials::{KdcProxyMessage, KrbCred, KrbCredInner, TgtRep, TgtReq};
+    pub use krb_credentials::{KrbCred, KrbCredInner};
     pub use krb_messages::messages::{
         ApRep, ApRepInner, ApReq, ApReqInner, AsRep, AsReq, EncAsRepPart, EncKdcRepPart,
         EncTgsRepPart, KdcRep, KdcReq, KdcReqBody, KrbError, KrbErrorInner, TgsRep, TgsReq,

@@ -34,7 +34,7 @@ pub struct KdcProxyMessage {
 }
 
 impl KdcProxyMessage {
-    ghost use Rattle.krb_credentials.specs.Trees.{kdc_proxy_message_tree};
+    ghost use Rattle.kile_messages.specs.Trees.{kdc_proxy_message_tree};
 
     /// Reads the message that begins `raw`. Bytes after it are left.
     pub fn from_raw(alloc: Global, raw: &[u8]) -> Result<KdcProxyMessage, Asn1DerError>

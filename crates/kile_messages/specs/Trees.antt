@@ -1,8 +1,8 @@
 -- The tree of a message to a proxy of KDCs (MS-KKDCP, section 2.2.2).
 use Rattle.asn1_der.specs.Tree.{Tree}
 use Rattle.asn1_der.specs.Tagged.{tagged_tree}
-use Rattle.krb_credentials.specs.declared.kdc_proxy_message.KdcProxyMessage.{KdcProxyMessage}
-use Rattle.krb_credentials.specs.contracts.kdc_proxy_message.KdcProxyMessageTagged.TheImpl as kdc_proxy_message_impl
+use Rattle.kile_messages.specs.declared.kdc_proxy_message.KdcProxyMessage.{KdcProxyMessage}
+use Rattle.kile_messages.specs.contracts.kdc_proxy_message.KdcProxyMessageTagged.TheImpl as kdc_proxy_message_impl
 use Rattle.asn1_der.specs.Octets.{sequence_octet}
 
 abbrev pub kdc_proxy_message_tree : KdcProxyMessage → Tree

@@ -1,10 +1,10 @@
 //! A message, or the error in its place.
 ghost use Rattle.std.specs.Prelude.{◌≡◌, Bool, true, false, IsTrue, MatchResult};
 ghost use Rattle.asn1_der.specs.Tree.{Tree};
-ghost use Rattle.krb_credentials.specs.KrbResults.{result_tree, is_no_error};
+ghost use Rattle.krb_messages.specs.KrbResults.{result_tree, is_no_error};
 
+use crate::messages::KrbError;
 use devices::Source;
-use krb_messages::messages::KrbError;
 use picky_asn1_der::{Alternatives, Asn1DerError, Choice, Deserialize, Deserializer, Last};
 
 /// What a KDC or a service answers: a message, or a KRB-ERROR (RFC 4120, section 5.9.1).

@@ -1,6 +1,6 @@
 use Rattle.asn1_codec.proofs.Chain.{at-exit, refused-as}
-use Rattle.krb_credentials.proofs.ChoiceLaws.{as-choice}
-use Rattle.krb_credentials.proofs.krb_result.ResultKrbErrorResultExt.deserialize.Goals as goal
+use Rattle.krb_messages.proofs.ChoiceLaws.{as-choice}
+use Rattle.krb_messages.proofs.krb_result.ResultKrbErrorResultExt.deserialize.Goals as goal
 
 pub returns-in_err-choice : goal.returns-in_err-choice
 returns-in_err-choice g c =

@@ -9,7 +9,7 @@ use Rattle.picky_asn1_der.specs.declared.choice.Choice.TheVariants.{This, Other}
 use Rattle.picky_asn1_der.specs.declared.choice.Last.{Last}
 use Rattle.krb_messages.specs.declared.messages.krb_error.KrbErrorInner.{KrbErrorInner}
 use Rattle.krb_messages.specs.Messages.{krb_error_tree}
-use Rattle.krb_credentials.specs.KrbResults.{result_tree}
+use Rattle.krb_messages.specs.KrbResults.{result_tree}
 
 -- what is spelled as the one is spelled as the other
 pub as-choice : {T : Type 0} (tree : T → Tree) (bytes : List ℕ) → IsSpelling (result_tree tree) bytes
