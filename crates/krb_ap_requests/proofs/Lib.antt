@@ -2,7 +2,7 @@ pub mod Tagged
 pub mod Judged
 mod Suites
 pub mod Presentations
-mod HasPresentation
+pub mod HasPresentation
 pub mod Shown
 pub mod Accepted
 pub mod Chosen
