@@ -130,7 +130,7 @@ module _ (client : ClientRecord) (key : Bytes) (realm : RealmRecord) (rows : Pki
   replied_under : (padata : PaData) → IsPaEncTimestamp client.suite key login.client_as login.words_as padata → (r : Result ReplyKeyRecord ℕ)
       → (authenticated call rows account client.components (as_request_of padata (first_body client login))).gives r → r ≡ Ok (as_reply_key account)
   replied_under padata it r x =
-      let own = subst (λ p. (authenticated call rows account client.components (as_request_of p (first_body client login))).gives r) it.entry x in
+      let own = subst (λ p. (authenticated call rows account client.components (as_request_of p (first_body client login))).gives r) it.made x in
       own_key call rows account client.components (as_request_of (pa_data_of 2 (encrypted_bytes it.encrypted_timestamp)) (first_body client login)) (no_pkinit (encrypted_bytes it.encrypted_timestamp))
       (shown it.encrypted_timestamp it.sealed_time) r own
 
