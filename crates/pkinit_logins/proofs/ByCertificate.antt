@@ -142,7 +142,7 @@ module _ (client : ClientRecord) (certificate : Bytes) (anchor : AnchorRecord) (
     replied_under : (r : Result ReplyKeyRecord ℕ) → (authenticated call (pkinit_rows trust realm_keys) account client.components (as_request_of padata body)).gives r
         → (agreed : AgreedRecord) × IsAgreed agreed × (r ≡ Ok (key_under agreed))
     replied_under r x =
-        let own = subst (λ p. (authenticated call (pkinit_rows trust realm_keys) account client.components (as_request_of p body)).gives r) it.entry x in
+        let own = subst (λ p. (authenticated call (pkinit_rows trust realm_keys) account client.components (as_request_of p body)).gives r) it.made x in
         past_found {A = AgreedRecord} {T = ReplyKeyRecord} {E = ℕ} IsAgreed (pkinit_table realm_keys trust judged it.value) (λ agreed. done (Ok (key_under agreed))) r found
         (subst (λ first. (authenticated_by call (pkinit_rows trust realm_keys) account client.components (as_request_of (pa_data_of 16 it.value) body) first).gives r) (own_request it.value) own)
 
