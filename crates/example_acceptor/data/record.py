@@ -9,7 +9,7 @@ import os, socket, subprocess, sys, tempfile, time
 
 HERE = os.path.dirname(os.path.abspath(__file__))
 sys.path.insert(0, f"{HERE}/../../replay_contexts/data")
-from first_tokens import Login, completed
+from first_tokens import ACCEPT_COMPLETED, Login, response
 from tokens import ACCEPTOR, SUITES, End
 
 MOMENT, CLOCK = "20261127120000Z", "2026-11-27 12:00:00"
@@ -64,7 +64,7 @@ def accept(token, words):
         offer = fields(element(element(content)[1])[0])
         mechanism = element(element(offer[0])[0])[0]
         answer, end = accept(element(offer[2])[0], words)
-        return completed(mechanism, answer), end
+        return response(ACCEPT_COMPLETED, mechanism, answer), end
     request = fields(element(element(content)[1][2:])[0])
     ticket = fields(opened(fields(element(request[3])[0])[3], SERVICE_KEY, 2))
     session = fields(ticket[1])

@@ -1,4 +1,6 @@
 mod Held
 mod Offered
+mod Results
 mod Handling
 mod Presented
+mod Verified
