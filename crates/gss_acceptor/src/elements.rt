@@ -31,7 +31,7 @@ pub(crate) fn joined(alloc: Global, front: &[u8], behind: &[u8]) -> Result<Vec<u
 pub(crate) fn octets_in<const N: u8>(
     field: Option<ExplicitContextTag<N, OctetStringAsn1>>,
 ) -> Option<OctetStringAsn1>
-    ensures { result ≡ option_map (λ tagged. tagged.0) field }
+    ensures { result ≡ option_map (λ tagged. tagged.0) field.entry }
 {
     match field {
         Some(octets) => Some(octets.0),
