@@ -3,8 +3,8 @@
 gss-ntlmssp, socat and faketime.
 
 MIT's kinit gets a ticket from the realm of settings.toml, and MIT's gss-client logs in twice, by Kerberos itself and through SPNEGO. Then
-examples/ntlm_first.py logs in through SPNEGO, where Kerberos isn't first. All clocks stand at one moment. The acceptor is written here, over the writer in crates/replay_contexts/data, and shares no code with
-the program. `stdin` is what gss-client sent, and `stdout` what it was given: it ends well only if it verified each of those tokens.
+examples/ntlm_first.py logs in through SPNEGO, where Kerberos isn't first. All clocks stand. The acceptor is written here, over the writer
+in crates/replay_contexts/data, and shares no code with the program. `stdin` is what the clients sent, and `stdout` what they were given: it ends well only if it verified each of those tokens.
 """
 import os, socket, subprocess, sys, tempfile, time
 
@@ -13,7 +13,7 @@ sys.path.insert(0, f"{HERE}/../../replay_contexts/data")
 from first_tokens import ACCEPT_COMPLETED, ACCEPT_INCOMPLETE, KRB5, REQUEST_MIC, Login, response
 from tokens import ACCEPTOR, SUITES, End
 
-MOMENT, CLOCK = "20261127120000Z", "2026-11-27 12:00:00"
+MOMENT, CLOCK, LATER = "20261127120000Z", "2026-11-27 12:00:00", "2026-11-27 12:00:01"
 CONF = """[libdefaults]
 default_realm = EXAMPLE.COM
 dns_lookup_kdc = false
@@ -144,7 +144,8 @@ def main():
             client = subprocess.Popen(asked)
             serve(listener.accept()[0], words[16 * turn :], sent, given)
             assert client.wait() == 0
-        asked = [*at, f"{HERE}/../../../examples/ntlm_first.py", "-port", str(listener.getsockname()[1]), "127.0.0.1", "host@server.example.com", "a message"]
+        # A second later: at a clock that stands, the authenticator of each process that has its ticket is of the same microsecond.
+        asked = ["faketime", "-f", LATER, f"{HERE}/../../../examples/ntlm_first.py", "-port", str(listener.getsockname()[1]), "127.0.0.1", "host@server.example.com", "a message"]
         client = subprocess.Popen(asked)
         serve(listener.accept()[0], words[32:], sent, given, Negotiation())
         assert client.wait() == 0

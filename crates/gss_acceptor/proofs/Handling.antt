@@ -1,6 +1,6 @@
 -- What a token asks, and what is done.
-use Rattle.std.proofs.Common.{ℕ, List, Option, None, Some, Result, Ok, Err, refl, sym, ap, inl, inr}
-use Rattle.decision_tables.specs.Tables.{Table}
+use Rattle.std.proofs.Common.{◌≡◌, ℕ, List, Option, None, Some, Result, Ok, Err, refl, sym, ap, subst, inl, inr}
+use Rattle.decision_tables.specs.Tables.{Table, need}
 use Rattle.krb_service.specs.Service.{ServiceRecord}
 use Rattle.gss_acceptor.specs.Accepting.{AdmitRequest, AskFor, Handles, Step, Takes, VerifyMic, carried, held, negotiated, next, opened, opened_by, responded_to, resumed, to_verify}
 use Rattle.gss_acceptor.specs.Concluding.{IsGiven, IsLast, asking}
@@ -9,6 +9,7 @@ use Rattle.gss_acceptor.specs.Responses.{responded}
 use Rattle.gss_acceptor.specs.Tokens.{IsApReqToken}
 use Rattle.gss_acceptor.specs.declared.accepted.Accepted.{Accepted}
 use Rattle.gss_acceptor.specs.declared.accepted.Negotiation.{Negotiation}
+use Rattle.gss_acceptor.specs.declared.accepted.Stage.{Stage}
 use Rattle.gss_acceptor.specs.declared.accepted.Stage.TheVariants.{Mic}
 use Rattle.gss_acceptor.specs.declared.exchange.Exchange.{Exchange}
 use Rattle.gss_acceptor.specs.declared.exchange.Terms.{Terms}
@@ -56,10 +57,18 @@ unfolding negotiated
 by_none service moment token random refusal (inl memory) = inr (refusal, refl, refl, inl (cc (memory)))
 by_none service moment token random refusal (inr x) = inr (refusal, refl, refl, inr (inr (refusal, x, refl)))
 
--- the mechanism's token isn't offered, and is asked for
-pub by_asking : (service : ServiceRecord) (moment : ℕ) (random : List ℕ) (mechanism : Mechanism) (terms : Terms) (mic : Option (List ℕ)) (result : Result Accepted AcceptRefusal)
-    → IsGiven (asking mechanism terms) result → Handles (opened_by mechanism terms None mic) service moment random result service
-by_asking service moment random mechanism terms mic result x = inl (AskFor mechanism terms, refl, refl, x)
+-- the mechanism's token is offered; or it isn't, and is asked for
+pub by_opened : (service after : ServiceRecord) (moment : ℕ) (token random : List ℕ) (offer : Offer) (result : Result Accepted AcceptRefusal) → offer.tokens.mechanism ≡ Some token
+    → Handles (held token (record { supported = Some offer.mechanism; terms = offer.terms; mic = offer.tokens.mic })) service moment random result after
+    → Handles (opened offer) service moment random result after
+by_opened service after moment token random offer result is x =
+    subst (λ (t : Option (List ℕ)). Handles (opened_by offer.mechanism offer.terms t offer.tokens.mic) service moment random result after) (sym is) x
+
+pub by_asking : (service : ServiceRecord) (moment : ℕ) (random : List ℕ) (offer : Offer) (result : Result Accepted AcceptRefusal) → offer.tokens.mechanism ≡ None
+    → IsGiven (asking offer.mechanism offer.terms) result → Handles (opened offer) service moment random result service
+by_asking service moment random offer result is x =
+    subst (λ (t : Option (List ℕ)). Handles (opened_by offer.mechanism offer.terms t offer.tokens.mic) service moment random result service) (sym is)
+    (inl (AskFor offer.mechanism offer.terms, refl, refl, x))
 
 -- what is offered is a token of Kerberos, or none
 pub by_held : (service after : ServiceRecord) (moment : ℕ) (token message random : List ℕ) (exchange : Exchange) (result : Result Accepted AcceptRefusal)
@@ -88,6 +97,26 @@ pub by_no_response : (service : ServiceRecord) (moment : ℕ) (token random : Li
 unfolding resumed
 by_no_response service moment token random negotiation refusal (inl memory) = inr (refusal, refl, refl, inl (cc (memory)))
 by_no_response service moment token random negotiation refusal (inr x) = inr (refusal, refl, refl, inr (inr (refusal, x, refl)))
+
+-- it is the first token of Kerberos that is due; and it is there, or isn't
+pub by_stage : (service after : ServiceRecord) (moment : ℕ) (random : List ℕ) (stage known : Stage) (tokens : Tokens) (result : Result Accepted AcceptRefusal) → stage ≡ known
+    → Handles (next known tokens) service moment random result after → Handles (next stage tokens) service moment random result after
+by_stage service after moment random stage known tokens result is x = subst (λ (s : Stage). Handles (next s tokens) service moment random result after) (sym is) x
+
+pub by_due_token : (service after : ServiceRecord) (moment : ℕ) (token random : List ℕ) (terms : Terms) (tokens : Tokens) (result : Result Accepted AcceptRefusal)
+    → tokens.mechanism ≡ Some token → Handles (held token (record { supported = None; terms = terms; mic = tokens.mic })) service moment random result after
+    → Handles (responded_to terms tokens) service moment random result after
+by_due_token service after moment token random terms tokens result is x =
+    subst
+    (λ (t : Option (List ℕ)). Handles (need t NotAToken (λ it. held it (record { supported = None; terms = terms; mic = tokens.mic }))) service moment random result after)
+    (sym is) x
+
+pub by_no_token : (service : ServiceRecord) (moment : ℕ) (random : List ℕ) (terms : Terms) (tokens : Tokens) → tokens.mechanism ≡ None
+    → Handles (responded_to terms tokens) service moment random (Err NotAToken) service
+by_no_token service moment random terms tokens is =
+    subst
+    (λ (t : Option (List ℕ)). Handles (need t NotAToken (λ it. held it (record { supported = None; terms = terms; mic = tokens.mic }))) service moment random (Err NotAToken) service)
+    (sym is) (inr (NotAToken, refl, refl, inr refl))
 
 -- by the MIC that is due
 pub by_last : (service : ServiceRecord) (moment : ℕ) (random : List ℕ) (unverified : Unverified) (tokens : Tokens) (result : Result Accepted AcceptRefusal)
