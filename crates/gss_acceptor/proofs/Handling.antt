@@ -68,7 +68,7 @@ pub by_asking : (service : ServiceRecord) (moment : ℕ) (random : List ℕ) (of
     → IsGiven (asking offer.mechanism offer.terms) result → Handles (opened offer) service moment random result service
 by_asking service moment random offer result is x =
     subst (λ (t : Option (List ℕ)). Handles (opened_by offer.mechanism offer.terms t offer.tokens.mic) service moment random result service) (sym is)
-    (inl (AskFor offer.mechanism offer.terms, refl, refl, x))
+    (inl (AskFor offer.mechanism offer.terms, refl, (refl, x)))
 
 -- what is offered is a token of Kerberos, or none
 pub by_held : (service after : ServiceRecord) (moment : ℕ) (token message random : List ℕ) (exchange : Exchange) (result : Result Accepted AcceptRefusal)
@@ -121,5 +121,5 @@ by_no_token service moment random terms tokens is =
 -- by the MIC that is due
 pub by_last : (service : ServiceRecord) (moment : ℕ) (random : List ℕ) (unverified : Unverified) (tokens : Tokens) (result : Result Accepted AcceptRefusal)
     → IsLast unverified tokens result → Handles (next (Mic unverified) tokens) service moment random result service
-by_last service moment random unverified tokens result (inl (theirs, is, x)) = inl (VerifyMic unverified theirs, ap (to_verify unverified) (sym is), refl, x)
+by_last service moment random unverified tokens result (inl (theirs, is, x)) = inl (VerifyMic unverified theirs, ap (to_verify unverified) (sym is), (refl, x))
 by_last service moment random unverified tokens result (inr (refusal, is, x)) = inr (refusal, x, refl, inr (ap (to_verify unverified) (sym is)))

@@ -1,5 +1,5 @@
 -- A context has what the client chose.
-use Rattle.std.proofs.Common.{◌≡◌, ℕ, Bool, true, false, List, Result, Ok, Err, refl, sym, ap, subst, ◌∙◌, inl, inr, if◌then◌else◌}
+use Rattle.std.proofs.Common.{◌≡◌, ℕ, Bool, true, false, List, Result, Ok, Err, refl, sym, ap, subst, ◌∙◌, inl, inr, if◌then◌else◌, arith}
 use Rattle.std.specs.Prelude.{◌≤◌, ◌+◌, max, is_some, Option, None, Some, MatchBool, MatchOption}
 use Rattle.krb_ap_requests.specs.Admission.{AdmissionRecord}
 use Rattle.krb_ap_requests.specs.Presents.{Choice, Presents, TellsOf}
@@ -77,7 +77,7 @@ chosen choice admission made established tells by is = record {
   initial = ap initial_in (sym tells.checksum) ∙ by.initial ∙ ap (λ (e : EstablishedRecord). Ok (record { bindings = e.bindings; flags = e.flags })) (sym is);
   first = established.context.taking;
   number = ap first_number (sym tells.seq_number) ∙ by.number ∙ ap (λ (e : EstablishedRecord). Ok e.context.taking) (sym is);
-  from_first = omega;
+  from_first = omega arith;
   key = sym (λ i. context_key (tells.subkey i) (tells.session i)) ∙ by.key ∙ ap (λ (e : EstablishedRecord). Ok e.context.key) (sym is);
 }
 
@@ -89,7 +89,7 @@ record Follows (before after : ContextRecord) : Type 0 where
 by_taking : (before after : ContextRecord) (list theirs : List ℕ) → TakesMic before after list theirs → Follows before after
 by_taking before after list theirs takes = record {
   key = ap (λ (c : ContextRecord). c.key) takes.moved;
-  taking = let least : before.taking ≤ takes.number + 1 = omega (takes.is_new) in rw takes.moved least;
+  taking = let least : before.taking ≤ takes.number + 1 = omega (arith, takes.is_new) in rw takes.moved least;
 }
 
 by_exchange : (before after : ContextRecord) (list theirs own : List ℕ) → ExchangesMics before after list theirs own → Follows before after
@@ -109,7 +109,7 @@ kept choice established after reply is follows = record {
   initial = is.initial;
   first = is.first;
   number = is.number;
-  from_first = omega (is.from_first, follows.taking);
+  from_first = omega (arith, is.from_first, follows.taking);
   key = is.key ∙ ap Ok (sym follows.key);
 }
 
@@ -124,7 +124,7 @@ after_demand : (choice : Choice) (established : EstablishedRecord) (supported : 
     → IsChosen choice established → Demands established supported list (Ok accepted) → IsChosenAfter choice accepted
 after_demand choice established supported list accepted is (inl (own, writes, last)) =
     let same = given accepted (awaiting (record established { context = record established.context { sending = established.context.sending + 1 } }) supported list own) last in
-    subst (IsChosenAfter choice) (sym same) (kept choice established (record established.context { sending = established.context.sending + 1 }) None is (record { key = refl; taking = omega }))
+    subst (IsChosenAfter choice) (sym same) (kept choice established (record established.context { sending = established.context.sending + 1 }) None is (record { key = refl; taking = omega arith }))
 after_demand choice established supported list accepted is (inr (cause, why, never)) = absurd (cc (never))
 
 after_none : (choice : Choice) (established : EstablishedRecord) (supported : Option Mechanism) (list : List ℕ) (required replies : Bool) (accepted : Accepted)
@@ -135,7 +135,7 @@ after_none choice established supported list true true accepted is x = after_dem
 after_none choice established supported list true false accepted is never = absurd (cc (never))
 after_none choice established supported list false replies accepted is x =
     let same = given accepted (completed established supported None) x in
-    subst (IsChosenAfter choice) (sym same) (kept choice established established.context _ is (record { key = refl; taking = omega }))
+    subst (IsChosenAfter choice) (sym same) (kept choice established established.context _ is (record { key = refl; taking = omega arith }))
 
 after_exchange : (choice : Choice) (established : EstablishedRecord) (supported : Option Mechanism) (terms : Terms) (mic : Option (List ℕ)) (accepted : Accepted)
     → IsChosen choice established

@@ -156,7 +156,7 @@ no_token token offer (inr (none_is, never)) required = absurd (cc (never))
 due_asked : (service after : ServiceRecord) (moment : ℕ) (random : List ℕ) (offer : Offer) (token : Option (List ℕ)) (step : Step) (accepted : Accepted) → offer.terms.required ≡ true
     → token ≡ None → (opened_by offer.mechanism offer.terms token offer.tokens.mic).gives (Ok step) → Takes step service moment random (Ok accepted) after
     → IsDueAfter offer.terms.list accepted
-due_asked service after moment random offer None step accepted required no is x =
+due_asked service after moment random offer None step accepted required unsaid is x =
     let taken = subst (λ (s : Step). Takes s service moment random (Ok accepted) after) (same_ok step (AskFor offer.mechanism offer.terms) is) x in
     subst (IsDueAfter offer.terms.list) (sym (given accepted (asking offer.mechanism offer.terms) taken.1)) (required, refl)
 due_asked service after moment random offer (Some token) step accepted required never is x = absurd (cc (never))
