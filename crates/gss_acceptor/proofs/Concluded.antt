@@ -1,5 +1,5 @@
 -- How a context is answered, as it is seen inside.
-use Rattle.std.proofs.Common.{◌≡◌, ℕ, List, Option, None, Some, Result, Ok, Err, refl, sym, ap, subst, inl, inr}
+use Rattle.std.proofs.Common.{◌≡◌, ℕ, List, Option, Some, Result, Ok, Err, refl, sym, ap, subst, inl, inr}
 use Rattle.std.specs.Prelude.{MatchOption}
 use Rattle.gss_contexts.specs.Contexts.{ContextRecord}
 use Rattle.gss_contexts.specs.Judging.{IsMicRefusal, TakesMic}
@@ -36,9 +36,11 @@ by_mic exchange established theirs result is x =
 pub by_verified : (inside : EstablishedRecord) (unverified : Unverified) (theirs : List ℕ) (after : ContextRecord) → inside ≡ unverified.established
     → TakesMic inside.context after unverified.list theirs → IsVerified unverified theirs (Ok (Established (record inside { context = after })))
 by_verified inside unverified theirs after same x =
-    inl (after,
-    subst (λ (e : EstablishedRecord). TakesMic e.context after unverified.list theirs) same x,
-    ap (λ (e : EstablishedRecord). Ok (Established (record e { context = after }))) same)
+    inl (
+      after,
+      subst (λ (e : EstablishedRecord). TakesMic e.context after unverified.list theirs) same x,
+      ap (λ (e : EstablishedRecord). Ok (Established (record e { context = after }))) same,
+    )
 
 pub by_wrong : (inside : EstablishedRecord) (unverified : Unverified) (theirs : List ℕ) (cause : TokenRefusal) → inside ≡ unverified.established
     → IsMicRefusal inside.context unverified.list theirs cause → IsVerified unverified theirs (Err (Mic cause))

@@ -15,7 +15,6 @@ use Rattle.gss_acceptor.specs.declared.exchange.Exchange.{Exchange}
 use Rattle.gss_acceptor.specs.declared.exchange.Terms.{Terms}
 use Rattle.gss_acceptor.specs.declared.exchange.Tokens.{Tokens}
 use Rattle.gss_acceptor.specs.declared.exchange.Unverified.{Unverified}
-use Rattle.gss_acceptor.specs.declared.mechanism.Mechanism.{Mechanism}
 use Rattle.gss_acceptor.specs.declared.negotiation.Offer.{Offer}
 use Rattle.gss_acceptor.specs.declared.refusal.AcceptRefusal.{AcceptRefusal}
 use Rattle.gss_acceptor.specs.declared.refusal.AcceptRefusal.TheVariants.{NotAToken}

@@ -15,7 +15,7 @@ use Rattle.gss_acceptor.proofs.Results.{given, same_ok}
 use Rattle.gss_acceptor.specs.Accepting.{AdmitRequest, Admits, AskFor, Handles, IsAnsweredAs, Takes, VerifyMic, carried, established_of, held, judged, negotiated, opened_by, then_judged}
 use Rattle.gss_acceptor.specs.Checksum.{initial_in}
 use Rattle.gss_acceptor.specs.Chosen.{IsChosen, IsChosenAfter}
-use Rattle.gss_acceptor.specs.Concluding.{Demands, ExchangesMics, IsAnswered, IsConcludedWithout, IsGiven, IsMicAnswered, IsVerified, awaiting, completed}
+use Rattle.gss_acceptor.specs.Concluding.{Demands, ExchangesMics, IsConcludedWithout, IsGiven, IsMicAnswered, IsVerified, awaiting, completed}
 use Rattle.gss_acceptor.specs.Contexts.{context_in, context_key, first_number}
 use Rattle.gss_acceptor.specs.Established.{EstablishedRecord}
 use Rattle.gss_acceptor.specs.declared.accepted.Accepted.{Accepted}

@@ -1,5 +1,5 @@
 -- What is known of what is given.
-use Rattle.std.proofs.Common.{◌≡◌, Result, Ok, Err, inl, inr}
+use Rattle.std.proofs.Common.{◌≡◌, Result, Ok, inl, inr}
 use Rattle.gss_acceptor.specs.Concluding.{IsGiven}
 use Rattle.gss_acceptor.specs.declared.accepted.Accepted.{Accepted}
 use Rattle.gss_acceptor.specs.declared.refusal.AcceptRefusal.{AcceptRefusal}

@@ -13,7 +13,7 @@ use Rattle.gss_acceptor.specs.Due.{HasMic, IsDue, IsDueAfter}
 use Rattle.gss_acceptor.specs.Established.{EstablishedRecord}
 use Rattle.gss_acceptor.specs.Mechanisms.{is_first, kerberos_among}
 use Rattle.gss_acceptor.specs.Negotiation.{is_spnego, offer_among, offer_by, offered, optimistic, tokens_of}
-use Rattle.gss_acceptor.specs.Responses.{due_mic, mic_there}
+use Rattle.gss_acceptor.specs.Responses.{due_mic}
 use Rattle.gss_acceptor.specs.Tokens.{IsApReqToken}
 use Rattle.gss_acceptor.specs.declared.accepted.Accepted.{Accepted}
 use Rattle.gss_acceptor.specs.declared.accepted.Accepted.TheVariants.{Established}

@@ -1,5 +1,5 @@
 -- How a negotiation goes on and ends: with the exchange of MICs where it is due (RFC 4178, section 5).
-use Rattle.std.specs.Prelude.{◌≡◌, ◌⊎◌, ◌+◌, ℕ, Bool, true, false, is_some, Option, None, Some, Result, Ok, Err, if◌then◌else◌, MatchBool, MatchOption}
+use Rattle.std.specs.Prelude.{◌≡◌, ◌⊎◌, ◌+◌, Bool, is_some, Option, None, Some, Result, Ok, Err, if◌then◌else◌, MatchBool, MatchOption}
 use Rattle.picky_asn1.specs.Bytes.{Bytes}
 use Rattle.gss_contexts.specs.Contexts.{ContextRecord, last_number, sender_of}
 use Rattle.gss_contexts.specs.Judging.{IsMicRefusal, TakesMic}
@@ -7,7 +7,6 @@ use Rattle.gss_contexts.specs.Tokens.{WritesMic}
 use Rattle.gss_contexts.specs.declared.refusal.TokenRefusal.{TokenRefusal}
 use Rattle.gss_contexts.specs.declared.refusal.TokenRefusal.TheVariants as token_refusal
 use Rattle.gss_acceptor.specs.Answers.{neg_token_resp}
-use Rattle.gss_acceptor.specs.Continuing.{ContinuationRecord}
 use Rattle.gss_acceptor.specs.Established.{EstablishedRecord}
 use Rattle.gss_acceptor.specs.Responses.{due_mic}
 use Rattle.gss_acceptor.specs.declared.accepted.Accepted.{Accepted}

@@ -1,5 +1,5 @@
 -- What a first token of SPNEGO offers (RFC 4178, section 4.2.1).
-use Rattle.std.specs.Prelude.{◌≡◌, ◌⊎◌, List, Bool, not, Option, None, Result, Ok, Err, if◌then◌else◌}
+use Rattle.std.specs.Prelude.{◌≡◌, ◌⊎◌, List, Bool, not, None, Result, Ok, Err, if◌then◌else◌}
 use Rattle.std.proofs.Common.{sym, ◌∙◌}
 use Rattle.std.specs.Option.{option_map, option_map_or}
 use Rattle.std.specs.Bool.{nat_eq}

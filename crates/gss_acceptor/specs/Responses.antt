@@ -1,5 +1,5 @@
 -- What the initiator's tokens of SPNEGO behind the first hold (RFC 4178, section 4.2.2).
-use Rattle.std.specs.Prelude.{◌≡◌, List, Option, None, Some, Bool, true, false, is_some, Result, Ok, Err, if◌then◌else◌}
+use Rattle.std.specs.Prelude.{Option, None, Some, is_some, Result, Ok, Err, if◌then◌else◌}
 use Rattle.std.proofs.Common.{sym, ◌∙◌}
 use Rattle.std.specs.Option.{option_map}
 use Rattle.picky_asn1.specs.Bytes.{Bytes}
@@ -9,7 +9,6 @@ use Rattle.asn1_der.proofs.Spelling.{IsInjective, wrapped-injective}
 use Rattle.asn1_der.proofs.Tagged.{tagged-injective}
 use Rattle.decision_tables.specs.One.{IsSole}
 use Rattle.decision_tables.specs.Tables.{Table, ask, done}
-use Rattle.picky_asn1_der.specs.declared.wrapper.ExplicitContextTag.{ExplicitContextTag}
 use Rattle.gss_context_tokens.specs.declared.neg_token_targ.NegTokenTarg.{NegTokenTarg}
 use Rattle.gss_context_tokens.specs.contracts.neg_token_targ.NegTokenTargTagged.TheImpl as targ_impl
 use Rattle.gss_acceptor.specs.declared.exchange.Tokens.{Tokens}

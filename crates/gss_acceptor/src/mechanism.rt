@@ -1,5 +1,5 @@
 //! The mechanism Kerberos, as SPNEGO names it.
-ghost use Rattle.std.specs.Prelude.{◌≡◌, length};
+ghost use Rattle.std.specs.Prelude.{◌≡◌};
 ghost use Rattle.std.specs.Option.{option_copied};
 ghost use Rattle.gss_acceptor.specs.Mechanisms.{first_kerberos, is_first, kerberos_among, kerberos_in, mechanism_octets};
 
