@@ -1,7 +1,8 @@
 #!/bin/sh
 # MIT's gss-client logs in to the program example_acceptor and sends it messages, by tickets of the realm of examples/settings.toml, with
 # keys made anew, behind socat on 127.0.0.1: with each suite of AES, with and without mutual authentication, with messages that are
-# encrypted, only protected by a checksum, and neither, and through SPNEGO. It is refused as it should be with triple DES, for another
+# encrypted, only protected by a checksum, and neither, and through SPNEGO. ntlm_first.py, over the same library, offers NTLM before
+# Kerberos, so that both sides' MICs of the list are due. It is refused as it should be with triple DES, for another
 # service, by a clock that is 10 minutes off, and where its frames come again or have one octet changed. Prints what each gave; the
 # status is 1 where one differs from what it should, and 2 where a tool is missing. All files stand in a temporary folder, and what is
 # started is ended.
@@ -19,6 +20,10 @@ need kinit krb5-user
 need gss-client krb5-gss-samples
 need faketime faketime
 need openssl openssl
+if ! /usr/bin/python3 -c 'import gssapi' 2>/dev/null || [ ! -e /etc/gss/mech.d/mech.ntlmssp.conf ]; then
+    echo "$script: a module or a mechanism is missing (Debian: python3-gssapi, gss-ntlmssp)" >&2
+    missing=1
+fi
 [ "$missing" -eq 0 ] || exit 2
 
 # The acceptor, proved and built first where it isn't yet.
@@ -55,6 +60,11 @@ served() {
 
 client() {
     mit gss-client "$@"
+}
+
+# By an initiator that offers NTLM first.
+ntlm_first() {
+    mit "$top/examples/ntlm_first.py" "$@"
 }
 
 # By a clock of its own.
@@ -133,6 +143,8 @@ for suite in aes128-cts-hmac-sha1-96 aes256-cts-hmac-sha1-96 aes128-cts-hmac-sha
     try "no checksum in return" yes "Response received" served 0 client -nm
     try "SPNEGO" yes "$login" served 1 client -spnego
     try "SPNEGO without mutual authentication, three messages" yes "$login" served 3 client -spnego -nomutual -mcount 3
+    try "SPNEGO with NTLM first, and MICs of the list" yes "$login" served 1 ntlm_first
+    try "the same without mutual authentication" yes "$login" served 1 ntlm_first -nomutual
     try "two connections to one acceptor, and the first one's frames again: refused" yes "Krb(34)" one_for_all
 done
 

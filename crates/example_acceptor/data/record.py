@@ -1,18 +1,19 @@
 #!/usr/bin/env python3
-"""Records the run that the gate repeats: record.py REALM, the built krb_realmd. It needs krb5-user, krb5-gss-samples, socat and faketime.
+"""Records the run that the gate repeats: record.py REALM, the built krb_realmd. It needs krb5-user, krb5-gss-samples, python3-gssapi,
+gss-ntlmssp, socat and faketime.
 
-MIT's kinit gets a ticket from the realm of settings.toml, and MIT's gss-client logs in twice, by Kerberos itself and through SPNEGO.
-All clocks stand at one moment. The acceptor is written here, over the writer in crates/replay_contexts/data, and shares no code with
-the program. `stdin` is what gss-client sent, and `stdout` what it was given: it ends well only if it verified each of those tokens.
+MIT's kinit gets a ticket from the realm of settings.toml, and MIT's gss-client logs in twice, by Kerberos itself and through SPNEGO. Then
+examples/ntlm_first.py logs in through SPNEGO, where Kerberos isn't first. All clocks stand. The acceptor is written here, over the writer
+in crates/replay_contexts/data, and shares no code with the program. `stdin` is what the clients sent, and `stdout` what they were given: it ends well only if it verified each of those tokens.
 """
 import os, socket, subprocess, sys, tempfile, time
 
 HERE = os.path.dirname(os.path.abspath(__file__))
 sys.path.insert(0, f"{HERE}/../../replay_contexts/data")
-from first_tokens import Login, completed
+from first_tokens import ACCEPT_COMPLETED, ACCEPT_INCOMPLETE, KRB5, REQUEST_MIC, Login, response
 from tokens import ACCEPTOR, SUITES, End
 
-MOMENT, CLOCK = "20261127120000Z", "2026-11-27 12:00:00"
+MOMENT, CLOCK, LATER = "20261127120000Z", "2026-11-27 12:00:00", "2026-11-27 12:00:01"
 CONF = """[libdefaults]
 default_realm = EXAMPLE.COM
 dns_lookup_kdc = false
@@ -64,7 +65,7 @@ def accept(token, words):
         offer = fields(element(element(content)[1])[0])
         mechanism = element(element(offer[0])[0])[0]
         answer, end = accept(element(offer[2])[0], words)
-        return completed(mechanism, answer), end
+        return response(ACCEPT_COMPLETED, mechanism, answer), end
     request = fields(element(element(content)[1][2:])[0])
     ticket = fields(opened(fields(element(request[3])[0])[3], SERVICE_KEY, 2))
     session = fields(ticket[1])
@@ -77,20 +78,42 @@ def accept(token, words):
     return login.reply(words), End(number(subkey[0]), element(subkey[1])[0], ACCEPTOR, False, 0, first)
 
 
+class Negotiation:
+    """A negotiation in which Kerberos isn't the first mechanism: its token and MICs of the list are asked for, in this order."""
+
+    def __init__(self):
+        self.list = self.end = None
+
+    def answer(self, token, words):
+        """The answer to a token, and the acceptor's end once it is established."""
+        if self.list is None:
+            offer = fields(element(element(element(token)[0])[1])[0])
+            self.list = offer[0]
+            return response(REQUEST_MIC, KRB5), None
+        tokens = fields(element(token)[0])
+        if self.end is None:
+            reply, self.end = accept(element(tokens[2])[0], words)
+            mic = self.end.sent(lambda it: self.end.own.mic(it, self.list))[1]
+            return response(ACCEPT_INCOMPLETE, token=reply, mic=mic), None
+        assert self.end.take_mic(self.list, element(tokens[3])[0]) == "ok"
+        return b"", self.end
+
+
 def frame(flags, token=b""):
     return bytes([flags]) + len(token).to_bytes(4, "big") + token
 
 
-def serve(peer, words, sent, given):
-    """Answers a connection as gss-server does, and adds what came and went."""
+def serve(peer, words, sent, given, negotiation=None):
+    """Answers a connection as gss-server does, and adds what came and went. Each token of a login has 16 of the random octets."""
     stream, end = peer.makefile("rb"), None
     while head := stream.read(5):
         token = stream.read(int.from_bytes(head[1:], "big"))
         sent += head + token
         answer = b""
         if head[0] & CONTEXT:
-            token, end = accept(token, words)
-            answer = frame(CONTEXT, token)
+            token, end = negotiation.answer(token, words[:16]) if negotiation else accept(token, words[:16])
+            words = words[16:]
+            answer = frame(CONTEXT, token) if token else b""
         elif not head[0] & NOOP:
             message = end.take_wrap(token)[1] if head[0] & WRAPPED else token
             answer = frame(MIC, end.sent(lambda it: end.own.mic(it, message))[1]) if head[0] & SEND_MIC else frame(NOOP)
@@ -119,8 +142,13 @@ def main():
         for turn, options in enumerate((["-mcount", "2"], ["-spnego", "-nx"])):
             asked = [*at, "gss-client", "-port", str(listener.getsockname()[1]), *options, "127.0.0.1", "host@server.example.com", "a message"]
             client = subprocess.Popen(asked)
-            serve(listener.accept()[0], words[16 * turn : 16 * turn + 16], sent, given)
+            serve(listener.accept()[0], words[16 * turn :], sent, given)
             assert client.wait() == 0
+        # A second later: at a clock that stands, the authenticator of each process that has its ticket is of the same microsecond.
+        asked = ["faketime", "-f", LATER, f"{HERE}/../../../examples/ntlm_first.py", "-port", str(listener.getsockname()[1]), "127.0.0.1", "host@server.example.com", "a message"]
+        client = subprocess.Popen(asked)
+        serve(listener.accept()[0], words[32:], sent, given, Negotiation())
+        assert client.wait() == 0
     finally:
         bridge.terminate()
     for name, octets in ("stdin", sent), ("stdout", given):

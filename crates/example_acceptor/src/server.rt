@@ -4,14 +4,14 @@ use crate::answer::{CONTEXT, CONTEXT_NEXT, NOOP, answer_of, is_set};
 use crate::frame::{Frame, read_frame, write_frame};
 use anyhow::{Context as _, bail};
 use devices::{Sink, Source, read_full};
-use gss_acceptor::{Acceptor, Established};
+use gss_acceptor::{Accepted, Acceptor, Continuation, Established, Negotiation};
 use gss_contexts::Context;
 use krb_kdc::after_epoch;
 use krb_moments::Moment;
 use std::alloc::Global;
 use std::time::{Clock, SystemTime, UNIX_EPOCH};
 
-/// How many random octets a login takes.
+/// How many random octets each token of a login takes.
 const WORDS: usize = 16;
 
 /// The moments of a server.
@@ -35,21 +35,39 @@ pub(crate) struct Server<K: Source + Drop> {
 }
 
 impl<K: Source + Drop> Server<K> {
-    // Establishes a context by its first token.
-    fn accept<C: Clock + AllocGlobal>(
+    // Takes an initiator's first token.
+    fn accept<C: Clock + AllocGlobal>(&mut self, rt: &C, token: &[u8]) -> anyhow::Result<Accepted> {
+        let (moment, words) = self.moment_and_words(rt)?;
+        match self.acceptor.accept(rt.alloc(), token, moment, &words) {
+            Ok(accepted) => Ok(accepted),
+            Err(refusal) => bail!("{refusal:?}: {refusal}"),
+        }
+    }
+
+    // Takes the initiator's next token.
+    fn resume<C: Clock + AllocGlobal>(
         &mut self,
         rt: &C,
+        negotiation: Negotiation,
         token: &[u8],
-    ) -> anyhow::Result<Established> {
+    ) -> anyhow::Result<Accepted> {
+        let (moment, words) = self.moment_and_words(rt)?;
+        match self
+            .acceptor
+            .resume(rt.alloc(), negotiation, token, moment, &words)
+        {
+            Ok(accepted) => Ok(accepted),
+            Err(refusal) => bail!("{refusal:?}: {refusal}"),
+        }
+    }
+
+    // What the acceptor is given beside a token.
+    fn moment_and_words<C: Clock>(&mut self, rt: &C) -> anyhow::Result<(Moment, [u8; WORDS])> {
         let moment = moment_at(rt, self.time).context("NoMoment")?;
         let mut words = [0; WORDS];
         match read_full(&mut self.words, &mut words) {
-            Ok(count) if count == WORDS => {}
+            Ok(count) if count == WORDS => Ok((moment, words)),
             _ => bail!("NoWords"),
-        }
-        match self.acceptor.accept(rt.alloc(), token, moment, &words) {
-            Ok(established) => Ok(established),
-            Err(refusal) => bail!("{refusal:?}: {refusal}"),
         }
     }
 }
@@ -97,7 +115,7 @@ fn serve_context<K: Source + Drop, R: Source, W: Sink>(
     served
 }
 
-// Takes an initiator's token, which establishes a context.
+// Takes an initiator's tokens, up to the one that establishes a context.
 fn establish<K: Source + Drop, R: Source, W: Sink>(
     rt: &HostRuntime,
     server: &mut Server<K>,
@@ -105,8 +123,30 @@ fn establish<K: Source + Drop, R: Source, W: Sink>(
     writer: &mut W,
 ) -> anyhow::Result<Context> {
     let token = context_token(rt.alloc(), reader)?;
-    let established = server.accept(rt, &token)?;
-    begin(rt, writer, established)
+    let mut accepted = server.accept(rt, &token)?;
+    for _ in 0..u64::MAX {
+        accepted = match accepted {
+            Accepted::Established(established) => return begin(rt, writer, established),
+            Accepted::ContinueNeeded(continuation) => {
+                go_on(rt, server, reader, writer, continuation)?
+            }
+        };
+    }
+    bail!("NoContext: a login without an end")
+}
+
+// Sends the answer, and takes the token that it asks for.
+fn go_on<K: Source + Drop, R: Source, W: Sink>(
+    rt: &HostRuntime,
+    server: &mut Server<K>,
+    reader: &mut R,
+    writer: &mut W,
+    continuation: Continuation,
+) -> anyhow::Result<Accepted> {
+    let Continuation { reply, negotiation } = continuation;
+    send(rt.alloc(), writer, CONTEXT, reply)?;
+    let token = context_token(rt.alloc(), reader)?;
+    server.resume(rt, negotiation, &token)
 }
 
 // The next token of a context's establishment.

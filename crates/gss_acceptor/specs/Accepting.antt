@@ -1,26 +1,33 @@
--- What an acceptor does with an initiator's first token.
-use Rattle.std.specs.Prelude.{◌≡◌, ◌⊎◌, List, is_some, Option, Result, Ok, Err, max}
+-- What an acceptor does with an initiator's tokens.
+use Rattle.std.specs.Prelude.{◌≡◌, ◌⊎◌, List, is_some, Option, None, Some, Result, Ok, Err, max}
 use Rattle.picky_asn1.specs.Bytes.{Bytes}
 use Rattle.krb_moments.specs.Units.{Micros}
 use Rattle.krb_types.specs.RandomBytes.{Random}
-use Rattle.krb_types.specs.declared.data_types.principal_name.PrincipalName.{PrincipalName}
 use Rattle.krb_service.specs.Pair.{PairRecord}
 use Rattle.krb_service.specs.Seen.{IsWindow}
 use Rattle.krb_ap_requests.specs.Admission.{AdmissionRecord}
 use Rattle.krb_ap_requests.specs.declared.refusal.AdmitRefusal.{AdmitRefusal}
 use Rattle.krb_service.specs.Service.{ServiceRecord}
 use Rattle.krb_service.specs.RememberingService.{IsStep, remembering}
-use Rattle.gss_contexts.specs.Contexts.{ContextRecord}
-use Rattle.decision_tables.specs.Tables.{Table, and_then, ask, done}
-use Rattle.gss_acceptor.specs.Answers.{answer}
+use Rattle.decision_tables.specs.Tables.{Table, and_then, ask, done, need}
+use Rattle.gss_acceptor.specs.Answers.{ap_rep_in}
 use Rattle.gss_acceptor.specs.Checksum.{initial_in}
+use Rattle.gss_acceptor.specs.Concluding.{IsAnswered, IsGiven, IsVerified, asking}
 use Rattle.gss_acceptor.specs.Contexts.{context_in, context_key, first_number}
+use Rattle.gss_acceptor.specs.Established.{EstablishedRecord}
 use Rattle.gss_acceptor.specs.Negotiation.{offered}
+use Rattle.gss_acceptor.specs.Responses.{due_mic, responded}
 use Rattle.gss_acceptor.specs.Tokens.{IsApReqToken, sole_ap_req}
-use Rattle.gss_acceptor.specs.declared.answer.Framing.{Framing}
-use Rattle.gss_acceptor.specs.declared.answer.Framing.TheVariants.{Bare, Negotiated}
-use Rattle.gss_acceptor.specs.declared.checksum.ContextFlags.{ContextFlags}
+use Rattle.gss_acceptor.specs.declared.accepted.Accepted.{Accepted}
+use Rattle.gss_acceptor.specs.declared.accepted.Negotiation.{Negotiation}
+use Rattle.gss_acceptor.specs.declared.accepted.Stage.{Stage}
+use Rattle.gss_acceptor.specs.declared.accepted.Stage.TheVariants.{Token, Mic}
+use Rattle.gss_acceptor.specs.declared.exchange.Exchange.{Exchange}
+use Rattle.gss_acceptor.specs.declared.exchange.Terms.{Terms}
+use Rattle.gss_acceptor.specs.declared.exchange.Tokens.{Tokens}
+use Rattle.gss_acceptor.specs.declared.exchange.Unverified.{Unverified}
 use Rattle.gss_acceptor.specs.declared.judge.Judged.{Judged}
+use Rattle.gss_acceptor.specs.declared.mechanism.Mechanism.{Mechanism}
 use Rattle.gss_acceptor.specs.declared.negotiation.Offer.{Offer}
 use Rattle.gss_acceptor.specs.declared.refusal.AcceptRefusal.{AcceptRefusal}
 use Rattle.gss_acceptor.specs.declared.refusal.AcceptRefusal.TheVariants.{NotAToken, Admit, Memory}
@@ -28,35 +35,52 @@ use Rattle.gss_acceptor.specs.declared.refusal.AcceptRefusal.TheVariants.{NotATo
 pub record AcceptorRecord : Type 0 where
   pub service : ServiceRecord
 
--- a context: the client by its realm and its name, what the checksum says, the acceptor's end, and the token to send if there is one
-pub record EstablishedRecord : Type 0 where
-  pub realm : Bytes
-  pub client : PrincipalName
-  pub bindings : Bytes
-  pub flags : ContextFlags
-  pub context : ContextRecord
-  pub reply : Option Bytes
+-- what a token asks of an acceptor: to ask for Kerberos' first token; to admit an AP-REQ, which came bare or in a message of SPNEGO;
+-- or to verify the MIC of a context's initiator
+pub data Step : Type 0 where
+  AskFor : Mechanism → Terms → Step
+  AdmitRequest : Bytes → Option Exchange → Step
+  VerifyMic : Unverified → Bytes → Step
 
--- an AP-REQ, and how it came
-pub record Request : Type 0 where
-  pub framing : Framing
-  pub message : Bytes
+-- by a token of Kerberos in a message of SPNEGO
+unfoldable pub held : Bytes → Exchange → Table (Result Step AcceptRefusal)
+held token exchange =
+    ask (IsApReqToken token) (sole_ap_req token) (done (Err NotAToken)) (λ message. done (Ok (AdmitRequest message (Some exchange))))
 
--- the AP-REQ of the token that is offered
-unfoldable pub held : Offer → Table (Result Request AcceptRefusal)
-held offer =
-    ask (IsApReqToken offer.token) (sole_ap_req offer.token) (done (Err NotAToken))
-    (λ message. done (Ok (record { framing = Negotiated offer.mechanism; message = message })))
+-- by the tokens of SPNEGO's first message. If Kerberos' token isn't there, it is asked for
+abbrev pub opened_by : Mechanism → Terms → Option Bytes → Option Bytes → Table (Result Step AcceptRefusal)
+opened_by mechanism terms None mic = done (Ok (AskFor mechanism terms))
+opened_by mechanism terms (Some token) mic = held token (record { supported = Some mechanism; terms = terms; mic = mic })
 
--- that of a token of SPNEGO
-unfoldable pub negotiated : Bytes → Table (Result Request AcceptRefusal)
-negotiated token = and_then (offered token) held
+abbrev pub opened : Offer → Table (Result Step AcceptRefusal)
+opened offer = opened_by offer.mechanism offer.terms offer.tokens.mechanism offer.tokens.mic
 
--- that of a token of Kerberos, or else of SPNEGO
-unfoldable pub carried : Bytes → Table (Result Request AcceptRefusal)
+-- by a first token of SPNEGO
+unfoldable pub negotiated : Bytes → Table (Result Step AcceptRefusal)
+negotiated token = and_then (offered token) opened
+
+-- by a first token: one of Kerberos, or else of SPNEGO
+unfoldable pub carried : Bytes → Table (Result Step AcceptRefusal)
 carried token =
-    ask (IsApReqToken token) (sole_ap_req token) (negotiated token)
-    (λ message. done (Ok (record { framing = Bare; message = message })))
+    ask (IsApReqToken token) (sole_ap_req token) (negotiated token) (λ message. done (Ok (AdmitRequest message None)))
+
+-- by the tokens of a later message, where Kerberos' first token is due
+abbrev pub responded_to : Terms → Tokens → Table (Result Step AcceptRefusal)
+responded_to terms tokens =
+    need tokens.mechanism NotAToken (λ token. held token (record { supported = None; terms = terms; mic = tokens.mic }))
+
+-- where the initiator's MIC is due
+abbrev pub to_verify : Unverified → Result Bytes AcceptRefusal → Result Step AcceptRefusal
+to_verify unverified (Ok mic) = Ok (VerifyMic unverified mic)
+to_verify unverified (Err refusal) = Err refusal
+
+abbrev pub next : Stage → Tokens → Table (Result Step AcceptRefusal)
+next (Token terms) tokens = responded_to terms tokens
+next (Mic unverified) tokens = done (to_verify unverified (due_mic tokens))
+
+-- by a later token
+unfoldable pub resumed : Negotiation → Bytes → Table (Result Step AcceptRefusal)
+resumed negotiation token = and_then (responded token) (next negotiation.stage)
 
 -- what `Service::admit` ensures
 pub record Admits (service : ServiceRecord) (moment : Micros) (message : Bytes) (random : Random) (answer : Result AdmissionRecord AdmitRefusal) (after : ServiceRecord) : Type 0 where
@@ -81,30 +105,41 @@ judged admission =
     Ok (record { initial = initial; context = context })))))
 
 -- the context of an admission that was judged so
-abbrev pub established_of : Framing → AdmissionRecord → Judged → EstablishedRecord
-established_of framing admission made = record {
+abbrev pub established_of : AdmissionRecord → Judged → EstablishedRecord
+established_of admission made = record {
   realm = admission.realm;
   client = admission.client;
   bindings = made.initial.bindings;
   flags = made.initial.flags;
   context = made.context;
-  reply = answer framing admission.reply;
+  reply = ap_rep_in admission.reply;
 }
 
 -- so it is established; or it is refused as it is judged, or, if it isn't, because memory ran out
-abbrev pub IsEstablished : Framing → AdmissionRecord → Result EstablishedRecord AcceptRefusal → Type 0
-IsEstablished framing admission (Ok established) = (made : Judged) × (judged admission ≡ Ok made) × (established ≡ established_of framing admission made)
-IsEstablished framing admission (Err refusal) = (judged admission ≡ Err refusal) ⊎ ((refusal ≡ Memory) × ((made : Judged) × (judged admission ≡ Ok made)))
+abbrev pub IsEstablished : AdmissionRecord → Result EstablishedRecord AcceptRefusal → Type 0
+IsEstablished admission (Ok established) = (made : Judged) × (judged admission ≡ Ok made) × (established ≡ established_of admission made)
+IsEstablished admission (Err refusal) = (judged admission ≡ Err refusal) ⊎ ((refusal ≡ Memory) × ((made : Judged) × (judged admission ≡ Ok made)))
 
 -- by this AP-REQ: the service admits it, and the context is established; or the service refuses it
-abbrev pub Establishes : ServiceRecord → Micros → Framing → Bytes → Random → Result EstablishedRecord AcceptRefusal → ServiceRecord → Type 0
-Establishes service moment framing message random result after =
-    ((admission : AdmissionRecord) × Admits service moment message random (Ok admission) after × IsEstablished framing admission result)
+abbrev pub Establishes : ServiceRecord → Micros → Bytes → Random → Result EstablishedRecord AcceptRefusal → ServiceRecord → Type 0
+Establishes service moment message random result after =
+    ((admission : AdmissionRecord) × Admits service moment message random (Ok admission) after × IsEstablished admission result)
     ⊎ ((cause : AdmitRefusal) × Admits service moment message random (Err cause) after × (result ≡ Err (Admit cause)))
 
--- by the AP-REQ that a token holds the context is established or not. A token that holds none is refused as the table says. Any may
--- be refused because memory ran out. Then nothing changes
-abbrev pub Handles : Table (Result Request AcceptRefusal) → ServiceRecord → Micros → Random → Result EstablishedRecord AcceptRefusal → ServiceRecord → Type 0
+-- what was made of the AP-REQ is answered as it came
+abbrev pub IsAnsweredAs : Option Exchange → Result EstablishedRecord AcceptRefusal → Result Accepted AcceptRefusal → Type 0
+IsAnsweredAs exchange (Ok established) result = IsAnswered exchange established result
+IsAnsweredAs exchange (Err refusal) result = result ≡ Err refusal
+
+-- the step is taken. Only an AP-REQ changes the service
+abbrev pub Takes : Step → ServiceRecord → Micros → Random → Result Accepted AcceptRefusal → ServiceRecord → Type 0
+Takes (AskFor mechanism terms) service moment random result after = (after ≡ service) × IsGiven (asking mechanism terms) result
+Takes (AdmitRequest message exchange) service moment random result after =
+    (made : Result EstablishedRecord AcceptRefusal) × Establishes service moment message random made after × IsAnsweredAs exchange made result
+Takes (VerifyMic unverified theirs) service moment random result after = (after ≡ service) × IsVerified unverified theirs result
+
+-- what a token asks is done. A token that asks nothing is refused as the table says, or because memory ran out. Then nothing changes
+abbrev pub Handles : Table (Result Step AcceptRefusal) → ServiceRecord → Micros → Random → Result Accepted AcceptRefusal → ServiceRecord → Type 0
 Handles table service moment random result after =
-    ((request : Request) × table.gives (Ok request) × Establishes service moment request.framing request.message random result after)
+    ((step : Step) × table.gives (Ok step) × Takes step service moment random result after)
     ⊎ ((refusal : AcceptRefusal) × (result ≡ Err refusal) × (after ≡ service) × ((refusal ≡ Memory) ⊎ table.gives (Err refusal)))

@@ -1,32 +1,37 @@
 -- The answers to an initiator (RFC 4121, section 4.1; RFC 4178, section 4.2.2).
-use Rattle.std.specs.Prelude.{[], ◌∷◌, ◌++◌, Option, None, Some}
+use Rattle.std.specs.Prelude.{ℕ, [], ◌∷◌, ◌++◌, Option, None, Some}
 use Rattle.std.specs.Option.{option_map}
 use Rattle.picky_asn1.specs.Bytes.{Bytes}
 use Rattle.asn1_der.specs.Length.{element}
 use Rattle.gss_acceptor.specs.Mechanisms.{mechanism_octets}
 use Rattle.gss_acceptor.specs.Tokens.{ap_rep_token}
-use Rattle.gss_acceptor.specs.declared.answer.Framing.{Framing}
-use Rattle.gss_acceptor.specs.declared.answer.Framing.TheVariants.{Bare, Negotiated}
+use Rattle.gss_acceptor.specs.declared.answer.NegState.{NegState}
+use Rattle.gss_acceptor.specs.declared.answer.NegState.TheVariants.{AcceptCompleted, AcceptIncomplete, RequestMic}
 use Rattle.gss_acceptor.specs.declared.mechanism.Mechanism.{Mechanism}
 
 abbrev pub ap_rep_in : Option Bytes → Option Bytes
 ap_rep_in reply = option_map ap_rep_token reply
 
--- [1] supportedMech
-abbrev pub mechanism_element : Mechanism → Bytes
-mechanism_element mechanism = element 161 (element 6 (mechanism_octets mechanism))
+-- [0] negState
+abbrev pub state_number : NegState → ℕ
+state_number AcceptCompleted = 0
+state_number AcceptIncomplete = 1
+state_number RequestMic = 3
 
--- [2] responseToken, if there is one
-abbrev pub response : Option Bytes → Bytes
-response None = []
-response (Some token) = element 162 (element 4 token)
+abbrev pub state_field : NegState → Bytes
+state_field state = 160 ∷ 3 ∷ 10 ∷ 1 ∷ state_number state ∷ []
 
--- negTokenResp [1], with [0] negState accept-completed
-abbrev pub accept_completed : Mechanism → Option Bytes → Bytes
-accept_completed mechanism token =
-    element 161 (element 48 ((160 ∷ 3 ∷ 10 ∷ 1 ∷ 0 ∷ []) ++ (mechanism_element mechanism ++ response token)))
+-- [1] supportedMech, if it is named
+abbrev pub supported_field : Option Mechanism → Bytes
+supported_field None = []
+supported_field (Some mechanism) = element 161 (element 6 (mechanism_octets mechanism))
 
--- the answer to an initiator that is admitted, with the AP-REP if there is one
-abbrev pub answer : Framing → Option Bytes → Option Bytes
-answer Bare reply = ap_rep_in reply
-answer (Negotiated mechanism) reply = Some (accept_completed mechanism (ap_rep_in reply))
+-- [2] responseToken or [3] mechListMIC, if there is one
+abbrev pub octets_field : ℕ → Option Bytes → Bytes
+octets_field tag None = []
+octets_field tag (Some octets) = element tag (element 4 octets)
+
+-- negTokenResp [1]
+abbrev pub neg_token_resp : NegState → Option Mechanism → Option Bytes → Option Bytes → Bytes
+neg_token_resp state supported token mic =
+    element 161 (element 48 (state_field state ++ (supported_field supported ++ (octets_field 162 token ++ octets_field 163 mic))))

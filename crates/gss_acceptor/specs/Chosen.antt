@@ -1,17 +1,32 @@
 -- What an established context has of the authenticator and the ticket of the AP-REQ (RFC 4121, sections 2, 4.1.1 and 4.2; RFC 4120,
 -- section 3.2.3).
-use Rattle.std.specs.Prelude.{◌≡◌, Ok}
+use Rattle.std.specs.Prelude.{◌≡◌, ◌≤◌, ℕ, Ok}
 use Rattle.krb_ap_requests.specs.Admission.{checksum_of, seq_number_of, subkey_of}
 use Rattle.krb_ap_requests.specs.Presents.{Choice}
-use Rattle.gss_acceptor.specs.Accepting.{EstablishedRecord}
 use Rattle.gss_acceptor.specs.Checksum.{initial_in}
 use Rattle.gss_acceptor.specs.Contexts.{context_key, first_number}
+use Rattle.gss_acceptor.specs.Established.{EstablishedRecord}
+use Rattle.gss_acceptor.specs.declared.accepted.Accepted.{Accepted}
+use Rattle.gss_acceptor.specs.declared.accepted.Accepted.TheVariants.{ContinueNeeded, Established}
+use Rattle.gss_acceptor.specs.declared.accepted.Stage.{Stage}
+use Rattle.gss_acceptor.specs.declared.accepted.Stage.TheVariants.{Token, Mic}
 
--- the client is the ticket's; flags, bindings and the initiator's first number are the authenticator's; the key is the authenticator's
--- subkey if it has one, or else the session key
+-- the client is the ticket's; flags and bindings are the authenticator's; the key is the authenticator's subkey if it has one, or else
+-- the session key. No number below the authenticator's is taken: those of a verified MIC and before it aren't, too
 pub record IsChosen (choice : Choice) (established : EstablishedRecord) : Type 0 where
   pub realm : established.realm ≡ choice.part.crealm.0
   pub client : established.client ≡ choice.part.cname.0
   pub initial : initial_in (checksum_of choice.authenticator) ≡ Ok (record { bindings = established.bindings; flags = established.flags })
-  pub number : first_number (seq_number_of choice.authenticator) ≡ Ok established.context.taking
+  pub first : ℕ
+  pub number : first_number (seq_number_of choice.authenticator) ≡ Ok first
+  pub from_first : first ≤ established.context.taking
   pub key : context_key (subkey_of choice.authenticator) choice.part.key.0 ≡ Ok established.context.key
+
+-- so has the context that is handed out, or that waits for the initiator's MIC
+abbrev pub IsChosenAt : Choice → Stage → Type 0
+IsChosenAt choice (Token terms) = ⊥
+IsChosenAt choice (Mic unverified) = IsChosen choice unverified.established
+
+abbrev pub IsChosenAfter : Choice → Accepted → Type 0
+IsChosenAfter choice (Established established) = IsChosen choice established
+IsChosenAfter choice (ContinueNeeded continuation) = IsChosenAt choice continuation.negotiation.stage

@@ -1,8 +1,13 @@
 pub mod Mechanisms
 pub mod Tokens
 pub mod Negotiation
+pub mod Responses
 pub mod Checksum
 pub mod Contexts
+pub mod Established
 pub mod Answers
+pub mod Continuing
+pub mod Concluding
 pub mod Accepting
 pub mod Chosen
+pub mod Due

@@ -1,6 +1,7 @@
 -- The identifiers of mechanisms, by their content octets (X.690, section 8.19).
-use Rattle.std.specs.Prelude.{◌≡◌, [], ◌∷◌, Option, None, Some, if◌then◌else◌, refl}
+use Rattle.std.specs.Prelude.{◌≡◌, List, [], ◌∷◌, Bool, false, Option, None, Some, is_some, option_and_then, if◌then◌else◌, refl}
 use Rattle.std.specs.Bool.{nat_eq}
+use Rattle.std.specs.List.{find}
 use Rattle.std.specs.Cmp.Lexicographic.{pointwise}
 use Rattle.picky_asn1.specs.Bytes.{Bytes}
 use Rattle.picky_asn1.specs.declared.wrapper.ObjectIdentifierAsn1.{ObjectIdentifierAsn1}
@@ -22,6 +23,18 @@ abbrev pub kerberos_in : ObjectIdentifierAsn1 → Option Mechanism
 kerberos_in identifier =
     if pointwise nat_eq (oid_content identifier.0) (mechanism_octets Standard) then Some Standard
     else (if pointwise nat_eq (oid_content identifier.0) (mechanism_octets Microsoft) then Some Microsoft else None)
+
+-- Kerberos, where it is one of the identifiers. The first that is its counts
+abbrev pub first_kerberos : List ObjectIdentifierAsn1 → Option ObjectIdentifierAsn1
+first_kerberos identifiers = find (λ identifier. is_some (kerberos_in identifier)) identifiers
+
+abbrev pub kerberos_among : List ObjectIdentifierAsn1 → Option Mechanism
+kerberos_among identifiers = option_and_then kerberos_in (first_kerberos identifiers)
+
+-- Kerberos is the first of the identifiers
+abbrev pub is_first : List ObjectIdentifierAsn1 → Bool
+is_first [] = false
+is_first (first ∷ others) = is_some (kerberos_in first)
 
 standard_octets : oid_content (1 ∷ 2 ∷ 840 ∷ 113554 ∷ 1 ∷ 2 ∷ 2 ∷ []) ≡ mechanism_octets Standard
 unfolding oid_content subidentifier

@@ -1,13 +1,13 @@
 -- What a first token of SPNEGO offers (RFC 4178, section 4.2.1).
-use Rattle.std.specs.Prelude.{◌≡◌, ◌⊎◌, List, [], ◌∷◌, Bool, Option, None, Some, Result, Ok, Err, if◌then◌else◌}
+use Rattle.std.specs.Prelude.{◌≡◌, ◌⊎◌, List, Bool, not, None, Result, Ok, Err, if◌then◌else◌}
 use Rattle.std.proofs.Common.{sym, ◌∙◌}
-use Rattle.std.specs.Option.{option_map_or}
+use Rattle.std.specs.Option.{option_map, option_map_or}
 use Rattle.std.specs.Bool.{nat_eq}
 use Rattle.std.specs.Cmp.Lexicographic.{pointwise}
 use Rattle.picky_asn1.specs.Bytes.{Bytes}
 use Rattle.picky_asn1.specs.declared.wrapper.ObjectIdentifierAsn1.{ObjectIdentifierAsn1}
-use Rattle.asn1_leaves.specs.ObjectIdentifier.{oid_content}
-use Rattle.asn1_der.specs.Tree.{Tree, Writes}
+use Rattle.asn1_leaves.specs.ObjectIdentifier.{is_object_identifier, oid_content}
+use Rattle.asn1_der.specs.Tree.{Tree, Writes, constructed, der, leaf, trees_of}
 use Rattle.asn1_der.specs.Tagged.{tagged_tree}
 use Rattle.asn1_der.proofs.Tagged.{tagged-injective}
 use Rattle.decision_tables.specs.One.{IsSole}
@@ -15,7 +15,8 @@ use Rattle.decision_tables.specs.Tables.{Table, ask, done}
 use Rattle.gss_context_tokens.specs.declared.gss_api_neg_init.GssApiNegInit.{GssApiNegInit}
 use Rattle.gss_context_tokens.specs.declared.neg_token_init.NegTokenInit.{NegTokenInit}
 use Rattle.gss_context_tokens.specs.contracts.gss_api_neg_init.GssApiNegInitTagged.TheImpl as neg_init_impl
-use Rattle.gss_acceptor.specs.Mechanisms.{kerberos_in, spnego_octets}
+use Rattle.gss_acceptor.specs.Mechanisms.{is_first, kerberos_among, spnego_octets}
+use Rattle.gss_acceptor.specs.declared.exchange.Tokens.{Tokens}
 use Rattle.gss_acceptor.specs.declared.mechanism.Mechanism.{Mechanism}
 use Rattle.gss_acceptor.specs.declared.negotiation.Offer.{Offer}
 use Rattle.gss_acceptor.specs.declared.refusal.AcceptRefusal.{AcceptRefusal}
@@ -36,20 +37,33 @@ sole_neg_init token v w p q =
 abbrev pub is_spnego : ObjectIdentifierAsn1 → Bool
 is_spnego identifier = pointwise nat_eq (oid_content identifier.0) spnego_octets
 
--- Kerberos, where it is the first mechanism of the list
-abbrev pub first_in : List ObjectIdentifierAsn1 → Option Mechanism
-first_in [] = None
-first_in (first ∷ others) = kerberos_in first
+-- the octets that MICs are over: the DER encoding of the MechTypeList (section 5)
+abbrev pub mech_type_tree : ObjectIdentifierAsn1 → Tree
+mech_type_tree identifier = leaf (is_object_identifier identifier.0) 6 (oid_content identifier.0)
 
-abbrev pub mechanism_in : NegTokenInit → Option Mechanism
-mechanism_in init = option_map_or (λ list. first_in list.0) init.mech_types.0 None
+abbrev pub mech_types_octets : List ObjectIdentifierAsn1 → Bytes
+mech_types_octets list = der (constructed 48 (trees_of mech_type_tree list))
 
--- the optimistic token is the first mechanism's
+-- the tokens are the first mechanism's: of another one they don't count
+abbrev pub optimistic : Bool → Tokens → Tokens
+optimistic first tokens = if first then tokens else record { mechanism = None; mic = None }
+
+-- MICs are due if Kerberos isn't the first mechanism
+abbrev pub offer_by : Mechanism → List ObjectIdentifierAsn1 → Tokens → Offer
+offer_by mechanism list tokens = record {
+  mechanism = mechanism;
+  terms = record { list = mech_types_octets list; required = not (is_first list) };
+  tokens = optimistic (is_first list) tokens;
+}
+
+abbrev pub offer_among : List ObjectIdentifierAsn1 → Tokens → Result Offer AcceptRefusal
+offer_among list tokens = option_map_or (λ mechanism. Ok (offer_by mechanism list tokens)) (kerberos_among list) (Err NoKerberos)
+
+abbrev pub tokens_of : NegTokenInit → Tokens
+tokens_of init = record { mechanism = option_map (λ token. token.0) init.mech_token.0; mic = option_map (λ mic. mic.0) init.mech_list_mic.0 }
+
 abbrev pub offer_of : NegTokenInit → Result Offer AcceptRefusal
-offer_of init = elim (mechanism_in init) [
-  | None ↦ Err NoKerberos
-  | Some mechanism ↦ option_map_or (λ token. Ok (record { mechanism = mechanism; token = token.0 })) init.mech_token.0 (Err NotAToken)
-]
+offer_of init = option_map_or (λ list. offer_among list.0 (tokens_of init)) init.mech_types.0 (Err NoKerberos)
 
 abbrev pub offer_in : GssApiNegInit → Result Offer AcceptRefusal
 offer_in message = if is_spnego message.oid then offer_of message.neg_token_init.0 else Err NotAToken

@@ -1,11 +1,15 @@
 //! Acceptors.
 ghost use Rattle.std.specs.Prelude.{◌≡◌, ◌≤◌, length};
-ghost use Rattle.gss_acceptor.specs.Accepting.{Establishes, Handles, carried, held, negotiated};
+ghost use Rattle.gss_acceptor.specs.Accepting.{AdmitRequest, Establishes, Handles, Takes, carried, held, negotiated, next, opened, responded_to, resumed};
+ghost use Rattle.gss_acceptor.specs.Concluding.{IsAnswered, IsLast};
 
-use crate::answer::Framing;
+use crate::accepted::{Accepted, Negotiation, Stage};
+use crate::conclude::{ask, conclude, verify};
 use crate::established::{Established, established_by};
+use crate::exchange::{Exchange, Terms, Tokens, Unverified, due_mic};
 use crate::negotiation::{Offer, read_offer};
 use crate::refusal::AcceptRefusal;
+use crate::response::read_response;
 use crate::token::ap_req_in;
 use krb_moments::Moment;
 use krb_service::Service;
@@ -34,12 +38,15 @@ impl Acceptor {
         Acceptor { service }
     }
 
-    /// Establishes a context by an initiator's first token, at a moment: by a token of Kerberos (RFC 4121, section 4.1), or by one of
-    /// SPNEGO that offers Kerberos first and holds its token (RFC 4178, section 4.2.1). Of the random bytes the first 16 count.
+    /// Takes an initiator's first token, at a moment: one of Kerberos (RFC 4121, section 4.1), or one of SPNEGO that offers Kerberos
+    /// (RFC 4178, section 4.2.1). Of the random bytes the first 16 count.
+    ///
+    /// A token of Kerberos establishes a context. It may stand in one of SPNEGO, if Kerberos is the first mechanism. If it isn't, or has
+    /// no token, the answer asks for Kerberos. The context is then established by [`Acceptor::resume`].
     ///
     /// The refusals, in this order: `NotAToken` or `NoKerberos`, which leave the acceptor as it was; `Admit`; and of what the service
-    /// admits `NoChecksum`, `OtherChecksum`, `BadSequenceNumber`, `UnknownKey`, `OldSuite`. `Memory` comes either before the
-    /// admission, and leaves the acceptor as it was, or last. A refusal after the admission leaves the service as `Service::admit`
+    /// admits `NoChecksum`, `OtherChecksum`, `BadSequenceNumber`, `UnknownKey`, `OldSuite`, `Mic`. `Memory` comes either before the
+    /// admission, and leaves the acceptor as it was, or after it. A refusal after the admission leaves the service as `Service::admit`
     /// does: the client needs a new authenticator.
     pub fn accept(
         &mut self,
@@ -47,52 +54,187 @@ impl Acceptor {
         token: &[u8],
         moment: Moment,
         words: &[u8],
-    ) -> Result<Established, AcceptRefusal>
+    ) -> Result<Accepted, AcceptRefusal>
         requires { 16 ≤ length words.now }
         ensures { Handles (carried token.now) self.old.service moment words.now result self.new.service }
     {
         match ap_req_in(token) {
-            Some(request) => self.establish(alloc, Framing::Bare, request, moment, words),
+            Some(request) => self.admit(alloc, request, None, moment, words),
             None => self.negotiate(alloc, token, moment, words),
         }
     }
 
-    // Establishes a context by a token of SPNEGO.
+    /// Takes the initiator's next token, which a negotiation waits for (RFC 4178, section 4.2.2), at a moment. Of the random bytes the
+    /// first 16 count.
+    ///
+    /// The first token of Kerberos establishes a context. MICs of the list of mechanisms are due if Kerberos isn't the first of them. The
+    /// initiator sends its MIC with its token, or, if there is an AP-REP, may send it after the acceptor's. A context whose initiator's
+    /// MIC is due isn't handed out before the MIC was verified (RFC 4178, section 5).
+    ///
+    /// The refusals are those of [`Acceptor::accept`], but `NoKerberos`; and `NoMic`, as the last. A refusal ends the negotiation.
+    pub fn resume(
+        &mut self,
+        alloc: Global,
+        negotiation: Negotiation,
+        token: &[u8],
+        moment: Moment,
+        words: &[u8],
+    ) -> Result<Accepted, AcceptRefusal>
+        requires { 16 ≤ length words.now }
+        ensures { Handles (resumed negotiation token.now) self.old.service moment words.now result self.new.service }
+    {
+        match read_response(alloc, token) {
+            Ok(tokens) => self.take_next(alloc, negotiation, tokens, moment, words),
+            Err(refusal) => {
+                drop(negotiation);
+                Err(refusal)
+            }
+        }
+    }
+
+    // Takes a first token of SPNEGO.
     fn negotiate(
         &mut self,
         alloc: Global,
         token: &[u8],
         moment: Moment,
         words: &[u8],
-    ) -> Result<Established, AcceptRefusal>
+    ) -> Result<Accepted, AcceptRefusal>
         requires { 16 ≤ length words.now }
         ensures { Handles (negotiated token.now) self.old.service moment words.now result self.new.service }
     {
         match read_offer(alloc, token) {
-            Ok(offer) => {
-                let accepted = self.accept_offer(alloc, &offer, moment, words);
-                drop(offer);
-                accepted
-            }
+            Ok(offer) => self.take_offer(alloc, offer, moment, words),
             Err(refusal) => Err(refusal),
         }
     }
 
-    // Establishes a context by the token that is offered.
-    fn accept_offer(
+    // Takes the token that is offered, or asks for it.
+    fn take_offer(
         &mut self,
         alloc: Global,
-        offer: &Offer,
+        offer: Offer,
         moment: Moment,
         words: &[u8],
-    ) -> Result<Established, AcceptRefusal>
+    ) -> Result<Accepted, AcceptRefusal>
         requires { 16 ≤ length words.now }
-        ensures { Handles (held offer.now) self.old.service moment words.now result self.new.service }
+        ensures { Handles (opened offer) self.old.service moment words.now result self.new.service }
     {
-        let framing = Framing::Negotiated(offer.mechanism);
-        match ap_req_in(offer.token.as_bytes()) {
-            Some(request) => self.establish(alloc, framing, request, moment, words),
-            None => Err(AcceptRefusal::NotAToken),
+        let Offer {
+            mechanism,
+            terms,
+            tokens,
+        } = offer;
+        let Tokens {
+            mechanism: token,
+            mic,
+        } = tokens;
+        match token {
+            Some(token) => {
+                let exchange = Exchange {
+                    supported: Some(mechanism),
+                    terms,
+                    mic,
+                };
+                let accepted = self.take_token(alloc, token.as_bytes(), exchange, moment, words);
+                drop(token);
+                accepted
+            }
+            None => {
+                drop(mic);
+                ask(alloc, mechanism, terms)
+            }
+        }
+    }
+
+    // Takes the tokens that a negotiation waits for.
+    fn take_next(
+        &mut self,
+        alloc: Global,
+        negotiation: Negotiation,
+        tokens: Tokens,
+        moment: Moment,
+        words: &[u8],
+    ) -> Result<Accepted, AcceptRefusal>
+        requires { 16 ≤ length words.now }
+        ensures { Handles (next negotiation.stage tokens) self.old.service moment words.now result self.new.service }
+    {
+        match negotiation.stage {
+            Stage::Token(terms) => self.take_response(alloc, terms, tokens, moment, words),
+            Stage::Mic(unverified) => take_mic(alloc, unverified, tokens),
+        }
+    }
+
+    // Takes the first token of Kerberos behind the first of SPNEGO.
+    fn take_response(
+        &mut self,
+        alloc: Global,
+        terms: Terms,
+        tokens: Tokens,
+        moment: Moment,
+        words: &[u8],
+    ) -> Result<Accepted, AcceptRefusal>
+        requires { 16 ≤ length words.now }
+        ensures { Handles (responded_to terms tokens) self.old.service moment words.now result self.new.service }
+    {
+        let Tokens { mechanism, mic } = tokens;
+        let exchange = Exchange {
+            supported: None,
+            terms,
+            mic,
+        };
+        match mechanism {
+            Some(token) => {
+                let accepted = self.take_token(alloc, token.as_bytes(), exchange, moment, words);
+                drop(token);
+                accepted
+            }
+            None => {
+                drop(exchange);
+                Err(AcceptRefusal::NotAToken)
+            }
+        }
+    }
+
+    // Takes a token of Kerberos that came in a message of SPNEGO.
+    fn take_token(
+        &mut self,
+        alloc: Global,
+        token: &[u8],
+        exchange: Exchange,
+        moment: Moment,
+        words: &[u8],
+    ) -> Result<Accepted, AcceptRefusal>
+        requires { 16 ≤ length words.now }
+        ensures { Handles (held token.now exchange) self.old.service moment words.now result self.new.service }
+    {
+        match ap_req_in(token) {
+            Some(request) => self.admit(alloc, request, Some(exchange), moment, words),
+            None => {
+                drop(exchange);
+                Err(AcceptRefusal::NotAToken)
+            }
+        }
+    }
+
+    // Admits an AP-REQ, and answers it as it came.
+    fn admit(
+        &mut self,
+        alloc: Global,
+        request: &[u8],
+        exchange: Option<Exchange>,
+        moment: Moment,
+        words: &[u8],
+    ) -> Result<Accepted, AcceptRefusal>
+        requires { 16 ≤ length words.now }
+        ensures { Takes (AdmitRequest request.now exchange) self.old.service moment words.now result self.new.service }
+    {
+        match self.establish(alloc, request, moment, words) {
+            Ok(established) => answered(alloc, established, exchange),
+            Err(refusal) => {
+                drop(exchange);
+                Err(refusal)
+            }
         }
     }
 
@@ -100,17 +242,51 @@ impl Acceptor {
     fn establish(
         &mut self,
         alloc: Global,
-        framing: Framing,
         request: &[u8],
         moment: Moment,
         words: &[u8],
     ) -> Result<Established, AcceptRefusal>
         requires { 16 ≤ length words.now }
-        ensures { Establishes self.old.service moment framing request.now words.now result self.new.service }
+        ensures { Establishes self.old.service moment request.now words.now result self.new.service }
     {
         match self.service.admit(alloc, request, moment, words) {
-            Ok(admission) => established_by(alloc, framing, admission),
+            Ok(admission) => established_by(alloc, admission),
             Err(cause) => Err(AcceptRefusal::Admit(cause)),
+        }
+    }
+}
+
+// Answers a context's initiator: by the token of Kerberos alone, or by a message of SPNEGO.
+fn answered(
+    alloc: Global,
+    established: Established,
+    exchange: Option<Exchange>,
+) -> Result<Accepted, AcceptRefusal>
+    ensures { IsAnswered exchange established result }
+{
+    match exchange {
+        Some(exchange) => conclude(alloc, established, exchange),
+        None => Ok(Accepted::Established(established)),
+    }
+}
+
+// Takes the initiator's MIC, which is due.
+fn take_mic(
+    alloc: Global,
+    unverified: Unverified,
+    tokens: Tokens,
+) -> Result<Accepted, AcceptRefusal>
+    ensures { IsLast unverified tokens result }
+{
+    match due_mic(tokens) {
+        Ok(mic) => {
+            let accepted = verify(alloc, unverified, mic.as_bytes());
+            drop(mic);
+            accepted
+        }
+        Err(refusal) => {
+            drop(unverified);
+            Err(refusal)
         }
     }
 }

@@ -1,45 +1,42 @@
-//! The answers to an initiator.
+//! The answers to an initiator: tokens of Kerberos, and of SPNEGO.
 ghost use Rattle.std.specs.Prelude.{◌≡◌, IfOk};
 ghost use Rattle.std.specs.Option.{option_map};
-ghost use Rattle.gss_acceptor.specs.Answers.{accept_completed, answer, ap_rep_in, mechanism_element, response};
+ghost use Rattle.gss_acceptor.specs.Answers.{ap_rep_in, neg_token_resp, octets_field, state_field, supported_field};
 
 use crate::elements::{element_of, joined};
 use crate::mechanism::Mechanism;
 use crate::token::ap_rep_token;
 use std::alloc::{AllocError, Global};
 
-/// How a token came.
+/// Where a negotiation stands (RFC 4178, section 4.2.2).
 #[derive(Clone, Copy, Debug, PartialEq, Eq)]
-pub enum Framing {
-    /// As a token of Kerberos.
-    Bare,
-    /// Inside a token of SPNEGO, under this identifier.
-    Negotiated(Mechanism),
+pub(crate) enum NegState {
+    /// The context is established, and no further token is due.
+    AcceptCompleted,
+    /// A further token of the initiator is due.
+    AcceptIncomplete,
+    /// A further token is due, and MICs of the list of mechanisms are.
+    RequestMic,
 }
 
-/// The element of `negState` accept-completed (RFC 4178, section 4.2.2).
-const ACCEPT_COMPLETED: [u8; 5] = [0xa0, 0x03, 0x0a, 0x01, 0x00];
-
-/// The answer to an initiator that is admitted, with the AP-REP if there is one.
-pub(crate) fn answer(
-    alloc: Global,
-    framing: Framing,
-    reply: Option<Vec<u8>>,
-) -> Result<Option<Vec<u8>>, AllocError>
-    ensures { IfOk result (λ token. option_map (λ v. v.items) token ≡ answer framing (option_map (λ v. v.items) reply)) }
-{
-    let token = ap_rep_in(alloc, reply)?;
-    match framing {
-        Framing::Bare => Ok(token),
-        Framing::Negotiated(mechanism) => {
-            let token = accept_completed(alloc, mechanism, token)?;
-            Ok(Some(token))
+impl NegState {
+    /// The element of `negState`.
+    fn field(self) -> [u8; 5]
+        ensures { result ≡ state_field self }
+    {
+        match self {
+            NegState::AcceptCompleted => [0xa0, 0x03, 0x0a, 0x01, 0x00],
+            NegState::AcceptIncomplete => [0xa0, 0x03, 0x0a, 0x01, 0x01],
+            NegState::RequestMic => [0xa0, 0x03, 0x0a, 0x01, 0x03],
         }
     }
 }
 
-// The token of an AP-REP, if there is one.
-fn ap_rep_in(alloc: Global, reply: Option<Vec<u8>>) -> Result<Option<Vec<u8>>, AllocError>
+/// The token of an AP-REP, if there is one.
+pub(crate) fn ap_rep_in(
+    alloc: Global,
+    reply: Option<Vec<u8>>,
+) -> Result<Option<Vec<u8>>, AllocError>
     ensures { IfOk result (λ token. option_map (λ v. v.items) token ≡ ap_rep_in (option_map (λ v. v.items) reply)) }
 {
     let Some(reply) = reply else {
@@ -49,38 +46,48 @@ fn ap_rep_in(alloc: Global, reply: Option<Vec<u8>>) -> Result<Option<Vec<u8>>, A
     Ok(Some(token))
 }
 
-// The answer that completes a negotiation.
-fn accept_completed(
+/// An answer of SPNEGO: the state, and what there is of the mechanism's identifier, its token and a MIC of the list of mechanisms.
+pub(crate) fn neg_token_resp(
     alloc: Global,
-    mechanism: Mechanism,
+    state: NegState,
+    supported: Option<Mechanism>,
     token: Option<Vec<u8>>,
+    mic: Option<Vec<u8>>,
 ) -> Result<Vec<u8>, AllocError>
-    ensures { IfOk result (λ answer. answer.items ≡ accept_completed mechanism (option_map (λ v. v.items) token)) }
+    ensures { IfOk result (λ answer. answer.items ≡ neg_token_resp state supported (option_map (λ v. v.items) token) (option_map (λ v. v.items) mic)) }
 {
-    let response = response(alloc, token)?;
-    let mechanism = mechanism_element(alloc, mechanism)?;
-    let behind = joined(alloc, &mechanism, &response)?;
-    let fields = joined(alloc, &ACCEPT_COMPLETED, &behind)?;
+    let token = octets_field::<0xa2>(alloc, token)?;
+    let mic = octets_field::<0xa3>(alloc, mic)?;
+    let tokens = joined(alloc, &token, &mic)?;
+    let supported = supported_field(alloc, supported)?;
+    let behind = joined(alloc, &supported, &tokens)?;
+    let fields = joined(alloc, &state.field(), &behind)?;
     let sequence = element_of::<0x30>(alloc, fields)?;
     element_of::<0xa1>(alloc, sequence)
 }
 
-// The element of `supportedMech`.
-fn mechanism_element(alloc: Global, mechanism: Mechanism) -> Result<Vec<u8>, AllocError>
-    ensures { IfOk result (λ element. element.items ≡ mechanism_element mechanism) }
+// The element of `supportedMech`, or nothing.
+fn supported_field(alloc: Global, supported: Option<Mechanism>) -> Result<Vec<u8>, AllocError>
+    ensures { IfOk result (λ field. field.items ≡ supported_field supported) }
 {
+    let Some(mechanism) = supported else {
+        return Ok(Vec::new(alloc));
+    };
     let octets = Vec::from_slice(alloc, &mechanism.octets())?;
     let identifier = element_of::<0x06>(alloc, octets)?;
     element_of::<0xa1>(alloc, identifier)
 }
 
-// The element of `responseToken`, or nothing.
-fn response(alloc: Global, token: Option<Vec<u8>>) -> Result<Vec<u8>, AllocError>
-    ensures { IfOk result (λ element. element.items ≡ response (option_map (λ v. v.items) token)) }
+// The element of `responseToken` or `mechListMIC`, or nothing.
+fn octets_field<const TAG: u8>(
+    alloc: Global,
+    octets: Option<Vec<u8>>,
+) -> Result<Vec<u8>, AllocError>
+    ensures { IfOk result (λ field. field.items ≡ octets_field TAG (option_map (λ v. v.items) octets)) }
 {
-    let Some(token) = token else {
+    let Some(octets) = octets else {
         return Ok(Vec::new(alloc));
     };
-    let octets = element_of::<0x04>(alloc, token)?;
-    element_of::<0xa2>(alloc, octets)
+    let string = element_of::<0x04>(alloc, octets)?;
+    element_of::<TAG>(alloc, string)
 }

@@ -1,9 +1,10 @@
 //! Elements of DER around octets.
 ghost use Rattle.std.specs.Prelude.{◌≡◌, ◌++◌, IfOk};
+ghost use Rattle.std.specs.Option.{option_map};
 ghost use Rattle.asn1_der.specs.Length.{element};
 
 use picky_asn1::wrapper::OctetStringAsn1;
-use picky_asn1_der::{Retagged, encoding_of};
+use picky_asn1_der::{ExplicitContextTag, Retagged, encoding_of};
 use std::alloc::{AllocError, Global};
 
 /// The element with this identifier octet and this content.
@@ -24,4 +25,16 @@ pub(crate) fn joined(alloc: Global, front: &[u8], behind: &[u8]) -> Result<Vec<u
     let mut bytes = Vec::from_slice(alloc, front)?;
     bytes.extend_from_slice(behind)?;
     Ok(bytes)
+}
+
+/// The octets under a tag, if there are any.
+pub(crate) fn octets_in<const N: u8>(
+    field: Option<ExplicitContextTag<N, OctetStringAsn1>>,
+) -> Option<OctetStringAsn1>
+    ensures { result ≡ option_map (λ tagged. tagged.0) field.entry }
+{
+    match field {
+        Some(octets) => Some(octets.0),
+        None => None,
+    }
 }

@@ -4,7 +4,7 @@ ghost use Rattle.std.specs.Option.{option_map};
 ghost use Rattle.gss_acceptor.specs.Accepting.{IsEstablished, established_of};
 ghost use Rattle.gss_acceptor.specs.declared.refusal.AcceptRefusal.TheVariants.{Memory};
 
-use crate::answer::{Framing, answer};
+use crate::answer::ap_rep_in;
 use crate::checksum::{ContextFlags, InitialChecksum};
 use crate::judge::{Judged, judge};
 use crate::refusal::AcceptRefusal;
@@ -28,13 +28,13 @@ pub struct Established {
     pub flags: ContextFlags,
     /// The acceptor's end of the context.
     pub context: Context,
-    /// The token to send to the initiator, if there is one.
+    /// The token to send to the initiator, if there is one. No answer to it is due.
     pub reply: Option<Vec<u8>>,
 }
 
 impl Model for Established {
     ghost use Rattle.std.specs.Option.{option_map};
-    ghost use Rattle.gss_acceptor.specs.Accepting.{EstablishedRecord};
+    ghost use Rattle.gss_acceptor.specs.Established.{EstablishedRecord};
 
     ghost Value = { EstablishedRecord };
 
@@ -48,16 +48,15 @@ impl Model for Established {
     } };
 }
 
-/// The context that an admission establishes, with the answer to the initiator.
+/// The context that an admission establishes, with the token of its AP-REP, if there is one.
 pub(crate) fn established_by(
     alloc: Global,
-    framing: Framing,
     admission: Admission,
 ) -> Result<Established, AcceptRefusal>
-    ensures { IsEstablished framing admission result }
+    ensures { IsEstablished admission result }
 {
     match judge(&admission) {
-        Ok(judged) => answered(alloc, framing, admission, judged),
+        Ok(judged) => answered(alloc, admission, judged),
         Err(refusal) => {
             drop(admission);
             Err(refusal)
@@ -65,18 +64,17 @@ pub(crate) fn established_by(
     }
 }
 
-// The context that was judged so, with the answer to the initiator.
+// The context that was judged so, with the token of its AP-REP, if there is one.
 fn answered(
     alloc: Global,
-    framing: Framing,
     mut admission: Admission,
     judged: Judged,
 ) -> Result<Established, AcceptRefusal>
-    ensures made { IfOk result (λ e. e ≡ established_of framing admission judged) }
+    ensures made { IfOk result (λ e. e ≡ established_of admission judged) }
     ensures refused { IfErr result (λ e. e ≡ Memory) }
 {
     let message = admission.reply.take();
-    match answer(alloc, framing, message) {
+    match ap_rep_in(alloc, message) {
         Ok(reply) => Ok(completed(admission, judged, reply)),
         Err(_) => {
             drop(admission);

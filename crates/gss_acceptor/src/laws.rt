@@ -1,17 +1,45 @@
 //! What holds of every context that is established.
-ghost use Rattle.std.specs.Prelude.{◌≡◌, ℕ, List, Ok};
+ghost use Rattle.std.specs.Prelude.{◌≡◌, ℕ, List, Option, Ok, true};
 ghost use Rattle.krb_ap_requests.specs.Presents.{Choice, Presents};
 ghost use Rattle.krb_service.specs.Pair.{PairRecord};
 ghost use Rattle.krb_service.specs.Seen.{IsWindow};
 ghost use Rattle.krb_service.specs.Service.{ServiceRecord};
-ghost use Rattle.gss_acceptor.specs.Accepting.{EstablishedRecord, Handles, Request, carried};
-ghost use Rattle.gss_acceptor.specs.Chosen.{IsChosen};
+ghost use Rattle.gss_acceptor.specs.Accepting.{AdmitRequest, Handles, Takes, VerifyMic, carried, resumed};
+ghost use Rattle.gss_acceptor.specs.Chosen.{IsChosen, IsChosenAfter};
+ghost use Rattle.gss_acceptor.specs.Due.{IsDue, IsDueAfter};
+ghost use Rattle.gss_acceptor.specs.Established.{EstablishedRecord};
+ghost use Rattle.gss_acceptor.specs.Negotiation.{offered};
+ghost use Rattle.gss_acceptor.specs.Tokens.{IsApReqToken};
+ghost use Rattle.gss_acceptor.specs.declared.accepted.Accepted.{Accepted};
+ghost use Rattle.gss_acceptor.specs.declared.accepted.Accepted.TheVariants.{Established};
+ghost use Rattle.gss_acceptor.specs.declared.accepted.Negotiation.{Negotiation};
+ghost use Rattle.gss_acceptor.specs.declared.exchange.Exchange.{Exchange};
+ghost use Rattle.gss_acceptor.specs.declared.exchange.Unverified.{Unverified};
+ghost use Rattle.gss_acceptor.specs.declared.negotiation.Offer.{Offer};
 
 /// The token of an established context holds an AP-REQ that a client presented, sealed under the service's key and the session key, and
-/// the context has what the client chose: its name, the flags and bindings, the key and the sequence number. It does nothing when it
-/// runs: its contract is the law.
+/// the context has what the client chose: its name, the flags and bindings, the key and the sequence number. So has a context that waits
+/// for its initiator's MIC, and what is handed out when the MIC was verified. It does nothing when it runs: its contract is the law.
 pub fn established_as_presented()
-    ensures { (service after : ServiceRecord) (moment : ℕ) (token random : List ℕ) (admitted : List PairRecord) (established : EstablishedRecord)
-        → IsWindow service.seen admitted → Handles (carried token) service moment random (Ok established) after
-        → (request : Request) × (carried token).gives (Ok request) × (choice : Choice) × Presents service.entry.key choice request.message × IsChosen choice established }
+    ensures first { (service after : ServiceRecord) (moment : ℕ) (token random : List ℕ) (admitted : List PairRecord) (established : EstablishedRecord)
+        → IsWindow service.seen admitted → Handles (carried token) service moment random (Ok (Established established)) after
+        → (message : List ℕ) × (exchange : Option Exchange) × (carried token).gives (Ok (AdmitRequest message exchange))
+        × (choice : Choice) × Presents service.entry.key choice message × IsChosen choice established }
+    ensures admitted { (service after : ServiceRecord) (moment : ℕ) (message random : List ℕ) (exchange : Option Exchange) (admitted : List PairRecord) (accepted : Accepted)
+        → IsWindow service.seen admitted → Takes (AdmitRequest message exchange) service moment random (Ok accepted) after
+        → (choice : Choice) × Presents service.entry.key choice message × IsChosenAfter choice accepted }
+    ensures verified { (service after : ServiceRecord) (moment : ℕ) (theirs random : List ℕ) (unverified : Unverified) (choice : Choice) (accepted : Accepted)
+        → IsChosen choice unverified.established → Takes (VerifyMic unverified theirs) service moment random (Ok accepted) after
+        → IsChosenAfter choice accepted }
+{}
+
+/// If Kerberos isn't the first mechanism that SPNEGO offers, no context is handed out before a MIC of the whole list was verified, as the
+/// initiator makes it under the context's key. Who changes the list on its way needs that key. It does nothing.
+pub fn established_under_mic()
+    ensures first { (service after : ServiceRecord) (moment : ℕ) (token random : List ℕ) (offer : Offer) (accepted : Accepted)
+        → ((message : List ℕ) → IsApReqToken token message → ⊥) → (offered token).gives (Ok offer) → offer.terms.required ≡ true
+        → Handles (carried token) service moment random (Ok accepted) after → IsDueAfter offer.terms.list accepted }
+    ensures later { (service after : ServiceRecord) (moment : ℕ) (token list random : List ℕ) (negotiation : Negotiation) (accepted : Accepted)
+        → IsDue list negotiation.stage → Handles (resumed negotiation token) service moment random (Ok accepted) after
+        → IsDueAfter list accepted }
 {}

@@ -2,20 +2,25 @@
 //! service that admits each request once.
 #![tactic(auto)]
 
+mod accepted;
 mod acceptor;
 mod answer;
 mod checksum;
+mod conclude;
 mod context;
 pub mod context_flags;
 mod elements;
 mod established;
+mod exchange;
 mod judge;
 pub mod laws;
 mod mechanism;
 mod negotiation;
 mod refusal;
+mod response;
 mod token;
 
+pub use accepted::{Accepted, Continuation, Negotiation};
 pub use acceptor::Acceptor;
 pub use checksum::{ContextFlags, InitialChecksum};
 pub use established::Established;

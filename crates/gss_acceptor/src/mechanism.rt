@@ -1,6 +1,7 @@
 //! The mechanism Kerberos, as SPNEGO names it.
-ghost use Rattle.std.specs.Prelude.{◌≡◌, length};
-ghost use Rattle.gss_acceptor.specs.Mechanisms.{kerberos_in, mechanism_octets};
+ghost use Rattle.std.specs.Prelude.{◌≡◌};
+ghost use Rattle.std.specs.Option.{option_copied};
+ghost use Rattle.gss_acceptor.specs.Mechanisms.{first_kerberos, is_first, kerberos_among, kerberos_in, mechanism_octets};
 
 use picky_asn1::wrapper::ObjectIdentifierAsn1;
 
@@ -43,4 +44,33 @@ pub(crate) fn kerberos_in(identifier: &ObjectIdentifierAsn1) -> Option<Mechanism
         return Some(Mechanism::Microsoft);
     }
     None
+}
+
+/// Kerberos, where it is one of the identifiers. The first that is its counts.
+pub(crate) fn kerberos_among(identifiers: &[ObjectIdentifierAsn1]) -> Option<Mechanism>
+    ensures { result ≡ kerberos_among identifiers.now }
+{
+    match first_kerberos(identifiers) {
+        Some(identifier) => kerberos_in(identifier),
+        None => None,
+    }
+}
+
+// The first identifier of Kerberos.
+fn first_kerberos(identifiers: &[ObjectIdentifierAsn1]) -> Option<&ObjectIdentifierAsn1>
+    ensures { option_copied result ≡ first_kerberos identifiers.now }
+{
+    identifiers
+        .iter()
+        .find(|identifier| kerberos_in(identifier).is_some())
+}
+
+/// Whether Kerberos is the first of the identifiers.
+pub(crate) fn is_first(identifiers: &[ObjectIdentifierAsn1]) -> bool
+    ensures { result ≡ is_first identifiers.now }
+{
+    match identifiers {
+        [first, ..] => kerberos_in(first).is_some(),
+        [] => false,
+    }
 }

@@ -2,6 +2,7 @@
 ghost use Rattle.std.specs.Prelude.{◌≡◌};
 ghost use Rattle.gss_acceptor.specs.declared.refusal.AcceptRefusal.TheVariants.{Admit, Memory};
 
+use gss_contexts::TokenRefusal;
 use krb_ap_requests::AdmitRefusal;
 use std::alloc::AllocError;
 use thiserror::Error;
@@ -9,12 +10,12 @@ use thiserror::Error;
 /// Why no context is established.
 #[derive(Clone, Copy, Debug, PartialEq, Eq, Error)]
 pub enum AcceptRefusal {
-    /// The octets are no first token of Kerberos with an AP-REQ, and no first token of SPNEGO with such a token in it.
-    #[error("the octets are no first token of Kerberos or SPNEGO")]
+    /// The octets are no token that is due: no token of Kerberos with an AP-REQ, and no token of SPNEGO with what it has to hold.
+    #[error("the octets are no token that is due of Kerberos or SPNEGO")]
     NotAToken,
 
-    /// Kerberos isn't the first of the mechanisms that SPNEGO offers.
-    #[error("the first mechanism that is offered isn't Kerberos")]
+    /// Kerberos is none of the mechanisms that SPNEGO offers.
+    #[error("Kerberos is none of the mechanisms that are offered")]
     NoKerberos,
 
     /// The service doesn't admit the AP-REQ.
@@ -40,6 +41,14 @@ pub enum AcceptRefusal {
     /// Triple DES, whose contexts have the tokens of RFC 1964.
     #[error("the suite has no tokens of RFC 4121")]
     OldSuite,
+
+    /// The initiator's MIC of the list of mechanisms is due, and isn't there (RFC 4178, section 5).
+    #[error("the MIC of the list of mechanisms is due, and isn't there")]
+    NoMic,
+
+    /// The initiator's MIC of the list of mechanisms is wrong, or the acceptor's can't be made.
+    #[error("the MIC of the list of mechanisms: {0}")]
+    Mic(TokenRefusal),
 
     /// Memory ran out.
     #[error("out of memory")]

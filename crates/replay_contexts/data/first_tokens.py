@@ -1,5 +1,6 @@
 #!/usr/bin/env python3
-"""Writes first_tokens.txt: initiators' first tokens (RFC 4121, section 4.1; RFC 4178, section 4.2.1), and what becomes of each.
+"""Writes first_tokens.txt: initiators' first tokens (RFC 4121, section 4.1; RFC 4178, section 4.2.1), those of a negotiation behind them
+(sections 4.2.2 and 5), and what becomes of each.
 
 This is an independent writer, as tokens.py in this folder, whose encryption it uses. It shares no code with the program that
 replays the file. Keys and random octets are fixed, so each run writes the same file. Each outcome stands here by name.
@@ -121,13 +122,22 @@ class Login:
         return der(0x60, oid(KRB5), TOKEN_ID_AP_REP, application(15, (0, integer(5)), (1, integer(15)), (2, sealed)))
 
 
-def negotiated(token, *mechanisms, flags=None):
-    offer = sequence((0, der(0x30, *map(oid, mechanisms))), (1, flags), (2, token and octet_string(token)))
+def mech_types(*mechanisms):
+    return der(0x30, *map(oid, mechanisms))
+
+
+def negotiated(token, *mechanisms, flags=None, mic=None):
+    offer = sequence((0, mech_types(*mechanisms)), (1, flags), (2, token and octet_string(token)), (3, mic and octet_string(mic)))
     return der(0x60, oid(SPNEGO), der(0xA0, offer))
 
 
-def completed(mechanism, reply):
-    return der(0xA1, sequence((0, der(0x0A, b"\0")), (1, oid(mechanism)), (2, octet_string(reply) if reply else None)))
+ACCEPT_COMPLETED, ACCEPT_INCOMPLETE, REJECT, REQUEST_MIC = range(4)
+
+
+def response(state=None, mechanism=None, token=None, mic=None):
+    """A NegTokenResp, with what it has."""
+    state = None if state is None else der(0x0A, bytes([state]))
+    return der(0xA1, sequence((0, state), (1, mechanism and oid(mechanism)), (2, octet_string(token) if token else None), (3, mic and octet_string(mic))))
 
 
 # ---- Lines ------------------------------------------------------------------------------------------------------------------
@@ -136,7 +146,8 @@ HEAD = """\
 # First tokens of GSS-API contexts, and what an acceptor makes of each. Written by first_tokens.py in this folder, an independent
 # writer by RFC 4120, RFC 4121 and RFC 4178. Further lines are those of tokens.txt, of the context that was established last.
 #   acceptor EXPECTED SUITE SKEW | KEY       begins an acceptor: host/server.example.com@EXAMPLE.COM, key number 1
-#   accept EXPECTED MOMENT CLIENT FLAGS | TOKEN WORDS REPLY BINDINGS"""
+#   accept EXPECTED MOMENT CLIENT FLAGS | TOKEN WORDS REPLY BINDINGS   a first token
+#   resume EXPECTED MOMENT CLIENT FLAGS | TOKEN WORDS REPLY BINDINGS   the next token of the negotiation that the last ContinueNeeded began"""
 lines = []
 
 
@@ -156,26 +167,43 @@ def begin(suite):
     lines.append(f"acceptor ok {suite} 300 | {service_key(suite).hex()}")
 
 
-def accept(login, token=None, answer=lambda reply: reply, moment=NOW):
-    """The token is accepted, and then each side sends messages."""
-    words = octets(f"words {login.micros}", 16)
-    token = login.token() if token is None else token
-    flags = int.from_bytes(login.initial[20:24], "little")
-    lines.append(f"accept ok {moment} {'/'.join(CLIENT)}@{REALM} {flags} | {token.hex()} {words.hex()} {shown(answer(login.reply(words)))} {BINDINGS.hex()}")
+def words_of(login):
+    return octets(f"words {login.micros}", 16)
+
+
+def writers(login):
+    """The initiator and the acceptor as writers of tokens, and the numbers of their first ones."""
     suite, key = (login.key_suite, login.subkey) if login.subkey else (login.suite, login.session)
-    ours, theirs = Writer(suite, key, INITIATOR, False), Writer(suite, key, ACCEPTOR, False)
     first = (login.number or 0) % 2**32
+    return Writer(suite, key, INITIATOR, False), Writer(suite, key, ACCEPTOR, False), first, 0 if login.mutual else first
+
+
+def establish(call, login, token, reply, moment=NOW, mics=0):
+    """The token establishes a context, and then each side sends messages: behind so many MICs of the list of mechanisms."""
+    flags = int.from_bytes(login.initial[20:24], "little")
+    lines.append(f"{call} ok {moment} {'/'.join(CLIENT)}@{REALM} {flags} | {token.hex()} {words_of(login).hex()} {shown(reply)} {BINDINGS.hex()}")
+    ours, theirs, first, sending = writers(login)
+    first, sending = first + mics, sending + mics
     message, random = b"a message", octets(f"random {login.micros}", 16)
     lines.append(f"verify_mic OldNumber | {message.hex()} {ours.mic(first - 1, message).hex()}" if first else "# The least number is zero.")
     lines.append(f"verify_mic ok | {message.hex()} {ours.mic(first, message).hex()}")
     lines.append(f"unwrap Sealed | {ours.sealed(first + 1, message, random).hex()} {message.hex()}")
-    sending = 0 if login.mutual else first
     lines.append(f"get_mic ok | {message.hex()} {theirs.mic(sending, message).hex()}")
     lines.append(f"wrap_sealed ok | {random.hex()} {message.hex()} {theirs.sealed(sending + 1, message, random).hex()}")
 
 
-def refuse(outcome, token, moment=NOW):
-    lines.append(f"accept {outcome} {moment} - 0 | {shown(token)} {octets('words', 16).hex()} - -")
+def accept(login, token=None, answer=lambda reply: reply, moment=NOW):
+    """The first token establishes a context."""
+    establish("accept", login, login.token() if token is None else token, answer(login.reply(words_of(login))), moment)
+
+
+def go_on(call, token, reply, words=None):
+    """A further token of the initiator is due."""
+    lines.append(f"{call} ContinueNeeded {NOW} - 0 | {token.hex()} {(words or octets('words', 16)).hex()} {reply.hex()} -")
+
+
+def refuse(outcome, token, moment=NOW, call="accept"):
+    lines.append(f"{call} {outcome} {moment} - 0 | {shown(token)} {octets('words', 16).hex()} - -")
 
 
 def changed(token, at):
@@ -191,9 +219,147 @@ def accepted(suite):
     accept(Login(suite, subkey=False, number=None))
     section("SPNEGO: either identifier of Kerberos, with other mechanisms behind, and flags.")
     login = Login(suite)
-    accept(login, negotiated(login.token(), KRB5, NTLM), lambda reply: completed(KRB5, reply))
+    accept(login, negotiated(login.token(), KRB5, NTLM), lambda reply: response(ACCEPT_COMPLETED, KRB5, reply))
     login = Login(suite, mutual=False)
-    accept(login, negotiated(login.token(), MS_KRB5, KRB5, NTLM, flags=der(0x03, b"\x01\x50")), lambda reply: completed(MS_KRB5, reply))
+    accept(login, negotiated(login.token(), MS_KRB5, KRB5, NTLM, flags=der(0x03, b"\x01\x50")), lambda reply: response(ACCEPT_COMPLETED, MS_KRB5, reply))
+    section("SPNEGO: Kerberos first, and no token: it is asked for.")
+    for mutual, mechanism, state in (True, KRB5, None), (False, MS_KRB5, ACCEPT_INCOMPLETE):
+        login = Login(suite, mutual=mutual)
+        go_on("accept", negotiated(None, mechanism, NTLM), response(ACCEPT_INCOMPLETE, mechanism))
+        establish("resume", login, response(state, token=login.token()), response(ACCEPT_COMPLETED, token=login.reply(words_of(login))))
+    section("SPNEGO: another mechanism first, whose optimistic token is ignored. MICs are due: the initiator's with its last token.")
+    for mechanism in KRB5, MS_KRB5:
+        offer = (NTLM, mechanism, KRB5)
+        ask_for_mics(Login(suite, mutual=False), offer)
+    section("With an AP-REP the initiator's MIC is due behind the acceptor's, and nothing is answered.")
+    login = Login(suite)
+    ask_for_mics(login, (NTLM, KRB5), late=True)
+    section("It may also come with the initiator's token.")
+    ask_for_mics(Login(suite), (NTLM, KRB5))
+    ask_for_mics(Login(suite, subkey=False, number=None), (NTLM, KRB5))
+
+
+def begin_negotiation(login, offer, optimistic=b"NTLMSSP\0", mic=None):
+    """Kerberos isn't first: the acceptor asks for it, and for MICs. Gives both sides' MICs of the list."""
+    mechanism = next(mechanism for mechanism in offer if mechanism in (KRB5, MS_KRB5))
+    go_on("accept", negotiated(optimistic, *offer, mic=mic), response(REQUEST_MIC, mechanism))
+    ours, theirs, first, sending = writers(login)
+    return ours.mic(first, mech_types(*offer)), theirs.mic(sending, mech_types(*offer))
+
+
+def ask_for_mics(login, offer, late=False, **first):
+    """A negotiation with MICs of the list of mechanisms, of which the initiator's comes with its token or behind it."""
+    own, theirs = begin_negotiation(login, offer, **first)
+    reply = login.reply(words_of(login))
+    if late:
+        go_on("resume", response(token=login.token()), response(ACCEPT_INCOMPLETE, token=reply, mic=theirs), words_of(login))
+        establish("resume", login, response(ACCEPT_COMPLETED, mic=own), b"", mics=1)
+    else:
+        establish("resume", login, response(token=login.token(), mic=own), response(ACCEPT_COMPLETED, token=reply, mic=theirs), mics=1)
+
+
+def further_mics(suite):
+    section("MICs that aren't due, but come: with the first token, and with the one that is asked for. They are verified and answered.")
+    for mutual in True, False:
+        login = Login(suite, mutual=mutual)
+        ours, theirs, first, sending = writers(login)
+        own, answer = ours.mic(first, mech_types(KRB5, NTLM)), theirs.mic(sending, mech_types(KRB5, NTLM))
+        reply = login.reply(words_of(login))
+        establish("accept", login, negotiated(login.token(), KRB5, NTLM, mic=own), response(ACCEPT_COMPLETED, KRB5, reply, answer), mics=1)
+        login = Login(suite, mutual=mutual)
+        ours, theirs, first, sending = writers(login)
+        own, answer = ours.mic(first, mech_types(KRB5, NTLM)), theirs.mic(sending, mech_types(KRB5, NTLM))
+        reply = login.reply(words_of(login))
+        go_on("accept", negotiated(None, KRB5, NTLM), response(ACCEPT_INCOMPLETE, KRB5))
+        establish("resume", login, response(token=login.token(), mic=own), response(ACCEPT_COMPLETED, token=reply, mic=answer), mics=1)
+    section("Higher numbers, as they may be left out. What comes with another mechanism's token is ignored, be it a token of Kerberos.")
+    login = Login(suite, mutual=False)
+    begin_negotiation(login, (NTLM, KRB5))
+    ours, theirs, first, sending = writers(login)
+    own, answer = ours.mic(first + 7, mech_types(NTLM, KRB5)), theirs.mic(sending, mech_types(NTLM, KRB5))
+    flags = int.from_bytes(login.initial[20:24], "little")
+    lines.append(f"resume ok {NOW} {'/'.join(CLIENT)}@{REALM} {flags} | {response(token=login.token(), mic=own).hex()} {words_of(login).hex()} {response(ACCEPT_COMPLETED, mic=answer).hex()} {BINDINGS.hex()}")
+    lines.append(f"verify_mic OldNumber | {b'a message'.hex()} {ours.mic(first + 7, b'a message').hex()}")
+    lines.append(f"verify_mic ok | {b'a message'.hex()} {ours.mic(first + 8, b'a message').hex()}")
+    login = Login(suite)
+    ask_for_mics(login, (NTLM, KRB5), late=True, optimistic=login.token())
+    ask_for_mics(Login(suite), (NTLM, KRB5), late=True, optimistic=None)
+    ask_for_mics(Login(suite), (NTLM, KRB5), optimistic=None, mic=b"no MIC")
+
+
+def refused_mics(suite):
+    section("Wrong MICs: of another list, with another number, of the other side, of another key, and none. The AP-REQ was admitted, so it is a replay.")
+    offer = (NTLM, KRB5)
+    other = mech_types(KRB5, NTLM)
+    for mutual, late in (False, False), (True, False), (True, True):
+        for outcome, made in (
+            ("Mic(WrongChecksum)", lambda ours, theirs, first: ours.mic(first, other)),
+            ("Mic(WrongChecksum)", lambda ours, theirs, first: ours.mic(first, der(0xA0, mech_types(*offer)))),
+            ("Mic(WrongChecksum)", lambda ours, theirs, first: changed(ours.mic(first, mech_types(*offer)), -1)),
+            ("Mic(WrongChecksum)", lambda ours, theirs, first: ours.mic(first, mech_types(*offer), usage=23)),
+            ("Mic(WrongChecksum)", lambda ours, theirs, first: Writer(suite, octets("other key", KEY_SIZES[suite]), INITIATOR, False).mic(first, mech_types(*offer))),
+            ("Mic(OldNumber)", lambda ours, theirs, first: ours.mic(first - 1, mech_types(*offer))),
+            ("Mic(OwnDirection)", lambda ours, theirs, first: theirs.mic(first, mech_types(*offer))),
+            ("Mic(NoSuchToken)", lambda ours, theirs, first: ours.mic(first, mech_types(*offer))[:15]),
+            ("NoMic", None),
+        ):
+            login = Login(suite, mutual=mutual)
+            ours, theirs, first, _ = writers(login)
+            mic = made and made(ours, theirs, first)
+            if mic is None and mutual and not late:
+                continue
+            _, answer = begin_negotiation(login, offer)
+            if late:
+                go_on("resume", response(token=login.token()), response(ACCEPT_INCOMPLETE, token=login.reply(words_of(login)), mic=answer), words_of(login))
+                refuse(outcome, response(ACCEPT_COMPLETED, mic=mic), call="resume")
+            else:
+                refuse(outcome, response(token=login.token(), mic=mic), call="resume")
+            refuse("Admit(Krb(34))", login.token())
+    section("A wrong MIC that isn't due.")
+    login = Login(suite)
+    refuse("Mic(WrongChecksum)", negotiated(login.token(), KRB5, mic=writers(login)[0].mic(1000, other)))
+
+
+def refused_steps(suite):
+    section("Not the token that is due. The login is admitted by none of them.")
+    login = Login(suite)
+    token, request = login.token(), login.ap_req()
+    mic = writers(login)[0].mic(1000, mech_types(NTLM, KRB5))
+    whole = response(token=token, mic=mic)
+    for other in (
+        b"", token, request, negotiated(token, KRB5), whole + b"\0", whole[:-1], changed(whole, 0), der(0xA0, whole[4:]), whole[4:],
+        response(), response(ACCEPT_INCOMPLETE), response(mic=mic), response(mechanism=KRB5, token=token, mic=mic), response(token=request, mic=mic),
+        response(token=changed(token, 16), mic=mic), response(token=b"NTLMSSP\0", mic=mic), response(REJECT),
+    ):
+        begin_negotiation(login, (NTLM, KRB5))
+        refuse("NotAToken", other, call="resume")
+    ask_for_mics(login, (NTLM, KRB5), late=True)
+    section("The state that the initiator tells isn't judged.")
+    for state in ACCEPT_COMPLETED, REQUEST_MIC:
+        login = Login(suite, mutual=False)
+        own, theirs = begin_negotiation(login, (NTLM, KRB5))
+        establish("resume", login, response(state, token=login.token(), mic=own), response(ACCEPT_COMPLETED, mic=theirs), mics=1)
+    section("Where the initiator's MIC is due, a token of the mechanism isn't.")
+    login = Login(suite)
+    own, theirs = begin_negotiation(login, (NTLM, KRB5))
+    go_on("resume", response(token=login.token()), response(ACCEPT_INCOMPLETE, token=login.reply(words_of(login)), mic=theirs), words_of(login))
+    refuse("NotAToken", response(token=login.token(), mic=own), call="resume")
+    for other in response(mechanism=KRB5, mic=own), own, b"", negotiated(None, NTLM, KRB5, mic=own):
+        login = Login(suite)
+        own, theirs = begin_negotiation(login, (NTLM, KRB5))
+        go_on("resume", response(token=login.token()), response(ACCEPT_INCOMPLETE, token=login.reply(words_of(login)), mic=theirs), words_of(login))
+        refuse("NotAToken", other, call="resume")
+    section("What is refused of an AP-REQ bare is refused in a negotiation.")
+    login = Login(suite)
+    accept(login)
+    for outcome, token in (
+        ("Admit(Krb(34))", login.token()),
+        ("Admit(Krb(35))", Login(suite, service=("host", "other.example.com")).token()),
+        ("NoChecksum", Login(suite, kind=None).token()),
+        ("OldSuite", Login(suite, key_suite=16).token()),
+    ):
+        go_on("accept", negotiated(None, KRB5), response(ACCEPT_INCOMPLETE, KRB5))
+        refuse(outcome, response(token=token), call="resume")
 
 
 def main():
@@ -247,13 +413,18 @@ def main():
     refuse("Admit(Unreadable)", der(0x60, oid(KRB5), TOKEN_ID_AP_REQ, request, b"\0"))
     refuse("Admit(Krb(31))", changed(token, len(token) // 2))
     refuse("Admit(Krb(31))", changed(token, -1))
-    section("SPNEGO: another mechanism first, no mechanism, no token, another token, and octets behind.")
-    refuse("NoKerberos", negotiated(token, NTLM, KRB5))
+    section("SPNEGO: other mechanisms, no mechanism, another token, and octets behind.")
+    refuse("NoKerberos", negotiated(token, NTLM))
+    refuse("NoKerberos", negotiated(None, NTLM, SPNEGO))
     refuse("NoKerberos", negotiated(token))
-    refuse("NotAToken", negotiated(None, KRB5))
+    refuse("NoKerberos", der(0x60, oid(SPNEGO), der(0xA0, sequence((2, octet_string(token))))))
     refuse("NotAToken", negotiated(request, KRB5))
     refuse("NotAToken", negotiated(token, KRB5) + b"\0")
     accept(login)
+    begin(suite)
+    further_mics(suite)
+    refused_mics(suite)
+    refused_steps(suite)
     with open("first_tokens.txt", "w", encoding="ascii") as file:
         file.write(HEAD + "\n" + "\n".join(lines) + "\n")
     print(sum(not line.startswith("#") for line in lines), "lines")

@@ -1,10 +1,10 @@
 //! Lines of an acceptor: `acceptor EXPECTED SUITE SKEW | KEY`, and `accept EXPECTED MOMENT CLIENT FLAGS | TOKEN WORDS REPLY
-//! BINDINGS`.
+//! BINDINGS` of a first token. A line `resume` is the same of the next token of the negotiation that goes on.
 
 use crate::row::Row;
 use crate::{Ends, is_named};
 use anyhow::{Context, bail};
-use gss_acceptor::{Acceptor, Established};
+use gss_acceptor::{Accepted, Acceptor, Continuation, Established};
 use krb_crypto::CipherSuite;
 use krb_moments::Moment;
 use krb_service::Service;
@@ -33,10 +33,10 @@ fn service_of(alloc: Global, suite: CipherSuite, key: &[u8], skew: u64) -> anyho
     Ok(Service::new(alloc, b"EXAMPLE.COM", &name, suite, key, 1, skew)?)
 }
 
-/// Takes a first token. Its context takes the place of the last one.
+/// Takes a first token, or the next one of the negotiation that goes on. Its context takes the place of the last one.
 pub(crate) fn accepts(alloc: Global, ends: &mut Ends, row: &Row<'_>) -> anyhow::Result<bool> {
     let ([moment, ..], [token, words, ..]) = (row.words.as_slice(), row.columns.as_slice()) else {
-        bail!("a line `accept` of another shape");
+        bail!("a line `accept` or `resume` of another shape");
     };
     if words.len() < 16 {
         bail!("too few random octets");
@@ -45,13 +45,41 @@ pub(crate) fn accepts(alloc: Global, ends: &mut Ends, row: &Row<'_>) -> anyhow::
     let Some(acceptor) = &mut ends.acceptor else {
         return Ok(false);
     };
-    match acceptor.accept(alloc, token, moment, words) {
-        Ok(established) => {
+    let accepted = if row.call == "accept" {
+        acceptor.accept(alloc, token, moment, words)
+    } else {
+        let Some(negotiation) = ends.negotiation.take() else {
+            return Ok(false);
+        };
+        acceptor.resume(alloc, negotiation, token, moment, words)
+    };
+    match accepted {
+        Ok(accepted) => goes_on(alloc, ends, row, accepted),
+        Err(refusal) => Ok(is_named(alloc, &refusal, row.expected)),
+    }
+}
+
+/// Keeps the context, or the negotiation. Answers whether it is expected.
+fn goes_on(
+    alloc: Global,
+    ends: &mut Ends,
+    row: &Row<'_>,
+    accepted: Accepted,
+) -> anyhow::Result<bool> {
+    match accepted {
+        Accepted::Established(established) => {
             let is_expected = is_established(alloc, &established, row)?;
             drop(ends.context.replace(established.context));
             Ok(is_expected)
         }
-        Err(refusal) => Ok(is_named(alloc, &refusal, row.expected)),
+        Accepted::ContinueNeeded(continuation) => {
+            let Continuation { reply, negotiation } = continuation;
+            drop(ends.negotiation.replace(negotiation));
+            let [_, _, expected, _] = row.columns.as_slice() else {
+                bail!("a line `accept` or `resume` of another shape");
+            };
+            Ok(row.expected == "ContinueNeeded" && reply.as_slice() == expected.as_slice())
+        }
     }
 }
 
@@ -61,7 +89,7 @@ fn is_established(alloc: Global, made: &Established, row: &Row<'_>) -> anyhow::R
         row.words.as_slice(),
         row.columns.as_slice(),
     ) else {
-        bail!("a line `accept` of another shape");
+        bail!("a line `accept` or `resume` of another shape");
     };
     let asked = flags.parse::<u32>()?;
     let named = name_of(alloc, made)?;

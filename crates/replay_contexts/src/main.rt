@@ -7,7 +7,7 @@ mod begin;
 mod calls;
 mod row;
 
-use gss_acceptor::Acceptor;
+use gss_acceptor::{Acceptor, Negotiation};
 use gss_contexts::{Context, Protection};
 use row::{Row, row_of};
 use std::alloc::Global;
@@ -21,6 +21,7 @@ const FILES: [&str; 3] = ["tokens.txt", "stock.txt", "first_tokens.txt"];
 #[derive(Drop)]
 pub(crate) struct Ends {
     pub(crate) acceptor: Option<Acceptor>,
+    pub(crate) negotiation: Option<Negotiation>,
     pub(crate) context: Option<Context>,
 }
 
@@ -29,6 +30,7 @@ fn main(rt: HostRuntime) -> anyhow::Result<()> {
         let text = fs::read_to_string(&rt, file)?;
         let mut ends = Ends {
             acceptor: None,
+            negotiation: None,
             context: None,
         };
         let replayed = replay(&rt, file, &text, &mut ends);
@@ -56,13 +58,13 @@ fn replay(rt: &HostRuntime, file: &str, text: &str, ends: &mut Ends) -> anyhow::
     Ok(())
 }
 
-/// Whether a line's call gives what is expected. A line `new` or `accept` begins another context.
+/// Whether a line's call gives what is expected. A line `new`, `accept` or `resume` begins another context.
 fn agrees(alloc: Global, ends: &mut Ends, line: &str) -> anyhow::Result<bool> {
     let row = row_of(alloc, line)?;
     match row.call {
         "new" => begin::begins(alloc, &mut ends.context, &row),
         "acceptor" => accept::begins(alloc, &mut ends.acceptor, &row),
-        "accept" => accept::accepts(alloc, ends, &row),
+        "accept" | "resume" => accept::accepts(alloc, ends, &row),
         _ => match &mut ends.context {
             Some(context) => Ok(calls_as_expected(alloc, context, &row)),
             None => Ok(false),

@@ -3,7 +3,7 @@ use Rattle.gss_acceptor.proofs.acceptor.Acceptor.accept.Goals as goal
 
 pub returns-in-Some : goal.returns-in-Some
 returns-in-Some c =
-    by_token c.args.self.now.service c.establish.new.self.service c.args.moment c.args.token.now c.in-Some.request.now c.args.words.now c.establish.result c.in-Some.ensures c.establish.ensures
+    by_token c.args.self.now.service c.admit.new.self.service c.args.moment c.args.token.now c.in-Some.request.now c.args.words.now c.admit.result c.in-Some.ensures c.admit.ensures
 
 pub returns-in-None : goal.returns-in-None
 returns-in-None c =

@@ -1,0 +1,109 @@
+-- How a negotiation goes on and ends: with the exchange of MICs where it is due (RFC 4178, section 5).
+use Rattle.std.specs.Prelude.{◌≡◌, ◌⊎◌, ◌+◌, Bool, is_some, Option, None, Some, Result, Ok, Err, if◌then◌else◌, MatchBool, MatchOption}
+use Rattle.picky_asn1.specs.Bytes.{Bytes}
+use Rattle.gss_contexts.specs.Contexts.{ContextRecord, last_number, sender_of}
+use Rattle.gss_contexts.specs.Judging.{IsMicRefusal, TakesMic}
+use Rattle.gss_contexts.specs.Tokens.{WritesMic}
+use Rattle.gss_contexts.specs.declared.refusal.TokenRefusal.{TokenRefusal}
+use Rattle.gss_contexts.specs.declared.refusal.TokenRefusal.TheVariants as token_refusal
+use Rattle.gss_acceptor.specs.Answers.{neg_token_resp}
+use Rattle.gss_acceptor.specs.Established.{EstablishedRecord}
+use Rattle.gss_acceptor.specs.Responses.{due_mic}
+use Rattle.gss_acceptor.specs.declared.accepted.Accepted.{Accepted}
+use Rattle.gss_acceptor.specs.declared.accepted.Accepted.TheVariants.{ContinueNeeded, Established}
+use Rattle.gss_acceptor.specs.declared.accepted.Stage.{Stage}
+use Rattle.gss_acceptor.specs.declared.accepted.Stage.TheVariants as stage
+use Rattle.gss_acceptor.specs.declared.answer.NegState.{NegState}
+use Rattle.gss_acceptor.specs.declared.answer.NegState.TheVariants.{AcceptCompleted, AcceptIncomplete, RequestMic}
+use Rattle.gss_acceptor.specs.declared.exchange.Exchange.{Exchange}
+use Rattle.gss_acceptor.specs.declared.exchange.Terms.{Terms}
+use Rattle.gss_acceptor.specs.declared.exchange.Tokens.{Tokens}
+use Rattle.gss_acceptor.specs.declared.exchange.Unverified.{Unverified}
+use Rattle.gss_acceptor.specs.declared.mechanism.Mechanism.{Mechanism}
+use Rattle.gss_acceptor.specs.declared.refusal.AcceptRefusal.{AcceptRefusal}
+use Rattle.gss_acceptor.specs.declared.refusal.AcceptRefusal.TheVariants.{Memory, Mic, NoMic}
+
+-- this is accepted, or memory ran out
+abbrev pub IsGiven : Accepted → Result Accepted AcceptRefusal → Type 0
+IsGiven accepted result = (result ≡ Err Memory) ⊎ (result ≡ Ok accepted)
+
+abbrev pub waiting : Bytes → Stage → Accepted
+waiting reply at = ContinueNeeded (record { reply = reply; negotiation = record { stage = at } })
+
+-- Kerberos' first token is asked for: MICs are due, or not
+abbrev pub asking_state : Bool → NegState
+asking_state required = if required then RequestMic else AcceptIncomplete
+
+abbrev pub asking : Mechanism → Terms → Accepted
+asking mechanism terms = waiting (neg_token_resp (asking_state terms.required) (Some mechanism) None None) (stage.Token terms)
+
+-- the context is handed out: the answer completes the negotiation, with the mechanism's token and the acceptor's MIC if there are such
+abbrev pub completed : EstablishedRecord → Option Mechanism → Option Bytes → Accepted
+completed established supported mic =
+    Established (record established { reply = Some (neg_token_resp AcceptCompleted supported established.reply mic) })
+
+-- both sides' MICs of the list: the end takes the initiator's, and then makes its own
+pub record ExchangesMics (before after : ContextRecord) (list theirs own : Bytes) : Type 0 where
+  pub between : ContextRecord
+  pub takes : TakesMic before between list theirs
+  pub makes : WritesMic (sender_of between) between.sending list own
+  pub moved : after ≡ record between { sending = between.sending + 1 }
+
+-- no MIC is made
+abbrev pub IsUnmade : ContextRecord → TokenRefusal → Type 0
+IsUnmade end cause = (cause ≡ token_refusal.Memory) ⊎ ((cause ≡ token_refusal.NumbersUsedUp) × (end.sending ≡ last_number))
+
+-- why they aren't exchanged
+abbrev pub IsNoExchange : ContextRecord → Bytes → Bytes → TokenRefusal → Type 0
+IsNoExchange before list theirs cause =
+    IsMicRefusal before list theirs cause ⊎ ((between : ContextRecord) × TakesMic before between list theirs × IsUnmade between cause)
+
+-- the initiator's MIC came with its token: the acceptor's is sent with the answer. A wrong one ends the negotiation
+abbrev pub IsMicAnswered : EstablishedRecord → Option Mechanism → Bytes → Bytes → Result Accepted AcceptRefusal → Type 0
+IsMicAnswered established supported list theirs result =
+    ((after : ContextRecord) × (own : Bytes) × ExchangesMics established.context after list theirs own
+    × IsGiven (completed (record established { context = after }) supported (Some own)) result)
+    ⊎ ((cause : TokenRefusal) × IsNoExchange established.context list theirs cause × (result ≡ Err (Mic cause)))
+
+-- the acceptor's last token is sent with its MIC, and then the initiator's is due
+abbrev pub awaiting : EstablishedRecord → Option Mechanism → Bytes → Bytes → Accepted
+awaiting established supported list own =
+    waiting (neg_token_resp AcceptIncomplete supported established.reply (Some own))
+    (stage.Mic (record { established = record established { reply = None }; list = list }))
+
+abbrev pub Demands : EstablishedRecord → Option Mechanism → Bytes → Result Accepted AcceptRefusal → Type 0
+Demands established supported list result =
+    ((own : Bytes) × WritesMic (sender_of established.context) established.context.sending list own
+    × IsGiven (awaiting (record established { context = record established.context { sending = established.context.sending + 1 } }) supported list own) result)
+    ⊎ ((cause : TokenRefusal) × IsUnmade established.context cause × (result ≡ Err (Mic cause)))
+
+-- the initiator's MIC didn't come with its token. Where MICs are due, it may come later only if the acceptor sends the last token of
+-- the mechanism
+abbrev pub IsConcludedWithout : EstablishedRecord → Option Mechanism → Terms → Result Accepted AcceptRefusal → Type 0
+IsConcludedWithout established supported terms result =
+    MatchBool terms.required
+    (MatchBool (is_some established.reply) (Demands established supported terms.list result) (result ≡ Err NoMic))
+    (IsGiven (completed established supported None) result)
+
+abbrev pub IsConcluded : Exchange → EstablishedRecord → Result Accepted AcceptRefusal → Type 0
+IsConcluded exchange established result =
+    MatchOption exchange.mic (IsConcludedWithout established exchange.supported exchange.terms result)
+    (λ theirs. IsMicAnswered established exchange.supported exchange.terms.list theirs result)
+
+-- the initiator of a context is answered as its token came: bare, or in a message of SPNEGO
+abbrev pub IsAnswered : Option Exchange → EstablishedRecord → Result Accepted AcceptRefusal → Type 0
+IsAnswered None established result = result ≡ Ok (Established established)
+IsAnswered (Some exchange) established result = IsConcluded exchange established result
+
+-- the initiator's MIC, which is due: the context is handed out, and nothing is answered. A wrong one ends the negotiation
+abbrev pub IsVerified : Unverified → Bytes → Result Accepted AcceptRefusal → Type 0
+IsVerified unverified theirs result =
+    ((after : ContextRecord) × TakesMic unverified.established.context after unverified.list theirs
+    × (result ≡ Ok (Established (record unverified.established { context = after }))))
+    ⊎ ((cause : TokenRefusal) × IsMicRefusal unverified.established.context unverified.list theirs cause × (result ≡ Err (Mic cause)))
+
+-- the tokens of a message, where the initiator's MIC is due
+abbrev pub IsLast : Unverified → Tokens → Result Accepted AcceptRefusal → Type 0
+IsLast unverified tokens result =
+    ((theirs : Bytes) × (due_mic tokens ≡ Ok theirs) × IsVerified unverified theirs result)
+    ⊎ ((refusal : AcceptRefusal) × (due_mic tokens ≡ Err refusal) × (result ≡ Err refusal))

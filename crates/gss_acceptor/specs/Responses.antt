@@ -1,0 +1,47 @@
+-- What the initiator's tokens of SPNEGO behind the first hold (RFC 4178, section 4.2.2).
+use Rattle.std.specs.Prelude.{Option, None, Some, is_some, Result, Ok, Err, if◌then◌else◌}
+use Rattle.std.proofs.Common.{sym, ◌∙◌}
+use Rattle.std.specs.Option.{option_map}
+use Rattle.picky_asn1.specs.Bytes.{Bytes}
+use Rattle.asn1_der.specs.Tree.{Tree, Writes, wrapped}
+use Rattle.asn1_der.specs.Tagged.{tagged_tree}
+use Rattle.asn1_der.proofs.Spelling.{IsInjective, wrapped-injective}
+use Rattle.asn1_der.proofs.Tagged.{tagged-injective}
+use Rattle.decision_tables.specs.One.{IsSole}
+use Rattle.decision_tables.specs.Tables.{Table, ask, done}
+use Rattle.gss_context_tokens.specs.declared.neg_token_targ.NegTokenTarg.{NegTokenTarg}
+use Rattle.gss_context_tokens.specs.contracts.neg_token_targ.NegTokenTargTagged.TheImpl as targ_impl
+use Rattle.gss_acceptor.specs.declared.exchange.Tokens.{Tokens}
+use Rattle.gss_acceptor.specs.declared.refusal.AcceptRefusal.{AcceptRefusal}
+use Rattle.gss_acceptor.specs.declared.refusal.AcceptRefusal.TheVariants.{NoMic, NotAToken}
+
+abbrev pub neg_resp_tree : NegTokenTarg → Tree
+neg_resp_tree = tagged_tree 48 targ_impl.ghosts.row_tree targ_impl.ghosts.row_of
+
+neg_resp-injective : IsInjective neg_resp_tree
+neg_resp-injective = tagged-injective 48 targ_impl.ghosts.row_tree targ_impl.ghosts.row_laws targ_impl.ghosts.row_of targ_impl.ghosts.one_row
+
+-- the token is the one encoding of the message: negTokenResp [1]
+abbrev pub IsNegResp : Bytes → NegTokenTarg → Type 0
+IsNegResp token message = Writes (λ (m : NegTokenTarg). wrapped 161 (neg_resp_tree m)) message token
+
+pub sole_neg_resp : (token : Bytes) → IsSole (IsNegResp token)
+sole_neg_resp token v w p q = wrapped-injective 161 neg_resp_tree neg_resp-injective v w p.0 q.0 (sym p.1 ∙ q.1)
+
+-- the message's tokens. Only the acceptor's first message names a mechanism, and the state isn't judged
+abbrev pub tokens_in : NegTokenTarg → Result Tokens AcceptRefusal
+tokens_in message =
+    if is_some message.supported_mech.0 then Err NotAToken
+    else Ok (record { mechanism = option_map (λ token. token.0) message.response_token.0; mic = option_map (λ mic. mic.0) message.mech_list_mic.0 })
+
+-- the tokens of a message behind the first
+unfoldable pub responded : Bytes → Table (Result Tokens AcceptRefusal)
+responded token = ask (IsNegResp token) (sole_neg_resp token) (done (Err NotAToken)) (λ message. done (tokens_in message))
+
+abbrev pub mic_there : Option Bytes → Result Bytes AcceptRefusal
+mic_there None = Err NoMic
+mic_there (Some mic) = Ok mic
+
+-- the MIC of a message that has to have it, and no token of the mechanism
+abbrev pub due_mic : Tokens → Result Bytes AcceptRefusal
+due_mic tokens = if is_some tokens.mechanism then Err NotAToken else mic_there tokens.mic
