@@ -8,6 +8,7 @@ use Rattle.gss_acceptor.specs.Tokens.{ap_rep_token}
 use Rattle.gss_acceptor.specs.declared.answer.NegState.{NegState}
 use Rattle.gss_acceptor.specs.declared.answer.NegState.TheVariants.{AcceptCompleted, AcceptIncomplete, RequestMic}
 use Rattle.gss_acceptor.specs.declared.mechanism.Mechanism.{Mechanism}
+use Rattle.asn1_der.specs.Octets.{object_identifier_octet, octet_string_octet, sequence_octet}
 
 abbrev pub ap_rep_in : Option Bytes → Option Bytes
 ap_rep_in reply = option_map ap_rep_token reply
@@ -24,14 +25,14 @@ state_field state = 160 ∷ 3 ∷ 10 ∷ 1 ∷ state_number state ∷ []
 -- [1] supportedMech, if it is named
 abbrev pub supported_field : Option Mechanism → Bytes
 supported_field None = []
-supported_field (Some mechanism) = element 161 (element 6 (mechanism_octets mechanism))
+supported_field (Some mechanism) = element 161 (element object_identifier_octet (mechanism_octets mechanism))
 
 -- [2] responseToken or [3] mechListMIC, if there is one
 abbrev pub octets_field : ℕ → Option Bytes → Bytes
 octets_field tag None = []
-octets_field tag (Some octets) = element tag (element 4 octets)
+octets_field tag (Some octets) = element tag (element octet_string_octet octets)
 
 -- negTokenResp [1]
 abbrev pub neg_token_resp : NegState → Option Mechanism → Option Bytes → Option Bytes → Bytes
 neg_token_resp state supported token mic =
-    element 161 (element 48 (state_field state ++ (supported_field supported ++ (octets_field 162 token ++ octets_field 163 mic))))
+    element 161 (element sequence_octet (state_field state ++ (supported_field supported ++ (octets_field 162 token ++ octets_field 163 mic))))

@@ -21,6 +21,7 @@ use Rattle.gss_acceptor.specs.declared.mechanism.Mechanism.{Mechanism}
 use Rattle.gss_acceptor.specs.declared.negotiation.Offer.{Offer}
 use Rattle.gss_acceptor.specs.declared.refusal.AcceptRefusal.{AcceptRefusal}
 use Rattle.gss_acceptor.specs.declared.refusal.AcceptRefusal.TheVariants.{NoKerberos, NotAToken, Memory}
+use Rattle.asn1_der.specs.Octets.{sequence_octet}
 
 -- under [APPLICATION 0] (RFC 2743, section 3.1)
 abbrev pub neg_init_tree : GssApiNegInit → Tree
@@ -42,7 +43,7 @@ abbrev pub mech_type_tree : ObjectIdentifierAsn1 → Tree
 mech_type_tree identifier = leaf (is_object_identifier identifier.0) 6 (oid_content identifier.0)
 
 abbrev pub mech_types_octets : List ObjectIdentifierAsn1 → Bytes
-mech_types_octets list = der (constructed 48 (trees_of mech_type_tree list))
+mech_types_octets list = der (constructed sequence_octet (trees_of mech_type_tree list))
 
 -- the tokens are the first mechanism's: of another one they don't count
 abbrev pub optimistic : Bool → Tokens → Tokens

@@ -14,9 +14,10 @@ use Rattle.gss_context_tokens.specs.contracts.neg_token_targ.NegTokenTargTagged.
 use Rattle.gss_acceptor.specs.declared.exchange.Tokens.{Tokens}
 use Rattle.gss_acceptor.specs.declared.refusal.AcceptRefusal.{AcceptRefusal}
 use Rattle.gss_acceptor.specs.declared.refusal.AcceptRefusal.TheVariants.{NoMic, NotAToken}
+use Rattle.asn1_der.specs.Octets.{sequence_octet}
 
 abbrev pub neg_resp_tree : NegTokenTarg → Tree
-neg_resp_tree = tagged_tree 48 targ_impl.ghosts.row_tree targ_impl.ghosts.row_of
+neg_resp_tree = tagged_tree sequence_octet targ_impl.ghosts.row_tree targ_impl.ghosts.row_of
 
 neg_resp-injective : IsInjective neg_resp_tree
 neg_resp-injective = tagged-injective 48 targ_impl.ghosts.row_tree targ_impl.ghosts.row_laws targ_impl.ghosts.row_of targ_impl.ghosts.one_row
