@@ -1,3 +1,4 @@
 pub mod Files
+pub mod Items
 pub mod Lists
 pub mod Tables

@@ -13,6 +13,11 @@ pub enum Place {
 
 /// What messages about the table begin with.
 impl fmt::Display for Place {
+    ghost use Rattle.std.specs.Prelude.{Some};
+    ghost use Rattle.krb_settings.specs.Messages.{place_text};
+
+    ghost output = { λ place. Some (place_text place) };
+
     fn fmt<W: fmt::Write>(&self, f: &mut fmt::Formatter<W>) -> fmt::Result {
         match *self {
             Place::File => Ok(()),

@@ -1,4 +1,6 @@
 //! What is said of a settings file, and of which line.
+ghost use Rattle.std.specs.Prelude.{◌≡◌, ◌++◌, IfOk, IfSome, codes, string_bytes};
+ghost use Rattle.krb_settings.specs.Messages.{place_text};
 
 use crate::Place;
 use std::alloc::{AllocError, Global};
@@ -22,7 +24,11 @@ impl Remark {
         place: Place,
         line: Option<usize>,
         words: D,
-    ) -> Result<Remark, AllocError> {
+    ) -> Result<Remark, AllocError>
+        ensures line { IfOk result (λ remark. remark.line ≡ line) }
+        ensures text { IfOk result (λ remark.
+            IfSome (D.output words) (λ shown. string_bytes remark.text ≡ place_text place ++ shown)) }
+    {
         let text = format!(in alloc; "{place}{words}")?;
         Ok(Remark { line, text })
     }
@@ -33,7 +39,11 @@ impl Remark {
         place: Place,
         line: Option<usize>,
         words: &str,
-    ) -> Result<Remark, AllocError> {
+    ) -> Result<Remark, AllocError>
+        ensures line { IfOk result (λ remark. remark.line ≡ line) }
+        ensures text { IfOk result (λ remark.
+            string_bytes remark.text ≡ codes "warning: " ++ place_text place ++ words.now) }
+    {
         let text = format!(in alloc; "warning: {place}{words}")?;
         Ok(Remark { line, text })
     }
@@ -42,12 +52,21 @@ impl Remark {
     pub(crate) fn on_file<D: fmt::Display + Drop>(
         alloc: Global,
         words: D,
-    ) -> Result<Remark, AllocError> {
+    ) -> Result<Remark, AllocError>
+        ensures line { IfOk result (λ remark. remark.line ≡ None) }
+        ensures text { IfOk result (λ remark.
+            IfSome (D.output words) (λ shown. string_bytes remark.text ≡ shown)) }
+    {
         Remark::on_table(alloc, Place::File, None, words)
     }
 }
 
 impl fmt::Display for Remark {
+    ghost use Rattle.std.specs.Prelude.{Some};
+    ghost use Rattle.krb_settings.specs.Messages.{remark_text};
+
+    ghost output = { λ remark. Some (remark_text remark) };
+
     fn fmt<W: fmt::Write>(&self, f: &mut fmt::Formatter<W>) -> fmt::Result {
         let text = self.text.as_str();
         match self.line {

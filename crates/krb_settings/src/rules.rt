@@ -133,6 +133,11 @@ enum Slip {
 }
 
 impl fmt::Display for Slip {
+    ghost use Rattle.std.specs.Prelude.{Some};
+    ghost use Rattle.krb_settings.specs.Messages.{slip_text};
+
+    ghost output = { λ slip. Some (slip_text slip) };
+
     fn fmt<W: fmt::Write>(&self, f: &mut fmt::Formatter<W>) -> fmt::Result {
         match *self {
             Slip::Empty => f.write_str("is empty"),
@@ -245,13 +250,51 @@ fn are_same(components: &[Value], others: &[Value]) -> bool {
 struct Components<'a>(&'a [Value]);
 
 impl<'a> fmt::Display for Components<'a> {
+    ghost use Rattle.krb_settings.specs.Messages.{components_text};
+
+    ghost output = { λ components. components_text components.0.now };
+
     fn fmt<W: fmt::Write>(&self, f: &mut fmt::Formatter<W>) -> fmt::Result {
-        let mut separator = "[";
+        let [first, further @ ..] = self.0 else {
+            return f.write_str("]");
+        };
+        let first = Component(first);
+        let further = FurtherComponents(further);
+        write!(f, "[{first}{further}]")
+    }
+}
+
+// The components after the first one.
+#[derive(Clone, Copy)]
+struct FurtherComponents<'a>(&'a [Value]);
+
+impl<'a> fmt::Display for FurtherComponents<'a> {
+    ghost use Rattle.std.specs.Prelude.{codes};
+    ghost use Rattle.std.specs.Fmt.{debug_items};
+    ghost use Rattle.krb_settings.specs.Messages.{component_text};
+
+    ghost output = { λ further. debug_items component_text (codes ", ") further.0.now };
+
+    fn fmt<W: fmt::Write>(&self, f: &mut fmt::Formatter<W>) -> fmt::Result {
         for component in self.0 {
-            let component = component.as_str().unwrap_or("");
-            write!(f, "{separator}{component:?}")?;
-            separator = ", ";
+            let component = Component(component);
+            write!(f, ", {component}")?;
         }
-        f.write_str("]")
+        Ok(())
+    }
+}
+
+// A component, in quotes and with escapes.
+#[derive(Clone, Copy)]
+struct Component<'a>(&'a Value);
+
+impl<'a> fmt::Display for Component<'a> {
+    ghost use Rattle.krb_settings.specs.Messages.{component_text};
+
+    ghost output = { λ component. component_text component.0.now };
+
+    fn fmt<W: fmt::Write>(&self, f: &mut fmt::Formatter<W>) -> fmt::Result {
+        let text = self.0.as_str().unwrap_or("");
+        write!(f, "{text:?}")
     }
 }

@@ -15,6 +15,10 @@ const SHOWN_LIMIT: usize = 30;
 pub(crate) struct Word<'a>(pub(crate) &'a str);
 
 impl<'a> fmt::Display for Word<'a> {
+    ghost use Rattle.krb_settings.specs.Messages.{word_text};
+
+    ghost output = { λ word. word_text word.0.now };
+
     fn fmt<W: fmt::Write>(&self, f: &mut fmt::Formatter<W>) -> fmt::Result {
         let word = self.0;
         let length = word.len();
@@ -31,12 +35,33 @@ impl<'a> fmt::Display for Word<'a> {
 pub(crate) struct Names<'a>(pub(crate) &'a [Field]);
 
 impl<'a> fmt::Display for Names<'a> {
+    ghost use Rattle.std.specs.Prelude.{Some};
+    ghost use Rattle.krb_settings.specs.Messages.{names_text};
+
+    ghost output = { λ names. Some (names_text names.0.now) };
+
     fn fmt<W: fmt::Write>(&self, f: &mut fmt::Formatter<W>) -> fmt::Result {
-        let mut separator = "";
+        let [first, further @ ..] = self.0 else {
+            return Ok(());
+        };
+        let further = FurtherNames(further);
+        write!(f, "{first}{further}")
+    }
+}
+
+// The names after the first one.
+#[derive(Clone, Copy)]
+struct FurtherNames<'a>(&'a [Field]);
+
+impl<'a> fmt::Display for FurtherNames<'a> {
+    ghost use Rattle.std.specs.Prelude.{Some};
+    ghost use Rattle.krb_settings.specs.Messages.{further_names_text};
+
+    ghost output = { λ further. Some (further_names_text further.0.now) };
+
+    fn fmt<W: fmt::Write>(&self, f: &mut fmt::Formatter<W>) -> fmt::Result {
         for field in self.0 {
-            f.write_str(separator)?;
-            f.write_str(field.name())?;
-            separator = ", ";
+            write!(f, ", {field}")?;
         }
         Ok(())
     }
