@@ -1,10 +1,12 @@
 -- Tokens of the Kerberos mechanism that establish a context: the mechanism's identifier, a token id of two octets, and the message
 -- (RFC 4121, section 4.1), as the GSS-API frames first tokens (RFC 2743, section 3.1).
-use Rattle.std.proofs.Common.{◌≡◌, [], ◌∷◌, ◌++◌, drop, ap, sym, ◌∙◌}
+use Rattle.std.proofs.Common.{◌≡◌, [], ◌∷◌, ◌++◌, drop, ap, refl, sym, ◌∙◌}
 use Rattle.picky_asn1.specs.Bytes.{Bytes}
 use Rattle.asn1_der.specs.Length.{element}
 use Rattle.asn1_der.proofs.Elements.{element-one}
 use Rattle.decision_tables.specs.One.{IsSole}
+use Rattle.gss_acceptor.specs.Mechanisms.{mechanism_octets}
+use Rattle.gss_acceptor.specs.declared.mechanism.Mechanism.TheVariants.{Standard}
 
 -- the mechanism's identifier (`06 09 ..`), and the token ids of an AP-REQ and of an AP-REP
 abbrev pub ap_req_front : Bytes
@@ -12,6 +14,13 @@ ap_req_front = 6 ∷ 9 ∷ 42 ∷ 134 ∷ 72 ∷ 134 ∷ 247 ∷ 18 ∷ 1 ∷ 2 
 
 abbrev pub ap_rep_front : Bytes
 ap_rep_front = 6 ∷ 9 ∷ 42 ∷ 134 ∷ 72 ∷ 134 ∷ 247 ∷ 18 ∷ 1 ∷ 2 ∷ 2 ∷ 2 ∷ 0 ∷ []
+
+-- the identifier is Kerberos's
+ap_req_mechanism : ap_req_front ≡ 6 ∷ 9 ∷ (mechanism_octets Standard ++ 1 ∷ 0 ∷ [])
+ap_req_mechanism = refl
+
+ap_rep_mechanism : ap_rep_front ≡ 6 ∷ 9 ∷ (mechanism_octets Standard ++ 2 ∷ 0 ∷ [])
+ap_rep_mechanism = refl
 
 -- the token holds this AP-REQ, and nothing follows it
 abbrev pub IsApReqToken : Bytes → Bytes → Type 0

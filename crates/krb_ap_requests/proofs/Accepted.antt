@@ -20,7 +20,7 @@ use Rattle.picky_asn1.specs.Numbers.{is_number}
 use Rattle.decision_tables.specs.Tables.{Table, and_then, done, need, refuse}
 use Rattle.krb_encrypted_data.specs.Sealed.{IsSealedIn}
 use Rattle.krb_moments.specs.Times.{moment_at}
-use Rattle.krb_ap_requests.specs.Acceptable.{IsAcceptable, shown_by}
+use Rattle.krb_ap_requests.specs.Acceptable.{IsAcceptable, presented_of}
 use Rattle.krb_ap_requests.specs.ApTable.{for_service, ap_fields, is_early, is_late, is_of_client, kvno_fits, opened, presented, authenticator_time, valid_authenticator, valid_part}
 use Rattle.krb_ap_requests.specs.Entry.{EntryRecord}
 use Rattle.krb_messages.specs.Messages.{authenticator_tree, enc_ticket_part_tree}
@@ -104,27 +104,27 @@ part_held entry skew moment choice part_cipher x sealed =
 
 authenticator_held : (entry : EntryRecord) (skew moment : ℕ) (choice : Choice) (part_cipher cipher : List ℕ) (x : IsAcceptable entry skew moment choice)
     → SealsTo {T = AuthenticatorInner} authenticator_tree choice.outer.etype choice.part.key.0.key_value.0 11 choice.confounder choice.authenticator cipher
-    → (valid_authenticator (request_of choice.outer part_cipher cipher) choice.part).gives (Ok (shown_by choice x.suite x.time))
+    → (valid_authenticator (request_of choice.outer part_cipher cipher) choice.part).gives (Ok (presented_of choice x.suite x.time))
 authenticator_held entry skew moment choice part_cipher cipher x sealed =
     let own = own_suite authenticator_tree x.suite choice.part.key.0.key_value.0 11 choice.confounder choice.authenticator choice.outer.etype choice.outer.kvno cipher
     (suite_sized choice.part.key.0 x.suite x.session) x.etype sealed in
     let found = opened_by choice.part.key.0 11 x.suite (encrypted choice.outer.etype choice.outer.kvno cipher) choice.authenticator x.session own in
     let timed = told_rows (is_number 5 choice.authenticator.authenticator_vno.0) (is_of_client choice.part choice.authenticator)
-    (moment_at (seconds_of choice.authenticator.ctime.0.0) choice.authenticator.cusec.0) x.time x.authenticator_version x.client x.told in
+    (moment_at (seconds_of choice.authenticator.ctime.0.0) choice.authenticator.cusec.0) x.time x.authenticator_version x.client x.ctime in
     let a : Authenticated = record { suite = x.suite; authenticator = choice.authenticator; time = x.time } in
     inl (a, inl ((x.suite, choice.authenticator), found, inl (x.time, timed, refl)), refl)
 
 pub presented_as_chosen : (entry : EntryRecord) (skew moment : ℕ) (choice : Choice) (part_cipher cipher : List ℕ) (x : IsAcceptable entry skew moment choice)
     → SealsTo {T = EncTicketPartInner} enc_ticket_part_tree choice.outer.part_etype entry.key 2 choice.part_confounder choice.part part_cipher
     → SealsTo {T = AuthenticatorInner} authenticator_tree choice.outer.etype choice.part.key.0.key_value.0 11 choice.confounder choice.authenticator cipher
-    → (presented entry skew moment (request_of choice.outer part_cipher cipher)).gives (Ok (shown_by choice x.suite x.time))
+    → (presented entry skew moment (request_of choice.outer part_cipher cipher)).gives (Ok (presented_of choice x.suite x.time))
 unfolding presented
 presented_as_chosen entry skew moment choice part_cipher cipher x part authenticator =
     let recipient = is_for_service entry skew moment choice part_cipher cipher x in
     inl (tt, recipient, inl (choice.part, part_held entry skew moment choice part_cipher x part, authenticator_held entry skew moment choice part_cipher cipher x authenticator))
 
 pub received_as_chosen : (entry : EntryRecord) (skew moment : ℕ) (choice : Choice) (message : List ℕ) (x : IsAcceptable entry skew moment choice) → Presents entry.key choice message
-    → Receives entry skew moment message (Ok (shown_by choice x.suite x.time))
+    → Receives entry skew moment message (Ok (presented_of choice x.suite x.time))
 unfolding Receives
 received_as_chosen entry skew moment choice message x p =
     (request_of choice.outer p.part_cipher p.cipher, p.writes, presented_as_chosen entry skew moment choice p.part_cipher p.cipher x p.part p.authenticator)

@@ -18,7 +18,7 @@ use Rattle.krb_types.specs.Names.{components, is_same_name, is_same_realm}
 use Rattle.picky_asn1.specs.Numbers.{is_number}
 use Rattle.decision_tables.specs.Tables.{Table, and_then, done, need, refuse}
 use Rattle.krb_moments.specs.Times.{moment_at}
-use Rattle.krb_ap_requests.specs.Acceptable.{IsAcceptable, shown_by}
+use Rattle.krb_ap_requests.specs.Acceptable.{IsAcceptable, presented_of}
 use Rattle.krb_ap_requests.specs.ApTable.{for_service, ap_fields, authenticated, is_early, is_late, is_of_client, kvno_fits, opened, opened_part, presented, presented_with, timely, authenticator_time, valid_authenticator, valid_part}
 use Rattle.krb_ap_requests.specs.Entry.{EntryRecord}
 use Rattle.krb_messages.specs.Messages.{IsApReq, authenticator_tree, enc_ticket_part_tree}
@@ -155,7 +155,7 @@ pub record IsReceivedOf (entry : EntryRecord) (skew moment : ℕ) (message : Lis
   pub choice : Choice
   pub presents : Presents entry.key choice message
   pub acceptable : IsAcceptable entry skew moment choice
-  pub shown : p ≡ shown_by choice acceptable.suite acceptable.time
+  pub shown : p ≡ presented_of choice acceptable.suite acceptable.time
 
 chosen_of : (entry : EntryRecord) (skew moment : ℕ) (message : List ℕ) (request : ApReqInner) (part : EncTicketPartInner) (a : Authenticated) (p : Presented) → IsApReq message request
     → (for_service entry.realm entry.components entry.suite entry.kvno request).gives (Ok tt)
@@ -196,7 +196,7 @@ chosen_of entry skew moment message request part a p read recipient valid x made
         authenticator_version = x.version;
         client = x.client;
         time = a.time;
-        told = x.moment;
+        ctime = x.moment;
       };
       shown = made;
     }
@@ -215,7 +215,7 @@ chosen_as_received entry skew moment message request p read x =
 
 -- by the bytes alone
 pub received_is_chosen : (entry : EntryRecord) (skew moment : ℕ) (message : List ℕ) (p : Presented) → Receives entry skew moment message (Ok p)
-    → (choice : Choice) × Presents entry.key choice message × (x : IsAcceptable entry skew moment choice) × (p ≡ shown_by choice x.suite x.time)
+    → (choice : Choice) × Presents entry.key choice message × (x : IsAcceptable entry skew moment choice) × (p ≡ presented_of choice x.suite x.time)
 unfolding Receives
 received_is_chosen entry skew moment message p x =
     let by = chosen_as_received entry skew moment message x.0 p x.1 x.2 in (by.choice, by.presents, by.acceptable, by.shown)

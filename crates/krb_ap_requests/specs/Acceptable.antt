@@ -17,7 +17,7 @@ use Rattle.krb_ap_requests.specs.Presents.{Choice}
 use Rattle.krb_ap_requests.specs.declared.presented.Presented.{Presented}
 
 -- the choice is for the service of this entry, its ticket counts at the moment, and its authenticator is of the
--- ticket's client; `suite` is that of the session key, and `time` the moment that the authenticator tells
+-- ticket's client; `suite` is that of the session key, and `time` the moment of the authenticator
 pub record IsAcceptable (entry : EntryRecord) (skew moment : Micros) (choice : Choice) : Type 0 where
   pub keyed : length entry.key ≡ cipher_key_size entry.suite
   pub method : bit_of choice.outer.options USE_SESSION_KEY ≡ false
@@ -36,11 +36,11 @@ pub record IsAcceptable (entry : EntryRecord) (skew moment : Micros) (choice : C
   pub authenticator_version : is_number 5 choice.authenticator.authenticator_vno.0 ≡ true
   pub client : is_of_client choice.part choice.authenticator ≡ true
   pub time : Micros
-  pub told : moment_at (seconds_of choice.authenticator.ctime.0.0) choice.authenticator.cusec.0 ≡ Some time
+  pub ctime : moment_at (seconds_of choice.authenticator.ctime.0.0) choice.authenticator.cusec.0 ≡ Some time
 
 -- what the choice presents; it requires a reply if mutual-required is set
-abbrev pub shown_by : Choice → CipherSuite → Micros → Presented
-shown_by choice suite time = record {
+abbrev pub presented_of : Choice → CipherSuite → Micros → Presented
+presented_of choice suite time = record {
   part = choice.part;
   suite = suite;
   authenticator = choice.authenticator;
@@ -49,5 +49,5 @@ shown_by choice suite time = record {
 }
 
 -- what a choice presents that is acceptable
-abbrev pub shown : (entry : EntryRecord) (skew moment : Micros) (choice : Choice) → IsAcceptable entry skew moment choice → Presented
-shown entry skew moment choice acceptable = shown_by choice acceptable.suite acceptable.time
+abbrev pub presented_choice : (entry : EntryRecord) (skew moment : Micros) (choice : Choice) → IsAcceptable entry skew moment choice → Presented
+presented_choice entry skew moment choice acceptable = presented_of choice acceptable.suite acceptable.time

@@ -1,5 +1,5 @@
 -- How an AP request is judged, in parts of one table: the first case that holds counts (RFC 4120, section 3.2.3).
-use Rattle.std.specs.Prelude.{ℕ, ◌+◌, ◌*◌, nat_lt, Bool, true, not, ◌&&◌, ◌||◌, List, Result, Ok, Err}
+use Rattle.std.specs.Prelude.{ℕ, ◌*◌, Bool, true, not, ◌&&◌, ◌||◌, List, Result, Ok, Err}
 use Rattle.std.specs.Option.{option_map_or}
 use Rattle.picky_asn1.specs.BitString.{bit_of}
 use Rattle.picky_asn1.specs.GeneralizedTime.{seconds_of}
@@ -20,6 +20,7 @@ use Rattle.krb_constants.specs.declared.ticket_flags.TheConstants.{INVALID}
 use Rattle.picky_asn1.specs.Numbers.{is_number}
 use Rattle.picky_asn1.specs.Bytes.{Bytes}
 use Rattle.decision_tables.specs.Tables.{Table, done, ask, and_then, need, refuse}
+use Rattle.krb_moments.specs.Skew.{is_before}
 use Rattle.krb_moments.specs.Times.{moment_at}
 use Rattle.krb_moments.specs.Units.{Micros, Seconds}
 use Rattle.krb_ap_requests.specs.Entry.{EntryRecord}
@@ -27,9 +28,17 @@ use Rattle.krb_ap_requests.specs.Messages.{IsAuthenticator, IsTicketPart, sole_a
 use Rattle.krb_ap_requests.specs.declared.presented.Authenticated.{Authenticated}
 use Rattle.krb_ap_requests.specs.declared.presented.Presented.{Presented}
 
+-- the ticket of the request
+abbrev pub ticket_in : ApReqInner → TicketInner
+ticket_in request = request.ticket.0.0
+
+-- its part as ciphertext
+abbrev pub enc_part_in : ApReqInner → EncryptedData
+enc_part_in request = (ticket_in request).enc_part.0
+
 -- the request and its ticket are of version 5
 abbrev pub is_version_5 : ApReqInner → Bool
-is_version_5 request = is_number 5 request.pvno.0 && is_number 5 request.ticket.0.0.tkt_vno.0
+is_version_5 request = is_number 5 request.pvno.0 && is_number 5 (ticket_in request).tkt_vno.0
 
 -- the ticket is for the service of this realm and this name
 abbrev pub is_for : Bytes → List Bytes → TicketInner → Bool
@@ -45,8 +54,8 @@ abbrev pub ap_fields : Bytes → List Bytes → ℕ → ApReqInner → Table (Re
 ap_fields realm name kvno request =
     refuse (not (is_version_5 request)) KRB_AP_ERR_BADVERSION
     (refuse (not (is_number 14 request.msg_type.0)) KRB_AP_ERR_MSG_TYPE
-    (refuse (not (is_for realm name request.ticket.0.0)) KRB_AP_ERR_NOT_US
-    (refuse (not (kvno_fits kvno request.ticket.0.0.enc_part.0)) KRB_AP_ERR_BADKEYVER
+    (refuse (not (is_for realm name (ticket_in request))) KRB_AP_ERR_NOT_US
+    (refuse (not (kvno_fits kvno (enc_part_in request))) KRB_AP_ERR_BADKEYVER
     (done (Ok tt)))))
 
 -- the request isn't under a session key, it is for this service, and sealed as this service can open it
@@ -54,7 +63,7 @@ abbrev pub for_service : Bytes → List Bytes → CipherSuite → ℕ → ApReqI
 for_service realm name suite kvno request =
     refuse (bit_of request.ap_options.0 USE_SESSION_KEY) KRB_AP_ERR_METHOD
     (and_then (ap_fields realm name kvno request) (λ _.
-    refuse (not (is_number (cipher_number suite) request.ticket.0.0.enc_part.0.etype.0)) KRB_AP_ERR_NOKEY
+    refuse (not (is_number (cipher_number suite) (enc_part_in request).etype.0)) KRB_AP_ERR_NOKEY
     (done (Ok tt))))
 
 -- the second in which a ticket starts: where it doesn't tell one, that of the client's first ticket
@@ -63,11 +72,11 @@ ticket_start part = option_map_or (λ tagged. seconds_of tagged.0.0) part.startt
 
 -- the ticket starts later than the moment and the skew, or isn't valid yet (flag 7; RFC 4120, section 2.2)
 abbrev pub is_early : Micros → Micros → EncTicketPartInner → Bool
-is_early skew moment part = nat_lt (moment + skew) (ticket_start part * 1000000) || bit_of part.flags.0 INVALID
+is_early skew moment part = is_before skew moment (ticket_start part * 1000000) || bit_of part.flags.0 INVALID
 
 -- the moment is past the ticket's end and the skew
 abbrev pub is_late : Micros → Micros → EncTicketPartInner → Bool
-is_late skew moment part = nat_lt (seconds_of part.endtime.0.0 * 1000000 + skew) moment
+is_late skew moment part = is_before skew (seconds_of part.endtime.0.0 * 1000000) moment
 
 -- the ticket counts at this moment
 abbrev pub timely : Micros → Micros → EncTicketPartInner → Table (Result (Unit {0}) Code)
@@ -137,5 +146,5 @@ valid_authenticator request part =
 unfoldable pub presented : EntryRecord → Micros → Micros → ApReqInner → Table (Result Presented Code)
 presented entry skew moment request =
     and_then (for_service entry.realm entry.components entry.suite entry.kvno request) (λ _.
-    and_then (valid_part entry.suite entry.key skew moment request.ticket.0.0.enc_part.0) (λ part.
+    and_then (valid_part entry.suite entry.key skew moment (enc_part_in request)) (λ part.
     valid_authenticator request part))

@@ -3,7 +3,7 @@ ghost use Rattle.std.specs.Prelude.{◌≡◌, ◌≤◌};
 ghost use Rattle.krb_crypto.specs.Suites.{cipher_number};
 ghost use Rattle.krb_types.specs.Names.{components};
 ghost use Rattle.krb_types.specs.Refusals.{IsJudged};
-ghost use Rattle.krb_ap_requests.specs.ApTable.{for_service, ap_fields, authenticated, is_early, is_for, is_late, is_of_client, is_version_5, kvno_fits, opened, opened_part, presented_with, ticket_start, timely, authenticator_time, valid_authenticator, valid_part};
+ghost use Rattle.krb_ap_requests.specs.ApTable.{for_service, ap_fields, authenticated, enc_part_in, is_early, is_for, is_late, is_of_client, is_version_5, kvno_fits, opened, opened_part, presented_with, ticket_in, ticket_start, timely, authenticator_time, valid_authenticator, valid_part};
 ghost use Rattle.picky_asn1.specs.GeneralizedTime.{seconds_of};
 ghost use Rattle.std.specs.Int.{cast_unsigned, w32};
 
@@ -14,7 +14,7 @@ use krb_constants::{ap_options, error_codes, key_usages, ticket_flags};
 use krb_crypto::{CipherSuite, Key};
 use krb_encrypted_data::key_of;
 use krb_messages::messages::ApReqInner;
-use krb_moments::{MICROSECONDS_IN_SECOND, Moment, moment_at};
+use krb_moments::{Moment, moment_at};
 use krb_types::data_types::{
     AuthenticatorInner, EncTicketPartInner, EncryptedData, EncryptionKey, TicketInner,
 };
@@ -24,6 +24,20 @@ use picky_asn1::is_number;
 use picky_asn1::wrapper::GeneralStringAsn1;
 use results::if_passed;
 use std::alloc::Global;
+
+// The ticket of a request (RFC 4120, section 5.5.1).
+fn ticket_in(request: &ApReqInner) -> &TicketInner
+    ensures { result.now ≡ ticket_in request.now }
+{
+    &request.ticket.0.0
+}
+
+/// The ticket's part as ciphertext (RFC 4120, section 5.3).
+pub fn enc_part_in(request: &ApReqInner) -> &EncryptedData
+    ensures { result.now ≡ enc_part_in request.now }
+{
+    &request.ticket.0.0.enc_part.0
+}
 
 /// Judges the request's own fields: it has to be for this service, and sealed as the service can open it.
 pub fn check_recipient(
@@ -39,7 +53,7 @@ pub fn check_recipient(
         return Err(Refusal::Krb(error_codes::KRB_AP_ERR_METHOD));
     }
     check_fields(realm, name, kvno, request)?;
-    if !is_number(&request.ticket.0.0.enc_part.0.etype.0, u32::from(&suite)) {
+    if !is_number(&enc_part_in(request).etype.0, u32::from(&suite)) {
         return Err(Refusal::Krb(error_codes::KRB_AP_ERR_NOKEY));
     }
     Ok(())
@@ -62,11 +76,10 @@ pub fn check_fields(
     if !is_number(&request.msg_type.0, u32::from(AP_REQ_MSG_TYPE)) {
         return Err(Refusal::Krb(error_codes::KRB_AP_ERR_MSG_TYPE));
     }
-    let ticket = &request.ticket.0.0;
-    if !is_for(realm, name, ticket) {
+    if !is_for(realm, name, ticket_in(request)) {
         return Err(Refusal::Krb(error_codes::KRB_AP_ERR_NOT_US));
     }
-    if !kvno_fits(kvno, &ticket.enc_part.0) {
+    if !kvno_fits(kvno, enc_part_in(request)) {
         return Err(Refusal::Krb(error_codes::KRB_AP_ERR_BADKEYVER));
     }
     Ok(())
@@ -77,7 +90,7 @@ fn is_version_5(request: &ApReqInner) -> bool
     ensures { result ≡ is_version_5 request.now }
 {
     is_number(&request.pvno.0, KERBEROS_VERSION)
-        && is_number(&request.ticket.0.0.tkt_vno.0, KERBEROS_VERSION)
+        && is_number(&ticket_in(request).tkt_vno.0, KERBEROS_VERSION)
 }
 
 // The ticket is for the service of this realm and this name.
@@ -158,8 +171,7 @@ fn is_early(skew: u64, moment: Moment, part: &EncTicketPartInner) -> bool
     requires { skew ≤ 86400000000 }
     ensures { result ≡ is_early skew moment part.now }
 {
-    moment.micros() + skew < start_of(part).seconds() * MICROSECONDS_IN_SECOND
-        || part.flags.0.bit(ticket_flags::INVALID)
+    moment.is_before(start_of(part), skew) || part.flags.0.bit(ticket_flags::INVALID)
 }
 
 // The moment is past the ticket's end and the skew.
@@ -167,7 +179,7 @@ fn is_late(skew: u64, moment: Moment, part: &EncTicketPartInner) -> bool
     requires { skew ≤ 86400000000 }
     ensures { result ≡ is_late skew moment part.now }
 {
-    part.endtime.0.0.seconds() * MICROSECONDS_IN_SECOND + skew < moment.micros()
+    moment.is_after(part.endtime.0.0, skew)
 }
 
 /// What a request presents whose ticket has this part.

@@ -8,7 +8,7 @@ mod refusal;
 
 pub use judge::{
     check_authenticator, check_fields, check_presented, check_recipient, check_ticket, check_times,
-    open_ticket,
+    enc_part_in, open_ticket,
 };
 pub use messages::read_ap_req;
 pub use presented::{Authenticated, Presented};

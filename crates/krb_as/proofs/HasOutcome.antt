@@ -28,25 +28,12 @@ use Rattle.krb_as.specs.AsTable.{as_table, authenticated, authenticated_by, is_l
 use Rattle.krb_kdc_requests.specs.Call.{CallRecord, pkinit_call, skew_of}
 use Rattle.krb_kdc_requests.specs.Calls.{IsCall, IsKeyed}
 use Rattle.krb_as.specs.Grants.{Principals, first_ticket, granted}
-use Rattle.krb_kdc_requests.specs.Requests.{header_rows, client_of, padata_in, has_refused_option, is_postdated, lasting, service_of}
+use Rattle.krb_kdc_requests.specs.Requests.{header_rows, client_of, padata_in, lasting, service_of}
 use Rattle.krb_kdc_requests.specs.declared.span.Span.{Span}
-use Rattle.krb_as.proofs.HasGrant.{has_lasting, has_replied}
+use Rattle.krb_kdc_requests.proofs.HasGrant.{has_header, has_lasting, has_replied}
 use Rattle.krb_kdc_requests.proofs.RequestTrees.{body_fits, client_fits, nonce_fits, service_fits}
 use Rattle.krb_kdc_requests.proofs.Short.{Fits}
 use Rattle.krb_kdc_requests.proofs.Written.{IsWritten, is_written, own_realm_fits, session_short}
-
-pub has_header : (kind : ℕ) (realm : List ℕ) (request : KdcReq) → HasOutcome (header_rows kind realm request)
-has_header kind realm request =
-    rows (not (is_number 5 request.pvno.0)) (not (is_number kind request.msg_type.0)) (not (is_same_realm request.req_body.0.realm.0 realm))
-    (has_refused_option request.req_body.0.kdc_options.0) (is_postdated request.req_body.0.kdc_options.0)
-  where
-    rows : (a b c d e : Bool) → HasOutcome (refuse {T = Unit {0}} {E = ℕ} a 3 (refuse b 40 (refuse c 68 (refuse d 13 (refuse e 10 (done (Ok tt)))))))
-    rows true b c d e = has_done (Err 3)
-    rows false true c d e = has_done (Err 40)
-    rows false false true d e = has_done (Err 68)
-    rows false false false true e = has_done (Err 13)
-    rows false false false false true = has_done (Err 10)
-    rows false false false false false = has_done (Ok tt)
 
 abbrev in_suite : CipherSuite → KdcReqBody → Span → Table (Result Span ℕ)
 in_suite suite body span = refuse (not (is_listed suite body)) 14 (done (Ok span))
@@ -109,11 +96,11 @@ module _ (call : CallRecord) (rows : PkinitRows) (of_client of_service : Option 
   asked_by client_name client service_name service = record { client_name = client_name; client = client; service_name = service_name; service = service }
 
   abbrev to_prove : Principals → Span → Table (Result (List ℕ) ℕ)
-  to_prove asked span =
-      and_then (authenticated call rows asked.client (components asked.client_name) request) (λ under. granted call asked under span request.req_body.0)
+  to_prove principals span =
+      and_then (authenticated call rows principals.client (components principals.client_name) request) (λ under. granted call principals under span request.req_body.0)
 
   abbrev to_be_possible : Principals → Table (Result (List ℕ) ℕ)
-  to_be_possible asked = and_then (possible call asked.client.suite request.req_body.0) (to_prove asked)
+  to_be_possible principals = and_then (possible call principals.client.suite request.req_body.0) (to_prove principals)
 
   abbrev by_service : PrincipalName → AccountRecord → PrincipalName → AccountRecord → Table (Result (List ℕ) ℕ)
   by_service client_name client service_name service = to_be_possible (asked_by client_name client service_name service)
@@ -131,37 +118,37 @@ module _ (call : CallRecord) (rows : PkinitRows) (of_client of_service : Option 
   to_name = need (client_of request.req_body.0) 6 by_client_name
 
   -- the request names these, whose accounts have keys
-  pub record AreAsked (asked : Principals) : Type 0 where
-    pub client_name : client_of request.req_body.0 ≡ Some asked.client_name
-    pub client : IsKeyed asked.client
-    pub service_name : service_of request.req_body.0 ≡ Some asked.service_name
-    pub service : IsKeyed asked.service
+  pub record AreAsked (principals : Principals) : Type 0 where
+    pub client_name : client_of request.req_body.0 ≡ Some principals.client_name
+    pub client : IsKeyed principals.client
+    pub service_name : service_of request.req_body.0 ≡ Some principals.service_name
+    pub service : IsKeyed principals.service
 
   module _ (is : IsCall call) (n : ℕ) (few : n < 2 ^ 64) (fits : Fits n (kdc_req_inner_tree request)) where
     -- what it is granted can be written
-    first_written : (asked : Principals) (span : Span) → (header_rows 10 call.realm request).gives (Ok tt) → AreAsked asked → IsWritten As (first_ticket call asked request.req_body.0 span)
-    first_written asked span to_us these =
+    first_written : (principals : Principals) (span : Span) → (header_rows 10 call.realm request).gives (Ok tt) → AreAsked principals → IsWritten As (first_ticket call principals request.req_body.0 span)
+    first_written principals span to_us these =
         let body = body_fits n request fits in
-        is_written n (first_ticket call asked request.req_body.0 span)
+        is_written n (first_ticket call principals request.req_body.0 span)
         (record {
           few = few;
-          session = session_short asked.client.suite call.words is.enough is.bytes;
+          session = session_short principals.client.suite call.words is.enough is.bytes;
           realm = own_realm_fits n 10 call.realm request to_us fits;
-          client = client_fits n request.req_body.0 body asked.client_name these.client_name;
-          service = service_fits n request.req_body.0 body asked.service_name these.service_name;
+          client = client_fits n request.req_body.0 body principals.client_name these.client_name;
+          service = service_fits n request.req_body.0 body principals.service_name these.service_name;
           nonce = nonce_fits n request.req_body.0 body;
         }) As
 
-    has_grant : (asked : Principals) → (header_rows 10 call.realm request).gives (Ok tt) → AreAsked asked → HasOutcome (to_be_possible asked)
-    has_grant asked to_us these =
-        has_then (possible call asked.client.suite request.req_body.0) (to_prove asked) (has_possible call asked.client.suite request.req_body.0 is)
+    has_grant : (principals : Principals) → (header_rows 10 call.realm request).gives (Ok tt) → AreAsked principals → HasOutcome (to_be_possible principals)
+    has_grant principals to_us these =
+        has_then (possible call principals.client.suite request.req_body.0) (to_prove principals) (has_possible call principals.client.suite request.req_body.0 is)
         (λ span given.
-        has_then (authenticated call rows asked.client (components asked.client_name) request) (λ under. granted call asked under span request.req_body.0)
-        (has_authenticated call rows asked.client (components asked.client_name) request)
+        has_then (authenticated call rows principals.client (components principals.client_name) request) (λ under. granted call principals under span request.req_body.0)
+        (has_authenticated call rows principals.client (components principals.client_name) request)
         (λ under x.
-        let is_under = under_by call rows asked.client (components asked.client_name) request these.client (first_of 16 (padata_in request)) under x in
-        has_replied (first_ticket call asked request.req_body.0 span) under asked.service call.words is_under.sized is_under.bytes these.service is.enough is.bytes
-        (subst (λ (e : Exchange). IsWritten e (first_ticket call asked request.req_body.0 span)) (sym is_under.exchange) (first_written asked span to_us these))))
+        let is_under = under_by call rows principals.client (components principals.client_name) request these.client (first_of 16 (padata_in request)) under x in
+        has_replied (first_ticket call principals request.req_body.0 span) under principals.service call.words is_under.sized is_under.bytes these.service is.enough is.bytes
+        (subst (λ (e : Exchange). IsWritten e (first_ticket call principals request.req_body.0 span)) (sym is_under.exchange) (first_written principals span to_us these))))
 
     pub has_as_outcome : ((client : AccountRecord) → of_client ≡ Some client → IsKeyed client) → ((service : AccountRecord) → of_service ≡ Some service → IsKeyed service)
         → HasOutcome (as_table call rows of_client of_service request)

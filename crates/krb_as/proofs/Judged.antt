@@ -14,7 +14,7 @@ use Rattle.krb_tickets.specs.ReplyKeys.{ReplyKeyRecord}
 use Rattle.krb_as.specs.AsTable.{as_table, authenticated, possible}
 use Rattle.krb_kdc_requests.specs.Call.{CallRecord}
 use Rattle.krb_as.specs.Grants.{Principals, granted}
-use Rattle.krb_as.specs.Judged.{IsGranted}
+use Rattle.krb_kdc_requests.specs.Granting.{IsGranted}
 use Rattle.krb_kdc_requests.specs.Requests.{header_rows, client_of, service_of}
 use Rattle.krb_kdc_requests.specs.declared.span.Span.{Span}
 

@@ -3,12 +3,12 @@ use Rattle.std.proofs.Common.{◌≡◌, ℕ, List, Result, Ok, Err, refl, subst
 use Rattle.std.specs.Prelude.{IfOk, Vec}
 use Rattle.std.specs.Global.{Global}
 use Rattle.krb_accounts.specs.Account.{AccountRecord}
-use Rattle.krb_tickets.specs.declared.grant.Grant.{Grant}
+use Rattle.krb_tickets.specs.Grant.{GrantRecord}
 use Rattle.krb_tickets.specs.ReplyKeys.{ReplyKeyRecord}
 use Rattle.krb_tickets.specs.Granted.{IsTicketReply}
-use Rattle.krb_as.specs.Grants.{replied}
+use Rattle.krb_kdc_requests.specs.Granting.{replied}
 
-pub replied_by : {E : Type 0} (r : Result (Vec ℕ Global) E) (made wanted : Grant) (own under : ReplyKeyRecord) (service : AccountRecord) (words : List ℕ) → made ≡ wanted → own ≡ under
+pub replied_by : {E : Type 0} (r : Result (Vec ℕ Global) E) (made wanted : GrantRecord) (own under : ReplyKeyRecord) (service : AccountRecord) (words : List ℕ) → made ≡ wanted → own ≡ under
     → IfOk r (λ bytes. IsTicketReply made own service words bytes.items) → IfOk r (λ bytes. (replied wanted under service words).gives (Ok bytes.items))
 replied_by (Ok bytes) made wanted own under service words same key x =
     (bytes.items, subst (λ g. IsTicketReply g under service words bytes.items) same (subst (λ k. IsTicketReply made k service words bytes.items) key x), refl)

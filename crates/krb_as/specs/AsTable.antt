@@ -1,11 +1,11 @@
 -- What an AS request is answered, in parts of one table, row by row: the first case that holds counts (RFC 4120, section 3.1.3).
-use Rattle.std.specs.Prelude.{◌+◌, ◌*◌, nat_lt, Bool, false, not, List, Option, None, Some, Result, Ok, Err}
+use Rattle.std.specs.Prelude.{◌*◌, Bool, false, not, List, Option, None, Some, Result, Ok, Err}
 use Rattle.std.specs.List.{list_any}
 use Rattle.std.specs.Option.{option_map_or}
 use Rattle.picky_asn1.specs.GeneralizedTime.{seconds_of}
 use Rattle.picky_asn1.specs.Numbers.{is_number}
 use Rattle.picky_asn1.specs.Bytes.{Bytes}
-use Rattle.krb_moments.specs.Skew.{is_far}
+use Rattle.krb_moments.specs.Skew.{is_before, is_far}
 use Rattle.krb_crypto.specs.declared.suite.CipherSuite.{CipherSuite}
 use Rattle.krb_crypto.specs.Suites.{cipher_number}
 use Rattle.krb_accounts.specs.Account.{AccountRecord}
@@ -23,12 +23,12 @@ use Rattle.krb_crypto.specs.AgreedKeys.{agreed_key}
 use Rattle.krb_pkinit.specs.Rows.{PkinitRows}
 use Rattle.krb_kdc_requests.specs.Call.{CallRecord, pkinit_call, skew_of}
 use Rattle.krb_as.specs.Grants.{granted}
-use Rattle.krb_kdc_requests.specs.Requests.{header_rows, client_of, padata_in, lasting, service_of}
+use Rattle.krb_kdc_requests.specs.Requests.{body_of, client_of, header_rows, lasting, padata_in, service_of}
 use Rattle.krb_kdc_requests.specs.declared.span.Span.{Span}
 
 -- the ticket is to start later than the moment and the skew
 abbrev pub is_later : CallRecord → KdcReqBody → Bool
-is_later call body = option_map_or (λ told. nat_lt (call.moment + skew_of call) (seconds_of told.0.0 * 1000000)) body.from.0 false
+is_later call body = option_map_or (λ from. is_before (skew_of call) call.moment (seconds_of from.0.0 * 1000000)) body.from.0 false
 
 -- the client takes the suite
 abbrev pub is_listed : CipherSuite → KdcReqBody → Bool
@@ -57,7 +57,7 @@ authenticated_by call rows client name request None =
     and_then (timestamped call client (padata_in request)) (λ _.
     done (Ok (as_reply_key client)))
 authenticated_by call rows client name request (Some padata) =
-    and_then (rows.judges (pkinit_call call name request.req_body.0) padata) (λ agreed.
+    and_then (rows.judges (pkinit_call call name (body_of request)) padata) (λ agreed.
     done (Ok (agreed_reply_key client.suite (agreed_key client.suite agreed.secret) agreed.reply)))
 
 -- padata of type 16, PA-PK-AS-REQ, wins over an encrypted timestamp
@@ -68,11 +68,11 @@ authenticated call rows client name request = authenticated_by call rows client 
 abbrev pub as_table : CallRecord → PkinitRows → Option AccountRecord → Option AccountRecord → KdcReq → Table (Result Bytes Code)
 as_table call rows of_client of_service request =
     and_then (header_rows 10 call.realm request) (λ _.
-    need (client_of request.req_body.0) KDC_ERR_C_PRINCIPAL_UNKNOWN (λ client_name.
+    need (client_of (body_of request)) KDC_ERR_C_PRINCIPAL_UNKNOWN (λ client_name.
     need of_client KDC_ERR_C_PRINCIPAL_UNKNOWN (λ client.
-    need (service_of request.req_body.0) KDC_ERR_S_PRINCIPAL_UNKNOWN (λ service_name.
+    need (service_of (body_of request)) KDC_ERR_S_PRINCIPAL_UNKNOWN (λ service_name.
     need of_service KDC_ERR_S_PRINCIPAL_UNKNOWN (λ service.
-    and_then (possible call client.suite request.req_body.0) (λ span.
+    and_then (possible call client.suite (body_of request)) (λ span.
     and_then (authenticated call rows client (components client_name) request) (λ under.
     granted call (record { client_name = client_name; client = client; service_name = service_name; service = service })
-    under span request.req_body.0)))))))
+    under span (body_of request))))))))

@@ -3,8 +3,8 @@ ghost use Rattle.std.specs.Prelude.{◌≡◌, ◌≤◌, Ok, length, IfOk};
 ghost use Rattle.krb_tickets.specs.ReplyKeys.{reply_key_of};
 ghost use Rattle.krb_as.specs.Authenticated.{reply_key_by};
 ghost use Rattle.krb_kdc_requests.specs.Call.{call_of};
-ghost use Rattle.krb_as.specs.Grants.{first_ticket, granted};
-ghost use Rattle.krb_as.specs.Judged.{principals};
+ghost use Rattle.krb_as.specs.Grants.{first_ticket, granted, principals_of};
+ghost use Rattle.krb_tickets.specs.Grant.{grant_of};
 
 use crate::judge::Authenticated;
 use krb_accounts::Account;
@@ -12,7 +12,6 @@ use krb_kdc_requests::{Call, Span, session_key};
 use krb_messages::messages::KdcReqBody;
 use krb_tickets::{Grant, ReplyKey, TicketFlags, ticket_reply};
 use krb_types::data_types::PrincipalName;
-use picky_asn1_der::LentFields;
 use std::alloc::{AllocError, Global};
 
 /// Who asks for a ticket for whom, with their accounts.
@@ -32,17 +31,17 @@ pub(crate) struct Principals<'a> {
 pub(crate) fn grant(
     alloc: Global,
     call: &Call<'_>,
-    asked: Principals,
+    principals: Principals,
     authenticated: &Authenticated,
     span: Span,
     body: &KdcReqBody,
 ) -> Result<Vec<u8>, AllocError>
     requires { 128 ≤ length call.now.words.now }
-    ensures { IfOk result (λ bytes. (granted (call_of call.now) (principals asked.entry) (reply_key_by asked.entry.client.now authenticated.now) span body.now).gives (Ok bytes.items)) }
+    ensures { IfOk result (λ bytes. (granted (call_of call.now) (principals_of principals.entry) (reply_key_by principals.entry.client.now authenticated.now) span body.now).gives (Ok bytes.items)) }
 {
-    let grant = first_ticket(alloc, call, asked, span, body)?;
-    let under = reply_key_by(authenticated, asked.client);
-    let made = ticket_reply(alloc, &grant, &under, asked.service, call.words);
+    let grant = first_ticket(alloc, call, principals, span, body)?;
+    let under = reply_key_by(authenticated, principals.client);
+    let made = ticket_reply(alloc, &grant, &under, principals.service, call.words);
     drop(grant);
     made
 }
@@ -58,29 +57,24 @@ fn reply_key_by<'a>(authenticated: &'a Authenticated, client: &'a Account) -> Re
 }
 
 // What the ticket is granted with.
-fn first_ticket(
+fn first_ticket<'a>(
     alloc: Global,
-    call: &Call<'_>,
-    asked: Principals,
+    call: &Call<'a>,
+    principals: Principals<'a>,
     span: Span,
-    body: &KdcReqBody,
-) -> Result<Grant, AllocError>
+    body: &'a KdcReqBody,
+) -> Result<Grant<'a>, AllocError>
     requires { 128 ≤ length call.now.words.now }
-    ensures { IfOk result (λ grant. grant ≡ first_ticket (call_of call.now) (principals asked.entry) body.now span) }
+    ensures { IfOk result (λ grant. grant_of grant ≡ first_ticket (call_of call.now) (principals_of principals.entry) body.now span) }
 {
-    let suite = asked.client.suite();
+    let suite = principals.client.suite();
     let session = session_key(alloc, suite, call.words)?;
-    let lent = (
-        call.realm,
-        (asked.client_name, (asked.service_name, (&body.nonce.0, ()))),
-    );
-    let (realm, (client, (service, (nonce, ())))) = lent.copied()?;
     Ok(Grant {
         suite,
         session,
-        realm,
-        client,
-        service,
+        realm: call.realm,
+        client: principals.client_name,
+        service: principals.service_name,
         flags: TicketFlags {
             initial: true,
             pre_authenticated: true,
@@ -88,6 +82,6 @@ fn first_ticket(
         auth_time: span.start,
         start: span.start,
         until: span.until,
-        nonce,
+        nonce: &body.nonce.0,
     })
 }

@@ -12,7 +12,6 @@ use krb_crypto::diffie_hellman::agreed_key;
 use krb_crypto::{CipherSuite, Key};
 use krb_kdc_requests::{Call, Span, lasting, padata_in};
 use krb_messages::messages::{KdcReq, KdcReqBody};
-use krb_moments::MICROSECONDS_IN_SECOND;
 use krb_pkinit::{Agreed, Pkinit, PkinitCall};
 use krb_preauth::{first_of, moment_of, open_encrypted_timestamp};
 use krb_types::Refusal;
@@ -44,8 +43,7 @@ fn is_later(call: &Call<'_>, body: &KdcReqBody) -> bool
     ensures { result ≡ is_later (call_of call.now) body.now }
 {
     match &body.from.0 {
-        Some(told) => call.moment.micros() + call.skew()
-            < told.0.0.seconds() * MICROSECONDS_IN_SECOND,
+        Some(from) => call.moment.is_before(from.0.0, call.skew()),
         None => false,
     }
 }
@@ -147,9 +145,9 @@ fn check_timestamp(
     let Some(timestamp) = open_encrypted_timestamp(alloc, client, value.as_bytes())? else {
         return Err(Refusal::Krb(error_codes::KDC_ERR_PREAUTH_FAILED));
     };
-    let told = moment_of(&timestamp);
+    let moment = moment_of(&timestamp);
     drop(timestamp);
-    let Some(time) = told else {
+    let Some(time) = moment else {
         return Err(Refusal::Krb(error_codes::KDC_ERR_PREAUTH_FAILED));
     };
     if call.moment.is_far_from(time, call.skew()) {

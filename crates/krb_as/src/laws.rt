@@ -1,7 +1,7 @@
 //! What holds of every AS request.
 ghost use Rattle.std.specs.Prelude.{◌≡◌, ℕ, List, [], ◌∷◌, Some, IsSome};
 ghost use Rattle.asn1_der.specs.Length.{element};
-ghost use Rattle.krb_kdc_requests.specs.Requests.{body_bytes, padata_in};
+ghost use Rattle.krb_kdc_requests.specs.Requests.{body_bytes, body_of, padata_in};
 ghost use Rattle.krb_messages.specs.Messages.{IsAsReq};
 ghost use Rattle.krb_messages.specs.declared.messages.kdc_req.KdcReq.{KdcReq};
 ghost use Rattle.krb_preauth.specs.Padata.{first_of};
@@ -14,9 +14,9 @@ ghost use Rattle.asn1_der.specs.Octets.{octet_string_octet};
 /// from 0, and what its tag holds (RFC 4120, section 5.4.1). It does nothing when it runs: its contract is the law.
 pub fn as_body_is_part()
     ensures part { (bytes : Bytes) (request : KdcReq) → IsAsReq bytes request → IsSome request.padata.0
-        → IsPart bytes (0 ∷ 3 ∷ 0 ∷ []) (body_bytes request.req_body.0) }
+        → IsPart bytes (0 ∷ 3 ∷ 0 ∷ []) (body_bytes (body_of request)) }
     ensures one { (bytes part : Bytes) (request : KdcReq) → IsAsReq bytes request → IsSome request.padata.0
-        → IsPart bytes (0 ∷ 3 ∷ 0 ∷ []) part → part ≡ body_bytes request.req_body.0 }
+        → IsPart bytes (0 ∷ 3 ∷ 0 ∷ []) part → part ≡ body_bytes (body_of request) }
 {}
 
 /// The data of the first padata of a type stands in the request's own bytes, as an OCTET STRING in one of the entries, and so does

@@ -3,7 +3,7 @@ ghost use Rattle.std.specs.Prelude.{◌≤◌, length};
 ghost use Rattle.std.specs.Option.{option_copied};
 ghost use Rattle.krb_as.specs.AsTable.{as_table};
 ghost use Rattle.krb_kdc_requests.specs.Call.{call_of};
-ghost use Rattle.krb_as.specs.Judged.{IsGranted};
+ghost use Rattle.krb_kdc_requests.specs.Granting.{IsGranted};
 
 use crate::grant::{Principals, grant};
 use crate::judge::{authenticate, check_possible};
@@ -46,13 +46,13 @@ pub fn judge_as<P: Pkinit>(
     let span = check_possible(call, client.suite(), body)?;
     let name = client_name.name_string.0.as_slice();
     let authenticated = authenticate(alloc, call, pkinit, client, name, request)?;
-    let asked = Principals {
+    let principals = Principals {
         client_name,
         client,
         service_name,
         service,
     };
-    let reply = grant(alloc, call, asked, &authenticated, span, body);
+    let reply = grant(alloc, call, principals, &authenticated, span, body);
     drop(authenticated);
     let reply = reply?;
     Ok(reply)

@@ -19,14 +19,14 @@ abbrev pub chosen_subkey : Bool → CipherSuite → Random → Option Bytes
 chosen_subkey with_subkey suite words = if with_subkey then Some (seed_key_of suite (subkey_seed (cipher_seed_size suite) words)) else None
 
 -- the subkey with the number of its suite
-abbrev pub subkey_told : Bool → CipherSuite → Random → Option EncryptionKey
-subkey_told with_subkey suite words = option_map (encryption_key suite) (chosen_subkey with_subkey suite words)
+abbrev pub presented_subkey : Bool → CipherSuite → Random → Option EncryptionKey
+presented_subkey with_subkey suite words = option_map (encryption_key suite) (chosen_subkey with_subkey suite words)
 
 -- the bytes are the client's request, by the credential, at the moment, with or without an answer and a subkey, under usage
 -- 11 (RFC 4120, section 7.5.1); of the random bytes the first are the confounder
 pub record AsksAp (client : ClientRecord) (credential : CredentialRecord) (mutual_required with_subkey : Bool) (moment : Micros) (words : Random) (bytes : Bytes) : Type 0 where
   pub authenticator : AuthenticatorInner
-  pub authenticates : IsAuthenticatorOf client moment None (subkey_told with_subkey credential.suite words) authenticator
+  pub authenticates : IsAuthenticatorOf client moment None (presented_subkey with_subkey credential.suite words) authenticator
   pub presents : IsApRequest credential 11 mutual_required authenticator (authenticator_confounder (cipher_confounder_size credential.suite) words) bytes
 
 -- what the client remembers of it
@@ -43,5 +43,5 @@ pub sole_ap_request : (client : ClientRecord) (credential : CredentialRecord) (m
     → AsksAp client credential mutual_required with_subkey moment words a → AsksAp client credential mutual_required with_subkey moment words b → a ≡ b
 sole_ap_request client credential mutual_required with_subkey moment words a b x y =
     sole_presented credential 11 mutual_required (authenticator_confounder (cipher_confounder_size credential.suite) words) x.authenticator y.authenticator a b
-    (sole_authenticator_of client moment None (subkey_told with_subkey credential.suite words) x.authenticator y.authenticator x.authenticates y.authenticates)
+    (sole_authenticator_of client moment None (presented_subkey with_subkey credential.suite words) x.authenticator y.authenticator x.authenticates y.authenticates)
     x.presents y.presents

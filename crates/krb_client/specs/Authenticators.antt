@@ -1,5 +1,5 @@
--- AP requests (RFC 4120, section 5.5.1), as a service and, inside a TGS request, a KDC are shown them: a ticket, and an
--- authenticator under the session's key.
+-- AP requests (RFC 4120, section 5.5.1), to a service and, inside a TGS request, to a KDC: a ticket, and an authenticator under
+-- the session's key.
 use Rattle.std.specs.Prelude.{◌≡◌, ℕ, ◌%◌, Bool, [], ◌∷◌, Option, None, pos, if◌then◌else◌}
 use Rattle.std.specs.Option.{option_map}
 use Rattle.std.proofs.Common.{ap, subst, sym, ◌∙◌}
@@ -14,29 +14,29 @@ use Rattle.krb_types.specs.declared.data_types.encryption_key.EncryptionKey.{Enc
 use Rattle.krb_types.specs.declared.data_types.ticket.TicketInner.{TicketInner}
 use Rattle.krb_messages.specs.declared.messages.ap_req.ApReqInner.{ApReqInner}
 use Rattle.krb_client.specs.Client.{ClientRecord, CredentialRecord}
-use Rattle.krb_client.specs.declared.authenticator.Told.{Told}
+use Rattle.krb_client.specs.declared.authenticator.AuthenticatorParts.{AuthenticatorParts}
 use Rattle.krb_client.specs.Held.{principal_name}
 use Rattle.krb_moments.specs.SecondOf.{IsSecondOf, sole_second}
 use Rattle.krb_client.specs.Messages.{ap_request_bytes, authenticator_bytes}
 use Rattle.krb_encrypted_data.specs.Sealing.{Seals, sole_seals}
 
--- what an authenticator tells of the client, and of the microseconds of its time
-abbrev pub told_of : ClientRecord → Micros → Told
-told_of client microsecond = record {
+-- the client's part of an authenticator, and the microseconds of its time
+abbrev pub authenticator_parts_of : ClientRecord → Micros → AuthenticatorParts
+authenticator_parts_of client microsecond = record {
   version = pos 5;
   realm = client.realm;
   name = principal_name 1 client.components;
   microsecond = pos microsecond;
 }
 
--- the authenticator that tells this, its time's second, and the checksum and the subkey, where there is one
-abbrev pub authenticator_with : Told → GeneralizedTime → Option Checksum → Option EncryptionKey → AuthenticatorInner
-authenticator_with told second checksum subkey = record {
-  authenticator_vno = record { 0 = told.version };
-  crealm = record { 0 = told.realm };
-  cname = record { 0 = told.name };
+-- the authenticator with these parts, its time's second, and the checksum and the subkey, where there is one
+abbrev pub authenticator_with : AuthenticatorParts → GeneralizedTime → Option Checksum → Option EncryptionKey → AuthenticatorInner
+authenticator_with parts second checksum subkey = record {
+  authenticator_vno = record { 0 = parts.version };
+  crealm = record { 0 = parts.realm };
+  cname = record { 0 = parts.name };
   cksum = record { 0 = option_map (λ sum. record { 0 = sum }) checksum };
-  cusec = record { 0 = told.microsecond };
+  cusec = record { 0 = parts.microsecond };
   ctime = record { 0 = record { 0 = second } };
   subkey = record { 0 = option_map (λ key. record { 0 = key }) subkey };
   seq_number = record { 0 = None };
@@ -47,12 +47,12 @@ authenticator_with told second checksum subkey = record {
 pub record IsAuthenticatorOf (client : ClientRecord) (moment : Micros) (checksum : Option Checksum) (subkey : Option EncryptionKey) (authenticator : AuthenticatorInner) : Type 0 where
   pub second : GeneralizedTime
   pub of_moment : IsSecondOf moment second
-  pub told : authenticator ≡ authenticator_with (told_of client (moment % 1000000)) second checksum subkey
+  pub is_made : authenticator ≡ authenticator_with (authenticator_parts_of client (moment % 1000000)) second checksum subkey
 
 pub sole_authenticator_of : (client : ClientRecord) (moment : Micros) (checksum : Option Checksum) (subkey : Option EncryptionKey) (a b : AuthenticatorInner)
     → IsAuthenticatorOf client moment checksum subkey a → IsAuthenticatorOf client moment checksum subkey b → a ≡ b
 sole_authenticator_of client moment checksum subkey a b x y =
-    x.told ∙ ap (λ second. authenticator_with (told_of client (moment % 1000000)) second checksum subkey) (sole_second moment x.second y.second x.of_moment y.of_moment) ∙ sym y.told
+    x.is_made ∙ ap (λ second. authenticator_with (authenticator_parts_of client (moment % 1000000)) second checksum subkey) (sole_second moment x.second y.second x.of_moment y.of_moment) ∙ sym y.is_made
 
 -- bit 2, mutual-required (RFC 4120, section 5.5.1), where the service is to answer
 abbrev pub options_of : Bool → Bits

@@ -40,8 +40,8 @@ impl Client {
     {
         let suite = credential.suite();
         let subkey = subkey_of(alloc, with_subkey, suite, words)?;
-        let told = told_key(alloc, suite, &subkey)?;
-        let authenticator = self.authenticator(alloc, moment, None, told)?;
+        let presented = presented_subkey(alloc, suite, &subkey)?;
+        let authenticator = self.authenticator(alloc, moment, None, presented)?;
         let confounder = confounder_at(suite, words, AUTHENTICATOR_CONFOUNDER);
         let bytes = ap_request(
             alloc,
@@ -74,7 +74,7 @@ fn subkey_of(
 }
 
 // The subkey with the number of its suite, where there is one.
-fn told_key(
+fn presented_subkey(
     alloc: Global,
     suite: CipherSuite,
     key: &Option<OctetStringAsn1>,

@@ -1,7 +1,7 @@
-//! AP requests, as services and, inside TGS requests, KDCs are shown them.
+//! AP requests, to services and, inside TGS requests, to KDCs.
 ghost use Rattle.std.specs.Prelude.{◌≡◌, length, IfOk};
 ghost use Rattle.std.specs.Int.{cast_unsigned, w32};
-ghost use Rattle.krb_client.specs.Authenticators.{IsApRequest, IsAuthenticatorOf, ap_request_of, authenticator_with, options_of, told_of};
+ghost use Rattle.krb_client.specs.Authenticators.{IsApRequest, IsAuthenticatorOf, ap_request_of, authenticator_with, options_of, authenticator_parts_of};
 ghost use Rattle.krb_crypto.specs.Suites.{cipher_confounder_size};
 ghost use Rattle.krb_client.specs.Messages.{ap_request_bytes, authenticator_bytes};
 
@@ -24,10 +24,10 @@ use std::alloc::{AllocError, Global};
 /// The option `mutual-required`, bit 2, in the first of the options' octets (RFC 4120, section 5.5.1).
 const MUTUAL_REQUIRED: u8 = 0x20;
 
-// What an authenticator says of the client, and the microseconds of its time. It is made at once, so that what makes an
-// authenticator has one way out.
+// The parts of an authenticator that need memory: the client's, and the microseconds of its time. They are made at once, so that
+// what makes an authenticator has one way out.
 #[derive(Drop)]
-struct Told {
+struct AuthenticatorParts {
     version: IntegerAsn1,
     realm: GeneralStringAsn1,
     name: PrincipalName,
@@ -46,12 +46,16 @@ impl Client {
         ensures { IfOk result (IsAuthenticatorOf self.now moment checksum subkey) }
     {
         let second = moment.second();
-        let told = self.told(alloc, moment.microsecond())?;
-        Ok(authenticator_with(told, second, checksum, subkey))
+        let parts = self.authenticator_parts(alloc, moment.microsecond())?;
+        Ok(authenticator_with(parts, second, checksum, subkey))
     }
 
-    fn told(&self, alloc: Global, microsecond: u32) -> Result<Told, AllocError>
-        ensures { IfOk result (λ told. told ≡ told_of self.now microsecond) }
+    fn authenticator_parts(
+        &self,
+        alloc: Global,
+        microsecond: u32,
+    ) -> Result<AuthenticatorParts, AllocError>
+        ensures { IfOk result (λ parts. parts ≡ authenticator_parts_of self.now microsecond) }
     {
         let version = IntegerAsn1::from_u64(alloc, u64::from(KERBEROS_VERSION));
         let microsecond = IntegerAsn1::from_u64(alloc, u64::from(microsecond));
@@ -59,7 +63,7 @@ impl Client {
         let name = principal_name(alloc, NT_PRINCIPAL, self.components());
         let numbers = both(version, microsecond);
         let ((version, microsecond), (realm, name)) = both(numbers, both(realm, name))?;
-        Ok(Told {
+        Ok(AuthenticatorParts {
             version,
             realm,
             name,
@@ -69,19 +73,19 @@ impl Client {
 }
 
 fn authenticator_with(
-    told: Told,
+    parts: AuthenticatorParts,
     second: GeneralizedTime,
     checksum: Option<Checksum>,
     subkey: Option<EncryptionKey>,
 ) -> AuthenticatorInner
-    ensures { result ≡ authenticator_with told second checksum subkey }
+    ensures { result ≡ authenticator_with parts second checksum subkey }
 {
     AuthenticatorInner {
-        authenticator_vno: ExplicitContextTag(told.version),
-        crealm: ExplicitContextTag(told.realm),
-        cname: ExplicitContextTag(told.name),
+        authenticator_vno: ExplicitContextTag(parts.version),
+        crealm: ExplicitContextTag(parts.realm),
+        cname: ExplicitContextTag(parts.name),
         cksum: Optional(checksum.map(ExplicitContextTag)),
-        cusec: ExplicitContextTag(told.microsecond),
+        cusec: ExplicitContextTag(parts.microsecond),
         ctime: ExplicitContextTag(GeneralizedTimeAsn1(second)),
         subkey: Optional(subkey.map(ExplicitContextTag)),
         seq_number: Optional(None),

@@ -5,3 +5,5 @@ pub mod RequestTrees
 pub mod RequestParts
 pub mod Written
 mod Spans
+pub mod Parts
+pub mod HasGrant

@@ -16,7 +16,7 @@ use Rattle.krb_types.specs.RandomBytes.{session_seed}
 use Rattle.krb_messages.specs.Trees.{kdc_req_inner_tree}
 use Rattle.krb_messages.specs.declared.messages.kdc_req.KdcReq.{KdcReq}
 use Rattle.decision_tables.specs.Tables.{done, refuse}
-use Rattle.krb_tickets.specs.declared.grant.Grant.{Grant}
+use Rattle.krb_tickets.specs.Grant.{GrantRecord}
 use Rattle.krb_tickets.specs.declared.reply.Exchange.{Exchange}
 use Rattle.krb_tickets.specs.declared.reply.Exchange.TheVariants.{As, Tgs}
 use Rattle.krb_tickets.specs.Parts.{flags_octet, reply_part, session_key_of, ticket_part}
@@ -27,7 +27,7 @@ use Rattle.krb_kdc_requests.proofs.RequestTrees.{body_fits, realm_fits}
 use Rattle.krb_kdc_requests.proofs.Short.{Fits, IsShort}
 
 -- the encodings of both parts are bytes
-pub record IsWritten (exchange : Exchange) (grant : Grant) : Type 0 where
+pub record IsWritten (exchange : Exchange) (grant : GrantRecord) : Type 0 where
   pub ticket : IsBytes (ticket_part_bytes (ticket_part grant))
   pub reply : IsBytes (reply_part_bytes exchange (reply_part grant))
 
@@ -51,7 +51,7 @@ octet_below false true = omega arith
 octet_below false false = omega arith
 
 -- what a grant holds is short
-pub record HoldsShort (n : ℕ) (grant : Grant) : Type 0 where
+pub record HoldsShort (n : ℕ) (grant : GrantRecord) : Type 0 where
   pub few : n < 2 ^ 64
   pub session : IsShort 32 grant.session
   pub realm : Fits n (realm_tree grant.realm)
@@ -59,7 +59,7 @@ pub record HoldsShort (n : ℕ) (grant : Grant) : Type 0 where
   pub service : Fits n (principal_name_tree grant.service)
   pub nonce : Fits n (integer_tree grant.nonce)
 
-module _ (n : ℕ) (grant : Grant) (x : HoldsShort n grant) where
+module _ (n : ℕ) (grant : GrantRecord) (x : HoldsShort n grant) where
   below : flags_octet grant.flags < 256
   below = octet_below grant.flags.initial grant.flags.pre_authenticated
 

@@ -1,3 +1,4 @@
 pub mod Call
 pub mod Requests
 pub mod Calls
+pub mod Granting

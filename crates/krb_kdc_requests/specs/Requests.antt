@@ -45,6 +45,10 @@ abbrev pub account_of : Look → Option PrincipalName → Option AccountRecord
 account_of look None = None
 account_of look (Some name) = look (components name)
 
+-- the body of a request
+abbrev pub body_of : KdcReq → KdcReqBody
+body_of request = request.req_body.0
+
 -- the padata of a request
 abbrev pub padata_in : KdcReq → List PaData
 padata_in request = option_map_or (λ tagged. tagged.0) request.padata.0 []
@@ -58,9 +62,9 @@ abbrev pub header_rows : ℕ → Bytes → KdcReq → Table (Result (Unit {0}) C
 header_rows kind realm request =
     refuse (not (is_number 5 request.pvno.0)) KDC_ERR_BAD_PVNO
     (refuse (not (is_number kind request.msg_type.0)) KRB_AP_ERR_MSG_TYPE
-    (refuse (not (is_same_realm request.req_body.0.realm.0 realm)) KDC_ERR_WRONG_REALM
-    (refuse (has_refused_option request.req_body.0.kdc_options.0) KDC_ERR_BADOPTION
-    (refuse (is_postdated request.req_body.0.kdc_options.0) KDC_ERR_CANNOT_POSTDATE
+    (refuse (not (is_same_realm (body_of request).realm.0 realm)) KDC_ERR_WRONG_REALM
+    (refuse (has_refused_option (body_of request).kdc_options.0) KDC_ERR_BADOPTION
+    (refuse (is_postdated (body_of request).kdc_options.0) KDC_ERR_CANNOT_POSTDATE
     (done (Ok tt))))))
 
 -- a ticket lasts from the second of the moment on; where it is granted by an older ticket, not past that one's end

@@ -16,16 +16,16 @@ use Rattle.krb_encrypted_data.specs.Sealing.{encryption_key}
 use Rattle.krb_tickets.specs.Parts.{session_key_of, ticket_part}
 use Rattle.krb_tickets.specs.Sealed.{ticket_part_bytes}
 use Rattle.krb_tickets.specs.Times.{asked_end}
-use Rattle.krb_tickets.specs.declared.grant.Grant.{Grant}
+use Rattle.krb_tickets.specs.Grant.{GrantRecord}
 use Rattle.krb_kdc_requests.specs.declared.span.Span.{Span}
-use Rattle.krb_ap_requests.specs.Acceptable.{IsAcceptable, shown}
+use Rattle.krb_ap_requests.specs.Acceptable.{IsAcceptable, presented_choice}
 use Rattle.krb_ap_requests.specs.Admission.{AdmissionRecord, admission_of}
 use Rattle.krb_service.specs.ApReply.{IsReplyTo}
 use Rattle.krb_ap_requests.specs.Presents.{Choice, Presents}
 use Rattle.krb_ap_requests.specs.declared.presented.Presented.{Presented}
 use Rattle.krb_client.specs.ApReply.{TakesApReply}
 use Rattle.krb_client.specs.ApRequest.{ap_asked}
-use Rattle.krb_client.specs.Authenticators.{IsApRequest, authenticator_with, told_of}
+use Rattle.krb_client.specs.Authenticators.{IsApRequest, authenticator_with, authenticator_parts_of}
 use Rattle.krb_client.specs.Client.{ClientRecord, CredentialRecord}
 use Rattle.krb_client.specs.declared.refusal.TakeRefusal.{TakeRefusal}
 use Rattle.krb_pkinit.specs.Rows.{PkinitRows}
@@ -58,7 +58,7 @@ module _ (client : ClientRecord) (means : MeansRecord) (realm : RealmRecord) (ro
   least = omega arith
 
   module _ (first span : Span) (first_is : IsFirstSpan realm login first) (further_is : IsFurtherSpan realm login first span) where
-    abbrev grant : Grant
+    abbrev grant : GrantRecord
     grant = further_grant client realm login first span
 
     -- the ticket has begun
@@ -92,7 +92,7 @@ module _ (client : ClientRecord) (means : MeansRecord) (realm : RealmRecord) (ro
     module _ (second : GeneralizedTime) (of_moment : seconds_of second ≡ login.client_ap / 1000000) where
       -- the authenticator that the client makes
       abbrev authenticator : AuthenticatorInner
-      authenticator = authenticator_with (told_of client (login.client_ap % 1000000)) second None None
+      authenticator = authenticator_with (authenticator_parts_of client (login.client_ap % 1000000)) second None None
 
       -- the confounders of the ticket's part, and of the authenticator
       abbrev for_part : Bytes
@@ -124,11 +124,11 @@ module _ (client : ClientRecord) (means : MeansRecord) (realm : RealmRecord) (ro
         authenticator_version = refl;
         client = and_from (is_same_realm client.realm realm.name) (is_same_name client.components client.components) (same_realm client.realm realm.name met.honest.named.client) (own_name client.components);
         time = login.client_ap;
-        told = moment_told login.client_ap (seconds_of second) of_moment;
+        ctime = moment_told login.client_ap (seconds_of second) of_moment;
       }
 
       abbrev presented : Presented
-      presented = shown service.entry service.seen.skew (clock_of before login) choice acceptable
+      presented = presented_choice service.entry service.seen.skew (clock_of before login) choice acceptable
 
       -- its pair is the client's
       pair : pair_of presented ≡ login_pair client login
@@ -188,5 +188,5 @@ module _ (client : ClientRecord) (means : MeansRecord) (realm : RealmRecord) (ro
       let second = asks.authenticates.second in
       let of_moment = asks.authenticates.of_moment in
       let own = subst (λ suite. IsApRequest credential 11 true asks.authenticator (authenticator_confounder (cipher_confounder_size suite) login.words_ap) request) held.suite asks.presents in
-      let presents_so = subst (λ a. IsApRequest credential 11 true a (authenticator_confounder (cipher_confounder_size client.suite) login.words_ap) request) asks.authenticates.told own in
+      let presents_so = subst (λ a. IsApRequest credential 11 true a (authenticator_confounder (cipher_confounder_size client.suite) login.words_ap) request) asks.authenticates.is_made own in
       admitted first span first_is further_is second of_moment credential held request outcome presents_so given

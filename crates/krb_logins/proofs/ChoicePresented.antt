@@ -30,9 +30,9 @@ use Rattle.krb_ap_requests.specs.Presents.{Presents}
 use Rattle.krb_ap_requests.proofs.Shown.{request-outer}
 use Rattle.krb_asked.specs.Answers.{is_answer}
 use Rattle.krb_asked.specs.Asked.{AsAskedRecord, TgsAskedRecord}
-use Rattle.krb_client.specs.ApRequest.{subkey_told}
+use Rattle.krb_client.specs.ApRequest.{presented_subkey}
 use Rattle.krb_client.specs.AsReply.{takes_as_reply, takes_reply, takes_sealed}
-use Rattle.krb_client.specs.Authenticators.{ap_request_of, authenticator_with, told_of}
+use Rattle.krb_client.specs.Authenticators.{ap_request_of, authenticator_with, authenticator_parts_of}
 use Rattle.krb_client.specs.Client.{ClientRecord, CredentialRecord}
 use Rattle.krb_client.specs.Means.{MeansRecord}
 use Rattle.krb_client.specs.Messages.{ap_request_bytes, authenticator_bytes}
@@ -158,7 +158,7 @@ whole_request mutual_required ticket suite cipher whole = (((tt, tt), ((tt, tt),
 
 -- its authenticator, with a subkey or none
 whole_own : (client : ClientRecord) (micros : ℕ) (second : GeneralizedTime) (subkey : Option EncryptionKey) → is_general_string client.realm ≡ true → are_texts client.components ≡ true
-    → IsWhole (authenticator_tree (authenticator_with (told_of client micros) second None subkey))
+    → IsWhole (authenticator_tree (authenticator_with (authenticator_parts_of client micros) second None subkey))
 whole_own client micros second None realm names = whole_authenticator client micros second None realm names
 whole_own client micros second (Some key) realm names =
     (((tt, tt), (whole-wrapped 161 (leaf (is_general_string client.realm) 27 client.realm) (whole_text 27 client.realm realm), ((((tt, tt), ((whole_texts 27 client.components names, tt), tt)), tt), ((tt, tt), ((tt, tt), ((((tt, tt), ((tt, tt), tt)), tt), tt)))))), tt)
@@ -178,7 +178,7 @@ presents client means credential mutual_required with_subkey moment words bytes 
     let request : ApReqInner = ap_request_of mutual_required credential.ticket (encrypted_by credential.suite None cipher) in
     let encoding : bytes ≡ der (ap_req_tree request) = shown.encoding ∙ ap (λ part. der (ap_req_tree (ap_request_of mutual_required credential.ticket part))) shown.sealed.told in
     let written : IsApReq bytes request = (whole_request mutual_required credential.ticket credential.suite cipher (whole_ticket means credential by.of_reply), encoding) in
-    let own = whole_own client (moment % 1000000) told.second (subkey_told with_subkey credential.suite words) (realm_text client.realm by.realm) (component_texts client.components by.name) in
+    let own = whole_own client (moment % 1000000) told.second (presented_subkey with_subkey credential.suite words) (realm_text client.realm by.realm) (component_texts client.components by.name) in
     record {
       part_cipher = credential.ticket.enc_part.0.cipher.0;
       cipher = cipher;
@@ -188,7 +188,7 @@ presents client means credential mutual_required with_subkey moment words bytes 
         suite = credential.suite;
         numbered = own_number (cipher_number credential.suite);
         plain = authenticator_bytes by.asks.authenticator;
-        writes = (subst (λ (a : AuthenticatorInner). IsWhole (authenticator_tree a)) (sym told.told) own, refl);
+        writes = (subst (λ (a : AuthenticatorInner). IsWhole (authenticator_tree a)) (sym told.is_made) own, refl);
         sealed = subst (λ k. IsSealedBy credential.suite k 11 confounder (authenticator_bytes by.asks.authenticator) cipher) (sym by.session) shown.sealed.seals;
       };
     }

@@ -21,7 +21,7 @@ use Rattle.krb_accounts.specs.Account.{AccountRecord}
 use Rattle.krb_pkinit.specs.Rows.{PkinitRows}
 use Rattle.decision_tables.specs.Tables.{Table, and_then, ask, done, need, refuse}
 use Rattle.krb_encrypted_data.specs.Sealing.{is_own_number}
-use Rattle.krb_tickets.specs.declared.grant.Grant.{Grant}
+use Rattle.krb_tickets.specs.Grant.{GrantRecord}
 use Rattle.krb_tickets.specs.Parts.{session_key_of}
 use Rattle.krb_tickets.specs.ReplyKeys.{ReplyKeyRecord}
 use Rattle.krb_tickets.specs.Granted.{IsTicketReply}
@@ -38,7 +38,7 @@ use Rattle.krb_client.specs.Held.{principal_name}
 use Rattle.krb_client.specs.Means.{MeansRecord}
 use Rattle.krb_client.specs.Requests.{nonce_of, request_body}
 use Rattle.krb_logins.specs.Authenticated.{IsAgreedKey, first_asked, first_body}
-use Rattle.krb_logins.specs.Held.{IsFirstSpan}
+use Rattle.krb_logins.specs.Held.{IsFirstSpan, first_grant}
 use Rattle.krb_logins.specs.Honest.{common_skew}
 use Rattle.krb_logins.specs.Laws.{IsFirstGranted, IsMet}
 use Rattle.krb_logins.specs.Parties.{LoginRecord, RealmRecord, RememberedRecord, call_at}
@@ -204,19 +204,8 @@ module _ (client : ClientRecord) (means : MeansRecord) (realm : RealmRecord) (ro
       refl met.honest.client.found refl granting_found can_be (can_show padata it) x
 
   -- with the client's suite in place of its account's
-  abbrev grant_in : Span → CipherSuite → Grant
-  grant_in span suite = record {
-    suite = suite;
-    session = session_key_of suite login.realm_words_as;
-    realm = realm.name;
-    client = principal_name 1 client.components;
-    service = principal_name 2 (krbtgt_of client.realm);
-    flags = record { initial = true; pre_authenticated = true };
-    auth_time = span.start;
-    start = span.start;
-    until = span.until;
-    nonce = pos (nonce_of login.words_as);
-  }
+  abbrev grant_in : Span → CipherSuite → GrantRecord
+  grant_in span suite = record (first_grant client realm login span) { suite = suite; session = session_key_of suite login.realm_words_as }
 
   pub first_granted : IsFirstGranted client means realm rows service before login met
   unfolding IsFirstGranted

@@ -14,7 +14,7 @@ use Rattle.krb_accounts.specs.Account.{AccountRecord}
 use Rattle.decision_tables.specs.Tables.{Table, and_then, ask, done}
 use Rattle.krb_encrypted_data.specs.Sealing.{Seals, sealed_opens}
 use Rattle.krb_pkinit.specs.Rows.{PkinitRows}
-use Rattle.krb_tickets.specs.declared.grant.Grant.{Grant}
+use Rattle.krb_tickets.specs.Grant.{GrantRecord}
 use Rattle.krb_tickets.specs.declared.reply.Exchange.TheVariants.{As}
 use Rattle.krb_tickets.specs.Parts.{kdc_reply_of, padata_of, reply_part, ticket_of}
 use Rattle.krb_tickets.specs.ReplyKeys.{ReplyKeyRecord}
@@ -41,18 +41,18 @@ use Rattle.krb_logins.proofs.Passing.{past_ask, past_none, past_refuse}
 use Rattle.krb_logins.proofs.WholeReplies.{AreTexts, reply_written, writes_part}
 
 -- the reply is of the right version and type
-typed : (pk_as_rep : Option Bytes) (grant : Grant) (ticket sealed : EncryptedData)
+typed : (pk_as_rep : Option Bytes) (grant : GrantRecord) (ticket sealed : EncryptedData)
     → is_of_type 11 (kdc_reply_of As pk_as_rep grant (ticket_of grant ticket) sealed).pvno.0 (kdc_reply_of As pk_as_rep grant (ticket_of grant ticket) sealed).msg_type.0 ≡ true
 unfolding kdc_reply_of
 typed pk_as_rep grant ticket sealed = refl
 
 -- its padata is PA-PK-AS-REP or none
-told : (pk_as_rep : Option Bytes) (grant : Grant) (ticket sealed : EncryptedData) → (kdc_reply_of As pk_as_rep grant (ticket_of grant ticket) sealed).padata.0 ≡ padata_of pk_as_rep
+told : (pk_as_rep : Option Bytes) (grant : GrantRecord) (ticket sealed : EncryptedData) → (kdc_reply_of As pk_as_rep grant (ticket_of grant ticket) sealed).padata.0 ≡ padata_of pk_as_rep
 unfolding kdc_reply_of
 told pk_as_rep grant ticket sealed = refl
 
 -- its part is what was sealed for the client
-part_opened : (suite : CipherSuite) (key : Bytes) (kvno : Option ℕ) (pk_as_rep : Option Bytes) (grant : Grant) (confounder : Bytes) (ticket sealed : EncryptedData)
+part_opened : (suite : CipherSuite) (key : Bytes) (kvno : Option ℕ) (pk_as_rep : Option Bytes) (grant : GrantRecord) (confounder : Bytes) (ticket sealed : EncryptedData)
     → AreTexts grant → Seals suite key kvno 3 confounder (reply_part_bytes As (reply_part grant)) sealed
     → IsAsPart suite key (kdc_reply_of As pk_as_rep grant (ticket_of grant ticket) sealed).enc_part.0 (reply_part grant)
 unfolding IsAsPart kdc_reply_of
@@ -100,7 +100,7 @@ module _ (client : ClientRecord) (means : MeansRecord) (asked : AsAskedRecord) w
       (takes_part client asked.service asked.nonce reply) part taken is x
 
 -- what is granted is taken, where it is what was asked for
-taken_of : (client : ClientRecord) (means : MeansRecord) (under : ReplyKeyRecord) (service : AccountRecord) (asked : AsAskedRecord) (grant : Grant) (words : Random) (granted : Bytes) (taken : Taken)
+taken_of : (client : ClientRecord) (means : MeansRecord) (under : ReplyKeyRecord) (service : AccountRecord) (asked : AsAskedRecord) (grant : GrantRecord) (words : Random) (granted : Bytes) (taken : Taken)
     → IsAgreedKey client means asked under → AreTexts grant → IsAskedFor client asked.service asked.nonce grant
     → length grant.session ≡ cipher_key_size grant.suite
     → IsTicketReply grant under service words granted → TakesAsReply client means asked granted taken

@@ -34,7 +34,7 @@ use Rattle.decision_tables.specs.Tables.{Table, and_then, ask, done, need, refus
 use Rattle.krb_encrypted_data.specs.Keys.{suite_of}
 use Rattle.krb_encrypted_data.specs.Sealing.{encryption_key, is_own_number, sealed_opens}
 use Rattle.krb_preauth.specs.Padata.{first_padata, first_of}
-use Rattle.krb_tickets.specs.declared.grant.Grant.{Grant}
+use Rattle.krb_tickets.specs.Grant.{GrantRecord}
 use Rattle.krb_tickets.specs.Parts.{session_key_of, ticket_part}
 use Rattle.krb_tickets.specs.ReplyKeys.{ReplyKeyRecord, tgs_reply_key}
 use Rattle.krb_tickets.specs.Sealed.{ticket_part_bytes}
@@ -47,14 +47,14 @@ use Rattle.krb_ap_requests.specs.Presents.{request_of}
 use Rattle.krb_ap_requests.specs.declared.presented.Authenticated.{Authenticated}
 use Rattle.krb_pkinit.specs.Rows.{PkinitRows}
 use Rattle.krb_kdc_requests.specs.Call.{CallRecord, skew_of}
-use Rattle.krb_as.specs.Grants.{replied}
+use Rattle.krb_kdc_requests.specs.Granting.{replied}
 use Rattle.krb_kdc_requests.specs.Requests.{IsSpan, account_of, body_bytes, client_of, padata_in, is_ended, lasting, service_of}
 use Rattle.krb_as.specs.TicketGranting.{krbtgt_of}
 use Rattle.krb_kdc_requests.specs.declared.span.Span.{Span}
 use Rattle.krb_replies.specs.TgsTable as table
-use Rattle.krb_replies.specs.TgsTable.{carried, counting, covered, further, further_ticket, is_known_checksum, is_of_body, of_carried, of_shown, of_ticket, shown_near, tgs_granted, tgs_table, ticket_granting, to_us}
+use Rattle.krb_replies.specs.TgsTable.{carried, counting, covered, further, further_ticket, is_known_checksum, is_of_body, of_carried, of_authenticated, of_ticket, authenticated_near, tgs_granted, tgs_table, ticket_granting, to_us}
 use Rattle.krb_replies.specs.Replies.{Replies, as_reply, reply_of, tgs_reply}
-use Rattle.krb_client.specs.Authenticators.{IsApRequest, authenticator_with, told_of}
+use Rattle.krb_client.specs.Authenticators.{IsApRequest, authenticator_with, authenticator_parts_of}
 use Rattle.krb_client.specs.Client.{ClientRecord, CredentialRecord}
 use Rattle.krb_client.specs.Held.{principal_name}
 use Rattle.krb_client.specs.Messages.{authenticator_bytes, request_body_bytes, tgs_request_bytes}
@@ -226,7 +226,7 @@ module _ (client : ClientRecord) (means : MeansRecord) (realm : RealmRecord) (ro
   abbrev call : CallRecord
   call = call_at realm login.realm_tgs login.realm_words_tgs
 
-  abbrev old : Grant
+  abbrev old : GrantRecord
   old = first_grant client realm login first
 
   abbrev session : Bytes
@@ -286,7 +286,7 @@ module _ (client : ClientRecord) (means : MeansRecord) (realm : RealmRecord) (ro
     sum = checksum_over granting text
 
     abbrev authenticator : AuthenticatorInner
-    authenticator = authenticator_with (told_of client (login.client_tgs % 1000000)) second (Some sum) None
+    authenticator = authenticator_with (authenticator_parts_of client (login.client_tgs % 1000000)) second (Some sum) None
 
     abbrev shown : Authenticated
     shown = record { suite = client.suite; authenticator = authenticator; time = login.client_tgs }
@@ -369,7 +369,7 @@ module _ (client : ClientRecord) (means : MeansRecord) (realm : RealmRecord) (ro
           (by_need {T = ℕ} {E = ℕ} (moment_at (seconds_of second) (pos (login.client_tgs % 1000000))) 41 at_time login.client_tgs (Ok login.client_tgs)
           (moment_told login.client_tgs (seconds_of second) of_moment) refl)
 
-      is_shown : (shown_near call (ticket_part old) presented).gives (Ok shown)
+      is_shown : (authenticated_near call (ticket_part old) presented).gives (Ok shown)
       is_shown = inl (
         shown,
         inl ((client.suite, authenticator), shown_opens, inl (login.client_tgs, shown_told, refl)),
@@ -426,7 +426,7 @@ module _ (client : ClientRecord) (means : MeansRecord) (realm : RealmRecord) (ro
       abbrev then_granted : Table (Result Bytes ℕ)
       then_granted = tgs_granted call (ticket_part old) shown body
 
-      shown_grants : (r : Result Bytes ℕ) → (of_shown call body (ticket_part old) shown).gives r → then_granted.gives r
+      shown_grants : (r : Result Bytes ℕ) → (of_authenticated call body (ticket_part old) shown).gives r → then_granted.gives r
       unfolding ticket_part
       shown_grants r x = past_then {A = Unit {0}} {T = Bytes} (covered client.suite session authenticator body) (λ _. then_granted) tt r covers_body x
 
@@ -437,7 +437,7 @@ module _ (client : ClientRecord) (means : MeansRecord) (realm : RealmRecord) (ro
           let b = past_then {A = ApReqInner} {T = Bytes} (carried (padata_in request)) (of_carried call body) presented r (is_carried shown_bytes presented is_presented) a in
           let c = past_need {T = Bytes} {E = ℕ} (realm.look (krbtgt_of realm.name)) 7 by_account met.granting.account r met.granting.found b in
           let d = past_then {A = EncTicketPartInner} {T = Bytes} (ticket_granting call met.granting.account presented) (of_ticket call body presented) (ticket_part old) r of_granting c in
-          let e = past_then {A = Authenticated} {T = Bytes} (shown_near call (ticket_part old) presented) (of_shown call body (ticket_part old)) shown r is_shown d in
+          let e = past_then {A = Authenticated} {T = Bytes} (authenticated_near call (ticket_part old) presented) (of_authenticated call body (ticket_part old)) shown r is_shown d in
           grants_further r (shown_grants r e)
 
       granted : (bytes : Bytes) (reply : Option Bytes) → bytes ≡ tgs_request_bytes request → Replies call rows bytes reply
@@ -457,7 +457,7 @@ pub further_granted : (client : ClientRecord) (means : MeansRecord) (realm : Rea
 unfolding IsFurtherGranted
 further_granted client means realm rows service before login met first granting request first_is held asks =
     let shown = asks.authenticates in
-    let presents = subst (λ a. IsApRequest granting 7 false a (authenticator_confounder (cipher_confounder_size granting.suite) login.words_tgs) asks.request) shown.authenticates.told shown.presents in (
+    let presents = subst (λ a. IsApRequest granting 7 false a (authenticator_confounder (cipher_confounder_size granting.suite) login.words_tgs) asks.request) shown.authenticates.is_made shown.presents in (
       λ are. replies_at realm rows login.till login.realm_tgs login.realm_words_tgs request met.keyed met.honest.lasting.further met.enough.realm_tgs are,
       λ reply replied.
           granted client means realm rows service before login met first first_is granting held shown.authenticates.second shown.authenticates.of_moment asks.request presents request reply asks.encoding replied,

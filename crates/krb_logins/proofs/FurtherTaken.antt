@@ -13,7 +13,7 @@ use Rattle.krb_accounts.specs.Account.{AccountRecord}
 use Rattle.krb_pkinit.specs.Rows.{PkinitRows}
 use Rattle.decision_tables.specs.Tables.{Table, ask, done}
 use Rattle.krb_encrypted_data.specs.Sealing.{sealed_opens}
-use Rattle.krb_tickets.specs.declared.grant.Grant.{Grant}
+use Rattle.krb_tickets.specs.Grant.{GrantRecord}
 use Rattle.krb_tickets.specs.declared.reply.Exchange.TheVariants.{Tgs}
 use Rattle.krb_tickets.specs.Parts.{kdc_reply_of, reply_part, session_key_of, ticket_of}
 use Rattle.krb_tickets.specs.ReplyKeys.{tgs_reply_key}
@@ -40,13 +40,13 @@ use Rattle.krb_logins.proofs.Passing.{past_ask, past_none, past_refuse}
 use Rattle.krb_logins.proofs.WholeReplies.{AreTexts, reply_written, writes_part}
 
 -- the reply is of the right version and type
-typed : (grant : Grant) (ticket sealed : EncryptedData)
+typed : (grant : GrantRecord) (ticket sealed : EncryptedData)
     → is_of_type 13 (kdc_reply_of Tgs None grant (ticket_of grant ticket) sealed).pvno.0 (kdc_reply_of Tgs None grant (ticket_of grant ticket) sealed).msg_type.0 ≡ true
 unfolding kdc_reply_of
 typed grant ticket sealed = refl
 
 -- its part is what was sealed under the session's key
-part_opened : (suite held_suite : CipherSuite) (key held_key : Bytes) (grant : Grant) (confounder : Bytes) (ticket sealed : EncryptedData)
+part_opened : (suite held_suite : CipherSuite) (key held_key : Bytes) (grant : GrantRecord) (confounder : Bytes) (ticket sealed : EncryptedData)
     → suite ≡ held_suite → key ≡ held_key → AreTexts grant
     → IsSealedReply (tgs_reply_key suite key) confounder (reply_part_bytes Tgs (reply_part grant)) sealed
     → IsTgsPart held_suite held_key 8 (kdc_reply_of Tgs None grant (ticket_of grant ticket) sealed).enc_part.0 (reply_part grant)
@@ -78,7 +78,7 @@ module _ (client : ClientRecord) (asked : TgsAskedRecord) where
       (past_refuse {T = CredentialRecord} {E = TakeRefusal} (not (is_of_type 13 reply.pvno.0 reply.msg_type.0)) Unreadable (by_key reply) taken (ap not of_type) x)
 
 -- what is granted is taken, where it is what was asked for
-taken_of : (client : ClientRecord) (suite : CipherSuite) (key : Bytes) (account : AccountRecord) (asked : TgsAskedRecord) (grant : Grant) (words : Random) (granted : Bytes) (taken : Taken)
+taken_of : (client : ClientRecord) (suite : CipherSuite) (key : Bytes) (account : AccountRecord) (asked : TgsAskedRecord) (grant : GrantRecord) (words : Random) (granted : Bytes) (taken : Taken)
     → suite ≡ asked.suite → key ≡ asked.key → AreTexts grant → IsAskedFor client asked.service asked.nonce grant
     → length grant.session ≡ cipher_key_size grant.suite
     → IsTicketReply grant (tgs_reply_key suite key) account words granted → TakesTgsReply client asked granted taken

@@ -18,7 +18,7 @@ use Rattle.decision_tables.specs.Tables.{Table, done, need}
 use Rattle.krb_encrypted_data.specs.Keys.{suite_of}
 use Rattle.krb_encrypted_data.proofs.KeySizes.{suite_of_sized}
 use Rattle.krb_encrypted_data.specs.Sealing.{encryption_key}
-use Rattle.krb_tickets.specs.declared.grant.Grant.{Grant}
+use Rattle.krb_tickets.specs.Grant.{GrantRecord}
 use Rattle.krb_tickets.specs.declared.reply.Exchange.{Exchange}
 use Rattle.krb_tickets.specs.Parts.{kdc_reply_of, reply_part, session_key_of, ticket_of, ticket_part}
 use Rattle.krb_tickets.specs.Sealed.{IsSealedData, ticket_part_bytes}
@@ -41,13 +41,13 @@ pub suite_of_key : (suite : CipherSuite) (key : Bytes) → length key ≡ cipher
 suite_of_key suite key sized = suite_of_sized (encryption_key suite key) suite refl sized
 
 -- the grant is what the client asked for
-pub record IsAskedFor (client : ClientRecord) (asked : List Bytes) (number : ℕ) (grant : Grant) : Type 0 where
+pub record IsAskedFor (client : ClientRecord) (asked : List Bytes) (number : ℕ) (grant : GrantRecord) : Type 0 where
   pub nonce : grant.nonce ≡ pos number
   pub realm : grant.realm ≡ client.realm
   pub name : components grant.client ≡ client.components
   pub service : components grant.service ≡ asked
 
-module _ (client : ClientRecord) (asked : List Bytes) (number : ℕ) (exchange : Exchange) (pk_as_rep : Option Bytes) (grant : Grant) (ticket sealed : EncryptedData) where
+module _ (client : ClientRecord) (asked : List Bytes) (number : ℕ) (exchange : Exchange) (pk_as_rep : Option Bytes) (grant : GrantRecord) (ticket sealed : EncryptedData) where
   abbrev reply : KdcRep
   reply = kdc_reply_of exchange pk_as_rep grant (ticket_of grant ticket) sealed
 

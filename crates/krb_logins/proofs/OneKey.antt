@@ -39,7 +39,7 @@ use Rattle.krb_logins.specs.Authenticated.{first_asked}
 use Rattle.krb_logins.specs.Held.{IsFirstSpan, IsFurtherSpan, IsHeld, first_grant, further_grant}
 use Rattle.krb_logins.specs.Honest.{IsOneKey, IsWantOfMemory, clock_of, login_pair}
 use Rattle.krb_logins.specs.Laws.{IsClientAdmitted, IsFirstGranted, IsFirstTaken, IsFurtherGranted, IsFurtherTaken, IsMet}
-use Rattle.krb_logins.specs.LoginRun.{ApExchange, AsExchange, Exchanges, IsAdmitted, Login, LoginRun, TgsExchange, ended, followed, shown}
+use Rattle.krb_logins.specs.LoginRun.{ApExchange, AsExchange, Exchanges, IsAdmitted, Login, LoginRun, TgsExchange, ended, followed, after_admission}
 use Rattle.krb_logins.specs.Parties.{LoginRecord, RealmRecord, RememberedRecord, call_at}
 use Rattle.krb_logins.specs.Steps.{IsAnswered, IsApAsked, IsAsAsked, IsTgsAsked, IsUnnamed, reply_bytes}
 use Rattle.krb_logins.specs.declared.refusal.LoginRefusal.{LoginRefusal}
@@ -276,7 +276,7 @@ module _ (client : ClientRecord) (means : MeansRecord) (realm : RealmRecord) (ro
         let keyed = ap (λ a. a.key) asked.1 ∙ holds.2.2.key in
         (λ i. encryption_key (suited i) (keyed i)) ∙ sym is.1
 
-    admitted_so : (admission : AdmissionRecord) (outcome : Outcome) (result : Result Login LoginRefusal) → IsIn outcome admission → shown sent.1 (Ok admission) result → Ends HaveOneKey result
+    admitted_so : (admission : AdmissionRecord) (outcome : Outcome) (result : Result Login LoginRefusal) → IsIn outcome admission → after_admission sent.1 (Ok admission) result → Ends HaveOneKey result
     unfolding IsApAsked
     admitted_so admission outcome result is =
         followed_ends (IsTaken (takes_ap_reply sent.1 (reply_bytes admission.reply))) Taken (λ _. ended (encryption_key sent.1.suite sent.1.key, admission)) HaveOneKey result
@@ -285,7 +285,7 @@ module _ (client : ClientRecord) (means : MeansRecord) (realm : RealmRecord) (ro
         (λ taken x. (tt, is.4 taken (subst (λ a. (takes_ap_reply a (reply_bytes admission.reply)).gives taken) asked.1 x))))
 
     served : (answer : Result AdmissionRecord AdmitRefusal) (after : RememberedRecord) (result : Result Login LoginRefusal) → IsAdmitted service login sent.0 before answer after
-        → shown sent.1 answer result → Ends HaveOneKey result
+        → after_admission sent.1 answer result → Ends HaveOneKey result
     unfolding IsAdmitted
     served (Ok admission) after result x y =
         let it = outcome_is after.greatest (Ok admission, after.admitted) x.0 x.1 in

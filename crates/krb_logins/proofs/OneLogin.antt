@@ -36,7 +36,7 @@ use Rattle.krb_service.specs.Runs as runs
 use Rattle.krb_service.specs.Service.{ServiceRecord}
 use Rattle.krb_logins.proofs.OneKey.{no_refusal, no_reply, one_reply, one_value}
 use Rattle.krb_logins.specs.Honest.{IsWantOfMemory, WantsMemory}
-use Rattle.krb_logins.specs.LoginRun.{ApExchange, AsExchange, Exchanges, IsAdmitted, Login, LoginRun, TgsExchange, ended, followed, shown}
+use Rattle.krb_logins.specs.LoginRun.{ApExchange, AsExchange, Exchanges, IsAdmitted, Login, LoginRun, TgsExchange, ended, followed, after_admission}
 use Rattle.krb_logins.specs.Parties.{LoginRecord, RealmRecord, RememberedRecord, call_at}
 use Rattle.krb_logins.specs.Steps.{AreDecided, IsAnswered, IsApAsked, IsAsAsked, IsTgsAsked, IsUnnamed, reply_bytes}
 use Rattle.krb_logins.specs.declared.refusal.LoginRefusal.{LoginRefusal}
@@ -273,13 +273,13 @@ module _ (client : ClientRecord) (means : MeansRecord) (decided : AreDecided mea
       (subst (λ g. runs.IsAnswered (remembering service g before.admitted request login.service_words).gives before.admitted other other_after.admitted) (sym same) y.1))
 
   -- what the client shows of an admission
-  one_shown : (asked : ApAskedRecord) (answer : Result AdmissionRecord AdmitRefusal) → IsOne IsWantOfMemory (shown asked answer)
+  one_shown : (asked : ApAskedRecord) (answer : Result AdmissionRecord AdmitRefusal) → IsOne IsWantOfMemory (after_admission asked answer)
   one_shown asked (Ok admission) result other x y =
       one_followed TakeWants (IsTaken (takes_ap_reply asked (reply_bytes admission.reply))) Taken (λ _. ended (encryption_key asked.suite asked.key, admission))
       (λ _. one_ended (encryption_key asked.suite asked.key, admission)) take_aside (one_taken (takes_ap_reply asked (reply_bytes admission.reply))) result other x y
   one_shown asked (Err refusal) result other x y = inr (inr (x ∙ sym y))
 
-  shown_wants : (asked : ApAskedRecord) (answer : Result AdmissionRecord AdmitRefusal) (result : Result Login LoginRefusal) → Wants AdmitWants answer → shown asked answer result
+  shown_wants : (asked : ApAskedRecord) (answer : Result AdmissionRecord AdmitRefusal) (result : Result Login LoginRefusal) → Wants AdmitWants answer → after_admission asked answer result
       → Wants IsWantOfMemory result
   shown_wants asked (Ok admission) result wants x = absurd wants
   shown_wants asked (Err refusal) result wants x = subst (Wants IsWantOfMemory) (sym x) wants
@@ -291,11 +291,11 @@ module _ (client : ClientRecord) (means : MeansRecord) (decided : AreDecided mea
   with_after result other after other_after e (inr (inr same)) = inr (inr (same, e))
 
   one_showing : (asked : ApAskedRecord) (answer other_answer : Result AdmissionRecord AdmitRefusal) (result other : Result Login LoginRefusal) (after other_after : RememberedRecord)
-      → shown asked answer result → shown asked other_answer other → AreOneRun AdmitWants answer other_answer after other_after → AreOneRun IsWantOfMemory result other after other_after
+      → after_admission asked answer result → after_admission asked other_answer other → AreOneRun AdmitWants answer other_answer after other_after → AreOneRun IsWantOfMemory result other after other_after
   one_showing asked answer other_answer result other after other_after x y (inl wants) = inl (shown_wants asked answer result wants x)
   one_showing asked answer other_answer result other after other_after x y (inr (inl wants)) = inr (inl (shown_wants asked other_answer other wants y))
   one_showing asked answer other_answer result other after other_after x y (inr (inr same)) =
-      with_after result other after other_after same.1 (one_shown asked other_answer result other (subst (λ a. shown asked a result) same.0 x) y)
+      with_after result other after other_after same.1 (one_shown asked other_answer result other (subst (λ a. after_admission asked a result) same.0 x) y)
 
   -- the AP exchange
   module _ (credential : CredentialRecord) where
@@ -303,7 +303,7 @@ module _ (client : ClientRecord) (means : MeansRecord) (decided : AreDecided mea
     Asks = IsApAsked client credential login.client_ap login.words_ap
 
     abbrev Goes : Bytes × ApAskedRecord → Result Login LoginRefusal → RememberedRecord → Type 0
-    Goes sent result after = (answer : Result AdmissionRecord AdmitRefusal) × IsAdmitted service login sent.0 before answer after × shown sent.1 answer result
+    Goes sent result after = (answer : Result AdmissionRecord AdmitRefusal) × IsAdmitted service login sent.0 before answer after × after_admission sent.1 answer result
 
     both_gone : (sent other_sent : Bytes × ApAskedRecord) (result other : Result Login LoginRefusal) (after other_after : RememberedRecord) → Goes sent result after → Goes other_sent other other_after
         → AreOne {A = Bytes × ApAskedRecord} {E = AskRefusal} AskWants (Ok sent) (Ok other_sent) → AreOneRun IsWantOfMemory result other after other_after

@@ -11,7 +11,7 @@ use Rattle.krb_messages.specs.Messages.{IsApReq, sole_ap_req}
 use Rattle.decision_tables.specs.Tables.{Table, and_then, as_made, done, make, refuse}
 use Rattle.krb_service.specs.Pair.{PairRecord, is_among}
 use Rattle.krb_ap_requests.proofs.Accepted.{presented_as_chosen}
-use Rattle.krb_ap_requests.specs.Acceptable.{shown}
+use Rattle.krb_ap_requests.specs.Acceptable.{presented_choice}
 use Rattle.krb_ap_requests.specs.Admission.{admission_of}
 use Rattle.krb_service.specs.ApReply.{IsReplyTo, sole_reply_to}
 use Rattle.krb_ap_requests.specs.ApTable.{presented}
@@ -46,7 +46,7 @@ admitted_once skew moment admitted words p r near new x =
 module _ (service : ServiceRecord) (moment : Micros) (admitted : List PairRecord) (bytes : Bytes) (words : Random) (choice : Choice) (x : IsAdmissible service moment admitted choice)
     (y : Presents service.entry.key choice bytes) where
   abbrev own_shown : Presented
-  own_shown = shown service.entry service.seen.skew moment choice x.acceptable
+  own_shown = presented_choice service.entry service.seen.skew moment choice x.acceptable
 
   abbrev own_request : ApReqInner
   own_request = request_of choice.outer y.part_cipher y.cipher

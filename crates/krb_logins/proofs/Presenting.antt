@@ -17,7 +17,7 @@ use Rattle.krb_accounts.specs.Account.{AccountRecord}
 use Rattle.krb_encrypted_data.specs.Sealing.{Seals, encrypted_by}
 use Rattle.krb_tickets.specs.Parts.{ticket_of, ticket_part}
 use Rattle.krb_tickets.specs.Sealed.{IsSealedData, ticket_part_bytes}
-use Rattle.krb_tickets.specs.declared.grant.Grant.{Grant}
+use Rattle.krb_tickets.specs.Grant.{GrantRecord}
 use Rattle.krb_ap_requests.specs.Entry.{EntryRecord}
 use Rattle.krb_ap_requests.specs.Presents.{Choice, Presents, SealsTo, request_of}
 use Rattle.krb_client.specs.Authenticators.{IsApRequest, ap_request_of, options_of}
@@ -39,7 +39,7 @@ own_number : (number : ℕ) → is_number number (pos number) ≡ true
 own_number number = eq-eqb number number refl
 
 -- what a client chooses with the ticket of a grant, where it wants a reply or none
-abbrev pub choice_of : Bool → EntryRecord → Grant → AuthenticatorInner → Bytes → Bytes → Choice
+abbrev pub choice_of : Bool → EntryRecord → GrantRecord → AuthenticatorInner → Bytes → Bytes → Choice
 choice_of wanted entry grant authenticator part_confounder confounder = record {
   outer = record {
     pvno = pos 5;
@@ -59,7 +59,7 @@ choice_of wanted entry grant authenticator part_confounder confounder = record {
   confounder = confounder;
 }
 
-module _ (usage : ℕ) (wanted : Bool) (entry : EntryRecord) (grant : Grant) (credential : CredentialRecord) (authenticator : AuthenticatorInner) (part_confounder confounder bytes : Bytes) (part : EncryptedData)
+module _ (usage : ℕ) (wanted : Bool) (entry : EntryRecord) (grant : GrantRecord) (credential : CredentialRecord) (authenticator : AuthenticatorInner) (part_confounder confounder bytes : Bytes) (part : EncryptedData)
     (sealed : Seals entry.suite entry.key (Some entry.kvno) 2 part_confounder (ticket_part_bytes (ticket_part grant)) part)
     (ticket : credential.ticket ≡ ticket_of grant part) (suite : credential.suite ≡ grant.suite) (key : credential.key ≡ grant.session)
     (asks : IsApRequest credential usage wanted authenticator confounder bytes) where
@@ -92,7 +92,7 @@ module _ (usage : ℕ) (wanted : Bool) (entry : EntryRecord) (grant : Grant) (cr
   }
 
 -- and shows to a service
-pub presents : (wanted : Bool) (entry : EntryRecord) (grant : Grant) (credential : CredentialRecord) (authenticator : AuthenticatorInner) (part_confounder confounder bytes : Bytes) (part : EncryptedData)
+pub presents : (wanted : Bool) (entry : EntryRecord) (grant : GrantRecord) (credential : CredentialRecord) (authenticator : AuthenticatorInner) (part_confounder confounder bytes : Bytes) (part : EncryptedData)
     → Seals entry.suite entry.key (Some entry.kvno) 2 part_confounder (ticket_part_bytes (ticket_part grant)) part
     → credential.ticket ≡ ticket_of grant part → credential.suite ≡ grant.suite → credential.key ≡ grant.session → IsApRequest credential 11 wanted authenticator confounder bytes
     → is_general_string grant.realm ≡ true → are_texts grant.service.name_string.0 ≡ true → IsWhole (enc_ticket_part_tree (ticket_part grant)) → IsWhole (authenticator_tree authenticator)

@@ -10,13 +10,13 @@ use Rattle.krb_kdc_requests.specs.declared.span.Span.{Span}
 use Rattle.krb_ap_requests.specs.ApTable.{is_early, is_late}
 use Rattle.krb_tickets.specs.Parts.{ticket_part}
 use Rattle.krb_tickets.specs.Times.{asked_end, last_second, old_end, start_of}
-use Rattle.krb_tickets.specs.declared.grant.Grant.{Grant}
+use Rattle.krb_tickets.specs.Grant.{GrantRecord}
 use Rattle.krb_logins.specs.Honest.{IsWithin}
 use Rattle.krb_logins.proofs.LastSecond.{second_below}
 use Rattle.krb_logins.proofs.Times.{asked_below}
 
 -- a ticket that has begun at the moment and the skew isn't early
-pub not_early : (grant : Grant) (skew moment : Micros) → seconds_of grant.start * 1000000 ≤ moment + skew → is_early skew moment (ticket_part grant) ≡ false
+pub not_early : (grant : GrantRecord) (skew moment : Micros) → seconds_of grant.start * 1000000 ≤ moment + skew → is_early skew moment (ticket_part grant) ≡ false
 unfolding ticket_part
 not_early grant skew moment begun =
     or_from (nat_lt (moment + skew) (seconds_of grant.start * 1000000)) false (le-ltb (moment + skew) (seconds_of grant.start * 1000000) begun) refl
@@ -25,7 +25,7 @@ not_early grant skew moment begun =
 abbrev pub Reaches : Micros → Micros → Seconds → Type 0
 Reaches skew moment end = moment ≤ end * 1000000 + skew
 
-pub not_late : (grant : Grant) (skew moment : Micros) → Reaches skew moment (seconds_of grant.until) → is_late skew moment (ticket_part grant) ≡ false
+pub not_late : (grant : GrantRecord) (skew moment : Micros) → Reaches skew moment (seconds_of grant.until) → is_late skew moment (ticket_part grant) ≡ false
 unfolding ticket_part
 not_late grant skew moment reaches = le-ltb (seconds_of grant.until * 1000000 + skew) moment reaches
 

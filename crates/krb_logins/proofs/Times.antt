@@ -24,9 +24,9 @@ moment_told moment second e = told moment second (moment % 1000000) (omega (arit
 -- two moments in one span aren't far from one another
 pub near : (start span skew a b : Micros) → IsWithin start span a → IsWithin start span b → span ≤ skew → is_far skew a b ≡ false
 near start span skew a b x y least =
-    or_from (nat_lt (skew + a) b) (nat_lt (skew + b) a)
-    (le-ltb (skew + a) b (omega (arith, x.begun, x.lasts, y.begun, y.lasts, least)))
-    (le-ltb (skew + b) a (omega (arith, x.begun, x.lasts, y.begun, y.lasts, least)))
+    or_from (nat_lt (a + skew) b) (nat_lt (b + skew) a)
+    (le-ltb (a + skew) b (omega (arith, x.begun, x.lasts, y.begun, y.lasts, least)))
+    (le-ltb (b + skew) a (omega (arith, x.begun, x.lasts, y.begun, y.lasts, least)))
 
 pub lesser : (a b : ℕ) → min a b ≤ a
 lesser a b = omega arith

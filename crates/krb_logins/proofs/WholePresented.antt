@@ -10,8 +10,8 @@ use Rattle.krb_types.specs.declared.data_types.checksum.Checksum.{Checksum}
 use Rattle.krb_messages.specs.Messages.{ap_req_tree, authenticator_tree, enc_ticket_part_tree}
 use Rattle.krb_encrypted_data.specs.Sealing.{encrypted_by}
 use Rattle.krb_tickets.specs.Parts.{ticket_of, ticket_part}
-use Rattle.krb_tickets.specs.declared.grant.Grant.{Grant}
-use Rattle.krb_client.specs.Authenticators.{ap_request_of, authenticator_with, told_of}
+use Rattle.krb_tickets.specs.Grant.{GrantRecord}
+use Rattle.krb_client.specs.Authenticators.{ap_request_of, authenticator_with, authenticator_parts_of}
 use Rattle.krb_client.specs.Client.{ClientRecord}
 use Rattle.krb_logins.proofs.Names.{are_texts}
 use Rattle.krb_logins.proofs.WholeRequests.{whole_text, whole_texts}
@@ -21,7 +21,7 @@ tagged_text : (tag : ℕ) (text : Bytes) → is_general_string text ≡ true →
 tagged_text tag text is = whole-wrapped tag (leaf (is_general_string text) 27 text) (whole_text 27 text is)
 
 -- a client's request with the ticket of a grant
-pub whole_request : (wanted : Bool) (grant : Grant) (ticket_suite suite : CipherSuite) (kvno : ℕ) (part_cipher cipher : Bytes) → is_general_string grant.realm ≡ true
+pub whole_request : (wanted : Bool) (grant : GrantRecord) (ticket_suite suite : CipherSuite) (kvno : ℕ) (part_cipher cipher : Bytes) → is_general_string grant.realm ≡ true
     → are_texts grant.service.name_string.0 ≡ true
     → IsWhole (ap_req_tree (ap_request_of wanted (ticket_of grant (encrypted_by ticket_suite (Some kvno) part_cipher)) (encrypted_by suite None cipher)))
 unfolding ticket_of
@@ -29,14 +29,14 @@ whole_request wanted grant ticket_suite suite kvno part_cipher cipher realm name
     (((tt, tt), ((tt, tt), ((tt, tt), (((((tt, tt), (tagged_text 161 grant.realm realm, ((((tt, tt), ((whole_texts 27 grant.service.name_string.0 names, tt), tt)), tt), ((((tt, tt), ((tt, tt), ((tt, tt), tt))), tt), tt)))), tt), tt), ((((tt, tt), ((tt, tt), tt)), tt), tt))))), tt)
 
 -- a grant's ticket part
-pub whole_part : (grant : Grant) → is_general_string grant.realm ≡ true → are_texts grant.client.name_string.0 ≡ true → IsWhole (enc_ticket_part_tree (ticket_part grant))
+pub whole_part : (grant : GrantRecord) → is_general_string grant.realm ≡ true → are_texts grant.client.name_string.0 ≡ true → IsWhole (enc_ticket_part_tree (ticket_part grant))
 unfolding ticket_part
 whole_part grant realm names =
     (((tt, tt), ((((tt, tt), ((tt, tt), tt)), tt), (tagged_text 162 grant.realm realm, ((((tt, tt), ((whole_texts 27 grant.client.name_string.0 names, tt), tt)), tt), ((((tt, tt), ((tt, tt), tt)), tt), ((tt, tt), ((tt, tt), ((tt, tt), tt)))))))), tt)
 
 -- a client's authenticator, with a checksum or none
 pub whole_authenticator : (client : ClientRecord) (micros : ℕ) (second : GeneralizedTime) (checksum : Option Checksum) → is_general_string client.realm ≡ true
-    → are_texts client.components ≡ true → IsWhole (authenticator_tree (authenticator_with (told_of client micros) second checksum None))
+    → are_texts client.components ≡ true → IsWhole (authenticator_tree (authenticator_with (authenticator_parts_of client micros) second checksum None))
 whole_authenticator client micros second None realm names =
     (((tt, tt), (tagged_text 161 client.realm realm, ((((tt, tt), ((whole_texts 27 client.components names, tt), tt)), tt), ((tt, tt), ((tt, tt), tt))))), tt)
 whole_authenticator client micros second (Some checksum) realm names =

@@ -5,7 +5,7 @@ use Rattle.krb_crypto.specs.Suites.{cipher_confounder_size}
 use Rattle.krb_types.specs.RandomBytes.{Random, ticket_confounder}
 use Rattle.krb_types.specs.declared.data_types.encrypted_data.EncryptedData.{EncryptedData}
 use Rattle.krb_accounts.specs.Account.{AccountRecord}
-use Rattle.krb_tickets.specs.declared.grant.Grant.{Grant}
+use Rattle.krb_tickets.specs.Grant.{GrantRecord}
 use Rattle.krb_tickets.specs.Parts.{session_key_of, ticket_of, ticket_part}
 use Rattle.krb_tickets.specs.Sealed.{IsSealedData, ticket_part_bytes}
 use Rattle.krb_kdc_requests.specs.Requests.{IsSpan}
@@ -17,7 +17,7 @@ use Rattle.krb_client.specs.Requests.{nonce_of}
 use Rattle.krb_logins.specs.Parties.{LoginRecord, RealmRecord}
 
 -- the first ticket, for the realm's ticket-granting service: a session key of the client's suite from the realm's random bytes
-abbrev pub first_grant : ClientRecord → RealmRecord → LoginRecord → Span → Grant
+abbrev pub first_grant : ClientRecord → RealmRecord → LoginRecord → Span → GrantRecord
 first_grant client realm login span = record {
   suite = client.suite;
   session = session_key_of client.suite login.realm_words_as;
@@ -37,7 +37,7 @@ IsFirstSpan realm login span = IsSpan realm.settings.lifetime login.realm_as Non
 
 -- the further ticket, for the service: of the first one the client, the time of the authentication, and that it was by
 -- preauthentication
-abbrev pub further_grant : ClientRecord → RealmRecord → LoginRecord → Span → Span → Grant
+abbrev pub further_grant : ClientRecord → RealmRecord → LoginRecord → Span → Span → GrantRecord
 further_grant client realm login first span = record {
   suite = client.suite;
   session = session_key_of client.suite login.realm_words_tgs;
@@ -58,7 +58,7 @@ IsFurtherSpan realm login first span =
 
 -- the client holds what was granted: the ticket, whose part is sealed under the service's key (usage 2; RFC 4120, section
 -- 7.5.1), its session key, and the service that it is for
-pub record IsHeld (account : AccountRecord) (words : Random) (grant : Grant) (credential : CredentialRecord) : Type 0 where
+pub record IsHeld (account : AccountRecord) (words : Random) (grant : GrantRecord) (credential : CredentialRecord) : Type 0 where
   pub part : EncryptedData
   pub sealed : IsSealedData account 2 (ticket_confounder (cipher_confounder_size account.suite) words) (ticket_part_bytes (ticket_part grant)) part
   pub ticket : credential.ticket ≡ ticket_of grant part

@@ -59,9 +59,9 @@ abbrev pub Login : Type 0
 Login = EncryptionKey × AdmissionRecord
 
 -- the client takes the service's reply
-abbrev pub shown : ApAskedRecord → Result AdmissionRecord AdmitRefusal → Result Login LoginRefusal → Type 0
-shown asked (Ok admission) = followed (IsTaken (takes_ap_reply asked (reply_bytes admission.reply))) Taken (λ _. ended (encryption_key asked.suite asked.key, admission))
-shown asked (Err refusal) = λ result. result ≡ Err (Admitted refusal)
+abbrev pub after_admission : ApAskedRecord → Result AdmissionRecord AdmitRefusal → Result Login LoginRefusal → Type 0
+after_admission asked (Ok admission) = followed (IsTaken (takes_ap_reply asked (reply_bytes admission.reply))) Taken (λ _. ended (encryption_key asked.suite asked.key, admission))
+after_admission asked (Err refusal) = λ result. result ≡ Err (Admitted refusal)
 
 -- a service that remembered the one remembers the other after a call that is answered so (RFC 4120, section 3.2.3)
 unfoldable pub IsAdmitted : ServiceRecord → LoginRecord → Bytes → RememberedRecord → Result AdmissionRecord AdmitRefusal → RememberedRecord → Type 0
@@ -73,7 +73,7 @@ IsAdmitted service login request before answer after =
 unfoldable pub ApExchange : ClientRecord → ServiceRecord → LoginRecord → CredentialRecord → RememberedRecord → Result Login LoginRefusal → RememberedRecord → Type 0
 ApExchange client service login credential before result after =
     ((sent : Bytes × ApAskedRecord) × IsApAsked client credential login.client_ap login.words_ap (Ok sent)
-    × ((answer : Result AdmissionRecord AdmitRefusal) × IsAdmitted service login sent.0 before answer after × shown sent.1 answer result))
+    × ((answer : Result AdmissionRecord AdmitRefusal) × IsAdmitted service login sent.0 before answer after × after_admission sent.1 answer result))
     ⊎ ((refusal : AskRefusal) × IsApAsked client credential login.client_ap login.words_ap (Err refusal) × (result ≡ Err (Asked refusal)) × (after ≡ before))
 
 -- what a login by the client's means answers at a realm that judges PA-PK-AS-REQ by these rows, and what the service remembers after

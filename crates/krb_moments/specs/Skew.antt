@@ -2,6 +2,10 @@
 use Rattle.std.specs.Prelude.{◌+◌, nat_lt, Bool, ◌||◌}
 use Rattle.krb_moments.specs.Units.{Micros}
 
+-- a moment is before another one by more than the skew
+abbrev pub is_before : Micros → Micros → Micros → Bool
+is_before skew moment other = nat_lt (moment + skew) other
+
 -- two moments differ by more than the skew
 abbrev pub is_far : Micros → Micros → Micros → Bool
-is_far skew moment other = nat_lt (skew + moment) other || nat_lt (skew + other) moment
+is_far skew moment other = is_before skew moment other || is_before skew other moment

@@ -1,8 +1,9 @@
 //! Moments on the calendar.
-ghost use Rattle.std.specs.Prelude.{◌≡◌, ◌≢◌, ◌+◌, ◌*◌, ◌/◌, ◌%◌, ◌<◌, MatchOption};
+ghost use Rattle.std.specs.Prelude.{◌≡◌, ◌≢◌, ◌≤◌, ◌+◌, ◌*◌, ◌/◌, ◌%◌, ◌<◌, MatchOption};
 ghost use Rattle.asn1_leaves.specs.declared.date.GeneralizedTime.{GeneralizedTime as Time};
 ghost use Rattle.picky_asn1.specs.GeneralizedTime.{time_text, seconds_of};
 ghost use Rattle.krb_moments.specs.Calendar.{IsMomentOfText};
+ghost use Rattle.krb_moments.specs.Skew.{is_before};
 
 use crate::Moment;
 use picky_asn1::date::GeneralizedTime;
@@ -29,6 +30,22 @@ impl Moment {
         ensures { result ≡ seconds_of time * 1000000 + microsecond }
     {
         Moment::new(time.seconds() * MICROSECONDS_IN_SECOND + microsecond as u64).unwrap()
+    }
+
+    /// Whether the moment is before the beginning of a second by more than the skew, which is in microseconds, a day at most.
+    pub fn is_before(self, time: GeneralizedTime, skew: u64) -> bool
+        requires { skew ≤ 86400000000 }
+        ensures { result ≡ is_before skew self (seconds_of time * 1000000) }
+    {
+        self.micros() + skew < time.seconds() * MICROSECONDS_IN_SECOND
+    }
+
+    /// Whether the moment is after the beginning of a second by more than the skew, which is in microseconds, a day at most.
+    pub fn is_after(self, time: GeneralizedTime, skew: u64) -> bool
+        requires { skew ≤ 86400000000 }
+        ensures { result ≡ is_before skew (seconds_of time * 1000000) self }
+    {
+        time.seconds() * MICROSECONDS_IN_SECOND + skew < self.micros()
     }
 
     /// The second that the moment lies in.

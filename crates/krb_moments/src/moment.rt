@@ -43,6 +43,7 @@ impl Moment {
     {
         self.micros
     }
+
     /// Whether the two moments differ by more than the skew, which is in microseconds, a day at most (RFC 4120,
     /// section 5.9.1, KRB_AP_ERR_SKEW).
     pub fn is_far_from(self, other: Moment, skew: u64) -> bool
@@ -51,6 +52,6 @@ impl Moment {
     {
         let moment = self.micros();
         let other = other.micros();
-        skew + moment < other || skew + other < moment
+        moment + skew < other || other + skew < moment
     }
 }

@@ -8,5 +8,5 @@ mod padata;
 
 pub use encrypted_timestamp::{moment_of, open_encrypted_timestamp};
 pub use methods::{method_data, pa_data};
-pub use names::krbtgt_of;
+pub use names::{krbtgt, krbtgt_of};
 pub use padata::first_of;

@@ -18,10 +18,17 @@ pub fn krbtgt_of(
     Ok(name)
 }
 
+/// The first component of the name of each ticket-granting service (RFC 4120, section 7.3).
+pub fn krbtgt() -> &'static [u8]
+    ensures { result.now ≡ codes "krbtgt" }
+{
+    b"krbtgt"
+}
+
 fn service_text(alloc: Global) -> Result<GeneralStringAsn1, AllocError>
     ensures { IfOk result (λ text. text ≡ codes "krbtgt") }
 {
-    match GeneralStringAsn1::new(alloc, b"krbtgt") {
+    match GeneralStringAsn1::new(alloc, krbtgt()) {
         Ok(text) => Ok(text),
         Err(_) => Err(AllocError),
     }

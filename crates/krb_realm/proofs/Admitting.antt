@@ -18,7 +18,7 @@ use Rattle.krb_client.specs.declared.refusal.TakeRefusal.{TakeRefusal}
 use Rattle.krb_client.specs.declared.refusal.TakeRefusal.TheVariants as take_refusal
 use Rattle.krb_service.specs.RememberingService.{IsStep, remembering}
 use Rattle.krb_service.specs.Service.{ServiceRecord}
-use Rattle.krb_logins.specs.LoginRun.{ApExchange, Exchanges, IsAdmitted, Login, LoginRun, shown}
+use Rattle.krb_logins.specs.LoginRun.{ApExchange, Exchanges, IsAdmitted, Login, LoginRun, after_admission}
 use Rattle.krb_logins.specs.Parties.{LoginRecord, RealmRecord, RememberedRecord}
 use Rattle.krb_logins.specs.Steps.{reply_bytes}
 use Rattle.krb_logins.specs.declared.refusal.LoginRefusal.{LoginRefusal}
@@ -92,7 +92,7 @@ module _ (client : ClientRecord) (service : ServiceRecord) (login : LoginRecord)
         (x.1.0, inl ((request.items, asked), asks, (Err x.0, subst (λ bytes. IsAdmitted service login bytes before (Err x.0) x.1.0) is_sent x.1.1, same ∙ ap Err x.2)), x.1.2, x.1.3)
 
     module _ (admission : AdmissionRecord) (admits : Admit service login lent before (Ok admission) seen) where
-      ap_taken : (result : Result Login LoginRefusal) → shown asked (Ok admission) result → HasExchanged result
+      ap_taken : (result : Result Login LoginRefusal) → after_admission asked (Ok admission) result → HasExchanged result
       unfolding ApAsk Admit ApExchange
       ap_taken result x =
           (admits.0, inl ((request.items, asked), asks, (Ok admission, subst (λ bytes. IsAdmitted service login bytes before (Ok admission) admits.0) is_sent admits.1, x)), admits.2, admits.3)

@@ -18,7 +18,7 @@ use Rattle.krb_logins.specs.Parties.{LoginRecord, RealmRecord, call_at}
 use Rattle.krb_logins.specs.Steps.{IsAnswered, IsAsAsked, IsTgsAsked}
 use Rattle.krb_logins.specs.declared.refusal.LoginRefusal.{LoginRefusal}
 use Rattle.krb_logins.specs.declared.refusal.LoginRefusal.TheVariants.{Answered, Asked, Taken}
-use Rattle.krb_realm.specs.Logins.{Answer, AsAsk, AsTake, Made, TgsAsk, TgsTake, sent_as, told}
+use Rattle.krb_realm.specs.Logins.{Answer, AsAsk, AsTake, Made, TgsAsk, TgsTake, sent_as, IsStep}
 
 -- what the exit of a `?` returns
 pub exit_of : {T : Type 0} (result : Result T LoginRefusal) (refusal : LoginRefusal) → IsErrAnd result (λ y. y ≡ refusal) → result ≡ Err refusal
@@ -26,9 +26,9 @@ exit_of (Ok made) refusal is = absurd is
 exit_of (Err other) refusal is = ap Err is
 
 -- the last step
-told_ended : {V E : Type 0} (does : Result V E → Type 0) (own : E → LoginRefusal) (result : Result V LoginRefusal) → told (λ made. made) does own result → followed does own ended result
-told_ended does own (Ok made) x = inl (made, x, refl)
-told_ended does own (Err refusal) x = inr (x.0, x.1, ap Err x.2)
+step_ended : {V E : Type 0} (does : Result V E → Type 0) (own : E → LoginRefusal) (result : Result V LoginRefusal) → IsStep (λ made. made) does own result → followed does own ended result
+step_ended does own (Ok made) x = inl (made, x, refl)
+step_ended does own (Err refusal) x = inr (x.0, x.1, ap Err x.2)
 
 -- an exchange: what the client asks, the realm answers, and the client takes
 module _ {A : Type 0} (asks : Result (Bytes × A) AskRefusal → Type 0) (call : CallRecord) (rows : PkinitRows) (takes : A → Bytes → Table (Result CredentialRecord TakeRefusal)) (result : Result CredentialRecord LoginRefusal) where
@@ -38,16 +38,16 @@ module _ {A : Type 0} (asks : Result (Bytes × A) AskRefusal → Type 0) (call :
       followed (IsAnswered call rows sent.0) Answered (λ reply.
       followed (IsTaken (takes sent.1 reply)) Taken ended)) result
 
-  unasked : (refusal : LoginRefusal) → told sent_as asks Asked (Err refusal) → result ≡ Err refusal → Exchange
+  unasked : (refusal : LoginRefusal) → IsStep sent_as asks Asked (Err refusal) → result ≡ Err refusal → Exchange
   unasked refusal x same = inr (x.0, x.1, same ∙ ap Err x.2)
 
-  module _ (sent : Made × A) (lent : Bytes) (asked : told sent_as asks Asked (Ok sent)) (is_sent : lent ≡ sent.0.items) where
-    unanswered : (refusal : LoginRefusal) → told (λ (reply : Made). reply.items) (IsAnswered call rows lent) Answered (Err refusal) → result ≡ Err refusal → Exchange
+  module _ (sent : Made × A) (lent : Bytes) (asked : IsStep sent_as asks Asked (Ok sent)) (is_sent : lent ≡ sent.0.items) where
+    unanswered : (refusal : LoginRefusal) → IsStep (λ (reply : Made). reply.items) (IsAnswered call rows lent) Answered (Err refusal) → result ≡ Err refusal → Exchange
     unanswered refusal x same =
         inl ((sent.0.items, sent.1), asked, inr (x.0, subst (λ bytes. IsAnswered call rows bytes (Err x.0)) is_sent x.1, same ∙ ap Err x.2))
 
-    replied : (reply : Made) (shown : Bytes) → told (λ (reply : Made). reply.items) (IsAnswered call rows lent) Answered (Ok reply) → shown ≡ reply.items
-        → told (λ credential. credential) (IsTaken (takes sent.1 shown)) Taken result → Exchange
+    replied : (reply : Made) (shown : Bytes) → IsStep (λ (reply : Made). reply.items) (IsAnswered call rows lent) Answered (Ok reply) → shown ≡ reply.items
+        → IsStep (λ credential. credential) (IsTaken (takes sent.1 shown)) Taken result → Exchange
     replied reply shown x is_shown y =
         inl (
           (sent.0.items, sent.1),
@@ -55,7 +55,7 @@ module _ {A : Type 0} (asks : Result (Bytes × A) AskRefusal → Type 0) (call :
           inl (
             reply.items,
             subst (λ bytes. IsAnswered call rows bytes (Ok reply.items)) is_sent x,
-            told_ended (IsTaken (takes sent.1 reply.items)) Taken result (subst (λ bytes. told (λ credential. credential) (IsTaken (takes sent.1 bytes)) Taken result) is_shown y),
+            step_ended (IsTaken (takes sent.1 reply.items)) Taken result (subst (λ bytes. IsStep (λ credential. credential) (IsTaken (takes sent.1 bytes)) Taken result) is_shown y),
           ),
         )
 

@@ -34,35 +34,35 @@ abbrev pub Made : Type 0
 Made = Vec ℕ Global
 
 -- what a step makes, as definitions see it; or its refusal, told as the login's
-abbrev pub told : {V A E : Type 0} → (V → A) → (Result A E → Type 0) → (E → LoginRefusal) → Result V LoginRefusal → Type 0
-told seen does own (Ok made) = does (Ok (seen made))
-told {E = E} seen does own (Err refusal) = (cause : E) × does (Err cause) × (refusal ≡ own cause)
+abbrev pub IsStep : {V A E : Type 0} → (V → A) → (Result A E → Type 0) → (E → LoginRefusal) → Result V LoginRefusal → Type 0
+IsStep seen does own (Ok made) = does (Ok (seen made))
+IsStep {E = E} seen does own (Err refusal) = (cause : E) × does (Err cause) × (refusal ≡ own cause)
 
 -- a request, with what the client remembers of it
 abbrev pub sent_as : {A : Type 0} → Made × A → Bytes × A
 sent_as sent = (sent.0.items, sent.1)
 
 unfoldable pub AsAsk : ClientRecord → MeansRecord → LoginRecord → Result (Made × AsAskedRecord) LoginRefusal → Type 0
-AsAsk client means login = told sent_as (IsAsAsked client means (krbtgt_of client.realm) login.till login.client_as login.words_as) Asked
+AsAsk client means login = IsStep sent_as (IsAsAsked client means (krbtgt_of client.realm) login.till login.client_as login.words_as) Asked
 
 unfoldable pub TgsAsk : ClientRecord → LoginRecord → CredentialRecord → Result (Made × TgsAskedRecord) LoginRefusal → Type 0
-TgsAsk client login granting = told sent_as (IsTgsAsked client granting login.service login.till login.client_tgs login.words_tgs) Asked
+TgsAsk client login granting = IsStep sent_as (IsTgsAsked client granting login.service login.till login.client_tgs login.words_tgs) Asked
 
 unfoldable pub ApAsk : ClientRecord → LoginRecord → CredentialRecord → Result (Made × ApAskedRecord) LoginRefusal → Type 0
-ApAsk client login credential = told sent_as (IsApAsked client credential login.client_ap login.words_ap) Asked
+ApAsk client login credential = IsStep sent_as (IsApAsked client credential login.client_ap login.words_ap) Asked
 
 -- the rows by which a realm with these key functions judges requests by certificate
 abbrev pub realm_rows : RealmState → KeysRecord → PkinitRows
 realm_rows realm keys = pkinit_rows realm.trust keys
 
 unfoldable pub Answer : CallRecord → PkinitRows → Bytes → Result Made LoginRefusal → Type 0
-Answer call rows request = told (λ reply. reply.items) (IsAnswered call rows request) Answered
+Answer call rows request = IsStep (λ reply. reply.items) (IsAnswered call rows request) Answered
 
 unfoldable pub AsTake : ClientRecord → MeansRecord → AsAskedRecord → Bytes → Result CredentialRecord LoginRefusal → Type 0
-AsTake client means asked reply = told (λ credential. credential) (IsTaken (takes_as_reply client means asked reply)) Taken
+AsTake client means asked reply = IsStep (λ credential. credential) (IsTaken (takes_as_reply client means asked reply)) Taken
 
 unfoldable pub TgsTake : ClientRecord → TgsAskedRecord → Bytes → Result CredentialRecord LoginRefusal → Type 0
-TgsTake client asked reply = told (λ credential. credential) (IsTaken (takes_tgs_reply client asked reply)) Taken
+TgsTake client asked reply = IsStep (λ credential. credential) (IsTaken (takes_tgs_reply client asked reply)) Taken
 
 -- what a service that admitted these pairs goes by
 abbrev pub remembered : ServiceRecord → List PairRecord → RememberedRecord

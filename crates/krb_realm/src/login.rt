@@ -24,6 +24,7 @@ use krb_encrypted_data::encryption_key;
 use krb_logins::laws::{one_key, one_key_by_password};
 use krb_logins::{LoginInput, LoginRefusal};
 use krb_moments::Moment;
+use krb_preauth::krbtgt;
 use krb_service::{Admission, Service};
 use krb_types::data_types::EncryptionKey;
 use picky_asn1::wrapper::{GeneralStringAsn1, OctetStringAsn1};
@@ -305,7 +306,7 @@ fn ask_as<M: Means>(
 fn granting_service(alloc: Global, realm: &GeneralStringAsn1) -> Result<Vec<Vec<u8>>, AllocError>
     ensures { IfOk result (λ name. parts name.items ≡ krbtgt_of realm.now) }
 {
-    let first = Vec::from_slice(alloc, b"krbtgt")?;
+    let first = Vec::from_slice(alloc, krbtgt())?;
     let second = Vec::from_slice(alloc, realm.as_bytes())?;
     let name = vec![in alloc; first, second]?;
     Ok(name)

@@ -24,6 +24,7 @@ use krb_constants::types::{AS_REQ_MSG_TYPE, TGS_REQ_MSG_TYPE};
 use krb_crypto::CipherSuite;
 use krb_frames::AnswerRefusal;
 use krb_moments::Moment;
+use krb_preauth::krbtgt;
 use krb_replies::{Call, as_reply, krbtgt_of, read_as_req, read_tgs_req, tgs_reply};
 use picky_asn1::wrapper::GeneralStringAsn1;
 use pkinit_requests::RealmPkinit;
@@ -340,5 +341,5 @@ fn is_krbtgt(realm: &GeneralStringAsn1, name: &[Vec<u8>]) -> bool
     let [first, second] = name else {
         return false;
     };
-    first.as_slice() == b"krbtgt".as_slice() && second.as_slice() == realm.as_bytes()
+    first.as_slice() == krbtgt() && second.as_slice() == realm.as_bytes()
 }

@@ -11,7 +11,7 @@ use Rattle.krb_messages.specs.Messages.{krb_error_tree}
 use Rattle.krb_replies.specs.Errors.{error_bytes}
 
 abbrev pub made : ℤ → ℤ → ℤ → List ℕ → GeneralizedTime → PrincipalName → ℕ → Option (ExplicitContextTag 12 (List ℕ)) → KrbErrorInner
-made version kind susec realm time service code told = record {
+made version kind susec realm time service code e_data_part = record {
   pvno = record { 0 = version };
   msg_type = record { 0 = kind };
   ctime = record { 0 = None };
@@ -24,17 +24,17 @@ made version kind susec realm time service code told = record {
   realm = record { 0 = realm };
   sname = record { 0 = service };
   e_text = record { 0 = None };
-  e_data = record { 0 = told };
+  e_data = record { 0 = e_data_part };
 }
 
 pub made-bytes : (version kind susec : ℤ) (lent realm : List ℕ) (time : GeneralizedTime) (microseconds : ℕ) (about service : PrincipalName) (code : ℕ)
-    (told : Option (ExplicitContextTag 12 (List ℕ))) (e_data : Option (List ℕ))
-    → version ≡ pos 5 → kind ≡ pos 30 → susec ≡ pos microseconds → lent ≡ realm → about ≡ service → told ≡ option_map (λ bytes. record { 0 = bytes }) e_data
-    → der (krb_error_tree (made version kind susec lent time about code told)) ≡ error_bytes realm time microseconds service code e_data
-made-bytes version kind susec lent realm time microseconds about service code told e_data v k s r n t =
-    ap (λ x. der (krb_error_tree (made x kind susec lent time about code told))) v
-    ∙ ap (λ x. der (krb_error_tree (made (pos 5) x susec lent time about code told))) k
-    ∙ ap (λ x. der (krb_error_tree (made (pos 5) (pos 30) x lent time about code told))) s
-    ∙ ap (λ x. der (krb_error_tree (made (pos 5) (pos 30) (pos microseconds) x time about code told))) r
-    ∙ ap (λ x. der (krb_error_tree (made (pos 5) (pos 30) (pos microseconds) realm time x code told))) n
+    (e_data_part : Option (ExplicitContextTag 12 (List ℕ))) (e_data : Option (List ℕ))
+    → version ≡ pos 5 → kind ≡ pos 30 → susec ≡ pos microseconds → lent ≡ realm → about ≡ service → e_data_part ≡ option_map (λ bytes. record { 0 = bytes }) e_data
+    → der (krb_error_tree (made version kind susec lent time about code e_data_part)) ≡ error_bytes realm time microseconds service code e_data
+made-bytes version kind susec lent realm time microseconds about service code e_data_part e_data v k s r n t =
+    ap (λ x. der (krb_error_tree (made x kind susec lent time about code e_data_part))) v
+    ∙ ap (λ x. der (krb_error_tree (made (pos 5) x susec lent time about code e_data_part))) k
+    ∙ ap (λ x. der (krb_error_tree (made (pos 5) (pos 30) x lent time about code e_data_part))) s
+    ∙ ap (λ x. der (krb_error_tree (made (pos 5) (pos 30) (pos microseconds) x time about code e_data_part))) r
+    ∙ ap (λ x. der (krb_error_tree (made (pos 5) (pos 30) (pos microseconds) realm time x code e_data_part))) n
     ∙ ap (λ x. der (krb_error_tree (made (pos 5) (pos 30) (pos microseconds) realm time service code x))) t

@@ -8,7 +8,7 @@ use Rattle.krb_pkinit.specs.Rows.{PkinitRows}
 use Rattle.krb_types.specs.Names.{components}
 use Rattle.krb_messages.specs.Messages.{IsAsReq, IsTgsReq}
 use Rattle.krb_kdc_requests.specs.Call.{CallRecord}
-use Rattle.krb_kdc_requests.specs.Requests.{client_of, service_of}
+use Rattle.krb_kdc_requests.specs.Requests.{body_of, client_of, service_of}
 use Rattle.krb_tgs.specs.ByTicket.{IsInvolvedFurther}
 use Rattle.krb_replies.specs.Replies.{Replies}
 
@@ -21,7 +21,7 @@ IsNamed name these = (given : PrincipalName) × (name ≡ Some given) × (these 
 abbrev pub IsInvolved : CallRecord → Bytes → List Bytes → Type 0
 IsInvolved call bytes these =
     ((request : KdcReq) × IsAsReq bytes request
-    × (IsNamed (client_of request.req_body.0) these ⊎ IsNamed (service_of request.req_body.0) these))
+    × (IsNamed (client_of (body_of request)) these ⊎ IsNamed (service_of (body_of request)) these))
     ⊎ ((request : KdcReq) × IsTgsReq bytes request × IsInvolvedFurther call request these)
 
 -- realms of one name, of the same settings and of the same rows for PA-PK-AS-REQ, which agree on the accounts involved, reply

@@ -7,20 +7,20 @@ use Rattle.picky_asn1.specs.Bytes.{Bytes}
 use Rattle.asn1_leaves.specs.declared.date.GeneralizedTime.{GeneralizedTime}
 use Rattle.krb_messages.specs.declared.messages.kdc_req.KdcReq.{KdcReq}
 use Rattle.krb_kdc_requests.specs.Call.{CallRecord}
-use Rattle.krb_kdc_requests.specs.Requests.{service_of}
+use Rattle.krb_kdc_requests.specs.Requests.{body_of, service_of}
 use Rattle.krb_replies.specs.Errors.{error_bytes}
 use Rattle.krb_moments.specs.SecondOf.{IsSecondOf}
 use Rattle.krb_replies.specs.Replies.{named_service}
-use Rattle.krb_replies.specs.declared.told.Told.{Told}
+use Rattle.krb_replies.specs.declared.kdc_error.KdcError.{KdcError}
 
 -- the reply's bytes are an outcome of the table's, or the error's code is, with the e-data that belongs to it
-abbrev pub IsJudgement : (Result Bytes Code → Type 0) → (Code → Option Bytes) → Result (Vec ℕ Global) Told → Type 0
+abbrev pub IsJudgement : (Result Bytes Code → Type 0) → (Code → Option Bytes) → Result (Vec ℕ Global) KdcError → Type 0
 IsJudgement gives e_data (Ok bytes) = gives (Ok bytes.items)
-IsJudgement gives e_data (Err told) = gives (Err told.code) × (option_map (λ h. h.items) told.e_data ≡ e_data told.code)
+IsJudgement gives e_data (Err kdc_error) = gives (Err kdc_error.code) × (option_map (λ h. h.items) kdc_error.e_data ≡ e_data kdc_error.code)
 
 -- the bytes are what was granted, or the error that tells this about the request's service, in the second of the moment
-abbrev pub IsAnswerWith : CallRecord → KdcReq → Result (Vec ℕ Global) Told → Bytes → Type 0
+abbrev pub IsAnswerWith : CallRecord → KdcReq → Result (Vec ℕ Global) KdcError → Bytes → Type 0
 IsAnswerWith call request (Ok reply) bytes = bytes ≡ reply.items
-IsAnswerWith call request (Err told) bytes =
+IsAnswerWith call request (Err kdc_error) bytes =
     (time : GeneralizedTime) × IsSecondOf call.moment time
-    × (bytes ≡ error_bytes call.realm time (call.moment % 1000000) (named_service call.realm (service_of request.req_body.0)) told.code (option_map (λ h. h.items) told.e_data))
+    × (bytes ≡ error_bytes call.realm time (call.moment % 1000000) (named_service call.realm (service_of (body_of request))) kdc_error.code (option_map (λ h. h.items) kdc_error.e_data))

@@ -13,7 +13,7 @@ use Rattle.krb_as.specs.MethodData.{method_data_bytes}
 use Rattle.krb_messages.specs.Messages.{IsAsReq, IsTgsReq, sole_as_req, sole_tgs_req}
 use Rattle.krb_as.specs.AsTable.{as_table}
 use Rattle.krb_kdc_requests.specs.Call.{CallRecord}
-use Rattle.krb_kdc_requests.specs.Requests.{account_of, client_of, service_of}
+use Rattle.krb_kdc_requests.specs.Requests.{account_of, body_of, client_of, service_of}
 use Rattle.krb_tgs.specs.TgsTable.{tgs_table}
 use Rattle.krb_replies.specs.Errors.{ticket_service, error_bytes}
 use Rattle.krb_moments.specs.SecondOf.{IsSecondOf, sole_second}
@@ -33,7 +33,7 @@ abbrev pub reply_of : CallRecord → (Code → Option Bytes) → KdcReq → Resu
 reply_of call e_data request (Ok bytes) = done (Some bytes)
 reply_of call e_data request (Err code) =
     make (IsSecondOf call.moment) (sole_second call.moment) (λ time.
-    done (Some (error_bytes call.realm time (call.moment % 1000000) (named_service call.realm (service_of request.req_body.0)) code (e_data code))))
+    done (Some (error_bytes call.realm time (call.moment % 1000000) (named_service call.realm (service_of (body_of request))) code (e_data code))))
 
 abbrev pub answered : CallRecord → (Code → Option Bytes) → KdcReq → Table (Result Bytes Code) → Table (Option Bytes)
 answered call e_data request judged = make judged.gives judged.one (reply_of call e_data request)
@@ -51,7 +51,7 @@ abbrev pub replies : CallRecord → PkinitRows → Bytes → Table (Option Bytes
 replies call rows request =
     ask (IsAsReq request) (sole_as_req request)
     (ask (IsTgsReq request) (sole_tgs_req request) (done None) (tgs_reply call))
-    (λ v. as_reply call rows (account_of call.look (client_of v.req_body.0)) (account_of call.look (service_of v.req_body.0)) v)
+    (λ v. as_reply call rows (account_of call.look (client_of (body_of v))) (account_of call.look (service_of (body_of v))) v)
 
 -- the reply that a realm may give to a message
 unfoldable pub Replies : CallRecord → PkinitRows → Bytes → Option Bytes → Type 0

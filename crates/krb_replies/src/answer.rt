@@ -5,7 +5,7 @@ ghost use Rattle.asn1_leaves.specs.declared.date.GeneralizedTime.{GeneralizedTim
 ghost use Rattle.krb_accounts.specs.Accounts.{look_in};
 ghost use Rattle.krb_as.specs.AsTable.{as_table};
 ghost use Rattle.krb_kdc_requests.specs.Call.{call_of};
-ghost use Rattle.krb_kdc_requests.specs.Requests.{account_of, client_of, service_of};
+ghost use Rattle.krb_kdc_requests.specs.Requests.{account_of, body_of, client_of, service_of};
 ghost use Rattle.krb_tgs.specs.TgsTable.{tgs_table};
 ghost use Rattle.krb_replies.specs.Errors.{error_bytes};
 ghost use Rattle.krb_moments.specs.SecondOf.{IsSecondOf};
@@ -13,8 +13,8 @@ ghost use Rattle.krb_replies.specs.Judged.{IsAnswerWith, IsJudgement};
 ghost use Rattle.krb_replies.specs.Replies.{as_reply, e_data_of, named_service, tgs_reply};
 
 use crate::error::error_message;
+use crate::kdc_error::KdcError;
 use crate::names::ticket_service;
-use crate::told::Told;
 use krb_accounts::Account;
 use krb_as::{judge_as, method_data};
 use krb_constants::error_codes;
@@ -36,8 +36,8 @@ pub fn as_reply<P: Pkinit>(
 ) -> Result<Vec<u8>, AllocError>
     requires { 128 ≤ length call.now.words.now }
     ensures { IfOk result (λ bytes. (as_reply (call_of call.now) (P.rows pkinit.now)
-        (account_of (look_in call.now.accounts.now) (client_of request.req_body.0))
-        (account_of (look_in call.now.accounts.now) (service_of request.req_body.0)) request).gives (Some bytes.items)) }
+        (account_of (look_in call.now.accounts.now) (client_of (body_of request)))
+        (account_of (look_in call.now.accounts.now) (service_of (body_of request))) request).gives (Some bytes.items)) }
 {
     as_reply_to(alloc, call, pkinit, &request)
 }
@@ -59,8 +59,8 @@ fn as_reply_to<P: Pkinit>(
 ) -> Result<Vec<u8>, AllocError>
     requires { 128 ≤ length call.now.words.now }
     ensures { IfOk result (λ bytes. (as_reply (call_of call.now) (P.rows pkinit.now)
-        (account_of (look_in call.now.accounts.now) (client_of request.now.req_body.0))
-        (account_of (look_in call.now.accounts.now) (service_of request.now.req_body.0)) request.now).gives (Some bytes.items)) }
+        (account_of (look_in call.now.accounts.now) (client_of (body_of request.now)))
+        (account_of (look_in call.now.accounts.now) (service_of (body_of request.now))) request.now).gives (Some bytes.items)) }
 {
     let judged = as_judgement(alloc, call, pkinit, request)?;
     judged_reply(alloc, call, request, judged)
@@ -80,14 +80,14 @@ fn judged_reply(
     alloc: Global,
     call: &Call<'_>,
     request: &KdcReq,
-    judged: Result<Vec<u8>, Told>,
+    judged: Result<Vec<u8>, KdcError>,
 ) -> Result<Vec<u8>, AllocError>
     ensures { IfOk result (λ bytes. IsAnswerWith (call_of call.now) request.now judged bytes.items) }
 {
     match judged {
         Ok(reply) => Ok(reply),
-        Err(told) => {
-            let reply = error_reply(alloc, call, service_of(&request.req_body.0), told)?;
+        Err(kdc_error) => {
+            let reply = error_reply(alloc, call, service_of(&request.req_body.0), kdc_error)?;
             Ok(reply)
         }
     }
@@ -99,12 +99,12 @@ fn as_judgement<P: Pkinit>(
     call: &Call<'_>,
     pkinit: &P,
     request: &KdcReq,
-) -> Result<Result<Vec<u8>, Told>, AllocError>
+) -> Result<Result<Vec<u8>, KdcError>, AllocError>
     requires { 128 ≤ length call.now.words.now }
     ensures { IfOk result (λ judged. IsJudgement (as_table (call_of call.now) (P.rows pkinit.now)
-        (account_of (look_in call.now.accounts.now) (client_of request.now.req_body.0))
-        (account_of (look_in call.now.accounts.now) (service_of request.now.req_body.0)) request.now).gives
-        (e_data_of (P.rows pkinit.now).offered (account_of (look_in call.now.accounts.now) (client_of request.now.req_body.0))) judged) }
+        (account_of (look_in call.now.accounts.now) (client_of (body_of request.now)))
+        (account_of (look_in call.now.accounts.now) (service_of (body_of request.now))) request.now).gives
+        (e_data_of (P.rows pkinit.now).offered (account_of (look_in call.now.accounts.now) (client_of (body_of request.now)))) judged) }
 {
     let body = &request.req_body.0;
     let client = account_of(call.accounts, client_of(body));
@@ -114,7 +114,7 @@ fn as_judgement<P: Pkinit>(
         Err(Refusal::Memory) => Err(AllocError),
         Err(Refusal::Krb(code)) => {
             let e_data = e_data_of(alloc, pkinit.is_offered(), client, code)?;
-            Ok(Err(Told { code, e_data }))
+            Ok(Err(KdcError { code, e_data }))
         }
     }
 }
@@ -124,14 +124,14 @@ fn tgs_judgement(
     alloc: Global,
     call: &Call<'_>,
     request: &KdcReq,
-) -> Result<Result<Vec<u8>, Told>, AllocError>
+) -> Result<Result<Vec<u8>, KdcError>, AllocError>
     requires { 128 ≤ length call.now.words.now }
     ensures { IfOk result (λ judged. IsJudgement (tgs_table (call_of call.now) request.now).gives (λ code. None) judged) }
 {
     match judge_tgs(alloc, call, request) {
         Ok(reply) => Ok(Ok(reply)),
         Err(Refusal::Memory) => Err(AllocError),
-        Err(Refusal::Krb(code)) => Ok(Err(Told { code, e_data: None })),
+        Err(Refusal::Krb(code)) => Ok(Err(KdcError { code, e_data: None })),
     }
 }
 
@@ -141,18 +141,18 @@ fn error_reply(
     alloc: Global,
     call: &Call<'_>,
     named: Option<&PrincipalName>,
-    told: Told,
+    kdc_error: KdcError,
 ) -> Result<Vec<u8>, AllocError>
     ensures { IfOk result (λ bytes. (time : GeneralizedTime) × IsSecondOf call.now.moment time
         × (bytes.items ≡ error_bytes call.now.realm.now time (call.now.moment % 1000000)
-        (named_service call.now.realm.now (option_copied named.entry)) told.code (option_map (λ h. h.items) told.e_data))) }
+        (named_service call.now.realm.now (option_copied named.entry)) kdc_error.code (option_map (λ h. h.items) kdc_error.e_data))) }
 {
     if let Some(service) = named {
-        let reply = error_message(alloc, call.realm, call.moment, service, told)?;
+        let reply = error_message(alloc, call.realm, call.moment, service, kdc_error)?;
         return Ok(reply);
     }
     let service = ticket_service(alloc, call.realm)?;
-    let reply = error_message(alloc, call.realm, call.moment, &service, told)?;
+    let reply = error_message(alloc, call.realm, call.moment, &service, kdc_error)?;
     Ok(reply)
 }
 

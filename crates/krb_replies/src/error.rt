@@ -6,7 +6,7 @@ ghost use Rattle.krb_moments.specs.SecondOf.{IsSecondOf};
 ghost use Rattle.krb_replies.specs.Errors.{error_bytes};
 ghost use Rattle.asn1_der.specs.Octets.{sequence_octet};
 
-use crate::told::Told;
+use crate::kdc_error::KdcError;
 use asn1_der::octets::SEQUENCE;
 use devices::Sink;
 use krb_constants::types::{KERBEROS_VERSION, KRB_ERROR_MSG_TYPE};
@@ -86,10 +86,10 @@ pub(crate) fn error_message(
     realm: &GeneralStringAsn1,
     moment: Moment,
     service: &PrincipalName,
-    told: Told,
+    kdc_error: KdcError,
 ) -> Result<Vec<u8>, AllocError>
     ensures { IfOk result (λ bytes. (time : GeneralizedTime) × IsSecondOf moment time
-        × (bytes.items ≡ error_bytes realm.now time (moment % 1000000) service.now told.code (option_map (λ bytes. bytes.items) told.e_data))) }
+        × (bytes.items ≡ error_bytes realm.now time (moment % 1000000) service.now kdc_error.code (option_map (λ bytes. bytes.items) kdc_error.e_data))) }
 {
     let time = moment.second();
     let microseconds = moment.microsecond();
@@ -101,10 +101,10 @@ pub(crate) fn error_message(
         msg_type: ExplicitContextTag(kind),
         stime: ExplicitContextTag(GeneralizedTimeAsn1(time)),
         susec: ExplicitContextTag(susec),
-        error_code: ExplicitContextTag(told.code),
+        error_code: ExplicitContextTag(kdc_error.code),
         realm: ExplicitContextTag(Lent::new(realm)),
         sname: ExplicitContextTag(Lent::new(service)),
-        e_data: Optional(data_of(told.e_data)),
+        e_data: Optional(data_of(kdc_error.e_data)),
     };
     let bytes = tagged_encoding::<LentError<'_>, KRB_ERROR_MSG_TYPE>(alloc, error)?;
     Ok(bytes)

@@ -6,9 +6,9 @@
 
 mod answer;
 mod error;
+mod kdc_error;
 pub mod laws;
 mod names;
-mod told;
 
 pub use answer::{as_reply, tgs_reply};
 pub use krb_as::krbtgt_of;

@@ -13,7 +13,7 @@ use Rattle.krb_crypto.proofs.AllSuites.{confounder_below}
 use Rattle.krb_crypto.proofs.SealedTexts.{has_sealed}
 use Rattle.krb_types.specs.declared.data_types.authenticator.AuthenticatorInner.{AuthenticatorInner}
 use Rattle.krb_moments.specs.Times.{moment_at}
-use Rattle.krb_ap_requests.specs.Acceptable.{IsAcceptable, shown_by}
+use Rattle.krb_ap_requests.specs.Acceptable.{IsAcceptable, presented_of}
 use Rattle.krb_encrypted_data.specs.Sealing.{encrypted_by}
 use Rattle.krb_service.specs.ApReply.{IsReply, IsReplyTo, ap_rep_of, ap_rep_part}
 use Rattle.krb_ap_requests.specs.Entry.{EntryRecord}
@@ -45,9 +45,9 @@ has_wanted true words suite key authenticator sized key_bytes long words_bytes p
     (Some (der (ap_rep_tree (ap_rep_of part))), record { part = part; sealed = record { cipher = made.0; seals = made.1; told = refl }; encoding = refl })
 
 pub has_reply_to : (entry : EntryRecord) (skew moment : ℕ) (choice : Choice) (words : List ℕ) (x : IsAcceptable entry skew moment choice)
-    → IsBytes choice.part.key.0.key_value.0 → 16 ≤ length words → IsBytes words → (reply : Option (List ℕ)) × IsReplyTo (shown_by choice x.suite x.time) words reply
+    → IsBytes choice.part.key.0.key_value.0 → 16 ≤ length words → IsBytes words → (reply : Option (List ℕ)) × IsReplyTo (presented_of choice x.suite x.time) words reply
 has_reply_to entry skew moment choice words x key_bytes long words_bytes =
-    let micros = micros_of (seconds_of choice.authenticator.ctime.0.0) choice.authenticator.cusec.0 x.time x.told in
+    let micros = micros_of (seconds_of choice.authenticator.ctime.0.0) choice.authenticator.cusec.0 x.time x.ctime in
     let part = part_bytes choice.authenticator micros.0 micros.1 micros.2 in
-    let shown = shown_by choice x.suite x.time in
+    let shown = presented_of choice x.suite x.time in
     has_wanted shown.wants_reply words x.suite choice.part.key.0.key_value.0 choice.authenticator (suite_sized choice.part.key.0 x.suite x.session) key_bytes long words_bytes part

@@ -1,6 +1,6 @@
 //! What holds of every AP request.
 ghost use Rattle.std.specs.Prelude.{◌≡◌, ◌≤◌, ℕ, List, Ok, Option, length};
-ghost use Rattle.krb_ap_requests.specs.Acceptable.{IsAcceptable, shown};
+ghost use Rattle.krb_ap_requests.specs.Acceptable.{IsAcceptable, presented_choice};
 ghost use Rattle.krb_service.specs.ApReply.{IsReplyTo};
 ghost use Rattle.krb_ap_requests.specs.ApTable.{presented};
 ghost use Rattle.krb_ap_requests.specs.Entry.{EntryRecord};
@@ -30,9 +30,9 @@ pub fn has_presentation()
 /// It does nothing when it runs: its contract is the law.
 pub fn received_as_chosen()
     ensures received { (entry : EntryRecord) (skew moment : ℕ) (choice : Choice) (bytes : List ℕ) (x : IsAcceptable entry skew moment choice)
-        → Presents entry.key choice bytes → Receives entry skew moment bytes (Ok (shown entry skew moment choice x)) }
+        → Presents entry.key choice bytes → Receives entry skew moment bytes (Ok (presented_choice entry skew moment choice x)) }
     ensures chosen { (entry : EntryRecord) (skew moment : ℕ) (bytes : List ℕ) (p : Presented) → Receives entry skew moment bytes (Ok p)
-        → (choice : Choice) × Presents entry.key choice bytes × (x : IsAcceptable entry skew moment choice) × (p ≡ shown entry skew moment choice x) }
+        → (choice : Choice) × Presents entry.key choice bytes × (x : IsAcceptable entry skew moment choice) × (p ≡ presented_choice entry skew moment choice x) }
 {}
 
 /// Each request is judged: it can't be that the table gives nothing. It does nothing when it runs: its contract is the
@@ -46,5 +46,5 @@ pub fn has_judgement()
 pub fn has_reply_to()
     ensures { (entry : EntryRecord) (skew moment : ℕ) (choice : Choice) (bytes words : List ℕ) (x : IsAcceptable entry skew moment choice)
         → Presents entry.key choice bytes → 16 ≤ length words → IsBytes words
-        → (reply : Option (List ℕ)) × IsReplyTo (shown entry skew moment choice x) words reply }
+        → (reply : Option (List ℕ)) × IsReplyTo (presented_choice entry skew moment choice x) words reply }
 {}

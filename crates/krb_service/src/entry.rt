@@ -6,7 +6,8 @@ ghost use Rattle.krb_ap_requests.specs.Received.{Receives};
 ghost use Rattle.krb_types.specs.Refusals.{IsJudged};
 
 use krb_ap_requests::{
-    AdmitRefusal, Presented, check_presented, check_recipient, check_ticket, read_ap_req,
+    AdmitRefusal, Presented, check_presented, check_recipient, check_ticket, enc_part_in,
+    read_ap_req,
 };
 use krb_crypto::Key;
 use krb_messages::messages::ApReqInner;
@@ -97,13 +98,7 @@ impl KeytabEntry {
             self.kvno,
             request,
         )?;
-        let part = check_ticket(
-            alloc,
-            &self.key,
-            skew,
-            moment,
-            &request.ticket.0.0.enc_part.0,
-        )?;
+        let part = check_ticket(alloc, &self.key, skew, moment, enc_part_in(request))?;
         check_presented(alloc, request, part)
     }
 }

@@ -17,7 +17,7 @@ use Rattle.krb_ap_requests.specs.Messages.{IsAuthenticator, IsTicketPart, sole_a
 use Rattle.krb_ap_requests.specs.declared.presented.Authenticated.{Authenticated}
 use Rattle.krb_kdc_requests.specs.Call.{CallRecord, skew_of}
 use Rattle.krb_moments.specs.Skew.{is_far}
-use Rattle.krb_tgs.specs.TgsTable.{carried, shown_near, ticket_granting}
+use Rattle.krb_tgs.specs.TgsTable.{carried, authenticated_near, ticket_granting}
 
 -- a value that was asked for has the property
 pub asked_for : {A : Type 0} (P : A → Type 0) (sole : IsSole P) (code : ℕ) (a : A) → (ask {T = Result A ℕ} P sole (done (Err code)) (λ v. done (Ok v))).gives (Ok a) → P a
@@ -51,9 +51,9 @@ by_ticket call granting ap_req part (inl (_, fields, inr (code, opened, e))) = a
 by_ticket call granting ap_req part (inr (code, fields, e)) = absurd (cc (e))
 
 -- the suite is that of the ticket's key, and the authenticator is sealed under it
-pub record IsOfKey (ap_req : ApReqInner) (part : EncTicketPartInner) (shown : Authenticated) : Type 0 where
-  pub suite : suite_of part.key.0 ≡ Some shown.suite
-  pub opens : IsAuthenticator shown.suite part.key.0.key_value.0 7 ap_req.authenticator.0 shown.authenticator
+pub record IsOfKey (ap_req : ApReqInner) (part : EncTicketPartInner) (authenticated : Authenticated) : Type 0 where
+  pub suite : suite_of part.key.0 ≡ Some authenticated.suite
+  pub opens : IsAuthenticator authenticated.suite part.key.0.key_value.0 7 ap_req.authenticator.0 authenticated.authenticator
 
 abbrev under : List ℕ → EncryptedData → CipherSuite → Table (Result (CipherSuite × AuthenticatorInner) ℕ)
 under key sealed suite = ask (IsAuthenticator suite key 7 sealed) (sole_authenticator suite key 7 sealed) (done (Err 31)) (λ authenticator. done (Ok (suite, authenticator)))
@@ -66,17 +66,17 @@ of_suite key sealed (Some suite) pair (inl (authenticator, opens, z)) =
     subst (λ (p : CipherSuite × AuthenticatorInner). (Some suite ≡ Some p.0) × IsAuthenticator p.0 key 7 sealed p.1) (sym same) (refl, opens)
 of_suite key sealed (Some suite) pair (inr (none, z)) = absurd (cc (z))
 
-of_shown : (ap_req : ApReqInner) (part : EncTicketPartInner) (own : Authenticated) → (authenticated 7 part ap_req.authenticator.0).gives (Ok own) → IsOfKey ap_req part own
-of_shown ap_req part own (inl (pair, opens, inl (time, tells, e))) =
+of_authenticated : (ap_req : ApReqInner) (part : EncTicketPartInner) (own : Authenticated) → (authenticated 7 part ap_req.authenticator.0).gives (Ok own) → IsOfKey ap_req part own
+of_authenticated ap_req part own (inl (pair, opens, inl (time, tells, e))) =
     let same : own ≡ record { suite = pair.0; authenticator = pair.1; time = time } = cc (e) in
     let found = of_suite part.key.0.key_value.0 ap_req.authenticator.0 (suite_of part.key.0) pair opens in
     subst (λ s. IsOfKey ap_req part s) (sym same) (record { suite = found.0; opens = found.1 })
-of_shown ap_req part own (inl (pair, opens, inr (code, tells, e))) = absurd (cc (e))
-of_shown ap_req part own (inr (code, opens, e)) = absurd (cc (e))
+of_authenticated ap_req part own (inl (pair, opens, inr (code, tells, e))) = absurd (cc (e))
+of_authenticated ap_req part own (inr (code, opens, e)) = absurd (cc (e))
 
-pub by_authenticator : (call : CallRecord) (part : EncTicketPartInner) (ap_req : ApReqInner) (shown : Authenticated) → (shown_near call part ap_req).gives (Ok shown) → IsOfKey ap_req part shown
-by_authenticator call part ap_req shown (inl (own, x, y)) =
-    let near = passed (is_far (skew_of call) call.moment own.time) 37 (done (Ok own)) shown y in
-    let same : shown ≡ own = cc (near) in
-    subst (λ s. IsOfKey ap_req part s) (sym same) (of_shown ap_req part own x)
-by_authenticator call part ap_req shown (inr (code, x, e)) = absurd (cc (e))
+pub by_authenticator : (call : CallRecord) (part : EncTicketPartInner) (ap_req : ApReqInner) (authenticated : Authenticated) → (authenticated_near call part ap_req).gives (Ok authenticated) → IsOfKey ap_req part authenticated
+by_authenticator call part ap_req authenticated (inl (own, x, y)) =
+    let near = passed (is_far (skew_of call) call.moment own.time) 37 (done (Ok own)) authenticated y in
+    let same : authenticated ≡ own = cc (near) in
+    subst (λ s. IsOfKey ap_req part s) (sym same) (of_authenticated ap_req part own x)
+by_authenticator call part ap_req authenticated (inr (code, x, e)) = absurd (cc (e))

@@ -7,20 +7,20 @@ use Rattle.krb_types.specs.declared.data_types.enc_ticket_part.EncTicketPartInne
 use Rattle.krb_types.specs.declared.data_types.principal_name.PrincipalName.{PrincipalName}
 use Rattle.krb_messages.specs.declared.messages.kdc_req_body.KdcReqBody.{KdcReqBody}
 use Rattle.decision_tables.specs.Tables.{Table, need}
-use Rattle.krb_tickets.specs.declared.grant.Grant.{Grant}
+use Rattle.krb_tickets.specs.Grant.{GrantRecord}
 use Rattle.krb_tickets.specs.ReplyKeys.{ReplyKeyRecord}
-use Rattle.krb_as.specs.Granted.{IsTicketReply}
+use Rattle.krb_tickets.specs.Granted.{IsTicketReply}
 use Rattle.krb_ap_requests.specs.declared.presented.Authenticated.{Authenticated}
 use Rattle.krb_kdc_requests.specs.Call.{CallRecord}
-use Rattle.krb_as.specs.Grants.{replied}
+use Rattle.krb_kdc_requests.specs.Granting.{replied}
 use Rattle.krb_kdc_requests.specs.Requests.{lasting}
 use Rattle.krb_kdc_requests.specs.declared.span.Span.{Span}
 use Rattle.krb_tgs.specs.TgsTable.{first_known, further, further_ticket, reply_key, subkey_in}
 
-module _ (call : CallRecord) (part : EncTicketPartInner) (shown : Authenticated) (service_name : PrincipalName) (service : AccountRecord) (body : KdcReqBody) (span : Span)
+module _ (call : CallRecord) (part : EncTicketPartInner) (authenticated : Authenticated) (service_name : PrincipalName) (service : AccountRecord) (body : KdcReqBody) (span : Span)
     (lasts : (lasting call.settings.lifetime call.moment (Some (seconds_of part.endtime.0.0)) body).gives (Ok span)) where
   abbrev pub key : Option ReplyKeyRecord
-  key = reply_key shown.suite part.key.0.key_value.0 (subkey_in shown.authenticator)
+  key = reply_key authenticated.suite part.key.0.key_value.0 (subkey_in authenticated.authenticator)
 
   abbrev to_seal : CipherSuite → ReplyKeyRecord → Table (Result (List ℕ) ℕ)
   to_seal suite under = replied (further_ticket call part service_name suite body span) under service call.words
@@ -29,7 +29,7 @@ module _ (call : CallRecord) (part : EncTicketPartInner) (shown : Authenticated)
   to_key suite = need key 31 (to_seal suite)
 
   abbrev pub answers : Result (List ℕ) ℕ → Type 0
-  answers r = (further call part shown service_name service body).gives r
+  answers r = (further call part authenticated service_name service body).gives r
 
   -- no suite of the client's is known
   pub no_suite : None ≡ first_known body.etype.0 → answers (Err 14)
@@ -40,7 +40,7 @@ module _ (call : CallRecord) (part : EncTicketPartInner) (shown : Authenticated)
   no_key suite some none =
       inl (span, lasts, subst (λ o. (need o 14 to_key).gives (Err 31)) some (subst (λ k. (need k 31 (to_seal suite)).gives (Err 31)) none refl))
 
-  pub given : (suite : CipherSuite) (under : ReplyKeyRecord) (ticket : Grant) (bytes : List ℕ) → Some suite ≡ first_known body.etype.0 → Some under ≡ key
+  pub given : (suite : CipherSuite) (under : ReplyKeyRecord) (ticket : GrantRecord) (bytes : List ℕ) → Some suite ≡ first_known body.etype.0 → Some under ≡ key
       → ticket ≡ further_ticket call part service_name suite body span → IsTicketReply ticket under service call.words bytes → answers (Ok bytes)
   given suite under ticket bytes some keyed same reply =
       let own = subst (λ g. IsTicketReply g under service call.words bytes) same reply in

@@ -29,12 +29,12 @@ use Rattle.krb_tickets.specs.ReplyKeys.{ReplyKeyRecord, tgs_reply_key, tgs_subke
 use Rattle.krb_ap_requests.specs.declared.presented.Authenticated.{Authenticated}
 use Rattle.krb_kdc_requests.specs.Call.{CallRecord, skew_of}
 use Rattle.krb_kdc_requests.specs.Calls.{IsCall, IsKeyed}
-use Rattle.krb_as.specs.Grants.{replied}
+use Rattle.krb_kdc_requests.specs.Granting.{replied}
 use Rattle.krb_kdc_requests.specs.Requests.{header_rows, padata_in, lasting, service_of}
-use Rattle.krb_as.specs.TicketGranting.{krbtgt_of}
+use Rattle.krb_preauth.specs.TicketGranting.{krbtgt_of}
 use Rattle.krb_kdc_requests.specs.declared.span.Span.{Span}
-use Rattle.krb_as.proofs.HasGrant.{has_lasting, has_replied}
-use Rattle.krb_as.proofs.HasOutcome.{has_header}
+use Rattle.krb_kdc_requests.proofs.HasGrant.{has_lasting, has_replied}
+use Rattle.krb_kdc_requests.proofs.HasGrant.{has_header}
 use Rattle.krb_kdc_requests.proofs.PartTrees.{realm_tree}
 use Rattle.krb_kdc_requests.proofs.RequestTrees.{body_fits, padata_short, nonce_fits, service_fits}
 use Rattle.krb_kdc_requests.proofs.Short.{Fits}
@@ -43,7 +43,7 @@ use Rattle.krb_ap_requests.specs.ApTable.{ap_fields, authenticated, is_early, is
 use Rattle.krb_encrypted_data.proofs.KeySizes.{suite_sized}
 use Rattle.krb_ap_requests.proofs.Judgements.{has_authenticated, has_fields, has_opened_part, has_times}
 use Rattle.krb_tgs.specs.ByTicket.{IsByTicket}
-use Rattle.krb_tgs.specs.TgsTable.{carried, checksum_in, counting, covered, first_known, further, further_ticket, has_account, is_known_checksum, is_of_body, of_carried, of_shown, of_ticket, reply_key, shown_near, subkey_in, tgs_granted, tgs_table, ticket_granting, to_us}
+use Rattle.krb_tgs.specs.TgsTable.{carried, checksum_in, counting, covered, first_known, further, further_ticket, has_account, is_known_checksum, is_of_body, of_carried, of_authenticated, of_ticket, reply_key, authenticated_near, subkey_in, tgs_granted, tgs_table, ticket_granting, to_us}
 use Rattle.krb_tgs.proofs.ByTicket.{IsOfKey, by_authenticator, by_padata, by_ticket}
 use Rattle.krb_tgs.proofs.PresentedTrees.{authenticator_short, part_name_fits, request_fits, subkey_short, ticket_short}
 use Rattle.krb_tgs.proofs.SealedLengths.{opened_fits}
@@ -76,11 +76,11 @@ has_ticket_granting call granting ap_req =
     has_then opened end (has_opened_part granting.suite granting.key ap_req.ticket.0.0.enc_part.0)
     (λ part y. has_then {A = Unit {0}} (counting call part) (λ _. done (Ok part)) (has_counting call part) (λ _ z. has_done (Ok part))))
 
-has_shown : (call : CallRecord) (part : EncTicketPartInner) (ap_req : ApReqInner) → HasOutcome (shown_near call part ap_req)
-has_shown call part ap_req =
-    let rest : Authenticated → Table (Result Authenticated ℕ) = λ shown. refuse (is_far (skew_of call) call.moment shown.time) 37 (done (Ok shown)) in
+has_authenticated_near : (call : CallRecord) (part : EncTicketPartInner) (ap_req : ApReqInner) → HasOutcome (authenticated_near call part ap_req)
+has_authenticated_near call part ap_req =
+    let rest : Authenticated → Table (Result Authenticated ℕ) = λ authenticated. refuse (is_far (skew_of call) call.moment authenticated.time) 37 (done (Ok authenticated)) in
     has_then (authenticated 7 part ap_req.authenticator.0) rest (has_authenticated 7 part ap_req.authenticator.0)
-    (λ shown x. has_refused {T = Authenticated} (is_far (skew_of call) call.moment shown.time) 37 (done (Ok shown)) (λ _. has_done (Ok shown)))
+    (λ authenticated x. has_refused {T = Authenticated} (is_far (skew_of call) call.moment authenticated.time) 37 (done (Ok authenticated)) (λ _. has_done (Ok authenticated)))
 
 has_covered : (suite : CipherSuite) (key : List ℕ) (authenticator : AuthenticatorInner) (body : KdcReqBody) → HasOutcome (covered suite key authenticator body)
 has_covered suite key authenticator body =
@@ -108,12 +108,12 @@ module _ (call : CallRecord) (request : KdcReq) (is : IsCall call) (n : ℕ) (fe
   carried_fits : (ap_req : ApReqInner) (part : EncTicketPartInner) → IsByTicket call request ap_req part → Fits n (ap_req_tree ap_req)
   carried_fits ap_req part by = request_fits n by.value ap_req by.read (padata_short n 1 request by.value fits by.first)
 
-  subkey_bytes : (ap_req : ApReqInner) (part : EncTicketPartInner) (shown : Authenticated) (subkey : EncryptionKey) → IsByTicket call request ap_req part → IsOfKey ap_req part shown
-      → subkey_in shown.authenticator ≡ Some subkey → IsBytes subkey.key_value.0
-  subkey_bytes ap_req part shown subkey by of_key e =
-      let opened = opened_fits {T = AuthenticatorInner} authenticator_tree shown.suite part.key.0.key_value.0 7 ap_req.authenticator.0 shown.authenticator n of_key.opens
+  subkey_bytes : (ap_req : ApReqInner) (part : EncTicketPartInner) (authenticated : Authenticated) (subkey : EncryptionKey) → IsByTicket call request ap_req part → IsOfKey ap_req part authenticated
+      → subkey_in authenticated.authenticator ≡ Some subkey → IsBytes subkey.key_value.0
+  subkey_bytes ap_req part authenticated subkey by of_key e =
+      let opened = opened_fits {T = AuthenticatorInner} authenticator_tree authenticated.suite part.key.0.key_value.0 7 ap_req.authenticator.0 authenticated.authenticator n of_key.opens
       (authenticator_short n ap_req (carried_fits ap_req part by)) in
-      (subkey_short n shown.authenticator subkey opened e).bytes
+      (subkey_short n authenticated.authenticator subkey opened e).bytes
 
   -- what is granted can be written
   further_written : (ap_req : ApReqInner) (part : EncTicketPartInner) (service : PrincipalName) (suite : CipherSuite) (span : Span) → IsByTicket call request ap_req part → service_of body ≡ Some service
@@ -132,57 +132,57 @@ module _ (call : CallRecord) (request : KdcReq) (is : IsCall call) (n : ℕ) (fe
         nonce = nonce_fits n body asked;
       }) Tgs
 
-  usable : (ap_req : ApReqInner) (part : EncTicketPartInner) (shown : Authenticated) → IsByTicket call request ap_req part → IsOfKey ap_req part shown
-      → (subkey : Option EncryptionKey) → subkey_in shown.authenticator ≡ subkey → (under : ReplyKeyRecord) → reply_key shown.suite part.key.0.key_value.0 subkey ≡ Some under → IsUsable under
-  usable ap_req part shown by of_key None none under e =
-      let same : under ≡ tgs_reply_key shown.suite part.key.0.key_value.0 = cc (e) in
-      subst IsUsable (sym same) (record { sized = suite_sized part.key.0 shown.suite of_key.suite; bytes = of_key.opens.opens.sealed.2.key_bytes; exchange = refl })
-  usable ap_req part shown by of_key (Some subkey) some under e = by_suite (suite_of subkey) refl e
+  usable : (ap_req : ApReqInner) (part : EncTicketPartInner) (authenticated : Authenticated) → IsByTicket call request ap_req part → IsOfKey ap_req part authenticated
+      → (subkey : Option EncryptionKey) → subkey_in authenticated.authenticator ≡ subkey → (under : ReplyKeyRecord) → reply_key authenticated.suite part.key.0.key_value.0 subkey ≡ Some under → IsUsable under
+  usable ap_req part authenticated by of_key None none under e =
+      let same : under ≡ tgs_reply_key authenticated.suite part.key.0.key_value.0 = cc (e) in
+      subst IsUsable (sym same) (record { sized = suite_sized part.key.0 authenticated.suite of_key.suite; bytes = of_key.opens.opens.sealed.2.key_bytes; exchange = refl })
+  usable ap_req part authenticated by of_key (Some subkey) some under e = by_suite (suite_of subkey) refl e
     where
       by_suite : (found : Option CipherSuite) → suite_of subkey ≡ found → option_map (λ suite. tgs_subkey_reply_key suite subkey.key_value.0) found ≡ Some under → IsUsable under
       by_suite None f e = absurd (cc (e))
       by_suite (Some suite) f e =
           let same : under ≡ tgs_subkey_reply_key suite subkey.key_value.0 = cc (e) in
-          subst IsUsable (sym same) (record { sized = suite_sized subkey suite f; bytes = subkey_bytes ap_req part shown subkey by of_key some; exchange = refl })
+          subst IsUsable (sym same) (record { sized = suite_sized subkey suite f; bytes = subkey_bytes ap_req part authenticated subkey by of_key some; exchange = refl })
 
-  has_further : (ap_req : ApReqInner) (part : EncTicketPartInner) (shown : Authenticated) (service_name : PrincipalName) (service : AccountRecord)
-      → IsByTicket call request ap_req part → IsOfKey ap_req part shown → service_of body ≡ Some service_name → IsKeyed service → HasOutcome (further call part shown service_name service body)
-  has_further ap_req part shown service_name service by of_key named keyed =
+  has_further : (ap_req : ApReqInner) (part : EncTicketPartInner) (authenticated : Authenticated) (service_name : PrincipalName) (service : AccountRecord)
+      → IsByTicket call request ap_req part → IsOfKey ap_req part authenticated → service_of body ≡ Some service_name → IsKeyed service → HasOutcome (further call part authenticated service_name service body)
+  has_further ap_req part authenticated service_name service by of_key named keyed =
       let old : Option ℕ = Some (seconds_of part.endtime.0.0) in
       let to_seal : Span → CipherSuite → ReplyKeyRecord → Table (Result (List ℕ) ℕ) = λ span suite under. replied (further_ticket call part service_name suite body span) under service call.words in
-      let to_key : Span → CipherSuite → Table (Result (List ℕ) ℕ) = λ span suite. need (reply_key shown.suite part.key.0.key_value.0 (subkey_in shown.authenticator)) 31 (to_seal span suite) in
+      let to_key : Span → CipherSuite → Table (Result (List ℕ) ℕ) = λ span suite. need (reply_key authenticated.suite part.key.0.key_value.0 (subkey_in authenticated.authenticator)) 31 (to_seal span suite) in
       let to_suite : Span → Table (Result (List ℕ) ℕ) = λ span. need (first_known body.etype.0) 14 (to_key span) in
       has_then (lasting call.settings.lifetime call.moment old body) to_suite (has_lasting call.settings.lifetime call.moment old body is.in_time)
       (λ span given.
       has_needed (first_known body.etype.0) 14 (to_key span)
       (λ suite e.
-      has_needed (reply_key shown.suite part.key.0.key_value.0 (subkey_in shown.authenticator)) 31 (to_seal span suite)
+      has_needed (reply_key authenticated.suite part.key.0.key_value.0 (subkey_in authenticated.authenticator)) 31 (to_seal span suite)
       (λ under f.
-      let ready = usable ap_req part shown by of_key (subkey_in shown.authenticator) refl under f in
+      let ready = usable ap_req part authenticated by of_key (subkey_in authenticated.authenticator) refl under f in
       let ready_to_write = further_written ap_req part service_name suite span by named in
       has_replied (further_ticket call part service_name suite body span) under service call.words ready.sized ready.bytes keyed is.enough is.bytes
       (subst (λ exchange. IsWritten exchange (further_ticket call part service_name suite body span)) (sym ready.exchange) ready_to_write))))
 
-  has_granted : (ap_req : ApReqInner) (part : EncTicketPartInner) (shown : Authenticated) → IsByTicket call request ap_req part → IsOfKey ap_req part shown → HasOutcome (tgs_granted call part shown body)
-  has_granted ap_req part shown by of_key =
-      let by_service : PrincipalName → AccountRecord → Table (Result (List ℕ) ℕ) = λ service_name service. further call part shown service_name service body in
+  has_granted : (ap_req : ApReqInner) (part : EncTicketPartInner) (authenticated : Authenticated) → IsByTicket call request ap_req part → IsOfKey ap_req part authenticated → HasOutcome (tgs_granted call part authenticated body)
+  has_granted ap_req part authenticated by of_key =
+      let by_service : PrincipalName → AccountRecord → Table (Result (List ℕ) ℕ) = λ service_name service. further call part authenticated service_name service body in
       let by_name : PrincipalName → Table (Result (List ℕ) ℕ) = λ service_name. need (call.look (components service_name)) 7 (by_service service_name) in
       has_refused {T = List ℕ} (not (has_account call part.cname.0)) 6 (need (service_of body) 7 by_name)
       (λ _.
       has_needed (service_of body) 7 by_name
       (λ service_name b.
       has_needed (call.look (components service_name)) 7 (by_service service_name)
-      (λ service c. has_further ap_req part shown service_name service by of_key b (is.keyed (components service_name) service c))))
+      (λ service c. has_further ap_req part authenticated service_name service by of_key b (is.keyed (components service_name) service c))))
 
-  has_of_shown : (ap_req : ApReqInner) (part : EncTicketPartInner) (shown : Authenticated) → IsByTicket call request ap_req part → IsOfKey ap_req part shown → HasOutcome (of_shown call body part shown)
-  has_of_shown ap_req part shown by of_key =
-      has_then {A = Unit {0}} (covered shown.suite part.key.0.key_value.0 shown.authenticator body) (λ _. tgs_granted call part shown body)
-      (has_covered shown.suite part.key.0.key_value.0 shown.authenticator body) (λ _ x. has_granted ap_req part shown by of_key)
+  has_of_authenticated : (ap_req : ApReqInner) (part : EncTicketPartInner) (authenticated : Authenticated) → IsByTicket call request ap_req part → IsOfKey ap_req part authenticated → HasOutcome (of_authenticated call body part authenticated)
+  has_of_authenticated ap_req part authenticated by of_key =
+      has_then {A = Unit {0}} (covered authenticated.suite part.key.0.key_value.0 authenticated.authenticator body) (λ _. tgs_granted call part authenticated body)
+      (has_covered authenticated.suite part.key.0.key_value.0 authenticated.authenticator body) (λ _ x. has_granted ap_req part authenticated by of_key)
 
   has_of_ticket : (ap_req : ApReqInner) (part : EncTicketPartInner) → IsByTicket call request ap_req part → HasOutcome (of_ticket call body ap_req part)
   has_of_ticket ap_req part by =
-      has_then (shown_near call part ap_req) (of_shown call body part) (has_shown call part ap_req)
-      (λ shown x. has_of_shown ap_req part shown by (by_authenticator call part ap_req shown x))
+      has_then (authenticated_near call part ap_req) (of_authenticated call body part) (has_authenticated_near call part ap_req)
+      (λ authenticated x. has_of_authenticated ap_req part authenticated by (by_authenticator call part ap_req authenticated x))
 
   pub has_of_carried : (value : List ℕ) (ap_req : ApReqInner) → first_of 1 (padata_in request) ≡ Some value → IsApReq value ap_req → HasOutcome (of_carried call body ap_req)
   has_of_carried value ap_req first read =

@@ -12,9 +12,9 @@ use Rattle.decision_tables.specs.Tables.{Table, and_then, need, refuse}
 use Rattle.krb_ap_requests.specs.declared.presented.Authenticated.{Authenticated}
 use Rattle.krb_kdc_requests.specs.Call.{CallRecord}
 use Rattle.krb_kdc_requests.specs.Requests.{padata_in, service_of}
-use Rattle.krb_as.specs.TicketGranting.{krbtgt_of}
+use Rattle.krb_preauth.specs.TicketGranting.{krbtgt_of}
 use Rattle.krb_tgs.specs.ByTicket.{IsByTicket, IsInvolvedFurther}
-use Rattle.krb_tgs.specs.TgsTable.{carried, covered, further, of_carried, of_shown, of_ticket, shown_near, tgs_granted, tgs_table, ticket_granting, to_us}
+use Rattle.krb_tgs.specs.TgsTable.{carried, covered, further, of_carried, of_authenticated, of_ticket, authenticated_near, tgs_granted, tgs_table, ticket_granting, to_us}
 use Rattle.krb_tgs.proofs.ByTicket.{by_padata, by_ticket}
 
 -- the value that is needed is the same, and what follows gives the same of it
@@ -40,11 +40,11 @@ module _ (call : CallRecord) (other : Look) (request : KdcReq) (agree : (these :
   abbrev beside : CallRecord
   beside = record call { look = other }
 
-  same_granted : (ap_req : ApReqInner) (part : EncTicketPartInner) (shown : Authenticated) → IsByTicket call request ap_req part
-      → (tgs_granted call part shown request.req_body.0).gives r → (tgs_granted beside part shown request.req_body.0).gives r
-  same_granted ap_req part shown by =
+  same_granted : (ap_req : ApReqInner) (part : EncTicketPartInner) (authenticated : Authenticated) → IsByTicket call request ap_req part
+      → (tgs_granted call part authenticated request.req_body.0).gives r → (tgs_granted beside part authenticated request.req_body.0).gives r
+  same_granted ap_req part authenticated by =
       let body = request.req_body.0 in
-      let given : PrincipalName → AccountRecord → Table (Result (List ℕ) ℕ) = λ name service. further call part shown name service body in
+      let given : PrincipalName → AccountRecord → Table (Result (List ℕ) ℕ) = λ name service. further call part authenticated name service body in
       let by_name : Look → PrincipalName → Table (Result (List ℕ) ℕ) = λ look name. need (look (components name)) 7 (given name) in
       let to_service : Look → Table (Result (List ℕ) ℕ) = λ look. need (service_of body) 7 (by_name look) in
       same_refuse (call.look (components part.cname.0)) (other (components part.cname.0)) (agree (components part.cname.0) (inr (inr (ap_req, part, by, refl)))) 6 (to_service call.look) (to_service other) r
@@ -62,11 +62,11 @@ module _ (call : CallRecord) (other : Look) (request : KdcReq) (agree : (these :
       (λ granting e.
       same_then (ticket_granting call granting ap_req) (of_ticket call body ap_req) (of_ticket beside body ap_req) r
       (λ part y.
-      same_then (shown_near call part ap_req) (of_shown call body part) (of_shown beside body part) r
-      (λ shown z.
-      same_then {A = Unit {0}} (covered shown.suite part.key.0.key_value.0 shown.authenticator body) (λ _. tgs_granted call part shown body) (λ _. tgs_granted beside part shown body) r
+      same_then (authenticated_near call part ap_req) (of_authenticated call body part) (of_authenticated beside body part) r
+      (λ authenticated z.
+      same_then {A = Unit {0}} (covered authenticated.suite part.key.0.key_value.0 authenticated.authenticator body) (λ _. tgs_granted call part authenticated body) (λ _. tgs_granted beside part authenticated body) r
       (λ _ w.
-      same_granted ap_req part shown
+      same_granted ap_req part authenticated
       (record { value = found.0; first = found.1; read = found.2; granting = granting; account = e; opens = by_ticket call granting ap_req part y })))))
 
   pub same_further : (tgs_table call request).gives r → (tgs_table beside request).gives r

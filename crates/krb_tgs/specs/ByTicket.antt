@@ -9,10 +9,11 @@ use Rattle.krb_messages.specs.declared.messages.ap_req.ApReqInner.{ApReqInner}
 use Rattle.krb_messages.specs.declared.messages.kdc_req.KdcReq.{KdcReq}
 use Rattle.krb_messages.specs.Messages.{IsApReq}
 use Rattle.krb_preauth.specs.Padata.{first_of}
+use Rattle.krb_ap_requests.specs.ApTable.{enc_part_in}
 use Rattle.krb_ap_requests.specs.Messages.{IsTicketPart}
 use Rattle.krb_kdc_requests.specs.Call.{CallRecord}
-use Rattle.krb_kdc_requests.specs.Requests.{padata_in, service_of}
-use Rattle.krb_as.specs.TicketGranting.{krbtgt_of}
+use Rattle.krb_kdc_requests.specs.Requests.{body_of, padata_in, service_of}
+use Rattle.krb_preauth.specs.TicketGranting.{krbtgt_of}
 
 -- the request carries a ticket that has this part, sealed under the key of the realm's ticket-granting service
 pub record IsByTicket (call : CallRecord) (request : KdcReq) (ap_req : ApReqInner) (part : EncTicketPartInner) : Type 0 where
@@ -21,11 +22,11 @@ pub record IsByTicket (call : CallRecord) (request : KdcReq) (ap_req : ApReqInne
   pub read : IsApReq value ap_req
   pub granting : AccountRecord
   pub account : call.look (krbtgt_of call.realm) ≡ Some granting
-  pub opens : IsTicketPart granting.suite granting.key ap_req.ticket.0.0.enc_part.0 part
+  pub opens : IsTicketPart granting.suite granting.key (enc_part_in ap_req) part
 
 -- the ticket-granting service, the service that the request names, and the client of the ticket that it comes with
 abbrev pub IsInvolvedFurther : CallRecord → KdcReq → List Bytes → Type 0
 IsInvolvedFurther call request these =
     (these ≡ krbtgt_of call.realm)
-    ⊎ ((name : PrincipalName) × (service_of request.req_body.0 ≡ Some name) × (these ≡ components name))
+    ⊎ ((name : PrincipalName) × (service_of (body_of request) ≡ Some name) × (these ≡ components name))
     ⊎ ((ap_req : ApReqInner) × (part : EncTicketPartInner) × IsByTicket call request ap_req part × (these ≡ components part.cname.0))

@@ -1,3 +1,3 @@
 pub mod TgsTable
-pub mod Shown
+pub mod SessionKeys
 pub mod ByTicket

@@ -31,23 +31,23 @@ use Rattle.krb_messages.specs.declared.messages.kdc_req_body.KdcReqBody.{KdcReqB
 use Rattle.krb_messages.specs.Messages.{IsApReq, sole_ap_req}
 use Rattle.decision_tables.specs.Tables.{Table, and_then, ask, done, need, refuse}
 use Rattle.krb_preauth.specs.Padata.{first_of}
-use Rattle.krb_tickets.specs.declared.grant.Grant.{Grant}
+use Rattle.krb_tickets.specs.Grant.{GrantRecord}
 use Rattle.krb_tickets.specs.Parts.{session_key_of}
 use Rattle.krb_tickets.specs.ReplyKeys.{ReplyKeyRecord, tgs_reply_key, tgs_subkey_reply_key}
-use Rattle.krb_ap_requests.specs.ApTable.{ap_fields, authenticated, opened_part, timely}
+use Rattle.krb_ap_requests.specs.ApTable.{ap_fields, authenticated, enc_part_in, opened_part, timely}
 use Rattle.krb_ap_requests.specs.declared.presented.Authenticated.{Authenticated}
 use Rattle.krb_kdc_requests.specs.Call.{CallRecord, skew_of}
-use Rattle.krb_as.specs.Grants.{replied}
-use Rattle.krb_kdc_requests.specs.Requests.{header_rows, padata_in, lasting, service_of}
+use Rattle.krb_kdc_requests.specs.Granting.{replied}
+use Rattle.krb_kdc_requests.specs.Requests.{body_of, header_rows, padata_in, lasting, service_of}
 pub use Rattle.krb_kdc_requests.specs.Requests.{body_bytes}
-use Rattle.krb_as.specs.TicketGranting.{krbtgt_of}
+use Rattle.krb_preauth.specs.TicketGranting.{krbtgt_of}
 use Rattle.krb_kdc_requests.specs.declared.span.Span.{Span}
 
 -- the request is a TGS request to this realm, without sealed authorization data, which no ticket is granted with
 abbrev pub to_us : Bytes → KdcReq → Table (Result (Unit {0}) Code)
 to_us realm request =
     and_then (header_rows 12 realm request) (λ _.
-    refuse (is_some request.req_body.0.enc_authorization_data.0) KDC_ERR_POLICY
+    refuse (is_some (body_of request).enc_authorization_data.0) KDC_ERR_POLICY
     (done (Ok tt)))
 
 -- the AP request that the first padata of type 1 is
@@ -67,16 +67,16 @@ counting call part =
 abbrev pub ticket_granting : CallRecord → AccountRecord → ApReqInner → Table (Result EncTicketPartInner Code)
 ticket_granting call granting ap_req =
     and_then (ap_fields call.realm (krbtgt_of call.realm) granting.kvno ap_req) (λ _.
-    and_then (opened_part granting.suite granting.key ap_req.ticket.0.0.enc_part.0) (λ part.
+    and_then (opened_part granting.suite granting.key (enc_part_in ap_req)) (λ part.
     and_then (counting call part) (λ _.
     done (Ok part))))
 
 -- the authenticator of the ticket's client, of a time near the moment
-abbrev pub shown_near : CallRecord → EncTicketPartInner → ApReqInner → Table (Result Authenticated Code)
-shown_near call part ap_req =
-    and_then (authenticated 7 part ap_req.authenticator.0) (λ shown.
-    refuse (is_far (skew_of call) call.moment shown.time) KRB_AP_ERR_SKEW
-    (done (Ok shown)))
+abbrev pub authenticated_near : CallRecord → EncTicketPartInner → ApReqInner → Table (Result Authenticated Code)
+authenticated_near call part ap_req =
+    and_then (authenticated 7 part ap_req.authenticator.0) (λ authenticated.
+    refuse (is_far (skew_of call) call.moment authenticated.time) KRB_AP_ERR_SKEW
+    (done (Ok authenticated)))
 
 abbrev pub checksum_in : AuthenticatorInner → Option Checksum
 checksum_in authenticator = option_map (λ tagged. tagged.0) authenticator.cksum.0
@@ -128,7 +128,7 @@ reply_key suite key (Some subkey) = under_subkey subkey
 
 -- a further ticket: of the old one its client, the time of the first authentication and whether that was by
 -- preauthentication (flag 10; RFC 4120, section 5.3)
-abbrev pub further_ticket : CallRecord → EncTicketPartInner → PrincipalName → CipherSuite → KdcReqBody → Span → Grant
+abbrev pub further_ticket : CallRecord → EncTicketPartInner → PrincipalName → CipherSuite → KdcReqBody → Span → GrantRecord
 further_ticket call part service suite body span = record {
   suite = suite;
   session = session_key_of suite call.words;
@@ -144,10 +144,10 @@ further_ticket call part service suite body span = record {
 
 -- what the ticket is granted with, and the key that the reply is sealed under
 abbrev pub further : CallRecord → EncTicketPartInner → Authenticated → PrincipalName → AccountRecord → KdcReqBody → Table (Result Bytes Code)
-further call part shown service_name service body =
+further call part authenticated service_name service body =
     and_then (lasting call.settings.lifetime call.moment (Some (seconds_of part.endtime.0.0)) body) (λ span.
     need (first_known body.etype.0) KDC_ERR_ETYPE_NOSUPP (λ suite.
-    need (reply_key shown.suite part.key.0.key_value.0 (subkey_in shown.authenticator)) KRB_AP_ERR_BAD_INTEGRITY (λ under.
+    need (reply_key authenticated.suite part.key.0.key_value.0 (subkey_in authenticated.authenticator)) KRB_AP_ERR_BAD_INTEGRITY (λ under.
     replied (further_ticket call part service_name suite body span) under service call.words)))
 
 -- the name has an account
@@ -156,23 +156,23 @@ has_account call name = is_some (call.look (components name))
 
 -- what is granted to the client of a ticket that is shown by an authenticator: client and service still have accounts
 abbrev pub tgs_granted : CallRecord → EncTicketPartInner → Authenticated → KdcReqBody → Table (Result Bytes Code)
-tgs_granted call part shown body =
+tgs_granted call part authenticated body =
     refuse (not (has_account call part.cname.0)) KDC_ERR_C_PRINCIPAL_UNKNOWN
     (need (service_of body) KDC_ERR_S_PRINCIPAL_UNKNOWN (λ service_name.
     need (call.look (components service_name)) KDC_ERR_S_PRINCIPAL_UNKNOWN (λ service.
-    further call part shown service_name service body)))
+    further call part authenticated service_name service body)))
 
 -- with the authenticator
-abbrev pub of_shown : CallRecord → KdcReqBody → EncTicketPartInner → Authenticated → Table (Result Bytes Code)
-of_shown call body part shown =
-    and_then (covered shown.suite part.key.0.key_value.0 shown.authenticator body) (λ _.
-    tgs_granted call part shown body)
+abbrev pub of_authenticated : CallRecord → KdcReqBody → EncTicketPartInner → Authenticated → Table (Result Bytes Code)
+of_authenticated call body part authenticated =
+    and_then (covered authenticated.suite part.key.0.key_value.0 authenticated.authenticator body) (λ _.
+    tgs_granted call part authenticated body)
 
 -- with the ticket's part
 abbrev pub of_ticket : CallRecord → KdcReqBody → ApReqInner → EncTicketPartInner → Table (Result Bytes Code)
 of_ticket call body ap_req part =
-    and_then (shown_near call part ap_req)
-    (of_shown call body part)
+    and_then (authenticated_near call part ap_req)
+    (of_authenticated call body part)
 
 -- with the AP request; a realm has its ticket-granting service's account, and one without it knows no such service
 abbrev pub of_carried : CallRecord → KdcReqBody → ApReqInner → Table (Result Bytes Code)
@@ -186,4 +186,4 @@ abbrev pub tgs_table : CallRecord → KdcReq → Table (Result Bytes Code)
 tgs_table call request =
     and_then (to_us call.realm request) (λ _.
     and_then (carried (padata_in request))
-    (of_carried call request.req_body.0))
+    (of_carried call (body_of request)))

@@ -2,31 +2,30 @@
 ghost use Rattle.std.specs.Prelude.{◌≡◌, ◌≤◌, length, IfOk};
 ghost use Rattle.std.specs.Option.{is_some, option_copied, option_map};
 ghost use Rattle.krb_kdc_requests.specs.Call.{call_of};
-ghost use Rattle.krb_as.specs.Judged.{IsGranted};
+ghost use Rattle.krb_kdc_requests.specs.Granting.{IsGranted};
+ghost use Rattle.krb_tickets.specs.Grant.{grant_of};
 ghost use Rattle.krb_tickets.specs.ReplyKeys.{reply_key_of};
 ghost use Rattle.krb_crypto.specs.Keys.{KeyRecord};
-ghost use Rattle.krb_tgs.specs.Shown.{IsShownUnder, under};
+ghost use Rattle.krb_tgs.specs.SessionKeys.{HasSessionKey, under};
 ghost use Rattle.krb_tgs.specs.TgsTable.{first_known, first_number, further, further_ticket, reply_key, subkey_in, suite_numbered};
 
 use krb_accounts::Account;
 use krb_ap_requests::Authenticated;
-use krb_as::ticket_reply;
 use krb_constants::{error_codes, ticket_flags};
 use krb_crypto::{CipherSuite, Key};
 use krb_encrypted_data::key_of;
 use krb_kdc_requests::{Call, Span, lasting, session_key};
 use krb_messages::messages::KdcReqBody;
-use krb_tickets::{Grant, ReplyKey, TicketFlags};
+use krb_tickets::{Grant, ReplyKey, TicketFlags, ticket_reply};
 use krb_types::Refusal;
 use krb_types::data_types::{AuthenticatorInner, EncTicketPartInner, EncryptionKey, PrincipalName};
 use picky_asn1::is_number;
 use picky_asn1::wrapper::IntegerAsn1;
-use picky_asn1_der::LentFields;
 use std::alloc::{AllocError, Global};
 
-/// What the client of an older ticket shows: the ticket's part, its session key, and the authenticator under this key.
+/// An AP request that a TGS request carries, opened: the ticket's part, its session key, and the authenticator under this key.
 #[derive(Clone, Copy, Drop)]
-pub(crate) struct Shown<'a> {
+pub(crate) struct OpenedApReq<'a> {
     /// The ticket's part.
     pub(crate) part: &'a EncTicketPartInner,
     /// The session's key.
@@ -35,28 +34,28 @@ pub(crate) struct Shown<'a> {
     pub(crate) authenticated: &'a Authenticated,
 }
 
-/// The reply with a ticket for the service, by the ticket that is shown (RFC 4120, section 3.3.3).
+/// The reply with a ticket for the service, by an older ticket with its authenticator (RFC 4120, section 3.3.3).
 pub(crate) fn grant(
     alloc: Global,
     call: &Call<'_>,
-    shown: &Shown<'_>,
+    opened: &OpenedApReq<'_>,
     service_name: &PrincipalName,
     service: &Account,
     body: &KdcReqBody,
 ) -> Result<Vec<u8>, Refusal>
     requires words { 128 ≤ length call.now.words.now }
-    requires key { IsShownUnder shown.now }
-    ensures { IsGranted (further (call_of call.now) shown.now.part.now shown.now.authenticated.now service_name.now service.now body.now).gives result }
+    requires key { HasSessionKey opened.now }
+    ensures { IsGranted (further (call_of call.now) opened.now.part.now opened.now.authenticated.now service_name.now service.now body.now).gives result }
 {
-    let part = shown.part;
+    let part = opened.part;
     let span = lasting(call.settings, call.moment, Some(part.endtime.0.0), body)?;
     let Some(suite) = first_known(body.etype.0.as_slice()) else {
         return Err(Refusal::Krb(error_codes::KDC_ERR_ETYPE_NOSUPP));
     };
-    let Some(subkey) = subkey_of(&shown.authenticated.authenticator) else {
+    let Some(subkey) = subkey_of(&opened.authenticated.authenticator) else {
         return Err(Refusal::Krb(error_codes::KRB_AP_ERR_BAD_INTEGRITY));
     };
-    let under = reply_key(shown.key, &subkey);
+    let under = reply_key(opened.key, &subkey);
     let grant = further_ticket(alloc, call, part, service_name, suite, body, span)?;
     let made = ticket_reply(alloc, &grant, &under, service, call.words);
     drop(grant);
@@ -129,30 +128,25 @@ fn reply_key<'a>(session: &'a Key, subkey: &'a Option<Key>) -> ReplyKey<'a>
 }
 
 // What the ticket is granted with.
-fn further_ticket(
+fn further_ticket<'a>(
     alloc: Global,
-    call: &Call<'_>,
-    part: &EncTicketPartInner,
-    service_name: &PrincipalName,
+    call: &Call<'a>,
+    part: &'a EncTicketPartInner,
+    service_name: &'a PrincipalName,
     suite: CipherSuite,
-    body: &KdcReqBody,
+    body: &'a KdcReqBody,
     span: Span,
-) -> Result<Grant, AllocError>
+) -> Result<Grant<'a>, AllocError>
     requires { 128 ≤ length call.now.words.now }
-    ensures { IfOk result (λ grant. grant ≡ further_ticket (call_of call.now) part.now service_name.now suite body.now span) }
+    ensures { IfOk result (λ grant. grant_of grant ≡ further_ticket (call_of call.now) part.now service_name.now suite body.now span) }
 {
     let session = session_key(alloc, suite, call.words)?;
-    let lent = (
-        call.realm,
-        (&part.cname.0, (service_name, (&body.nonce.0, ()))),
-    );
-    let (realm, (client, (service, (nonce, ())))) = lent.copied()?;
     Ok(Grant {
         suite,
         session,
-        realm,
-        client,
-        service,
+        realm: call.realm,
+        client: &part.cname.0,
+        service: service_name,
         flags: TicketFlags {
             initial: false,
             pre_authenticated: part.flags.0.bit(ticket_flags::PRE_AUTHENT),
@@ -160,6 +154,6 @@ fn further_ticket(
         auth_time: part.auth_time.0.0,
         start: span.start,
         until: span.until,
-        nonce,
+        nonce: &body.nonce.0,
     })
 }

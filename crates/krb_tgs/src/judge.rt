@@ -1,16 +1,15 @@
 //! Judging TGS requests: the rows of a realm's table, part by part.
 ghost use Rattle.std.specs.Prelude.{◌≡◌};
 ghost use Rattle.krb_kdc_requests.specs.Call.{call_of};
-ghost use Rattle.krb_as.specs.TicketGranting.{krbtgt_of};
-ghost use Rattle.krb_ap_requests.specs.ApTable.{ap_fields};
-ghost use Rattle.krb_tgs.specs.TgsTable.{carried, counting, shown_near, ticket_granting, to_us};
+ghost use Rattle.krb_preauth.specs.TicketGranting.{krbtgt_of};
+ghost use Rattle.krb_tgs.specs.TgsTable.{carried, counting, authenticated_near, ticket_granting, to_us};
 ghost use Rattle.krb_types.specs.Refusals.{IsJudged};
 
 use krb_accounts::Account;
 use krb_ap_requests::{
-    Authenticated, check_authenticator, check_fields, check_times, open_ticket, read_ap_req,
+    Authenticated, check_authenticator, check_fields, check_times, enc_part_in, open_ticket,
+    read_ap_req,
 };
-use krb_as::krbtgt_of;
 use krb_constants::padata_types::PA_TGS_REQ;
 use krb_constants::types::TGS_REQ_MSG_TYPE;
 use krb_constants::{error_codes, key_usages};
@@ -47,34 +46,22 @@ pub(crate) fn carried(alloc: Global, padata: &[PaData]) -> Result<ApReqInner, Re
     Ok(ap_req)
 }
 
-/// Opens the ticket, and judges whether it is one for this realm's ticket-granting service, of a client of the realm, that
-/// counts at the moment.
+/// Opens the ticket, and judges whether it is one for this realm's ticket-granting service, which has this name, of a client of
+/// the realm, that counts at the moment.
 pub(crate) fn open_ticket_granting(
     alloc: Global,
     call: &Call<'_>,
+    name: &[GeneralStringAsn1],
     granting: &Account,
     ap_req: &ApReqInner,
 ) -> Result<EncTicketPartInner, Refusal>
+    requires { name.now ≡ krbtgt_of call.now.realm.now }
     ensures { IsJudged (ticket_granting (call_of call.now) granting.now ap_req.now).gives result }
 {
-    check_name(alloc, call.realm, granting.kvno(), ap_req)?;
-    let sealed = &ap_req.ticket.0.0.enc_part.0;
-    let part = open_ticket(alloc, granting.key(), sealed)?;
+    check_fields(call.realm, name, granting.kvno(), ap_req)?;
+    let part = open_ticket(alloc, granting.key(), enc_part_in(ap_req))?;
     let judged = check_counting(call, &part);
     if_passed(part, judged)
-}
-
-// Judges whether the request presents a ticket for this realm's ticket-granting service, under its key of this kvno.
-fn check_name(
-    alloc: Global,
-    realm: &GeneralStringAsn1,
-    kvno: u32,
-    ap_req: &ApReqInner,
-) -> Result<(), Refusal>
-    ensures { IsJudged (ap_fields realm.now (krbtgt_of realm.now) kvno ap_req.now).gives result }
-{
-    let name = krbtgt_of(alloc, realm)?;
-    check_fields(realm, &name, kvno, ap_req)
 }
 
 // Judges whether the ticket is of a client of the realm, and counts at the moment.
@@ -88,23 +75,23 @@ fn check_counting(call: &Call<'_>, part: &EncTicketPartInner) -> Result<(), Refu
 }
 
 /// Opens the authenticator of the ticket's client, and judges whether its time is near the moment.
-pub(crate) fn open_shown(
+pub(crate) fn open_authenticator(
     alloc: Global,
     call: &Call<'_>,
     part: &EncTicketPartInner,
     ap_req: &ApReqInner,
 ) -> Result<Authenticated, Refusal>
-    ensures { IsJudged (shown_near (call_of call.now) part.now ap_req.now).gives result }
+    ensures { IsJudged (authenticated_near (call_of call.now) part.now ap_req.now).gives result }
 {
-    let shown = check_authenticator(
+    let authenticated = check_authenticator(
         alloc,
         key_usages::TGS_REQ_PA_DATA_AP_REQ_AUTHENTICATOR,
         part,
         &ap_req.authenticator.0,
     )?;
-    if call.moment.is_far_from(shown.time, call.skew()) {
-        drop(shown);
+    if call.moment.is_far_from(authenticated.time, call.skew()) {
+        drop(authenticated);
         return Err(Refusal::Krb(error_codes::KRB_AP_ERR_SKEW));
     }
-    Ok(shown)
+    Ok(authenticated)
 }

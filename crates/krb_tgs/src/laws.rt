@@ -1,6 +1,6 @@
 //! What holds of every TGS request.
 ghost use Rattle.std.specs.Prelude.{◌≡◌, List, [], ◌∷◌, IsSome};
-ghost use Rattle.krb_kdc_requests.specs.Requests.{body_bytes};
+ghost use Rattle.krb_kdc_requests.specs.Requests.{body_bytes, body_of};
 ghost use Rattle.krb_messages.specs.Messages.{IsTgsReq};
 ghost use Rattle.krb_messages.specs.declared.messages.kdc_req.KdcReq.{KdcReq};
 ghost use Rattle.picky_asn1.specs.Bytes.{Bytes};
@@ -11,7 +11,7 @@ ghost use Rattle.picky_asn1_der.specs.Parts.{IsPart};
 /// counted from 0, and what its tag holds (RFC 4120, section 5.4.1). It does nothing when it runs: its contract is the law.
 pub fn body_is_part()
     ensures part { (bytes : Bytes) (request : KdcReq) → IsTgsReq bytes request → IsSome request.padata.0
-        → IsPart bytes (0 ∷ 3 ∷ 0 ∷ []) (body_bytes request.req_body.0) }
+        → IsPart bytes (0 ∷ 3 ∷ 0 ∷ []) (body_bytes (body_of request)) }
     ensures one { (bytes part : Bytes) (request : KdcReq) → IsTgsReq bytes request → IsSome request.padata.0
-        → IsPart bytes (0 ∷ 3 ∷ 0 ∷ []) part → part ≡ body_bytes request.req_body.0 }
+        → IsPart bytes (0 ∷ 3 ∷ 0 ∷ []) part → part ≡ body_bytes (body_of request) }
 {}

@@ -19,7 +19,7 @@ use Rattle.krb_encrypted_data.specs.Sealing.{encryption_key}
 use Rattle.picky_asn1_der.specs.declared.wrapper.ExplicitContextTag.{ExplicitContextTag}
 use Rattle.krb_types.specs.declared.data_types.pa_data.PaData.{PaData}
 use Rattle.krb_preauth.specs.MethodData.{pa_data_of}
-use Rattle.krb_tickets.specs.declared.grant.Grant.{Grant}
+use Rattle.krb_tickets.specs.Grant.{GrantRecord}
 use Rattle.krb_tickets.specs.declared.grant.TicketFlags.{TicketFlags}
 use Rattle.krb_tickets.specs.declared.reply.Exchange.{Exchange}
 use Rattle.krb_tickets.specs.declared.reply.Exchange.TheVariants.{As, Tgs}
@@ -54,7 +54,7 @@ abbrev pub last_requests : GeneralizedTime → List LastReqInner
 last_requests start = record { lr_type = record { 0 = pos 0 }; lr_value = record { 0 = record { 0 = start } } } ∷ []
 
 -- the part under the service's key: no realm was passed through, and no address and no right is told
-unfoldable pub ticket_part : Grant → EncTicketPartInner
+unfoldable pub ticket_part : GrantRecord → EncTicketPartInner
 ticket_part grant = record {
   flags = record { 0 = flags_of grant.flags };
   key = record { 0 = encryption_key grant.suite grant.session };
@@ -70,7 +70,7 @@ ticket_part grant = record {
 }
 
 -- the part under the reply key: one last request, of type 0, at the start
-unfoldable pub reply_part : Grant → EncKdcRepPart
+unfoldable pub reply_part : GrantRecord → EncKdcRepPart
 reply_part grant = record {
   key = record { 0 = encryption_key grant.suite grant.session };
   last_req = record { 0 = last_requests grant.start };
@@ -88,16 +88,16 @@ reply_part grant = record {
 }
 
 -- client and service share one key, and know the same end
-one_session_key : (grant : Grant) → (ticket_part grant).key.0 ≡ (reply_part grant).key.0
+one_session_key : (grant : GrantRecord) → (ticket_part grant).key.0 ≡ (reply_part grant).key.0
 unfolding ticket_part reply_part
 one_session_key grant = refl
 
-one_end : (grant : Grant) → (ticket_part grant).endtime.0 ≡ (reply_part grant).end_time.0
+one_end : (grant : GrantRecord) → (ticket_part grant).endtime.0 ≡ (reply_part grant).end_time.0
 unfolding ticket_part reply_part
 one_end grant = refl
 
 -- the ticket with its part as ciphertext
-unfoldable pub ticket_of : Grant → EncryptedData → TicketInner
+unfoldable pub ticket_of : GrantRecord → EncryptedData → TicketInner
 ticket_of grant part = record {
   tkt_vno = record { 0 = pos 5 };
   realm = record { 0 = grant.realm };
@@ -115,7 +115,7 @@ abbrev pub padata_of : Option Bytes → Option (ExplicitContextTag 2 (List PaDat
 padata_of pk_as_rep = option_map (λ value. record { 0 = pa_data_of 17 value ∷ [] }) pk_as_rep
 
 -- the reply with its ticket, its part as ciphertext, and PA-PK-AS-REP where the client authenticated by certificate
-unfoldable pub kdc_reply_of : Exchange → Option Bytes → Grant → TicketInner → EncryptedData → KdcRep
+unfoldable pub kdc_reply_of : Exchange → Option Bytes → GrantRecord → TicketInner → EncryptedData → KdcRep
 kdc_reply_of exchange pk_as_rep grant ticket part = record {
   pvno = record { 0 = pos 5 };
   msg_type = record { 0 = pos (reply_type exchange) };

@@ -1,6 +1,7 @@
 //! What a ticket is granted with, and the sealed ticket.
 ghost use Rattle.std.specs.Prelude.{◌≡◌, length, IfOk};
 ghost use Rattle.krb_crypto.specs.Suites.{cipher_confounder_size};
+ghost use Rattle.krb_tickets.specs.Grant.{grant_of};
 ghost use Rattle.krb_tickets.specs.Sealed.{IsSealedData, ticket_part_bytes};
 ghost use Rattle.krb_tickets.specs.Parts.{ticket_of, ticket_part};
 
@@ -13,23 +14,23 @@ use krb_encrypted_data::sealed_data;
 use krb_types::data_types::{EncTicketPartInner, EncryptedData, PrincipalName, TicketInner};
 use picky_asn1::date::GeneralizedTime;
 use picky_asn1::wrapper::{GeneralStringAsn1, IntegerAsn1, OctetStringAsn1};
-use picky_asn1_der::{ExplicitContextTag, LentFields, fields_of, tagged_encoding};
+use picky_asn1_der::{ExplicitContextTag, LentFields, tagged_encoding};
 use results::both;
 use std::alloc::{AllocError, Global};
 
-/// What a ticket is granted with, in an AS or a TGS exchange.
+/// What a ticket is granted with, in an AS or a TGS exchange. Names are borrowed: each message that holds one copies it once.
 #[derive(Drop)]
-pub struct Grant {
+pub struct Grant<'a> {
     /// The suite of the session's key.
     pub suite: CipherSuite,
     /// The session's key, which client and service will share.
     pub session: OctetStringAsn1,
     /// The realm of client and service.
-    pub realm: GeneralStringAsn1,
+    pub realm: &'a GeneralStringAsn1,
     /// The client, as it named itself, or as the old ticket names it.
-    pub client: PrincipalName,
+    pub client: &'a PrincipalName,
     /// The service, as the client named it.
-    pub service: PrincipalName,
+    pub service: &'a PrincipalName,
     /// The ticket's flags.
     pub flags: TicketFlags,
     /// The second in which the client authenticated: the start, or that of the old ticket.
@@ -39,7 +40,7 @@ pub struct Grant {
     /// The second that the ticket ends in.
     pub until: GeneralizedTime,
     /// The number by which the client knows its request again.
-    pub nonce: IntegerAsn1,
+    pub nonce: &'a IntegerAsn1,
 }
 
 /// The flags of a ticket that a realm sets (RFC 4120, section 5.3); all others are zero.
@@ -54,12 +55,12 @@ pub struct TicketFlags {
 /// The ticket's part under the service's key, behind the confounder, with the key's kvno (RFC 4120, section 5.3).
 pub fn sealed_ticket(
     alloc: Global,
-    grant: &Grant,
+    grant: &Grant<'_>,
     service: &Account,
     confounder: &[u8],
 ) -> Result<EncryptedData, AllocError>
     requires { length confounder.now ≡ cipher_confounder_size service.now.suite }
-    ensures { IfOk result (IsSealedData service.now 2 confounder.now (ticket_part_bytes (ticket_part grant.now))) }
+    ensures { IfOk result (IsSealedData service.now 2 confounder.now (ticket_part_bytes (ticket_part (grant_of grant.now)))) }
 {
     let part = ticket_part(alloc, grant)?;
     let plain = ticket_part_bytes(alloc, part)?;
@@ -73,13 +74,13 @@ pub fn sealed_ticket(
 #[tactic(auto, unfolding(crate::specs::Parts::ticket_of))]
 pub(crate) fn ticket_of(
     alloc: Global,
-    grant: &Grant,
+    grant: &Grant<'_>,
     part: EncryptedData,
 ) -> Result<TicketInner, AllocError>
-    ensures { IfOk result (λ ticket. ticket ≡ ticket_of grant.now part) }
+    ensures { IfOk result (λ ticket. ticket ≡ ticket_of (grant_of grant.now) part) }
 {
     let version = IntegerAsn1::from_u64(alloc, u64::from(KERBEROS_VERSION));
-    let names = fields_of![grant; realm, service].copied();
+    let names = (grant.realm, (grant.service, ())).copied();
     let ((version, names), part) = both(both(version, names), Ok(part))?;
     Ok(TicketInner {
         tkt_vno: ExplicitContextTag(version),

@@ -1,6 +1,7 @@
 //! Granting a ticket, in an AS or a TGS exchange (RFC 4120, sections 3.1.3, 3.3.3).
 
 ghost use Rattle.std.specs.Prelude.{◌≤◌, length, IfOk};
+ghost use Rattle.krb_tickets.specs.Grant.{grant_of};
 ghost use Rattle.krb_tickets.specs.Granted.{IsTicketReply, reply_key_of};
 
 use crate::confounder_at;
@@ -15,13 +16,13 @@ use std::alloc::{AllocError, Global};
 /// only refusal.
 pub fn ticket_reply(
     alloc: Global,
-    grant: &Grant,
+    grant: &Grant<'_>,
     under: &ReplyKey<'_>,
     service: &Account,
     words: &[u8],
 ) -> Result<Vec<u8>, AllocError>
     requires { 128 ≤ length words.now }
-    ensures { IfOk result (λ bytes. IsTicketReply grant.now (reply_key_of under.now) service.now words.now bytes.items) }
+    ensures { IfOk result (λ bytes. IsTicketReply (grant_of grant.now) (reply_key_of under.now) service.now words.now bytes.items) }
 {
     let confounder = confounder_at(service.suite(), words, TICKET_CONFOUNDER);
     let ticket = sealed_ticket(alloc, grant, service, confounder)?;

@@ -1,5 +1,6 @@
 //! The parts of a granted ticket and of its reply, before they are sealed.
 ghost use Rattle.std.specs.Prelude.{◌≡◌, IfOk};
+ghost use Rattle.krb_tickets.specs.Grant.{grant_of};
 ghost use Rattle.krb_tickets.specs.Parts.{flags_octet, flags_of, last_requests, no_realms, reply_part, ticket_part};
 
 use crate::grant::{Grant, TicketFlags};
@@ -12,7 +13,7 @@ use picky_asn1::date::GeneralizedTime;
 use picky_asn1::wrapper::{
     Asn1SequenceOf, BitStringAsn1, GeneralizedTimeAsn1, IntegerAsn1, OctetStringAsn1,
 };
-use picky_asn1_der::{ExplicitContextTag, LentFields, Optional, fields_of};
+use picky_asn1_der::{ExplicitContextTag, LentFields, Optional};
 use results::both;
 use std::alloc::{AllocError, Global};
 
@@ -30,12 +31,15 @@ const NO_LAST_REQUEST: u64 = 0;
 
 /// The part of the ticket that the service alone reads (RFC 4120, section 5.3).
 #[tactic(auto, unfolding(crate::specs::Parts::ticket_part))]
-pub(crate) fn ticket_part(alloc: Global, grant: &Grant) -> Result<EncTicketPartInner, AllocError>
-    ensures { IfOk result (λ part. part ≡ ticket_part grant.now) }
+pub(crate) fn ticket_part(
+    alloc: Global,
+    grant: &Grant<'_>,
+) -> Result<EncTicketPartInner, AllocError>
+    ensures { IfOk result (λ part. part ≡ ticket_part (grant_of grant.now)) }
 {
     let flags = flags_of(alloc, grant.flags);
     let key = encryption_key(alloc, grant.suite, &grant.session);
-    let names = fields_of![grant; realm, client].copied();
+    let names = (grant.realm, (grant.client, ())).copied();
     let transited = no_realms(alloc);
     let ((flags, key), (names, transited)) = both(both(flags, key), both(names, transited))?;
     Ok(EncTicketPartInner {
@@ -55,13 +59,13 @@ pub(crate) fn ticket_part(alloc: Global, grant: &Grant) -> Result<EncTicketPartI
 
 /// The part of the reply that the client alone reads (RFC 4120, section 5.4.2).
 #[tactic(auto, unfolding(crate::specs::Parts::reply_part))]
-pub(crate) fn reply_part(alloc: Global, grant: &Grant) -> Result<EncKdcRepPart, AllocError>
-    ensures { IfOk result (λ part. part ≡ reply_part grant.now) }
+pub(crate) fn reply_part(alloc: Global, grant: &Grant<'_>) -> Result<EncKdcRepPart, AllocError>
+    ensures { IfOk result (λ part. part ≡ reply_part (grant_of grant.now)) }
 {
     let key = encryption_key(alloc, grant.suite, &grant.session);
     let last_req = last_requests(alloc, grant.start);
     let flags = flags_of(alloc, grant.flags);
-    let copies = fields_of![grant; nonce, realm, service].copied();
+    let copies = (grant.nonce, (grant.realm, (grant.service, ()))).copied();
     let ((key, last_req), (flags, copies)) = both(both(key, last_req), both(flags, copies))?;
     Ok(EncKdcRepPart {
         key: ExplicitContextTag(key),

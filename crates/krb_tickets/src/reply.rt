@@ -2,6 +2,7 @@
 ghost use Rattle.std.specs.Prelude.{◌≡◌, length, pos, IfOk};
 ghost use Rattle.std.specs.Option.{option_map};
 ghost use Rattle.krb_crypto.specs.Suites.{cipher_confounder_size};
+ghost use Rattle.krb_tickets.specs.Grant.{grant_of};
 ghost use Rattle.krb_tickets.specs.Sealed.{IsSealedReply, kdc_reply_bytes, reply_part_bytes};
 ghost use Rattle.krb_tickets.specs.Parts.{kdc_reply_of, padata_of, reply_part, reply_type, ticket_of};
 ghost use Rattle.krb_tickets.specs.ReplyKeys.{reply_key_of};
@@ -21,8 +22,7 @@ use krb_preauth::pa_data;
 use krb_types::data_types::{EncryptedData, PaData};
 use picky_asn1::wrapper::{Asn1SequenceOf, IntegerAsn1};
 use picky_asn1_der::{
-    ApplicationTag, ExplicitContextTag, ExplicitContextTag2, LentFields, Optional, fields_of,
-    tagged_encoding,
+    ApplicationTag, ExplicitContextTag, ExplicitContextTag2, LentFields, Optional, tagged_encoding,
 };
 use results::both;
 use std::alloc::{AllocError, Global};
@@ -113,13 +113,13 @@ impl<'a> ReplyKey<'a> {
 /// The reply's part under the reply key, after the confounder. Fails only if memory runs out.
 pub fn sealed_reply(
     alloc: Global,
-    grant: &Grant,
+    grant: &Grant<'_>,
     under: &ReplyKey<'_>,
     confounder: &[u8],
 ) -> Result<EncryptedData, AllocError>
     requires { length confounder.now ≡ cipher_confounder_size under.now.key.now.suite }
     ensures { IfOk result (IsSealedReply (reply_key_of under.now) confounder.now
-        (reply_part_bytes under.now.exchange (reply_part grant.now))) }
+        (reply_part_bytes under.now.exchange (reply_part (grant_of grant.now)))) }
 {
     let part = reply_part(alloc, grant)?;
     let plain = reply_part_bytes(alloc, under.exchange, part)?;
@@ -140,11 +140,11 @@ pub fn reply_bytes(
     alloc: Global,
     exchange: Exchange,
     pk_as_rep: Option<&[u8]>,
-    grant: &Grant,
+    grant: &Grant<'_>,
     ticket: EncryptedData,
     part: EncryptedData,
 ) -> Result<Vec<u8>, AllocError>
-    ensures { IfOk result (λ bytes. bytes.items ≡ kdc_reply_bytes exchange (kdc_reply_of exchange (option_map (λ reply. reply.now) pk_as_rep.entry) grant.now (ticket_of grant.now ticket) part)) }
+    ensures { IfOk result (λ bytes. bytes.items ≡ kdc_reply_bytes exchange (kdc_reply_of exchange (option_map (λ reply. reply.now) pk_as_rep.entry) (grant_of grant.now) (ticket_of (grant_of grant.now) ticket) part)) }
 {
     let reply = kdc_reply_of(alloc, exchange, pk_as_rep, grant, ticket, part)?;
     let bytes = kdc_reply_bytes(alloc, exchange, reply)?;
@@ -157,15 +157,15 @@ fn kdc_reply_of(
     alloc: Global,
     exchange: Exchange,
     pk_as_rep: Option<&[u8]>,
-    grant: &Grant,
+    grant: &Grant<'_>,
     ticket: EncryptedData,
     part: EncryptedData,
 ) -> Result<KdcRep, AllocError>
-    ensures { IfOk result (λ reply. reply ≡ kdc_reply_of exchange (option_map (λ reply. reply.now) pk_as_rep.entry) grant.now (ticket_of grant.now ticket) part) }
+    ensures { IfOk result (λ reply. reply ≡ kdc_reply_of exchange (option_map (λ reply. reply.now) pk_as_rep.entry) (grant_of grant.now) (ticket_of (grant_of grant.now) ticket) part) }
 {
     let version = IntegerAsn1::from_u64(alloc, u64::from(KERBEROS_VERSION));
     let kind = reply_type(alloc, exchange);
-    let names = fields_of![grant; realm, client].copied();
+    let names = (grant.realm, (grant.client, ())).copied();
     let padata = padata_of(alloc, pk_as_rep);
     let ticket = ticket_of(alloc, grant, ticket);
     let (front, (names, (padata, (ticket, part)))) = both(

@@ -1,5 +1,5 @@
 //! Lines of an acceptor: `acceptor EXPECTED SUITE SKEW | KEY`, and `accept EXPECTED MOMENT CLIENT FLAGS | TOKEN WORDS REPLY
-//! BINDINGS` of a first token. A line `resume` is the same of the next token of the negotiation that goes on.
+//! BINDINGS` of a first token. A line `resume` is the same of the negotiation's next token.
 
 use crate::row::Row;
 use crate::{Ends, is_named};
@@ -33,7 +33,7 @@ fn service_of(alloc: Global, suite: CipherSuite, key: &[u8], skew: u64) -> anyho
     Ok(Service::new(alloc, b"EXAMPLE.COM", &name, suite, key, 1, skew)?)
 }
 
-/// Takes a first token, or the next one of the negotiation that goes on. Its context takes the place of the last one.
+/// Takes a first token, or the negotiation's next one. Its context takes the place of the last one.
 pub(crate) fn accepts(alloc: Global, ends: &mut Ends, row: &Row<'_>) -> anyhow::Result<bool> {
     let ([moment, ..], [token, words, ..]) = (row.words.as_slice(), row.columns.as_slice()) else {
         bail!("a line `accept` or `resume` of another shape");

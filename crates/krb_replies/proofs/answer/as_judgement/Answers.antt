@@ -3,7 +3,7 @@ use Rattle.std.specs.Option.{option_copied, option_map}
 use Rattle.krb_types.specs.declared.refusal.Refusal.TheVariants.{Krb}
 use Rattle.krb_as.specs.AsTable.{as_table}
 use Rattle.krb_kdc_requests.specs.Call.{call_of}
-use Rattle.krb_as.specs.Judged.{IsGranted}
+use Rattle.krb_kdc_requests.specs.Granting.{IsGranted}
 use Rattle.krb_kdc_requests.specs.Requests.{account_of, client_of, service_of}
 use Rattle.krb_replies.specs.Replies.{e_data_of}
 use Rattle.krb_replies.proofs.answer.as_judgement.Goals as goal

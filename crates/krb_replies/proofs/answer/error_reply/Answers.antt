@@ -9,7 +9,7 @@ returns-in-Some c = rw c.in-Some.is c.in_ok-reply.ensures
 pub returns : goal.returns
 returns c =
     let call = c.args.call.now in
-    let told = c.args.told in
+    let kdc_error = c.args.kdc_error in
     let error = c.in_ok-reply-2.ensures in
     rw c.in_default.is
-    (error.0, error.1, error.2 ∙ ap (λ name. error_bytes call.realm.now error.0 (call.moment % 1000000) name told.code (option_map (λ h. h.items) told.e_data)) c.in_ok-service.ensures)
+    (error.0, error.1, error.2 ∙ ap (λ name. error_bytes call.realm.now error.0 (call.moment % 1000000) name kdc_error.code (option_map (λ h. h.items) kdc_error.e_data)) c.in_ok-service.ensures)

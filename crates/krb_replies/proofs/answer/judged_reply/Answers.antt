@@ -11,4 +11,4 @@ pub returns-in_ok-reply-in-Err : goal.returns-in_ok-reply-in-Err
 returns-in_ok-reply-in-Err c =
     let reply = c.in_ok-reply-in-Err.ensures in
     rw c.in-Err.is
-    (error_with (call_of c.args.call.now) c.args.request.now c.in-Err.told (option_copied c.service_of.result) c.in_ok-reply-in-Err.reply.items reply.0 c.service_of.ensures reply.1 reply.2)
+    (error_with (call_of c.args.call.now) c.args.request.now c.in-Err.kdc_error (option_copied c.service_of.result) c.in_ok-reply-in-Err.reply.items reply.0 c.service_of.ensures reply.1 reply.2)

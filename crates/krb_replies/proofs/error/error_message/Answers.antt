@@ -7,11 +7,11 @@ use Rattle.krb_replies.proofs.error.error_message.Goals as goal
 pub returns : goal.returns
 returns c =
     let time = c.second-time.result in
-    let told = c.args.told in
+    let kdc_error = c.args.kdc_error in
     let bytes = c.in_ok-bytes.ensures
     ∙ made-bytes c.in_ok-version.version c.in_ok-kind.kind c.in_ok-susec.susec c.new.result c.args.realm.now time c.microsecond-microseconds.result
-    c.new-2.result c.args.service.now told.code
-    c.data_of.result (option_map (λ bytes. bytes.items) told.e_data)
+    c.new-2.result c.args.service.now kdc_error.code
+    c.data_of.result (option_map (λ bytes. bytes.items) kdc_error.e_data)
     (rw c.from.ensures at c.in_ok-version.ensures) (rw c.from-2.ensures at c.in_ok-kind.ensures) c.in_ok-susec.ensures c.new.ensures c.new-2.ensures c.data_of.ensures
-    ∙ ap (λ micros. error_bytes c.args.realm.now time micros c.args.service.now told.code (option_map (λ h. h.items) told.e_data)) c.microsecond-microseconds.ensures.value in
+    ∙ ap (λ micros. error_bytes c.args.realm.now time micros c.args.service.now kdc_error.code (option_map (λ h. h.items) kdc_error.e_data)) c.microsecond-microseconds.ensures.value in
     (time, c.second-time.ensures, bytes)

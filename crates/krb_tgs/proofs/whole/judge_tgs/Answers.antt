@@ -4,7 +4,7 @@ use Rattle.decision_tables.specs.Tables.{and_then}
 use Rattle.krb_types.specs.Refusals.{IsJudged}
 use Rattle.krb_kdc_requests.specs.Call.{call_of}
 use Rattle.krb_kdc_requests.specs.Requests.{padata_in}
-use Rattle.krb_as.proofs.Parts.{grant_passed, grant_refused}
+use Rattle.krb_kdc_requests.proofs.Parts.{grant_passed, grant_refused}
 use Rattle.krb_tgs.specs.TgsTable.{carried, of_carried, to_us}
 use Rattle.krb_tgs.proofs.whole.judge_tgs.Goals as goal
 

@@ -6,5 +6,5 @@ use Rattle.krb_tgs.proofs.whole.session_key.Goals as goal
 
 pub unreachable-requires : goal.unreachable-requires
 unreachable-requires c =
-    let sized = ap length c.as_bytes.ensures ∙ suite_sized c.args.part.now.key.0 c.args.shown.now.suite c.requires in
+    let sized = ap length c.as_bytes.ensures ∙ suite_sized c.args.part.now.key.0 c.args.authenticated.now.suite c.requires in
     false≢true (subst (λ made. IsOk made) c.in-Err.is (c.new.ensures.fits sized))

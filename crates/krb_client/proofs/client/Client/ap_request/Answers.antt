@@ -4,7 +4,7 @@ use Rattle.krb_client.proofs.client.Client.ap_request.Goals as goal
 pub returns-clause-asks : goal.returns-clause-asks
 returns-clause-asks c = record {
   authenticator = c.in_ok-authenticator.authenticator;
-  authenticates = rw (c.in_ok-told.ensures, c.in_ok-subkey.ensures, c.suite-suite.ensures) at c.in_ok-authenticator.ensures;
+  authenticates = rw (c.in_ok-presented.ensures, c.in_ok-subkey.ensures, c.suite-suite.ensures) at c.in_ok-authenticator.ensures;
   presents = rw (c.confounder_at-confounder.ensures.part, c.suite-suite.ensures) at c.in_ok-bytes.ensures;
 }
 

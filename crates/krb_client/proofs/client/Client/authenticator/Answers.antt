@@ -4,5 +4,5 @@ pub returns : goal.returns
 returns c = record {
   second = c.second-second.result;
   of_moment = c.second-second.ensures;
-  told = rw (c.in_ok-told.ensures, c.microsecond.ensures.value) at c.authenticator_with.ensures;
+  is_made = rw (c.in_ok-parts.ensures, c.microsecond.ensures.value) at c.authenticator_with.ensures;
 }

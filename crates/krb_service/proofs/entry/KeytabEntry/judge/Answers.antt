@@ -1,8 +1,10 @@
 use Rattle.std.proofs.Common.{Err, subst}
 use Rattle.std.proofs.lemmas.Result.{err_from_is_err_and}
-use Rattle.krb_ap_requests.specs.ApTable.{presented}
+use Rattle.krb_ap_requests.specs.ApTable.{presented, valid_part}
 use Rattle.krb_ap_requests.specs.Entry.{EntryRecord}
 use Rattle.krb_types.specs.Refusals.{IsJudged}
+use Rattle.krb_types.specs.declared.data_types.enc_ticket_part.EncTicketPartInner.{EncTicketPartInner}
+use Rattle.krb_types.specs.declared.data_types.encrypted_data.EncryptedData.{EncryptedData}
 use Rattle.krb_ap_requests.specs.declared.presented.Presented.{Presented}
 use Rattle.krb_ap_requests.proofs.Judged.{recipient_refused, ticket_held, ticket_refused}
 use Rattle.krb_service.proofs.entry.KeytabEntry.judge.Goals as goal
@@ -24,7 +26,9 @@ returns-in_err-part c =
     let exit = err_from_is_err_and c.from_residual-in_err-part.result c.from_residual-in_err-part.ensures.1 in
     rw (exit.1, exit.2)
     (subst (λ (e : EntryRecord). IsJudged {T = Presented} (presented e c.args.skew c.args.moment c.args.request.now).gives (Err c.in_err-part.field-0.0)) c.self.view_is
-    (ticket_refused entry c.args.skew c.args.moment c.args.request.now c.in_err-part.field-0.0 recipient c.in_err-part.ensures))
+    (ticket_refused entry c.args.skew c.args.moment c.args.request.now c.in_err-part.field-0.0 recipient
+    (subst (λ (encrypted : EncryptedData). IsJudged {T = EncTicketPartInner} (valid_part entry.suite entry.key c.args.skew c.args.moment encrypted).gives (Err c.in_err-part.field-0.0)) c.enc_part_in.ensures
+    c.in_err-part.ensures)))
 
 pub returns : goal.returns
 returns c =
@@ -32,4 +36,4 @@ returns c =
     let entry : EntryRecord = record { realm = own.realm; components = own.components.items; suite = own.key.suite; key = own.key.bytes; kvno = own.kvno } in
     let recipient = rw (c.as_slice.ensures.value, c.suite.ensures) at c.in_ok-check_recipient.ensures in
     subst (λ (e : EntryRecord). IsJudged {T = Presented} (presented e c.args.skew c.args.moment c.args.request.now).gives c.check_presented.result) c.self.view_is
-    (ticket_held entry c.args.skew c.args.moment c.args.request.now c.in_ok-part.part c.check_presented.result recipient c.in_ok-part.ensures c.check_presented.ensures)
+    (ticket_held entry c.args.skew c.args.moment c.args.request.now c.in_ok-part.part c.check_presented.result recipient (rw c.enc_part_in.ensures at c.in_ok-part.ensures) c.check_presented.ensures)

@@ -6,7 +6,7 @@ use Rattle.krb_types.specs.Refusals.{IsJudged}
 use Rattle.krb_types.specs.declared.refusal.Refusal.{Refusal}
 use Rattle.krb_types.specs.declared.refusal.Refusal.TheVariants.{Krb, Memory}
 use Rattle.decision_tables.specs.Tables.{Table, and_then}
-use Rattle.krb_as.specs.Judged.{IsGranted}
+use Rattle.krb_kdc_requests.specs.Granting.{IsGranted}
 
 module _ {A : Type 0} (part : Table (Result A ℕ)) where
   -- the part refuses

@@ -1,7 +1,8 @@
--- A ticket has its times, and what grants it has a reply.
-use Rattle.std.proofs.Common.{◌≡◌, ◌≤◌, ◌<◌, ℕ, ◌+◌, min, List, length, drop, Option, Some, Result, Ok, true, false, refl, sym, subst, arith}
+-- A request's header is judged, a ticket has its times, and what grants it has a reply.
+use Rattle.std.proofs.Common.{◌≡◌, ◌≤◌, ◌<◌, ℕ, ◌+◌, min, Bool, not, List, length, drop, Option, Some, Result, Ok, Err, true, false, refl, sym, subst, arith}
 use Rattle.std.proofs.lemmas.List.{length-drop, length-take-le}
 use Rattle.picky_asn1.specs.GeneralizedTime.{seconds_of}
+use Rattle.picky_asn1.specs.Numbers.{is_number}
 use Rattle.aes_cts.specs.Bytes.{IsBytes}
 use Rattle.aes_cts.proofs.States.{IsBytes-drop, IsBytes-take}
 use Rattle.krb_moments.specs.Moment.{IsMoment}
@@ -10,24 +11,40 @@ use Rattle.krb_crypto.specs.declared.suite.CipherSuite.{CipherSuite}
 use Rattle.krb_crypto.proofs.AllSuites.{confounder_below}
 use Rattle.krb_crypto.proofs.SealedTexts.{has_sealed}
 use Rattle.krb_accounts.specs.Account.{AccountRecord}
+use Rattle.krb_types.specs.Names.{is_same_realm}
 use Rattle.krb_types.specs.RandomBytes.{random_part}
 use Rattle.krb_types.specs.declared.data_types.encrypted_data.EncryptedData.{EncryptedData}
+use Rattle.krb_messages.specs.declared.messages.kdc_req.KdcReq.{KdcReq}
 use Rattle.krb_messages.specs.declared.messages.kdc_req_body.KdcReqBody.{KdcReqBody}
 use Rattle.decision_tables.specs.Tables.{Table, done, refuse}
 use Rattle.decision_tables.proofs.Outcomes.{HasOutcome, has_done, has_made, has_refused, some_of}
 use Rattle.krb_tickets.specs.Sealing.{Seals, encrypted_by}
-use Rattle.krb_tickets.specs.declared.grant.Grant.{Grant}
+use Rattle.krb_tickets.specs.Grant.{GrantRecord}
 use Rattle.krb_tickets.specs.Parts.{kdc_reply_of, reply_part, ticket_of, ticket_part}
 use Rattle.krb_tickets.specs.ReplyKeys.{ReplyKeyRecord}
 use Rattle.krb_tickets.specs.Sealed.{kdc_reply_bytes, reply_part_bytes, ticket_part_bytes}
 use Rattle.krb_tickets.specs.Times.{asked_end, end_of, old_end, start_of}
 use Rattle.krb_tickets.specs.Granted.{IsTicketReply, sole_ticket_reply}
 use Rattle.krb_kdc_requests.specs.Calls.{IsKeyed}
-use Rattle.krb_as.specs.Grants.{replied}
-use Rattle.krb_kdc_requests.specs.Requests.{IsSpan, is_ended, lasting, sole_span}
+use Rattle.krb_kdc_requests.specs.Granting.{replied}
+use Rattle.krb_kdc_requests.specs.Requests.{IsSpan, has_refused_option, header_rows, is_ended, is_postdated, lasting, sole_span}
 use Rattle.krb_kdc_requests.specs.declared.span.Span.{Span}
 use Rattle.krb_kdc_requests.proofs.Seconds.{has_time}
 use Rattle.krb_kdc_requests.proofs.Written.{IsWritten}
+
+-- the header's rows
+pub has_header : (kind : ℕ) (realm : List ℕ) (request : KdcReq) → HasOutcome (header_rows kind realm request)
+has_header kind realm request =
+    rows (not (is_number 5 request.pvno.0)) (not (is_number kind request.msg_type.0)) (not (is_same_realm request.req_body.0.realm.0 realm))
+    (has_refused_option request.req_body.0.kdc_options.0) (is_postdated request.req_body.0.kdc_options.0)
+  where
+    rows : (a b c d e : Bool) → HasOutcome (refuse {T = Unit {0}} {E = ℕ} a 3 (refuse b 40 (refuse c 68 (refuse d 13 (refuse e 10 (done (Ok tt)))))))
+    rows true b c d e = has_done (Err 3)
+    rows false true c d e = has_done (Err 40)
+    rows false false true d e = has_done (Err 68)
+    rows false false false true e = has_done (Err 13)
+    rows false false false false true = has_done (Err 10)
+    rows false false false false false = has_done (Ok tt)
 
 -- the front of a place of sixteen of the random bytes
 block_of : (suite : CipherSuite) (from : ℕ) (words : List ℕ) → from + 16 ≤ length words → length (random_part from (cipher_confounder_size suite) words) ≡ cipher_confounder_size suite
@@ -42,7 +59,7 @@ has_data suite key kvno usage from words plain sized key_bytes long random_bytes
     (IsBytes-take size (drop from words) (IsBytes-drop from words random_bytes)) plain_bytes in
     (encrypted_by suite kvno made.0, record { cipher = made.0; seals = made.1; told = refl })
 
-has_ticket_reply : (grant : Grant) (under : ReplyKeyRecord) (service : AccountRecord) (words : List ℕ) → length under.key ≡ cipher_key_size under.suite → IsBytes under.key → IsKeyed service
+has_ticket_reply : (grant : GrantRecord) (under : ReplyKeyRecord) (service : AccountRecord) (words : List ℕ) → length under.key ≡ cipher_key_size under.suite → IsBytes under.key → IsKeyed service
     → 128 ≤ length words → IsBytes words → IsWritten under.exchange grant → (bytes : List ℕ) × IsTicketReply grant under service words bytes
 has_ticket_reply grant under service words sized key_bytes service_key long random_bytes written =
     let ticket = has_data service.suite service.key (Some service.kvno) 2 32 words (ticket_part_bytes (ticket_part grant)) service_key.sized service_key.bytes (omega arith) random_bytes written.ticket in
@@ -51,7 +68,7 @@ has_ticket_reply grant under service words sized key_bytes service_key long rand
       record { ticket_data = ticket.0; ticket_sealed = ticket.1; reply_data = reply.0; reply_sealed = reply.1; encoding = refl },
     )
 
-pub has_replied : (grant : Grant) (under : ReplyKeyRecord) (service : AccountRecord) (words : List ℕ) → length under.key ≡ cipher_key_size under.suite → IsBytes under.key → IsKeyed service
+pub has_replied : (grant : GrantRecord) (under : ReplyKeyRecord) (service : AccountRecord) (words : List ℕ) → length under.key ≡ cipher_key_size under.suite → IsBytes under.key → IsKeyed service
     → 128 ≤ length words → IsBytes words → IsWritten under.exchange grant → HasOutcome (replied grant under service words)
 has_replied grant under service words sized key_bytes service_key long random_bytes written =
     let made = has_ticket_reply grant under service words sized key_bytes service_key long random_bytes written in

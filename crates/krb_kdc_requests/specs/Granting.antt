@@ -1,0 +1,25 @@
+-- What a realm grants, in an AS or a TGS exchange (RFC 4120, sections 3.1.3, 3.3.3).
+use Rattle.std.specs.Prelude.{ℕ, Result, Ok, Err, Vec}
+use Rattle.std.specs.Global.{Global}
+use Rattle.picky_asn1.specs.Bytes.{Bytes}
+use Rattle.krb_accounts.specs.Account.{AccountRecord}
+use Rattle.krb_types.specs.RandomBytes.{Random}
+use Rattle.krb_types.specs.Refusals.{Code}
+use Rattle.krb_types.specs.declared.refusal.Refusal.{Refusal}
+use Rattle.krb_types.specs.declared.refusal.Refusal.TheVariants.{Krb, Memory}
+use Rattle.decision_tables.specs.Tables.{Table, done, make}
+use Rattle.krb_tickets.specs.Grant.{GrantRecord}
+use Rattle.krb_tickets.specs.ReplyKeys.{ReplyKeyRecord}
+use Rattle.krb_tickets.specs.Granted.{IsTicketReply, sole_ticket_reply}
+
+-- memory aside, the reply's bytes are an outcome of the table's
+abbrev pub IsGranted : (Result Bytes Code → Type 0) → Result (Vec ℕ Global) Refusal → Type 0
+IsGranted gives (Ok bytes) = gives (Ok bytes.items)
+IsGranted gives (Err (Krb code)) = gives (Err code)
+IsGranted gives (Err Memory) = Unit {0}
+
+-- the one reply that grants a ticket, its own part sealed under this key
+abbrev pub replied : GrantRecord → ReplyKeyRecord → AccountRecord → Random → Table (Result Bytes Code)
+replied grant under service words =
+    make (IsTicketReply grant under service words) (sole_ticket_reply grant under service words) (λ bytes.
+    done (Ok bytes))

@@ -1,0 +1,37 @@
+-- What a ticket is granted with, in an AS or a TGS exchange (RFC 4120, sections 3.1.3, 3.3.3).
+use Rattle.std.specs.Prelude.{ℤ}
+use Rattle.asn1_leaves.specs.declared.date.GeneralizedTime.{GeneralizedTime}
+use Rattle.picky_asn1.specs.Bytes.{Bytes}
+use Rattle.krb_crypto.specs.declared.suite.CipherSuite.{CipherSuite}
+use Rattle.krb_types.specs.declared.data_types.principal_name.PrincipalName.{PrincipalName}
+use Rattle.krb_tickets.specs.declared.grant.Grant as held
+use Rattle.krb_tickets.specs.declared.grant.TicketFlags.{TicketFlags}
+
+-- the session key with its suite, the realm of client and service, their names, the ticket's flags and times, and the nonce of the
+-- request
+pub record GrantRecord : Type 0 where
+  pub suite : CipherSuite
+  pub session : Bytes
+  pub realm : Bytes
+  pub client : PrincipalName
+  pub service : PrincipalName
+  pub flags : TicketFlags
+  pub auth_time : GeneralizedTime
+  pub start : GeneralizedTime
+  pub until : GeneralizedTime
+  pub nonce : ℤ
+
+-- the same as a definition sees it
+abbrev pub grant_of : held.Grant → GrantRecord
+grant_of this = record {
+  suite = this.suite;
+  session = this.session;
+  realm = this.realm.now;
+  client = this.client.now;
+  service = this.service.now;
+  flags = this.flags;
+  auth_time = this.auth_time;
+  start = this.start;
+  until = this.until;
+  nonce = this.nonce.now;
+}
