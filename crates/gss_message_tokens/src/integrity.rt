@@ -4,7 +4,7 @@ ghost use Rattle.std.specs.Io.KnownBytes.{Consumes, Appends};
 ghost use Rattle.devices.specs.Counting.{one_more};
 ghost use Rattle.byte_layouts.specs.Stops.{IsWriteStop};
 
-use byte_layouts::{array_at, put_at, u32_le, write_bytes};
+use byte_layouts::{array_at, put_at, u32_le, u32_le_bytes, write_bytes};
 use devices::{Sink, Source, read_full};
 use std::io;
 use std::io::ErrorKind;
@@ -52,8 +52,8 @@ impl LsapTokenInfoIntegrity {
         ensures { IsIntegrityRecord self.now result }
     {
         let mut bytes = [0; RECORD_LEN];
-        put_at(&mut bytes, 0, &self.flags.to_le_bytes());
-        put_at(&mut bytes, 4, &self.token_il.to_le_bytes());
+        put_at(&mut bytes, 0, &u32_le_bytes(self.flags));
+        put_at(&mut bytes, 4, &u32_le_bytes(self.token_il));
         put_at(&mut bytes, 8, &self.machine_id);
         bytes
     }

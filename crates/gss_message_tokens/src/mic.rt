@@ -9,7 +9,7 @@ ghost use Rattle.gss_message_tokens.specs.declared.kind.TokenKind.{TokenKind};
 use crate::error::GssApiMessageError;
 use crate::kind::{HEADER_LEN, MIC_FILLER, TokenKind, id};
 use crate::token::{read_token, write_token};
-use byte_layouts::{put_at, u64_be};
+use byte_layouts::{put_at, u64_be, u64_be_bytes};
 use devices::{Sink, Source};
 use std::alloc::{AllocError, Global};
 
@@ -99,7 +99,7 @@ impl MicToken {
         put_at(&mut header, 0, &id(TokenKind::Mic));
         put_at(&mut header, 2, &[self.flags]);
         put_at(&mut header, 3, &MIC_FILLER);
-        put_at(&mut header, 8, &self.seq_num.to_be_bytes());
+        put_at(&mut header, 8, &u64_be_bytes(self.seq_num));
         header
     }
 

@@ -9,7 +9,7 @@ ghost use Rattle.gss_message_tokens.specs.declared.kind.TokenKind.{TokenKind};
 use crate::error::GssApiMessageError;
 use crate::kind::{HEADER_LEN, TokenKind, WRAP_FILLER, id};
 use crate::token::{read_token, write_token};
-use byte_layouts::{put_at, u16_be, u64_be};
+use byte_layouts::{put_at, u16_be, u16_be_bytes, u64_be, u64_be_bytes};
 use devices::{Sink, Source};
 use std::alloc::{AllocError, Global};
 
@@ -83,9 +83,9 @@ impl WrapToken {
         put_at(&mut header, 0, &id(TokenKind::Wrap));
         put_at(&mut header, 2, &[self.flags]);
         put_at(&mut header, 3, &[WRAP_FILLER]);
-        put_at(&mut header, 4, &self.ec.to_be_bytes());
-        put_at(&mut header, 6, &self.rrc.to_be_bytes());
-        put_at(&mut header, 8, &self.seq_num.to_be_bytes());
+        put_at(&mut header, 4, &u16_be_bytes(self.ec));
+        put_at(&mut header, 6, &u16_be_bytes(self.rrc));
+        put_at(&mut header, 8, &u64_be_bytes(self.seq_num));
         header
     }
 
