@@ -1,5 +1,5 @@
 //! The record of a process's integrity level (MS-KILE, section 2.2.5).
-ghost use Rattle.std.specs.Prelude.{◌≡◌, ℕ, List, take, Some, IfOk, IfErr, IfSome, MatchResult};
+ghost use Rattle.std.specs.Prelude.{◌≡◌, ℕ, List, take, Some, IfOk, IfSome, MatchResult};
 ghost use Rattle.std.specs.Io.KnownBytes.{Consumes, Appends};
 ghost use Rattle.devices.specs.Counting.{one_more};
 ghost use Rattle.byte_layouts.specs.Stops.{IsWriteStop};
@@ -45,7 +45,7 @@ impl From<LsapTokenInfoIntegrityError> for io::Error {
 }
 
 impl LsapTokenInfoIntegrity {
-    ghost use Rattle.gss_message_tokens.specs.Integrity.{IsIntegrityRecord, FitsRecord, record_at, IsReadStop};
+    ghost use Rattle.gss_message_tokens.specs.Integrity.{IsIntegrityRecord, FitsRecord, record_at, IsRecordStop};
 
     // Its 40 bytes.
     fn bytes(&self) -> [u8; RECORD_LEN]
@@ -94,8 +94,8 @@ impl LsapTokenInfoIntegrity {
         ensures only { IfSome (R.left reader.old) (λ bytes. (r : LsapTokenInfoIntegrity) → FitsRecord r → IsIntegrityRecord r (take 40 bytes)
             → MatchResult result (λ read. read ≡ r)
             (λ e. (R.failed reader.new ≡ one_more (R.failed reader.old)) × (R.last_fault reader.new ≡ Some e.kind))) }
-        ensures refused { IfErr result (λ e. IfSome (R.left reader.old) (λ bytes.
-            IsReadStop bytes (R.failed reader.old) (R.failed reader.new) (R.last_fault reader.new) e.kind)) }
+        ensures refused { MatchResult result (λ _. R.failed reader.new ≡ R.failed reader.old)
+            (λ e. IsRecordStop (R.left reader.old) (R.failed reader.old) (R.failed reader.new) (R.last_fault reader.new) e.kind) }
         ensures same { R.through reader.new ≡ R.through reader.old }
     {
         let mut bytes = [0; RECORD_LEN];

@@ -3,7 +3,7 @@ ghost use Rattle.std.specs.Prelude.{◌≡◌, ℕ, ◌<◌, ◌^◌, List, [], 
 ghost use Rattle.std.specs.Io.KnownBytes.{Consumes, IsAtEnd, Appends};
 ghost use Rattle.byte_layouts.specs.Parts.{IsLaidOut};
 ghost use Rattle.gss_message_tokens.specs.Faults.{IsWriteFault};
-ghost use Rattle.gss_message_tokens.specs.Refusals.{IsRefusal, IsExcuse};
+ghost use Rattle.gss_message_tokens.specs.Refusals.{IsRefusal, IsExcuse, TellsRead};
 ghost use Rattle.gss_message_tokens.specs.declared.kind.TokenKind.{TokenKind};
 
 use crate::error::GssApiMessageError;
@@ -128,6 +128,8 @@ impl WrapToken {
         ensures only { IfSome (R.left reader.old) (λ whole. (w : WrapFields) → w.ec < 2 ^ 16 → w.rrc < 2 ^ 16 → w.seq_num < 2 ^ 64 → IsWrapToken w whole
             → MatchResult result (λ t. wrap_of t ≡ w)
             (IsExcuse TokenKind.Wrap whole (R.left reader.new) (R.failed reader.old) (R.failed reader.new) (R.last_fault reader.new))) }
+        ensures count { MatchResult result (λ _. R.failed reader.new ≡ R.failed reader.old)
+            (TellsRead TokenKind.Wrap (R.left reader.new) (R.failed reader.old) (R.failed reader.new) (R.last_fault reader.new)) }
         ensures refused { IfErr result (λ e. IfSome (R.left reader.old) (λ whole.
             IsRefusal TokenKind.Wrap whole (R.left reader.new) (R.failed reader.old) (R.failed reader.new) (R.last_fault reader.new) e)) }
         ensures same { R.through reader.new ≡ R.through reader.old }
