@@ -142,7 +142,10 @@ fn put(alloc: Global, parts: &mut Vec<String>, bytes: &[u8]) -> anyhow::Result<(
 /// Whether the certificate is the signer's, and the digest is the content's. Every signature counts as valid.
 fn is_signer(alloc: Global, content: &SignedContent<'_>) -> anyhow::Result<bool> {
     let certificate: Certificate = from_bytes(alloc, content.certificate())?;
-    let keys = GivenSignature { given: None };
+    let keys = GivenSignature {
+        algorithm: None,
+        signature: &[],
+    };
     let judged = check_signer(alloc, &keys, &certificate, &JudgedContent::from(content));
     drop(certificate);
     Ok(code_of(judged)?.is_none())
