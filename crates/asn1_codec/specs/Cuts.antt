@@ -2,6 +2,8 @@
 use Rattle.std.specs.Io.KnownBytes.{Consumes}
 use Rattle.std.specs.Prelude.{◌≡◌, ℕ, ◌≤◌, List, ◌++◌, length, Option, Some, ⊤, ◌⊎◌, Result, Ok, Err, MatchResult}
 use Rattle.asn1_der.specs.declared.error.Asn1DerError.{Asn1DerError}
+use Rattle.asn1_der.specs.Seen.{Seen, Alike}
+use Rattle.asn1_codec.specs.Reads.{Gives}
 use Rattle.asn1_codec.specs.Reading.{IsExcuse, IsNotNext, IsReadBy}
 
 -- the input begins with bytes that are read as the value, at most `limit` of them; `rest` follows them
@@ -28,16 +30,16 @@ abbrev pub IsNextAnswer : {T : Type 0} → (T → List ℕ → Type 0) → ℕ �
 IsNextAnswer reads limit old new answer = MatchResult answer (TakesNext reads limit old new) (MissesNext reads limit old)
 
 -- the value that the front of what is left is read as, and no other, with the rest left; or an excuse
-abbrev pub ReadsNext : {T : Type 0} → (T → List ℕ → Type 0) → ℕ → Option (List ℕ) → Option (List ℕ) → Result T Asn1DerError → Type 0
-ReadsNext {T} reads limit left after answer =
+abbrev pub ReadsNext : {T : Type 0} → Seen T → (T → List ℕ → Type 0) → ℕ → Option (List ℕ) → Option (List ℕ) → Result T Asn1DerError → Type 0
+ReadsNext {T} seen reads limit left after answer =
     IsExcused answer
     ⊎ ((input : List ℕ) → left ≡ Some input → (value : T)
     → (answer ≡ Ok value → (rest : List ℕ) × BeginsWithin reads limit value input rest × (after ≡ Some rest))
-    × ((rest : List ℕ) → BeginsWithin reads limit value input rest → (answer ≡ Ok value) × (after ≡ Some rest)))
+    × ((rest : List ℕ) → BeginsWithin reads limit value input rest → Gives seen answer value × (after ≡ Some rest)))
 
 -- the same value was read, and the same is left; or no value was read
-abbrev pub IsSameReading : {T : Type 0} → Result T Asn1DerError → Option (List ℕ) → Result T Asn1DerError → Option (List ℕ) → Type 0
-IsSameReading (Ok value) left (Ok same) other = (value ≡ same) × (left ≡ other)
-IsSameReading (Ok value) left (Err fault) other = ⊥
-IsSameReading (Err fault) left (Ok value) other = ⊥
-IsSameReading (Err fault) left (Err again) other = ⊤
+abbrev pub IsSameReading : {T : Type 0} → Seen T → Result T Asn1DerError → Option (List ℕ) → Result T Asn1DerError → Option (List ℕ) → Type 0
+IsSameReading seen (Ok value) left (Ok same) other = Alike seen value same × (left ≡ other)
+IsSameReading seen (Ok value) left (Err fault) other = ⊥
+IsSameReading seen (Err fault) left (Ok value) other = ⊥
+IsSameReading seen (Err fault) left (Err again) other = ⊤

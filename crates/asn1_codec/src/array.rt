@@ -13,9 +13,10 @@ use devices::{Sink, Source};
 /// A SEQUENCE OF (X.690, section 8.10) of exactly `N` elements. Of another count is `InvalidData`.
 impl<const N: usize, T: Deserialize + Drop> Tagged for [T; N] {
     ghost use Rattle.asn1_der.specs.Tagged.{sequence};
-    ghost use Rattle.asn1_der.proofs.Tagged.{sequence_laws};
+    ghost use Rattle.asn1_der.proofs.Tagged.{sequence_laws_as};
+    ghost use Rattle.asn1_der.specs.Seen.{Alike, seen_list};
     ghost use Rattle.asn1_codec.specs.Arrays.{array_trees};
-    ghost use Rattle.asn1_codec.specs.ArrayLaws.{array_trees-injective};
+    ghost use Rattle.asn1_codec.specs.ArrayLaws.{array_trees-injective_as};
     ghost use Rattle.asn1_codec.specs.Refusals.{list_refusal};
 
     type Row = [T; N];
@@ -26,7 +27,11 @@ impl<const N: usize, T: Deserialize + Drop> Tagged for [T; N] {
 
     ghost row_tree = { sequence (array_trees N T.tree) };
 
-    ghost row_laws = { sequence_laws (array_trees N T.tree) (array_trees-injective N T.tree T.injective) };
+    ghost row_seen = { seen_list T.seen };
+
+    ghost seen = { seen_list T.seen };
+
+    ghost row_laws = { sequence_laws_as (Alike (seen_list T.seen)) (array_trees N T.tree) (array_trees-injective_as N T.tree T.seen T.injective) };
 
     ghost refuses = { list_refusal T.refusal };
 

@@ -40,13 +40,17 @@ pub trait Deserialize: Serialize + Sized {
 /// A value that is read from bytes: from its one DER spelling, as each value of a [`Deserialize`] type, or as the type
 /// says, for what a message leaves open. Fields, lists and tags hold values of the first kind alone.
 pub trait FromDer: Sized + Drop {
+    ghost use Rattle.asn1_der.specs.Seen.{Seen, as_is};
     ghost use Rattle.asn1_codec.specs.Reads.{IsOneValue};
     ghost use Rattle.asn1_codec.specs.Reading.{Reading, TookBy, IsReadBy, Refused};
 
     // Which bytes are read as a value.
     ghost reads: { Self → List ℕ → Type 0 };
 
-    ghost one_value: { IsOneValue reads };
+    // What two values that the same bytes are read as have in common.
+    ghost seen: { Seen Self } = { as_is };
+
+    ghost one_value: { IsOneValue seen reads };
 
     /// Reads a value, and takes just the bytes that are read as it. After a refusal the deserializer answers
     /// `InvalidData` from then on.
@@ -58,12 +62,15 @@ pub trait FromDer: Sized + Drop {
 
 impl<T: Deserialize + Drop> FromDer for T {
     ghost use Rattle.asn1_der.specs.Tree.{Writes};
-    ghost use Rattle.asn1_der.proofs.Spelling.{one_spelling};
+    ghost use Rattle.asn1_der.specs.Seen.{Alike};
+    ghost use Rattle.asn1_der.proofs.Spelling.{one_spelling_as};
 
     ghost reads = { λ value bytes. Writes T.tree value bytes };
 
+    ghost seen = { T.seen };
+
     ghost one_value = { λ v w a b x y first second e.
-        let same = one_spelling T.tree T.injective v w a b x y first second e
+        let same = one_spelling_as (Alike T.seen) T.tree T.injective v w a b x y first second e
         in (same.0, same.1) };
 
     fn read_from<R: Source>(from: &mut Deserializer<R>) -> Result<Self, Asn1DerError> {
@@ -495,7 +502,7 @@ impl<R: Source> Deserializer<R> {
 
 /// Reads the value whose spelling begins `input`. Bytes after it stay unread. No fault is a device's.
 pub fn from_bytes<T: FromDer>(alloc: Global, input: &[u8]) -> Result<T, Asn1DerError>
-    ensures value { ReadsFront T.reads input.now result }
+    ensures value { ReadsFront T.seen T.reads input.now result }
     ensures own { IfErr result IsOwn }
 {
     let mut from = Deserializer::new_from_bytes(alloc, input);
@@ -507,7 +514,7 @@ pub fn from_bytes<T: FromDer>(alloc: Global, input: &[u8]) -> Result<T, Asn1DerE
 
 /// Reads the value whose spelling is all of `input`. No fault is a device's.
 pub fn from_exact_bytes<T: FromDer>(alloc: Global, input: &[u8]) -> Result<T, Asn1DerError>
-    ensures value { ReadsWhole T.reads input.now result }
+    ensures value { ReadsWhole T.seen T.reads input.now result }
     ensures own { IfErr result IsOwn }
 {
     let mut from = Deserializer::new_from_bytes(alloc, input);

@@ -40,9 +40,12 @@ impl<T: Drop> Elements<T> {
 }
 
 impl<T: Deserialize + Drop> Fields for Elements<T> {
-    ghost use Rattle.asn1_der.proofs.Rows.{many-starts, many-injective};
+    ghost use Rattle.asn1_der.proofs.Rows.{many-starts, many-injective_as};
+    ghost use Rattle.asn1_der.specs.Seen.{seen_list};
 
     ghost trees = { trees_of T.tree };
+
+    ghost seen = { seen_list T.seen };
 
     ghost firsts = { T.firsts };
 
@@ -50,7 +53,7 @@ impl<T: Deserialize + Drop> Fields for Elements<T> {
 
     ghost starts = { λ items whole octet rest e. many-starts _ T.tree T.firsts T.begins items whole octet rest e };
 
-    ghost injective = { λ _ v w whole also e. many-injective _ T.tree T.injective v w whole also e };
+    ghost injective = { λ _ v w whole also e. many-injective_as _ T.tree T.seen T.injective v w whole also e };
 
     fn read<R: Source>(from: &mut Deserializer<R>) -> Result<Self, Asn1DerError> {
         from.ready()?;

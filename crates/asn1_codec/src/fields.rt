@@ -31,9 +31,12 @@ pub trait WriteFields {
 
 /// Fields that are read.
 pub trait Fields: Sized {
+    ghost use Rattle.asn1_der.specs.Seen.{Seen, as_is, Alike};
     ghost use Rattle.asn1_codec.specs.Reading.{Reading, TookFields, AreFields, Refused};
 
     ghost trees: { Self → Trees };
+
+    ghost seen: { Seen Self } = { as_is };
 
     ghost firsts: { Firsts };
 
@@ -43,7 +46,7 @@ pub trait Fields: Sized {
         → ders (trees fields) ≡ octet ∷ rest → IsTrue (may_begin firsts octet) };
 
     ghost injective: { IsTrue sound → (v w : Self) → AreWhole (trees v) → AreWhole (trees w)
-        → ders (trees v) ≡ ders (trees w) → v ≡ w };
+        → ders (trees v) ≡ ders (trees w) → Alike seen v w };
 
     /// Reads the fields, which are all that is left up to the limit.
     fn read<R: Source>(from: &mut Deserializer<R>) -> Result<Self, Asn1DerError>

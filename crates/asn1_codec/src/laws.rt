@@ -11,8 +11,8 @@ use crate::de::FromDer;
 /// the law.
 pub fn one_reading<T: FromDer>()
     ensures exact { (limit : ℕ) (old new : Option (List ℕ)) (answer : Result T Asn1DerError)
-        → IsNextAnswer T.reads limit old new answer → ReadsNext T.reads limit old new answer }
+        → IsNextAnswer T.reads limit old new answer → ReadsNext T.seen T.reads limit old new answer }
     ensures same { (limit : ℕ) (input : List ℕ) (left other : Option (List ℕ)) (a b : Result T Asn1DerError)
         → IsNextAnswer T.reads limit (Some input) left a → IsNextAnswer T.reads limit (Some input) other b
-        → (IsExcused a → ⊥) → (IsExcused b → ⊥) → IsSameReading a left b other }
+        → (IsExcused a → ⊥) → (IsExcused b → ⊥) → IsSameReading T.seen a left b other }
 {}

@@ -13,6 +13,7 @@ use std::alloc::{AllocError, Global};
 
 /// A primitive type, whose values are told by their content octets (X.690, section 8.1.4).
 pub trait Leaf: Sized {
+    ghost use Rattle.asn1_der.specs.Seen.{Seen, as_is, Alike};
     ghost use Rattle.asn1_codec.specs.Writing.{Writing, WroteValue, NotWroteValue};
 
     /// The identifier octet (X.690, section 8.1.2).
@@ -23,11 +24,14 @@ pub trait Leaf: Sized {
 
     ghost OCTET: { ℕ };
 
+    // What two values of one content have in common: all, where nothing else is said.
+    ghost seen: { Seen Self } = { as_is };
+
     ghost is_valid: { Self → Bool };
 
     ghost content_of: { Self → List ℕ };
 
-    ghost one_content: { (v w : Self) → IsTrue (is_valid v) → IsTrue (is_valid w) → content_of v ≡ content_of w → v ≡ w };
+    ghost one_content: { (v w : Self) → IsTrue (is_valid v) → IsTrue (is_valid w) → content_of v ≡ content_of w → Alike seen v w };
 
     /// The value whose content the octets are, or none.
     fn decode(alloc: Global, content: &[u8]) -> Result<Option<Self>, AllocError>
@@ -43,7 +47,8 @@ pub trait Leaf: Sized {
 }
 
 impl<T: Leaf> Tagged for T {
-    ghost use Rattle.asn1_der.proofs.Tagged.{leaf_laws};
+    ghost use Rattle.asn1_der.specs.Seen.{Alike};
+    ghost use Rattle.asn1_der.proofs.Tagged.{leaf_laws_as};
 
     type Row = T;
 
@@ -53,7 +58,11 @@ impl<T: Leaf> Tagged for T {
 
     ghost row_tree = { leaf_as T.is_valid T.content_of };
 
-    ghost row_laws = { leaf_laws T.is_valid T.content_of T.one_content };
+    ghost row_seen = { T.seen };
+
+    ghost seen = { T.seen };
+
+    ghost row_laws = { leaf_laws_as (Alike T.seen) T.is_valid T.content_of T.one_content };
 
     ghost row_of = { λ value. value };
 

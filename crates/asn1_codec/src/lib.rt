@@ -29,8 +29,10 @@ mod ser;
 mod slices;
 mod tag_number;
 mod tagged;
+mod text;
 mod tuple;
 mod unsigned;
+mod vector;
 mod writing_calls;
 
 pub use asn1_der::{Asn1DerError, Content, PeekableReader, Rule, Unsupported};

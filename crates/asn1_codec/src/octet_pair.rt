@@ -56,8 +56,8 @@ impl Item for OctetPair {
 
     ghost starts = { λ B trees others starts pair b whole octet rest e. refl };
 
-    ghost injective = { λ B trees others starts one told v w x y whole also e.
-        let same = pair-injective trees one v.0 w.0 x y whole also e
+    ghost injective = { λ B trees others Same starts one told v w x y whole also e.
+        let same = pair-injective Same trees one v.0 w.0 x y whole also e
         in (λ i. record { 0 = same.0 i }, same.1) };
 
     fn read_before<T: Fields, R: Source>(

@@ -9,9 +9,12 @@ use devices::Sink;
 /// [`Optional`](crate::Optional).
 impl<T: Serialize> Serialize for Option<T> {
     ghost use Rattle.asn1_codec.specs.Options.{option_tree, option_refusal};
-    ghost use Rattle.asn1_codec.specs.OptionLaws.{option_tree-begins, option_tree-injective};
+    ghost use Rattle.asn1_codec.specs.OptionLaws.{option_tree-begins, option_tree-injective_as};
+    ghost use Rattle.asn1_der.specs.Seen.{seen_option};
 
     ghost tree = { option_tree T.tree };
+
+    ghost seen = { seen_option T.seen };
 
     ghost refusal = { option_refusal T.refusal };
 
@@ -19,7 +22,7 @@ impl<T: Serialize> Serialize for Option<T> {
 
     ghost begins = { option_tree-begins T.tree T.firsts T.begins };
 
-    ghost injective = { option_tree-injective T.tree T.injective };
+    ghost injective = { option_tree-injective_as T.seen T.tree T.injective };
 
     fn serialize<W: Sink>(&self, to: &mut Serializer<W>) -> Result<usize, Asn1DerError> {
         match self {

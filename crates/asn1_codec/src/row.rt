@@ -40,10 +40,13 @@ pub trait WriteItem {
 
 /// A field that is read, in front of others.
 pub trait Item: Sized {
-    ghost use Rattle.asn1_der.proofs.Rows.{StartAmong, AreInjective};
+    ghost use Rattle.asn1_der.proofs.Rows.{StartAmong, AreInjectiveAs};
+    ghost use Rattle.asn1_der.specs.Seen.{Seen, as_is, Alike};
     ghost use Rattle.asn1_codec.specs.Reading.{Reading, TookFields, AreFields, Refused};
 
     ghost put: { Self → Trees → Trees };
+
+    ghost seen: { Seen Self } = { as_is };
 
     ghost firsts_before: { Firsts → Firsts };
 
@@ -53,10 +56,10 @@ pub trait Item: Sized {
         → (item : Self) (b : B) → AreWhole (put item (trees b)) → (octet : ℕ) (rest : List ℕ)
         → ders (put item (trees b)) ≡ octet ∷ rest → IsTrue (may_begin (firsts_before others) octet) };
 
-    ghost injective: { (B : Type 0) (trees : B → Trees) (others : Firsts) → StartAmong others trees
-        → AreInjective trees → IsTrue (is_told others) → (v w : Self) (x y : B)
+    ghost injective: { (B : Type 0) (trees : B → Trees) (others : Firsts) (Same : B → B → Type 0) → StartAmong others trees
+        → AreInjectiveAs Same trees → IsTrue (is_told others) → (v w : Self) (x y : B)
         → AreWhole (put v (trees x)) → AreWhole (put w (trees y))
-        → ders (put v (trees x)) ≡ ders (put w (trees y)) → (v ≡ w) × (x ≡ y) };
+        → ders (put v (trees x)) ≡ ders (put w (trees y)) → Alike seen v w × Same x y };
 
     /// Reads the field, and the fields behind it, which are all that is left up to the limit.
     fn read_before<T: Fields, R: Source>(
@@ -149,8 +152,12 @@ impl Fields for () {
 
 impl<H: Item, T: Fields> Fields for (H, T) {
     ghost use Rattle.std.proofs.lemmas.Bool.{and_parts};
+    ghost use Rattle.asn1_der.specs.Seen.{Alike, seen_pair};
+    ghost use Rattle.asn1_der.proofs.Alike.{alike-pair};
 
     ghost trees = { λ fields. H.put fields.0 (T.trees fields.1) };
+
+    ghost seen = { seen_pair H.seen T.seen };
 
     ghost firsts = { H.firsts_before T.firsts };
 
@@ -161,8 +168,8 @@ impl<H: Item, T: Fields> Fields for (H, T) {
 
     ghost injective = { λ sound v w whole also e.
         let parts = and_parts (H.is_told T.firsts) T.sound sound in
-        let same = H.injective T T.trees T.firsts T.starts (T.injective parts.1) parts.0 v.0 w.0 v.1 w.1 whole also e
-        in λ i. (same.0 i, same.1 i) };
+        let same = H.injective T T.trees T.firsts (Alike T.seen) T.starts (T.injective parts.1) parts.0 v.0 w.0 v.1 w.1 whole also e
+        in alike-pair H.seen T.seen v w same.0 same.1 };
 
     fn read<R: Source>(from: &mut Deserializer<R>) -> Result<Self, Asn1DerError> {
         H::read_before::<T, R>(from)
@@ -170,9 +177,12 @@ impl<H: Item, T: Fields> Fields for (H, T) {
 }
 
 impl<H: Deserialize + Drop> Item for H {
-    ghost use Rattle.asn1_der.proofs.Rows.{required-starts, required-injective};
+    ghost use Rattle.asn1_der.proofs.Rows.{required-starts, required-injective_as};
+    ghost use Rattle.asn1_der.specs.Seen.{Alike};
 
     ghost put = { λ item trees. more (H.tree item) trees };
+
+    ghost seen = { H.seen };
 
     ghost firsts_before = { λ _. H.firsts };
 
@@ -181,8 +191,8 @@ impl<H: Deserialize + Drop> Item for H {
     ghost starts = { λ B trees others starts item b whole octet rest e.
         required-starts H B H.tree trees H.firsts others H.begins item b whole octet rest e };
 
-    ghost injective = { λ B trees others starts one told v w x y whole also e.
-        required-injective H B H.tree trees H.firsts others H.injective one v w x y whole also e };
+    ghost injective = { λ B trees others Same starts one told v w x y whole also e.
+        required-injective_as H B H.tree trees H.firsts others (Alike H.seen) Same H.injective one v w x y whole also e };
 
     fn read_before<T: Fields, R: Source>(
         from: &mut Deserializer<R>,
@@ -194,9 +204,14 @@ impl<H: Deserialize + Drop> Item for H {
 }
 
 impl<H: Deserialize + Drop> Item for Optional<Option<H>> {
-    ghost use Rattle.asn1_der.proofs.Rows.{optional-starts, optional-injective};
+    ghost use Rattle.asn1_der.proofs.Rows.{optional-starts, optional-injective_as};
+    ghost use Rattle.std.specs.Prelude.{refl};
+    ghost use Rattle.asn1_der.specs.Seen.{Alike, seen_option, seen_part};
+    ghost use Rattle.asn1_der.proofs.Alike.{alike-part};
 
     ghost put = { λ item trees. put H.tree item.0 trees };
+
+    ghost seen = { seen_part (λ item. item.0) (seen_option H.seen) };
 
     ghost firsts_before = { λ others. either H.firsts others };
 
@@ -205,9 +220,9 @@ impl<H: Deserialize + Drop> Item for Optional<Option<H>> {
     ghost starts = { λ B trees others starts item b whole octet rest e.
         optional-starts H B H.tree trees H.firsts others H.begins starts item.0 b whole octet rest e };
 
-    ghost injective = { λ B trees others starts one told v w x y whole also e.
-        let same = optional-injective H B H.tree trees H.firsts others H.injective one told H.begins starts v.0 w.0 x y whole also e
-        in (λ i. record { 0 = same.0 i }, same.1) };
+    ghost injective = { λ B trees others Same starts one told v w x y whole also e.
+        let same = optional-injective_as H B H.tree trees H.firsts others H.seen Same H.injective one told H.begins starts v.0 w.0 x y whole also e
+        in (alike-part (seen_option H.seen) v w (λ item. item.0) (λ o. record { 0 = o }) (λ item. refl) same.0, same.1) };
 
     fn read_before<T: Fields, R: Source>(
         from: &mut Deserializer<R>,

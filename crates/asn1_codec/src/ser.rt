@@ -17,15 +17,20 @@ use std::marker::Model;
 
 /// A value with a DER spelling.
 ///
-/// `tree` is the value as a tree, `firsts` the identifier octets that its values begin with, and no two
-/// whole values have one spelling. A type that refuses to write values says by `refusal` which and how; most
-/// refuse none. These stand above the function, so that a type made of others can name them.
+/// `tree` is the value as a tree, and `firsts` the identifier octets that its values begin with. Whole values that differ in what
+/// is `seen` of them have different spellings: of most types all is seen, of a text or a vector not its memory. A type that refuses
+/// to write values says by `refusal` which and how; most refuse none. These stand above the function, so that a type made of
+/// others can name them.
 pub trait Serialize {
+    ghost use Rattle.asn1_der.specs.Seen.{Seen, as_is, Alike};
     ghost use Rattle.asn1_der.specs.declared.error.Unsupported.{Unsupported};
     ghost use Rattle.asn1_codec.specs.Refusals.{refusal_of};
     ghost use Rattle.asn1_codec.specs.Writing.{Writing, WroteValue, NotWroteValue, Measured, NotMeasured};
 
     ghost tree: { Self → Tree };
+
+    // What two values of one spelling have in common: all, where nothing else is said.
+    ghost seen: { Seen Self } = { as_is };
 
     ghost refusal: { Option (Self → Option Unsupported) } = { None };
 
@@ -33,7 +38,7 @@ pub trait Serialize {
 
     ghost begins: { (value : Self) → BeginsAmong firsts (tree value) };
 
-    ghost injective: { (v w : Self) → IsWhole (tree v) → IsWhole (tree w) → der (tree v) ≡ der (tree w) → v ≡ w };
+    ghost injective: { (v w : Self) → IsWhole (tree v) → IsWhole (tree w) → der (tree v) ≡ der (tree w) → Alike seen v w };
 
     /// Writes the value's spelling, and gives how many bytes that took. A value that the type refuses leaves the
     /// sink as it was.

@@ -3,7 +3,7 @@ ghost use Rattle.std.specs.Prelude.{◌≡◌, ℕ, Option, None, MatchResult, I
 ghost use Rattle.asn1_der.specs.Tree.{Tree, Trees, der, ders};
 ghost use Rattle.asn1_der.specs.Firsts.{only};
 ghost use Rattle.asn1_der.specs.Tagged.{sequence, tagged_tree};
-ghost use Rattle.asn1_der.proofs.Tagged.{TagLaws};
+ghost use Rattle.asn1_der.proofs.Tagged.{TagLawsAs};
 ghost use Rattle.asn1_codec.specs.Reading.{TookValue, IsSpelling, Refused};
 
 use crate::de::{Deserialize, Deserializer};
@@ -18,6 +18,7 @@ use devices::{Sink, Source};
 /// nothing else to be read and written. A type that refuses to write some values says by `refuses` which and how;
 /// most refuse none.
 pub trait Tagged: Sized {
+    ghost use Rattle.asn1_der.specs.Seen.{Seen, as_is, Alike};
     ghost use Rattle.asn1_codec.specs.Reading.{Reading, TookValue, IsSpelling, Refused};
     ghost use Rattle.asn1_der.specs.declared.error.Unsupported.{Unsupported};
     ghost use Rattle.asn1_codec.specs.Refusals.{refusal_of};
@@ -33,11 +34,16 @@ pub trait Tagged: Sized {
 
     ghost row_tree: { ℕ → Self.Row → Tree };
 
-    ghost row_laws: { TagLaws row_tree };
+    // What two rows, and two values, of one spelling have in common: all, where nothing else is said.
+    ghost row_seen: { Seen Self.Row } = { as_is };
+
+    ghost seen: { Seen Self } = { as_is };
+
+    ghost row_laws: { TagLawsAs (Alike row_seen) row_tree };
 
     ghost row_of: { Self → Self.Row };
 
-    ghost one_row: { (v w : Self) → row_of v ≡ row_of w → v ≡ w };
+    ghost one_row: { (v w : Self) → Alike row_seen (row_of v) (row_of w) → Alike seen v w };
 
     ghost refuses: { Option (Self → Option Unsupported) } = { None };
 
@@ -59,9 +65,12 @@ pub trait Tagged: Sized {
 }
 
 impl<T: Tagged> Serialize for T {
-    ghost use Rattle.asn1_der.proofs.Tagged.{tagged-injective};
+    ghost use Rattle.asn1_der.specs.Seen.{Alike};
+    ghost use Rattle.asn1_der.proofs.Tagged.{tagged-injective_as};
 
     ghost tree = { tagged_tree T.FIRST T.row_tree T.row_of };
+
+    ghost seen = { T.seen };
 
     ghost firsts = { only T.FIRST };
 
@@ -69,7 +78,7 @@ impl<T: Tagged> Serialize for T {
 
     ghost refusal = { T.refuses };
 
-    ghost injective = { tagged-injective T.FIRST T.row_tree T.row_laws T.row_of T.one_row };
+    ghost injective = { tagged-injective_as (Alike T.row_seen) (Alike T.seen) T.FIRST T.row_tree T.row_laws T.row_of T.one_row };
 
     fn serialize<W: Sink>(&self, to: &mut Serializer<W>) -> Result<usize, Asn1DerError> {
         self.write_row(T::FIRST, to)

@@ -16,7 +16,9 @@ use devices::{Sink, Source};
 impl<A: Deserialize + Drop> Tagged for (A,) {
     ghost use Rattle.std.proofs.Common.{refl, true, None, Some};
     ghost use Rattle.asn1_der.specs.Tagged.{sequence};
-    ghost use Rattle.asn1_der.proofs.Tagged.{sequence_laws};
+    ghost use Rattle.asn1_der.proofs.Tagged.{sequence_laws_as};
+    ghost use Rattle.asn1_der.specs.Seen.{Alike, seen_part};
+    ghost use Rattle.asn1_der.proofs.Alike.{alike-part};
     ghost use Rattle.asn1_codec.specs.Refusals.{refusal_of, first_refusal};
 
     type Row = Row1<A>;
@@ -27,11 +29,15 @@ impl<A: Deserialize + Drop> Tagged for (A,) {
 
     ghost row_tree = { sequence ⟦<Row1<A> as Fields>⟧.trees };
 
-    ghost row_laws = { sequence_laws ⟦<Row1<A> as Fields>⟧.trees (⟦<Row1<A> as Fields>⟧.injective (refl {a = true})) };
+    ghost row_seen = { ⟦<Row1<A> as Fields>⟧.seen };
+
+    ghost seen = { seen_part (λ v. (v.0, tt)) ⟦<Row1<A> as Fields>⟧.seen };
+
+    ghost row_laws = { sequence_laws_as (Alike ⟦<Row1<A> as Fields>⟧.seen) ⟦<Row1<A> as Fields>⟧.trees (⟦<Row1<A> as Fields>⟧.injective (refl {a = true})) };
 
     ghost row_of = { λ v. (v.0, tt) };
 
-    ghost one_row = { λ v w e. λ i. record { 0 = (e i).0 } };
+    ghost one_row = { λ v w e. alike-part ⟦<Row1<A> as Fields>⟧.seen v w (λ v. (v.0, tt)) (λ f. record { 0 = f.0 }) (λ v. refl) e };
 
     ghost refuses = { Some (λ v. first_refusal (refusal_of A.refusal v.0) None) };
 
@@ -50,9 +56,11 @@ impl<A: Deserialize + Drop> Tagged for (A,) {
 }
 
 impl<A: Deserialize + Drop, B: Deserialize + Drop> Tagged for (A, B) {
-    ghost use Rattle.std.proofs.Common.{ap, refl, true, None, Some};
+    ghost use Rattle.std.proofs.Common.{refl, true, None, Some};
     ghost use Rattle.asn1_der.specs.Tagged.{sequence};
-    ghost use Rattle.asn1_der.proofs.Tagged.{sequence_laws};
+    ghost use Rattle.asn1_der.proofs.Tagged.{sequence_laws_as};
+    ghost use Rattle.asn1_der.specs.Seen.{Alike, seen_part};
+    ghost use Rattle.asn1_der.proofs.Alike.{alike-part};
     ghost use Rattle.asn1_codec.specs.Refusals.{refusal_of, first_refusal};
 
     type Row = Row2<A, B>;
@@ -63,11 +71,15 @@ impl<A: Deserialize + Drop, B: Deserialize + Drop> Tagged for (A, B) {
 
     ghost row_tree = { sequence ⟦<Row2<A, B> as Fields>⟧.trees };
 
-    ghost row_laws = { sequence_laws ⟦<Row2<A, B> as Fields>⟧.trees (⟦<Row2<A, B> as Fields>⟧.injective (refl {a = true})) };
+    ghost row_seen = { ⟦<Row2<A, B> as Fields>⟧.seen };
+
+    ghost seen = { seen_part (λ v. (v.0, (v.1, tt))) ⟦<Row2<A, B> as Fields>⟧.seen };
+
+    ghost row_laws = { sequence_laws_as (Alike ⟦<Row2<A, B> as Fields>⟧.seen) ⟦<Row2<A, B> as Fields>⟧.trees (⟦<Row2<A, B> as Fields>⟧.injective (refl {a = true})) };
 
     ghost row_of = { λ v. (v.0, (v.1, tt)) };
 
-    ghost one_row = { λ v w e. ap (λ f. (f.0, f.1.0)) e };
+    ghost one_row = { λ v w e. alike-part ⟦<Row2<A, B> as Fields>⟧.seen v w (λ v. (v.0, (v.1, tt))) (λ f. (f.0, f.1.0)) (λ v. refl) e };
 
     ghost refuses = { Some (λ v. first_refusal (refusal_of A.refusal v.0) (first_refusal (refusal_of B.refusal v.1) None)) };
 
@@ -86,9 +98,11 @@ impl<A: Deserialize + Drop, B: Deserialize + Drop> Tagged for (A, B) {
 }
 
 impl<A: Deserialize + Drop, B: Deserialize + Drop, C: Deserialize + Drop> Tagged for (A, B, C) {
-    ghost use Rattle.std.proofs.Common.{ap, refl, true, None, Some};
+    ghost use Rattle.std.proofs.Common.{refl, true, None, Some};
     ghost use Rattle.asn1_der.specs.Tagged.{sequence};
-    ghost use Rattle.asn1_der.proofs.Tagged.{sequence_laws};
+    ghost use Rattle.asn1_der.proofs.Tagged.{sequence_laws_as};
+    ghost use Rattle.asn1_der.specs.Seen.{Alike, seen_part};
+    ghost use Rattle.asn1_der.proofs.Alike.{alike-part};
     ghost use Rattle.asn1_codec.specs.Refusals.{refusal_of, first_refusal};
 
     type Row = Row3<A, B, C>;
@@ -99,11 +113,15 @@ impl<A: Deserialize + Drop, B: Deserialize + Drop, C: Deserialize + Drop> Tagged
 
     ghost row_tree = { sequence ⟦<Row3<A, B, C> as Fields>⟧.trees };
 
-    ghost row_laws = { sequence_laws ⟦<Row3<A, B, C> as Fields>⟧.trees (⟦<Row3<A, B, C> as Fields>⟧.injective (refl {a = true})) };
+    ghost row_seen = { ⟦<Row3<A, B, C> as Fields>⟧.seen };
+
+    ghost seen = { seen_part (λ v. (v.0, (v.1, (v.2, tt)))) ⟦<Row3<A, B, C> as Fields>⟧.seen };
+
+    ghost row_laws = { sequence_laws_as (Alike ⟦<Row3<A, B, C> as Fields>⟧.seen) ⟦<Row3<A, B, C> as Fields>⟧.trees (⟦<Row3<A, B, C> as Fields>⟧.injective (refl {a = true})) };
 
     ghost row_of = { λ v. (v.0, (v.1, (v.2, tt))) };
 
-    ghost one_row = { λ v w e. ap (λ f. (f.0, f.1.0, f.1.1.0)) e };
+    ghost one_row = { λ v w e. alike-part ⟦<Row3<A, B, C> as Fields>⟧.seen v w (λ v. (v.0, (v.1, (v.2, tt)))) (λ f. (f.0, f.1.0, f.1.1.0)) (λ v. refl) e };
 
     ghost refuses = { Some (λ v. first_refusal (refusal_of A.refusal v.0) (first_refusal (refusal_of B.refusal v.1) (first_refusal (refusal_of C.refusal v.2) None))) };
 
@@ -127,9 +145,11 @@ impl<
     C: Deserialize + Drop,
     D: Deserialize + Drop,
 > Tagged for (A, B, C, D) {
-    ghost use Rattle.std.proofs.Common.{ap, refl, true, None, Some};
+    ghost use Rattle.std.proofs.Common.{refl, true, None, Some};
     ghost use Rattle.asn1_der.specs.Tagged.{sequence};
-    ghost use Rattle.asn1_der.proofs.Tagged.{sequence_laws};
+    ghost use Rattle.asn1_der.proofs.Tagged.{sequence_laws_as};
+    ghost use Rattle.asn1_der.specs.Seen.{Alike, seen_part};
+    ghost use Rattle.asn1_der.proofs.Alike.{alike-part};
     ghost use Rattle.asn1_codec.specs.Refusals.{refusal_of, first_refusal};
 
     type Row = Row4<A, B, C, D>;
@@ -140,11 +160,15 @@ impl<
 
     ghost row_tree = { sequence ⟦<Row4<A, B, C, D> as Fields>⟧.trees };
 
-    ghost row_laws = { sequence_laws ⟦<Row4<A, B, C, D> as Fields>⟧.trees (⟦<Row4<A, B, C, D> as Fields>⟧.injective (refl {a = true})) };
+    ghost row_seen = { ⟦<Row4<A, B, C, D> as Fields>⟧.seen };
+
+    ghost seen = { seen_part (λ v. (v.0, (v.1, (v.2, (v.3, tt))))) ⟦<Row4<A, B, C, D> as Fields>⟧.seen };
+
+    ghost row_laws = { sequence_laws_as (Alike ⟦<Row4<A, B, C, D> as Fields>⟧.seen) ⟦<Row4<A, B, C, D> as Fields>⟧.trees (⟦<Row4<A, B, C, D> as Fields>⟧.injective (refl {a = true})) };
 
     ghost row_of = { λ v. (v.0, (v.1, (v.2, (v.3, tt)))) };
 
-    ghost one_row = { λ v w e. ap (λ f. (f.0, f.1.0, f.1.1.0, f.1.1.1.0)) e };
+    ghost one_row = { λ v w e. alike-part ⟦<Row4<A, B, C, D> as Fields>⟧.seen v w (λ v. (v.0, (v.1, (v.2, (v.3, tt))))) (λ f. (f.0, f.1.0, f.1.1.0, f.1.1.1.0)) (λ v. refl) e };
 
     ghost refuses = { Some (λ v. first_refusal (refusal_of A.refusal v.0) (first_refusal (refusal_of B.refusal v.1) (first_refusal (refusal_of C.refusal v.2) (first_refusal (refusal_of D.refusal v.3) None)))) };
 

@@ -25,13 +25,19 @@ pub leaf-begins : (valid : Bool) (first : ℕ) (content : List ℕ) → BeginsAm
 leaf-begins true first content = may_begin-only first
 leaf-begins false first content = tt
 
-pub leaf-injective : {T : Type 0} (valid : T → Bool) (first : ℕ) (content : T → List ℕ)
-    → ((v w : T) → valid v ≡ true → valid w ≡ true → content v ≡ content w → v ≡ w)
+pub leaf-injective_as : {T : Type 0} (Same : T → T → Type 0) (valid : T → Bool) (first : ℕ) (content : T → List ℕ)
+    → ((v w : T) → valid v ≡ true → valid w ≡ true → content v ≡ content w → Same v w)
     → (v w : T) → IsWhole (leaf (valid v) first (content v)) → IsWhole (leaf (valid w) first (content w))
-    → der (leaf (valid v) first (content v)) ≡ der (leaf (valid w) first (content w)) → v ≡ w
-leaf-injective valid first content injective v w whole also e =
+    → der (leaf (valid v) first (content v)) ≡ der (leaf (valid w) first (content w)) → Same v w
+leaf-injective_as Same valid first content injective v w whole also e =
     let left = leaf-whole (valid v) first (content v) whole in
     let right = leaf-whole (valid w) first (content w) also in
     injective v w left right
     (element-content first (content v) (content w)
     (sym (der-leaf (valid v) first (content v) left) ∙ e ∙ der-leaf (valid w) first (content w) right))
+
+pub leaf-injective : {T : Type 0} (valid : T → Bool) (first : ℕ) (content : T → List ℕ)
+    → ((v w : T) → valid v ≡ true → valid w ≡ true → content v ≡ content w → v ≡ w)
+    → (v w : T) → IsWhole (leaf (valid v) first (content v)) → IsWhole (leaf (valid w) first (content w))
+    → der (leaf (valid v) first (content v)) ≡ der (leaf (valid w) first (content w)) → v ≡ w
+leaf-injective valid first content injective = leaf-injective_as (λ v w. v ≡ w) valid first content injective

@@ -6,3 +6,4 @@ pub mod Leaf
 pub mod Tagged
 pub mod Choices
 pub mod Peeks
+pub mod Alike

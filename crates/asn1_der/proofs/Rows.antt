@@ -6,7 +6,9 @@ use Rattle.std.specs.Prelude.{◌==◌, IsTrue}
 use Rattle.std.specs.List.{list_any, list_all}
 use Rattle.asn1_der.specs.Tree.{Tree, Trees, more, ders, AreWhole, put, trees_of}
 use Rattle.asn1_der.specs.Firsts.{Firsts, any_octet, one_of, may_begin, either, apart, BeginsAmong}
-use Rattle.asn1_der.proofs.Spelling.{IsInjective, der-front, der-begins, der-nonempty, der-first}
+use Rattle.asn1_der.specs.Seen.{Seen, as_is, Alike, seen_option, seen_list}
+use Rattle.asn1_der.proofs.Alike.{alike-none, alike-some, alike-nil, alike-cons}
+use Rattle.asn1_der.proofs.Spelling.{IsInjective, IsInjectiveAs, der-front, der-begins, der-nonempty, der-first}
 
 -- each value begins with one of them
 abbrev pub AllBeginAmong : {A : Type 0} → Firsts → (A → Tree) → Type 0
@@ -19,6 +21,10 @@ StartAmong {B} firsts trees = (b : B) → AreWhole (trees b) → (octet : ℕ) (
 -- fields that are written alike are the same
 abbrev pub AreInjective : {B : Type 0} → (B → Trees) → Type 0
 AreInjective {B} trees = (x y : B) → AreWhole (trees x) → AreWhole (trees y) → ders (trees x) ≡ ders (trees y) → x ≡ y
+
+-- or show the same
+abbrev pub AreInjectiveAs : {B : Type 0} → (B → B → Type 0) → (B → Trees) → Type 0
+AreInjectiveAs {B} Same trees = (x y : B) → AreWhole (trees x) → AreWhole (trees y) → ders (trees x) ≡ ders (trees y) → Same x y
 
 -- what begins a value of the one type begins one of either
 pub may_begin-either_left : (firsts others : Firsts) (octet : ℕ) → IsTrue (may_begin firsts octet) → IsTrue (may_begin (either firsts others) octet)
@@ -65,10 +71,13 @@ module _ (A B : Type 0) (tree : A → Tree) (trees : B → Trees) (firsts others
   optional-starts begins starts None b whole octet rest e = may_begin-either_right firsts others octet (starts b whole octet rest e)
   optional-starts begins starts (Some a) b whole octet rest e = may_begin-either_left firsts others octet (required-starts begins a b whole octet rest e)
 
-  pub required-injective : IsInjective tree → AreInjective trees → (v w : A) (x y : B) → AreWhole (more (tree v) (trees x)) → AreWhole (more (tree w) (trees y)) → ders (more (tree v) (trees x)) ≡ ders (more (tree w) (trees y)) → (v ≡ w) × (x ≡ y)
-  required-injective head tail v w x y whole also e =
+  pub required-injective_as : (One : A → A → Type 0) (Other : B → B → Type 0) → IsInjectiveAs One tree → AreInjectiveAs Other trees → (v w : A) (x y : B) → AreWhole (more (tree v) (trees x)) → AreWhole (more (tree w) (trees y)) → ders (more (tree v) (trees x)) ≡ ders (more (tree w) (trees y)) → One v w × Other x y
+  required-injective_as One Other head tail v w x y whole also e =
       let parts = der-front (tree v) (tree w) (ders (trees x)) (ders (trees y)) whole.0 also.0 e in
       (head v w whole.0 also.0 parts.0, tail x y whole.1 also.1 parts.1)
+
+  pub required-injective : IsInjective tree → AreInjective trees → (v w : A) (x y : B) → AreWhole (more (tree v) (trees x)) → AreWhole (more (tree w) (trees y)) → ders (more (tree v) (trees x)) ≡ ders (more (tree w) (trees y)) → (v ≡ w) × (x ≡ y)
+  required-injective head tail = required-injective_as (λ v w. v ≡ w) (λ x y. x ≡ y) head tail
 
   -- where the field is missing in the one and there in the other, the first octet tells them apart
   optional_mixed : apart firsts others ≡ true → AllBeginAmong firsts tree → StartAmong others trees → (w : A) (x y : B) → AreWhole (trees x) → AreWhole (more (tree w) (trees y)) → ders (trees x) ≡ ders (more (tree w) (trees y)) → ⊥
@@ -80,13 +89,16 @@ module _ (A B : Type 0) (tree : A → Tree) (trees : B → Trees) (firsts others
       (required-starts begins w y also front.octet (front.rest ++ ders (trees y)) text)
       (starts x whole front.octet (front.rest ++ ders (trees y)) (e ∙ text))
 
+  pub optional-injective_as : (seen : Seen A) (Other : B → B → Type 0) → IsInjectiveAs (Alike seen) tree → AreInjectiveAs Other trees → apart firsts others ≡ true → AllBeginAmong firsts tree → StartAmong others trees → (o p : Option A) (x y : B) → AreWhole (put tree o (trees x)) → AreWhole (put tree p (trees y)) → ders (put tree o (trees x)) ≡ ders (put tree p (trees y)) → Alike (seen_option seen) o p × Other x y
+  optional-injective_as seen Other head tail distinct begins starts None None x y whole also e = (alike-none seen, tail x y whole also e)
+  optional-injective_as seen Other head tail distinct begins starts None (Some w) x y whole also e = absurd (optional_mixed distinct begins starts w x y whole also e)
+  optional-injective_as seen Other head tail distinct begins starts (Some v) None x y whole also e = absurd (optional_mixed distinct begins starts v y x also whole (sym e))
+  optional-injective_as seen Other head tail distinct begins starts (Some v) (Some w) x y whole also e =
+      let parts = required-injective_as (Alike seen) Other head tail v w x y whole also e in
+      (alike-some seen v w parts.0, parts.1)
+
   pub optional-injective : IsInjective tree → AreInjective trees → apart firsts others ≡ true → AllBeginAmong firsts tree → StartAmong others trees → (o p : Option A) (x y : B) → AreWhole (put tree o (trees x)) → AreWhole (put tree p (trees y)) → ders (put tree o (trees x)) ≡ ders (put tree p (trees y)) → (o ≡ p) × (x ≡ y)
-  optional-injective head tail distinct begins starts None None x y whole also e = (refl, tail x y whole also e)
-  optional-injective head tail distinct begins starts None (Some w) x y whole also e = absurd (optional_mixed distinct begins starts w x y whole also e)
-  optional-injective head tail distinct begins starts (Some v) None x y whole also e = absurd (optional_mixed distinct begins starts v y x also whole (sym e))
-  optional-injective head tail distinct begins starts (Some v) (Some w) x y whole also e =
-      let parts = required-injective head tail v w x y whole also e in
-      (ap Some parts.0, parts.1)
+  optional-injective head tail = optional-injective_as as_is (λ x y. x ≡ y) head tail
 
 -- The elements of a SEQUENCE OF, which `tree` writes.
 module _ (A : Type 0) (tree : A → Tree) where
@@ -95,12 +107,13 @@ module _ (A : Type 0) (tree : A → Tree) where
   many-starts firsts begins (value ∷ values) whole octet rest e =
       der-begins firsts (tree value) whole.0 (begins value) octet rest (ders (trees_of tree values)) e
 
-  pub many-injective : IsInjective tree → (values others : List A) → AreWhole (trees_of tree values) → AreWhole (trees_of tree others) → ders (trees_of tree values) ≡ ders (trees_of tree others) → values ≡ others
-  many-injective head [] [] whole also e = refl
-  many-injective head [] (w ∷ others) whole also e = absurd (der-nonempty (tree w) also.0 (left_empty _ _ (sym e)))
-  many-injective head (v ∷ values) [] whole also e = absurd (der-nonempty (tree v) whole.0 (left_empty _ _ e))
-  many-injective head (v ∷ values) (w ∷ others) whole also e =
+  pub many-injective_as : (seen : Seen A) → IsInjectiveAs (Alike seen) tree → (values others : List A) → AreWhole (trees_of tree values) → AreWhole (trees_of tree others) → ders (trees_of tree values) ≡ ders (trees_of tree others) → Alike (seen_list seen) values others
+  many-injective_as seen head [] [] whole also e = alike-nil seen
+  many-injective_as seen head [] (w ∷ others) whole also e = absurd (der-nonempty (tree w) also.0 (left_empty _ _ (sym e)))
+  many-injective_as seen head (v ∷ values) [] whole also e = absurd (der-nonempty (tree v) whole.0 (left_empty _ _ e))
+  many-injective_as seen head (v ∷ values) (w ∷ others) whole also e =
       let parts = der-front (tree v) (tree w) (ders (trees_of tree values)) (ders (trees_of tree others)) whole.0 also.0 e in
-      let firsts_same : v ≡ w = head v w whole.0 also.0 parts.0 in
-      let rest_same : values ≡ others = many-injective head values others whole.1 also.1 parts.1 in
-      cc
+      alike-cons seen v w values others (head v w whole.0 also.0 parts.0) (many-injective_as seen head values others whole.1 also.1 parts.1)
+
+  pub many-injective : IsInjective tree → (values others : List A) → AreWhole (trees_of tree values) → AreWhole (trees_of tree others) → ders (trees_of tree values) ≡ ders (trees_of tree others) → values ≡ others
+  many-injective head = many-injective_as as_is head

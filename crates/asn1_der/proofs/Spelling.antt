@@ -39,17 +39,23 @@ der-begins firsts (constructed s parts) whole begins octet rest x e =
     subst (λ (first : ℕ). IsTrue (may_begin firsts first)) (element-begins s (ders parts) octet rest x e) begins
 der-begins firsts absent whole begins octet rest x e = absurd whole
 
--- values that are written alike are the same
+-- values that are written alike stand in a relation: they are the same, or show the same
+abbrev pub IsInjectiveAs : {T : Type 0} → (T → T → Type 0) → (T → Tree) → Type 0
+IsInjectiveAs {T} Same tree = (v w : T) → IsWhole (tree v) → IsWhole (tree w) → der (tree v) ≡ der (tree w) → Same v w
+
 abbrev pub IsInjective : {T : Type 0} → (T → Tree) → Type 0
 IsInjective {T} tree = (v w : T) → IsWhole (tree v) → IsWhole (tree w) → der (tree v) ≡ der (tree w) → v ≡ w
 
 -- a value is written in one way, and what is written says where it ends
-pub one_spelling : {T : Type 0} (tree : T → Tree) → IsInjective tree → (v w : T) (a b x y : List ℕ) → Writes tree v a → Writes tree w b → a ++ x ≡ b ++ y → (v ≡ w) × (a ≡ b) × (x ≡ y)
-one_spelling tree injective v w a b x y writes also e =
+pub one_spelling_as : {T : Type 0} (Same : T → T → Type 0) (tree : T → Tree) → IsInjectiveAs Same tree → (v w : T) (a b x y : List ℕ) → Writes tree v a → Writes tree w b → a ++ x ≡ b ++ y → Same v w × (a ≡ b) × (x ≡ y)
+one_spelling_as Same tree injective v w a b x y writes also e =
     let joined : der (tree v) ++ x ≡ der (tree w) ++ y =
     sym (ap (λ (front : List ℕ). front ++ x) writes.1) ∙ e ∙ ap (λ (front : List ℕ). front ++ y) also.1 in
     let parts = der-front (tree v) (tree w) x y writes.0 also.0 joined in
     (injective v w writes.0 also.0 parts.0, writes.1 ∙ parts.0 ∙ sym also.1, parts.1)
+
+pub one_spelling : {T : Type 0} (tree : T → Tree) → IsInjective tree → (v w : T) (a b x y : List ℕ) → Writes tree v a → Writes tree w b → a ++ x ≡ b ++ y → (v ≡ w) × (a ≡ b) × (x ≡ y)
+one_spelling tree injective = one_spelling_as (λ v w. v ≡ w) tree injective
 
 pub wrapped-is : (first : ℕ) (t : Tree) → IsWhole t → wrapped first t ≡ constructed first (more t none)
 wrapped-is first (primitive s a) whole = refl
@@ -82,13 +88,16 @@ ders-one t = append-nil (der t)
 pub der-wrapped : (first : ℕ) (t : Tree) → IsWhole t → der (wrapped first t) ≡ element first (der t)
 der-wrapped first t whole = ap der (wrapped-is first t whole) ∙ ap (element first) (ders-one t)
 
-pub wrapped-injective : {T : Type 0} (first : ℕ) (tree : T → Tree) → IsInjective tree → (v w : T) → IsWhole (wrapped first (tree v)) → IsWhole (wrapped first (tree w)) → der (wrapped first (tree v)) ≡ der (wrapped first (tree w)) → v ≡ w
-wrapped-injective first tree injective v w whole also e =
+pub wrapped-injective_as : {T : Type 0} (Same : T → T → Type 0) (first : ℕ) (tree : T → Tree) → IsInjectiveAs Same tree → (v w : T) → IsWhole (wrapped first (tree v)) → IsWhole (wrapped first (tree w)) → der (wrapped first (tree v)) ≡ der (wrapped first (tree w)) → Same v w
+wrapped-injective_as Same first tree injective v w whole also e =
     let one = wrapped-whole first (tree v) whole in
     let other = wrapped-whole first (tree w) also in
     let same : element first (der (tree v)) ≡ element first (der (tree w)) =
     sym (der-wrapped first (tree v) one) ∙ e ∙ der-wrapped first (tree w) other in
     injective v w one other (element-content first (der (tree v)) (der (tree w)) same)
+
+pub wrapped-injective : {T : Type 0} (first : ℕ) (tree : T → Tree) → IsInjective tree → (v w : T) → IsWhole (wrapped first (tree v)) → IsWhole (wrapped first (tree w)) → der (wrapped first (tree v)) ≡ der (wrapped first (tree w)) → v ≡ w
+wrapped-injective first tree injective = wrapped-injective_as (λ v w. v ≡ w) first tree injective
 
 -- a tree behind an octet: it is whole, and begins, as the tree does
 

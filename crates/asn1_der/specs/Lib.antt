@@ -7,3 +7,4 @@ pub mod Octets
 pub mod Contents
 pub mod Numbers
 pub mod Peeking
+pub mod Seen

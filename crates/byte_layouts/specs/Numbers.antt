@@ -1,34 +1,34 @@
 -- Numbers as bytes, the highest first or the lowest first.
-use Rattle.std.specs.Prelude.{◌≡◌, ℕ, List, [], ◌∷◌, take, drop, refl}
-use Rattle.std.specs.Int.{w16, w32, w64, to_be_bytes, from_be_bytes, to_le_bytes, from_le_bytes}
+use Rattle.std.specs.Prelude.{◌≡◌, ℕ, List, [], ◌∷◌, drop, refl}
+use Rattle.byteorder.specs.Endian.{big_bytes, big_number, little_bytes, little_number}
 
 -- two bytes, the highest first
 unfoldable pub be16 : ℕ → List ℕ
-be16 n = to_be_bytes w16 n
+be16 n = big_bytes 2 n
 
 unfoldable pub be16_at : ℕ → List ℕ → ℕ
-be16_at place whole = from_be_bytes w16 (take 2 (drop place whole))
+be16_at place whole = big_number 2 (drop place whole)
 
 -- eight bytes, the highest first
 unfoldable pub be64 : ℕ → List ℕ
-be64 n = to_be_bytes w64 n
+be64 n = big_bytes 8 n
 
 unfoldable pub be64_at : ℕ → List ℕ → ℕ
-be64_at place whole = from_be_bytes w64 (take 8 (drop place whole))
+be64_at place whole = big_number 8 (drop place whole)
 
 -- four bytes, the lowest first
 unfoldable pub le32 : ℕ → List ℕ
-le32 n = to_le_bytes w32 n
+le32 n = little_bytes 4 n
 
 unfoldable pub le32_at : ℕ → List ℕ → ℕ
-le32_at place whole = from_le_bytes w32 (take 4 (drop place whole))
+le32_at place whole = little_number 4 (drop place whole)
 
 -- eight bytes, the lowest first
 unfoldable pub le64 : ℕ → List ℕ
-le64 n = to_le_bytes w64 n
+le64 n = little_bytes 8 n
 
 unfoldable pub le64_at : ℕ → List ℕ → ℕ
-le64_at place whole = from_le_bytes w64 (take 8 (drop place whole))
+le64_at place whole = little_number 8 (drop place whole)
 
 -- 258 is 1 and 2
 be16-example : be16 258 ≡ 1 ∷ 2 ∷ []

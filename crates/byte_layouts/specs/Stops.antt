@@ -1,7 +1,8 @@
 -- What stopped a source before its end, or a write before all was written.
-use Rattle.std.specs.Prelude.{◌≡◌, ℕ, Option, Some, MatchOption}
+use Rattle.std.specs.Prelude.{◌≡◌, ◌⊎◌, ℕ, List, Option, Some, MatchOption}
+use Rattle.std.specs.Io.KnownBytes.{IsAtEnd}
 use Rattle.std.specs.declared.io.ErrorKind.{ErrorKind}
-use Rattle.std.specs.declared.io.ErrorKind.TheVariants.{WriteZero, OutOfMemory}
+use Rattle.std.specs.declared.io.ErrorKind.TheVariants.{WriteZero, OutOfMemory, UnexpectedEof}
 use Rattle.devices.specs.Counting.{one_more}
 use Rattle.devices.specs.Whole.{after_whole_fault}
 use Rattle.devices.specs.Faults.{TellsWholeFault}
@@ -11,6 +12,15 @@ use Rattle.devices.specs.declared.exact.WholeFault.TheVariants as whole_fault
 -- the device came to its end and no call failed, or it failed with this kind of fault and counted it
 abbrev pub IsStop : ℕ → ℕ → Option ErrorKind → Option ErrorKind → Type 0
 IsStop old new last fault = MatchOption fault (new ≡ old) (λ kind. (new ≡ one_more old) × (last ≡ Some kind))
+
+-- no call of the device failed, or one did and was counted
+abbrev pub FailedAtMostOnce : ℕ → ℕ → Type 0
+FailedAtMostOnce old new = (new ≡ old) ⊎ (new ≡ one_more old)
+
+-- a read stopped with this kind: the bytes ended and no call failed, or the device failed with this kind of fault and counted it
+abbrev pub IsReadStop : Option (List ℕ) → ℕ → ℕ → Option ErrorKind → ErrorKind → Type 0
+IsReadStop after old new last kind =
+    ((kind ≡ UnexpectedEof) × (new ≡ old) × IsAtEnd after) ⊎ ((new ≡ one_more old) × (last ≡ Some kind))
 
 -- what a write that stopped is answered by
 abbrev pub stop_kind : WholeFault → ErrorKind

@@ -8,6 +8,9 @@ mod numbers;
 mod reading;
 mod writing;
 
-pub use numbers::{array_at, u16_be, u32_le, u64_be, u64_le};
+pub use numbers::{
+    array_at, u16_be, u16_be_bytes, u32_le, u32_le_bytes, u64_be, u64_be_bytes, u64_le,
+    u64_le_bytes,
+};
 pub use reading::{Came, Front, read_front, read_to_stop};
 pub use writing::{put_at, write_bytes};

@@ -3,6 +3,8 @@ ghost use Rattle.std.specs.Prelude.{◌≡◌, ℕ, ◌+◌, ◌≤◌, length, 
 ghost use Rattle.byte_layouts.specs.Numbers.{be16, be16_at, be64, be64_at, le32, le32_at, le64, le64_at};
 ghost use Rattle.byte_layouts.specs.Parts.{part, Stands};
 
+use byteorder::{BigEndian, ByteOrder, LittleEndian};
+
 /// The bytes at `place`.
 pub fn array_at<const N: usize>(bytes: &[u8], place: usize) -> [u8; N]
     requires { place + N ≤ length bytes.now }
@@ -20,7 +22,7 @@ pub fn u16_be(bytes: &[u8], place: usize) -> u16
     ensures read { result ≡ be16_at place bytes.now }
     ensures stands { Stands (part place (be16 result)) bytes.now }
 {
-    u16::from_be_bytes(array_at::<2>(bytes, place))
+    BigEndian::read_u16(&bytes[place..])
 }
 
 /// The number of the eight bytes at `place`, the highest first.
@@ -30,7 +32,7 @@ pub fn u64_be(bytes: &[u8], place: usize) -> u64
     ensures read { result ≡ be64_at place bytes.now }
     ensures stands { Stands (part place (be64 result)) bytes.now }
 {
-    u64::from_be_bytes(array_at::<8>(bytes, place))
+    BigEndian::read_u64(&bytes[place..])
 }
 
 /// The number of the four bytes at `place`, the lowest first.
@@ -40,7 +42,7 @@ pub fn u32_le(bytes: &[u8], place: usize) -> u32
     ensures read { result ≡ le32_at place bytes.now }
     ensures stands { Stands (part place (le32 result)) bytes.now }
 {
-    u32::from_le_bytes(array_at::<4>(bytes, place))
+    LittleEndian::read_u32(&bytes[place..])
 }
 
 /// The number of the eight bytes at `place`, the lowest first.
@@ -50,5 +52,49 @@ pub fn u64_le(bytes: &[u8], place: usize) -> u64
     ensures read { result ≡ le64_at place bytes.now }
     ensures stands { Stands (part place (le64 result)) bytes.now }
 {
-    u64::from_le_bytes(array_at::<8>(bytes, place))
+    LittleEndian::read_u64(&bytes[place..])
+}
+
+/// A number's two bytes, the highest first.
+#[tactic(auto, unfolding(crate::specs::Numbers::be16))]
+pub fn u16_be_bytes(number: u16) -> [u8; 2]
+    ensures bytes { result ≡ be16 number }
+    ensures size { length result ≡ 2 }
+{
+    let mut bytes = [0; 2];
+    BigEndian::write_u16(&mut bytes, number);
+    bytes
+}
+
+/// A number's eight bytes, the highest first.
+#[tactic(auto, unfolding(crate::specs::Numbers::be64))]
+pub fn u64_be_bytes(number: u64) -> [u8; 8]
+    ensures bytes { result ≡ be64 number }
+    ensures size { length result ≡ 8 }
+{
+    let mut bytes = [0; 8];
+    BigEndian::write_u64(&mut bytes, number);
+    bytes
+}
+
+/// A number's four bytes, the lowest first.
+#[tactic(auto, unfolding(crate::specs::Numbers::le32))]
+pub fn u32_le_bytes(number: u32) -> [u8; 4]
+    ensures bytes { result ≡ le32 number }
+    ensures size { length result ≡ 4 }
+{
+    let mut bytes = [0; 4];
+    LittleEndian::write_u32(&mut bytes, number);
+    bytes
+}
+
+/// A number's eight bytes, the lowest first.
+#[tactic(auto, unfolding(crate::specs::Numbers::le64))]
+pub fn u64_le_bytes(number: u64) -> [u8; 8]
+    ensures bytes { result ≡ le64 number }
+    ensures size { length result ≡ 8 }
+{
+    let mut bytes = [0; 8];
+    LittleEndian::write_u64(&mut bytes, number);
+    bytes
 }

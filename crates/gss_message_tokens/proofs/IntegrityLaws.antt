@@ -1,27 +1,23 @@
 -- The record of an integrity level is laid out in the bytes that it was read from, and in those that are written.
-use Rattle.std.proofs.Common.{◌≡◌, ℕ, ◌<◌, List, ◌++◌, length, take, drop, Option, None, Some, IfSome, refl, ap, sym, subst, ◌∙◌, inl, inr, append-nil, arith}
+use Rattle.std.proofs.Common.{◌≡◌, ℕ, ◌<◌, List, ◌++◌, length, take, drop, Option, None, Some, IfSome, ap, sym, subst, ◌∙◌, append-nil, arith}
 use Rattle.std.proofs.lemmas.List.{length-drop, length-take, length-take-le, take_at}
-use Rattle.std.specs.Int.{w32, to_le_bytes}
 use Rattle.std.specs.Io.KnownBytes.{Consumes, IsAtEnd}
-use Rattle.std.specs.declared.io.ErrorKind.{ErrorKind}
-use Rattle.std.specs.declared.io.ErrorKind.TheVariants.{UnexpectedEof}
-use Rattle.devices.specs.Counting.{one_more}
 use Rattle.byte_layouts.specs.Parts.{part, Stands, IsLaidOut, AreInside, put, put_all}
 use Rattle.byte_layouts.specs.Numbers.{le32, le32_at}
 use Rattle.byte_layouts.proofs.PartLaws.{put_all-laid, order-apart, length-put_all}
-use Rattle.byte_layouts.proofs.NumberLaws.{length-le32, le32-is, le32-again}
+use Rattle.byte_layouts.proofs.NumberLaws.{length-le32, le32-again}
 use Rattle.gss_message_tokens.specs.declared.integrity.LsapTokenInfoIntegrity.{LsapTokenInfoIntegrity}
-use Rattle.gss_message_tokens.specs.Integrity.{record_parts, IsIntegrityRecord, FitsRecord, record_at, IsReadStop}
+use Rattle.gss_message_tokens.specs.Integrity.{record_parts, IsIntegrityRecord, FitsRecord, record_at}
 
 -- the record as it is written
 pub record-written : (r : LsapTokenInfoIntegrity) (zeros h1 h2 h3 f t : List ℕ) → length zeros ≡ 40 → length r.machine_id ≡ 32
-    → f ≡ to_le_bytes w32 r.flags → t ≡ to_le_bytes w32 r.token_il
+    → f ≡ le32 r.flags → t ≡ le32 r.token_il
     → h1 ≡ put (part 0 f) zeros → h2 ≡ put (part 4 t) h1 → h3 ≡ put (part 8 r.machine_id) h2 → IsIntegrityRecord r h3
 record-written r zeros h1 h2 h3 f t size id_size is_f is_t p1 p2 p3 =
     let f_size = length-le32 r.flags in
     let t_size = length-le32 r.token_il in
-    let e1 : h1 ≡ put (part 0 (le32 r.flags)) zeros = p1 ∙ ap (λ (b : List ℕ). put (part 0 b) zeros) (is_f ∙ le32-is r.flags) in
-    let e2 : h2 ≡ put (part 4 (le32 r.token_il)) h1 = p2 ∙ ap (λ (b : List ℕ). put (part 4 b) h1) (is_t ∙ le32-is r.token_il) in
+    let e1 : h1 ≡ put (part 0 (le32 r.flags)) zeros = p1 ∙ ap (λ (b : List ℕ). put (part 0 b) zeros) is_f in
+    let e2 : h2 ≡ put (part 4 (le32 r.token_il)) h1 = p2 ∙ ap (λ (b : List ℕ). put (part 4 b) h1) is_t in
     let whole : h3 ≡ put_all (record_parts r) zeros = p3 ∙ ap (put (part 8 r.machine_id)) (e2 ∙ ap (put (part 4 (le32 r.token_il))) e1) in
     let inside : AreInside (length zeros) (record_parts r) = (omega arith, (omega arith, (omega arith, tt))) in
     record {
@@ -38,20 +34,14 @@ record-read bytes id f t size f_stands t_stands is_id =
     let id_stands : take (length id) (drop 8 bytes) ≡ id = ap (λ (n : ℕ). take n (drop 8 bytes)) id_size ∙ sym is_id in
     record { parts = (f_stands, (t_stands, (id_stands, tt))); size = size }
 
--- the device failed
-pub failed-stop : (left : Option (List ℕ)) (cause : Option ErrorKind) (old new : ℕ) (kind : ErrorKind)
-    → new ≡ one_more old → cause ≡ Some kind → IfSome left (λ bytes. IsReadStop bytes old new cause kind)
-failed-stop None cause old new kind counted told = tt
-failed-stop (Some bytes) cause old new kind counted told = inr (counted, told)
-
 -- too few bytes were left
-pub short-stop : (left after : Option (List ℕ)) (cause : Option ErrorKind) (old new count : ℕ) (buffer : List ℕ)
-    → Consumes left after (take count buffer) → IsAtEnd after → count < 40 → IfSome left (λ bytes. IsReadStop bytes old new cause UnexpectedEof)
-short-stop None after cause old new count buffer given ends few = tt
-short-stop (Some bytes) None cause old new count buffer given ends few = absurd given
-short-stop (Some bytes) (Some rest) cause old new count buffer given ends few =
+pub short-record : (left after : Option (List ℕ)) (count : ℕ) (buffer : List ℕ)
+    → Consumes left after (take count buffer) → IsAtEnd after → count < 40 → IfSome left (λ bytes. length bytes < 40)
+short-record None after count buffer given ends few = tt
+short-record (Some bytes) None count buffer given ends few = absurd given
+short-record (Some bytes) (Some rest) count buffer given ends few =
     let whole : bytes ≡ take count buffer = given ∙ ap (λ (l : List ℕ). take count buffer ++ l) ends ∙ append-nil (take count buffer) in
-    inl (refl, omega (arith, ap length whole, length-take count buffer))
+    omega (arith, ap length whole, length-take count buffer)
 
 -- a record that is laid out in 40 bytes is what is read from them
 record-only : (r : LsapTokenInfoIntegrity) (whole : List ℕ) → FitsRecord r → IsIntegrityRecord r whole → record_at whole ≡ r

@@ -83,7 +83,7 @@ or_else-ok : (a b : Verdict) → or_else a b ≡ Ok tt → (a ≡ Ok tt) × (b �
 or_else-ok (Ok u) b fine = (refl, fine)
 or_else-ok (Err e) b fine = absurd (cc fine)
 
-or_else-err : (a b : Verdict) (e : GssApiMessageError) → or_else a b ≡ Err e → (a ≡ Err e) ⊎ ((a ≡ Ok tt) × (b ≡ Err e))
+pub or_else-err : (a b : Verdict) (e : GssApiMessageError) → or_else a b ≡ Err e → (a ≡ Err e) ⊎ ((a ≡ Ok tt) × (b ≡ Err e))
 or_else-err (Ok u) b e wrong = inr (refl, wrong)
 or_else-err (Err f) b e wrong = inl wrong
 
@@ -102,7 +102,7 @@ length-ok short whole fine =
       | inr long ↦ long
     ]
 
-length-err : (short : ErrorKind) (whole : List ℕ) (e : GssApiMessageError) → length_judged short whole ≡ Err e → (e ≡ IoError short) × (length whole < 16)
+pub length-err : (short : ErrorKind) (whole : List ℕ) (e : GssApiMessageError) → length_judged short whole ≡ Err e → (e ≡ IoError short) × (length whole < 16)
 length-err short whole e wrong =
     elim (cases_lt (length whole) 16) [
       | inl few ↦

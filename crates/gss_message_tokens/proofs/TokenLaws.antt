@@ -1,12 +1,11 @@
 -- A token is laid out in the bytes that it was read from, and no other is.
 use Rattle.std.proofs.Common.{◌≡◌, ℕ, ◌^◌, ◌<◌, List, [], ◌∷◌, ◌++◌, length, get_or, take, drop, Ok, ap, sym, subst, ◌∙◌, arith}
 use Rattle.std.proofs.lemmas.List.{length-append, drop_at, get_or_append_left}
-use Rattle.std.specs.Int.{w16, w64, to_be_bytes}
 use Rattle.std.specs.declared.io.ErrorKind.TheVariants.{UnexpectedEof}
 use Rattle.byte_layouts.specs.Parts.{part, Stands, IsLaidOut, AreInside, put, put_all}
 use Rattle.byte_layouts.specs.Numbers.{be16, be16_at, be64, be64_at}
 use Rattle.byte_layouts.proofs.PartLaws.{byte-read, byte-again, laid-append, put_all-laid, order-apart}
-use Rattle.byte_layouts.proofs.NumberLaws.{length-be16, length-be64, be16-again, be64-again, be16_at-append, be64_at-append, be16-is, be64-is}
+use Rattle.byte_layouts.proofs.NumberLaws.{length-be16, length-be64, be16-again, be64-again, be16_at-append, be64_at-append}
 use Rattle.gss_message_tokens.specs.declared.kind.TokenKind.TheVariants.{Mic, Wrap}
 use Rattle.gss_message_tokens.specs.Judging.{judged}
 use Rattle.gss_message_tokens.specs.Tokens.{MicFields, WrapFields, mic_header, wrap_header, IsMicToken, IsWrapToken}
@@ -67,12 +66,12 @@ mic-only m header checksum n size read fits is =
 
 -- the header as it is written
 pub mic_header-written : (m : MicFields) (zeros h1 h2 h3 h4 id bytes : List ℕ) → length zeros ≡ 16
-    → id ≡ 4 ∷ 4 ∷ [] → bytes ≡ to_be_bytes w64 m.seq_num
+    → id ≡ 4 ∷ 4 ∷ [] → bytes ≡ be64 m.seq_num
     → h1 ≡ put (part 0 id) zeros → h2 ≡ put (part 2 (m.flags ∷ [])) h1 → h3 ≡ put (part 3 (255 ∷ 255 ∷ 255 ∷ 255 ∷ 255 ∷ [])) h2 → h4 ≡ put (part 8 bytes) h3
     → IsLaidOut (mic_header m) h4
 mic_header-written m zeros h1 h2 h3 h4 id bytes size is_id is_bytes p1 p2 p3 p4 =
     let e1 : h1 ≡ put (part 0 (4 ∷ 4 ∷ [])) zeros = p1 ∙ ap (λ (b : List ℕ). put (part 0 b) zeros) is_id in
-    let e4 : h4 ≡ put (part 8 (be64 m.seq_num)) h3 = p4 ∙ ap (λ (b : List ℕ). put (part 8 b) h3) (is_bytes ∙ be64-is m.seq_num) in
+    let e4 : h4 ≡ put (part 8 (be64 m.seq_num)) h3 = p4 ∙ ap (λ (b : List ℕ). put (part 8 b) h3) is_bytes in
     let whole : h4 ≡ put_all (mic_header m) zeros =
     e4 ∙ ap (put (part 8 (be64 m.seq_num))) (p3 ∙ ap (put (part 3 (255 ∷ 255 ∷ 255 ∷ 255 ∷ 255 ∷ []))) (p2 ∙ ap (put (part 2 (m.flags ∷ []))) e1)) in
     subst (IsLaidOut (mic_header m)) (sym whole) (mic_header-put m zeros size)
@@ -138,15 +137,15 @@ wrap-only w header checksum e r n size read_e read_r read fits_ec fits_rrc fits 
     λ i. record { flags = flags i; ec = ec i; rrc = rrc i; seq_num = seq_num i; checksum = rest i }
 
 pub wrap_header-written : (w : WrapFields) (zeros h1 h2 h3 h4 h5 h6 id ec rrc bytes : List ℕ) → length zeros ≡ 16
-    → id ≡ 5 ∷ 4 ∷ [] → ec ≡ to_be_bytes w16 w.ec → rrc ≡ to_be_bytes w16 w.rrc → bytes ≡ to_be_bytes w64 w.seq_num
+    → id ≡ 5 ∷ 4 ∷ [] → ec ≡ be16 w.ec → rrc ≡ be16 w.rrc → bytes ≡ be64 w.seq_num
     → h1 ≡ put (part 0 id) zeros → h2 ≡ put (part 2 (w.flags ∷ [])) h1 → h3 ≡ put (part 3 (255 ∷ [])) h2
     → h4 ≡ put (part 4 ec) h3 → h5 ≡ put (part 6 rrc) h4 → h6 ≡ put (part 8 bytes) h5
     → IsLaidOut (wrap_header w) h6
 wrap_header-written w zeros h1 h2 h3 h4 h5 h6 id ec rrc bytes size is_id is_ec is_rrc is_bytes p1 p2 p3 p4 p5 p6 =
     let e1 : h1 ≡ put (part 0 (5 ∷ 4 ∷ [])) zeros = p1 ∙ ap (λ (b : List ℕ). put (part 0 b) zeros) is_id in
-    let e4 : h4 ≡ put (part 4 (be16 w.ec)) h3 = p4 ∙ ap (λ (b : List ℕ). put (part 4 b) h3) (is_ec ∙ be16-is w.ec) in
-    let e5 : h5 ≡ put (part 6 (be16 w.rrc)) h4 = p5 ∙ ap (λ (b : List ℕ). put (part 6 b) h4) (is_rrc ∙ be16-is w.rrc) in
-    let e6 : h6 ≡ put (part 8 (be64 w.seq_num)) h5 = p6 ∙ ap (λ (b : List ℕ). put (part 8 b) h5) (is_bytes ∙ be64-is w.seq_num) in
+    let e4 : h4 ≡ put (part 4 (be16 w.ec)) h3 = p4 ∙ ap (λ (b : List ℕ). put (part 4 b) h3) is_ec in
+    let e5 : h5 ≡ put (part 6 (be16 w.rrc)) h4 = p5 ∙ ap (λ (b : List ℕ). put (part 6 b) h4) is_rrc in
+    let e6 : h6 ≡ put (part 8 (be64 w.seq_num)) h5 = p6 ∙ ap (λ (b : List ℕ). put (part 8 b) h5) is_bytes in
     let front : h3 ≡ put (part 3 (255 ∷ [])) (put (part 2 (w.flags ∷ [])) (put (part 0 (5 ∷ 4 ∷ [])) zeros)) =
     p3 ∙ ap (put (part 3 (255 ∷ []))) (p2 ∙ ap (put (part 2 (w.flags ∷ []))) e1) in
     let whole : h6 ≡ put_all (wrap_header w) zeros =

@@ -1,5 +1,5 @@
 -- The record of a process's integrity level (MS-KILE, section 2.2.5).
-use Rattle.std.specs.Prelude.{◌≡◌, ℕ, ◌<◌, ◌^◌, List, [], ◌∷◌, length, take, drop, Option, Some, ◌⊎◌}
+use Rattle.std.specs.Prelude.{◌≡◌, ℕ, ◌<◌, ◌^◌, List, [], ◌∷◌, length, take, drop, Option, Some, IfSome, ◌⊎◌}
 use Rattle.std.specs.declared.io.ErrorKind.{ErrorKind}
 use Rattle.std.specs.declared.io.ErrorKind.TheVariants.{UnexpectedEof}
 use Rattle.devices.specs.Counting.{one_more}
@@ -26,7 +26,7 @@ pub record FitsRecord (r : LsapTokenInfoIntegrity) : Type 0 where
 abbrev pub record_at : List ℕ → LsapTokenInfoIntegrity
 record_at whole = record { flags = le32_at 0 whole; token_il = le32_at 4 whole; machine_id = take 32 (drop 8 whole) }
 
--- fewer than 40 bytes were left, or the device failed and counted it
-abbrev pub IsReadStop : List ℕ → ℕ → ℕ → Option ErrorKind → ErrorKind → Type 0
-IsReadStop bytes old new last kind =
-    ((kind ≡ UnexpectedEof) × (length bytes < 40)) ⊎ ((new ≡ one_more old) × (last ≡ Some kind))
+-- fewer than 40 bytes were left, where they are known, and no call failed; or the device failed with this kind of fault and counted it
+abbrev pub IsRecordStop : Option (List ℕ) → ℕ → ℕ → Option ErrorKind → ErrorKind → Type 0
+IsRecordStop left old new last kind =
+    ((kind ≡ UnexpectedEof) × (new ≡ old) × IfSome left (λ bytes. length bytes < 40)) ⊎ ((new ≡ one_more old) × (last ≡ Some kind))

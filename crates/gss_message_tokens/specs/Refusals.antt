@@ -5,7 +5,8 @@ use Rattle.std.specs.declared.io.ErrorKind.{ErrorKind}
 use Rattle.std.specs.declared.io.ErrorKind.TheVariants.{UnexpectedEof}
 use Rattle.gss_message_tokens.specs.declared.kind.TokenKind.{TokenKind}
 use Rattle.gss_message_tokens.specs.declared.error.GssApiMessageError.{GssApiMessageError}
-use Rattle.gss_message_tokens.specs.declared.error.GssApiMessageError.TheVariants.{Memory}
+use Rattle.byte_layouts.specs.Stops.{FailedAtMostOnce, IsReadStop}
+use Rattle.gss_message_tokens.specs.declared.error.GssApiMessageError.TheVariants.{IoError, Memory}
 use Rattle.gss_message_tokens.specs.Faults.{IsDeviceFault}
 use Rattle.gss_message_tokens.specs.Judging.{id_judged, filler_judged, judged}
 
@@ -25,3 +26,10 @@ IsExcuse kind whole after old new last fault = (fault ≡ Memory) ⊎ IsBroken k
 abbrev pub IsRefusal : TokenKind → List ℕ → Option (List ℕ) → ℕ → ℕ → Option ErrorKind → GssApiMessageError → Type 0
 IsRefusal kind whole after old new last fault =
     (judged kind UnexpectedEof whole ≡ Err fault) ⊎ IsExcuse kind whole after old new last fault
+
+-- what a refusal tells of any device, its bytes known or not: they ended or it failed, memory ran out, or bytes that came are
+-- wrong, behind which one call may have failed
+abbrev pub TellsRead : TokenKind → Option (List ℕ) → ℕ → ℕ → Option ErrorKind → GssApiMessageError → Type 0
+TellsRead kind after old new last (IoError cause) = IsReadStop after old new last cause
+TellsRead kind after old new last Memory = new ≡ old
+TellsRead kind after old new last fault = FailedAtMostOnce old new × (came : List ℕ) × (judged kind UnexpectedEof came ≡ Err fault)

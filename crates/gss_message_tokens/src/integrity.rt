@@ -1,10 +1,10 @@
 //! The record of a process's integrity level (MS-KILE, section 2.2.5).
-ghost use Rattle.std.specs.Prelude.{◌≡◌, ℕ, List, take, Some, IfOk, IfErr, IfSome, MatchResult};
+ghost use Rattle.std.specs.Prelude.{◌≡◌, ℕ, List, take, Some, IfOk, IfSome, MatchResult};
 ghost use Rattle.std.specs.Io.KnownBytes.{Consumes, Appends};
 ghost use Rattle.devices.specs.Counting.{one_more};
 ghost use Rattle.byte_layouts.specs.Stops.{IsWriteStop};
 
-use byte_layouts::{array_at, put_at, u32_le, write_bytes};
+use byte_layouts::{array_at, put_at, u32_le, u32_le_bytes, write_bytes};
 use devices::{Sink, Source, read_full};
 use std::io;
 use std::io::ErrorKind;
@@ -45,15 +45,15 @@ impl From<LsapTokenInfoIntegrityError> for io::Error {
 }
 
 impl LsapTokenInfoIntegrity {
-    ghost use Rattle.gss_message_tokens.specs.Integrity.{IsIntegrityRecord, FitsRecord, record_at, IsReadStop};
+    ghost use Rattle.gss_message_tokens.specs.Integrity.{IsIntegrityRecord, FitsRecord, record_at, IsRecordStop};
 
     // Its 40 bytes.
     fn bytes(&self) -> [u8; RECORD_LEN]
         ensures { IsIntegrityRecord self.now result }
     {
         let mut bytes = [0; RECORD_LEN];
-        put_at(&mut bytes, 0, &self.flags.to_le_bytes());
-        put_at(&mut bytes, 4, &self.token_il.to_le_bytes());
+        put_at(&mut bytes, 0, &u32_le_bytes(self.flags));
+        put_at(&mut bytes, 4, &u32_le_bytes(self.token_il));
         put_at(&mut bytes, 8, &self.machine_id);
         bytes
     }
@@ -94,8 +94,8 @@ impl LsapTokenInfoIntegrity {
         ensures only { IfSome (R.left reader.old) (λ bytes. (r : LsapTokenInfoIntegrity) → FitsRecord r → IsIntegrityRecord r (take 40 bytes)
             → MatchResult result (λ read. read ≡ r)
             (λ e. (R.failed reader.new ≡ one_more (R.failed reader.old)) × (R.last_fault reader.new ≡ Some e.kind))) }
-        ensures refused { IfErr result (λ e. IfSome (R.left reader.old) (λ bytes.
-            IsReadStop bytes (R.failed reader.old) (R.failed reader.new) (R.last_fault reader.new) e.kind)) }
+        ensures refused { MatchResult result (λ _. R.failed reader.new ≡ R.failed reader.old)
+            (λ e. IsRecordStop (R.left reader.old) (R.failed reader.old) (R.failed reader.new) (R.last_fault reader.new) e.kind) }
         ensures same { R.through reader.new ≡ R.through reader.old }
     {
         let mut bytes = [0; RECORD_LEN];

@@ -3,13 +3,13 @@ ghost use Rattle.std.specs.Prelude.{◌≡◌, ℕ, ◌<◌, ◌^◌, List, [], 
 ghost use Rattle.std.specs.Io.KnownBytes.{Consumes, IsAtEnd, Appends};
 ghost use Rattle.byte_layouts.specs.Parts.{IsLaidOut};
 ghost use Rattle.gss_message_tokens.specs.Faults.{IsWriteFault};
-ghost use Rattle.gss_message_tokens.specs.Refusals.{IsRefusal, IsExcuse};
+ghost use Rattle.gss_message_tokens.specs.Refusals.{IsRefusal, IsExcuse, TellsRead};
 ghost use Rattle.gss_message_tokens.specs.declared.kind.TokenKind.{TokenKind};
 
 use crate::error::GssApiMessageError;
 use crate::kind::{HEADER_LEN, MIC_FILLER, TokenKind, id};
 use crate::token::{read_token, write_token};
-use byte_layouts::{put_at, u64_be};
+use byte_layouts::{put_at, u64_be, u64_be_bytes};
 use devices::{Sink, Source};
 use std::alloc::{AllocError, Global};
 
@@ -99,7 +99,7 @@ impl MicToken {
         put_at(&mut header, 0, &id(TokenKind::Mic));
         put_at(&mut header, 2, &[self.flags]);
         put_at(&mut header, 3, &MIC_FILLER);
-        put_at(&mut header, 8, &self.seq_num.to_be_bytes());
+        put_at(&mut header, 8, &u64_be_bytes(self.seq_num));
         header
     }
 
@@ -142,6 +142,8 @@ impl MicToken {
         ensures only { IfSome (R.left reader.old) (λ whole. (m : MicFields) → m.seq_num < 2 ^ 64 → IsMicToken m whole
             → MatchResult result (λ t. mic_of t ≡ m)
             (IsExcuse TokenKind.Mic whole (R.left reader.new) (R.failed reader.old) (R.failed reader.new) (R.last_fault reader.new))) }
+        ensures count { MatchResult result (λ _. R.failed reader.new ≡ R.failed reader.old)
+            (TellsRead TokenKind.Mic (R.left reader.new) (R.failed reader.old) (R.failed reader.new) (R.last_fault reader.new)) }
         ensures refused { IfErr result (λ e. IfSome (R.left reader.old) (λ whole.
             IsRefusal TokenKind.Mic whole (R.left reader.new) (R.failed reader.old) (R.failed reader.new) (R.last_fault reader.new) e)) }
         ensures same { R.through reader.new ≡ R.through reader.old }

@@ -4,7 +4,7 @@ ghost use Rattle.std.specs.Io.KnownBytes.{Consumes, IsAtEnd, Appends};
 ghost use Rattle.std.specs.declared.io.ErrorKind.{ErrorKind};
 ghost use Rattle.gss_message_tokens.specs.Judging.{judged};
 ghost use Rattle.gss_message_tokens.specs.Faults.{IsWriteFault, IsRestFault};
-ghost use Rattle.gss_message_tokens.specs.Refusals.{IsRefusal};
+ghost use Rattle.gss_message_tokens.specs.Refusals.{IsRefusal, TellsRead};
 
 use crate::error::{GssApiMessageError, write_fault};
 use crate::kind::{HEADER_LEN, TokenKind, judge};
@@ -22,7 +22,8 @@ pub(crate) fn read_header<R: Source>(
     ensures size { IfOk result (λ header. length header ≡ 16) }
     ensures judged { IfOk result (λ header. judged kind ErrorKind.UnexpectedEof header ≡ Ok tt) }
     ensures bytes { IfOk result (λ header. Consumes (R.left reader.old) (R.left reader.new) header) }
-    ensures count { IfOk result (λ _. R.failed reader.new ≡ R.failed reader.old) }
+    ensures count { MatchResult result (λ _. R.failed reader.new ≡ R.failed reader.old)
+        (TellsRead kind (R.left reader.new) (R.failed reader.old) (R.failed reader.new) (R.last_fault reader.new)) }
     ensures refused { IfErr result (λ e. IfSome (R.left reader.old) (λ whole.
         IsRefusal kind whole (R.left reader.new) (R.failed reader.old) (R.failed reader.new) (R.last_fault reader.new) e)) }
     ensures same { R.through reader.new ≡ R.through reader.old }
@@ -73,6 +74,8 @@ pub(crate) fn read_token<R: Source>(
     ensures judged { IfOk result (λ t. judged kind ErrorKind.UnexpectedEof t.header ≡ Ok tt) }
     ensures bytes { IfOk result (λ t. Consumes (R.left reader.old) (R.left reader.new) (t.header ++ t.checksum.items)) }
     ensures end { IfOk result (λ _. IsAtEnd (R.left reader.new)) }
+    ensures count { MatchResult result (λ _. R.failed reader.new ≡ R.failed reader.old)
+        (TellsRead kind (R.left reader.new) (R.failed reader.old) (R.failed reader.new) (R.last_fault reader.new)) }
     ensures refused { IfErr result (λ e. IfSome (R.left reader.old) (λ whole.
         IsRefusal kind whole (R.left reader.new) (R.failed reader.old) (R.failed reader.new) (R.last_fault reader.new) e)) }
     ensures same { R.through reader.new ≡ R.through reader.old }

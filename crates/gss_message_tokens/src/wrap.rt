@@ -3,13 +3,13 @@ ghost use Rattle.std.specs.Prelude.{◌≡◌, ℕ, ◌<◌, ◌^◌, List, [], 
 ghost use Rattle.std.specs.Io.KnownBytes.{Consumes, IsAtEnd, Appends};
 ghost use Rattle.byte_layouts.specs.Parts.{IsLaidOut};
 ghost use Rattle.gss_message_tokens.specs.Faults.{IsWriteFault};
-ghost use Rattle.gss_message_tokens.specs.Refusals.{IsRefusal, IsExcuse};
+ghost use Rattle.gss_message_tokens.specs.Refusals.{IsRefusal, IsExcuse, TellsRead};
 ghost use Rattle.gss_message_tokens.specs.declared.kind.TokenKind.{TokenKind};
 
 use crate::error::GssApiMessageError;
 use crate::kind::{HEADER_LEN, TokenKind, WRAP_FILLER, id};
 use crate::token::{read_token, write_token};
-use byte_layouts::{put_at, u16_be, u64_be};
+use byte_layouts::{put_at, u16_be, u16_be_bytes, u64_be, u64_be_bytes};
 use devices::{Sink, Source};
 use std::alloc::{AllocError, Global};
 
@@ -83,9 +83,9 @@ impl WrapToken {
         put_at(&mut header, 0, &id(TokenKind::Wrap));
         put_at(&mut header, 2, &[self.flags]);
         put_at(&mut header, 3, &[WRAP_FILLER]);
-        put_at(&mut header, 4, &self.ec.to_be_bytes());
-        put_at(&mut header, 6, &self.rrc.to_be_bytes());
-        put_at(&mut header, 8, &self.seq_num.to_be_bytes());
+        put_at(&mut header, 4, &u16_be_bytes(self.ec));
+        put_at(&mut header, 6, &u16_be_bytes(self.rrc));
+        put_at(&mut header, 8, &u64_be_bytes(self.seq_num));
         header
     }
 
@@ -128,6 +128,8 @@ impl WrapToken {
         ensures only { IfSome (R.left reader.old) (λ whole. (w : WrapFields) → w.ec < 2 ^ 16 → w.rrc < 2 ^ 16 → w.seq_num < 2 ^ 64 → IsWrapToken w whole
             → MatchResult result (λ t. wrap_of t ≡ w)
             (IsExcuse TokenKind.Wrap whole (R.left reader.new) (R.failed reader.old) (R.failed reader.new) (R.last_fault reader.new))) }
+        ensures count { MatchResult result (λ _. R.failed reader.new ≡ R.failed reader.old)
+            (TellsRead TokenKind.Wrap (R.left reader.new) (R.failed reader.old) (R.failed reader.new) (R.last_fault reader.new)) }
         ensures refused { IfErr result (λ e. IfSome (R.left reader.old) (λ whole.
             IsRefusal TokenKind.Wrap whole (R.left reader.new) (R.failed reader.old) (R.failed reader.new) (R.last_fault reader.new) e)) }
         ensures same { R.through reader.new ≡ R.through reader.old }

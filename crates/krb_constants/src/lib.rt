@@ -7,6 +7,7 @@ pub mod ap_options;
 pub mod cksum_types;
 pub mod cred_ssp;
 pub mod error_codes;
+pub mod error_names;
 pub mod etypes;
 pub mod gss_api;
 pub mod kdc_options;

@@ -1,6 +1,5 @@
 -- A PAC is laid out in the bytes into which its parts were put.
 use Rattle.std.proofs.Common.{◌≡◌, ℕ, zero, suc, ◌+◌, ◌*◌, ◌<◌, ◌≤◌, ◌&&◌, Bool, true, false, List, [], ◌∷◌, length, map, get_or, drop, replicate, None, Result, Ok, Err, nat_eq, nat_le, nat_lt, if◌then◌else◌, refl, ap, sym, subst, ◌∙◌, arith}
-use Rattle.std.specs.Int.{w32, w64, to_le_bytes}
 use Rattle.std.specs.List.{list_all}
 use Rattle.std.proofs.lemmas.Bool.Decides.{nat_tests, Decides-eqb}
 use Rattle.std.proofs.lemmas.List.{at_drop_more, at_drop_all, length-replicate, length-map}
@@ -8,7 +7,7 @@ use Rattle.std.proofs.lemmas.List.Folds.{list_all-map}
 use Rattle.byte_layouts.specs.Parts.{Part, part, end_of, put, put_all, IsApartFrom, AreAllApart, AreInside}
 use Rattle.byte_layouts.specs.Numbers.{le32, le64}
 use Rattle.byte_layouts.proofs.PartLaws.{put_all-laid, length-put_all}
-use Rattle.byte_layouts.proofs.NumberLaws.{length-le32, length-le64, le32-is, le64-is}
+use Rattle.byte_layouts.proofs.NumberLaws.{length-le32, length-le64}
 use Rattle.pac_layouts.specs.Buffers.{Buffer, buffer_of, one_buffer_parts, buffer_parts, pac_parts, IsSized, AreSized, IsPac, AllFit}
 use Rattle.pac_layouts.specs.Kinds.{kind_number}
 use Rattle.pac_layouts.specs.Reading.{and_then, pac_at}
@@ -20,21 +19,21 @@ use Rattle.pac_layouts.specs.declared.error.PacError.TheVariants.{InvalidRange}
 
 -- a row, as it is written
 pub three-put : (place n1 n2 n3 : ℕ) (b1 b2 b3 whole h1 h2 h3 : List ℕ)
-    → b1 ≡ to_le_bytes w32 n1 → b2 ≡ to_le_bytes w32 n2 → b3 ≡ to_le_bytes w64 n3
+    → b1 ≡ le32 n1 → b2 ≡ le32 n2 → b3 ≡ le64 n3
     → h1 ≡ put (part place b1) whole → h2 ≡ put (part (place + 4) b2) h1 → h3 ≡ put (part (place + 8) b3) h2
     → h3 ≡ put (part (place + 8) (le64 n3)) (put (part (place + 4) (le32 n2)) (put (part place (le32 n1)) whole))
 three-put place n1 n2 n3 b1 b2 b3 whole h1 h2 h3 is1 is2 is3 p1 p2 p3 =
-    let e1 : h1 ≡ put (part place (le32 n1)) whole = p1 ∙ ap (λ (b : List ℕ). put (part place b) whole) (is1 ∙ le32-is n1) in
-    let e2 : h2 ≡ put (part (place + 4) (le32 n2)) h1 = p2 ∙ ap (λ (b : List ℕ). put (part (place + 4) b) h1) (is2 ∙ le32-is n2) in
-    let e3 : h3 ≡ put (part (place + 8) (le64 n3)) h2 = p3 ∙ ap (λ (b : List ℕ). put (part (place + 8) b) h2) (is3 ∙ le64-is n3) in
+    let e1 : h1 ≡ put (part place (le32 n1)) whole = p1 ∙ ap (λ (b : List ℕ). put (part place b) whole) is1 in
+    let e2 : h2 ≡ put (part (place + 4) (le32 n2)) h1 = p2 ∙ ap (λ (b : List ℕ). put (part (place + 4) b) h1) is2 in
+    let e3 : h3 ≡ put (part (place + 8) (le64 n3)) h2 = p3 ∙ ap (λ (b : List ℕ). put (part (place + 8) b) h2) is3 in
     e3 ∙ ap (put (part (place + 8) (le64 n3))) (e2 ∙ ap (put (part (place + 4) (le32 n2))) e1)
 
 -- two numbers, one behind the other
-pub two-put : (n1 n2 : ℕ) (b1 b2 whole h1 h2 : List ℕ) → b1 ≡ to_le_bytes w32 n1 → b2 ≡ to_le_bytes w32 n2
+pub two-put : (n1 n2 : ℕ) (b1 b2 whole h1 h2 : List ℕ) → b1 ≡ le32 n1 → b2 ≡ le32 n2
     → h1 ≡ put (part 0 b1) whole → h2 ≡ put (part 4 b2) h1 → h2 ≡ put (part 4 (le32 n2)) (put (part 0 (le32 n1)) whole)
 two-put n1 n2 b1 b2 whole h1 h2 is1 is2 p1 p2 =
-    let e1 : h1 ≡ put (part 0 (le32 n1)) whole = p1 ∙ ap (λ (b : List ℕ). put (part 0 b) whole) (is1 ∙ le32-is n1) in
-    let e2 : h2 ≡ put (part 4 (le32 n2)) h1 = p2 ∙ ap (λ (b : List ℕ). put (part 4 b) h1) (is2 ∙ le32-is n2) in
+    let e1 : h1 ≡ put (part 0 (le32 n1)) whole = p1 ∙ ap (λ (b : List ℕ). put (part 0 b) whole) is1 in
+    let e2 : h2 ≡ put (part 4 (le32 n2)) h1 = p2 ∙ ap (λ (b : List ℕ). put (part 4 b) h1) is2 in
     e2 ∙ ap (put (part 4 (le32 n2))) e1
 
 -- one buffer more

@@ -9,7 +9,7 @@ ghost use Rattle.pac_layouts.specs.Refusals.{IsRowBroken, IsRowRefusal};
 
 use crate::error::{short_fault, write_fault};
 use crate::{PacBufferType, PacError};
-use byte_layouts::{put_at, read_front, u32_le, u64_le};
+use byte_layouts::{put_at, read_front, u32_le, u32_le_bytes, u64_le, u64_le_bytes};
 use devices::{Sink, Source, write_whole};
 use std::io::ErrorKind;
 
@@ -105,10 +105,11 @@ impl PacInfoBuffer {
         requires { place + 16 ≤ length bytes.old }
         ensures { bytes.new ≡ put_all (info_parts place self.now) bytes.old }
     {
-        put_at(bytes, place, &u32::from(self.ul_type).to_le_bytes());
-        put_at(bytes, place + 4, &self.cb_buffer_size.to_le_bytes());
-        put_at(bytes, place + 8, &self.offset.to_le_bytes());
+        put_at(bytes, place, &u32_le_bytes(u32::from(self.ul_type)));
+        put_at(bytes, place + 4, &u32_le_bytes(self.cb_buffer_size));
+        put_at(bytes, place + 8, &u64_le_bytes(self.offset));
     }
+
     // Its 16 bytes.
     fn bytes(&self) -> [u8; INFO_LEN]
         ensures { IsInfo self.now result }

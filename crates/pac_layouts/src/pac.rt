@@ -10,7 +10,7 @@ ghost use Rattle.pac_layouts.specs.Writing.{pac_size, is_sized, counted, pac_byt
 use crate::error::{short_fault, write_fault};
 use crate::info::INFO_LEN;
 use crate::{PacBuffer, PacError};
-use byte_layouts::{put_at, read_to_stop, u32_le};
+use byte_layouts::{put_at, read_to_stop, u32_le, u32_le_bytes};
 use devices::{Sink, Source, write_whole};
 use std::alloc::{AllocError, Global};
 use std::io::ErrorKind;
@@ -119,8 +119,8 @@ fn put_head(bytes: &mut [u8], count: u32)
     ensures parts { bytes.new ≡ put (part 4 (le32 0)) (put (part 0 (le32 count)) bytes.old) }
     ensures size { length bytes.new ≡ length bytes.old }
 {
-    put_at(bytes, 0, &count.to_le_bytes());
-    put_at(bytes, 4, &0u32.to_le_bytes());
+    put_at(bytes, 0, &u32_le_bytes(count));
+    put_at(bytes, 4, &u32_le_bytes(0));
 }
 
 fn put_buffers(bytes: &mut [u8], buffers: &[PacBuffer])

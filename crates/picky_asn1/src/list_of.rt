@@ -71,9 +71,10 @@ impl<const OCTET: u8, T: Eq> Eq for ListOf<OCTET, T> {
 
 impl<const OCTET: u8, T: Deserialize + Drop> Tagged for ListOf<OCTET, T> {
     ghost use Rattle.asn1_der.specs.Tree.{trees_of};
-    ghost use Rattle.asn1_der.proofs.Rows.{many-injective};
+    ghost use Rattle.asn1_der.proofs.Rows.{many-injective_as};
+    ghost use Rattle.asn1_der.specs.Seen.{Alike, seen_list};
     ghost use Rattle.asn1_der.specs.Tagged.{sequence};
-    ghost use Rattle.asn1_der.proofs.Tagged.{sequence_laws};
+    ghost use Rattle.asn1_der.proofs.Tagged.{sequence_laws_as};
     ghost use Rattle.picky_asn1_der.specs.Refusals.{list_refusal};
 
     type Row = Elements<T>;
@@ -84,7 +85,11 @@ impl<const OCTET: u8, T: Deserialize + Drop> Tagged for ListOf<OCTET, T> {
 
     ghost row_tree = { sequence (trees_of T.tree) };
 
-    ghost row_laws = { sequence_laws (trees_of T.tree) (many-injective _ T.tree T.injective) };
+    ghost row_seen = { seen_list T.seen };
+
+    ghost seen = { seen_list T.seen };
+
+    ghost row_laws = { sequence_laws_as (Alike (seen_list T.seen)) (trees_of T.tree) (many-injective_as _ T.tree T.seen T.injective) };
 
     ghost refuses = { list_refusal T.refusal };
 

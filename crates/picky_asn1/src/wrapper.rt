@@ -33,6 +33,9 @@ pub type PrintableStringAsn1 = RestrictedString<PrintableCharSet>;
 /// An IA5String.
 pub type IA5StringAsn1 = RestrictedString<Ia5CharSet>;
 
+/// The same by the ported crate's other name.
+pub type Ia5StringAsn1 = IA5StringAsn1;
+
 /// A BMPString.
 pub type BmpStringAsn1 = RestrictedString<BmpCharSet>;
 

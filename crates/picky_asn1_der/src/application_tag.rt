@@ -24,9 +24,14 @@ impl<V: Serialize, const TAG: u8> Serialize for ApplicationTag<V, TAG>
 where
     TagNumber<TAG>: IsTagNumber,
 {
-    ghost use Rattle.asn1_der.proofs.Spelling.{wrapped-begins, wrapped-injective};
+    ghost use Rattle.asn1_der.proofs.Spelling.{wrapped-begins, wrapped-injective_as};
+    ghost use Rattle.std.specs.Prelude.{refl};
+    ghost use Rattle.asn1_der.specs.Seen.{Alike, seen_part};
+    ghost use Rattle.asn1_der.proofs.Alike.{alike-part};
 
     ghost tree = { λ value. wrapped (96 + TAG % 32) (V.tree value.0) };
+
+    ghost seen = { seen_part (λ value. value.0) V.seen };
 
     ghost refusal = { part_refusal (λ value. value.0) V.refusal };
 
@@ -35,8 +40,8 @@ where
     ghost begins = { λ value. wrapped-begins (96 + TAG % 32) (V.tree value.0) };
 
     ghost injective = { λ v w whole also e.
-        let same = wrapped-injective (96 + TAG % 32) V.tree V.injective v.0 w.0 whole also e
-        in λ i. record { 0 = same i } };
+        let same = wrapped-injective_as (Alike V.seen) (96 + TAG % 32) V.tree V.injective v.0 w.0 whole also e
+        in alike-part V.seen v w (λ value. value.0) (λ held. record { 0 = held }) (λ value. refl) same };
 
     fn serialize<W: Sink>(&self, to: &mut Serializer<W>) -> Result<usize, Asn1DerError> {
         to.wrapped(96 + TAG % 32, &self.0)

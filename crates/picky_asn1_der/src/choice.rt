@@ -12,9 +12,12 @@ use devices::Source;
 
 /// Alternatives that are read.
 pub trait Alternatives: Sized {
+    ghost use Rattle.asn1_der.specs.Seen.{Seen, as_is, Alike};
     ghost use Rattle.asn1_codec.specs.Reading.{Reading, TookValue, IsSpelling, Refused};
 
     ghost tree: { Self → Tree };
+
+    ghost seen: { Seen Self } = { as_is };
 
     ghost firsts: { Firsts };
 
@@ -22,7 +25,7 @@ pub trait Alternatives: Sized {
 
     ghost begins: { (value : Self) → BeginsAmong firsts (tree value) };
 
-    ghost injective: { IsTrue sound → (v w : Self) → IsWhole (tree v) → IsWhole (tree w) → der (tree v) ≡ der (tree w) → v ≡ w };
+    ghost injective: { IsTrue sound → (v w : Self) → IsWhole (tree v) → IsWhole (tree w) → der (tree v) ≡ der (tree w) → Alike seen v w };
 
     /// Whether one of the alternatives may begin with this identifier octet.
     fn may_start_any(first: u8) -> bool
@@ -50,7 +53,13 @@ pub enum Choice<A, B> {
 }
 
 impl<T: Deserialize> Alternatives for Last<T> {
+    ghost use Rattle.std.specs.Prelude.{refl};
+    ghost use Rattle.asn1_der.specs.Seen.{seen_part};
+    ghost use Rattle.asn1_der.proofs.Alike.{alike-part};
+
     ghost tree = { λ last. T.tree last.0 };
+
+    ghost seen = { seen_part (λ last. last.0) T.seen };
 
     ghost firsts = { T.firsts };
 
@@ -60,7 +69,7 @@ impl<T: Deserialize> Alternatives for Last<T> {
 
     ghost injective = { λ sound v w whole also e.
         let same = T.injective v.0 w.0 whole also e
-        in λ i. record { 0 = same i } };
+        in alike-part T.seen v w (λ last. last.0) (λ held. record { 0 = held }) (λ last. refl) same };
 
     fn may_start_any(first: u8) -> bool {
         T::may_start(first)
@@ -74,9 +83,12 @@ impl<T: Deserialize> Alternatives for Last<T> {
 
 impl<A: Deserialize, B: Alternatives> Alternatives for Choice<A, B> {
     ghost use Rattle.std.proofs.lemmas.Bool.{and_parts};
-    ghost use Rattle.picky_asn1_der.specs.ChoiceLaws.{choice-begins, choice-injective};
+    ghost use Rattle.picky_asn1_der.specs.ChoiceLaws.{choice-begins, choice-injective_as};
+    ghost use Rattle.picky_asn1_der.specs.Choices.{seen_choice};
 
     ghost tree = { choice_tree A.tree B.tree };
+
+    ghost seen = { seen_choice A.seen B.seen };
 
     ghost firsts = { either A.firsts B.firsts };
 
@@ -86,7 +98,7 @@ impl<A: Deserialize, B: Alternatives> Alternatives for Choice<A, B> {
 
     ghost injective = { λ sound.
         let parts = and_parts (apart A.firsts B.firsts) B.sound sound in
-        choice-injective A.tree B.tree A.firsts B.firsts A.begins B.begins parts.0 A.injective (B.injective parts.1) };
+        choice-injective_as A.tree B.tree A.firsts B.firsts A.begins B.begins A.seen B.seen parts.0 A.injective (B.injective parts.1) };
 
     fn may_start_any(first: u8) -> bool {
         A::may_start(first) || B::may_start_any(first)

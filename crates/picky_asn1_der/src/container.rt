@@ -21,7 +21,10 @@ impl<T> From<T> for OctetStringContainer<T> {
 }
 
 impl<T: Deserialize + Drop> Tagged for OctetStringContainer<T> {
-    ghost use Rattle.asn1_der.proofs.Tagged.{wrapped_laws};
+    ghost use Rattle.asn1_der.proofs.Tagged.{wrapped_laws_as};
+    ghost use Rattle.std.specs.Prelude.{refl};
+    ghost use Rattle.asn1_der.specs.Seen.{Alike, seen_part};
+    ghost use Rattle.asn1_der.proofs.Alike.{alike-part};
 
     type Row = T;
 
@@ -31,7 +34,11 @@ impl<T: Deserialize + Drop> Tagged for OctetStringContainer<T> {
 
     ghost row_tree = { λ octet value. wrapped octet (T.tree value) };
 
-    ghost row_laws = { wrapped_laws T.tree T.injective };
+    ghost row_seen = { T.seen };
+
+    ghost seen = { seen_part (λ value. value.0) T.seen };
+
+    ghost row_laws = { wrapped_laws_as (Alike T.seen) T.tree T.injective };
 
     ghost use Rattle.asn1_codec.specs.Refusals.{part_refusal};
 
@@ -39,7 +46,7 @@ impl<T: Deserialize + Drop> Tagged for OctetStringContainer<T> {
 
     ghost row_of = { λ value. value.0 };
 
-    ghost one_row = { λ v w e. λ i. record { 0 = e i } };
+    ghost one_row = { λ v w e. alike-part T.seen v w (λ value. value.0) (λ held. record { 0 = held }) (λ value. refl) e };
 
     fn read_row<R: Source>(tag: u8, from: &mut Deserializer<R>) -> Result<T, Asn1DerError> {
         from.wrapped(tag)

@@ -5,15 +5,17 @@ ghost use Rattle.asn1_der.specs.Firsts.{either, apart};
 
 use crate::wrapper::ExplicitContextTag;
 use asn1_codec::{
-    Deserialize, Deserializer, Fields, IsTagNumber, Item, Serializer, TagNumber, WriteFields,
-    WriteItem, write_field,
+    Deserialize, Deserializer, Fields, IsTagNumber, Item, Serialize, Serializer, TagNumber,
+    WriteFields, WriteItem, write_field,
 };
 use asn1_der::Asn1DerError;
 use devices::{Sink, Source};
 use std::alloc::{AllocError, Global};
 
 /// A type that has a default value. A value under an explicit tag has its type's.
-pub trait HasDefault: Sized + Drop {
+pub trait HasDefault: Serialize + Sized + Drop {
+    ghost use Rattle.asn1_der.specs.Seen.{Alike};
+
     ghost is_default_value: { Self → Bool };
 
     ghost one_default: { (v w : Self) → IsTrue (is_default_value v) → IsTrue (is_default_value w) → v ≡ w };
@@ -25,12 +27,17 @@ pub trait HasDefault: Sized + Drop {
     /// The default value.
     fn default_value(alloc: Global) -> Result<Self, AllocError>
         ensures { IfOk result (λ value. IsTrue (is_default_value value)) };
+
+    // Of two values of one spelling both are the default, or none is.
+    ghost kept: { (v w : Self) → Alike Self.seen v w → is_default_value v ≡ is_default_value w };
 }
 
 impl<const N: u8, T: HasDefault> HasDefault for ExplicitContextTag<N, T>
 where
     TagNumber<N>: IsTagNumber,
 {
+    ghost use Rattle.picky_asn1_der.specs.DefaultLaws.{part-alike};
+
     ghost is_default_value = { λ value. T.is_default_value value.0 };
 
     ghost one_default = { λ v w left right.
@@ -45,6 +52,8 @@ where
         let value = T::default_value(alloc)?;
         Ok(ExplicitContextTag(value))
     }
+
+    ghost kept = { λ v w e. T.kept v.0 w.0 (part-alike T.seen v w (λ value. value.0) e) };
 }
 
 /// A field of a SEQUENCE that has a DEFAULT: the default value is not written, and refused where it stands (X.690,
@@ -81,9 +90,14 @@ impl<H: HasDefault + Deserialize> WriteItem for DefaultField<H> {
 }
 
 impl<H: HasDefault + Deserialize> Item for DefaultField<H> {
-    ghost use Rattle.asn1_der.proofs.Rows.{optional-starts, optional-injective};
+    ghost use Rattle.asn1_der.proofs.Rows.{optional-starts, optional-injective_as};
+    ghost use Rattle.std.specs.Prelude.{refl};
+    ghost use Rattle.asn1_der.specs.Seen.{seen_part};
+    ghost use Rattle.asn1_der.proofs.Alike.{alike-part};
     ghost use Rattle.picky_asn1_der.specs.Defaults.{told_value};
-    ghost use Rattle.picky_asn1_der.specs.DefaultLaws.{told-one};
+    ghost use Rattle.picky_asn1_der.specs.DefaultLaws.{told-alike};
+
+    ghost seen = { seen_part (λ item. item.0) H.seen };
 
     ghost put = { λ item trees. put H.tree (told_value H.is_default_value item.0) trees };
 
@@ -94,11 +108,11 @@ impl<H: HasDefault + Deserialize> Item for DefaultField<H> {
     ghost starts = { λ B trees others starts item b whole octet rest e.
         optional-starts H B H.tree trees H.firsts others H.begins starts (told_value H.is_default_value item.0) b whole octet rest e };
 
-    ghost injective = { λ B trees others starts one told v w x y whole also e.
-        let same = optional-injective H B H.tree trees H.firsts others H.injective one told H.begins starts
+    ghost injective = { λ B trees others Same starts one told v w x y whole also e.
+        let same = optional-injective_as H B H.tree trees H.firsts others H.seen Same H.injective one told H.begins starts
         (told_value H.is_default_value v.0) (told_value H.is_default_value w.0) x y whole also e in
-        let values = told-one H.is_default_value H.one_default v.0 w.0 same.0
-        in (λ i. record { 0 = values i }, same.1) };
+        let values = told-alike H.seen H.is_default_value H.one_default v.0 w.0 same.0
+        in (alike-part H.seen v w (λ item. item.0) (λ held. record { 0 = held }) (λ item. refl) values, same.1) };
 
     fn read_before<T: Fields, R: Source>(
         from: &mut Deserializer<R>,

@@ -29,9 +29,14 @@ where
     TagNumber<N>: IsTagNumber,
 {
     ghost use Rattle.asn1_der.specs.Tagged.{tagged_tree};
-    ghost use Rattle.asn1_der.proofs.Tagged.{tagged-injective};
+    ghost use Rattle.asn1_der.proofs.Tagged.{tagged-injective_as};
+    ghost use Rattle.std.specs.Prelude.{refl};
+    ghost use Rattle.asn1_der.specs.Seen.{Alike, seen_part};
+    ghost use Rattle.asn1_der.proofs.Alike.{alike-part};
 
     ghost tree = { λ value. tagged_tree (implicit_octet T.FIRST N) T.row_tree T.row_of value.0 };
+
+    ghost seen = { seen_part (λ value. value.0) T.seen };
 
     ghost firsts = { only (implicit_octet T.FIRST N) };
 
@@ -42,8 +47,8 @@ where
     ghost refusal = { part_refusal (λ value. value.0) T.refuses };
 
     ghost injective = { λ v w whole also e.
-        let same = tagged-injective (implicit_octet T.FIRST N) T.row_tree T.row_laws T.row_of T.one_row v.0 w.0 whole also e
-        in λ i. record { 0 = same i } };
+        let same = tagged-injective_as (Alike T.row_seen) (Alike T.seen) (implicit_octet T.FIRST N) T.row_tree T.row_laws T.row_of T.one_row v.0 w.0 whole also e
+        in alike-part T.seen v w (λ value. value.0) (λ held. record { 0 = held }) (λ value. refl) same };
 
     fn serialize<W: Sink>(&self, to: &mut Serializer<W>) -> Result<usize, Asn1DerError> {
         self.0.write_row(context_octet(T::FIRST, N), to)

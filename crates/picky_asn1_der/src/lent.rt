@@ -28,6 +28,8 @@ impl<'a, T> Lent<'a, T> {
 impl<'a, T: Serialize> Serialize for Lent<'a, T> {
     ghost tree = { T.tree };
 
+    ghost seen = { T.seen };
+
     ghost refusal = { T.refusal };
 
     ghost firsts = { T.firsts };

@@ -71,6 +71,7 @@ pub use asn1_elements::Tag;
 pub use asn1_elements::TagClass;
 pub use asn1_elements::TagPeeker;
 pub use asn1_elements::misc;
+pub use asn1_elements::misc::Length;
 pub use asn1_elements::split_element;
 pub use bit_container::BitStringContainer;
 pub use byte_buf::ByteBuf;

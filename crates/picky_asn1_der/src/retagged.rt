@@ -19,6 +19,10 @@ impl<const OCTET: u8, T> From<T> for Retagged<OCTET, T> {
 }
 
 impl<const OCTET: u8, T: Tagged> Tagged for Retagged<OCTET, T> {
+    ghost use Rattle.std.specs.Prelude.{refl};
+    ghost use Rattle.asn1_der.specs.Seen.{seen_part};
+    ghost use Rattle.asn1_der.proofs.Alike.{alike-part};
+
     type Row = T::Row;
 
     const FIRST: u8 = OCTET;
@@ -26,6 +30,10 @@ impl<const OCTET: u8, T: Tagged> Tagged for Retagged<OCTET, T> {
     ghost FIRST = { OCTET };
 
     ghost row_tree = { T.row_tree };
+
+    ghost row_seen = { T.row_seen };
+
+    ghost seen = { seen_part (λ value. value.0) T.seen };
 
     ghost row_laws = { T.row_laws };
 
@@ -35,7 +43,7 @@ impl<const OCTET: u8, T: Tagged> Tagged for Retagged<OCTET, T> {
 
     ghost refuses = { part_refusal (λ value. value.0) T.refuses };
 
-    ghost one_row = { λ v w e. let same = T.one_row v.0 w.0 e in λ i. record { 0 = same i } };
+    ghost one_row = { λ v w e. let same = T.one_row v.0 w.0 e in alike-part T.seen v w (λ value. value.0) (λ held. record { 0 = held }) (λ value. refl) same };
 
     fn read_row<R: Source>(tag: u8, from: &mut Deserializer<R>) -> Result<Self::Row, Asn1DerError> {
         T::read_row(tag, from)

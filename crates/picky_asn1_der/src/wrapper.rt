@@ -24,9 +24,14 @@ impl<const N: u8, T: Serialize> Serialize for ExplicitContextTag<N, T>
 where
     TagNumber<N>: IsTagNumber,
 {
-    ghost use Rattle.asn1_der.proofs.Spelling.{wrapped-begins, wrapped-injective};
+    ghost use Rattle.asn1_der.proofs.Spelling.{wrapped-begins, wrapped-injective_as};
+    ghost use Rattle.std.specs.Prelude.{refl};
+    ghost use Rattle.asn1_der.specs.Seen.{Alike, seen_part};
+    ghost use Rattle.asn1_der.proofs.Alike.{alike-part};
 
     ghost tree = { λ value. wrapped (160 + N % 32) (T.tree value.0) };
+
+    ghost seen = { seen_part (λ value. value.0) T.seen };
 
     ghost refusal = { part_refusal (λ value. value.0) T.refusal };
 
@@ -35,8 +40,8 @@ where
     ghost begins = { λ value. wrapped-begins (160 + N % 32) (T.tree value.0) };
 
     ghost injective = { λ v w whole also e.
-        let same = wrapped-injective (160 + N % 32) T.tree T.injective v.0 w.0 whole also e
-        in λ i. record { 0 = same i } };
+        let same = wrapped-injective_as (Alike T.seen) (160 + N % 32) T.tree T.injective v.0 w.0 whole also e
+        in alike-part T.seen v w (λ value. value.0) (λ held. record { 0 = held }) (λ value. refl) same };
 
     fn serialize<W: Sink>(&self, to: &mut Serializer<W>) -> Result<usize, Asn1DerError> {
         to.wrapped(160 + N % 32, &self.0)

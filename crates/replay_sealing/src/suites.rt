@@ -16,7 +16,7 @@ pub(crate) fn is_key(alloc: Global, row: &Row<'_>) -> bool {
     is(suite.generate_key_from_password(alloc, password, salt), key)
 }
 
-/// Key, confounder, text and what they are sealed to, which is opened to the text with its padding.
+/// Key, confounder, text and what they are sealed to, which is opened to the text with its padding; whole and in parts.
 pub(crate) fn is_sealed(alloc: Global, row: &Row<'_>) -> bool {
     let (Ok(suite), [key, confounder, text, sealed]) = (
         CipherSuite::try_from(row.size),
@@ -30,6 +30,7 @@ pub(crate) fn is_sealed(alloc: Global, row: &Row<'_>) -> bool {
             sealed,
         )
         && is_opened(alloc, row, suite)
+        && is_in_parts(alloc, row, suite)
 }
 
 /// Whether what is sealed opens to the text, followed by just its padding.
@@ -44,6 +45,31 @@ fn is_opened(alloc: Global, row: &Row<'_>, suite: CipherSuite) -> bool {
         Some(padding) => suite.is_padding(text, padding),
         None => false,
     }
+}
+
+/// Whether what is sealed is the encrypted text and its checksum, each made alone. The same confounder and key of the
+/// checksum come from both ways.
+fn is_in_parts(alloc: Global, row: &Row<'_>, suite: CipherSuite) -> bool {
+    let [key, confounder, text, sealed] = row.columns.as_slice() else {
+        return false;
+    };
+    if confounder.len() != suite.confounder_size() {
+        return false;
+    }
+    let (Ok(there), Ok(back)) = (
+        suite.encrypt_no_checksum(alloc, key, row.usage, text, confounder),
+        suite.decrypt_no_checksum(alloc, key, row.usage, sealed),
+    ) else {
+        return false;
+    };
+    let Some(checksum) = sealed.strip_prefix(there.encrypted.as_slice()) else {
+        return false;
+    };
+    checksum == back.checksum.as_slice()
+        && back.plaintext.starts_with(text)
+        && there.confounder == back.confounder
+        && there.ki == back.ki
+        && back.confounder.as_slice() == confounder.as_slice()
 }
 
 /// Key, text and checksum.

@@ -15,7 +15,7 @@ impl Lines for SignedLines {
     fn agrees(&self, alloc: Global, line: &str) -> anyhow::Result<bool> {
         let columns = columns_of(alloc, line)?;
         match columns.as_slice() {
-            [_, input, _] => is_refused(alloc, *input),
+            [_, input, word] => Ok(*word == "Unreadable" && is_refused(alloc, *input)?),
             [_, content_type, content, certificate, keys, own, wanted] => is_written(
                 alloc,
                 &WrittenRow {
@@ -39,7 +39,7 @@ impl Lines for SignedLines {
                     wanted: *wanted,
                 },
             ),
-            [_, input, _, parts @ ..] => is_read(alloc, *input, parts),
+            [_, input, word, parts @ ..] => Ok(*word == "Read" && is_read(alloc, *input, parts)?),
             _ => Ok(false),
         }
     }

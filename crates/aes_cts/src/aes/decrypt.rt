@@ -1,6 +1,6 @@
 //! Opening: the chain, and the chain with ciphertext stealing (RFC 3962, section 5).
 
-ghost use Rattle.std.specs.Prelude.{◌≡◌, ◌≢◌, ◌⊎◌, ◌-◌, ◌*◌, ◌%◌, ◌<◌, ◌≤◌, ◌++◌, ℕ, List, take, length, vec_len, Err, IfOk, IfErr, OnOk};
+ghost use Rattle.std.specs.Prelude.{◌≡◌, ◌≢◌, ◌-◌, ◌*◌, ◌%◌, ◌<◌, ◌≤◌, ◌++◌, ℕ, List, take, length, vec_len, Err, IsOk, IfOk, IfErr, OnOk};
 ghost use Rattle.aes_cts.specs.Aes.{aes_cipher, aes_inverse, cipher};
 ghost use Rattle.aes_cts.specs.AesSize.{key_length_of};
 ghost use Rattle.aes_cts.specs.Bytes.{IsBytes};
@@ -66,8 +66,8 @@ fn decrypt_chain(alloc: Global, keys: &InverseSchedule, chain: &[u8]) -> Result<
     Ok(text)
 }
 
-/// Decrypts a chain with ciphertext stealing; of no bytes, no bytes. A key of another length (`KeyLength`) and
-/// 1 to 15 bytes (`CipherLength`) are refused.
+/// Decrypts a chain with ciphertext stealing; of no bytes, no bytes. The refusals, in this order: 1 to 15 bytes
+/// (`CipherLength`), a key of another length (`KeyLength`).
 pub fn decrypt_aes_cts(
     alloc: Global,
     key: &[u8],
@@ -79,21 +79,25 @@ pub fn decrypt_aes_cts(
     ensures only { IfOk result (λ p. (q : List ℕ) → IsBytes q → 16 ≤ length q
         → IsStolen 16 (aes_cipher key.now) q cipher_data.now → q ≡ p.items) }
     ensures same_length { IfOk result (λ p. vec_len p ≡ length cipher_data.now) }
-    ensures sized { OnOk result (length key.now ≡ key_length_of aes_size.now) }
+    ensures sized { 16 ≤ length cipher_data.now → OnOk result (length key.now ≡ key_length_of aes_size.now) }
+    ensures none { length cipher_data.now ≡ 0 → IsOk result }
 
     // The refusals, the first that holds.
-    ensures key_length { length key.now ≢ key_length_of aes_size.now
+    ensures short { 0 < length cipher_data.now → length cipher_data.now < 16
+        → result ≡ Err (CipherLength (length cipher_data.now) 16) }
+    ensures key_length { 16 ≤ length cipher_data.now → length key.now ≢ key_length_of aes_size.now
         → result ≡ Err (KeyLength (length key.now) (key_length_of aes_size.now)) }
-    ensures short { length key.now ≡ key_length_of aes_size.now → 0 < length cipher_data.now
-        → length cipher_data.now < 16 → result ≡ Err (CipherLength (length cipher_data.now) 16) }
-    ensures memory { length key.now ≡ key_length_of aes_size.now
-        → (length cipher_data.now ≡ 0) ⊎ (16 ≤ length cipher_data.now) → IfErr result (λ e. e ≡ Memory) }
+    ensures memory { 16 ≤ length cipher_data.now → length key.now ≡ key_length_of aes_size.now
+        → IfErr result (λ e. e ≡ Memory) }
 {
-    check_key_length(key, aes_size)?;
-    if !cipher_data.is_empty() && cipher_data.len() < AES_BLOCK_SIZE {
+    if cipher_data.is_empty() {
+        return Ok(Vec::new(alloc));
+    }
+    if cipher_data.len() < AES_BLOCK_SIZE {
         return Err(KerberosCryptoError::CipherLength(cipher_data.len(), AES_BLOCK_SIZE));
     }
-    if cipher_data.len() <= AES_BLOCK_SIZE {
+    check_key_length(key, aes_size)?;
+    if cipher_data.len() == AES_BLOCK_SIZE {
         let text = decrypt_aes_cbc(alloc, key, cipher_data, aes_size)?;
         return Ok(text);
     }

@@ -4,7 +4,7 @@ use Rattle.asn1_codec.proofs.de.from_bytes.Goals as goal
 
 pub returns-clause-value : goal.returns-clause-value
 returns-clause-value g c =
-    reads-answer g.T.FromDer.reads g.T.FromDer.one_value _ _ _ _ c.new_from_bytes-from.ensures (ap (λ r. r.faults) (sym c.from.view_is)) c.read_from-answer.ensures
+    reads-answer g.T.FromDer.seen g.T.FromDer.reads g.T.FromDer.one_value _ _ _ _ c.new_from_bytes-from.ensures (ap (λ r. r.faults) (sym c.from.view_is)) c.read_from-answer.ensures
 
 pub returns-clause-own : goal.returns-clause-own
 returns-clause-own g c =

@@ -1,5 +1,5 @@
 use Rattle.byte_layouts.proofs.Exits.{at-exit}
-use Rattle.gss_message_tokens.proofs.ReadingLaws.{rest-refused}
+use Rattle.gss_message_tokens.proofs.ReadingLaws.{rest-refused, rest-told}
 use Rattle.gss_message_tokens.proofs.token.read_token.Goals as goal
 
 pub returns-in_err-checksum-clause-refused : goal.returns-in_err-checksum-clause-refused
@@ -8,3 +8,9 @@ returns-in_err-checksum-clause-refused g c =
     (rest-refused c.args.kind (g.R.Source.left c.args.reader.now) (g.R.Source.left c.read_header.new.reader) (g.R.Source.left c.read_checksum.new.reader)
     _ _ _ _ c.in_ok-header.header c.in_err-checksum.field-0.0
     c.in_ok-header.ensures.bytes c.in_ok-header.ensures.judged c.in_ok-header.ensures.count c.in_err-checksum.ensures.count)
+
+pub returns-in_err-checksum-clause-count : goal.returns-in_err-checksum-clause-count
+returns-in_err-checksum-clause-count g c =
+    at-exit _ _ _ _ c.from_residual-in_err-checksum.ensures.1
+    (rest-told c.args.kind (g.R.Source.left c.read_header.new.reader) (g.R.Source.left c.read_checksum.new.reader) _ _ _ _ c.in_err-checksum.field-0.0
+    c.in_ok-header.ensures.count c.in_err-checksum.ensures.count)

@@ -4,8 +4,8 @@ use Rattle.aes_cts.specs.Chains.{IsChained}
 use Rattle.aes_cts.proofs.Stealing.{length-stolen, filled_already}
 use Rattle.aes_cts.proofs.aes.decrypt.decrypt_aes_cts.Goals as goal
 
-pub returns-then-cipher_data-le-AES_BLOCK_SIZE-clause-only : goal.returns-then-cipher_data-le-AES_BLOCK_SIZE-clause-only
-returns-then-cipher_data-le-AES_BLOCK_SIZE-clause-only c =
+pub returns-then-cipher_data-eq-AES_BLOCK_SIZE-clause-only : goal.returns-then-cipher_data-eq-AES_BLOCK_SIZE-clause-only
+returns-then-cipher_data-eq-AES_BLOCK_SIZE-clause-only c =
     λ q bytes many stolen.
     let E = aes_cipher c.args.key.now in
     let same = length-stolen 16 E q c.args.cipher_data.now (lit< tt) many stolen in

@@ -1,7 +1,7 @@
-use Rattle.std.proofs.Common.{subst, arith}
+use Rattle.std.proofs.Common.{subst, refl, inl, arith}
 use Rattle.std.proofs.lemmas.List.{take_all}
 use Rattle.std.specs.Io.KnownBytes.{Consumes}
-use Rattle.gss_message_tokens.proofs.IntegrityLaws.{given-only, short-only}
+use Rattle.gss_message_tokens.proofs.IntegrityLaws.{given-only, short-only, short-record}
 use Rattle.gss_message_tokens.proofs.integrity.LsapTokenInfoIntegrity.decode.Goals as goal
 
 pub returns-clause-found : goal.returns-clause-found
@@ -23,3 +23,12 @@ pub returns-then-count-lt-RECORD_LEN-clause-only : goal.returns-then-count-lt-RE
 returns-then-count-lt-RECORD_LEN-clause-only g c =
     short-only (g.R.Source.left c.args.reader.now) (g.R.Source.left c.read_full.new.reader) c.in-Ok.count c.read_full.new.buffer _
     c.in-Ok.ensures.bytes (c.in-Ok.ensures.end (omega arith)) c.if-count-lt-RECORD_LEN.true
+
+pub returns-then-count-lt-RECORD_LEN-clause-refused : goal.returns-then-count-lt-RECORD_LEN-clause-refused
+returns-then-count-lt-RECORD_LEN-clause-refused g c =
+    inl (
+      refl,
+      c.in-Ok.ensures.count,
+      short-record (g.R.Source.left c.args.reader.now) (g.R.Source.left c.read_full.new.reader) c.in-Ok.count c.read_full.new.buffer
+          c.in-Ok.ensures.bytes (c.in-Ok.ensures.end (omega arith)) c.if-count-lt-RECORD_LEN.true,
+    )

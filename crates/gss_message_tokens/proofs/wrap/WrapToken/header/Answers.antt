@@ -6,5 +6,5 @@ use Rattle.gss_message_tokens.proofs.wrap.WrapToken.header.Goals as goal
 pub returns-clause-laid : goal.returns-clause-laid
 returns-clause-laid c =
     wrap_header-written (wrap_of c.args.self.now) _ _ _ _ _ _ _ _ _ _ _ refl c.id.ensures
-    c.to_be_bytes.ensures c.to_be_bytes-2.ensures c.to_be_bytes-3.ensures
+    c.u16_be_bytes.ensures.bytes c.u16_be_bytes-2.ensures.bytes c.u64_be_bytes.ensures.bytes
     c.put_at.ensures c.put_at-2.ensures c.put_at-3.ensures c.put_at-4.ensures c.put_at-5.ensures c.put_at-6.ensures

@@ -24,7 +24,7 @@ returns-then-is_default g c =
     refused-taken _ (der (tree c.in_ok-head.head)) _ _ _ _ _ took c.refuse.ensures.after c.refuse.ensures.fault tt
     (λ bytes rest behind p e within.
     let never = never_default tree g.T.Fields.trees g.H.Serialize.firsts g.T.Fields.firsts c.requires.told g.H.Serialize.begins g.T.Fields.starts
-    g.H.Serialize.injective g.H.HasDefault.is_default_value p.0.0.0 p.0.1 c.in_ok-head.head c.args.from.now.limit _ head.0 took.limit
+    g.H.Serialize.seen g.H.Serialize.injective g.H.HasDefault.is_default_value g.met.H.HasDefault.kept p.0.0.0 p.0.1 c.in_ok-head.head c.args.from.now.limit _ head.0 took.limit
     bytes rest behind p.1 p.2 p.3 e in
     absurd (cc (never, c.if-is_default.ensures)))
 
