@@ -5,7 +5,6 @@ pub mod PartSlices
 pub mod SignedContents
 pub mod SignedLaws
 pub mod SignedParts
-pub mod Wholeness
 pub mod Written
 pub mod WrittenLaws
 pub use Rattle.cms_signed_data.specs.CertificateSpelled

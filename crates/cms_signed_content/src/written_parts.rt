@@ -5,7 +5,6 @@ ghost use Rattle.asn1_der.specs.Tree.{IsWhole, der};
 ghost use Rattle.cms_signed_data.specs.Certificate.{Certificate};
 ghost use Rattle.cms_signed_data.specs.declared.signed_attributes.SignedAttributes.{SignedAttributes};
 ghost use Rattle.cms_signed_data.specs.declared.signer_info.IssuerAndSerialNumber.{IssuerAndSerialNumber};
-ghost use Rattle.cms_signed_content.specs.Wholeness.{IsCurveWhole};
 ghost use Rattle.cms_signed_content.specs.SignedParts.{attributes_tree};
 ghost use Rattle.cms_signed_content.specs.Written.{sha256_algorithm, attributes_of, id_of, id_tree, encapsulated_of, signer_of, IsNoCertificate};
 ghost use Rattle.x509_oids.specs.Identifiers as oids;
@@ -13,11 +12,11 @@ ghost use Rattle.x509_oids.specs.Identifiers as oids;
 use crate::assembling::{der_of, sequence_of, spelled};
 use crate::fault::SignedFault;
 use cms_signed_data::{
-    AlgorithmIdentifier, AlgorithmIdentifierParameters, Certificate, ContentTypeAttribute,
-    EncapsulatedContentInfo, IssuerAndSerialNumber, MessageDigestAttribute, Name, SetOfOne,
+    AlgorithmIdentifier, Certificate, ContentTypeAttribute, EncapsulatedContentInfo,
+    IssuerAndSerialNumber, MessageDigestAttribute, Name, SetOfOne,
     SignedAttributes, SignerInfo,
 };
-use key_functions::Signed;
+use key_functions::{Signed, has_encoding};
 use picky_asn1::oid::ObjectIdentifier;
 use picky_asn1::wrapper::{
     ExplicitContextTag0, IntegerAsn1, ObjectIdentifierAsn1, OctetStringAsn1,
@@ -169,26 +168,13 @@ pub(crate) fn sha256_bytes(alloc: Global) -> Result<Vec<u8>, AllocError>
     Ok(bytes)
 }
 
-// The spelling of an algorithm: each that a program holds can be written.
+// The spelling of an algorithm: each that a program holds has an encoding.
 fn algorithm_bytes(alloc: Global, algorithm: &AlgorithmIdentifier) -> Result<Vec<u8>, AllocError>
     ensures { IfOk result (λ bytes. ⟦<AlgorithmIdentifier as Spelled>⟧.spells algorithm.now bytes.items 0) }
 {
-    let _octets = algorithm.oid().as_bytes();
-    hold_curve(algorithm.parameters());
+    has_encoding(algorithm);
     let bytes = spelled(alloc, algorithm)?;
     Ok(bytes)
-}
-
-// Nothing is done: the identifier of a curve that is held is one.
-fn hold_curve(parameters: &AlgorithmIdentifierParameters)
-    ensures { IsCurveWhole parameters.now }
-{
-    match parameters {
-        AlgorithmIdentifierParameters::Ec(curve) => {
-            let _octets = curve.curve_oid().as_bytes();
-        }
-        _ => {}
-    }
 }
 
 /// The spelling of a content with its type.

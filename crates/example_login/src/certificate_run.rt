@@ -2,7 +2,7 @@
 
 use crate::toy_keys::ToyKeys;
 use crate::{HOST, REALM, SUITE, USER, name_of, random_bytes, use_ticket};
-use krb_realm::{Anchor, Client, Realm, Settings};
+use krb_realm::{Anchor, Client, Realm, Settings, SignatureAlgorithm};
 use picky_asn1_der::Asn1RawDer;
 use results::if_passed;
 use std::alloc::Global;
@@ -117,7 +117,7 @@ fn make_keys(alloc: Global) -> anyhow::Result<ToyKeys> {
     let public_value = Asn1RawDer::new(hex::decode(alloc, PUBLIC_VALUE)?)?;
     let algorithm = AlgorithmIdentifier::new_sha256_with_rsa_encryption(alloc)?;
     Ok(ToyKeys {
-        algorithm,
+        algorithm: SignatureAlgorithm::new(algorithm),
         public_value,
     })
 }

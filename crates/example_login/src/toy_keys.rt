@@ -2,7 +2,7 @@
 ghost use Rattle.std.specs.Prelude.{◌≡◌};
 ghost use Rattle.sha2.specs.Sha256.{sha256};
 
-use krb_realm::{KeyFunctions, OctetStringAsn1, Signed, Theirs};
+use krb_realm::{KeyFunctions, OctetStringAsn1, SignatureAlgorithm, Signed, Theirs};
 use picky_asn1_der::Asn1RawDer;
 use sha2::{Digest, Sha256};
 use std::alloc::{AllocError, Global};
@@ -14,7 +14,7 @@ use x509_keys::SubjectPublicKeyInfo;
 #[derive(Drop)]
 pub struct ToyKeys {
     /// The algorithm that a signature names.
-    pub algorithm: AlgorithmIdentifier,
+    pub algorithm: SignatureAlgorithm,
     /// The public value of each agreement.
     pub public_value: Asn1RawDer,
 }
@@ -44,7 +44,7 @@ impl KeyFunctions for ToyKeys {
 
     fn sign(&self, alloc: Global, signed: &[u8]) -> Result<Option<Signed>, AllocError> {
         let signature = OctetStringAsn1::new(alloc, digest_of(signed).as_slice())?;
-        let algorithm = self.algorithm.clone()?;
+        let algorithm = self.algorithm.identifier().clone()?;
         Ok(Some(Signed {
             algorithm,
             signature,

@@ -1,10 +1,11 @@
 -- Key functions as definitions see them: each is a function of its arguments.
-use Rattle.std.specs.Prelude.{Bool, false, Option, None}
+use Rattle.std.specs.Prelude.{◌≡◌, Bool, false, Option, None, Some}
 use Rattle.asn1_elements.specs.Raw.{Raw}
 use Rattle.picky_asn1.specs.BitString.{Bits}
 use Rattle.picky_asn1.specs.Bytes.{Bytes}
 use Rattle.x509_keys.specs.AlgorithmIdentifier.{AlgorithmIdentifier}
 use Rattle.x509_keys.specs.declared.subject_public_key_info.SubjectPublicKeyInfo.{SubjectPublicKeyInfo}
+use Rattle.key_functions.specs.Encodings.{HasEncoding}
 use Rattle.key_functions.specs.declared.functions.Signed.{Signed}
 use Rattle.key_functions.specs.declared.functions.Theirs as lent
 use Rattle.key_functions.specs.declared.functions.Theirs.TheVariants as variant
@@ -18,12 +19,18 @@ abbrev pub theirs_of : lent.Theirs → TheirValue
 theirs_of (variant.Whole element) = WholeValue element.now
 theirs_of (variant.Bits bits) = ValueBits bits.now
 
--- whether a signature verifies; the signature of some bytes; the public value, and the shared secret, that random bytes give
+-- whether a signature verifies; the signature of some bytes; the public value, and the shared secret, that random bytes give; and that
+-- each signature names an algorithm that has an encoding
 pub record KeysRecord : Type 0 where
   pub verifies : SubjectPublicKeyInfo → AlgorithmIdentifier → Bytes → Bytes → Bool
   pub sign : Bytes → Option Signed
   pub public_value : Bytes → Option Raw
   pub agree : TheirValue → Bytes → Option Bytes
+  pub encodes : (signed : Bytes) (made : Signed) → sign signed ≡ Some made → HasEncoding made.algorithm
+
+-- what isn't signed names no algorithm
+pub encodes_none : (signed : Bytes) (made : Signed) → None ≡ Some made → HasEncoding made.algorithm
+encodes_none signed made e = absurd (cc (e))
 
 -- no signature verifies, and no function has an answer
 abbrev pub no_functions : KeysRecord
@@ -32,4 +39,5 @@ no_functions = record {
   sign = λ signed. None;
   public_value = λ words. None;
   agree = λ theirs words. None;
+  encodes = encodes_none;
 }

@@ -26,7 +26,8 @@ pub enum Theirs<'a> {
 }
 
 /// What a party does with its private key and with the keys of others. Each is a function of its arguments: the same
-/// arguments have the same answer, unless memory runs out. Contracts see the four functions.
+/// arguments have the same answer, unless memory runs out. Contracts see the four functions, and that what is signed names an
+/// algorithm that has an encoding, as [`SignatureAlgorithm`](crate::SignatureAlgorithm) has.
 pub trait KeyFunctions {
     ghost use Rattle.key_functions.specs.KeyFunctions.{KeysRecord, theirs_of};
 

@@ -5,23 +5,13 @@ use Rattle.krb_client.specs.Means.{MeansRecord}
 use Rattle.krb_pkinit.specs.Rows.{PkinitRows}
 use Rattle.krb_service.specs.Seen.{SeenRecord}
 use Rattle.krb_service.specs.Service.{ServiceRecord}
-use Rattle.krb_logins.specs.Authenticated.{IsAuthenticated}
-use Rattle.krb_logins.specs.Honest.{IsHonestLogin, IsOneKey}
 use Rattle.krb_logins.specs.LoginRun.{Login, LoginRun}
 use Rattle.krb_logins.specs.Parties.{LoginRecord, RealmRecord, RememberedRecord}
 use Rattle.krb_logins.specs.declared.refusal.LoginRefusal.{LoginRefusal}
 use Rattle.krb_realm.specs.Logins.{Remembers}
 
 module _ (realm : RealmRecord) (rows : PkinitRows) (service : ServiceRecord) (before : RememberedRecord) (login : LoginRecord) (result : Result Login LoginRefusal) where
-  -- if it is honest, it ends with one key
-  abbrev EndsIfHonest : ClientRecord → MeansRecord → Type 0
-  EndsIfHonest client means =
-      (honest : IsHonestLogin client realm service before login) → IsAuthenticated client means realm rows honest.client.account login → IsOneKey client result
-
   module _ (own wanted : ClientRecord) (same : own ≡ wanted) (held means : MeansRecord) (are : held ≡ means) where
-    pub ends_as : EndsIfHonest own held → EndsIfHonest wanted means
-    ends_as ends = subst (λ (client : ClientRecord). EndsIfHonest client means) same (subst (λ (m : MeansRecord). EndsIfHonest own m) are ends)
-
     pub run_as : (seen : SeenRecord) → Remembers seen (LoginRun own held realm rows service login before result) → Remembers seen (LoginRun wanted means realm rows service login before result)
     run_as seen run =
         subst (λ (client : ClientRecord). Remembers seen (LoginRun client means realm rows service login before result)) same

@@ -42,6 +42,8 @@ pub use krb_service::laws::{
     admissible_if_admitted, admitted_as_presented, admitted_if_presented, has_outcome,
     once_for_ever, one_outcome, refused_by_moment_alone,
 };
+pub use pkinit_clients::laws::reply_verified_is_part;
+pub use pkinit_logins::laws::{agreement_granted, agreement_taken, one_key_by_certificate};
 pub use pkinit_requests::laws::judged_is_part;
 
 /// Realms of one name and of the same settings and key functions, which agree on the accounts involved in a request, reply to it

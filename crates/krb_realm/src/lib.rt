@@ -18,7 +18,7 @@ mod settings;
 
 pub use client::Client;
 pub use devices::{Sink, SinkFault, Source};
-pub use key_functions::{KeyFunctions, NoKeys, Signed, Theirs};
+pub use key_functions::{KeyFunctions, NoKeys, SignatureAlgorithm, Signed, Theirs};
 pub use krb_accounts::RealmRefusal;
 pub use krb_ap_requests::AdmitRefusal;
 pub use krb_client::{ApAsked, AsAsked, AskRefusal, Credential, TakeRefusal, TgsAsked};

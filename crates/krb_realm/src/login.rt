@@ -1,33 +1,36 @@
 //! Whole logins.
 ghost use Rattle.std.specs.Prelude.{◌≡◌, ◌≤◌, List, length, IfOk, Result};
+ghost use Rattle.picky_asn1.specs.Bytes.{Bytes};
 ghost use Rattle.krb_accounts.specs.Names.{parts};
 ghost use Rattle.krb_as.specs.TicketGranting.{krbtgt_of};
 ghost use Rattle.krb_logins.specs.Input.{login_of};
-ghost use Rattle.krb_logins.specs.Honest.{AreEnough, IsHonestByPassword, IsHonestLogin, IsOneKey};
-ghost use Rattle.krb_logins.specs.Authenticated.{IsAuthenticated};
+ghost use Rattle.krb_logins.specs.Honest.{AreEnough, IsHonestByPassword, IsOneKey};
 ghost use Rattle.krb_logins.specs.LoginRun.{ApExchange, AsExchange, Exchanges, Login, LoginRun, TgsExchange};
 ghost use Rattle.krb_logins.specs.Parties.{RememberedRecord, call_at};
 ghost use Rattle.krb_logins.specs.Steps.{reply_bytes};
 ghost use Rattle.krb_service.specs.Pair.{PairRecord};
 ghost use Rattle.krb_service.specs.Seen.{IsWindow};
 ghost use Rattle.krb_realm.specs.Logins.{Admit, Answer, ApAsk, AsAsk, AsTake, Keyed, Remembers, Show, TgsAsk, TgsTake, realm_rows, remembered};
-ghost use Rattle.krb_realm.specs.Clients.{ByKey, means_of};
+ghost use Rattle.krb_realm.specs.Clients.{ByCertificate, ByKey, means_of};
 ghost use Rattle.krb_realm.specs.Realm.{realm_record};
 ghost use Rattle.key_functions.specs.KeyFunctions.{no_functions};
 ghost use Rattle.krb_crypto.specs.Keys.{KeyRecord};
 ghost use Rattle.krb_encrypted_data.specs.Sealing.{encryption_key};
+ghost use Rattle.pkinit_logins.specs.HonestByCertificate.{IsHonestByCertificate};
+ghost use Rattle.pkinit_requests.specs.Anchors.{AnchorRecord};
 
 use crate::{Client, Realm};
 use key_functions::{KeyFunctions, NoKeys};
 use krb_client::{ApAsked, AsAsked, AskRefusal, Credential, Means, TakeRefusal, TgsAsked};
 use krb_encrypted_data::encryption_key;
-use krb_logins::laws::{one_key, one_key_by_password};
+use krb_logins::laws::one_key_by_password;
 use krb_logins::{LoginInput, LoginRefusal};
 use krb_moments::Moment;
 use krb_preauth::krbtgt;
 use krb_service::{Admission, Service};
 use krb_types::data_types::EncryptionKey;
 use picky_asn1::wrapper::{GeneralStringAsn1, OctetStringAsn1};
+use pkinit_logins::laws::one_key_by_certificate;
 use std::alloc::{AllocError, Global};
 
 /// Logs a client in at a service by its password (RFC 4120, sections 3.1, 3.3, 3.2). The realm has no key functions. The client asks it
@@ -74,8 +77,8 @@ pub fn login_by_password(
 /// Logs a client in at a service by its certificate (RFC 4556, section 3; RFC 4120, sections 3.1, 3.3, 3.2). Client and realm have key
 /// functions of their own: they sign for each other, and agree on the key of the first reply. Else it is as [`login_by_password`].
 ///
-/// If the login is honest and the realm authenticates the client, the client's session key is the one that the service was told,
-/// and the client is named.
+/// If the login is honest by certificate, the client's session key is the one that the service was told, and the client is named: if
+/// each party accepts the other's certificate and verifies what its holder signs in this login, and both agree on one secret.
 pub fn login_by_certificate<C: KeyFunctions, R: KeyFunctions>(
     alloc: Global,
     client: &Client,
@@ -97,12 +100,13 @@ pub fn login_by_certificate<C: KeyFunctions, R: KeyFunctions>(
     ensures rest { service.new ≡ record service.old { seen = service.new.seen } }
     ensures skew { service.new.seen.skew ≡ service.old.seen.skew }
 
-    // An honest login of a client that the realm authenticates ends with one key on both sides.
-    ensures honest { (admitted : List PairRecord) → IsWindow service.old.seen admitted
-        → (honest : IsHonestLogin client.now.client (realm_record realm.now) service.old (remembered service.old admitted) (login_of input.now))
-        → IsAuthenticated client.now.client (means_of client.now (C.functions client_keys.now)) (realm_record realm.now) (realm_rows realm.now (R.functions realm_keys.now))
-        honest.client.account (login_of input.now) → IsOneKey client.now.client result }
+    // An honest login by the client's certificate ends with one key on both sides.
+    ensures honest { (certificate : Bytes) (anchor : AnchorRecord) (admitted : List PairRecord) → client.now.by ≡ ByCertificate certificate anchor → IsWindow service.old.seen admitted
+        → IsHonestByCertificate client.now.client certificate anchor (C.functions client_keys.now) (realm_record realm.now) realm.now.trust (R.functions realm_keys.now)
+        service.old (remembered service.old admitted) (login_of input.now)
+        → IsOneKey client.now.client result }
 {
+    certified_ends_with_one_key(client, realm, service, input, client_keys, realm_keys);
     let means = client.means(client_keys);
     login(
         alloc,
@@ -136,40 +140,12 @@ fn login<M: Means, R: KeyFunctions>(
         service.old (login_of input.now) (remembered service.old admitted) result) }
     ensures rest { service.new ≡ record service.old { seen = service.new.seen } }
     ensures skew { service.new.seen.skew ≡ service.old.seen.skew }
-    ensures honest { (admitted : List PairRecord) → IsWindow service.old.seen admitted
-        → (honest : IsHonestLogin client.now (realm_record realm.now) service.old (remembered service.old admitted) (login_of input.now))
-        → IsAuthenticated client.now (M.means means.now) (realm_record realm.now) (realm_rows realm.now (R.functions keys.now)) honest.client.account (login_of input.now)
-        → IsOneKey client.now result }
 {
-    ends_with_one_key(client, means, realm, service, input, keys);
     let credential = exchange(alloc, client, means, realm, input, keys)?;
     ap_exchange(alloc, client, service, &credential, input)
 }
 
-// Every honest login by parties as they are held ends with one key, if the realm authenticates the client. It does nothing when it runs.
-fn ends_with_one_key<M: Means, R: KeyFunctions>(
-    client: &krb_client::Client,
-    means: &M,
-    realm: &Realm,
-    service: &Service,
-    input: &LoginInput<'_>,
-    keys: &R,
-)
-    requires { AreEnough (login_of input.now) }
-    ensures { (before : RememberedRecord) (result : Result Login LoginRefusal) (after : RememberedRecord)
-        → (honest : IsHonestLogin client.now (realm_record realm.now) service.now before (login_of input.now))
-        → IsAuthenticated client.now (M.means means.now) (realm_record realm.now) (realm_rows realm.now (R.functions keys.now)) honest.client.account (login_of input.now)
-        → LoginRun client.now (M.means means.now) (realm_record realm.now) (realm_rows realm.now (R.functions keys.now)) service.now (login_of input.now) before result after
-        → IsOneKey client.now result }
-{
-    client.is_well_formed();
-    realm.is_granting();
-    realm.are_keyed();
-    service.is_well_formed();
-    one_key(means, &realm.pkinit(keys));
-}
-
-// Every honest login by a key that client and realm share ends so. It does nothing when it runs.
+// Every honest login by a key that client and realm share ends with one key. It does nothing when it runs.
 fn keyed_ends_with_one_key(
     client: &Client,
     realm: &Realm,
@@ -188,6 +164,31 @@ fn keyed_ends_with_one_key(
     realm.are_keyed();
     service.is_well_formed();
     one_key_by_password(&realm.pkinit(&NoKeys));
+}
+
+// Every honest login by the client's certificate ends so. It does nothing when it runs.
+fn certified_ends_with_one_key<C: KeyFunctions, R: KeyFunctions>(
+    client: &Client,
+    realm: &Realm,
+    service: &Service,
+    input: &LoginInput<'_>,
+    client_keys: &C,
+    realm_keys: &R,
+)
+    requires { AreEnough (login_of input.now) }
+    ensures { (certificate : Bytes) (anchor : AnchorRecord) (before : RememberedRecord) (result : Result Login LoginRefusal) (after : RememberedRecord)
+        → client.now.by ≡ ByCertificate certificate anchor
+        → IsHonestByCertificate client.now.client certificate anchor (C.functions client_keys.now) (realm_record realm.now) realm.now.trust (R.functions realm_keys.now)
+        service.now before (login_of input.now)
+        → LoginRun client.now.client (means_of client.now (C.functions client_keys.now)) (realm_record realm.now) (realm_rows realm.now (R.functions realm_keys.now))
+        service.now (login_of input.now) before result after
+        → IsOneKey client.now.client result }
+{
+    client.is_well_formed();
+    realm.is_granting();
+    realm.are_keyed();
+    service.is_well_formed();
+    one_key_by_certificate();
 }
 
 // Both exchanges with the realm: the ticket for the service.

@@ -4,3 +4,4 @@ mod SignedLemmas
 mod SignerLemmas
 mod TakenLemmas
 pub mod Decided
+mod VerifiedParts

@@ -6,8 +6,8 @@ use Rattle.asn1_der.specs.Tree.{der}
 use Rattle.asn1_elements.specs.Raw.{Raw}
 use Rattle.picky_asn1.specs.Bytes.{Bytes}
 use Rattle.krb_moments.specs.Units.{Micros}
-use Rattle.krb_messages.specs.Trees.{kdc_req_body_tree}
 use Rattle.krb_messages.specs.declared.messages.kdc_req_body.KdcReqBody.{KdcReqBody}
+use Rattle.krb_kdc_requests.specs.Requests.{body_bytes}
 use Rattle.pkinit_messages.specs.declared.auth_pack.AuthPack.{AuthPack}
 use Rattle.pkinit_messages.specs.declared.pk_authenticator.PkAuthenticator.{PkAuthenticator}
 use Rattle.pkinit_clients.specs.contracts.encoding.Asn1RawDerAuthPackTree.TheImpl as pack_impl
@@ -15,10 +15,6 @@ use Rattle.pkinit_clients.specs.contracts.encoding.Asn1RawDerAuthPackTree.TheImp
 -- id-pkinit-authData, 1.3.6.1.5.2.3.1
 abbrev pub auth_data : List ℕ
 auth_data = 1 ∷ 3 ∷ 6 ∷ 1 ∷ 5 ∷ 2 ∷ 3 ∷ 1 ∷ []
-
--- the one encoding of a request's body
-unfoldable pub body_bytes : KdcReqBody → Bytes
-body_bytes body = der (kdc_req_body_tree body)
 
 -- PKAuthenticator: the client's time as a second with its microseconds, the body's nonce, and the SHA-1 digest of the body
 abbrev pub authenticator_of : KdcReqBody → GeneralizedTime → Micros → PkAuthenticator

@@ -4,3 +4,4 @@ pub mod Requests
 pub mod Replies
 pub mod Faults
 pub mod Means
+pub mod Verified

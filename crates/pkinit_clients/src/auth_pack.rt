@@ -1,7 +1,8 @@
 //! What a client signs.
 ghost use Rattle.std.specs.Prelude.{◌≡◌, IfOk};
 ghost use Rattle.sha1.specs.Sha1.{sha1};
-ghost use Rattle.pkinit_clients.specs.AuthPacks.{auth_pack_bytes, auth_pack_of, authenticator_of, body_bytes};
+ghost use Rattle.krb_kdc_requests.specs.Requests.{body_bytes};
+ghost use Rattle.pkinit_clients.specs.AuthPacks.{auth_pack_bytes, auth_pack_of, authenticator_of};
 
 use krb_messages::messages::KdcReqBody;
 use picky_asn1::date::GeneralizedTime;
@@ -65,7 +66,7 @@ fn checksum_of(alloc: Global, body: &KdcReqBody) -> Result<OctetStringAsn1, Allo
 }
 
 // The body's one encoding.
-#[tactic(auto, unfolding(crate::specs::AuthPacks::body_bytes))]
+#[tactic(auto, unfolding(krb_kdc_requests::specs::Requests::body_bytes))]
 fn body_bytes(alloc: Global, body: &KdcReqBody) -> Result<Vec<u8>, AllocError>
     ensures { IfOk result (λ bytes. bytes.items ≡ body_bytes body.now) }
 {

@@ -6,6 +6,7 @@ mod asked;
 mod auth_pack;
 mod encoding;
 mod fault;
+pub mod laws;
 mod means;
 mod reading;
 mod reply;

@@ -8,6 +8,7 @@ use Rattle.asn1_leaves.specs.declared.date.GeneralizedTime.{GeneralizedTime}
 use Rattle.asn1_der.specs.Tree.{IsWhole}
 use Rattle.asn1_der.proofs.Spelling.{whole-wrapped}
 use Rattle.asn1_elements.specs.Raw.{Raw, raw_tree}
+use Rattle.picky_asn1.specs.BitString.{Bits}
 use Rattle.picky_asn1.specs.Bytes.{Bytes}
 use Rattle.krb_moments.specs.SecondOf.{IsSecondOf}
 use Rattle.krb_moments.specs.Skew.{is_far}
@@ -19,6 +20,7 @@ use Rattle.krb_types.specs.Refusals.{Code}
 use Rattle.krb_constants.specs.declared.error_codes.TheConstants.{KDC_ERR_PADATA_TYPE_NOSUPP, KDC_ERR_PREAUTH_FAILED, KRB_AP_ERR_SKEW, KRB_ERR_GENERIC}
 use Rattle.krb_messages.specs.declared.messages.kdc_req_body.KdcReqBody.{KdcReqBody}
 use Rattle.krb_pkinit.specs.Calls.{AgreedRecord, PkinitCallRecord}
+use Rattle.krb_kdc_requests.specs.Requests.{body_bytes}
 use Rattle.key_functions.specs.KeyFunctions.{KeysRecord}
 use Rattle.key_functions.specs.KeyFunctions.TheirValue.{WholeValue}
 use Rattle.key_functions.specs.declared.functions.Signed.{Signed}
@@ -39,7 +41,7 @@ use Rattle.pkinit_requests.specs.PkinitTable.{agreed_on, asked_by, is_auth_data,
 use Rattle.pkinit_requests.specs.Trust.{TrustRecord}
 use Rattle.pkinit_clients.specs.AuthPacks as client
 use Rattle.pkinit_clients.specs.Requests.{IsNoPkAsReq, IsPkAsReqOf, pack_bytes, pk_as_req_bytes, pk_as_req_of}
-use Rattle.pkinit_logins.specs.Agreements.{AreAgreeing, IsGrantedAgreement, Signs}
+use Rattle.pkinit_logins.specs.Agreements.{AreAgreeing, IsGrantedAgreement, IsKeyInfoText, IsPackText, Signs}
 use Rattle.pkinit_logins.specs.Honest.{IsHonestRequest}
 use Rattle.pkinit_logins.proofs.Rows.{by_need, by_refuse, same_octets}
 use Rattle.pkinit_logins.proofs.Trusting.{is_trusted}
@@ -47,16 +49,16 @@ use Rattle.pkinit_logins.proofs.Wholeness.{key_element}
 use Rattle.pkinit_logins.proofs.Writable.{some_written}
 
 -- the request is read back
-written_request : (signed bytes : Bytes) → bytes ≡ pk_as_req_bytes (pk_as_req_of signed) → realm.IsPaPkAsReq bytes (pk_as_req_of signed)
+pub written_request : (signed bytes : Bytes) → bytes ≡ pk_as_req_bytes (pk_as_req_of signed) → realm.IsPaPkAsReq bytes (pk_as_req_of signed)
 unfolding realm.IsPaPkAsReq pk_as_req_bytes
 written_request signed bytes e = ((tt, tt), e)
 
 -- the AuthPack at a moment
-abbrev pack_of : KdcReqBody → Micros → GeneralizedTime → Raw → AuthPack Raw
+abbrev pub pack_of : KdcReqBody → Micros → GeneralizedTime → Raw → AuthPack Raw
 pack_of body moment second value = client.auth_pack_of (client.authenticator_of body second (moment % 1000000)) value
 
 -- is read back
-written_pack : (body : KdcReqBody) (moment : Micros) (second : GeneralizedTime) (value : Raw) → IsWhole (raw_tree value)
+pub written_pack : (body : KdcReqBody) (moment : Micros) (second : GeneralizedTime) (value : Raw) → IsWhole (raw_tree value)
     → realm.IsAuthPack (pack_bytes body moment second value) (pack_of body moment second value)
 unfolding realm.IsAuthPack client.auth_pack_bytes
 written_pack body moment second value whole =
@@ -82,14 +84,13 @@ unfolding realm.time_in
 written_time body moment second value e = moment_told moment _ e
 
 written_digest : (body : KdcReqBody) (moment : Micros) (second : GeneralizedTime) (value : Raw) → realm.covers body (pack_of body moment second value) ≡ true
-unfolding realm.body_bytes client.body_bytes
-written_digest body moment second value = same_octets (sha1 (realm.body_bytes body))
+written_digest body moment second value = same_octets (sha1 (body_bytes body))
 
 -- what the client asks for
-abbrev asked_for : KdcReqBody → Micros → Raw → AskedRecord
+abbrev pub asked_for : KdcReqBody → Micros → Raw → AskedRecord
 asked_for body moment value = record { value = value; time = moment; nonce = body.nonce.0 }
 
-asks : (body : KdcReqBody) (moment : Micros) (second : GeneralizedTime) (value : Raw) → IsSecondOf moment second
+pub asks : (body : KdcReqBody) (moment : Micros) (second : GeneralizedTime) (value : Raw) → IsSecondOf moment second
     → (asked_by body (pack_of body moment second value)).gives (Ok (asked_for body moment value))
 asks body moment second value e =
     by_need {A = Micros} {T = AskedRecord} {E = Code} (realm.time_in (pack_of body moment second value)) KDC_ERR_PREAUTH_FAILED _ moment (Ok (asked_for body moment value))
@@ -97,12 +98,13 @@ asks body moment second value e =
     (by_refuse {T = AskedRecord} {E = Code} (not (realm.covers body (pack_of body moment second value))) KDC_ERR_PREAUTH_FAILED _ (Ok (asked_for body moment value))
     (ap not (written_digest body moment second value)) refl)
 
--- the realm signs something over each KDCDHKeyInfo
-written_over : (own other : KeysRecord) (certificate : Bytes) (read : ReadRecord) → IsCertificate certificate read → Signs own other read.certificate
-    → (content : Bytes) → (bytes : Bytes) × IsWritten own.sign dh_key_data content certificate bytes
-written_over own other certificate read reads signs content =
-    let made = signs (signed_bytes dh_key_data content) in
-    some_written own.sign dh_key_data content certificate read.certificate reads.count made.0 refl reads.spelled made.1 made.2
+-- the realm signs something over its KDCDHKeyInfo
+written_over : (own other : KeysRecord) (certificate : Bytes) (read : ReadRecord) (value : Bits) (nonce : ℤ) → IsCertificate certificate read
+    → Signs own other read.certificate (IsKeyInfoText value nonce) → (bytes : Bytes) × IsWritten own.sign dh_key_data (key_info_bytes (key_info_of value nonce)) certificate bytes
+written_over own other certificate read value nonce reads signs =
+    let text = signed_bytes dh_key_data (key_info_bytes (key_info_of value nonce)) in
+    let made = signs text refl in
+    some_written own.sign dh_key_data (key_info_bytes (key_info_of value nonce)) certificate read.certificate reads.count made.0 refl reads.spelled made.1 (own.encodes text made.0 made.1)
 
 -- so it has a reply
 replies : (keys : KeysRecord) (own : Bytes) (nonce : ℤ) (words : Random) (element : Raw) (key : AgreementPublicKey) (signed : Bytes)
@@ -134,17 +136,24 @@ module _ (client_keys realm_keys : KeysRecord) (certificate : Bytes) (client_mom
   -- what the realm signs, with the nonce of the body
   reply_signed : (signed : Bytes) × IsWritten realm_keys.sign dh_key_data (key_info_bytes (key_info_of agreeing.realm_key.subject_public_key call.body.nonce.0)) honest.own signed
   reply_signed =
-      written_over realm_keys client_keys honest.own honest.read honest.reads honest.signs
-      (key_info_bytes (key_info_of agreeing.realm_key.subject_public_key call.body.nonce.0))
+      written_over realm_keys client_keys honest.own honest.read agreeing.realm_key.subject_public_key call.body.nonce.0 honest.reads honest.signs
 
   abbrev agreed : AgreedRecord
   agreed = record { secret = agreeing.secret; reply = dh_reply_bytes (dh_reply_of reply_signed.0) }
+
+  -- the client signs the AuthPack with its public value
+  pack_text : (second : GeneralizedTime) (value : Raw) → IsSecondOf client_moment second → client_keys.public_value client_words ≡ Some value
+      → IsPackText call.body client_moment agreeing.client_element (signed_bytes client.auth_data (pack_bytes call.body client_moment second value))
+  pack_text second value of_moment is =
+      let some : Some value ≡ Some agreeing.client_element = sym is ∙ agreeing.client_value in
+      let same : value ≡ agreeing.client_element = cc (some) in
+      (second, of_moment, ap (λ (v : Raw). signed_bytes client.auth_data (pack_bytes call.body client_moment second v)) same)
 
   -- a client has a request
   pub asked : IsNoPkAsReq client_keys certificate call.body client_moment client_words → ⊥
   asked (inl none) = let never : None ≡ Some agreeing.client_element = sym none ∙ agreeing.client_value in absurd (cc (never))
   asked (inr (inl unsigned)) =
-      let made = honest.client.signs (signed_bytes client.auth_data (pack_bytes call.body client_moment unsigned.second unsigned.value)) in
+      let made = honest.client.signs (signed_bytes client.auth_data (pack_bytes call.body client_moment unsigned.second unsigned.value)) (pack_text unsigned.second unsigned.value unsigned.of_moment unsigned.is_value) in
       let never : None ≡ Some made.0 = sym unsigned.unsigned ∙ made.1 in
       absurd (cc (never))
   asked (inr (inr none)) = none honest.client.read.certificate honest.client.accepts.reads.count honest.client.accepts.reads.spelled
@@ -169,7 +178,8 @@ module _ (client_keys realm_keys : KeysRecord) (certificate : Bytes) (client_mom
           asks call.body client_moment is.second is.value is.of_moment,
           inl (
             tt,
-            inl (tt, is_trusted client_keys realm_keys client.auth_data (pack_bytes call.body client_moment is.second is.value) certificate is.signed is.is_signed judging.expected honest.client, refl),
+            inl (tt, is_trusted client_keys realm_keys client.auth_data (pack_bytes call.body client_moment is.second is.value) certificate is.signed is.is_signed judging.expected
+                (IsPackText call.body client_moment agreeing.client_element) honest.client (pack_text is.second is.value is.of_moment is.is_value), refl),
             agrees realm_keys judging (asked_for call.body client_moment is.value) agreeing.secret (dh_reply_bytes (dh_reply_of reply_signed.0)) honest.near value_agrees
                 (replies realm_keys honest.own call.body.nonce.0 call.words agreeing.realm_element agreeing.realm_key reply_signed.0 agreeing.realm_value agreeing.is_realm_key reply_signed.1),
           ),

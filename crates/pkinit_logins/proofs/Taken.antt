@@ -19,19 +19,19 @@ use Rattle.pkinit_clients.specs.Faults.{Secret}
 use Rattle.pkinit_clients.specs.Replies.{IsKdcDhKeyInfo, IsPaPkAsRep, is_dh_key_data, of_content, of_key_data, secret_of}
 use Rattle.pkinit_clients.specs.declared.fault.ReplyFault.{ReplyFault}
 use Rattle.pkinit_clients.specs.declared.fault.ReplyFault.TheVariants.{NotTrusted}
-use Rattle.pkinit_logins.specs.Agreements.{AreAgreeing, IsAgreedReply}
+use Rattle.pkinit_logins.specs.Agreements.{AreAgreeing, IsAgreedReply, IsKeyInfoText}
 use Rattle.pkinit_logins.specs.Honest.{IsHonestReply}
 use Rattle.pkinit_logins.proofs.Rows.{by_need, by_refuse}
 use Rattle.pkinit_logins.proofs.Trusting.{is_trusted}
 use Rattle.pkinit_logins.proofs.Wholeness.{key_bits}
 
 -- the reply is read back
-written_reply : (signed bytes : Bytes) → bytes ≡ dh_reply_bytes (dh_reply_of signed) → IsPaPkAsRep bytes (dh_reply_of signed)
+pub written_reply : (signed bytes : Bytes) → bytes ≡ dh_reply_bytes (dh_reply_of signed) → IsPaPkAsRep bytes (dh_reply_of signed)
 unfolding IsPaPkAsRep dh_reply_bytes
 written_reply signed bytes e = (((tt, tt), tt), e)
 
 -- so is what the realm signed
-written_info : (value : Bits) (nonce : ℤ) → IsWhole (leaf (is_bit_string value) 3 (bit_content value))
+pub written_info : (value : Bits) (nonce : ℤ) → IsWhole (leaf (is_bit_string value) 3 (bit_content value))
     → IsKdcDhKeyInfo (key_info_bytes (key_info_of value nonce)) (key_info_of value nonce)
 unfolding IsKdcDhKeyInfo key_info_bytes
 written_info value nonce whole = ((whole-wrapped 160 (leaf (is_bit_string value) 3 (bit_content value)) whole, ((tt, tt), tt)), refl)
@@ -66,7 +66,8 @@ module _ (client_keys realm_keys : KeysRecord) (own realm_words : Bytes) (asked 
   given_by_content : (of_content client_keys asked parts).gives (Ok agreeing.secret)
   given_by_content =
       by_refuse {T = Bytes} {E = ReplyFault} (not (is_dh_key_data parts)) NotTrusted _ (Ok agreeing.secret) (ap not (written_type realm_keys.sign content own is.signed is.is_signed))
-      (inl (tt, inl (tt, is_trusted realm_keys client_keys dh_key_data content own is.signed is.is_signed (expected_realm asked) honest.realm, refl), given_by_info))
+      (inl (tt, inl (tt, is_trusted realm_keys client_keys dh_key_data content own is.signed is.is_signed (expected_realm asked)
+      (IsKeyInfoText agreeing.realm_key.subject_public_key (pos asked.nonce)) honest.realm refl, refl), given_by_info))
 
   given : (secret_of client_keys asked reply).gives (Ok agreeing.secret)
   unfolding secret_of

@@ -31,16 +31,17 @@ module _ (own other : KeysRecord) (content_type content certificate bytes : List
   same_certificate : (read : ReadRecord) → IsCertificate certificate read → read.certificate ≡ w.value
   same_certificate read is = (certificate_impl.ghosts.laws.one read.certificate w.value certificate is.count w.count is.spelled w.certificate_spelled).0
 
-  verified : (holder : Certificate) → Signs own other holder
+  verified : (holder : Certificate) (IsText : List ℕ → Type 0) → Signs own other holder IsText → IsText (signed_bytes content_type content)
       → other.verifies holder.tbs_certificate.subject_public_key_info w.signed.algorithm (signed_bytes content_type content) w.signed.signature ≡ true
-  verified holder signs =
-      let made = signs (signed_bytes content_type content) in
+  verified holder IsText signs this =
+      let made = signs (signed_bytes content_type content) this in
       let some : Some made.0 ≡ Some w.signed = sym made.1 ∙ w.signs in
       let same : made.0 ≡ w.signed = cc (some) in
-      subst (λ (s : Signed). other.verifies holder.tbs_certificate.subject_public_key_info s.algorithm (signed_bytes content_type content) s.signature ≡ true) same made.3
+      subst (λ (s : Signed). other.verifies holder.tbs_certificate.subject_public_key_info s.algorithm (signed_bytes content_type content) s.signature ≡ true) same made.2
 
-  is_signed : (read : ReadRecord) → IsCertificate certificate read → Signs own other read.certificate → (signed_by other read.certificate judged).gives (Ok tt)
-  is_signed read is signs =
+  is_signed : (read : ReadRecord) (IsText : List ℕ → Type 0) → IsCertificate certificate read → Signs own other read.certificate IsText
+      → IsText (signed_bytes content_type content) → (signed_by other read.certificate judged).gives (Ok tt)
+  is_signed read IsText is signs this =
       let same = same_certificate read is in
       by_refuse {T = Unit {0}} {E = TrustRefusal} (not (pointwise nat_eq (name_bytes read.certificate.tbs_certificate.issuer) (name_bytes w.value.tbs_certificate.issuer))) InvalidSignature _ (Ok tt)
       (no_others (name_bytes read.certificate.tbs_certificate.issuer) (name_bytes w.value.tbs_certificate.issuer) (ap (λ (c : Certificate). name_bytes c.tbs_certificate.issuer) same))
@@ -51,9 +52,10 @@ module _ (own other : KeysRecord) (content_type content certificate bytes : List
       (by_refuse {T = Unit {0}} {E = TrustRefusal} (not (pointwise nat_eq (sha256 content) (sha256 content))) InvalidSignature _ (Ok tt) (no_others (sha256 content) (sha256 content) refl)
       (by_refuse {T = Unit {0}} {E = TrustRefusal}
       (not (other.verifies read.certificate.tbs_certificate.subject_public_key_info w.signed.algorithm (signed_bytes content_type content) w.signed.signature)) InvalidSignature
-      (done (Ok tt)) (Ok tt) (ap not (verified read.certificate signs)) refl)))
+      (done (Ok tt)) (Ok tt) (ap not (verified read.certificate IsText signs this)) refl)))
 
-  -- so is all that it signs
-  pub is_trusted : (expected : ExpectedRecord) → IsTrusted own other expected certificate → (trusted other expected judged).gives (Ok tt)
-  is_trusted expected trusted_one =
-      inl (trusted_one.read, trusted_one.accepts.reads, inl (tt, trusted_one.accepts.accepts, is_signed trusted_one.read trusted_one.accepts.reads trusted_one.signs))
+  -- so is what it signs
+  pub is_trusted : (expected : ExpectedRecord) (IsText : List ℕ → Type 0) → IsTrusted own other expected certificate IsText → IsText (signed_bytes content_type content)
+      → (trusted other expected judged).gives (Ok tt)
+  is_trusted expected IsText trusted_one this =
+      inl (trusted_one.read, trusted_one.accepts.reads, inl (tt, trusted_one.accepts.accepts, is_signed trusted_one.read IsText trusted_one.accepts.reads trusted_one.signs this))

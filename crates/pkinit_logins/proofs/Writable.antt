@@ -1,11 +1,14 @@
 -- Who signs writes something: there is signed content around each certificate.
-use Rattle.std.proofs.Common.{◌≡◌, ℕ, List, Option, Some, refl}
+use Rattle.std.proofs.Common.{◌≡◌, ℕ, List, Option, Some, refl, subst}
+use Rattle.asn1_der.specs.Tree.{Tree, IsWhole}
 use Rattle.asn1_leaves.specs.ObjectIdentifier.{IsObjectIdentifier}
 use Rattle.x509_algorithms.specs.contracts.algorithm_identifier.AlgorithmIdentifierSpelled.TheImpl as algorithm_impl
+use Rattle.x509_algorithms.specs.declared.algorithm_identifier.AlgorithmIdentifier.{AlgorithmIdentifier}
 use Rattle.x509_certificates.specs.contracts.certificate.CertificateSpelled.TheImpl as certificate
 use Rattle.x509_certificates.specs.declared.certificate.Certificate.{Certificate}
 use Rattle.x509_oids.specs.Identifiers as oids
 use Rattle.x509_parts.specs.contracts.raw_algorithm_identifier.RawAlgorithmIdentifierSpelled.TheImpl as raw_spelled
+use Rattle.key_functions.specs.Encodings.{HasEncoding}
 use Rattle.key_functions.specs.declared.functions.Signed.{Signed}
 use Rattle.cms_signed_data.specs.PartSpellings.{PartSpellings}
 use Rattle.cms_signed_data.specs.contracts.form.ContentInfoOfForm.TheImpl as of_form
@@ -14,7 +17,6 @@ use Rattle.cms_signed_data.specs.declared.signer_info.SignerInfo.{SignerInfo}
 use Rattle.cms_signed_content.proofs.AroundLemmas.{data_built, info_built}
 use Rattle.cms_signed_content.proofs.WholeLemmas.{attributes_whole, id_whole, oid_whole}
 use Rattle.cms_signed_content.specs.Written.{IsWritten, attributes_of, encapsulated_of, id_of, sha256_algorithm, signed_bytes, signer_of}
-use Rattle.pkinit_logins.specs.Agreements.{HasEncoding}
 
 abbrev p : PartSpellings
 p = of_form.ghosts.spellings
@@ -36,7 +38,7 @@ signer_spelled : (content_type content given : List ℕ) (value : Certificate) (
     → certificate.ghosts.spells value given n → HasEncoding signed.algorithm
     → (bytes : List ℕ) × signer_info.ghosts.spells (signer_of (id_of value) (attributes_of content_type content) signed) bytes 0
 signer_spelled content_type content given value n signed valid is encoded =
-    let algorithm = algorithm_impl.ghosts.laws.whole signed.algorithm encoded.0 0 encoded.1 in (
+    let algorithm = subst (λ (t : AlgorithmIdentifier → Tree). IsWhole (t signed.algorithm)) algorithm_impl.ghosts.written_is encoded.1.0 in (
       _,
       signer_info.ghosts.laws.strict (signer_of (id_of value) (attributes_of content_type content) signed)
           (tt, (id_whole value given n is, ((tt, (tt, tt)), (attributes_whole content_type content valid, (algorithm, (tt, tt)))))),

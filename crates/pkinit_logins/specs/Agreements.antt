@@ -1,44 +1,54 @@
 -- What client and realm have to have in common to agree on a secret by certificate, and what they agree on (RFC 4556, section 3.2).
 use Rattle.std.specs.Prelude.{◌≡◌, ℤ, true, Some, Result, Ok}
+use Rattle.asn1_leaves.specs.declared.date.GeneralizedTime.{GeneralizedTime}
 use Rattle.asn1_elements.specs.Raw.{Raw}
 use Rattle.picky_asn1.specs.BitString.{Bits}
 use Rattle.picky_asn1.specs.Bytes.{Bytes}
+use Rattle.krb_moments.specs.SecondOf.{IsSecondOf}
+use Rattle.krb_moments.specs.Units.{Micros}
 use Rattle.krb_types.specs.Refusals.{Code}
+use Rattle.krb_messages.specs.declared.messages.kdc_req_body.KdcReqBody.{KdcReqBody}
 use Rattle.krb_pkinit.specs.Calls.{AgreedRecord}
-use Rattle.x509_algorithms.specs.contracts.algorithm_identifier.AlgorithmIdentifierSpelled.TheImpl as algorithm_impl
-use Rattle.x509_algorithms.specs.declared.algorithm_identifier.AlgorithmIdentifier.{AlgorithmIdentifier}
 use Rattle.x509_certificates.specs.declared.certificate.Certificate.{Certificate}
 use Rattle.key_functions.specs.KeyFunctions.{KeysRecord}
 use Rattle.key_functions.specs.KeyFunctions.TheirValue.{ValueBits, WholeValue}
 use Rattle.key_functions.specs.declared.functions.Signed.{Signed}
-use Rattle.cms_signed_content.specs.Written.{IsWritten}
+use Rattle.cms_signed_content.specs.Written.{IsWritten, signed_bytes}
 use Rattle.pkinit_trust.specs.Accepted.{accepted}
 use Rattle.pkinit_trust.specs.Certificates.{IsCertificate, ReadRecord}
 use Rattle.pkinit_trust.specs.Expected.{ExpectedRecord}
 use Rattle.pkinit_replies.specs.PublicKeys.{IsPublicKey}
 use Rattle.pkinit_replies.specs.Replies.{dh_key_data, dh_reply_bytes, dh_reply_of, key_info_bytes, key_info_of}
 use Rattle.pkinit_replies.specs.declared.public_key.AgreementPublicKey.{AgreementPublicKey}
+use Rattle.pkinit_clients.specs.AuthPacks.{auth_data}
+use Rattle.pkinit_clients.specs.Requests.{pack_bytes}
 
 -- the bytes are a certificate, which is accepted as that of the expected principal (RFC 5280, section 6.1.3)
 pub record IsAcceptedFor (keys : KeysRecord) (expected : ExpectedRecord) (certificate : Bytes) (read : ReadRecord) : Type 0 where
   pub reads : IsCertificate certificate read
   pub accepts : (accepted keys expected read).gives (Ok tt)
 
--- the algorithm has a DER encoding: its object identifiers are such
-abbrev pub HasEncoding : AlgorithmIdentifier → Type 0
-HasEncoding algorithm = (bytes : Bytes) × algorithm_impl.ghosts.spells algorithm bytes 0
+-- what a client signs: the signed attributes over its AuthPack, for a request with this body at the moment, with this public value (RFC
+-- 4556, section 3.2.1)
+abbrev pub IsPackText : KdcReqBody → Micros → Raw → Bytes → Type 0
+IsPackText body moment value text =
+    (second : GeneralizedTime) × IsSecondOf moment second × (text ≡ signed_bytes auth_data (pack_bytes body moment second value))
 
--- the party signs each text, by an algorithm that can be written, and the other one verifies it under the holder's key
-abbrev pub Signs : KeysRecord → KeysRecord → Certificate → Type 0
-Signs own other holder =
-    (text : Bytes) → (made : Signed) × (own.sign text ≡ Some made) × HasEncoding made.algorithm
+-- what a realm signs: the signed attributes over KDCDHKeyInfo, with this public value and this nonce (RFC 4556, section 3.2.3.1)
+abbrev pub IsKeyInfoText : Bits → ℤ → Bytes → Type 0
+IsKeyInfoText value nonce text = text ≡ signed_bytes dh_key_data (key_info_bytes (key_info_of value nonce))
+
+-- the party signs each such text, and the other one verifies it under the holder's key
+abbrev pub Signs : KeysRecord → KeysRecord → Certificate → (Bytes → Type 0) → Type 0
+Signs own other holder IsText =
+    (text : Bytes) → IsText text → (made : Signed) × (own.sign text ≡ Some made)
     × (other.verifies holder.tbs_certificate.subject_public_key_info made.algorithm text made.signature ≡ true)
 
--- the other party accepts the certificate as that of the expected principal, and its holder signs for it
-pub record IsTrusted (own other : KeysRecord) (expected : ExpectedRecord) (certificate : Bytes) : Type 0 where
+-- the other party accepts the certificate as that of the expected principal, and its holder signs such texts for it
+pub record IsTrusted (own other : KeysRecord) (expected : ExpectedRecord) (certificate : Bytes) (IsText : Bytes → Type 0) : Type 0 where
   pub read : ReadRecord
   pub accepts : IsAcceptedFor other expected certificate read
-  pub signs : Signs own other read.certificate
+  pub signs : Signs own other read.certificate IsText
 
 -- each party has a public key, by its random bytes, and both come to one secret by the other's. The client sends the whole key,
 -- and the realm its bits alone (RFC 4556, sections 3.2.1 and 3.2.3.1)

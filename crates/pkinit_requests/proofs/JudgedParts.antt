@@ -7,6 +7,7 @@ use Rattle.asn1_der.proofs.Spelling.{der-wrapped, wrapped-whole}
 use Rattle.asn1_elements.specs.Parts.{IsPart}
 use Rattle.asn1_paths.specs.PathLaws.{AreSome, IsElement, LeadsTo, at_front, go_on, held_at, in_element, some_more}
 use Rattle.picky_asn1.specs.Bytes.{Bytes}
+use Rattle.krb_kdc_requests.proofs.RequestParts.{within}
 use Rattle.cms_signed_content.specs.Parts.{attributes_place, certificate_place}
 use Rattle.cms_signed_content.specs.SignedContents.{IsSignedContent}
 use Rattle.cms_signed_content.specs.SignedParts.{SignedParts}
@@ -15,11 +16,6 @@ use Rattle.pkinit_messages.specs.declared.pa_pk_as_req.PaPkAsReq.{PaPkAsReq}
 use Rattle.pkinit_messages.specs.contracts.external_principal_identifier.ExternalPrincipalIdentifierTagged.TheImpl as identifier_impl
 use Rattle.pkinit_trust.specs.Certificates.{IsCertificate, ReadRecord}
 use Rattle.pkinit_requests.specs.AuthPacks.{IsPaPkAsReq}
-
--- a part of a part
-parts_join : (a path b further c : List ℕ) → IsPart a path b → IsPart b further c → IsPart a (path ++ further) c
-parts_join a [] b further c is then = subst (λ (l : List ℕ). IsPart l further c) is then
-parts_join a (n ∷ path) b further c is then = (is.0, is.1, is.2, is.3, parts_join is.1 path b further c is.4 then)
 
 -- a SEQUENCE of an OCTET STRING under [0], and two optional fields behind it
 module _ (octets : List ℕ) {A B : Type 0} (t : A → Tree) (u : B → List ℕ) where
@@ -64,4 +60,4 @@ module _ (padata : Bytes) (request : PaPkAsReq) (content : SignedParts) (is : Is
   pub signed_part : (read : ReadRecord) → IsCertificate content.certificate read → IsPart padata (0 ∷ 0 ∷ (certificate_place ++ 0 ∷ [])) read.signed
   signed_part read certificate =
       content_leads (certificate_place ++ 0 ∷ []) read.signed
-      (parts_join request.signed_auth_pack.0 certificate_place content.certificate (0 ∷ []) read.signed signed.certificate_at certificate.part)
+      (within certificate_place (0 ∷ []) request.signed_auth_pack.0 content.certificate read.signed signed.certificate_at certificate.part)

@@ -5,7 +5,7 @@ use Rattle.std.specs.Option.{option_map}
 use Rattle.std.specs.Cmp.Lexicographic.{pointwise}
 use Rattle.std.proofs.Common.{sym, ◌∙◌}
 use Rattle.sha1.specs.Sha1.{sha1}
-use Rattle.asn1_der.specs.Tree.{Writes, der}
+use Rattle.asn1_der.specs.Tree.{Writes}
 use Rattle.asn1_der.specs.Tagged.{tagged_tree}
 use Rattle.asn1_der.proofs.Tagged.{tagged-injective}
 use Rattle.asn1_elements.specs.Raw.{Raw}
@@ -14,8 +14,8 @@ use Rattle.picky_asn1.specs.GeneralizedTime.{seconds_of}
 use Rattle.decision_tables.specs.One.{IsSole}
 use Rattle.krb_moments.specs.Times.{moment_at}
 use Rattle.krb_moments.specs.Units.{Micros}
-use Rattle.krb_messages.specs.Trees.{kdc_req_body_tree}
 use Rattle.krb_messages.specs.declared.messages.kdc_req_body.KdcReqBody.{KdcReqBody}
+use Rattle.krb_kdc_requests.specs.Requests.{body_bytes}
 use Rattle.pkinit_messages.specs.declared.auth_pack.AuthPack.{AuthPack}
 use Rattle.pkinit_messages.specs.declared.pa_pk_as_req.PaPkAsReq.{PaPkAsReq}
 use Rattle.pkinit_messages.specs.contracts.pa_pk_as_req.PaPkAsReqTagged.TheImpl as request_impl
@@ -50,10 +50,6 @@ value_in pack = option_map (λ tagged. tagged.0) pack.client_public_value.0
 -- the client's time, or none where its microseconds are no part of a second
 unfoldable pub time_in : AuthPack Raw → Option Micros
 time_in pack = moment_at (seconds_of pack.pk_authenticator.0.ctime.0.0) pack.pk_authenticator.0.cusec.0
-
--- the one encoding of a request's body
-unfoldable pub body_bytes : KdcReqBody → Bytes
-body_bytes body = der (kdc_req_body_tree body)
 
 -- the checksum is there, and is the SHA-1 digest of the bytes
 abbrev pub is_sha1_of : Bytes → Option Bytes → Bool

@@ -2,7 +2,8 @@
 ghost use Rattle.std.specs.Prelude.{◌≡◌, IfOk};
 ghost use Rattle.std.specs.Option.{option_copied, option_map};
 ghost use Rattle.krb_types.specs.Refusals.{IsJudged};
-ghost use Rattle.pkinit_requests.specs.AuthPacks.{body_bytes, covers, is_sha1_of, time_in, value_in};
+ghost use Rattle.krb_kdc_requests.specs.Requests.{body_bytes};
+ghost use Rattle.pkinit_requests.specs.AuthPacks.{covers, is_sha1_of, time_in, value_in};
 ghost use Rattle.pkinit_requests.specs.PkinitTable.{asked_by};
 
 use crate::parts::Asked;
@@ -84,7 +85,7 @@ fn is_sha1_of(bytes: &[u8], checksum: Option<&OctetStringAsn1>) -> bool
 }
 
 // The body's one encoding.
-#[tactic(auto, unfolding(crate::specs::AuthPacks::body_bytes))]
+#[tactic(auto, unfolding(krb_kdc_requests::specs::Requests::body_bytes))]
 fn body_bytes(alloc: Global, body: &KdcReqBody) -> Result<Vec<u8>, AllocError>
     ensures { IfOk result (λ bytes. bytes.items ≡ body_bytes body.now) }
 {

@@ -2,7 +2,7 @@
 
 use anyhow::bail;
 use asn1_paths::part_at;
-use krb_realm::Anchor;
+use krb_realm::{Anchor, SignatureAlgorithm};
 use picky_asn1_der::Asn1RawDer;
 use std::alloc::Global;
 use test_keys::{DigestKeys, KnownKey};
@@ -34,7 +34,7 @@ struct KeyTexts<'a> {
 #[derive(Drop)]
 pub(crate) struct RowKeys {
     pub(crate) verifies: bool,
-    algorithm: Option<AlgorithmIdentifier>,
+    algorithm: Option<SignatureAlgorithm>,
     public_value: Option<Asn1RawDer>,
     secret: Option<Vec<u8>>,
 }
@@ -106,12 +106,13 @@ fn with_word<'a>(texts: KeyTexts<'a>, word: &'a str) -> anyhow::Result<KeyTexts<
 fn algorithm_of(
     alloc: Global,
     digits: Option<&str>,
-) -> anyhow::Result<Option<AlgorithmIdentifier>> {
+) -> anyhow::Result<Option<SignatureAlgorithm>> {
     let Some(digits) = digits else {
         return Ok(None);
     };
     let spelled = hex::decode(alloc, digits)?;
-    Ok(Some(from_bytes(alloc, &spelled)?))
+    let algorithm: AlgorithmIdentifier = from_bytes(alloc, &spelled)?;
+    Ok(Some(SignatureAlgorithm::new(algorithm)))
 }
 
 fn public_value_of(alloc: Global, digits: Option<&str>) -> anyhow::Result<Option<Asn1RawDer>> {

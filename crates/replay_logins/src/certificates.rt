@@ -8,7 +8,7 @@ use crate::take::keep_client;
 use crate::words::{bytes_of, name_of, suite_of, text_of};
 use crate::{ask, realms, take};
 use anyhow::{Context, bail};
-use krb_realm::{Anchor, Client};
+use krb_realm::{Anchor, Client, SignatureAlgorithm};
 use picky_asn1_der::Asn1RawDer;
 use std::alloc::Global;
 use test_keys::{DigestKeys, KnownKey};
@@ -27,7 +27,7 @@ pub(crate) struct Certified {
     /// The holders of the certificates of the anchor, the client and the realm.
     holders: Vec<Anchor>,
     /// The algorithm that signatures name.
-    algorithm: AlgorithmIdentifier,
+    algorithm: SignatureAlgorithm,
     public_value: Asn1RawDer,
     /// The client's function that runs out of memory, and the realm's.
     client_short: Option<Taker>,
@@ -143,7 +143,7 @@ fn certificates(stage: &mut Stage, alloc: Global, words: &[&str]) -> anyhow::Res
     drop(
         stage.certified.replace(Certified {
             holders,
-            algorithm,
+            algorithm: SignatureAlgorithm::new(algorithm),
             public_value,
             client_short: None,
             realm_short: None,

@@ -189,6 +189,9 @@ fn is_signer(
     certificate: &Certificate,
     judged: &JudgedContent<'_>,
 ) -> anyhow::Result<bool> {
-    let keys = GivenSignature { given: None };
+    let keys = GivenSignature {
+        algorithm: None,
+        signature: &[],
+    };
     Ok(code_of(check_signer(alloc, &keys, certificate, judged))?.is_none())
 }

@@ -3,9 +3,8 @@
 use crate::lines::bytes_of;
 use anyhow::bail;
 use cms_signed_content::{SignedContent, SignedFault};
-use key_functions::{KeyFunctions, Signed};
+use key_functions::{KeyFunctions, SignatureAlgorithm};
 use picky_asn1::oid::ObjectIdentifier;
-use picky_asn1::wrapper::OctetStringAsn1;
 use std::alloc::Global;
 use test_keys::{GivenSignature, signer};
 use x509_algorithms::AlgorithmIdentifier;
@@ -31,7 +30,11 @@ pub(crate) struct WrittenRow<'a> {
 /// Whether what is written is what the row says.
 pub(crate) fn is_written(alloc: Global, row: &WrittenRow<'_>) -> anyhow::Result<bool> {
     if row.keys == "nosign" {
-        return is_written_by(alloc, row, &GivenSignature { given: None });
+        let keys = GivenSignature {
+            algorithm: None,
+            signature: &[],
+        };
+        return is_written_by(alloc, row, &keys);
     }
     match row.keys.split_once(" signature=") {
         Some((algorithm, signature)) => is_written_around(alloc, row, algorithm, signature),
@@ -46,16 +49,14 @@ fn is_written_around(
     algorithm: &str,
     signature: &str,
 ) -> anyhow::Result<bool> {
-    let signature = OctetStringAsn1::from(bytes_of(alloc, signature)?);
-    let signed = Signed {
-        algorithm: algorithm_of(alloc, algorithm)?,
-        signature,
-    };
+    let signature = bytes_of(alloc, signature)?;
+    let algorithm = algorithm_of(alloc, algorithm)?;
     let keys = GivenSignature {
-        given: Some(&signed),
+        algorithm: Some(&algorithm),
+        signature: &signature,
     };
     let written = is_written_by(alloc, row, &keys);
-    drop(signed);
+    drop(algorithm);
     written
 }
 
@@ -97,12 +98,13 @@ fn is_wanted(
 }
 
 /// The algorithm that the signer names: that behind `alg=`, or else sha256WithRSAEncryption.
-fn algorithm_of(alloc: Global, keys: &str) -> anyhow::Result<AlgorithmIdentifier> {
-    match keys.strip_prefix("alg=") {
+fn algorithm_of(alloc: Global, keys: &str) -> anyhow::Result<SignatureAlgorithm> {
+    let algorithm: AlgorithmIdentifier = match keys.strip_prefix("alg=") {
         Some(digits) => {
             let spelled = hex::decode(alloc, digits)?;
-            Ok(from_bytes(alloc, &spelled)?)
+            from_bytes(alloc, &spelled)?
         }
-        None => Ok(AlgorithmIdentifier::new_sha256_with_rsa_encryption(alloc)?),
-    }
+        None => AlgorithmIdentifier::new_sha256_with_rsa_encryption(alloc)?,
+    };
+    Ok(SignatureAlgorithm::new(algorithm))
 }

@@ -2,7 +2,7 @@
 ghost use Rattle.std.specs.Prelude.{◌≡◌, [], None, Some, IfOk};
 ghost use Rattle.test_keys.specs.DigestKeys.{digest_functions, digest_of, functions_of, is_by};
 
-use key_functions::{KeyFunctions, Signed, Theirs};
+use key_functions::{KeyFunctions, SignatureAlgorithm, Signed, Theirs};
 use picky_asn1::wrapper::OctetStringAsn1;
 use picky_asn1_der::Asn1RawDer;
 use sha2::{Digest, Sha256};
@@ -25,7 +25,7 @@ pub struct DigestKeys<'a> {
     /// The encoding of the own public key, by which it signs.
     pub own: &'a [u8],
     /// The algorithm that its signatures name. Without one it does not sign.
-    pub algorithm: Option<&'a AlgorithmIdentifier>,
+    pub algorithm: Option<&'a SignatureAlgorithm>,
     /// The keys whose signatures verify.
     pub known: &'a [KnownKey<'a>],
     /// The public value of each agreement. Without one there is none.
@@ -48,7 +48,7 @@ pub fn verifier<'a>(known: &'a [KnownKey<'a>]) -> DigestKeys<'a>
 }
 
 /// A party that signs by the key of this encoding and names this algorithm. It knows no key, and agrees on none.
-pub fn signer<'a>(own: &'a [u8], algorithm: &'a AlgorithmIdentifier) -> DigestKeys<'a>
+pub fn signer<'a>(own: &'a [u8], algorithm: &'a SignatureAlgorithm) -> DigestKeys<'a>
     ensures { functions_of result ≡ digest_functions own.now (Some algorithm.now) [] None None }
 {
     DigestKeys {
@@ -99,7 +99,7 @@ impl<'a> KeyFunctions for DigestKeys<'a> {
             return Ok(None);
         };
         let signature = Vec::from_slice(alloc, digest_of(self.own, signed).as_slice())?;
-        let algorithm = algorithm.clone()?;
+        let algorithm = algorithm.identifier().clone()?;
         Ok(Some(Signed {
             algorithm,
             signature: OctetStringAsn1::from(signature),
@@ -135,15 +135,17 @@ impl<'a> KeyFunctions for DigestKeys<'a> {
 /// A party to which every signature is valid, and which always signs by the given signature. It agrees on no keys.
 #[derive(Clone, Copy)]
 pub struct GivenSignature<'a> {
-    /// The signature. Without one it does not sign.
-    pub given: Option<&'a Signed>,
+    /// The algorithm that its signatures name. Without one it does not sign.
+    pub algorithm: Option<&'a SignatureAlgorithm>,
+    /// The signature.
+    pub signature: &'a [u8],
 }
 
 impl<'a> KeyFunctions for GivenSignature<'a> {
-    ghost use Rattle.std.specs.Option.{option_map};
+    ghost use Rattle.std.specs.Option.{option_copied};
     ghost use Rattle.test_keys.specs.DigestKeys.{given_functions};
 
-    ghost functions = { λ keys. given_functions (option_map (λ given. given.now) keys.given) };
+    ghost functions = { λ keys. given_functions (option_copied keys.algorithm) keys.signature.now };
 
     fn verifies(
         &self,
@@ -155,12 +157,12 @@ impl<'a> KeyFunctions for GivenSignature<'a> {
         true
     }
 
-    fn sign(&self, _alloc: Global, _signed: &[u8]) -> Result<Option<Signed>, AllocError> {
-        let Some(given) = self.given else {
+    fn sign(&self, alloc: Global, _signed: &[u8]) -> Result<Option<Signed>, AllocError> {
+        let Some(algorithm) = self.algorithm else {
             return Ok(None);
         };
-        let signature = given.signature.clone()?;
-        let algorithm = given.algorithm.clone()?;
+        let signature = OctetStringAsn1::new(alloc, self.signature)?;
+        let algorithm = algorithm.identifier().clone()?;
         Ok(Some(Signed {
             algorithm,
             signature,

@@ -6,33 +6,13 @@ use Rattle.krb_realm.proofs.Admitting.{by_credential, no_credential}
 use Rattle.krb_realm.proofs.Exchanges.{exit_of}
 use Rattle.krb_realm.proofs.login.login.Goals as goal
 
-pub ends_with_one_key-requires : goal.ends_with_one_key-requires
-ends_with_one_key-requires g c = record {
-  client_as = c.requires.client_as;
-  client_tgs = c.requires.client_tgs;
-  client_ap = c.requires.client_ap;
-  realm_as = c.requires.realm_as;
-  realm_tgs = c.requires.realm_tgs;
-  service = c.requires.service;
-}
-
 pub returns-in_err-credential-clause-run : goal.returns-in_err-credential-clause-run
 returns-in_err-credential-clause-run g c = λ admitted window.
     no_credential c.args.client.now (g.M.Means.means c.args.means.now) (realm_record c.args.realm.now) (realm_rows c.args.realm.now (g.R.KeyFunctions.functions c.args.keys.now)) c.args.service.now (login_of c.args.input.now) (remembered c.args.service.now admitted) c.args.service.now.seen c.from_residual.result
     c.in_err-credential.field-0.0 c.in_err-credential.ensures
     (exit_of c.from_residual.result c.in_err-credential.field-0.0 c.from_residual.ensures.1) window refl
 
-pub returns-in_err-credential-clause-honest : goal.returns-in_err-credential-clause-honest
-returns-in_err-credential-clause-honest g c = λ admitted window honest authenticated.
-    let run = returns-in_err-credential-clause-run g c admitted window in
-    c.ends_with_one_key.ensures (remembered c.args.service.now admitted) c.from_residual.result run.0 honest authenticated run.1
-
 pub returns-clause-run : goal.returns-clause-run
 returns-clause-run g c = λ admitted window.
     by_credential c.args.client.now (g.M.Means.means c.args.means.now) (realm_record c.args.realm.now) (realm_rows c.args.realm.now (g.R.KeyFunctions.functions c.args.keys.now)) c.args.service.now (login_of c.args.input.now) (remembered c.args.service.now admitted) c.ap_exchange.new.service.seen c.ap_exchange.result
     c.in_ok-credential.credential c.in_ok-credential.ensures (c.ap_exchange.ensures.run admitted window)
-
-pub returns-clause-honest : goal.returns-clause-honest
-returns-clause-honest g c = λ admitted window honest authenticated.
-    let run = returns-clause-run g c admitted window in
-    c.ends_with_one_key.ensures (remembered c.args.service.now admitted) c.ap_exchange.result run.0 honest authenticated run.1

@@ -5,8 +5,18 @@ use Rattle.krb_realm.specs.Clients.{means_by}
 use Rattle.krb_realm.specs.Logins.{realm_rows, remembered}
 use Rattle.krb_realm.specs.Realm.{realm_record}
 use Rattle.krb_realm.proofs.ClientMeans.{same_means}
-use Rattle.krb_realm.proofs.LoginMeans.{ends_as, run_as}
+use Rattle.krb_realm.proofs.LoginMeans.{run_as}
 use Rattle.krb_realm.proofs.login.login_by_certificate.Goals as goal
+
+pub certified_ends_with_one_key-requires : goal.certified_ends_with_one_key-requires
+certified_ends_with_one_key-requires g c = record {
+  client_as = c.requires.client_as;
+  client_tgs = c.requires.client_tgs;
+  client_ap = c.requires.client_ap;
+  realm_as = c.requires.realm_as;
+  realm_tgs = c.requires.realm_tgs;
+  service = c.requires.service;
+}
 
 pub returns-clause-run : goal.returns-clause-run
 returns-clause-run g c = λ admitted window.
@@ -17,9 +27,6 @@ returns-clause-run g c = λ admitted window.
     c.login.new.service.seen (c.login.ensures.run admitted window)
 
 pub returns-clause-honest : goal.returns-clause-honest
-returns-clause-honest g c = λ admitted window.
-    ends_as (realm_record c.args.realm.now) (realm_rows c.args.realm.now (g.R.KeyFunctions.functions c.args.realm_keys.now)) c.args.service.now (remembered c.args.service.now admitted) (login_of c.args.input.now) c.login.result
-    c.asking.result.now c.args.client.now.client c.asking.ensures
-    (means_by (client_by c.means-means.result.held.now) (g.C.KeyFunctions.functions c.means-means.result.keys.now)) (means_of c.args.client.now (g.C.KeyFunctions.functions c.args.client_keys.now))
-    (same_means g.C.KeyFunctions.functions c.means-means.ensures.by c.means-means.ensures.keys)
-    (c.login.ensures.honest admitted window)
+returns-clause-honest g c = λ certificate anchor admitted by window honest.
+    let run = returns-clause-run g c admitted window in
+    c.certified_ends_with_one_key.ensures certificate anchor (remembered c.args.service.now admitted) c.login.result run.0 by honest run.1
