@@ -8,7 +8,7 @@ CRATES := $(sort $(notdir $(patsubst %/src,%,$(wildcard crates/*/src))))
 REALM := out/realm
 
 .DEFAULT_GOAL := help
-.PHONY: help try messages certificate test check gate faults run clients gss bench plant fmt docs budget crate-named bridge-there
+.PHONY: help try messages certificate test check gate faults settings run clients gss bench plant fmt docs budget crate-named bridge-there
 
 help: ## list the targets
 	@sed -n 's/^\([a-z]*\):[^#]*## /\1\t/p' Makefile | expand -t 14
@@ -34,6 +34,10 @@ gate: ## prove everything from nothing, try the wrong bodies, run each test and 
 faults: ## refuse memory to the built programs, request by request, and send the program damaged requests
 	bench/refused_growths.sh
 	bench/hostile.sh
+
+settings: ## say what is wrong with a settings file, without proof: make settings FILE=examples/settings.toml
+	@test -f "$(FILE)" || { echo "make: name a file, as in make settings FILE=examples/settings.toml" >&2; exit 2; }
+	cd crates/krb_realm_check && $(RT) try --data $(notdir $(FILE))=$(abspath $(FILE)) -- $(notdir $(FILE)) </dev/null
 
 run: bridge-there $(REALM)/settings.toml ## serve a realm to stock clients on 127.0.0.1 (PORT=8888); proves the program first
 	printf '%s\n' '[libdefaults]' 'default_realm = EXAMPLE.COM' 'dns_lookup_kdc = false' 'udp_preference_limit = 1' \
