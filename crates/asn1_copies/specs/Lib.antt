@@ -1,0 +1,3 @@
+pub mod Choices
+pub mod Copied
+pub mod Wrapped
