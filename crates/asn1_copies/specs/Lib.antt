@@ -1,3 +1,4 @@
-pub mod Choices
+pub mod ApMessages
 pub mod Copied
+pub mod PkAsReps
 pub mod Wrapped

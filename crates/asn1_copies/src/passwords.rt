@@ -6,7 +6,7 @@ ghost use Rattle.asn1_copies.specs.contracts.data_types.HostAddressCopies.TheImp
 ghost use Rattle.asn1_copies.specs.contracts.data_types.PrincipalNameCopies.TheImpl.Laws.{is_copy-law as principal_name};
 ghost use Rattle.asn1_copies.specs.contracts.messages.ApRepInnerCopies.TheImpl.Laws.{is_copy-law as ap_rep};
 ghost use Rattle.asn1_copies.specs.contracts.messages.ApReqInnerCopies.TheImpl.Laws.{is_copy-law as ap_req};
-ghost use Rattle.asn1_copies.specs.Choices.{ap_message};
+ghost use Rattle.asn1_copies.specs.ApMessages.{ap_message};
 ghost use Rattle.kpasswd_messages.specs.contracts.change_passwd_data.ChangePasswdData.{the_type as change_passwd_data_type};
 ghost use Rattle.kpasswd_messages.specs.contracts.enc_krb_priv_part.EncKrbPrivPartInner.{the_type as enc_krb_priv_part_type};
 ghost use Rattle.kpasswd_messages.specs.contracts.krb_priv.KrbPrivInner.{the_type as krb_priv_type};

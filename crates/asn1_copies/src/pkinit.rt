@@ -13,7 +13,7 @@ ghost use Rattle.pkinit_messages.specs.contracts.dh_req_info.DhReqInfo.{the_type
 ghost use Rattle.pkinit_messages.specs.contracts.external_principal_identifier.ExternalPrincipalIdentifier.{the_type as external_principal_identifier_type};
 ghost use Rattle.pkinit_messages.specs.contracts.kdc_dh_key_info.KdcDhKeyInfo.{the_type as kdc_dh_key_info_type};
 ghost use Rattle.pkinit_messages.specs.contracts.krb_finished.KrbFinished.{the_type as krb_finished_type};
-ghost use Rattle.asn1_copies.specs.Choices.{pa_pk_as_rep};
+ghost use Rattle.asn1_copies.specs.PkAsReps.{pa_pk_as_rep};
 ghost use Rattle.pkinit_messages.specs.contracts.pa_pk_as_req.PaPkAsReq.{the_type as pa_pk_as_req_type};
 ghost use Rattle.pkinit_messages.specs.contracts.pku2u_nego_body.Pku2uNegoBody.{the_type as pku2u_nego_body_type};
 ghost use Rattle.pkinit_messages.specs.contracts.pku2u_nego_req_metadata.Pku2uNegoReqMetadata.{the_type as pku2u_nego_req_metadata_type};

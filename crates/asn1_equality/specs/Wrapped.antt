@@ -1,6 +1,6 @@
 -- `==` of values under a tag, in a container, that may be missing or that have a default, and of elements.
-use Rattle.std.proofs.Common.{◌≡◌, ℕ, Bool, true, refl, ap}
-use Rattle.std.specs.Prelude.{Option, List, [], ◌++◌}
+use Rattle.std.proofs.Common.{ℕ, Bool, true, refl, ap}
+use Rattle.std.specs.Prelude.{Option, [], ◌++◌}
 use Rattle.std.specs.Bool.{nat_eq}
 use Rattle.std.specs.Cmp.Lexicographic.{pointwise, bytes_decides}
 use Rattle.std.specs.Cmp.{booleans_Decides}

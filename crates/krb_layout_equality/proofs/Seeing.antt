@@ -1,5 +1,5 @@
 -- A test is true exactly where one thing is seen of two values: of lists, options and structs, from that of their parts.
-use Rattle.std.proofs.Common.{◌≡◌, ℕ, Bool, true, List, refl, sym, ap, ◌∙◌}
+use Rattle.std.proofs.Common.{◌≡◌, Bool, true, false, List, refl, sym, ap, ◌∙◌}
 use Rattle.std.specs.Prelude.{◌&&◌, Option, Some, None, Vec, map, option_map}
 use Rattle.std.specs.Bool.{Decides}
 use Rattle.std.specs.Cmp.{unsigned_Decides}
@@ -28,12 +28,12 @@ kinds D none v w =
     (λ e. tag_one D none v w (same.0 e), λ e. same.1 (ap (tag_of D) e))
 
 -- the same is seen, put together in another way
-pub put_as : {K V W : Type 0} {E : K → K → Bool} {f : K → V} (there : V → W) (back : W → V) → ((x : V) → back (there x) ≡ x) → IsSeen E f → IsSeen E (λ v. there (f v))
-put_as {f = f} there back kept seen v w =
+pub put_as : {K V W : Type 0} {E : K → K → Bool} {f : K → V} → IsSeen E f → (there : V → W) (back : W → V) → ((x : V) → back (there x) ≡ x) → IsSeen E (λ v. there (f v))
+put_as {f = f} seen there back kept v w =
     (λ e. ap there ((seen v w).0 e), λ e. (seen v w).1 (sym (kept (f v)) ∙ ap back e ∙ kept (f w)))
 
 pub both : {K L V W : Type 0} {E : K → K → Bool} {F : L → L → Bool} {f : K → V} {g : L → W} → IsSeen E f → IsSeen F g
-    → IsSeen (λ (v w : K × L). E v.0 w.0 && F v.1 w.1) (λ v. (f v.0, g v.1))
+    → IsSeen {V = V × W} (λ (v w : K × L). E v.0 w.0 && F v.1 w.1) (λ v. (f v.0, g v.1))
 both {E = E} {F = F} left right v w =
     let parts = Decides-and (E v.0 w.0) (F v.1 w.1) (left v.0 w.0) (right v.1 w.1) in
     (λ e. let p = parts.0 e in λ i. (p.0 i, p.1 i), λ e. parts.1 (λ i. (e i).0, λ i. (e i).1))
@@ -55,25 +55,25 @@ options {f = f} seen (Some v) (Some w) = (λ e. ap Some ((seen v w).0 e), λ e. 
     held x None = x
     held x (Some y) = y
 
+abbrev is_empty : {V : Type 0} → List V → Bool
+is_empty [] = true
+is_empty (x ∷ xs) = false
+
+abbrev first_or : {V : Type 0} → V → List V → V
+first_or x [] = x
+first_or x (y ∷ ys) = y
+
+abbrev behind_first : {V : Type 0} → List V → List V
+behind_first [] = []
+behind_first (y ∷ ys) = ys
+
 pub lists : {K V : Type 0} {E : K → K → Bool} {f : K → V} → IsSeen E f → IsSeen (pointwise E) (map f)
 lists seen [] [] = (λ _. refl, λ _. refl)
 lists seen [] (w ∷ ws) = (λ e. absurd (true≢false (sym e)), λ e. ap is_empty (sym e))
 lists seen (v ∷ vs) [] = (λ e. absurd (true≢false (sym e)), λ e. ap is_empty e)
 lists {E = E} {f = f} seen (v ∷ vs) (w ∷ ws) =
     let parts = Decides-and (E v w) (pointwise E vs ws) (seen v w) (lists seen vs ws) in
-    (λ e. let p = parts.0 e in λ i. p.0 i ∷ p.1 i, λ e. parts.1 (ap (first (f v)) e, ap rest e))
-  where
-    is_empty : {V : Type 0} → List V → Bool
-    is_empty [] = true
-    is_empty (x ∷ xs) = false
-
-    first : {V : Type 0} → V → List V → V
-    first x [] = x
-    first x (y ∷ ys) = y
-
-    rest : {V : Type 0} → List V → List V
-    rest [] = []
-    rest (y ∷ ys) = ys
+    (λ e. let p = parts.0 e in λ i. p.0 i ∷ p.1 i, λ e. parts.1 (ap (first_or (f v)) e, ap behind_first e))
 
 pub vectors : {K V : Type 0} {E : K → K → Bool} {f : K → V} → IsSeen E f
     → IsSeen (λ (v w : Vec K Global). pointwise E v.items w.items) (λ v. map f v.items)

@@ -1,5 +1,5 @@
 -- What is seen of each type decides its `==`.
-use Rattle.std.proofs.Common.{◌≡◌, ℕ, Bool, List, refl}
+use Rattle.std.proofs.Common.{ℕ, refl}
 use Rattle.std.specs.Prelude.{Vec}
 use Rattle.std.specs.Bool.{nat_eq}
 use Rattle.std.specs.Cmp.{unsigned_Decides}
@@ -45,34 +45,34 @@ octets v w = bytes_decides v.items w.items
 pub mic_tokens-decide : IsSeen mic.ghosts.eq seen_mic
 mic_tokens-decide =
     put_as
+    (fields mic_type (both (whole unsigned_Decides) (both (whole unsigned_Decides) (both (options octets) (last octets)))))
     (λ x. (record { flags = x.0; seq_num = x.1.0; checksum = x.1.1.1 }, x.1.1.0))
     (λ y. (y.0.flags, (y.0.seq_num, (y.1, y.0.checksum))))
     (λ _. refl)
-    (fields mic_type (both (whole unsigned_Decides) (both (whole unsigned_Decides) (both (options octets) (last octets)))))
 
 pub wrap_tokens-decide : IsSeen wrap.ghosts.eq seen_wrap
 wrap_tokens-decide =
     put_as
-    (λ x. (record { flags = x.0; ec = x.1.0; rrc = x.1.1.0; seq_num = x.1.1.1.0; checksum = x.1.1.1.1.1 }, x.1.1.1.1.0))
-    (λ y. (y.0.flags, (y.0.ec, (y.0.rrc, (y.0.seq_num, (y.1, y.0.checksum))))))
-    (λ _. refl)
     (fields wrap_type
     (both (whole unsigned_Decides)
     (both (whole unsigned_Decides)
     (both (whole unsigned_Decides)
     (both (whole unsigned_Decides) (both (options octets) (last octets)))))))
+    (λ x. (record { flags = x.0; ec = x.1.0; rrc = x.1.1.0; seq_num = x.1.1.1.0; checksum = x.1.1.1.1.1 }, x.1.1.1.1.0))
+    (λ y. (y.0.flags, (y.0.ec, (y.0.rrc, (y.0.seq_num, (y.1, y.0.checksum))))))
+    (λ _. refl)
 
 -- ---- PACs
 pub buffers-decide : IsSeen buffer.ghosts.eq buffer_of
 buffers-decide =
     put_as
-    (λ x. record { info = record { ul_type = x.0.0; cb_buffer_size = x.0.1.0; offset = x.0.1.1 }; content = x.1 })
-    (λ b. ((b.info.ul_type, (b.info.cb_buffer_size, b.info.offset)), b.content))
-    (λ _. refl)
     (fields buffer_type
     (both
     (fields info_type (both (kinds kind_type tt) (both (whole unsigned_Decides) (last (whole unsigned_Decides)))))
     (last octets)))
+    (λ x. record { info = record { ul_type = x.0.0; cb_buffer_size = x.0.1.0; offset = x.0.1.1 }; content = x.1 })
+    (λ b. ((b.info.ul_type, (b.info.cb_buffer_size, b.info.offset)), b.content))
+    (λ _. refl)
 
 pub pacs-decide : IsSeen pac.ghosts.eq pac_buffers
 pacs-decide = fields pac_type (last (vectors buffers-decide))
@@ -90,13 +90,13 @@ header-decides =
 pub checksums-decide : IsSeen checksum.ghosts.eq laid_checksum.ghosts.view
 checksums-decide =
     put_as
-    (λ x. ((x.0, (x.1.0, x.1.1.0)), x.1.1.1))
-    (λ y. (y.0.0, (y.0.1.0, (y.0.1.1, y.1))))
-    (λ _. refl)
     (fields checksum_type
     (both (whole unsigned_Decides)
     (both (whole unsigned_Decides)
     (both (whole unsigned_Decides) (last (vectors (whole unsigned_Decides)))))))
+    (λ x. ((x.0, (x.1.0, x.1.1.0)), x.1.1.1))
+    (λ y. (y.0.0, (y.0.1.0, (y.0.1.1, y.1))))
+    (λ _. refl)
 
 pub extensions-decide : IsSeen extension.ghosts.eq laid_extension.ghosts.view
 extensions-decide = fields extension_type (both (whole unsigned_Decides) (last (vectors (whole unsigned_Decides))))
@@ -104,27 +104,27 @@ extensions-decide = fields extension_type (both (whole unsigned_Decides) (last (
 pub nego_messages-decide : IsSeen nego.ghosts.eq laid_nego.ghosts.view
 nego_messages-decide =
     put_as
-    (λ x. (((x.0, (x.1.0, x.1.1.0)), x.1.1.1.0), x.1.1.1.1))
-    (λ y. (y.0.0.0, (y.0.0.1.0, (y.0.0.1.1, (y.0.1, y.1)))))
-    (λ _. refl)
     (fields nego_type
     (both header-decides
     (both (whole bytes_decides)
     (both (whole unsigned_Decides)
     (both (vectors (whole bytes_decides)) (last (vectors extensions-decide)))))))
+    (λ x. (((x.0, (x.1.0, x.1.1.0)), x.1.1.1.0), x.1.1.1.1))
+    (λ y. (y.0.0.0, (y.0.0.1.0, (y.0.0.1.1, (y.0.1, y.1)))))
+    (λ _. refl)
 
 pub exchange_messages-decide : IsSeen exchange.ghosts.eq laid_exchange.ghosts.view
 exchange_messages-decide =
     put_as
+    (fields exchange_type (both header-decides (both (whole bytes_decides) (last (vectors (whole unsigned_Decides))))))
     (λ x. ((x.0, x.1.0), x.1.1))
     (λ y. (y.0.0, (y.0.1, y.1)))
     (λ _. refl)
-    (fields exchange_type (both header-decides (both (whole bytes_decides) (last (vectors (whole unsigned_Decides))))))
 
 pub verify_messages-decide : IsSeen verify.ghosts.eq laid_verify.ghosts.view
 verify_messages-decide =
     put_as
+    (fields verify_type (both header-decides (both (whole bytes_decides) (last checksums-decide))))
     (λ x. ((x.0, x.1.0), x.1.1))
     (λ y. (y.0.0, (y.0.1, y.1)))
     (λ _. refl)
-    (fields verify_type (both header-decides (both (whole bytes_decides) (last checksums-decide))))
