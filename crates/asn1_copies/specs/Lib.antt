@@ -1,0 +1,4 @@
+pub mod ApMessages
+pub mod Copied
+pub mod PkAsReps
+pub mod Wrapped

@@ -1,0 +1,50 @@
+//! Attributes of certification requests.
+ghost use Rattle.std.specs.Cmp.Lexicographic.{bytes_decides, pointwise_decides};
+ghost use Rattle.asn1_equality.specs.Equalities.{told_by, fields, both, last, variants, or_field};
+ghost use Rattle.asn1_equality.specs.contracts.leaves.RawElementEquality.TheImpl.Laws.{is_equality-law as raw};
+ghost use Rattle.asn1_equality.specs.contracts.extensions.ExtensionsEquality.TheImpl.Laws.{is_equality-law as extensions};
+ghost use Rattle.asn1_equality.specs.contracts.leaves.ObjectIdentifierAsn1Equality.TheImpl.Laws.{is_equality-law as oid};
+ghost use Rattle.asn1_equality.specs.contracts.parts.TimeEquality.TheImpl.Laws.{is_equality-law as time};
+
+use crate::Equality;
+use x509_attributes::{
+    AnyValues, Attribute, AttributeValues, Attributes, OpenSslAttributes, RequestedExtensions,
+};
+
+impl Equality for AnyValues {
+    ghost is_equality = { told_by (λ v. v.0) (pointwise_decides raw) (λ v w e i. record { 0 = e i }) };
+}
+
+impl Equality for RequestedExtensions {
+    ghost is_equality = { pointwise_decides extensions };
+}
+
+impl Equality for AttributeValues {
+    ghost use Rattle.asn1_equality.specs.contracts.attributes.RequestedExtensionsEquality.TheImpl.Laws.{is_equality-law as requested_extensions};
+    ghost use Rattle.asn1_equality.specs.contracts.attributes.AnyValuesEquality.TheImpl.Laws.{is_equality-law as any_values};
+    ghost use Rattle.x509_attributes.specs.contracts.attribute_values.AttributeValues.{«enum»};
+
+    ghost is_equality = { variants «enum»
+        (or_field requested_extensions (or_field (pointwise_decides oid)
+        (or_field (pointwise_decides (pointwise_decides oid)) (or_field (pointwise_decides bytes_decides)
+        (or_field (pointwise_decides time) (or_field any_values tt)))))) };
+}
+
+impl Equality for Attribute {
+    ghost use Rattle.asn1_equality.specs.contracts.attributes.AttributeValuesEquality.TheImpl.Laws.{is_equality-law as attribute_values};
+    ghost use Rattle.x509_attributes.specs.contracts.attribute.Attribute.{the_type};
+
+    ghost is_equality = { fields the_type (both oid (last attribute_values)) };
+}
+
+impl Equality for Attributes {
+    ghost use Rattle.asn1_equality.specs.contracts.attributes.AttributeEquality.TheImpl.Laws.{is_equality-law as attribute};
+
+    ghost is_equality = { pointwise_decides attribute };
+}
+
+impl Equality for OpenSslAttributes {
+    ghost use Rattle.asn1_equality.specs.contracts.attributes.AttributesEquality.TheImpl.Laws.{is_equality-law as attributes};
+
+    ghost is_equality = { told_by (λ v. v.0) attributes (λ v w e i. record { 0 = e i }) };
+}

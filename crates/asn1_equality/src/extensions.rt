@@ -1,0 +1,45 @@
+//! Extensions (RFC 5280, section 4.2).
+ghost use Rattle.std.specs.Cmp.{signed_Decides};
+ghost use Rattle.std.specs.Cmp.Lexicographic.{bytes_decides, pointwise_decides};
+ghost use Rattle.asn1_equality.specs.Equalities.{fields, both, last, options, variants, or_field};
+ghost use Rattle.asn1_equality.specs.Wrapped.{optional, default_field, default_false, octet_container, explicit_tag, implicit_tag};
+ghost use Rattle.asn1_equality.specs.contracts.names.GeneralNameEquality.TheImpl.Laws.{is_equality-law as general_name};
+ghost use Rattle.asn1_equality.specs.contracts.usages.KeyUsageEquality.TheImpl.Laws.{is_equality-law as key_usage};
+ghost use Rattle.asn1_equality.specs.contracts.parts.BasicConstraintsEquality.TheImpl.Laws.{is_equality-law as basic_constraints};
+ghost use Rattle.asn1_equality.specs.contracts.usages.ExtendedKeyUsageEquality.TheImpl.Laws.{is_equality-law as extended_key_usage};
+ghost use Rattle.asn1_equality.specs.contracts.leaves.ObjectIdentifierAsn1Equality.TheImpl.Laws.{is_equality-law as oid};
+ghost use Rattle.x509_extensions.specs.contracts.authority_key_identifier.AuthorityKeyIdentifier.{the_type as authority_key_identifier_type};
+
+use crate::Equality;
+use x509_extensions::{AuthorityKeyIdentifier, Extension, ExtensionValue, Extensions};
+
+impl Equality for AuthorityKeyIdentifier {
+    ghost is_equality = { fields authority_key_identifier_type
+        (both (optional (options (implicit_tag bytes_decides))) (both (optional (options (explicit_tag general_name)))
+        (last (optional (options (implicit_tag signed_Decides)))))) };
+}
+
+impl Equality for ExtensionValue {
+    ghost use Rattle.asn1_equality.specs.contracts.extensions.AuthorityKeyIdentifierEquality.TheImpl.Laws.{is_equality-law as authority};
+    ghost use Rattle.x509_extensions.specs.contracts.extension_value.ExtensionValue.{«enum»};
+
+    ghost is_equality = { variants «enum»
+        (or_field (octet_container authority) (or_field (octet_container bytes_decides)
+        (or_field (octet_container key_usage) (or_field (octet_container (pointwise_decides general_name))
+        (or_field (octet_container (pointwise_decides general_name)) (or_field (octet_container basic_constraints)
+        (or_field (octet_container extended_key_usage) (or_field (octet_container signed_Decides)
+        (or_field bytes_decides tt))))))))) };
+}
+
+impl Equality for Extension {
+    ghost use Rattle.asn1_equality.specs.contracts.extensions.ExtensionValueEquality.TheImpl.Laws.{is_equality-law as extension_value};
+    ghost use Rattle.x509_extensions.specs.contracts.extension.Extension.{the_type};
+
+    ghost is_equality = { fields the_type (both oid (both (default_field default_false) (last extension_value))) };
+}
+
+impl Equality for Extensions {
+    ghost use Rattle.asn1_equality.specs.contracts.extensions.ExtensionEquality.TheImpl.Laws.{is_equality-law as extension};
+
+    ghost is_equality = { pointwise_decides extension };
+}

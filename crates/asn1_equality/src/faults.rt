@@ -1,0 +1,36 @@
+//! Faults.
+ghost use Rattle.asn1_equality.specs.Equalities.{bare, variants, or_none, or_field};
+ghost use Rattle.asn1_leaves.specs.contracts.fault.LeafFault.{the_type as leaf_fault_type};
+ghost use Rattle.std.specs.contracts.io.ErrorKind.{the_type as error_kind_type};
+ghost use Rattle.asn1_der.specs.contracts.error.Rule.{the_type as rule_type};
+ghost use Rattle.asn1_der.specs.contracts.error.Unsupported.{the_type as unsupported_type};
+
+use crate::Equality;
+use asn1_leaves::LeafFault;
+use picky_asn1_der::{Asn1DerError, Rule, Unsupported};
+use std::io::ErrorKind;
+
+impl Equality for LeafFault {
+    ghost is_equality = { bare leaf_fault_type tt };
+}
+
+impl Equality for ErrorKind {
+    ghost is_equality = { bare error_kind_type tt };
+}
+
+impl Equality for Rule {
+    ghost is_equality = { bare rule_type tt };
+}
+
+impl Equality for Unsupported {
+    ghost is_equality = { bare unsupported_type tt };
+}
+
+impl Equality for Asn1DerError {
+    ghost use Rattle.asn1_equality.specs.contracts.faults.ErrorKindEquality.TheImpl.Laws.{is_equality-law as error_kind};
+    ghost use Rattle.asn1_equality.specs.contracts.faults.RuleEquality.TheImpl.Laws.{is_equality-law as rule};
+    ghost use Rattle.asn1_der.specs.contracts.error.Asn1DerError.{«enum»};
+
+    ghost is_equality = { variants «enum»
+        (or_none (or_none (or_none (or_none (or_none (or_field rule (or_field error_kind (or_none tt)))))))) };
+}

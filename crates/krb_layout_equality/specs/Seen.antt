@@ -1,0 +1,11 @@
+-- All that a contract sees of a token, its payload too.
+use Rattle.std.specs.Prelude.{ℕ, List, Option}
+use Rattle.gss_message_tokens.specs.Tokens.{MicFields, WrapFields, mic_of, wrap_of, payload_of}
+use Rattle.gss_message_tokens.specs.declared.mic.MicToken.{MicToken}
+use Rattle.gss_message_tokens.specs.declared.wrap.WrapToken.{WrapToken}
+
+abbrev pub seen_mic : MicToken → MicFields × Option (List ℕ)
+seen_mic token = (mic_of token, payload_of token.payload)
+
+abbrev pub seen_wrap : WrapToken → WrapFields × Option (List ℕ)
+seen_wrap token = (wrap_of token, payload_of token.payload)
