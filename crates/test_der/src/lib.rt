@@ -16,6 +16,8 @@ mod misc;
 #[cfg(test)]
 mod peeked;
 #[cfg(test)]
+mod person;
+#[cfg(test)]
 mod sample;
 #[cfg(test)]
 mod spelling;
@@ -23,3 +25,5 @@ mod spelling;
 mod streams;
 #[cfg(test)]
 mod texts;
+#[cfg(test)]
+mod texts_and_lists;
