@@ -8,7 +8,7 @@ CRATES := $(sort $(notdir $(patsubst %/src,%,$(wildcard crates/*/src))))
 REALM := out/realm
 
 .DEFAULT_GOAL := help
-.PHONY: help try messages certificate check gate run clients gss bench plant fmt docs budget crate-named
+.PHONY: help try messages certificate check gate faults run clients gss bench plant fmt docs budget crate-named
 
 help: ## list the targets
 	@sed -n 's/^\([a-z]*\):[^#]*## /\1\t/p' Makefile | expand -t 14
@@ -27,6 +27,10 @@ check: crate-named ## prove one crate and what it stands on: make check CRATE=kr
 
 gate: ## prove everything from nothing, try the wrong bodies, run each test and program
 	$(RT) ci
+
+faults: ## refuse memory to the built programs, request by request, and send the program damaged requests
+	bench/refused_growths.sh
+	bench/hostile.sh
 
 run: $(REALM)/settings.toml ## serve a realm to stock clients on 127.0.0.1 (PORT=8888); proves the program first
 	printf '%s\n' '[libdefaults]' 'default_realm = EXAMPLE.COM' 'dns_lookup_kdc = false' 'udp_preference_limit = 1' \

@@ -1,7 +1,8 @@
 """Refuses each request for memory of a row in turn: see refused_growths.sh.
 
 A row is a file of lines `STEP .. | WANTED`, as crates/replay_logins/data has them (with a message before what is wanted), or as
-crates/bench_codecs takes them behind `row`. Each step that takes memory stands there twice, the one behind the other.
+crates/bench_codecs takes them, those of single calls behind `row`. Each step that takes memory stands there twice, the one behind the
+other.
 
 A row is run once with ample memory, which counts its requests, and once for each of these, which is refused. A library that is loaded
 before the C library does both, so that the programs are the proved ones.
@@ -10,6 +11,9 @@ Of two equal steps, by turns: the first may want memory, and the second then tel
 second may. A login whose last reply can't be taken is admitted all the same, so the same login again is a replay. A refused
 request in reading or telling a line ends the program, and nothing else may have been told before it. A client stands once in a
 row, since its key costs thousands of rounds: where it isn't made, the program ends for want of a client.
+
+A step `slice` tells its first word once it holds its message. Its row is run once more, with each request from that word on refused:
+what is written into the slice is told all the same.
 """
 import collections, concurrent.futures, os, re, subprocess, sys, tempfile
 
@@ -20,21 +24,29 @@ SERVED = re.compile(r"Err\(Memory\) ?([0-9a-f]*)$")
 STOPPED = re.compile(rf"Error: {OF_MEMORY}$")
 NO_CLIENT = "Error: no client"
 
-# Refuses the request of the number in REFUSED, and writes into the file COUNTED how many there were.
+# In place of a request's number: each request after the first octet on standard output.
+ALL_ONCE_TOLD = -1
+
+# Refuses the request of the number in REFUSED, and writes into the file COUNTED how many there were. Where the number is negative, it
+# refuses each request after the first octet on standard output.
 REFUSER = r"""
 #define _GNU_SOURCE
 #include <dlfcn.h>
 #include <errno.h>
 #include <stdio.h>
 #include <stdlib.h>
+#include <unistd.h>
 
 static long refused, count;
+static int has_told;
+static ssize_t (*next_write)(int, const void *, size_t);
 static void *(*next_malloc)(size_t);
 static void *(*next_realloc)(void *, size_t);
 
 __attribute__((constructor)) static void begin(void) {
     next_malloc = (void *(*)(size_t))dlsym(RTLD_NEXT, "malloc");
     next_realloc = (void *(*)(void *, size_t))dlsym(RTLD_NEXT, "realloc");
+    next_write = (ssize_t (*)(int, const void *, size_t))dlsym(RTLD_NEXT, "write");
     refused = atol(getenv("REFUSED"));
     count = 0;
 }
@@ -47,7 +59,7 @@ __attribute__((destructor)) static void end(void) {
 }
 
 static int is_refused(void) {
-    if (++count != refused) return 0;
+    if (++count != refused && !(refused < 0 && has_told)) return 0;
     errno = ENOMEM;
     return 1;
 }
@@ -60,6 +72,11 @@ void *malloc(size_t size) {
 void *realloc(void *block, size_t size) {
     if (!next_realloc) next_realloc = (void *(*)(void *, size_t))dlsym(RTLD_NEXT, "realloc");
     return is_refused() ? NULL : next_realloc(block, size);
+}
+
+ssize_t write(int file, const void *octets, size_t size) {
+    if (file == STDOUT_FILENO) has_told = 1;
+    return next_write(file, octets, size);
 }
 """
 
@@ -130,7 +147,7 @@ class Calls:
     """Rows that bench_codecs plays: its arguments. It prints a line for each call."""
 
     def words(self, row, folder):
-        return " + ".join(f"row {step}" for step in row.steps).split()
+        return " + ".join(step if step.startswith("slice ") else f"row {step}" for step in row.steps).split()
 
     def told(self, row, output, error):
         lines = output.splitlines()
@@ -181,8 +198,9 @@ class Runs:
         if status or end is not None or not all(map(self.row.is_wanted, range(len(told)), told)):
             print(f"== {self.row.name}: NOT AS WANTED with ample memory: status {status}, {error}\n{output}")
             return 1
+        late = [ALL_ONCE_TOLD] if self.row.steps[0].startswith("slice ") else []
         with concurrent.futures.ThreadPoolExecutor(len(os.sched_getaffinity(0))) as pool:
-            texts = collections.Counter(pool.map(self.text, range(1, count + 1)))
+            texts = collections.Counter(pool.map(self.text, [*range(1, count + 1), *late]))
         wrong = sum(number for (_, is_allowed), number in texts.items() if not is_allowed)
         in_calls = sum(number for (text, _), number in texts.items() if not text.startswith(("ends in", "as with")))
         print(f"== {self.row.name}: {count} positions, {in_calls} of them in calls, {wrong} texts that aren't allowed")

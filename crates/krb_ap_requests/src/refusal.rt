@@ -2,6 +2,7 @@
 ghost use Rattle.std.specs.Prelude.{◌≡◌};
 ghost use Rattle.krb_ap_requests.specs.declared.refusal.AdmitRefusal.TheVariants.{Memory};
 
+use krb_constants::error_names::ErrorCode;
 use krb_types::Refusal;
 use std::alloc::AllocError;
 use thiserror::Error;
@@ -14,7 +15,7 @@ pub enum AdmitRefusal {
     Unreadable,
 
     /// The request is refused, with the code of a KRB-ERROR (RFC 4120, section 7.5.9).
-    #[error("refused with code {0}")]
+    #[error("refused: {}", ErrorCode(*.0))]
     Krb(u32),
 
     /// Memory ran out.

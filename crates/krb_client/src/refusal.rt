@@ -4,6 +4,7 @@ ghost use Rattle.krb_client.specs.Refusals.{ask_number, take_number};
 ghost use Rattle.krb_client.specs.declared.refusal.AskRefusal.TheVariants as ask_refusal;
 ghost use Rattle.krb_client.specs.declared.refusal.TakeRefusal.TheVariants as take_refusal;
 
+use krb_constants::error_names::ErrorCode;
 use std::alloc::AllocError;
 use thiserror::Error;
 
@@ -58,7 +59,7 @@ pub enum TakeRefusal {
     Unreadable,
 
     /// It is an error with this code (RFC 4120, section 7.5.9).
-    #[error("refused with code {0}")]
+    #[error("refused: {}", ErrorCode(*.0))]
     Refused(u32),
 
     /// It isn't the realm's, by its certificate and signature (RFC 4556, section 3.2.4).

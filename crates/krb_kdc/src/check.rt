@@ -9,10 +9,8 @@ ghost use Rattle.krb_kdc.specs.Realms.{realm_of_settings};
 use crate::fault::KdcFault;
 use crate::realm::realm_of_settings;
 use krb_realm::RealmRefusal;
-use krb_settings::{
-    Place, RealmSettings, Remark, Rule, SettingsFault, explain, explain_rule, read_settings_file,
-    warnings_of,
-};
+use krb_settings::{RealmSettings, SettingsFault, read_settings_file};
+use krb_settings_check::{Place, Remark, Rule, explain, explain_rule, warnings_of};
 use std::alloc::{AllocError, Global};
 
 /// What is said of a settings file.

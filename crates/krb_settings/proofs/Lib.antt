@@ -1,4 +1,3 @@
 pub mod Files
-pub mod Items
 pub mod Lists
 pub mod Tables

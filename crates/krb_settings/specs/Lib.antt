@@ -1,7 +1,6 @@
 pub mod Accounts
 pub mod Fields
 pub mod Files
-pub mod Messages
 pub mod Realms
 pub mod Steps
 pub mod Written

@@ -11,12 +11,7 @@ use std::alloc::Global;
 use toml::{Table, Value};
 
 /// The fields of an account.
-pub(crate) const ACCOUNT_FIELDS: [Field; 4] = [
-    Field::Key,
-    Field::Name,
-    Field::Password,
-    Field::Suite,
-];
+pub const ACCOUNT_FIELDS: [Field; 4] = [Field::Key, Field::Name, Field::Password, Field::Suite];
 
 // The accounts of a file.
 pub(crate) fn accounts_at(

@@ -13,35 +13,22 @@
 //! password = "correct horse battery staple"
 //! ```
 //!
-//! [`read_settings_file`] gives what a file writes, or the first of its faults. [`explain`] gives a fault's message: line, word, and
-//! what was expected. None of them shows a key or a password.
+//! [`read_settings_file`] gives what a file writes, or the first of its faults. `krb_settings_check` has their messages.
 #![tactic(auto)]
 
 mod account;
-mod des3;
 mod fault;
 mod field;
 mod file;
 pub mod laws;
-mod lines;
-mod messages;
-mod outline;
-mod place;
 mod realm;
-mod remark;
-mod rules;
-mod scan;
 mod settings;
 mod table;
-mod warnings;
-mod words;
 
+pub use account::ACCOUNT_FIELDS;
 pub use fault::{SettingsFault, TableFault};
 pub use field::Field;
 pub use file::{SETTINGS_LIMIT, read_settings_file};
-pub use messages::explain;
-pub use place::Place;
-pub use remark::Remark;
-pub use rules::{Rule, explain_rule};
+pub use realm::REALM_FIELDS;
 pub use settings::{AccountSettings, RealmSettings, Secret};
-pub use warnings::warnings_of;
+pub use table::{is_among, suite_at, suite_name};

@@ -12,7 +12,7 @@ use std::alloc::Global;
 use toml::Table;
 
 /// The fields of a file's own table.
-pub(crate) const REALM_FIELDS: [Field; 6] = [
+pub const REALM_FIELDS: [Field; 6] = [
     Field::Account,
     Field::Key,
     Field::Lifetime,

@@ -9,7 +9,6 @@ ghost use Rattle.krb_crypto.specs.Suites.{cipher_suites};
 ghost use Rattle.krb_settings.specs.Steps.{IsAside, answer_shown};
 ghost use Rattle.krb_settings.specs.Fields.{bytes_of, field_name, is_among, key_at, list_of, natural_at, natural_of, only, suite_at, suite_name, suite_named, text_at, text_of, value_at};
 
-use crate::words::suite_name;
 use crate::{Field, TableFault};
 use hex::FromHexError;
 use krb_crypto::CipherSuite;
@@ -34,8 +33,8 @@ fn has_only(table: &Table, fields: &[Field]) -> bool
     table.keys().all(|key| is_among(fields, key.as_str()))
 }
 
-// Whether a key is the name of one of the fields.
-pub(crate) fn is_among(fields: &[Field], key: &str) -> bool
+/// Whether a key is the name of one of the fields.
+pub fn is_among(fields: &[Field], key: &str) -> bool
     ensures { result ≡ is_among fields.now key.now }
 {
     fields.iter().any(|field| key == field.name())
@@ -122,8 +121,8 @@ fn named(name: &str) -> Option<CipherSuite>
         .find(|suite| name == suite_name(*suite))
 }
 
-// The suite of a table.
-pub(crate) fn suite_at(table: &Table) -> Result<CipherSuite, TableFault>
+/// The suite of a table.
+pub fn suite_at(table: &Table) -> Result<CipherSuite, TableFault>
     ensures { result ≡ suite_at (table_view table.now) }
 {
     suite_named(text_at(table, Field::Suite)?)
@@ -145,4 +144,18 @@ pub(crate) fn key_at(alloc: Global, table: &Table) -> Result<Vec<u8>, TableFault
     ensures { IsAside TableFault.Memory (λ v. v.items) (key_at (table_view table.now)) result }
 {
     bytes_of(alloc, text_at(table, Field::Key)?)
+}
+
+/// The name of a suite, as files have it (RFC 3961, section 6.3; RFC 3962, section 7; RFC 8009, section 4).
+#[tactic(auto, unfolding(crate::specs::Fields::suite_name))]
+pub fn suite_name(suite: CipherSuite) -> &'static str
+    ensures { result.now ≡ suite_name suite }
+{
+    match suite {
+        CipherSuite::Aes128CtsHmacSha196 => "aes128-cts-hmac-sha1-96",
+        CipherSuite::Aes256CtsHmacSha196 => "aes256-cts-hmac-sha1-96",
+        CipherSuite::Des3CbcSha1Kd => "des3-cbc-sha1-kd",
+        CipherSuite::Aes128CtsHmacSha256128 => "aes128-cts-hmac-sha256-128",
+        CipherSuite::Aes256CtsHmacSha384192 => "aes256-cts-hmac-sha384-192",
+    }
 }

@@ -5,7 +5,7 @@ use Rattle.std.proofs.lemmas.List.{take_at, drop_at, take_all, length-take}
 use Rattle.std.specs.declared.io.ErrorKind.{ErrorKind}
 use Rattle.byte_layouts.specs.Parts.{part, Stands}
 use Rattle.byte_layouts.specs.Numbers.{le32, le32_at, le64, le64_at}
-use Rattle.byte_layouts.proofs.NumberLaws.{AreBytes, le32-stands, le64-stands, le32-again, le64-again, length-le32, length-le64}
+use Rattle.byte_layouts.proofs.NumberLaws.{AreBytes, le32-read, le64-read, le32-again, le64-again, length-le32, length-le64}
 use Rattle.negoex_forms.specs.Form.{Answer, cut, then_read}
 
 -- what was read after something was read
@@ -28,15 +28,6 @@ ok-same r a b e f = cc (e, f)
 pub length-cut : (place size : ℕ) (whole : List ℕ) → length (cut place size whole) ≤ size
 length-cut place size whole = omega (arith, length-take size (drop place whole))
 
--- a number that is read stands where it was read
-pub le32_at-stands : (place : ℕ) (whole : List ℕ) → AreBytes whole → place + 4 ≤ length whole → Stands (part place (le32 (le32_at place whole))) whole
-unfolding le32_at
-le32_at-stands place whole bytes inside = le32-stands place _ whole bytes inside refl
-
-pub le64_at-stands : (place : ℕ) (whole : List ℕ) → AreBytes whole → place + 8 ≤ length whole → Stands (part place (le64 (le64_at place whole))) whole
-unfolding le64_at
-le64_at-stands place whole bytes inside = le64-stands place _ whole bytes inside refl
-
 -- the bytes that follow a front
 pub cut-behind : (place size : ℕ) (front bytes rest : List ℕ) → length front ≡ place → length bytes ≡ size → cut place size (front ++ (bytes ++ rest)) ≡ bytes
 cut-behind place size front bytes rest e f = ap (take size) (drop_at front (bytes ++ rest) place e) ∙ take_at bytes rest size f
@@ -49,12 +40,12 @@ cut-last place size front bytes e f = ap (take size) (drop_at front bytes place 
 pub le32-front : (header : List ℕ) → AreBytes header → length header ≡ 4 → le32 (le32_at 0 header) ≡ header
 le32-front header bytes size =
     let n = length-le32 (le32_at 0 header) in
-    sym (le32_at-stands 0 header bytes (omega arith)) ∙ take_all (length (le32 (le32_at 0 header))) header (omega arith)
+    sym (le32-read 0 header bytes (omega arith)) ∙ take_all (length (le32 (le32_at 0 header))) header (omega arith)
 
 pub le64-front : (header : List ℕ) → AreBytes header → length header ≡ 8 → le64 (le64_at 0 header) ≡ header
 le64-front header bytes size =
     let n = length-le64 (le64_at 0 header) in
-    sym (le64_at-stands 0 header bytes (omega arith)) ∙ take_all (length (le64 (le64_at 0 header))) header (omega arith)
+    sym (le64-read 0 header bytes (omega arith)) ∙ take_all (length (le64 (le64_at 0 header))) header (omega arith)
 
 -- a number is read from its bytes
 pub le32-again_all : (n : ℕ) → n < 2 ^ 32 → le32_at 0 (le32 n) ≡ n

@@ -7,11 +7,11 @@ use Rattle.std.proofs.lemmas.List.{length-append, length-take, length-drop}
 use Rattle.std.specs.declared.io.ErrorKind.TheVariants.{UnexpectedEof, InvalidData}
 use Rattle.byte_layouts.specs.Parts.{part, Stands}
 use Rattle.byte_layouts.specs.Numbers.{le32, le32_at}
-use Rattle.byte_layouts.proofs.NumberLaws.{AreBytes, bytes-cut, length-le32, le32-again}
+use Rattle.byte_layouts.proofs.NumberLaws.{AreBytes, bytes-cut, length-le32, le32-again, le32-read}
 use Rattle.negoex_forms.specs.Form.{Layout, Answer, IsWithin, cut, then_read}
 use Rattle.negoex_forms.specs.Laws.{LayoutLaws}
 use Rattle.negoex_forms.specs.Vectors.{AreElements, IsVector, AllFit, VectorFits, elements_at, begins_past, vector_read, payloads, heads, bodies, offset_of, behind_heads, vector_layout}
-use Rattle.negoex_forms.specs.Steps.{then-ok, if-ok, if-fine, ok-same, length-cut, le32_at-stands, cut-behind, cut-last}
+use Rattle.negoex_forms.specs.Steps.{then-ok, if-ok, if-fine, ok-same, length-cut, cut-behind, cut-last}
 
 elements-found : {V : Type 0} (l : Layout V) → LayoutLaws l → (n place : ℕ) (xs : List V) (whole : List ℕ) → AreBytes whole
     → elements_at l n place whole ≡ Ok xs → (length xs ≡ n) × AreElements l place xs whole
@@ -34,7 +34,7 @@ vector-found l laws xs header whole header_bytes bytes few e =
     let found = elements-found l laws (le32_at 4 header) (le32_at 0 header) xs whole bytes near.1 in
     record {
       size = size;
-      count = subst (λ (n : ℕ). Stands (part 4 (le32 n)) header) (sym found.0) (le32_at-stands 4 header header_bytes (omega arith));
+      count = subst (λ (n : ℕ). Stands (part 4 (le32 n)) header) (sym found.0) (le32-read 4 header header_bytes (omega arith));
       elements = found.1;
     }
 

@@ -5,6 +5,7 @@ ghost use Rattle.byte_layouts.specs.Numbers.{le32};
 ghost use Rattle.negoex_forms.specs.Form.{cut};
 
 use crate::error::NegoexError;
+use byte_layouts::u32_le_bytes;
 use std::io::ErrorKind;
 
 // So many bytes from `place` on; fewer where they end before.
@@ -47,12 +48,11 @@ pub fn extend(to: &mut Vec<u8>, bytes: &[u8]) -> Result<(), NegoexError>
 }
 
 // Puts a number of four bytes, the lowest first.
-#[tactic(auto, unfolding(byte_layouts::specs::Numbers::le32))]
 pub(crate) fn extend_number(to: &mut Vec<u8>, number: usize) -> Result<(), NegoexError>
     requires { number < 2 ^ 32 }
     ensures { MatchResult result (λ _. to.new.items ≡ to.old.items ++ le32 number) (λ e. e.kind ≡ ErrorKind.OutOfMemory) }
 {
-    extend(to, &(number as u32).to_le_bytes())
+    extend(to, &u32_le_bytes(number as u32))
 }
 
 /// The place behind so many things of one size, which has to be a number of 32 bits: `InvalidInput` where it isn't.

@@ -4,7 +4,7 @@ ghost use Rattle.std.specs.Prelude.{◌≡◌};
 use crate::bytes::extend;
 use crate::error::NegoexError;
 use crate::laid::{Laid, Wide};
-use byte_layouts::{array_at, u32_le, u64_le};
+use byte_layouts::{array_at, u32_le, u32_le_bytes, u64_le, u64_le_bytes};
 use std::alloc::Global;
 use std::io::ErrorKind;
 
@@ -39,7 +39,6 @@ impl Laid for u32 {
         Ok(u32_le(header, 0))
     }
 
-    #[tactic(auto, unfolding(byte_layouts::specs::Numbers::le32))]
     fn put(
         &self,
         _alloc: Global,
@@ -47,7 +46,7 @@ impl Laid for u32 {
         header: &mut Vec<u8>,
         _payload: &mut Vec<u8>,
     ) -> Result<(), NegoexError> {
-        extend(header, &self.to_le_bytes())
+        extend(header, &u32_le_bytes(*self))
     }
 
     fn payload_size(&self) -> usize {
@@ -83,7 +82,6 @@ impl Laid for u64 {
         Ok(u64_le(header, 0))
     }
 
-    #[tactic(auto, unfolding(byte_layouts::specs::Numbers::le64))]
     fn put(
         &self,
         _alloc: Global,
@@ -91,7 +89,7 @@ impl Laid for u64 {
         header: &mut Vec<u8>,
         _payload: &mut Vec<u8>,
     ) -> Result<(), NegoexError> {
-        extend(header, &self.to_le_bytes())
+        extend(header, &u64_le_bytes(*self))
     }
 
     fn payload_size(&self) -> usize {
@@ -180,7 +178,6 @@ impl Laid for Signature {
         Ok(Signature(signature))
     }
 
-    #[tactic(auto, unfolding(byte_layouts::specs::Numbers::le64))]
     fn put(
         &self,
         _alloc: Global,
@@ -188,7 +185,7 @@ impl Laid for Signature {
         header: &mut Vec<u8>,
         _payload: &mut Vec<u8>,
     ) -> Result<(), NegoexError> {
-        extend(header, &self.0.to_le_bytes())
+        extend(header, &u64_le_bytes(self.0))
     }
 
     fn payload_size(&self) -> usize {
@@ -234,7 +231,6 @@ impl Laid for ChecksumScheme {
         Ok(ChecksumScheme(scheme))
     }
 
-    #[tactic(auto, unfolding(byte_layouts::specs::Numbers::le32))]
     fn put(
         &self,
         _alloc: Global,
@@ -242,7 +238,7 @@ impl Laid for ChecksumScheme {
         header: &mut Vec<u8>,
         _payload: &mut Vec<u8>,
     ) -> Result<(), NegoexError> {
-        extend(header, &self.0.to_le_bytes())
+        extend(header, &u32_le_bytes(self.0))
     }
 
     fn payload_size(&self) -> usize {

@@ -4,7 +4,7 @@ ghost use Rattle.std.specs.Prelude.{◌≡◌};
 use crate::bytes::extend;
 use crate::error::NegoexError;
 use crate::laid::{Laid, Wide};
-use byte_layouts::u32_le;
+use byte_layouts::{u32_le, u32_le_bytes};
 use std::alloc::Global;
 use std::io::ErrorKind;
 
@@ -97,7 +97,6 @@ impl Laid for MessageType {
         MessageType::try_from(u32_le(header, 0))
     }
 
-    #[tactic(auto, unfolding(byte_layouts::specs::Numbers::le32))]
     fn put(
         &self,
         _alloc: Global,
@@ -105,7 +104,7 @@ impl Laid for MessageType {
         header: &mut Vec<u8>,
         _payload: &mut Vec<u8>,
     ) -> Result<(), NegoexError> {
-        extend(header, &u32::from(self).to_le_bytes())
+        extend(header, &u32_le_bytes(u32::from(self)))
     }
 
     fn payload_size(&self) -> usize {

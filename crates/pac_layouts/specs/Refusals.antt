@@ -1,9 +1,10 @@
 -- Why a PAC, or a row of its table, was not read from a device. `after` is what is left behind what came.
-use Rattle.std.specs.Prelude.{◌≡◌, ℕ, List, take, Option, None, Some, ⊤, Err, MatchResult, ◌⊎◌}
+use Rattle.std.specs.Prelude.{◌≡◌, ℕ, List, take, Option, None, Some, ⊤, Result, Err, MatchResult, ◌⊎◌}
 use Rattle.std.specs.Io.KnownBytes.{Consumes}
 use Rattle.std.specs.declared.io.ErrorKind.{ErrorKind}
 use Rattle.pac_layouts.specs.declared.error.PacError.{PacError}
-use Rattle.pac_layouts.specs.declared.error.PacError.TheVariants.{Memory}
+use Rattle.pac_layouts.specs.declared.error.PacError.TheVariants.{IoError, Memory}
+use Rattle.byte_layouts.specs.Stops.{FailedAtMostOnce, IsReadStop}
 use Rattle.pac_layouts.specs.Faults.{IsDeviceFault}
 use Rattle.pac_layouts.specs.Reading.{info_at, pac_at}
 
@@ -32,3 +33,13 @@ pub record IsRowBroken (bytes : List ℕ) (after : Option (List ℕ)) (old new :
 -- this is first wrong with sixteen bytes as a row, or the device failed
 abbrev pub IsRowRefusal : List ℕ → Option (List ℕ) → ℕ → ℕ → Option ErrorKind → PacError → Type 0
 IsRowRefusal bytes after old new last fault = (info_at None 0 (take 16 bytes) ≡ Err fault) ⊎ IsRowBroken bytes after old new last fault
+
+-- what a refusal tells of any device, its bytes known or not: they ended or it failed, or bytes that came are wrong, behind
+-- which one call may have failed. `reads` says what bytes hold
+abbrev pub TellsRead : {A : Type 0} → (List ℕ → Result A PacError) → Option (List ℕ) → ℕ → ℕ → Option ErrorKind → PacError → Type 0
+TellsRead reads after old new last (IoError cause) = IsReadStop after old new last cause
+TellsRead reads after old new last fault = FailedAtMostOnce old new × (came : List ℕ) × (reads came ≡ Err fault)
+
+-- the same of a whole PAC, which takes memory
+abbrev pub TellsPac : Option (List ℕ) → ℕ → ℕ → Option ErrorKind → PacError → Type 0
+TellsPac after old new last fault = ((fault ≡ Memory) × FailedAtMostOnce old new) ⊎ TellsRead (pac_at None) after old new last fault

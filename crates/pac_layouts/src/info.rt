@@ -5,7 +5,7 @@ ghost use Rattle.byte_layouts.specs.Parts.{IsLaidOut, put_all};
 ghost use Rattle.pac_layouts.specs.Buffers.{info_parts, IsInfo, FitsInfo};
 ghost use Rattle.pac_layouts.specs.Faults.{IsWriteFault};
 ghost use Rattle.pac_layouts.specs.Reading.{kind_at, fields_at, info_at};
-ghost use Rattle.pac_layouts.specs.Refusals.{IsRowBroken, IsRowRefusal};
+ghost use Rattle.pac_layouts.specs.Refusals.{IsRowBroken, IsRowRefusal, TellsRead};
 
 use crate::error::{short_fault, write_fault};
 use crate::{PacBufferType, PacError};
@@ -144,6 +144,8 @@ impl PacInfoBuffer {
         ensures only { IfSome (R.left reader.old) (λ bytes. (info : PacInfoBuffer) → FitsInfo info → IsInfo info (take 16 bytes)
             → MatchResult result (λ read. read ≡ info)
             (IsRowBroken bytes (R.left reader.new) (R.failed reader.old) (R.failed reader.new) (R.last_fault reader.new))) }
+        ensures count { MatchResult result (λ _. R.failed reader.new ≡ R.failed reader.old)
+            (TellsRead (info_at None 0) (R.left reader.new) (R.failed reader.old) (R.failed reader.new) (R.last_fault reader.new)) }
         ensures refused { IfErr result (λ e. IfSome (R.left reader.old) (λ bytes.
             IsRowRefusal bytes (R.left reader.new) (R.failed reader.old) (R.failed reader.new) (R.last_fault reader.new) e)) }
         ensures same { R.through reader.new ≡ R.through reader.old }

@@ -151,7 +151,7 @@ fn put_parts(bytes: &mut [u8], count: u32, buffers: &[PacBuffer])
 
 impl Pac {
     ghost use Rattle.std.specs.Io.KnownBytes.{Consumes, IsAtEnd, Appends};
-    ghost use Rattle.pac_layouts.specs.Refusals.{IsRefusal, IsExcuse};
+    ghost use Rattle.pac_layouts.specs.Refusals.{IsRefusal, IsExcuse, TellsPac};
     ghost use Rattle.pac_layouts.specs.Writing.{IsWriteRefusal};
 
     /// A PAC of these buffers.
@@ -218,6 +218,8 @@ impl Pac {
         ensures only { IfSome (R.left reader.old) (λ whole. (bs : List Buffer) → AllFit bs → IsPac bs whole
             → MatchResult result (λ p. pac_buffers p ≡ bs)
             (IsExcuse whole (R.left reader.new) (R.failed reader.old) (R.failed reader.new) (R.last_fault reader.new))) }
+        ensures count { MatchResult result (λ _. R.failed reader.new ≡ R.failed reader.old)
+            (TellsPac (R.left reader.new) (R.failed reader.old) (R.failed reader.new) (R.last_fault reader.new)) }
         ensures refused { IfErr result (λ e. IfSome (R.left reader.old) (λ whole.
             IsRefusal whole (R.left reader.new) (R.failed reader.old) (R.failed reader.new) (R.last_fault reader.new) e)) }
         ensures same { R.through reader.new ≡ R.through reader.old }

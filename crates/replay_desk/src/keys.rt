@@ -57,7 +57,8 @@ impl RowKeys {
 }
 
 /// The keys of a column, which has words between commas: `test`, `noverify`, `nosign`, `nopublic`, `noagree`, `alg=` with an
-/// algorithm, `public=` with a public value, and `agree=` with a secret.
+/// algorithm, `public=` with a public value, and `agree=` with a secret. With `nosign` and `alg=` there is no signature, and so
+/// of the other pairs.
 pub(crate) fn keys_of(alloc: Global, column: &str) -> anyhow::Result<RowKeys> {
     let texts = texts_of(column)?;
     let algorithm = algorithm_of(alloc, texts.algorithm)?;
@@ -93,9 +94,9 @@ fn with_word<'a>(texts: KeyTexts<'a>, word: &'a str) -> anyhow::Result<KeyTexts<
         "nopublic" => texts.public_value = None,
         "noagree" => texts.secret = None,
         _ => match word.split_once('=') {
-            Some(("alg", digits)) => texts.algorithm = Some(digits),
-            Some(("public", digits)) => texts.public_value = Some(digits),
-            Some(("agree", digits)) => texts.secret = Some(digits),
+            Some(("alg", digits)) => texts.algorithm = texts.algorithm.and(Some(digits)),
+            Some(("public", digits)) => texts.public_value = texts.public_value.and(Some(digits)),
+            Some(("agree", digits)) => texts.secret = texts.secret.and(Some(digits)),
             _ => bail!("no keys {word}"),
         },
     }

@@ -1,6 +1,6 @@
-//! Lists of calls of one service. A line `sequence N skew S` begins a fresh service. A further line is a call: the moment in
-//! microseconds after 2000-01-01 | AP-REQ | answer | how many pairs are kept after the call | the greatest moment after it.
-//! A moment before 2000-01-01 has a minus sign.
+//! Lists of calls of one service. A line `sequence N skew S` begins a fresh service, with `des3` behind it one of triple DES. A
+//! further line is a call: the moment in microseconds after 2000-01-01 | AP-REQ | answer | how many pairs are kept after the
+//! call | the greatest moment after it. A moment before 2000-01-01 has a minus sign.
 
 use anyhow::{Context, bail};
 use krb_ap_requests::AdmitRefusal;
@@ -42,7 +42,7 @@ struct Counts {
 /// Replays the lists of a file, and prints each call that is answered otherwise, and how many there were.
 pub(crate) fn replay(rt: &HostRuntime, name: &str) -> anyhow::Result<()> {
     let text = fs::read_to_string(rt, name)?;
-    let mut run = fresh_run(rt.alloc(), 0)?;
+    let mut run = fresh_run(rt.alloc(), "sequence 0 skew 0")?;
     let outcome = replay_lines(rt, &text, &mut run);
     drop(run);
     let Counts {
@@ -77,7 +77,7 @@ fn replay_line(
 ) -> anyhow::Result<()> {
     if line.starts_with("sequence ") {
         counts.sequences = counts.sequences.saturating_add(1);
-        let fresh = fresh_run(rt.alloc(), skew_of(line)?)?;
+        let fresh = fresh_run(rt.alloc(), line)?;
         drop(replace(run, fresh));
         return Ok(());
     }
@@ -98,9 +98,9 @@ fn replay_line(
     Ok(())
 }
 
-/// The skew of a line `sequence N skew S`, in seconds.
-fn skew_of(line: &str) -> anyhow::Result<u64> {
-    let mut words = line.split(' ');
+/// The suite of a line `sequence N skew S`, where `des3` may stand behind, and the skew in seconds.
+fn settings_of(line: &str) -> anyhow::Result<(CipherSuite, u64)> {
+    let mut words = line.trim().split(' ');
     let (Some("sequence"), Some(_number), Some("skew"), Some(skew)) = (
         words.next(),
         words.next(),
@@ -109,15 +109,24 @@ fn skew_of(line: &str) -> anyhow::Result<u64> {
     ) else {
         bail!("a line other than `sequence N skew S`");
     };
-    Ok(skew.trim().parse::<u64>()?)
+    let suite = match words.next() {
+        None => CipherSuite::Aes256CtsHmacSha196,
+        Some("des3") => CipherSuite::Des3CbcSha1Kd,
+        Some(_) => bail!("another suite than des3"),
+    };
+    Ok((suite, skew.parse::<u64>()?))
 }
 
-/// The service `h` of realm R, AES-256, with a key of 32 bytes 01 and number 1, which has seen nothing.
-fn fresh_run(alloc: Global, skew: u64) -> anyhow::Result<Run> {
+/// The service `h` of realm R that a line begins, with a key of bytes 01 and number 1, which has seen nothing.
+fn fresh_run(alloc: Global, line: &str) -> anyhow::Result<Run> {
+    let (suite, skew) = settings_of(line)?;
+    let key: &[u8] = match suite {
+        CipherSuite::Des3CbcSha1Kd => &[1; 24],
+        _ => &[1; 32],
+    };
     let component = Vec::from_slice(alloc, b"h")?;
     let name = vec![in alloc; component]?;
-    let suite = CipherSuite::Aes256CtsHmacSha196;
-    let service = Service::new(alloc, b"R", &name, suite, &[1; 32], 1, skew)?;
+    let service = Service::new(alloc, b"R", &name, suite, key, 1, skew)?;
     let greatest = Moment::new(0).context("no moment")?;
     Ok(Run { service, greatest })
 }

@@ -21,9 +21,14 @@ pub struct Enclosed<T>(pub T);
 pub struct Explicit<const N: u8, T>(pub T);
 
 impl<T: Serialize> Serialize for Enclosed<T> {
-    ghost use Rattle.asn1_der.proofs.Spelling.{wrapped-begins, wrapped-injective};
+    ghost use Rattle.std.specs.Prelude.{refl};
+    ghost use Rattle.asn1_der.specs.Seen.{Alike, seen_part};
+    ghost use Rattle.asn1_der.proofs.Alike.{alike-part};
+    ghost use Rattle.asn1_der.proofs.Spelling.{wrapped-begins, wrapped-injective_as};
 
     ghost tree = { λ value. wrapped octet_string_octet (T.tree value.0) };
+
+    ghost seen = { seen_part (λ value. value.0) T.seen };
 
     ghost refusal = { part_refusal (λ value. value.0) T.refusal };
 
@@ -32,8 +37,8 @@ impl<T: Serialize> Serialize for Enclosed<T> {
     ghost begins = { λ value. wrapped-begins 4 (T.tree value.0) };
 
     ghost injective = { λ v w whole also e.
-        let same = wrapped-injective 4 T.tree T.injective v.0 w.0 whole also e
-        in λ i. record { 0 = same i } };
+        let same = wrapped-injective_as (Alike T.seen) 4 T.tree T.injective v.0 w.0 whole also e
+        in alike-part T.seen v w (λ value. value.0) (λ held. record { 0 = held }) (λ value. refl) same };
 
     fn serialize<W: Sink>(&self, to: &mut Serializer<W>) -> Result<usize, Asn1DerError> {
         to.wrapped(4, &self.0)
@@ -71,9 +76,14 @@ impl<T: Spelled> Spelled for Enclosed<T> {
 }
 
 impl<const N: u8, T: Serialize> Serialize for Explicit<N, T> {
-    ghost use Rattle.asn1_der.proofs.Spelling.{wrapped-begins, wrapped-injective};
+    ghost use Rattle.std.specs.Prelude.{refl};
+    ghost use Rattle.asn1_der.specs.Seen.{Alike, seen_part};
+    ghost use Rattle.asn1_der.proofs.Alike.{alike-part};
+    ghost use Rattle.asn1_der.proofs.Spelling.{wrapped-begins, wrapped-injective_as};
 
     ghost tree = { λ value. wrapped (160 + N % 16) (T.tree value.0) };
+
+    ghost seen = { seen_part (λ value. value.0) T.seen };
 
     ghost refusal = { part_refusal (λ value. value.0) T.refusal };
 
@@ -82,8 +92,8 @@ impl<const N: u8, T: Serialize> Serialize for Explicit<N, T> {
     ghost begins = { λ value. wrapped-begins (160 + N % 16) (T.tree value.0) };
 
     ghost injective = { λ v w whole also e.
-        let same = wrapped-injective (160 + N % 16) T.tree T.injective v.0 w.0 whole also e
-        in λ i. record { 0 = same i } };
+        let same = wrapped-injective_as (Alike T.seen) (160 + N % 16) T.tree T.injective v.0 w.0 whole also e
+        in alike-part T.seen v w (λ value. value.0) (λ held. record { 0 = held }) (λ value. refl) same };
 
     fn serialize<W: Sink>(&self, to: &mut Serializer<W>) -> Result<usize, Asn1DerError> {
         to.wrapped(160 + N % 16, &self.0)

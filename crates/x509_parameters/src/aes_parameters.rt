@@ -143,7 +143,9 @@ impl Tagged for AesAuthEncParams {
     }
 }
 
-impl Exact for AesAuthEncParams {}
+impl Exact for AesAuthEncParams {
+    ghost plain = { tt };
+}
 
 impl Serialize for AesParameters {
     ghost use Rattle.std.proofs.Common.{refl, true};
@@ -183,4 +185,6 @@ impl Deserialize for AesParameters {
     }
 }
 
-impl Exact for AesParameters {}
+impl Exact for AesParameters {
+    ghost plain = { tt };
+}

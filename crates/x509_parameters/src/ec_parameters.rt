@@ -92,4 +92,6 @@ impl Tagged for EcParameters {
     }
 }
 
-impl Exact for EcParameters {}
+impl Exact for EcParameters {
+    ghost plain = { tt };
+}

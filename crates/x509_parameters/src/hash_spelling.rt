@@ -13,7 +13,9 @@ use x509_spelling::{Counted, Exact, Implied, Spelled, SpelledFields, X509Fault, 
 
 type HashRow = Row2<HashOid, Implied<Null<HashNull>>>;
 
-impl Exact for HashOid {}
+impl Exact for HashOid {
+    ghost plain = { tt };
+}
 
 impl Serialize for HashAlgorithm {
     ghost use Rattle.std.proofs.Common.{refl, true};

@@ -67,7 +67,9 @@ impl Leaf for Mgf1Oid {
     }
 }
 
-impl Exact for Mgf1Oid {}
+impl Exact for Mgf1Oid {
+    ghost plain = { tt };
+}
 
 impl Serialize for MaskGenAlgorithm {
     ghost use Rattle.std.proofs.Common.{refl, true};

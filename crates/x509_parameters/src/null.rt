@@ -96,7 +96,9 @@ impl<K> Tagged for Null<K> {
     }
 }
 
-impl<R> Exact for Null<R> {}
+impl<R> Exact for Null<R> {
+    ghost plain = { tt };
+}
 
 impl<R> HasDefault for Null<R> {
     ghost use Rattle.std.specs.Prelude.{true, refl};
@@ -112,6 +114,8 @@ impl<R> HasDefault for Null<R> {
     fn default_value(_alloc: Global) -> Result<Self, AllocError> {
         Ok(Null::new())
     }
+
+    ghost kept = { λ _ _ _. refl };
 }
 
 impl<R: NullRule> Deviates for Null<R> {

@@ -193,4 +193,6 @@ impl Deserialize for DirectoryString {
     }
 }
 
-impl Exact for DirectoryString {}
+impl Exact for DirectoryString {
+    ghost plain = { tt };
+}

@@ -87,6 +87,7 @@ impl Spelled for RawParameters {
 }
 
 impl HasDefault for RawParameters {
+    ghost use Rattle.std.proofs.Common.{ap};
     ghost use Rattle.x509_parts.specs.RawParameters.{is_null, one_null};
 
     ghost is_default_value = { λ v. is_null v.0 };
@@ -100,6 +101,8 @@ impl HasDefault for RawParameters {
     fn default_value(alloc: Global) -> Result<Self, AllocError> {
         Ok(null_parameters(alloc))
     }
+
+    ghost kept = { λ v w e. ap (λ parameters. is_null parameters.0) e };
 }
 
 impl Deviates for RawParameters {

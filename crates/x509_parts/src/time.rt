@@ -172,4 +172,6 @@ impl Deserialize for Time {
     }
 }
 
-impl Exact for Time {}
+impl Exact for Time {
+    ghost plain = { tt };
+}

@@ -60,4 +60,6 @@ impl Tagged for Validity {
     }
 }
 
-impl Exact for Validity {}
+impl Exact for Validity {
+    ghost plain = { tt };
+}

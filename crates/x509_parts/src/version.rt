@@ -94,9 +94,12 @@ impl Leaf for Version {
     }
 }
 
-impl Exact for Version {}
+impl Exact for Version {
+    ghost plain = { tt };
+}
 
 impl HasDefault for Version {
+    ghost use Rattle.std.proofs.Common.{ap};
     ghost use Rattle.std.specs.Prelude.{◌==◌};
     ghost use Rattle.x509_parts.specs.Versions.{version_number, one_version_1};
 
@@ -111,6 +114,8 @@ impl HasDefault for Version {
     fn default_value(_alloc: Global) -> Result<Self, AllocError> {
         Ok(Version::default())
     }
+
+    ghost kept = { λ v w e. ap (λ version. version_number version == 0) e };
 }
 
 impl Deviates for Version {

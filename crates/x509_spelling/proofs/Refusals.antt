@@ -2,11 +2,13 @@
 use Rattle.std.proofs.Common.{◌≡◌, ℕ, ◌∷◌, length, arith, Bool, true, false, Option, None, Some, append-nil, List, [], ◌++◌, Result, Ok, Err, refl, sym, ap, ◌∙◌, subst, inl, inr}
 use Rattle.std.specs.Prelude.{◌==◌}
 use Rattle.std.proofs.lemmas.Bool.{eqb-true}
+use Rattle.asn1_der.specs.Seen.{Seen}
 use Rattle.asn1_der.specs.Tree.{Tree, Writes}
 use Rattle.asn1_der.specs.Length.{element}
 use Rattle.asn1_der.specs.Firsts.{Firsts}
 use Rattle.asn1_der.proofs.Elements.{element-one, element-content, element-split}
 use Rattle.picky_asn1_der.specs.Reads.{ReadsWhole}
+use Rattle.asn1_codec.proofs.ReadsLemmas.{gives-none}
 use Rattle.asn1_der.specs.declared.error.Asn1DerError.{Asn1DerError}
 use Rattle.asn1_der.specs.declared.error.Asn1DerError.TheVariants as der_fault
 use Rattle.picky_asn1_der.specs.Splits.{IsNoSplit}
@@ -23,14 +25,19 @@ pub refused_by : {A B : Type 0} (P : A → ℕ → Type 0) (Q : B → ℕ → Ty
 refused_by P Q fault (inl memory) also = inl memory
 refused_by P Q fault (inr none) also = inr (λ b n q. let found = also b n q in none found.0 found.1 found.2)
 
-module _ {T : Type 0} (tree : T → Tree) (bytes : List ℕ) where
-  pub exact_refused : (fault : Asn1DerError) → ReadsWhole (Writes tree) bytes (Err fault) → IsRefusal (λ v n. IsExact tree v bytes n) (fault_of fault)
+module _ {T : Type 0} (seen : Seen T) (tree : T → Tree) (bytes : List ℕ) where
+  pub exact_refused : (fault : Asn1DerError) → ReadsWhole seen (Writes tree) bytes (Err fault) → IsRefusal (λ v n. IsExact tree v bytes n) (fault_of fault)
   exact_refused fault (inl memory) = let same_fault : fault ≡ der_fault.Memory = cc (memory) in inl (ap fault_of same_fault)
-  exact_refused fault (inr reads) = inr (λ v n s. let read : Err fault ≡ Ok v = (reads v).1 s.0 in cc (read))
+  exact_refused fault (inr reads) = inr (λ v n s. gives-none seen fault v ((reads v).1 s.0))
 
-  pub exact_told : (value : T) → ReadsWhole (Writes tree) bytes (Ok value) → IsExact tree value bytes 0
+  pub exact_told : (value : T) → ReadsWhole seen (Writes tree) bytes (Ok value) → IsExact tree value bytes 0
   exact_told value (inl memory) = absurd (cc (memory))
   exact_told value (inr reads) = ((reads value).0 refl, refl)
+
+-- what is told by a tree is told by the same tree
+pub exact_as : {T : Type 0} (tree other : T → Tree) → tree ≡ other → (bytes : List ℕ) (r : Result (Counted T) X509Fault)
+    → Tells (λ v n. IsExact tree v bytes n) r → Tells (λ v n. IsExact other v bytes n) r
+exact_as {T} tree other same bytes r told = subst (λ (t : T → Tree). Tells (λ v n. IsExact t v bytes n) r) same told
 
 module _ {T : Type 0} (is_low : Bool) (firsts : Firsts) (tree : T → Tree) (spells : T → List ℕ → ℕ → Type 0) (laws : SpellingLaws is_low firsts tree spells) (bytes : List ℕ) where
   -- where no element begins the bytes, no spelling does

@@ -2,6 +2,7 @@ pub mod Deviations
 pub mod Spellings
 pub mod Answers
 pub mod Laws
+pub mod PlainLaws
 pub mod FieldLaws
 pub mod RowLaws
 pub use Rattle.asn1_der.specs.Firsts

@@ -47,10 +47,12 @@ impl<const FIELD: u8> Tagged for DefaultFalse<FIELD> {
     }
 }
 
-impl<const FIELD: u8> Exact for DefaultFalse<FIELD> {}
+impl<const FIELD: u8> Exact for DefaultFalse<FIELD> {
+    ghost plain = { tt };
+}
 
 impl<const FIELD: u8> HasDefault for DefaultFalse<FIELD> {
-    ghost use Rattle.std.specs.Prelude.{not};
+    ghost use Rattle.std.proofs.Common.{ap, not};
     ghost use Rattle.x509_spelling.specs.Defaults.{one_false};
 
     ghost is_default_value = { λ flag. not flag.0 };
@@ -64,6 +66,8 @@ impl<const FIELD: u8> HasDefault for DefaultFalse<FIELD> {
     fn default_value(_alloc: Global) -> Result<Self, AllocError> {
         Ok(DefaultFalse(false))
     }
+
+    ghost kept = { λ v w e. ap (λ flag. not flag.0) e };
 }
 
 impl Deviates for Critical {

@@ -6,25 +6,29 @@ ghost use Rattle.x509_spelling.specs.Answers.{Tells};
 use crate::counted::Counted;
 use crate::fault::X509Fault;
 use crate::spelled::Spelled;
-use picky_asn1_der::{Deserialize, from_exact_bytes};
+use picky_asn1_der::{Deserialize, Serialize, from_exact_bytes};
 use std::alloc::Global;
 
 /// A type of which each value has its DER as its one spelling, so that nothing deviates in it.
-pub trait Exact {}
+pub trait Exact: Serialize {
+    ghost use Rattle.x509_spelling.specs.PlainLaws.{IsPlain};
+
+    ghost plain: { IsPlain Self.seen };
+}
 
 impl<T: Exact + Deserialize + Drop> Spelled for T {
-    ghost use Rattle.std.specs.Prelude.{refl};
     ghost use Rattle.x509_spelling.specs.Laws.{are_low, exact_laws};
+    ghost use Rattle.x509_spelling.specs.PlainLaws.{plain_tree, plain-is, plain-begins, plain-injective};
 
-    ghost spells = { IsExact T.tree };
+    ghost spells = { IsExact (plain_tree T.seen T.tree) };
 
-    ghost written = { T.tree };
+    ghost written = { plain_tree T.seen T.tree };
 
     ghost begun = { T.firsts };
 
     ghost has_low_tags = { are_low T.firsts };
 
-    ghost laws = { exact_laws T.firsts T.tree T.begins T.injective };
+    ghost laws = { exact_laws T.firsts (plain_tree T.seen T.tree) (plain-begins T.seen T.firsts T.tree T.begins) (plain-injective T.seen T.tree T.injective) };
 
     fn may_begin_with(first: u8) -> bool {
         T::may_start(first)
@@ -34,7 +38,7 @@ impl<T: Exact + Deserialize + Drop> Spelled for T {
         read_exact(alloc, bytes)
     }
 
-    ghost written_is = { refl };
+    ghost written_is = { plain-is T.seen T.tree T.plain };
 }
 
 /// The value whose DER the bytes are, in which nothing deviates.

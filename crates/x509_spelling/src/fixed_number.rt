@@ -2,6 +2,7 @@
 ghost use Rattle.std.specs.Prelude.{◌≡◌, ◌%◌, IfOk};
 ghost use Rattle.asn1_der.specs.Octets.{integer_octet};
 
+use crate::exact::Exact;
 use asn1_der::octets::INTEGER;
 use devices::Sink;
 use picky_asn1_der::{Asn1DerError, Leaf, Rule, Serializer};
@@ -43,4 +44,8 @@ impl<const N: u8> Leaf for FixedNumber<N> {
     ) -> Result<usize, Asn1DerError> {
         to.element(tag, &[N % 128])
     }
+}
+
+impl<const N: u8> Exact for FixedNumber<N> {
+    ghost plain = { tt };
 }

@@ -5,33 +5,81 @@ use picky_asn1::wrapper::{
     IntegerAsn1, ObjectIdentifierAsn1, OctetStringAsn1, PrintableStringAsn1, UTCTimeAsn1,
     Utf8StringAsn1,
 };
+use picky_asn1_der::{BitStringContainer, Deserialize, ImplicitContextTag, IsTagNumber, TagNumber};
 
-impl Exact for bool {}
+impl Exact for bool {
+    ghost plain = { tt };
+}
 
-impl Exact for () {}
+impl Exact for () {
+    ghost plain = { tt };
+}
 
-impl Exact for u8 {}
+impl Exact for u8 {
+    ghost plain = { tt };
+}
 
-impl Exact for IntegerAsn1 {}
+impl Exact for IntegerAsn1 {
+    ghost plain = { tt };
+}
 
-impl Exact for OctetStringAsn1 {}
+impl Exact for OctetStringAsn1 {
+    ghost plain = { tt };
+}
 
-impl Exact for BitStringAsn1 {}
+impl Exact for BitStringAsn1 {
+    ghost plain = { tt };
+}
 
-impl Exact for ObjectIdentifierAsn1 {}
+impl Exact for ObjectIdentifierAsn1 {
+    ghost plain = { tt };
+}
 
-impl Exact for PrintableStringAsn1 {}
+impl Exact for PrintableStringAsn1 {
+    ghost plain = { tt };
+}
 
-impl Exact for Utf8StringAsn1 {}
+impl Exact for Utf8StringAsn1 {
+    ghost plain = { tt };
+}
 
-impl Exact for IA5StringAsn1 {}
+impl Exact for IA5StringAsn1 {
+    ghost plain = { tt };
+}
 
-impl Exact for BmpStringAsn1 {}
+impl Exact for BmpStringAsn1 {
+    ghost plain = { tt };
+}
 
-impl Exact for UTCTimeAsn1 {}
+impl Exact for UTCTimeAsn1 {
+    ghost plain = { tt };
+}
 
-impl Exact for GeneralizedTimeAsn1 {}
+impl Exact for GeneralizedTimeAsn1 {
+    ghost plain = { tt };
+}
 
-impl<T: Exact> Exact for Asn1SequenceOf<T> {}
+impl<T: Exact + Deserialize + Drop> Exact for Asn1SequenceOf<T> {
+    ghost use Rattle.x509_spelling.specs.PlainLaws.{plain-list};
 
-impl<T: Exact> Exact for Asn1SetOf<T> {}
+    ghost plain = { plain-list T.seen T.plain };
+}
+
+impl<T: Exact + Deserialize + Drop> Exact for Asn1SetOf<T> {
+    ghost use Rattle.x509_spelling.specs.PlainLaws.{plain-list};
+
+    ghost plain = { plain-list T.seen T.plain };
+}
+
+impl<T: Exact + Deserialize + Drop> Exact for BitStringContainer<T> {
+    ghost use Rattle.x509_spelling.specs.PlainLaws.{plain-part};
+
+    ghost plain = { plain-part (λ value. value.0) T.seen T.plain };
+}
+
+impl<const N: u8> Exact for ImplicitContextTag<N, BitStringAsn1>
+where
+    TagNumber<N>: IsTagNumber,
+{
+    ghost plain = { tt };
+}

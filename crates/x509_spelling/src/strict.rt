@@ -10,6 +10,9 @@ use picky_asn1_der::{Asn1DerError, Deserialize, Deserializer, Serialize, Seriali
 pub struct Strict<T>(pub T);
 
 impl<T: Serialize> Serialize for Strict<T> {
+    ghost use Rattle.std.specs.Prelude.{refl};
+    ghost use Rattle.asn1_der.specs.Seen.{seen_part};
+    ghost use Rattle.asn1_der.proofs.Alike.{alike-part};
     ghost use Rattle.asn1_codec.specs.Refusals.{part_refusal};
 
     ghost tree = { λ value. T.tree value.0 };
@@ -20,7 +23,10 @@ impl<T: Serialize> Serialize for Strict<T> {
 
     ghost begins = { λ value. T.begins value.0 };
 
-    ghost injective = { λ v w whole also e. let same = T.injective v.0 w.0 whole also e in λ i. record { 0 = same i } };
+    ghost seen = { seen_part (λ value. value.0) T.seen };
+
+    ghost injective = { λ v w whole also e.
+        alike-part T.seen v w (λ value. value.0) (λ held. record { 0 = held }) (λ value. refl) (T.injective v.0 w.0 whole also e) };
 
     fn serialize<W: Sink>(&self, to: &mut Serializer<W>) -> Result<usize, Asn1DerError> {
         self.0.serialize(to)
@@ -38,4 +44,8 @@ impl<T: Deserialize + Drop> Deserialize for Strict<T> {
     }
 }
 
-impl<T> Exact for Strict<T> {}
+impl<T: Exact> Exact for Strict<T> {
+    ghost use Rattle.x509_spelling.specs.PlainLaws.{plain-part};
+
+    ghost plain = { plain-part (λ value. value.0) T.seen T.plain };
+}

@@ -155,4 +155,6 @@ impl Tagged for ExtendedKeyUsage {
     }
 }
 
-impl Exact for ExtendedKeyUsage {}
+impl Exact for ExtendedKeyUsage {
+    ghost plain = { tt };
+}

@@ -281,4 +281,6 @@ impl Tagged for KeyUsage {
     }
 }
 
-impl Exact for KeyUsage {}
+impl Exact for KeyUsage {
+    ghost plain = { tt };
+}

@@ -2,6 +2,7 @@ use Rattle.std.proofs.Common.{sym, subst}
 use Rattle.std.specs.Io.KnownBytes.{Consumes}
 use Rattle.byte_layouts.proofs.Exits.{at-exit}
 use Rattle.pac_layouts.proofs.RefusalLaws.{pac-refused, pac-broken, excused-refused, excused-only, refused-only, given-only}
+use Rattle.pac_layouts.proofs.StopLaws.{pac-told, pac-failed}
 use Rattle.pac_layouts.proofs.pac.Pac.deserialize.Goals as goal
 
 pub returns-in_err-pac-clause-only : goal.returns-in_err-pac-clause-only
@@ -38,3 +39,12 @@ returns-clause-refused g c =
     (pac-broken (g.R.Source.left c.args.reader.now) (g.R.Source.left c.read_to_stop.new.reader) c.in_ok-came.came.fault _ _ _ c.deref.result.now c.in-Some.kind _
     (subst (Consumes (g.R.Source.left c.args.reader.now) (g.R.Source.left c.read_to_stop.new.reader)) (sym c.deref.ensures.value) c.in_ok-came.ensures.bytes)
     c.in-Some.is c.in_ok-came.ensures.fault c.in_ok-pac.ensures.exact)
+
+pub returns-in_err-pac-clause-count : goal.returns-in_err-pac-clause-count
+returns-in_err-pac-clause-count g c =
+    at-exit _ _ _ _ c.from_residual-in_err-pac.ensures.1
+    (pac-told (g.R.Source.left c.read_to_stop.new.reader) c.in_ok-came.came.fault _ _ _ c.deref.result.now _
+    c.in_ok-came.ensures.end c.in_ok-came.ensures.fault c.in_err-pac.ensures.exact)
+
+pub returns-clause-count : goal.returns-clause-count
+returns-clause-count g c = pac-failed _ c.in_ok-came.came.fault _ _ _ c.in-Some.kind c.in-Some.is c.in_ok-came.ensures.fault

@@ -1,13 +1,11 @@
 //! The messages of the faults of settings files: line, word, and what was expected.
 
-use crate::account::ACCOUNT_FIELDS;
 use crate::lines::Section;
 use crate::outline::Outline;
-use crate::realm::REALM_FIELDS;
 use crate::rules::key_digits;
-use crate::table::is_among;
 use crate::words::{Names, Word, expected, kind};
-use crate::{Field, Place, Remark, SettingsFault, TableFault};
+use crate::{Place, Remark};
+use krb_settings::{ACCOUNT_FIELDS, Field, REALM_FIELDS, SettingsFault, TableFault, is_among};
 use std::alloc::{AllocError, Global};
 use std::str;
 use toml::{Value, de};

@@ -1,9 +1,5 @@
 //! The words of messages about settings files.
-ghost use Rattle.std.specs.Prelude.{◌≡◌};
-ghost use Rattle.krb_settings.specs.Fields.{suite_name};
-
-use crate::Field;
-use krb_crypto::CipherSuite;
+use krb_settings::Field;
 use std::fmt;
 use toml::Value;
 
@@ -15,7 +11,7 @@ const SHOWN_LIMIT: usize = 30;
 pub(crate) struct Word<'a>(pub(crate) &'a str);
 
 impl<'a> fmt::Display for Word<'a> {
-    ghost use Rattle.krb_settings.specs.Messages.{word_text};
+    ghost use Rattle.krb_settings_check.specs.Messages.{word_text};
 
     ghost output = { λ word. word_text word.0.now };
 
@@ -36,7 +32,7 @@ pub(crate) struct Names<'a>(pub(crate) &'a [Field]);
 
 impl<'a> fmt::Display for Names<'a> {
     ghost use Rattle.std.specs.Prelude.{Some};
-    ghost use Rattle.krb_settings.specs.Messages.{names_text};
+    ghost use Rattle.krb_settings_check.specs.Messages.{names_text};
 
     ghost output = { λ names. Some (names_text names.0.now) };
 
@@ -55,7 +51,7 @@ struct FurtherNames<'a>(&'a [Field]);
 
 impl<'a> fmt::Display for FurtherNames<'a> {
     ghost use Rattle.std.specs.Prelude.{Some};
-    ghost use Rattle.krb_settings.specs.Messages.{further_names_text};
+    ghost use Rattle.krb_settings_check.specs.Messages.{further_names_text};
 
     ghost output = { λ further. Some (further_names_text further.0.now) };
 
@@ -92,19 +88,5 @@ pub(crate) fn kind(value: &Value) -> &'static str {
         Value::Datetime(_) => "a date or a time",
         Value::Array(_) => "a list",
         Value::Table(_) => "a table",
-    }
-}
-
-/// The name of a suite, as files have it (RFC 3961, section 6.3; RFC 3962, section 7; RFC 8009, section 4).
-#[tactic(auto, unfolding(crate::specs::Fields::suite_name))]
-pub(crate) fn suite_name(suite: CipherSuite) -> &'static str
-    ensures { result.now ≡ suite_name suite }
-{
-    match suite {
-        CipherSuite::Aes128CtsHmacSha196 => "aes128-cts-hmac-sha1-96",
-        CipherSuite::Aes256CtsHmacSha196 => "aes256-cts-hmac-sha1-96",
-        CipherSuite::Des3CbcSha1Kd => "des3-cbc-sha1-kd",
-        CipherSuite::Aes128CtsHmacSha256128 => "aes128-cts-hmac-sha256-128",
-        CipherSuite::Aes256CtsHmacSha384192 => "aes256-cts-hmac-sha384-192",
     }
 }

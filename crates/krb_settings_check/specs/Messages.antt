@@ -8,11 +8,11 @@ use Rattle.toml.specs.View.{view}
 use Rattle.toml.specs.declared.value.Value.{Value}
 use Rattle.krb_settings.specs.Fields.{field_name}
 use Rattle.krb_settings.specs.declared.field.Field.{Field}
-use Rattle.krb_settings.specs.declared.place.Place.{Place}
-use Rattle.krb_settings.specs.declared.place.Place.TheVariants as place
-use Rattle.krb_settings.specs.declared.remark.Remark.{Remark}
-use Rattle.krb_settings.specs.declared.rules.Slip.{Slip}
-use Rattle.krb_settings.specs.declared.rules.Slip.TheVariants as slip
+use Rattle.krb_settings_check.specs.declared.place.Place.{Place}
+use Rattle.krb_settings_check.specs.declared.place.Place.TheVariants as place
+use Rattle.krb_settings_check.specs.declared.remark.Remark.{Remark}
+use Rattle.krb_settings_check.specs.declared.rules.Slip.{Slip}
+use Rattle.krb_settings_check.specs.declared.rules.Slip.TheVariants as slip
 
 -- what messages about a table begin with: nothing for the file's own table, and the number of an account
 abbrev pub place_text : Place → List ℕ

@@ -14,7 +14,7 @@ pub enum Place {
 /// What messages about the table begin with.
 impl fmt::Display for Place {
     ghost use Rattle.std.specs.Prelude.{Some};
-    ghost use Rattle.krb_settings.specs.Messages.{place_text};
+    ghost use Rattle.krb_settings_check.specs.Messages.{place_text};
 
     ghost output = { λ place. Some (place_text place) };
 

@@ -1,6 +1,6 @@
 //! What is said of a settings file, and of which line.
 ghost use Rattle.std.specs.Prelude.{◌≡◌, ◌++◌, IfOk, IfSome, codes, string_bytes};
-ghost use Rattle.krb_settings.specs.Messages.{place_text};
+ghost use Rattle.krb_settings_check.specs.Messages.{place_text};
 
 use crate::Place;
 use std::alloc::{AllocError, Global};
@@ -63,7 +63,7 @@ impl Remark {
 
 impl fmt::Display for Remark {
     ghost use Rattle.std.specs.Prelude.{Some};
-    ghost use Rattle.krb_settings.specs.Messages.{remark_text};
+    ghost use Rattle.krb_settings_check.specs.Messages.{remark_text};
 
     ghost output = { λ remark. Some (remark_text remark) };
 

@@ -1,7 +1,7 @@
 use Rattle.std.proofs.Common.{take}
 use Rattle.std.specs.Fmt.{HasWritten, IsPlainFormatter}
-use Rattle.krb_settings.specs.Messages.{further_names_text}
-use Rattle.krb_settings.proofs.words.FurtherNamesDisplay.fmt.Given as goal
+use Rattle.krb_settings_check.specs.Messages.{further_names_text}
+use Rattle.krb_settings_check.proofs.words.FurtherNamesDisplay.fmt.Given as goal
 
 abbrev pub invariant-loop-field : goal.invariant-loop-field
 invariant-loop-field g l =

@@ -2,9 +2,9 @@ use Rattle.std.proofs.Common.{◌∷◌, ◌++◌, [], Some, is_ok, take, ap, sy
 use Rattle.std.specs.Fmt.{◌++?◌, comma_space, debug_items}
 use Rattle.std.proofs.Debugs.{shows_from, shows_then}
 use Rattle.std.proofs.lemmas.List.{take_more}
-use Rattle.krb_settings.specs.Messages.{component_text}
-use Rattle.krb_settings.proofs.Items.{items_more}
-use Rattle.krb_settings.proofs.rules.FurtherComponentsDisplay.fmt.Goals as goal
+use Rattle.krb_settings_check.specs.Messages.{component_text}
+use Rattle.krb_settings_check.proofs.Items.{items_more}
+use Rattle.krb_settings_check.proofs.rules.FurtherComponentsDisplay.fmt.Goals as goal
 
 pub loop-component-preserved : goal.loop-component-preserved
 loop-component-preserved g c = λ plain.

@@ -1,8 +1,8 @@
 use Rattle.std.proofs.Common.{codes, take}
 use Rattle.std.specs.Fmt.{IsPlainFormatter, debug_items}
 use Rattle.std.proofs.Debugs.{Shows}
-use Rattle.krb_settings.specs.Messages.{component_text}
-use Rattle.krb_settings.proofs.rules.FurtherComponentsDisplay.fmt.Given as goal
+use Rattle.krb_settings_check.specs.Messages.{component_text}
+use Rattle.krb_settings_check.proofs.rules.FurtherComponentsDisplay.fmt.Given as goal
 
 abbrev pub invariant-loop-component : goal.invariant-loop-component
 invariant-loop-component g l =

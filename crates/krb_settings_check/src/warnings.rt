@@ -2,8 +2,9 @@
 
 use crate::des3::{has_odd_parity, has_weak_part};
 use crate::outline::Outline;
-use crate::{AccountSettings, Field, Place, RealmSettings, Remark, Secret};
+use crate::{Place, Remark};
 use krb_crypto::CipherSuite;
+use krb_settings::{AccountSettings, Field, RealmSettings, Secret};
 use std::alloc::{AllocError, Global};
 
 const REALM_CONTROL: &str = "realm has a control character: expected printable characters";

@@ -1,9 +1,9 @@
 //! The messages of what a realm refuses in a settings file: line, word, and what was expected.
 
 use crate::outline::Outline;
-use crate::table::suite_at;
-use crate::words::{expected, suite_name};
-use crate::{Field, Place, Remark};
+use crate::words::expected;
+use crate::{Place, Remark};
+use krb_settings::{Field, suite_at, suite_name};
 use std::alloc::{AllocError, Global};
 use std::fmt;
 use toml::Value;
@@ -134,7 +134,7 @@ enum Slip {
 
 impl fmt::Display for Slip {
     ghost use Rattle.std.specs.Prelude.{Some};
-    ghost use Rattle.krb_settings.specs.Messages.{slip_text};
+    ghost use Rattle.krb_settings_check.specs.Messages.{slip_text};
 
     ghost output = { λ slip. Some (slip_text slip) };
 
@@ -250,7 +250,7 @@ fn are_same(components: &[Value], others: &[Value]) -> bool {
 struct Components<'a>(&'a [Value]);
 
 impl<'a> fmt::Display for Components<'a> {
-    ghost use Rattle.krb_settings.specs.Messages.{components_text};
+    ghost use Rattle.krb_settings_check.specs.Messages.{components_text};
 
     ghost output = { λ components. components_text components.0.now };
 
@@ -271,7 +271,7 @@ struct FurtherComponents<'a>(&'a [Value]);
 impl<'a> fmt::Display for FurtherComponents<'a> {
     ghost use Rattle.std.specs.Prelude.{codes};
     ghost use Rattle.std.specs.Fmt.{debug_items};
-    ghost use Rattle.krb_settings.specs.Messages.{component_text};
+    ghost use Rattle.krb_settings_check.specs.Messages.{component_text};
 
     ghost output = { λ further. debug_items component_text (codes ", ") further.0.now };
 
@@ -289,7 +289,7 @@ impl<'a> fmt::Display for FurtherComponents<'a> {
 struct Component<'a>(&'a Value);
 
 impl<'a> fmt::Display for Component<'a> {
-    ghost use Rattle.krb_settings.specs.Messages.{component_text};
+    ghost use Rattle.krb_settings_check.specs.Messages.{component_text};
 
     ghost output = { λ component. component_text component.0.now };
 

@@ -1,8 +1,8 @@
 //! A settings file's document beside the lines of its keys.
 
+use crate::Place;
 use crate::lines::{KeyLine, key_lines};
-use crate::table::is_among;
-use crate::{Field, Place};
+use krb_settings::{Field, is_among};
 use std::alloc::{AllocError, Global};
 use std::str;
 use toml::{Table, Value};

@@ -1,7 +1,8 @@
 //! The lines of a settings file on which its keys stand.
 
+use crate::Place;
 use crate::scan::Scan;
-use crate::{Field, Place};
+use krb_settings::Field;
 use std::alloc::{AllocError, Global};
 use toml_parser::{Key, ParseError, dotted_key};
 

@@ -1,0 +1,22 @@
+//! Messages about settings files: what is wrong with one and where, and what is likely a slip in it.
+//!
+//! [`explain`] gives the message of a file's fault: line, word, and what was expected. [`warnings_of`] gives what is likely a slip.
+//! None of them shows a key or a password.
+#![tactic(auto)]
+
+mod des3;
+mod lines;
+mod messages;
+mod outline;
+mod place;
+mod remark;
+mod rules;
+mod scan;
+mod warnings;
+mod words;
+
+pub use messages::explain;
+pub use place::Place;
+pub use remark::Remark;
+pub use rules::{Rule, explain_rule};
+pub use warnings::warnings_of;
