@@ -146,7 +146,7 @@ module _ (own other : KeysRecord) (content_type content certificate bytes : Byte
         signs = λ text is.
             subst (λ (t : Bytes). (made : Signed) × (own.sign t ≡ Some made)
             × (other.verifies read.0.certificate.tbs_certificate.subject_public_key_info made.algorithm t made.signature ≡ true))
-            (sym (only text is)) (w.signed, (w.signs, verified read.0.certificate accepts.2));
+            (sym (only text is)) (w.signed, w.signs, verified read.0.certificate accepts.2);
       }
 
 -- how a realm comes to its secret by the client's public value, and to its reply
