@@ -8,7 +8,7 @@ CRATES := $(sort $(notdir $(patsubst %/src,%,$(wildcard crates/*/src))))
 REALM := out/realm
 
 .DEFAULT_GOAL := help
-.PHONY: help try messages certificate check gate faults run clients gss bench plant fmt docs budget crate-named
+.PHONY: help try messages certificate test check gate faults settings run clients gss bench plant fmt docs budget crate-named bridge-there
 
 help: ## list the targets
 	@sed -n 's/^\([a-z]*\):[^#]*## /\1\t/p' Makefile | expand -t 14
@@ -22,6 +22,9 @@ messages: ## read, change and write messages through picky_krb, without proof: o
 certificate: ## read a certificate, without proof: one minute
 	cd crates/example_certificate && $(RT) try --data certificate.der=data/certificate.der </dev/null
 
+test: $(if $(CRATE),crate-named) ## run every test and program without proof, or those of one crate: make test CRATE=test_der
+	RT="$(RT)" tools/test $(CRATE)
+
 check: crate-named ## prove one crate and what it stands on: make check CRATE=krb_tgs
 	cd crates/$(CRATE) && $(RT) check
 
@@ -32,10 +35,14 @@ faults: ## refuse memory to the built programs, request by request, and send the
 	bench/refused_growths.sh
 	bench/hostile.sh
 
-run: $(REALM)/settings.toml ## serve a realm to stock clients on 127.0.0.1 (PORT=8888); proves the program first
+settings: ## say what is wrong with a settings file, without proof: make settings FILE=examples/settings.toml
+	@test -f "$(FILE)" || { echo "make: name a file, as in make settings FILE=examples/settings.toml" >&2; exit 2; }
+	cd crates/krb_realm_check && $(RT) try --data $(notdir $(FILE))=$(abspath $(FILE)) -- $(notdir $(FILE)) </dev/null
+
+run: bridge-there $(REALM)/settings.toml ## serve a realm to stock clients on 127.0.0.1 (PORT=8888); proves the program first
 	printf '%s\n' '[libdefaults]' 'default_realm = EXAMPLE.COM' 'dns_lookup_kdc = false' 'udp_preference_limit = 1' \
 		'dns_canonicalize_hostname = false' '[realms]' 'EXAMPLE.COM = {' 'kdc = 127.0.0.1:$(PORT)' '}' >$(REALM)/krb5.conf
-	./krb_realm </dev/null
+	RT="$(RT)" ./krb_realm </dev/null
 	@echo "Then, in another terminal: export KRB5_CONFIG=$(CURDIR)/$(REALM)/krb5.conf; kinit user"
 	socat TCP-LISTEN:$(PORT),bind=127.0.0.1,fork,reuseaddr \
 		EXEC:"crates/krb_realmd/out/krb_realmd $(REALM)/settings.toml /dev/urandom now"
@@ -52,7 +59,7 @@ bench: ## time the program: make bench BENCH=as_exchange (a script of bench/)
 plant: crate-named ## list wrong bodies that a crate's contracts let through: make plant CRATE=krb_tgs
 	cd crates/$(CRATE) && $(RT) plant
 
-fmt: ## lay out the files of each crate, or of one: make fmt CRATE=krb_tgs
+fmt: $(if $(CRATE),crate-named) ## lay out the files of each crate, or of one: make fmt CRATE=krb_tgs
 	for crate in $(or $(CRATE),$(CRATES)); do (cd crates/$$crate && $(RT) fmt) || exit 1; done
 
 docs: ## check that the paths, crates and words that the documents name exist
@@ -63,7 +70,11 @@ budget: ## the gate in a clean clone, with its minutes crate by crate
 	bench/gate.sh
 
 crate-named:
-	@test -d "crates/$(CRATE)/src" || { echo "make: name a crate, as in make check CRATE=krb_tgs" >&2; exit 2; }
+	@test -n "$(CRATE)" || { echo "make: name a crate, as in make check CRATE=krb_tgs" >&2; exit 2; }
+	@test -d "crates/$(CRATE)/src" || { echo "make: there is no crate $(CRATE): crates.txt lists them" >&2; exit 2; }
+
+bridge-there:
+	@command -v socat >/dev/null || { echo "make: socat is missing (Debian: socat)" >&2; exit 2; }
 
 $(REALM)/settings.toml: | examples/settings.toml
 	mkdir -p $(REALM)

@@ -60,4 +60,6 @@ impl Tagged for EncapsulatedContentInfo {
     }
 }
 
-impl Exact for EncapsulatedContentInfo {}
+impl Exact for EncapsulatedContentInfo {
+    ghost plain = { tt };
+}

@@ -19,9 +19,14 @@ use x509_spelling::{Counted, Spelled, X509Fault};
 pub struct SetOfOne<T>(pub T);
 
 impl<T: Serialize> Serialize for SetOfOne<T> {
-    ghost use Rattle.asn1_der.proofs.Spelling.{wrapped-begins, wrapped-injective};
+    ghost use Rattle.std.specs.Prelude.{refl};
+    ghost use Rattle.asn1_der.specs.Seen.{Alike, seen_part};
+    ghost use Rattle.asn1_der.proofs.Alike.{alike-part};
+    ghost use Rattle.asn1_der.proofs.Spelling.{wrapped-begins, wrapped-injective_as};
 
     ghost tree = { λ value. wrapped set_octet (T.tree value.0) };
+
+    ghost seen = { seen_part (λ value. value.0) T.seen };
 
     ghost refusal = { part_refusal (λ value. value.0) T.refusal };
 
@@ -30,8 +35,8 @@ impl<T: Serialize> Serialize for SetOfOne<T> {
     ghost begins = { λ value. wrapped-begins set_octet (T.tree value.0) };
 
     ghost injective = { λ v w whole also e.
-        let same = wrapped-injective set_octet T.tree T.injective v.0 w.0 whole also e
-        in λ i. record { 0 = same i } };
+        let same = wrapped-injective_as (Alike T.seen) set_octet T.tree T.injective v.0 w.0 whole also e
+        in alike-part T.seen v w (λ value. value.0) (λ held. record { 0 = held }) (λ value. refl) same };
 
     fn serialize<W: Sink>(&self, to: &mut Serializer<W>) -> Result<usize, Asn1DerError> {
         to.wrapped(49, &self.0)

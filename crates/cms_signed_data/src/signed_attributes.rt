@@ -61,7 +61,9 @@ impl Tagged for ContentTypeAttribute {
     }
 }
 
-impl Exact for ContentTypeAttribute {}
+impl Exact for ContentTypeAttribute {
+    ghost plain = { tt };
+}
 
 /// The attribute message-digest (RFC 5652, section 11.2).
 ///
@@ -112,7 +114,9 @@ impl Tagged for MessageDigestAttribute {
     }
 }
 
-impl Exact for MessageDigestAttribute {}
+impl Exact for MessageDigestAttribute {
+    ghost plain = { tt };
+}
 
 /// The signed attributes: content-type, then message-digest. Other attributes, and another order, aren't read.
 ///
@@ -163,4 +167,6 @@ impl Tagged for SignedAttributes {
     }
 }
 
-impl Exact for SignedAttributes {}
+impl Exact for SignedAttributes {
+    ghost plain = { tt };
+}

@@ -65,7 +65,9 @@ impl Tagged for IssuerAndSerialNumber {
     }
 }
 
-impl Exact for IssuerAndSerialNumber {}
+impl Exact for IssuerAndSerialNumber {
+    ghost plain = { tt };
+}
 
 /// A signer, and its signature over the signed attributes. Unsigned attributes aren't read.
 ///

@@ -4,7 +4,8 @@ use Rattle.asn1_der.specs.Tree.{Tree, Writes}
 use Rattle.asn1_der.specs.Firsts.{Firsts}
 use Rattle.asn1_der.specs.Length.{element}
 use Rattle.asn1_der.proofs.Elements.{element-one}
-use Rattle.asn1_der.proofs.Spelling.{IsInjective}
+use Rattle.asn1_der.specs.Seen.{Seen, Alike}
+use Rattle.asn1_der.proofs.Spelling.{IsInjectiveAs}
 use Rattle.asn1_der.specs.declared.error.Asn1DerError.{Asn1DerError}
 use Rattle.asn1_codec.specs.Reading.{Reading, Took, TookBy, Refused, IsReadBy, IsOwn, stopped}
 use Rattle.asn1_codec.specs.Reads.{BeginsBy}
@@ -54,21 +55,21 @@ module _ {A B C : Type 0} (ta : A → Tree) (fb : Firsts) (tb : B → Tree) (fc 
       missing-as (Led content) (λ v. BeginsBy (Writes ta) v content) fault missing
       (λ f (behind, later, ignored, (front, read, is), second, third). (f.0, (front, behind, read, is)))
 
-  pub no-second : (content : List ℕ) (a : A) (behind : List ℕ) (fault : Asn1DerError) → IsInjective ta → Leads (Writes ta) a content behind → begins fb behind ≡ true
+  pub no-second : (content : List ℕ) (a : A) (behind : List ℕ) (fault : Asn1DerError) (sa : Seen A) → IsInjectiveAs (Alike sa) ta → Leads (Writes ta) a content behind → begins fb behind ≡ true
       → IsMissing (λ v. BeginsBy (Writes tb) v behind) fault → IsMissing (Led content) fault
-  no-second content a behind fault one led there missing =
+  no-second content a behind fault sa one led there missing =
       missing-as (Led content) (λ v. BeginsBy (Writes tb) v behind) fault missing
       (λ f (other, later, ignored, first, second, third).
-      let same : behind ≡ other = (leads-one ta one a f.0 content behind other led first).1 in
+      let same : behind ≡ other = (leads-one sa ta one a f.0 content behind other led first).1 in
       optional-begins fb (Writes tb) f.1 behind later there (subst (λ (t : List ℕ). LeadsOptional fb (Writes tb) f.1 t later) (sym same) second))
 
-  pub no-third : (content : List ℕ) (a : A) (b : Option B) (behind later : List ℕ) (fault : Asn1DerError) → IsInjective ta → IsInjective tb
+  pub no-third : (content : List ℕ) (a : A) (b : Option B) (behind later : List ℕ) (fault : Asn1DerError) (sa : Seen A) (sb : Seen B) → IsInjectiveAs (Alike sa) ta → IsInjectiveAs (Alike sb) tb
       → Leads (Writes ta) a content behind → LeadsOptional fb (Writes tb) b behind later → begins fc later ≡ true
       → IsMissing (λ v. BeginsBy (Writes tc) v later) fault → IsMissing (Led content) fault
-  no-third content a b behind later fault one also led next there missing =
+  no-third content a b behind later fault sa sb one also led next there missing =
       missing-as (Led content) (λ v. BeginsBy (Writes tc) v later) fault missing
       (λ f (other, more, ignored, first, second, third).
-      let same : behind ≡ other = (leads-one ta one a f.0 content behind other led first).1 in
+      let same : behind ≡ other = (leads-one sa ta one a f.0 content behind other led first).1 in
       let here = subst (λ (t : List ℕ). LeadsOptional fb (Writes tb) f.1 t more) (sym same) second in
-      let rest : later ≡ more = (leads_optional-one fb tb also b f.1 behind later more next here).1 in
+      let rest : later ≡ more = (leads_optional-one fb sb tb also b f.1 behind later more next here).1 in
       optional-begins fc (Writes tc) f.2 later ignored there (subst (λ (t : List ℕ). LeadsOptional fc (Writes tc) f.2 t ignored) (sym rest) third))

@@ -1,7 +1,9 @@
 -- Messages of Kerberos in tokens: which are read, why none is, and what is written.
 use Rattle.std.proofs.Common.{◌≡◌, ℕ, ◌<◌, List, [], ◌++◌, length, refl, sym, ap, subst, ◌∙◌, arith}
 use Rattle.std.proofs.lemmas.List.{append_cancel_left}
-use Rattle.std.specs.declared.io.ErrorKind.{ErrorKind}
+use Rattle.std.specs.declared.io.ErrorKind.TheVariants.{UnexpectedEof}
+use Rattle.asn1_der.specs.Seen.{Seen, as_is, Alike, seen_pair}
+use Rattle.asn1_der.proofs.Alike.{alike-pair, alike-part}
 use Rattle.asn1_codec.specs.Reads.{IsOneValue, BeginsBy}
 use Rattle.gss_message_tokens.specs.declared.error.GssApiMessageError.{GssApiMessageError}
 use Rattle.gss_message_tokens.specs.declared.error.GssApiMessageError.TheVariants.{InvalidId, IoError}
@@ -12,29 +14,31 @@ use Rattle.gss_context_tokens.specs.declared.iakerb_header.IAKerbHeader.{IAKerbH
 use Rattle.gss_context_tokens.specs.contracts.iakerb_header.IAKerbHeaderFromDer.TheImpl as header_reading
 use Rattle.gss_context_tokens.specs.Fronts.{Leads}
 use Rattle.gss_context_tokens.specs.Tokens.{IsOfMechanism, IsTold, IsProxied, iakerb, proxy_id}
-use Rattle.gss_context_tokens.specs.KrbMessages.{BeginsKrbMessage, BeginsProxyMessage}
-use Rattle.gss_context_tokens.specs.Refusals.{IsUnread, IsProxyRefusal, HasOtherMechanism, HasOtherId}
+use Rattle.gss_context_tokens.specs.KrbMessages.{BeginsKrbMessage, BeginsProxyMessage, seen_message, seen_proxy_message}
+use Rattle.gss_context_tokens.specs.Refusals.{IsUnread, IsTokenRefusal, IsProxyRefusal, HasOtherMechanism, HasOtherId}
 use Rattle.gss_context_tokens.proofs.TokenLaws.{mechanism-one, told-one, told-long, proxied-one}
-use Rattle.gss_context_tokens.proofs.Unread.{unread-as, unread-io, proxy-unread, proxy-as, proxy-fault}
+use Rattle.gss_context_tokens.proofs.Unread.{token-as, token-ended, proxy-unread, proxy-as, proxy-fault}
 
 module _ {T : Type 0} (reads : T → List ℕ → Type 0) where
   pub no-mechanism : (bytes : List ℕ) (fault : GssApiMessageError) → IsUnread (λ (m : ObjectIdentifierAsn1). (inner : List ℕ) × IsOfMechanism bytes m inner) fault
-      → IsUnread (λ (m : KrbMessage T). BeginsKrbMessage reads m bytes) fault
+      → IsTokenRefusal (λ (m : KrbMessage T). BeginsKrbMessage reads m bytes) bytes fault
   no-mechanism bytes fault unread =
-      unread-as _ (λ (m : ObjectIdentifierAsn1). (inner : List ℕ) × IsOfMechanism bytes m inner) fault unread
+      token-as _ (λ (m : ObjectIdentifierAsn1). (inner : List ℕ) × IsOfMechanism bytes m inner) bytes fault unread
       (λ m (inner, message, of, told, read). (m.krb5_oid, (inner, of)))
 
-  pub no-id : (bytes : List ℕ) (mechanism : ObjectIdentifierAsn1) (inner : List ℕ) (kind : ErrorKind) (fault : GssApiMessageError) → IsOfMechanism bytes mechanism inner
-      → fault ≡ IoError kind → length inner < 2 → IsUnread (λ (m : KrbMessage T). BeginsKrbMessage reads m bytes) fault
-  no-id bytes mechanism inner kind fault of is short =
-      unread-io _ kind fault is (λ m (other, message, also, told, read).
+  pub no-id : (bytes : List ℕ) (mechanism : ObjectIdentifierAsn1) (inner : List ℕ) (fault : GssApiMessageError) → IsOfMechanism bytes mechanism inner
+      → fault ≡ IoError UnexpectedEof → length inner < 2 → IsTokenRefusal (λ (m : KrbMessage T). BeginsKrbMessage reads m bytes) bytes fault
+  no-id bytes mechanism inner fault of is short =
+      token-ended _ bytes fault is (λ m (other, message, also, told, read).
       let same : inner ≡ other = (mechanism-one bytes mechanism m.krb5_oid inner other of also).1 in
       absurd (omega (arith, ap length same, told-long other m.krb5_token_id message told)))
+      (mechanism, inner, of, short)
 
   pub no-message : (bytes : List ℕ) (mechanism : ObjectIdentifierAsn1) (inner id message : List ℕ) (fault : GssApiMessageError) → IsOfMechanism bytes mechanism inner
-      → IsTold inner id message → IsUnread (λ (v : T). reads v message) fault → IsUnread (λ (m : KrbMessage T). BeginsKrbMessage reads m bytes) fault
+      → IsTold inner id message → IsUnread (λ (v : T). reads v message) fault
+      → IsTokenRefusal (λ (m : KrbMessage T). BeginsKrbMessage reads m bytes) bytes fault
   no-message bytes mechanism inner id message fault of told unread =
-      unread-as _ (λ (v : T). reads v message) fault unread (λ m (other, more, also, again, read).
+      token-as _ (λ (v : T). reads v message) bytes fault unread (λ m (other, more, also, again, read).
       let same : inner ≡ other = (mechanism-one bytes mechanism m.krb5_oid inner other of also).1 in
       let rest : message ≡ more = (told-one other id m.krb5_token_id message more (subst (λ (t : List ℕ). IsTold t id message) same told) again).1 in
       (m.krb_msg, subst (reads m.krb_msg) (sym rest) read))
@@ -64,7 +68,7 @@ module _ {T : Type 0} (reads : T → List ℕ → Type 0) where
       (λ other. absurd (no_other_mechanism bytes message proxied other))
       (λ other. absurd (no_other_id bytes message proxied other))
 
-  pub no-body : (bytes message : List ℕ) (header : IAKerbHeader) (body : List ℕ) (fault : GssApiMessageError) → IsOneValue header_reading.ghosts.reads → IsProxied bytes message
+  pub no-body : (bytes message : List ℕ) (header : IAKerbHeader) (body : List ℕ) (fault : GssApiMessageError) → IsOneValue as_is header_reading.ghosts.reads → IsProxied bytes message
       → Leads header_reading.ghosts.reads header message body → IsUnread (λ (v : T). reads v body) fault
       → IsProxyRefusal (λ (m : IAKerbProxyMessage T). BeginsProxyMessage reads m bytes) bytes fault
   no-body bytes message header body fault one proxied (front, head, is) unread =
@@ -88,10 +92,10 @@ proxied-no_mechanism bytes fault unread =
     (λ (inner, id, message, of, told, differs). (iakerb, (inner, of)))
 
 -- of which the content ends before the message
-pub proxied-no_id : (bytes : List ℕ) (mechanism : ObjectIdentifierAsn1) (inner : List ℕ) (kind : ErrorKind) (fault : GssApiMessageError) → IsOfMechanism bytes mechanism inner
-    → mechanism ≡ iakerb → fault ≡ IoError kind → length inner < 2 → IsProxyRefusal (IsProxied bytes) bytes fault
-proxied-no_id bytes mechanism inner kind fault of known is short =
-    proxy-fault (IsProxied bytes) bytes fault (IoError kind) is (
+pub proxied-no_id : (bytes : List ℕ) (mechanism : ObjectIdentifierAsn1) (inner : List ℕ) (fault : GssApiMessageError) → IsOfMechanism bytes mechanism inner
+    → mechanism ≡ iakerb → fault ≡ IoError UnexpectedEof → length inner < 2 → IsProxyRefusal (IsProxied bytes) bytes fault
+proxied-no_id bytes mechanism inner fault of known is short =
+    proxy-fault (IsProxied bytes) bytes fault (IoError UnexpectedEof) is (
       λ message (other, also, told).
           let same : inner ≡ other = (mechanism-one bytes mechanism iakerb inner other of also).1 in
           absurd (omega (arith, ap length same, told-long other proxy_id message told)),
@@ -99,6 +103,8 @@ proxied-no_id bytes mechanism inner kind fault of known is short =
       λ (other, id, message, also, told, differs).
           let same : inner ≡ other = (mechanism-one bytes mechanism iakerb inner other of also).1 in
           absurd (omega (arith, ap length same, told-long other id message told)),
+      refl,
+      (mechanism, inner, of, short),
     )
 
 -- of which the id is another
@@ -114,20 +120,24 @@ proxied-told bytes mechanism inner id message of known told is =
     (inner, subst (λ (m : ObjectIdentifierAsn1). IsOfMechanism bytes m inner) known of, subst (λ (t : List ℕ). IsTold inner t message) is told)
 
 -- bytes begin with one message
-pub message-one : {T : Type 0} (reads : T → List ℕ → Type 0) → IsOneValue reads → (m n : KrbMessage T) (bytes : List ℕ) → BeginsKrbMessage reads m bytes → BeginsKrbMessage reads n bytes
-    → m ≡ n
-message-one reads one m n bytes (inner, message, of, told, read) (other, more, also, again, same_read) =
+pub message-one : {T : Type 0} (seen : Seen T) (reads : T → List ℕ → Type 0) → IsOneValue seen reads → (m n : KrbMessage T) (bytes : List ℕ)
+    → BeginsKrbMessage reads m bytes → BeginsKrbMessage reads n bytes → Alike (seen_message seen) m n
+message-one seen reads one m n bytes (inner, message, of, told, read) (other, more, also, again, same_read) =
     let mechanisms = mechanism-one bytes m.krb5_oid n.krb5_oid inner other of also in
     let ids = told-one other m.krb5_token_id n.krb5_token_id message more (subst (λ (t : List ℕ). IsTold t m.krb5_token_id message) mechanisms.1 told) again in
-    let messages : m.krb_msg ≡ n.krb_msg = (one m.krb_msg n.krb_msg message more [] [] read same_read (ap (λ (t : List ℕ). t ++ []) ids.1)).0 in
-    λ i. record { krb5_oid = mechanisms.0 i; krb5_token_id = ids.0 i; krb_msg = messages i }
+    let messages : Alike seen m.krb_msg n.krb_msg = (one m.krb_msg n.krb_msg message more [] [] read same_read (ap (λ (t : List ℕ). t ++ []) ids.1)).0 in
+    alike-part (seen_pair as_is (seen_pair as_is seen)) m n (λ m. (m.krb5_oid, (m.krb5_token_id, m.krb_msg)))
+    (λ parts. record { krb5_oid = parts.0; krb5_token_id = parts.1.0; krb_msg = parts.1.1 }) (λ m. refl)
+    (alike-pair as_is (seen_pair as_is seen) (m.krb5_oid, (m.krb5_token_id, m.krb_msg)) (n.krb5_oid, (n.krb5_token_id, n.krb_msg)) mechanisms.0
+    (alike-pair as_is seen (m.krb5_token_id, m.krb_msg) (n.krb5_token_id, n.krb_msg) ids.0 messages))
 
-pub proxy_message-one : {T : Type 0} (reads : T → List ℕ → Type 0) → IsOneValue reads → IsOneValue header_reading.ghosts.reads → (m n : IAKerbProxyMessage T) (bytes : List ℕ)
-    → BeginsProxyMessage reads m bytes → BeginsProxyMessage reads n bytes → m ≡ n
-proxy_message-one reads one one_header m n bytes (message, body, proxied, (front, head, is), read) (other, more, also, (text, again, at), same_read) =
+pub proxy_message-one : {T : Type 0} (seen : Seen T) (reads : T → List ℕ → Type 0) → IsOneValue seen reads → IsOneValue as_is header_reading.ghosts.reads
+    → (m n : IAKerbProxyMessage T) (bytes : List ℕ) → BeginsProxyMessage reads m bytes → BeginsProxyMessage reads n bytes → Alike (seen_proxy_message seen) m n
+proxy_message-one seen reads one one_header m n bytes (message, body, proxied, (front, head, is), read) (other, more, also, (text, again, at), same_read) =
     let same : message ≡ other = proxied-one bytes message other proxied also in
     let joined : front ++ body ≡ text ++ more = sym is ∙ same ∙ at in
     let headers = one_header m.header n.header front text body more head again joined in
     let rest : body ≡ more = append_cancel_left text body more (ap (λ (t : List ℕ). t ++ body) (sym headers.1) ∙ joined) in
-    let messages : m.krb_msg ≡ n.krb_msg = (one m.krb_msg n.krb_msg body more [] [] read same_read (ap (λ (t : List ℕ). t ++ []) rest)).0 in
-    λ i. record { header = headers.0 i; krb_msg = messages i }
+    let messages : Alike seen m.krb_msg n.krb_msg = (one m.krb_msg n.krb_msg body more [] [] read same_read (ap (λ (t : List ℕ). t ++ []) rest)).0 in
+    alike-part (seen_pair as_is seen) m n (λ m. (m.header, m.krb_msg)) (λ parts. record { header = parts.0; krb_msg = parts.1 }) (λ m. refl)
+    (alike-pair as_is seen (m.header, m.krb_msg) (n.header, n.krb_msg) headers.0 messages)

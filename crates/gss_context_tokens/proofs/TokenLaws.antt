@@ -5,6 +5,7 @@ use Rattle.asn1_der.specs.Length.{element}
 use Rattle.asn1_elements.specs.Splits.{IsNoSplit}
 use Rattle.asn1_der.specs.Tagged.{leaf_as}
 use Rattle.asn1_der.proofs.Tagged.{TagLaws, leaf_laws, tagged-injective}
+use Rattle.asn1_der.specs.Seen.{as_is}
 use Rattle.asn1_der.proofs.Spelling.{IsInjective}
 use Rattle.asn1_der.proofs.Elements.{element-one, fronts}
 use Rattle.asn1_leaves.specs.ObjectIdentifier.{is_object_identifier, oid_content}
@@ -40,7 +41,7 @@ mechanism-injective =
 pub mechanism-one : (bytes : List ℕ) (v w : ObjectIdentifierAsn1) (i j : List ℕ) → IsOfMechanism bytes v i → IsOfMechanism bytes w j → (v ≡ w) × (i ≡ j)
 mechanism-one bytes v w i j (c, begins, leads) (d, also, other) =
     let same : c ≡ d = contents-one c d bytes begins also in
-    leads-one mechanism_tree mechanism-injective v w c i j leads (subst (λ (t : List ℕ). Leads (Writes mechanism_tree) w t j) (sym same) other)
+    leads-one as_is mechanism_tree mechanism-injective v w c i j leads (subst (λ (t : List ℕ). Leads (Writes mechanism_tree) w t j) (sym same) other)
 
 pub told-one : (inner id other message more : List ℕ) → IsTold inner id message → IsTold inner other more → (id ≡ other) × (message ≡ more)
 told-one inner id other message more (is, two) (also, again) = fronts id other message more (two ∙ sym again) (sym is ∙ also)

@@ -1,7 +1,10 @@
 -- Why nothing was read, from what a part was refused for.
-use Rattle.std.proofs.Common.{◌≡◌, ℕ, List, Option, inl, inr, sym, subst}
+use Rattle.std.proofs.Common.{◌≡◌, ℕ, List, Option, Err, inl, inr, refl, sym, subst}
 use Rattle.asn1_der.specs.declared.error.Unsupported.{Unsupported}
-use Rattle.std.specs.declared.io.ErrorKind.{ErrorKind}
+use Rattle.std.specs.declared.io.ErrorKind.TheVariants.{UnexpectedEof}
+use Rattle.asn1_der.specs.Seen.{Seen}
+use Rattle.asn1_codec.specs.Reads.{ReadsWhole}
+use Rattle.asn1_codec.proofs.ReadsLemmas.{gives-none}
 use Rattle.asn1_der.specs.declared.error.Asn1DerError.{Asn1DerError}
 use Rattle.asn1_der.specs.declared.error.Asn1DerError.TheVariants as der
 use Rattle.gss_message_tokens.specs.declared.error.GssApiMessageError.{GssApiMessageError}
@@ -10,7 +13,7 @@ use Rattle.gss_context_tokens.specs.Fronts.{IsMissing}
 use Rattle.picky_asn1.specs.declared.wrapper.ObjectIdentifierAsn1.{ObjectIdentifierAsn1}
 use Rattle.gss_context_tokens.specs.Tokens.{IsOfMechanism}
 use Rattle.gss_message_tokens.specs.Faults.{of_der_fault}
-use Rattle.gss_context_tokens.specs.Refusals.{IsUnread, IsOtherMechanism, IsProxyRefusal, IsUnwritten, HasOtherMechanism, HasOtherId}
+use Rattle.gss_context_tokens.specs.Refusals.{IsUnread, EndsEarly, IsTokenRefusal, IsOtherMechanism, IsProxyRefusal, IsUnwritten, HasOtherMechanism, HasOtherId}
 
 none_of : {T : Type 0} (fits : T → Type 0) (fault : Asn1DerError) → (fault ≡ der.Memory → ⊥) → IsMissing fits fault → (v : T) → fits v → ⊥
 none_of fits fault other (inl memory) = absurd (other memory)
@@ -31,14 +34,33 @@ pub unread-as : {T U : Type 0} (fits : T → Type 0) (first : U → Type 0) (fau
     → ((v : T) → fits v → (u : U) × first u) → IsUnread fits fault
 unread-as fits first Memory unread leads = tt
 unread-as fits first (Asn1Error fault) unread leads = λ v fit. let part = leads v fit in unread part.0 part.1
-unread-as fits first (IoError kind) unread leads = λ v fit. let part = leads v fit in unread part.0 part.1
+unread-as fits first (IoError kind) unread leads = absurd unread
 unread-as fits first (InvalidId wanted there) unread leads = absurd unread
 unread-as fits first (InvalidMechanismOid wanted there) unread leads = absurd unread
 unread-as fits first (InvalidMicFiller there) unread leads = absurd unread
 unread-as fits first (InvalidWrapFiller there) unread leads = absurd unread
 
-pub unread-io : {T : Type 0} (fits : T → Type 0) (kind : ErrorKind) (fault : GssApiMessageError) → fault ≡ IoError kind → ((v : T) → fits v → ⊥) → IsUnread fits fault
-unread-io fits kind fault is none = subst (IsUnread fits) (sym is) none
+-- all of the bytes are read as no value
+pub unread-whole : {T : Type 0} (seen : Seen T) (reads : T → List ℕ → Type 0) (bytes : List ℕ) (fault : Asn1DerError) → ReadsWhole seen reads bytes (Err fault)
+    → IsUnread (λ v. reads v bytes) (of_der_fault fault)
+unread-whole seen reads bytes fault (inl memory) = unread-of (λ v. reads v bytes) fault (inl (cc (memory)))
+unread-whole seen reads bytes fault (inr read) = unread-of (λ v. reads v bytes) fault (inr (λ v is. gives-none seen fault v ((read v).1 is)))
+
+-- the same of a message
+pub token-as : {T U : Type 0} (fits : T → Type 0) (first : U → Type 0) (bytes : List ℕ) (fault : GssApiMessageError) → IsUnread first fault
+    → ((v : T) → fits v → (u : U) × first u) → IsTokenRefusal fits bytes fault
+token-as fits first bytes Memory unread leads = tt
+token-as fits first bytes (Asn1Error fault) unread leads = λ v fit. let part = leads v fit in unread part.0 part.1
+token-as fits first bytes (IoError kind) unread leads = absurd unread
+token-as fits first bytes (InvalidId wanted there) unread leads = absurd unread
+token-as fits first bytes (InvalidMechanismOid wanted there) unread leads = absurd unread
+token-as fits first bytes (InvalidMicFiller there) unread leads = absurd unread
+token-as fits first bytes (InvalidWrapFiller there) unread leads = absurd unread
+
+-- a token's content ends before its message
+pub token-ended : {T : Type 0} (fits : T → Type 0) (bytes : List ℕ) (fault : GssApiMessageError) → fault ≡ IoError UnexpectedEof → ((v : T) → fits v → ⊥)
+    → EndsEarly bytes → IsTokenRefusal fits bytes fault
+token-ended fits bytes fault is none ends = subst (IsTokenRefusal fits bytes) (sym is) (none, refl, ends)
 
 -- the same of a message of IAKERB, where neither mechanism nor id is another
 pub proxy-unread : {T U : Type 0} (fits : T → Type 0) (first : U → Type 0) (bytes : List ℕ) (fault : GssApiMessageError) → IsUnread first fault
@@ -50,11 +72,7 @@ proxy-unread fits first bytes (Asn1Error fault) unread leads mechanism id = (
   λ other. let part = mechanism other in unread part.0 part.1,
   λ other. let part = id other in unread part.0 part.1,
 )
-proxy-unread fits first bytes (IoError kind) unread leads mechanism id = (
-  λ v fit. let part = leads v fit in unread part.0 part.1,
-  λ other. let part = mechanism other in unread part.0 part.1,
-  λ other. let part = id other in unread part.0 part.1,
-)
+proxy-unread fits first bytes (IoError kind) unread leads mechanism id = absurd unread
 proxy-unread fits first bytes (InvalidId wanted there) unread leads mechanism id = absurd unread
 proxy-unread fits first bytes (InvalidMechanismOid wanted there) unread leads mechanism id = absurd unread
 proxy-unread fits first bytes (InvalidMicFiller there) unread leads mechanism id = absurd unread
@@ -65,7 +83,8 @@ pub proxy-as : {T U : Type 0} (fits : T → Type 0) (first : U → Type 0) (byte
     → ((v : T) → fits v → (u : U) × first u) → IsProxyRefusal fits bytes fault
 proxy-as fits first bytes Memory refused leads = tt
 proxy-as fits first bytes (Asn1Error fault) (none, mechanism, id) leads = (λ v fit. let part = leads v fit in none part.0 part.1, mechanism, id)
-proxy-as fits first bytes (IoError kind) (none, mechanism, id) leads = (λ v fit. let part = leads v fit in none part.0 part.1, mechanism, id)
+proxy-as fits first bytes (IoError kind) (none, mechanism, id, kind_is, ended) leads =
+    (λ v fit. let part = leads v fit in none part.0 part.1, mechanism, id, kind_is, ended)
 proxy-as fits first bytes (InvalidId wanted there) refused leads = refused
 proxy-as fits first bytes (InvalidMechanismOid wanted there) refused leads = refused
 proxy-as fits first bytes (InvalidMicFiller there) refused leads = absurd refused

@@ -2,6 +2,7 @@
 -- section 3).
 use Rattle.std.specs.Prelude.{◌≡◌, ℕ, List, ◌++◌, length}
 use Rattle.asn1_der.specs.Tree.{Tree, der, IsWhole}
+use Rattle.asn1_der.specs.Seen.{Seen, as_is, seen_pair, seen_part}
 use Rattle.gss_context_tokens.specs.declared.krb_message.KrbMessage.{KrbMessage}
 use Rattle.gss_context_tokens.specs.declared.iakerb_proxy_message.IAKerbProxyMessage.{IAKerbProxyMessage}
 use Rattle.gss_context_tokens.specs.contracts.iakerb_header.IAKerbHeaderSerialize.TheImpl as header_writing
@@ -18,6 +19,13 @@ BeginsKrbMessage reads m bytes =
 abbrev pub BeginsProxyMessage : {T : Type 0} → (T → List ℕ → Type 0) → IAKerbProxyMessage T → List ℕ → Type 0
 BeginsProxyMessage reads m bytes =
     (message body : List ℕ) × IsProxied bytes message × Leads header_reading.ghosts.reads m.header message body × reads m.krb_msg body
+
+-- what two such messages of one token have in common: all, where two values that are read alike are the same
+abbrev pub seen_message : {T : Type 0} → Seen T → Seen (KrbMessage T)
+seen_message seen = seen_part (λ m. (m.krb5_oid, (m.krb5_token_id, m.krb_msg))) (seen_pair as_is (seen_pair as_is seen))
+
+abbrev pub seen_proxy_message : {T : Type 0} → Seen T → Seen (IAKerbProxyMessage T)
+seen_proxy_message seen = seen_part (λ m. (m.header, m.krb_msg)) (seen_pair as_is seen)
 
 -- what is written of each, inside its token
 abbrev pub krb_message_content : {T : Type 0} → (T → Tree) → KrbMessage T → List ℕ

@@ -1,9 +1,9 @@
 -- Why no token was read, or none written.
-use Rattle.std.specs.Prelude.{◌≡◌, ℕ, List, take, Option, ⊤, ◌⊎◌, Result, Ok, Err}
+use Rattle.std.specs.Prelude.{◌≡◌, ℕ, ◌<◌, List, length, take, Option, ⊤, ◌⊎◌, Result, Ok, Err}
 use Rattle.std.specs.String.{string_bytes}
 use Rattle.std.specs.Io.KnownBytes.{Appends}
 use Rattle.std.specs.declared.io.ErrorKind.{ErrorKind}
-use Rattle.std.specs.declared.io.ErrorKind.TheVariants.{OutOfMemory}
+use Rattle.std.specs.declared.io.ErrorKind.TheVariants.{OutOfMemory, UnexpectedEof}
 use Rattle.asn1_der.specs.declared.error.Unsupported.{Unsupported}
 use Rattle.asn1_codec.specs.Refusals.{RefusedAs}
 use Rattle.asn1_leaves.specs.ObjectIdentifier.{dotted_text}
@@ -17,11 +17,25 @@ use Rattle.gss_context_tokens.specs.Tokens.{IsOfMechanism, IsTold, iakerb, proxy
 abbrev pub IsUnread : {T : Type 0} → (T → Type 0) → GssApiMessageError → Type 0
 IsUnread fits Memory = ⊤
 IsUnread {T} fits (Asn1Error fault) = (value : T) → fits value → ⊥
-IsUnread {T} fits (IoError kind) = (value : T) → fits value → ⊥
+IsUnread fits (IoError kind) = ⊥
 IsUnread fits (InvalidId wanted there) = ⊥
 IsUnread fits (InvalidMechanismOid wanted there) = ⊥
 IsUnread fits (InvalidMicFiller there) = ⊥
 IsUnread fits (InvalidWrapFiller there) = ⊥
+
+-- a token begins the bytes, in which fewer than the two octets of a token id follow the mechanism
+abbrev pub EndsEarly : List ℕ → Type 0
+EndsEarly bytes = (mechanism : ObjectIdentifierAsn1) × (inner : List ℕ) × IsOfMechanism bytes mechanism inner × (length inner < 2)
+
+-- why no message was read: an I/O error says that the token's content ends before one
+abbrev pub IsTokenRefusal : {T : Type 0} → (T → Type 0) → List ℕ → GssApiMessageError → Type 0
+IsTokenRefusal fits bytes Memory = ⊤
+IsTokenRefusal {T} fits bytes (Asn1Error fault) = (value : T) → fits value → ⊥
+IsTokenRefusal {T} fits bytes (IoError kind) = ((value : T) → fits value → ⊥) × (kind ≡ UnexpectedEof) × EndsEarly bytes
+IsTokenRefusal fits bytes (InvalidId wanted there) = ⊥
+IsTokenRefusal fits bytes (InvalidMechanismOid wanted there) = ⊥
+IsTokenRefusal fits bytes (InvalidMicFiller there) = ⊥
+IsTokenRefusal fits bytes (InvalidWrapFiller there) = ⊥
 
 -- a token of another mechanism stands there
 abbrev pub HasOtherMechanism : List ℕ → Type 0
@@ -47,7 +61,8 @@ IsProxyRefusal fits bytes (InvalidMechanismOid wanted there) =
 IsProxyRefusal fits bytes (InvalidId wanted there) =
     (inner message : List ℕ) × IsOfMechanism bytes iakerb inner × IsTold inner there message × (there ≡ proxy_id → ⊥) × (wanted ≡ proxy_id)
 IsProxyRefusal {T} fits bytes (Asn1Error fault) = ((value : T) → fits value → ⊥) × (HasOtherMechanism bytes → ⊥) × (HasOtherId bytes → ⊥)
-IsProxyRefusal {T} fits bytes (IoError kind) = ((value : T) → fits value → ⊥) × (HasOtherMechanism bytes → ⊥) × (HasOtherId bytes → ⊥)
+IsProxyRefusal {T} fits bytes (IoError kind) =
+    ((value : T) → fits value → ⊥) × (HasOtherMechanism bytes → ⊥) × (HasOtherId bytes → ⊥) × (kind ≡ UnexpectedEof) × EndsEarly bytes
 IsProxyRefusal fits bytes (InvalidMicFiller there) = ⊥
 IsProxyRefusal fits bytes (InvalidWrapFiller there) = ⊥
 

@@ -10,6 +10,10 @@ use picky_asn1_der::{Asn1DerError, Deserializer, Serializer, Tagged};
 pub struct ApplicationTag0<T>(pub T);
 
 impl<T: Tagged> Tagged for ApplicationTag0<T> {
+    ghost use Rattle.std.specs.Prelude.{refl};
+    ghost use Rattle.asn1_der.specs.Seen.{seen_part};
+    ghost use Rattle.asn1_der.proofs.Alike.{alike-part};
+
     type Row = T::Row;
 
     const FIRST: u8 = 0x60;
@@ -17,6 +21,10 @@ impl<T: Tagged> Tagged for ApplicationTag0<T> {
     ghost FIRST = { 96 };
 
     ghost row_tree = { T.row_tree };
+
+    ghost row_seen = { T.row_seen };
+
+    ghost seen = { seen_part (λ value. value.0) T.seen };
 
     ghost row_laws = { T.row_laws };
 
@@ -26,7 +34,7 @@ impl<T: Tagged> Tagged for ApplicationTag0<T> {
 
     ghost refuses = { part_refusal (λ value. value.0) T.refuses };
 
-    ghost one_row = { λ v w e. let same = T.one_row v.0 w.0 e in λ i. record { 0 = same i } };
+    ghost one_row = { λ v w e. alike-part T.seen v w (λ value. value.0) (λ held. record { 0 = held }) (λ value. refl) (T.one_row v.0 w.0 e) };
 
     fn read_row<R: Source>(tag: u8, from: &mut Deserializer<R>) -> Result<Self::Row, Asn1DerError> {
         T::read_row(tag, from)

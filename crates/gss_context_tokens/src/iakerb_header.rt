@@ -44,7 +44,8 @@ type CookieField = ExplicitContextTag2<OctetStringAsn1>;
 
 type FlagsField = ExplicitContextTag3<BitStringAsn1>;
 
-type IAKerbHeaderRow = Row3<RealmField, Optional<IAKerbCookie>, Optional<Option<FlagsField>>>;
+/// The fields of a header.
+pub type IAKerbHeaderRow = Row3<RealmField, Optional<IAKerbCookie>, Optional<Option<FlagsField>>>;
 
 impl Serialize for IAKerbHeader {
     ghost use Rattle.std.proofs.Common.{refl, true};

@@ -92,7 +92,7 @@ fn check_mechanism(
 }
 
 /// Refuses another id than that of such a message.
-fn check_id(id: [u8; 2]) -> Result<(), GssApiMessageError>
+pub(crate) fn check_id(id: [u8; 2]) -> Result<(), GssApiMessageError>
     ensures { MatchResult result (λ _. id ≡ proxy_id)
         (λ fault. (fault ≡ GssApiMessageError.InvalidId proxy_id id) × (id ≡ proxy_id → ⊥)) }
 {
@@ -148,7 +148,7 @@ impl<T: Serialize> IAKerbProxyMessage<T> {
 
     /// The token's content as a value of DER: a SEQUENCE (0x30), and the token itself (0x60) in [`ApplicationTag0`].
     ///
-    /// It holds the content's octets. A message isn't such a value itself, since its header is read from more than one spelling.
+    /// It holds the content's octets. A message of a type that is read is such a value itself, and takes no memory to be written.
     pub fn to_sequence(&self, alloc: Global) -> Result<TokenSequence, GssApiMessageError>
         ensures { MatchResult result
             (λ value. (der (⟦<TokenSequence as Serialize>⟧.tree value) ≡ element sequence_octet (proxy_message_content T.tree self.now))

@@ -38,7 +38,7 @@ pub struct KrbMessage<T> {
 
 impl<T: FromDer> KrbMessage<T> {
     ghost use Rattle.gss_context_tokens.specs.KrbMessages.{BeginsKrbMessage};
-    ghost use Rattle.gss_context_tokens.specs.Refusals.{IsUnread};
+    ghost use Rattle.gss_context_tokens.specs.Refusals.{IsTokenRefusal};
 
     /// Reads the token that begins the bytes. Bytes after it are left.
     ///
@@ -50,7 +50,7 @@ impl<T: FromDer> KrbMessage<T> {
     ) -> Result<ApplicationTag0<KrbMessage<T>>, GssApiMessageError>
         ensures { MatchResult result
             (λ token. BeginsKrbMessage T.reads token.0 bytes.now)
-            (IsUnread (λ (m : KrbMessage T). BeginsKrbMessage T.reads m bytes.now)) }
+            (IsTokenRefusal (λ (m : KrbMessage T). BeginsKrbMessage T.reads m bytes.now) bytes.now) }
     {
         let (krb5_oid, inner) = mechanism_of(alloc, bytes)?;
         let (krb5_token_id, message) = split_id(inner)?;
@@ -131,9 +131,11 @@ type KrbMessageRow<T> = Row3<ObjectIdentifierAsn1, OctetPair, T>;
 
 /// What stands inside a token, as a SEQUENCE; in [`ApplicationTag0`] it is the token.
 impl<T: Deserialize + Drop> Tagged for KrbMessage<T> {
-    ghost use Rattle.std.proofs.Common.{ap, refl, true, None, Some};
+    ghost use Rattle.std.proofs.Common.{refl, true, None, Some};
+    ghost use Rattle.asn1_der.specs.Seen.{Alike, seen_part};
     ghost use Rattle.asn1_der.specs.Tagged.{sequence};
-    ghost use Rattle.asn1_der.proofs.Tagged.{sequence_laws};
+    ghost use Rattle.asn1_der.proofs.Alike.{alike-part};
+    ghost use Rattle.asn1_der.proofs.Tagged.{sequence_laws_as};
     ghost use Rattle.asn1_codec.specs.Refusals.{first_refusal};
 
     type Row = KrbMessageRow<T>;
@@ -144,11 +146,15 @@ impl<T: Deserialize + Drop> Tagged for KrbMessage<T> {
 
     ghost row_tree = { sequence ⟦<KrbMessageRow<T> as Fields>⟧.trees };
 
-    ghost row_laws = { sequence_laws ⟦<KrbMessageRow<T> as Fields>⟧.trees (⟦<KrbMessageRow<T> as Fields>⟧.injective (refl {a = true})) };
+    ghost row_seen = { ⟦<KrbMessageRow<T> as Fields>⟧.seen };
+
+    ghost seen = { seen_part (λ v. (v.krb5_oid, (record { 0 = v.krb5_token_id }, (v.krb_msg, tt)))) ⟦<KrbMessageRow<T> as Fields>⟧.seen };
+
+    ghost row_laws = { sequence_laws_as (Alike ⟦<KrbMessageRow<T> as Fields>⟧.seen) ⟦<KrbMessageRow<T> as Fields>⟧.trees (⟦<KrbMessageRow<T> as Fields>⟧.injective (refl {a = true})) };
 
     ghost row_of = { λ v. (v.krb5_oid, (record { 0 = v.krb5_token_id }, (v.krb_msg, tt))) };
 
-    ghost one_row = { λ v w e. ap (λ f. record { krb5_oid = f.0; krb5_token_id = f.1.0.0; krb_msg = f.1.1.0 }) e };
+    ghost one_row = { λ v w e. alike-part ⟦<KrbMessageRow<T> as Fields>⟧.seen v w (λ v. (v.krb5_oid, (record { 0 = v.krb5_token_id }, (v.krb_msg, tt)))) (λ f. record { krb5_oid = f.0; krb5_token_id = f.1.0.0; krb_msg = f.1.1.0 }) (λ v. refl) e };
 
     ghost refuses = { Some (λ v. first_refusal (refusal_of T.refusal v.krb_msg) None) };
 

@@ -16,6 +16,7 @@ mod laws;
 mod mech_type;
 mod neg_token_init;
 mod neg_token_targ;
+mod proxy_value;
 mod writing;
 
 pub use application_tag0::ApplicationTag0;

@@ -11,14 +11,17 @@ use Rattle.asn1_der.specs.declared.error.Asn1DerError.{Asn1DerError}
 use Rattle.asn1_der.specs.declared.error.Asn1DerError.TheVariants as der
 use Rattle.asn1_codec.specs.Cuts.{TakesNext, MissesNext}
 use Rattle.asn1_codec.specs.Reading.{IsNotNext, IsReadBy, TellsKind, faults_after}
+use Rattle.asn1_der.specs.Seen.{Seen, Alike, seen_pair}
+use Rattle.asn1_der.proofs.Alike.{alike-pair, alike-part}
 use Rattle.asn1_codec.specs.Reads.{IsOneValue}
 use Rattle.byte_layouts.specs.Numbers.{be16_at}
 use Rattle.byte_layouts.specs.Stops.{IsStop}
 use Rattle.byte_layouts.proofs.Exits.{at-exit}
 use Rattle.byte_layouts.proofs.NumberLaws.{be16-again, be16_at-append}
 use Rattle.kpasswd_messages.specs.declared.error.KrbPrivFrameError.{KrbPrivFrameError}
+use Rattle.kpasswd_messages.specs.declared.frame.KrbPrivFrame.{KrbPrivFrame}
 use Rattle.kpasswd_messages.specs.Frames.{IsHeader}
-use Rattle.kpasswd_messages.specs.Reading.{HasOtherVersion, HasNoParts, IsHeaderFault, IsHeaderRefusal, IsDeviceFault, IsExcuse, IsRefusal, der_kind, IsFramedAs, BeginsFramed, IsUnframed}
+use Rattle.kpasswd_messages.specs.Reading.{HasOtherVersion, HasNoParts, IsHeaderFault, IsHeaderRefusal, IsDeviceFault, IsExcuse, IsRefusal, der_kind, IsFramedAs, BeginsFramed, IsUnframed, seen_frame}
 use Rattle.kpasswd_messages.proofs.FrameLaws.{frame-joined, frame-split}
 
 -- another version that came is the bytes'
@@ -135,12 +138,12 @@ no-ap ra rp (Some bytes) (Some more) header is took none = λ a p begins.
     none frame.ap (frame.private ++ begins.1) (a, frame.ap_read) (ap Some behind) frame.ap_fits
 
 -- no frame since no KRB-PRIV is behind the AP message
-no-private : {A P : Type 0} (ra : A → List ℕ → Type 0) (rp : P → List ℕ → Type 0) → IsOneValue ra → (left mid after : Option (List ℕ)) (header front : List ℕ) (v : A)
+no-private : {A P : Type 0} (seen : Seen A) (ra : A → List ℕ → Type 0) (rp : P → List ℕ → Type 0) → IsOneValue seen ra → (left mid after : Option (List ℕ)) (header front : List ℕ) (v : A)
     → IsHeader header → Consumes left mid header → ra v front → Consumes mid after front → IsNotNext (IsReadBy rp) after 10240 → IfSome left (IsUnframed ra rp)
-no-private ra rp one None mid after header front v is took read then none = tt
-no-private ra rp one (Some bytes) None after header front v is took read then none = absurd took
-no-private ra rp one (Some bytes) (Some more) None header front v is took read then none = absurd then
-no-private ra rp one (Some bytes) (Some more) (Some rest) header front v is took read then none = λ a p begins.
+no-private seen ra rp one None mid after header front v is took read then none = tt
+no-private seen ra rp one (Some bytes) None after header front v is took read then none = absurd took
+no-private seen ra rp one (Some bytes) (Some more) None header front v is took read then none = absurd then
+no-private seen ra rp one (Some bytes) (Some more) (Some rest) header front v is took read then none = λ a p begins.
     let split = begun ra rp a p bytes begins in
     let frame = begins.2 in
     let behind : more ≡ frame.ap ++ (frame.private ++ begins.1) = same_behind _ _ _ _ is.0 split.0.0 (sym took ∙ split.1) in
@@ -168,12 +171,12 @@ all-read ra rp left first second after header a p is took (x, x_read, x_fits, x_
 )
 
 -- the bytes begin with one frame
-one-frame : {A P : Type 0} (ra : A → List ℕ → Type 0) (rp : P → List ℕ → Type 0) → IsOneValue ra → IsOneValue rp
+one-frame : {A P : Type 0} (sa : Seen A) (sp : Seen P) (ra : A → List ℕ → Type 0) (rp : P → List ℕ → Type 0) → IsOneValue sa ra → IsOneValue sp rp
     → (left after : Option (List ℕ)) (v : A) (w : P) → (whole : List ℕ) × IsFramedAs ra rp v w whole × Consumes left after whole
-    → IfSome left (λ bytes. (a : A) (p : P) → BeginsFramed ra rp a p bytes → (v ≡ a) × (w ≡ p))
-one-frame ra rp one_a one_p None after v w found = tt
-one-frame ra rp one_a one_p (Some bytes) None v w (whole, is, took) = absurd took
-one-frame ra rp one_a one_p (Some bytes) (Some rest) v w (whole, is, took) = λ a p begins.
+    → IfSome left (λ bytes. (a : A) (p : P) → BeginsFramed ra rp a p bytes → Alike sa v a × Alike sp w p)
+one-frame sa sp ra rp one_a one_p None after v w found = tt
+one-frame sa sp ra rp one_a one_p (Some bytes) None v w (whole, is, took) = absurd took
+one-frame sa sp ra rp one_a one_p (Some bytes) (Some rest) v w (whole, is, took) = λ a p begins.
     let first = begun ra rp v w bytes (whole, rest, is, took) in
     let second = begun ra rp a p bytes begins in
     let frame = begins.2 in
@@ -213,17 +216,17 @@ ap-refused ra rp (Some bytes) (Some more) after old mid new last e same (header,
 ap-refused ra rp (Some bytes) (Some more) after old mid new last e same (header, is, took) (inr (wrong, none)) =
     inr (inr (wrong, partless ra rp bytes header more took is (no-ap ra rp (Some bytes) (Some more) header is took none)))
 
-pub private-refused : {A P : Type 0} (ra : A → List ℕ → Type 0) (rp : P → List ℕ → Type 0) → IsOneValue ra
+pub private-refused : {A P : Type 0} (seen : Seen A) (ra : A → List ℕ → Type 0) (rp : P → List ℕ → Type 0) → IsOneValue seen ra
     → (left first second after : Option (List ℕ)) (old mid later new : ℕ) (last : Option ErrorKind) (e : ErrorKind) (v : A)
     → mid ≡ old → later ≡ mid → (header : List ℕ) × IsHeader header × Consumes left first header → TakesNext ra 10240 first second v
     → IsExcuse later new last e ⊎ ((e ≡ InvalidData) × IsNotNext (IsReadBy rp) second 10240)
     → IfSome left (λ bytes. IsRefusal ra rp bytes after old new last e)
-private-refused ra rp one None first second after old mid later new last e v same also headed taken why = tt
-private-refused ra rp one (Some bytes) None second after old mid later new last e v same also (header, is, took) taken why = absurd took
-private-refused ra rp one (Some bytes) (Some more) second after old mid later new last e v same also (header, is, took) taken (inl excuse) =
+private-refused seen ra rp one None first second after old mid later new last e v same also headed taken why = tt
+private-refused seen ra rp one (Some bytes) None second after old mid later new last e v same also (header, is, took) taken why = absurd took
+private-refused seen ra rp one (Some bytes) (Some more) second after old mid later new last e v same also (header, is, took) taken (inl excuse) =
     excused ra rp bytes header more after old later new last e took is (also ∙ same) excuse
-private-refused ra rp one (Some bytes) (Some more) second after old mid later new last e v same also (header, is, took) (x, read, fits, then) (inr (wrong, none)) =
-    inr (inr (wrong, partless ra rp bytes header more took is (no-private ra rp one (Some bytes) (Some more) second header x v is took read then none)))
+private-refused seen ra rp one (Some bytes) (Some more) second after old mid later new last e v same also (header, is, took) (x, read, fits, then) (inr (wrong, none)) =
+    inr (inr (wrong, partless ra rp bytes header more took is (no-private seen ra rp one (Some bytes) (Some more) second header x v is took read then none)))
 
 -- what is answered where some frame stands there
 excuse-of : {A P : Type 0} (ra : A → List ℕ → Type 0) (rp : P → List ℕ → Type 0) (bytes : List ℕ) (after : Option (List ℕ)) (old new : ℕ) (last : Option ErrorKind) (e : ErrorKind)
@@ -233,22 +236,29 @@ excuse-of ra rp bytes after old new last e (inr (inl (inl broken))) = inl (inr b
 excuse-of ra rp bytes after old new last e (inr (inl (inr fault))) = inr (fault-unframed ra rp bytes e fault)
 excuse-of ra rp bytes after old new last e (inr (inr (wrong, partless))) = inr partless.none
 
-pub refused-only : {T A P : Type 0} (ra : A → List ℕ → Type 0) (rp : P → List ℕ → Type 0) (fa : T → A) (fp : T → P)
+pub refused-only : {T A P : Type 0} (Same : T → T → Type 0) (ra : A → List ℕ → Type 0) (rp : P → List ℕ → Type 0) (fa : T → A) (fp : T → P)
     (left after : Option (List ℕ)) (r : Result T KrbPrivFrameError) (e : ErrorKind) (old new : ℕ) (last : Option ErrorKind)
     → IsErrAnd r (λ y. y ≡ record { kind = e }) → IfSome left (λ bytes. IsRefusal ra rp bytes after old new last e)
-    → IfSome left (λ bytes. (m : T) → BeginsFramed ra rp (fa m) (fp m) bytes → MatchResult r (λ read. read ≡ m) (λ f. IsExcuse old new last f.kind))
-refused-only ra rp fa fp None after r e old new last is why = tt
-refused-only ra rp fa fp (Some bytes) after r e old new last is why = λ m begins.
+    → IfSome left (λ bytes. (m : T) → BeginsFramed ra rp (fa m) (fp m) bytes → MatchResult r (λ read. Same read m) (λ f. IsExcuse old new last f.kind))
+refused-only Same ra rp fa fp None after r e old new last is why = tt
+refused-only Same ra rp fa fp (Some bytes) after r e old new last is why = λ m begins.
     elim (excuse-of ra rp bytes after old new last e why) [
       | inl excuse ↦ at-exit r (record { kind = e }) _ _ is excuse
       | inr none ↦ absurd (none (fa m) (fp m) begins)
     ]
 
-pub read-only : {T A P : Type 0} (ra : A → List ℕ → Type 0) (rp : P → List ℕ → Type 0) (fa : T → A) (fp : T → P) → IsOneValue ra → IsOneValue rp
-    → (left after : Option (List ℕ)) (made : T) → ((m : T) → fa made ≡ fa m → fp made ≡ fp m → made ≡ m)
+pub read-only : {T A P : Type 0} (Same : T → T → Type 0) (sa : Seen A) (sp : Seen P) (ra : A → List ℕ → Type 0) (rp : P → List ℕ → Type 0) (fa : T → A) (fp : T → P)
+    → IsOneValue sa ra → IsOneValue sp rp
+    → (left after : Option (List ℕ)) (made : T) → ((m : T) → Alike sa (fa made) (fa m) → Alike sp (fp made) (fp m) → Same made m)
     → (whole : List ℕ) × IsFramedAs ra rp (fa made) (fp made) whole × Consumes left after whole
-    → IfSome left (λ bytes. (m : T) → BeginsFramed ra rp (fa m) (fp m) bytes → made ≡ m)
-read-only ra rp fa fp one_a one_p None after made join found = tt
-read-only ra rp fa fp one_a one_p (Some bytes) after made join found = λ m begins.
-    let both = one-frame ra rp one_a one_p (Some bytes) after (fa made) (fp made) found (fa m) (fp m) begins in
+    → IfSome left (λ bytes. (m : T) → BeginsFramed ra rp (fa m) (fp m) bytes → Same made m)
+read-only Same sa sp ra rp fa fp one_a one_p None after made join found = tt
+read-only Same sa sp ra rp fa fp one_a one_p (Some bytes) after made join found = λ m begins.
+    let both = one-frame sa sp ra rp one_a one_p (Some bytes) after (fa made) (fp made) found (fa m) (fp m) begins in
     join m both.0 both.1
+
+-- frames of which both parts show the same
+pub same-frame : {A P : Type 0} (sa : Seen A) (sp : Seen P) (v w : KrbPrivFrame A P) → Alike sa v.ap_message w.ap_message → Alike sp v.krb_priv w.krb_priv → Alike (seen_frame sa sp) v w
+same-frame sa sp v w same also =
+    alike-part (seen_pair sa sp) v w (λ m. (m.ap_message, m.krb_priv)) (λ parts. record { ap_message = parts.0; krb_priv = parts.1 }) (λ m. refl)
+    (alike-pair sa sp (v.ap_message, v.krb_priv) (w.ap_message, w.krb_priv) same also)

@@ -6,8 +6,10 @@ use Rattle.std.specs.declared.io.ErrorKind.TheVariants.{OutOfMemory, InvalidData
 use Rattle.devices.specs.Counting.{one_more}
 use Rattle.asn1_der.specs.declared.error.Asn1DerError.{Asn1DerError}
 use Rattle.asn1_der.specs.declared.error.Asn1DerError.TheVariants as der
+use Rattle.asn1_der.specs.Seen.{Seen, seen_pair, seen_part}
 use Rattle.byte_layouts.specs.Numbers.{be16_at}
 use Rattle.kpasswd_messages.specs.Frames.{IsFramed}
+use Rattle.kpasswd_messages.specs.declared.frame.KrbPrivFrame.{KrbPrivFrame}
 
 -- a version is there, and it isn't 1
 abbrev pub HasOtherVersion : List ℕ → Type 0
@@ -55,6 +57,10 @@ pub record IsFramedAs {A P : Type 0} (reads_ap : A → List ℕ → Type 0) (rea
 abbrev pub BeginsFramed : {A P : Type 0} → (A → List ℕ → Type 0) → (P → List ℕ → Type 0) → A → P → List ℕ → Type 0
 BeginsFramed reads_ap reads_private a p bytes =
     (whole rest : List ℕ) × IsFramedAs reads_ap reads_private a p whole × (bytes ≡ whole ++ rest)
+
+-- what two frames that are read alike have in common: all, where two parts that are read alike are the same
+abbrev pub seen_frame : {A P : Type 0} → Seen A → Seen P → Seen (KrbPrivFrame A P)
+seen_frame ap private = seen_part (λ m. (m.ap_message, m.krb_priv)) (seen_pair ap private)
 
 -- the bytes begin with no frame
 abbrev pub IsUnframed : {A P : Type 0} → (A → List ℕ → Type 0) → (P → List ℕ → Type 0) → List ℕ → Type 0

@@ -4,7 +4,8 @@ ghost use Rattle.std.specs.Io.KnownBytes.{Consumes, Appends};
 ghost use Rattle.asn1_der.specs.Tree.{der, IsWhole, Writes};
 ghost use Rattle.byte_layouts.specs.Stops.{IsWriteStop};
 ghost use Rattle.kpasswd_messages.specs.Frames.{framed, frame_bytes, IsFrame};
-ghost use Rattle.kpasswd_messages.specs.Reading.{IsFramedAs, BeginsFramed, IsExcuse, IsRefusal};
+ghost use Rattle.asn1_der.specs.Seen.{Alike};
+ghost use Rattle.kpasswd_messages.specs.Reading.{IsFramedAs, BeginsFramed, IsExcuse, IsRefusal, seen_frame};
 ghost use Rattle.kpasswd_messages.specs.Writing.{IsTooLong, IsUnframable};
 ghost use Rattle.asn1_codec.specs.Refusals.{refusal_of};
 
@@ -43,7 +44,7 @@ impl<A: FromDer, P: FromDer> KrbPrivFrame<A, P> {
         ensures found { IfOk result (λ m. (whole : List ℕ) × IsFramedAs A.reads P.reads m.ap_message m.krb_priv whole
             × Consumes (R.left reader.old) (R.left reader.new) whole) }
         ensures only { IfSome (R.left reader.old) (λ bytes. (m : KrbPrivFrame A P) → BeginsFramed A.reads P.reads m.ap_message m.krb_priv bytes
-            → MatchResult result (λ read. read ≡ m) (λ e. IsExcuse (R.failed reader.old) (R.failed reader.new) (R.last_fault reader.new) e.kind)) }
+            → MatchResult result (λ read. Alike (seen_frame A.seen P.seen) read m) (λ e. IsExcuse (R.failed reader.old) (R.failed reader.new) (R.last_fault reader.new) e.kind)) }
         ensures refused { IfErr result (λ e. IfSome (R.left reader.old) (λ bytes.
             IsRefusal A.reads P.reads bytes (R.left reader.new) (R.failed reader.old) (R.failed reader.new) (R.last_fault reader.new) e.kind)) }
         ensures same { R.through reader.new ≡ R.through reader.old }

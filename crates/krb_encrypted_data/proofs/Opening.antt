@@ -1,14 +1,15 @@
 -- What decrypting and reading tell of a sealed part.
-use Rattle.std.proofs.Common.{◌≡◌, ◌⊎◌, ◌∙◌, ℕ, List, Result, Ok, Err, inl, inr, refl, subst, sym}
+use Rattle.std.proofs.Common.{◌≡◌, ◌⊎◌, ◌∙◌, ℕ, List, inl, inr, refl, subst, sym}
 use Rattle.asn1_der.specs.Tree.{Tree}
-use Rattle.asn1_der.proofs.Spelling.{IsInjective, one_spelling}
+use Rattle.asn1_der.specs.Seen.{Seen, Alike}
+use Rattle.asn1_der.proofs.Spelling.{IsInjectiveAs, one_spelling_as}
 use Rattle.krb_crypto.specs.declared.suite.CipherSuite.{CipherSuite}
 use Rattle.krb_crypto.specs.Sealing.{IsSealedBy, cipher_padded}
 use Rattle.krb_crypto.specs.Suites.{cipher_number}
 use Rattle.krb_crypto.proofs.SealingLemmas.{by_suite, padded_front, sealed_without_padding}
 use Rattle.asn1_der.specs.declared.error.Asn1DerError.{Asn1DerError}
 use Rattle.asn1_der.specs.declared.error.Asn1DerError.TheVariants.{Memory}
-use Rattle.krb_encrypted_data.specs.Padded.{IsPaddedBy, ReadsPadded}
+use Rattle.krb_encrypted_data.specs.Padded.{IsPaddedBy}
 use Rattle.krb_encrypted_data.specs.Opens.{Opens}
 
 -- the suite sealed this text to the bytes, and no other text but for its padding
@@ -38,20 +39,20 @@ padded_opens tree suite key usage plain input bytes same x value padded =
     record { conf = x.0; plain = padded.0; writes = padded.1; sealed = (suite, refl, sealed_without_padding suite key usage x.0 padded.0 bytes sealed) }
 
 -- one value's padded encoding is a text
-sole_padded : {T : Type 0} (tree : T → Tree) → IsInjective {T = T} tree → (suite : CipherSuite) (text : List ℕ) (v w : T) → IsPaddedBy {T = T} tree suite text v → IsPaddedBy {T = T} tree suite text w → v ≡ w
-sole_padded {T} tree injective suite text v w x y =
+sole_padded : {T : Type 0} (seen : Seen T) (tree : T → Tree) → IsInjectiveAs {T = T} (Alike seen) tree → (suite : CipherSuite) (text : List ℕ) (v w : T) → IsPaddedBy {T = T} tree suite text v → IsPaddedBy {T = T} tree suite text w → Alike seen v w
+sole_padded {T} seen tree injective suite text v w x y =
     let first = padded_front suite x.0 in
     let second = padded_front suite y.0 in
-    (one_spelling {T = T} tree injective v w x.0 y.0 first.0 second.0 x.1 y.1 (sym first.1 ∙ x.2 ∙ sym y.2 ∙ second.1)).0
+    (one_spelling_as {T = T} (Alike seen) tree injective v w x.0 y.0 first.0 second.0 x.1 y.1 (sym first.1 ∙ x.2 ∙ sym y.2 ∙ second.1)).0
 
 -- the value that was read from the text is the one that is sealed here
-pub opens_value : {T : Type 0} (tree : T → Tree) → IsInjective {T = T} tree → (suite : CipherSuite) (key : List ℕ) (usage : ℕ) (plain input bytes : List ℕ) (value : T)
+pub opens_value : {T : Type 0} (seen : Seen T) (tree : T → Tree) → IsInjectiveAs {T = T} (Alike seen) tree → (suite : CipherSuite) (key : List ℕ) (usage : ℕ) (plain input bytes : List ℕ) (value : T)
     → input ≡ plain → IsDecrypted suite key usage plain bytes → IsPaddedBy {T = T} tree suite input value
     → Opens {T = T} tree (cipher_number suite) key usage bytes value
-    × ((other : T) → Opens {T = T} tree (cipher_number suite) key usage bytes other → other ≡ value)
-opens_value {T} tree injective suite key usage plain input bytes value same x padded = (
+    × ((other : T) → Opens {T = T} tree (cipher_number suite) key usage bytes other → Alike seen other value)
+opens_value {T} seen tree injective suite key usage plain input bytes value same x padded = (
   padded_opens {T = T} tree suite key usage plain input bytes same x value padded,
-  λ other o. sole_padded {T = T} tree injective suite input other value (opens_padded {T = T} tree suite key usage plain input bytes same x other o) padded,
+  λ other o. sole_padded {T = T} seen tree injective suite input other value (opens_padded {T = T} tree suite key usage plain input bytes same x other o) padded,
 )
 
 -- where no value's padded encoding is the text, none is sealed here

@@ -1,10 +1,10 @@
 -- What reading from the front of a text tells of a value whose encoding a suite pads.
-use Rattle.std.proofs.Common.{◌≡◌, ◌⊎◌, ◌+◌, ◌-◌, ◌≤◌, ◌∙◌, ℕ, List, ◌++◌, length, take, drop, Some, Err, ap, arith, inl, inr, refl, sym}
+use Rattle.std.proofs.Common.{◌≡◌, ◌⊎◌, ◌+◌, ◌-◌, ◌≤◌, ◌∙◌, ℕ, List, ◌++◌, length, take, drop, Some, ap, arith, inl, inr, refl, sym}
 use Rattle.std.proofs.lemmas.List.{drop_at, length-append, take_at}
 use Rattle.asn1_der.specs.declared.error.Asn1DerError.{Asn1DerError}
 use Rattle.asn1_der.specs.declared.error.Asn1DerError.TheVariants.{InvalidData, InvalidSink, Memory, Message, Other, TruncatedData, UnsupportedType, UnsupportedValue}
 use Rattle.asn1_der.specs.Tree.{Tree, Writes}
-use Rattle.asn1_der.proofs.Spelling.{IsInjective, one_spelling}
+use Rattle.asn1_der.proofs.Spelling.{IsInjectiveAs, one_spelling_as}
 use Rattle.asn1_codec.specs.Cuts.{MissesNext}
 use Rattle.asn1_codec.specs.Reading.{IsExcuse, faults_after}
 use Rattle.krb_crypto.specs.Sealing.{cipher_padded}
@@ -31,11 +31,11 @@ module _ (text bytes rest front padding : List ℕ) (took : text ≡ bytes ++ re
   value_padded tree suite value writes whole = (bytes, writes, ap (cipher_padded suite) (sym front_is) ∙ sym whole ∙ both_are)
 
   -- it isn't: no value's padded encoding is the text
-  pub none_padded : {T : Type 0} (tree : T → Tree) → IsInjective {T = T} tree → (suite : CipherSuite) (value : T) → Writes {T = T} tree value bytes → (front ++ padding ≡ cipher_padded suite front → ⊥)
+  pub none_padded : {T : Type 0} (Same : T → T → Type 0) (tree : T → Tree) → IsInjectiveAs {T = T} Same tree → (suite : CipherSuite) (value : T) → Writes {T = T} tree value bytes → (front ++ padding ≡ cipher_padded suite front → ⊥)
       → (other : T) → IsPaddedBy {T = T} tree suite text other → ⊥
-  none_padded {T} tree injective suite value writes differs other x =
+  none_padded {T} Same tree injective suite value writes differs other x =
       let behind = padded_front suite x.0 in
-      let same = one_spelling {T = T} tree injective value other bytes x.0 rest behind.0 writes x.1 (sym took ∙ sym x.2 ∙ behind.1) in
+      let same = one_spelling_as {T = T} Same tree injective value other bytes x.0 rest behind.0 writes x.1 (sym took ∙ sym x.2 ∙ behind.1) in
       differs (both_are ∙ sym x.2 ∙ ap (cipher_padded suite) (sym same.1 ∙ sym front_is))
 
 -- where no value begins the text, no padded value is the text

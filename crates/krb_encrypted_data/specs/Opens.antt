@@ -3,6 +3,7 @@ use Rattle.std.specs.Prelude.{◌≡◌, ◌⊎◌, ℕ, Result, Ok, Err}
 use Rattle.std.proofs.Common.{sym, ◌∙◌}
 use Rattle.picky_asn1.specs.Bytes.{Bytes}
 use Rattle.asn1_der.specs.Tree.{Tree, Writes}
+use Rattle.asn1_der.specs.Seen.{Seen, Alike}
 use Rattle.asn1_der.proofs.Spelling.{IsInjective, one_spelling}
 use Rattle.aes_cts.specs.declared.error.KerberosCryptoError.{KerberosCryptoError}
 use Rattle.aes_cts.specs.declared.error.KerberosCryptoError.TheVariants as crypto
@@ -27,10 +28,10 @@ abbrev pub IsWantOfMemory : OpenFault → Type 0
 IsWantOfMemory (Crypto fault) = fault ≡ crypto.Memory
 IsWantOfMemory (Der fault) = fault ≡ der_fault.Memory
 
--- the one value with the property, or there is none, or memory ran out
-abbrev pub IsOpened : {T : Type 0} → (T → Type 0) → Result T OpenFault → Type 0
-IsOpened {T} P (Ok value) = P value × ((other : T) → P other → other ≡ value)
-IsOpened {T} P (Err fault) = IsWantOfMemory fault ⊎ ((other : T) → P other → ⊥)
+-- the one value with the property, but for values that show the same; or there is none, or memory ran out
+abbrev pub IsOpened : {T : Type 0} → Seen T → (T → Type 0) → Result T OpenFault → Type 0
+IsOpened {T} seen P (Ok value) = P value × ((other : T) → P other → Alike seen other value)
+IsOpened {T} seen P (Err fault) = IsWantOfMemory fault ⊎ ((other : T) → P other → ⊥)
 
 -- at most one value is sealed to the bytes: an encoding says where it ends, so no other has the same padded form
 pub sole_opens : {T : Type 0} (tree : T → Tree) → IsInjective {T = T} tree → (number : ℕ) (key : Bytes) (usage : ℕ) (bytes : Bytes) (v w : T)

@@ -30,7 +30,7 @@ pub fn open_part<T: Deserialize + Drop>(
     usage: i32,
     bytes: &[u8],
 ) -> Result<T, OpenFault>
-    ensures { IsOpened (Opens T.tree (cipher_number suite) key.now (cast_unsigned w32 usage) bytes.now) result }
+    ensures { IsOpened T.seen (Opens T.tree (cipher_number suite) key.now (cast_unsigned w32 usage) bytes.now) result }
 {
     let plain = match suite.decrypt(alloc, key, usage, bytes) {
         Ok(plain) => plain,

@@ -5,18 +5,18 @@
 #![tactic(auto)]
 
 ghost use Rattle.std.specs.Prelude.{◌≡◌};
-ghost use Rattle.asn1_codec.specs.Reads.{ReadsAll};
+ghost use Rattle.asn1_codec.specs.Reads.{ReadsWhole};
 
 mod krb_result;
 pub mod messages;
 
 pub use krb_result::{KrbResult, ResultExt};
-use picky_asn1_der::{Asn1DerError, Deserialize, from_exact_bytes};
+use picky_asn1_der::{Asn1DerError, FromDer, from_exact_bytes};
 use std::alloc::Global;
 
-/// Reads the message whose one spelling `input` is, with nothing behind it.
-pub fn from_bytes<T: Deserialize + Drop>(alloc: Global, input: &[u8]) -> Result<T, Asn1DerError>
-    ensures { ReadsAll T.tree input.now result }
+/// Reads the message whose one spelling `input` is, with nothing behind it; or, of a type that says so, one of several.
+pub fn from_bytes<T: FromDer>(alloc: Global, input: &[u8]) -> Result<T, Asn1DerError>
+    ensures { ReadsWhole T.seen T.reads input.now result }
 {
     from_exact_bytes(alloc, input)
 }

@@ -1,4 +1,4 @@
-//! A login desk (RFC 4120): a realm that answers the requests of clients, clients by password or by certificate, and services.
+//! A realm (RFC 4120) that answers the requests of clients, clients by password or by certificate, and services.
 //!
 //! A [`Realm`] has a name, settings and accounts. [`Realm::answer`] gives the reply to a message at a moment, and
 //! [`serve`] answers the frames of a stream. A [`Client`] asks and takes replies, and a [`Service`] admits each of its

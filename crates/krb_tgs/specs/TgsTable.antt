@@ -81,7 +81,7 @@ authenticated_near call part ap_req =
 abbrev pub checksum_in : AuthenticatorInner → Option Checksum
 checksum_in authenticator = option_map (λ tagged. tagged.0) authenticator.cksum.0
 
--- the type is that of a suite's checksum: of triple DES (RFC 3961, section 6.3.2), or of AES (RFC 3962, section 7)
+-- the type is that of a suite's checksum: triple DES (RFC 3961, section 6.3), AES (RFC 3962, section 7), AES with SHA-2 (RFC 8009, section 6)
 abbrev pub is_known_checksum : ℤ → Bool
 is_known_checksum kind = list_any (λ suite. is_number (checksum_number suite) kind) checksum_suites
 

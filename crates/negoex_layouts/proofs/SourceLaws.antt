@@ -6,16 +6,13 @@ use Rattle.std.proofs.lemmas.List.{take_at, take_all, length-take}
 use Rattle.std.specs.Io.KnownBytes.{Consumes, IsAtEnd}
 use Rattle.std.specs.declared.io.ErrorKind.{ErrorKind}
 use Rattle.std.specs.declared.io.ErrorKind.TheVariants.{OutOfMemory}
-use Rattle.devices.specs.Counting.{one_more}
+use Rattle.byte_layouts.specs.Stops.{IsStop}
+use Rattle.byte_layouts.proofs.StopLaws.{stopped-once}
 use Rattle.byte_layouts.proofs.NumberLaws.{AreBytes}
 use Rattle.negoex_forms.specs.Form.{Layout, Answer, Answers}
 use Rattle.negoex_forms.specs.Laws.{LayoutLaws}
 use Rattle.negoex_forms.specs.declared.error.NegoexError.{NegoexError}
-use Rattle.negoex_layouts.specs.Sources.{IsCutShort, IsRefusal, IsGiven}
-
--- what a device that failed says of its count and its fault
-abbrev pub Counted : Option ErrorKind → ℕ → ℕ → Option ErrorKind → Type 0
-Counted fault old new last = MatchOption fault (new ≡ old) (λ kind. (new ≡ one_more old) × (last ≡ Some kind))
+use Rattle.negoex_layouts.specs.Sources.{IsCutShort, IsRefusal, IsGiven, IsWrongFront, TellsRead}
 
 -- what a header that ends too soon is answered by
 abbrev pub IsAnswer : ErrorKind → Option ErrorKind → ErrorKind → Type 0
@@ -36,7 +33,7 @@ front-all width count buffer bytes rest size few is ends =
 
 pub header-refused : {V : Type 0} (l : Layout V) (left after : Option (List ℕ)) (fault last : Option ErrorKind) (old new count : ℕ) (buffer message : List ℕ) (kind : ErrorKind) (e : NegoexError)
     → length buffer ≡ l.width → count ≤ length buffer → Consumes left after (take count buffer) → (fault ≡ None → count < length buffer → IsAtEnd after)
-    → Counted fault old new last → (kind ≡ OutOfMemory) ⊎ (l.read (take count buffer) message ≡ Err kind) → IsAnswer kind fault e.kind
+    → IsStop old new last fault → (kind ≡ OutOfMemory) ⊎ (l.read (take count buffer) message ≡ Err kind) → IsAnswer kind fault e.kind
     → IfSome left (λ bytes. IsRefusal l message bytes after old new last e)
 header-refused l None after fault last old new count buffer message kind e size few given ends counted told is = tt
 header-refused l (Some bytes) None fault last old new count buffer message kind e size few given ends counted told is = absurd given
@@ -57,6 +54,28 @@ header-refused l (Some bytes) (Some rest) (Some cause) last old new count buffer
       wrong = wrong;
       answered = is;
     })
+
+-- what came of a header that is refused
+wrong-front : {V : Type 0} (l : Layout V) (message front : List ℕ) (kind e : ErrorKind) → length front ≤ l.width → e ≡ kind
+    → (kind ≡ OutOfMemory) ⊎ (l.read front message ≡ Err kind) → (e ≡ OutOfMemory) ⊎ IsWrongFront l message e
+wrong-front l message front kind e few is (inl memory) = inl (is ∙ memory)
+wrong-front l message front kind e few is (inr wrong) = inr (front, few, wrong ∙ ap Err (sym is))
+
+-- what a refused header tells of any device
+pub header-told : {V : Type 0} (l : Layout V) (fault last : Option ErrorKind) (old new : ℕ) (front message : List ℕ) (kind : ErrorKind) (e : NegoexError)
+    → length front ≤ l.width → IsStop old new last fault → (kind ≡ OutOfMemory) ⊎ (l.read front message ≡ Err kind) → IsAnswer kind fault e.kind
+    → TellsRead l message old new last e
+header-told l None last old new front message kind e few stopped told is = inl (wrong-front l message front kind e.kind few is told, inl stopped)
+header-told l (Some cause) last old new front message kind e few stopped told (inl (short, same)) = inr (stopped.0, stopped.1 ∙ ap Some (sym same))
+header-told l (Some cause) last old new front message kind e few stopped told (inr (other, same)) =
+    inl (wrong-front l message front kind e.kind few same told, stopped-once (Some cause) last old new stopped)
+
+-- a header that is whole was read without a fault
+pub header-counted : {T V : Type 0} (view : T → V) (l : Layout V) → LayoutLaws l → (t : T) (fault last : Option ErrorKind) (old new count : ℕ) (buffer message : List ℕ)
+    → length buffer ≡ l.width → IfSome fault (λ _. count < length buffer) → IsStop old new last fault → l.IsLaid (view t) (take count buffer) message → new ≡ old
+header-counted view l laws t None last old new count buffer message size few stopped laid = stopped
+header-counted view l laws t (Some cause) last old new count buffer message size few stopped laid =
+    absurd (omega (arith, laws.full (view t) (take count buffer) message laid, length-take count buffer))
 
 -- what was read of some bytes stands there
 pub value-found : {T V : Type 0} (view : T → V) (l : Layout V) → LayoutLaws l → (header message : List ℕ) → AreBytes header → AreBytes message → length header ≤ l.width

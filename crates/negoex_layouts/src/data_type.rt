@@ -4,7 +4,7 @@ ghost use Rattle.std.specs.Io.KnownBytes.{Appends, Consumes};
 ghost use Rattle.negoex_forms.specs.Form.{IsTooLong};
 ghost use Rattle.negoex_layouts.specs.Messages.{IsMessage, message_bytes, IsTrueOffset, IsEncodeStop};
 ghost use Rattle.byte_layouts.specs.Stops.{IsWriteStop};
-ghost use Rattle.negoex_layouts.specs.Sources.{IsGiven, IsRefusal};
+ghost use Rattle.negoex_layouts.specs.Sources.{IsGiven, IsRefusal, TellsRead};
 
 use crate::reading::read_value;
 use crate::writing::{write_out, write_value};
@@ -97,6 +97,8 @@ pub trait NegoexDataType: Wide {
             × Consumes (R.left from.old) (R.left from.new) header) }
         ensures only { IfSome (R.left from.old) (λ bytes.
             IsGiven Self.view Self.layout message.now bytes (R.left from.new) (R.failed from.old) (R.failed from.new) (R.last_fault from.new) result) }
+        ensures count { MatchResult result (λ _. R.failed from.new ≡ R.failed from.old)
+            (TellsRead Self.layout message.now (R.failed from.old) (R.failed from.new) (R.last_fault from.new)) }
         ensures refused { IfErr result (λ e. IfSome (R.left from.old) (λ bytes.
             IsRefusal Self.layout message.now bytes (R.left from.new) (R.failed from.old) (R.failed from.new) (R.last_fault from.new) e)) }
         ensures same { R.through from.new ≡ R.through from.old }

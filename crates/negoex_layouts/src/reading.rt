@@ -1,8 +1,8 @@
 //! Headers read from a device.
-ghost use Rattle.std.specs.Prelude.{◌≡◌, ℕ, ◌≤◌, List, length, IfOk, IfErr, IfSome, MatchOption};
+ghost use Rattle.std.specs.Prelude.{◌≡◌, ℕ, ◌≤◌, List, length, IfOk, IfErr, IfSome, MatchOption, MatchResult};
 ghost use Rattle.std.specs.Io.KnownBytes.{Consumes};
 ghost use Rattle.negoex_forms.specs.Form.{Answers};
-ghost use Rattle.negoex_layouts.specs.Sources.{IsCutShort, IsRefusal, IsGiven};
+ghost use Rattle.negoex_layouts.specs.Sources.{IsCutShort, IsRefusal, IsGiven, TellsRead};
 
 use byte_layouts::read_front;
 use devices::Source;
@@ -44,6 +44,8 @@ pub(crate) fn read_value<T: Laid, R: Source>(
         × Consumes (R.left from.old) (R.left from.new) header) }
     ensures only { IfSome (R.left from.old) (λ bytes.
         IsGiven T.view T.layout message.now bytes (R.left from.new) (R.failed from.old) (R.failed from.new) (R.last_fault from.new) result) }
+    ensures count { MatchResult result (λ _. R.failed from.new ≡ R.failed from.old)
+        (TellsRead T.layout message.now (R.failed from.old) (R.failed from.new) (R.last_fault from.new)) }
     ensures refused { IfErr result (λ e. IfSome (R.left from.old) (λ bytes.
         IsRefusal T.layout message.now bytes (R.left from.new) (R.failed from.old) (R.failed from.new) (R.last_fault from.new) e)) }
     ensures same { R.through from.new ≡ R.through from.old }

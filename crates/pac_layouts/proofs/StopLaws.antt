@@ -18,7 +18,7 @@ use Rattle.pac_layouts.specs.declared.error.PacError.TheVariants as fault
 use Rattle.pac_layouts.specs.Buffers.{Buffer}
 use Rattle.pac_layouts.specs.Faults.{short_of, range_of}
 use Rattle.pac_layouts.specs.Kinds.{kind_of}
-use Rattle.pac_layouts.specs.Reading.{and_then, head_at, kind_at, fields_at, info_at, content_at, buffer_at, buffers_at, pac_at}
+use Rattle.pac_layouts.specs.Reading.{and_then, head_at, kind_at, fields_at, info_at, buffer_at, buffers_at, pac_at}
 use Rattle.pac_layouts.specs.Refusals.{TellsRead, TellsPac}
 use Rattle.pac_layouts.proofs.ReadingLaws.{Extends, info-extends, pac-extends}
 

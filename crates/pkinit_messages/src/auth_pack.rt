@@ -70,9 +70,11 @@ impl<V: ClientPublicValue + Clone> Clone for AuthPack<V> {
 }
 
 impl<V: Deserialize + ClientPublicValue + Drop> Tagged for AuthPack<V> {
-    ghost use Rattle.std.proofs.Common.{ap, refl, true, None, Some};
+    ghost use Rattle.std.proofs.Common.{refl, true, None, Some};
+    ghost use Rattle.asn1_der.specs.Seen.{Alike, seen_part};
     ghost use Rattle.asn1_der.specs.Tagged.{sequence};
-    ghost use Rattle.asn1_der.proofs.Tagged.{sequence_laws};
+    ghost use Rattle.asn1_der.proofs.Alike.{alike-part};
+    ghost use Rattle.asn1_der.proofs.Tagged.{sequence_laws_as};
     ghost use Rattle.asn1_codec.specs.Refusals.{first_refusal, refusal_of_option, part_refusal};
 
     type Row = AuthPackRow<V>;
@@ -83,11 +85,15 @@ impl<V: Deserialize + ClientPublicValue + Drop> Tagged for AuthPack<V> {
 
     ghost row_tree = { sequence ⟦<AuthPackRow<V> as Fields>⟧.trees };
 
-    ghost row_laws = { sequence_laws ⟦<AuthPackRow<V> as Fields>⟧.trees (⟦<AuthPackRow<V> as Fields>⟧.injective (refl {a = true})) };
+    ghost row_seen = { ⟦<AuthPackRow<V> as Fields>⟧.seen };
+
+    ghost seen = { seen_part (λ v. (v.pk_authenticator, (v.client_public_value, (v.supported_cms_types, (v.client_dh_nonce, tt))))) ⟦<AuthPackRow<V> as Fields>⟧.seen };
+
+    ghost row_laws = { sequence_laws_as (Alike ⟦<AuthPackRow<V> as Fields>⟧.seen) ⟦<AuthPackRow<V> as Fields>⟧.trees (⟦<AuthPackRow<V> as Fields>⟧.injective (refl {a = true})) };
 
     ghost row_of = { λ v. (v.pk_authenticator, (v.client_public_value, (v.supported_cms_types, (v.client_dh_nonce, tt)))) };
 
-    ghost one_row = { λ v w e. ap (λ f. record { pk_authenticator = f.0; client_public_value = f.1.0; supported_cms_types = f.1.1.0; client_dh_nonce = f.1.1.1.0 }) e };
+    ghost one_row = { λ v w e. alike-part ⟦<AuthPackRow<V> as Fields>⟧.seen v w (λ v. (v.pk_authenticator, (v.client_public_value, (v.supported_cms_types, (v.client_dh_nonce, tt))))) (λ f. record { pk_authenticator = f.0; client_public_value = f.1.0; supported_cms_types = f.1.1.0; client_dh_nonce = f.1.1.1.0 }) (λ v. refl) e };
 
     ghost refuses = { Some (λ v. first_refusal (refusal_of_option (part_refusal (λ field. field.0) V.refusal) v.client_public_value.0) None) };
 

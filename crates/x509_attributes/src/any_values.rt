@@ -54,4 +54,6 @@ impl Tagged for AnyValues {
     }
 }
 
-impl Exact for AnyValues {}
+impl Exact for AnyValues {
+    ghost plain = { tt };
+}

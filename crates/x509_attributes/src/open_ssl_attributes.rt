@@ -98,6 +98,7 @@ impl Spelled for OpenSslAttributes {
 }
 
 impl HasDefault for OpenSslAttributes {
+    ghost use Rattle.std.proofs.Common.{ap};
     ghost use Rattle.std.specs.Prelude.{length, ◌==◌};
     ghost use Rattle.x509_attributes.specs.NoAttributes.{one_empty};
 
@@ -115,6 +116,8 @@ impl HasDefault for OpenSslAttributes {
         let none = Vec::new(alloc);
         Ok(OpenSslAttributes(Attributes::from(none)))
     }
+
+    ghost kept = { λ v w e. ap (λ attributes. length attributes.0 == 0) e };
 }
 
 impl Deviates for OpenSslAttributes {

@@ -65,9 +65,12 @@ impl Deserialize for VersionField {
     }
 }
 
-impl Exact for VersionField {}
+impl Exact for VersionField {
+    ghost plain = { tt };
+}
 
 impl HasDefault for VersionField {
+    ghost use Rattle.std.proofs.Common.{ap};
     ghost use Rattle.std.specs.Prelude.{◌==◌};
     ghost use Rattle.x509_parts.specs.Versions.{version_number, one_version_1};
 
@@ -84,6 +87,8 @@ impl HasDefault for VersionField {
     fn default_value(_alloc: Global) -> Result<Self, AllocError> {
         Ok(VersionField::new(Version::V1))
     }
+
+    ghost kept = { λ v w e. ap (λ field. version_number field.0.0 == 0) e };
 }
 
 impl Deviates for VersionField {

@@ -61,7 +61,9 @@ impl Deserialize for AuthorityField {
     }
 }
 
-impl Exact for AuthorityField {}
+impl Exact for AuthorityField {
+    ghost plain = { tt };
+}
 
 // The field that the alternative is.
 fn field_of(choice: FieldChoice) -> AuthorityField

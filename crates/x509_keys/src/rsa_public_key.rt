@@ -77,4 +77,6 @@ impl Tagged for RsaPublicKey {
     }
 }
 
-impl Exact for RsaPublicKey {}
+impl Exact for RsaPublicKey {
+    ghost plain = { tt };
+}

@@ -2,6 +2,7 @@
 ghost use Rattle.std.specs.Prelude.{◌≡◌, true, IsTrue, IfOk, MatchOption, MatchResult};
 ghost use Rattle.asn1_der.specs.Tagged.{sequence};
 ghost use Rattle.asn1_codec.specs.Reading.{TookValue, IsSpelling, Refused};
+ghost use Rattle.x509_spelling.specs.PlainLaws.{IsPlain};
 
 use devices::Source;
 use picky_asn1_der::{Asn1DerError, Deserializer, Fields, read_sequence};
@@ -25,7 +26,8 @@ pub fn read_agreed<T: Agreed<F> + Drop, F: Fields, R: Source>(
     tag: u8,
     from: &mut Deserializer<R>,
 ) -> Result<T, Asn1DerError>
-    requires { IsTrue F.sound }
+    requires sound { IsTrue F.sound }
+    requires plain { IsPlain F.seen }
     ensures { MatchResult result
         (λ value. TookValue (λ v. sequence F.trees tag (T.row_of v)) value from.old from.new)
         (λ fault. Refused (IsSpelling (λ v. sequence F.trees tag (T.row_of v))) from.old from.new fault) }

@@ -298,7 +298,9 @@ impl Tagged for AttributeTypeAndValue {
     }
 }
 
-impl Exact for AttributeTypeAndValue {}
+impl Exact for AttributeTypeAndValue {
+    ghost plain = { tt };
+}
 
 // The value that the element is, of the type that the identifier decides; none where it isn't of that type.
 fn value_of(

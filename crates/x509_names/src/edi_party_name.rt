@@ -81,4 +81,6 @@ impl Tagged for EdiPartyName {
     }
 }
 
-impl Exact for EdiPartyName {}
+impl Exact for EdiPartyName {
+    ghost plain = { tt };
+}

@@ -169,7 +169,9 @@ impl Deserialize for GeneralName {
     }
 }
 
-impl Exact for GeneralName {}
+impl Exact for GeneralName {
+    ghost plain = { tt };
+}
 
 // The name that the alternative is.
 fn general_of(choice: GeneralNameChoice) -> GeneralName

@@ -225,4 +225,6 @@ impl Tagged for Name {
     }
 }
 
-impl Exact for Name {}
+impl Exact for Name {
+    ghost plain = { tt };
+}

@@ -74,4 +74,6 @@ impl Tagged for OtherName {
     }
 }
 
-impl Exact for OtherName {}
+impl Exact for OtherName {
+    ghost plain = { tt };
+}

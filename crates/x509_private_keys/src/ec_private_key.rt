@@ -133,4 +133,6 @@ impl Tagged for ECPrivateKey {
     }
 }
 
-impl Exact for ECPrivateKey {}
+impl Exact for ECPrivateKey {
+    ghost plain = { tt };
+}

@@ -197,4 +197,6 @@ impl Tagged for RsaPrivateKey {
     }
 }
 
-impl Exact for RsaPrivateKey {}
+impl Exact for RsaPrivateKey {
+    ghost plain = { tt };
+}

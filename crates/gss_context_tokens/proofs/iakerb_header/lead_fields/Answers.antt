@@ -14,7 +14,7 @@ returns-in_err-second g c =
     at-exit _ _ _ _ c.from_residual-in_err-second.ensures.1 (
       c.in_err-second.ensures.0,
       no-second g.A.Serialize.tree g.B.Serialize.firsts g.B.Serialize.tree g.C.Serialize.firsts g.C.Serialize.tree c.args.content.now c.in_ok-first.first c.in_ok-first.behind.now _
-          g.A.Serialize.injective c.in_ok-first.ensures c.in_err-second.ensures.1 c.in_err-second.ensures.2,
+          g.A.Serialize.seen g.A.Serialize.injective c.in_ok-first.ensures c.in_err-second.ensures.1 c.in_err-second.ensures.2,
     )
 
 pub returns-in_err-third : goal.returns-in_err-third
@@ -22,6 +22,6 @@ returns-in_err-third g c =
     at-exit _ _ _ _ c.from_residual-in_err-third.ensures.1 (
       c.in_err-third.ensures.0,
       no-third g.A.Serialize.tree g.B.Serialize.firsts g.B.Serialize.tree g.C.Serialize.firsts g.C.Serialize.tree c.args.content.now c.in_ok-first.first c.in_ok-second.second
-          c.in_ok-first.behind.now c.in_ok-second.later.now _ g.A.Serialize.injective g.B.Serialize.injective c.in_ok-first.ensures c.in_ok-second.ensures
+          c.in_ok-first.behind.now c.in_ok-second.later.now _ g.A.Serialize.seen g.B.Serialize.seen g.A.Serialize.injective g.B.Serialize.injective c.in_ok-first.ensures c.in_ok-second.ensures
           c.in_err-third.ensures.1 c.in_err-third.ensures.2,
     )

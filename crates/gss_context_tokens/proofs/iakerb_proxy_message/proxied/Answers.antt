@@ -17,7 +17,7 @@ returns-in_err-check_mechanism c =
 pub returns-in_err-id : goal.returns-in_err-id
 returns-in_err-id c =
     at-exit _ _ _ _ c.from_residual-in_err-id.ensures.1
-    (proxied-no_id c.args.bytes.now c.in_ok-mechanism.mechanism c.in_ok-mechanism.inner.now _ c.in_err-id.field-0.0
+    (proxied-no_id c.args.bytes.now c.in_ok-mechanism.mechanism c.in_ok-mechanism.inner.now c.in_err-id.field-0.0
     c.in_ok-mechanism.ensures c.in_ok-check_mechanism.ensures c.in_err-id.ensures.0 c.in_err-id.ensures.1)
 
 pub returns-in_err-check_id : goal.returns-in_err-check_id

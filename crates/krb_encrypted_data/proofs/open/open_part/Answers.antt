@@ -11,7 +11,7 @@ returns-in-Err g c =
 pub returns-in-Ok-read_padded : goal.returns-in-Ok-read_padded
 returns-in-Ok-read_padded g c =
     let fits : SFits w32 c.args.usage = c.ranges.usage in
-    opens_value g.T.Serialize.tree g.T.Serialize.injective c.args.suite c.args.key.now _ c.in-Ok.plain.items _ c.args.bytes.now c.in-Ok-read_padded.value
+    opens_value g.T.Serialize.seen g.T.Serialize.tree g.T.Serialize.injective c.args.suite c.args.key.now _ c.in-Ok.plain.items _ c.args.bytes.now c.in-Ok-read_padded.value
     c.deref.ensures.value (simp to_z-of_z at c.in-Ok.ensures.opened) c.in-Ok-read_padded.ensures
 
 pub returns : goal.returns

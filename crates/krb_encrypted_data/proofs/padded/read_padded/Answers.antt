@@ -1,5 +1,6 @@
 use Rattle.std.proofs.Common.{inr, sym, ◌∙◌}
 use Rattle.std.proofs.lemmas.Bool.{false≢true}
+use Rattle.asn1_der.specs.Seen.{Alike}
 use Rattle.krb_encrypted_data.proofs.PaddedTexts.{none_padded, refused_padded, value_padded}
 use Rattle.krb_encrypted_data.proofs.padded.read_padded.Goals as goal
 
@@ -12,7 +13,7 @@ returns-then-is_padding g c =
 pub returns-else-is_padding : goal.returns-else-is_padding
 returns-else-is_padding g c =
     let read = c.in-Ok.ensures.value in
-    inr (none_padded c.args.text.now read.0 _ _ _ read.3 c.split_at.ensures.front c.split_at.ensures.back g.T.Serialize.tree g.T.Serialize.injective c.args.suite c.in-Ok.value read.1
+    inr (none_padded c.args.text.now read.0 _ _ _ read.3 c.split_at.ensures.front c.split_at.ensures.back (Alike g.T.Serialize.seen) g.T.Serialize.tree g.T.Serialize.injective c.args.suite c.in-Ok.value read.1
     (λ whole. false≢true (sym c.if-is_padding.false ∙ c.is_padding.ensures.1 whole)))
 
 pub returns-in-Err : goal.returns-in-Err

@@ -1,5 +1,6 @@
 use Rattle.std.proofs.Common.{take, arith}
-use Rattle.negoex_layouts.proofs.SourceLaws.{header-refused, header-given, header-excused}
+use Rattle.std.proofs.lemmas.List.{length-take}
+use Rattle.negoex_layouts.proofs.SourceLaws.{header-refused, header-given, header-excused, header-told, header-counted}
 use Rattle.negoex_layouts.proofs.reading.read_value.Goals as goal
 
 pub returns-in-Ok-clause-found : goal.returns-in-Ok-clause-found
@@ -25,3 +26,16 @@ pub returns-in-Err-clause-only : goal.returns-in-Err-clause-only
 returns-in-Err-clause-only g c =
     let t = g.T.Laid in
     header-excused t.view t.layout t.laws (g.R.Source.left c.args.from.now) (g.R.Source.left c.read_front-front.new.reader) _ _ _ c.args.message.now _ (returns-in-Err-clause-refused g c)
+
+pub returns-in-Ok-clause-count : goal.returns-in-Ok-clause-count
+returns-in-Ok-clause-count g c =
+    let t = g.T.Laid in
+    header-counted t.view t.layout t.laws _ c.read_front-front.result.fault _ _ _ c.read_front-front.result.count c.read_front-front.new.buffer c.args.message.now
+    (omega (arith, c.requires)) c.read_front-front.ensures.short c.read_front-front.ensures.fault c.in-Ok.ensures.found
+
+pub returns-in-Err-clause-count : goal.returns-in-Err-clause-count
+returns-in-Err-clause-count g c =
+    let buffer = c.read_front-front.new.buffer in
+    let count = c.read_front-front.result.count in
+    header-told g.T.Laid.layout c.read_front-front.result.fault _ _ _ (take count buffer) c.args.message.now _ _
+    (omega (arith, c.requires, length-take count buffer)) c.read_front-front.ensures.fault c.in-Err.ensures.exact c.cut_short.ensures

@@ -9,7 +9,7 @@ returns-in_err-krb5_oid g c =
 pub returns-in_err-krb5_token_id : goal.returns-in_err-krb5_token_id
 returns-in_err-krb5_token_id g c =
     at-exit _ _ _ _ c.from_residual-in_err-krb5_token_id.ensures.1
-    (no-id g.T.FromDer.reads c.args.bytes.now c.in_ok-krb5_oid.krb5_oid c.in_ok-krb5_oid.inner.now _ c.in_err-krb5_token_id.field-0.0
+    (no-id g.T.FromDer.reads c.args.bytes.now c.in_ok-krb5_oid.krb5_oid c.in_ok-krb5_oid.inner.now c.in_err-krb5_token_id.field-0.0
     c.in_ok-krb5_oid.ensures c.in_err-krb5_token_id.ensures.0 c.in_err-krb5_token_id.ensures.1)
 
 pub returns-in_err-krb_msg : goal.returns-in_err-krb_msg
