@@ -94,9 +94,11 @@ numbered test (own ∷ padata) pa_data e = by_test (test own) (λ f. numbered te
     by_test : (b : Bool) → (find test padata ≡ Some pa_data → (n : ℕ) × LeadsIn (ders (trees_of pa_data_tree padata)) n (der (pa_data_tree pa_data)))
         → (if b then Some own else find test padata) ≡ Some pa_data → (n : ℕ) × LeadsIn (ders (trees_of pa_data_tree (own ∷ padata))) n (der (pa_data_tree pa_data))
     by_test true rest f =
-        let same : own ≡ pa_data = cc (f) in
-        (0, subst (λ (v : PaData). LeadsIn (ders (trees_of pa_data_tree (own ∷ padata))) 0 (der (pa_data_tree v))) same
-        (at_front (der (pa_data_tree own)) (ders (trees_of pa_data_tree padata)) (ders (trees_of pa_data_tree (own ∷ padata))) (is_element own) refl (are_some padata)))
+        let same : own ≡ pa_data = cc (f) in (
+          0,
+          subst (λ (v : PaData). LeadsIn (ders (trees_of pa_data_tree (own ∷ padata))) 0 (der (pa_data_tree v))) same
+              (at_front (der (pa_data_tree own)) (ders (trees_of pa_data_tree padata)) (ders (trees_of pa_data_tree (own ∷ padata))) (is_element own) refl (are_some padata)),
+        )
     by_test false rest f =
         let later = rest f in
         (suc later.0, behind_front (der (pa_data_tree own)) (ders (trees_of pa_data_tree padata)) (ders (trees_of pa_data_tree (own ∷ padata))) (is_element own) refl later.0 (der (pa_data_tree pa_data)) later.1)
