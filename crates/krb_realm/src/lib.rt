@@ -18,8 +18,8 @@ mod respond;
 mod settings;
 
 pub use client::Client;
-pub use honest_by_certificate::is_honest_by_certificate;
 pub use devices::{Sink, SinkFault, Source};
+pub use honest_by_certificate::is_honest_by_certificate;
 pub use key_functions::{KeyFunctions, NoKeys, SignatureAlgorithm, Signed, Theirs};
 pub use krb_accounts::RealmRefusal;
 pub use krb_ap_requests::AdmitRefusal;

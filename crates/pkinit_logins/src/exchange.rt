@@ -93,7 +93,14 @@ fn padata_if_honest<C: KeyFunctions, R: KeyFunctions>(
         (asked_at exchange.now.client.now exchange.now.own.now.anchor.now exchange.now.nonce moment words.now)) }
     ensures refusal { IfErr result (λ refusal. refusal ≡ AskRefusal.NoKeyFunction) }
 {
-    if !is_honest_by(alloc, exchange, body, moment, words, padata.padata_data.0.as_bytes()) {
+    if !is_honest_by(
+        alloc,
+        exchange,
+        body,
+        moment,
+        words,
+        padata.padata_data.0.as_bytes(),
+    ) {
         drop(padata);
         return Err(AskRefusal::NoKeyFunction);
     }
@@ -136,7 +143,14 @@ fn is_honest_by<C: KeyFunctions, R: KeyFunctions>(
     if !has_public_key(alloc, exchange.own.keys, agreement) {
         return false;
     }
-    has_one_secret(alloc, exchange.own.keys, exchange.pkinit, &call, &asked, padata)
+    has_one_secret(
+        alloc,
+        exchange.own.keys,
+        exchange.pkinit,
+        &call,
+        &asked,
+        padata,
+    )
 }
 
 // Whether the realm grants a request with these padata, and the client takes the same secret from the reply.
