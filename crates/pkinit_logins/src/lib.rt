@@ -8,3 +8,4 @@ mod honest;
 pub mod laws;
 
 pub use honest::is_honest_by_certificate;
+
