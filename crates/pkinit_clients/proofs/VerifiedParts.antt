@@ -169,7 +169,7 @@ module _ {A : Type 0} (tree : A → Tree) (signed : Bytes) where
 
   octets_in : (given : Option A) → IsWhole (wrapped 160 (share given)) → LeadsTo (der (wrapped 160 (share given))) (0 ∷ 0 ∷ []) (element 128 signed)
   octets_in given whole =
-      go_on (der (wrapped 160 (share given))) (der (share given)) (element 128 signed) (0 ∷ []) (0 ∷ []) (in_tag 160 _ refl whole)
+      go_on (der (wrapped 160 (share given))) (der (share given)) (element 128 signed) (0 ∷ []) (0 ∷ []) (in_tag 160 (more (primitive 128 signed) (put (λ v. wrapped 161 (tree v)) given none)) refl whole)
       (in_element 48 _ (der (share given)) refl refl 0 (element 128 signed)
       (at_front (element 128 signed) _ _ (128, signed, refl, refl) refl (some_nonce given whole.0.1)))
 
