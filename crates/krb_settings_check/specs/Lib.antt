@@ -1,1 +1,3 @@
 pub mod Messages
+pub mod Warnings
+pub mod WeakKeys

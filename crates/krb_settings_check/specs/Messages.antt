@@ -11,6 +11,10 @@ use Rattle.krb_settings.specs.declared.field.Field.{Field}
 use Rattle.krb_settings_check.specs.declared.place.Place.{Place}
 use Rattle.krb_settings_check.specs.declared.place.Place.TheVariants as place
 use Rattle.krb_settings_check.specs.declared.remark.Remark.{Remark}
+use Rattle.krb_settings_check.specs.declared.warning.Found.{Found}
+use Rattle.krb_settings_check.specs.declared.warning.TheConstants.{REALM_CONTROL, REALM_AT, REALM_BLANK, REALM_LOWER, NAME_SLASH, NAME_AT, NAME_CONTROL, NAME_BLANK, PASSWORD_EMPTY, PASSWORD_SHORT, PASSWORD_BREAK, PASSWORD_EXAMPLE, PASSWORD_ROUNDS, KEY_EXAMPLE, KEY_REPEATED, KEY_PARITY, KEY_WEAK, KEY_REALM}
+use Rattle.krb_settings_check.specs.declared.warning.Warning.{Warning}
+use Rattle.krb_settings_check.specs.declared.warning.Warning.TheVariants as warning
 use Rattle.krb_settings_check.specs.declared.rules.Slip.{Slip}
 use Rattle.krb_settings_check.specs.declared.rules.Slip.TheVariants as slip
 
@@ -33,6 +37,32 @@ names_text = join_by field_name (codes ", ")
 -- names of fields with `, ` before each
 abbrev pub further_names_text : List Field → List ℕ
 further_names_text = flat_map (λ field. codes ", " ++ field_name field)
+
+-- what is said of a slip
+abbrev pub warning_text : Warning → List ℕ
+warning_text warning.RealmControl = REALM_CONTROL.now
+warning_text warning.RealmAt = REALM_AT.now
+warning_text warning.RealmBlank = REALM_BLANK.now
+warning_text warning.RealmLower = REALM_LOWER.now
+warning_text warning.NameSlash = NAME_SLASH.now
+warning_text warning.NameAt = NAME_AT.now
+warning_text warning.NameControl = NAME_CONTROL.now
+warning_text warning.NameBlank = NAME_BLANK.now
+warning_text warning.PasswordEmpty = PASSWORD_EMPTY.now
+warning_text warning.PasswordShort = PASSWORD_SHORT.now
+warning_text warning.PasswordBreak = PASSWORD_BREAK.now
+warning_text warning.PasswordExample = PASSWORD_EXAMPLE.now
+warning_text warning.PasswordRounds = PASSWORD_ROUNDS.now
+warning_text warning.KeyExample = KEY_EXAMPLE.now
+warning_text warning.KeyRepeated = KEY_REPEATED.now
+warning_text warning.KeyParity = KEY_PARITY.now
+warning_text warning.KeyWeak = KEY_WEAK.now
+warning_text warning.KeyOfRealm = KEY_REALM.now
+warning_text (warning.KeyOfAccount number) = codes "key is account " ++ decimal number ++ codes "'s too: expected a key of its own"
+
+-- a warning of a table
+abbrev pub found_text : Found → List ℕ
+found_text found = codes "warning: " ++ place_text found.place ++ warning_text found.warning
 
 -- a word of at most 30 bytes is quoted and escaped, as by `{:?}`. Of a longer one stands its length. Where a quoted word isn't
 -- ASCII, std states no text

@@ -4,6 +4,7 @@
 //! None of them shows a key or a password.
 #![tactic(auto)]
 
+mod cases;
 mod des3;
 mod lines;
 mod messages;
@@ -12,6 +13,7 @@ mod place;
 mod remark;
 mod rules;
 mod scan;
+mod warning;
 mod warnings;
 mod words;
 
@@ -19,4 +21,5 @@ pub use messages::explain;
 pub use place::Place;
 pub use remark::Remark;
 pub use rules::{Rule, explain_rule};
+pub use warning::{Found, Warning};
 pub use warnings::warnings_of;

@@ -26,6 +26,9 @@ pub fn explain(alloc: Global, text: &[u8], fault: SettingsFault) -> Result<Remar
 
 // The message of a text that is no TOML.
 fn explain_toml(alloc: Global, text: &[u8], error: de::Error) -> Result<Remark, AllocError> {
+    if is_utf_16(text) {
+        return Remark::on_file(alloc, "text in UTF-16: expected UTF-8");
+    }
     let message = error.message();
     let Some(span) = error.span() else {
         return Remark::on_file(alloc, message);
@@ -34,27 +37,120 @@ fn explain_toml(alloc: Global, text: &[u8], error: de::Error) -> Result<Remark, 
         Some(halves) => halves,
         None => (text, text),
     };
-    let (line, column) = place_after(before);
-    let key = match str::from_utf8(rest) {
-        Ok(rest) if message == "duplicate key" => first_key(alloc, rest)?,
-        _ => None,
+    let (number, column) = place_after(before);
+    let line = line_at(text, number);
+    let line_key = first_key(alloc, line)?;
+    let rest_key = match str::from_utf8(rest) {
+        Ok(rest) => first_key(alloc, rest)?,
+        Err(_) => None,
     };
-    match key {
-        Some(key) => {
-            let key = Word(key.as_str());
-            Remark::on_table(
-                alloc,
-                Place::File,
-                Some(line),
-                format_args!("duplicate key {key}: expected it once in a table"),
-            )
+    let number = Some(number);
+    match toml_fault(message, rest, line, line_key, rest_key) {
+        TomlFault::Unclosed => {
+            let words = format_args!(
+                "column {column}: unclosed string: expected its closing quote"
+            );
+            Remark::on_table(alloc, Place::File, number, words)
         }
-        None => Remark::on_table(
-            alloc,
-            Place::File,
-            Some(line),
-            format_args!("column {column}: {message}"),
-        ),
+        TomlFault::OutOfRange(field) => {
+            let wanted = expected(field);
+            let words = format_args!("{field} is out of range: expected {wanted}");
+            Remark::on_table(alloc, Place::File, number, words)
+        }
+        TomlFault::SecondTable => {
+            let wanted = expected(Field::Account);
+            let words = format_args!("a second [account]: expected {wanted}");
+            Remark::on_table(alloc, Place::File, number, words)
+        }
+        TomlFault::Duplicate(key) => {
+            let key = Word(key.as_str());
+            let words = format_args!("duplicate key {key}: expected it once in a table");
+            Remark::on_table(alloc, Place::File, number, words)
+        }
+        TomlFault::Other => {
+            let words = format_args!("column {column}: {message}");
+            Remark::on_table(alloc, Place::File, number, words)
+        }
+    }
+}
+
+/// What is wrong with a text that is no TOML.
+#[derive(Drop)]
+enum TomlFault {
+    /// A string has no end.
+    Unclosed,
+    /// The number that this field holds doesn't fit 64 bits.
+    OutOfRange(Field),
+    /// A table `[account]` is the second.
+    SecondTable,
+    /// This key stands a second time.
+    Duplicate(String),
+    /// Another.
+    Other,
+}
+
+// The fault of this message: what follows its place, the line, and the keys with which both begin.
+fn toml_fault(
+    message: &str,
+    rest: &[u8],
+    line: &str,
+    line_key: Option<String>,
+    rest_key: Option<String>,
+) -> TomlFault {
+    if message == "invalid string" && is_line_end(rest) {
+        return TomlFault::Unclosed;
+    }
+    if message == "number out of range" {
+        return out_of_range(line_key);
+    }
+    match rest_key {
+        Some(key) if message == "duplicate key" => {
+            if key.as_str() == Field::Account.name() && line.trim_start().starts_with('[') {
+                TomlFault::SecondTable
+            } else {
+                TomlFault::Duplicate(key)
+            }
+        }
+        _ => TomlFault::Other,
+    }
+}
+
+// The fault of a number that doesn't fit 64 bits, on a line that begins with this key.
+fn out_of_range(key: Option<String>) -> TomlFault {
+    let Some(key) = key else {
+        return TomlFault::Other;
+    };
+    let key = key.as_str();
+    if key == Field::Skew.name() {
+        TomlFault::OutOfRange(Field::Skew)
+    } else if key == Field::Lifetime.name() {
+        TomlFault::OutOfRange(Field::Lifetime)
+    } else {
+        TomlFault::Other
+    }
+}
+
+// Whether a text ends here, or its line.
+fn is_line_end(rest: &[u8]) -> bool {
+    match rest.first() {
+        None => true,
+        Some(byte) => *byte == b'\n' || *byte == b'\r',
+    }
+}
+
+// Whether a text begins with the byte-order mark of UTF-16.
+fn is_utf_16(text: &[u8]) -> bool {
+    let [first, second, ..] = text else {
+        return false;
+    };
+    (*first == 0xff && *second == 0xfe) || (*first == 0xfe && *second == 0xff)
+}
+
+// The line of this number. A text that isn't UTF-8 has none.
+fn line_at(text: &[u8], number: usize) -> &str {
+    match str::from_utf8(text) {
+        Ok(text) => text.lines().nth(number.saturating_sub(1)).unwrap_or(""),
+        Err(_) => "",
     }
 }
 
@@ -194,12 +290,11 @@ fn first_other(field: Field, values: &[Value]) -> Option<(usize, &'static str)> 
 fn unknown_suite(alloc: Global, outline: &Outline, place: Place) -> Result<Remark, AllocError> {
     let wanted = expected(Field::Suite);
     let line = outline.line(place, Field::Suite);
-    let word = Word(outline.text(place, Field::Suite).unwrap_or(""));
     Remark::on_table(
         alloc,
         place,
         line,
-        format_args!("unknown suite {word}: expected {wanted}"),
+        format_args!("unknown suite: expected {wanted}"),
     )
 }
 

@@ -1,5 +1,5 @@
 //! What is said of a settings file, and of which line.
-ghost use Rattle.std.specs.Prelude.{◌≡◌, ◌++◌, IfOk, IfSome, codes, string_bytes};
+ghost use Rattle.std.specs.Prelude.{◌≡◌, ◌++◌, IfOk, IfSome, string_bytes};
 ghost use Rattle.krb_settings_check.specs.Messages.{place_text};
 
 use crate::Place;
@@ -30,21 +30,6 @@ impl Remark {
             IfSome (D.output words) (λ shown. string_bytes remark.text ≡ place_text place ++ shown)) }
     {
         let text = format!(in alloc; "{place}{words}")?;
-        Ok(Remark { line, text })
-    }
-
-    /// A warning about a table of a file.
-    pub(crate) fn warning(
-        alloc: Global,
-        place: Place,
-        line: Option<usize>,
-        words: &str,
-    ) -> Result<Remark, AllocError>
-        ensures line { IfOk result (λ remark. remark.line ≡ line) }
-        ensures text { IfOk result (λ remark.
-            string_bytes remark.text ≡ codes "warning: " ++ place_text place ++ words.now) }
-    {
-        let text = format!(in alloc; "warning: {place}{words}")?;
         Ok(Remark { line, text })
     }
 

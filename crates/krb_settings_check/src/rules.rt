@@ -3,6 +3,7 @@
 use crate::outline::Outline;
 use crate::words::expected;
 use crate::{Place, Remark};
+use krb_crypto::CipherSuite;
 use krb_settings::{Field, suite_at, suite_name};
 use std::alloc::{AllocError, Global};
 use std::fmt;
@@ -167,9 +168,8 @@ pub(crate) fn key_digits(
 ) -> Result<Remark, AllocError> {
     let line = outline.line(place, Field::Key);
     let digits = outline.text(place, Field::Key).unwrap_or("");
-    let suite = match outline.table(place).map(suite_at) {
-        Some(Ok(suite)) => suite,
-        _ => return Remark::on_table(alloc, place, line, "key is not pairs of hexadecimal digits"),
+    let Some(suite) = suite_of(outline, place) else {
+        return Remark::on_table(alloc, place, line, "key is not pairs of hexadecimal digits");
     };
     let wanted = suite.key_size().saturating_mul(2);
     let name = suite_name(suite);
@@ -183,6 +183,14 @@ pub(crate) fn key_digits(
     let count = digits.len();
     let words = format_args!("key has {count} hexadecimal digits: expected {wanted} for {name}");
     Remark::on_table(alloc, place, line, words)
+}
+
+// The suite of a table.
+fn suite_of(outline: &Outline, place: Place) -> Option<CipherSuite> {
+    match suite_at(outline.table(place)?) {
+        Ok(suite) => Some(suite),
+        Err(_) => None,
+    }
 }
 
 fn exists(alloc: Global, outline: &Outline, place: Place) -> Result<Remark, AllocError> {

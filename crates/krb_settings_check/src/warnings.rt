@@ -1,132 +1,142 @@
 //! What is likely a slip in a settings file that is a realm's.
+ghost use Rattle.std.specs.Prelude.{◌≡◌, ◌+◌, ◌<◌, ◌∷◌, ◌++◌, [], length, take, IfOk, OnOk, map, string_bytes};
+ghost use Rattle.krb_settings.specs.Written.{key, shown_account, shown_realm};
+ghost use Rattle.krb_settings_check.specs.Messages.{found_text};
+ghost use Rattle.krb_settings_check.specs.Warnings.{account_found, accounts_found, met, secret_found, shared_cases, warnings};
 
-use crate::des3::{has_odd_parity, has_weak_part};
+use crate::cases::{key_cases, name_cases, password_cases, realm_cases, shared_cases};
 use crate::outline::Outline;
+use crate::warning::{Found, Warning};
 use crate::{Place, Remark};
 use krb_crypto::CipherSuite;
-use krb_settings::{AccountSettings, Field, RealmSettings, Secret};
+use krb_settings::{AccountSettings, RealmSettings, Secret};
 use std::alloc::{AllocError, Global};
 
-const REALM_CONTROL: &str = "realm has a control character: expected printable characters";
-
-const NAME_CONTROL: &str =
-    "a component of name has a control character: expected printable characters";
-
-const NAME_SLASH: &str =
-    "a component of name has a slash: expected a text for each component, as [\"host\", \"server.example.com\"]";
-
-const NAME_AT: &str = "a component of name has an @: expected the name without its realm";
-
-const PASSWORD_EMPTY: &str = "password is empty: expected at least one character";
-
-const PASSWORD_ROUNDS: &str =
-    "password of this suite takes 32768 rounds of PBKDF2 at each start (RFC 8009, section 4): a key takes none";
-
-const KEY_PARITY: &str =
-    "key has an octet of even parity: expected odd parity (RFC 3961, section 6.3.1)";
-
-const KEY_WEAK: &str = "key has a weak or semi-weak DES key in it: expected three that are neither";
-
-/// What is likely a slip in a settings file that writes this realm: a `/`, an `@` or a control character in a name, an empty
-/// password, a password that makes each start slow, and a key of triple DES with an octet of even parity or a weak part. It
-/// shows no key and no password.
+/// What is likely a slip in a settings file that writes this realm: each as a remark on its line. It shows no key and no password.
 pub fn warnings_of(
     alloc: Global,
     text: &[u8],
     written: &RealmSettings,
-) -> Result<Vec<Remark>, AllocError> {
-    let Some(outline) = Outline::read(alloc, text)? else {
-        return Ok(Vec::new(alloc));
-    };
-    let mut warnings = Warnings {
-        alloc,
-        outline: &outline,
-        found: Vec::new(alloc),
-    };
-    warnings.of_realm(written)?;
-    Ok(warnings.found)
+) -> Result<Vec<Remark>, AllocError>
+    ensures { IfOk result (λ remarks. map (λ remark. string_bytes remark.text) remarks.items ≡ map found_text (warnings (shown_realm written.now))) }
+{
+    let found = warnings_in(alloc, written)?;
+    let outline = Outline::read(alloc, text)?;
+    remarks_on(alloc, outline.as_ref(), &found)
 }
 
-/// Warnings of a file, as far as it was gone over.
-#[derive(Drop)]
-struct Warnings<'a> {
+// Each warning on its line.
+fn remarks_on(
     alloc: Global,
-    outline: &'a Outline,
-    found: Vec<Remark>,
+    outline: Option<&Outline>,
+    found: &[Found],
+) -> Result<Vec<Remark>, AllocError>
+    ensures { IfOk result (λ remarks. map (λ remark. string_bytes remark.text) remarks.items ≡ map found_text found.now) }
+{
+    let mut remarks = Vec::new(alloc);
+    for warning in found {
+        remarks.push(remark_on(alloc, outline, *warning)?)?;
+    }
+    Ok(remarks)
 }
 
-impl<'a> Warnings<'a> {
-    fn of_realm(&mut self, written: &RealmSettings) -> Result<(), AllocError> {
-        if has_control(&written.name) {
-            self.add(Place::File, Field::Realm, REALM_CONTROL)?;
-        }
-        self.of_key(Place::File, written.suite, &written.key)?;
-        for (index, account) in written.accounts.iter().enumerate() {
-            self.of_account(Place::Account(index.saturating_add(1)), account)?;
-        }
-        Ok(())
-    }
+fn remark_on(alloc: Global, outline: Option<&Outline>, found: Found) -> Result<Remark, AllocError>
+    ensures { IfOk result (λ remark. string_bytes remark.text ≡ found_text found) }
+{
+    let line = match outline {
+        Some(outline) => outline.line(found.place, found.warning.field()),
+        None => None,
+    };
+    let text = format!(in alloc; "{found}")?;
+    Ok(Remark { line, text })
+}
 
-    fn of_account(&mut self, place: Place, account: &AccountSettings) -> Result<(), AllocError> {
-        if account.name.iter().any(|part| part.contains(&b'/')) {
-            self.add(place, Field::Name, NAME_SLASH)?;
-        }
-        if account.name.iter().any(|part| part.contains(&b'@')) {
-            self.add(place, Field::Name, NAME_AT)?;
-        }
-        if account.name.iter().any(|part| has_control(part)) {
-            self.add(place, Field::Name, NAME_CONTROL)?;
-        }
-        match &account.secret {
-            Secret::Password(password) => self.of_password(place, account.suite, password),
-            Secret::Key(key) => self.of_key(place, account.suite, key),
-        }
-    }
+// The warnings of a realm, in the file's order.
+fn warnings_in(alloc: Global, written: &RealmSettings) -> Result<Vec<Found>, AllocError>
+    ensures { IfOk result (λ found. found.items ≡ warnings (shown_realm written.now)) }
+{
+    let mut found = Vec::new(alloc);
+    add(&mut found, Place::File, &realm_cases(&written.name))?;
+    add(
+        &mut found,
+        Place::File,
+        &key_cases(written.suite, &written.key),
+    )?;
+    add_accounts(&mut found, written)?;
+    Ok(found)
+}
 
-    fn of_password(
-        &mut self,
-        place: Place,
-        suite: CipherSuite,
-        password: &[u8],
-    ) -> Result<(), AllocError> {
-        if password.is_empty() {
-            self.add(place, Field::Password, PASSWORD_EMPTY)?;
-        }
-        if has_many_rounds(suite) {
-            self.add(place, Field::Password, PASSWORD_ROUNDS)?;
-        }
-        Ok(())
+fn add_accounts(found: &mut Vec<Found>, written: &RealmSettings) -> Result<(), AllocError>
+    ensures { OnOk result (found.new.items ≡ found.old.items ++ accounts_found (shown_realm written.now) 0 (shown_realm written.now).accounts) }
+{
+    for (index, account) in written.accounts.iter().enumerate() {
+        add_account(found, written, index, account)?;
     }
+    Ok(())
+}
 
-    fn of_key(&mut self, place: Place, suite: CipherSuite, key: &[u8]) -> Result<(), AllocError> {
-        if suite != CipherSuite::Des3CbcSha1Kd {
-            return Ok(());
-        }
-        if !has_odd_parity(key) {
-            self.add(place, Field::Key, KEY_PARITY)
-        } else if has_weak_part(self.alloc, key)? {
-            self.add(place, Field::Key, KEY_WEAK)
-        } else {
-            Ok(())
-        }
-    }
-
-    fn add(&mut self, place: Place, field: Field, words: &'static str) -> Result<(), AllocError> {
-        let line = self.outline.line(place, field);
-        let warning = Remark::warning(self.alloc, place, line, words)?;
-        self.found.push(warning)?;
-        Ok(())
+// The warnings of the account of this index.
+fn add_account(
+    found: &mut Vec<Found>,
+    written: &RealmSettings,
+    index: usize,
+    account: &AccountSettings,
+) -> Result<(), AllocError>
+    requires { index < length written.now.accounts.items }
+    ensures { OnOk result (found.new.items ≡ found.old.items ++ account_found (shown_realm written.now) index (shown_account account.now)) }
+{
+    let place = Place::Account(index + 1);
+    add(found, place, &name_cases(&account.name))?;
+    match &account.secret {
+        Secret::Password(text) => add(found, place, &password_cases(account.suite, text)),
+        Secret::Key(octets) => add_key(found, written, index, account.suite, octets),
     }
 }
 
-// A password's key of AES with SHA-2 takes eight times the rounds of AES with SHA-1.
-fn has_many_rounds(suite: CipherSuite) -> bool {
-    matches!(
-        suite,
-        CipherSuite::Aes128CtsHmacSha256128 | CipherSuite::Aes256CtsHmacSha384192
-    )
+// The warnings of the key of an account of this index.
+fn add_key(
+    found: &mut Vec<Found>,
+    written: &RealmSettings,
+    index: usize,
+    suite: CipherSuite,
+    octets: &[u8],
+) -> Result<(), AllocError>
+    requires { index < length written.now.accounts.items }
+    ensures { let realm = shown_realm written.now in OnOk result (found.new.items ≡
+        found.old.items ++ secret_found (Place.Account (index + 1)) realm (take index realm.accounts) suite (key octets.now)) }
+{
+    let place = Place::Account(index + 1);
+    add(found, place, &key_cases(suite, octets))?;
+    add(found, place, &own_cases(written, index, octets))
 }
 
-fn has_control(name: &[u8]) -> bool {
-    name.iter().any(|character| character.is_ascii_control())
+// The tests of a key beside the realm's and those of the accounts before this index.
+#[tactic(auto, using(crate::proofs::Mapped::take_shown))]
+fn own_cases(written: &RealmSettings, index: usize, octets: &[u8]) -> [(bool, Warning); 2]
+    requires { index < length written.now.accounts.items }
+    ensures { let realm = shown_realm written.now in result ≡ shared_cases realm.key (take index realm.accounts) octets.now }
+{
+    let (earlier, _later) = written.accounts.as_slice().split_at(index);
+    shared_cases(written.key.as_slice(), earlier, octets)
+}
+
+// The warnings whose tests hold.
+fn add(found: &mut Vec<Found>, place: Place, cases: &[(bool, Warning)]) -> Result<(), AllocError>
+    ensures { OnOk result (found.new.items ≡ found.old.items ++ met place cases.now) }
+{
+    for case in cases {
+        add_case(found, place, case)?;
+    }
+    Ok(())
+}
+
+#[tactic(auto, unfolding(crate::specs::Warnings::met))]
+fn add_case(found: &mut Vec<Found>, place: Place, case: &(bool, Warning)) -> Result<(), AllocError>
+    ensures { OnOk result (found.new.items ≡ found.old.items ++ met place (case.now ∷ [])) }
+{
+    let (holds, warning) = *case;
+    if holds {
+        found.push(Found { place, warning })?;
+    }
+    Ok(())
 }
