@@ -45,7 +45,7 @@ use Rattle.krb_logins.proofs.Outcomes.{admits}
 use Rattle.krb_logins.proofs.Presenting.{choice_of, presents, under_entry}
 use Rattle.krb_logins.proofs.ReplyTaken.{wanted_taken}
 use Rattle.krb_logins.proofs.TicketTimes.{Reaches, has_begun, not_early, not_late, reaches_asked, reaches_end, reaches_first, reaches_lifetime}
-use Rattle.krb_logins.proofs.Times.{moment_told, near}
+use Rattle.krb_logins.proofs.Times.{by_a_second, moment_told, near}
 use Rattle.krb_logins.proofs.WholePresented.{whole_authenticator, whole_part}
 
 own_number : (number : ℕ) → is_number number (pos number) ≡ true
@@ -56,6 +56,9 @@ module _ (client : ClientRecord) (means : MeansRecord) (realm : RealmRecord) (ro
   -- the lesser skew isn't greater than the service's
   least : common_skew realm service ≤ service.seen.skew
   least = omega arith
+
+  longer : common_skew realm service + 1000000 ≤ realm.settings.lifetime * 1000000
+  longer = by_a_second realm.settings.skew service.seen.skew realm.settings.lifetime met.parties.entry.0 met.honest.lasting.lifetime
 
   module _ (first span : Span) (first_is : IsFirstSpan realm login first) (further_is : IsFurtherSpan realm login first span) where
     abbrev grant : GrantRecord
@@ -74,7 +77,7 @@ module _ (client : ClientRecord) (means : MeansRecord) (realm : RealmRecord) (ro
         (reaches_asked met.honest.near.start (common_skew realm service) service.seen.skew login.realm_as (clock_of before login)
         met.honest.near.realm_as met.honest.near.clock least (asked_end (seconds_of login.till)) met.honest.lasting.first)
         (reaches_lifetime met.honest.near.start (common_skew realm service) service.seen.skew login.realm_as (clock_of before login)
-        met.honest.near.realm_as met.honest.near.clock least realm.settings.lifetime met.honest.lasting.lifetime)
+        met.honest.near.realm_as met.honest.near.clock least realm.settings.lifetime longer)
 
     further_reaches : Reaches service.seen.skew (clock_of before login) (seconds_of span.until)
     further_reaches =
@@ -82,7 +85,7 @@ module _ (client : ClientRecord) (means : MeansRecord) (realm : RealmRecord) (ro
         (reaches_asked met.honest.near.start (common_skew realm service) service.seen.skew login.realm_tgs (clock_of before login)
         met.honest.near.realm_tgs met.honest.near.clock least (asked_end (seconds_of login.till)) met.honest.lasting.further)
         (reaches_lifetime met.honest.near.start (common_skew realm service) service.seen.skew login.realm_tgs (clock_of before login)
-        met.honest.near.realm_tgs met.honest.near.clock least realm.settings.lifetime met.honest.lasting.lifetime)
+        met.honest.near.realm_tgs met.honest.near.clock least realm.settings.lifetime longer)
         first_reaches
 
     -- names can be written
@@ -107,7 +110,7 @@ module _ (client : ClientRecord) (means : MeansRecord) (realm : RealmRecord) (ro
       acceptable : IsAcceptable service.entry service.seen.skew (clock_of before login) choice
       unfolding ticket_part
       acceptable = record {
-        keyed = met.parties.entry.2;
+        keyed = met.parties.entry.1.2;
         method = refl;
         version = refl;
         ticket_version = refl;
@@ -150,7 +153,7 @@ module _ (client : ClientRecord) (means : MeansRecord) (realm : RealmRecord) (ro
             let plain : Bytes = ticket_part_bytes (ticket_part grant) in
             let sealed = under_entry account service.entry 2 for_part plain held.part met.honest.service.suite met.honest.service.key met.honest.service.kvno held.sealed in
             let names = component_texts client.components met.parties.name in
-            let asked = subst (λ n. are_texts n ≡ true) (sym met.honest.named.asked) (component_texts service.entry.components met.parties.entry.1) in
+            let asked = subst (λ n. are_texts n ≡ true) (sym met.honest.named.asked) (component_texts service.entry.components met.parties.entry.1.1) in
             presents true service.entry grant credential authenticator for_part for_authenticator bytes held.part
             sealed held.ticket held.suite held.key asks realm_is asked (whole_part grant realm_is names)
             (whole_authenticator client (login.client_ap % 1000000) second None (realm_text client.realm met.parties.realm) names)

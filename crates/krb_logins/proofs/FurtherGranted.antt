@@ -74,7 +74,7 @@ use Rattle.krb_logins.proofs.Passing.{past_ask, past_need, past_none, past_refus
 use Rattle.krb_logins.proofs.Presenting.{choice_of, written}
 use Rattle.krb_logins.proofs.Replying.{replies_at}
 use Rattle.krb_logins.proofs.TicketTimes.{has_begun, not_early, not_late, reaches_asked, reaches_first, reaches_lifetime}
-use Rattle.krb_logins.proofs.Times.{a_second, asked_below, least_of, lesser, moment_told, near}
+use Rattle.krb_logins.proofs.Times.{a_second, asked_below, by_a_second, least_of, lesser, moment_told, near}
 use Rattle.krb_logins.proofs.LastSecond.{second_below}
 use Rattle.krb_logins.proofs.WholePresented.{whole_authenticator, whole_part}
 use Rattle.krb_logins.proofs.WholeRequests.{whole_text, whole_texts}
@@ -248,6 +248,9 @@ module _ (client : ClientRecord) (means : MeansRecord) (realm : RealmRecord) (ro
   least : common_skew realm service ≤ skew_of call
   least = lesser (realm.settings.skew * 1000000) service.seen.skew
 
+  longer : common_skew realm service + 1000000 ≤ realm.settings.lifetime * 1000000
+  longer = by_a_second realm.settings.skew service.seen.skew realm.settings.lifetime met.parties.entry.0 met.honest.lasting.lifetime
+
   realm_is : is_general_string realm.name ≡ true
   realm_is = subst (λ name. is_general_string name ≡ true) met.honest.named.client (realm_text client.realm met.parties.realm)
 
@@ -263,7 +266,7 @@ module _ (client : ClientRecord) (means : MeansRecord) (realm : RealmRecord) (ro
       (reaches_asked met.honest.near.start (common_skew realm service) (skew_of call) login.realm_as login.realm_tgs met.honest.near.realm_as met.honest.near.realm_tgs
       least (asked_end (seconds_of login.till)) met.honest.lasting.first)
       (reaches_lifetime met.honest.near.start (common_skew realm service) (skew_of call) login.realm_as login.realm_tgs met.honest.near.realm_as met.honest.near.realm_tgs
-      least realm.settings.lifetime met.honest.lasting.lifetime) in
+      least realm.settings.lifetime longer) in
       by_refuse {T = Unit {0}} {E = ℕ} (not (is_same_realm realm.name realm.name)) 68 (timely (skew_of call) login.realm_tgs (ticket_part old)) (Ok tt) (ap not (own_realm realm.name))
       (by_refuse {T = Unit {0}} {E = ℕ} (is_early (skew_of call) login.realm_tgs (ticket_part old)) 33 (refuse (is_late (skew_of call) login.realm_tgs (ticket_part old)) 32 (done (Ok tt))) (Ok tt)
       (not_early old (skew_of call) login.realm_tgs begun)
@@ -275,7 +278,7 @@ module _ (client : ClientRecord) (means : MeansRecord) (realm : RealmRecord) (ro
       further_lasts realm.settings.lifetime login.realm_tgs (seconds_of first.until) login.till span met.honest.lasting.further
       (a_second (common_skew realm service) realm.settings.lifetime met.honest.lasting.lifetime)
       (first_outlasts met.honest.near.start (common_skew realm service) realm.settings.lifetime login.realm_as login.realm_tgs login.till first
-      met.honest.near.realm_as.begun met.honest.near.realm_tgs.lasts met.honest.lasting.lifetime met.honest.lasting.further first_is) is
+      met.honest.near.realm_as.begun met.honest.near.realm_tgs.lasts longer met.honest.lasting.further first_is) is
 
   module _ (granting : CredentialRecord) (held : IsHeld met.granting.account login.realm_words_as old granting)
       (second : GeneralizedTime) (of_moment : seconds_of second ≡ login.client_tgs / 1000000) (shown_bytes : Bytes) where
@@ -444,7 +447,7 @@ module _ (client : ClientRecord) (means : MeansRecord) (realm : RealmRecord) (ro
           → (span : Span) × IsFurtherSpan realm login first span × ((made : Bytes) × (reply ≡ Some made)
           × IsTicketReply (further_grant client realm login first span) (tgs_reply_key client.suite session) met.honest.service.account login.realm_words_tgs made)
       granted bytes reply e x =
-          let asked = subst (λ n. are_texts n ≡ true) (sym met.honest.named.asked) (component_texts service.entry.components met.parties.entry.1) in
+          let asked = subst (λ n. are_texts n ≡ true) (sym met.honest.named.asked) (component_texts service.entry.components met.parties.entry.1.1) in
           let is = tgs_request_written client login.service login.till (nonce_of login.words_tgs) shown_bytes bytes (realm_text client.realm met.parties.realm) asked e in
           let judged = replied_to call rows bytes reply request is (no_as_request _ bytes is.1) x in
           let made = table_grants judged.0 judged.1 in

@@ -100,7 +100,7 @@ further_taken client means realm rows service before login met first span granti
     let texts : AreTexts grant = record {
       realm = subst (λ name. is_general_string name ≡ true) met.honest.named.client (realm_text client.realm met.parties.realm);
       client = component_texts client.components met.parties.name;
-      service = subst (λ name. are_texts name ≡ true) (sym met.honest.named.asked) (component_texts service.entry.components met.parties.entry.1);
+      service = subst (λ name. are_texts name ≡ true) (sym met.honest.named.asked) (component_texts service.entry.components met.parties.entry.1.1);
     } in
     taken_of client client.suite (session_key_of client.suite login.realm_words_as) met.honest.service.account asked grant login.realm_words_tgs granted taken
     (sym held.suite) (sym held.key) texts

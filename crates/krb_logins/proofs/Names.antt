@@ -2,6 +2,7 @@
 use Rattle.std.proofs.Common.{◌≡◌, Bool, true, ◌&&◌, List, [], ◌∷◌, length, refl, subst}
 use Rattle.std.proofs.lemmas.Bool.{and_from, and_parts}
 use Rattle.std.proofs.lemmas.Cmp.{lists_equiv, nat_list_eq_equiv}
+use Rattle.std.specs.Cmp.Lexicographic.{bytes_decides, pointwise_decides}
 use Rattle.std.specs.List.{list_all}
 use Rattle.std.specs.Prelude.{codes, nat_le}
 use Rattle.asn1_leaves.specs.CharSets.{is_general_string}
@@ -23,6 +24,13 @@ same_realm name other e = subst (λ n. is_same_realm name n ≡ true) e (own_rea
 
 pub same_name : (name other : List Bytes) → name ≡ other → is_same_name name other ≡ true
 same_name name other e = subst (λ n. is_same_name name n ≡ true) e (own_name name)
+
+-- what is the same is equal
+pub equal_realms : (name other : Bytes) → is_same_realm name other ≡ true → name ≡ other
+equal_realms name other same = (bytes_decides name other).0 same
+
+pub equal_names : (name other : List Bytes) → is_same_name name other ≡ true → name ≡ other
+equal_names name other same = (pointwise_decides bytes_decides name other).0 same
 
 -- each component can be written
 abbrev pub are_texts : List Bytes → Bool

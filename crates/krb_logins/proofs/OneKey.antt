@@ -228,7 +228,7 @@ module _ (client : ClientRecord) (means : MeansRecord) (realm : RealmRecord) (ro
 
   -- the service's name is the one that is asked for
   service_name : are_components login.service ≡ true
-  service_name = subst (λ name. are_components name ≡ true) (sym met.honest.named.asked) met.parties.entry.1
+  service_name = subst (λ name. are_components name ≡ true) (sym met.honest.named.asked) met.parties.entry.1.1
 
   tgs_unasked : (granting : CredentialRecord) (refusal : AskRefusal) → IsTgsAsked client granting login.service login.till login.client_tgs login.words_tgs (Err refusal) → refusal ≡ ask_refusal.Memory
   unfolding IsTgsAsked

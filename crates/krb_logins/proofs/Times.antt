@@ -7,6 +7,7 @@ use Rattle.picky_asn1.specs.GeneralizedTime.{seconds_of}
 use Rattle.krb_moments.specs.Skew.{is_far}
 use Rattle.krb_moments.specs.Times.{moment_at}
 use Rattle.krb_moments.specs.Units.{Micros, Seconds}
+use Rattle.krb_service.specs.Seen.{IsWholeSeconds}
 use Rattle.krb_tickets.specs.Times.{asked_end, end_of, last_second, no_end, start_of}
 use Rattle.krb_kdc_requests.specs.Requests.{IsSpan, is_ended}
 use Rattle.krb_kdc_requests.specs.declared.span.Span.{Span}
@@ -54,5 +55,10 @@ lasts lifetime moment till span before long is =
     lt-leb (seconds_of span.until) (seconds_of span.start) (omega (arith, is.starts, is.ends, end))
 
 -- a lifetime that is longer than a skew is a second at least
-pub a_second : (skew : Micros) (lifetime : Seconds) → skew + 1000000 ≤ lifetime * 1000000 → 1 ≤ lifetime
+pub a_second : (skew : Micros) (lifetime : Seconds) → skew < lifetime * 1000000 → 1 ≤ lifetime
 a_second skew lifetime longer = omega (arith, longer)
+
+-- where both skews are whole seconds, a lifetime that exceeds the lesser one does so by a second at least
+pub by_a_second : (seconds : Seconds) (skew : Micros) (lifetime : Seconds) → IsWholeSeconds skew → min (seconds * 1000000) skew < lifetime * 1000000
+    → min (seconds * 1000000) skew + 1000000 ≤ lifetime * 1000000
+by_a_second seconds skew lifetime whole longer = omega (arith, whole, longer)

@@ -10,7 +10,7 @@ use Rattle.krb_service.specs.Pair.{PairRecord, is_among}
 use Rattle.krb_tickets.specs.Times.{asked_end}
 use Rattle.krb_as.specs.TicketGranting.{krbtgt_of}
 use Rattle.krb_client.specs.Client.{ClientRecord}
-use Rattle.krb_service.specs.Service.{IsServiceEntry, ServiceRecord}
+use Rattle.krb_service.specs.Service.{IsService, ServiceRecord}
 use Rattle.krb_logins.specs.LoginRun.{Login}
 use Rattle.krb_logins.specs.Parties.{LoginRecord, RealmRecord, RememberedRecord}
 use Rattle.krb_logins.specs.declared.refusal.LoginRefusal.{LoginRefusal}
@@ -20,11 +20,12 @@ use Rattle.krb_client.specs.declared.refusal.AskRefusal.TheVariants as ask_refus
 use Rattle.krb_client.specs.declared.refusal.TakeRefusal.TheVariants as take_refusal
 use Rattle.krb_frames.specs.declared.fault.AnswerRefusal.TheVariants as answer_refusal
 
--- what holds of every client and of every service: names are names, and the service's key has its suite's length
+-- what holds of every client and of every service: names are names, the service's key has its suite's length, and its skew is whole
+-- seconds
 pub record AreParties (client : ClientRecord) (service : ServiceRecord) : Type 0 where
   pub realm : IsRealmName client.realm
   pub name : AreComponents client.components
-  pub entry : IsServiceEntry service.entry
+  pub entry : IsService service
 
 -- the random bytes that the calls of a login ask for
 pub record AreEnough (login : LoginRecord) : Type 0 where
@@ -83,12 +84,11 @@ pub record AreNear (skew : Micros) (before : RememberedRecord) (login : LoginRec
   pub client_ap : IsWithin start skew login.client_ap
   pub clock : IsWithin start skew (clock_of before login)
 
--- the end that is asked for lies behind the moments at which the realm grants; a ticket may last longer than the skew, by a
--- second at least
+-- the end that is asked for lies behind the moments at which the realm grants; a ticket may last longer than the skew
 pub record IsLasting (realm : RealmRecord) (service : ServiceRecord) (login : LoginRecord) : Type 0 where
   pub first : login.realm_as < asked_end (seconds_of login.till) * 1000000
   pub further : login.realm_tgs < asked_end (seconds_of login.till) * 1000000
-  pub lifetime : common_skew realm service + 1000000 ≤ realm.settings.lifetime * 1000000
+  pub lifetime : common_skew realm service < realm.settings.lifetime * 1000000
 
 -- the client and the time of its authenticator
 abbrev pub login_pair : ClientRecord → LoginRecord → PairRecord

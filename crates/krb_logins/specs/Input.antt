@@ -1,6 +1,9 @@
--- The input of a login as definitions see it.
+-- The input and the parties of a login as definitions see them.
+use Rattle.krb_accounts.specs.Accounts.{look_in}
 use Rattle.krb_accounts.specs.Names.{parts}
-use Rattle.krb_logins.specs.Parties.{LoginRecord}
+use Rattle.krb_service.specs.Service.{ServiceRecord}
+use Rattle.krb_kdc_requests.specs.declared.call.Call as called
+use Rattle.krb_logins.specs.Parties.{LoginRecord, RealmRecord, RememberedRecord}
 use Rattle.krb_logins.specs.declared.input.LoginInput as held
 
 abbrev pub login_of : held.LoginInput → LoginRecord
@@ -20,3 +23,11 @@ login_of input = record {
   realm_words_tgs = input.realm_words_tgs.now;
   service_words = input.service_words.now;
 }
+
+-- the realm that is called so
+abbrev pub realm_of : called.Call → RealmRecord
+realm_of call = record { name = call.realm.now; settings = call.settings; look = look_in call.accounts.now }
+
+-- a service that admitted the pairs that it holds, and no other
+abbrev pub held_by : ServiceRecord → RememberedRecord
+held_by service = record { admitted = service.seen.held; greatest = service.seen.greatest }

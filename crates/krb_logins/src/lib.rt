@@ -2,9 +2,11 @@
 //! holds of every honest one.
 #![tactic(auto)]
 
+mod honest;
 mod input;
 pub mod laws;
 mod refusal;
 
+pub use honest::{is_honest, is_honest_by_key};
 pub use input::{LoginInput, LoginMoments};
 pub use refusal::LoginRefusal;

@@ -1,5 +1,5 @@
 -- What a client verifies of a reply are parts of its bytes.
-use Rattle.std.proofs.Common.{◌≡◌, ℕ, suc, Bool, true, false, List, [], ◌∷◌, Option, None, Some, refl, sym, subst, if◌then◌else◌}
+use Rattle.std.proofs.Common.{◌≡◌, ℕ, suc, Bool, true, false, List, [], ◌∷◌, ◌++◌, Option, None, Some, refl, sym, ap, ◌∙◌, subst, if◌then◌else◌}
 use Rattle.std.specs.List.{find}
 use Rattle.std.specs.Option.{option_map, option_map_or}
 use Rattle.asn1_leaves.specs.CharSets.{is_general_string}
@@ -27,6 +27,7 @@ use Rattle.cms_signed_content.specs.SignedContents.{IsSignedContent}
 use Rattle.cms_signed_content.specs.SignedParts.{SignedParts}
 use Rattle.pkinit_messages.specs.declared.pa_pk_as_rep.PaPkAsRep.{PaPkAsRep}
 use Rattle.pkinit_messages.specs.declared.pa_pk_as_rep.PaPkAsRep.TheVariants.{DhInfo, EncKeyPack}
+use Rattle.pkinit_messages.specs.contracts.pa_pk_as_rep.PaPkAsRepSerialize.TheImpl as reply_impl
 use Rattle.pkinit_clients.specs.Means.{pk_as_rep_in}
 use Rattle.pkinit_clients.specs.Replies.{IsPaPkAsRep, signed_in}
 use Rattle.pkinit_clients.specs.Verified.{IsVerifiedPart, signed_place}
@@ -157,38 +158,30 @@ padata_in bytes padata reply is found =
     17 padata reply.padata.0 is.0 found in
     (at.0, subst (λ (l : Bytes). LeadsTo l (0 ∷ 2 ∷ 0 ∷ at.0 ∷ 1 ∷ 0 ∷ []) (element 4 padata)) (sym is.1) at.1)
 
--- signed data in front of an optional nonce, in a SEQUENCE
-abbrev behind_signed : Option (ExplicitContextTag 1 Bytes) → Trees
-behind_signed given = put (λ (nonce : ExplicitContextTag 1 Bytes). wrapped 161 (primitive 4 nonce.0)) given none
+-- signed data in front of an optional nonce, in a SEQUENCE under [0]
+module _ {A : Type 0} (tree : A → Tree) (signed : Bytes) where
+  abbrev share : Option A → Tree
+  share given = constructed 48 (more (primitive 128 signed) (put (λ v. wrapped 161 (tree v)) given none))
 
-abbrev share : Bytes → Option (ExplicitContextTag 1 Bytes) → Tree
-share signed given = constructed 48 (more (primitive 128 signed) (behind_signed given))
+  some_nonce : (given : Option A) → AreWhole (put (λ v. wrapped 161 (tree v)) given none) → AreSome (ders (put (λ v. wrapped 161 (tree v)) given none))
+  some_nonce None whole = ([], refl)
+  some_nonce (Some v) whole = some_more (der (wrapped 161 (tree v))) [] _ (tagged 161 (tree v) refl whole.0) refl ([], refl)
 
-some_nonce : (given : Option (ExplicitContextTag 1 Bytes)) → AreSome (ders (behind_signed given))
-some_nonce None = ([], refl)
-some_nonce (Some nonce) =
-    some_more (der (wrapped 161 (primitive 4 nonce.0))) [] (ders (behind_signed (Some nonce))) (tagged 161 (primitive 4 nonce.0) refl (tt, tt)) refl ([], refl)
-
--- under [0]
-octets_in : (signed : Bytes) (given : Option (ExplicitContextTag 1 Bytes)) → IsWhole (wrapped 160 (share signed given))
-    → LeadsTo (der (wrapped 160 (share signed given))) (0 ∷ 0 ∷ []) (element 128 signed)
-octets_in signed given whole =
-    go_on (der (wrapped 160 (share signed given))) (der (share signed given)) (element 128 signed) (0 ∷ []) (0 ∷ [])
-    (in_tag 160 (more (primitive 128 signed) (behind_signed given)) refl whole)
-    (in_element 48 (ders (more (primitive 128 signed) (behind_signed given))) (der (share signed given)) refl refl 0 (element 128 signed)
-    (at_front (element 128 signed) (ders (behind_signed given)) (ders (more (primitive 128 signed) (behind_signed given))) (128, signed, refl, refl) refl (some_nonce given)))
+  octets_in : (given : Option A) → IsWhole (wrapped 160 (share given)) → LeadsTo (der (wrapped 160 (share given))) (0 ∷ 0 ∷ []) (element 128 signed)
+  octets_in given whole =
+      go_on (der (wrapped 160 (share given))) (der (share given)) (element 128 signed) (0 ∷ []) (0 ∷ []) (in_tag 160 (more (primitive 128 signed) (put (λ v. wrapped 161 (tree v)) given none)) refl whole)
+      (in_element 48 _ (der (share given)) refl refl 0 (element 128 signed)
+      (at_front (element 128 signed) _ _ (128, signed, refl, refl) refl (some_nonce given whole.0.1)))
 
 -- PA-PK-AS-REP is an element, which holds the signed data
 signed_octets : (padata signed : Bytes) (told : PaPkAsRep) → IsPaPkAsRep padata told → signed_in told ≡ Some signed
     → IsElement padata × LeadsTo padata (0 ∷ 0 ∷ []) (element 128 signed)
 unfolding IsPaPkAsRep
 signed_octets padata signed (DhInfo info) is found =
-    let own = info.0.dh_signed_data.0 in
-    let given = info.0.server_dh_nonce.0 in
-    let same : own ≡ signed = cc (found) in
-    let leads = subst (λ (l : Bytes). LeadsTo l (0 ∷ 0 ∷ []) (element 128 own)) (sym is.1) (octets_in own given is.0) in (
-      (160, ders (more (share own given) none), refl, is.1),
-      subst (λ (l : Bytes). LeadsTo padata (0 ∷ 0 ∷ []) (element 128 l)) same leads,
+    let same : info.0.dh_signed_data.0 ≡ signed = cc (found) in
+    let own = subst (λ (l : Bytes). LeadsTo l (0 ∷ 0 ∷ []) (element 128 info.0.dh_signed_data.0)) (sym is.1) (octets_in (λ nonce. primitive 4 nonce.0) info.0.dh_signed_data.0 info.0.server_dh_nonce.0 is.0) in (
+      (160, _, refl, is.1),
+      subst (λ (l : Bytes). LeadsTo padata (0 ∷ 0 ∷ []) (element 128 l)) same own,
     )
 signed_octets padata signed (EncKeyPack pack) is found = absurd (cc (found))
 
