@@ -13,8 +13,7 @@ use crate::assembling::{der_of, sequence_of, spelled};
 use crate::fault::SignedFault;
 use cms_signed_data::{
     AlgorithmIdentifier, Certificate, ContentTypeAttribute, EncapsulatedContentInfo,
-    IssuerAndSerialNumber, MessageDigestAttribute, Name, SetOfOne,
-    SignedAttributes, SignerInfo,
+    IssuerAndSerialNumber, MessageDigestAttribute, Name, SetOfOne, SignedAttributes, SignerInfo,
 };
 use key_functions::{Signed, has_encoding};
 use picky_asn1::oid::ObjectIdentifier;

@@ -1,5 +1,5 @@
 -- What a program holds has an encoding.
-use Rattle.std.proofs.Common.{◌≡◌, ℕ, List, refl, subst}
+use Rattle.std.proofs.Common.{◌≡◌, ℕ, List, subst}
 use Rattle.std.specs.Prelude.{IsTrue}
 use Rattle.asn1_der.specs.Tree.{leaf, IsWhole}
 use Rattle.asn1_der.proofs.Leaf.{whole-leaf}
@@ -37,4 +37,4 @@ algorithm_of oid (kind.RsassaPss params) is valid whole =
 pub encoded : (v : AlgorithmIdentifier) (arcs : List ℕ) (parameters : AlgorithmIdentifierParameters) → arcs ≡ v.algorithm.0 → IsObjectIdentifier arcs
     → parameters ≡ v.parameters → IsCurveWhole parameters → HasEncoding v
 encoded v arcs parameters same valid also whole =
-    (_, (algorithm_of v.algorithm v.parameters v.of_its_algorithm (subst IsObjectIdentifier same valid) (subst IsCurveWhole also whole), refl))
+    algorithm_of v.algorithm v.parameters v.of_its_algorithm (subst IsObjectIdentifier same valid) (subst IsCurveWhole also whole)

@@ -1,5 +1,5 @@
 //! Algorithms that signatures name.
-ghost use Rattle.key_functions.specs.Encodings.{HasEncoding};
+ghost use Rattle.key_functions.specs.Encodings.{HasEncoding, encoding-prop};
 
 use crate::encoding::has_encoding;
 use x509_keys::AlgorithmIdentifier;
@@ -9,7 +9,7 @@ use x509_keys::AlgorithmIdentifier;
 #[derive(Drop)]
 pub struct SignatureAlgorithm {
     algorithm: AlgorithmIdentifier,
-    pub ghost encoded: { HasEncoding algorithm },
+    pub ghost encoded: { HasEncoding algorithm } by { encoding-prop algorithm },
 }
 
 impl SignatureAlgorithm {

@@ -3,6 +3,7 @@ mod Begins
 mod Exchanges
 mod Admitting
 mod Granting
+mod HonestParties
 mod Keyed
 mod Certificates
 mod KeyedLogins

@@ -66,8 +66,8 @@ impl<'a, K: KeyFunctions> Means for ClientMeans<'a, K> {
     }
 }
 
-// The means by a certificate.
-fn by_certificate<'a, K: KeyFunctions>(
+/// The means by a certificate.
+pub(crate) fn by_certificate<'a, K: KeyFunctions>(
     certificate: &'a Vec<u8>,
     anchor: &'a Anchor,
     keys: &'a K,

@@ -10,6 +10,7 @@
 
 mod client;
 mod client_means;
+mod honest_by_certificate;
 pub mod laws;
 mod login;
 mod realm;
@@ -18,6 +19,7 @@ mod settings;
 
 pub use client::Client;
 pub use devices::{Sink, SinkFault, Source};
+pub use honest_by_certificate::is_honest_by_certificate;
 pub use key_functions::{KeyFunctions, NoKeys, SignatureAlgorithm, Signed, Theirs};
 pub use krb_accounts::RealmRefusal;
 pub use krb_ap_requests::AdmitRefusal;

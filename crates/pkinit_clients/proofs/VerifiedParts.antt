@@ -2,8 +2,10 @@
 use Rattle.std.proofs.Common.{◌≡◌, ℕ, suc, Bool, true, false, List, [], ◌∷◌, ◌++◌, Option, None, Some, refl, sym, ap, ◌∙◌, subst, if◌then◌else◌}
 use Rattle.std.specs.List.{find}
 use Rattle.std.specs.Option.{option_map, option_map_or}
+use Rattle.asn1_leaves.specs.CharSets.{is_general_string}
 use Rattle.asn1_der.specs.Length.{element}
-use Rattle.asn1_der.specs.Tree.{Tree, Trees, primitive, constructed, more, none, der, ders, put, trees_of, wrapped, AreWhole, IsWhole}
+use Rattle.asn1_der.specs.Tagged.{tagged_tree}
+use Rattle.asn1_der.specs.Tree.{Tree, Trees, primitive, constructed, more, none, der, ders, leaf, put, trees_of, wrapped, AreWhole, IsWhole}
 use Rattle.asn1_der.proofs.Spelling.{der-wrapped, wrapped-whole}
 use Rattle.asn1_elements.specs.Raw.{has_low_number}
 use Rattle.asn1_paths.specs.PathLaws.{AreSome, IsElement, LeadsIn, LeadsTo, at_front, behind_front, go_on, held_at, in_element, part_there, second_at, some_more}
@@ -11,7 +13,9 @@ use Rattle.picky_asn1.specs.Bytes.{Bytes}
 use Rattle.picky_asn1.specs.Integer.{integer_content}
 use Rattle.picky_asn1.specs.Numbers.{is_number}
 use Rattle.picky_asn1_der.specs.declared.wrapper.ExplicitContextTag.{ExplicitContextTag}
-use Rattle.krb_types.specs.Trees.{pa_data_tree}
+use Rattle.krb_types.specs.Trees.{encrypted_data_tree, pa_data_tree}
+use Rattle.krb_types.specs.contracts.data_types.principal_name.PrincipalNameTagged.TheImpl as name_impl
+use Rattle.krb_types.specs.contracts.data_types.ticket.TicketInnerTagged.TheImpl as ticket_impl
 use Rattle.krb_types.specs.declared.data_types.pa_data.PaData.{PaData}
 use Rattle.krb_messages.specs.Messages.{IsAsRep}
 use Rattle.krb_messages.specs.Trees.{kdc_rep_inner_tree}
@@ -73,9 +77,13 @@ data_in pa_data =
     (held_at 162 octets (der value) refl (4, pa_data.padata_data.0, refl, refl) (der-wrapped 162 (primitive 4 pa_data.padata_data.0) tt))
 
 -- padata are elements
+is_element : (pa_data : PaData) → IsElement (der (pa_data_tree pa_data))
+is_element pa_data =
+    (48, ders (more (wrapped 161 (primitive 2 (integer_content pa_data.padata_type.0))) (more (wrapped 162 (primitive 4 pa_data.padata_data.0)) none)), refl, refl)
+
 are_some : (padata : List PaData) → AreSome (ders (trees_of pa_data_tree padata))
 are_some [] = ([], refl)
-are_some (pa_data ∷ padata) = some_more (der (pa_data_tree pa_data)) (ders (trees_of pa_data_tree padata)) _ (48, _, refl, refl) refl (are_some padata)
+are_some (pa_data ∷ padata) = some_more (der (pa_data_tree pa_data)) (ders (trees_of pa_data_tree padata)) (ders (trees_of pa_data_tree (pa_data ∷ padata))) (is_element pa_data) refl (are_some padata)
 
 -- one that is found has a number
 numbered : (test : PaData → Bool) (padata : List PaData) (pa_data : PaData) → find test padata ≡ Some pa_data
@@ -86,12 +94,14 @@ numbered test (own ∷ padata) pa_data e = by_test (test own) (λ f. numbered te
     by_test : (b : Bool) → (find test padata ≡ Some pa_data → (n : ℕ) × LeadsIn (ders (trees_of pa_data_tree padata)) n (der (pa_data_tree pa_data)))
         → (if b then Some own else find test padata) ≡ Some pa_data → (n : ℕ) × LeadsIn (ders (trees_of pa_data_tree (own ∷ padata))) n (der (pa_data_tree pa_data))
     by_test true rest f =
-        let same : own ≡ pa_data = cc (f) in
-        (0, subst (λ (v : PaData). LeadsIn (ders (trees_of pa_data_tree (own ∷ padata))) 0 (der (pa_data_tree v))) same
-        (at_front (der (pa_data_tree own)) (ders (trees_of pa_data_tree padata)) _ (48, _, refl, refl) refl (are_some padata)))
+        let same : own ≡ pa_data = cc (f) in (
+          0,
+          subst (λ (v : PaData). LeadsIn (ders (trees_of pa_data_tree (own ∷ padata))) 0 (der (pa_data_tree v))) same
+              (at_front (der (pa_data_tree own)) (ders (trees_of pa_data_tree padata)) (ders (trees_of pa_data_tree (own ∷ padata))) (is_element own) refl (are_some padata)),
+        )
     by_test false rest f =
         let later = rest f in
-        (suc later.0, behind_front (der (pa_data_tree own)) (ders (trees_of pa_data_tree padata)) _ (48, _, refl, refl) refl later.0 (der (pa_data_tree pa_data)) later.1)
+        (suc later.0, behind_front (der (pa_data_tree own)) (ders (trees_of pa_data_tree padata)) (ders (trees_of pa_data_tree (own ∷ padata))) (is_element own) refl later.0 (der (pa_data_tree pa_data)) later.1)
 
 -- the data of the first padata of a type
 value_in : (padata : List PaData) (kind : ℕ) (value : Bytes) → first_of kind padata ≡ Some value
@@ -141,7 +151,11 @@ module _ (a b d e f g : Tree) where
 padata_in : (bytes padata : Bytes) (reply : KdcRep) → IsAsRep bytes reply → pk_as_rep_in reply ≡ Some padata
     → (n : ℕ) × LeadsTo bytes (0 ∷ 2 ∷ 0 ∷ n ∷ 1 ∷ 0 ∷ []) (element 4 padata)
 padata_in bytes padata reply is found =
-    let at = in_given _ _ _ _ _ _ 17 padata reply.padata.0 is.0 found in
+    let at =
+    in_given (primitive 2 (integer_content reply.pvno.0)) (primitive 2 (integer_content reply.msg_type.0)) (leaf (is_general_string reply.crealm.0) 27 reply.crealm.0)
+    (tagged_tree 48 name_impl.ghosts.row_tree name_impl.ghosts.row_of reply.cname.0)
+    (wrapped 97 (tagged_tree 48 ticket_impl.ghosts.row_tree ticket_impl.ghosts.row_of reply.ticket.0.0)) (encrypted_data_tree reply.enc_part.0)
+    17 padata reply.padata.0 is.0 found in
     (at.0, subst (λ (l : Bytes). LeadsTo l (0 ∷ 2 ∷ 0 ∷ at.0 ∷ 1 ∷ 0 ∷ []) (element 4 padata)) (sym is.1) at.1)
 
 -- signed data in front of an optional nonce, in a SEQUENCE under [0]
@@ -155,7 +169,7 @@ module _ {A : Type 0} (tree : A → Tree) (signed : Bytes) where
 
   octets_in : (given : Option A) → IsWhole (wrapped 160 (share given)) → LeadsTo (der (wrapped 160 (share given))) (0 ∷ 0 ∷ []) (element 128 signed)
   octets_in given whole =
-      go_on (der (wrapped 160 (share given))) (der (share given)) (element 128 signed) (0 ∷ []) (0 ∷ []) (in_tag 160 _ refl whole)
+      go_on (der (wrapped 160 (share given))) (der (share given)) (element 128 signed) (0 ∷ []) (0 ∷ []) (in_tag 160 (more (primitive 128 signed) (put (λ v. wrapped 161 (tree v)) given none)) refl whole)
       (in_element 48 _ (der (share given)) refl refl 0 (element 128 signed)
       (at_front (element 128 signed) _ _ (128, signed, refl, refl) refl (some_nonce given whole.0.1)))
 
@@ -165,7 +179,7 @@ signed_octets : (padata signed : Bytes) (told : PaPkAsRep) → IsPaPkAsRep padat
 unfolding IsPaPkAsRep
 signed_octets padata signed (DhInfo info) is found =
     let same : info.0.dh_signed_data.0 ≡ signed = cc (found) in
-    let own = subst (λ (l : Bytes). LeadsTo l (0 ∷ 0 ∷ []) (element 128 info.0.dh_signed_data.0)) (sym is.1) (octets_in (λ nonce. primitive 4 nonce.0.0) info.0.dh_signed_data.0 info.0.server_dh_nonce.0 is.0) in (
+    let own = subst (λ (l : Bytes). LeadsTo l (0 ∷ 0 ∷ []) (element 128 info.0.dh_signed_data.0)) (sym is.1) (octets_in (λ nonce. primitive 4 nonce.0) info.0.dh_signed_data.0 info.0.server_dh_nonce.0 is.0) in (
       (160, _, refl, is.1),
       subst (λ (l : Bytes). LeadsTo padata (0 ∷ 0 ∷ []) (element 128 l)) same own,
     )

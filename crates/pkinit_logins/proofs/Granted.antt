@@ -178,8 +178,12 @@ module _ (client_keys realm_keys : KeysRecord) (certificate : Bytes) (client_mom
           asks call.body client_moment is.second is.value is.of_moment,
           inl (
             tt,
-            inl (tt, is_trusted client_keys realm_keys client.auth_data (pack_bytes call.body client_moment is.second is.value) certificate is.signed is.is_signed judging.expected
-                (IsPackText call.body client_moment agreeing.client_element) honest.client (pack_text is.second is.value is.of_moment is.is_value), refl),
+            inl (
+              tt,
+              is_trusted client_keys realm_keys client.auth_data (pack_bytes call.body client_moment is.second is.value) certificate is.signed is.is_signed judging.expected
+                  (IsPackText call.body client_moment agreeing.client_element) honest.client (pack_text is.second is.value is.of_moment is.is_value),
+              refl,
+            ),
             agrees realm_keys judging (asked_for call.body client_moment is.value) agreeing.secret (dh_reply_bytes (dh_reply_of reply_signed.0)) honest.near value_agrees
                 (replies realm_keys honest.own call.body.nonce.0 call.words agreeing.realm_element agreeing.realm_key reply_signed.0 agreeing.realm_value agreeing.is_realm_key reply_signed.1),
           ),

@@ -1,4 +1,6 @@
 mod Rows
+mod Honesty
+pub mod Shown
 mod Wholeness
 pub mod Writable
 pub mod Trusting

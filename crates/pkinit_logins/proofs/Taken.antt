@@ -66,8 +66,16 @@ module _ (client_keys realm_keys : KeysRecord) (own realm_words : Bytes) (asked 
   given_by_content : (of_content client_keys asked parts).gives (Ok agreeing.secret)
   given_by_content =
       by_refuse {T = Bytes} {E = ReplyFault} (not (is_dh_key_data parts)) NotTrusted _ (Ok agreeing.secret) (ap not (written_type realm_keys.sign content own is.signed is.is_signed))
-      (inl (tt, inl (tt, is_trusted realm_keys client_keys dh_key_data content own is.signed is.is_signed (expected_realm asked)
-      (IsKeyInfoText agreeing.realm_key.subject_public_key (pos asked.nonce)) honest.realm refl, refl), given_by_info))
+      (inl (
+        tt,
+        inl (
+          tt,
+          is_trusted realm_keys client_keys dh_key_data content own is.signed is.is_signed (expected_realm asked)
+              (IsKeyInfoText agreeing.realm_key.subject_public_key (pos asked.nonce)) honest.realm refl,
+          refl,
+        ),
+        given_by_info,
+      ))
 
   given : (secret_of client_keys asked reply).gives (Ok agreeing.secret)
   unfolding secret_of

@@ -2,7 +2,7 @@
 use Rattle.std.proofs.Common.{◌≡◌, ℕ, List, Option, Some, refl, subst}
 use Rattle.asn1_der.specs.Tree.{Tree, IsWhole}
 use Rattle.asn1_leaves.specs.ObjectIdentifier.{IsObjectIdentifier}
-use Rattle.x509_algorithms.specs.contracts.algorithm_identifier.AlgorithmIdentifierSpelled.TheImpl as algorithm_impl
+use Rattle.x509_algorithms.specs.contracts.algorithm_identifier.AlgorithmIdentifierSpelled.TheImpl.Laws.{written_is-law as algorithm_written}
 use Rattle.x509_algorithms.specs.declared.algorithm_identifier.AlgorithmIdentifier.{AlgorithmIdentifier}
 use Rattle.x509_certificates.specs.contracts.certificate.CertificateSpelled.TheImpl as certificate
 use Rattle.x509_certificates.specs.declared.certificate.Certificate.{Certificate}
@@ -38,7 +38,7 @@ signer_spelled : (content_type content given : List ℕ) (value : Certificate) (
     → certificate.ghosts.spells value given n → HasEncoding signed.algorithm
     → (bytes : List ℕ) × signer_info.ghosts.spells (signer_of (id_of value) (attributes_of content_type content) signed) bytes 0
 signer_spelled content_type content given value n signed valid is encoded =
-    let algorithm = subst (λ (t : AlgorithmIdentifier → Tree). IsWhole (t signed.algorithm)) algorithm_impl.ghosts.written_is encoded.1.0 in (
+    let algorithm = subst (λ (t : AlgorithmIdentifier → Tree). IsWhole (t signed.algorithm)) algorithm_written encoded in (
       _,
       signer_info.ghosts.laws.strict (signer_of (id_of value) (attributes_of content_type content) signed)
           (tt, (id_whole value given n is, ((tt, (tt, tt)), (attributes_whole content_type content valid, (algorithm, (tt, tt)))))),

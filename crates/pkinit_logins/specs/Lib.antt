@@ -1,3 +1,5 @@
 pub mod Agreements
+pub mod Exchange
+pub mod ExchangeMeans
 pub mod Honest
 pub mod HonestByCertificate

@@ -1,6 +1,10 @@
 //! Logins by certificate (RFC 4556, section 3.2): what client and realm agree on, and what a login ends with, where both are honest.
 //!
-//! There is no code here: contracts of functions that do nothing are the laws.
+//! The laws are contracts of functions that do nothing. Beside them stands the test whether a login is honest.
 #![tactic(auto)]
 
+mod exchange;
+mod honest;
 pub mod laws;
+
+pub use honest::is_honest_by_certificate;

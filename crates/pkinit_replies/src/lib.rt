@@ -7,4 +7,4 @@ mod reply;
 mod signed;
 
 pub use public_key::AgreementPublicKey;
-pub use reply::pk_as_rep;
+pub use reply::{pk_as_rep, public_key_of};

@@ -35,7 +35,7 @@ pub fn pk_as_rep<K: KeyFunctions>(
     let Some(element) = keys.public_value(alloc, &words[64..128])? else {
         return Err(Refusal::Krb(error_codes::KRB_ERR_GENERIC));
     };
-    let Some(key) = public_key_in(alloc, &element)? else {
+    let Some(key) = public_key_of(alloc, &element)? else {
         return Err(Refusal::Krb(error_codes::KRB_ERR_GENERIC));
     };
     let info = key_info_bytes(alloc, &key.subject_public_key, nonce)?;
@@ -46,9 +46,9 @@ pub fn pk_as_rep<K: KeyFunctions>(
     Ok(reply)
 }
 
-// The public key that the element is the encoding of, or `None`.
+/// The public key that the element is the encoding of, or `None`.
 #[tactic(auto, unfolding(crate::specs::PublicKeys::IsPublicKey))]
-fn public_key_in(
+pub fn public_key_of(
     alloc: Global,
     element: &Asn1RawDer,
 ) -> Result<Option<AgreementPublicKey>, AllocError>

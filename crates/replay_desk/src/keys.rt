@@ -103,10 +103,7 @@ fn with_word<'a>(texts: KeyTexts<'a>, word: &'a str) -> anyhow::Result<KeyTexts<
     Ok(texts)
 }
 
-fn algorithm_of(
-    alloc: Global,
-    digits: Option<&str>,
-) -> anyhow::Result<Option<SignatureAlgorithm>> {
+fn algorithm_of(alloc: Global, digits: Option<&str>) -> anyhow::Result<Option<SignatureAlgorithm>> {
     let Some(digits) = digits else {
         return Ok(None);
     };

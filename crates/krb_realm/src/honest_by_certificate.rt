@@ -1,0 +1,48 @@
+//! Whether a login by certificate is honest.
+ghost use Rattle.std.specs.Prelude.{◌≡◌, ◌≤◌, IsTrue, length};
+ghost use Rattle.picky_asn1.specs.Bytes.{Bytes};
+ghost use Rattle.krb_logins.specs.Input.{login_of};
+ghost use Rattle.krb_realm.specs.Clients.{ByCertificate};
+ghost use Rattle.krb_realm.specs.Logins.{remembered};
+ghost use Rattle.krb_realm.specs.Realm.{realm_record};
+ghost use Rattle.pkinit_logins.specs.HonestByCertificate.{IsHonestByCertificate};
+ghost use Rattle.pkinit_requests.specs.Anchors.{AnchorRecord};
+
+use crate::client_means::{Held, by_certificate};
+use crate::{Client, Realm};
+use key_functions::KeyFunctions;
+use krb_logins::LoginInput;
+use krb_service::Service;
+use std::alloc::Global;
+
+/// Whether a login by the client's certificate is honest, as [`login_by_certificate`] asks for one key on both sides. The pairs of
+/// client and time that the service holds count as all that it admitted. If memory runs out, the answer is false.
+///
+/// [`login_by_certificate`]: crate::login_by_certificate
+pub fn is_honest_by_certificate<C: KeyFunctions, R: KeyFunctions>(
+    alloc: Global,
+    client: &Client,
+    realm: &Realm,
+    service: &Service,
+    input: &LoginInput<'_>,
+    client_keys: &C,
+    realm_keys: &R,
+) -> bool
+    requires { 96 ≤ length input.now.words_as.now }
+    ensures { IsTrue result → (certificate : Bytes) × (anchor : AnchorRecord) × (client.now.by ≡ ByCertificate certificate anchor)
+        × IsHonestByCertificate client.now.client certificate anchor (C.functions client_keys.now) (realm_record realm.now) realm.now.trust (R.functions realm_keys.now)
+        service.now (remembered service.now service.now.seen.held) (login_of input.now) }
+{
+    let asking = client.asking();
+    let call = realm.call(input.moments.realm_as, input.realm_words_as);
+    let own = realm.pkinit(realm_keys);
+    match client.means(client_keys).held {
+        Held::Key(_) => false,
+        Held::Certificate(certificate, anchor) => {
+            let means = by_certificate(certificate, anchor, client_keys);
+            pkinit_logins::is_honest_by_certificate(
+                alloc, asking, &means, &call, &own, service, input,
+            )
+        }
+    }
+}
