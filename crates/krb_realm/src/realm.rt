@@ -284,8 +284,8 @@ impl Realm {
         Err(AnswerRefusal::Unreadable)
     }
 
-    // What a request at a moment, with these random bytes, is answered by.
-    fn call<'a>(&'a self, moment: Moment, words: &'a [u8]) -> Call<'a>
+    /// What a request at a moment, with these random bytes, is answered by.
+    pub(crate) fn call<'a>(&'a self, moment: Moment, words: &'a [u8]) -> Call<'a>
         ensures call { call_of result ≡ call_to self.now moment words.now }
         ensures words { result.words.now ≡ words.now }
     {
