@@ -8,4 +8,3 @@ mod honest;
 pub mod laws;
 
 pub use honest::is_honest_by_certificate;
-
