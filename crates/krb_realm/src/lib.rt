@@ -10,6 +10,7 @@
 
 mod client;
 mod client_means;
+mod honest;
 mod honest_by_certificate;
 pub mod laws;
 mod login;
@@ -19,6 +20,7 @@ mod settings;
 
 pub use client::Client;
 pub use devices::{Sink, SinkFault, Source};
+pub use honest::is_honest_by_password;
 pub use honest_by_certificate::is_honest_by_certificate;
 pub use key_functions::{KeyFunctions, NoKeys, SignatureAlgorithm, Signed, Theirs};
 pub use krb_accounts::RealmRefusal;

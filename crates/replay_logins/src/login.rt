@@ -1,13 +1,13 @@
 //! Whole logins.
 
 use crate::certificates::BothKeys;
-use crate::stage::Stage;
+use crate::stage::{Conditions, Stage};
 use crate::told::{login_text, refused};
 use crate::words::name_of;
 use anyhow::{Context, bail};
 use krb_realm::{
-    Admission, EncryptionKey, LoginInput, LoginMoments, LoginRefusal, Moment, login_by_certificate,
-    login_by_password,
+    Admission, EncryptionKey, LoginInput, LoginMoments, LoginRefusal, Moment,
+    is_honest_by_password, login_by_certificate, login_by_password,
 };
 use std::alloc::Global;
 
@@ -30,23 +30,11 @@ fn log_in(
     name: &[Vec<u8>],
     keys: Option<&BothKeys<'_>>,
 ) -> anyhow::Result<String> {
-    let at = stage.conditions;
-    let random = at.random.bytes();
+    let random = stage.conditions.random.bytes();
+    let input = input_of(stage.conditions, name, &random);
     let client = stage.client.as_ref().context("no client")?;
     let realm = stage.realm.as_ref().context("no realm")?;
     let service = stage.service.as_mut().context("no service")?;
-    // All steps have one moment and the same random bytes.
-    let input = LoginInput {
-        service: name,
-        till: at.till,
-        moments: moments_of(at.moment),
-        words_as: &random,
-        words_tgs: &random,
-        words_ap: &random,
-        realm_words_as: &random,
-        realm_words_tgs: &random,
-        service_words: &random,
-    };
     let login = match keys {
         None => login_by_password(alloc, client, realm, service, &input),
         Some(keys) => {
@@ -55,6 +43,34 @@ fn log_in(
         }
     };
     told(alloc, login)
+}
+
+/// Whether the login by password would be honest.
+pub(crate) fn honest(stage: &Stage, alloc: Global, words: &[&str]) -> anyhow::Result<String> {
+    let [service] = words else {
+        bail!("honest SERVICE");
+    };
+    let name = name_of(alloc, service)?;
+    let random = stage.conditions.random.bytes();
+    let input = input_of(stage.conditions, &name, &random);
+    let service = stage.service.as_ref().context("no service")?;
+    let honest = is_honest_by_password(alloc, stage.client()?, stage.realm()?, service, &input);
+    Ok(format!(in alloc; "{honest}")?)
+}
+
+/// All steps have one moment and the same random bytes.
+fn input_of<'a>(at: Conditions, service: &'a [Vec<u8>], random: &'a [u8]) -> LoginInput<'a> {
+    LoginInput {
+        service,
+        till: at.till,
+        moments: moments_of(at.moment),
+        words_as: random,
+        words_tgs: random,
+        words_ap: random,
+        realm_words_as: random,
+        realm_words_tgs: random,
+        service_words: random,
+    }
 }
 
 fn told(
