@@ -1,7 +1,7 @@
 //! Steps of a client and a realm that have certificates under one anchor. Signatures are digests, and each agreement has the
 //! same secret.
 
-use crate::login::login;
+use crate::login::{honest, login};
 use crate::short_keys::{ShortKeys, Taker, taker_of};
 use crate::stage::Stage;
 use crate::take::keep_client;
@@ -83,6 +83,7 @@ fn told_by_holders(
         "ask_by_certificate" => ask::as_request(stage, alloc, words, &keys.client),
         "answer_by_certificate" => realms::answer(stage, alloc, &keys.realm),
         "take_by_certificate" => take::as_reply(stage, alloc, &keys.client),
+        "honest_by_certificate" => honest(stage, alloc, words, Some(&keys)),
         "login_by_certificate" => login(stage, alloc, words, Some(&keys)),
         _ => bail!("no such step"),
     }

@@ -1,4 +1,5 @@
 //! Whole logins.
+ghost use Rattle.std.specs.Prelude.{◌≤◌, length};
 
 use crate::certificates::BothKeys;
 use crate::stage::{Conditions, Stage};
@@ -7,7 +8,7 @@ use crate::words::name_of;
 use anyhow::{Context, bail};
 use krb_realm::{
     Admission, EncryptionKey, LoginInput, LoginMoments, LoginRefusal, Moment,
-    is_honest_by_password, login_by_certificate, login_by_password,
+    is_honest_by_certificate, is_honest_by_password, login_by_certificate, login_by_password,
 };
 use std::alloc::Global;
 
@@ -45,21 +46,50 @@ fn log_in(
     told(alloc, login)
 }
 
-/// Whether the login by password would be honest.
-pub(crate) fn honest(stage: &Stage, alloc: Global, words: &[&str]) -> anyhow::Result<String> {
+/// Whether the login by password, or by certificate with these key functions, would be honest.
+pub(crate) fn honest(
+    stage: &Stage,
+    alloc: Global,
+    words: &[&str],
+    keys: Option<&BothKeys<'_>>,
+) -> anyhow::Result<String> {
     let [service] = words else {
         bail!("honest SERVICE");
     };
     let name = name_of(alloc, service)?;
-    let random = stage.conditions.random.bytes();
-    let input = input_of(stage.conditions, &name, &random);
-    let service = stage.service.as_ref().context("no service")?;
-    let honest = is_honest_by_password(alloc, stage.client()?, stage.realm()?, service, &input);
+    let honest = is_honest(stage, alloc, &name, keys)?;
     Ok(format!(in alloc; "{honest}")?)
 }
 
+fn is_honest(
+    stage: &Stage,
+    alloc: Global,
+    name: &[Vec<u8>],
+    keys: Option<&BothKeys<'_>>,
+) -> anyhow::Result<bool> {
+    let random = stage.conditions.random.bytes();
+    let input = input_of(stage.conditions, name, &random);
+    let client = stage.client()?;
+    let realm = stage.realm()?;
+    let service = stage.service.as_ref().context("no service")?;
+    Ok(match keys {
+        None => is_honest_by_password(alloc, client, realm, service, &input),
+        Some(keys) => {
+            let (mine, theirs) = (&keys.client, &keys.realm);
+            is_honest_by_certificate(alloc, client, realm, service, &input, mine, theirs)
+        }
+    })
+}
+
 /// All steps have one moment and the same random bytes.
-fn input_of<'a>(at: Conditions, service: &'a [Vec<u8>], random: &'a [u8]) -> LoginInput<'a> {
+fn input_of<'a>(at: Conditions, service: &'a [Vec<u8>], random: &'a [u8; 128]) -> LoginInput<'a>
+    ensures words_as { 96 ≤ length result.words_as.now }
+    ensures words_tgs { 96 ≤ length result.words_tgs.now }
+    ensures words_ap { 96 ≤ length result.words_ap.now }
+    ensures realm_words_as { 128 ≤ length result.realm_words_as.now }
+    ensures realm_words_tgs { 128 ≤ length result.realm_words_tgs.now }
+    ensures service_words { 16 ≤ length result.service_words.now }
+{
     LoginInput {
         service,
         till: at.till,

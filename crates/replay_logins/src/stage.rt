@@ -146,7 +146,7 @@ fn told_by_words(
         "admit_nothing" => services::admit_nothing(stage, alloc),
         "admit_twice" => services::admit_twice(stage, alloc),
         "login" => login::login(stage, alloc, words, None),
-        "honest" => login::honest(stage, alloc, words),
+        "honest" => login::honest(stage, alloc, words, None),
         "exchange_tag" => parts::exchange_tag(stage, alloc, words),
         "print_error" => parts::print_error(stage, alloc),
         "write_error" => parts::write_error(stage, alloc),
