@@ -37,7 +37,7 @@ faults: ## refuse memory to the built programs, request by request, and send the
 
 settings: ## say what is wrong with a settings file, without proof: make settings FILE=examples/settings.toml
 	@test -f "$(FILE)" || { echo "make: name a file, as in make settings FILE=examples/settings.toml" >&2; exit 2; }
-	cd crates/krb_realm_check && $(RT) try --data $(notdir $(FILE))=$(abspath $(FILE)) -- $(notdir $(FILE)) </dev/null
+	cd crates/krb_realm_check && $(RT) try --seconds 3600 --data $(notdir $(FILE))=$(abspath $(FILE)) -- $(notdir $(FILE)) </dev/null
 
 run: bridge-there $(REALM)/settings.toml ## serve a realm to stock clients on 127.0.0.1 (PORT=8888); proves the program first
 	printf '%s\n' '[libdefaults]' 'default_realm = EXAMPLE.COM' 'dns_lookup_kdc = false' 'udp_preference_limit = 1' \

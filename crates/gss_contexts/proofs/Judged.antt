@@ -1,13 +1,13 @@
 -- Tokens whose headers are the peer's.
 use Rattle.std.proofs.Common.{◌≡◌, ℕ, ◌+◌, ◌^◌, ◌≤◌, ◌<◌, List, [], ◌∷◌, ◌++◌, length, get_or, take, drop, Bool, true, false, bytes_eq, refl, ap, sym, subst, ◌∙◌, arith}
+use Rattle.std.proofs.lemmas.List.{get_or-drop}
 use Rattle.std.proofs.lemmas.Bool.{and_parts, leb-true, false≢true}
 use Rattle.std.proofs.lemmas.Bool.Decides.{Decides-eqb}
 use Rattle.std.proofs.lemmas.Slice.Eq.{bytes_eq-Decides}
 use Rattle.std.specs.Bool.{beq}
-use Rattle.std.specs.Int.{w16, from_be_bytes}
 use Rattle.byte_layouts.specs.Parts.{part, Stands}
 use Rattle.byte_layouts.specs.Numbers.{be16, be16_at}
-use Rattle.byte_layouts.proofs.NumberLaws.{AreBytes, be16-again, be16-stands, bytes-cut}
+use Rattle.byte_layouts.proofs.NumberLaws.{AreBytes, be16-again, be16-stands}
 use Rattle.byte_layouts.proofs.PartLaws.{byte-read, byte-again}
 use Rattle.gss_contexts.specs.Contexts.{ContextRecord, other_side, peer}
 use Rattle.gss_contexts.specs.Judging.{IsCarried, IsPeersHeader, TakesWrap, is_mic, is_wrap, protection_of}
@@ -52,13 +52,12 @@ mic_taken c message token number is peers same =
       };
     }
 
-fits16 : (bs : List ℕ) → get_or bs 0 0 < 256 → get_or bs 1 0 < 256 → from_be_bytes w16 bs < 2 ^ 16
-fits16 bs a b = omega arith
-
 be16_at-fits : (place : ℕ) (whole : List ℕ) → AreBytes whole → be16_at place whole < 2 ^ 16
 unfolding be16_at
 be16_at-fits place whole bytes =
-    let cut = bytes-cut whole place 2 bytes in fits16 (take 2 (drop place whole)) (cut 0) (cut 1)
+    let first : get_or (drop place whole) 0 0 < 256 = rw (get_or-drop place whole 0 0) (bytes (place + 0)) in
+    let second : get_or (drop place whole) 1 0 < 256 = rw (get_or-drop place whole 1 0) (bytes (place + 1)) in
+    omega (arith, first, second)
 
 be16_at-stands : (place : ℕ) (whole : List ℕ) → AreBytes whole → place + 2 ≤ length whole → Stands (part place (be16 (be16_at place whole))) whole
 unfolding be16_at

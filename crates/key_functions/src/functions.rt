@@ -34,6 +34,9 @@ pub trait KeyFunctions {
     ghost functions: { Self → KeysRecord };
 
     /// Whether the signature is valid for these bytes under the key, by this algorithm.
+    ///
+    /// Nothing else judges the algorithm, which the sender chooses. So an implementer refuses MD5, SHA-1, a key that is too
+    /// short, and a key that doesn't fit the algorithm.
     fn verifies(
         &self,
         key: &SubjectPublicKeyInfo,

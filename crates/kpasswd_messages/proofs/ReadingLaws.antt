@@ -15,13 +15,14 @@ use Rattle.asn1_der.specs.Seen.{Seen, Alike, seen_pair}
 use Rattle.asn1_der.proofs.Alike.{alike-pair, alike-part}
 use Rattle.asn1_codec.specs.Reads.{IsOneValue}
 use Rattle.byte_layouts.specs.Numbers.{be16_at}
-use Rattle.byte_layouts.specs.Stops.{IsStop}
+use Rattle.byte_layouts.specs.Stops.{IsStop, IsReadStop}
+use Rattle.byte_layouts.proofs.StopLaws.{stopped-once, short-stop}
 use Rattle.byte_layouts.proofs.Exits.{at-exit}
 use Rattle.byte_layouts.proofs.NumberLaws.{be16-again, be16_at-append}
 use Rattle.kpasswd_messages.specs.declared.error.KrbPrivFrameError.{KrbPrivFrameError}
 use Rattle.kpasswd_messages.specs.declared.frame.KrbPrivFrame.{KrbPrivFrame}
 use Rattle.kpasswd_messages.specs.Frames.{IsHeader}
-use Rattle.kpasswd_messages.specs.Reading.{HasOtherVersion, HasNoParts, IsHeaderFault, IsHeaderRefusal, IsDeviceFault, IsExcuse, IsRefusal, der_kind, IsFramedAs, BeginsFramed, IsUnframed, seen_frame}
+use Rattle.kpasswd_messages.specs.Reading.{HasOtherVersion, HasNoParts, IsHeaderFault, IsHeaderRefusal, IsDeviceFault, IsExcuse, IsRefusal, TellsRead, der_kind, IsFramedAs, BeginsFramed, IsUnframed, seen_frame}
 use Rattle.kpasswd_messages.proofs.FrameLaws.{frame-joined, frame-split}
 
 -- another version that came is the bytes'
@@ -66,6 +67,33 @@ pub header-counted : (fault last : Option ErrorKind) (old new count m : ℕ) (bu
     → 6 ≤ length (take m buffer) → new ≡ old
 header-counted None last old new count m buffer same size few stopped long = stopped
 header-counted (Some k) last old new count m buffer same size few stopped long = absurd (omega (arith, length-take m buffer))
+
+-- what a refused header tells of any device
+pub header-told : (short : ErrorKind) (after : Option (List ℕ)) (fault last : Option ErrorKind) (old new count m : ℕ) (buffer : List ℕ) (e : ErrorKind)
+    → m ≡ count → length buffer ≡ 6 → short ≡ unwrap_or fault UnexpectedEof → (fault ≡ None → count < length buffer → IsAtEnd after) → IsStop old new last fault
+    → ((e ≡ InvalidData) × HasOtherVersion (take m buffer)) ⊎ ((e ≡ short) × (length (take m buffer) < 6) × (HasOtherVersion (take m buffer) → ⊥))
+    → TellsRead after old new last e
+header-told short after fault last old new count m buffer e same size is_short ends stopped (inl (is, other)) =
+    inr (inl (is, stopped-once fault last old new stopped))
+header-told short after fault last old new count m buffer e same size is_short ends stopped (inr (is, few, fine)) =
+    inr (inr (subst (IsReadStop after old new last) (sym (is ∙ is_short))
+    (short-stop after fault last old new count (length buffer) stopped ends (omega (arith, length-take m buffer)))))
+
+-- and a refused part
+pub part-told : (after : Option (List ℕ)) (fault : Asn1DerError) (old new : ℕ) (last : Option ErrorKind) (e : ErrorKind)
+    → new ≡ faults_after fault old → TellsKind fault last → e ≡ der_kind fault → TellsRead after old new last e
+part-told after der.Memory old new last e count kind is = inl (is, count)
+part-told after (der.Other k) old new last e count kind is = inr (inr (inr (count, kind ∙ ap Some (sym is))))
+part-told after der.TruncatedData old new last e count kind is = inr (inl (is, inl count))
+part-told after der.InvalidData old new last e count kind is = inr (inl (is, inl count))
+part-told after der.UnsupportedValue old new last e count kind is = inr (inl (is, inl count))
+part-told after der.UnsupportedType old new last e count kind is = inr (inl (is, inl count))
+part-told after der.InvalidSink old new last e count kind is = inr (inl (is, inl count))
+part-told after (der.Message rule) old new last e count kind is = inr (inl (is, inl count))
+
+-- the same from a call before, in which none failed
+pub told-since : (after : Option (List ℕ)) (old mid new : ℕ) (last : Option ErrorKind) (e : ErrorKind) → mid ≡ old → TellsRead after mid new last e → TellsRead after old new last e
+told-since after old mid new last e same told = subst (λ (n : ℕ). TellsRead after n new last e) same told
 
 -- a part that wasn't read
 pub part-refused : {T : Type 0} (reads : T → List ℕ → Type 0) (left : Option (List ℕ)) (fault : Asn1DerError) (old new : ℕ) (last : Option ErrorKind) (e : ErrorKind)

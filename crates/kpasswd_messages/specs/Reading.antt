@@ -7,6 +7,7 @@ use Rattle.devices.specs.Counting.{one_more}
 use Rattle.asn1_der.specs.declared.error.Asn1DerError.{Asn1DerError}
 use Rattle.asn1_der.specs.declared.error.Asn1DerError.TheVariants as der
 use Rattle.asn1_der.specs.Seen.{Seen, seen_pair, seen_part}
+use Rattle.byte_layouts.specs.Stops.{FailedAtMostOnce, IsReadStop}
 use Rattle.byte_layouts.specs.Numbers.{be16_at}
 use Rattle.kpasswd_messages.specs.Frames.{IsFramed}
 use Rattle.kpasswd_messages.specs.declared.frame.KrbPrivFrame.{KrbPrivFrame}
@@ -76,3 +77,9 @@ pub record HasNoParts {A P : Type 0} (reads_ap : A → List ℕ → Type 0) (rea
 abbrev pub IsRefusal : {A P : Type 0} → (A → List ℕ → Type 0) → (P → List ℕ → Type 0) → List ℕ → Option (List ℕ) → ℕ → ℕ → Option ErrorKind → ErrorKind → Type 0
 IsRefusal reads_ap reads_private bytes after old new last e =
     (e ≡ OutOfMemory) ⊎ (IsHeaderRefusal bytes after old new last e ⊎ ((e ≡ InvalidData) × HasNoParts reads_ap reads_private bytes))
+
+-- what a refusal tells of any device, its bytes known or not: memory ran out, bytes that came are wrong, behind which one call may
+-- have failed, or the bytes ended or the device failed
+abbrev pub TellsRead : Option (List ℕ) → ℕ → ℕ → Option ErrorKind → ErrorKind → Type 0
+TellsRead after old new last e =
+    ((e ≡ OutOfMemory) × (new ≡ old)) ⊎ (((e ≡ InvalidData) × FailedAtMostOnce old new) ⊎ IsReadStop after old new last e)

@@ -5,7 +5,7 @@ ghost use Rattle.asn1_der.specs.Tree.{der, IsWhole, Writes};
 ghost use Rattle.byte_layouts.specs.Stops.{IsWriteStop};
 ghost use Rattle.kpasswd_messages.specs.Frames.{framed, frame_bytes, IsFrame};
 ghost use Rattle.asn1_der.specs.Seen.{Alike};
-ghost use Rattle.kpasswd_messages.specs.Reading.{IsFramedAs, BeginsFramed, IsExcuse, IsRefusal, seen_frame};
+ghost use Rattle.kpasswd_messages.specs.Reading.{IsFramedAs, BeginsFramed, IsExcuse, IsRefusal, TellsRead, seen_frame};
 ghost use Rattle.kpasswd_messages.specs.Writing.{IsTooLong, IsUnframable};
 ghost use Rattle.asn1_codec.specs.Refusals.{refusal_of};
 
@@ -13,7 +13,7 @@ use crate::error::KrbPrivFrameError;
 use crate::header::{HEADER_LEN, VERSION, read_header};
 use crate::part::{part_bytes, read_part};
 use asn1_codec::{Deserialize, FromDer, Serialize};
-use byte_layouts::write_bytes;
+use byte_layouts::{u16_be_bytes, write_bytes};
 use devices::{Sink, Source};
 use std::alloc::{AllocError, Global};
 use std::io::ErrorKind;
@@ -45,6 +45,8 @@ impl<A: FromDer, P: FromDer> KrbPrivFrame<A, P> {
             × Consumes (R.left reader.old) (R.left reader.new) whole) }
         ensures only { IfSome (R.left reader.old) (λ bytes. (m : KrbPrivFrame A P) → BeginsFramed A.reads P.reads m.ap_message m.krb_priv bytes
             → MatchResult result (λ read. Alike (seen_frame A.seen P.seen) read m) (λ e. IsExcuse (R.failed reader.old) (R.failed reader.new) (R.last_fault reader.new) e.kind)) }
+        ensures count { MatchResult result (λ _. R.failed reader.new ≡ R.failed reader.old)
+            (λ e. TellsRead (R.left reader.new) (R.failed reader.old) (R.failed reader.new) (R.last_fault reader.new) e.kind) }
         ensures refused { IfErr result (λ e. IfSome (R.left reader.old) (λ bytes.
             IsRefusal A.reads P.reads bytes (R.left reader.new) (R.failed reader.old) (R.failed reader.new) (R.last_fault reader.new) e.kind)) }
         ensures same { R.through reader.new ≡ R.through reader.old }
@@ -69,9 +71,9 @@ fn put_frame(
 ) -> Result<(), AllocError>
     ensures { IfOk result (λ _. to.new.items ≡ to.old.items ++ framed count size ap_message.now krb_priv.now) }
 {
-    to.extend_from_slice(&count.to_be_bytes())?;
-    to.extend_from_slice(&VERSION.to_be_bytes())?;
-    to.extend_from_slice(&size.to_be_bytes())?;
+    to.extend_from_slice(&u16_be_bytes(count))?;
+    to.extend_from_slice(&u16_be_bytes(VERSION))?;
+    to.extend_from_slice(&u16_be_bytes(size))?;
     to.extend_from_slice(ap_message)?;
     to.extend_from_slice(krb_priv)?;
     Ok(())

@@ -1,11 +1,11 @@
 //! The first six bytes: two lengths, and the version between them.
-ghost use Rattle.std.specs.Prelude.{◌≡◌, ℕ, ◌<◌, ◌≤◌, ◌⊎◌, List, length, IfOk, IfErr, IfSome};
+ghost use Rattle.std.specs.Prelude.{◌≡◌, ℕ, ◌<◌, ◌≤◌, ◌⊎◌, List, length, IfOk, IfErr, IfSome, MatchResult};
 ghost use Rattle.std.specs.Io.KnownBytes.{Consumes};
 ghost use Rattle.std.specs.declared.io.ErrorKind.{ErrorKind};
 ghost use Rattle.byte_layouts.specs.Parts.{part, Stands};
 ghost use Rattle.byte_layouts.specs.Numbers.{be16};
 ghost use Rattle.kpasswd_messages.specs.Frames.{IsHeader};
-ghost use Rattle.kpasswd_messages.specs.Reading.{HasOtherVersion, IsHeaderRefusal};
+ghost use Rattle.kpasswd_messages.specs.Reading.{HasOtherVersion, IsHeaderRefusal, TellsRead};
 
 use byte_layouts::{read_front, u16_be};
 use devices::Source;
@@ -35,7 +35,8 @@ fn judge_header(bytes: &[u8], short: ErrorKind) -> Result<(), ErrorKind>
 // Reads a header, and leaves what follows it. A wrong version that is there is answered before the fault of a device.
 pub(crate) fn read_header<R: Source>(reader: &mut R) -> Result<(), ErrorKind>
     ensures found { IfOk result (λ _. (header : List ℕ) × IsHeader header × Consumes (R.left reader.old) (R.left reader.new) header) }
-    ensures count { IfOk result (λ _. R.failed reader.new ≡ R.failed reader.old) }
+    ensures count { MatchResult result (λ _. R.failed reader.new ≡ R.failed reader.old)
+        (TellsRead (R.left reader.new) (R.failed reader.old) (R.failed reader.new) (R.last_fault reader.new)) }
     ensures refused { IfErr result (λ e. IfSome (R.left reader.old) (λ bytes.
         IsHeaderRefusal bytes (R.left reader.new) (R.failed reader.old) (R.failed reader.new) (R.last_fault reader.new) e)) }
     ensures same { R.through reader.new ≡ R.through reader.old }

@@ -5,7 +5,7 @@ ghost use Rattle.asn1_der.specs.Tree.{der};
 ghost use Rattle.asn1_codec.specs.Cuts.{TakesNext};
 ghost use Rattle.asn1_codec.specs.Refusals.{refusal_of};
 ghost use Rattle.asn1_codec.specs.Reading.{IsNotNext, IsReadBy};
-ghost use Rattle.kpasswd_messages.specs.Reading.{der_kind, IsExcuse};
+ghost use Rattle.kpasswd_messages.specs.Reading.{der_kind, IsExcuse, TellsRead};
 ghost use Rattle.kpasswd_messages.specs.Writing.{IsUnwritten, write_kind};
 
 use asn1_codec::{Asn1DerError, FromDer, Serialize, from_reader, to_vec};
@@ -30,7 +30,8 @@ pub(crate) fn read_part<T: FromDer, R: Source>(
     reader: &mut R,
 ) -> Result<T, ErrorKind>
     ensures taken { IfOk result (TakesNext T.reads 10240 (R.left reader.old) (R.left reader.new)) }
-    ensures count { IfOk result (λ _. R.failed reader.new ≡ R.failed reader.old) }
+    ensures count { MatchResult result (λ _. R.failed reader.new ≡ R.failed reader.old)
+        (TellsRead (R.left reader.new) (R.failed reader.old) (R.failed reader.new) (R.last_fault reader.new)) }
     ensures refused { IfErr result (λ e. IsExcuse (R.failed reader.old) (R.failed reader.new) (R.last_fault reader.new) e
         ⊎ ((e ≡ ErrorKind.InvalidData) × IsNotNext (IsReadBy T.reads) (R.left reader.old) 10240)) }
     ensures same { R.through reader.new ≡ R.through reader.old }

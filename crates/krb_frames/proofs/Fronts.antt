@@ -1,11 +1,12 @@
 -- What the bytes that were read say of a stream's front.
 use Rattle.std.proofs.Common.{◌≡◌, ◌≢◌, ℕ, ◌+◌, ◌<◌, ◌≤◌, List, [], ◌++◌, length, take, drop, nat_lt, if◌then◌else◌, Option, Some, None, refl, ap, sym, subst, ◌∙◌, arith}
-use Rattle.std.specs.Int.{w32, from_be_bytes}
 use Rattle.std.proofs.lemmas.Bool.Decides.{nat_tests}
 use Rattle.std.proofs.lemmas.Grind.{common_steps}
 use Rattle.std.specs.Io.KnownBytes.{Consumes}
 use Rattle.std.proofs.Math.Seq.{drop-drop}
 use Rattle.std.proofs.lemmas.List.{take_all, take_at, drop_at}
+use Rattle.byteorder.specs.Endian.{big_number}
+use Rattle.byteorder.specs.Numbers.{big_from-append}
 use Rattle.krb_frames.specs.declared.fault.ServeFault.TheVariants.{Truncated, FrameTooLong, NoRequest, Read, Write, NoWords, NoMoment, ReplyTooLong, Memory}
 use Rattle.krb_frames.specs.declared.fault.ServeFault.{ServeFault}
 use Rattle.krb_frames.specs.Frames.{Front, Ended, Bad, Whole, front_of, announced, frame_room}
@@ -95,13 +96,13 @@ pub record Begins (stream : List ℕ) (size : ℕ) (rest : List ℕ) : Type 0 wh
   pub size_is : announced stream ≡ size
   pub rest_is : drop 4 stream ≡ rest
 
-pub begins : (stream prefix : List ℕ) (left : Option (List ℕ)) (n size : ℕ) → length prefix ≡ 4 → 4 ≤ n → size ≡ from_be_bytes w32 prefix
+pub begins : (stream prefix : List ℕ) (left : Option (List ℕ)) (n size : ℕ) → length prefix ≡ 4 → 4 ≤ n → size ≡ big_number 4 prefix
     → (filled : IsFilled stream left prefix n) → Begins stream size filled.rest
 begins stream prefix left n size four enough is filled =
     let joined : stream ≡ prefix ++ filled.rest = filled.whole ∙ ap (λ l. l ++ filled.rest) (take_all n prefix (omega arith)) in
     record {
       enough = grind (arith, common_steps, ap length joined);
-      size_is = ap (λ l. from_be_bytes w32 (take 4 l)) joined ∙ ap (from_be_bytes w32) (take_at prefix filled.rest 4 four) ∙ sym is;
+      size_is = ap announced joined ∙ big_from-append 4 prefix filled.rest (omega arith) ∙ sym is;
       rest_is = ap (drop 4) joined ∙ drop_at prefix filled.rest 4 four;
     }
 

@@ -1,12 +1,12 @@
 -- Frames: a message behind its length in four bytes, the highest first (RFC 4120, section 7.2.2).
 use Rattle.std.specs.Prelude.{◌≡◌, ℕ, ◌+◌, List, [], ◌∷◌, ◌++◌, length, take, drop, nat_lt, if◌then◌else◌, refl}
-use Rattle.std.specs.Int.{w32, from_be_bytes, to_be_bytes}
+use Rattle.byteorder.specs.Endian.{big_bytes, big_number}
 use Rattle.krb_frames.specs.declared.fault.ServeFault.{ServeFault}
 use Rattle.krb_frames.specs.declared.fault.ServeFault.TheVariants.{Truncated, FrameTooLong}
 
 -- the length that the first four bytes of a stream announce
 abbrev pub announced : List ℕ → ℕ
-announced stream = from_be_bytes w32 (take 4 stream)
+announced stream = big_number 4 stream
 
 -- how many bytes reading the first frame takes at most: its length, and its message where that isn't too long
 abbrev pub frame_room : List ℕ → ℕ
@@ -14,7 +14,7 @@ frame_room stream = if nat_lt 65536 (announced stream) then 4 else 4 + announced
 
 -- a reply in its frame
 abbrev pub framed : List ℕ → List ℕ
-framed reply = to_be_bytes w32 (length reply) ++ reply
+framed reply = big_bytes 4 (length reply) ++ reply
 
 -- what stands at the front of a stream: nothing, no frame, or a whole message with the rest behind it
 pub data Front : Type 0 where

@@ -7,6 +7,7 @@ ghost use Rattle.krb_frames.specs.Serving.{WhereKnown, IsReply};
 ghost use Rattle.krb_frames.specs.Steps.{IsFilled, IsTaken, IsBroken, IsMessageFault, IsMessageStop, IsWordsFault, IsWordsStop, IsAnswerFault, IsAnswered, IsFrontFault, IsReadFault, IsStepFault, IsWrittenPart, after_read_fault, after_write_fault};
 
 use crate::{AnswerRefusal, Responder, ServeFault};
+use byteorder::{BigEndian, ByteOrder};
 use devices::{Sink, Source, WholeFault, read_full, write_whole};
 use krb_moments::Moment;
 use std::alloc::{AllocError, Global};
@@ -75,7 +76,7 @@ pub(crate) fn read_frame<R: Source>(
     if prefix_count < prefix.len() {
         return Err(ServeFault::Truncated);
     }
-    let size = u32::from_be_bytes(prefix) as usize;
+    let size = BigEndian::read_u32(&prefix) as usize;
     if size > FRAME_LIMIT {
         return Err(ServeFault::FrameTooLong);
     }
@@ -106,9 +107,10 @@ fn frame_of(alloc: Global, reply: &[u8]) -> Result<Vec<u8>, AllocError>
     requires { length reply.now ≤ 65536 }
     ensures { IfOk result (λ frame. frame.items ≡ framed reply.now) }
 {
-    let size = reply.len() as u32;
+    let mut prefix = [0u8; 4];
+    BigEndian::write_u32(&mut prefix, reply.len() as u32);
     let mut frame = Vec::with_capacity(alloc, 4 + reply.len())?;
-    frame.extend_from_slice(&size.to_be_bytes())?;
+    frame.extend_from_slice(&prefix)?;
     frame.extend_from_slice(reply)?;
     Ok(frame)
 }

@@ -1,12 +1,11 @@
 -- No pair of client and time is admitted twice over a list of calls, and a refused call leaves the pairs.
-use Rattle.std.proofs.Common.{◌≡◌, ℕ, ◌+◌, suc, false, List, [], ◌∷◌, length, max, Result, Ok, Err, inl, inr, refl, sym, ap, subst, ◌∙◌, arith}
+use Rattle.std.proofs.Common.{◌≡◌, ℕ, ◌+◌, suc, List, [], ◌∷◌, length, max, Result, Ok, Err, inl, inr, refl, sym, ap, subst, arith}
 use Rattle.krb_types.specs.Refusals.{Code}
-use Rattle.krb_service.specs.Pair.{PairRecord, is_among}
+use Rattle.krb_service.specs.Pair.{PairRecord}
 use Rattle.krb_ap_requests.specs.Admission.{AdmissionRecord}
 use Rattle.krb_ap_requests.specs.declared.refusal.AdmitRefusal.{AdmitRefusal}
 use Rattle.krb_ap_requests.specs.declared.refusal.AdmitRefusal.TheVariants.{Unreadable, Krb, Memory}
 use Rattle.krb_service.proofs.Admitting.{admissible_if_admitted}
-use Rattle.krb_service.specs.Admissible.{chosen_pair}
 use Rattle.krb_service.specs.Once.{Admitted}
 use Rattle.krb_service.specs.OnceForEver.{AreOnce, admissions_in}
 use Rattle.krb_service.specs.RememberingService.{Outcome, outcome_of, remembering}

@@ -1,5 +1,5 @@
 -- What a service remembers of the authenticators that it has admitted (RFC 4120, section 3.2.3).
-use Rattle.std.specs.Prelude.{◌≡◌, ◌&&◌, List}
+use Rattle.std.specs.Prelude.{◌≡◌, ◌%◌, ◌&&◌, List}
 use Rattle.krb_moments.specs.Units.{Micros}
 use Rattle.krb_service.specs.Pair.{PairRecord, is_among, is_recent}
 
@@ -8,6 +8,10 @@ pub record SeenRecord : Type 0 where
   pub greatest : Micros
   pub skew : Micros
   pub held : List PairRecord
+
+-- a span of whole seconds
+abbrev pub IsWholeSeconds : Micros → Type 0
+IsWholeSeconds span = span % 1000000 ≡ 0
 
 -- of the pairs ever admitted those are held that are recent, and no other
 abbrev pub IsWindow : SeenRecord → List PairRecord → Type 0

@@ -59,6 +59,34 @@ impl KeytabEntry {
         }
     }
 
+    /// The service's realm.
+    pub fn realm(&self) -> &GeneralStringAsn1
+        ensures { result.now ≡ self.now.realm }
+    {
+        &self.realm
+    }
+
+    /// The components of its name.
+    pub fn components(&self) -> &[GeneralStringAsn1]
+        ensures { result.now ≡ self.now.components }
+    {
+        self.components.as_slice()
+    }
+
+    /// Its key.
+    pub fn key(&self) -> &Key
+        ensures { result.now ≡ record { suite = self.now.suite; bytes = self.now.key } }
+    {
+        &self.key
+    }
+
+    /// The key's kvno (RFC 4120, section 5.2.9).
+    pub fn kvno(&self) -> u32
+        ensures { result ≡ self.now.kvno }
+    {
+        self.kvno
+    }
+
     /// What bytes present to this service at a moment, up to the time that they tell (RFC 4120, section 3.2.3). The skew
     /// is in microseconds, a day at most.
     pub fn receive(

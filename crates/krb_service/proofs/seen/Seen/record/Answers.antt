@@ -8,8 +8,9 @@ use Rattle.krb_service.proofs.seen.Seen.record.Goals as goal
 pub invariant_of-self-2 : goal.invariant_of-self-2
 invariant_of-self-2 c = (
   c.self.invariant.0,
+  c.self.invariant.1,
   rw c.in_ok-insert.ensures.keys
-      (All-insert_key pair_cmp c.args.pair (λ (p : PairRecord). is_recent c.self.inside.skew c.self.inside.greatest p ≡ true) c.self.inside.pairs.keys c.self.invariant.1
+      (All-insert_key pair_cmp c.args.pair (λ (p : PairRecord). is_recent c.self.inside.skew c.self.inside.greatest p ≡ true) c.self.inside.pairs.keys c.self.invariant.2
       (late_is_recent c.self.inside.skew c.self.inside.greatest c.oldest.result c.args.pair (rw (← c.self.view_is) at c.oldest.ensures) (grind (arith, common_steps)))),
 )
 
