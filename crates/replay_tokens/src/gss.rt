@@ -12,6 +12,7 @@ use test_support::{Answer, Recorded, are_wanted, is_read_told, is_refused, is_to
 pub fn agrees(alloc: Global, recorded: &Recorded<'_>) -> Option<Answer> {
     match recorded.type_name {
         "ApplicationTag0<GssApiNegInit>" => Some(application_tag0(alloc, recorded)),
+        "ApplicationTag0<IAKerbProxyMessage<AsReq>>" => Some(proxied_token(alloc, recorded)),
         "ApplicationTag0<KrbMessage<TgtRep>>" => Some(krb_token(alloc, recorded)),
         "GssApiNegInit" => Some(gss_api_neg_init(alloc, recorded)),
         "IAKerbHeader" => Some(ia_kerb_header(alloc, recorded)),
@@ -72,6 +73,10 @@ fn krb_message(alloc: Global, recorded: &Recorded<'_>) -> Answer {
 
 fn krb_token(alloc: Global, recorded: &Recorded<'_>) -> Answer {
     is_told::<ApplicationTag0<KrbMessage<TgtRep>>>(alloc, recorded)
+}
+
+fn proxied_token(alloc: Global, recorded: &Recorded<'_>) -> Answer {
+    is_told::<ApplicationTag0<IAKerbProxyMessage<AsReq>>>(alloc, recorded)
 }
 
 fn proxied_sequence(alloc: Global, recorded: &Recorded<'_>) -> Answer {

@@ -1,6 +1,8 @@
 //! Tokens: headers, whole tokens and refusals, by the tables of RFC 4121, section 4.2.6.
 
-use picky_krb::gss_api::{MicToken, WrapToken};
+use picky_krb::from_bytes;
+use picky_krb::gss_api::{KrbMessage, MicToken, WrapToken};
+use picky_krb::messages::IAKerbHeader;
 use std::alloc::Global;
 use std::test::Fail;
 
@@ -83,5 +85,55 @@ fn refusals(rt: HostRuntime) {
     ] {
         assert_eq!(rt; mic_refusal(rt.alloc(), bytes), mic, "MIC at {bytes:?}");
         assert_eq!(rt; wrap_refusal(rt.alloc(), bytes), wrap, "wrap at {bytes:?}");
+    }
+}
+
+// A token of Kerberos (RFC 4121, section 4.1) with the id 01 00 and the INTEGER 7 as its message.
+const FIRST: &[u8] = b"\x60\x10\x06\x09\x2A\x86\x48\x86\xF7\x12\x01\x02\x02\x01\x00\x02\x01\x07";
+
+// The token with another first octet and another length, of which the content ends there.
+fn first_refusal(alloc: Global, tag: u8, length: u8) -> Result<u8, Fail> {
+    let mut bytes = Vec::from_slice(alloc, &FIRST[..usize::from(length) + 2])?;
+    bytes[0] = tag;
+    bytes[1] = length;
+    Ok(
+        match KrbMessage::<u8>::decode_application_krb_message(alloc, &bytes) {
+            Ok(_) => 0,
+            Err(fault) => fault.number(),
+        },
+    )
+}
+
+// A content that ends before the token id is an I/O error (3). Another tag, and a content that ends elsewhere, are no DER (6).
+#[test]
+fn first_tokens(rt: HostRuntime) -> Result<(), Fail> {
+    for (tag, length, number) in [
+        (0x60, 16, 0),
+        (0x61, 16, 6),
+        (0x30, 16, 6),
+        (0x60, 0, 6),
+        (0x60, 10, 6),
+        (0x60, 11, 3),
+        (0x60, 12, 3),
+        (0x60, 13, 6),
+        (0x60, 15, 6),
+    ] {
+        let refusal = first_refusal(rt.alloc(), tag, length)?;
+        assert_eq!(rt; refusal, number, "{tag} and {length}");
+    }
+    Ok(())
+}
+
+// What follows the fields of a header is ignored; what follows its SEQUENCE is refused.
+#[test]
+fn headers_of_iakerb(rt: HostRuntime) {
+    for (bytes, is_read) in [
+        (b"\x30\x05\xA1\x03\x0C\x01R".as_slice(), true),
+        (b"\x30\x09\xA1\x03\x0C\x01R\xA5\x02\x05\x00", true),
+        (b"\x30\x05\xA1\x03\x0C\x01R\x00", false),
+        (b"\x31\x05\xA1\x03\x0C\x01R", false),
+    ] {
+        let header = from_bytes::<IAKerbHeader>(rt.alloc(), bytes);
+        assert_eq!(rt; header.is_ok(), is_read, "at {bytes:?}");
     }
 }
