@@ -88,40 +88,49 @@ fn refusals(rt: HostRuntime) {
     }
 }
 
-// A token of Kerberos (RFC 4121, section 4.1) with the id 01 00 and the INTEGER 7 as its message.
-const FIRST: &[u8] = b"\x60\x10\x06\x09\x2A\x86\x48\x86\xF7\x12\x01\x02\x02\x01\x00\x02\x01\x07";
-
-// The token with another first octet and another length, of which the content ends there.
-fn first_refusal(alloc: Global, tag: u8, length: u8) -> Result<u8, Fail> {
-    let mut bytes = Vec::from_slice(alloc, &FIRST[..usize::from(length) + 2])?;
-    bytes[0] = tag;
-    bytes[1] = length;
-    Ok(
-        match KrbMessage::<u8>::decode_application_krb_message(alloc, &bytes) {
-            Ok(_) => 0,
-            Err(fault) => fault.number(),
-        },
-    )
+// The number of the fault that a first token is refused with (RFC 4121, section 4.1), or 0.
+fn first_refusal(alloc: Global, bytes: &[u8]) -> u8 {
+    match KrbMessage::<u8>::decode_application_krb_message(alloc, bytes) {
+        Ok(_) => 0,
+        Err(fault) => fault.number(),
+    }
 }
 
-// A content that ends before the token id is an I/O error (3). Another tag, and a content that ends elsewhere, are no DER (6).
+// The first token has the id 01 00 and the INTEGER 7 as its message. A content that ends before the token id is an I/O error (3).
+// Another tag, and a content that ends elsewhere, are no DER (6).
 #[test]
-fn first_tokens(rt: HostRuntime) -> Result<(), Fail> {
-    for (tag, length, number) in [
-        (0x60, 16, 0),
-        (0x61, 16, 6),
-        (0x30, 16, 6),
-        (0x60, 0, 6),
-        (0x60, 10, 6),
-        (0x60, 11, 3),
-        (0x60, 12, 3),
-        (0x60, 13, 6),
-        (0x60, 15, 6),
+fn first_tokens(rt: HostRuntime) {
+    for (bytes, number) in [
+        (
+            b"\x60\x10\x06\x09\x2A\x86\x48\x86\xF7\x12\x01\x02\x02\x01\x00\x02\x01\x07".as_slice(),
+            0,
+        ),
+        (
+            b"\x61\x10\x06\x09\x2A\x86\x48\x86\xF7\x12\x01\x02\x02\x01\x00\x02\x01\x07",
+            6,
+        ),
+        (
+            b"\x30\x10\x06\x09\x2A\x86\x48\x86\xF7\x12\x01\x02\x02\x01\x00\x02\x01\x07",
+            6,
+        ),
+        (b"\x60\x00", 6),
+        (b"\x60\x0A\x06\x09\x2A\x86\x48\x86\xF7\x12\x01\x02", 6),
+        (b"\x60\x0B\x06\x09\x2A\x86\x48\x86\xF7\x12\x01\x02\x02", 3),
+        (
+            b"\x60\x0C\x06\x09\x2A\x86\x48\x86\xF7\x12\x01\x02\x02\x01",
+            3,
+        ),
+        (
+            b"\x60\x0D\x06\x09\x2A\x86\x48\x86\xF7\x12\x01\x02\x02\x01\x00",
+            6,
+        ),
+        (
+            b"\x60\x0F\x06\x09\x2A\x86\x48\x86\xF7\x12\x01\x02\x02\x01\x00\x02\x01",
+            6,
+        ),
     ] {
-        let refusal = first_refusal(rt.alloc(), tag, length)?;
-        assert_eq!(rt; refusal, number, "{tag} and {length}");
+        assert_eq!(rt; first_refusal(rt.alloc(), bytes), number, "at {bytes:?}");
     }
-    Ok(())
 }
 
 // What follows the fields of a header is ignored; what follows its SEQUENCE is refused.
