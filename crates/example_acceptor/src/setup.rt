@@ -6,9 +6,8 @@ use devices::Watched;
 use gss_acceptor::Acceptor;
 use krb_moments::Moment;
 use krb_service::Service;
-use krb_settings::{
-    AccountSettings, RealmSettings, SETTINGS_LIMIT, Secret, explain, read_settings_file,
-};
+use krb_settings::{AccountSettings, RealmSettings, SETTINGS_LIMIT, Secret, read_settings_file};
+use krb_settings_check::explain;
 use std::env;
 use std::fs::{self, Files};
 use std::io::{self, Read};
