@@ -4,7 +4,7 @@
 # module that stand in one crate.
 cd "$(dirname "$0")/.." || exit 1
 front=crates/picky_krb/src/lib.rt
-all="$(sed -n 's/^picky_krb: //p' crates.txt) negoex_forms"
+all="$(sed -n 's/^picky_krb: //p' crates.txt) negoex_types"
 others=$(echo "$all" | tr ' ' '\n' | grep -vx krb_crypto)
 
 # One line for each item: its path, and the crate or the reason.

@@ -5,13 +5,13 @@ use Rattle.std.proofs.lemmas.List.{take-append-le, take_min}
 use Rattle.std.proofs.Math.Seq.{take-append-add, take-length}
 use Rattle.std.specs.Io.KnownBytes.{Appends}
 use Rattle.std.proofs.KnownBytes.{Appends-trans, Appends-nil}
-use Rattle.devices.specs.Counting.{one_more}
-use Rattle.devices.specs.Room.{TakenRoom, FitsRoom, IsPast}
-use Rattle.devices.specs.Faults.{TellsWholeFault}
-use Rattle.devices.specs.Whole.{after_whole_fault}
-use Rattle.devices.specs.declared.exact.WholeFault.{WholeFault}
-use Rattle.devices.specs.declared.exact.WholeFault.TheVariants as whole
-use Rattle.devices.proofs.Rooms.{taken_room-none, taken_room-join, past-after, past-more, past-whole, unbounded-after, unbounded-whole}
+use Rattle.byte_streams.specs.Counting.{one_more}
+use Rattle.byte_streams.specs.Room.{TakenRoom, FitsRoom, IsPast}
+use Rattle.byte_streams.specs.Faults.{TellsWholeFault}
+use Rattle.byte_streams.specs.Whole.{after_whole_fault}
+use Rattle.byte_streams.specs.declared.exact.WholeFault.{WholeFault}
+use Rattle.byte_streams.specs.declared.exact.WholeFault.TheVariants as whole
+use Rattle.byte_streams.proofs.Rooms.{taken_room-none, taken_room-join, past-after, past-more, past-whole, unbounded-after, unbounded-whole}
 use Rattle.asn1_der.specs.Tree.{Tree, primitive, constructed, absent, der, ders, wrapped, behind}
 use Rattle.asn1_der.specs.Length.{element, length_octets}
 use Rattle.asn1_der.proofs.Elements.{element-nonempty, element-split, length-element, length_octets-short}

@@ -3,7 +3,7 @@ use Rattle.std.specs.Prelude.{◌≡◌, ℕ, ◌+◌, ◌<◌, ◌≤◌, Bool,
 use Rattle.std.specs.Borrow.{GName}
 use Rattle.std.specs.declared.io.ErrorKind.{ErrorKind}
 use Rattle.std.specs.Io.KnownBytes.{Consumes, Keeps}
-use Rattle.devices.specs.Counting.{one_more}
+use Rattle.byte_streams.specs.Counting.{one_more}
 use Rattle.asn1_der.specs.Tree.{Tree, Trees, IsWhole, AreWhole, der, ders, Writes}
 use Rattle.asn1_der.specs.Length.{element, length_octets}
 use Rattle.asn1_der.specs.Firsts.{Firsts, may_begin}

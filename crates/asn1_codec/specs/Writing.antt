@@ -3,8 +3,8 @@ use Rattle.std.specs.Prelude.{◌≡◌, ℕ, ◌^◌, ◌≤◌, Bool, true, fa
 use Rattle.std.specs.Borrow.{GName}
 use Rattle.std.specs.declared.io.ErrorKind.{ErrorKind}
 use Rattle.std.specs.Io.KnownBytes.{Appends}
-use Rattle.devices.specs.Counting.{one_more}
-use Rattle.devices.specs.Room.{TakenRoom, IsPast, IsUnbounded}
+use Rattle.byte_streams.specs.Counting.{one_more}
+use Rattle.byte_streams.specs.Room.{TakenRoom, IsPast, IsUnbounded}
 use Rattle.asn1_der.specs.declared.error.Asn1DerError.{Asn1DerError}
 use Rattle.asn1_der.specs.declared.error.Asn1DerError.TheVariants.{InvalidSink, Memory, Other}
 use Rattle.asn1_der.specs.declared.error.Unsupported.{Unsupported}

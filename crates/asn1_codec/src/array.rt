@@ -8,7 +8,7 @@ use crate::ser::Serializer;
 use crate::tagged::{Tagged, read_sequence};
 use asn1_der::Asn1DerError;
 use asn1_der::octets::SEQUENCE;
-use devices::{Sink, Source};
+use byte_streams::{Sink, Source};
 
 /// A SEQUENCE OF (X.690, section 8.10) of exactly `N` elements. Of another count is `InvalidData`.
 impl<const N: usize, T: Deserialize + Drop> Tagged for [T; N] {

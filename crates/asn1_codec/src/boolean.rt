@@ -6,7 +6,7 @@ use crate::leaf::Leaf;
 use crate::ser::Serializer;
 use asn1_der::octets::BOOLEAN;
 use asn1_der::{Asn1DerError, Rule};
-use devices::Sink;
+use byte_streams::Sink;
 use std::alloc::{AllocError, Global};
 
 /// BOOLEAN (X.690, sections 8.2 and 11.1): `01 01 00` is false and `01 01 FF` true.

@@ -14,7 +14,7 @@ use crate::fields::Fields;
 use crate::row::Row1;
 use crate::ser::Serialize;
 use asn1_der::{Asn1DerError, Content, MOST_IN_PLACE, PeekableReader, following, length_of};
-use devices::Source;
+use byte_streams::Source;
 use std::alloc::Global;
 use std::marker::Model;
 

@@ -5,7 +5,7 @@ ghost use Rattle.asn1_der.specs.Tree.{Tree, Trees, trees_of};
 use crate::de::{Deserialize, Deserializer};
 use crate::fields::Fields;
 use asn1_der::Asn1DerError;
-use devices::Source;
+use byte_streams::Source;
 use std::marker::Model;
 
 /// The elements of a SEQUENCE OF, in their order. A contract sees the list of them.

@@ -10,7 +10,7 @@ ghost use Rattle.asn1_der.specs.Firsts.{Firsts, one_of, may_begin, either, apart
 use crate::de::{Deserialize, Deserializer};
 use crate::ser::{Serialize, Serializer};
 use asn1_der::Asn1DerError;
-use devices::{Sink, Source};
+use byte_streams::{Sink, Source};
 
 /// Fields that are written.
 pub trait WriteFields {

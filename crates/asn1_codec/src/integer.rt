@@ -8,7 +8,7 @@ ghost use Rattle.asn1_codec.specs.Unsigned.{unsigned_content, unsigned_tree, uns
 use crate::de::Deserializer;
 use crate::ser::Serializer;
 use asn1_der::Asn1DerError;
-use devices::{Sink, Source};
+use byte_streams::{Sink, Source};
 use std::marker::Model;
 
 /// Takes an INTEGER of at most `most`, under the identifier octet `tag`.

@@ -8,7 +8,7 @@ use crate::de::Deserializer;
 use crate::ser::Serializer;
 use crate::tagged::Tagged;
 use asn1_der::{Asn1DerError, Rule};
-use devices::{Sink, Source};
+use byte_streams::{Sink, Source};
 use std::alloc::{AllocError, Global};
 
 /// A primitive type, whose values are told by their content octets (X.690, section 8.1.4).

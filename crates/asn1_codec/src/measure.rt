@@ -8,7 +8,7 @@ ghost use Rattle.asn1_codec.specs.Writing.{Measured, NotMeasured};
 use crate::fields::WriteFields;
 use crate::ser::{Serialize, Serializer};
 use asn1_der::Asn1DerError;
-use devices::{Sink, SinkFault};
+use byte_streams::{Sink, SinkFault};
 
 /// A sink that keeps nothing.
 #[derive(Drop)]

@@ -6,7 +6,7 @@ use crate::leaf::Leaf;
 use crate::ser::Serializer;
 use asn1_der::octets::NULL;
 use asn1_der::{Asn1DerError, Rule};
-use devices::Sink;
+use byte_streams::Sink;
 use std::alloc::{AllocError, Global};
 
 /// NULL (X.690, section 8.8): `05 00`.

@@ -7,7 +7,7 @@ use crate::fields::{Fields, WriteFields};
 use crate::row::{Item, WriteItem};
 use crate::ser::Serializer;
 use asn1_der::Asn1DerError;
-use devices::{Sink, Source};
+use byte_streams::{Sink, Source};
 
 /// Two octets of a content that are no element, as the token id of a Kerberos message (RFC 4121, section 4.1). In a row
 /// they are a field.

@@ -3,7 +3,7 @@ ghost use Rattle.std.specs.Prelude.{◌≡◌};
 
 use crate::ser::{Serialize, Serializer};
 use asn1_der::Asn1DerError;
-use devices::Sink;
+use byte_streams::Sink;
 
 /// A value is written as it stands, and `None` as nothing. It isn't read: a field that may be missing is an
 /// [`Optional`](crate::Optional).

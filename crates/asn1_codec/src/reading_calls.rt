@@ -13,7 +13,7 @@ use crate::elements::Elements;
 use crate::fields::Fields;
 use asn1_der::octets::{OCTET_STRING, SEQUENCE, UTF8_STRING};
 use asn1_der::{Asn1DerError, Rule};
-use devices::Source;
+use byte_streams::Source;
 
 impl<R: Source> Deserializer<R> {
     /// Takes a BOOLEAN (X.690, section 8.2).

@@ -13,7 +13,7 @@ use crate::fields::{Fields, WriteFields, write_field};
 use crate::optional::Optional;
 use crate::ser::{Serialize, Serializer};
 use asn1_der::Asn1DerError;
-use devices::{Sink, Source};
+use byte_streams::{Sink, Source};
 
 /// A field that is written, in front of others.
 pub trait WriteItem {

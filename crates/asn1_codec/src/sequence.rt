@@ -5,7 +5,7 @@ ghost use Rattle.asn1_codec.specs.Sequences.{Opened};
 
 use crate::de::{Deserialize, Deserializer};
 use asn1_der::Asn1DerError;
-use devices::Source;
+use byte_streams::Source;
 use std::marker::Model;
 
 /// The content of a constructed element (X.690, section 8.9) that is read value after value.

@@ -10,7 +10,7 @@ use crate::measure::len_of;
 use crate::sequence::Sequence;
 use crate::ser::{Serialize, Serializer};
 use asn1_der::Asn1DerError;
-use devices::Sink;
+use byte_streams::Sink;
 use std::marker::Model;
 
 /// The content of a constructed element (X.690, section 8.9) that is written value after value.

@@ -11,7 +11,7 @@ ghost use Rattle.asn1_codec.specs.Sinks.{as_full};
 use crate::fields::WriteFields;
 use crate::measure::{Measure, encoded_len, fields_len, len_of};
 use asn1_der::{Asn1DerError, LengthOctets, Unsupported};
-use devices::{Sink, Space, WholeFault, write_whole};
+use byte_streams::{Sink, Space, WholeFault, write_whole};
 use std::alloc::Global;
 use std::marker::Model;
 

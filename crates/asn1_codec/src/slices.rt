@@ -7,7 +7,7 @@ ghost use Rattle.asn1_codec.specs.Refusals.{refusal_of_list};
 use crate::fields::WriteFields;
 use crate::ser::{Serialize, Serializer};
 use asn1_der::Asn1DerError;
-use devices::Sink;
+use byte_streams::Sink;
 
 impl<'a, T: Serialize> WriteFields for &'a [T] {
     ghost trees = { λ items. trees_of T.tree items.now };

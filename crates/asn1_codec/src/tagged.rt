@@ -10,7 +10,7 @@ use crate::de::{Deserialize, Deserializer};
 use crate::fields::Fields;
 use crate::ser::{Serialize, Serializer};
 use asn1_der::Asn1DerError;
-use devices::{Sink, Source};
+use byte_streams::{Sink, Source};
 
 /// A type whose values have the identifier octet `FIRST`, and are read and written under any other too.
 ///

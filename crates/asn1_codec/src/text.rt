@@ -8,7 +8,7 @@ use crate::leaf::Leaf;
 use crate::ser::{Serialize, Serializer};
 use asn1_der::octets::UTF8_STRING;
 use asn1_der::{Asn1DerError, Rule};
-use devices::Sink;
+use byte_streams::Sink;
 use std::alloc::{AllocError, Global};
 use std::str;
 

@@ -11,7 +11,7 @@ use crate::ser::Serializer;
 use crate::tagged::{Tagged, read_sequence};
 use asn1_der::Asn1DerError;
 use asn1_der::octets::SEQUENCE;
-use devices::{Sink, Source};
+use byte_streams::{Sink, Source};
 
 impl<A: Deserialize + Drop> Tagged for (A,) {
     ghost use Rattle.std.proofs.Common.{refl, true, None, Some};

@@ -11,7 +11,7 @@ use crate::ser::Serializer;
 use crate::tagged::Tagged;
 use asn1_der::Asn1DerError;
 use asn1_der::octets::INTEGER;
-use devices::{Sink, Source};
+use byte_streams::{Sink, Source};
 
 impl Tagged for u8 {
     ghost use Rattle.std.specs.Prelude.{◌^◌};

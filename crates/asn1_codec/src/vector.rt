@@ -9,7 +9,7 @@ use crate::ser::Serializer;
 use crate::tagged::{Tagged, read_sequence};
 use asn1_der::Asn1DerError;
 use asn1_der::octets::SEQUENCE;
-use devices::{Sink, Source};
+use byte_streams::{Sink, Source};
 
 /// A SEQUENCE OF (X.690, section 8.10). Two vectors of the same elements have one spelling, whatever memory they hold.
 impl<T: Deserialize + Drop> Tagged for Vec<T> {

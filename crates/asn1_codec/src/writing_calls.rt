@@ -14,7 +14,7 @@ use crate::integer::write_unsigned;
 use crate::ser::{Serialize, Serializer};
 use asn1_der::octets::{INTEGER, NULL, OCTET_STRING, SEQUENCE, UTF8_STRING};
 use asn1_der::{Asn1DerError, Unsupported};
-use devices::Sink;
+use byte_streams::Sink;
 
 /// The types that are written.
 impl<W: Sink> Serializer<W> {

@@ -3,7 +3,7 @@ ghost use Rattle.asn1_copies.specs.Copied.{equal};
 
 use crate::Copies;
 use gss_message_tokens::{LsapTokenInfoIntegrity, LsapTokenInfoIntegrityError};
-use negoex_forms::{MessageHeader, MessageType, NegoexError};
+use negoex_types::{MessageHeader, MessageType, NegoexError};
 use pac_layouts::{PacBufferType, PacInfoBuffer};
 
 impl Copies for LsapTokenInfoIntegrity {

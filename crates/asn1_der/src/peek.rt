@@ -1,9 +1,9 @@
 //! A source whose next octet can be looked at.
 ghost use Rattle.std.specs.Prelude.{◌≡◌, ℕ, ◌<◌, ◌≤◌, List, [], ◌∷◌, length, take, true, false, is_some, Some, IfOk, IfErr, MatchOption, MatchResult};
 ghost use Rattle.std.specs.Io.KnownBytes.{Keeps, Consumes, IsAtEnd};
-ghost use Rattle.devices.specs.Counting.{one_more, CountsRead};
+ghost use Rattle.byte_streams.specs.Counting.{one_more, CountsRead};
 
-use devices::{Source, read_full};
+use byte_streams::{Source, read_full};
 use std::io::ErrorKind;
 
 /// A source whose next octet can be looked at before it is read.

@@ -1,3 +1,4 @@
 pub mod Peeks
 pub mod Splits
 pub mod Streams
+mod PathLemmas

@@ -6,3 +6,4 @@ pub mod Peeking
 pub mod Raw
 pub mod Splits
 pub mod Streams
+pub mod PathLaws

@@ -3,7 +3,7 @@ use Rattle.std.specs.Prelude.{◌≡◌, ℕ, List, [], ◌∷◌, Option, Some,
 use Rattle.std.specs.Borrow.{GName}
 use Rattle.std.specs.declared.io.ErrorKind.{ErrorKind}
 use Rattle.std.specs.Io.KnownBytes.{prepend_known}
-use Rattle.devices.specs.Counting.{one_more}
+use Rattle.byte_streams.specs.Counting.{one_more}
 use Rattle.asn1_der.specs.declared.error.Asn1DerError.{Asn1DerError}
 use Rattle.asn1_der.specs.declared.error.Asn1DerError.TheVariants.{Other}
 

@@ -8,9 +8,11 @@ ghost use Rattle.std.specs.Prelude.{◌≡◌};
 
 mod element;
 pub mod misc;
+mod part;
 mod tag;
 mod tag_peeker;
 
 pub use element::{Element, split_element};
+pub use part::part_at;
 pub use tag::{Tag, TagClass};
 pub use tag_peeker::TagPeeker;

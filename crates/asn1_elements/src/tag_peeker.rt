@@ -5,7 +5,7 @@ ghost use Rattle.asn1_codec.specs.Reading.{TookNone, Refused, HasOctets};
 use crate::tag::Tag;
 use asn1_codec::Deserializer;
 use asn1_der::Asn1DerError;
-use devices::Source;
+use byte_streams::Source;
 
 /// The tag of what comes next, which stays unread.
 #[derive(Clone, Copy, Debug, PartialEq, Eq)]

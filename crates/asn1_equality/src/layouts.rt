@@ -5,15 +5,15 @@ ghost use Rattle.asn1_equality.specs.Equalities.{fields, both, last, bare};
 ghost use Rattle.asn1_equality.specs.contracts.faults.ErrorKindEquality.TheImpl.Laws.{is_equality-law as error_kind};
 ghost use Rattle.gss_message_tokens.specs.contracts.integrity.LsapTokenInfoIntegrity.{the_type as integrity_type};
 ghost use Rattle.gss_message_tokens.specs.contracts.integrity.LsapTokenInfoIntegrityError.{the_type as integrity_error_type};
-ghost use Rattle.negoex_forms.specs.contracts.error.NegoexError.{the_type as negoex_error_type};
-ghost use Rattle.negoex_forms.specs.contracts.header.MessageHeader.{the_type as header_type};
-ghost use Rattle.negoex_forms.specs.contracts.message_type.MessageType.{the_type as message_type_type};
+ghost use Rattle.negoex_types.specs.contracts.error.NegoexError.{the_type as negoex_error_type};
+ghost use Rattle.negoex_types.specs.contracts.header.MessageHeader.{the_type as header_type};
+ghost use Rattle.negoex_types.specs.contracts.message_type.MessageType.{the_type as message_type_type};
 ghost use Rattle.pac_layouts.specs.contracts.info.PacInfoBuffer.{the_type as info_type};
 ghost use Rattle.pac_layouts.specs.contracts.kind.PacBufferType.{the_type as kind_type};
 
 use crate::Equality;
 use gss_message_tokens::{LsapTokenInfoIntegrity, LsapTokenInfoIntegrityError};
-use negoex_forms::{MessageHeader, MessageType, NegoexError};
+use negoex_types::{MessageHeader, MessageType, NegoexError};
 use pac_layouts::{PacBufferType, PacInfoBuffer};
 
 impl Equality for LsapTokenInfoIntegrity {

@@ -5,7 +5,7 @@ ghost use Rattle.asn1_equality.specs.contracts.leaves.BitStringAsn1Equality.TheI
 ghost use Rattle.asn1_equality.specs.contracts.leaves.ObjectIdentifierAsn1Equality.TheImpl.Laws.{is_equality-law as oid};
 
 use crate::Equality;
-use x509_usages::{ExtendedKeyUsage, KeyUsage};
+use x509_extensions::{ExtendedKeyUsage, KeyUsage};
 
 impl Equality for KeyUsage {
     ghost is_equality = { told_by (λ v. v.0) bits (λ v w e i. record { 0 = e i }) };

@@ -3,11 +3,11 @@ use Rattle.std.specs.Prelude.{◌≡◌, ◌⊎◌, ℕ, List, Option, Some, Mat
 use Rattle.std.specs.Io.KnownBytes.{IsAtEnd}
 use Rattle.std.specs.declared.io.ErrorKind.{ErrorKind}
 use Rattle.std.specs.declared.io.ErrorKind.TheVariants.{WriteZero, OutOfMemory, UnexpectedEof}
-use Rattle.devices.specs.Counting.{one_more}
-use Rattle.devices.specs.Whole.{after_whole_fault}
-use Rattle.devices.specs.Faults.{TellsWholeFault}
-use Rattle.devices.specs.declared.exact.WholeFault.{WholeFault}
-use Rattle.devices.specs.declared.exact.WholeFault.TheVariants as whole_fault
+use Rattle.byte_streams.specs.Counting.{one_more}
+use Rattle.byte_streams.specs.Whole.{after_whole_fault}
+use Rattle.byte_streams.specs.Faults.{TellsWholeFault}
+use Rattle.byte_streams.specs.declared.exact.WholeFault.{WholeFault}
+use Rattle.byte_streams.specs.declared.exact.WholeFault.TheVariants as whole_fault
 
 -- the device came to its end and no call failed, or it failed with this kind of fault and counted it
 abbrev pub IsStop : ℕ → ℕ → Option ErrorKind → Option ErrorKind → Type 0

@@ -3,7 +3,7 @@ ghost use Rattle.std.specs.Prelude.{◌≡◌, ℕ, ◌<◌, ◌≤◌, List, le
 ghost use Rattle.std.specs.Io.KnownBytes.{Consumes, IsAtEnd};
 ghost use Rattle.byte_layouts.specs.Stops.{IsStop};
 
-use devices::Source;
+use byte_streams::Source;
 use std::alloc::{AllocError, Global};
 use std::io::ErrorKind;
 

@@ -1,10 +1,10 @@
-//! Writing bytes to their places, and to devices.
+//! Writing bytes to their places, and to byte_streams.
 ghost use Rattle.std.specs.Prelude.{◌≡◌, ℕ, ◌+◌, ◌≤◌, length, take, MatchResult};
 ghost use Rattle.std.specs.Io.KnownBytes.{Appends};
 ghost use Rattle.byte_layouts.specs.Parts.{part, put};
 ghost use Rattle.byte_layouts.specs.Stops.{stop_kind, IsWriteStop};
 
-use devices::{Sink, WholeFault, write_whole};
+use byte_streams::{Sink, WholeFault, write_whole};
 use std::io::ErrorKind;
 
 /// Writes `content` to `place`, and leaves all else as it is.

@@ -5,10 +5,10 @@ use Rattle.asn1_der.specs.Length.{element}
 use Rattle.asn1_der.specs.Tree.{der}
 use Rattle.asn1_elements.specs.Parts.{IsPart}
 use Rattle.asn1_elements.specs.PartLaws.{part-one}
-use Rattle.asn1_paths.specs.PathLaws.{part_there}
-use Rattle.cms_signed_data.specs.CertificateSpelled.TheImpl as certificate
-use Rattle.cms_signed_data.specs.contracts.content_info.ContentInfoSpelled.TheImpl as content_info
-use Rattle.cms_signed_data.specs.Parts.{content_place, certificate_place, attributes_place, digest_place, signature_place, parts_held}
+use Rattle.asn1_elements.specs.PathLaws.{part_there}
+use Rattle.cms_types.specs.CertificateSpelled.TheImpl as certificate
+use Rattle.cms_types.specs.contracts.content_info.ContentInfoSpelled.TheImpl as content_info
+use Rattle.cms_types.specs.Parts.{content_place, certificate_place, attributes_place, digest_place, signature_place, parts_held}
 use Rattle.cms_signed_content.specs.declared.fault.SignedFault.{SignedFault}
 use Rattle.cms_signed_content.specs.declared.fault.SignedFault.TheVariants.{Memory}
 use Rattle.cms_signed_content.specs.SignedParts.{SignedParts, content_of, digest_of, signature_of, attributes_tree}

@@ -4,21 +4,21 @@ use Rattle.sha2.specs.Sha256.{sha256}
 use Rattle.asn1_der.specs.Tree.{Tree, der}
 use Rattle.asn1_der.specs.Tagged.{tagged_tree}
 use Rattle.asn1_elements.specs.Parts.{IsPart}
-use Rattle.cms_signed_data.specs.CertificateSpelled.TheImpl as certificate
-use Rattle.cms_signed_data.specs.Certificate.{Certificate}
+use Rattle.cms_types.specs.CertificateSpelled.TheImpl as certificate
+use Rattle.cms_types.specs.Certificate.{Certificate}
 use Rattle.x509_oids.specs.Identifiers as oids
 use Rattle.x509_parts.specs.RawParameters.{null}
 use Rattle.x509_parts.specs.declared.raw_algorithm_identifier.RawAlgorithmIdentifier.{RawAlgorithmIdentifier}
 use Rattle.key_functions.specs.declared.functions.Signed.{Signed}
-use Rattle.cms_signed_data.specs.contracts.content_info.ContentInfoSpelled.TheImpl as content_info
-use Rattle.cms_signed_data.specs.contracts.signer_info.IssuerAndSerialNumberTagged.TheImpl as id_impl
-use Rattle.cms_signed_data.specs.declared.content_info.ContentInfo.{ContentInfo}
-use Rattle.cms_signed_data.specs.declared.encapsulated_content_info.EncapsulatedContentInfo.{EncapsulatedContentInfo}
-use Rattle.cms_signed_data.specs.declared.signed_attributes.SignedAttributes.{SignedAttributes}
-use Rattle.cms_signed_data.specs.declared.signed_data.SignedData.{SignedData}
-use Rattle.cms_signed_data.specs.declared.signer_info.IssuerAndSerialNumber.{IssuerAndSerialNumber}
-use Rattle.cms_signed_data.specs.declared.signer_info.SignerInfo.{SignerInfo}
-use Rattle.cms_signed_data.specs.Parts.{certificate_place}
+use Rattle.cms_types.specs.contracts.content_info.ContentInfoSpelled.TheImpl as content_info
+use Rattle.cms_types.specs.contracts.signer_info.IssuerAndSerialNumberTagged.TheImpl as id_impl
+use Rattle.cms_types.specs.declared.content_info.ContentInfo.{ContentInfo}
+use Rattle.cms_types.specs.declared.encapsulated_content_info.EncapsulatedContentInfo.{EncapsulatedContentInfo}
+use Rattle.cms_types.specs.declared.signed_attributes.SignedAttributes.{SignedAttributes}
+use Rattle.cms_types.specs.declared.signed_data.SignedData.{SignedData}
+use Rattle.cms_types.specs.declared.signer_info.IssuerAndSerialNumber.{IssuerAndSerialNumber}
+use Rattle.cms_types.specs.declared.signer_info.SignerInfo.{SignerInfo}
+use Rattle.cms_types.specs.Parts.{certificate_place}
 use Rattle.cms_signed_content.specs.SignedParts.{as_set, attributes_tree}
 use Rattle.asn1_der.specs.Octets.{sequence_octet}
 

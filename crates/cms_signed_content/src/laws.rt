@@ -4,7 +4,7 @@ ghost use Rattle.asn1_der.specs.Length.{element};
 ghost use Rattle.asn1_der.specs.Tree.{der};
 ghost use Rattle.asn1_elements.specs.Parts.{IsPart};
 ghost use Rattle.key_functions.specs.declared.functions.Signed.{Signed};
-ghost use Rattle.cms_signed_data.specs.Parts.{content_place, digest_place, signature_place};
+ghost use Rattle.cms_types.specs.Parts.{content_place, digest_place, signature_place};
 ghost use Rattle.cms_signed_content.specs.SignedContents.{IsSignedContent, Reads};
 ghost use Rattle.cms_signed_content.specs.WrittenLaws.{written_parts};
 ghost use Rattle.cms_signed_content.specs.SignedParts.{SignedParts, content_of, digest_of, signature_of, attributes_tree};
@@ -12,7 +12,7 @@ ghost use Rattle.cms_signed_content.specs.Written.{IsWritten};
 ghost use Rattle.asn1_der.specs.Octets.{octet_string_octet};
 
 use crate::fault::SignedFault;
-use cms_signed_data::Certificate;
+use cms_types::Certificate;
 use x509_spelling::Spelled;
 
 /// Bytes are one signed content at most, with one certificate and one list of signed attributes. It does nothing when it runs: its

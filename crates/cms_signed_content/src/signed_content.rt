@@ -8,7 +8,7 @@ use crate::around::info_around;
 use crate::fault::SignedFault;
 use crate::slices::Slices;
 use crate::written_parts::{attribute_bytes, signer_bytes, signer_id};
-use cms_signed_data::{AlgorithmIdentifier, ContentInfo, Name, OfForm};
+use cms_types::{AlgorithmIdentifier, ContentInfo, Name, OfForm};
 use key_functions::KeyFunctions;
 use picky_asn1::oid::ObjectIdentifier;
 use picky_asn1::wrapper::IntegerAsn1;

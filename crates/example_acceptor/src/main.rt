@@ -13,7 +13,7 @@ mod frame;
 mod server;
 mod setup;
 
-use devices::Watched;
+use byte_streams::Watched;
 use std::io::BufReader;
 use std::process::ExitCode;
 

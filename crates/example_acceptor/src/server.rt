@@ -3,11 +3,11 @@
 use crate::answer::{CONTEXT, CONTEXT_NEXT, NOOP, answer_of, is_set};
 use crate::frame::{Frame, read_frame, write_frame};
 use anyhow::{Context as _, bail};
-use devices::{Sink, Source, read_full};
+use byte_streams::{Sink, Source, read_full};
 use gss_acceptor::{Accepted, Acceptor, Continuation, Established, Negotiation};
 use gss_contexts::Context;
-use krb_kdc::after_epoch;
-use krb_moments::Moment;
+use krb_program::after_epoch;
+use krb_time::Moment;
 use std::alloc::Global;
 use std::time::{Clock, SystemTime, UNIX_EPOCH};
 

@@ -2,9 +2,9 @@
 
 use crate::server::{Server, Time};
 use anyhow::{Context, bail};
-use devices::Watched;
+use byte_streams::Watched;
 use gss_acceptor::Acceptor;
-use krb_moments::Moment;
+use krb_time::Moment;
 use krb_service::Service;
 use krb_settings::{AccountSettings, RealmSettings, SETTINGS_LIMIT, Secret, read_settings_file};
 use krb_settings_check::explain;

@@ -4,7 +4,7 @@ use crate::toy_keys::ToyKeys;
 use crate::{HOST, REALM, SUITE, USER, name_of, random_bytes, use_ticket};
 use krb_realm::{Anchor, Client, Realm, Settings, SignatureAlgorithm};
 use picky_asn1_der::Asn1RawDer;
-use results::if_passed;
+use result_pairs::if_passed;
 use std::alloc::Global;
 use x509_algorithms::AlgorithmIdentifier;
 

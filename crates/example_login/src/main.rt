@@ -15,7 +15,7 @@ use krb_realm::{
     Service, Settings,
 };
 use replies::print_reply;
-use results::if_passed;
+use result_pairs::if_passed;
 use std::alloc::Global;
 use std::random::RandomSource;
 use stored_run::answer_kinit;

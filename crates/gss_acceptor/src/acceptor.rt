@@ -11,7 +11,7 @@ use crate::negotiation::{Offer, read_offer};
 use crate::refusal::AcceptRefusal;
 use crate::response::read_response;
 use crate::token::ap_req_in;
-use krb_moments::Moment;
+use krb_time::Moment;
 use krb_service::Service;
 use std::alloc::Global;
 use std::marker::Model;

@@ -1,7 +1,7 @@
 //! What the GSS-API puts in front of a first token.
 ghost use Rattle.std.specs.Prelude.{◌≡◌};
 
-use devices::{Sink, Source};
+use byte_streams::{Sink, Source};
 use picky_asn1_der::{Asn1DerError, Deserializer, Serializer, Tagged};
 
 /// A value under the constructed application tag 0 in place of its own (RFC 2743, section 3.1): what the value holds stands right

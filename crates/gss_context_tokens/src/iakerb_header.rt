@@ -8,7 +8,7 @@ ghost use Rattle.asn1_der.specs.Octets.{sequence_octet};
 
 use crate::front::{split_optional, split_value};
 use asn1_der::octets::SEQUENCE;
-use devices::{Sink, Source};
+use byte_streams::{Sink, Source};
 use picky_asn1::wrapper::{BitStringAsn1, OctetStringAsn1, Utf8StringAsn1};
 use picky_asn1_der::{
     Asn1DerError, Deserialize, Deserializer, ExplicitContextTag1, ExplicitContextTag2,

@@ -11,7 +11,7 @@ use crate::application_tag0::ApplicationTag0;
 use crate::content::{front_value, mechanism_of, split_id, whole_value};
 use crate::iakerb_header::IAKerbHeader;
 use crate::writing::{TokenSequence, put_out, put_value, sequence_of, token_of, told};
-use devices::Sink;
+use byte_streams::Sink;
 use gss_message_tokens::GssApiMessageError;
 use krb_constants::gss_api::IAKERB_PROXY_TOKEN_ID;
 use picky_asn1::wrapper::ObjectIdentifierAsn1;

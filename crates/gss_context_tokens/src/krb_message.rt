@@ -9,7 +9,7 @@ use crate::application_tag0::ApplicationTag0;
 use crate::content::{mechanism_of, split_id, whole_value};
 use crate::writing::{TokenSequence, put_out, put_value, sequence_of, token_of, told};
 use asn1_der::octets::SEQUENCE;
-use devices::{Sink, Source};
+use byte_streams::{Sink, Source};
 use gss_message_tokens::GssApiMessageError;
 use picky_asn1::wrapper::ObjectIdentifierAsn1;
 use picky_asn1_der::{

@@ -6,7 +6,7 @@ ghost use Rattle.asn1_codec.specs.Refusals.{refusal_of};
 use crate::iakerb_header::{IAKerbHeader, IAKerbHeaderRow};
 use crate::iakerb_proxy_message::{IAKerbProxyMessage, check_id};
 use asn1_der::octets::{OBJECT_IDENTIFIER, SEQUENCE};
-use devices::{Sink, Source};
+use byte_streams::{Sink, Source};
 use krb_constants::gss_api::IAKERB_PROXY_TOKEN_ID;
 use picky_asn1_der::{
     Asn1DerError, Deserialize, Deserializer, Fields, Leaf, OctetPair, Row4, Rule, Serialize,

@@ -9,7 +9,7 @@ ghost use Rattle.gss_context_tokens.specs.Refusals as faults;
 
 use crate::content::{TOKEN, token_fault};
 use byte_layouts::write_bytes;
-use devices::Sink;
+use byte_streams::Sink;
 use gss_message_tokens::GssApiMessageError;
 use picky_asn1::wrapper::{ObjectIdentifierAsn1, OctetStringAsn1};
 use picky_asn1_der::{Retagged, Serialize, to_byte_buf, to_vec};

@@ -5,7 +5,7 @@ use Rattle.std.proofs.KnownBytes.{Consumes-trans}
 use Rattle.std.specs.Io.KnownBytes.{Consumes, IsAtEnd}
 use Rattle.std.specs.declared.io.ErrorKind.{ErrorKind}
 use Rattle.std.specs.declared.io.ErrorKind.TheVariants.{UnexpectedEof}
-use Rattle.devices.specs.Counting.{one_more}
+use Rattle.byte_streams.specs.Counting.{one_more}
 use Rattle.byte_layouts.specs.Stops.{IsStop, FailedAtMostOnce}
 use Rattle.byte_layouts.proofs.StopLaws.{stopped-once, short-stop}
 use Rattle.gss_message_tokens.specs.declared.kind.TokenKind.{TokenKind}

@@ -1,15 +1,15 @@
--- The faults of tokens, and what of devices they tell.
+-- The faults of tokens, and what of byte_streams they tell.
 use Rattle.std.specs.Prelude.{◌≡◌, ℕ, List, Option, Some, ◌⊎◌}
 use Rattle.std.specs.Io.KnownBytes.{Consumes}
 use Rattle.std.specs.declared.io.ErrorKind.{ErrorKind}
 use Rattle.std.specs.declared.io.ErrorKind.TheVariants.{WriteZero, OutOfMemory}
 use Rattle.asn1_der.specs.declared.error.Asn1DerError.{Asn1DerError}
 use Rattle.asn1_der.specs.declared.error.Asn1DerError.TheVariants as der
-use Rattle.devices.specs.declared.exact.WholeFault.{WholeFault}
-use Rattle.devices.specs.declared.exact.WholeFault.TheVariants as whole
-use Rattle.devices.specs.Counting.{one_more}
-use Rattle.devices.specs.Whole.{after_whole_fault}
-use Rattle.devices.specs.Faults.{TellsWholeFault}
+use Rattle.byte_streams.specs.declared.exact.WholeFault.{WholeFault}
+use Rattle.byte_streams.specs.declared.exact.WholeFault.TheVariants as whole
+use Rattle.byte_streams.specs.Counting.{one_more}
+use Rattle.byte_streams.specs.Whole.{after_whole_fault}
+use Rattle.byte_streams.specs.Faults.{TellsWholeFault}
 use Rattle.gss_message_tokens.specs.declared.error.GssApiMessageError.{GssApiMessageError}
 use Rattle.gss_message_tokens.specs.declared.error.GssApiMessageError.TheVariants.{InvalidId, InvalidMechanismOid, IoError, InvalidMicFiller, InvalidWrapFiller, Asn1Error, Memory}
 

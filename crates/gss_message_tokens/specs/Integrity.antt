@@ -2,7 +2,7 @@
 use Rattle.std.specs.Prelude.{◌≡◌, ℕ, ◌<◌, ◌^◌, List, [], ◌∷◌, length, take, drop, Option, Some, IfSome, ◌⊎◌}
 use Rattle.std.specs.declared.io.ErrorKind.{ErrorKind}
 use Rattle.std.specs.declared.io.ErrorKind.TheVariants.{UnexpectedEof}
-use Rattle.devices.specs.Counting.{one_more}
+use Rattle.byte_streams.specs.Counting.{one_more}
 use Rattle.byte_layouts.specs.Parts.{Part, part, IsLaidOut}
 use Rattle.byte_layouts.specs.Numbers.{le32, le32_at}
 use Rattle.gss_message_tokens.specs.declared.integrity.LsapTokenInfoIntegrity.{LsapTokenInfoIntegrity}

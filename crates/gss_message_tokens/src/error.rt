@@ -3,7 +3,7 @@ ghost use Rattle.std.specs.Prelude.{◌≡◌};
 ghost use Rattle.gss_message_tokens.specs.Faults.{of_whole_fault};
 
 use asn1_der::Asn1DerError;
-use devices::WholeFault;
+use byte_streams::WholeFault;
 use std::alloc::AllocError;
 use std::io;
 use std::io::ErrorKind;

@@ -1,11 +1,11 @@
 //! The record of a process's integrity level (MS-KILE, section 2.2.5).
 ghost use Rattle.std.specs.Prelude.{◌≡◌, ℕ, List, take, Some, IfOk, IfSome, MatchResult};
 ghost use Rattle.std.specs.Io.KnownBytes.{Consumes, Appends};
-ghost use Rattle.devices.specs.Counting.{one_more};
+ghost use Rattle.byte_streams.specs.Counting.{one_more};
 ghost use Rattle.byte_layouts.specs.Stops.{IsWriteStop};
 
 use byte_layouts::{array_at, put_at, u32_le, u32_le_bytes, write_bytes};
-use devices::{Sink, Source, read_full};
+use byte_streams::{Sink, Source, read_full};
 use std::io;
 use std::io::ErrorKind;
 use thiserror::Error;

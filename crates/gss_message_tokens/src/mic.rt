@@ -10,7 +10,7 @@ use crate::error::GssApiMessageError;
 use crate::kind::{HEADER_LEN, MIC_FILLER, TokenKind, id};
 use crate::token::{read_token, write_token};
 use byte_layouts::{put_at, u64_be, u64_be_bytes};
-use devices::{Sink, Source};
+use byte_streams::{Sink, Source};
 use std::alloc::{AllocError, Global};
 
 /// What `GSS_GetMIC` makes: a checksum over a payload that travels elsewhere, with a sequence number.

@@ -9,7 +9,7 @@ ghost use Rattle.gss_message_tokens.specs.Refusals.{IsRefusal, TellsRead};
 use crate::error::{GssApiMessageError, write_fault};
 use crate::kind::{HEADER_LEN, TokenKind, judge};
 use byte_layouts::{read_front, read_to_stop};
-use devices::{Sink, Source, write_whole};
+use byte_streams::{Sink, Source, write_whole};
 use std::alloc::Global;
 use std::io::ErrorKind;
 

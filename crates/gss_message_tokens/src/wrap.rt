@@ -10,7 +10,7 @@ use crate::error::GssApiMessageError;
 use crate::kind::{HEADER_LEN, TokenKind, WRAP_FILLER, id};
 use crate::token::{read_token, write_token};
 use byte_layouts::{put_at, u16_be, u16_be_bytes, u64_be, u64_be_bytes};
-use devices::{Sink, Source};
+use byte_streams::{Sink, Source};
 use std::alloc::{AllocError, Global};
 
 /// What `GSS_Wrap` makes: a payload, sealed or with a checksum, behind a sequence number.

@@ -1,5 +1,5 @@
 //! An AP request, or the reply to it.
-use devices::{Sink, Source};
+use byte_streams::{Sink, Source};
 use krb_messages::messages::{ApRep, ApReq};
 use picky_asn1_der::{
     Alternatives, Asn1DerError, Choice, Deserialize, Deserializer, Last, Serialize, Serializer,

@@ -14,7 +14,7 @@ use crate::header::{HEADER_LEN, VERSION, read_header};
 use crate::part::{part_bytes, read_part};
 use asn1_codec::{Deserialize, FromDer, Serialize};
 use byte_layouts::{u16_be_bytes, write_bytes};
-use devices::{Sink, Source};
+use byte_streams::{Sink, Source};
 use std::alloc::{AllocError, Global};
 use std::io::ErrorKind;
 

@@ -8,7 +8,7 @@ ghost use Rattle.kpasswd_messages.specs.Frames.{IsHeader};
 ghost use Rattle.kpasswd_messages.specs.Reading.{HasOtherVersion, IsHeaderRefusal, TellsRead};
 
 use byte_layouts::{read_front, u16_be};
-use devices::Source;
+use byte_streams::Source;
 use std::io::ErrorKind;
 
 pub(crate) const HEADER_LEN: usize = 6;

@@ -2,7 +2,7 @@
 ghost use Rattle.asn1_der.specs.Octets.{sequence_octet};
 
 use asn1_der::octets::SEQUENCE;
-use devices::{Sink, Source};
+use byte_streams::{Sink, Source};
 use krb_constants::types::KRB_PRIV;
 use krb_types::data_types::EncryptedData;
 use picky_asn1::wrapper::IntegerAsn1;

@@ -9,7 +9,7 @@ ghost use Rattle.kpasswd_messages.specs.Reading.{der_kind, IsExcuse, TellsRead};
 ghost use Rattle.kpasswd_messages.specs.Writing.{IsUnwritten, write_kind};
 
 use asn1_codec::{Asn1DerError, FromDer, Serialize, from_reader, to_vec};
-use devices::Source;
+use byte_streams::Source;
 use std::alloc::Global;
 use std::io::ErrorKind;
 

@@ -16,8 +16,8 @@ use Rattle.std.specs.FinMap.{find, from_entries, get, get-from_entries, get-inse
 use Rattle.std.proofs.lemmas.List.Elements.{All-head, All-tail}
 use Rattle.std.proofs.lemmas.Map.Views.{All-keys-insert_entry, All-map-remove_entry}
 use Rattle.picky_asn1.specs.Bytes.{Bytes}
-use Rattle.krb_packed_names.specs.Packed.{fit, fit_behind, fit_in, packed, text_fits, unpacked, unpacked-packed}
-use Rattle.krb_packed_names.proofs.Packing.{packed_cmp}
+use Rattle.krb_accounts.specs.Packed.{fit, fit_behind, fit_in, packed, text_fits, unpacked, unpacked-packed}
+use Rattle.krb_accounts.proofs.Packing.{packed_cmp}
 use Rattle.krb_accounts.specs.Account.{AccountRecord}
 use Rattle.krb_crypto.specs.declared.suite.CipherSuite.{CipherSuite}
 use Rattle.krb_crypto.specs.Suites.{cipher_key_size}

@@ -6,7 +6,7 @@ use Rattle.std.specs.Ordering.{nat_cmp}
 use Rattle.std.specs.Cmp.Lexicographic.{slice_cmp}
 use Rattle.std.specs.declared.cmp.Ordering.{Ordering}
 use Rattle.picky_asn1.specs.Bytes.{Bytes}
-use Rattle.krb_packed_names.specs.Packed.{fit, packed, unpacked}
+use Rattle.krb_accounts.specs.Packed.{fit, packed, unpacked}
 use Rattle.krb_accounts.specs.Account.{AccountRecord}
 
 -- the block of a name, for which there is room

@@ -5,3 +5,4 @@ pub mod Names
 pub mod Passwords
 pub mod Refusal
 pub mod Settings
+pub mod Packed

@@ -1,6 +1,6 @@
 -- A realm's settings: clock skew (RFC 4120, sections 1.6, 5.9.1) and the greatest lifetime of a ticket (RFC 4120, section 3.1.3).
 use Rattle.std.specs.Prelude.{◌≤◌}
-use Rattle.krb_moments.specs.Units.{Seconds}
+use Rattle.krb_time.specs.Units.{Seconds}
 
 pub record SettingsRecord : Type 0 where
   pub skew : Seconds

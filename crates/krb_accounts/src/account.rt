@@ -5,7 +5,7 @@ ghost use Rattle.krb_crypto.specs.Suites.{cipher_key_size};
 ghost use Rattle.krb_accounts.specs.Passwords.{password_account};
 ghost use Rattle.krb_accounts.specs.declared.refusal.RealmRefusal.{RealmRefusal};
 
-use crate::RealmRefusal;
+use crate::refusal::RealmRefusal;
 use krb_crypto::{CipherSuite, KerberosCryptoError, Key};
 use picky_asn1::wrapper::OctetStringAsn1;
 use std::alloc::Global;

@@ -4,11 +4,11 @@ ghost use Rattle.std.specs.Option.{option_copied};
 ghost use Rattle.std.specs.FinMap as finite;
 ghost use Rattle.krb_accounts.specs.Names.{parts};
 
-use crate::account::key_of;
-use crate::{Account, RealmRefusal};
+use crate::account::{Account, key_of};
+use crate::refusal::RealmRefusal;
 use arrayvec::ArrayVec;
 use krb_crypto::{CipherSuite, Key};
-use krb_packed_names::{BLOCK_ROOM, pack_within};
+use crate::packed::{BLOCK_ROOM, pack_within};
 use picky_asn1::wrapper::GeneralStringAsn1;
 use std::alloc::Global;
 use std::collections::BTreeMap;
@@ -207,7 +207,7 @@ impl Accounts {
 }
 
 ghost use Rattle.std.specs.BTreeMap.{IsUnchanged, UpdatesBy, get_by, keys};
-ghost use Rattle.krb_packed_names.specs.Packed.{fit_in, packed};
+ghost use Rattle.krb_accounts.specs.Packed.{fit_in, packed};
 ghost use Rattle.krb_accounts.specs.Account.{AccountRecord};
 ghost use Rattle.krb_accounts.specs.Accounts.{rekeyed};
 ghost use Rattle.krb_accounts.specs.Entries.{AreBlocks, IsBlock, block_cmp, cmp_blocks};

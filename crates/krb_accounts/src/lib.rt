@@ -4,6 +4,7 @@
 mod account;
 mod accounts;
 mod names;
+mod packed;
 mod passwords;
 mod refusal;
 mod settings;
@@ -11,6 +12,7 @@ mod settings;
 pub use account::Account;
 pub use accounts::Accounts;
 pub use names::{are_components, components_of, is_realm_name, realm_name_of};
+pub use packed::{BLOCK_ROOM, pack, pack_within};
 pub use passwords::password_salt;
 pub use refusal::RealmRefusal;
 pub use settings::Settings;

@@ -3,7 +3,7 @@ ghost use Rattle.std.specs.Prelude.{◌≡◌, ◌↔◌, ◌⊎◌, IfOk, IfErr
 ghost use Rattle.std.specs.List.{list_all};
 ghost use Rattle.krb_accounts.specs.Names.{AreComponents, IsRealmName, are_components, is_realm_name, parts};
 
-use crate::RealmRefusal;
+use crate::refusal::RealmRefusal;
 use picky_asn1::wrapper::GeneralStringAsn1;
 use std::alloc::{AllocError, Global};
 

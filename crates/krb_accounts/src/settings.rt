@@ -3,7 +3,7 @@ ghost use Rattle.std.specs.Prelude.{◌≡◌, ◌≤◌, IfErr};
 ghost use Rattle.std.specs.Result.{OkIff};
 ghost use Rattle.krb_accounts.specs.Settings.{IsSkew, IsLifetime};
 
-use crate::RealmRefusal;
+use crate::refusal::RealmRefusal;
 use std::marker::Model;
 
 /// The most seconds by which clocks may be allowed to differ: a day.

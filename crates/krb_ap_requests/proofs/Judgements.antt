@@ -12,7 +12,7 @@ use Rattle.krb_messages.specs.declared.messages.ap_req.ApReqInner.{ApReqInner}
 use Rattle.krb_encrypted_data.specs.Keys.{suite_of}
 use Rattle.picky_asn1.specs.Numbers.{is_number}
 use Rattle.decision_tables.specs.Tables.{Table, and_then, done, need, refuse}
-use Rattle.krb_moments.specs.Times.{moment_at}
+use Rattle.krb_time.specs.Times.{moment_at}
 use Rattle.decision_tables.proofs.Outcomes.{HasOutcome, has_asked, has_done, has_needed, has_refused, has_then}
 use Rattle.krb_ap_requests.specs.ApTable.{for_service, ap_fields, authenticated, is_early, is_late, is_of_client, opened, opened_part, presented, presented_with, timely, authenticator_time, valid_authenticator, valid_part}
 use Rattle.krb_ap_requests.specs.ApTable as rows

@@ -9,8 +9,8 @@ use Rattle.krb_encrypted_data.specs.Keys.{suite_of}
 use Rattle.krb_types.specs.Names.{components, is_same_name, is_same_realm}
 use Rattle.krb_constants.specs.declared.ap_options.TheConstants.{MUTUAL_REQUIRED, USE_SESSION_KEY}
 use Rattle.picky_asn1.specs.Numbers.{is_number}
-use Rattle.krb_moments.specs.Times.{moment_at}
-use Rattle.krb_moments.specs.Units.{Micros}
+use Rattle.krb_time.specs.Times.{moment_at}
+use Rattle.krb_time.specs.Units.{Micros}
 use Rattle.krb_ap_requests.specs.ApTable.{is_early, is_late, is_of_client}
 use Rattle.krb_ap_requests.specs.Entry.{EntryRecord}
 use Rattle.krb_ap_requests.specs.Presents.{Choice}

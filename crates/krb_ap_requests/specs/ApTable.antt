@@ -20,9 +20,9 @@ use Rattle.krb_constants.specs.declared.ticket_flags.TheConstants.{INVALID}
 use Rattle.picky_asn1.specs.Numbers.{is_number}
 use Rattle.picky_asn1.specs.Bytes.{Bytes}
 use Rattle.decision_tables.specs.Tables.{Table, done, ask, and_then, need, refuse}
-use Rattle.krb_moments.specs.Skew.{is_before}
-use Rattle.krb_moments.specs.Times.{moment_at}
-use Rattle.krb_moments.specs.Units.{Micros, Seconds}
+use Rattle.krb_time.specs.Skew.{is_before}
+use Rattle.krb_time.specs.Times.{moment_at}
+use Rattle.krb_time.specs.Units.{Micros, Seconds}
 use Rattle.krb_ap_requests.specs.Entry.{EntryRecord}
 use Rattle.krb_ap_requests.specs.Messages.{IsAuthenticator, IsTicketPart, sole_authenticator, sole_ticket_part}
 use Rattle.krb_ap_requests.specs.declared.presented.Authenticated.{Authenticated}

@@ -1,6 +1,6 @@
 -- What bytes present to a service (RFC 4120, section 3.2.3).
 use Rattle.std.specs.Prelude.{Result, Ok, Err}
-use Rattle.krb_moments.specs.Units.{Micros}
+use Rattle.krb_time.specs.Units.{Micros}
 use Rattle.picky_asn1.specs.Bytes.{Bytes}
 use Rattle.krb_messages.specs.declared.messages.ap_req.ApReqInner.{ApReqInner}
 use Rattle.krb_ap_requests.specs.ApTable.{presented}

@@ -14,7 +14,7 @@ use krb_constants::{ap_options, error_codes, key_usages, ticket_flags};
 use krb_crypto::{CipherSuite, Key};
 use krb_encrypted_data::key_of;
 use krb_messages::messages::ApReqInner;
-use krb_moments::{Moment, moment_at};
+use krb_time::{Moment, moment_at};
 use krb_types::data_types::{
     AuthenticatorInner, EncTicketPartInner, EncryptedData, EncryptionKey, TicketInner,
 };
@@ -22,7 +22,7 @@ use krb_types::{Refusal, is_same_name, is_same_realm};
 use picky_asn1::date::GeneralizedTime;
 use picky_asn1::is_number;
 use picky_asn1::wrapper::GeneralStringAsn1;
-use results::if_passed;
+use result_pairs::if_passed;
 use std::alloc::Global;
 
 // The ticket of a request (RFC 4120, section 5.5.1).

@@ -1,6 +1,6 @@
 //! What a request presents.
 use krb_crypto::CipherSuite;
-use krb_moments::Moment;
+use krb_time::Moment;
 use krb_types::data_types::{AuthenticatorInner, EncTicketPartInner};
 
 /// An authenticator that was opened (RFC 4120, section 5.5.1).

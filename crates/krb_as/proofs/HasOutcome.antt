@@ -1,7 +1,7 @@
 -- The table of AS requests has an outcome: each part of it has one.
 use Rattle.std.proofs.Common.{◌≡◌, ◌<◌, ℕ, ◌^◌, Bool, true, false, not, List, length, Option, None, Some, Result, Ok, Err, refl, sym, subst, inl, inr}
 use Rattle.picky_asn1.specs.Numbers.{is_number}
-use Rattle.krb_moments.specs.Skew.{is_far}
+use Rattle.krb_time.specs.Skew.{is_far}
 use Rattle.krb_crypto.specs.declared.suite.CipherSuite.{CipherSuite}
 use Rattle.krb_accounts.specs.Account.{AccountRecord}
 use Rattle.krb_types.specs.Names.{is_same_realm}
@@ -13,8 +13,8 @@ use Rattle.krb_messages.specs.declared.messages.kdc_req.KdcReq.{KdcReq}
 use Rattle.krb_messages.specs.declared.messages.kdc_req_body.KdcReqBody.{KdcReqBody}
 use Rattle.decision_tables.specs.Tables.{Table, and_then, ask, done, need, refuse}
 use Rattle.decision_tables.proofs.Outcomes.{HasOutcome, has_asked, has_done, has_needed, has_refused, has_then}
-use Rattle.krb_preauth.specs.Padata.{first_of}
-use Rattle.krb_preauth.specs.EncryptedTimestamps.{IsEncryptedTimestamp, moment_of, sole_encrypted_timestamp}
+use Rattle.krb_tickets.specs.Padata.{first_of}
+use Rattle.krb_tickets.specs.EncryptedTimestamps.{IsEncryptedTimestamp, moment_of, sole_encrypted_timestamp}
 use Rattle.krb_tickets.specs.declared.reply.Exchange.TheVariants.{As}
 use Rattle.aes_cts.specs.Bytes.{IsBytes}
 use Rattle.krb_crypto.specs.Suites.{cipher_key_size}
@@ -23,7 +23,7 @@ use Rattle.krb_tickets.specs.ReplyKeys.{ReplyKeyRecord, agreed_reply_key, as_rep
 use Rattle.krb_tickets.specs.declared.reply.Exchange.{Exchange}
 use Rattle.krb_crypto.specs.AgreedKeys.{agreed_key}
 use Rattle.krb_crypto.proofs.AgreedKeyLemmas.{agreed_key-sized, agreed_key-bytes}
-use Rattle.krb_pkinit.specs.Rows.{PkinitRows}
+use Rattle.pkinit_interface.specs.Rows.{PkinitRows}
 use Rattle.krb_as.specs.AsTable.{as_table, authenticated, authenticated_by, is_later, is_listed, possible, timestamped}
 use Rattle.krb_kdc_requests.specs.Call.{CallRecord, pkinit_call, skew_of}
 use Rattle.krb_kdc_requests.specs.Calls.{IsCall, IsKeyed}

@@ -8,7 +8,7 @@ use Rattle.krb_types.specs.Refusals.{IsJudged}
 use Rattle.krb_types.specs.declared.refusal.Refusal.{Refusal}
 use Rattle.krb_types.specs.declared.refusal.Refusal.TheVariants.{Krb, Memory}
 use Rattle.decision_tables.specs.Tables.{Table, and_then}
-use Rattle.krb_pkinit.specs.Rows.{PkinitRows}
+use Rattle.pkinit_interface.specs.Rows.{PkinitRows}
 use Rattle.krb_types.specs.Names.{components}
 use Rattle.krb_tickets.specs.ReplyKeys.{ReplyKeyRecord}
 use Rattle.krb_as.specs.AsTable.{as_table, authenticated, possible}

@@ -5,7 +5,7 @@ use Rattle.std.specs.Option.{option_map_or}
 use Rattle.picky_asn1.specs.GeneralizedTime.{seconds_of}
 use Rattle.picky_asn1.specs.Numbers.{is_number}
 use Rattle.picky_asn1.specs.Bytes.{Bytes}
-use Rattle.krb_moments.specs.Skew.{is_before, is_far}
+use Rattle.krb_time.specs.Skew.{is_before, is_far}
 use Rattle.krb_crypto.specs.declared.suite.CipherSuite.{CipherSuite}
 use Rattle.krb_crypto.specs.Suites.{cipher_number}
 use Rattle.krb_accounts.specs.Account.{AccountRecord}
@@ -16,11 +16,11 @@ use Rattle.krb_constants.specs.declared.error_codes.TheConstants.{KDC_ERR_C_PRIN
 use Rattle.krb_messages.specs.declared.messages.kdc_req.KdcReq.{KdcReq}
 use Rattle.krb_messages.specs.declared.messages.kdc_req_body.KdcReqBody.{KdcReqBody}
 use Rattle.decision_tables.specs.Tables.{Table, and_then, ask, done, need, refuse}
-use Rattle.krb_preauth.specs.Padata.{first_of}
-use Rattle.krb_preauth.specs.EncryptedTimestamps.{IsEncryptedTimestamp, moment_of, sole_encrypted_timestamp}
+use Rattle.krb_tickets.specs.Padata.{first_of}
+use Rattle.krb_tickets.specs.EncryptedTimestamps.{IsEncryptedTimestamp, moment_of, sole_encrypted_timestamp}
 use Rattle.krb_tickets.specs.ReplyKeys.{ReplyKeyRecord, agreed_reply_key, as_reply_key}
 use Rattle.krb_crypto.specs.AgreedKeys.{agreed_key}
-use Rattle.krb_pkinit.specs.Rows.{PkinitRows}
+use Rattle.pkinit_interface.specs.Rows.{PkinitRows}
 use Rattle.krb_kdc_requests.specs.Call.{CallRecord, pkinit_call, skew_of}
 use Rattle.krb_as.specs.Grants.{granted}
 use Rattle.krb_kdc_requests.specs.Requests.{body_of, client_of, header_rows, lasting, padata_in, service_of}

@@ -12,7 +12,7 @@ use krb_constants::error_codes;
 use krb_constants::types::AS_REQ_MSG_TYPE;
 use krb_kdc_requests::{Call, check_header, client_of, service_of};
 use krb_messages::messages::KdcReq;
-use krb_pkinit::Pkinit;
+use pkinit_interface::Pkinit;
 use krb_types::Refusal;
 use std::alloc::Global;
 

@@ -5,7 +5,7 @@ use Rattle.krb_messages.specs.declared.messages.enc_kdc_rep_part.EncKdcRepPart.{
 use Rattle.krb_messages.specs.declared.messages.kdc_rep.KdcRep.{KdcRep}
 use Rattle.decision_tables.specs.One.{IsSole}
 use Rattle.decision_tables.specs.Tables.{Table, ask, done, refuse}
-use Rattle.krb_asked.specs.Asked.{AsAskedRecord}
+use Rattle.krb_client.specs.Asked.{AsAskedRecord}
 use Rattle.krb_client.specs.AsReply.{IsAsPart, sole_as_part, takes_sealed}
 use Rattle.krb_client.specs.Client.{ClientRecord}
 use Rattle.krb_client.specs.Messages.{IsErrorCode, sole_error_code}

@@ -1,7 +1,7 @@
 -- The request to a service (RFC 4120, section 3.2.2).
 use Rattle.std.specs.Prelude.{◌≡◌, Bool, Option, None, Some, if◌then◌else◌}
 use Rattle.std.specs.Option.{option_map}
-use Rattle.krb_moments.specs.Units.{Micros}
+use Rattle.krb_time.specs.Units.{Micros}
 use Rattle.picky_asn1.specs.Bytes.{Bytes}
 use Rattle.krb_crypto.specs.declared.suite.CipherSuite.{CipherSuite}
 use Rattle.krb_crypto.specs.Sealing.{seed_key_of}
@@ -9,7 +9,7 @@ use Rattle.krb_crypto.specs.Suites.{cipher_confounder_size, cipher_seed_size}
 use Rattle.krb_types.specs.declared.data_types.authenticator.AuthenticatorInner.{AuthenticatorInner}
 use Rattle.krb_types.specs.declared.data_types.encryption_key.EncryptionKey.{EncryptionKey}
 use Rattle.krb_types.specs.RandomBytes.{Random, authenticator_confounder, subkey_seed}
-use Rattle.krb_asked.specs.Asked.{ApAskedRecord}
+use Rattle.krb_client.specs.Asked.{ApAskedRecord}
 use Rattle.krb_client.specs.Authenticators.{IsApRequest, IsAuthenticatorOf, sole_presented, sole_authenticator_of}
 use Rattle.krb_client.specs.Client.{ClientRecord, CredentialRecord}
 use Rattle.krb_encrypted_data.specs.Sealing.{encryption_key}

@@ -10,7 +10,7 @@ use Rattle.krb_messages.specs.Messages.{IsAsRep, enc_as_rep_part-injective, enc_
 use Rattle.krb_encrypted_data.specs.Sealed.{IsSealedIn, sole_sealed}
 use Rattle.decision_tables.specs.One.{IsSole}
 use Rattle.decision_tables.specs.Tables.{Table, and_then, ask, done, refuse}
-use Rattle.krb_asked.specs.Asked.{AsAskedRecord}
+use Rattle.krb_client.specs.Asked.{AsAskedRecord}
 use Rattle.krb_client.specs.Client.{ClientRecord}
 use Rattle.krb_client.specs.Means.{MeansRecord}
 use Rattle.krb_client.specs.Taking.{IsTgsPart, Taken, is_of_type, sole_tgs_part, takes_message, takes_part}

@@ -1,7 +1,7 @@
 -- The request for a first ticket (RFC 4120, sections 3.1.1, 5.4.1), with the padata by which the client authenticates itself.
 use Rattle.std.specs.Prelude.{◌≡◌, ◌⊎◌, false, true, List}
 use Rattle.std.proofs.Common.{ap, sym, ◌∙◌}
-use Rattle.krb_moments.specs.Units.{Micros}
+use Rattle.krb_time.specs.Units.{Micros}
 use Rattle.picky_asn1.specs.Bytes.{Bytes}
 use Rattle.asn1_leaves.specs.declared.date.GeneralizedTime.{GeneralizedTime}
 use Rattle.krb_types.specs.declared.data_types.pa_data.PaData.{PaData}
@@ -9,7 +9,7 @@ use Rattle.krb_types.specs.RandomBytes.{Random}
 use Rattle.krb_messages.specs.declared.messages.kdc_req.KdcReq.{KdcReq}
 use Rattle.krb_messages.specs.declared.messages.kdc_req_body.KdcReqBody.{KdcReqBody}
 use Rattle.krb_accounts.specs.Names.{are_components}
-use Rattle.krb_asked.specs.Asked.{AsAskedRecord, agreement_part}
+use Rattle.krb_client.specs.Asked.{AsAskedRecord, agreement_part}
 use Rattle.krb_client.specs.Client.{ClientRecord}
 use Rattle.krb_client.specs.Means.{IsUnshown, MeansRecord}
 use Rattle.krb_client.specs.Messages.{as_request_bytes}

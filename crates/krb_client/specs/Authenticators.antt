@@ -3,7 +3,7 @@
 use Rattle.std.specs.Prelude.{◌≡◌, ℕ, ◌%◌, Bool, [], ◌∷◌, Option, None, pos, if◌then◌else◌}
 use Rattle.std.specs.Option.{option_map}
 use Rattle.std.proofs.Common.{ap, subst, sym, ◌∙◌}
-use Rattle.krb_moments.specs.Units.{Micros}
+use Rattle.krb_time.specs.Units.{Micros}
 use Rattle.picky_asn1.specs.BitString.{Bits}
 use Rattle.picky_asn1.specs.Bytes.{Bytes}
 use Rattle.asn1_leaves.specs.declared.date.GeneralizedTime.{GeneralizedTime}
@@ -16,7 +16,7 @@ use Rattle.krb_messages.specs.declared.messages.ap_req.ApReqInner.{ApReqInner}
 use Rattle.krb_client.specs.Client.{ClientRecord, CredentialRecord}
 use Rattle.krb_client.specs.declared.authenticator.AuthenticatorParts.{AuthenticatorParts}
 use Rattle.krb_client.specs.Held.{principal_name}
-use Rattle.krb_moments.specs.SecondOf.{IsSecondOf, sole_second}
+use Rattle.krb_time.specs.SecondOf.{IsSecondOf, sole_second}
 use Rattle.krb_client.specs.Messages.{ap_request_bytes, authenticator_bytes}
 use Rattle.krb_encrypted_data.specs.Sealing.{Seals, sole_seals}
 

@@ -2,8 +2,8 @@
 -- padata (RFC 4120, section 5.2.7.2), and the reply is encrypted under it (section 3.1.3).
 use Rattle.std.specs.Prelude.{◌≡◌, ◌%◌, None, Some, Ok, pos}
 use Rattle.std.proofs.Common.{ap, subst, sym, ◌∙◌}
-use Rattle.krb_moments.specs.SecondOf.{IsSecondOf, sole_second}
-use Rattle.krb_moments.specs.Units.{Micros}
+use Rattle.krb_time.specs.SecondOf.{IsSecondOf, sole_second}
+use Rattle.krb_time.specs.Units.{Micros}
 use Rattle.picky_asn1.specs.Bytes.{Bytes}
 use Rattle.asn1_leaves.specs.declared.date.GeneralizedTime.{GeneralizedTime}
 use Rattle.krb_crypto.specs.Suites.{cipher_confounder_size}

@@ -14,3 +14,5 @@ pub mod Taking
 pub mod AsReply
 pub mod TgsReply
 pub mod ApReply
+pub mod Asked
+pub mod Answers

@@ -1,6 +1,6 @@
 -- How a client authenticates itself in an AS exchange (RFC 4120, section 3.1.1; RFC 4556, section 3.1).
 use Rattle.std.specs.Prelude.{◌≡◌, ◌⊎◌, Result}
-use Rattle.krb_moments.specs.Units.{Micros}
+use Rattle.krb_time.specs.Units.{Micros}
 use Rattle.krb_crypto.specs.Keys.{KeyRecord}
 use Rattle.krb_types.specs.RandomBytes.{Random}
 use Rattle.krb_types.specs.declared.data_types.pa_data.PaData.{PaData}
@@ -8,7 +8,7 @@ use Rattle.krb_messages.specs.declared.messages.kdc_rep.KdcRep.{KdcRep}
 use Rattle.krb_messages.specs.declared.messages.kdc_req_body.KdcReqBody.{KdcReqBody}
 use Rattle.decision_tables.specs.One.{IsSole}
 use Rattle.decision_tables.specs.Tables.{Table}
-use Rattle.krb_asked.specs.Asked.{AsAskedRecord}
+use Rattle.krb_client.specs.Asked.{AsAskedRecord}
 use Rattle.krb_client.specs.Client.{ClientRecord}
 use Rattle.krb_client.specs.declared.refusal.AskRefusal.{AskRefusal}
 use Rattle.krb_client.specs.declared.refusal.AskRefusal.TheVariants.{Memory, NoKeyFunction}

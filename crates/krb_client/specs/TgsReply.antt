@@ -4,7 +4,7 @@ use Rattle.picky_asn1.specs.Bytes.{Bytes}
 use Rattle.krb_messages.specs.declared.messages.kdc_rep.KdcRep.{KdcRep}
 use Rattle.krb_messages.specs.Messages.{IsTgsRep, sole_tgs_rep}
 use Rattle.decision_tables.specs.Tables.{Table, ask, done, refuse}
-use Rattle.krb_asked.specs.Asked.{TgsAskedRecord}
+use Rattle.krb_client.specs.Asked.{TgsAskedRecord}
 use Rattle.krb_client.specs.Client.{ClientRecord}
 use Rattle.krb_client.specs.Taking.{IsTgsPart, Taken, is_of_type, sole_tgs_part, takes_message, takes_part}
 use Rattle.krb_client.specs.declared.refusal.TakeRefusal.TheVariants.{NotSealed, Unreadable}

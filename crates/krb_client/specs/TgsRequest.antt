@@ -2,7 +2,7 @@
 -- its preauthentication data.
 use Rattle.std.specs.Prelude.{◌≡◌, ℕ, false, List, None, Some, pos}
 use Rattle.std.proofs.Common.{ap, sym, ◌∙◌}
-use Rattle.krb_moments.specs.Units.{Micros}
+use Rattle.krb_time.specs.Units.{Micros}
 use Rattle.picky_asn1.specs.Bytes.{Bytes}
 use Rattle.asn1_leaves.specs.declared.date.GeneralizedTime.{GeneralizedTime}
 use Rattle.krb_crypto.specs.Sealing.{checksum_of}
@@ -11,7 +11,7 @@ use Rattle.krb_types.specs.declared.data_types.authenticator.AuthenticatorInner.
 use Rattle.krb_types.specs.declared.data_types.checksum.Checksum.{Checksum}
 use Rattle.krb_types.specs.RandomBytes.{Random, authenticator_confounder}
 use Rattle.krb_messages.specs.declared.messages.kdc_req.KdcReq.{KdcReq}
-use Rattle.krb_asked.specs.Asked.{TgsAskedRecord}
+use Rattle.krb_client.specs.Asked.{TgsAskedRecord}
 use Rattle.krb_client.specs.Authenticators.{IsApRequest, IsAuthenticatorOf, sole_presented, sole_authenticator_of}
 use Rattle.krb_client.specs.Client.{ClientRecord, CredentialRecord}
 use Rattle.krb_client.specs.Messages.{request_body_bytes, tgs_request_bytes}

@@ -5,11 +5,12 @@ ghost use Rattle.krb_client.specs.Refusals.{IsTaken};
 
 use crate::read::{open_ap_part, read_ap_reply, read_error_code};
 use crate::taking::is_of_type;
-use crate::{Client, TakeRefusal};
-use krb_asked::ApAsked;
+use crate::client::Client;
+use crate::refusal::TakeRefusal;
+use crate::asked::ApAsked;
 use krb_constants::types::AP_REP_MSG_TYPE;
 use krb_messages::messages::ApRepInner;
-use krb_moments::Moment;
+use krb_time::Moment;
 use krb_types::data_types::EncApRepPartInner;
 use picky_asn1::is_number;
 use std::alloc::Global;

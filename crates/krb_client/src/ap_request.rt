@@ -5,12 +5,14 @@ ghost use Rattle.krb_client.specs.ApRequest.{AsksAp, ap_asked, chosen_subkey};
 ghost use Rattle.krb_encrypted_data.specs.Sealing.{encryption_key};
 
 use crate::authenticator::ap_request;
-use crate::{AskRefusal, Client, Credential};
-use krb_asked::ApAsked;
+use crate::refusal::AskRefusal;
+use crate::client::Client;
+use crate::credential::Credential;
+use crate::asked::ApAsked;
 use krb_constants::key_usages;
 use krb_crypto::CipherSuite;
 use krb_encrypted_data::{confounder_at, encryption_key, key_at};
-use krb_moments::Moment;
+use krb_time::Moment;
 use krb_types::data_types::EncryptionKey;
 use krb_types::random_bytes::{AUTHENTICATOR_CONFOUNDER, SUBKEY_SEED};
 use picky_asn1::wrapper::OctetStringAsn1;

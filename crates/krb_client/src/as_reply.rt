@@ -4,8 +4,11 @@ ghost use Rattle.krb_client.specs.Refusals.{IsTaken};
 
 use crate::read::{open_as_part, open_tgs_part, read_as_reply, read_error_code};
 use crate::taking::is_of_type;
-use crate::{Client, Credential, Means, TakeRefusal};
-use krb_asked::AsAsked;
+use crate::client::Client;
+use crate::credential::Credential;
+use crate::means::Means;
+use crate::refusal::TakeRefusal;
+use crate::asked::AsAsked;
 use krb_constants::key_usages;
 use krb_constants::types::AS_REP_MSG_TYPE;
 use krb_crypto::Key;

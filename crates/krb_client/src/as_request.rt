@@ -6,12 +6,14 @@ ghost use Rattle.krb_client.specs.Means.{IsUnshown};
 ghost use Rattle.krb_client.specs.Messages.{as_request_bytes};
 
 use crate::kdc_request::{kdc_request_of, nonce_of};
-use crate::{AskRefusal, Client, Means};
+use crate::refusal::AskRefusal;
+use crate::client::Client;
+use crate::means::Means;
 use krb_accounts::{are_components, components_of};
-use krb_asked::AsAsked;
+use crate::asked::AsAsked;
 use krb_constants::types::AS_REQ_MSG_TYPE;
 use krb_messages::messages::{KdcReq, KdcReqBody};
-use krb_moments::Moment;
+use krb_time::Moment;
 use krb_types::data_types::PaData;
 use picky_asn1::date::GeneralizedTime;
 use picky_asn1::wrapper::GeneralStringAsn1;

@@ -7,18 +7,19 @@ ghost use Rattle.krb_client.specs.Messages.{ap_request_bytes, authenticator_byte
 
 use crate::copies::ticket_copy;
 use crate::names::principal_name;
-use crate::{Client, Credential};
+use crate::client::Client;
+use crate::credential::Credential;
 use krb_constants::types::{AP_REQ_MSG_TYPE, AUTHENTICATOR_TYPE, KERBEROS_VERSION, NT_PRINCIPAL};
 use krb_encrypted_data::sealed_data;
 use krb_messages::messages::ApReqInner;
-use krb_moments::Moment;
+use krb_time::Moment;
 use krb_types::data_types::{
     ApOptions, AuthenticatorInner, Checksum, EncryptedData, EncryptionKey, PrincipalName, Ticket,
 };
 use picky_asn1::date::GeneralizedTime;
 use picky_asn1::wrapper::{BitStringAsn1, GeneralStringAsn1, GeneralizedTimeAsn1, IntegerAsn1};
 use picky_asn1_der::{ExplicitContextTag, Optional, tagged_encoding};
-use results::both;
+use result_pairs::both;
 use std::alloc::{AllocError, Global};
 
 /// The option `mutual-required`, bit 2, in the first of the options' octets (RFC 4120, section 5.5.1).

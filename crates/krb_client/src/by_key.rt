@@ -6,14 +6,16 @@ ghost use Rattle.krb_client.specs.EncryptedTimestamps.{IsSealedTime, IsPaEncTime
 ghost use Rattle.krb_crypto.specs.Suites.{cipher_confounder_size};
 
 use crate::kdc_request::pa_data_of;
-use crate::{AskRefusal, Client, Means, TakeRefusal};
-use krb_asked::AsAsked;
+use crate::refusal::{AskRefusal, TakeRefusal};
+use crate::client::Client;
+use crate::means::Means;
+use crate::asked::AsAsked;
 use krb_constants::key_usages;
 use krb_constants::padata_types::PA_ENC_TIMESTAMP;
 use krb_crypto::Key;
 use krb_encrypted_data::{confounder_at, sealed_data};
 use krb_messages::messages::{KdcRep, KdcReqBody};
-use krb_moments::Moment;
+use krb_time::Moment;
 use krb_types::data_types::{EncryptedData, PaData, PaEncTsEnc};
 use krb_types::random_bytes::TIMESTAMP_CONFOUNDER;
 use picky_asn1::date::GeneralizedTime;

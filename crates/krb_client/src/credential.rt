@@ -8,7 +8,7 @@ use krb_crypto::{CipherSuite, Key};
 use krb_messages::messages::{EncKdcRepPart, KdcRep};
 use krb_types::data_types::{PrincipalName, Ticket};
 use picky_asn1::wrapper::GeneralStringAsn1;
-use results::both;
+use result_pairs::both;
 use std::alloc::AllocError;
 use std::marker::Model;
 

@@ -3,7 +3,7 @@ ghost use Rattle.std.specs.Prelude.{◌≡◌, ◌≤◌, [], ◌∷◌, length,
 ghost use Rattle.krb_crypto.specs.Suites.{cipher_number};
 ghost use Rattle.krb_client.specs.Requests.{pa_data_of, name_where, no_options, nonce_of, request_body, kdc_request_of};
 
-use crate::Client;
+use crate::client::Client;
 use crate::names::principal_name;
 use krb_constants::types::{KERBEROS_VERSION, NT_PRINCIPAL, NT_SRV_INST};
 use krb_messages::messages::{KdcReq, KdcReqBody};
@@ -15,7 +15,7 @@ use picky_asn1::wrapper::{
     OctetStringAsn1,
 };
 use picky_asn1_der::{ExplicitContextTag, ExplicitContextTag1, Optional};
-use results::both;
+use result_pairs::both;
 use std::alloc::{AllocError, Global};
 
 /// A nonce has 31 bits, so that it is positive for every reader (RFC 4120, section 5.4.1).

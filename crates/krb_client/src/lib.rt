@@ -3,10 +3,13 @@
 //! one such means, `ByKey`.
 #![tactic(auto)]
 
+mod agreement;
+mod answer;
 mod ap_reply;
 mod ap_request;
 mod as_reply;
 mod as_request;
+mod asked;
 mod authenticator;
 mod by_key;
 mod client;
@@ -21,9 +24,11 @@ mod taking;
 mod tgs_reply;
 mod tgs_request;
 
+pub use agreement::agreement_part;
+pub use answer::is_answer;
+pub use asked::{ApAsked, AsAsked, TgsAsked};
 pub use by_key::ByKey;
 pub use client::Client;
 pub use credential::Credential;
-pub use krb_asked::{ApAsked, AsAsked, TgsAsked};
 pub use means::Means;
 pub use refusal::{AskRefusal, TakeRefusal};

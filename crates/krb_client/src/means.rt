@@ -2,11 +2,12 @@
 ghost use Rattle.std.specs.Prelude.{◌≤◌, length, IfErr, IfOk};
 ghost use Rattle.krb_client.specs.Refusals.{IsTaken};
 
-use crate::{AskRefusal, Client, TakeRefusal};
-use krb_asked::AsAsked;
+use crate::refusal::{AskRefusal, TakeRefusal};
+use crate::client::Client;
+use crate::asked::AsAsked;
 use krb_crypto::Key;
 use krb_messages::messages::{KdcRep, KdcReqBody};
-use krb_moments::Moment;
+use krb_time::Moment;
 use krb_types::data_types::PaData;
 use std::alloc::Global;
 

@@ -8,7 +8,7 @@ ghost use Rattle.krb_client.specs.AsReply.{IsAsPart};
 ghost use Rattle.krb_client.specs.Messages.{IsErrorCode};
 ghost use Rattle.krb_client.specs.Taking.{IsTgsPart};
 
-use krb_asked::ApAsked;
+use crate::asked::ApAsked;
 use krb_constants::key_usages;
 use krb_crypto::Key;
 use krb_encrypted_data::{open_sealed, read_whole};

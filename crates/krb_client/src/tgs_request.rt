@@ -8,22 +8,24 @@ ghost use Rattle.krb_client.specs.TgsRequest.{AsksTgs, Authenticates, checksum_o
 
 use crate::authenticator::ap_request;
 use crate::kdc_request::{kdc_request_of, nonce_of, pa_data_of};
-use crate::{AskRefusal, Client, Credential};
+use crate::refusal::AskRefusal;
+use crate::client::Client;
+use crate::credential::Credential;
 use krb_accounts::{are_components, components_of};
-use krb_asked::TgsAsked;
+use crate::asked::TgsAsked;
 use krb_constants::key_usages;
 use krb_constants::padata_types::PA_TGS_REQ;
 use krb_constants::types::TGS_REQ_MSG_TYPE;
 use krb_crypto::Cipher;
 use krb_encrypted_data::confounder_at;
 use krb_messages::messages::{KdcReq, KdcReqBody};
-use krb_moments::Moment;
+use krb_time::Moment;
 use krb_types::data_types::Checksum;
 use krb_types::random_bytes::AUTHENTICATOR_CONFOUNDER;
 use picky_asn1::date::GeneralizedTime;
 use picky_asn1::wrapper::{GeneralStringAsn1, IntegerAsn1, OctetStringAsn1};
 use picky_asn1_der::{ExplicitContextTag, encoding_of, tagged_encoding};
-use results::both;
+use result_pairs::both;
 use std::alloc::{AllocError, Global};
 
 impl Client {

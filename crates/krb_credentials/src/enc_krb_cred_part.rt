@@ -3,7 +3,7 @@ ghost use Rattle.asn1_der.specs.Octets.{sequence_octet};
 
 use crate::krb_cred_info::KrbCredInfo;
 use asn1_der::octets::SEQUENCE;
-use devices::{Sink, Source};
+use byte_streams::{Sink, Source};
 use krb_constants::types::ENC_KRB_CRED_PART_TYPE;
 use krb_types::data_types::{HostAddress, KerberosTime, Microseconds};
 use picky_asn1::wrapper::{Asn1SequenceOf, IntegerAsn1};

@@ -2,7 +2,7 @@
 ghost use Rattle.asn1_der.specs.Octets.{sequence_octet};
 
 use asn1_der::octets::SEQUENCE;
-use devices::{Sink, Source};
+use byte_streams::{Sink, Source};
 use krb_constants::types::KRB_CRED_MSG_TYPE;
 use krb_types::data_types::{EncryptedData, Ticket};
 use picky_asn1::wrapper::{Asn1SequenceOf, IntegerAsn1};

@@ -2,7 +2,7 @@
 use Rattle.std.specs.Prelude.{◌≡◌, ℕ, ◌-◌, ◌^◌, ◌<◌, ◌≤◌, ◌⊎◌, min, List, [], ◌∷◌, ◌++◌, length, take, drop, map, Option, Some, None, Result, Ok, Err, MatchResult, ⊤}
 use Rattle.std.specs.Iterator.{Yields, YieldsThen}
 use Rattle.std.specs.List.{concat}
-use Rattle.krb_moments.specs.Units.{Micros}
+use Rattle.krb_time.specs.Units.{Micros}
 use Rattle.krb_frames.specs.declared.fault.ServeFault.{ServeFault}
 use Rattle.krb_frames.specs.declared.fault.ServeFault.TheVariants.{Truncated, FrameTooLong, NoRequest, Read, Write, NoWords, NoMoment, ReplyTooLong, Memory}
 use Rattle.krb_frames.specs.Frames.{Ended, Bad, Whole, announced, frame_room, front_of, framed}

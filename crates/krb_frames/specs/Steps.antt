@@ -1,8 +1,8 @@
--- What one step of serving does to its devices.
+-- What one step of serving does to its byte_streams.
 use Rattle.std.specs.Prelude.{◌≡◌, ◌⊎◌, ℕ, ◌<◌, ◌≤◌, List, [], ◌++◌, length, take, drop, Option, Some, None, ⊤}
 use Rattle.std.specs.Io.KnownBytes.{Appends, Keeps}
-use Rattle.krb_moments.specs.Units.{Micros}
-use Rattle.devices.specs.Counting.{one_more}
+use Rattle.krb_time.specs.Units.{Micros}
+use Rattle.byte_streams.specs.Counting.{one_more}
 use Rattle.krb_frames.specs.declared.fault.ServeFault.{ServeFault}
 use Rattle.krb_frames.specs.declared.fault.ServeFault.TheVariants.{Truncated, FrameTooLong, NoRequest, Read, Write, NoWords, ReplyTooLong, Memory}
 use Rattle.krb_frames.specs.Frames.{Bad, announced, frame_room, front_of, framed}

@@ -8,8 +8,8 @@ ghost use Rattle.krb_frames.specs.Steps.{IsFilled, IsTaken, IsBroken, IsMessageF
 
 use crate::{AnswerRefusal, Responder, ServeFault};
 use byteorder::{BigEndian, ByteOrder};
-use devices::{Sink, Source, WholeFault, read_full, write_whole};
-use krb_moments::Moment;
+use byte_streams::{Sink, Source, WholeFault, read_full, write_whole};
+use krb_time::Moment;
 use std::alloc::{AllocError, Global};
 
 /// How many random bytes a message is answered with.

@@ -2,7 +2,7 @@
 ghost use Rattle.std.specs.Prelude.{◌≡◌, ℕ, List, Option, None, Some, IfErr, MatchResult, length};
 
 use crate::AnswerRefusal;
-use krb_moments::Moment;
+use krb_time::Moment;
 use std::alloc::Global;
 
 /// Who replies to messages, each at a moment and with 128 random bytes.

@@ -2,13 +2,13 @@
 ghost use Rattle.std.specs.Prelude.{◌≡◌, ◌≢◌, ℕ, ◌++◌, List, [], Some, Err, ◌⊎◌};
 ghost use Rattle.std.specs.Iterator.{IsFinite, DrainsIf};
 ghost use Rattle.std.specs.Io.KnownBytes.{Appends};
-ghost use Rattle.devices.specs.Counting.{one_more};
+ghost use Rattle.byte_streams.specs.Counting.{one_more};
 ghost use Rattle.krb_frames.specs.Serving.{WhereKnown, Left, Draws, IsServed, IsFinal, at};
 
 use crate::frame::{answer_frame, read_frame};
 use crate::{Responder, ServeFault};
-use devices::{Sink, Source};
-use krb_moments::Moment;
+use byte_streams::{Sink, Source};
+use krb_time::Moment;
 use std::alloc::Global;
 
 /// Answers each frame of `reader` in a frame of `writer`, to the end of the stream, and gives how
@@ -110,7 +110,7 @@ pub fn serve_bytes<A: Responder>(
         × IsServed (A.replies responder.now) (A.may_want_memory responder.now) (at moments.now stream.now words.now) written result left }
 
     // Bytes in memory never fail.
-    ensures devices { result ≢ Err ServeFault.Memory → IsFinal result }
+    ensures byte_streams { result ≢ Err ServeFault.Memory → IsFinal result }
 {
     let mut reader = stream;
     let mut words_reader = words;

@@ -5,7 +5,7 @@ use Rattle.picky_asn1.specs.GeneralizedTime.{seconds_of}
 use Rattle.picky_asn1.specs.Numbers.{is_number}
 use Rattle.aes_cts.specs.Bytes.{IsBytes}
 use Rattle.aes_cts.proofs.States.{IsBytes-drop, IsBytes-take}
-use Rattle.krb_moments.specs.Moment.{IsMoment}
+use Rattle.krb_time.specs.Moment.{IsMoment}
 use Rattle.krb_crypto.specs.Suites.{cipher_confounder_size, cipher_key_size}
 use Rattle.krb_crypto.specs.declared.suite.CipherSuite.{CipherSuite}
 use Rattle.krb_crypto.proofs.AllSuites.{confounder_below}

@@ -1,12 +1,12 @@
 -- What a realm answers a request by.
 use Rattle.std.specs.Prelude.{◌*◌, List}
 use Rattle.krb_types.specs.RandomBytes.{Random}
-use Rattle.krb_moments.specs.Units.{Micros}
+use Rattle.krb_time.specs.Units.{Micros}
 use Rattle.picky_asn1.specs.Bytes.{Bytes}
 use Rattle.krb_accounts.specs.Accounts.{Look, look_in}
 use Rattle.krb_accounts.specs.Settings.{SettingsRecord}
 use Rattle.krb_messages.specs.declared.messages.kdc_req_body.KdcReqBody.{KdcReqBody}
-use Rattle.krb_pkinit.specs.Calls.{PkinitCallRecord}
+use Rattle.pkinit_interface.specs.Calls.{PkinitCallRecord}
 use Rattle.krb_kdc_requests.specs.declared.call.Call as held
 
 -- the realm's name, its settings and its accounts as they are looked up, the moment, and random bytes

@@ -2,7 +2,7 @@
 use Rattle.std.specs.Prelude.{◌≡◌, ◌≤◌, List, length, Some}
 use Rattle.picky_asn1.specs.Bytes.{Bytes}
 use Rattle.aes_cts.specs.Bytes.{IsBytes}
-use Rattle.krb_moments.specs.Moment.{IsMoment}
+use Rattle.krb_time.specs.Moment.{IsMoment}
 use Rattle.krb_crypto.specs.Suites.{cipher_key_size}
 use Rattle.krb_accounts.specs.Account.{AccountRecord}
 use Rattle.krb_accounts.specs.Accounts.{Look}

@@ -2,7 +2,7 @@
 use Rattle.std.specs.Prelude.{◌≡◌, ℕ, nat_le, Bool, not, ◌||◌, List, [], Option, None, Some, Result, Ok}
 use Rattle.std.specs.Option.{option_map, option_map_or}
 use Rattle.std.proofs.Common.{sym, ◌∙◌}
-use Rattle.krb_moments.specs.Units.{Micros, Seconds}
+use Rattle.krb_time.specs.Units.{Micros, Seconds}
 use Rattle.asn1_der.specs.Tree.{der}
 use Rattle.picky_asn1.specs.BitString.{Bits, bit_of}
 use Rattle.picky_asn1.specs.GeneralizedTime.{seconds_of}

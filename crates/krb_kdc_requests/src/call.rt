@@ -2,7 +2,7 @@
 ghost use Rattle.std.specs.Prelude.{◌≡◌, ◌≤◌};
 
 use krb_accounts::{Accounts, Settings};
-use krb_moments::{MICROSECONDS_IN_SECOND, Moment};
+use krb_time::{MICROSECONDS_IN_SECOND, Moment};
 use picky_asn1::wrapper::GeneralStringAsn1;
 
 /// A call to a realm: its name, settings and accounts, the moment, and random bytes, of which the first 128 count.

@@ -13,7 +13,7 @@ use krb_constants::types::KERBEROS_VERSION;
 use krb_constants::{error_codes, kdc_options};
 use krb_crypto::CipherSuite;
 use krb_messages::messages::{KdcReq, KdcReqBody};
-use krb_moments::Moment;
+use krb_time::Moment;
 use krb_tickets::{end_of, key_at, start_of};
 use krb_types::data_types::{PaData, PrincipalName};
 use krb_types::random_bytes::SESSION_SEED;

@@ -16,25 +16,25 @@ use Rattle.pac_layouts.specs.contracts.info.PacInfoBuffer.{the_type as info_type
 use Rattle.pac_layouts.specs.contracts.kind.PacBufferType.{the_type as kind_type}
 use Rattle.pac_layouts.specs.contracts.pac.Pac.{the_type as pac_type}
 use Rattle.pac_layouts.specs.contracts.pac.PacPartialEq.TheImpl as pac
-use Rattle.negoex_forms.specs.contracts.checksum.Checksum.{the_type as checksum_type}
-use Rattle.negoex_forms.specs.contracts.checksum.ChecksumPartialEq.TheImpl as checksum
-use Rattle.negoex_forms.specs.contracts.checksum.ChecksumLaid.TheImpl as laid_checksum
-use Rattle.negoex_forms.specs.contracts.extension.Extension.{the_type as extension_type}
-use Rattle.negoex_forms.specs.contracts.extension.ExtensionPartialEq.TheImpl as extension
-use Rattle.negoex_forms.specs.contracts.extension.ExtensionLaid.TheImpl as laid_extension
-use Rattle.negoex_forms.specs.contracts.header.MessageHeader.{the_type as header_type}
-use Rattle.negoex_forms.specs.contracts.header.MessageHeaderPartialEq.TheImpl as header
-use Rattle.negoex_forms.specs.contracts.header.MessageHeaderLaid.TheImpl as laid_header
-use Rattle.negoex_forms.specs.contracts.message_type.MessageType.{the_type as message_type}
-use Rattle.negoex_layouts.specs.contracts.exchange.Exchange.{the_type as exchange_type}
-use Rattle.negoex_layouts.specs.contracts.exchange.ExchangePartialEq.TheImpl as exchange
-use Rattle.negoex_layouts.specs.contracts.exchange.ExchangeLaid.TheImpl as laid_exchange
-use Rattle.negoex_layouts.specs.contracts.nego.Nego.{the_type as nego_type}
-use Rattle.negoex_layouts.specs.contracts.nego.NegoPartialEq.TheImpl as nego
-use Rattle.negoex_layouts.specs.contracts.nego.NegoLaid.TheImpl as laid_nego
-use Rattle.negoex_layouts.specs.contracts.verify.Verify.{the_type as verify_type}
-use Rattle.negoex_layouts.specs.contracts.verify.VerifyPartialEq.TheImpl as verify
-use Rattle.negoex_layouts.specs.contracts.verify.VerifyLaid.TheImpl as laid_verify
+use Rattle.negoex_types.specs.contracts.checksum.Checksum.{the_type as checksum_type}
+use Rattle.negoex_types.specs.contracts.checksum.ChecksumPartialEq.TheImpl as checksum
+use Rattle.negoex_types.specs.contracts.checksum.ChecksumLaid.TheImpl as laid_checksum
+use Rattle.negoex_types.specs.contracts.extension.Extension.{the_type as extension_type}
+use Rattle.negoex_types.specs.contracts.extension.ExtensionPartialEq.TheImpl as extension
+use Rattle.negoex_types.specs.contracts.extension.ExtensionLaid.TheImpl as laid_extension
+use Rattle.negoex_types.specs.contracts.header.MessageHeader.{the_type as header_type}
+use Rattle.negoex_types.specs.contracts.header.MessageHeaderPartialEq.TheImpl as header
+use Rattle.negoex_types.specs.contracts.header.MessageHeaderLaid.TheImpl as laid_header
+use Rattle.negoex_types.specs.contracts.message_type.MessageType.{the_type as message_type}
+use Rattle.negoex_messages.specs.contracts.exchange.Exchange.{the_type as exchange_type}
+use Rattle.negoex_messages.specs.contracts.exchange.ExchangePartialEq.TheImpl as exchange
+use Rattle.negoex_messages.specs.contracts.exchange.ExchangeLaid.TheImpl as laid_exchange
+use Rattle.negoex_messages.specs.contracts.nego.Nego.{the_type as nego_type}
+use Rattle.negoex_messages.specs.contracts.nego.NegoPartialEq.TheImpl as nego
+use Rattle.negoex_messages.specs.contracts.nego.NegoLaid.TheImpl as laid_nego
+use Rattle.negoex_messages.specs.contracts.verify.Verify.{the_type as verify_type}
+use Rattle.negoex_messages.specs.contracts.verify.VerifyPartialEq.TheImpl as verify
+use Rattle.negoex_messages.specs.contracts.verify.VerifyLaid.TheImpl as laid_verify
 use Rattle.krb_layout_equality.specs.Seen.{seen_mic, seen_wrap}
 use Rattle.krb_layout_equality.proofs.Seeing.{IsSeen, whole, kinds, put_as, both, last, fields, options, vectors}
 

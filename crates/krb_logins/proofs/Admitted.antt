@@ -28,7 +28,7 @@ use Rattle.krb_client.specs.ApRequest.{ap_asked}
 use Rattle.krb_client.specs.Authenticators.{IsApRequest, authenticator_with, authenticator_parts_of}
 use Rattle.krb_client.specs.Client.{ClientRecord, CredentialRecord}
 use Rattle.krb_client.specs.declared.refusal.TakeRefusal.{TakeRefusal}
-use Rattle.krb_pkinit.specs.Rows.{PkinitRows}
+use Rattle.pkinit_interface.specs.Rows.{PkinitRows}
 use Rattle.krb_client.specs.Means.{MeansRecord}
 use Rattle.krb_service.specs.Admissible.{IsAdmissible}
 use Rattle.krb_service.specs.Once.{pair_of}

@@ -3,8 +3,8 @@ use Rattle.std.proofs.Common.{◌≡◌, ℕ, ◌*◌, ◌/◌, ◌%◌, false, 
 use Rattle.asn1_leaves.specs.declared.date.GeneralizedTime.{GeneralizedTime}
 use Rattle.picky_asn1.specs.Bytes.{Bytes}
 use Rattle.picky_asn1.specs.GeneralizedTime.{seconds_of}
-use Rattle.krb_moments.specs.Skew.{is_far}
-use Rattle.krb_moments.specs.Units.{Micros}
+use Rattle.krb_time.specs.Skew.{is_far}
+use Rattle.krb_time.specs.Units.{Micros}
 use Rattle.krb_crypto.specs.Suites.{cipher_confounder_size}
 use Rattle.krb_crypto.specs.declared.suite.CipherSuite.{CipherSuite}
 use Rattle.krb_types.specs.RandomBytes.{timestamp_confounder}
@@ -15,10 +15,10 @@ use Rattle.krb_messages.specs.declared.messages.kdc_req.KdcReq.{KdcReq}
 use Rattle.krb_accounts.specs.Account.{AccountRecord}
 use Rattle.decision_tables.specs.Tables.{Table, ask, done, need, refuse}
 use Rattle.krb_encrypted_data.specs.Sealing.{sealed_opens}
-use Rattle.krb_pkinit.specs.Rows.{PkinitRows}
-use Rattle.krb_preauth.specs.Padata.{first_padata, first_of}
-use Rattle.krb_preauth.specs.EncryptedTimestamps as preauth
-use Rattle.krb_preauth.specs.EncryptedTimestamps.{moment_of, sole_encrypted_timestamp, timestamp_tree}
+use Rattle.pkinit_interface.specs.Rows.{PkinitRows}
+use Rattle.krb_tickets.specs.Padata.{first_padata, first_of}
+use Rattle.krb_tickets.specs.EncryptedTimestamps as preauth
+use Rattle.krb_tickets.specs.EncryptedTimestamps.{moment_of, sole_encrypted_timestamp, timestamp_tree}
 use Rattle.krb_tickets.specs.ReplyKeys.{ReplyKeyRecord, as_reply_key}
 use Rattle.krb_as.specs.AsTable.{authenticated, authenticated_by, timestamped}
 use Rattle.krb_kdc_requests.specs.Call.{CallRecord, skew_of}

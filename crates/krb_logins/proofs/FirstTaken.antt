@@ -13,14 +13,14 @@ use Rattle.krb_messages.specs.declared.messages.kdc_rep.KdcRep.{KdcRep}
 use Rattle.krb_accounts.specs.Account.{AccountRecord}
 use Rattle.decision_tables.specs.Tables.{Table, and_then, ask, done}
 use Rattle.krb_encrypted_data.specs.Sealing.{Seals, sealed_opens}
-use Rattle.krb_pkinit.specs.Rows.{PkinitRows}
+use Rattle.pkinit_interface.specs.Rows.{PkinitRows}
 use Rattle.krb_tickets.specs.Grant.{GrantRecord}
 use Rattle.krb_tickets.specs.declared.reply.Exchange.TheVariants.{As}
 use Rattle.krb_tickets.specs.Parts.{kdc_reply_of, padata_of, reply_part, ticket_of}
 use Rattle.krb_tickets.specs.ReplyKeys.{ReplyKeyRecord}
 use Rattle.krb_tickets.specs.Sealed.{reply_part_bytes}
 use Rattle.krb_tickets.specs.Granted.{IsTicketReply}
-use Rattle.krb_asked.specs.Asked.{AsAskedRecord}
+use Rattle.krb_client.specs.Asked.{AsAskedRecord}
 use Rattle.krb_client.specs.AsReply.{IsAsPart, TakesAsReply, sole_as_part, takes_as_reply, takes_reply, takes_sealed}
 use Rattle.krb_client.specs.Client.{ClientRecord, CredentialRecord}
 use Rattle.krb_client.specs.Means.{MeansRecord}

@@ -11,9 +11,9 @@ use Rattle.asn1_leaves.specs.declared.date.GeneralizedTime.{GeneralizedTime}
 use Rattle.picky_asn1.specs.Bytes.{Bytes}
 use Rattle.picky_asn1.specs.GeneralizedTime.{seconds_of}
 use Rattle.picky_asn1.specs.Numbers.{is_number}
-use Rattle.krb_moments.specs.Skew.{is_far}
-use Rattle.krb_moments.specs.Times.{moment_at}
-use Rattle.krb_moments.specs.Units.{Micros, Seconds}
+use Rattle.krb_time.specs.Skew.{is_far}
+use Rattle.krb_time.specs.Times.{moment_at}
+use Rattle.krb_time.specs.Units.{Micros, Seconds}
 use Rattle.krb_crypto.specs.declared.suite.CipherSuite.{CipherSuite}
 use Rattle.krb_crypto.specs.Sealing.{IsSealedBy, checksum_of}
 use Rattle.krb_crypto.specs.Suites.{checksum_number, cipher_checksum, cipher_confounder_size, cipher_number}
@@ -33,7 +33,7 @@ use Rattle.krb_accounts.specs.Account.{AccountRecord}
 use Rattle.decision_tables.specs.Tables.{Table, and_then, ask, done, need, refuse}
 use Rattle.krb_encrypted_data.specs.Keys.{suite_of}
 use Rattle.krb_encrypted_data.specs.Sealing.{encryption_key, is_own_number, sealed_opens}
-use Rattle.krb_preauth.specs.Padata.{first_padata, first_of}
+use Rattle.krb_tickets.specs.Padata.{first_padata, first_of}
 use Rattle.krb_tickets.specs.Grant.{GrantRecord}
 use Rattle.krb_tickets.specs.Parts.{session_key_of, ticket_part}
 use Rattle.krb_tickets.specs.ReplyKeys.{ReplyKeyRecord, tgs_reply_key}
@@ -45,7 +45,7 @@ use Rattle.krb_ap_requests.specs.Entry.{EntryRecord}
 use Rattle.krb_ap_requests.specs.Messages.{IsAuthenticator, IsTicketPart, sole_authenticator, sole_ticket_part}
 use Rattle.krb_ap_requests.specs.Presents.{request_of}
 use Rattle.krb_ap_requests.specs.declared.presented.Authenticated.{Authenticated}
-use Rattle.krb_pkinit.specs.Rows.{PkinitRows}
+use Rattle.pkinit_interface.specs.Rows.{PkinitRows}
 use Rattle.krb_kdc_requests.specs.Call.{CallRecord, skew_of}
 use Rattle.krb_kdc_requests.specs.Granting.{replied}
 use Rattle.krb_kdc_requests.specs.Requests.{IsSpan, account_of, body_bytes, client_of, padata_in, is_ended, lasting, service_of}

@@ -10,7 +10,7 @@ use Rattle.krb_messages.specs.Messages.{IsTgsRep, enc_tgs_rep_part_tree, sole_tg
 use Rattle.krb_messages.specs.declared.messages.enc_kdc_rep_part.EncKdcRepPart.{EncKdcRepPart}
 use Rattle.krb_messages.specs.declared.messages.kdc_rep.KdcRep.{KdcRep}
 use Rattle.krb_accounts.specs.Account.{AccountRecord}
-use Rattle.krb_pkinit.specs.Rows.{PkinitRows}
+use Rattle.pkinit_interface.specs.Rows.{PkinitRows}
 use Rattle.decision_tables.specs.Tables.{Table, ask, done}
 use Rattle.krb_encrypted_data.specs.Sealing.{sealed_opens}
 use Rattle.krb_tickets.specs.Grant.{GrantRecord}
@@ -19,7 +19,7 @@ use Rattle.krb_tickets.specs.Parts.{kdc_reply_of, reply_part, session_key_of, ti
 use Rattle.krb_tickets.specs.ReplyKeys.{tgs_reply_key}
 use Rattle.krb_tickets.specs.Sealed.{IsSealedReply, reply_part_bytes}
 use Rattle.krb_tickets.specs.Granted.{IsTicketReply}
-use Rattle.krb_asked.specs.Asked.{TgsAskedRecord}
+use Rattle.krb_client.specs.Asked.{TgsAskedRecord}
 use Rattle.krb_client.specs.Client.{ClientRecord, CredentialRecord}
 use Rattle.krb_client.specs.Means.{MeansRecord}
 use Rattle.krb_client.specs.Messages.{IsErrorCode, sole_error_code}

@@ -1,8 +1,8 @@
 -- What is admissible and was presented is admitted: whatever a service answers, it answers that.
 use Rattle.std.proofs.Common.{◌≡◌, false, List, ◌∷◌, Option, Result, Ok, Err, refl, sym, ap, subst, ◌∙◌}
 use Rattle.picky_asn1.specs.Bytes.{Bytes}
-use Rattle.krb_moments.specs.Skew.{is_far}
-use Rattle.krb_moments.specs.Units.{Micros}
+use Rattle.krb_time.specs.Skew.{is_far}
+use Rattle.krb_time.specs.Units.{Micros}
 use Rattle.krb_types.specs.RandomBytes.{Random}
 use Rattle.krb_types.specs.Refusals.{Code}
 use Rattle.krb_constants.specs.declared.error_codes.TheConstants.{KRB_AP_ERR_REPEAT, KRB_AP_ERR_SKEW}

@@ -3,11 +3,11 @@ use Rattle.std.proofs.Common.{◌<◌, ◌≤◌, ◌*◌, length, arith}
 use Rattle.asn1_leaves.specs.declared.date.GeneralizedTime.{GeneralizedTime}
 use Rattle.picky_asn1.specs.Bytes.{Bytes}
 use Rattle.picky_asn1.specs.GeneralizedTime.{seconds_of}
-use Rattle.krb_moments.specs.Moment.{IsMoment}
-use Rattle.krb_moments.specs.Units.{Micros}
+use Rattle.krb_time.specs.Moment.{IsMoment}
+use Rattle.krb_time.specs.Units.{Micros}
 use Rattle.decision_tables.specs.Some.{HasSome}
 use Rattle.krb_tickets.specs.Times.{asked_end, last_second}
-use Rattle.krb_pkinit.specs.Rows.{PkinitRows}
+use Rattle.pkinit_interface.specs.Rows.{PkinitRows}
 use Rattle.krb_kdc_requests.specs.Calls.{AreKeyed}
 use Rattle.krb_replies.specs.Replies.{Replies}
 use Rattle.krb_replies.proofs.HasReply.{has_reply}

@@ -4,9 +4,9 @@ use Rattle.std.proofs.lemmas.Bool.{cases_Bool, le-ltb, lt-leb, lt-ltb, or_from}
 use Rattle.std.specs.Prelude.{if◌then◌else◌, nat_lt, pos, ◌==◌}
 use Rattle.asn1_leaves.specs.declared.date.GeneralizedTime.{GeneralizedTime}
 use Rattle.picky_asn1.specs.GeneralizedTime.{seconds_of}
-use Rattle.krb_moments.specs.Skew.{is_far}
-use Rattle.krb_moments.specs.Times.{moment_at}
-use Rattle.krb_moments.specs.Units.{Micros, Seconds}
+use Rattle.krb_time.specs.Skew.{is_far}
+use Rattle.krb_time.specs.Times.{moment_at}
+use Rattle.krb_time.specs.Units.{Micros, Seconds}
 use Rattle.krb_service.specs.Seen.{IsWholeSeconds}
 use Rattle.krb_tickets.specs.Times.{asked_end, end_of, last_second, no_end, start_of}
 use Rattle.krb_kdc_requests.specs.Requests.{IsSpan, is_ended}

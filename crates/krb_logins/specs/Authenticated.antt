@@ -7,13 +7,13 @@ use Rattle.krb_messages.specs.declared.messages.kdc_rep.KdcRep.{KdcRep}
 use Rattle.krb_messages.specs.declared.messages.kdc_req_body.KdcReqBody.{KdcReqBody}
 use Rattle.krb_crypto.specs.Keys.{KeyRecord}
 use Rattle.krb_accounts.specs.Account.{AccountRecord}
-use Rattle.krb_pkinit.specs.Rows.{PkinitRows}
+use Rattle.pkinit_interface.specs.Rows.{PkinitRows}
 use Rattle.krb_tickets.specs.Parts.{padata_of}
 use Rattle.krb_tickets.specs.ReplyKeys.{ReplyKeyRecord}
 use Rattle.krb_tickets.specs.declared.reply.Exchange.TheVariants.{As}
 use Rattle.krb_as.specs.AsTable.{authenticated}
 use Rattle.krb_as.specs.TicketGranting.{krbtgt_of}
-use Rattle.krb_asked.specs.Asked.{AsAskedRecord}
+use Rattle.krb_client.specs.Asked.{AsAskedRecord}
 use Rattle.krb_client.specs.AsRequest.{as_asked, as_body, as_request_of}
 use Rattle.krb_client.specs.Client.{ClientRecord}
 use Rattle.krb_client.specs.Means.{MeansRecord}

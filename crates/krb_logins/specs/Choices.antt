@@ -2,7 +2,7 @@
 use Rattle.std.specs.Prelude.{◌≡◌, ◌⊎◌, Bool, None, Ok, pos}
 use Rattle.std.specs.Option.{option_map}
 use Rattle.picky_asn1.specs.Bytes.{Bytes}
-use Rattle.krb_moments.specs.Units.{Micros}
+use Rattle.krb_time.specs.Units.{Micros}
 use Rattle.krb_crypto.specs.Suites.{cipher_number}
 use Rattle.krb_types.specs.RandomBytes.{Random}
 use Rattle.krb_types.specs.declared.data_types.authenticator.AuthenticatorInner.{AuthenticatorInner}
@@ -10,7 +10,7 @@ use Rattle.krb_types.specs.declared.data_types.enc_ticket_part.EncTicketPartInne
 use Rattle.krb_messages.specs.Messages.{enc_ticket_part_tree}
 use Rattle.krb_accounts.specs.Names.{AreComponents, IsRealmName}
 use Rattle.krb_ap_requests.specs.Presents.{Choice, SealsTo}
-use Rattle.krb_asked.specs.Asked.{AsAskedRecord, TgsAskedRecord}
+use Rattle.krb_client.specs.Asked.{AsAskedRecord, TgsAskedRecord}
 use Rattle.krb_client.specs.ApRequest.{AsksAp}
 use Rattle.krb_client.specs.AsReply.{TakesAsReply}
 use Rattle.krb_client.specs.Authenticators.{options_of}

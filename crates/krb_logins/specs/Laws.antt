@@ -5,7 +5,7 @@ use Rattle.picky_asn1.specs.Bytes.{Bytes}
 use Rattle.aes_cts.specs.Bytes.{IsBytes}
 use Rattle.krb_types.specs.Names.{components}
 use Rattle.krb_encrypted_data.specs.Sealing.{encryption_key}
-use Rattle.krb_pkinit.specs.Rows.{PkinitRows}
+use Rattle.pkinit_interface.specs.Rows.{PkinitRows}
 use Rattle.krb_tickets.specs.Parts.{session_key_of}
 use Rattle.krb_tickets.specs.ReplyKeys.{ReplyKeyRecord, tgs_reply_key}
 use Rattle.krb_tickets.specs.Granted.{IsTicketReply}

@@ -4,11 +4,11 @@ use Rattle.std.specs.Prelude.{◌≡◌, ◌⊎◌, max, Result, Ok, Err}
 use Rattle.picky_asn1.specs.Bytes.{Bytes}
 use Rattle.krb_types.specs.declared.data_types.encryption_key.EncryptionKey.{EncryptionKey}
 use Rattle.krb_encrypted_data.specs.Sealing.{encryption_key}
-use Rattle.krb_pkinit.specs.Rows.{PkinitRows}
+use Rattle.pkinit_interface.specs.Rows.{PkinitRows}
 use Rattle.krb_as.specs.TicketGranting.{krbtgt_of}
 use Rattle.krb_ap_requests.specs.Admission.{AdmissionRecord}
 use Rattle.krb_ap_requests.specs.declared.refusal.AdmitRefusal.{AdmitRefusal}
-use Rattle.krb_asked.specs.Asked.{ApAskedRecord}
+use Rattle.krb_client.specs.Asked.{ApAskedRecord}
 use Rattle.krb_client.specs.ApReply.{takes_ap_reply}
 use Rattle.krb_client.specs.AsReply.{takes_as_reply}
 use Rattle.krb_client.specs.Client.{ClientRecord, CredentialRecord}

@@ -14,7 +14,7 @@ use krb_accounts::{Account, Accounts, Settings, components_of};
 use krb_client::Client;
 use krb_crypto::Key;
 use krb_kdc_requests::Call;
-use krb_moments::{MICROSECONDS_IN_SECOND, Moment};
+use krb_time::{MICROSECONDS_IN_SECOND, Moment};
 use krb_service::{KeytabEntry, Pair, Service};
 use krb_tickets::{end_of, start_of};
 use krb_types::{is_same_name, is_same_realm};

@@ -1,6 +1,6 @@
 //! What a login is for, and what it is done with.
 
-use krb_moments::Moment;
+use krb_time::Moment;
 use picky_asn1::date::GeneralizedTime;
 
 /// The moments of a login, in the order of its steps, each by the clock of who acts.

@@ -17,7 +17,7 @@ ghost use Rattle.krb_logins.specs.Steps.{AreDecided};
 ghost use Rattle.krb_logins.specs.declared.refusal.LoginRefusal.{LoginRefusal};
 
 use krb_client::Means;
-use krb_pkinit::Pkinit;
+use pkinit_interface::Pkinit;
 
 /// A realm has a reply to the first request of an honest login's client, and grants the ticket that it asks for.
 pub fn first_granted<M: Means, P: Pkinit>(means: &M, pkinit: &P)

@@ -4,7 +4,7 @@ ghost use Rattle.asn1_der.specs.Tree.{Tree};
 ghost use Rattle.krb_messages.specs.KrbResults.{result_tree, is_no_error};
 
 use crate::messages::KrbError;
-use devices::Source;
+use byte_streams::Source;
 use picky_asn1_der::{Alternatives, Asn1DerError, Choice, Deserialize, Deserializer, Last};
 
 /// What a KDC or a service answers: a message, or a KRB-ERROR (RFC 4120, section 5.9.1).

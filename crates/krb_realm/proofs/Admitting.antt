@@ -5,11 +5,11 @@ use Rattle.krb_types.specs.declared.data_types.encryption_key.EncryptionKey.{Enc
 use Rattle.krb_encrypted_data.specs.Sealing.{encryption_key}
 use Rattle.krb_service.specs.Pair.{PairRecord}
 use Rattle.krb_service.specs.Seen.{SeenRecord, IsWindow}
-use Rattle.krb_pkinit.specs.Rows.{PkinitRows}
+use Rattle.pkinit_interface.specs.Rows.{PkinitRows}
 use Rattle.krb_ap_requests.specs.Admission.{AdmissionRecord}
 use Rattle.krb_ap_requests.specs.declared.refusal.AdmitRefusal.{AdmitRefusal}
 use Rattle.krb_ap_requests.specs.declared.refusal.AdmitRefusal.TheVariants as admit_refusal
-use Rattle.krb_asked.specs.Asked.{ApAskedRecord}
+use Rattle.krb_client.specs.Asked.{ApAskedRecord}
 use Rattle.krb_client.specs.ApReply.{takes_ap_reply}
 use Rattle.krb_client.specs.Client.{ClientRecord, CredentialRecord}
 use Rattle.krb_client.specs.Means.{MeansRecord}

@@ -5,7 +5,7 @@ use Rattle.krb_messages.specs.declared.messages.kdc_req.KdcReq.{KdcReq}
 use Rattle.krb_messages.specs.Messages.{IsAsReq, IsTgsReq}
 use Rattle.krb_kdc_requests.specs.Call.{CallRecord}
 use Rattle.krb_kdc_requests.specs.Requests.{account_of, client_of, service_of}
-use Rattle.krb_pkinit.specs.Rows.{PkinitRows}
+use Rattle.pkinit_interface.specs.Rows.{PkinitRows}
 use Rattle.krb_replies.specs.Replies.{Replies, as_reply, tgs_reply}
 use Rattle.pkinit_requests.specs.PkinitRows.{pkinit_rows}
 use Rattle.pkinit_requests.specs.Trust.{TrustRecord}

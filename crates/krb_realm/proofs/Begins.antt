@@ -7,7 +7,7 @@ use Rattle.asn1_der.specs.Length.{element}
 use Rattle.krb_messages.specs.declared.messages.kdc_req.KdcReq.{KdcReq}
 use Rattle.krb_messages.specs.Messages.{IsAsReq, IsTgsReq}
 use Rattle.krb_kdc_requests.specs.Call.{CallRecord}
-use Rattle.krb_pkinit.specs.Rows.{PkinitRows}
+use Rattle.pkinit_interface.specs.Rows.{PkinitRows}
 use Rattle.krb_replies.specs.Replies.{Replies}
 use Rattle.krb_realm.specs.Answers.{is_request_octet}
 

@@ -4,8 +4,8 @@ use Rattle.picky_asn1.specs.Bytes.{Bytes}
 use Rattle.decision_tables.specs.Tables.{Table}
 use Rattle.krb_kdc_requests.specs.Call.{CallRecord}
 use Rattle.krb_as.specs.TicketGranting.{krbtgt_of}
-use Rattle.krb_pkinit.specs.Rows.{PkinitRows}
-use Rattle.krb_asked.specs.Asked.{AsAskedRecord, TgsAskedRecord}
+use Rattle.pkinit_interface.specs.Rows.{PkinitRows}
+use Rattle.krb_client.specs.Asked.{AsAskedRecord, TgsAskedRecord}
 use Rattle.krb_client.specs.AsReply.{takes_as_reply}
 use Rattle.krb_client.specs.Client.{ClientRecord, CredentialRecord}
 use Rattle.krb_client.specs.Means.{MeansRecord}

@@ -2,7 +2,7 @@
 use Rattle.std.proofs.Common.{◌≡◌, Result, subst}
 use Rattle.krb_client.specs.Client.{ClientRecord}
 use Rattle.krb_client.specs.Means.{MeansRecord}
-use Rattle.krb_pkinit.specs.Rows.{PkinitRows}
+use Rattle.pkinit_interface.specs.Rows.{PkinitRows}
 use Rattle.krb_service.specs.Seen.{SeenRecord}
 use Rattle.krb_service.specs.Service.{ServiceRecord}
 use Rattle.krb_logins.specs.LoginRun.{Login, LoginRun}

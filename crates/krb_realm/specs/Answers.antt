@@ -4,7 +4,7 @@ use Rattle.std.specs.Option.{option_map_or}
 use Rattle.std.specs.Prelude.{Vec}
 use Rattle.std.specs.Global.{Global}
 use Rattle.picky_asn1.specs.Bytes.{Bytes}
-use Rattle.krb_moments.specs.Units.{Micros}
+use Rattle.krb_time.specs.Units.{Micros}
 use Rattle.krb_types.specs.RandomBytes.{Random}
 use Rattle.key_functions.specs.KeyFunctions.{KeysRecord}
 use Rattle.krb_frames.specs.declared.fault.AnswerRefusal.{AnswerRefusal}

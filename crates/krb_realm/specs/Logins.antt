@@ -8,12 +8,12 @@ use Rattle.krb_service.specs.Pair.{PairRecord}
 use Rattle.krb_service.specs.Seen.{SeenRecord, IsWindow}
 use Rattle.krb_kdc_requests.specs.Call.{CallRecord}
 use Rattle.krb_as.specs.TicketGranting.{krbtgt_of}
-use Rattle.krb_pkinit.specs.Rows.{PkinitRows}
+use Rattle.pkinit_interface.specs.Rows.{PkinitRows}
 use Rattle.key_functions.specs.KeyFunctions.{KeysRecord}
 use Rattle.pkinit_requests.specs.PkinitRows.{pkinit_rows}
 use Rattle.krb_ap_requests.specs.Admission.{AdmissionRecord}
 use Rattle.krb_ap_requests.specs.declared.refusal.AdmitRefusal.{AdmitRefusal}
-use Rattle.krb_asked.specs.Asked.{ApAskedRecord, AsAskedRecord, TgsAskedRecord}
+use Rattle.krb_client.specs.Asked.{ApAskedRecord, AsAskedRecord, TgsAskedRecord}
 use Rattle.krb_client.specs.ApReply.{takes_ap_reply}
 use Rattle.krb_client.specs.AsReply.{takes_as_reply}
 use Rattle.krb_client.specs.Client.{ClientRecord, CredentialRecord}

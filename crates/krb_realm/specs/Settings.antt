@@ -2,7 +2,7 @@
 -- own certificate (RFC 4556).
 use Rattle.std.specs.Prelude.{ℕ, Bool, true, false, Option, None, Some}
 use Rattle.picky_asn1.specs.Bytes.{Bytes}
-use Rattle.krb_moments.specs.Units.{Seconds}
+use Rattle.krb_time.specs.Units.{Seconds}
 use Rattle.krb_accounts.specs.Settings.{SettingsRecord}
 use Rattle.pkinit_requests.specs.Certificate.{Certificate}
 use Rattle.pkinit_requests.specs.CertificateSpelled.TheImpl as certificate_impl

@@ -12,7 +12,7 @@ use crate::settings::is_certificate;
 use key_functions::KeyFunctions;
 use krb_client::{ApAsked, AsAsked, AskRefusal, Credential, TakeRefusal, TgsAsked};
 use krb_crypto::CipherSuite;
-use krb_moments::Moment;
+use krb_time::Moment;
 use picky_asn1::date::GeneralizedTime;
 use pkinit_requests::Anchor;
 use std::alloc::Global;

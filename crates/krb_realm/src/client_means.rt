@@ -5,7 +5,7 @@ use key_functions::KeyFunctions;
 use krb_client::{AsAsked, AskRefusal, ByKey, Client, Means, TakeRefusal};
 use krb_crypto::Key;
 use krb_messages::messages::{KdcRep, KdcReqBody};
-use krb_moments::Moment;
+use krb_time::Moment;
 use krb_types::data_types::PaData;
 use pkinit_clients::ByCertificate;
 use pkinit_requests::Anchor;

@@ -17,7 +17,7 @@ ghost use Rattle.krb_logins.specs.Parties.{LoginRecord, RealmRecord, RememberedR
 ghost use Rattle.krb_logins.specs.declared.refusal.LoginRefusal.{LoginRefusal};
 ghost use Rattle.krb_messages.specs.Messages.{IsAsReq};
 ghost use Rattle.krb_messages.specs.declared.messages.kdc_req.KdcReq.{KdcReq};
-ghost use Rattle.krb_preauth.specs.Padata.{first_of};
+ghost use Rattle.krb_tickets.specs.Padata.{first_of};
 ghost use Rattle.krb_realm.specs.Clients.{means_of};
 ghost use Rattle.krb_replies.specs.Involved.{IsOfInvolvedAlone};
 ghost use Rattle.krb_replies.specs.Replies.{Replies};

@@ -19,7 +19,7 @@ mod respond;
 mod settings;
 
 pub use client::Client;
-pub use devices::{Sink, SinkFault, Source};
+pub use byte_streams::{Sink, SinkFault, Source};
 pub use honest::is_honest_by_password;
 pub use honest_by_certificate::is_honest_by_certificate;
 pub use key_functions::{KeyFunctions, NoKeys, SignatureAlgorithm, Signed, Theirs};
@@ -29,7 +29,7 @@ pub use krb_client::{ApAsked, AsAsked, AskRefusal, Credential, TakeRefusal, TgsA
 pub use krb_crypto::{ChecksumSuite, CipherSuite, Key};
 pub use krb_frames::{AnswerRefusal, Responder, ServeFault};
 pub use krb_logins::{LoginInput, LoginMoments, LoginRefusal};
-pub use krb_moments::Moment;
+pub use krb_time::Moment;
 pub use krb_service::{Admission, Service};
 pub use krb_types::data_types::{EncryptionKey, PrincipalName, Ticket};
 pub use login::{login_by_certificate, login_by_password};

@@ -25,8 +25,8 @@ use krb_client::{ApAsked, AsAsked, AskRefusal, Credential, Means, TakeRefusal, T
 use krb_encrypted_data::encryption_key;
 use krb_logins::laws::one_key_by_password;
 use krb_logins::{LoginInput, LoginRefusal};
-use krb_moments::Moment;
-use krb_preauth::krbtgt;
+use krb_time::Moment;
+use krb_types::krbtgt;
 use krb_service::{Admission, Service};
 use krb_types::data_types::EncryptionKey;
 use picky_asn1::wrapper::{GeneralStringAsn1, OctetStringAsn1};

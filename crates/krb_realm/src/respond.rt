@@ -2,15 +2,15 @@
 ghost use Rattle.std.specs.Prelude.{◌≡◌, ◌≢◌, ℕ, ◌++◌, List, [], Some, Err, ◌⊎◌};
 ghost use Rattle.std.specs.Iterator.{IsFinite, DrainsIf};
 ghost use Rattle.std.specs.Io.KnownBytes.{Appends};
-ghost use Rattle.devices.specs.Counting.{one_more};
+ghost use Rattle.byte_streams.specs.Counting.{one_more};
 ghost use Rattle.krb_frames.specs.Serving.{WhereKnown, Left, IsServed, IsFinal, at};
 ghost use Rattle.krb_realm.specs.Answers.{BeginsRequest, RealmReplies};
 
 use crate::Realm;
-use devices::{Sink, Source};
+use byte_streams::{Sink, Source};
 use key_functions::KeyFunctions;
 use krb_frames::{AnswerRefusal, Responder, ServeFault};
-use krb_moments::Moment;
+use krb_time::Moment;
 use std::alloc::Global;
 
 /// A realm with the key functions that it answers by: the responder of a frame loop.
@@ -102,7 +102,7 @@ pub fn serve_bytes<K: KeyFunctions>(
         × IsServed (RealmReplies realm.now (K.functions keys.now)) BeginsRequest (at moments.now stream.now words.now) written result left }
 
     // Bytes in memory never fail.
-    ensures devices { result ≢ Err ServeFault.Memory → IsFinal result }
+    ensures byte_streams { result ≢ Err ServeFault.Memory → IsFinal result }
 {
     let answering = Answering { realm, keys };
     krb_frames::serve_bytes(alloc, &answering, stream, moments, words, replies)

@@ -6,7 +6,7 @@
 #![tactic(auto)]
 
 use anyhow::bail;
-use krb_kdc::{FileCheck, check_file, read_file};
+use krb_program::{FileCheck, check_file, read_file};
 use std::os::unix::fs::PermissionsExt;
 use std::process::ExitCode;
 use std::{env, fs};

@@ -5,7 +5,7 @@
 //! account beside its own service, whose key has 32 zero bytes, at one fixed moment and with zero words.
 #![tactic(auto)]
 
-use krb_kdc::run_process;
+use krb_program::run_process;
 use std::process::ExitCode;
 
 fn main(rt: HostRuntime) -> ExitCode {

@@ -10,7 +10,7 @@ use Rattle.decision_tables.specs.Tables.{Table}
 use Rattle.krb_kdc_requests.specs.Call.{CallRecord}
 use Rattle.krb_kdc_requests.specs.Requests.{service_of}
 use Rattle.krb_replies.specs.Errors.{error_bytes}
-use Rattle.krb_moments.specs.SecondOf.{IsSecondOf}
+use Rattle.krb_time.specs.SecondOf.{IsSecondOf}
 use Rattle.krb_replies.specs.Judged.{IsAnswerWith, IsJudgement}
 use Rattle.krb_replies.specs.Replies.{answered, named_service}
 use Rattle.krb_replies.specs.declared.kdc_error.KdcError.{KdcError}

@@ -3,10 +3,10 @@ use Rattle.std.proofs.Common.{◌≡◌, ◌<◌, ℕ, ◌/◌, ◌%◌, ◌^◌
 use Rattle.asn1_der.specs.Tree.{der, wrapped}
 use Rattle.asn1_leaves.specs.declared.date.GeneralizedTime.{GeneralizedTime}
 use Rattle.aes_cts.specs.Bytes.{IsBytes}
-use Rattle.krb_moments.specs.Moment.{IsMoment}
+use Rattle.krb_time.specs.Moment.{IsMoment}
 use Rattle.krb_accounts.specs.Account.{AccountRecord}
 use Rattle.krb_accounts.specs.Accounts.{Look}
-use Rattle.krb_pkinit.specs.Rows.{PkinitRows}
+use Rattle.pkinit_interface.specs.Rows.{PkinitRows}
 use Rattle.krb_types.specs.Names.{components}
 use Rattle.krb_types.specs.declared.data_types.principal_name.PrincipalName.{PrincipalName}
 use Rattle.krb_messages.specs.declared.messages.kdc_req.KdcReq.{KdcReq}
@@ -25,7 +25,7 @@ use Rattle.krb_kdc_requests.proofs.Short.{Fits, IsShort, in_wrapped}
 use Rattle.krb_tgs.specs.TgsTable.{tgs_table}
 use Rattle.krb_tgs.proofs.HasOutcome.{has_tgs_outcome}
 use Rattle.krb_replies.specs.Errors.{error_bytes}
-use Rattle.krb_moments.specs.SecondOf.{IsSecondOf, sole_second}
+use Rattle.krb_time.specs.SecondOf.{IsSecondOf, sole_second}
 use Rattle.krb_replies.specs.Replies.{Replies, answered, as_reply, e_data_of, named_service, reply_of, tgs_reply}
 
 has_told : (call : CallRecord) (e_data : ℕ → Option (List ℕ)) (request : KdcReq) → IsMoment call.moment → (r : Result (List ℕ) ℕ) → HasOutcome (reply_of call e_data request r)

@@ -1,7 +1,7 @@
 -- The error message of a realm (RFC 4120, section 5.9.1).
 use Rattle.std.specs.Prelude.{Option, None, pos}
 use Rattle.std.specs.Option.{option_map}
-use Rattle.krb_moments.specs.Units.{Micros}
+use Rattle.krb_time.specs.Units.{Micros}
 use Rattle.asn1_der.specs.Tree.{der}
 use Rattle.asn1_leaves.specs.declared.date.GeneralizedTime.{GeneralizedTime}
 use Rattle.picky_asn1.specs.Bytes.{Bytes}

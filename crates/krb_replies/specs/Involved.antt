@@ -4,7 +4,7 @@ use Rattle.picky_asn1.specs.Bytes.{Bytes}
 use Rattle.krb_messages.specs.declared.messages.kdc_req.KdcReq.{KdcReq}
 use Rattle.krb_types.specs.declared.data_types.principal_name.PrincipalName.{PrincipalName}
 use Rattle.krb_accounts.specs.Accounts.{Look}
-use Rattle.krb_pkinit.specs.Rows.{PkinitRows}
+use Rattle.pkinit_interface.specs.Rows.{PkinitRows}
 use Rattle.krb_types.specs.Names.{components}
 use Rattle.krb_messages.specs.Messages.{IsAsReq, IsTgsReq}
 use Rattle.krb_kdc_requests.specs.Call.{CallRecord}

@@ -9,7 +9,7 @@ use Rattle.krb_messages.specs.declared.messages.kdc_req.KdcReq.{KdcReq}
 use Rattle.krb_kdc_requests.specs.Call.{CallRecord}
 use Rattle.krb_kdc_requests.specs.Requests.{body_of, service_of}
 use Rattle.krb_replies.specs.Errors.{error_bytes}
-use Rattle.krb_moments.specs.SecondOf.{IsSecondOf}
+use Rattle.krb_time.specs.SecondOf.{IsSecondOf}
 use Rattle.krb_replies.specs.Replies.{named_service}
 use Rattle.krb_replies.specs.declared.kdc_error.KdcError.{KdcError}
 

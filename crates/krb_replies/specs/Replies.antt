@@ -7,7 +7,7 @@ use Rattle.krb_types.specs.declared.data_types.principal_name.PrincipalName.{Pri
 use Rattle.krb_types.specs.Refusals.{Code}
 use Rattle.krb_constants.specs.declared.error_codes.TheConstants.{KDC_ERR_PREAUTH_REQUIRED}
 use Rattle.krb_accounts.specs.Account.{AccountRecord}
-use Rattle.krb_pkinit.specs.Rows.{PkinitRows}
+use Rattle.pkinit_interface.specs.Rows.{PkinitRows}
 use Rattle.decision_tables.specs.Tables.{Table, done, ask, make}
 use Rattle.krb_as.specs.MethodData.{method_data_bytes}
 use Rattle.krb_messages.specs.Messages.{IsAsReq, IsTgsReq, sole_as_req, sole_tgs_req}
@@ -16,7 +16,7 @@ use Rattle.krb_kdc_requests.specs.Call.{CallRecord}
 use Rattle.krb_kdc_requests.specs.Requests.{account_of, body_of, client_of, service_of}
 use Rattle.krb_tgs.specs.TgsTable.{tgs_table}
 use Rattle.krb_replies.specs.Errors.{ticket_service, error_bytes}
-use Rattle.krb_moments.specs.SecondOf.{IsSecondOf, sole_second}
+use Rattle.krb_time.specs.SecondOf.{IsSecondOf, sole_second}
 
 -- the service that an error names: the request's, or the realm's ticket-granting service
 abbrev pub named_service : Bytes → Option PrincipalName → PrincipalName

@@ -8,7 +8,7 @@ ghost use Rattle.krb_kdc_requests.specs.Call.{call_of};
 ghost use Rattle.krb_kdc_requests.specs.Requests.{account_of, body_of, client_of, service_of};
 ghost use Rattle.krb_tgs.specs.TgsTable.{tgs_table};
 ghost use Rattle.krb_replies.specs.Errors.{error_bytes};
-ghost use Rattle.krb_moments.specs.SecondOf.{IsSecondOf};
+ghost use Rattle.krb_time.specs.SecondOf.{IsSecondOf};
 ghost use Rattle.krb_replies.specs.Judged.{IsAnswerWith, IsJudgement};
 ghost use Rattle.krb_replies.specs.Replies.{as_reply, e_data_of, named_service, tgs_reply};
 
@@ -20,7 +20,7 @@ use krb_as::{judge_as, method_data};
 use krb_constants::error_codes;
 use krb_kdc_requests::{Call, account_of, client_of, service_of};
 use krb_messages::messages::KdcReq;
-use krb_pkinit::Pkinit;
+use pkinit_interface::Pkinit;
 use krb_tgs::judge_tgs;
 use krb_types::Refusal;
 use krb_types::data_types::PrincipalName;

@@ -2,15 +2,15 @@
 ghost use Rattle.std.specs.Prelude.{◌≡◌, ◌%◌, IfOk};
 ghost use Rattle.std.specs.Option.{option_map};
 ghost use Rattle.asn1_leaves.specs.declared.date.GeneralizedTime.{GeneralizedTime};
-ghost use Rattle.krb_moments.specs.SecondOf.{IsSecondOf};
+ghost use Rattle.krb_time.specs.SecondOf.{IsSecondOf};
 ghost use Rattle.krb_replies.specs.Errors.{error_bytes};
 ghost use Rattle.asn1_der.specs.Octets.{sequence_octet};
 
 use crate::kdc_error::KdcError;
 use asn1_der::octets::SEQUENCE;
-use devices::Sink;
+use byte_streams::Sink;
 use krb_constants::types::{KERBEROS_VERSION, KRB_ERROR_MSG_TYPE};
-use krb_moments::Moment;
+use krb_time::Moment;
 use krb_types::data_types::{KerberosTime, Microseconds, PrincipalName, Realm};
 use picky_asn1::wrapper::{GeneralStringAsn1, GeneralizedTimeAsn1, IntegerAsn1, OctetStringAsn1};
 use picky_asn1_der::{

@@ -7,7 +7,7 @@ ghost use Rattle.krb_replies.specs.Involved.{IsOfInvolvedAlone};
 ghost use Rattle.krb_replies.specs.Replies.{Replies};
 ghost use Rattle.decision_tables.specs.Some.{HasSome};
 
-use krb_pkinit::Pkinit;
+use pkinit_interface::Pkinit;
 
 /// Realms of one name, of the same settings and of one way to judge requests by certificate, which agree on the accounts
 /// involved in a request, reply to it equally, whatever other accounts they have: to an AS request the accounts of the client

@@ -12,7 +12,7 @@ use Rattle.krb_crypto.specs.declared.suite.CipherSuite.{CipherSuite}
 use Rattle.krb_crypto.proofs.AllSuites.{confounder_below}
 use Rattle.krb_crypto.proofs.SealedTexts.{has_sealed}
 use Rattle.krb_types.specs.declared.data_types.authenticator.AuthenticatorInner.{AuthenticatorInner}
-use Rattle.krb_moments.specs.Times.{moment_at}
+use Rattle.krb_time.specs.Times.{moment_at}
 use Rattle.krb_ap_requests.specs.Acceptable.{IsAcceptable, presented_of}
 use Rattle.krb_encrypted_data.specs.Sealing.{encrypted_by}
 use Rattle.krb_service.specs.ApReply.{IsReply, IsReplyTo, ap_rep_of, ap_rep_part}

@@ -14,7 +14,7 @@ use Rattle.std.proofs.lemmas.Map.Keys.{IsDistinct-from_sorted}
 use Rattle.std.proofs.lemmas.Map.Made.{length-from_keys}
 use Rattle.std.proofs.lemmas.Map.Views.{any-filter_same}
 use Rattle.krb_service.specs.Pair.{PairRecord, is_same_pair, is_among, is_recent, pair_cmp, pair_equiv, pair_ties}
-use Rattle.krb_moments.specs.Skew.{is_far}
+use Rattle.krb_time.specs.Skew.{is_far}
 use Rattle.krb_service.specs.Seen.{IsWindow}
 
 -- the same pair has the same time

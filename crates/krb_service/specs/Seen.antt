@@ -1,6 +1,6 @@
 -- What a service remembers of the authenticators that it has admitted (RFC 4120, section 3.2.3).
 use Rattle.std.specs.Prelude.{◌≡◌, ◌%◌, ◌&&◌, List}
-use Rattle.krb_moments.specs.Units.{Micros}
+use Rattle.krb_time.specs.Units.{Micros}
 use Rattle.krb_service.specs.Pair.{PairRecord, is_among, is_recent}
 
 -- the greatest moment that was handed in, the skew, and the pairs held

@@ -11,7 +11,7 @@ use krb_ap_requests::{
 };
 use krb_crypto::Key;
 use krb_messages::messages::ApReqInner;
-use krb_moments::Moment;
+use krb_time::Moment;
 use krb_types::Refusal;
 use picky_asn1::wrapper::GeneralStringAsn1;
 use std::alloc::Global;

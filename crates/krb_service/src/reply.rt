@@ -15,7 +15,7 @@ use krb_types::data_types::{AuthenticatorInner, EncApRepPart, EncApRepPartInner,
 use krb_types::random_bytes::AP_REPLY_CONFOUNDER;
 use picky_asn1::wrapper::{IntegerAsn1, OctetStringAsn1};
 use picky_asn1_der::{ApplicationTag, ExplicitContextTag, Optional, encoding_of};
-use results::both;
+use result_pairs::both;
 use std::alloc::{AllocError, Global};
 
 /// The encoding of the reply under the session key, with the authenticator's time and nothing optional (RFC 4120,

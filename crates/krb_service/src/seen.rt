@@ -2,12 +2,12 @@
 ghost use Rattle.std.specs.Prelude.{◌≡◌, ◌-◌, ◌*◌, ◌≤◌, ◌&&◌, false, max, nat_le, List, [], ◌∷◌, OnOk, OnErr};
 ghost use Rattle.std.specs.List.{filter};
 ghost use Rattle.std.specs.Set.{distinct_count};
-ghost use Rattle.krb_moments.specs.Skew.{is_far};
+ghost use Rattle.krb_time.specs.Skew.{is_far};
 ghost use Rattle.krb_service.specs.Pair.{PairRecord, is_among, is_same_pair, is_recent};
 ghost use Rattle.krb_service.specs.Seen.{IsWholeSeconds, IsWindow};
 
 use crate::pair::Pair;
-use krb_moments::{MICROSECONDS_IN_SECOND, Moment};
+use krb_time::{MICROSECONDS_IN_SECOND, Moment};
 use std::alloc::{AllocError, Global};
 use std::collections::BTreeSet;
 use std::marker::Model;

@@ -16,7 +16,7 @@ use crate::seen::Seen;
 use krb_accounts::{RealmRefusal, are_components, components_of, is_realm_name, realm_name_of};
 use krb_ap_requests::AdmitRefusal;
 use krb_crypto::{CipherSuite, Key};
-use krb_moments::Moment;
+use krb_time::Moment;
 use std::alloc::Global;
 use std::marker::Model;
 

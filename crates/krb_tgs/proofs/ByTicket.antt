@@ -11,12 +11,12 @@ use Rattle.krb_messages.specs.declared.messages.ap_req.ApReqInner.{ApReqInner}
 use Rattle.krb_messages.specs.Messages.{IsApReq, sole_ap_req}
 use Rattle.decision_tables.specs.Tables.{Table, ask, done, need, refuse}
 use Rattle.decision_tables.specs.One.{IsSole}
-use Rattle.krb_preauth.specs.Padata.{first_of}
+use Rattle.krb_tickets.specs.Padata.{first_of}
 use Rattle.krb_ap_requests.specs.ApTable.{authenticated, opened}
 use Rattle.krb_ap_requests.specs.Messages.{IsAuthenticator, IsTicketPart, sole_authenticator, sole_ticket_part}
 use Rattle.krb_ap_requests.specs.declared.presented.Authenticated.{Authenticated}
 use Rattle.krb_kdc_requests.specs.Call.{CallRecord, skew_of}
-use Rattle.krb_moments.specs.Skew.{is_far}
+use Rattle.krb_time.specs.Skew.{is_far}
 use Rattle.krb_tgs.specs.TgsTable.{carried, authenticated_near, ticket_granting}
 
 -- a value that was asked for has the property

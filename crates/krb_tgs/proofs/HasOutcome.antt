@@ -4,7 +4,7 @@ use Rattle.std.specs.Option.{is_some, option_map}
 use Rattle.aes_cts.specs.Bytes.{IsBytes}
 use Rattle.picky_asn1.specs.GeneralizedTime.{seconds_of}
 use Rattle.picky_asn1.specs.Numbers.{is_number}
-use Rattle.krb_moments.specs.Skew.{is_far}
+use Rattle.krb_time.specs.Skew.{is_far}
 use Rattle.krb_crypto.specs.declared.suite.CipherSuite.{CipherSuite}
 use Rattle.krb_crypto.specs.Suites.{checksum_number, cipher_checksum, cipher_key_size}
 use Rattle.krb_accounts.specs.Account.{AccountRecord}
@@ -23,7 +23,7 @@ use Rattle.krb_messages.specs.Messages.{IsApReq, ap_req_tree, authenticator_tree
 use Rattle.krb_messages.specs.Trees.{kdc_req_inner_tree}
 use Rattle.decision_tables.specs.Tables.{Table, and_then, ask, done, need, refuse}
 use Rattle.decision_tables.proofs.Outcomes.{HasOutcome, has_asked, has_done, has_needed, has_refused, has_then}
-use Rattle.krb_preauth.specs.Padata.{first_of}
+use Rattle.krb_tickets.specs.Padata.{first_of}
 use Rattle.krb_tickets.specs.declared.reply.Exchange.TheVariants.{Tgs}
 use Rattle.krb_tickets.specs.ReplyKeys.{ReplyKeyRecord, tgs_reply_key, tgs_subkey_reply_key}
 use Rattle.krb_ap_requests.specs.declared.presented.Authenticated.{Authenticated}
@@ -31,7 +31,7 @@ use Rattle.krb_kdc_requests.specs.Call.{CallRecord, skew_of}
 use Rattle.krb_kdc_requests.specs.Calls.{IsCall, IsKeyed}
 use Rattle.krb_kdc_requests.specs.Granting.{replied}
 use Rattle.krb_kdc_requests.specs.Requests.{header_rows, padata_in, lasting, service_of}
-use Rattle.krb_preauth.specs.TicketGranting.{krbtgt_of}
+use Rattle.krb_types.specs.TicketGranting.{krbtgt_of}
 use Rattle.krb_kdc_requests.specs.declared.span.Span.{Span}
 use Rattle.krb_kdc_requests.proofs.HasGrant.{has_lasting, has_replied}
 use Rattle.krb_kdc_requests.proofs.HasGrant.{has_header}

@@ -12,7 +12,7 @@ use Rattle.decision_tables.specs.Tables.{Table, and_then, need, refuse}
 use Rattle.krb_ap_requests.specs.declared.presented.Authenticated.{Authenticated}
 use Rattle.krb_kdc_requests.specs.Call.{CallRecord}
 use Rattle.krb_kdc_requests.specs.Requests.{padata_in, service_of}
-use Rattle.krb_preauth.specs.TicketGranting.{krbtgt_of}
+use Rattle.krb_types.specs.TicketGranting.{krbtgt_of}
 use Rattle.krb_tgs.specs.ByTicket.{IsByTicket, IsInvolvedFurther}
 use Rattle.krb_tgs.specs.TgsTable.{carried, covered, further, of_carried, of_authenticated, of_ticket, authenticated_near, tgs_granted, tgs_table, ticket_granting, to_us}
 use Rattle.krb_tgs.proofs.ByTicket.{by_padata, by_ticket}

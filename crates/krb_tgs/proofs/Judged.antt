@@ -14,7 +14,7 @@ use Rattle.decision_tables.specs.Tables.{Table, and_then, done, need}
 use Rattle.krb_ap_requests.specs.ApTable.{ap_fields, opened_part}
 use Rattle.krb_kdc_requests.specs.Call.{CallRecord}
 use Rattle.krb_kdc_requests.specs.Granting.{IsGranted}
-use Rattle.krb_preauth.specs.TicketGranting.{krbtgt_of}
+use Rattle.krb_types.specs.TicketGranting.{krbtgt_of}
 use Rattle.krb_kdc_requests.proofs.Parts.{part_passed, part_refused}
 use Rattle.krb_tgs.specs.TgsTable.{counting, of_carried, of_ticket, ticket_granting}
 

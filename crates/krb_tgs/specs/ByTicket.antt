@@ -8,12 +8,12 @@ use Rattle.krb_types.specs.declared.data_types.principal_name.PrincipalName.{Pri
 use Rattle.krb_messages.specs.declared.messages.ap_req.ApReqInner.{ApReqInner}
 use Rattle.krb_messages.specs.declared.messages.kdc_req.KdcReq.{KdcReq}
 use Rattle.krb_messages.specs.Messages.{IsApReq}
-use Rattle.krb_preauth.specs.Padata.{first_of}
+use Rattle.krb_tickets.specs.Padata.{first_of}
 use Rattle.krb_ap_requests.specs.ApTable.{enc_part_in}
 use Rattle.krb_ap_requests.specs.Messages.{IsTicketPart}
 use Rattle.krb_kdc_requests.specs.Call.{CallRecord}
 use Rattle.krb_kdc_requests.specs.Requests.{body_of, padata_in, service_of}
-use Rattle.krb_preauth.specs.TicketGranting.{krbtgt_of}
+use Rattle.krb_types.specs.TicketGranting.{krbtgt_of}
 
 -- the request carries a ticket that has this part, sealed under the key of the realm's ticket-granting service
 pub record IsByTicket (call : CallRecord) (request : KdcReq) (ap_req : ApReqInner) (part : EncTicketPartInner) : Type 0 where

@@ -8,7 +8,7 @@ use Rattle.picky_asn1.specs.BitString.{bit_of}
 use Rattle.picky_asn1.specs.GeneralizedTime.{seconds_of}
 use Rattle.picky_asn1.specs.Numbers.{is_number}
 use Rattle.picky_asn1.specs.Bytes.{Bytes}
-use Rattle.krb_moments.specs.Skew.{is_far}
+use Rattle.krb_time.specs.Skew.{is_far}
 use Rattle.krb_crypto.specs.declared.suite.CipherSuite.{CipherSuite}
 use Rattle.krb_crypto.specs.declared.suite.ChecksumSuite.{ChecksumSuite}
 use Rattle.krb_crypto.specs.Sealing.{checksum_of}
@@ -30,7 +30,7 @@ use Rattle.krb_messages.specs.declared.messages.kdc_req.KdcReq.{KdcReq}
 use Rattle.krb_messages.specs.declared.messages.kdc_req_body.KdcReqBody.{KdcReqBody}
 use Rattle.krb_messages.specs.Messages.{IsApReq, sole_ap_req}
 use Rattle.decision_tables.specs.Tables.{Table, and_then, ask, done, need, refuse}
-use Rattle.krb_preauth.specs.Padata.{first_of}
+use Rattle.krb_tickets.specs.Padata.{first_of}
 use Rattle.krb_tickets.specs.Grant.{GrantRecord}
 use Rattle.krb_tickets.specs.Parts.{session_key_of}
 use Rattle.krb_tickets.specs.ReplyKeys.{ReplyKeyRecord, tgs_reply_key, tgs_subkey_reply_key}
@@ -40,7 +40,7 @@ use Rattle.krb_kdc_requests.specs.Call.{CallRecord, skew_of}
 use Rattle.krb_kdc_requests.specs.Granting.{replied}
 use Rattle.krb_kdc_requests.specs.Requests.{body_of, header_rows, padata_in, lasting, service_of}
 pub use Rattle.krb_kdc_requests.specs.Requests.{body_bytes}
-use Rattle.krb_preauth.specs.TicketGranting.{krbtgt_of}
+use Rattle.krb_types.specs.TicketGranting.{krbtgt_of}
 use Rattle.krb_kdc_requests.specs.declared.span.Span.{Span}
 
 -- the request is a TGS request to this realm, without sealed authorization data, which no ticket is granted with

@@ -1,7 +1,7 @@
 //! Judging TGS requests: the rows of a realm's table, part by part.
 ghost use Rattle.std.specs.Prelude.{◌≡◌};
 ghost use Rattle.krb_kdc_requests.specs.Call.{call_of};
-ghost use Rattle.krb_preauth.specs.TicketGranting.{krbtgt_of};
+ghost use Rattle.krb_types.specs.TicketGranting.{krbtgt_of};
 ghost use Rattle.krb_tgs.specs.TgsTable.{carried, counting, authenticated_near, ticket_granting, to_us};
 ghost use Rattle.krb_types.specs.Refusals.{IsJudged};
 
@@ -15,11 +15,11 @@ use krb_constants::types::TGS_REQ_MSG_TYPE;
 use krb_constants::{error_codes, key_usages};
 use krb_kdc_requests::{Call, check_header};
 use krb_messages::messages::{ApReqInner, KdcReq};
-use krb_preauth::first_of;
+use krb_tickets::first_of;
 use krb_types::data_types::{EncTicketPartInner, PaData};
 use krb_types::{Refusal, is_same_realm};
 use picky_asn1::wrapper::GeneralStringAsn1;
-use results::if_passed;
+use result_pairs::if_passed;
 use std::alloc::Global;
 
 /// Judges whether it is a TGS request to this realm, and its options.

@@ -14,8 +14,7 @@ use krb_constants::error_codes;
 use krb_crypto::Key;
 use krb_kdc_requests::{Call, padata_in, service_of};
 use krb_messages::messages::{ApReqInner, KdcReq, KdcReqBody};
-use krb_preauth::krbtgt_of;
-use krb_types::Refusal;
+use krb_types::{Refusal, krbtgt_of};
 use krb_types::data_types::{EncTicketPartInner, PrincipalName};
 use std::alloc::Global;
 

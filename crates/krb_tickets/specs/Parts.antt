@@ -18,7 +18,7 @@ use Rattle.krb_messages.specs.declared.messages.enc_kdc_rep_part.EncKdcRepPart.{
 use Rattle.krb_encrypted_data.specs.Sealing.{encryption_key}
 use Rattle.picky_asn1_der.specs.declared.wrapper.ExplicitContextTag.{ExplicitContextTag}
 use Rattle.krb_types.specs.declared.data_types.pa_data.PaData.{PaData}
-use Rattle.krb_preauth.specs.MethodData.{pa_data_of}
+use Rattle.krb_tickets.specs.MethodData.{pa_data_of}
 use Rattle.krb_tickets.specs.Grant.{GrantRecord}
 use Rattle.krb_tickets.specs.declared.grant.TicketFlags.{TicketFlags}
 use Rattle.krb_tickets.specs.declared.reply.Exchange.{Exchange}

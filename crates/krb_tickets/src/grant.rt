@@ -15,7 +15,7 @@ use krb_types::data_types::{EncTicketPartInner, EncryptedData, PrincipalName, Ti
 use picky_asn1::date::GeneralizedTime;
 use picky_asn1::wrapper::{GeneralStringAsn1, IntegerAsn1, OctetStringAsn1};
 use picky_asn1_der::{ExplicitContextTag, LentFields, tagged_encoding};
-use results::both;
+use result_pairs::both;
 use std::alloc::{AllocError, Global};
 
 /// What a ticket is granted with, in an AS or a TGS exchange. Names are borrowed: each message that holds one copies it once.

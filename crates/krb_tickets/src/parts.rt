@@ -14,7 +14,7 @@ use picky_asn1::wrapper::{
     Asn1SequenceOf, BitStringAsn1, GeneralizedTimeAsn1, IntegerAsn1, OctetStringAsn1,
 };
 use picky_asn1_der::{ExplicitContextTag, LentFields, Optional};
-use results::both;
+use result_pairs::both;
 use std::alloc::{AllocError, Global};
 
 /// The flag `initial`, bit 9 of 32, in the second octet (RFC 4120, section 5.3).

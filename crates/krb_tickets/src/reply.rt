@@ -18,13 +18,13 @@ use krb_constants::types::{
 use krb_crypto::Key;
 use krb_encrypted_data::sealed_data;
 use krb_messages::messages::{EncKdcRepPart, KdcRep};
-use krb_preauth::pa_data;
+use crate::methods::pa_data;
 use krb_types::data_types::{EncryptedData, PaData};
 use picky_asn1::wrapper::{Asn1SequenceOf, IntegerAsn1};
 use picky_asn1_der::{
     ApplicationTag, ExplicitContextTag, ExplicitContextTag2, LentFields, Optional, tagged_encoding,
 };
-use results::both;
+use result_pairs::both;
 use std::alloc::{AllocError, Global};
 
 /// The type of PA-PK-AS-REP (RFC 4556, section 3.1.3).

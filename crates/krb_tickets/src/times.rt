@@ -5,7 +5,7 @@ ghost use Rattle.picky_asn1.specs.GeneralizedTime.{seconds_of};
 ghost use Rattle.krb_tickets.specs.Times.{end_of, old_end, start_of};
 
 use krb_accounts::Settings;
-use krb_moments::Moment;
+use krb_time::Moment;
 use picky_asn1::date::GeneralizedTime;
 
 /// The end that asks for as late a one as may be, 1970-01-01 00:00:00 (RFC 4120, section 3.1.3), in seconds since year 0.

@@ -3,3 +3,4 @@ pub mod NameText
 pub mod Names
 pub mod RandomBytes
 pub mod Refusals
+pub mod TicketGranting

@@ -4,9 +4,11 @@
 #![tactic(auto)]
 
 pub mod data_types;
+mod krbtgt;
 mod names;
 pub mod random_bytes;
 mod refusal;
 
+pub use krbtgt::{krbtgt, krbtgt_of};
 pub use names::{is_same_name, is_same_realm};
 pub use refusal::Refusal;

@@ -1,12 +1,12 @@
--- The faults of a PAC, and what of devices they tell.
+-- The faults of a PAC, and what of byte_streams they tell.
 use Rattle.std.specs.Prelude.{◌≡◌, ℕ, Option, None, Some}
 use Rattle.std.specs.declared.io.ErrorKind.{ErrorKind}
 use Rattle.std.specs.declared.io.ErrorKind.TheVariants.{UnexpectedEof, WriteZero, OutOfMemory}
-use Rattle.devices.specs.declared.exact.WholeFault.{WholeFault}
-use Rattle.devices.specs.declared.exact.WholeFault.TheVariants as whole
-use Rattle.devices.specs.Counting.{one_more}
-use Rattle.devices.specs.Whole.{after_whole_fault}
-use Rattle.devices.specs.Faults.{TellsWholeFault}
+use Rattle.byte_streams.specs.declared.exact.WholeFault.{WholeFault}
+use Rattle.byte_streams.specs.declared.exact.WholeFault.TheVariants as whole
+use Rattle.byte_streams.specs.Counting.{one_more}
+use Rattle.byte_streams.specs.Whole.{after_whole_fault}
+use Rattle.byte_streams.specs.Faults.{TellsWholeFault}
 use Rattle.pac_layouts.specs.declared.error.PacError.{PacError}
 use Rattle.pac_layouts.specs.declared.error.PacError.TheVariants.{IoError, InvalidRange, Memory}
 

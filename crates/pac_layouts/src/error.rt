@@ -3,7 +3,7 @@ ghost use Rattle.std.specs.Prelude.{◌≡◌};
 ghost use Rattle.pac_layouts.specs.Faults.{of_whole_fault, short_of, range_of};
 ghost use Rattle.pac_layouts.specs.declared.error.PacError.TheVariants.{Memory};
 
-use devices::WholeFault;
+use byte_streams::WholeFault;
 use std::alloc::AllocError;
 use std::io;
 use std::io::ErrorKind;

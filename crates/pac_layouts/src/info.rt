@@ -10,7 +10,7 @@ ghost use Rattle.pac_layouts.specs.Refusals.{IsRowBroken, IsRowRefusal, TellsRea
 use crate::error::{short_fault, write_fault};
 use crate::{PacBufferType, PacError};
 use byte_layouts::{put_at, read_front, u32_le, u32_le_bytes, u64_le, u64_le_bytes};
-use devices::{Sink, Source, write_whole};
+use byte_streams::{Sink, Source, write_whole};
 use std::io::ErrorKind;
 
 /// How many bytes a row of the table has.

@@ -11,7 +11,7 @@ use crate::error::{short_fault, write_fault};
 use crate::info::INFO_LEN;
 use crate::{PacBuffer, PacError};
 use byte_layouts::{put_at, read_to_stop, u32_le, u32_le_bytes};
-use devices::{Sink, Source, write_whole};
+use byte_streams::{Sink, Source, write_whole};
 use std::alloc::{AllocError, Global};
 use std::io::ErrorKind;
 

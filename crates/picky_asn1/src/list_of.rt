@@ -1,7 +1,7 @@
 //! Lists of values of one type.
 ghost use Rattle.std.specs.Prelude.{◌≡◌, IfOk};
 
-use devices::{Sink, Source};
+use byte_streams::{Sink, Source};
 use picky_asn1_der::{
     Asn1DerError, Deserialize, Deserializer, Elements, Serializer, Tagged, read_sequence,
 };

@@ -6,7 +6,7 @@ ghost use Rattle.asn1_codec.specs.Refusals.{part_refusal};
 
 use asn1_codec::{Deserialize, Deserializer, IsTagNumber, Serialize, Serializer, TagNumber};
 use asn1_der::Asn1DerError;
-use devices::{Sink, Source};
+use byte_streams::{Sink, Source};
 
 /// A value under the constructed application tag `TAG` (X.690, section 8.14), which is below 31.
 #[derive(Clone, Copy, Debug, Drop, PartialEq, Eq)]

@@ -6,7 +6,7 @@ ghost use Rattle.asn1_der.specs.Octets.{bit_string_octet};
 use asn1_codec::{Deserialize, Deserializer, Serializer, Tagged};
 use asn1_der::Asn1DerError;
 use asn1_der::octets::BIT_STRING;
-use devices::{Sink, Source};
+use byte_streams::{Sink, Source};
 
 /// A BIT STRING whose bits, of which none is unused, are the encoding of one value (X.690, section 8.6).
 ///

@@ -5,7 +5,7 @@ ghost use Rattle.asn1_der.specs.Octets.{octet_string_octet};
 use asn1_codec::{Leaf, Serializer};
 use asn1_der::octets::OCTET_STRING;
 use asn1_der::{Asn1DerError, Rule};
-use devices::Sink;
+use byte_streams::Sink;
 use std::alloc::{AllocError, Global};
 use std::marker::Model;
 

@@ -8,7 +8,7 @@ ghost use Rattle.picky_asn1_der.specs.Choices.{choice_tree};
 
 use asn1_codec::{Deserialize, Deserializer};
 use asn1_der::Asn1DerError;
-use devices::Source;
+use byte_streams::Source;
 
 /// Alternatives that are read.
 pub trait Alternatives: Sized {

@@ -6,7 +6,7 @@ ghost use Rattle.asn1_der.specs.Octets.{octet_string_octet};
 use asn1_codec::{Deserialize, Deserializer, Serializer, Tagged};
 use asn1_der::Asn1DerError;
 use asn1_der::octets::OCTET_STRING;
-use devices::{Sink, Source};
+use byte_streams::{Sink, Source};
 
 /// An OCTET STRING whose octets are the encoding of one value (X.690, section 8.7).
 #[derive(Clone, Copy, Debug, Drop, PartialEq, Eq)]

@@ -9,7 +9,7 @@ use asn1_codec::{
     WriteFields, WriteItem, write_field,
 };
 use asn1_der::Asn1DerError;
-use devices::{Sink, Source};
+use byte_streams::{Sink, Source};
 use std::alloc::{AllocError, Global};
 
 /// A type that has a default value. A value under an explicit tag has its type's.

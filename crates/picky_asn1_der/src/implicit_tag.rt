@@ -8,7 +8,7 @@ use asn1_codec::{
     Deserialize, Deserializer, IsTagNumber, Serialize, Serializer, TagNumber, Tagged, read_as,
 };
 use asn1_der::Asn1DerError;
-use devices::{Sink, Source};
+use byte_streams::{Sink, Source};
 
 /// A value under the implicit context tag `N` (X.690, section 8.14.3), which is below 31.
 ///

@@ -3,7 +3,7 @@
 ghost use Rattle.std.specs.Prelude.{◌≡◌, MatchResult};
 
 use crate::{Asn1DerError, Serialize, Serializer};
-use devices::Sink;
+use byte_streams::Sink;
 use std::marker::Model;
 
 /// A value that is lent to be written. A contract sees the value itself.

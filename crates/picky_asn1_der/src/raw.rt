@@ -4,7 +4,7 @@ ghost use Rattle.asn1_elements.specs.Raw.{Raw, has_low_number};
 
 use asn1_codec::{Deserialize, Deserializer, Serialize, Serializer};
 use asn1_der::Asn1DerError;
-use devices::{Sink, Source};
+use byte_streams::{Sink, Source};
 use std::alloc::AllocError;
 use std::marker::Model;
 

@@ -8,7 +8,7 @@ use crate::raw::RawElement;
 use asn1_codec::{Deserialize, Deserializer, Serialize, Serializer};
 use asn1_der::{Asn1DerError, LengthOctets};
 use asn1_elements::split_element;
-use devices::{Sink, Source};
+use byte_streams::{Sink, Source};
 use std::alloc::{AllocError, Global};
 use std::cmp::Ordering;
 use std::fmt;

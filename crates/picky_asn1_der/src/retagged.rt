@@ -3,7 +3,7 @@ ghost use Rattle.std.specs.Prelude.{◌≡◌};
 
 use asn1_codec::{Deserializer, Serializer, Tagged};
 use asn1_der::Asn1DerError;
-use devices::{Sink, Source};
+use byte_streams::{Sink, Source};
 
 /// A value under the identifier octet `OCTET` in place of its type's own: a SET of fields (X.690, section 8.11) and a SET OF
 /// (8.12) are a SEQUENCE under 49.

@@ -13,10 +13,7 @@ pub use x509_certificates::{
     Certificate, CertificateExtensions, CertificationRequest, CertificationRequestInfo,
     TbsCertificate,
 };
-pub use x509_extensions::{
-    AuthorityKeyIdentifier, Extension, ExtensionValue, ExtensionView, Extensions, IssuerAltName,
-    KeyIdentifier, SubjectAltName, SubjectKeyIdentifier,
-};
+pub use x509_extensions::{AuthorityKeyIdentifier, ExtendedKeyUsage, Extension, ExtensionValue, ExtensionView, Extensions, IssuerAltName, KeyIdentifier, KeyUsage, SubjectAltName, SubjectKeyIdentifier};
 pub use x509_keys::{
     EcPoint, EncapsulatedEcPoint, EncapsulatedMldsaPublicKey, EncapsulatedRsaPublicKey, PublicKey,
     RsaPublicKey, SubjectPublicKeyInfo,
@@ -41,4 +38,3 @@ pub use x509_private_keys::{
 pub use x509_spelling::{
     Signed, Spelled, X509Fault, deviations, encoded_len, from_bytes, to_vec, with_signed_part,
 };
-pub use x509_usages::{ExtendedKeyUsage, KeyUsage};

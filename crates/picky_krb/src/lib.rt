@@ -92,14 +92,14 @@ pub mod messages {
 
 /// Messages of NEGOEX (MS-NEGOEX).
 pub mod negoex {
-    pub use negoex_layouts::{
+    pub use negoex_messages::{
         CHECKSUM_SCHEME_RFC3961, Laid, NEGOEXTS_MESSAGE_SIGNATURE, NegoexDataType, NegoexError,
         NegoexMessage, PROTOCOL_VERSION, RANDOM_ARRAY_SIZE, Wide, written_is_read,
     };
 
     /// What messages hold (MS-NEGOEX, section 2.2.5).
     pub mod data_types {
-        pub use negoex_layouts::{
+        pub use negoex_messages::{
             AuthScheme, AuthSchemeVector, ByteVector, Checksum, ConversationId, Extension,
             ExtensionVector, Guid, MessageHeader, MessageType,
         };
@@ -107,7 +107,7 @@ pub mod negoex {
 
     /// Its messages (MS-NEGOEX, section 2.2.6).
     pub mod messages {
-        pub use negoex_layouts::{Exchange, Nego, Verify};
+        pub use negoex_messages::{Exchange, Nego, Verify};
     }
 }
 

@@ -1,8 +1,8 @@
 -- A client by certificate refuses no request that it has padata for.
 use Rattle.std.proofs.Common.{◌≡◌, None, Some, inl, inr, sym, ◌∙◌}
 use Rattle.picky_asn1.specs.Bytes.{Bytes}
-use Rattle.krb_moments.specs.SecondOf.{sole_second}
-use Rattle.krb_moments.specs.Units.{Micros}
+use Rattle.krb_time.specs.SecondOf.{sole_second}
+use Rattle.krb_time.specs.Units.{Micros}
 use Rattle.krb_types.specs.RandomBytes.{Random}
 use Rattle.krb_types.specs.declared.data_types.pa_data.PaData.{PaData}
 use Rattle.krb_messages.specs.declared.messages.kdc_req_body.KdcReqBody.{KdcReqBody}

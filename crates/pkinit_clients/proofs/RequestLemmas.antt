@@ -4,7 +4,7 @@ use Rattle.std.specs.Prelude.{Vec}
 use Rattle.std.specs.Global.{Global}
 use Rattle.asn1_elements.specs.Raw.{Raw}
 use Rattle.asn1_leaves.specs.declared.date.GeneralizedTime.{GeneralizedTime}
-use Rattle.krb_moments.specs.SecondOf.{IsSecondOf, sole_second}
+use Rattle.krb_time.specs.SecondOf.{IsSecondOf, sole_second}
 use Rattle.krb_messages.specs.declared.messages.kdc_req_body.KdcReqBody.{KdcReqBody}
 use Rattle.key_functions.specs.KeyFunctions.{KeysRecord}
 use Rattle.cms_signed_content.specs.Written.{IsWritten, signed_bytes}

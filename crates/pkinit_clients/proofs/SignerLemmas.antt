@@ -9,7 +9,7 @@ use Rattle.pkinit_trust.specs.Trusted.{trusted}
 use Rattle.pkinit_trust.specs.Refusals.{IsOutcome}
 use Rattle.pkinit_trust.specs.declared.refusal.TrustFault.{TrustFault}
 use Rattle.pkinit_trust.specs.declared.refusal.TrustFault.TheVariants.{Refused, Memory}
-use Rattle.krb_preauth.specs.TicketGranting.{krbtgt_of}
+use Rattle.krb_types.specs.TicketGranting.{krbtgt_of}
 use Rattle.pkinit_clients.specs.Asked.{PkinitAskedRecord, expected_realm}
 use Rattle.pkinit_clients.specs.Faults.{IsTakenAs, fault_of}
 use Rattle.pkinit_clients.specs.Replies.{signed_by}

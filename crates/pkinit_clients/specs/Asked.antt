@@ -1,8 +1,8 @@
 -- What a client remembers of a request by certificate (RFC 4556, section 3.2.4).
 use Rattle.std.specs.Prelude.{ℕ}
 use Rattle.picky_asn1.specs.Bytes.{Bytes}
-use Rattle.krb_moments.specs.Units.{Micros}
-use Rattle.krb_preauth.specs.TicketGranting.{krbtgt_of}
+use Rattle.krb_time.specs.Units.{Micros}
+use Rattle.krb_types.specs.TicketGranting.{krbtgt_of}
 use Rattle.krb_types.specs.RandomBytes.{Random, random_part}
 use Rattle.pkinit_trust.specs.Anchors.{AnchorRecord}
 use Rattle.pkinit_trust.specs.Expected.{ExpectedRecord}

@@ -5,7 +5,7 @@ use Rattle.asn1_leaves.specs.declared.date.GeneralizedTime.{GeneralizedTime}
 use Rattle.asn1_der.specs.Tree.{der}
 use Rattle.asn1_elements.specs.Raw.{Raw}
 use Rattle.picky_asn1.specs.Bytes.{Bytes}
-use Rattle.krb_moments.specs.Units.{Micros}
+use Rattle.krb_time.specs.Units.{Micros}
 use Rattle.krb_messages.specs.declared.messages.kdc_req_body.KdcReqBody.{KdcReqBody}
 use Rattle.krb_kdc_requests.specs.Requests.{body_bytes}
 use Rattle.pkinit_messages.specs.declared.auth_pack.AuthPack.{AuthPack}

@@ -3,15 +3,15 @@ use Rattle.std.specs.Prelude.{◌≡◌, [], Option, Result, Ok}
 use Rattle.std.specs.Option.{option_map_or}
 use Rattle.std.proofs.Common.{ap, sym, ◌∙◌}
 use Rattle.picky_asn1.specs.Bytes.{Bytes}
-use Rattle.krb_moments.specs.Units.{Micros}
+use Rattle.krb_time.specs.Units.{Micros}
 use Rattle.krb_types.specs.RandomBytes.{Random}
 use Rattle.krb_types.specs.declared.data_types.pa_data.PaData.{PaData}
 use Rattle.krb_messages.specs.declared.messages.kdc_rep.KdcRep.{KdcRep}
 use Rattle.krb_messages.specs.declared.messages.kdc_req_body.KdcReqBody.{KdcReqBody}
 use Rattle.krb_crypto.specs.Keys.{KeyRecord}
 use Rattle.krb_crypto.specs.AgreedKeys.{agreed_key}
-use Rattle.krb_preauth.specs.Padata.{first_of}
-use Rattle.krb_asked.specs.Asked.{AsAskedRecord}
+use Rattle.krb_tickets.specs.Padata.{first_of}
+use Rattle.krb_client.specs.Asked.{AsAskedRecord}
 use Rattle.krb_client.specs.Client.{ClientRecord}
 use Rattle.krb_client.specs.Means.{MeansRecord}
 use Rattle.krb_client.specs.Requests.{pa_data_of}

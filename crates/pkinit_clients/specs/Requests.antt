@@ -6,8 +6,8 @@ use Rattle.asn1_der.specs.Tree.{der}
 use Rattle.asn1_der.specs.Tagged.{tagged_tree}
 use Rattle.asn1_elements.specs.Raw.{Raw}
 use Rattle.picky_asn1.specs.Bytes.{Bytes}
-use Rattle.krb_moments.specs.SecondOf.{IsSecondOf, sole_second}
-use Rattle.krb_moments.specs.Units.{Micros}
+use Rattle.krb_time.specs.SecondOf.{IsSecondOf, sole_second}
+use Rattle.krb_time.specs.Units.{Micros}
 use Rattle.krb_messages.specs.declared.messages.kdc_req_body.KdcReqBody.{KdcReqBody}
 use Rattle.key_functions.specs.KeyFunctions.{KeysRecord}
 use Rattle.cms_signed_content.specs.Written.{IsNoCertificate, IsWritten, signed_bytes}

@@ -2,7 +2,7 @@
 ghost use Rattle.std.specs.Prelude.{◌≡◌, ◌≤◌, length};
 ghost use Rattle.pkinit_clients.specs.Asked.{client_agreement_bytes};
 
-use krb_moments::Moment;
+use krb_time::Moment;
 use picky_asn1::wrapper::GeneralStringAsn1;
 use pkinit_trust::Anchor;
 

@@ -9,7 +9,7 @@ use picky_asn1::date::GeneralizedTime;
 use picky_asn1::wrapper::{GeneralizedTimeAsn1, IntegerAsn1, OctetStringAsn1};
 use picky_asn1_der::{Asn1RawDer, ExplicitContextTag, Optional, encoding_of, to_vec};
 use pkinit_messages::{AuthPack, PkAuthenticator};
-use results::both;
+use result_pairs::both;
 use sha1::Sha1;
 use std::alloc::{AllocError, Global};
 

@@ -6,7 +6,7 @@ use crate::auth_pack::auth_pack_bytes;
 use crate::signed::signed_auth_pack;
 use key_functions::KeyFunctions;
 use krb_messages::messages::KdcReqBody;
-use krb_moments::Moment;
+use krb_time::Moment;
 use picky_asn1::wrapper::OctetStringAsn1;
 use picky_asn1_der::{ImplicitContextTag, Optional, encoding_of};
 use pkinit_messages::PaPkAsReq;

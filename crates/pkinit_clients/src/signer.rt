@@ -8,7 +8,7 @@ use crate::asked::PkinitAsked;
 use crate::fault::ReplyFault;
 use cms_signed_content::SignedContent;
 use key_functions::KeyFunctions;
-use krb_preauth::krbtgt_of;
+use krb_types::krbtgt_of;
 use pkinit_trust::{ExpectedSigner, JudgedContent, check_trusted};
 use std::alloc::Global;
 

@@ -2,7 +2,7 @@
 use Rattle.std.proofs.Common.{◌≡◌, ℕ, ◌*◌, false, [], ◌∷◌, Some, Result, Ok, Err, inl, inr, refl, sym, ap, ◌∙◌, subst}
 use Rattle.std.specs.Option.{option_map_or}
 use Rattle.picky_asn1.specs.Bytes.{Bytes}
-use Rattle.krb_moments.specs.Skew.{is_far}
+use Rattle.krb_time.specs.Skew.{is_far}
 use Rattle.krb_types.specs.declared.data_types.pa_data.PaData.{PaData}
 use Rattle.krb_messages.specs.declared.messages.kdc_rep.KdcRep.{KdcRep}
 use Rattle.krb_messages.specs.declared.messages.kdc_req_body.KdcReqBody.{KdcReqBody}
@@ -11,9 +11,9 @@ use Rattle.krb_crypto.specs.AgreedKeys.{agreed_key}
 use Rattle.krb_accounts.specs.Account.{AccountRecord}
 use Rattle.decision_tables.specs.One.{same_parts}
 use Rattle.decision_tables.specs.Tables.{done}
-use Rattle.krb_pkinit.specs.Calls.{AgreedRecord, PkinitCallRecord}
-use Rattle.krb_preauth.specs.Padata.{first_padata, first_of}
-use Rattle.krb_preauth.specs.MethodData.{pa_data_of}
+use Rattle.pkinit_interface.specs.Calls.{AgreedRecord, PkinitCallRecord}
+use Rattle.krb_tickets.specs.Padata.{first_padata, first_of}
+use Rattle.krb_tickets.specs.MethodData.{pa_data_of}
 use Rattle.krb_tickets.specs.Parts.{padata_of}
 use Rattle.krb_tickets.specs.ReplyKeys.{ReplyKeyRecord, agreed_reply_key}
 use Rattle.krb_as.specs.AsTable.{authenticated, authenticated_by}

@@ -10,16 +10,16 @@ use Rattle.asn1_der.proofs.Spelling.{whole-wrapped}
 use Rattle.asn1_elements.specs.Raw.{Raw, raw_tree}
 use Rattle.picky_asn1.specs.BitString.{Bits}
 use Rattle.picky_asn1.specs.Bytes.{Bytes}
-use Rattle.krb_moments.specs.SecondOf.{IsSecondOf}
-use Rattle.krb_moments.specs.Skew.{is_far}
-use Rattle.krb_moments.specs.Times.{moment_at}
-use Rattle.krb_moments.specs.Units.{Micros, Seconds}
+use Rattle.krb_time.specs.SecondOf.{IsSecondOf}
+use Rattle.krb_time.specs.Skew.{is_far}
+use Rattle.krb_time.specs.Times.{moment_at}
+use Rattle.krb_time.specs.Units.{Micros, Seconds}
 use Rattle.krb_constants.specs.declared.error_codes.TheConstants.{KDC_ERR_KEY_TOO_WEAK}
 use Rattle.krb_types.specs.RandomBytes.{Random}
 use Rattle.krb_types.specs.Refusals.{Code}
 use Rattle.krb_constants.specs.declared.error_codes.TheConstants.{KDC_ERR_PADATA_TYPE_NOSUPP, KDC_ERR_PREAUTH_FAILED, KRB_AP_ERR_SKEW, KRB_ERR_GENERIC}
 use Rattle.krb_messages.specs.declared.messages.kdc_req_body.KdcReqBody.{KdcReqBody}
-use Rattle.krb_pkinit.specs.Calls.{AgreedRecord, PkinitCallRecord}
+use Rattle.pkinit_interface.specs.Calls.{AgreedRecord, PkinitCallRecord}
 use Rattle.krb_kdc_requests.specs.Requests.{body_bytes}
 use Rattle.key_functions.specs.KeyFunctions.{KeysRecord}
 use Rattle.key_functions.specs.KeyFunctions.TheirValue.{WholeValue}

@@ -3,11 +3,11 @@ use Rattle.std.proofs.Common.{◌≡◌, Some, sym, ap, ◌∙◌, subst}
 use Rattle.std.specs.Prelude.{Ok}
 use Rattle.asn1_elements.specs.Raw.{Raw}
 use Rattle.picky_asn1.specs.Bytes.{Bytes}
-use Rattle.krb_moments.specs.Units.{Micros}
+use Rattle.krb_time.specs.Units.{Micros}
 use Rattle.krb_types.specs.RandomBytes.{Random}
 use Rattle.krb_types.specs.declared.data_types.pa_data.PaData.{PaData}
 use Rattle.krb_messages.specs.declared.messages.kdc_req_body.KdcReqBody.{KdcReqBody}
-use Rattle.krb_pkinit.specs.Calls.{AgreedRecord, PkinitCallRecord}
+use Rattle.pkinit_interface.specs.Calls.{AgreedRecord, PkinitCallRecord}
 use Rattle.key_functions.specs.KeyFunctions.{KeysRecord}
 use Rattle.pkinit_replies.specs.PublicKeys.{IsPublicKey}
 use Rattle.pkinit_replies.specs.declared.public_key.AgreementPublicKey.{AgreementPublicKey}

@@ -11,12 +11,12 @@ use Rattle.picky_asn1.specs.Numbers.{is_number}
 use Rattle.decision_tables.specs.One.{IsSole, same_parts}
 use Rattle.decision_tables.specs.Tables.{Table, and_then, and_then_told, ask, done, need, refuse}
 use Rattle.x509_certificates.specs.declared.certificate.Certificate.{Certificate}
-use Rattle.krb_moments.specs.Skew.{is_far}
-use Rattle.krb_moments.specs.SecondOf.{sole_second}
+use Rattle.krb_time.specs.Skew.{is_far}
+use Rattle.krb_time.specs.SecondOf.{sole_second}
 use Rattle.krb_constants.specs.declared.error_codes.TheConstants.{KDC_ERR_KEY_TOO_WEAK}
 use Rattle.krb_constants.specs.declared.error_codes.TheConstants.{KDC_ERR_PADATA_TYPE_NOSUPP, KDC_ERR_PREAUTH_FAILED, KRB_AP_ERR_SKEW, KRB_ERR_GENERIC}
 use Rattle.krb_types.specs.Refusals.{Code}
-use Rattle.krb_pkinit.specs.Calls.{AgreedRecord, PkinitCallRecord}
+use Rattle.pkinit_interface.specs.Calls.{AgreedRecord, PkinitCallRecord}
 use Rattle.key_functions.specs.KeyFunctions.{KeysRecord}
 use Rattle.key_functions.specs.KeyFunctions.TheirValue.{ValueBits, WholeValue}
 use Rattle.key_functions.specs.declared.functions.Signed.{Signed}

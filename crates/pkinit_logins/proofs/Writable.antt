@@ -10,10 +10,10 @@ use Rattle.x509_oids.specs.Identifiers as oids
 use Rattle.x509_parts.specs.contracts.raw_algorithm_identifier.RawAlgorithmIdentifierSpelled.TheImpl as raw_spelled
 use Rattle.key_functions.specs.Encodings.{HasEncoding}
 use Rattle.key_functions.specs.declared.functions.Signed.{Signed}
-use Rattle.cms_signed_data.specs.PartSpellings.{PartSpellings}
-use Rattle.cms_signed_data.specs.contracts.form.ContentInfoOfForm.TheImpl as of_form
-use Rattle.cms_signed_data.specs.contracts.signer_info.SignerInfoSpelled.TheImpl as signer_info
-use Rattle.cms_signed_data.specs.declared.signer_info.SignerInfo.{SignerInfo}
+use Rattle.cms_types.specs.PartSpellings.{PartSpellings}
+use Rattle.cms_types.specs.contracts.form.ContentInfoOfForm.TheImpl as of_form
+use Rattle.cms_types.specs.contracts.signer_info.SignerInfoSpelled.TheImpl as signer_info
+use Rattle.cms_types.specs.declared.signer_info.SignerInfo.{SignerInfo}
 use Rattle.cms_signed_content.proofs.AroundLemmas.{data_built, info_built}
 use Rattle.cms_signed_content.proofs.WholeLemmas.{attributes_whole, id_whole, oid_whole}
 use Rattle.cms_signed_content.specs.Written.{IsWritten, attributes_of, encapsulated_of, id_of, sha256_algorithm, signed_bytes, signer_of}

@@ -4,11 +4,11 @@ use Rattle.asn1_leaves.specs.declared.date.GeneralizedTime.{GeneralizedTime}
 use Rattle.asn1_elements.specs.Raw.{Raw}
 use Rattle.picky_asn1.specs.BitString.{Bits}
 use Rattle.picky_asn1.specs.Bytes.{Bytes}
-use Rattle.krb_moments.specs.SecondOf.{IsSecondOf}
-use Rattle.krb_moments.specs.Units.{Micros}
+use Rattle.krb_time.specs.SecondOf.{IsSecondOf}
+use Rattle.krb_time.specs.Units.{Micros}
 use Rattle.krb_types.specs.Refusals.{Code}
 use Rattle.krb_messages.specs.declared.messages.kdc_req_body.KdcReqBody.{KdcReqBody}
-use Rattle.krb_pkinit.specs.Calls.{AgreedRecord}
+use Rattle.pkinit_interface.specs.Calls.{AgreedRecord}
 use Rattle.x509_certificates.specs.declared.certificate.Certificate.{Certificate}
 use Rattle.key_functions.specs.KeyFunctions.{KeysRecord}
 use Rattle.key_functions.specs.KeyFunctions.TheirValue.{ValueBits, WholeValue}

@@ -1,7 +1,7 @@
 -- Which AS exchanges by certificate are honest (RFC 4556, section 3.2).
 use Rattle.std.specs.Prelude.{◌≡◌, Some}
 use Rattle.picky_asn1.specs.Bytes.{Bytes}
-use Rattle.krb_pkinit.specs.Calls.{PkinitCallRecord}
+use Rattle.pkinit_interface.specs.Calls.{PkinitCallRecord}
 use Rattle.key_functions.specs.KeyFunctions.{KeysRecord}
 use Rattle.pkinit_trust.specs.Anchors.{AnchorRecord}
 use Rattle.pkinit_replies.specs.AgreementBytes.{agreement_bytes}

@@ -1,7 +1,7 @@
 -- A client's means that have padata for honest exchanges alone.
 use Rattle.std.specs.Prelude.{ℕ}
 use Rattle.picky_asn1.specs.Bytes.{Bytes}
-use Rattle.krb_moments.specs.Units.{Micros}
+use Rattle.krb_time.specs.Units.{Micros}
 use Rattle.krb_types.specs.RandomBytes.{Random}
 use Rattle.krb_kdc_requests.specs.Call.{CallRecord, pkinit_call}
 use Rattle.krb_client.specs.Client.{ClientRecord}

@@ -1,9 +1,9 @@
 -- When a client and a realm that are both honest agree by certificate (RFC 4556, section 3.2).
 use Rattle.std.specs.Prelude.{◌≡◌, false, Some, pos}
 use Rattle.picky_asn1.specs.Bytes.{Bytes}
-use Rattle.krb_moments.specs.Skew.{is_far}
-use Rattle.krb_moments.specs.Units.{Micros}
-use Rattle.krb_pkinit.specs.Calls.{PkinitCallRecord}
+use Rattle.krb_time.specs.Skew.{is_far}
+use Rattle.krb_time.specs.Units.{Micros}
+use Rattle.pkinit_interface.specs.Calls.{PkinitCallRecord}
 use Rattle.key_functions.specs.KeyFunctions.{KeysRecord}
 use Rattle.pkinit_trust.specs.Anchors.{AnchorRecord}
 use Rattle.pkinit_trust.specs.Certificates.{IsCertificate, ReadRecord}

@@ -2,7 +2,7 @@
 use Rattle.std.specs.Prelude.{◌≡◌, Some}
 use Rattle.picky_asn1.specs.Bytes.{Bytes}
 use Rattle.krb_as.specs.TicketGranting.{krbtgt_of}
-use Rattle.krb_asked.specs.Asked.{agreement_part}
+use Rattle.krb_client.specs.Asked.{agreement_part}
 use Rattle.krb_client.specs.Client.{ClientRecord}
 use Rattle.krb_service.specs.Service.{ServiceRecord}
 use Rattle.krb_logins.specs.Authenticated.{first_body}

@@ -2,8 +2,8 @@
 ghost use Rattle.std.specs.Prelude.{◌≡◌, ◌≤◌, IfErr, IfOk, IsTrue, Ok, Some, length};
 ghost use Rattle.asn1_elements.specs.Raw.{Raw};
 ghost use Rattle.krb_kdc_requests.specs.Call.{call_of, pkinit_call};
-ghost use Rattle.krb_pkinit.specs.Calls.{AgreedRecord};
-ghost use Rattle.krb_pkinit.specs.Calls as calls;
+ghost use Rattle.pkinit_interface.specs.Calls.{AgreedRecord};
+ghost use Rattle.pkinit_interface.specs.Calls as calls;
 ghost use Rattle.pkinit_clients.specs.Asked.{asked_of, client_agreement_bytes};
 ghost use Rattle.pkinit_clients.specs.Means.{IsPkinitPadata};
 ghost use Rattle.pkinit_clients.specs.Replies.{secret_of};
@@ -16,13 +16,12 @@ ghost use Rattle.pkinit_requests.specs.PkinitTable.{pkinit_table};
 ghost use Rattle.pkinit_requests.specs.Trust.{trust_of};
 
 use key_functions::KeyFunctions;
-use krb_asked::AsAsked;
-use krb_client::{AskRefusal, Client, Means, TakeRefusal};
+use krb_client::{AsAsked, AskRefusal, Client, Means, TakeRefusal};
 use krb_crypto::Key;
 use krb_kdc_requests::Call;
 use krb_messages::messages::{KdcRep, KdcReqBody};
-use krb_moments::Moment;
-use krb_pkinit::{Pkinit, PkinitCall};
+use krb_time::Moment;
+use pkinit_interface::{Pkinit, PkinitCall};
 use krb_types::data_types::PaData;
 use picky_asn1_der::Asn1RawDer;
 use pkinit_clients::{ByCertificate, PkinitAsked, agreement_words, secret_of};

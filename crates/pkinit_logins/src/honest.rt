@@ -17,7 +17,7 @@ use key_functions::KeyFunctions;
 use krb_client::Client;
 use krb_kdc_requests::Call;
 use krb_logins::{LoginInput, is_honest};
-use krb_preauth::krbtgt;
+use krb_types::krbtgt;
 use krb_service::Service;
 use picky_asn1::wrapper::GeneralStringAsn1;
 use pkinit_clients::ByCertificate;

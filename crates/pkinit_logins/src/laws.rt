@@ -1,7 +1,7 @@
 //! What client and realm agree on where both are honest: each sign for the other, and their public keys give one secret; and what a
 //! login by certificate ends with. Each is a function that does nothing when it runs: its contract is the law.
 ghost use Rattle.std.specs.Prelude.{◌≡◌, ℕ, List, Ok, Result, pos};
-ghost use Rattle.krb_pkinit.specs.Calls.{AgreedRecord, PkinitCallRecord};
+ghost use Rattle.pkinit_interface.specs.Calls.{AgreedRecord, PkinitCallRecord};
 ghost use Rattle.krb_kdc_requests.specs.Calls.{AreKeyed};
 ghost use Rattle.krb_client.specs.Client.{ClientRecord};
 ghost use Rattle.krb_service.specs.Service.{ServiceRecord};

@@ -6,7 +6,7 @@ use crate::dh_nonce::DhNonce;
 use crate::dh_req_info::DhReqInfo;
 use crate::pk_authenticator::PkAuthenticator;
 use asn1_der::octets::SEQUENCE;
-use devices::{Sink, Source};
+use byte_streams::{Sink, Source};
 use picky_asn1::wrapper::Asn1SequenceOf;
 use picky_asn1_der::{
     Asn1DerError, Deserialize, Deserializer, ExplicitContextTag0, ExplicitContextTag1,

@@ -1,6 +1,6 @@
 //! Replies to preauthentication by certificate.
 use crate::dh_rep_info::DhRepInfo;
-use devices::{Sink, Source};
+use byte_streams::{Sink, Source};
 use picky_asn1::wrapper::OctetStringAsn1;
 use picky_asn1_der::{
     Alternatives, Asn1DerError, Choice, Deserialize, Deserializer, ExplicitContextTag0,

@@ -3,7 +3,7 @@ ghost use Rattle.asn1_der.specs.Octets.{sequence_octet};
 
 use crate::external_principal_identifier::ExternalPrincipalIdentifier;
 use asn1_der::octets::SEQUENCE;
-use devices::{Sink, Source};
+use byte_streams::{Sink, Source};
 use picky_asn1::wrapper::{Asn1SequenceOf, OctetStringAsn1};
 use picky_asn1_der::{
     Asn1DerError, Deserializer, ExplicitContextTag1, Fields, ImplicitContextTag0,

@@ -3,7 +3,7 @@ ghost use Rattle.asn1_der.specs.Octets.{sequence_octet};
 
 use crate::pku2u_nego_req_metadata::Pku2uNegoReqMetadata;
 use asn1_der::octets::SEQUENCE;
-use devices::{Sink, Source};
+use byte_streams::{Sink, Source};
 use picky_asn1::wrapper::Asn1SequenceOf;
 use picky_asn1_der::{
     Asn1DerError, Deserializer, ExplicitContextTag0, Fields, Row1, Serializer, Tagged, fields_of,

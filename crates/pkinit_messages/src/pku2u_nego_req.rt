@@ -4,7 +4,7 @@ ghost use Rattle.asn1_der.specs.Octets.{sequence_octet};
 use crate::pku2u_nego_body::Pku2uNegoBody;
 use crate::pku2u_nego_req_metadata::Pku2uNegoReqMetadata;
 use asn1_der::octets::SEQUENCE;
-use devices::{Sink, Source};
+use byte_streams::{Sink, Source};
 use picky_asn1::wrapper::Asn1SequenceOf;
 use picky_asn1_der::{
     Asn1DerError, Deserializer, ExplicitContextTag0, ExplicitContextTag1, Fields, Row2, Serializer,

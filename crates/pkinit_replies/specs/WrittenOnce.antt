@@ -3,7 +3,7 @@ use Rattle.std.proofs.Common.{◌≡◌, ℕ, List, [], ◌∷◌, Option, None,
 use Rattle.asn1_der.specs.Length.{element}
 use Rattle.asn1_elements.specs.Parts.{IsPart}
 use Rattle.asn1_elements.specs.PartLaws.{part-one}
-use Rattle.asn1_paths.specs.PathLaws.{LeadsTo, go_on, held_at, part_there}
+use Rattle.asn1_elements.specs.PathLaws.{LeadsTo, go_on, held_at, part_there}
 use Rattle.cms_signed_content.specs.CertificateSpelled.TheImpl as certificate
 use Rattle.x509_parts.specs.contracts.raw_algorithm_identifier.RawAlgorithmIdentifierSpelled.TheImpl as raw_spelled
 use Rattle.cms_signed_content.specs.Signed.{Signed}

@@ -2,7 +2,7 @@
 ghost use Rattle.asn1_der.specs.Octets.{sequence_octet};
 
 use asn1_der::octets::SEQUENCE;
-use devices::{Sink, Source};
+use byte_streams::{Sink, Source};
 use picky_asn1::wrapper::BitStringAsn1;
 use picky_asn1_der::{
     Asn1DerError, Asn1RawDer, Deserializer, Fields, Row2, Serializer, Tagged, fields_of,

@@ -5,7 +5,7 @@ use Rattle.asn1_der.specs.Tree.{Tree, Trees, primitive, constructed, more, none,
 use Rattle.asn1_der.specs.Tagged.{tagged_tree}
 use Rattle.asn1_der.proofs.Spelling.{der-wrapped, wrapped-whole}
 use Rattle.asn1_elements.specs.Parts.{IsPart}
-use Rattle.asn1_paths.specs.PathLaws.{AreSome, IsElement, LeadsTo, at_front, go_on, held_at, in_element, some_more}
+use Rattle.asn1_elements.specs.PathLaws.{AreSome, IsElement, LeadsTo, at_front, go_on, held_at, in_element, some_more}
 use Rattle.picky_asn1.specs.Bytes.{Bytes}
 use Rattle.krb_kdc_requests.proofs.RequestParts.{within}
 use Rattle.cms_signed_content.specs.Parts.{attributes_place, certificate_place}

@@ -1,7 +1,7 @@
 -- What a client asks for by certificate.
 use Rattle.std.specs.Prelude.{ℤ}
 use Rattle.asn1_elements.specs.Raw.{Raw}
-use Rattle.krb_moments.specs.Units.{Micros}
+use Rattle.krb_time.specs.Units.{Micros}
 
 -- its public value, and the time and the nonce of its authenticator
 pub record AskedRecord : Type 0 where

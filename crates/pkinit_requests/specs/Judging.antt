@@ -1,9 +1,9 @@
 -- What a request by certificate is judged by, where there are an anchor and a certificate.
 use Rattle.picky_asn1.specs.Bytes.{Bytes}
-use Rattle.krb_moments.specs.Units.{Micros}
+use Rattle.krb_time.specs.Units.{Micros}
 use Rattle.krb_types.specs.RandomBytes.{Random}
 use Rattle.krb_messages.specs.declared.messages.kdc_req_body.KdcReqBody.{KdcReqBody}
-use Rattle.krb_pkinit.specs.Calls.{PkinitCallRecord}
+use Rattle.pkinit_interface.specs.Calls.{PkinitCallRecord}
 use Rattle.pkinit_trust.specs.Anchors.{AnchorRecord}
 use Rattle.pkinit_trust.specs.Expected.{ExpectedRecord, expected_of}
 use Rattle.pkinit_requests.specs.declared.judging.Judging as held

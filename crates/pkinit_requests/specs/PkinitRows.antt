@@ -1,7 +1,7 @@
 -- The rows of the AS exchange's table by which a realm judges requests by certificate (RFC 4556, section 3.2.2).
 use Rattle.std.specs.Option.{is_some}
 use Rattle.key_functions.specs.KeyFunctions.{KeysRecord}
-use Rattle.krb_pkinit.specs.Rows.{PkinitRows}
+use Rattle.pkinit_interface.specs.Rows.{PkinitRows}
 use Rattle.pkinit_requests.specs.HasOutcomes.{has_pkinit}
 use Rattle.pkinit_requests.specs.PkinitTable.{pkinit_table}
 use Rattle.pkinit_requests.specs.Trust.{TrustRecord}

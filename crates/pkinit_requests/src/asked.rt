@@ -9,7 +9,7 @@ ghost use Rattle.pkinit_requests.specs.PkinitTable.{asked_by};
 use crate::parts::Asked;
 use krb_constants::error_codes;
 use krb_messages::messages::KdcReqBody;
-use krb_moments::{Moment, moment_at};
+use krb_time::{Moment, moment_at};
 use krb_types::Refusal;
 use picky_asn1::wrapper::OctetStringAsn1;
 use picky_asn1_der::{Asn1RawDer, to_vec};

@@ -1,5 +1,5 @@
 //! What a client asks for by certificate, as it is handed on.
-use krb_moments::Moment;
+use krb_time::Moment;
 use picky_asn1::wrapper::IntegerAsn1;
 use picky_asn1_der::Asn1RawDer;
 use std::marker::Model;

@@ -1,7 +1,7 @@
 //! A realm that authenticates clients by certificate.
 ghost use Rattle.std.specs.Prelude.{◌≡◌, ◌≤◌, length};
 ghost use Rattle.krb_types.specs.Refusals.{IsJudged};
-ghost use Rattle.krb_pkinit.specs.Calls.{agreed_as, call_of};
+ghost use Rattle.pkinit_interface.specs.Calls.{agreed_as, call_of};
 ghost use Rattle.pkinit_requests.specs.PkinitTable.{pkinit_table};
 ghost use Rattle.pkinit_requests.specs.Trust.{trust_of};
 
@@ -9,7 +9,7 @@ use crate::judging::Judging;
 use crate::table::judge_request;
 use key_functions::KeyFunctions;
 use krb_constants::error_codes;
-use krb_pkinit::{Agreed, Pkinit, PkinitCall};
+use pkinit_interface::{Agreed, Pkinit, PkinitCall};
 use krb_types::Refusal;
 use pkinit_trust::{Anchor, ExpectedSigner};
 use std::alloc::Global;

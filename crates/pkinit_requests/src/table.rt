@@ -1,7 +1,7 @@
 //! Judging a request by certificate, part by part.
 ghost use Rattle.std.specs.Prelude.{◌≡◌, ◌≤◌, length};
 ghost use Rattle.krb_types.specs.Refusals.{IsJudged};
-ghost use Rattle.krb_pkinit.specs.Calls.{agreed_as};
+ghost use Rattle.pkinit_interface.specs.Calls.{agreed_as};
 ghost use Rattle.pkinit_requests.specs.Judging.{judging_of};
 ghost use Rattle.pkinit_requests.specs.PkinitTable.{agreed_on, is_auth_data, of_auth_pack, of_content, of_request, of_signed};
 
@@ -14,7 +14,7 @@ use cms_signed_content::{SignedContent, SignedFault};
 use key_functions::{KeyFunctions, Theirs};
 use krb_constants::error_codes;
 use krb_constants::error_codes::KDC_ERR_KEY_TOO_WEAK;
-use krb_pkinit::Agreed;
+use pkinit_interface::Agreed;
 use krb_types::Refusal;
 use picky_asn1_der::Asn1RawDer;
 use pkinit_messages::AuthPack;

@@ -4,7 +4,7 @@ use Rattle.std.specs.Bool.{nat_eq}
 use Rattle.std.specs.List.{list_any}
 use Rattle.std.specs.Cmp.Lexicographic.{pointwise}
 use Rattle.picky_asn1.specs.GeneralizedTime.{seconds_of}
-use Rattle.krb_moments.specs.Units.{Micros, Seconds}
+use Rattle.krb_time.specs.Units.{Micros, Seconds}
 use Rattle.decision_tables.specs.Tables.{Table, and_then, done, refuse}
 use Rattle.x509_parts.specs.declared.time.Time.{Time}
 use Rattle.x509_parts.specs.declared.time.Time.TheVariants.{Utc, Generalized}

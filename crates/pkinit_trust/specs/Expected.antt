@@ -1,7 +1,7 @@
 -- Whom signed content is expected from.
 use Rattle.std.specs.Prelude.{List}
 use Rattle.picky_asn1.specs.Bytes.{Bytes}
-use Rattle.krb_moments.specs.Units.{Micros}
+use Rattle.krb_time.specs.Units.{Micros}
 use Rattle.pkinit_trust.specs.Anchors.{AnchorRecord}
 use Rattle.pkinit_trust.specs.declared.expected.ExpectedSigner as held
 

@@ -8,7 +8,7 @@ use crate::certificates::is_encoded_as;
 use crate::expected::ExpectedSigner;
 use crate::refusal::{TrustFault, TrustRefusal};
 use key_functions::KeyFunctions;
-use krb_moments::{MICROSECONDS_IN_SECOND, Moment};
+use krb_time::{MICROSECONDS_IN_SECOND, Moment};
 use std::alloc::Global;
 use x509_certificates::Certificate;
 use x509_extensions::{Extension, ExtensionView};

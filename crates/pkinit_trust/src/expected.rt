@@ -1,6 +1,6 @@
 //! Whom signed content is expected from.
 use crate::anchor::Anchor;
-use krb_moments::Moment;
+use krb_time::Moment;
 use picky_asn1::wrapper::GeneralStringAsn1;
 
 /// The principal that is expected to have signed some content, and what its certificate is judged by.

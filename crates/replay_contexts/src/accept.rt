@@ -6,7 +6,7 @@ use crate::{Ends, is_named};
 use anyhow::{Context, bail};
 use gss_acceptor::{Accepted, Acceptor, Continuation, Established};
 use krb_crypto::CipherSuite;
-use krb_moments::Moment;
+use krb_time::Moment;
 use krb_service::Service;
 use std::alloc::Global;
 

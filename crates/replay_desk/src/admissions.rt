@@ -4,7 +4,7 @@ use crate::rows::{Rows, columns_of};
 use anyhow::{Context, bail};
 use krb_realm::{Admission, AdmitRefusal, CipherSuite, Moment, Service};
 use krb_types::data_types::EncryptionKey;
-use results::both;
+use result_pairs::both;
 use std::alloc::Global;
 
 /// The random bytes of each call.

@@ -2,7 +2,7 @@
 
 use crate::rows::Rows;
 use anyhow::Context;
-use krb_kdc::{read_file, run_with_arguments};
+use krb_program::{read_file, run_with_arguments};
 use std::alloc::Global;
 
 /// Arguments, and the status and the line that a run with them ends with.

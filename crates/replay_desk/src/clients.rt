@@ -11,7 +11,7 @@ use krb_realm::{
     PrincipalName, TakeRefusal,
 };
 use picky_asn1_der::to_vec;
-use results::both;
+use result_pairs::both;
 use std::alloc::Global;
 use std::fs;
 

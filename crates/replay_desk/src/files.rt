@@ -2,7 +2,7 @@
 
 use crate::rows::{Rows, columns_of};
 use anyhow::{Context, bail};
-use krb_kdc::{FileCheck, check_file, read_file};
+use krb_program::{FileCheck, check_file, read_file};
 use std::alloc::Global;
 
 /// Settings files, each behind a line with what is to be said of it: `FILE: ok` and the warnings, or `FILE:LINE:` and the fault.

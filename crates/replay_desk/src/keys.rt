@@ -1,11 +1,11 @@
 //! The key functions of a row.
 
 use anyhow::bail;
-use asn1_paths::part_at;
+use asn1_elements::part_at;
 use krb_realm::{Anchor, SignatureAlgorithm};
 use picky_asn1_der::Asn1RawDer;
 use std::alloc::Global;
-use test_keys::{DigestKeys, KnownKey};
+use test_support::{DigestKeys, KnownKey};
 use x509_algorithms::AlgorithmIdentifier;
 use x509_spelling::from_bytes;
 

@@ -12,7 +12,7 @@ use krb_realm::{
     Admission, Client, EncryptionKey, GeneralizedTime, KeyFunctions, LoginInput, LoginMoments,
     LoginRefusal, Realm, Service, Settings, login_by_certificate,
 };
-use results::{both, if_passed};
+use result_pairs::{both, if_passed};
 use std::alloc::Global;
 
 /// Logins. The columns of a row are divided by tabs, and the words of a column by spaces.

@@ -3,9 +3,9 @@
 use crate::columns::bytes_of;
 use crate::keys::RowKeys;
 use krb_realm::Anchor;
-use results::both;
+use result_pairs::both;
 use std::alloc::Global;
-use test_keys::{DigestKeys, KnownKey};
+use test_support::{DigestKeys, KnownKey};
 use x509_spelling::to_vec;
 
 /// A party by the certificates of its anchor and of its own.

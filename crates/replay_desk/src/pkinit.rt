@@ -7,7 +7,7 @@ use crate::replies::{text_of, with_four, with_seven, words};
 use crate::rows::Rows;
 use anyhow::bail;
 use krb_realm::{Anchor, KeyFunctions, Realm, Settings};
-use results::both;
+use result_pairs::both;
 use std::alloc::Global;
 use std::fs;
 

@@ -3,7 +3,7 @@
 use crate::rows::{Rows, columns_of};
 use anyhow::{Context, bail};
 use krb_realm::{AnswerRefusal, CipherSuite, Moment, NoKeys, Realm, Settings};
-use results::if_passed;
+use result_pairs::if_passed;
 use std::alloc::Global;
 
 impl Rows for Realm {

@@ -11,7 +11,7 @@ use anyhow::{Context, bail};
 use krb_realm::{Anchor, Client, SignatureAlgorithm};
 use picky_asn1_der::Asn1RawDer;
 use std::alloc::Global;
-use test_keys::{DigestKeys, KnownKey};
+use test_support::{DigestKeys, KnownKey};
 use x509_algorithms::AlgorithmIdentifier;
 use x509_spelling::to_vec;
 

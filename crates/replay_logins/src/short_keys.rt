@@ -4,7 +4,7 @@ use anyhow::bail;
 use krb_realm::{KeyFunctions, Signed, Theirs};
 use picky_asn1_der::Asn1RawDer;
 use std::alloc::{AllocError, Global};
-use test_keys::DigestKeys;
+use test_support::DigestKeys;
 use x509_algorithms::AlgorithmIdentifier;
 use x509_keys::SubjectPublicKeyInfo;
 
@@ -36,7 +36,7 @@ pub(crate) struct ShortKeys<'a> {
 }
 
 impl<'a> KeyFunctions for ShortKeys<'a> {
-    ghost use Rattle.test_keys.specs.DigestKeys.{functions_of};
+    ghost use Rattle.test_support.specs.DigestKeys.{functions_of};
 
     ghost functions = { λ short. functions_of short.keys };
 

@@ -5,7 +5,7 @@
 use anyhow::{Context, bail};
 use krb_ap_requests::AdmitRefusal;
 use krb_crypto::CipherSuite;
-use krb_moments::Moment;
+use krb_time::Moment;
 use krb_service::{Admission, Service};
 use std::alloc::Global;
 use std::fs;

@@ -3,13 +3,13 @@
 use crate::lines::{bytes_of, column_of};
 use crate::trusted::code_of;
 use anyhow::{Context, bail};
-use asn1_paths::part_at;
+use asn1_elements::part_at;
 use cms_signed_content::{SignedContent, SignedFault};
-use cms_signed_data::ContentInfo;
+use cms_types::ContentInfo;
 use pkinit_trust::{JudgedContent, check_signer};
 use sha2::{Digest, Sha256};
 use std::alloc::Global;
-use test_keys::GivenSignature;
+use test_support::GivenSignature;
 use x509_certificates::Certificate;
 use x509_spelling::{Spelled, deviations, from_bytes, to_vec};
 

@@ -4,11 +4,11 @@ use crate::lines::bytes_of;
 use crate::read::is_unreadable;
 use anyhow::{Context, bail};
 use cms_signed_content::SignedContent;
-use krb_moments::Moment;
+use krb_time::Moment;
 use picky_asn1::wrapper::GeneralStringAsn1;
 use pkinit_trust::{Anchor, ExpectedSigner, JudgedContent, TrustFault, check_trusted};
 use std::alloc::Global;
-use test_keys::{KnownKey, verifier};
+use test_support::{KnownKey, verifier};
 use x509_keys::SubjectPublicKeyInfo;
 use x509_spelling::to_vec;
 

@@ -6,7 +6,7 @@ use cms_signed_content::{SignedContent, SignedFault};
 use key_functions::{KeyFunctions, SignatureAlgorithm};
 use picky_asn1::oid::ObjectIdentifier;
 use std::alloc::Global;
-use test_keys::{GivenSignature, signer};
+use test_support::{GivenSignature, signer};
 use x509_algorithms::AlgorithmIdentifier;
 use x509_spelling::from_bytes;
 

@@ -2,7 +2,7 @@
 ghost use Rattle.asn1_der.specs.Octets.{sequence_octet};
 
 use asn1_der::octets::SEQUENCE;
-use devices::{Sink, Source};
+use byte_streams::{Sink, Source};
 use picky_asn1_der::{
     Asn1DerError, Deserializer, ExplicitContextTag0, ExplicitContextTag1, ExplicitContextTag2,
     Fields, Optional, Row3, Serializer, Tagged, fields_of, from_fields, read_sequence,

@@ -1,7 +1,7 @@
-//! Readers and writers: what follows a value, limits, and devices that cut and fail.
+//! Readers and writers: what follows a value, limits, and byte_streams that cut and fail.
 use crate::sample::{LONG_SAMPLE, SHORT_SAMPLE, Sample, sample_of};
 use crate::spelling::{fault_of, front_fault_of};
-use devices::{Sink, Source};
+use byte_streams::{Sink, Source};
 use picky_asn1_der::{
     Asn1DerError, Deserialize, Deserializer, RawElement, Serialize, Serializer, from_bytes,
     from_reader, from_reader_with_max_len, to_byte_buf, to_writer,

@@ -1,9 +1,9 @@
 //! Readers and writers that fail behind each byte.
 
 use crate::negoex::VERIFY;
-use devices::{Sink, Source};
+use byte_streams::{Sink, Source};
 use gss_message_tokens::{GssApiMessageError, LsapTokenInfoIntegrity, MicToken, WrapToken};
-use negoex_layouts::{MessageHeader, NegoexDataType, NegoexMessage, Verify};
+use negoex_messages::{MessageHeader, NegoexDataType, NegoexMessage, Verify};
 use pac_layouts::{Pac, PacError, PacInfoBuffer};
 use std::alloc::Global;
 use std::io::ErrorKind;

@@ -2,7 +2,7 @@
 //! shows that the process's arguments are read and that the run's status is the process's.
 #![tactic(auto)]
 
-use krb_kdc::run_process;
+use krb_program::run_process;
 use std::process::ExitCode;
 
 fn main(rt: HostRuntime) -> ExitCode {

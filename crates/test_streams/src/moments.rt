@@ -1,5 +1,5 @@
 //! Moments: the first of 2000 and the last of all, with the seconds of `date -u +%s`.
-use krb_moments::Moment;
+use krb_time::Moment;
 
 fn new_year() -> Option<Moment> {
     Moment::from_text(b"20000101000000Z")

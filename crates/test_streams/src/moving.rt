@@ -1,6 +1,6 @@
-//! Bytes moved whole, however the devices cut them.
+//! Bytes moved whole, however the byte_streams cut them.
 
-use devices::{Sink, SinkFault, Source, Space, Watched, WholeFault, read_full, write_whole};
+use byte_streams::{Sink, SinkFault, Source, Space, Watched, WholeFault, read_full, write_whole};
 use std::io::{self, ErrorKind, Read, Write};
 use test_support::{Drip, Trickle};
 

@@ -1,6 +1,6 @@
 //! The replay cache, with a skew of 300 seconds.
 
-use krb_moments::Moment;
+use krb_time::Moment;
 use krb_service::{Pair, Seen};
 use picky_asn1::wrapper::GeneralStringAsn1;
 use std::alloc::Global;

@@ -1,12 +1,12 @@
-//! Streams served over whole, slow and failing devices.
+//! Streams served over whole, slow and failing byte_streams.
 ghost use Rattle.std.specs.Prelude.{◌≡◌, ◌<◌, ◌++◌, length, take, nat_lt, if◌then◌else◌, Some, None};
 ghost use Rattle.std.proofs.Common.{sym, ◌∙◌};
 
-use devices::{Sink, Source, Watched};
+use byte_streams::{Sink, Source, Watched};
 use krb_frames::{
     AnswerRefusal, FRAME_LIMIT, Responder, ServeFault, WORDS_NEEDED, serve, serve_bytes,
 };
-use krb_moments::Moment;
+use krb_time::Moment;
 use std::alloc::{AllocError, Global};
 use std::{io, iter};
 use test_support::{Drip, Trickle};
@@ -126,7 +126,7 @@ fn long_replies(rt: HostRuntime) {
     assert!(rt; too_long == Some((Err(ServeFault::ReplyTooLong), 0)));
 }
 
-// Serves a stream at the first moment and to these devices.
+// Serves a stream at the first moment and to these byte_streams.
 fn served<R: Source, W: Sink, K: Source>(
     alloc: Global,
     reader: &mut R,

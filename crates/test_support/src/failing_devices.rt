@@ -3,7 +3,7 @@
 ghost use Rattle.std.specs.Prelude.{false, None, Some, if◌then◌else◌};
 ghost use Rattle.std.specs.declared.io.ErrorKind.TheVariants.{BrokenPipe};
 
-use devices::{Sink, SinkFault, Source};
+use byte_streams::{Sink, SinkFault, Source};
 use std::alloc::Global;
 use std::io::ErrorKind;
 

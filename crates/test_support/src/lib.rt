@@ -2,11 +2,13 @@
 #![tactic(auto)]
 
 mod columns;
+mod digest_keys;
 mod failing_devices;
 mod files;
 mod round_trip;
 
 pub use columns::{Recorded, Wanted, recorded_of};
+pub use digest_keys::{DigestKeys, GivenSignature, KnownKey, signer, verifier};
 pub use failing_devices::{Drip, Trickle};
 pub use files::{Lines, replay};
 pub use round_trip::{Answer, are_wanted, is_read_told, is_refused, is_told, is_written};

@@ -8,7 +8,7 @@ ghost use Rattle.asn1_der.specs.Octets.{sequence_octet};
 
 use crate::algorithm_kinds::{AlgorithmIdentifierParameters, AlgorithmKinds, of_kinds};
 use asn1_der::octets::SEQUENCE;
-use devices::{Sink, Source};
+use byte_streams::{Sink, Source};
 use picky_asn1::oid::ObjectIdentifier;
 use picky_asn1::wrapper::ObjectIdentifierAsn1;
 use picky_asn1_der::{Asn1DerError, Deserialize, Deserializer, Serialize, Serializer};

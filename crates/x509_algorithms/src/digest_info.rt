@@ -8,7 +8,7 @@ use crate::algorithm_identifier::AlgorithmIdentifier;
 use crate::algorithm_kinds::{AlgorithmIdentifierParameters, AlgorithmKinds};
 use crate::hash_identifier::HashIdentifier;
 use asn1_der::octets::SEQUENCE;
-use devices::Sink;
+use byte_streams::Sink;
 use picky_asn1::wrapper::{ObjectIdentifierAsn1, OctetStringAsn1};
 use picky_asn1_der::{Asn1DerError, Row2, Serialize, Serializer, fields_of};
 use std::alloc::{AllocError, Global};

@@ -6,7 +6,7 @@ ghost use Rattle.asn1_der.specs.Octets.{sequence_octet};
 
 use crate::algorithm_class::Hashes;
 use asn1_der::octets::SEQUENCE;
-use devices::Sink;
+use byte_streams::Sink;
 use picky_asn1::wrapper::ObjectIdentifierAsn1;
 use picky_asn1_der::{Asn1DerError, Serialize, Serializer};
 use std::alloc::Global;

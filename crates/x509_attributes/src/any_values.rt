@@ -3,7 +3,7 @@ ghost use Rattle.std.specs.Prelude.{◌≡◌, MatchResult};
 ghost use Rattle.asn1_der.specs.Octets.{set_octet};
 
 use asn1_der::octets::SET;
-use devices::{Sink, Source};
+use byte_streams::{Sink, Source};
 use picky_asn1::wrapper::Asn1SetOf;
 use picky_asn1_der::{Asn1DerError, Deserializer, Elements, RawElement, Serializer, Tagged};
 use std::alloc::AllocError;

@@ -8,7 +8,7 @@ ghost use Rattle.asn1_der.specs.Octets.{sequence_octet};
 use crate::attribute_values::{AttributeKinds, AttributeValues, of_kinds};
 use crate::requested_extensions::RequestedExtensions;
 use asn1_der::octets::SEQUENCE;
-use devices::Sink;
+use byte_streams::Sink;
 use picky_asn1::LeafFault;
 use picky_asn1::oid::ObjectIdentifier;
 use picky_asn1::wrapper::{Asn1SetOf, ObjectIdentifierAsn1, OctetStringAsn1};

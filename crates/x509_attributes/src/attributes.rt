@@ -4,7 +4,7 @@ ghost use Rattle.asn1_der.specs.Octets.{sequence_octet};
 
 use crate::attribute::Attribute;
 use asn1_der::octets::SEQUENCE;
-use devices::Sink;
+use byte_streams::Sink;
 use picky_asn1_der::{Asn1DerError, Serialize, Serializer};
 use std::alloc::{AllocError, Global};
 use std::marker::Model;

@@ -3,7 +3,7 @@ ghost use Rattle.std.specs.Prelude.{◌≡◌, MatchResult, IsTrue, IfOk};
 
 use crate::attribute::Attribute;
 use crate::attributes::Attributes;
-use devices::Sink;
+use byte_streams::Sink;
 use picky_asn1_der::{Asn1DerError, HasDefault, Serialize, Serializer};
 use std::alloc::{AllocError, Global};
 use x509_spelling::{

@@ -3,7 +3,7 @@ ghost use Rattle.std.specs.Prelude.{◌≡◌, MatchResult};
 ghost use Rattle.asn1_der.specs.Octets.{set_octet};
 
 use asn1_der::octets::SET;
-use devices::Sink;
+use byte_streams::Sink;
 use picky_asn1_der::{Asn1DerError, Serialize, Serializer};
 use std::alloc::{AllocError, Global};
 use std::marker::Model;

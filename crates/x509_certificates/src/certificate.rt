@@ -8,7 +8,7 @@ ghost use Rattle.asn1_der.specs.Octets.{sequence_octet};
 use crate::held::first_held;
 use crate::tbs_certificate::TbsCertificate;
 use asn1_der::octets::SEQUENCE;
-use devices::Sink;
+use byte_streams::Sink;
 use picky_asn1::wrapper::BitStringAsn1;
 use picky_asn1_der::{Asn1DerError, LentFields, Serialize, Serializer, fields_of};
 use std::alloc::{AllocError, Global};

@@ -4,7 +4,7 @@ ghost use Rattle.x509_certificates.specs.Requests.{info_row};
 ghost use Rattle.asn1_der.specs.Octets.{sequence_octet};
 
 use asn1_der::octets::SEQUENCE;
-use devices::Sink;
+use byte_streams::Sink;
 use picky_asn1_der::{Asn1DerError, LentFields, Serialize, Serializer, fields_of};
 use std::alloc::{AllocError, Global};
 use x509_attributes::{Attribute, Attributes, OpenSslAttributes};

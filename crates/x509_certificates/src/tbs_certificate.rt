@@ -6,7 +6,7 @@ ghost use Rattle.asn1_der.specs.Octets.{sequence_octet};
 use crate::certificate_extensions::CertificateExtensions;
 use crate::version_field::VersionField;
 use asn1_der::octets::SEQUENCE;
-use devices::Sink;
+use byte_streams::Sink;
 use picky_asn1::wrapper::IntegerAsn1;
 use picky_asn1_der::{
     Asn1DerError, DefaultField, ExplicitContextTag, LentFields, Serialize, Serializer, fields_of,

@@ -1,7 +1,7 @@
 //! A certificate's version as a field (RFC 5280, section 4.1).
 ghost use Rattle.std.specs.Prelude.{◌≡◌, MatchResult, IsTrue, IfOk};
 
-use devices::{Sink, Source};
+use byte_streams::{Sink, Source};
 use picky_asn1::wrapper::ExplicitContextTag0;
 use picky_asn1_der::{
     Asn1DerError, Deserialize, Deserializer, ExplicitContextTag, HasDefault, Serialize, Serializer,

@@ -5,7 +5,7 @@ use Rattle.picky_asn1.specs.declared.wrapper.ObjectIdentifierAsn1.{ObjectIdentif
 use Rattle.x509_oids.specs.Identifiers as oids
 use Rattle.x509_names.specs.declared.general_name.GeneralName.{GeneralName}
 use Rattle.x509_parts.specs.declared.basic_constraints.BasicConstraints.{BasicConstraints}
-use Rattle.x509_usages.specs.declared.key_usage.KeyUsage.{KeyUsage}
+use Rattle.x509_extensions.specs.declared.key_usage.KeyUsage.{KeyUsage}
 use Rattle.x509_open_types.specs.declared.enclosed.Enclosed.{Enclosed}
 use Rattle.x509_open_types.specs.declared.kinds.KindOf.{KindOf}
 use Rattle.x509_open_types.specs.declared.kinds.KindOf.TheVariants.{This, Other}

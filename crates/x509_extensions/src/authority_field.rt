@@ -2,7 +2,7 @@
 ghost use Rattle.std.specs.Prelude.{◌≡◌, MatchResult};
 ghost use Rattle.x509_extensions.specs.AuthorityFields.{field_choice};
 
-use devices::{Sink, Source};
+use byte_streams::{Sink, Source};
 use picky_asn1::wrapper::{
     ExplicitContextTag1, ImplicitContextTag0, ImplicitContextTag2, IntegerAsn1, OctetStringAsn1,
 };

@@ -6,7 +6,7 @@ ghost use Rattle.asn1_der.specs.Octets.{sequence_octet};
 
 use crate::authority_field::AuthorityField;
 use asn1_der::octets::SEQUENCE;
-use devices::{Sink, Source};
+use byte_streams::{Sink, Source};
 use picky_asn1::wrapper::{
     ExplicitContextTag, ExplicitContextTag1, ImplicitContextTag, ImplicitContextTag0,
     ImplicitContextTag2, IntegerAsn1, OctetStringAsn1, Optional,

@@ -11,14 +11,15 @@ use crate::extension_value::{
 };
 use crate::extension_view::ExtensionView;
 use asn1_der::octets::SEQUENCE;
-use devices::Sink;
+use byte_streams::Sink;
 use picky_asn1::wrapper::{IntegerAsn1, ObjectIdentifierAsn1, OctetStringAsn1Container};
 use picky_asn1_der::{Asn1DerError, DefaultField, Serialize, Serializer};
 use std::alloc::{AllocError, Global};
 use x509_open_types::{Kinds, read_identified};
 use x509_parts::BasicConstraints;
 use x509_spelling::{Counted, Critical, DefaultFalse, Spelled, SpelledItem, X509Fault};
-use x509_usages::{ExtendedKeyUsage, KeyUsage};
+use crate::extended_key_usage::ExtendedKeyUsage;
+use crate::key_usage::KeyUsage;
 
 /// An extension: an identifier, and a value of the kind that it decides.
 ///

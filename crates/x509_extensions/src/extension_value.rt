@@ -9,7 +9,8 @@ use std::alloc::AllocError;
 use x509_names::GeneralNames;
 use x509_open_types::{Enclosed, Identifiers, KindOf, LastKind, ToldBy};
 use x509_parts::BasicConstraints;
-use x509_usages::{ExtendedKeyUsage, KeyUsage};
+use crate::extended_key_usage::ExtendedKeyUsage;
+use crate::key_usage::KeyUsage;
 
 /// Identifies a key (RFC 5280, section 4.2.1.1).
 pub type KeyIdentifier = OctetStringAsn1;

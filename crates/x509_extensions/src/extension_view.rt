@@ -6,7 +6,8 @@ use crate::authority_key_identifier::AuthorityKeyIdentifier;
 use crate::extension_value::{ExtensionValue, IssuerAltName, SubjectAltName, SubjectKeyIdentifier};
 use picky_asn1::wrapper::{IntegerAsn1, OctetStringAsn1, OctetStringAsn1Container};
 use x509_parts::BasicConstraints;
-use x509_usages::{ExtendedKeyUsage, KeyUsage};
+use crate::extended_key_usage::ExtendedKeyUsage;
+use crate::key_usage::KeyUsage;
 
 /// The value of an extension, without the octet string around it.
 #[derive(Clone, Copy, Debug, PartialEq, Eq)]

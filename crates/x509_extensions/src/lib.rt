@@ -3,18 +3,20 @@
 
 mod authority_field;
 mod authority_key_identifier;
+mod extended_key_usage;
 mod extension;
 mod extension_value;
 mod extension_view;
 mod extensions;
+mod key_usage;
 
 pub use authority_field::AuthorityField;
 pub use authority_key_identifier::AuthorityKeyIdentifier;
+pub use extended_key_usage::ExtendedKeyUsage;
 pub use extension::Extension;
-pub use extension_value::{
-    ExtensionValue, IssuerAltName, KeyIdentifier, SubjectAltName, SubjectKeyIdentifier,
-};
+pub use extension_value::{ExtensionValue, IssuerAltName, KeyIdentifier, SubjectAltName, SubjectKeyIdentifier};
 pub use extension_view::ExtensionView;
 pub use extensions::Extensions;
+pub use key_usage::KeyUsage;
 pub use x509_names::Name;
 pub use x509_spelling::Critical;

@@ -7,7 +7,7 @@ ghost use Rattle.asn1_der.specs.Octets.{sequence_octet};
 use crate::public_key::{EncapsulatedEcPoint, PublicKey, PublicKinds, is_of, of_kinds};
 use crate::rsa_public_key::RsaPublicKey;
 use asn1_der::octets::SEQUENCE;
-use devices::{Sink, Source};
+use byte_streams::{Sink, Source};
 use picky_asn1::oid::ObjectIdentifier;
 use picky_asn1::wrapper::{BitStringAsn1Container, IntegerAsn1};
 use picky_asn1_der::{Asn1DerError, Deserialize, Deserializer, Serialize, Serializer};

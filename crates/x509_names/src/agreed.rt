@@ -4,7 +4,7 @@ ghost use Rattle.asn1_der.specs.Tagged.{sequence};
 ghost use Rattle.asn1_codec.specs.Reading.{TookValue, IsSpelling, Refused};
 ghost use Rattle.x509_spelling.specs.PlainLaws.{IsPlain};
 
-use devices::Source;
+use byte_streams::Source;
 use picky_asn1_der::{Asn1DerError, Deserializer, Fields, read_sequence};
 use std::alloc::{AllocError, Global};
 

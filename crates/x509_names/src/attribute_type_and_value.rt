@@ -12,7 +12,7 @@ use crate::agreed::{Agreed, read_agreed};
 use crate::attribute_parameters::AttributeTypeAndValueParameters;
 use crate::name_attr::NameAttr;
 use asn1_der::octets::{IA5_STRING, SEQUENCE};
-use devices::{Sink, Source};
+use byte_streams::{Sink, Source};
 use picky_asn1::oid::ObjectIdentifier;
 use picky_asn1::wrapper::{
     BmpStringAsn1, IA5StringAsn1, ObjectIdentifierAsn1, PrintableStringAsn1, Utf8StringAsn1,
@@ -146,7 +146,7 @@ impl AttributeTypeAndValue {
         AttributeTypeAndValue::of_string(alloc, NameAttr::Surname, value)
     }
 
-    /// A number that distinguishes devices or people.
+    /// A number that distinguishes byte_streams or people.
     pub fn new_serial_number(alloc: Global, value: DirectoryString) -> Result<Self, AllocError>
         ensures { IfOk result (λ made. IsOfAttribute NameAttr.SerialNumber value made) }
     {

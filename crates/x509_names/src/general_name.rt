@@ -5,7 +5,7 @@ ghost use Rattle.x509_names.specs.GeneralNames.{general_choice};
 use crate::edi_party_name::EdiPartyName;
 use crate::name::Name;
 use crate::other_name::OtherName;
-use devices::{Sink, Source};
+use byte_streams::{Sink, Source};
 use picky_asn1::wrapper::{
     Asn1SequenceOf, ExplicitContextTag, ExplicitContextTag4, IA5StringAsn1, ImplicitContextTag,
     ImplicitContextTag0, ImplicitContextTag1, ImplicitContextTag2, ImplicitContextTag5,

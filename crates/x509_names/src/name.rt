@@ -6,7 +6,7 @@ ghost use Rattle.asn1_der.specs.Octets.{sequence_octet};
 use crate::attribute_type_and_value::AttributeTypeAndValue;
 use crate::name_attr::NameAttr;
 use asn1_der::octets::SEQUENCE;
-use devices::{Sink, Source};
+use byte_streams::{Sink, Source};
 use picky_asn1::wrapper::{Asn1SequenceOf, Asn1SetOf, IA5StringAsn1};
 use picky_asn1_der::{
     Asn1DerError, Deserializer, Elements, Serialize, Serializer, Tagged, read_sequence,

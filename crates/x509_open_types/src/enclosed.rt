@@ -8,7 +8,7 @@ ghost use Rattle.x509_spelling.specs.Spellings.{Holds};
 ghost use Rattle.x509_spelling.specs.Answers.{Tells};
 ghost use Rattle.asn1_der.specs.Octets.{octet_string_octet};
 
-use devices::Sink;
+use byte_streams::Sink;
 use std::alloc::Global;
 use x509_spelling::{Asn1DerError, Counted, Serialize, Serializer, Spelled, X509Fault, content_of};
 

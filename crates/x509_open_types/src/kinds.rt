@@ -6,7 +6,7 @@ ghost use Rattle.x509_spelling.specs.Spellings.{Joins};
 ghost use Rattle.x509_spelling.specs.Answers.{Tells};
 ghost use Rattle.x509_open_types.specs.KindLaws.{KindLaws};
 
-use devices::Sink;
+use byte_streams::Sink;
 use picky_asn1::oid::ObjectIdentifier;
 use std::alloc::Global;
 use x509_spelling::{

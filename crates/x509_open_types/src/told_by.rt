@@ -3,7 +3,7 @@ ghost use Rattle.std.specs.Prelude.{◌≡◌, ℕ, Bool, List};
 ghost use Rattle.asn1_leaves.specs.ObjectIdentifier.{oid_content};
 
 use crate::kinds::Kind;
-use devices::Sink;
+use byte_streams::Sink;
 use picky_asn1::oid::ObjectIdentifier;
 use std::alloc::Global;
 use std::marker::{Model, PhantomData};

@@ -3,7 +3,7 @@ ghost use Rattle.std.specs.Prelude.{◌≡◌, MatchResult};
 ghost use Rattle.asn1_der.specs.Octets.{object_identifier_octet};
 
 use asn1_der::octets::OBJECT_IDENTIFIER;
-use devices::{Sink, Source};
+use byte_streams::{Sink, Source};
 use picky_asn1::oid::ObjectIdentifier;
 use picky_asn1::wrapper::ObjectIdentifierAsn1;
 use picky_asn1_der::{Asn1DerError, Deserializer, Serializer, Tagged};

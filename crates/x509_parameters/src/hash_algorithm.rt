@@ -6,7 +6,7 @@ ghost use Rattle.asn1_der.specs.Octets.{object_identifier_octet};
 use crate::arcs::nist_hash;
 use crate::unsupported::UnsupportedAlgorithmError;
 use asn1_der::octets::OBJECT_IDENTIFIER;
-use devices::Sink;
+use byte_streams::Sink;
 use picky_asn1::oid::ObjectIdentifier;
 use picky_asn1::wrapper::ObjectIdentifierAsn1;
 use picky_asn1_der::{Asn1DerError, Leaf, Rule, Serializer};

@@ -6,7 +6,7 @@ ghost use Rattle.asn1_der.specs.Octets.{sequence_octet};
 use crate::hash_algorithm::{HashAlgorithm, HashOid};
 use crate::null::{HashNull, Null};
 use asn1_der::octets::SEQUENCE;
-use devices::Sink;
+use byte_streams::Sink;
 use picky_asn1_der::{Asn1DerError, Row2, Serialize, Serializer};
 use std::alloc::Global;
 use x509_spelling::{Counted, Exact, Implied, Spelled, SpelledFields, X509Fault, read_fields};

@@ -5,7 +5,7 @@ ghost use Rattle.asn1_der.specs.Octets.{object_identifier_octet, sequence_octet}
 
 use crate::hash_algorithm::HashAlgorithm;
 use asn1_der::octets::{OBJECT_IDENTIFIER, SEQUENCE};
-use devices::Sink;
+use byte_streams::Sink;
 use picky_asn1_der::{Asn1DerError, Leaf, Row2, Rule, Serialize, Serializer};
 use std::alloc::{AllocError, Global};
 use x509_spelling::{Counted, Exact, Spelled, SpelledFields, X509Fault, read_fields};

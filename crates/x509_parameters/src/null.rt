@@ -3,7 +3,7 @@ ghost use Rattle.std.specs.Prelude.{◌≡◌, IfOk, IsTrue, MatchResult};
 ghost use Rattle.asn1_der.specs.Octets.{null_octet};
 
 use asn1_der::octets::NULL;
-use devices::{Sink, Source};
+use byte_streams::{Sink, Source};
 use picky_asn1_der::{Asn1DerError, Deserializer, HasDefault, Serializer, Tagged};
 use std::alloc::{AllocError, Global};
 use std::marker::{Model, PhantomData};

@@ -6,7 +6,7 @@ ghost use Rattle.asn1_der.specs.Octets.{sequence_octet};
 use crate::hash_algorithm::HashAlgorithm;
 use crate::mask_gen_algorithm::MaskGenAlgorithm;
 use asn1_der::octets::SEQUENCE;
-use devices::Sink;
+use byte_streams::Sink;
 use picky_asn1::wrapper::IntegerAsn1;
 use picky_asn1_der::{Asn1DerError, Row3, Serialize, Serializer, fields_of};
 use std::alloc::{AllocError, Global};

@@ -3,7 +3,7 @@ ghost use Rattle.std.specs.Prelude.{◌≡◌, ℕ, List, MatchResult, IsTrue, I
 ghost use Rattle.asn1_der.specs.Octets.{sequence_octet};
 
 use asn1_der::octets::SEQUENCE;
-use devices::{Sink, Source};
+use byte_streams::{Sink, Source};
 use picky_asn1_der::{
     Asn1DerError, DefaultField, Deserializer, Fields, HasDefault, Optional, Row2, Serializer,
     Tagged, fields_of, from_fields, read_sequence,

@@ -4,7 +4,7 @@ ghost use Rattle.x509_parts.specs.RawParameters.{is_null, null, parameters_of};
 ghost use Rattle.asn1_der.specs.Octets.{sequence_octet};
 
 use asn1_der::octets::{NULL, SEQUENCE};
-use devices::{Sink, Source};
+use byte_streams::{Sink, Source};
 use picky_asn1::wrapper::ObjectIdentifierAsn1;
 use picky_asn1_der::{
     Asn1DerError, Deserialize, Deserializer, Fields, HasDefault, RawElement, Row2, Serialize,

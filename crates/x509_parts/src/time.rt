@@ -1,7 +1,7 @@
 //! Times (RFC 5280, section 4.1).
 ghost use Rattle.std.specs.Prelude.{◌≡◌, MatchResult, IfOk};
 
-use devices::{Sink, Source};
+use byte_streams::{Sink, Source};
 use picky_asn1::date::{GeneralizedTime, UTCTime};
 use picky_asn1::wrapper::{GeneralizedTimeAsn1, UTCTimeAsn1};
 use picky_asn1_der::{

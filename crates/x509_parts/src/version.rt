@@ -3,7 +3,7 @@ ghost use Rattle.std.specs.Prelude.{◌≡◌, ℕ, IfOk, IsTrue, MatchOption};
 ghost use Rattle.asn1_der.specs.Octets.{integer_octet};
 
 use asn1_der::octets::INTEGER;
-use devices::Sink;
+use byte_streams::Sink;
 use picky_asn1_der::{Asn1DerError, HasDefault, Leaf, Rule, Serializer};
 use std::alloc::{AllocError, Global};
 use x509_spelling::{Deviates, Exact};

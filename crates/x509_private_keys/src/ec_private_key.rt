@@ -4,7 +4,7 @@ ghost use Rattle.asn1_der.specs.Octets.{sequence_octet};
 
 use crate::lent::{lent_under, plain};
 use asn1_der::octets::SEQUENCE;
-use devices::{Sink, Source};
+use byte_streams::{Sink, Source};
 use picky_asn1::wrapper::{
     BitStringAsn1, ExplicitContextTag0, ExplicitContextTag1, OctetStringAsn1, Optional,
 };

@@ -7,7 +7,7 @@ use crate::private_key_value::{
     PrivateKeyValue, PrivateKinds, PublicKeyField, copied_field, parts_of,
 };
 use asn1_der::octets::SEQUENCE;
-use devices::Sink;
+use byte_streams::Sink;
 use picky_asn1_der::{Asn1DerError, Serialize, Serializer, TagNumber};
 use std::alloc::{AllocError, Global};
 use x509_algorithms::AlgorithmIdentifier;

@@ -7,7 +7,7 @@ ghost use Rattle.asn1_der.specs.Octets.{sequence_octet};
 use crate::private_key_fields::PrivateKeyFields;
 use crate::private_key_value::{PrivateKeyValue, as_field, in_field};
 use asn1_der::octets::SEQUENCE;
-use devices::Sink;
+use byte_streams::Sink;
 use picky_asn1::wrapper::BitStringAsn1;
 use picky_asn1_der::{Asn1DerError, Serialize, Serializer};
 use std::alloc::{AllocError, Global};

@@ -6,7 +6,7 @@ ghost use Rattle.asn1_der.specs.Octets.{octet_string_octet};
 
 use crate::ec_private_key::{ECPrivateKey, EncapsulatedEcSecret};
 use crate::rsa_private_key::RsaPrivateKey;
-use devices::Sink;
+use byte_streams::Sink;
 use picky_asn1::wrapper::{
     BitStringAsn1, ImplicitContextTag, ImplicitContextTag1, OctetStringAsn1Container, Optional,
 };

@@ -3,7 +3,7 @@ ghost use Rattle.std.specs.Prelude.{◌≡◌, MatchResult};
 ghost use Rattle.asn1_der.specs.Tree.{more};
 
 use crate::spelled::Spelled;
-use devices::Sink;
+use byte_streams::Sink;
 use picky_asn1_der::{Asn1DerError, Serializer, WriteFields};
 
 /// A value that is lent to be written in front of fields. Its tree is the one that its spellings speak of.

@@ -5,7 +5,7 @@ ghost use Rattle.asn1_der.specs.Octets.{boolean_octet};
 use crate::exact::Exact;
 use crate::fields::Deviates;
 use asn1_der::octets::BOOLEAN;
-use devices::{Sink, Source};
+use byte_streams::{Sink, Source};
 use picky_asn1_der::{Asn1DerError, Deserializer, HasDefault, Serializer, Tagged};
 use std::alloc::{AllocError, Global};
 

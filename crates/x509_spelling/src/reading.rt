@@ -6,7 +6,7 @@ ghost use Rattle.x509_spelling.specs.StrictReading.{IsNoStrict, der_fault_of};
 use crate::fault::X509Fault;
 use crate::spelled::Spelled;
 use crate::{Asn1DerError, Asn1RawDer, Deserialize, Deserializer};
-use devices::Source;
+use byte_streams::Source;
 use std::alloc::Global;
 
 /// Takes the value whose strict spelling is next. Where anything deviates in what is next, no value is read.

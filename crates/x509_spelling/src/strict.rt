@@ -2,7 +2,7 @@
 ghost use Rattle.std.specs.Prelude.{◌≡◌, MatchResult};
 
 use crate::exact::Exact;
-use devices::{Sink, Source};
+use byte_streams::{Sink, Source};
 use picky_asn1_der::{Asn1DerError, Deserialize, Deserializer, Serialize, Serializer};
 
 /// A value whose one spelling is its DER, as a field beside others that may deviate.

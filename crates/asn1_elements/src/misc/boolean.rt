@@ -8,7 +8,7 @@ ghost use Rattle.asn1_der.specs.Octets.{boolean_octet};
 
 use asn1_codec::Serializer;
 use asn1_der::Asn1DerError;
-use devices::Sink;
+use byte_streams::Sink;
 
 /// BOOLEAN (X.690, sections 8.2 and 11.1): the content `00` is false and `FF` true.
 pub struct Boolean;

@@ -11,7 +11,7 @@ use crate::element::split_length;
 use crate::misc::read_ext::ReadExt;
 use asn1_codec::write_octets;
 use asn1_der::{Asn1DerError, LengthOctets, following};
-use devices::{Sink, Source, read_full};
+use byte_streams::{Sink, Source, read_full};
 
 /// The length octets of an element: definite, and as few as there can be (X.690, sections 8.1.3 and 10.1).
 pub struct Length;

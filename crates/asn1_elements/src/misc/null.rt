@@ -6,7 +6,7 @@ ghost use Rattle.asn1_der.specs.Octets.{null_octet};
 
 use asn1_codec::Serializer;
 use asn1_der::Asn1DerError;
-use devices::Sink;
+use byte_streams::Sink;
 
 /// NULL (X.690, section 8.8), which has no content octets.
 pub struct Null;

@@ -4,7 +4,7 @@ ghost use Rattle.asn1_elements.specs.Peeking.{Peeking, Looked, LookedOn, NotLook
 
 use crate::misc::peeked_content::{PEEKED_BUFFER_SIZE, PeekedContent};
 use asn1_der::Asn1DerError;
-use devices::Source;
+use byte_streams::Source;
 use std::io::ErrorKind;
 use std::marker::Model;
 

@@ -5,7 +5,7 @@ ghost use Rattle.asn1_codec.specs.Reading.{TellsKind, result_faults};
 ghost use Rattle.asn1_elements.specs.Streams.{IsNoOctet};
 
 use asn1_der::Asn1DerError;
-use devices::{Source, read_full};
+use byte_streams::{Source, read_full};
 
 /// A source of which single octets are taken.
 pub trait ReadExt: Source + Sized {

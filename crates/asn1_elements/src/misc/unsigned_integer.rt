@@ -8,7 +8,7 @@ ghost use Rattle.asn1_der.specs.Octets.{integer_octet};
 use crate::misc::uint::UInt;
 use asn1_codec::{Serializer, unsigned_of, write_unsigned};
 use asn1_der::Asn1DerError;
-use devices::Sink;
+use byte_streams::Sink;
 
 /// An INTEGER (X.690, section 8.3) that isn't negative.
 pub struct UnsignedInteger;

@@ -7,7 +7,7 @@ ghost use Rattle.asn1_der.specs.Octets.{utf8_string_octet};
 
 use asn1_codec::Serializer;
 use asn1_der::Asn1DerError;
-use devices::Sink;
+use byte_streams::Sink;
 use std::str;
 
 /// A UTF8String (X.690, section 8.23): its content is the text.

@@ -4,7 +4,7 @@ ghost use Rattle.asn1_codec.specs.Writing.{WroteValue, NotWroteTo, at_sink};
 
 use asn1_codec::write_octets;
 use asn1_der::Asn1DerError;
-use devices::Sink;
+use byte_streams::Sink;
 
 /// A sink into which octets are written as they stand.
 pub trait WriteExt: Sink + Sized {

@@ -3,7 +3,7 @@ ghost use Rattle.asn1_der.specs.Octets.{sequence_octet};
 
 use crate::messages::KdcReqBody;
 use asn1_der::octets::SEQUENCE;
-use devices::{Sink, Source};
+use byte_streams::{Sink, Source};
 use krb_constants::types::{AS_REQ_MSG_TYPE, TGS_REQ_MSG_TYPE};
 use krb_types::data_types::PaData;
 use picky_asn1::wrapper::{Asn1SequenceOf, IntegerAsn1};

@@ -5,7 +5,7 @@ use crate::data_types::{
     AuthorizationData, Checksum, EncryptionKey, KerberosTime, Microseconds, PrincipalName, Realm,
 };
 use asn1_der::octets::SEQUENCE;
-use devices::{Sink, Source};
+use byte_streams::{Sink, Source};
 use krb_constants::types::AUTHENTICATOR_TYPE;
 use picky_asn1::wrapper::IntegerAsn1;
 use picky_asn1_der::{

@@ -6,7 +6,7 @@ use crate::data_types::{
     Realm, TransitedEncoding,
 };
 use asn1_der::octets::SEQUENCE;
-use devices::{Sink, Source};
+use byte_streams::{Sink, Source};
 use krb_constants::types::ENC_TICKET_PART_TYPE;
 use picky_asn1_der::{
     ApplicationTag, Asn1DerError, Deserializer, ExplicitContextTag0, ExplicitContextTag1,

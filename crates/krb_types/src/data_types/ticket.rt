@@ -3,7 +3,7 @@ ghost use Rattle.asn1_der.specs.Octets.{sequence_octet};
 
 use crate::data_types::{EncryptedData, PrincipalName, Realm};
 use asn1_der::octets::SEQUENCE;
-use devices::{Sink, Source};
+use byte_streams::{Sink, Source};
 use krb_constants::types::TICKET_TYPE;
 use picky_asn1::wrapper::IntegerAsn1;
 use picky_asn1_der::{

@@ -4,7 +4,7 @@ ghost use Rattle.asn1_der.specs.Octets.{integer_octet};
 
 use crate::integer::IntegerAsn1;
 use asn1_der::octets::INTEGER;
-use devices::Sink;
+use byte_streams::Sink;
 use picky_asn1_der::{Asn1DerError, Leaf, Rule, Serializer};
 use std::alloc::{AllocError, Global};
 

@@ -4,7 +4,7 @@ ghost use Rattle.asn1_der.specs.Octets.{octet_string_octet};
 
 use crate::octet_string::OctetStringAsn1;
 use asn1_der::octets::OCTET_STRING;
-use devices::Sink;
+use byte_streams::Sink;
 use picky_asn1_der::{Asn1DerError, Leaf, Rule, Serializer};
 use std::alloc::{AllocError, Global};
 

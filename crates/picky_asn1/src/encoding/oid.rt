@@ -5,7 +5,7 @@ ghost use Rattle.asn1_der.specs.Octets.{object_identifier_octet};
 use crate::oid::ObjectIdentifier;
 use crate::wrapper::ObjectIdentifierAsn1;
 use asn1_der::octets::OBJECT_IDENTIFIER;
-use devices::Sink;
+use byte_streams::Sink;
 use picky_asn1_der::{Asn1DerError, Leaf, Rule, Serializer};
 use std::alloc::{AllocError, Global};
 

@@ -5,7 +5,7 @@ ghost use Rattle.asn1_der.specs.Octets.{generalized_time_octet, utc_time_octet};
 use crate::date::{GeneralizedTime, UTCTime};
 use crate::wrapper::{GeneralizedTimeAsn1, UTCTimeAsn1};
 use asn1_der::octets::{GENERALIZED_TIME, UTC_TIME};
-use devices::Sink;
+use byte_streams::Sink;
 use picky_asn1_der::{Asn1DerError, Leaf, Rule, Serializer};
 use std::alloc::{AllocError, Global};
 

@@ -1,7 +1,7 @@
 use Rattle.std.proofs.Common.{◌-◌, length, rules, sym, subst}
 use Rattle.std.proofs.KnownBytes.{Consumes-trans}
 use Rattle.std.specs.Io.KnownBytes.{Consumes}
-use Rattle.devices.proofs.Parts.{take-put_mid_more}
+use Rattle.byte_streams.proofs.Parts.{take-put_mid_more}
 use Rattle.byte_layouts.proofs.reading.read_front.Goals as goal
 
 pub loop-at-preserved : goal.loop-at-preserved

@@ -1,6 +1,6 @@
 use Rattle.std.proofs.Common.{◌≡◌, drop, take}
 use Rattle.arrayvec.specs.ArrayVec.{array_vec_len}
-use Rattle.krb_packed_names.specs.Packed.{fit_behind, fit_in, packed}
+use Rattle.krb_accounts.specs.Packed.{fit_behind, fit_in, packed}
 use Rattle.krb_accounts.proofs.accounts.pack_name.Given as goal
 
 -- the block of the components so far, and what is left to fit

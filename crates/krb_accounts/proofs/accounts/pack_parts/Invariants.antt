@@ -1,6 +1,6 @@
 use Rattle.std.proofs.Common.{◌≡◌, drop, take}
 use Rattle.arrayvec.specs.ArrayVec.{array_vec_len}
-use Rattle.krb_packed_names.specs.Packed.{fit_behind, fit_in, packed}
+use Rattle.krb_accounts.specs.Packed.{fit_behind, fit_in, packed}
 use Rattle.krb_accounts.specs.Names.{parts}
 use Rattle.krb_accounts.proofs.accounts.pack_parts.Given as goal
 

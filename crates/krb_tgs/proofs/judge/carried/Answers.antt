@@ -1,5 +1,5 @@
 use Rattle.std.proofs.Common.{◌≡◌, Some, refl, sym, inl, inr}
-use Rattle.krb_preauth.specs.Padata.{first_of}
+use Rattle.krb_tickets.specs.Padata.{first_of}
 use Rattle.krb_tgs.proofs.judge.carried.Goals as goal
 
 pub returns-in_default-2 : goal.returns-in_default-2

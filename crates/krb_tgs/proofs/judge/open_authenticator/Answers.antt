@@ -1,5 +1,5 @@
 use Rattle.std.proofs.Common.{◌≡◌, true, false, refl, sym, inl, ◌∙◌}
-use Rattle.krb_moments.specs.Skew.{is_far}
+use Rattle.krb_time.specs.Skew.{is_far}
 use Rattle.krb_kdc_requests.specs.Call.{call_of, skew_of}
 use Rattle.krb_tgs.proofs.judge.open_authenticator.Goals as goal
 

@@ -3,7 +3,7 @@ use Rattle.cms_signed_content.specs.SignedParts.{content_of}
 use Rattle.decision_tables.specs.Tables.{done}
 use Rattle.krb_constants.specs.declared.error_codes.TheConstants.{KDC_ERR_PREAUTH_FAILED}
 use Rattle.pkinit_requests.specs.AuthPacks.{IsAuthPack, sole_auth_pack}
-use Rattle.krb_pkinit.specs.Calls.{agreed_as}
+use Rattle.pkinit_interface.specs.Calls.{agreed_as}
 use Rattle.pkinit_requests.specs.Judging.{judging_of}
 use Rattle.pkinit_requests.specs.PkinitTable.{is_auth_data, of_auth_pack}
 use Rattle.pkinit_requests.proofs.Judged.{judged_ask}

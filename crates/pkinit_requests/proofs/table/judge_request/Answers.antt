@@ -3,7 +3,7 @@ use Rattle.decision_tables.specs.Tables.{done}
 use Rattle.krb_types.specs.Refusals.{IsJudged}
 use Rattle.krb_constants.specs.declared.error_codes.TheConstants.{KDC_ERR_PREAUTH_FAILED}
 use Rattle.pkinit_requests.specs.AuthPacks.{IsPaPkAsReq, sole_pa_pk_as_req}
-use Rattle.krb_pkinit.specs.Calls.{agreed_as}
+use Rattle.pkinit_interface.specs.Calls.{agreed_as}
 use Rattle.pkinit_requests.specs.Judging.{judging_of}
 use Rattle.pkinit_requests.specs.PkinitTable.{of_signed}
 use Rattle.pkinit_requests.proofs.Judged.{judged_ask}

@@ -1,6 +1,6 @@
 use Rattle.std.proofs.Common.{◌≡◌, false, Result, Err, IfErr, OnOk, Ok, Some, rules, sym, ap, subst, ◌∙◌}
 use Rattle.std.specs.BTreeMap.{UpdatesBy, get_by}
-use Rattle.krb_packed_names.specs.Packed.{fit, packed}
+use Rattle.krb_accounts.specs.Packed.{fit, packed}
 use Rattle.krb_crypto.specs.Keys.{KeyRecord}
 use Rattle.krb_accounts.specs.Account.{AccountRecord}
 use Rattle.krb_accounts.specs.Accounts.{rekeyed}

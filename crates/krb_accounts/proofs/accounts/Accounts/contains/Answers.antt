@@ -1,5 +1,5 @@
 use Rattle.std.proofs.Common.{◌≡◌, false, is_some, rules, sym, ap, ◌∙◌}
-use Rattle.krb_packed_names.specs.Packed.{fit, packed}
+use Rattle.krb_accounts.specs.Packed.{fit, packed}
 use Rattle.krb_accounts.specs.Names.{parts}
 use Rattle.krb_accounts.proofs.Blocks.{found, missing}
 use Rattle.krb_accounts.proofs.accounts.Accounts.contains.Goals as goal

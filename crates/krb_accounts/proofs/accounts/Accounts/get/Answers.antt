@@ -1,5 +1,5 @@
 use Rattle.std.proofs.Common.{◌≡◌, rules, ◌∙◌}
-use Rattle.krb_packed_names.specs.Packed.{packed}
+use Rattle.krb_accounts.specs.Packed.{packed}
 use Rattle.krb_accounts.proofs.Blocks.{found}
 use Rattle.krb_accounts.proofs.accounts.Accounts.get.Goals as goal
 

@@ -1,5 +1,5 @@
 use Rattle.std.proofs.Common.{◌≡◌, false, rules, sym, ◌∙◌}
-use Rattle.krb_packed_names.specs.Packed.{fit, packed}
+use Rattle.krb_accounts.specs.Packed.{fit, packed}
 use Rattle.krb_accounts.proofs.Blocks.{found, missing}
 use Rattle.krb_accounts.proofs.accounts.Accounts.get_long.Goals as goal
 

@@ -1,5 +1,5 @@
 use Rattle.std.proofs.Common.{◌≡◌, true, false, Err, IsSome, Option, ◌↔◌, rules, subst}
-use Rattle.krb_packed_names.specs.Packed.{fit, packed}
+use Rattle.krb_accounts.specs.Packed.{fit, packed}
 use Rattle.krb_accounts.specs.Account.{AccountRecord}
 use Rattle.krb_accounts.specs.Names.{parts}
 use Rattle.krb_accounts.specs.declared.refusal.RealmRefusal.TheVariants.{Exists}

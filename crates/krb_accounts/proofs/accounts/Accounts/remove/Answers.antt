@@ -1,7 +1,7 @@
 use Rattle.std.proofs.Common.{◌≡◌, true, false, rules, ap, ◌∙◌}
 use Rattle.std.specs.FinMap as finite
 use Rattle.std.specs.Option.{is_none}
-use Rattle.krb_packed_names.specs.Packed.{fit, packed}
+use Rattle.krb_accounts.specs.Packed.{fit, packed}
 use Rattle.krb_accounts.specs.Accounts.{AccountMap}
 use Rattle.krb_accounts.specs.Names.{parts}
 use Rattle.krb_accounts.proofs.Blocks.{blocks_left, found, known_if, missing, removed, unknown, unknown_if}

@@ -1,0 +1,21 @@
+-- What a sink tells of the last write that failed: the device's own kind of fault, and none where it took nothing.
+use Rattle.std.specs.Prelude.{◌≡◌, ℕ, ◌<◌, Option, None, Some, ⊤, Result, MatchResult}
+use Rattle.std.specs.declared.io.ErrorKind.{ErrorKind}
+use Rattle.byte_streams.specs.declared.sink.SinkFault.{SinkFault}
+use Rattle.byte_streams.specs.declared.sink.SinkFault.TheVariants as some
+use Rattle.byte_streams.specs.declared.exact.WholeFault.{WholeFault}
+use Rattle.byte_streams.specs.declared.exact.WholeFault.TheVariants as whole
+
+abbrev pub TellsFault : Option ErrorKind → SinkFault → Type 0
+TellsFault last (some.Failed kind) = last ≡ Some kind
+TellsFault last some.Memory = ⊤
+
+-- after a write of so many bytes
+abbrev pub TellsWrite : Option ErrorKind → Result ℕ SinkFault → ℕ → Type 0
+TellsWrite last r offered = MatchResult r (λ n. n ≡ 0 → 0 < offered → last ≡ None) (TellsFault last)
+
+-- after a whole write that stopped
+abbrev pub TellsWholeFault : Option ErrorKind → WholeFault → Type 0
+TellsWholeFault last whole.Full = last ≡ None
+TellsWholeFault last (whole.Failed kind) = last ≡ Some kind
+TellsWholeFault last whole.Memory = ⊤

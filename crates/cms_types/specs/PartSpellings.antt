@@ -1,0 +1,66 @@
+-- How the parts of signed data are spelled.
+use Rattle.std.proofs.Common.{◌≡◌, ℕ, Bool, List, [], ◌∷◌, ◌++◌, refl}
+use Rattle.asn1_der.specs.Length.{element}
+use Rattle.asn1_der.specs.Tree.{Tree, primitive, constructed, wrapped, more, none, leaf, der, IsWhole}
+use Rattle.asn1_der.proofs.Leaf.{leaf-whole, der-leaf}
+use Rattle.asn1_elements.specs.PathLaws.{IsElement, LeadsTo, go_on, alone_at, second_at}
+use Rattle.picky_asn1.specs.declared.wrapper.ObjectIdentifierAsn1.{ObjectIdentifierAsn1}
+use Rattle.x509_certificates.specs.AlgorithmIdentifier.{AlgorithmIdentifier}
+use Rattle.x509_certificates.specs.declared.certificate.Certificate.{Certificate}
+use Rattle.x509_parts.specs.declared.raw_algorithm_identifier.RawAlgorithmIdentifier.{RawAlgorithmIdentifier}
+use Rattle.cms_types.specs.declared.encapsulated_content_info.EncapsulatedContentInfo.{EncapsulatedContentInfo}
+use Rattle.cms_types.specs.declared.signed_attributes.SignedAttributes.{SignedAttributes}
+use Rattle.cms_types.specs.declared.signer_info.IssuerAndSerialNumber.{IssuerAndSerialNumber}
+use Rattle.cms_types.specs.SpelledElements.{SpellsElements}
+
+-- the spelling of each part, which is an element; and where content and digest stand in the two parts that hold them
+pub record PartSpellings : Type 1 where
+  pub oid : ObjectIdentifierAsn1 → List ℕ → ℕ → Type 0
+  pub oid_are : SpellsElements oid
+  pub version : ℕ → List ℕ → ℕ → Type 0
+  pub version_are : SpellsElements version
+  pub digest_algorithm : RawAlgorithmIdentifier → List ℕ → ℕ → Type 0
+  pub digest_algorithm_are : SpellsElements digest_algorithm
+  pub encapsulated : EncapsulatedContentInfo → List ℕ → ℕ → Type 0
+  pub encapsulated_are : SpellsElements encapsulated
+  pub certificate : Certificate → List ℕ → ℕ → Type 0
+  pub certificate_are : SpellsElements certificate
+  pub sid : IssuerAndSerialNumber → List ℕ → ℕ → Type 0
+  pub sid_are : SpellsElements sid
+  pub attributes : SignedAttributes → List ℕ → ℕ → Type 0
+  pub attributes_are : SpellsElements attributes
+  pub algorithm : AlgorithmIdentifier → List ℕ → ℕ → Type 0
+  pub algorithm_are : SpellsElements algorithm
+  pub octets : List ℕ → List ℕ → ℕ → Type 0
+  pub octets_are : SpellsElements octets
+  pub octets_is : (v : List ℕ) (b : List ℕ) (n : ℕ) → octets v b n → b ≡ element 4 v
+  pub content_there : (v : EncapsulatedContentInfo) (b : List ℕ) (n : ℕ) → encapsulated v b n → LeadsTo b (1 ∷ 0 ∷ []) (element 4 v.content.0)
+  pub digest_there : (v : SignedAttributes) (b : List ℕ) (n : ℕ) → attributes v b n → LeadsTo b (1 ∷ 1 ∷ 0 ∷ []) (element 4 v.message_digest.values.0)
+
+oid_element : (valid : Bool) (oid : List ℕ) → IsWhole (leaf valid 6 oid) → IsElement (der (leaf valid 6 oid))
+oid_element valid oid whole = (6, oid, refl, der-leaf valid 6 oid (leaf-whole valid 6 oid whole))
+
+-- a content of this type (RFC 5652, section 5.2)
+pub content_at : (valid : Bool) (oid octets b : List ℕ)
+    → IsWhole (constructed 48 (more (leaf valid 6 oid) (more (wrapped 160 (primitive 4 octets)) none)))
+    → b ≡ der (constructed 48 (more (leaf valid 6 oid) (more (wrapped 160 (primitive 4 octets)) none)))
+    → LeadsTo b (1 ∷ 0 ∷ []) (element 4 octets)
+content_at valid oid octets b whole is =
+    go_on b (element 160 (element 4 octets ++ [])) (element 4 octets) (1 ∷ []) (0 ∷ [])
+    (second_at 48 (der (leaf valid 6 oid)) (element 160 (element 4 octets ++ [])) b refl (oid_element valid oid whole.0) (160, element 4 octets ++ [], refl, refl) is)
+    (alone_at 160 (element 4 octets) (element 160 (element 4 octets ++ [])) refl (4, octets, refl, refl) refl)
+
+-- the attribute message-digest behind another one (RFC 5652, sections 5.3 and 11.2)
+pub digest_at : (valid : Bool) (oid octets : List ℕ) (first : Tree) (b : List ℕ) → IsElement (der first)
+    → IsWhole (constructed 160 (more first (more (constructed 48 (more (leaf valid 6 oid) (more (wrapped 49 (primitive 4 octets)) none))) none)))
+    → b ≡ der (constructed 160 (more first (more (constructed 48 (more (leaf valid 6 oid) (more (wrapped 49 (primitive 4 octets)) none))) none)))
+    → LeadsTo b (1 ∷ 1 ∷ 0 ∷ []) (element 4 octets)
+digest_at valid oid octets first b front whole is =
+    let set : List ℕ = element 49 (element 4 octets ++ []) in
+    let attribute : List ℕ = element 48 (der (leaf valid 6 oid) ++ (set ++ [])) in
+    let outer : LeadsTo b (1 ∷ []) attribute =
+    second_at 160 (der first) attribute b refl front (48, der (leaf valid 6 oid) ++ (set ++ []), refl, refl) is in
+    let inner : LeadsTo attribute (1 ∷ []) set =
+    second_at 48 (der (leaf valid 6 oid)) set attribute refl (oid_element valid oid whole.1.0.0) (49, element 4 octets ++ [], refl, refl) refl in
+    let alone : LeadsTo set (0 ∷ []) (element 4 octets) = alone_at 49 (element 4 octets) set refl (4, octets, refl, refl) refl in
+    go_on b attribute (element 4 octets) (1 ∷ []) (1 ∷ 0 ∷ []) outer (go_on attribute set (element 4 octets) (1 ∷ []) (0 ∷ []) inner alone)

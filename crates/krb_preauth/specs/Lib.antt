@@ -1,4 +1,0 @@
-pub mod Padata
-pub mod EncryptedTimestamps
-pub mod TicketGranting
-pub mod MethodData

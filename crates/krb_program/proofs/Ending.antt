@@ -1,0 +1,48 @@
+-- How a run ends whose file is no realm's, or whose serving is refused.
+use Rattle.std.proofs.Common.{◌≡◌, ℕ, List, Result, Ok, Err, IsErrAnd, inl, inr, ap, subst, sym}
+use Rattle.krb_time.specs.Units.{Micros}
+use Rattle.krb_frames.specs.declared.fault.ServeFault.{ServeFault}
+use Rattle.krb_frames.specs.declared.fault.ServeFault.TheVariants as serve_fault
+use Rattle.key_functions.specs.KeyFunctions.{no_functions}
+use Rattle.krb_realm.specs.Answers.{BeginsRequest, RealmReplies}
+use Rattle.krb_realm.specs.Realm.{RealmState}
+use Rattle.krb_program.specs.Devices.{Devices, Serves}
+use Rattle.krb_program.specs.declared.outcome.Stop.{Stop}
+use Rattle.krb_program.specs.declared.outcome.Stop.TheVariants.{Fault}
+use Rattle.krb_program.specs.Files.{HasFault, IsRealmFile}
+use Rattle.krb_program.specs.Runs.{IsEnd, stop_of}
+use Rattle.krb_program.specs.declared.fault.KdcFault.{KdcFault}
+use Rattle.krb_program.specs.declared.fault.KdcFault.TheVariants as kdc_fault
+use Rattle.krb_program.proofs.SoleRealm.{no_realm_with_fault}
+
+-- what the exit of a `?` returns
+exit_of : (result : Result ℕ Stop) (fault : ServeFault) → IsErrAnd result (λ stop. stop ≡ Fault fault) → result ≡ Err (Fault fault)
+exit_of (Ok count) fault is = absurd is
+exit_of (Err stop) fault is = ap Err is
+
+module _ (Untouched : Type 0) (text : List ℕ) (moment : Micros) (old new : Devices) where
+  pub file_stopped : (fault : KdcFault) → Untouched → HasFault text fault → IsEnd Untouched text moment old new (Err (stop_of fault))
+  file_stopped kdc_fault.Memory kept has = inl kept
+  file_stopped (kdc_fault.File e) kept has = (kept, λ realm. no_realm_with_fault text (kdc_fault.File e) realm has (λ is. (cc)))
+  file_stopped (kdc_fault.Realm e) kept has = (kept, λ realm. no_realm_with_fault text (kdc_fault.Realm e) realm has (λ is. (cc)))
+  file_stopped (kdc_fault.Account n e) kept has = (kept, λ realm. no_realm_with_fault text (kdc_fault.Account n e) realm has (λ is. (cc)))
+
+  pub serving_stopped : (realm : RealmState) → IsRealmFile text realm → (fault : ServeFault)
+      → Serves (RealmReplies realm no_functions) BeginsRequest moment old new (Err fault)
+      → IsEnd Untouched text moment old new (Err (Fault fault))
+  serving_stopped realm file serve_fault.Memory served = inr (realm, file, served)
+  serving_stopped realm file serve_fault.Truncated served = (realm, file, served)
+  serving_stopped realm file serve_fault.FrameTooLong served = (realm, file, served)
+  serving_stopped realm file serve_fault.NoRequest served = (realm, file, served)
+  serving_stopped realm file serve_fault.Read served = (realm, file, served)
+  serving_stopped realm file serve_fault.Write served = (realm, file, served)
+  serving_stopped realm file serve_fault.NoWords served = (realm, file, served)
+  serving_stopped realm file serve_fault.NoMoment served = (realm, file, served)
+  serving_stopped realm file serve_fault.ReplyTooLong served = (realm, file, served)
+
+  pub exit_stopped : (realm : RealmState) → IsRealmFile text realm → (fault : ServeFault) (result : Result ℕ Stop)
+      → IsErrAnd result (λ stop. stop ≡ Fault fault)
+      → Serves (RealmReplies realm no_functions) BeginsRequest moment old new (Err fault)
+      → IsEnd Untouched text moment old new result
+  exit_stopped realm file fault result is served =
+      subst (IsEnd Untouched text moment old new) (sym (exit_of result fault is)) (serving_stopped realm file fault served)

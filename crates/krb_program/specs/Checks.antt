@@ -1,0 +1,11 @@
+-- What is said of a settings file.
+use Rattle.std.specs.Prelude.{ℕ, List}
+use Rattle.krb_realm.specs.Realm.{RealmState}
+use Rattle.krb_program.specs.Files.{IsRealmFile}
+use Rattle.krb_program.specs.declared.check.FileCheck.{FileCheck}
+use Rattle.krb_program.specs.declared.check.FileCheck.TheVariants.{Realm, Fault}
+
+-- the file is passed just where it writes a realm
+abbrev pub IsChecked : List ℕ → FileCheck → Type 0
+IsChecked text (Realm _) = (realm : RealmState) × IsRealmFile text realm
+IsChecked text (Fault _) = (realm : RealmState) → ¬ IsRealmFile text realm

@@ -1,0 +1,10 @@
+-- A machine's clock counts from 1970-01-01 00:00:00 UTC.
+use Rattle.std.specs.Prelude.{◌+◌, ◌*◌}
+use Rattle.krb_time.specs.Units.{Micros, Seconds}
+
+-- in seconds since 0000-01-01 00:00:00 UTC: 719,528 days
+abbrev pub epoch : Seconds
+epoch = 62167219200
+
+abbrev pub micros_after_epoch : Seconds → Micros → Micros
+micros_after_epoch seconds micros = (epoch + seconds) * 1000000 + micros

@@ -1,0 +1,44 @@
+-- What serving does to its three byte_streams.
+use Rattle.std.specs.Prelude.{◌≡◌, ◌≢◌, ◌⊎◌, ℕ, List, Option, Some, Result, Err}
+use Rattle.std.specs.Io.KnownBytes.{Appends}
+use Rattle.byte_streams.specs.Counting.{one_more}
+use Rattle.krb_time.specs.Units.{Micros}
+use Rattle.krb_frames.specs.Serving.{WhereKnown, Left, IsServed, at}
+use Rattle.krb_frames.specs.declared.fault.ServeFault.{ServeFault}
+use Rattle.krb_frames.specs.declared.fault.ServeFault.TheVariants.{Read, Write}
+use Rattle.krb_program.specs.Moments.{each_time}
+
+-- the bytes that a device has left to give, or holds, where they are known; and how many of its calls failed
+pub record Device : Type 0 where
+  pub bytes : Option (List ℕ)
+  pub failed : ℕ
+
+-- those that random bytes and messages are read from, and the one that replies are written to
+pub record Devices : Type 0 where
+  pub words : Device
+  pub reader : Device
+  pub writer : Device
+
+abbrev pub device : Option (List ℕ) → ℕ → Device
+device bytes failed = record { bytes = bytes; failed = failed }
+
+abbrev pub byte_streams : Device → Device → Device → Devices
+byte_streams words reader writer = record { words = words; reader = reader; writer = writer }
+
+-- what was written, the answer and what is left are those of serving the stream, each message at this moment, for a responder that replies
+-- so and may want memory for these messages
+abbrev pub IsOutput : (List ℕ → Micros → List ℕ → Option (List ℕ) → Type 0) → (List ℕ → Type 0) → Micros → Devices → Devices → Result ℕ ServeFault → Type 0
+IsOutput replies wants moment old new result = WhereKnown old.reader.bytes (λ stream. WhereKnown old.words.bytes (λ words.
+    (written : List ℕ) × (left : Left) × Appends old.writer.bytes new.writer.bytes written
+    × (new.reader.bytes ≡ Some left.stream) × (new.words.bytes ≡ Some left.words)
+    × IsServed replies wants (at (each_time moment) stream words) written result left))
+
+-- a fault of a device is answered where a call of it failed, and no failed call is passed over
+pub record AnswersFailures (old new : Devices) (result : Result ℕ ServeFault) : Type 0 where
+  pub read_failed : result ≡ Err Read → (new.reader.failed ≡ one_more old.reader.failed) ⊎ (new.words.failed ≡ one_more old.words.failed)
+  pub write_failed : result ≡ Err Write → new.writer.failed ≡ one_more old.writer.failed
+  pub read_kept : result ≢ Err Read → (new.reader.failed ≡ old.reader.failed) × (new.words.failed ≡ old.words.failed)
+  pub write_kept : result ≢ Err Write → new.writer.failed ≡ old.writer.failed
+
+abbrev pub Serves : (List ℕ → Micros → List ℕ → Option (List ℕ) → Type 0) → (List ℕ → Type 0) → Micros → Devices → Devices → Result ℕ ServeFault → Type 0
+Serves replies wants moment old new result = IsOutput replies wants moment old new result × AnswersFailures old new result

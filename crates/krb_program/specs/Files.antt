@@ -1,0 +1,21 @@
+-- The realm of a settings file.
+use Rattle.std.specs.Prelude.{◌≡◌, ◌⊎◌, ℕ, List, Ok, Err}
+use Rattle.krb_realm.specs.Realm.{RealmState}
+use Rattle.krb_settings.specs.Files.{IsRealmText}
+use Rattle.krb_settings.specs.Files as file
+use Rattle.krb_settings.specs.Written.{WrittenRealm}
+use Rattle.krb_settings.specs.declared.fault.SettingsFault.{SettingsFault}
+use Rattle.krb_settings.specs.declared.fault.SettingsFault.TheVariants as settings_fault
+use Rattle.krb_program.specs.Realms.{realm_of_settings}
+use Rattle.krb_program.specs.declared.fault.KdcFault.{KdcFault}
+use Rattle.krb_program.specs.declared.fault.KdcFault.TheVariants.{File, Memory}
+
+-- the bytes write this realm
+abbrev pub IsRealmFile : List ℕ → RealmState → Type 0
+IsRealmFile text realm = (written : WrittenRealm) × IsRealmText text written × (realm_of_settings written ≡ Ok realm)
+
+-- the bytes have this fault. Want of memory says nothing of them
+abbrev pub HasFault : List ℕ → KdcFault → Type 0
+HasFault text fault = (fault ≡ Memory)
+    ⊎ ((e : SettingsFault) × (fault ≡ File e) × ¬ (e ≡ settings_fault.Memory) × file.HasFault text e)
+    ⊎ ((written : WrittenRealm) × IsRealmText text written × (realm_of_settings written ≡ Err fault))

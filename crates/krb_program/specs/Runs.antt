@@ -1,0 +1,33 @@
+-- How a run with settings ends.
+use Rattle.std.specs.Prelude.{◌⊎◌, ℕ, List, Result, Ok, Err}
+use Rattle.krb_time.specs.Units.{Micros}
+use Rattle.krb_frames.specs.declared.fault.ServeFault.{ServeFault}
+use Rattle.krb_frames.specs.declared.fault.ServeFault.TheVariants as serve_fault
+use Rattle.key_functions.specs.KeyFunctions.{no_functions}
+use Rattle.krb_realm.specs.Answers.{BeginsRequest, RealmReplies}
+use Rattle.krb_realm.specs.Realm.{RealmState}
+use Rattle.krb_program.specs.Devices.{Devices, Serves}
+use Rattle.krb_program.specs.declared.outcome.Stop.{Stop}
+use Rattle.krb_program.specs.declared.outcome.Stop.TheVariants.{BadArguments, BadSettings, Fault}
+use Rattle.krb_program.specs.Files.{IsRealmFile}
+use Rattle.krb_program.specs.declared.fault.KdcFault.{KdcFault}
+use Rattle.krb_program.specs.declared.fault.KdcFault.TheVariants.{Memory}
+
+-- why a program stops by a fault of its file
+abbrev pub stop_of : KdcFault → Stop
+stop_of Memory = Fault serve_fault.Memory
+stop_of _ = BadSettings
+
+-- the file writes a realm, and the stream is served as that realm's without key functions, which may want memory for what begins as a
+-- request
+abbrev pub ServesFile : List ℕ → Micros → Devices → Devices → Result ℕ ServeFault → Type 0
+ServesFile text moment old new served = (realm : RealmState) × IsRealmFile text realm
+    × Serves (RealmReplies realm no_functions) BeginsRequest moment old new served
+
+-- `Untouched`: no device was read from or written to. This holds if a file writes no realm, and may hold if memory ran out
+abbrev pub IsEnd : Type 0 → List ℕ → Micros → Devices → Devices → Result ℕ Stop → Type 0
+IsEnd Untouched text moment old new (Ok count) = ServesFile text moment old new (Ok count)
+IsEnd Untouched text moment old new (Err BadArguments) = ⊥
+IsEnd Untouched text moment old new (Err BadSettings) = Untouched × ((realm : RealmState) → ¬ IsRealmFile text realm)
+IsEnd Untouched text moment old new (Err (Fault serve_fault.Memory)) = Untouched ⊎ ServesFile text moment old new (Err serve_fault.Memory)
+IsEnd Untouched text moment old new (Err (Fault fault)) = ServesFile text moment old new (Err fault)

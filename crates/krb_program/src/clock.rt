@@ -1,0 +1,23 @@
+//! The moment of a machine's clock.
+ghost use Rattle.std.specs.Prelude.{◌<◌, ◌≤◌, SomeIff};
+ghost use Rattle.krb_time.specs.Moment.{IsMoment};
+ghost use Rattle.krb_program.specs.Clock.{micros_after_epoch};
+
+use krb_time::Moment;
+
+/// The seconds from 0000-01-01 00:00:00 UTC to 1970-01-01 00:00:00 UTC.
+const EPOCH: u64 = 62_167_219_200;
+
+/// The first second from 1970-01-01 00:00:00 UTC on that is past the year 9999.
+const SECOND_LIMIT: u64 = 253_402_300_800;
+
+/// The moment that many seconds and microseconds after 1970-01-01 00:00:00 UTC, or none past the year 9999.
+pub fn after_epoch(seconds: u64, micros: u32) -> Option<Moment>
+    requires { micros < 1000000 }
+    ensures { SomeIff result (IsMoment (micros_after_epoch seconds micros)) (micros_after_epoch seconds micros) }
+{
+    if SECOND_LIMIT <= seconds {
+        return None;
+    }
+    Moment::new((EPOCH + seconds) * 1_000_000 + u64::from(micros))
+}

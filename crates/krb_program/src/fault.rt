@@ -1,0 +1,38 @@
+//! Why a settings file is no realm's.
+ghost use Rattle.std.specs.Prelude.{◌≡◌};
+
+use crate::outcome::Stop;
+use krb_realm::{RealmRefusal, ServeFault};
+use krb_settings::SettingsFault;
+use thiserror::Error;
+
+/// Why a settings file is no realm's, and where.
+#[derive(Clone, Copy, Debug, PartialEq, Eq, Error)]
+pub enum KdcFault {
+    /// A fault of the file itself.
+    #[error("{0}")]
+    File(SettingsFault),
+    /// The realm's own name, key or settings were refused.
+    #[error("realm: {0}")]
+    Realm(RealmRefusal),
+    /// The realm refused an account. The first has number 1.
+    #[error("account {0}: {1}")]
+    Account(usize, RealmRefusal),
+    /// Memory ran out.
+    #[error("out of memory")]
+    Memory,
+}
+
+impl KdcFault {
+    ghost use Rattle.krb_program.specs.Runs.{stop_of};
+
+    /// Why a program stops that was given such a file.
+    pub fn stop(self) -> Stop
+        ensures { result ≡ stop_of self }
+    {
+        match self {
+            KdcFault::Memory => Stop::Fault(ServeFault::Memory),
+            _ => Stop::BadSettings,
+        }
+    }
+}

@@ -1,0 +1,17 @@
+//! What holds of every settings file. Each is a function that does nothing when it runs: its contract is the law.
+ghost use Rattle.std.specs.Prelude.{◌≡◌, ◌≢◌, ℕ, List};
+ghost use Rattle.krb_realm.specs.Realm.{RealmState};
+ghost use Rattle.krb_program.specs.Files.{HasFault, IsRealmFile};
+ghost use Rattle.krb_program.specs.declared.fault.KdcFault.{KdcFault};
+ghost use Rattle.krb_program.specs.declared.fault.KdcFault.TheVariants as kdc_fault;
+
+/// A file writes one realm at most.
+pub fn one_realm()
+    ensures { (text : List ℕ) (realm other : RealmState) → IsRealmFile text realm → IsRealmFile text other → realm ≡ other }
+{}
+
+/// A file with a fault other than `Memory` writes no realm.
+pub fn no_realm_with_fault()
+    ensures { (text : List ℕ) (fault : KdcFault) (realm : RealmState) → HasFault text fault → fault ≢ kdc_fault.Memory
+        → ¬ IsRealmFile text realm }
+{}

@@ -1,0 +1,40 @@
+//! The time that a client seals under its own key.
+ghost use Rattle.std.specs.Prelude.{◌≡◌, IfOk};
+ghost use Rattle.krb_encrypted_data.specs.Found.{IsFound};
+ghost use Rattle.krb_tickets.specs.EncryptedTimestamps.{IsEncryptedTimestamp, moment_of};
+
+use krb_accounts::Account;
+use krb_constants::key_usages;
+use krb_encrypted_data::{open_sealed, read_whole};
+use krb_time::{Moment, moment_at};
+use krb_types::data_types::{EncryptedData, PaEncTsEnc};
+use std::alloc::{AllocError, Global};
+
+/// The encrypted timestamp that a padata's value encodes, decrypted with the account's key, or none.
+pub fn open_encrypted_timestamp(
+    alloc: Global,
+    account: &Account,
+    bytes: &[u8],
+) -> Result<Option<PaEncTsEnc>, AllocError>
+    ensures { IfOk result (IsFound (IsEncryptedTimestamp account.now bytes.now)) }
+{
+    let read: Option<EncryptedData> = read_whole(alloc, bytes)?;
+    let Some(sealed) = read else {
+        return Ok(None);
+    };
+    let timestamp = open_sealed(alloc, account.key(), key_usages::AS_REQ_TIMESTAMP, &sealed);
+    drop(sealed);
+    timestamp
+}
+
+/// The moment of a timestamp, or none if its microseconds are no part of a second. Missing microseconds are zero.
+#[tactic(auto, unfolding(crate::specs::EncryptedTimestamps::moment_of))]
+pub fn moment_of(timestamp: &PaEncTsEnc) -> Option<Moment>
+    ensures { result ≡ moment_of timestamp.now }
+{
+    let time = timestamp.patimestamp.0.0;
+    match &timestamp.pausec.0 {
+        Some(tagged) => moment_at(time, &tagged.0),
+        None => Some(Moment::at(time, 0)),
+    }
+}

@@ -1,0 +1,27 @@
+//! The padata of a request.
+ghost use Rattle.std.specs.Prelude.{◌≡◌};
+ghost use Rattle.std.specs.Option.{option_copied};
+ghost use Rattle.krb_tickets.specs.Padata.{first_padata, first_of};
+
+use krb_types::data_types::PaData;
+use picky_asn1::is_number;
+use picky_asn1::wrapper::OctetStringAsn1;
+
+/// The data of the first padata of a type, the one that counts (RFC 4120, section 5.2.7).
+#[tactic(auto, unfolding(crate::specs::Padata::first_of))]
+pub fn first_of(padata: &[PaData], kind: u32) -> Option<&OctetStringAsn1>
+    ensures { option_copied result ≡ first_of kind padata.now }
+{
+    match first_padata(padata, kind) {
+        Some(pa_data) => Some(&pa_data.padata_data.0),
+        None => None,
+    }
+}
+
+fn first_padata(padata: &[PaData], kind: u32) -> Option<&PaData>
+    ensures { option_copied result ≡ first_padata kind padata.now }
+{
+    padata
+        .iter()
+        .find(|pa_data| is_number(&pa_data.padata_type.0, kind))
+}

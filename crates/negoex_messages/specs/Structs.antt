@@ -1,0 +1,29 @@
+-- The structs of messages, field by field in the standard's order (MS-NEGOEX, section 2.2.6).
+use Rattle.std.specs.Prelude.{ℕ, List}
+use Rattle.negoex_types.specs.Form.{Layout}
+use Rattle.negoex_types.specs.Leaves.{guid_layout, long_layout, random_layout}
+use Rattle.negoex_types.specs.Pairs.{pair_layout}
+use Rattle.negoex_types.specs.Structs.{HeaderValue, header_layout, bytes_layout, ExtensionValue, extension_layout, ChecksumValue, checksum_layout}
+use Rattle.negoex_types.specs.Vectors.{vector_layout}
+
+abbrev pub ExchangeValue : Type 0
+ExchangeValue = (HeaderValue × List ℕ) × List ℕ
+
+-- 2.2.6.4: Header, AuthScheme; Exchange
+abbrev pub exchange_layout : Layout ExchangeValue
+exchange_layout = pair_layout (pair_layout header_layout guid_layout) bytes_layout
+
+abbrev pub VerifyValue : Type 0
+VerifyValue = (HeaderValue × List ℕ) × ChecksumValue
+
+-- 2.2.6.5: Header, AuthScheme; Checksum
+abbrev pub verify_layout : Layout VerifyValue
+verify_layout = pair_layout (pair_layout header_layout guid_layout) checksum_layout
+
+abbrev pub NegoValue : Type 0
+NegoValue = ((HeaderValue × (List ℕ × ℕ)) × List (List ℕ)) × List ExtensionValue
+
+-- 2.2.6.3: Header, Random, ProtocolVersion; AuthSchemes; Extensions
+abbrev pub nego_layout : Layout NegoValue
+nego_layout =
+    pair_layout (pair_layout (pair_layout header_layout (pair_layout random_layout long_layout)) (vector_layout guid_layout)) (vector_layout extension_layout)

@@ -1,0 +1,137 @@
+//! A token of a scheme (MS-NEGOEX, section 2.2.6.4).
+ghost use Rattle.std.specs.Prelude.{◌≡◌};
+
+use crate::message::NegoexMessage;
+use negoex_types::{
+    AuthScheme, ByteVector, ConversationId, Laid, MessageHeader, MessageType,
+    NEGOEXTS_MESSAGE_SIGNATURE, NegoexError, Wide, place_behind, put_both,
+};
+use std::alloc::{AllocError, Global};
+
+/// A token of a scheme, or its metadata before the exchange.
+#[derive(Debug, Drop, PartialEq, Eq)]
+pub struct Exchange {
+    /// What the message begins with.
+    pub header: MessageHeader,
+    /// The scheme.
+    pub auth_scheme: AuthScheme,
+    /// The token.
+    pub exchange: ByteVector,
+}
+
+impl Exchange {
+    ghost use Rattle.std.specs.Prelude.{◌+◌, ◌^◌, ◌≤◌, length, MatchResult};
+    ghost use Rattle.std.specs.declared.io.ErrorKind.{ErrorKind};
+
+    /// A message of this scheme, with its true lengths; `InvalidInput` where it has 2^32 bytes or more.
+    pub fn new(
+        message_type: MessageType,
+        conversation_id: ConversationId,
+        sequence_num: u32,
+        auth_scheme: AuthScheme,
+        exchange: ByteVector,
+    ) -> Result<Exchange, NegoexError>
+        ensures { MatchResult result
+            (λ m. m ≡ record {
+              header = record {
+                signature = 6004521257897772366;
+                message_type = message_type;
+                sequence_num = sequence_num;
+                header_len = 64;
+                message_len = 64 + length exchange.items;
+                conversation_id = conversation_id;
+              };
+              auth_scheme = auth_scheme;
+              exchange = exchange;
+            })
+            (λ e. (e.kind ≡ ErrorKind.InvalidInput) × (2 ^ 32 ≤ 64 + length exchange.items)) }
+    {
+        let message_len = place_behind(64, exchange.len(), 1)? as u32;
+        Ok(Exchange {
+            header: MessageHeader {
+                signature: NEGOEXTS_MESSAGE_SIGNATURE,
+                message_type,
+                sequence_num,
+                header_len: 64,
+                message_len,
+                conversation_id,
+            },
+            auth_scheme,
+            exchange,
+        })
+    }
+}
+
+impl Clone for Exchange {
+    ghost is_clone = { λ message copy. ⟦<Exchange as Laid>⟧.view copy ≡ ⟦<Exchange as Laid>⟧.view message };
+
+    fn clone(&self) -> Result<Exchange, AllocError> {
+        let exchange = self.exchange.clone()?;
+        Ok(Exchange {
+            header: self.header,
+            auth_scheme: self.auth_scheme,
+            exchange,
+        })
+    }
+}
+
+impl Laid for Exchange {
+    ghost use Rattle.std.specs.Prelude.{map};
+    ghost use Rattle.negoex_messages.specs.Structs.{ExchangeValue, exchange_layout};
+    ghost use Rattle.negoex_messages.specs.StructLaws.{exchange_laws};
+
+    ghost Value = { ExchangeValue };
+
+    ghost view = { λ e. ((⟦<MessageHeader as Laid>⟧.view e.header, e.auth_scheme), map (λ b. b) e.exchange.items) };
+
+    ghost layout = { exchange_layout };
+
+    ghost laws = { exchange_laws };
+
+    fn from_header(alloc: Global, header: &[u8], message: &[u8]) -> Result<Self, NegoexError> {
+        let ((header, auth_scheme), exchange): ((MessageHeader, AuthScheme), ByteVector) =
+            Laid::from_header(alloc, header, message)?;
+        Ok(Exchange {
+            header,
+            auth_scheme,
+            exchange,
+        })
+    }
+
+    fn put(
+        &self,
+        alloc: Global,
+        offset: usize,
+        header: &mut Vec<u8>,
+        payload: &mut Vec<u8>,
+    ) -> Result<(), NegoexError> {
+        let fields = (self.header, self.auth_scheme);
+        put_both(alloc, &fields, &self.exchange, offset, header, payload)
+    }
+
+    fn payload_size(&self) -> usize {
+        self.exchange.payload_size()
+    }
+}
+
+impl Wide for Exchange {
+    fn width() -> usize {
+        64
+    }
+}
+
+impl NegoexMessage for Exchange {
+    ghost use Rattle.std.specs.Prelude.{[]};
+
+    ghost filler = { [] };
+
+    ghost offset = { λ e. e.header.header_len };
+
+    fn filling() -> &'static [u8] {
+        &[]
+    }
+
+    fn payload_offset(&self) -> usize {
+        self.header.header_len as usize
+    }
+}

@@ -1,0 +1,13 @@
+-- The rows by which a realm judges requests by certificate (RFC 4556, section 3.2.2), as the AS exchange's table takes them in.
+use Rattle.std.specs.Prelude.{Bool, Result}
+use Rattle.picky_asn1.specs.Bytes.{Bytes}
+use Rattle.decision_tables.specs.Some.{HasSome}
+use Rattle.decision_tables.specs.Tables.{Table}
+use Rattle.krb_types.specs.Refusals.{Code}
+use Rattle.pkinit_interface.specs.Calls.{AgreedRecord, PkinitCallRecord}
+
+-- whether a client is told of PA-PK-AS-REQ; what its data is judged to be, as parts of a table; and that this has an outcome
+pub record PkinitRows : Type 1 where
+  pub offered : Bool
+  pub judges : PkinitCallRecord → Bytes → Table (Result AgreedRecord Code)
+  pub some : (call : PkinitCallRecord) (padata : Bytes) → HasSome (judges call padata).gives

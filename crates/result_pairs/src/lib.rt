@@ -1,0 +1,36 @@
+//! What `Result` lacks: two result_pairs as one, and a value that is kept where its check passed.
+//!
+//! A value of a type parameter is dropped by one call, of a function that is proved once. In a function that owns a big value at its
+//! own type, such as a decoded message, the drop is spelled out at each way out, and is most of that function's proof. So a function
+//! that makes a big value keeps the outcome of what it does with it, lets the value go by `drop`, and answers the outcome.
+#![tactic(auto)]
+
+ghost use Rattle.std.specs.Prelude.{◌≡◌, Err, IfOk, Ok};
+
+/// Both values, or the first error.
+///
+/// Nested, it makes the parts of a record with one way out.
+pub fn both<A: Drop, B: Drop, E: Drop>(
+    first: Result<A, E>,
+    second: Result<B, E>,
+) -> Result<(A, B), E>
+    ensures values { IfOk result (λ pair. (first ≡ Ok pair.0) × (second ≡ Ok pair.1)) }
+    ensures first_error { (error : E) → first ≡ Err error → result ≡ Err error }
+    ensures second_error { (value : A) (error : E) → first ≡ Ok value → second ≡ Err error → result ≡ Err error }
+{
+    match (first, second) {
+        (Ok(first), Ok(second)) => Ok((first, second)),
+        (Err(error), _) | (Ok(_), Err(error)) => Err(error),
+    }
+}
+
+/// The value where its check passed, else the check's error.
+pub fn if_passed<T: Drop, E: Drop>(value: T, check: Result<(), E>) -> Result<T, E>
+    ensures passed { check ≡ Ok tt → result ≡ Ok value }
+    ensures refused { (error : E) → check ≡ Err error → result ≡ Err error }
+{
+    match check {
+        Ok(()) => Ok(value),
+        Err(error) => Err(error),
+    }
+}
