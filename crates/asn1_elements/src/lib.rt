@@ -1,7 +1,7 @@
 //! Elements taken apart by hand: tags, lengths, contents, single octets.
 //!
 //! [`split_element`] returns the element that begins an input, in place, and [`Tag`] reads an identifier octet. The
-//! module `misc` is for code that reads and writes octets by itself. `picky_asn1_der` re-exports all names.
+//! module `misc` is for code that reads and writes octets by itself. [`part_at`] returns a part of an element by its path. `picky_asn1_der` re-exports all names.
 #![tactic(auto)]
 
 ghost use Rattle.std.specs.Prelude.{◌≡◌};

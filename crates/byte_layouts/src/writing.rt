@@ -1,4 +1,4 @@
-//! Writing bytes to their places, and to byte_streams.
+//! Writing bytes to their places, and to devices.
 ghost use Rattle.std.specs.Prelude.{◌≡◌, ℕ, ◌+◌, ◌≤◌, length, take, MatchResult};
 ghost use Rattle.std.specs.Io.KnownBytes.{Appends};
 ghost use Rattle.byte_layouts.specs.Parts.{part, put};

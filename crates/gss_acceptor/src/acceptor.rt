@@ -11,8 +11,8 @@ use crate::negotiation::{Offer, read_offer};
 use crate::refusal::AcceptRefusal;
 use crate::response::read_response;
 use crate::token::ap_req_in;
-use krb_time::Moment;
 use krb_service::Service;
+use krb_time::Moment;
 use std::alloc::Global;
 use std::marker::Model;
 

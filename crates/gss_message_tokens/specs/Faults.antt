@@ -1,4 +1,4 @@
--- The faults of tokens, and what of byte_streams they tell.
+-- The faults of tokens, and what of devices they tell.
 use Rattle.std.specs.Prelude.{◌≡◌, ℕ, List, Option, Some, ◌⊎◌}
 use Rattle.std.specs.Io.KnownBytes.{Consumes}
 use Rattle.std.specs.declared.io.ErrorKind.{ErrorKind}

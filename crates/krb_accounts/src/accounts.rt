@@ -5,10 +5,10 @@ ghost use Rattle.std.specs.FinMap as finite;
 ghost use Rattle.krb_accounts.specs.Names.{parts};
 
 use crate::account::{Account, key_of};
+use crate::packed::{BLOCK_ROOM, pack_within};
 use crate::refusal::RealmRefusal;
 use arrayvec::ArrayVec;
 use krb_crypto::{CipherSuite, Key};
-use crate::packed::{BLOCK_ROOM, pack_within};
 use picky_asn1::wrapper::GeneralStringAsn1;
 use std::alloc::Global;
 use std::collections::BTreeMap;

@@ -12,12 +12,12 @@ use krb_crypto::diffie_hellman::agreed_key;
 use krb_crypto::{CipherSuite, Key};
 use krb_kdc_requests::{Call, Span, lasting, padata_in};
 use krb_messages::messages::{KdcReq, KdcReqBody};
-use pkinit_interface::{Agreed, Pkinit, PkinitCall};
 use krb_tickets::{first_of, moment_of, open_encrypted_timestamp};
 use krb_types::Refusal;
 use krb_types::data_types::PaData;
 use picky_asn1::is_number;
 use picky_asn1::wrapper::GeneralStringAsn1;
+use pkinit_interface::{Agreed, Pkinit, PkinitCall};
 use std::alloc::Global;
 
 /// Judges the ticket's times and its suite.

@@ -12,8 +12,8 @@ use krb_constants::error_codes;
 use krb_constants::types::AS_REQ_MSG_TYPE;
 use krb_kdc_requests::{Call, check_header, client_of, service_of};
 use krb_messages::messages::KdcReq;
-use pkinit_interface::Pkinit;
 use krb_types::Refusal;
+use pkinit_interface::Pkinit;
 use std::alloc::Global;
 
 /// The reply that grants a first ticket, or the code of the error, by the table of the realm that is called, of these

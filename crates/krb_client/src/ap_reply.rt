@@ -3,11 +3,11 @@ ghost use Rattle.std.specs.Prelude.{◌≡◌};
 ghost use Rattle.krb_client.specs.ApReply.{takes_answer, takes_ap_reply, takes_time, tells};
 ghost use Rattle.krb_client.specs.Refusals.{IsTaken};
 
-use crate::read::{open_ap_part, read_ap_reply, read_error_code};
-use crate::taking::is_of_type;
-use crate::client::Client;
-use crate::refusal::TakeRefusal;
 use crate::asked::ApAsked;
+use crate::client::Client;
+use crate::read::{open_ap_part, read_ap_reply, read_error_code};
+use crate::refusal::TakeRefusal;
+use crate::taking::is_of_type;
 use krb_constants::types::AP_REP_MSG_TYPE;
 use krb_messages::messages::ApRepInner;
 use krb_time::Moment;

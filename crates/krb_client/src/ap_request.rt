@@ -4,11 +4,11 @@ ghost use Rattle.std.specs.Option.{option_map};
 ghost use Rattle.krb_client.specs.ApRequest.{AsksAp, ap_asked, chosen_subkey};
 ghost use Rattle.krb_encrypted_data.specs.Sealing.{encryption_key};
 
+use crate::asked::ApAsked;
 use crate::authenticator::ap_request;
-use crate::refusal::AskRefusal;
 use crate::client::Client;
 use crate::credential::Credential;
-use crate::asked::ApAsked;
+use crate::refusal::AskRefusal;
 use krb_constants::key_usages;
 use krb_crypto::CipherSuite;
 use krb_encrypted_data::{confounder_at, encryption_key, key_at};

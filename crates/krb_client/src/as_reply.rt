@@ -2,13 +2,13 @@
 ghost use Rattle.krb_client.specs.AsReply.{takes_as_reply, takes_reply, takes_sealed};
 ghost use Rattle.krb_client.specs.Refusals.{IsTaken};
 
-use crate::read::{open_as_part, open_tgs_part, read_as_reply, read_error_code};
-use crate::taking::is_of_type;
+use crate::asked::AsAsked;
 use crate::client::Client;
 use crate::credential::Credential;
 use crate::means::Means;
+use crate::read::{open_as_part, open_tgs_part, read_as_reply, read_error_code};
 use crate::refusal::TakeRefusal;
-use crate::asked::AsAsked;
+use crate::taking::is_of_type;
 use krb_constants::key_usages;
 use krb_constants::types::AS_REP_MSG_TYPE;
 use krb_crypto::Key;

@@ -5,12 +5,12 @@ ghost use Rattle.krb_client.specs.AsRequest.{AsksAs, IsUnasked, as_asked, as_bod
 ghost use Rattle.krb_client.specs.Means.{IsUnshown};
 ghost use Rattle.krb_client.specs.Messages.{as_request_bytes};
 
-use crate::kdc_request::{kdc_request_of, nonce_of};
-use crate::refusal::AskRefusal;
-use crate::client::Client;
-use crate::means::Means;
-use krb_accounts::{are_components, components_of};
 use crate::asked::AsAsked;
+use crate::client::Client;
+use crate::kdc_request::{kdc_request_of, nonce_of};
+use crate::means::Means;
+use crate::refusal::AskRefusal;
+use krb_accounts::{are_components, components_of};
 use krb_constants::types::AS_REQ_MSG_TYPE;
 use krb_messages::messages::{KdcReq, KdcReqBody};
 use krb_time::Moment;

@@ -5,10 +5,10 @@ ghost use Rattle.krb_client.specs.Authenticators.{IsApRequest, IsAuthenticatorOf
 ghost use Rattle.krb_crypto.specs.Suites.{cipher_confounder_size};
 ghost use Rattle.krb_client.specs.Messages.{ap_request_bytes, authenticator_bytes};
 
-use crate::copies::ticket_copy;
-use crate::names::principal_name;
 use crate::client::Client;
+use crate::copies::ticket_copy;
 use crate::credential::Credential;
+use crate::names::principal_name;
 use krb_constants::types::{AP_REQ_MSG_TYPE, AUTHENTICATOR_TYPE, KERBEROS_VERSION, NT_PRINCIPAL};
 use krb_encrypted_data::sealed_data;
 use krb_messages::messages::ApReqInner;

@@ -5,11 +5,11 @@ ghost use Rattle.krb_client.specs.Requests.{pa_data_of};
 ghost use Rattle.krb_client.specs.EncryptedTimestamps.{IsSealedTime, IsPaEncTimestamp, timestamp_of};
 ghost use Rattle.krb_crypto.specs.Suites.{cipher_confounder_size};
 
-use crate::kdc_request::pa_data_of;
-use crate::refusal::{AskRefusal, TakeRefusal};
-use crate::client::Client;
-use crate::means::Means;
 use crate::asked::AsAsked;
+use crate::client::Client;
+use crate::kdc_request::pa_data_of;
+use crate::means::Means;
+use crate::refusal::{AskRefusal, TakeRefusal};
 use krb_constants::key_usages;
 use krb_constants::padata_types::PA_ENC_TIMESTAMP;
 use krb_crypto::Key;

@@ -2,8 +2,8 @@
 ghost use Rattle.std.specs.Prelude.{◌≡◌, Err, IfOk};
 ghost use Rattle.krb_accounts.specs.Names.{AreComponents, IsRealmName, parts};
 
-use crate::refusal::AskRefusal;
 use crate::by_key::ByKey;
+use crate::refusal::AskRefusal;
 use krb_accounts::{are_components, components_of, is_realm_name, password_salt, realm_name_of};
 use krb_crypto::{CipherSuite, Key};
 use picky_asn1::wrapper::GeneralStringAsn1;

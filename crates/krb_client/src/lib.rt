@@ -1,6 +1,6 @@
 //! A client: it asks a realm for a first ticket and for further ones, asks a service by what it was granted, and takes their
 //! replies (RFC 4120, sections 3.1 to 3.3). How it authenticates itself is a trait, `Means`. A key that it shares with its realm is
-//! one such means, `ByKey`.
+//! one such means, `ByKey`. `AsAsked`, `TgsAsked` and `ApAsked` are what it remembers of its requests.
 #![tactic(auto)]
 
 mod agreement;

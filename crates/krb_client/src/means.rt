@@ -2,9 +2,9 @@
 ghost use Rattle.std.specs.Prelude.{◌≤◌, length, IfErr, IfOk};
 ghost use Rattle.krb_client.specs.Refusals.{IsTaken};
 
-use crate::refusal::{AskRefusal, TakeRefusal};
-use crate::client::Client;
 use crate::asked::AsAsked;
+use crate::client::Client;
+use crate::refusal::{AskRefusal, TakeRefusal};
 use krb_crypto::Key;
 use krb_messages::messages::{KdcRep, KdcReqBody};
 use krb_time::Moment;

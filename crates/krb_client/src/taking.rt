@@ -4,10 +4,10 @@ ghost use Rattle.krb_client.specs.Answers.{is_answer};
 ghost use Rattle.krb_client.specs.Refusals.{IsTaken};
 ghost use Rattle.krb_client.specs.Taking.{is_of_type, takes_part};
 
+use crate::answer::is_answer;
 use crate::client::Client;
 use crate::credential::Credential;
 use crate::refusal::TakeRefusal;
-use crate::answer::is_answer;
 use krb_constants::types::KERBEROS_VERSION;
 use krb_encrypted_data::key_of;
 use krb_messages::messages::{EncKdcRepPart, KdcRep};

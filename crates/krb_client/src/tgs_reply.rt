@@ -2,12 +2,12 @@
 ghost use Rattle.krb_client.specs.Refusals.{IsTaken};
 ghost use Rattle.krb_client.specs.TgsReply.{takes_further, takes_tgs_reply};
 
-use crate::read::{open_tgs_part, read_error_code, read_tgs_reply};
-use crate::taking::is_of_type;
+use crate::asked::TgsAsked;
 use crate::client::Client;
 use crate::credential::Credential;
+use crate::read::{open_tgs_part, read_error_code, read_tgs_reply};
 use crate::refusal::TakeRefusal;
-use crate::asked::TgsAsked;
+use crate::taking::is_of_type;
 use krb_constants::key_usages;
 use krb_constants::types::TGS_REP_MSG_TYPE;
 use krb_messages::messages::KdcRep;

@@ -6,13 +6,13 @@ ghost use Rattle.krb_client.specs.Requests.{nonce_of};
 ghost use Rattle.krb_crypto.specs.Suites.{cipher_confounder_size};
 ghost use Rattle.krb_client.specs.TgsRequest.{AsksTgs, Authenticates, checksum_over, tgs_asked, tgs_body_bytes, tgs_request_of};
 
+use crate::asked::TgsAsked;
 use crate::authenticator::ap_request;
-use crate::kdc_request::{kdc_request_of, nonce_of, pa_data_of};
-use crate::refusal::AskRefusal;
 use crate::client::Client;
 use crate::credential::Credential;
+use crate::kdc_request::{kdc_request_of, nonce_of, pa_data_of};
+use crate::refusal::AskRefusal;
 use krb_accounts::{are_components, components_of};
-use crate::asked::TgsAsked;
 use krb_constants::key_usages;
 use krb_constants::padata_types::PA_TGS_REQ;
 use krb_constants::types::TGS_REQ_MSG_TYPE;

@@ -1,4 +1,4 @@
--- What one step of serving does to its byte_streams.
+-- What one step of serving does to its devices.
 use Rattle.std.specs.Prelude.{◌≡◌, ◌⊎◌, ℕ, ◌<◌, ◌≤◌, List, [], ◌++◌, length, take, drop, Option, Some, None, ⊤}
 use Rattle.std.specs.Io.KnownBytes.{Appends, Keeps}
 use Rattle.krb_time.specs.Units.{Micros}

@@ -7,8 +7,8 @@ ghost use Rattle.krb_frames.specs.Serving.{WhereKnown, IsReply};
 ghost use Rattle.krb_frames.specs.Steps.{IsFilled, IsTaken, IsBroken, IsMessageFault, IsMessageStop, IsWordsFault, IsWordsStop, IsAnswerFault, IsAnswered, IsFrontFault, IsReadFault, IsStepFault, IsWrittenPart, after_read_fault, after_write_fault};
 
 use crate::{AnswerRefusal, Responder, ServeFault};
-use byteorder::{BigEndian, ByteOrder};
 use byte_streams::{Sink, Source, WholeFault, read_full, write_whole};
+use byteorder::{BigEndian, ByteOrder};
 use krb_time::Moment;
 use std::alloc::{AllocError, Global};
 

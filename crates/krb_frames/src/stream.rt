@@ -110,7 +110,7 @@ pub fn serve_bytes<A: Responder>(
         × IsServed (A.replies responder.now) (A.may_want_memory responder.now) (at moments.now stream.now words.now) written result left }
 
     // Bytes in memory never fail.
-    ensures byte_streams { result ≢ Err ServeFault.Memory → IsFinal result }
+    ensures devices { result ≢ Err ServeFault.Memory → IsFinal result }
 {
     let mut reader = stream;
     let mut words_reader = words;

@@ -1,4 +1,4 @@
--- What serving does to its three byte_streams.
+-- What serving does to its three devices.
 use Rattle.std.specs.Prelude.{◌≡◌, ◌≢◌, ◌⊎◌, ℕ, List, Option, Some, Result, Err}
 use Rattle.std.specs.Io.KnownBytes.{Appends}
 use Rattle.byte_streams.specs.Counting.{one_more}
@@ -22,8 +22,8 @@ pub record Devices : Type 0 where
 abbrev pub device : Option (List ℕ) → ℕ → Device
 device bytes failed = record { bytes = bytes; failed = failed }
 
-abbrev pub byte_streams : Device → Device → Device → Devices
-byte_streams words reader writer = record { words = words; reader = reader; writer = writer }
+abbrev pub devices : Device → Device → Device → Devices
+devices words reader writer = record { words = words; reader = reader; writer = writer }
 
 -- what was written, the answer and what is left are those of serving the stream, each message at this moment, for a responder that replies
 -- so and may want memory for these messages

@@ -1,6 +1,6 @@
 //! A run with settings.
 ghost use Rattle.std.specs.Prelude.{◌≡◌, ℕ, Result};
-ghost use Rattle.krb_program.specs.Devices.{device, byte_streams};
+ghost use Rattle.krb_program.specs.Devices.{device, devices};
 ghost use Rattle.krb_program.specs.Outcomes.{line_of, status_of};
 ghost use Rattle.krb_program.specs.declared.outcome.Stop.{Stop};
 ghost use Rattle.krb_program.specs.Runs.{IsEnd};
@@ -27,8 +27,8 @@ pub fn run_settings<K: Source, R: Source, W: Sink>(
 ) -> Outcome
     ensures { (end : Result ℕ Stop) × (result.status ≡ status_of end) × (result.line.now ≡ line_of end)
         × IsEnd ((words_reader.new ≡ words_reader.old) × (reader.new ≡ reader.old) × (writer.new ≡ writer.old)) settings.now moment
-        (byte_streams (device (K.left words_reader.old) (K.failed words_reader.old)) (device (R.left reader.old) (R.failed reader.old)) (device (W.written writer.old) (W.failed writer.old)))
-        (byte_streams (device (K.left words_reader.new) (K.failed words_reader.new)) (device (R.left reader.new) (R.failed reader.new)) (device (W.written writer.new) (W.failed writer.new)))
+        (devices (device (K.left words_reader.old) (K.failed words_reader.old)) (device (R.left reader.old) (R.failed reader.old)) (device (W.written writer.old) (W.failed writer.old)))
+        (devices (device (K.left words_reader.new) (K.failed words_reader.new)) (device (R.left reader.new) (R.failed reader.new)) (device (W.written writer.new) (W.failed writer.new)))
         end }
 {
     Outcome::of(serve_file(alloc, settings, moment, words_reader, reader, writer))
@@ -43,8 +43,8 @@ fn serve_file<K: Source, R: Source, W: Sink>(
     writer: &mut W,
 ) -> Result<u64, Stop>
     ensures { IsEnd ((words_reader.new ≡ words_reader.old) × (reader.new ≡ reader.old) × (writer.new ≡ writer.old)) settings.now moment
-        (byte_streams (device (K.left words_reader.old) (K.failed words_reader.old)) (device (R.left reader.old) (R.failed reader.old)) (device (W.written writer.old) (W.failed writer.old)))
-        (byte_streams (device (K.left words_reader.new) (K.failed words_reader.new)) (device (R.left reader.new) (R.failed reader.new)) (device (W.written writer.new) (W.failed writer.new)))
+        (devices (device (K.left words_reader.old) (K.failed words_reader.old)) (device (R.left reader.old) (R.failed reader.old)) (device (W.written writer.old) (W.failed writer.old)))
+        (devices (device (K.left words_reader.new) (K.failed words_reader.new)) (device (R.left reader.new) (R.failed reader.new)) (device (W.written writer.new) (W.failed writer.new)))
         result }
 {
     let realm = match realm_of_file(alloc, settings) {

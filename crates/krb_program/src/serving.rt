@@ -1,5 +1,5 @@
 //! Serving at one moment.
-ghost use Rattle.krb_program.specs.Devices.{AnswersFailures, IsOutput, device, byte_streams};
+ghost use Rattle.krb_program.specs.Devices.{AnswersFailures, IsOutput, device, devices};
 
 use byte_streams::{Sink, Source};
 use krb_frames::{Responder, ServeFault, serve};
@@ -17,12 +17,12 @@ pub fn serve_at<A: Responder, K: Source, R: Source, W: Sink>(
     writer: &mut W,
 ) -> Result<u64, ServeFault>
     ensures output { IsOutput (A.replies responder.now) (A.may_want_memory responder.now) moment
-        (byte_streams (device (K.left words_reader.old) (K.failed words_reader.old)) (device (R.left reader.old) (R.failed reader.old)) (device (W.written writer.old) (W.failed writer.old)))
-        (byte_streams (device (K.left words_reader.new) (K.failed words_reader.new)) (device (R.left reader.new) (R.failed reader.new)) (device (W.written writer.new) (W.failed writer.new)))
+        (devices (device (K.left words_reader.old) (K.failed words_reader.old)) (device (R.left reader.old) (R.failed reader.old)) (device (W.written writer.old) (W.failed writer.old)))
+        (devices (device (K.left words_reader.new) (K.failed words_reader.new)) (device (R.left reader.new) (R.failed reader.new)) (device (W.written writer.new) (W.failed writer.new)))
         result }
     ensures failures { AnswersFailures
-        (byte_streams (device (K.left words_reader.old) (K.failed words_reader.old)) (device (R.left reader.old) (R.failed reader.old)) (device (W.written writer.old) (W.failed writer.old)))
-        (byte_streams (device (K.left words_reader.new) (K.failed words_reader.new)) (device (R.left reader.new) (R.failed reader.new)) (device (W.written writer.new) (W.failed writer.new)))
+        (devices (device (K.left words_reader.old) (K.failed words_reader.old)) (device (R.left reader.old) (R.failed reader.old)) (device (W.written writer.old) (W.failed writer.old)))
+        (devices (device (K.left words_reader.new) (K.failed words_reader.new)) (device (R.left reader.new) (R.failed reader.new)) (device (W.written writer.new) (W.failed writer.new)))
         result }
 {
     let moments = iter::repeat_n(moment, usize::MAX);

@@ -18,8 +18,8 @@ mod realm;
 mod respond;
 mod settings;
 
-pub use client::Client;
 pub use byte_streams::{Sink, SinkFault, Source};
+pub use client::Client;
 pub use honest::is_honest_by_password;
 pub use honest_by_certificate::is_honest_by_certificate;
 pub use key_functions::{KeyFunctions, NoKeys, SignatureAlgorithm, Signed, Theirs};
@@ -29,8 +29,8 @@ pub use krb_client::{ApAsked, AsAsked, AskRefusal, Credential, TakeRefusal, TgsA
 pub use krb_crypto::{ChecksumSuite, CipherSuite, Key};
 pub use krb_frames::{AnswerRefusal, Responder, ServeFault};
 pub use krb_logins::{LoginInput, LoginMoments, LoginRefusal};
-pub use krb_time::Moment;
 pub use krb_service::{Admission, Service};
+pub use krb_time::Moment;
 pub use krb_types::data_types::{EncryptionKey, PrincipalName, Ticket};
 pub use login::{login_by_certificate, login_by_password};
 pub use picky_asn1::date::GeneralizedTime;

@@ -25,10 +25,10 @@ use krb_client::{ApAsked, AsAsked, AskRefusal, Credential, Means, TakeRefusal, T
 use krb_encrypted_data::encryption_key;
 use krb_logins::laws::one_key_by_password;
 use krb_logins::{LoginInput, LoginRefusal};
-use krb_time::Moment;
-use krb_types::krbtgt;
 use krb_service::{Admission, Service};
+use krb_time::Moment;
 use krb_types::data_types::EncryptionKey;
+use krb_types::krbtgt;
 use picky_asn1::wrapper::{GeneralStringAsn1, OctetStringAsn1};
 use pkinit_logins::laws::one_key_by_certificate;
 use std::alloc::{AllocError, Global};

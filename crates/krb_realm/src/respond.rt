@@ -102,7 +102,7 @@ pub fn serve_bytes<K: KeyFunctions>(
         × IsServed (RealmReplies realm.now (K.functions keys.now)) BeginsRequest (at moments.now stream.now words.now) written result left }
 
     // Bytes in memory never fail.
-    ensures byte_streams { result ≢ Err ServeFault.Memory → IsFinal result }
+    ensures devices { result ≢ Err ServeFault.Memory → IsFinal result }
 {
     let answering = Answering { realm, keys };
     krb_frames::serve_bytes(alloc, &answering, stream, moments, words, replies)

@@ -20,10 +20,10 @@ use krb_as::{judge_as, method_data};
 use krb_constants::error_codes;
 use krb_kdc_requests::{Call, account_of, client_of, service_of};
 use krb_messages::messages::KdcReq;
-use pkinit_interface::Pkinit;
 use krb_tgs::judge_tgs;
 use krb_types::Refusal;
 use krb_types::data_types::PrincipalName;
+use pkinit_interface::Pkinit;
 use std::alloc::{AllocError, Global};
 
 /// The reply to an AS request: a ticket, or the error with its code (RFC 4120, section 3.1; RFC 4556, section 3.1). `pkinit`

@@ -14,8 +14,8 @@ use krb_constants::error_codes;
 use krb_crypto::Key;
 use krb_kdc_requests::{Call, padata_in, service_of};
 use krb_messages::messages::{ApReqInner, KdcReq, KdcReqBody};
-use krb_types::{Refusal, krbtgt_of};
 use krb_types::data_types::{EncTicketPartInner, PrincipalName};
+use krb_types::{Refusal, krbtgt_of};
 use std::alloc::Global;
 
 /// The reply that grants a ticket by an older one, or the code of the error, by the table of the realm that is called (RFC

@@ -8,6 +8,7 @@ ghost use Rattle.krb_tickets.specs.Parts.{kdc_reply_of, padata_of, reply_part, r
 ghost use Rattle.krb_tickets.specs.ReplyKeys.{reply_key_of};
 
 use crate::grant::{Grant, ticket_of};
+use crate::methods::pa_data;
 use crate::parts::reply_part;
 use krb_accounts::Account;
 use krb_constants::key_usages;
@@ -18,7 +19,6 @@ use krb_constants::types::{
 use krb_crypto::Key;
 use krb_encrypted_data::sealed_data;
 use krb_messages::messages::{EncKdcRepPart, KdcRep};
-use crate::methods::pa_data;
 use krb_types::data_types::{EncryptedData, PaData};
 use picky_asn1::wrapper::{Asn1SequenceOf, IntegerAsn1};
 use picky_asn1_der::{

@@ -1,4 +1,4 @@
-//! The types of which messages are made up, read from and written to byte_streams.
+//! The types of which messages are made up, read from and written to devices.
 ghost use Rattle.std.specs.Prelude.{◌≡◌, ℕ, ◌+◌, ◌-◌, ◌^◌, ◌≤◌, ◌⊎◌, List, [], length, min, take, IfOk, IfErr, IfSome, MatchResult};
 ghost use Rattle.std.specs.Io.KnownBytes.{Appends, Consumes};
 ghost use Rattle.negoex_types.specs.Form.{IsTooLong};

@@ -1,5 +1,5 @@
 //! Messages of the negotiation of NEGOEX (MS-NEGOEX, section 2.2), over the layouts of `negoex_types`: whole messages,
-//! and the types of which they are made up, read from and written to byte_streams.
+//! and the types of which they are made up, read from and written to devices.
 #![tactic(auto)]
 
 mod data_type;

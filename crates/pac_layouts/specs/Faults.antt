@@ -1,4 +1,4 @@
--- The faults of a PAC, and what of byte_streams they tell.
+-- The faults of a PAC, and what of devices they tell.
 use Rattle.std.specs.Prelude.{◌≡◌, ℕ, Option, None, Some}
 use Rattle.std.specs.declared.io.ErrorKind.{ErrorKind}
 use Rattle.std.specs.declared.io.ErrorKind.TheVariants.{UnexpectedEof, WriteZero, OutOfMemory}

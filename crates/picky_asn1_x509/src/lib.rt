@@ -13,7 +13,10 @@ pub use x509_certificates::{
     Certificate, CertificateExtensions, CertificationRequest, CertificationRequestInfo,
     TbsCertificate,
 };
-pub use x509_extensions::{AuthorityKeyIdentifier, ExtendedKeyUsage, Extension, ExtensionValue, ExtensionView, Extensions, IssuerAltName, KeyIdentifier, KeyUsage, SubjectAltName, SubjectKeyIdentifier};
+pub use x509_extensions::{
+    AuthorityKeyIdentifier, ExtendedKeyUsage, Extension, ExtensionValue, ExtensionView, Extensions,
+    IssuerAltName, KeyIdentifier, KeyUsage, SubjectAltName, SubjectKeyIdentifier,
+};
 pub use x509_keys::{
     EcPoint, EncapsulatedEcPoint, EncapsulatedMldsaPublicKey, EncapsulatedRsaPublicKey, PublicKey,
     RsaPublicKey, SubjectPublicKeyInfo,

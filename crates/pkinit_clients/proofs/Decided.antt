@@ -7,7 +7,7 @@ use Rattle.krb_types.specs.RandomBytes.{Random}
 use Rattle.krb_types.specs.declared.data_types.pa_data.PaData.{PaData}
 use Rattle.krb_messages.specs.declared.messages.kdc_req_body.KdcReqBody.{KdcReqBody}
 use Rattle.key_functions.specs.KeyFunctions.{KeysRecord}
-use Rattle.cms_signed_content.specs.Written.{signed_bytes}
+use Rattle.cms_signed_data.specs.Written.{signed_bytes}
 use Rattle.pkinit_clients.specs.AuthPacks.{auth_data}
 use Rattle.pkinit_clients.specs.Means.{IsNoPkinitPadata, IsPkinitPadata}
 use Rattle.pkinit_clients.specs.Requests.{IsNoPkAsReq, IsPkAsReqOf, IsUnsignedPack, pack_bytes}

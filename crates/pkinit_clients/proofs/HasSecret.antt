@@ -11,9 +11,9 @@ use Rattle.decision_tables.specs.Tables.{Table, and_then, and_then_told, ask, do
 use Rattle.decision_tables.proofs.Outcomes.{HasOutcome, has_asked, has_done, has_needed, has_refused}
 use Rattle.key_functions.specs.KeyFunctions.{KeysRecord}
 use Rattle.key_functions.specs.KeyFunctions.TheirValue.{ValueBits}
-use Rattle.cms_signed_content.specs.SignedContents.{IsSignedContent}
-use Rattle.cms_signed_content.specs.SignedLaws.{one_content}
-use Rattle.cms_signed_content.specs.SignedParts.{SignedParts, content_of}
+use Rattle.cms_signed_data.specs.SignedContents.{IsSignedContent}
+use Rattle.cms_signed_data.specs.SignedLaws.{one_content}
+use Rattle.cms_signed_data.specs.SignedParts.{SignedParts, content_of}
 use Rattle.krb_types.specs.Names.{components, is_same_name, is_same_realm}
 use Rattle.pkinit_messages.specs.declared.kdc_dh_key_info.KdcDhKeyInfo.{KdcDhKeyInfo}
 use Rattle.pkinit_messages.specs.declared.pa_pk_as_rep.PaPkAsRep.{PaPkAsRep}

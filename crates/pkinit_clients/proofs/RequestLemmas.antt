@@ -7,7 +7,7 @@ use Rattle.asn1_leaves.specs.declared.date.GeneralizedTime.{GeneralizedTime}
 use Rattle.krb_time.specs.SecondOf.{IsSecondOf, sole_second}
 use Rattle.krb_messages.specs.declared.messages.kdc_req_body.KdcReqBody.{KdcReqBody}
 use Rattle.key_functions.specs.KeyFunctions.{KeysRecord}
-use Rattle.cms_signed_content.specs.Written.{IsWritten, signed_bytes}
+use Rattle.cms_signed_data.specs.Written.{IsWritten, signed_bytes}
 use Rattle.pkinit_clients.specs.AuthPacks.{auth_data, auth_pack_bytes, auth_pack_of, authenticator_of}
 use Rattle.pkinit_clients.specs.Requests.{IsNoPkAsReq, IsPkAsReqOf, pack_bytes, pk_as_req_bytes, pk_as_req_of}
 use Rattle.pkinit_clients.proofs.SignedLemmas.{Signs}

@@ -3,9 +3,9 @@ use Rattle.std.proofs.Common.{◌≡◌, ℕ, List, Option, None, Some, inl, inr
 use Rattle.std.specs.Prelude.{◌⊎◌, Vec, MatchOption}
 use Rattle.std.specs.Global.{Global}
 use Rattle.key_functions.specs.declared.functions.Signed.{Signed}
-use Rattle.cms_signed_content.specs.Written.{IsNoCertificate, IsUnsigned, IsWritten, signed_bytes}
-use Rattle.cms_signed_content.specs.declared.fault.SignedFault.{SignedFault}
-use Rattle.cms_signed_content.specs.declared.fault.SignedFault.TheVariants.{Unreadable, Memory}
+use Rattle.cms_signed_data.specs.Written.{IsNoCertificate, IsUnsigned, IsWritten, signed_bytes}
+use Rattle.cms_signed_data.specs.declared.fault.SignedFault.{SignedFault}
+use Rattle.cms_signed_data.specs.declared.fault.SignedFault.TheVariants.{Unreadable, Memory}
 
 module _ (sign : List ℕ → Option Signed) (content given : List ℕ) where
   -- the bytes that were written, or why there are none

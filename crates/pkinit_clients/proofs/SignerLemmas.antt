@@ -1,7 +1,7 @@
 -- Who is trusted, as the table of replies has it.
 use Rattle.std.proofs.Common.{◌≡◌, ℕ, List, Result, Ok, Err, inl, inr, refl, sym, subst}
 use Rattle.key_functions.specs.KeyFunctions.{KeysRecord}
-use Rattle.cms_signed_content.specs.SignedParts.{SignedParts}
+use Rattle.cms_signed_data.specs.SignedParts.{SignedParts}
 use Rattle.pkinit_trust.specs.Expected.{ExpectedRecord}
 use Rattle.pkinit_trust.specs.Judged.{JudgedRecord}
 use Rattle.pkinit_trust.specs.SignedContents.{judged_in}

@@ -22,9 +22,9 @@ use Rattle.krb_messages.specs.Trees.{kdc_rep_inner_tree}
 use Rattle.krb_messages.specs.declared.messages.kdc_rep.KdcRep.{KdcRep}
 use Rattle.krb_tickets.specs.Padata.{first_of, first_padata}
 use Rattle.krb_kdc_requests.proofs.RequestParts.{within}
-use Rattle.cms_signed_content.specs.Parts.{attributes_place, certificate_place}
-use Rattle.cms_signed_content.specs.SignedContents.{IsSignedContent}
-use Rattle.cms_signed_content.specs.SignedParts.{SignedParts}
+use Rattle.cms_signed_data.specs.Parts.{attributes_place, certificate_place}
+use Rattle.cms_signed_data.specs.SignedContents.{IsSignedContent}
+use Rattle.cms_signed_data.specs.SignedParts.{SignedParts}
 use Rattle.pkinit_messages.specs.declared.pa_pk_as_rep.PaPkAsRep.{PaPkAsRep}
 use Rattle.pkinit_messages.specs.declared.pa_pk_as_rep.PaPkAsRep.TheVariants.{DhInfo, EncKeyPack}
 use Rattle.pkinit_messages.specs.contracts.pa_pk_as_rep.PaPkAsRepSerialize.TheImpl as reply_impl

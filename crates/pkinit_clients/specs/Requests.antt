@@ -10,7 +10,7 @@ use Rattle.krb_time.specs.SecondOf.{IsSecondOf, sole_second}
 use Rattle.krb_time.specs.Units.{Micros}
 use Rattle.krb_messages.specs.declared.messages.kdc_req_body.KdcReqBody.{KdcReqBody}
 use Rattle.key_functions.specs.KeyFunctions.{KeysRecord}
-use Rattle.cms_signed_content.specs.Written.{IsNoCertificate, IsWritten, signed_bytes}
+use Rattle.cms_signed_data.specs.Written.{IsNoCertificate, IsWritten, signed_bytes}
 use Rattle.pkinit_messages.specs.declared.pa_pk_as_req.PaPkAsReq.{PaPkAsReq}
 use Rattle.pkinit_messages.specs.contracts.pa_pk_as_req.PaPkAsReqTagged.TheImpl as request_impl
 use Rattle.pkinit_replies.specs.WrittenOnce.{one_written}

@@ -2,8 +2,8 @@
 use Rattle.std.specs.Prelude.{ℕ, List, [], ◌∷◌, ◌++◌}
 use Rattle.asn1_elements.specs.Parts.{IsPart}
 use Rattle.picky_asn1.specs.Bytes.{Bytes}
-use Rattle.cms_signed_content.specs.Parts.{attributes_place, certificate_place}
-use Rattle.cms_signed_content.specs.SignedParts.{SignedParts}
+use Rattle.cms_signed_data.specs.Parts.{attributes_place, certificate_place}
+use Rattle.cms_signed_data.specs.SignedParts.{SignedParts}
 use Rattle.pkinit_trust.specs.Certificates.{IsCertificate, ReadRecord}
 
 -- the path to the signed data of an AS-REP whose PA-PK-AS-REP has this number among the padata, which are the SEQUENCE's element number 2

@@ -1,7 +1,7 @@
 //! What holds of all replies by certificate.
 ghost use Rattle.std.specs.Prelude.{◌≡◌, Some};
-ghost use Rattle.cms_signed_content.specs.SignedContents.{IsSignedContent};
-ghost use Rattle.cms_signed_content.specs.SignedParts.{SignedParts};
+ghost use Rattle.cms_signed_data.specs.SignedContents.{IsSignedContent};
+ghost use Rattle.cms_signed_data.specs.SignedParts.{SignedParts};
 ghost use Rattle.krb_messages.specs.Messages.{IsAsRep};
 ghost use Rattle.krb_messages.specs.declared.messages.kdc_rep.KdcRep.{KdcRep};
 ghost use Rattle.picky_asn1.specs.Bytes.{Bytes};

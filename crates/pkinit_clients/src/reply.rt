@@ -9,7 +9,7 @@ use crate::asked::PkinitAsked;
 use crate::fault::ReplyFault;
 use crate::reading::{read_kdc_dh_key_info, read_pa_pk_as_rep};
 use crate::signer::check_signed;
-use cms_signed_content::{SignedContent, SignedFault};
+use cms_signed_data::{SignedContent, SignedFault};
 use key_functions::{KeyFunctions, Theirs};
 use picky_asn1::is_number;
 use pkinit_messages::{KdcDhKeyInfo, PaPkAsRep};

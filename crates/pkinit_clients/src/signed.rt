@@ -1,9 +1,9 @@
 //! Signing an AuthPack.
 ghost use Rattle.std.specs.Prelude.{◌≡◌, ◌⊎◌, None, IfOk, MatchOption};
-ghost use Rattle.cms_signed_content.specs.Written.{IsNoCertificate, IsWritten, signed_bytes};
+ghost use Rattle.cms_signed_data.specs.Written.{IsNoCertificate, IsWritten, signed_bytes};
 ghost use Rattle.pkinit_clients.specs.AuthPacks.{auth_data};
 
-use cms_signed_content::{SignedContent, SignedFault};
+use cms_signed_data::{SignedContent, SignedFault};
 use key_functions::KeyFunctions;
 use picky_asn1::oid::ObjectIdentifier;
 use std::alloc::{AllocError, Global};

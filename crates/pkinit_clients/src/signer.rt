@@ -6,7 +6,7 @@ ghost use Rattle.pkinit_trust.specs.Expected.{expected_of};
 
 use crate::asked::PkinitAsked;
 use crate::fault::ReplyFault;
-use cms_signed_content::SignedContent;
+use cms_signed_data::SignedContent;
 use key_functions::KeyFunctions;
 use krb_types::krbtgt_of;
 use pkinit_trust::{ExpectedSigner, JudgedContent, check_trusted};

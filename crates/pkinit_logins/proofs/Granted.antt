@@ -24,9 +24,9 @@ use Rattle.krb_kdc_requests.specs.Requests.{body_bytes}
 use Rattle.key_functions.specs.KeyFunctions.{KeysRecord}
 use Rattle.key_functions.specs.KeyFunctions.TheirValue.{WholeValue}
 use Rattle.key_functions.specs.declared.functions.Signed.{Signed}
-use Rattle.cms_signed_content.specs.SignedParts.{SignedParts}
-use Rattle.cms_signed_content.specs.Written.{IsWritten, signed_bytes}
-use Rattle.cms_signed_content.specs.WrittenLaws.{written_is, written_parts}
+use Rattle.cms_signed_data.specs.SignedParts.{SignedParts}
+use Rattle.cms_signed_data.specs.Written.{IsWritten, signed_bytes}
+use Rattle.cms_signed_data.specs.WrittenLaws.{written_is, written_parts}
 use Rattle.pkinit_messages.specs.declared.auth_pack.AuthPack.{AuthPack}
 use Rattle.pkinit_trust.specs.Anchors.{AnchorRecord}
 use Rattle.pkinit_trust.specs.Certificates.{IsCertificate, ReadRecord}

@@ -20,11 +20,11 @@ use Rattle.pkinit_interface.specs.Calls.{AgreedRecord, PkinitCallRecord}
 use Rattle.key_functions.specs.KeyFunctions.{KeysRecord}
 use Rattle.key_functions.specs.KeyFunctions.TheirValue.{ValueBits, WholeValue}
 use Rattle.key_functions.specs.declared.functions.Signed.{Signed}
-use Rattle.cms_signed_content.specs.SignedContents.{IsSignedContent}
-use Rattle.cms_signed_content.specs.SignedLaws.{one_content}
-use Rattle.cms_signed_content.specs.SignedParts.{SignedParts}
-use Rattle.cms_signed_content.specs.Written.{IsWritten, signed_bytes}
-use Rattle.cms_signed_content.specs.WrittenLaws.{written_is, written_parts}
+use Rattle.cms_signed_data.specs.SignedContents.{IsSignedContent}
+use Rattle.cms_signed_data.specs.SignedLaws.{one_content}
+use Rattle.cms_signed_data.specs.SignedParts.{SignedParts}
+use Rattle.cms_signed_data.specs.Written.{IsWritten, signed_bytes}
+use Rattle.cms_signed_data.specs.WrittenLaws.{written_is, written_parts}
 use Rattle.pkinit_messages.specs.declared.auth_pack.AuthPack.{AuthPack}
 use Rattle.pkinit_messages.specs.declared.kdc_dh_key_info.KdcDhKeyInfo.{KdcDhKeyInfo}
 use Rattle.pkinit_messages.specs.declared.pa_pk_as_rep.PaPkAsRep.{PaPkAsRep}

@@ -10,9 +10,9 @@ use Rattle.picky_asn1.specs.Numbers.{is_number}
 use Rattle.key_functions.specs.KeyFunctions.{KeysRecord}
 use Rattle.key_functions.specs.KeyFunctions.TheirValue.{ValueBits}
 use Rattle.key_functions.specs.declared.functions.Signed.{Signed}
-use Rattle.cms_signed_content.specs.SignedParts.{SignedParts}
-use Rattle.cms_signed_content.specs.Written.{IsWritten}
-use Rattle.cms_signed_content.specs.WrittenLaws.{written_is, written_parts}
+use Rattle.cms_signed_data.specs.SignedParts.{SignedParts}
+use Rattle.cms_signed_data.specs.Written.{IsWritten}
+use Rattle.cms_signed_data.specs.WrittenLaws.{written_is, written_parts}
 use Rattle.pkinit_replies.specs.Replies.{dh_key_data, dh_reply_bytes, dh_reply_of, key_info_bytes, key_info_of}
 use Rattle.pkinit_clients.specs.Asked.{PkinitAskedRecord, expected_realm}
 use Rattle.pkinit_clients.specs.Faults.{Secret}

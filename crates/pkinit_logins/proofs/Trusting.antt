@@ -10,8 +10,8 @@ use Rattle.x509_certificates.specs.contracts.certificate.CertificateSpelled.TheI
 use Rattle.x509_certificates.specs.declared.certificate.Certificate.{Certificate}
 use Rattle.key_functions.specs.KeyFunctions.{KeysRecord}
 use Rattle.key_functions.specs.declared.functions.Signed.{Signed}
-use Rattle.cms_signed_content.specs.Written.{IsWritten, signed_bytes}
-use Rattle.cms_signed_content.specs.WrittenLaws.{written_parts}
+use Rattle.cms_signed_data.specs.Written.{IsWritten, signed_bytes}
+use Rattle.cms_signed_data.specs.WrittenLaws.{written_parts}
 use Rattle.pkinit_trust.specs.Certificates.{IsCertificate, ReadRecord, name_bytes}
 use Rattle.pkinit_trust.specs.Expected.{ExpectedRecord}
 use Rattle.pkinit_trust.specs.Judged.{JudgedRecord}

@@ -14,9 +14,9 @@ use Rattle.cms_types.specs.PartSpellings.{PartSpellings}
 use Rattle.cms_types.specs.contracts.form.ContentInfoOfForm.TheImpl as of_form
 use Rattle.cms_types.specs.contracts.signer_info.SignerInfoSpelled.TheImpl as signer_info
 use Rattle.cms_types.specs.declared.signer_info.SignerInfo.{SignerInfo}
-use Rattle.cms_signed_content.proofs.AroundLemmas.{data_built, info_built}
-use Rattle.cms_signed_content.proofs.WholeLemmas.{attributes_whole, id_whole, oid_whole}
-use Rattle.cms_signed_content.specs.Written.{IsWritten, attributes_of, encapsulated_of, id_of, sha256_algorithm, signed_bytes, signer_of}
+use Rattle.cms_signed_data.proofs.AroundLemmas.{data_built, info_built}
+use Rattle.cms_signed_data.proofs.WholeLemmas.{attributes_whole, id_whole, oid_whole}
+use Rattle.cms_signed_data.specs.Written.{IsWritten, attributes_of, encapsulated_of, id_of, sha256_algorithm, signed_bytes, signer_of}
 
 abbrev p : PartSpellings
 p = of_form.ghosts.spellings

@@ -13,7 +13,7 @@ use Rattle.x509_certificates.specs.declared.certificate.Certificate.{Certificate
 use Rattle.key_functions.specs.KeyFunctions.{KeysRecord}
 use Rattle.key_functions.specs.KeyFunctions.TheirValue.{ValueBits, WholeValue}
 use Rattle.key_functions.specs.declared.functions.Signed.{Signed}
-use Rattle.cms_signed_content.specs.Written.{IsWritten, signed_bytes}
+use Rattle.cms_signed_data.specs.Written.{IsWritten, signed_bytes}
 use Rattle.pkinit_trust.specs.Accepted.{accepted}
 use Rattle.pkinit_trust.specs.Certificates.{IsCertificate, ReadRecord}
 use Rattle.pkinit_trust.specs.Expected.{ExpectedRecord}

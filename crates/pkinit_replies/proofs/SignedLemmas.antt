@@ -2,10 +2,10 @@
 use Rattle.std.proofs.Common.{◌≡◌, ℕ, List, Option, None, Some, inl, inr, subst}
 use Rattle.std.specs.Prelude.{◌⊎◌, Vec, MatchOption}
 use Rattle.std.specs.Global.{Global}
-use Rattle.cms_signed_content.specs.Signed.{Signed}
-use Rattle.cms_signed_content.specs.Written.{IsNoCertificate, IsUnsigned, IsWritten}
-use Rattle.cms_signed_content.specs.declared.fault.SignedFault.{SignedFault}
-use Rattle.cms_signed_content.specs.declared.fault.SignedFault.TheVariants.{Unreadable, Memory}
+use Rattle.cms_signed_data.specs.Signed.{Signed}
+use Rattle.cms_signed_data.specs.Written.{IsNoCertificate, IsUnsigned, IsWritten}
+use Rattle.cms_signed_data.specs.declared.fault.SignedFault.{SignedFault}
+use Rattle.cms_signed_data.specs.declared.fault.SignedFault.TheVariants.{Unreadable, Memory}
 use Rattle.pkinit_replies.specs.WrittenOnce.{unsigned_none}
 
 module _ (sign : List ℕ → Option Signed) (content given : List ℕ) where

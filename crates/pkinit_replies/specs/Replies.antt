@@ -10,13 +10,13 @@ use Rattle.krb_types.specs.RandomBytes.{Random}
 use Rattle.krb_types.specs.Refusals.{Code}
 use Rattle.krb_constants.specs.declared.error_codes.TheConstants.{KRB_ERR_GENERIC}
 use Rattle.krb_types.specs.declared.refusal.Refusal.{Refusal}
-use Rattle.cms_signed_content.specs.KeyFunctions.{KeysRecord}
+use Rattle.cms_signed_data.specs.KeyFunctions.{KeysRecord}
 use Rattle.pkinit_messages.specs.declared.kdc_dh_key_info.KdcDhKeyInfo.{KdcDhKeyInfo}
 use Rattle.pkinit_messages.specs.declared.pa_pk_as_rep.PaPkAsRep.{PaPkAsRep}
 use Rattle.pkinit_messages.specs.declared.pa_pk_as_rep.PaPkAsRep.TheVariants.{DhInfo}
 use Rattle.pkinit_messages.specs.contracts.kdc_dh_key_info.KdcDhKeyInfoTagged.TheImpl as info_impl
 use Rattle.pkinit_messages.specs.contracts.pa_pk_as_rep.PaPkAsRepSerialize.TheImpl as reply_impl
-use Rattle.cms_signed_content.specs.Written.{IsWritten}
+use Rattle.cms_signed_data.specs.Written.{IsWritten}
 use Rattle.pkinit_replies.specs.AgreementBytes.{agreement_bytes}
 use Rattle.pkinit_replies.specs.PublicKeys.{IsPublicKey, sole_public_key}
 use Rattle.pkinit_replies.specs.WrittenOnce.{one_written}

@@ -1,8 +1,8 @@
 -- What the cases behind a value that was read give, the table gives.
 use Rattle.std.proofs.Common.{◌≡◌, ℕ, Result, Ok, Err, inl, inr}
-use Rattle.cms_signed_content.specs.SignedContents.{Reads}
-use Rattle.cms_signed_content.specs.declared.fault.SignedFault.{SignedFault}
-use Rattle.cms_signed_content.specs.declared.fault.SignedFault.TheVariants as signed_fault
+use Rattle.cms_signed_data.specs.SignedContents.{Reads}
+use Rattle.cms_signed_data.specs.declared.fault.SignedFault.{SignedFault}
+use Rattle.cms_signed_data.specs.declared.fault.SignedFault.TheVariants as signed_fault
 use Rattle.decision_tables.specs.One.{IsSole}
 use Rattle.decision_tables.specs.Tables.{Table, ask}
 use Rattle.krb_types.specs.Refusals.{IsJudged}

@@ -8,9 +8,9 @@ use Rattle.asn1_elements.specs.Parts.{IsPart}
 use Rattle.asn1_elements.specs.PathLaws.{AreSome, IsElement, LeadsTo, at_front, go_on, held_at, in_element, some_more}
 use Rattle.picky_asn1.specs.Bytes.{Bytes}
 use Rattle.krb_kdc_requests.proofs.RequestParts.{within}
-use Rattle.cms_signed_content.specs.Parts.{attributes_place, certificate_place}
-use Rattle.cms_signed_content.specs.SignedContents.{IsSignedContent}
-use Rattle.cms_signed_content.specs.SignedParts.{SignedParts}
+use Rattle.cms_signed_data.specs.Parts.{attributes_place, certificate_place}
+use Rattle.cms_signed_data.specs.SignedContents.{IsSignedContent}
+use Rattle.cms_signed_data.specs.SignedParts.{SignedParts}
 use Rattle.pkinit_messages.specs.declared.external_principal_identifier.ExternalPrincipalIdentifier.{ExternalPrincipalIdentifier}
 use Rattle.pkinit_messages.specs.declared.pa_pk_as_req.PaPkAsReq.{PaPkAsReq}
 use Rattle.pkinit_messages.specs.contracts.external_principal_identifier.ExternalPrincipalIdentifierTagged.TheImpl as identifier_impl

@@ -1,7 +1,7 @@
 -- Who is trusted, as the table of requests has it.
 use Rattle.std.proofs.Common.{◌≡◌, Ok, Err, inl, inr, refl, sym, subst}
 use Rattle.key_functions.specs.KeyFunctions.{KeysRecord}
-use Rattle.cms_signed_content.specs.SignedParts.{SignedParts}
+use Rattle.cms_signed_data.specs.SignedParts.{SignedParts}
 use Rattle.krb_types.specs.Refusals.{IsJudged}
 use Rattle.krb_types.specs.declared.refusal.Refusal.{Refusal}
 use Rattle.pkinit_trust.specs.Expected.{ExpectedRecord}

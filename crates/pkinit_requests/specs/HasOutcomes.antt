@@ -16,9 +16,9 @@ use Rattle.decision_tables.proofs.Outcomes.{HasOutcome, has_asked, has_done, has
 use Rattle.pkinit_interface.specs.Calls.{AgreedRecord, PkinitCallRecord}
 use Rattle.key_functions.specs.KeyFunctions.{KeysRecord}
 use Rattle.key_functions.specs.KeyFunctions.TheirValue.{WholeValue}
-use Rattle.cms_signed_content.specs.SignedContents.{IsSignedContent}
-use Rattle.cms_signed_content.specs.SignedLaws.{one_content}
-use Rattle.cms_signed_content.specs.SignedParts.{SignedParts, content_of}
+use Rattle.cms_signed_data.specs.SignedContents.{IsSignedContent}
+use Rattle.cms_signed_data.specs.SignedLaws.{one_content}
+use Rattle.cms_signed_data.specs.SignedParts.{SignedParts, content_of}
 use Rattle.pkinit_messages.specs.declared.auth_pack.AuthPack.{AuthPack}
 use Rattle.pkinit_trust.specs.Accepted.{accepted, has_unrecognised, is_valid_at, issued}
 use Rattle.pkinit_trust.specs.Certificates.{IsCertificate, ReadRecord, name_bytes, sole_certificate}

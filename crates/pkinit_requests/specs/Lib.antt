@@ -5,9 +5,9 @@ pub mod Judging
 pub mod PkinitRows
 pub mod PkinitTable
 pub mod Trust
-pub use Rattle.cms_signed_content.specs.Parts
-pub use Rattle.cms_signed_content.specs.SignedContents
-pub use Rattle.cms_signed_content.specs.SignedParts
+pub use Rattle.cms_signed_data.specs.Parts
+pub use Rattle.cms_signed_data.specs.SignedContents
+pub use Rattle.cms_signed_data.specs.SignedParts
 pub use Rattle.pkinit_trust.specs.Anchors
 pub use Rattle.pkinit_trust.specs.Certificate
 pub use Rattle.pkinit_trust.specs.CertificateSpelled

@@ -15,9 +15,9 @@ use Rattle.decision_tables.specs.Tables.{Table, and_then, and_then_told, ask, do
 use Rattle.pkinit_interface.specs.Calls.{AgreedRecord, PkinitCallRecord}
 use Rattle.key_functions.specs.KeyFunctions.{KeysRecord}
 use Rattle.key_functions.specs.KeyFunctions.TheirValue.{WholeValue}
-use Rattle.cms_signed_content.specs.SignedContents.{IsSignedContent}
-use Rattle.cms_signed_content.specs.SignedLaws.{one_content}
-use Rattle.cms_signed_content.specs.SignedParts.{SignedParts, content_of}
+use Rattle.cms_signed_data.specs.SignedContents.{IsSignedContent}
+use Rattle.cms_signed_data.specs.SignedLaws.{one_content}
+use Rattle.cms_signed_data.specs.SignedParts.{SignedParts, content_of}
 use Rattle.pkinit_messages.specs.declared.auth_pack.AuthPack.{AuthPack}
 use Rattle.pkinit_trust.specs.Expected.{ExpectedRecord}
 use Rattle.pkinit_trust.specs.Refusals.{code_of}

@@ -2,9 +2,9 @@
 ghost use Rattle.std.specs.Prelude.{[], ◌∷◌, ◌++◌};
 ghost use Rattle.asn1_elements.specs.Parts.{IsPart};
 ghost use Rattle.picky_asn1.specs.Bytes.{Bytes};
-ghost use Rattle.cms_signed_content.specs.Parts.{attributes_place, certificate_place};
-ghost use Rattle.cms_signed_content.specs.SignedContents.{IsSignedContent};
-ghost use Rattle.cms_signed_content.specs.SignedParts.{SignedParts};
+ghost use Rattle.cms_signed_data.specs.Parts.{attributes_place, certificate_place};
+ghost use Rattle.cms_signed_data.specs.SignedContents.{IsSignedContent};
+ghost use Rattle.cms_signed_data.specs.SignedParts.{SignedParts};
 ghost use Rattle.pkinit_messages.specs.declared.pa_pk_as_req.PaPkAsReq.{PaPkAsReq};
 ghost use Rattle.pkinit_trust.specs.Certificates.{IsCertificate, ReadRecord};
 ghost use Rattle.pkinit_requests.specs.AuthPacks.{IsPaPkAsReq};

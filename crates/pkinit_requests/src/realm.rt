@@ -9,8 +9,8 @@ use crate::judging::Judging;
 use crate::table::judge_request;
 use key_functions::KeyFunctions;
 use krb_constants::error_codes;
-use pkinit_interface::{Agreed, Pkinit, PkinitCall};
 use krb_types::Refusal;
+use pkinit_interface::{Agreed, Pkinit, PkinitCall};
 use pkinit_trust::{Anchor, ExpectedSigner};
 use std::alloc::Global;
 

@@ -3,7 +3,7 @@ ghost use Rattle.krb_types.specs.Refusals.{IsJudged};
 ghost use Rattle.pkinit_requests.specs.PkinitTable.{signed_by_client};
 ghost use Rattle.pkinit_trust.specs.Expected.{expected_of};
 
-use cms_signed_content::SignedContent;
+use cms_signed_data::SignedContent;
 use key_functions::KeyFunctions;
 use krb_types::Refusal;
 use pkinit_trust::{ExpectedSigner, JudgedContent, check_trusted};

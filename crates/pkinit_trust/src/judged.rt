@@ -1,7 +1,7 @@
 //! What is judged of signed content.
 ghost use Rattle.std.specs.Prelude.{◌≡◌};
 
-use cms_signed_content::SignedContent;
+use cms_signed_data::SignedContent;
 use picky_asn1::wrapper::IntegerAsn1;
 use x509_certificates::AlgorithmIdentifier;
 use x509_names::Name;

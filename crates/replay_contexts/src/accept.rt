@@ -6,8 +6,8 @@ use crate::{Ends, is_named};
 use anyhow::{Context, bail};
 use gss_acceptor::{Accepted, Acceptor, Continuation, Established};
 use krb_crypto::CipherSuite;
-use krb_time::Moment;
 use krb_service::Service;
+use krb_time::Moment;
 use std::alloc::Global;
 
 /// Begins an acceptor, which has seen nothing, in place of the last one.

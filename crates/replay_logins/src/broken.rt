@@ -1,4 +1,4 @@
-//! A stream that is served over byte_streams of which each byte fails in turn.
+//! A stream that is served over devices of which each byte fails in turn.
 
 use crate::stage::Stage;
 use crate::told::digits_of;

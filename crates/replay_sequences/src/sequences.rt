@@ -5,8 +5,8 @@
 use anyhow::{Context, bail};
 use krb_ap_requests::AdmitRefusal;
 use krb_crypto::CipherSuite;
-use krb_time::Moment;
 use krb_service::{Admission, Service};
+use krb_time::Moment;
 use std::alloc::Global;
 use std::fs;
 use std::mem::replace;

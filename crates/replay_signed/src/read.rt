@@ -4,7 +4,7 @@ use crate::lines::{bytes_of, column_of};
 use crate::trusted::code_of;
 use anyhow::{Context, bail};
 use asn1_elements::part_at;
-use cms_signed_content::{SignedContent, SignedFault};
+use cms_signed_data::{SignedContent, SignedFault};
 use cms_types::ContentInfo;
 use pkinit_trust::{JudgedContent, check_signer};
 use sha2::{Digest, Sha256};

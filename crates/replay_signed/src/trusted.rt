@@ -3,7 +3,7 @@
 use crate::lines::bytes_of;
 use crate::read::is_unreadable;
 use anyhow::{Context, bail};
-use cms_signed_content::SignedContent;
+use cms_signed_data::SignedContent;
 use krb_time::Moment;
 use picky_asn1::wrapper::GeneralStringAsn1;
 use pkinit_trust::{Anchor, ExpectedSigner, JudgedContent, TrustFault, check_trusted};

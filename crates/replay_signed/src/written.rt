@@ -2,7 +2,7 @@
 
 use crate::lines::bytes_of;
 use anyhow::bail;
-use cms_signed_content::{SignedContent, SignedFault};
+use cms_signed_data::{SignedContent, SignedFault};
 use key_functions::{KeyFunctions, SignatureAlgorithm};
 use picky_asn1::oid::ObjectIdentifier;
 use std::alloc::Global;

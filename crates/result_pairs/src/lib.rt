@@ -1,4 +1,4 @@
-//! What `Result` lacks: two result_pairs as one, and a value that is kept where its check passed.
+//! What `Result` lacks: two results as one, and a value that is kept where its check passed.
 //!
 //! A value of a type parameter is dropped by one call, of a function that is proved once. In a function that owns a big value at its
 //! own type, such as a decoded message, the drop is spelled out at each way out, and is most of that function's proof. So a function

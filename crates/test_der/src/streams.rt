@@ -1,4 +1,4 @@
-//! Readers and writers: what follows a value, limits, and byte_streams that cut and fail.
+//! Readers and writers: what follows a value, limits, and devices that cut and fail.
 use crate::sample::{LONG_SAMPLE, SHORT_SAMPLE, Sample, sample_of};
 use crate::spelling::{fault_of, front_fault_of};
 use byte_streams::{Sink, Source};

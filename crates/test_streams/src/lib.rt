@@ -1,4 +1,4 @@
-//! Streams over whole, slow and failing byte_streams, and worked values of moments, accounts and what services remember.
+//! Streams over whole, slow and failing devices, and worked values of moments, accounts and what services remember.
 #![tactic(auto)]
 
 #[cfg(test)]

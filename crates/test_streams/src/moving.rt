@@ -1,4 +1,4 @@
-//! Bytes moved whole, however the byte_streams cut them.
+//! Bytes moved whole, however the devices cut them.
 
 use byte_streams::{Sink, SinkFault, Source, Space, Watched, WholeFault, read_full, write_whole};
 use std::io::{self, ErrorKind, Read, Write};

@@ -1,7 +1,7 @@
 //! The replay cache, with a skew of 300 seconds.
 
-use krb_time::Moment;
 use krb_service::{Pair, Seen};
+use krb_time::Moment;
 use picky_asn1::wrapper::GeneralStringAsn1;
 use std::alloc::Global;
 

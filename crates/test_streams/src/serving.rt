@@ -1,4 +1,4 @@
-//! Streams served over whole, slow and failing byte_streams.
+//! Streams served over whole, slow and failing devices.
 ghost use Rattle.std.specs.Prelude.{◌≡◌, ◌<◌, ◌++◌, length, take, nat_lt, if◌then◌else◌, Some, None};
 ghost use Rattle.std.proofs.Common.{sym, ◌∙◌};
 
@@ -126,7 +126,7 @@ fn long_replies(rt: HostRuntime) {
     assert!(rt; too_long == Some((Err(ServeFault::ReplyTooLong), 0)));
 }
 
-// Serves a stream at the first moment and to these byte_streams.
+// Serves a stream at the first moment and to these devices.
 fn served<R: Source, W: Sink, K: Source>(
     alloc: Global,
     reader: &mut R,

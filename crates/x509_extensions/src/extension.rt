@@ -6,10 +6,12 @@ ghost use Rattle.x509_extensions.specs.declared.extension_value.ExtensionValue.T
 ghost use Rattle.asn1_der.specs.Octets.{sequence_octet};
 
 use crate::authority_key_identifier::AuthorityKeyIdentifier;
+use crate::extended_key_usage::ExtendedKeyUsage;
 use crate::extension_value::{
     ExtensionKinds, ExtensionValue, IssuerAltName, SubjectAltName, SubjectKeyIdentifier, of_kinds,
 };
 use crate::extension_view::ExtensionView;
+use crate::key_usage::KeyUsage;
 use asn1_der::octets::SEQUENCE;
 use byte_streams::Sink;
 use picky_asn1::wrapper::{IntegerAsn1, ObjectIdentifierAsn1, OctetStringAsn1Container};
@@ -18,8 +20,6 @@ use std::alloc::{AllocError, Global};
 use x509_open_types::{Kinds, read_identified};
 use x509_parts::BasicConstraints;
 use x509_spelling::{Counted, Critical, DefaultFalse, Spelled, SpelledItem, X509Fault};
-use crate::extended_key_usage::ExtendedKeyUsage;
-use crate::key_usage::KeyUsage;
 
 /// An extension: an identifier, and a value of the kind that it decides.
 ///

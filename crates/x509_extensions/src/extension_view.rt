@@ -3,11 +3,11 @@ ghost use Rattle.std.specs.Prelude.{◌≡◌};
 ghost use Rattle.x509_extensions.specs.ExtensionViews.{IsViewOf};
 
 use crate::authority_key_identifier::AuthorityKeyIdentifier;
+use crate::extended_key_usage::ExtendedKeyUsage;
 use crate::extension_value::{ExtensionValue, IssuerAltName, SubjectAltName, SubjectKeyIdentifier};
+use crate::key_usage::KeyUsage;
 use picky_asn1::wrapper::{IntegerAsn1, OctetStringAsn1, OctetStringAsn1Container};
 use x509_parts::BasicConstraints;
-use crate::extended_key_usage::ExtendedKeyUsage;
-use crate::key_usage::KeyUsage;
 
 /// The value of an extension, without the octet string around it.
 #[derive(Clone, Copy, Debug, PartialEq, Eq)]

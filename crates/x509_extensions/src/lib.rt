@@ -1,4 +1,5 @@
-//! Extensions of certificates (RFC 5280, sections 4.1.2.9 and 4.2), each with its spellings.
+//! Extensions of certificates (RFC 5280, sections 4.1.2.9 and 4.2), each with its encodings, and key usages (sections 4.2.1.3
+//! and 4.2.1.12).
 #![tactic(auto)]
 
 mod authority_field;
@@ -14,7 +15,9 @@ pub use authority_field::AuthorityField;
 pub use authority_key_identifier::AuthorityKeyIdentifier;
 pub use extended_key_usage::ExtendedKeyUsage;
 pub use extension::Extension;
-pub use extension_value::{ExtensionValue, IssuerAltName, KeyIdentifier, SubjectAltName, SubjectKeyIdentifier};
+pub use extension_value::{
+    ExtensionValue, IssuerAltName, KeyIdentifier, SubjectAltName, SubjectKeyIdentifier,
+};
 pub use extension_view::ExtensionView;
 pub use extensions::Extensions;
 pub use key_usage::KeyUsage;

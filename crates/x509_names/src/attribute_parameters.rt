@@ -10,7 +10,7 @@ pub enum AttributeTypeAndValueParameters<'a> {
     CommonName(&'a DirectoryString),
     /// A family's name.
     Surname(&'a DirectoryString),
-    /// A number that distinguishes byte_streams or people.
+    /// A number that distinguishes devices or people.
     SerialNumber(&'a DirectoryString),
     /// A country, by two letters.
     CountryName(&'a DirectoryString),

@@ -146,7 +146,7 @@ impl AttributeTypeAndValue {
         AttributeTypeAndValue::of_string(alloc, NameAttr::Surname, value)
     }
 
-    /// A number that distinguishes byte_streams or people.
+    /// A number that distinguishes devices or people.
     pub fn new_serial_number(alloc: Global, value: DirectoryString) -> Result<Self, AllocError>
         ensures { IfOk result (λ made. IsOfAttribute NameAttr.SerialNumber value made) }
     {

@@ -15,7 +15,7 @@ pub enum NameAttr {
     CommonName,
     /// A family's name.
     Surname,
-    /// A number that distinguishes byte_streams or people.
+    /// A number that distinguishes devices or people.
     SerialNumber,
     /// A country, by two letters.
     CountryName,

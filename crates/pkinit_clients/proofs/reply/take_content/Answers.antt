@@ -1,5 +1,5 @@
 use Rattle.std.proofs.Common.{◌≡◌, ℕ, List, true, sym, ◌∙◌, subst}
-use Rattle.cms_signed_content.specs.SignedParts.{content_of}
+use Rattle.cms_signed_data.specs.SignedParts.{content_of}
 use Rattle.pkinit_clients.specs.Asked.{asked_of, expected_realm}
 use Rattle.pkinit_clients.specs.Faults.{IsTakenAs, as_secret}
 use Rattle.pkinit_clients.specs.Replies.{is_dh_key_data, of_key_data, signed_by}

@@ -1,6 +1,6 @@
 use Rattle.std.proofs.Common.{Err}
-use Rattle.cms_signed_content.specs.SignedContents.{IsSignedContent}
-use Rattle.cms_signed_content.specs.SignedLaws.{one_content, read_is}
+use Rattle.cms_signed_data.specs.SignedContents.{IsSignedContent}
+use Rattle.cms_signed_data.specs.SignedLaws.{one_content, read_is}
 use Rattle.decision_tables.specs.Tables.{done}
 use Rattle.pkinit_clients.specs.Asked.{asked_of}
 use Rattle.pkinit_clients.specs.Faults.{as_secret}

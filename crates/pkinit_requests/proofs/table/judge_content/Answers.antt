@@ -1,5 +1,5 @@
 use Rattle.std.proofs.Common.{◌≡◌, true, false, Err, sym, refl, inr, ◌∙◌}
-use Rattle.cms_signed_content.specs.SignedParts.{content_of}
+use Rattle.cms_signed_data.specs.SignedParts.{content_of}
 use Rattle.decision_tables.specs.Tables.{done}
 use Rattle.krb_constants.specs.declared.error_codes.TheConstants.{KDC_ERR_PREAUTH_FAILED}
 use Rattle.pkinit_requests.specs.AuthPacks.{IsAuthPack, sole_auth_pack}

@@ -1,7 +1,7 @@
 use Rattle.std.proofs.Common.{Err, inr, refl}
 use Rattle.decision_tables.specs.Tables.{done}
-use Rattle.cms_signed_content.specs.SignedContents.{IsSignedContent}
-use Rattle.cms_signed_content.specs.SignedLaws.{one_content, read_is}
+use Rattle.cms_signed_data.specs.SignedContents.{IsSignedContent}
+use Rattle.cms_signed_data.specs.SignedLaws.{one_content, read_is}
 use Rattle.krb_constants.specs.declared.error_codes.TheConstants.{KDC_ERR_PREAUTH_FAILED}
 use Rattle.pkinit_interface.specs.Calls.{agreed_as}
 use Rattle.pkinit_requests.specs.Judging.{judging_of}

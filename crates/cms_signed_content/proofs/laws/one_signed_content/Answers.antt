@@ -1,5 +1,0 @@
-use Rattle.cms_signed_content.specs.SignedLaws.{one_content}
-use Rattle.cms_signed_content.proofs.laws.one_signed_content.Goals as goal
-
-pub returns : goal.returns
-returns c = one_content

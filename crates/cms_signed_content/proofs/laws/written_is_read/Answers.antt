@@ -1,5 +1,0 @@
-use Rattle.cms_signed_content.specs.WrittenLaws.{written_read}
-use Rattle.cms_signed_content.proofs.laws.written_is_read.Goals as goal
-
-pub returns : goal.returns
-returns c = written_read

@@ -1,4 +1,0 @@
-use Rattle.cms_signed_content.proofs.written_parts.algorithm_bytes.Goals as goal
-
-pub returns : goal.returns
-returns c = c.in_ok-bytes.ensures c.has_encoding.ensures

@@ -1,0 +1,18 @@
+-- Signed data around a certificate's bytes: no more deviates in the whole than in the certificate, which stands there unchanged.
+use Rattle.std.specs.Prelude.{ℕ, List, [], ◌∷◌}
+use Rattle.asn1_elements.specs.Parts.{IsPart}
+use Rattle.asn1_elements.specs.PathLaws.{LeadsTo}
+use Rattle.cms_types.specs.Certificate.{Certificate}
+use Rattle.cms_types.specs.contracts.content_info.ContentInfoSpelled.TheImpl as content_info
+use Rattle.cms_types.specs.contracts.signed_data.SignedDataSpelled.TheImpl as signed_data
+use Rattle.cms_types.specs.declared.signer_info.SignerInfo.{SignerInfo}
+use Rattle.cms_types.specs.Parts.{certificate_place}
+use Rattle.cms_signed_data.specs.Written.{data_with, info_with}
+
+pub record IsDataAround (content_type content : List ℕ) (value : Certificate) (n : ℕ) (signer : SignerInfo) (given bytes : List ℕ) : Type 0 where
+  pub spelled : signed_data.ghosts.spells (data_with content_type content value signer) bytes n
+  pub leads : LeadsTo bytes (3 ∷ 0 ∷ []) given
+
+pub record IsInfoAround (content_type content : List ℕ) (value : Certificate) (n : ℕ) (signer : SignerInfo) (given bytes : List ℕ) : Type 0 where
+  pub spelled : content_info.ghosts.spells (info_with content_type content value signer) bytes n
+  pub certificate_at : IsPart bytes certificate_place given

@@ -1,0 +1,24 @@
+-- Signed content, and what is borrowed of it (RFC 5652, section 5).
+use Rattle.std.specs.Prelude.{◌≡◌, ◌↔◌, ◌⊎◌, ℕ, List, Result, Ok, Err, IsTrue}
+use Rattle.asn1_elements.specs.Parts.{IsPart}
+use Rattle.cms_types.specs.contracts.content_info.ContentInfoSpelled.TheImpl as content_info
+use Rattle.cms_types.specs.declared.content_info.ContentInfo.{ContentInfo}
+use Rattle.cms_types.specs.Form.{has_form}
+use Rattle.cms_types.specs.Parts.{certificate_place, attributes_place}
+use Rattle.cms_signed_data.specs.declared.fault.SignedFault.{SignedFault}
+use Rattle.cms_signed_data.specs.declared.fault.SignedFault.TheVariants.{Memory}
+use Rattle.cms_signed_data.specs.SignedParts.{SignedParts}
+
+-- the bytes are a spelling of this signed data, with any count of deviations, and it is of the one form
+abbrev pub IsOfForm : List ℕ → ContentInfo → Type 0
+IsOfForm bytes info = ((n : ℕ) × content_info.ghosts.spells info bytes n) × IsTrue (has_form info)
+
+-- and these are its certificate and its signed attributes, where they stand
+pub record IsSignedContent (bytes : List ℕ) (parts : SignedParts) : Type 0 where
+  pub form : IsOfForm bytes parts.info
+  pub certificate_at : IsPart bytes certificate_place parts.certificate
+  pub attributes_at : IsPart bytes attributes_place parts.signed_attributes
+
+-- the answer is the one value that is so, and a fault if there is none; or memory ran out
+abbrev pub Reads : {T : Type 0} → (T → Type 0) → Result T SignedFault → Type 0
+Reads {T} is answer = (answer ≡ Err Memory) ⊎ ((value : T) → (answer ≡ Ok value) ↔ is value)

@@ -1,0 +1,95 @@
+-- Signed content as it is written (RFC 5652, section 5): all but the certificate in DER.
+use Rattle.std.specs.Prelude.{◌≡◌, ℕ, List, Option, None, Some}
+use Rattle.sha2.specs.Sha256.{sha256}
+use Rattle.asn1_der.specs.Tree.{Tree, der}
+use Rattle.asn1_der.specs.Tagged.{tagged_tree}
+use Rattle.asn1_elements.specs.Parts.{IsPart}
+use Rattle.cms_types.specs.CertificateSpelled.TheImpl as certificate
+use Rattle.cms_types.specs.Certificate.{Certificate}
+use Rattle.x509_oids.specs.Identifiers as oids
+use Rattle.x509_parts.specs.RawParameters.{null}
+use Rattle.x509_parts.specs.declared.raw_algorithm_identifier.RawAlgorithmIdentifier.{RawAlgorithmIdentifier}
+use Rattle.key_functions.specs.declared.functions.Signed.{Signed}
+use Rattle.cms_types.specs.contracts.content_info.ContentInfoSpelled.TheImpl as content_info
+use Rattle.cms_types.specs.contracts.signer_info.IssuerAndSerialNumberTagged.TheImpl as id_impl
+use Rattle.cms_types.specs.declared.content_info.ContentInfo.{ContentInfo}
+use Rattle.cms_types.specs.declared.encapsulated_content_info.EncapsulatedContentInfo.{EncapsulatedContentInfo}
+use Rattle.cms_types.specs.declared.signed_attributes.SignedAttributes.{SignedAttributes}
+use Rattle.cms_types.specs.declared.signed_data.SignedData.{SignedData}
+use Rattle.cms_types.specs.declared.signer_info.IssuerAndSerialNumber.{IssuerAndSerialNumber}
+use Rattle.cms_types.specs.declared.signer_info.SignerInfo.{SignerInfo}
+use Rattle.cms_types.specs.Parts.{certificate_place}
+use Rattle.cms_signed_data.specs.SignedParts.{as_set, attributes_tree}
+use Rattle.asn1_der.specs.Octets.{sequence_octet}
+
+-- SHA-256 with NULL
+abbrev pub sha256_algorithm : RawAlgorithmIdentifier
+sha256_algorithm = record { algorithm = record { 0 = oids.sha256 }; parameters = record { 0 = null } }
+
+-- the type of the content, and its SHA-256
+abbrev pub attributes_of : List ℕ → List ℕ → SignedAttributes
+attributes_of content_type content = record {
+  content_type = record { ty = record { 0 = oids.content_type }; values = record { 0 = record { 0 = content_type } } };
+  message_digest = record { ty = record { 0 = oids.message_digest }; values = record { 0 = sha256 content } };
+}
+
+-- what is signed
+abbrev pub signed_bytes : List ℕ → List ℕ → List ℕ
+signed_bytes content_type content = as_set (der (attributes_tree (attributes_of content_type content)))
+
+abbrev pub id_of : Certificate → IssuerAndSerialNumber
+id_of value = record { issuer = value.tbs_certificate.issuer; serial_number = value.tbs_certificate.serial_number }
+
+abbrev pub id_tree : IssuerAndSerialNumber → Tree
+id_tree = tagged_tree sequence_octet id_impl.ghosts.row_tree id_impl.ghosts.row_of
+
+abbrev pub encapsulated_of : List ℕ → List ℕ → EncapsulatedContentInfo
+encapsulated_of content_type content = record { content_type = record { 0 = content_type }; content = record { 0 = content } }
+
+abbrev pub signer_of : IssuerAndSerialNumber → SignedAttributes → Signed → SignerInfo
+signer_of id attributes signed = record {
+  version = 1;
+  sid = id;
+  digest_algorithm = sha256_algorithm;
+  signed_attributes = attributes;
+  signature_algorithm = signed.algorithm;
+  signature = signed.signature;
+}
+
+abbrev pub data_with : List ℕ → List ℕ → Certificate → SignerInfo → SignedData
+data_with content_type content value signer = record {
+  version = 3;
+  digest_algorithms = record { 0 = sha256_algorithm };
+  encap_content_info = encapsulated_of content_type content;
+  certificates = record { 0 = value };
+  signer_infos = record { 0 = signer };
+}
+
+abbrev pub info_with : List ℕ → List ℕ → Certificate → SignerInfo → ContentInfo
+info_with content_type content value signer = record {
+  content_type = record { 0 = oids.signed_data };
+  content = record { 0 = data_with content_type content value signer };
+}
+
+abbrev pub info_of : List ℕ → List ℕ → Certificate → Signed → ContentInfo
+info_of content_type content value signed =
+    info_with content_type content value (signer_of (id_of value) (attributes_of content_type content) signed)
+
+-- the bytes are signed content of this type and content around the given bytes of a certificate: the party signed the signed
+-- attributes as a SET OF, and no more deviates in the whole than in the certificate
+pub record IsWritten (sign : List ℕ → Option Signed) (content_type content given bytes : List ℕ) : Type 0 where
+  pub value : Certificate
+  pub count : ℕ
+  pub signed : Signed
+  pub certificate_spelled : certificate.ghosts.spells value given count
+  pub signs : sign (signed_bytes content_type content) ≡ Some signed
+  pub spelled : content_info.ghosts.spells (info_of content_type content value signed) bytes count
+  pub certificate_at : IsPart bytes certificate_place given
+
+-- the given bytes are a certificate's, and the party doesn't sign
+abbrev pub IsUnsigned : (List ℕ → Option Signed) → List ℕ → List ℕ → List ℕ → Type 0
+IsUnsigned sign content_type content given =
+    ((value : Certificate) × (count : ℕ) × certificate.ghosts.spells value given count) × (sign (signed_bytes content_type content) ≡ None)
+
+abbrev pub IsNoCertificate : List ℕ → Type 0
+IsNoCertificate given = (value : Certificate) (count : ℕ) → certificate.ghosts.spells value given count → ⊥
