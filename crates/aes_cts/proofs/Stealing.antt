@@ -378,6 +378,6 @@ module _ (E D : List ℕ → List ℕ) (pair : IsBlockCipher 16 E D) (c : List �
         rw turned second,
       )
 
--- a slice written back into the vector that it was lent from
+-- a slice written back into the vector that it was borrowed from
 pub written_back : (n : ℕ) (new old : List ℕ) → length new ≡ length old → n ≡ length old → take n (new ++ drop (length new) old) ≡ new
 written_back n new old same whole = rw (drop_all (length new) old (omega arith), append-nil new) (take_all n new (omega arith))

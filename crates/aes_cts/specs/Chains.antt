@@ -1,5 +1,5 @@
 -- Cipher block chaining with an initial vector of zeros, and ciphertext stealing over it, for any cipher E of
--- blocks of `size` bytes. A text p and its cipher c stand in a relation; nothing here deciphers.
+-- blocks of `size` bytes. A text p and its cipher c are in a relation; nothing here deciphers.
 use Rattle.std.specs.Prelude.{◌≡◌, ℕ, ◌+◌, ◌-◌, ◌*◌, ◌/◌, ◌<◌, ◌≤◌, zero, suc, List, ◌++◌, length, take, drop, replicate}
 use Rattle.aes_cts.specs.Bytes.{IsBlock, sum_of_bytes}
 

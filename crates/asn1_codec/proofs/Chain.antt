@@ -38,7 +38,7 @@ passed-of a old new p = record {
   same = p.same;
 }
 
--- no octet behind what was taken is looked at
+-- no octet that follows what was taken is looked at
 pub took-of : (a : List ℕ) (old new : Reading) → Passed a old new → new.looked ≡ false → Took a old new
 took-of a old new p unlooked = record {
   left = p.left;

@@ -13,7 +13,7 @@ pub one_front : (bytes : List ℕ) → 1 ≤ length bytes → (c d : List ℕ) �
 one_front [] some = absurd (omega arith)
 one_front (b ∷ bytes) some = (b ∷ [], bytes, refl, refl)
 
--- some bytes behind the octet that they begin with
+-- some bytes after the octet that they begin with
 pub one_cut : (bytes rest more : List ℕ) (first : ℕ) → 1 ≤ length bytes → bytes ++ rest ≡ (first ∷ []) ++ more → (tail : List ℕ) × (bytes ≡ first ∷ tail) × (more ≡ tail ++ rest)
 one_cut [] rest more first some e = absurd (omega arith)
 one_cut (b ∷ bytes) rest more first some e = (bytes, ap (λ x. x ∷ bytes) (cc (e)), cc (e))

@@ -247,7 +247,7 @@ pub fields-sum : (r : Option Unsupported) (bytes : List ℕ) (old mid new : Writ
 fields-sum r bytes old mid new e wrote long is fault =
     inr (notwrote-too_long None bytes bytes old mid new e wrote (length bytes, take-length bytes) long is fault)
 
--- a value behind an element's header
+-- a value after an element's header
 pub value-after : (r : Option Unsupported) (a b : List ℕ) (old mid new : Writing) (e : Asn1DerError) → Wrote a old mid → r ≡ None
     → NotWroteValue r b mid new e → NotWrote r (a ++ b) old new e
 value-after r a b old mid new e wrote none (inl (refused, part)) = absurd (refused-none r e none refused)

@@ -1,4 +1,4 @@
--- An array's elements are told by their spellings.
+-- An array's elements are distinguished by their spellings.
 use Rattle.std.proofs.Common.{◌≡◌, ℕ, Bool, true, false, List, length, refl, sym, ap, subst, ◌∙◌}
 use Rattle.std.specs.Prelude.{◌==◌}
 use Rattle.std.proofs.lemmas.Bool.{eqb-true}

@@ -1,4 +1,4 @@
--- Two octets, and the fields behind them, are told by what is written.
+-- Two octets, and the fields after them, are distinguished by what is written.
 use Rattle.std.proofs.Common.{◌≡◌, ℕ, List, [], ◌∷◌}
 use Rattle.asn1_der.specs.Tree.{Trees, ders, AreWhole}
 use Rattle.asn1_der.proofs.Spelling.{heads, tails}

@@ -23,7 +23,7 @@ null_tree = leaf_as (λ _. true) null_content null_octet
 abbrev pub character_tree : ℕ → Tree
 character_tree = leaf_as is_character character_content utf8_string_octet
 
--- the bytes are one element, of which the tag's number stands in the identifier octet (X.690, section 8.1.2.2)
+-- the bytes are one element, of which the tag's number is in the identifier octet (X.690, section 8.1.2.2)
 abbrev pub IsAnyElement : List ℕ → Type 0
 IsAnyElement bytes = (first : ℕ) × (content : List ℕ) × (first % 32 ≡ 31 → ⊥) × (bytes ≡ element first content)
 

@@ -11,7 +11,7 @@ use Rattle.asn1_der.specs.declared.error.Unsupported.{Unsupported}
 use Rattle.asn1_codec.specs.Refusals.{RefusedAs}
 
 -- the bytes that the sink holds, and how many more it takes, where they are known; whether a call failed; how many
--- calls of the sink failed, and why the last of them did; whether the bytes stand in memory that grows; the
+-- calls of the sink failed, and why the last of them did; whether the bytes are in memory that grows; the
 -- references that are written through
 pub record Writing : Type 0 where
   pub held : Option (List ℕ)
@@ -22,7 +22,7 @@ pub record Writing : Type 0 where
   pub grows : Bool
   pub through : List GName
 
--- a call wrote these bytes behind those that were there
+-- a call wrote these bytes after those that were there
 pub record Wrote (bytes : List ℕ) (old new : Writing) : Type 0 where
   pub held : Appends old.held new.held bytes
   pub room : TakenRoom old.room new.room (length bytes)

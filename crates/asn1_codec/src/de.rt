@@ -422,7 +422,7 @@ impl<R: Source> Deserializer<R> {
         value
     }
 
-    /// Takes the octet `lead` and a value behind it, which are all that is left up to the limit.
+    /// Takes the octet `lead` and a value after it, which are all that is left up to the limit.
     fn last_behind<T: Deserialize + Drop>(&mut self, lead: u8) -> Result<T, Asn1DerError>
         ensures { MatchResult result
             (λ value. TookFields (λ v. bare lead (more (T.tree v) none)) value self.old self.new)

@@ -23,7 +23,7 @@ impl<T: Drop> Model for Elements<T> {
 }
 
 impl<T: Drop> Elements<T> {
-    /// The elements, lent.
+    /// The elements, borrowed.
     pub fn as_slice(&self) -> &[T]
         ensures { result.now ≡ self.now }
     {

@@ -5,7 +5,7 @@ ghost use Rattle.asn1_codec.specs.Cuts.{IsNextAnswer, ReadsNext, IsExcused, IsSa
 
 use crate::de::FromDer;
 
-/// What `from_reader_with_max_len` answers is told by the reader's bytes alone, and not by how it cuts them. The device and
+/// What `from_reader_with_max_len` answers is distinguished by the reader's bytes alone, and not by how it cuts them. The device and
 /// the memory aside, it gives the value that the bytes begin with, within the limit, and leaves what follows; so two readers
 /// of the same bytes give the same value and leave the same, or both give none. It does nothing when it runs: its contract is
 /// the law.

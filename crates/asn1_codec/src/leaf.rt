@@ -11,7 +11,7 @@ use asn1_der::{Asn1DerError, Rule};
 use byte_streams::{Sink, Source};
 use std::alloc::{AllocError, Global};
 
-/// A primitive type, whose values are told by their content octets (X.690, section 8.1.4).
+/// A primitive type, whose values are distinguished by their content octets (X.690, section 8.1.4).
 pub trait Leaf: Sized {
     ghost use Rattle.asn1_der.specs.Seen.{Seen, as_is, Alike};
     ghost use Rattle.asn1_codec.specs.Writing.{Writing, WroteValue, NotWroteValue};

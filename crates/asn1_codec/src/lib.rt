@@ -2,7 +2,7 @@
 //!
 //! A [`Deserializer`] takes elements from a source, a [`Serializer`] writes them into a sink. A type is [`Serialize`] and
 //! [`Deserialize`], most by their row of fields ([`Tagged`]) or by their content ([`Leaf`]). The forms that types are
-//! made of (tags, choices, defaults) stand in `picky_asn1_der`, which hands on all names of this crate.
+//! made of (tags, choices, defaults) are in `picky_asn1_der`, which hands on all names of this crate.
 #![tactic(auto)]
 
 ghost use Rattle.std.specs.Prelude.{◌≡◌};

@@ -14,7 +14,7 @@ impl<T> From<T> for Optional<T> {
 }
 
 impl<T> Optional<Option<T>> {
-    /// The value, lent, where it isn't missing.
+    /// The value, borrowed, where it isn't missing.
     pub fn as_ref(&self) -> Option<&T>
         ensures { MatchOption result (self.now.0 ≡ None) (λ value. self.now.0 ≡ Some value.now) }
     {

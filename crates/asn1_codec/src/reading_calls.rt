@@ -137,7 +137,7 @@ impl<R: Source> Deserializer<R> {
         self.deserialize_unit()
     }
 
-    /// Takes a value, which is always there: whether one is missing, the fields behind it tell
+    /// Takes a value, which is always there: whether one is missing, the fields after it tell
     /// (see [`Optional`](crate::Optional)).
     pub fn deserialize_option<T: Deserialize>(&mut self) -> Result<Option<T>, Asn1DerError>
         ensures { MatchResult result

@@ -25,7 +25,7 @@ pub trait WriteItem {
 
     ghost own_refusal: { Self → Option Unsupported };
 
-    /// Writes the field, and the fields behind it, and gives how many bytes that took.
+    /// Writes the field, and the fields after it, and gives how many bytes that took.
     fn write_before<T: WriteFields, W: Sink>(
         &self,
         others: &T,
@@ -61,7 +61,7 @@ pub trait Item: Sized {
         → AreWhole (put v (trees x)) → AreWhole (put w (trees y))
         → ders (put v (trees x)) ≡ ders (put w (trees y)) → Alike seen v w × Same x y };
 
-    /// Reads the field, and the fields behind it, which are all that is left up to the limit.
+    /// Reads the field, and the fields after it, which are all that is left up to the limit.
     fn read_before<T: Fields, R: Source>(
         from: &mut Deserializer<R>,
     ) -> Result<(Self, T), Asn1DerError>
@@ -236,7 +236,7 @@ impl<H: Deserialize + Drop> Item for Optional<Option<H>> {
 
 /// Reads a value where `begins` says that one begins, else none.
 ///
-/// The fields behind an optional one are read at one place then, whichever it is: a function pays for the room of
+/// The fields after an optional one are read at one place then, whichever it is: a function pays for the room of
 /// each such place as it begins.
 fn read_if<H: Deserialize, R: Source>(
     begins: bool,

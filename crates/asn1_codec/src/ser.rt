@@ -19,7 +19,7 @@ use std::marker::Model;
 ///
 /// `tree` is the value as a tree, and `firsts` the identifier octets that its values begin with. Whole values that differ in what
 /// is `seen` of them have different spellings: of most types all is seen, of a text or a vector not its memory. A type that refuses
-/// to write values says by `refusal` which and how; most refuse none. These stand above the function, so that a type made of
+/// to write values says by `refusal` which and how; most refuse none. These are above the function, so that a type made of
 /// others can name them.
 pub trait Serialize {
     ghost use Rattle.asn1_der.specs.Seen.{Seen, as_is, Alike};
@@ -413,7 +413,7 @@ fn fault_of(fault: WholeFault) -> Asn1DerError
     }
 }
 
-/// The spelling of a value (X.690), in memory of its length. Want of memory is the only fault beside the type's own
+/// The spelling of a value (X.690), in memory of its length. Running out of memory is the only fault beside the type's own
 /// refusal.
 pub fn to_vec<T: Serialize>(alloc: Global, value: &T) -> Result<Vec<u8>, Asn1DerError>
     ensures bytes { IfOk result (λ bytes. bytes.items ≡ der (T.tree value.now)) }

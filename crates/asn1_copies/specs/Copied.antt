@@ -14,7 +14,7 @@ IsCopied {K} Copy = (value copy : K) → Copy value copy → copy ≡ value
 pub equal : {K : Type 0} → IsCopied (λ (v w : K). w ≡ v)
 equal v w e = e
 
--- values that are told by what f gives of them
+-- values that are distinguished by what f gives of them
 pub told_by : {K J : Type 0} (f : K → J) {C : J → J → Type 0} → IsCopied C → ((v w : K) → f v ≡ f w → v ≡ w) → IsCopied (λ v w. C (f v) (f w))
 told_by f copied told v w c = told w v (copied (f v) (f w) c)
 

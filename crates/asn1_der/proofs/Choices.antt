@@ -1,4 +1,4 @@
--- Alternatives that are told by their first octets.
+-- Alternatives that are distinguished by their first octets.
 use Rattle.std.proofs.Common.{◌≡◌, ℕ, true, List, [], ◌∷◌, ◌++◌, sym, ap, ◌∙◌}
 use Rattle.std.proofs.lemmas.List.{append-nil}
 use Rattle.asn1_der.specs.Tree.{Tree, primitive, constructed, absent, der, IsWhole}
@@ -27,7 +27,7 @@ apart-spelled firsts others distinct t u begins also whole other e =
     (der-begins firsts t whole begins front.octet front.rest [] text)
     (der-begins others u other also front.octet front.rest [] (ap (λ (l : List ℕ). l ++ []) (sym e) ∙ text))
 
--- values that are told by others, of which no two are spelled alike
+-- values that are distinguished by others, of which no two are spelled alike
 pub injective_as : {C T : Type 0} (tree : C → Tree) → IsInjective tree → (choice : T → C) (made : C → T) → ((v : T) → made (choice v) ≡ v)
     → IsInjective (λ v. tree (choice v))
 injective_as tree one choice made back v w whole also e =

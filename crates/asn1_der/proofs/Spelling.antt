@@ -39,7 +39,7 @@ der-begins firsts (constructed s parts) whole begins octet rest x e =
     subst (λ (first : ℕ). IsTrue (may_begin firsts first)) (element-begins s (ders parts) octet rest x e) begins
 der-begins firsts absent whole begins octet rest x e = absurd whole
 
--- values that are written alike stand in a relation: they are the same, or show the same
+-- values that are written alike are in a relation: they are the same, or show the same
 abbrev pub IsInjectiveAs : {T : Type 0} → (T → T → Type 0) → (T → Tree) → Type 0
 IsInjectiveAs {T} Same tree = (v w : T) → IsWhole (tree v) → IsWhole (tree w) → der (tree v) ≡ der (tree w) → Same v w
 

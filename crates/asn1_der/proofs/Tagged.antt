@@ -38,7 +38,7 @@ pub leaf_laws : {T : Type 0} (is_valid : T → Bool) (content : T → List ℕ)
     → TagLaws (leaf_as is_valid content)
 leaf_laws is_valid content one = leaf_laws_as (λ v w. v ≡ w) is_valid content one
 
--- a value is told by its row
+-- a value is distinguished by its row
 pub tagged-injective_as : {R T : Type 0} (Row : R → R → Type 0) (Same : T → T → Type 0) (first : ℕ) (tree : ℕ → R → Tree) → TagLawsAs {T = R} Row tree → (row_of : T → R)
     → ((v w : T) → Row (row_of v) (row_of w) → Same v w) → IsInjectiveAs {T = T} Same (tagged_tree first tree row_of)
 tagged-injective_as Row Same first tree laws row_of one v w whole also e = one v w (laws.injective first (row_of v) (row_of w) whole also e)

@@ -1,4 +1,4 @@
--- The octets of an element's content, which stand in place or in memory of their own.
+-- The octets of an element's content, which are in place or in memory of their own.
 use Rattle.std.specs.Prelude.{ℕ, ◌≤◌, List, take, ⊤}
 use Rattle.asn1_der.specs.declared.content.Octets.{Octets}
 use Rattle.asn1_der.specs.declared.content.Octets.TheVariants.{InPlace, Owned}

@@ -10,6 +10,6 @@ sequence trees octet parts = constructed octet (trees parts)
 abbrev pub leaf_as : {T : Type 0} → (T → Bool) → (T → List ℕ) → ℕ → T → Tree
 leaf_as is_valid content octet value = leaf (is_valid value) octet (content value)
 
--- a value that is told by its row, of which `tree` is the tree under each octet
+-- a value that is distinguished by its row, of which `tree` is the tree under each octet
 abbrev pub tagged_tree : {R T : Type 0} → ℕ → (ℕ → R → Tree) → (T → R) → T → Tree
 tagged_tree first tree row_of value = tree first (row_of value)

@@ -221,7 +221,7 @@ length_wanting first behind (Message rule) low wants = absurd wants
 length_wanting first behind (Other kind) low wants = absurd wants
 length_wanting first behind Memory low wants = absurd wants
 
--- no identifier octet, and one whose tag's number stands in further octets
+-- no identifier octet, and one whose tag's number is in further octets
 pub no_identifier : IsWanting IsOneElement [] TruncatedData
 no_identifier =
     let whole = filled 0 0 [] refl (omega arith) (omega arith) in

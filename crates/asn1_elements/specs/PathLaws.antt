@@ -1,11 +1,11 @@
--- Where elements stand in others: what a path leads to, put together from its steps.
+-- Where elements are in others: what a path leads to, put together from its steps.
 use Rattle.std.proofs.Common.{◌≡◌, ℕ, suc, true, List, [], ◌∷◌, ◌++◌, refl, sym, ap, ◌∙◌, subst, append-nil, append_assoc}
 use Rattle.asn1_der.specs.Length.{element}
 use Rattle.asn1_elements.specs.Raw.{Raw, has_low_number}
 use Rattle.asn1_elements.specs.Splits.{SplitsInto}
 use Rattle.asn1_elements.specs.Parts.{AreElements, IsPart, IsPartIn}
 
--- the bytes are one element, whose tag stands in one octet
+-- the bytes are one element, whose tag is in one octet
 abbrev pub IsElement : List ℕ → Type 0
 IsElement bytes = (first : ℕ) × (content : List ℕ) × (has_low_number first ≡ true) × (bytes ≡ element first content)
 

@@ -1,4 +1,4 @@
--- The element that begins an input (X.690, section 8.1), where its tag stands in one octet.
+-- The element that begins an input (X.690, section 8.1), where its tag is in one octet.
 use Rattle.std.specs.Prelude.{◌≡◌, ℕ, ◌<◌, ◌≤◌, ◌^◌, true, List, [], ◌∷◌, ◌++◌, length, refl}
 use Rattle.asn1_der.specs.Length.{element, length_octets}
 use Rattle.asn1_elements.specs.Raw.{Raw, has_low_number}

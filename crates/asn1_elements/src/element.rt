@@ -9,7 +9,7 @@ use crate::tag::Tag;
 use asn1_der::{Asn1DerError, following, length_of};
 use std::marker::Model;
 
-/// One element where it stands in an input: a tag whose number is below 31, a definite length in as few octets as
+/// One element where it is in an input: a tag whose number is below 31, a definite length in as few octets as
 /// there can be, and the content (X.690, sections 8.1 and 10.1). Of the content nothing is asked.
 ///
 /// A contract sees the identifier octet and the content.

@@ -5,7 +5,7 @@ ghost use Rattle.asn1_elements.specs.PathLaws.{AreSome};
 
 use crate::element::split_element;
 
-/// The part of an element at a path, where it stands in the bytes. `None` if the path leads to no part. It takes no memory.
+/// The part of an element at a path, where it is in the bytes. `None` if the path leads to no part. It takes no memory.
 ///
 /// The empty path leads to the bytes themselves. Each number of a path counts the elements of a content from 0: `[1, 0]`
 /// leads to the first element inside the second element of the bytes' one element (X.690, section 8.1). The content may be

@@ -23,7 +23,7 @@ pub enum TagClass {
 
 /// An identifier octet: a tag's class and number, and whether the encoding is constructed (X.690, section 8.1.2).
 ///
-/// A contract sees the octet. Numbers from 31 on stand in further octets (8.1.2.4), which no type of this crate has.
+/// A contract sees the octet. Numbers from 31 on are in further octets (8.1.2.4), which no type of this crate has.
 #[derive(Clone, Copy, Debug, PartialEq, Eq, Hash, PartialOrd, Ord)]
 pub struct Tag {
     octet: u8,

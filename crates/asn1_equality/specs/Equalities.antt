@@ -20,7 +20,7 @@ use Rattle.std.proofs.lemmas.Bool.Decides.{Decides-and}
 abbrev pub IsEquality : {K : Type 0} → (K → K → Bool) → Type 0
 IsEquality {K} test = (v w : K) → Decides (test v w) (v ≡ w)
 
--- values that are told by what f gives of them
+-- values that are distinguished by what f gives of them
 pub told_by : {K J : Type 0} (f : K → J) {E : J → J → Bool} → IsEquality E → ((v w : K) → f v ≡ f w → v ≡ w) → IsEquality (λ v w. E (f v) (f w))
 told_by f same told v w = (λ e. told v w ((same (f v) (f w)).0 e), λ e. (same (f v) (f w)).1 (ap f e))
 

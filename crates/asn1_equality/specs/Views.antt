@@ -1,4 +1,4 @@
--- Views, which lend what they show. Two of them are equal wherever they lend one value, and needn't stand at one place.
+-- Views, which lend what they show. Two of them are equal wherever they lend one value, and needn't are at one place.
 use Rattle.std.proofs.Common.{◌≡◌}
 use Rattle.x509_names.specs.declared.attribute_parameters.AttributeTypeAndValueParameters.{AttributeTypeAndValueParameters}
 use Rattle.x509_names.specs.declared.attribute_parameters.AttributeTypeAndValueParameters.TheVariants as attribute

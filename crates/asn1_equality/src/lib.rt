@@ -2,7 +2,7 @@
 //!
 //! [`Equality`] is the law. Each type of X.509 and of the Kerberos messages has it, with the leaves and wrappers of its fields, and
 //! with the faults. A type with a parameter has it where its parameter has. Of the views, which lend what they show,
-//! [`attribute_views`], [`extension_views`] and [`name_views`] say it of what is lent.
+//! [`attribute_views`], [`extension_views`] and [`name_views`] say it of what is borrowed.
 #![tactic(auto)]
 
 ghost use Rattle.std.specs.Prelude.{◌≡◌};

@@ -6,18 +6,18 @@ ghost use Rattle.asn1_equality.specs.Views.{ShowOneAttribute, ShowOneExtension};
 use x509_extensions::ExtensionView;
 use x509_names::{AttributeTypeAndValueParameters, NamePrettyFormatter};
 
-/// Two values of attributes that are lent are equal exactly where they are of one attribute, and what is lent is one value.
+/// Two values of attributes that are borrowed are equal exactly where they are of one attribute, and what is borrowed is one value.
 pub fn attribute_views()
     ensures { (v w : AttributeTypeAndValueParameters)
         → Decides (⟦<AttributeTypeAndValueParameters<'static> as PartialEq>⟧.eq v w) (ShowOneAttribute v w) }
 {}
 
-/// Two views of extensions are equal exactly where they are of one kind, and what is lent is one value.
+/// Two views of extensions are equal exactly where they are of one kind, and what is borrowed is one value.
 pub fn extension_views()
     ensures { (v w : ExtensionView) → Decides (⟦<ExtensionView<'static> as PartialEq>⟧.eq v w) (ShowOneExtension v w) }
 {}
 
-/// Two names that are lent to be printed are equal exactly where they are one name.
+/// Two names that are borrowed to be printed are equal exactly where they are one name.
 pub fn name_views()
     ensures { (v w : NamePrettyFormatter) → Decides (⟦<NamePrettyFormatter<'static> as PartialEq>⟧.eq v w) (v.0.now ≡ w.0.now) }
 {}

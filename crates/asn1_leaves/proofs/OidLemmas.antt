@@ -7,7 +7,7 @@ use Rattle.std.proofs.lemmas.Bool.Decides.{nat_tests}
 use Rattle.asn1_leaves.specs.ObjectIdentifier.{joined, parted, may_begin, is_u64, IsObjectIdentifier, subidentifier, oid_content, numbers_after, AreNumbers, oid_arcs, IsContent, arcs_left}
 use Rattle.asn1_leaves.proofs.NumberLemmas.{numbers-subidentifier, numbers-content, length-subidentifier, no_numbers}
 
--- the first arc is told by the number
+-- the first arc is distinguished by the number
 first-joined : (first second : ℕ) → IsTrue (may_begin first second) → min (joined first second / 40) 2 ≡ first
 first-joined first second h = grind (arith, nat_tests)
 

@@ -289,7 +289,7 @@ fn month_length(year: u16, month: u8) -> u8
     }
 }
 
-// The number that two decimal digits stand for.
+// The number that two decimal digits represent.
 fn two_digits_at(text: &[u8], at: usize) -> Option<u8>
     requires { at + 1 < length text.now }
     ensures { MatchOption result

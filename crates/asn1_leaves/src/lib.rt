@@ -1,4 +1,4 @@
-//! The leaf types of ASN.1 that are told by their content alone: object identifiers and times; the
+//! The leaf types of ASN.1 that are distinguished by their content alone: object identifiers and times; the
 //! character sets of the string types.
 #![tactic(auto)]
 

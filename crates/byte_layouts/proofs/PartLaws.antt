@@ -24,7 +24,7 @@ get_or-put_before p whole k d inside before =
     get_or_append_left (take p.place whole) (p.bytes ++ drop (p.place + length p.bytes) whole) d k (omega arith)
     ∙ get_or-take p.place whole k d before
 
--- a byte behind the part stays
+-- a byte after the part stays
 pub get_or-put_behind : (p : Part) (whole : List ℕ) (k d : ℕ) → end_of p ≤ length whole → end_of p ≤ k → get_or (put p whole) k d ≡ get_or whole k d
 unfolding put
 get_or-put_behind p whole k d inside behind =

@@ -1,4 +1,4 @@
--- Layouts: a list of parts, each of which stands at its place.
+-- Layouts: a list of parts, each of which is at its place.
 use Rattle.std.specs.Prelude.{◌≡◌, ℕ, ◌+◌, ◌≤◌, ◌<◌, List, [], ◌∷◌, ◌++◌, length, take, drop}
 
 -- bytes, and the place of the first of them
@@ -13,11 +13,11 @@ part place bytes = record { place = place; bytes = bytes }
 abbrev pub end_of : Part → ℕ
 end_of p = p.place + length p.bytes
 
--- the part's bytes stand at its place
+-- the part's bytes are at its place
 abbrev pub Stands : Part → List ℕ → Type 0
 Stands p whole = take (length p.bytes) (drop p.place whole) ≡ p.bytes
 
--- laid out: each part stands at its place
+-- laid out: each part is at its place
 abbrev pub IsLaidOut : List Part → List ℕ → Type 0
 IsLaidOut [] whole = Unit {0}
 IsLaidOut (p ∷ ps) whole = Stands p whole × IsLaidOut ps whole

@@ -1,4 +1,4 @@
-//! Numbers that stand in bytes.
+//! Numbers that are in bytes.
 ghost use Rattle.std.specs.Prelude.{◌≡◌, ℕ, ◌+◌, ◌≤◌, length, take, drop};
 ghost use Rattle.byte_layouts.specs.Numbers.{be16, be16_at, be64, be64_at, le32, le32_at, le64, le64_at};
 ghost use Rattle.byte_layouts.specs.Parts.{part, Stands};

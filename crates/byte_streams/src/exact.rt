@@ -17,13 +17,13 @@ pub enum WholeFault {
     Full,
     /// The device failed.
     Failed(ErrorKind),
-    /// The memory that the bytes were to stand in could not grow.
+    /// The memory that the bytes were to be in could not grow.
     Memory,
 }
 
 /// Fills `buffer` from `reader`, in as many reads as it takes, and gives how many bytes were read:
 /// fewer than there is room for only where the reader came to its end. Where a read failed, the
-/// bytes of the reads before it stand at the front of `buffer`.
+/// bytes of the reads before it are at the front of `buffer`.
 pub fn read_full<R: Source>(reader: &mut R, buffer: &mut [u8]) -> Result<usize, ErrorKind>
     ensures bound { IfOk result (λ n. n ≤ length buffer.new) }
     ensures bytes { IfOk result (λ n. Consumes (R.left reader.old) (R.left reader.new) (take n buffer.new)) }

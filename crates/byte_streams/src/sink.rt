@@ -15,7 +15,7 @@ use std::io::ErrorKind;
 pub enum SinkFault {
     /// The device failed.
     Failed(ErrorKind),
-    /// The memory that the bytes were to stand in could not grow.
+    /// The memory that the bytes were to be in could not grow.
     Memory,
 }
 
@@ -29,7 +29,7 @@ pub trait Sink {
     // How many writes have failed.
     ghost failed: { Self → ℕ };
 
-    // Whether the bytes stand in memory that grows. Such a sink takes all or nothing. No other
+    // Whether the bytes are in memory that grows. Such a sink takes all or nothing. No other
     // sink ever needs memory.
     ghost grows: { Bool };
 

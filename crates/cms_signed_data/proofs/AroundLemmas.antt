@@ -1,4 +1,4 @@
--- Spellings of the parts, put together, spell the whole; and the certificate stands there.
+-- Spellings of the parts, put together, spell the whole; and the certificate is there.
 use Rattle.std.proofs.Common.{◌≡◌, ℕ, ◌+◌, true, List, [], ◌∷◌, ◌++◌, refl, ap, ◌∙◌, subst, arith}
 use Rattle.asn1_der.specs.Length.{element}
 use Rattle.asn1_elements.specs.Raw.{Raw, has_low_number, raw_tree}

@@ -1,4 +1,4 @@
--- Signed data around a certificate's bytes: no more deviates in the whole than in the certificate, which stands there unchanged.
+-- Signed data around a certificate's bytes: no more deviates in the whole than in the certificate, which is there unchanged.
 use Rattle.std.specs.Prelude.{ℕ, List, [], ◌∷◌}
 use Rattle.asn1_elements.specs.Parts.{IsPart}
 use Rattle.asn1_elements.specs.PathLaws.{LeadsTo}

@@ -29,7 +29,7 @@ module _ (bytes : List ℕ) (parts : SignedParts) (is : IsSignedContent bytes pa
       let held = (parts_held parts.info bytes is.form.0.0 is.form.0.1).attributes_at in
       part-one attributes_place bytes parts.signed_attributes held.inner is.attributes_at (part_there bytes held.inner attributes_place held.leads) ∙ held.is.0.1
 
-  -- the octets of content, digest and signature stand in the bytes
+  -- the octets of content, digest and signature are in the bytes
   pub content_there : IsPart bytes content_place (element 4 (content_of parts.info))
   content_there = (parts_held parts.info bytes is.form.0.0 is.form.0.1).content_at
 

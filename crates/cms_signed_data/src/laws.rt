@@ -22,7 +22,7 @@ pub fn one_signed_content()
 {}
 
 /// The certificate's bytes are a spelling of the value's certificate. The bytes of the signed attributes are their DER. The octets
-/// of content, digest and signature stand in the bytes. It does nothing when it runs: its contract is the law.
+/// of content, digest and signature are in the bytes. It does nothing when it runs: its contract is the law.
 pub fn parts_are_spelled()
     ensures certificate { (bytes : List ℕ) (parts : SignedParts) → IsSignedContent bytes parts
         → (n : ℕ) × ⟦<Certificate as Spelled>⟧.spells parts.info.content.0.certificates.0 parts.certificate n }

@@ -71,7 +71,7 @@ impl<'a> SignedContent<'a> {
         self.slices.content
     }
 
-    /// The signer's certificate as it stands in the input, in whatever spelling.
+    /// The signer's certificate as it is in the input, in whatever spelling.
     pub fn certificate(&self) -> &'a [u8]
         ensures { result.now ≡ self.now.certificate }
     {
@@ -92,7 +92,7 @@ impl<'a> SignedContent<'a> {
         &self.info.content.0.signer_infos.0.sid.serial_number
     }
 
-    /// The signed attributes as they stand in the input, under the tag [0].
+    /// The signed attributes as they are in the input, under the tag [0].
     pub fn signed_attributes(&self) -> &'a [u8]
         ensures { result.now ≡ self.now.signed_attributes }
     {
@@ -120,7 +120,7 @@ impl<'a> SignedContent<'a> {
         self.slices.signature
     }
 
-    /// What the signature covers: the signed attributes as they stand in the input, with the identifier octet of a SET OF in
+    /// What the signature covers: the signed attributes as they are in the input, with the identifier octet of a SET OF in
     /// place of that of [0] (RFC 5652, section 5.4).
     pub fn judged(&self) -> &[u8]
         ensures { result.now ≡ as_set self.now.signed_attributes }

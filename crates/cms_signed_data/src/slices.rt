@@ -1,4 +1,4 @@
-//! The parts of signed data, where they stand in its bytes.
+//! The parts of signed data, where they are in its bytes.
 ghost use Rattle.std.specs.Prelude.{◌≡◌, ℕ, List, IsSomeAnd, MatchOption};
 ghost use Rattle.asn1_der.specs.Length.{element};
 ghost use Rattle.asn1_elements.specs.Parts.{IsPart};

@@ -13,7 +13,7 @@ use Rattle.cms_types.specs.declared.signed_attributes.SignedAttributes.{SignedAt
 use Rattle.cms_types.specs.declared.signer_info.IssuerAndSerialNumber.{IssuerAndSerialNumber}
 use Rattle.cms_types.specs.SpelledElements.{SpellsElements}
 
--- the spelling of each part, which is an element; and where content and digest stand in the two parts that hold them
+-- the spelling of each part, which is an element; and where content and digest are in the two parts that hold them
 pub record PartSpellings : Type 1 where
   pub oid : ObjectIdentifierAsn1 → List ℕ → ℕ → Type 0
   pub oid_are : SpellsElements oid
@@ -50,7 +50,7 @@ content_at valid oid octets b whole is =
     (second_at 48 (der (leaf valid 6 oid)) (element 160 (element 4 octets ++ [])) b refl (oid_element valid oid whole.0) (160, element 4 octets ++ [], refl, refl) is)
     (alone_at 160 (element 4 octets) (element 160 (element 4 octets ++ [])) refl (4, octets, refl, refl) refl)
 
--- the attribute message-digest behind another one (RFC 5652, sections 5.3 and 11.2)
+-- the attribute message-digest that follows another one (RFC 5652, sections 5.3 and 11.2)
 pub digest_at : (valid : Bool) (oid octets : List ℕ) (first : Tree) (b : List ℕ) → IsElement (der first)
     → IsWhole (constructed 160 (more first (more (constructed 48 (more (leaf valid 6 oid) (more (wrapped 49 (primitive 4 octets)) none))) none)))
     → b ≡ der (constructed 160 (more first (more (constructed 48 (more (leaf valid 6 oid) (more (wrapped 49 (primitive 4 octets)) none))) none)))

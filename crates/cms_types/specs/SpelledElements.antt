@@ -9,7 +9,7 @@ use Rattle.asn1_elements.specs.PathLaws.{IsElement, AreSome, LeadsTo, LeadsIn, i
 use Rattle.x509_spelling.specs.Spellings.{has_low_tag, Leads, IsEnd, Joins, Holds}
 use Rattle.x509_spelling.specs.Laws.{SpellingLaws}
 
--- each spelling is an element, whose tag stands in one octet
+-- each spelling is an element, whose tag is in one octet
 abbrev pub SpellsElements : {T : Type 0} → (T → List ℕ → ℕ → Type 0) → Type 0
 SpellsElements {T} spells = (v : T) (b : List ℕ) (n : ℕ) → spells v b n → IsElement b
 

@@ -18,7 +18,7 @@ pub get_or-permuted : (table s : List ℕ) (i : ℕ) → i < length table → ge
 unfolding permuted
 get_or-permuted table s i h = get_or-map (λ place. slice_index s (place - 1)) table i 0 0 h
 
--- each place of a table stands in a string of n bits
+-- each place of a table is in a string of n bits
 abbrev pub within : ℕ → List ℕ → Type 0
 within n table = (i : ℕ) → i < length table → get_or table i 0 - 1 < n
 

@@ -35,7 +35,7 @@ tokens_in message =
     if is_some message.supported_mech.0 then Err NotAToken
     else Ok (record { mechanism = option_map (λ token. token.0) message.response_token.0; mic = option_map (λ mic. mic.0) message.mech_list_mic.0 })
 
--- the tokens of a message behind the first
+-- the tokens of a message after the first
 unfoldable pub responded : Bytes → Table (Result Tokens AcceptRefusal)
 responded token = ask (IsNegResp token) (sole_neg_resp token) (done (Err NotAToken)) (λ message. done (tokens_in message))
 

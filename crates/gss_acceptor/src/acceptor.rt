@@ -41,7 +41,7 @@ impl Acceptor {
     /// Takes an initiator's first token, at a moment: one of Kerberos (RFC 4121, section 4.1), or one of SPNEGO that offers Kerberos
     /// (RFC 4178, section 4.2.1). Of the random bytes the first 16 count.
     ///
-    /// A token of Kerberos establishes a context. It may stand in one of SPNEGO, if Kerberos is the first mechanism. If it isn't, or has
+    /// A token of Kerberos establishes a context. It may be in one of SPNEGO, if Kerberos is the first mechanism. If it isn't, or has
     /// no token, the answer asks for Kerberos. The context is then established by [`Acceptor::resume`].
     ///
     /// The refusals, in this order: `NotAToken` or `NoKerberos`, which leave the acceptor as it was; `Admit`; and of what the service

@@ -10,7 +10,7 @@ use gss_context_tokens::{NegTokenTarg, NegTokenTarg1};
 use krb_encrypted_data::read_whole;
 use std::alloc::Global;
 
-/// The tokens of a message behind the first.
+/// The tokens of a message after the first.
 pub(crate) fn read_response(alloc: Global, token: &[u8]) -> Result<Tokens, AcceptRefusal>
     ensures { IsRead (responded token.now).gives result }
 {

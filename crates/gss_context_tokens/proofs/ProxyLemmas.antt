@@ -48,7 +48,7 @@ iakerb_content : oid_content iakerb5 ≡ iakerb_octets
 unfolding oid_content subidentifier
 iakerb_content = refl
 
--- a message behind its header, as it stands in a SEQUENCE
+-- a message after its header, as it is in a SEQUENCE
 pub proxy-value : (header message : List ℕ) (octet : ℕ)
     → element octet (element 6 iakerb_octets ++ (5 ∷ (1 ∷ (header ++ (message ++ []))))) ≡ element octet (der (mechanism_tree iakerb) ++ (proxy_id ++ (header ++ message)))
 proxy-value header message octet =

@@ -78,7 +78,7 @@ behind_whole : {B : Type 0} (tb : B → Tree) (b : Option B) (trees : Trees) →
 behind_whole tb None trees whole = whole
 behind_whole tb (Some v) trees whole = whole.1
 
--- two fields behind another, as they are written
+-- two fields that follow another, as they are written
 pub fields-lead : {B C : Type 0} (fb : Firsts) (tb : B → Tree) (fc : Firsts) (tc : C → Tree) → AllBeginAmong fb tb → AllBeginAmong fc tc → apart fb fc ≡ true
     → (b : Option B) (c : Option C) → AreWhole (put tb b (put tc c none))
     → LeadsOptional fb (Writes tb) b (ders (put tb b (put tc c none))) (ders (put tc c none)) × LeadsOptional fc (Writes tc) c (ders (put tc c none)) []

@@ -15,7 +15,7 @@ abbrev pub BeginsKrbMessage : {T : Type 0} → (T → List ℕ → Type 0) → K
 BeginsKrbMessage reads m bytes =
     (inner message : List ℕ) × IsOfMechanism bytes m.krb5_oid inner × IsTold inner m.krb5_token_id message × reads m.krb_msg message
 
--- the same of a message behind its header
+-- the same of a message after its header
 abbrev pub BeginsProxyMessage : {T : Type 0} → (T → List ℕ → Type 0) → IAKerbProxyMessage T → List ℕ → Type 0
 BeginsProxyMessage reads m bytes =
     (message body : List ℕ) × IsProxied bytes message × Leads header_reading.ghosts.reads m.header message body × reads m.krb_msg body

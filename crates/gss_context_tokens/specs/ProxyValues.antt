@@ -1,4 +1,4 @@
--- A forwarded message is told by a row: mechanism, token id, header and message.
+-- A forwarded message is distinguished by a row: mechanism, token id, header and message.
 use Rattle.std.specs.Prelude.{ℕ, List, [], ◌∷◌, ⊤}
 use Rattle.asn1_der.specs.Tree.{Trees}
 use Rattle.asn1_der.specs.Tagged.{sequence}

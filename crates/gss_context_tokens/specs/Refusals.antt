@@ -37,7 +37,7 @@ IsTokenRefusal fits bytes (InvalidMechanismOid wanted there) = ⊥
 IsTokenRefusal fits bytes (InvalidMicFiller there) = ⊥
 IsTokenRefusal fits bytes (InvalidWrapFiller there) = ⊥
 
--- a token of another mechanism stands there
+-- a token of another mechanism is there
 abbrev pub HasOtherMechanism : List ℕ → Type 0
 HasOtherMechanism bytes = (mechanism : ObjectIdentifierAsn1) × (inner : List ℕ) × IsOfMechanism bytes mechanism inner × (mechanism ≡ iakerb → ⊥)
 

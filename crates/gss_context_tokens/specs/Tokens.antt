@@ -19,7 +19,7 @@ mechanism_tree = tagged_tree object_identifier_octet (leaf_as (λ oid. is_object
 abbrev pub BeginsToken : List ℕ → List ℕ → Type 0
 BeginsToken content bytes = (rest : List ℕ) × (bytes ≡ element 96 content ++ rest)
 
--- the bytes begin with a token of this mechanism, and this stands in it behind the mechanism
+-- the bytes begin with a token of this mechanism, and this is in it behind the mechanism
 abbrev pub IsOfMechanism : List ℕ → ObjectIdentifierAsn1 → List ℕ → Type 0
 IsOfMechanism bytes mechanism inner = (content : List ℕ) × BeginsToken content bytes × Leads (Writes mechanism_tree) mechanism content inner
 

@@ -10,7 +10,7 @@ use picky_asn1_der::{
     from_fields, read_sequence,
 };
 
-/// The mechanism SPNEGO, and what a client offers (RFC 2743, section 3.1; RFC 4178, section 4.2). It stands under the tag
+/// The mechanism SPNEGO, and what a client offers (RFC 2743, section 3.1; RFC 4178, section 4.2). It is under the tag
 /// of [`ApplicationTag0`](crate::application_tag0::ApplicationTag0).
 ///
 /// ```text

@@ -26,7 +26,7 @@ pub(crate) fn sequence_of(content: Vec<u8>) -> TokenSequence
     Retagged(OctetStringAsn1::from(content))
 }
 
-/// Puts the spelling of a value behind what stands there.
+/// Puts the spelling of a value that follows what is there.
 pub(crate) fn put_value<T: Serialize>(value: &T, to: &mut Vec<u8>) -> Result<(), GssApiMessageError>
     ensures { MatchResult result
         (λ _. to.new.items ≡ to.old.items ++ der (T.tree value.now))

@@ -56,7 +56,7 @@ pub empty_again : (count : ℕ) (octets items : List ℕ) → length octets ≡ 
 empty_again count octets items none is =
     ap (rotated_right count) is ∙ rotated_empty count ∙ sym (nil_from_length octets none)
 
--- what is made of the octets behind a cut and those before it
+-- what is made of the octets after a cut and those before it
 pub made_again : (count cut : ℕ) (octets items : List ℕ) → cut ≡ count % length octets → cut ≤ length octets
     → items ≡ take (length octets - cut) (drop cut octets) ++ take cut octets → rotated_right count items ≡ octets
 made_again count cut octets items is_cut inside is =

@@ -21,10 +21,10 @@ pub enum GssApiMessageError {
     /// The device failed, or the bytes end inside the token (`UnexpectedEof`).
     #[error("IO error: {0}")]
     IoError(ErrorKind),
-    /// What stands in the place of a MIC token's filler.
+    /// What is in the place of a MIC token's filler.
     #[error("invalid MIC token filler: {0:?}")]
     InvalidMicFiller([u8; 5]),
-    /// What stands in the place of a wrap token's filler.
+    /// What is in the place of a wrap token's filler.
     #[error("invalid wrap token filler: {0}")]
     InvalidWrapFiller(u8),
     /// The token's content isn't DER. No call of this crate returns it.

@@ -30,11 +30,11 @@ frame-joined header ap_bytes private (long, version) =
       size = omega (arith, length-append header (ap_bytes ++ private), length-append ap_bytes private);
     }
 
--- what is cut from a place on, and stands there
+-- what is cut from a place on, and is there
 cut_there : (bytes whole : List ℕ) → take (length bytes) whole ≡ bytes → whole ≡ bytes ++ drop (length bytes) whole
 cut_there bytes whole is = sym (take-append-drop (length bytes) whole) ∙ ap (λ (l : List ℕ). l ++ drop (length bytes) whole) is
 
--- the version that stands in the whole stands in its header
+-- the version that is in the whole is in its header
 header-version : (header more whole : List ℕ) → whole ≡ header ++ more → 2 + length (be16 1) ≤ length header → Stands (part 2 (be16 1)) whole
     → Stands (part 2 (be16 1)) header
 header-version header more whole all inside stands =

@@ -256,7 +256,7 @@ private-refused seen ra rp one (Some bytes) (Some more) second after old mid lat
 private-refused seen ra rp one (Some bytes) (Some more) second after old mid later new last e v same also (header, is, took) (x, read, fits, then) (inr (wrong, none)) =
     inr (inr (wrong, partless ra rp bytes header more took is (no-private seen ra rp one (Some bytes) (Some more) second header x v is took read then none)))
 
--- what is answered where some frame stands there
+-- what is answered where some frame is there
 excuse-of : {A P : Type 0} (ra : A → List ℕ → Type 0) (rp : P → List ℕ → Type 0) (bytes : List ℕ) (after : Option (List ℕ)) (old new : ℕ) (last : Option ErrorKind) (e : ErrorKind)
     → IsRefusal ra rp bytes after old new last e → IsExcuse old new last e ⊎ IsUnframed ra rp bytes
 excuse-of ra rp bytes after old new last e (inl memory) = inl (inl memory)

@@ -5,7 +5,7 @@ use picky_asn1_der::{
     Alternatives, Asn1DerError, Choice, Deserialize, Deserializer, Last, Serialize, Serializer,
 };
 
-/// An AP request or an AP reply (RFC 4120, section 5.5), told by the application tag.
+/// An AP request or an AP reply (RFC 4120, section 5.5), distinguished by the application tag.
 #[derive(Debug, Drop, PartialEq, Eq, Clone)]
 pub enum ApMessage {
     /// A request, of which the first octet is 0x6E.

@@ -26,7 +26,7 @@ const MOST_BYTES: usize = 65_535;
 pub struct KrbPrivFrame<A, P> {
     /// The AP message: an AP-REQ, or the AP-REP that answers it.
     pub ap_message: A,
-    /// The KRB-PRIV, or the KRB-ERROR that stands in its place.
+    /// The KRB-PRIV, or the KRB-ERROR that is in its place.
     pub krb_priv: P,
 }
 
@@ -61,7 +61,7 @@ impl<A: FromDer, P: FromDer> KrbPrivFrame<A, P> {
     }
 }
 
-// Puts a header with these lengths, and the parts, behind what stands there.
+// Puts a header with these lengths, and the parts, behind what is there.
 fn put_frame(
     to: &mut Vec<u8>,
     count: u16,

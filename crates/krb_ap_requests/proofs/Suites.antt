@@ -1,4 +1,4 @@
--- A suite is told by its number.
+-- A suite is distinguished by its number.
 use Rattle.std.proofs.Common.{◌≡◌, ℕ, true, sym, ◌∙◌}
 use Rattle.std.proofs.lemmas.Bool.{eqb-true, false≢true}
 use Rattle.std.specs.Prelude.{ℤ, negsuc, pos}

@@ -19,7 +19,7 @@ pub struct Authenticated {
 pub struct Presented {
     /// The ticket's part, which the service's key opened.
     pub part: EncTicketPartInner,
-    /// The suite of the session key, which stands in the part.
+    /// The suite of the session key, which is in the part.
     pub suite: CipherSuite,
     /// The authenticator, which the session key opened.
     pub authenticator: AuthenticatorInner,

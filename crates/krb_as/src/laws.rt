@@ -9,7 +9,7 @@ ghost use Rattle.picky_asn1.specs.Bytes.{Bytes};
 ghost use Rattle.picky_asn1_der.specs.Parts.{IsPart};
 ghost use Rattle.asn1_der.specs.Octets.{octet_string_octet};
 
-/// What the checksum of a PKINIT authenticator is computed over, the one encoding of the request's body, stands in the request's
+/// What the checksum of a PKINIT authenticator is computed over, the one encoding of the request's body, is in the request's
 /// own bytes (RFC 4556, section 3.2.1). Its place leads to nothing else. The place is the SEQUENCE's element number 3, counted
 /// from 0, and what its tag holds (RFC 4120, section 5.4.1). It does nothing when it runs: its contract is the law.
 pub fn as_body_is_part()
@@ -19,7 +19,7 @@ pub fn as_body_is_part()
         → IsPart bytes (0 ∷ 3 ∷ 0 ∷ []) part → part ≡ body_bytes (body_of request) }
 {}
 
-/// The data of the first padata of a type stands in the request's own bytes, as an OCTET STRING in one of the entries, and so does
+/// The data of the first padata of a type is in the request's own bytes, as an OCTET STRING in one of the entries, and so is
 /// each part of the data. The entries are the SEQUENCE's element number 2 (RFC 4120, sections 5.2.7 and 5.4.1). It does nothing
 /// when it runs: its contract is the law.
 pub fn padata_is_part()

@@ -1,4 +1,4 @@
--- The request for a further ticket (RFC 4120, sections 3.3.1, 5.4.1): an AP request with a checksum over the body stands as
+-- The request for a service ticket (RFC 4120, sections 3.3.1, 5.4.1): an AP request with a checksum over the body stands as
 -- its preauthentication data.
 use Rattle.std.specs.Prelude.{◌≡◌, ℕ, false, List, None, Some, pos}
 use Rattle.std.proofs.Common.{ap, sym, ◌∙◌}
@@ -38,7 +38,7 @@ sole_authentication client credential moment confounder text a b x y =
     (sole_authenticator_of client moment (Some (checksum_over credential text)) None x.authenticator y.authenticator x.authenticates y.authenticates)
     x.presents y.presents
 
--- the request with its AP request, PA-TGS-REQ (RFC 4120, section 7.5.2); the client's name stands in the ticket alone
+-- the request with its AP request, PA-TGS-REQ (RFC 4120, section 7.5.2); the client's name is in the ticket alone
 abbrev pub tgs_request_of : ClientRecord → List Bytes → GeneralizedTime → ℕ → Bytes → KdcReq
 tgs_request_of client service till nonce request = kdc_request_of 12 (pa_data_of 1 request) (request_body client false service till nonce)
 

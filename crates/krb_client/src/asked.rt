@@ -76,7 +76,7 @@ impl AsAsked {
     }
 }
 
-/// What a client remembers of its request for a further ticket. A contract sees the components of the service's name, the
+/// What a client remembers of its request for a service ticket. A contract sees the components of the service's name, the
 /// nonce, and the session's key, as its suite and its bytes.
 #[derive(Drop)]
 pub struct TgsAsked {

@@ -48,7 +48,7 @@ impl Client {
     ) -> Result<Client, AskRefusal>
         ensures made { IsMemoryAside result (client_of realm.now (parts name.now) suite) }
 
-        // Want of memory hides no other refusal.
+        // Running out of memory hides no other refusal.
         ensures first { (refusal : AskRefusal) → client_of realm.now (parts name.now) suite ≡ Err refusal → result ≡ Err refusal }
     {
         if !is_realm_name(realm) {
@@ -94,7 +94,7 @@ impl Client {
     ) -> Result<(Client, ByKey), AskRefusal>
         ensures made { IsMemoryAside result (client_by_password realm.now (parts name.now) suite password.now) }
 
-        // Want of memory hides no other refusal.
+        // Running out of memory hides no other refusal.
         ensures first { (refusal : AskRefusal) → client_by_password realm.now (parts name.now) suite password.now ≡ Err refusal → result ≡ Err refusal }
     {
         if !is_realm_name(realm) {

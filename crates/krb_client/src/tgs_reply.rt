@@ -14,7 +14,7 @@ use krb_messages::messages::KdcRep;
 use std::alloc::Global;
 
 impl Client {
-    /// What the reply to a request for a further ticket grants (RFC 4120, section 3.3.4). The reply is taken if it is encrypted
+    /// What the reply to a request for a service ticket grants (RFC 4120, section 3.3.4). The reply is taken if it is encrypted
     /// under the session key and answers that request. It must have the request's nonce, client and service, and a key of a known
     /// suite.
     ///

@@ -1,4 +1,4 @@
-//! Asking for a further ticket.
+//! Asking for a service ticket.
 ghost use Rattle.std.specs.Prelude.{◌≡◌, ◌≤◌, ◌↔◌, ◌⊎◌, ℕ, List, length, false, Err, IfErr, IfOk};
 ghost use Rattle.krb_accounts.specs.Names.{are_components, parts};
 ghost use Rattle.krb_client.specs.Messages.{request_body_bytes, tgs_request_bytes};

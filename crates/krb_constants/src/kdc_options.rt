@@ -12,8 +12,8 @@ pub const POSTDATED: usize = 6;
 /// A ticket under the session key of another one.
 pub const ENC_TKT_IN_SKEY: usize = 28;
 
-/// The old ticket, to last longer.
+/// The presented ticket, to last longer.
 pub const RENEW: usize = 30;
 
-/// The old ticket, which is to become valid.
+/// The presented ticket, which is to become valid.
 pub const VALIDATE: usize = 31;

@@ -12,7 +12,7 @@ use aes_cts::KerberosCryptoResult;
 use krb_profile::{DecryptWithoutChecksum, EncryptWithoutChecksum};
 use std::alloc::Global;
 
-/// A type that stands for one cipher suite.
+/// A type that represents one cipher suite.
 pub trait CipherType {
     ghost stands_for: { Self → CipherSuite };
 
@@ -21,7 +21,7 @@ pub trait CipherType {
         ensures { result ≡ stands_for self.now };
 }
 
-/// A type that stands for one checksum.
+/// A type that represents one checksum.
 pub trait ChecksumType {
     ghost stands_for: { Self → ChecksumSuite };
 

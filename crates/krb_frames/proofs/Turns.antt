@@ -199,7 +199,7 @@ module _ (replies : List ℕ → ℕ → List ℕ → Option (List ℕ) → Type
   same_result s t u (Err f) (Err g) p_final q_final p_why q_why count left right =
       ap Err (sym (fault_at-number g q_final) ∙ ap fault_at (sym (same_number s t u (Err f) (Err g) p_final q_final p_why q_why)) ∙ fault_at-number f p_final)
 
-  -- two frames that stand at the front are one
+  -- two frames that are at the front are one
   same_rest : (stream m n rest more : List ℕ) → front_of stream ≡ Whole m rest → front_of stream ≡ Whole n more → more ≡ rest
   same_rest stream m n rest more front other = let fronts : Whole m rest ≡ Whole n more = sym front ∙ other in cc (fronts)
 

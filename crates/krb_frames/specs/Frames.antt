@@ -1,4 +1,4 @@
--- Frames: a message behind its length in four bytes, the highest first (RFC 4120, section 7.2.2).
+-- Frames: a message after its length in four bytes, the highest first (RFC 4120, section 7.2.2).
 use Rattle.std.specs.Prelude.{◌≡◌, ℕ, ◌+◌, List, [], ◌∷◌, ◌++◌, length, take, drop, nat_lt, if◌then◌else◌, refl}
 use Rattle.byteorder.specs.Endian.{big_bytes, big_number}
 use Rattle.krb_frames.specs.declared.fault.ServeFault.{ServeFault}
@@ -16,7 +16,7 @@ frame_room stream = if nat_lt 65536 (announced stream) then 4 else 4 + announced
 abbrev pub framed : List ℕ → List ℕ
 framed reply = big_bytes 4 (length reply) ++ reply
 
--- what stands at the front of a stream: nothing, no frame, or a whole message with the rest behind it
+-- what is at the front of a stream: nothing, no frame, or a whole message with the rest behind it
 pub data Front : Type 0 where
   Ended : Front
   Bad : ServeFault → Front
@@ -32,7 +32,7 @@ front_of stream =
     else Whole (take (announced stream) (drop 4 stream)) (drop (announced stream) (drop 4 stream)))
     else Ended
 
--- two bytes in their frame, and a frame with a byte behind it
+-- two bytes in their frame, and a frame with a byte after it
 framed-example : framed (7 ∷ 8 ∷ []) ≡ 0 ∷ 0 ∷ 0 ∷ 2 ∷ 7 ∷ 8 ∷ []
 framed-example = refl
 

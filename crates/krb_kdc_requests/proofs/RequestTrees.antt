@@ -1,4 +1,4 @@
--- What stands in a request is as short as the request.
+-- What is in a request is as short as the request.
 use Rattle.std.proofs.Common.{◌≡◌, ℕ, Bool, true, false, List, [], ◌∷◌, Option, None, Some, refl, subst, if◌then◌else◌, arith}
 use Rattle.std.specs.List.{find}
 use Rattle.std.specs.Option.{option_map, option_map_or}

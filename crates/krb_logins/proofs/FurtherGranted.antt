@@ -272,7 +272,7 @@ module _ (client : ClientRecord) (means : MeansRecord) (realm : RealmRecord) (ro
       (not_early old (skew_of call) login.realm_tgs begun)
       (by_refuse {T = Unit {0}} {E = ℕ} (is_late (skew_of call) login.realm_tgs (ticket_part old)) 32 (done (Ok tt)) (Ok tt) (not_late old (skew_of call) login.realm_tgs reaches) refl))
 
-  -- the further ticket isn't ended
+  -- the service ticket isn't ended
   not_ended : (span : Span) → IsFurtherSpan realm login first span → is_ended span ≡ false
   not_ended span is =
       further_lasts realm.settings.lifetime login.realm_tgs (seconds_of first.until) login.till span met.honest.lasting.further

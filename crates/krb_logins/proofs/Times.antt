@@ -14,7 +14,7 @@ use Rattle.krb_kdc_requests.specs.declared.span.Span.{Span}
 use Rattle.krb_logins.specs.Honest.{IsWithin}
 use Rattle.krb_logins.proofs.LastSecond.{second_below}
 
--- a moment is told by its second and its microseconds
+-- a moment is distinguished by its second and its microseconds
 told : (moment second micros : ℕ) → second * 1000000 + micros ≡ moment → micros < 1000000 → moment_at second (pos micros) ≡ Some moment
 told moment second micros e below =
     subst (λ (b : Bool). (if b then Some (second * 1000000 + micros) else None) ≡ Some moment) (sym (lt-ltb micros 1000000 below)) (ap Some e)

@@ -35,7 +35,7 @@ first_grant client realm login span = record {
 abbrev pub IsFirstSpan : RealmRecord → LoginRecord → Span → Type 0
 IsFirstSpan realm login span = IsSpan realm.settings.lifetime login.realm_as None (seconds_of login.till) span
 
--- the further ticket, for the service: of the first one the client, the time of the authentication, and that it was by
+-- the service ticket, for the service: of the first one the client, the time of the authentication, and that it was by
 -- preauthentication
 abbrev pub further_grant : ClientRecord → RealmRecord → LoginRecord → Span → Span → GrantRecord
 further_grant client realm login first span = record {

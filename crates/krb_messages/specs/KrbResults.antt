@@ -1,4 +1,4 @@
--- A message, or the error in its place (RFC 4120, section 5.9.1), told by the error's first octet, [APPLICATION 30].
+-- A message, or the error in its place (RFC 4120, section 5.9.1), distinguished by the error's first octet, [APPLICATION 30].
 use Rattle.std.specs.Prelude.{Bool, not, Result, Ok, Err}
 use Rattle.asn1_der.specs.Tree.{Tree}
 use Rattle.asn1_der.specs.Firsts.{Firsts, may_begin}

@@ -1,5 +1,5 @@
 -- What messages are: their trees with the application tags (RFC 4120, section 5.10), and which bytes are one (sections 5.4 to
--- 5.9). What is sealed in messages stands at the end.
+-- 5.9). What is sealed in messages is at the end.
 use Rattle.std.proofs.Common.{sym, ◌∙◌}
 use Rattle.picky_asn1.specs.Bytes.{Bytes}
 use Rattle.asn1_der.specs.Tree.{Tree, Writes, wrapped}

@@ -51,7 +51,7 @@ impl Place {
                 bit: self.bit,
             };
         }
-        // 13 bits before the end of this copy's data, which is a byte behind this place.
+        // 13 bits before the end of this copy's data, which is a byte after this place.
         if self.bit < 5 {
             return Place {
                 len,

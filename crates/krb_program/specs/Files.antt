@@ -14,7 +14,7 @@ use Rattle.krb_program.specs.declared.fault.KdcFault.TheVariants.{File, Memory}
 abbrev pub IsRealmFile : List ℕ → RealmState → Type 0
 IsRealmFile text realm = (written : WrittenRealm) × IsRealmText text written × (realm_of_settings written ≡ Ok realm)
 
--- the bytes have this fault. Want of memory says nothing of them
+-- the bytes have this fault. Running out of memory says nothing of them
 abbrev pub HasFault : List ℕ → KdcFault → Type 0
 HasFault text fault = (fault ≡ Memory)
     ⊎ ((e : SettingsFault) × (fault ≡ File e) × ¬ (e ≡ settings_fault.Memory) × file.HasFault text e)

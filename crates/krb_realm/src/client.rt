@@ -61,7 +61,7 @@ impl Client {
     ) -> Result<Client, AskRefusal>
         ensures made { IsMemoryAside result (client_by_password realm.now (parts name.now) suite password.now) }
 
-        // Want of memory hides no other refusal.
+        // Running out of memory hides no other refusal.
         ensures first { (refusal : AskRefusal) → client_by_password realm.now (parts name.now) suite password.now ≡ Err refusal → result ≡ Err refusal }
     {
         match krb_client::Client::by_password(alloc, realm, name, suite, password) {
@@ -91,7 +91,7 @@ impl Client {
             (IsClientByCertificate realm.now (parts name.now) suite certificate.now anchor)
             (IsNoClient realm.now (parts name.now) suite certificate.now) }
 
-        // Want of memory hides no bad name.
+        // Running out of memory hides no bad name.
         ensures first { (refusal : AskRefusal) → client_of realm.now (parts name.now) suite ≡ Err refusal → result ≡ Err refusal }
     {
         match named_and_certified(alloc, realm, name, suite, certificate) {
@@ -190,7 +190,7 @@ impl Client {
             .tgs_request(alloc, credential, service, till, moment, words)
     }
 
-    /// What the reply to a request for a further ticket grants (RFC 4120, section 3.3.4). The reply is taken if it is encrypted
+    /// What the reply to a request for a service ticket grants (RFC 4120, section 3.3.4). The reply is taken if it is encrypted
     /// under the session key and answers that request. It must have the request's nonce, client and service, and a key of a known
     /// suite.
     ///

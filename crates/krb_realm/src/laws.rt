@@ -85,9 +85,9 @@ pub fn one_login<C: KeyFunctions, R: KeyFunctions>(
     krb_logins::laws::one_login(&means, &settings.pkinit(realm_keys));
 }
 
-/// What the two signatures of a request by certificate are verified over stands in the request's own bytes: the signed attributes of
+/// What the two signatures of a request by certificate are verified over is in the request's own bytes: the signed attributes of
 /// the signed content in the first padata PA-PK-AS-REQ, and the signed part of the certificate in it, however the certificate is
-/// spelled (RFC 4556, section 3.2.1). The padata stand at the request's `0, 2, 0`, and `entry` counts them. It does nothing when it
+/// spelled (RFC 4556, section 3.2.1). The padata are at the request's `0, 2, 0`, and `entry` counts them. It does nothing when it
 /// runs: its contract is the law.
 pub fn verified_is_part()
     ensures attributes { (bytes padata : Bytes) (asked : KdcReq) (request : PaPkAsReq) (content : SignedParts) → IsAsReq bytes asked → first_of 16 (padata_in asked) ≡ Some padata

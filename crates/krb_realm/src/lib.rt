@@ -2,7 +2,7 @@
 //!
 //! A [`Realm`] has a name, settings and accounts. [`Realm::answer`] gives the reply to a message at a moment, and
 //! [`serve`] answers the frames of a stream. A [`Client`] asks and takes replies, and a [`Service`] admits each of its
-//! requests once. What the parts are stands in crates of their own, which this one hands on under one name.
+//! requests once. What the parts are is in crates of their own, which this one hands on under one name.
 //!
 //! A realm grants by password, and by certificate where its settings have an anchor and an own certificate (RFC 4556). Its
 //! signatures and key agreements are the caller's [`KeyFunctions`]. A realm that grants by password alone takes [`NoKeys`].

@@ -91,7 +91,7 @@ impl Realm {
             (λ realm. (making name.now suite key.now ≡ Ok tt) × (realm ≡ made name.now suite key.now settings))
             (λ refusal. (refusal ≡ RealmRefusal.Memory) ⊎ (making name.now suite key.now ≡ Err refusal)) }
 
-        // Want of memory hides no other refusal.
+        // Running out of memory hides no other refusal.
         ensures first { (refusal : RealmRefusal) → making name.now suite key.now ≡ Err refusal → result ≡ Err refusal }
     {
         if !is_realm_name(name) {
@@ -153,7 +153,7 @@ impl Realm {
     ) -> Result<(), RealmRefusal>
         ensures refusal { IsMemoryAside result (adding self.old.accounts (parts name.now) suite key.now) }
 
-        // Want of memory hides no other refusal.
+        // Running out of memory hides no other refusal.
         ensures first { (refusal : RealmRefusal) → adding self.old.accounts (parts name.now) suite key.now ≡ Err refusal → result ≡ Err refusal }
         ensures ok { OnOk result (self.new ≡ record self.old { accounts = finite.insert self.old.accounts (parts name.now) (first_key suite key.now) }) }
         ensures err { OnErr result (self.new ≡ self.old) }
@@ -180,7 +180,7 @@ impl Realm {
     ) -> Result<(), RealmRefusal>
         ensures refusal { IsMemoryAside result (adding_by_password self.old.accounts (parts name.now)) }
 
-        // Want of memory hides no other refusal.
+        // Running out of memory hides no other refusal.
         ensures first { (refusal : RealmRefusal) → adding_by_password self.old.accounts (parts name.now) ≡ Err refusal → result ≡ Err refusal }
         ensures ok { OnOk result (self.new ≡ record self.old {
           accounts = finite.insert self.old.accounts (parts name.now)

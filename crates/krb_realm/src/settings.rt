@@ -53,7 +53,7 @@ impl Settings {
             (λ refusal. (refusal ≡ RealmRefusal.Memory)
             ⊎ ((refusal ≡ RealmRefusal.BadSetting) × ¬ (AreSettings skew lifetime × IsOwnCertificate (option_copied certificate.entry)))) }
 
-        // Want of memory hides no number that is out of its range.
+        // Running out of memory hides no number that is out of its range.
         ensures first { ¬ AreSettings skew lifetime → result ≡ Err RealmRefusal.BadSetting }
         ensures memory { result ≡ Err RealmRefusal.Memory → IsSome (option_copied certificate.entry) }
     {

@@ -22,7 +22,7 @@ use picky_asn1_der::{
 use std::alloc::{AllocError, Global};
 use std::marker::Model;
 
-// An error with no optional field but its data (RFC 4120, section 5.9.1), of a realm and a service that are lent. A contract
+// An error with no optional field but its data (RFC 4120, section 5.9.1), of a realm and a service that are borrowed. A contract
 // sees the whole message.
 #[derive(Drop)]
 struct LentError<'a> {

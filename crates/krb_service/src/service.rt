@@ -61,7 +61,7 @@ impl Service {
             (λ refusal. (refusal ≡ RealmRefusal.Memory)
             ⊎ (making realm.now (parts name.now) suite key.now kvno skew ≡ Err refusal)) }
 
-        // Want of memory hides no other refusal.
+        // Running out of memory hides no other refusal.
         ensures first { (refusal : RealmRefusal) → making realm.now (parts name.now) suite key.now kvno skew ≡ Err refusal → result ≡ Err refusal }
     {
         if !is_realm_name(realm) || !are_components(name) {

@@ -1,4 +1,4 @@
--- The keys of a table, beside the document that it stands for.
+-- The keys of a table, beside the document that it represents.
 use Rattle.std.proofs.Common.{◌≡◌, List, [], ◌∷◌, ◌&&◌, String, Global, string_bytes, refl, ap}
 use Rattle.std.specs.List.{list_all}
 use Rattle.std.specs.Map.{keys_of}

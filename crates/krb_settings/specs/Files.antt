@@ -23,7 +23,7 @@ IsUnread text TooLong = 1048576 < length text
 IsUnread text (NotToml _) = (length text ≤ 1048576) × ((document : Members) → ¬ IsDocument text document)
 IsUnread text _ = ⊥
 
--- the bytes have this fault. Want of memory says nothing of them
+-- the bytes have this fault. Running out of memory says nothing of them
 abbrev pub HasFault : List ℕ → SettingsFault → Type 0
 HasFault text fault =
     (fault ≡ Memory) ⊎ IsUnread text fault ⊎ ((document : Members) × IsDocument text document × (realm_in_table document ≡ Err fault))

@@ -14,7 +14,7 @@ pub(crate) struct KeyLine {
     pub(crate) line: usize,
 }
 
-/// The keys of a text of TOML with their lines, in the text's order. A header stands for the key that it names. The keys of an
+/// The keys of a text of TOML with their lines, in the text's order. A header represents the key that it names. The keys of an
 /// inline table aren't among them.
 pub(crate) fn key_lines(alloc: Global, text: &str) -> Result<Vec<KeyLine>, AllocError> {
     let mut keys = Vec::new(alloc);

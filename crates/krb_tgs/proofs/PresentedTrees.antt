@@ -1,4 +1,4 @@
--- What stands in the AP request of a TGS request, and in what is sealed there, is as short as that.
+-- What is in the AP request of a TGS request, and in what is sealed there, is as short as that.
 use Rattle.std.proofs.Common.{◌≡◌, ℕ, List, Some, subst}
 use Rattle.std.specs.Option.{option_map}
 use Rattle.asn1_der.specs.Tagged.{tagged_tree}

@@ -126,7 +126,7 @@ abbrev pub reply_key : CipherSuite → Bytes → Option EncryptionKey → Option
 reply_key suite key None = Some (tgs_reply_key suite key)
 reply_key suite key (Some subkey) = under_subkey subkey
 
--- a further ticket: of the old one its client, the time of the first authentication and whether that was by
+-- a service ticket: of the old one its client, the time of the first authentication and whether that was by
 -- preauthentication (flag 10; RFC 4120, section 5.3)
 abbrev pub further_ticket : CallRecord → EncTicketPartInner → PrincipalName → CipherSuite → KdcReqBody → Span → GrantRecord
 further_ticket call part service suite body span = record {

@@ -6,7 +6,7 @@ ghost use Rattle.krb_messages.specs.declared.messages.kdc_req.KdcReq.{KdcReq};
 ghost use Rattle.picky_asn1.specs.Bytes.{Bytes};
 ghost use Rattle.picky_asn1_der.specs.Parts.{IsPart};
 
-/// What a request's checksum is computed over, the one encoding of its body, stands in the request's own bytes, and its place
+/// What a request's checksum is computed over, the one encoding of its body, is in the request's own bytes, and its place
 /// leads to nothing else: inside the application tag, where preauthentication data is there, the SEQUENCE's element number 3,
 /// counted from 0, and what its tag holds (RFC 4120, section 5.4.1). It does nothing when it runs: its contract is the law.
 pub fn body_is_part()

@@ -34,7 +34,7 @@ reply_key_of this = record {
 abbrev pub as_reply_key : AccountRecord → ReplyKeyRecord
 as_reply_key client = record { exchange = As; suite = client.suite; key = client.key; kvno = Some client.kvno; usage = 3; pk_as_rep = None }
 
--- in a TGS exchange the old ticket's session key
+-- in a TGS exchange the presented ticket's session key
 abbrev pub tgs_reply_key : CipherSuite → Bytes → ReplyKeyRecord
 tgs_reply_key suite key = record { exchange = Tgs; suite = suite; key = key; kvno = None; usage = 8; pk_as_rep = None }
 

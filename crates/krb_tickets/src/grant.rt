@@ -27,13 +27,13 @@ pub struct Grant<'a> {
     pub session: OctetStringAsn1,
     /// The realm of client and service.
     pub realm: &'a GeneralStringAsn1,
-    /// The client, as it named itself, or as the old ticket names it.
+    /// The client, as it named itself, or as the presented ticket names it.
     pub client: &'a PrincipalName,
     /// The service, as the client named it.
     pub service: &'a PrincipalName,
     /// The ticket's flags.
     pub flags: TicketFlags,
-    /// The second in which the client authenticated: the start, or that of the old ticket.
+    /// The second in which the client authenticated: the start, or that of the presented ticket.
     pub auth_time: GeneralizedTime,
     /// The second that the ticket starts in.
     pub start: GeneralizedTime,

@@ -70,7 +70,7 @@ impl<'a> ReplyKey<'a> {
         }
     }
 
-    /// The old ticket's session key, by which its client is replied to in a TGS exchange without a subkey.
+    /// The presented ticket's session key, by which its client is replied to in a TGS exchange without a subkey.
     pub fn of_session(key: &'a Key) -> ReplyKey<'a>
         ensures { reply_key_of result ≡ tgs_reply_key key.now.suite key.now.bytes }
     {

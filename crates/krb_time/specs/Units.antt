@@ -1,4 +1,4 @@
--- Spans of time and points in it: these are told apart by name alone.
+-- Spans of time and points in it: these are distinguished by name alone.
 use Rattle.std.specs.Prelude.{ℕ}
 
 abbrev pub Micros : Type 0

@@ -1,4 +1,4 @@
--- The trees of what messages hold (RFC 4120, sections 5.2 to 5.5), each of one value; of what stands under an application tag
+-- The trees of what messages hold (RFC 4120, sections 5.2 to 5.5), each of one value; of what is under an application tag
 -- the tree inside it, which krb_messages's Messages put the tag on.
 use Rattle.asn1_der.specs.Tree.{Tree}
 use Rattle.asn1_der.specs.Tagged.{tagged_tree}

@@ -77,7 +77,7 @@ header-counted view l laws t None last old new count buffer message size few sto
 header-counted view l laws t (Some cause) last old new count buffer message size few stopped laid =
     absurd (omega (arith, laws.full (view t) (take count buffer) message laid, length-take count buffer))
 
--- what was read of some bytes stands there
+-- what was read of some bytes is there
 pub value-found : {T V : Type 0} (view : T → V) (l : Layout V) → LayoutLaws l → (header message : List ℕ) → AreBytes header → AreBytes message → length header ≤ l.width
     → (result : Result T NegoexError) → Answers view (l.read header message) result → IfOk result (λ t. l.IsLaid (view t) header message)
 value-found view l laws header message header_bytes bytes few (Ok t) told = laws.found (view t) header message header_bytes bytes few told
@@ -86,7 +86,7 @@ value-found view l laws header message header_bytes bytes few (Err e) told = tt
 given-same : {V : Type 0} (r : Answer V) (v w : V) → r ≡ Ok v → r ≡ Ok w → v ≡ w
 given-same r v w e f = cc (e, f)
 
--- what was read is what stands there
+-- what was read is what is there
 pub header-given : {T V : Type 0} (view : T → V) (l : Layout V) → LayoutLaws l → (t : T) (left after : Option (List ℕ)) (last : Option ErrorKind) (old new count : ℕ) (buffer message : List ℕ)
     → Consumes left after (take count buffer) → l.read (take count buffer) message ≡ Ok (view t) → l.IsLaid (view t) (take count buffer) message
     → IfSome left (λ bytes. IsGiven view l message bytes after old new last (Ok t))

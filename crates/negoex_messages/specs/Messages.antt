@@ -6,7 +6,7 @@ use Rattle.byte_layouts.specs.Stops.{IsWriteStop}
 use Rattle.negoex_types.specs.Form.{Layout, IsWithin, IsTooLong}
 use Rattle.negoex_types.specs.declared.error.NegoexError.{NegoexError}
 
--- the value stands in the message: its header in front, and its payload where the header says
+-- the value is in the message: its header in front, and its payload where the header says
 abbrev pub IsMessage : {V : Type 0} → Layout V → V → List ℕ → Type 0
 IsMessage l v whole = l.IsLaid v (take l.width whole) whole
 

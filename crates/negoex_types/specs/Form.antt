@@ -17,15 +17,15 @@ abbrev pub then_read : {A B : Type 0} → Answer A → (A → Answer B) → Answ
 then_read (Ok a) next = next a
 then_read (Err e) next = Err e
 
--- how values of a type stand in a message: a header of so many bytes, and a payload where the header says
+-- how values of a type are in a message: a header of so many bytes, and a payload where the header says
 pub record Layout (V : Type 0) : Type 1 where
   -- the size of the header
   pub width : ℕ
-  -- the value stands in this header and this message
+  -- the value is in this header and this message
   pub IsLaid : V → List ℕ → List ℕ → Type 0
   -- its numbers fit their fields
   pub Fits : V → Type 0
-  -- the value that stands there, or the fault that comes first
+  -- the value that is there, or the fault that comes first
   pub read : List ℕ → List ℕ → Answer V
   -- the size of the payload
   pub payload : V → ℕ
@@ -45,7 +45,7 @@ AnswersExactly told result = MatchResult result (λ v. told ≡ Ok v) (λ e. tol
 abbrev pub IsWithin : ℕ → ℕ → Type 0
 IsWithin o n = 0 < n → o + n < 2 ^ 32
 
--- a header and a payload were put behind what stood there
+-- a header and a payload were put behind what was there
 pub record IsPut {V : Type 0} (l : Layout V) (v : V) (o : ℕ) (old new data_old data_new : List ℕ) : Type 0 where
   pub header : new ≡ old ++ l.head v o
   pub payload : data_new ≡ data_old ++ l.body v o

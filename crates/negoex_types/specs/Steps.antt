@@ -13,7 +13,7 @@ pub then-ok : {A B : Type 0} (r : Answer A) (next : A → Answer B) (b : B) → 
 then-ok (Ok a) next b e = (a, refl, e)
 then-ok (Err x) next b e = cc
 
--- a value behind a judging that may refuse
+-- a value after a judging that may refuse
 pub if-ok : {A : Type 0} (wrong : Bool) (x : ErrorKind) (r : Answer A) (a : A) → (if wrong then Err x else r) ≡ Ok a → (wrong ≡ false) × (r ≡ Ok a)
 if-ok true x r a e = cc
 if-ok false x r a e = (refl, e)

@@ -47,7 +47,7 @@ elements-given {V} l laws (x ∷ xs) place whole fit are =
     ap (λ (r : Answer V). then_read r (λ y. then_read (elements_at l (length xs) (place + l.width) whole) (λ ys. Ok (y ∷ ys)))) first
     ∙ ap (λ (r : Answer (List V)). then_read r (λ ys. Ok (x ∷ ys))) more
 
--- elements that stand there begin in the message
+-- elements that are there begin in the message
 elements-begin : {V : Type 0} (l : Layout V) → LayoutLaws l → (xs : List V) (n o : ℕ) (whole : List ℕ) → n ≡ length xs
     → AreElements l o xs whole → (nat_lt 0 n && nat_lt (length whole) o) ≡ false
 elements-begin l laws [] n o whole e are = ap (λ (k : ℕ). nat_lt 0 k && nat_lt (length whole) o) e

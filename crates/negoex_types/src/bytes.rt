@@ -25,7 +25,7 @@ pub fn front_of(bytes: &[u8], size: usize) -> &[u8]
     &bytes[..size]
 }
 
-// The bytes behind the first.
+// The bytes after the first.
 pub(crate) fn rest_of(bytes: &[u8], size: usize) -> &[u8]
     ensures { result.now ≡ drop size bytes.now }
 {
@@ -35,7 +35,7 @@ pub(crate) fn rest_of(bytes: &[u8], size: usize) -> &[u8]
     &bytes[size..]
 }
 
-/// Puts bytes behind others; `OutOfMemory` where there is no room for them.
+/// Puts bytes that follow others; `OutOfMemory` where there is no room for them.
 pub fn extend(to: &mut Vec<u8>, bytes: &[u8]) -> Result<(), NegoexError>
     ensures { MatchResult result (λ _. to.new.items ≡ to.old.items ++ bytes.now) (λ e. e.kind ≡ ErrorKind.OutOfMemory) }
 {

@@ -42,7 +42,7 @@ kind-numbered : (n : ℕ) (k : PacBufferType) → kind_judged n ≡ Ok k → kin
 kind-numbered n k is =
     (Decides-eqb (kind_number k) n).0 (find-passes (λ (x : PacBufferType). nat_eq (kind_number x) n) kinds k (told-some (kind_of n) _ k is))
 
--- the parts of the buffer whose row stands at this place
+-- the parts of the buffer whose row is at this place
 pub record IsBufferAt (place : ℕ) (b : Buffer) (whole : List ℕ) : Type 0 where
   pub kind : Stands (part place (le32 (kind_number b.info.ul_type))) whole
   pub size : Stands (part (place + 4) (le32 b.info.cb_buffer_size)) whole

@@ -104,7 +104,7 @@ read-info (Some bytes) (Some rest) None count m buffer read same size full short
     let both : info_at None 0 (take 16 bytes) ≡ Ok read = ap (info_at None 0) front_is ∙ here in
     cc (told, both)
 
--- the row that was read stands in what was taken
+-- the row that was read is in what was taken
 pub found-info : (left after : Option (List ℕ)) (count m : ℕ) (buffer : List ℕ) (info : PacInfoBuffer) → m ≡ count → length buffer ≡ 16
     → Consumes left after (take count buffer) → 16 ≤ length (take m buffer) → IsLaidOut (info_parts 0 info) (take m buffer)
     → (whole : List ℕ) × IsInfo info whole × Consumes left after whole

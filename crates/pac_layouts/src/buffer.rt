@@ -78,7 +78,7 @@ impl PacBuffer {
         &self.data
     }
 
-    /// Reads the buffer whose row stands at `place`, which moves past the row. Where it is refused, `place` stays.
+    /// Reads the buffer whose row is at `place`, which moves past the row. Where it is refused, `place` stays.
     pub fn deserialize(
         alloc: Global,
         bytes: &[u8],
@@ -113,7 +113,7 @@ impl PacBuffer {
         Ok(())
     }
 
-    // The buffer whose row stands at `place`.
+    // The buffer whose row is at `place`.
     pub(crate) fn read(
         alloc: Global,
         bytes: &[u8],

@@ -24,7 +24,7 @@ pub enum PacError {
     #[error("unable to read or write bytes: {0}")]
     IoError(ErrorKind),
 
-    /// The version that stands in place of 0.
+    /// The version that is in place of 0.
     #[error("invalid version: expected 0, but got {0}")]
     InvalidVersion(u32),
 

@@ -24,7 +24,7 @@ pub struct PacInfoBuffer {
     offset: u64,
 }
 
-// What the buffer whose row stands at `place` holds.
+// What the buffer whose row is at `place` holds.
 fn read_kind(bytes: &[u8], place: usize, stop: Option<ErrorKind>) -> Result<PacBufferType, PacError>
     ensures { result ≡ kind_at stop place bytes.now }
 {
@@ -54,7 +54,7 @@ fn read_fields(
 }
 
 impl PacInfoBuffer {
-    /// The row of a buffer of this type, with so many bytes, that begins so many bytes behind the PAC's first.
+    /// The row of a buffer of this type, with so many bytes, that begins so many bytes after the PAC's first.
     pub fn new(ul_type: PacBufferType, cb_buffer_size: u32, offset: u64) -> PacInfoBuffer
         ensures { result ≡ record { ul_type = ul_type; cb_buffer_size = cb_buffer_size; offset = offset } }
     {

@@ -19,7 +19,7 @@ octet_at [] h k = omega arith
 octet_at (x ∷ xs) h zero = h.0
 octet_at (x ∷ xs) h (suc k) = octet_at xs h.1 k
 
--- digits that don't begin with zero stand for no zero
+-- digits that don't begin with zero represent no zero
 front_positive : (ds : List ℕ) → 0 < get_or ds 0 0 → (k : ℕ) → k < length ds → 0 < number_from_digits 256 (take (k + 1) ds)
 front_positive ds first zero h = omega (arith, number_more 256 ds 0 h)
 front_positive ds first (suc k) h =
@@ -130,7 +130,7 @@ below_base : (octets : List ℕ) → ((k : ℕ) → Fits w8 (get_or octets k 0))
 below_base [] h = tt
 below_base (x ∷ xs) h = ((h 0).fits, below_base xs (λ k. h (suc k)))
 
--- so octets that are the fewest for their number stand for it
+-- so octets that are the fewest for their number represent it
 pub content-from_octets : (octets : List ℕ) → ((k : ℕ) → Fits w8 (get_or octets k 0)) → is_integer octets ≡ true → integer_content (integer_value octets) ≡ octets
 content-from_octets octets h minimal = integer_content-integer_value octets (below_base octets h) minimal
 
@@ -200,7 +200,7 @@ is_content octets e =
       minimal = is_integer-integer_content (integer_value octets);
     })
 
--- digits in front of others stand for that many powers
+-- digits in front of others represent that many powers
 number-lower : (n : ℕ) (ds : List ℕ) → n * 256 ^ length ds ≤ number_from_digits_after 256 n ds
 number-lower n [] = omega arith
 number-lower n (d ∷ ds) = rw pow-suc (omega (arith, number-lower (n * 256 + d) ds))

@@ -1,4 +1,4 @@
--- Octets that stand in place or in memory of their own.
+-- Octets that are in place or in memory of their own.
 use Rattle.std.specs.Prelude.{ℕ, ◌≤◌, List, take, ⊤}
 use Rattle.picky_asn1.specs.declared.few_octets.Octets.{Octets}
 use Rattle.picky_asn1.specs.declared.few_octets.Octets.TheVariants.{InPlace, Owned}

@@ -39,7 +39,7 @@ pub octets-natural_octets : (n : ℕ) → AllBelowBase 256 (natural_octets n)
 unfolding natural_octets
 octets-natural_octets n = octets-with_sign (digits_of 256 n) (all_below_base_digits_of 256 n (omega arith))
 
--- which stand for it
+-- which represent it
 number-natural_octets : (n : ℕ) → number_from_digits 256 (natural_octets n) ≡ n
 unfolding natural_octets
 number-natural_octets n = number-with_sign (digits_of 256 n) ∙ number_digits_of 256 n (omega arith)
@@ -62,7 +62,7 @@ unfolding integer_value
 integer_value-high octets high =
     sym (cond_above (get_or octets 0 0) 128 (pos (number_from_digits 256 octets)) (negsuc (number_from_digits 256 (map complement octets))) (negsuc (number_from_digits 256 (map complement octets))) high refl)
 
--- the content of a natural number stands for it
+-- the content of a natural number represents it
 integer_value-natural_octets : (n : ℕ) → integer_value (natural_octets n) ≡ pos n
 unfolding natural_octets
 integer_value-natural_octets n =
@@ -80,7 +80,7 @@ integer_value-complement n =
     ∙ ap (λ octets. negsuc (number_from_digits 256 octets)) same
     ∙ ap negsuc (number-natural_octets n)
 
--- each content stands for its number
+-- each content represents its number
 pub integer_value-integer_content : (z : ℤ) → integer_value (integer_content z) ≡ z
 unfolding integer_content
 integer_value-integer_content (pos n) = integer_value-natural_octets n

@@ -174,7 +174,7 @@ impl Eq for IntegerAsn1 {
     ghost laws = { Prim.search (comparing, rules) };
 }
 
-// The octets behind one that says that the number isn't negative.
+// The octets after one that says that the number isn't negative.
 fn behind_zero(alloc: Global, octets: &[u8]) -> Result<Vec<u8>, AllocError>
     ensures { IfOk result (λ signed. signed.items ≡ 0 ∷ octets.now) }
 {
@@ -216,7 +216,7 @@ fn is_negative(octets: &[u8]) -> bool
     }
 }
 
-// The fewest of the octets that stand for the same number.
+// The fewest of the octets that represent the same number.
 fn shortest(octets: &[u8]) -> &[u8]
     requires { 0 < length octets.now }
     ensures minimal { IsInteger result.now }

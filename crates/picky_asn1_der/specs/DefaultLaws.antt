@@ -1,4 +1,4 @@
--- Values of a type with one default are told by what is written of them.
+-- Values of a type with one default are distinguished by what is written of them.
 use Rattle.std.proofs.Common.{◌≡◌, Bool, true, false, refl, ap}
 use Rattle.asn1_der.specs.Seen.{Seen, as_is, by, Alike, seen_option, seen_part}
 use Rattle.picky_asn1_der.specs.Defaults.{unless, told_value}

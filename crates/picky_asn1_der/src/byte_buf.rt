@@ -24,7 +24,7 @@ impl Model for ByteBuf {
 }
 
 impl ByteBuf {
-    /// The octets, lent.
+    /// The octets, borrowed.
     pub fn as_bytes(&self) -> &[u8]
         ensures { result.now ≡ self.now }
     {

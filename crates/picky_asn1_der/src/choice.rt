@@ -1,6 +1,6 @@
 //! The alternatives of a CHOICE, as a type: `Choice<A, Last<B>>` is an A or a B.
 //!
-//! The alternatives are told by their first octets; `sound` computes whether they are.
+//! The alternatives are distinguished by their first octets; `sound` computes whether they are.
 ghost use Rattle.std.specs.Prelude.{◌≡◌, Bool, true, ◌&&◌, MatchResult, IsTrue};
 ghost use Rattle.asn1_der.specs.Tree.{Tree, der, IsWhole};
 ghost use Rattle.asn1_der.specs.Firsts.{Firsts, may_begin, either, apart, BeginsAmong};

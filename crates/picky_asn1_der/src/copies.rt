@@ -9,7 +9,7 @@ use std::alloc::AllocError;
 
 /// The fields of a record: `()`, or the first and those behind it.
 ///
-/// It says nothing of what is done with them, and stands in an `is_clone` alone.
+/// It says nothing of what is done with them, and is in an `is_clone` alone.
 pub trait RecordFields {
     ghost are_copies: { Self → Self → Type 0 };
 }
@@ -22,7 +22,7 @@ impl<A: Clone, B: RecordFields> RecordFields for (A, B) {
     ghost are_copies = { λ fields copies. A.is_clone fields.0 copies.0 × B.are_copies fields.1 copies.1 };
 }
 
-/// The fields of a record, lent, of which `Fields` are copies.
+/// The fields of a record, borrowed, of which `Fields` are copies.
 ///
 /// They are a parameter, since an associated type's bound would be spelled anew for each field and those behind it.
 pub trait LentFields<Fields> {

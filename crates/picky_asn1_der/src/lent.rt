@@ -1,4 +1,4 @@
-//! Values that are lent to be written: what writes a value's fields needn't own them.
+//! Values that are borrowed to be written: what writes a value's fields needn't own them.
 
 ghost use Rattle.std.specs.Prelude.{◌≡◌, MatchResult};
 
@@ -6,7 +6,7 @@ use crate::{Asn1DerError, Serialize, Serializer};
 use byte_streams::Sink;
 use std::marker::Model;
 
-/// A value that is lent to be written. A contract sees the value itself.
+/// A value that is borrowed to be written. A contract sees the value itself.
 #[derive(Drop)]
 pub struct Lent<'a, T>(&'a T);
 

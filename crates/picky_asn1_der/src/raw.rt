@@ -27,7 +27,7 @@ impl Model for RawElement {
 }
 
 impl RawElement {
-    /// The element, or none where the tag's number doesn't stand in the identifier octet.
+    /// The element, or none where the tag's number isn't in the identifier octet.
     pub fn new(first: u8, content: Vec<u8>) -> Option<RawElement>
         ensures { MatchOption result
             (IsTrue (has_low_number first) → ⊥)

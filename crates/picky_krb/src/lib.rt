@@ -1,11 +1,11 @@
-//! The front of the Kerberos crates: what stands in the crates below, under the paths of the ported `picky-krb`.
+//! The front of the Kerberos crates: what is in the crates below, under the paths of the ported `picky-krb`.
 //!
 //! Nothing is made here. A program that wants one crate and these paths stands on it; what is built inside this
 //! repository stands on the crates below, each on what it needs.
 //!
 //! Two calls are named `from_bytes`, and one writes:
 //!
-//! | Call | Reads or writes | Octets behind the value |
+//! | Call | Reads or writes | Octets after the value |
 //! |---|---|---|
 //! | `picky_krb::from_bytes` | the message that is the whole input | are refused |
 //! | `picky_asn1_der::from_bytes` | the value whose encoding begins the input | stay unread |

@@ -36,7 +36,7 @@ use Rattle.pkinit_clients.specs.Verified.{IsVerifiedPart, signed_place}
 tagged : (first : ℕ) (tree : Tree) → has_low_number first ≡ true → IsWhole (wrapped first tree) → IsElement (der (wrapped first tree))
 tagged first tree low whole = (first, der tree, low, der-wrapped first tree (wrapped-whole first tree whole))
 
--- and holds a SEQUENCE that stands in it
+-- and holds a SEQUENCE that is in it
 in_tag : (first : ℕ) (own : Trees) → has_low_number first ≡ true → IsWhole (wrapped first (constructed 48 own))
     → LeadsTo (der (wrapped first (constructed 48 own))) (0 ∷ []) (der (constructed 48 own))
 in_tag first own low whole =

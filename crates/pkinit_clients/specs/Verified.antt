@@ -10,7 +10,7 @@ use Rattle.pkinit_trust.specs.Certificates.{IsCertificate, ReadRecord}
 abbrev pub signed_place : ℕ → List ℕ
 signed_place entry = 0 ∷ 2 ∷ 0 ∷ entry ∷ 1 ∷ 0 ∷ 0 ∷ 0 ∷ 0 ∷ 0 ∷ []
 
--- the signed data stand in the reply's own bytes; and in them its certificate, what the certificate's issuer signed, and the signed
+-- the signed data are in the reply's own bytes; and in them its certificate, what the certificate's issuer signed, and the signed
 -- attributes
 pub record IsVerifiedPart (bytes signed : Bytes) (content : SignedParts) : Type 0 where
   pub entry : ℕ

@@ -10,7 +10,7 @@ ghost use Rattle.pkinit_clients.specs.Means.{pk_as_rep_in};
 ghost use Rattle.pkinit_clients.specs.Replies.{IsPaPkAsRep, signed_in};
 ghost use Rattle.pkinit_clients.specs.Verified.{IsVerifiedPart};
 
-/// What a client verifies of a reply by certificate stands in the reply's own bytes: the signed data in the first padata
+/// What a client verifies of a reply by certificate is in the reply's own bytes: the signed data in the first padata
 /// PA-PK-AS-REP, its certificate, what the certificate's issuer signed, and the signed attributes (RFC 4556, section 3.2.3.1). The
 /// certificate may have any spelling. It does nothing when it runs: its contract is the law.
 pub fn reply_verified_is_part()

@@ -1,5 +1,5 @@
 //! PKINIT as an AS exchange sees it (RFC 4556): what a request by certificate is judged by, and what client and realm agree on.
-//! How certificates, signatures and public values are judged stands in crates above the exchange's own.
+//! How certificates, signatures and public values are judged is in crates above the exchange's own.
 #![tactic(auto)]
 
 mod call;

@@ -3,7 +3,7 @@ use crate::dh_req_info::DhReqInfo;
 use picky_asn1_der::Asn1RawDer;
 use x509_keys::SubjectPublicKeyInfo;
 
-/// A type of which a value takes fewer than 2^63 bytes, as it must to stand in an [`AuthPack`](crate::auth_pack::AuthPack): of a type
+/// A type of which a value takes fewer than 2^63 bytes, as it must to be in an [`AuthPack`](crate::auth_pack::AuthPack): of a type
 /// parameter nothing else says so.
 pub trait ClientPublicValue {
     ghost use Rattle.std.specs.Mem.{FitsInMemory};

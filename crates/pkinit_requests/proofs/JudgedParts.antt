@@ -17,7 +17,7 @@ use Rattle.pkinit_messages.specs.contracts.external_principal_identifier.Externa
 use Rattle.pkinit_trust.specs.Certificates.{IsCertificate, ReadRecord}
 use Rattle.pkinit_requests.specs.AuthPacks.{IsPaPkAsReq}
 
--- a SEQUENCE of an OCTET STRING under [0], and two optional fields behind it
+-- a SEQUENCE of an OCTET STRING under [0], and two optional fields after it
 module _ (octets : List ℕ) {A B : Type 0} (t : A → Tree) (u : B → List ℕ) where
   abbrev last : Option B → Trees
   last p = put (λ v. primitive 130 (u v)) p none

@@ -9,7 +9,7 @@ ghost use Rattle.pkinit_messages.specs.declared.pa_pk_as_req.PaPkAsReq.{PaPkAsRe
 ghost use Rattle.pkinit_trust.specs.Certificates.{IsCertificate, ReadRecord};
 ghost use Rattle.pkinit_requests.specs.AuthPacks.{IsPaPkAsReq};
 
-/// What the two signatures of a request cover stands in the padata's own bytes: the signed attributes of its signed content, and
+/// What the two signatures of a request cover is in the padata's own bytes: the signed attributes of its signed content, and
 /// the signed part of the certificate in it, however the certificate is spelled. Inside the SEQUENCE the first element holds the
 /// signed content, as the content of an OCTET STRING. It does nothing when it runs: its contract is the law.
 pub fn judged_is_part()

@@ -177,7 +177,7 @@ fn made_by(alloc: Global, words: &[&str]) -> anyhow::Result<String> {
     }
 }
 
-/// The components of a name in hexadecimal, which stand between commas. `none` stands for no component.
+/// The components of a name in hexadecimal, which stand between commas. `none` represents no component.
 fn digits_name(alloc: Global, column: &str) -> anyhow::Result<Vec<Vec<u8>>> {
     let mut name = Vec::new(alloc);
     if column == "none" {

@@ -1,4 +1,4 @@
-//! What the columns of the rows by certificate stand for.
+//! What the columns of the rows by certificate represent.
 
 use anyhow::{Context, bail};
 use krb_realm::{CipherSuite, GeneralizedTime, Moment};
@@ -24,7 +24,7 @@ pub(crate) fn bytes_of(alloc: Global, column: &str) -> anyhow::Result<Vec<u8>> {
     Ok(hex::decode(alloc, column)?)
 }
 
-/// The components of a name, which stand between slashes. `none` stands for no component.
+/// The components of a name, which stand between slashes. `none` represents no component.
 pub(crate) fn components_of(alloc: Global, column: &str) -> anyhow::Result<Vec<Vec<u8>>> {
     let mut name = Vec::new(alloc);
     if column == "none" {

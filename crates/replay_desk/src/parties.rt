@@ -62,7 +62,7 @@ fn push_known<'a>(
     Ok(())
 }
 
-/// The party with these certificates. `-` stands for none.
+/// The party with these certificates. `-` represents none.
 pub(crate) fn party_of(alloc: Global, anchor: &str, certificate: &str) -> anyhow::Result<Party> {
     let holders = both(anchor_of(alloc, anchor), anchor_of(alloc, certificate));
     let ((anchor, holder), own) = both(holders, own_key(alloc, certificate))?;
@@ -73,7 +73,7 @@ pub(crate) fn party_of(alloc: Global, anchor: &str, certificate: &str) -> anyhow
     })
 }
 
-/// The holder of a certificate. `-` stands for none.
+/// The holder of a certificate. `-` represents none.
 pub(crate) fn anchor_of(alloc: Global, certificate: &str) -> anyhow::Result<Option<Anchor>> {
     let certificate = bytes_of(alloc, certificate)?;
     if certificate.is_empty() {

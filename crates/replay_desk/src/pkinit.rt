@@ -113,7 +113,7 @@ fn reply_at<K: KeyFunctions>(
     text_of(alloc, realm.answer(alloc, request, moment, &words(), keys))
 }
 
-/// The realms of a file. A line has a realm's name, the certificate of its anchor, and its own certificate. `-` stands for none.
+/// The realms of a file. A line has a realm's name, the certificate of its anchor, and its own certificate. `-` represents none.
 pub(crate) fn realms_of(rt: &HostRuntime, file: &str) -> anyhow::Result<PkinitRealms> {
     let text = fs::read_to_string(rt, file)?;
     let mut realms = Vec::new(rt.alloc());

@@ -59,7 +59,7 @@ fn run_of(alloc: Global, row: &str) -> anyhow::Result<Run<'_>> {
     })
 }
 
-/// A column's text: `-` stands for none.
+/// A column's text: `-` represents none.
 fn text_of(column: &str) -> &str {
     if column == "-" { "" } else { column }
 }

@@ -60,7 +60,7 @@ fn ask_further(stage: &mut Stage, alloc: Global, service: &[Vec<u8>]) -> anyhow:
     }
 }
 
-/// With or without a wish for a reply, and a subkey, each told by 1 or 0.
+/// With or without a wish for a reply, and a subkey, each distinguished by 1 or 0.
 pub(crate) fn ap_request(
     stage: &mut Stage,
     alloc: Global,

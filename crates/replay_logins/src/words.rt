@@ -1,4 +1,4 @@
-//! What words of a line stand for.
+//! What words of a line represent.
 
 use anyhow::Context;
 use krb_realm::CipherSuite;

@@ -98,7 +98,7 @@ fn replay_line(
     Ok(())
 }
 
-/// The suite of a line `sequence N skew S`, where `des3` may stand behind, and the skew in seconds.
+/// The suite of a line `sequence N skew S`, where `des3` may be behind, and the skew in seconds.
 fn settings_of(line: &str) -> anyhow::Result<(CipherSuite, u64)> {
     let mut words = line.trim().split(' ');
     let (Some("sequence"), Some(_number), Some("skew"), Some(skew)) = (

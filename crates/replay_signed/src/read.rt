@@ -13,7 +13,7 @@ use test_support::GivenSignature;
 use x509_certificates::Certificate;
 use x509_spelling::{Spelled, deviations, from_bytes, to_vec};
 
-/// Where the signature's algorithm stands in the bytes.
+/// Where the signature's algorithm is in the bytes.
 const ALGORITHM: [usize; 5] = [1, 0, 4, 0, 4];
 
 /// Whether the bytes are refused.

@@ -46,7 +46,7 @@ fn ts_smart_card_creds(alloc: Global, recorded: &Recorded<'_>) -> Answer {
     is_told::<TsSmartCardCreds>(alloc, recorded)
 }
 
-/// A type whose value is told by octets, field by field.
+/// A type whose value is distinguished by octets, field by field.
 trait Held: Deserialize + PartialEq + Drop {
     /// The value with these fields, none where there can't be one.
     fn of_parts(alloc: Global, parts: &[Option<Vec<u8>>]) -> Result<Option<Self>, Asn1DerError>;

@@ -19,7 +19,7 @@ pub fn agrees(alloc: Global, recorded: &Recorded<'_>) -> Option<Answer> {
     }
 }
 
-/// Of a certificate the signed part is lent too.
+/// Of a certificate the signed part is borrowed too.
 fn certificate(alloc: Global, recorded: &Recorded<'_>) -> Answer {
     let lent = Certificate::with_signed_part(alloc, &recorded.bytes);
     if !is_lent(recorded, lent)? {
@@ -45,7 +45,7 @@ fn tbs_certificate(alloc: Global, recorded: &Recorded<'_>) -> Answer {
     is_told::<TbsCertificate>(alloc, recorded)
 }
 
-/// Whether the part that is lent is the one whose place the line gives.
+/// Whether the part that is borrowed is the one whose place the line gives.
 fn is_lent<T: Drop>(recorded: &Recorded<'_>, lent: Result<(T, &[u8]), X509Fault>) -> Answer {
     match lent {
         Ok((_, part)) => Ok(recorded.has_signed(part)),

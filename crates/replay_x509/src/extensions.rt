@@ -1,4 +1,4 @@
-//! Spellings of extensions and attributes, and of what stands in them, by the names of their types. Each type has a function
+//! Spellings of extensions and attributes, and of what is in them, by the names of their types. Each type has a function
 //! of its own, since one match over all of them is dear to prove.
 use crate::line::Recorded;
 use crate::told::{Answer, is_told};

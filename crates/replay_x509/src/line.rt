@@ -16,7 +16,7 @@ pub struct Recorded<'a> {
 /// What is expected of a spelling.
 #[derive(Drop)]
 pub struct Wanted {
-    /// How many deviations stand in it.
+    /// How many deviations are in it.
     pub count: usize,
     /// The strict spelling of its value.
     pub strict: Vec<u8>,

@@ -1,5 +1,5 @@
 //! Reads recorded spellings of X.509 values, certificates and requests, counts their deviations, rewrites and prints them. Compares
-//! all of it, and the part that is lent as signed, with what is expected.
+//! all of it, and the part that is borrowed as signed, with what is expected.
 #![tactic(auto)]
 
 mod algorithms;

@@ -136,7 +136,7 @@ fn inside_a_message(rt: HostRuntime) {
     assert!(rt; is_found(rt.alloc()) == Some(true));
 }
 
-// Header and payload of an extension whose value is to stand at octet 120.
+// Header and payload of an extension whose value is to be at octet 120.
 fn is_apart(alloc: Global) -> Option<bool> {
     let mut header = Vec::new(alloc);
     let mut payload = Vec::new(alloc);

@@ -72,7 +72,7 @@ fn sealed_length(alloc: Global, cipher: &dyn Cipher, key: &[u8]) -> usize {
     }
 }
 
-// 11 bytes behind a confounder of 16 bytes, with a checksum of 16 or 24 bytes.
+// 11 bytes after a confounder of 16 bytes, with a checksum of 16 or 24 bytes.
 #[test]
 fn lengths(rt: HostRuntime) {
     assert!(rt; sealed_length(rt.alloc(), AES128.cipher(), KEY) == 43);

@@ -56,7 +56,7 @@ fn wanted_of(alloc: Global, told: &str) -> anyhow::Result<Wanted> {
     Ok(Wanted::Held(parts_of(alloc, parts)?))
 }
 
-/// Octets separated by spaces; `-` stands for what is missing.
+/// Octets separated by spaces; `-` represents what is missing.
 fn parts_of(alloc: Global, text: &str) -> anyhow::Result<Vec<Option<Vec<u8>>>> {
     let mut parts = Vec::new(alloc);
     for part in text.split(' ') {

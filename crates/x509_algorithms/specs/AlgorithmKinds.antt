@@ -23,7 +23,7 @@ AlgorithmKinds =
     KindOf (Implied ⊤ × ⊤) (KindOf (⊤ × ⊤) (KindOf (DefaultField ⊤ × ⊤) (KindOf ⊤
     (KindOf (EcParameters × ⊤) (KindOf (RsassaPssParams × ⊤) (LastKind (AesParameters × ⊤)))))))
 
--- the identifier decides this kind: each is told by a class of algorithms
+-- the identifier decides this kind: each is distinguished by a class of algorithms
 abbrev pub belongs : List ℕ → AlgorithmKinds → Bool
 belongs =
     case_belongs (λ arcs. is_rsa (oid_content arcs)) (case_belongs (λ arcs. is_hash (oid_content arcs)) (case_belongs (λ arcs. is_signature (oid_content arcs))

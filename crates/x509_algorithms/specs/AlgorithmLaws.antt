@@ -1,4 +1,4 @@
--- An algorithm with its parameters is told by its fields.
+-- An algorithm with its parameters is distinguished by its fields.
 use Rattle.std.proofs.Common.{◌≡◌, ap, sym, ◌∙◌, subst}
 use Rattle.std.proofs.Props.{props}
 use Rattle.std.specs.Prelude.{IsTrue, true}

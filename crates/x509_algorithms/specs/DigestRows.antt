@@ -1,4 +1,4 @@
--- A digest behind its hash as a row of fields.
+-- A digest after its hash as a row of fields.
 use Rattle.std.proofs.Common.{◌≡◌, ℕ, List, sym, ap, ◌∙◌}
 use Rattle.std.proofs.Props.{props}
 use Rattle.std.specs.Prelude.{⊤, IsTrue}

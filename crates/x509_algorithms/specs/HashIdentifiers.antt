@@ -1,4 +1,4 @@
--- The identifier of a hash, with NULL, and a digest behind it.
+-- The identifier of a hash, with NULL, and a digest after it.
 use Rattle.std.proofs.Common.{◌≡◌, ℕ, Bool, true, false, List, refl, ap}
 use Rattle.std.proofs.Props.{props}
 use Rattle.std.specs.Prelude.{◌&&◌, not, ⊤, IsTrue}
@@ -20,7 +20,7 @@ HashRow = ObjectIdentifierAsn1 × LastKind (Implied ⊤ × ⊤)
 abbrev pub hash_row : HashIdentifier → HashRow
 hash_row v = (v.oid, record { 0 = (record { 0 = tt }, tt) })
 
--- a hash is told by its identifier
+-- a hash is distinguished by its identifier
 pub same_hash : (v w : HashIdentifier) → v.oid ≡ w.oid → v ≡ w
 same_hash v w ids =
     λ i. record {

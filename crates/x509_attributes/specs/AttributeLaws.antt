@@ -1,4 +1,4 @@
--- An attribute is told by its fields.
+-- An attribute is distinguished by its fields.
 use Rattle.std.proofs.Common.{◌≡◌, ap, sym, ◌∙◌}
 use Rattle.std.proofs.Props.{props}
 use Rattle.std.specs.Prelude.{IsTrue}

@@ -1,4 +1,4 @@
--- The extensions of a certificate are told by the field that holds them.
+-- The extensions of a certificate are distinguished by the field that holds them.
 use Rattle.std.proofs.Common.{◌≡◌, ℕ, List, ap}
 use Rattle.std.proofs.Props.{props}
 use Rattle.std.specs.Prelude.{⊤, Option, IsTrue}
@@ -29,7 +29,7 @@ pub same_extensions : (v w : CertificateExtensions) → extensions_row v ≡ ext
 same_extensions v w e =
     same_parts v w (ap (λ (f : ExtensionsRow). f.0) e)
 
--- fields that are told by others
+-- fields that are distinguished by others
 pub held_row : {R T : Type 0} (firsts : Firsts) (trees : R → Trees) (spells : R → List ℕ → ℕ → Type 0) → RowLaws firsts trees spells
     → (row_of : T → R) → ((v w : T) → row_of v ≡ row_of w → v ≡ w) → RowLaws firsts (λ v. trees (row_of v)) (λ v. spells (row_of v))
 held_row firsts trees spells laws row_of told = record {

@@ -53,7 +53,7 @@ impl Certificate {
     ghost use Rattle.x509_certificates.specs.ExtensionsHeld.{first_among, key_held, authority_held, constraints_held};
 
     /// The certificate of which the whole input is a spelling, with any count of deviations, and the bytes that its
-    /// signature is over, where they stand in the input. They are what the strict spelling of `tbs_certificate` is
+    /// signature is over, where they are in the input. They are what the strict spelling of `tbs_certificate` is
     /// exactly where nothing deviates in them.
     pub fn with_signed_part(alloc: Global, bytes: &[u8]) -> Result<(Certificate, &[u8]), X509Fault>
         ensures value { ReadsSpelling ⟦<Certificate as Spelled>⟧.spells bytes.now (value_of result) }

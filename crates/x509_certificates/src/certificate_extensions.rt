@@ -15,7 +15,7 @@ use x509_spelling::{Counted, SpelledFields, X509Fault};
 /// extensions      [3]  EXPLICIT Extensions OPTIONAL
 /// ```
 ///
-/// An empty list that stands there is refused.
+/// An empty list that is there is refused.
 #[derive(Debug, Drop, PartialEq, Eq)]
 pub struct CertificateExtensions {
     pub(crate) tagged: ExtensionsField,

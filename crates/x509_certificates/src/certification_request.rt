@@ -51,7 +51,7 @@ type RequestRow = (
 
 impl CertificationRequest {
     /// The request of which the whole input is a spelling, with any count of deviations, and the bytes that its
-    /// signature is over, where they stand in the input. They are what the strict spelling of `certification_request_info` is
+    /// signature is over, where they are in the input. They are what the strict spelling of `certification_request_info` is
     /// exactly where nothing deviates in them.
     pub fn with_signed_part(
         alloc: Global,

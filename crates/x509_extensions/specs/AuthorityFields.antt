@@ -61,7 +61,7 @@ nothing = record {
   repeats = 0;
 }
 
--- a field in front of others: its tag may stand there again, or one that is less
+-- a field in front of others: its tag may be there again, or one that is less
 abbrev pub before : AuthorityField → Gathered → Gathered
 before (KeyIdentifier key) g = record {
   value = record {
@@ -96,7 +96,7 @@ abbrev pub gathered_onto : Gathered → List AuthorityField → Gathered
 gathered_onto g [] = g
 gathered_onto g (field ∷ fields) = before field (gathered_onto g fields)
 
--- out of order counts once, and each field again that stood there
+-- out of order counts once, and each field again that was there
 abbrev pub deviations_of : Gathered → ℕ
 deviations_of g = counted fields_out_of_order g.is_disordered + g.repeats
 

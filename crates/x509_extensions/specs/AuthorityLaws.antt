@@ -1,4 +1,4 @@
--- An authority key identifier is told by its fields, and they are in order where nothing deviates.
+-- An authority key identifier is distinguished by its fields, and they are in order where nothing deviates.
 use Rattle.std.proofs.Common.{◌≡◌, ℕ, ◌+◌, Bool, true, false, List, [], ◌∷◌, ◌++◌, Option, None, Some, refl, sym, ap, ◌∙◌, subst, arith}
 use Rattle.std.specs.Prelude.{◌||◌, ℤ}
 use Rattle.asn1_der.specs.Tree.{Tree, Trees, none, more, put, trees_of, IsWhole, AreWhole}

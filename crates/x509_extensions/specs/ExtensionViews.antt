@@ -1,4 +1,4 @@
--- An extension's value as it is lent, and extensions that were made of one.
+-- An extension's value as it is borrowed, and extensions that were made of one.
 use Rattle.std.specs.Prelude.{◌≡◌, ℕ, false, List}
 use Rattle.x509_extensions.specs.declared.extension.Extension.{Extension}
 use Rattle.x509_extensions.specs.declared.extension_value.ExtensionValue.{ExtensionValue}

@@ -1,4 +1,4 @@
-//! Values of extensions, lent.
+//! Values of extensions, borrowed.
 ghost use Rattle.std.specs.Prelude.{◌≡◌};
 ghost use Rattle.x509_extensions.specs.ExtensionViews.{IsViewOf};
 

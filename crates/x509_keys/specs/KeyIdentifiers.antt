@@ -25,7 +25,7 @@ is_mldsa content =
     || (pointwise nat_eq content (0x60 ∷ 0x86 ∷ 0x48 ∷ 1 ∷ 0x65 ∷ 3 ∷ 4 ∷ 3 ∷ 18 ∷ [])
     || pointwise nat_eq content (0x60 ∷ 0x86 ∷ 0x48 ∷ 1 ∷ 0x65 ∷ 3 ∷ 4 ∷ 3 ∷ 19 ∷ []))
 
--- each is told by its identifier
+-- each is distinguished by its identifier
 
 pub rsa_told : is_rsa (oid_content oids.rsa_encryption) ≡ true
 unfolding oid_content subidentifier

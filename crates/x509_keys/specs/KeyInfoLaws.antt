@@ -1,4 +1,4 @@
--- Keys with their algorithms are told by their fields.
+-- Keys with their algorithms are distinguished by their fields.
 use Rattle.std.proofs.Common.{◌≡◌, ap, sym, ◌∙◌}
 use Rattle.std.specs.Prelude.{IsTrue}
 use mathlib.Core.HLevel.{is_prop→PathP}

@@ -1,4 +1,4 @@
--- An attribute is told by its identifier and the element that its value is written as.
+-- An attribute is distinguished by its identifier and the element that its value is written as.
 use Rattle.std.proofs.Common.{◌≡◌, ℕ, Bool, true, false, List, sym, ap, subst, arith}
 use Rattle.std.proofs.Props.{props}
 use Rattle.std.specs.Prelude.{◌&&◌, ◌||◌, not, IsTrue, ⊤}
@@ -16,7 +16,7 @@ use Rattle.x509_names.specs.declared.attribute_type_and_value.AttributeValue.The
 use Rattle.x509_names.specs.declared.attribute_type_and_value.AttributeTypeAndValue.{AttributeTypeAndValue}
 use Rattle.x509_names.specs.Attributes.{is_value_of, value_raw, directory_raw, is_directory_text, is_string_content, is_email_content}
 
--- the trees of what is told by what it holds
+-- the trees of what is distinguished by what it holds
 pub held_tag_laws : {R T : Type 0} (tree : ℕ → R → Tree) → TagLaws tree → (row_of : T → R) → ((v w : T) → row_of v ≡ row_of w → v ≡ w) → TagLaws (λ octet v. tree octet (row_of v))
 held_tag_laws tree laws row_of told = record {
   begins = λ octet v. laws.begins octet (row_of v);

@@ -11,7 +11,7 @@ use Rattle.x509_names.specs.declared.attribute_parameters.AttributeTypeAndValueP
 use Rattle.x509_names.specs.declared.attribute_parameters.AttributeTypeAndValueParameters.TheVariants as view
 use Rattle.x509_names.specs.NameAttrs.{attribute_content, is_common_content}
 
--- a string that is lent as this attribute's value
+-- a string that is borrowed as this attribute's value
 abbrev pub IsStringView : AttributeTypeAndValueParameters → NameAttr → DirectoryString → Type 0
 IsStringView (view.CommonName lent) name string = (name ≡ attribute.CommonName) × (lent.now ≡ string)
 IsStringView (view.Surname lent) name string = (name ≡ attribute.Surname) × (lent.now ≡ string)

@@ -1,4 +1,4 @@
-//! Values of attributes of names, lent (RFC 5280, section 4.1.2.4).
+//! Values of attributes of names, borrowed (RFC 5280, section 4.1.2.4).
 use picky_asn1::wrapper::IA5StringAsn1;
 use picky_asn1_der::RawElement;
 use x509_parts::DirectoryString;

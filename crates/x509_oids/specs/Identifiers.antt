@@ -1,4 +1,4 @@
--- The object identifiers that X.509 values and their neighbours are told by, each with its dotted text.
+-- The object identifiers that X.509 values and their neighbours are distinguished by, each with its dotted text.
 use Rattle.std.specs.Prelude.{◌≡◌, ℕ, List, [], ◌∷◌, codes, Result, IfOk, refl}
 use Rattle.std.specs.Fmt.{digits}
 use Rattle.asn1_leaves.specs.ObjectIdentifier.{dotted_text}

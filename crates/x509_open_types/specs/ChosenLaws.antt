@@ -1,4 +1,4 @@
--- Fields of which a value in front of them decides the kind are told by their bytes.
+-- Fields of which a value in front of them decides the kind are distinguished by their bytes.
 use Rattle.std.proofs.Common.{◌≡◌, ℕ, Bool, true, List, refl, ap, subst}
 use Rattle.std.proofs.Props.{props}
 use Rattle.std.specs.Prelude.{IsTrue}

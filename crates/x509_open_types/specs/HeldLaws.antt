@@ -1,4 +1,4 @@
--- A value whose spelling another element holds is told by that element.
+-- A value whose spelling another element holds is distinguished by that element.
 use Rattle.std.proofs.Common.{◌≡◌, ℕ, ◌+◌, Bool, true, false, List, refl, sym, ap, ◌∙◌, subst, arith}
 use Rattle.std.specs.Prelude.{◌%◌, ◌==◌, not}
 use Rattle.std.proofs.lemmas.Bool.{eqb-true}
@@ -39,11 +39,11 @@ untrue false never = refl
 not_last : (n : ℕ) → (160 + n % 16) % 32 ≡ 31 → ⊥
 not_last n e = omega (arith, e)
 
--- a context tag below 16 stands in one octet
+-- a context tag below 16 is in one octet
 pub low_tag : (n : ℕ) → has_low_number (160 + n % 16) ≡ true
 low_tag n = untrue ((160 + n % 16) % 32 == 31) (λ e. not_last n (eqb-true ((160 + n % 16) % 32) 31 e))
 
--- values of which the strict spelling tells them are told by what they are written as
+-- values of which the strict spelling tells them are distinguished by what they are written as
 pub laws_injective : {T : Type 0} (is_low : Bool) (firsts : Firsts) (tree : T → Tree) (spells : T → List ℕ → ℕ → Type 0)
     → SpellingLaws is_low firsts tree spells → IsInjective tree
 laws_injective is_low firsts tree spells laws v w whole also e =

@@ -1,4 +1,4 @@
--- Fields of a kind that an object identifier decides are told by their bytes and that identifier.
+-- Fields of a kind that an object identifier decides are distinguished by their bytes and that identifier.
 use Rattle.std.proofs.Common.{◌≡◌, ℕ, ◌+◌, Bool, true, false, List, refl, sym, ap, ◌∙◌, subst, arith}
 use Rattle.std.specs.Prelude.{◌&&◌, not, IsTrue}
 use Rattle.std.proofs.lemmas.Bool.{and_parts}
@@ -106,7 +106,7 @@ module _ {A K : Type 0} (before : Firsts → Firsts) (is_told : Firsts → Bool)
     starts = λ f. joined-starts f.0 f.1;
   }
 
--- a value that is told by its identifier and the fields of the kind that it decides
+-- a value that is distinguished by its identifier and the fields of the kind that it decides
 module _ {K : Type 0} (before : Firsts → Firsts) (is_told : Firsts → Bool) (place : ObjectIdentifierAsn1 → Trees → Trees)
     (leads : ObjectIdentifierAsn1 → List ℕ → List ℕ → ℕ → Type 0) (field : FieldLaws before is_told place leads)
     (belongs : List ℕ → K → Bool) (others : Firsts) (trees : K → Trees) (spells : K → List ℕ → ℕ → Type 0) (laws : KindLaws belongs others trees spells) where

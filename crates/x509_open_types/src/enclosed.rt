@@ -1,4 +1,4 @@
-//! Values whose spelling is the content of an octet string, or stands under a further tag.
+//! Values whose spelling is the content of an octet string, or is under a further tag.
 ghost use Rattle.std.specs.Prelude.{◌≡◌, ◌+◌, ◌%◌, true, MatchResult};
 ghost use Rattle.asn1_der.specs.Tree.{wrapped};
 ghost use Rattle.asn1_der.specs.Firsts.{only};
@@ -16,7 +16,7 @@ use x509_spelling::{Asn1DerError, Counted, Serialize, Serializer, Spelled, X509F
 #[derive(Drop)]
 pub struct Enclosed<T>(pub T);
 
-/// A value whose spelling stands under the explicit context tag `N`, which is below 16.
+/// A value whose spelling is under the explicit context tag `N`, which is below 16.
 #[derive(Clone, Copy, Debug, Drop, PartialEq, Eq)]
 pub struct Explicit<const N: u8, T>(pub T);
 

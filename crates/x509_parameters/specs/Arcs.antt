@@ -13,7 +13,7 @@ abbrev pub when : {T : Type 0} → Bool → Option T → Option T
 when true value = value
 when false value = None
 
--- the one octet behind the prefix, where the content is no more than these
+-- the one octet after the prefix, where the content is no more than these
 abbrev pub octet_behind : List ℕ → List ℕ → Option ℕ
 octet_behind [] content = only_octet content
 octet_behind (first ∷ prefix) [] = None

@@ -33,7 +33,7 @@ pub enum AesMode {
     WrapPad,
 }
 
-/// Parameters of AES, told by their first octet.
+/// Parameters of AES, distinguished by their first octet.
 #[derive(Debug, Drop, PartialEq, Eq)]
 pub enum AesParameters {
     /// None, written as NULL.

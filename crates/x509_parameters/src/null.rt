@@ -9,7 +9,7 @@ use std::alloc::{AllocError, Global};
 use std::marker::{Model, PhantomData};
 use x509_spelling::{Deviates, Exact, Implies};
 
-/// Algorithms of which the NULL is missing or stands there against the rule.
+/// Algorithms of which the NULL is missing or is there against the rule.
 pub trait NullRule {
     ghost use Rattle.x509_spelling.specs.Deviations.{Deviation};
 

@@ -13,7 +13,7 @@ use x509_spelling::{
     CaFlag, Counted, DefaultFalse, Spelled, SpelledFields, X509Fault, read_fields,
 };
 
-/// Whether a certificate is an authority's, and how many others may stand below it on a path.
+/// Whether a certificate is an authority's, and how many others may be below it on a path.
 ///
 /// ```text
 /// BasicConstraints ::= SEQUENCE {
@@ -48,7 +48,7 @@ impl BasicConstraints {
         self.ca.0.0
     }
 
-    /// How many authorities may stand below it.
+    /// How many authorities may be below it.
     pub fn pathlen(&self) -> Option<u8>
         ensures { result ≡ self.now.path_len.0 }
     {

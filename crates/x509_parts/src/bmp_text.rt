@@ -60,7 +60,7 @@ impl<'a> Iterator for BmpCharacters<'a> {
     }
 }
 
-// The first character, and the octets behind it.
+// The first character, and the octets after it.
 fn take_character(octets: &[u8]) -> Option<(char, &[u8])>
     ensures { MatchOption result
         (bmp_characters octets.now ≡ [])
@@ -75,7 +75,7 @@ fn take_character(octets: &[u8]) -> Option<(char, &[u8])>
     Some((lone_character(unit), rest))
 }
 
-// The first unit, of two octets, and the octets behind it.
+// The first unit, of two octets, and the octets after it.
 fn take_unit(octets: &[u8]) -> Option<(u16, &[u8])>
     ensures { MatchOption result
         (utf16_units octets.now ≡ [])

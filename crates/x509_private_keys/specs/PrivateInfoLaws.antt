@@ -1,4 +1,4 @@
--- A private key with its algorithm is told by its fields, of which the version agrees.
+-- A private key with its algorithm is distinguished by its fields, of which the version agrees.
 use Rattle.std.proofs.Common.{◌≡◌}
 use Rattle.std.specs.Prelude.{◌==◌, IsTrue}
 use mathlib.Core.HLevel.{is_prop→PathP}

@@ -1,4 +1,4 @@
--- Private keys with their algorithms are told by their fields.
+-- Private keys with their algorithms are distinguished by their fields.
 use Rattle.std.proofs.Common.{◌≡◌, ℕ, ap, sym, ◌∙◌}
 use Rattle.std.specs.Prelude.{IsTrue}
 use mathlib.Core.HLevel.{is_prop→PathP}

@@ -1,4 +1,4 @@
-//! Values that stand under an explicit tag where they are spelled, and plainly in their struct.
+//! Values that are under an explicit tag where they are spelled, and plainly in their struct.
 ghost use Rattle.std.specs.Prelude.{◌≡◌};
 ghost use Rattle.x509_private_keys.specs.Under.{under};
 

@@ -117,7 +117,7 @@ pub fn parts_of(kinds: PrivateKinds) -> (PrivateKeyValue, PublicKeyField)
     }
 }
 
-/// A public key as the field behind a private one.
+/// A public key as the field after a private one.
 pub fn as_field(public_key: Option<BitStringAsn1>) -> PublicKeyField
     ensures { result ≡ field_of_key public_key }
 {

@@ -25,7 +25,7 @@ module _ {T : Type 0} (is_low : Bool) (firsts : Firsts) (tree : T → Tree) (spe
     backward = λ ws n s. (ws, n, s);
   }
 
-  -- where something is left, an element stands there
+  -- where something is left, an element is there
   pub next : (vs : List T) (rest : List ℕ) (k : ℕ) → (rest ≡ [] → ⊥) → AreMany spells vs rest k
       → (v : T) × (m : ℕ) × (behind : List ℕ) × Leads spells v rest behind m × ((ws : List T) × (n : ℕ) × AreMany spells ws behind n)
   next [] rest k some s = absurd (some s.0)

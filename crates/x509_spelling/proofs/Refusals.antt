@@ -34,7 +34,7 @@ module _ {T : Type 0} (seen : Seen T) (tree : T → Tree) (bytes : List ℕ) whe
   exact_told value (inl memory) = absurd (cc (memory))
   exact_told value (inr reads) = ((reads value).0 refl, refl)
 
--- what is told by a tree is told by the same tree
+-- what is distinguished by a tree is distinguished by the same tree
 pub exact_as : {T : Type 0} (tree other : T → Tree) → tree ≡ other → (bytes : List ℕ) (r : Result (Counted T) X509Fault)
     → Tells (λ v n. IsExact tree v bytes n) r → Tells (λ v n. IsExact other v bytes n) r
 exact_as {T} tree other same bytes r told = subst (λ (t : T → Tree). Tells (λ v n. IsExact t v bytes n) r) same told

@@ -37,7 +37,7 @@ module _ {T : Type 0} (is_low : Bool) (firsts : Firsts) (written : T → Tree) (
     spelled : (bytes : List ℕ) (p : IsSpelling tree bytes) → spells p.0 bytes 0
     spelled bytes p = written-strict is_low firsts written spells laws tree same p.0 bytes p.1.1 p.1.0
 
-    -- a strict spelling is an element, whose tag stands in one octet
+    -- a strict spelling is an element, whose tag is in one octet
     pub strict_raw : IsTrue is_low → (bytes : List ℕ) → IsSpelling tree bytes → IsSpelling raw_tree bytes
     strict_raw low bytes p =
         let s = spelled bytes p in

@@ -18,12 +18,12 @@ pub data Deviation : Type 0 where
   hash_parameters_missing : Deviation
   -- a field of an authority key identifier follows one of greater tag (RFC 5280, section 4.2.1.1)
   fields_out_of_order : Deviation
-  -- a field of an authority key identifier stands there again
+  -- a field of an authority key identifier is there again
   field_repeated : Deviation
   -- a certification request has no attributes, not even an empty set of them (RFC 2986, section 4.1)
   attributes_missing : Deviation
 
--- a place counts one where the deviation stands there
+-- a place counts one where the deviation is there
 abbrev pub counted : Deviation → Bool → ℕ
 counted deviation true = 1
 counted deviation false = 0

@@ -1,4 +1,4 @@
--- A field of a SEQUENCE is told by the bytes that it begins, and they say where it ends.
+-- A field of a SEQUENCE is distinguished by the bytes that it begins, and they say where it ends.
 use Rattle.std.proofs.Common.{◌≡◌, ℕ, ◌+◌, Bool, true, false, List, [], ◌∷◌, ◌++◌, Option, None, Some, refl, sym, ap, ◌∙◌, subst, inl, inr, arith}
 use Rattle.std.specs.Prelude.{IsTrue, ◌&&◌}
 use Rattle.std.proofs.lemmas.Bool.{and_parts}
@@ -180,7 +180,7 @@ module _ {T : Type 0} (is_low : Bool) (firsts : Firsts) (tree : T → Tree) (spe
       starts = implied-starts;
     }
 
--- a field that is told by what it holds
+-- a field that is distinguished by what it holds
 pub held_field : {A B : Type 0} (before : Firsts → Firsts) (is_told : Firsts → Bool) (place : B → Trees → Trees) (leads : B → List ℕ → List ℕ → ℕ → Type 0)
     → FieldLaws before is_told place leads → (held : A → B) → ((v w : A) → held v ≡ held w → v ≡ w)
     → FieldLaws before is_told (λ v. place (held v)) (λ v. leads (held v))

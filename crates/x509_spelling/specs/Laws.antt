@@ -29,7 +29,7 @@ pub record SpellingLaws {T : Type 0} (is_low : Bool) (firsts : Firsts) (tree : T
   pub element_of : (v : T) (b : List ℕ) (n : ℕ) → spells v b n → IsElementOf firsts b
   pub low : IsTrue is_low → (v : T) (b : List ℕ) (n : ℕ) → spells v b n → has_low_tag b ≡ true
 
--- where anything stands there, it begins with one of these
+-- where anything is there, it begins with one of these
 abbrev pub Starts : Firsts → List ℕ → Type 0
 Starts firsts bytes = (octet : ℕ) (rest : List ℕ) → bytes ≡ octet ∷ rest → IsTrue (may_begin firsts octet)
 
@@ -51,7 +51,7 @@ pub record FieldLaws {T : Type 0} (before : Firsts → Firsts) (is_told : Firsts
   pub one : (v w : T) (b x y : List ℕ) (m n : ℕ) → leads v b x m → leads w b y n → (v ≡ w) × (x ≡ y) × (m ≡ n)
   pub starts : (v : T) (b rest : List ℕ) (n : ℕ) (others : Firsts) → leads v b rest n → Starts others rest → Starts (before others) b
 
--- each of these tags stands in one octet
+-- each of these tags is in one octet
 abbrev pub are_low : Firsts → Bool
 are_low any_octet = false
 are_low (one_of octets) = list_all has_low_number octets
@@ -74,7 +74,7 @@ tree_element firsts (primitive first content) whole begins = (first, content, be
 tree_element firsts (constructed first parts) whole begins = (first, ders parts, begins, refl)
 tree_element firsts absent whole begins = absurd whole
 
--- an element's tag stands in one octet, where each of its octets says so
+-- an element's tag is in one octet, where each of its octets says so
 pub low_element : (firsts : Firsts) → are_low firsts ≡ true → (b : List ℕ) → IsElementOf firsts b → has_low_tag b ≡ true
 low_element firsts low b e =
     subst (λ (l : List ℕ). has_low_tag l ≡ true) (sym (e.3 ∙ element-split e.0 e.1)) (low_of firsts e.0 low e.2)
@@ -90,7 +90,7 @@ exact_laws firsts tree begins injective = record {
   low = λ low v b n s. low_element firsts low b (subst (IsElementOf firsts) (sym s.0.1) (tree_element firsts (tree v) s.0.0 (begins v)));
 }
 
--- a value that is told by what it holds
+-- a value that is distinguished by what it holds
 pub held_laws : {R T : Type 0} (is_low : Bool) (firsts : Firsts) (tree : R → Tree) (spells : R → List ℕ → ℕ → Type 0) → SpellingLaws is_low firsts tree spells
     → (row_of : T → R) → ((v w : T) → row_of v ≡ row_of w → v ≡ w) → SpellingLaws is_low firsts (λ v. tree (row_of v)) (λ v. spells (row_of v))
 held_laws is_low firsts tree spells laws row_of told = record {

@@ -1,4 +1,4 @@
--- The fields of a SEQUENCE and the elements of a list are told by their spellings.
+-- The fields of a SEQUENCE and the elements of a list are distinguished by their spellings.
 use Rattle.std.proofs.Common.{◌≡◌, ℕ, ◌+◌, Bool, true, List, [], ◌∷◌, ◌++◌, refl, sym, ap, ◌∙◌, subst, arith}
 use Rattle.std.specs.Prelude.{IsTrue}
 use Rattle.asn1_der.specs.Tree.{Tree, Trees, none, ders, AreWhole, trees_of}
@@ -69,7 +69,7 @@ sequence_laws first low firsts trees spells rows = record {
   low = λ _ v b n s. subst (λ (l : List ℕ). has_low_tag l ≡ true) (sym (s.2 ∙ element-split first s.0)) low;
 }
 
--- a struct that is told by its row, which the element holds
+-- a struct that is distinguished by its row, which the element holds
 pub struct_laws : {R T : Type 0} (first : ℕ) → has_low_number first ≡ true → (firsts : Firsts) (trees : R → Trees) (spells : R → List ℕ → ℕ → Type 0)
     → RowLaws firsts trees spells → (row_of : T → R) → ((v w : T) → row_of v ≡ row_of w → v ≡ w)
     → SpellingLaws true (only first) (λ v. sequence trees first (row_of v)) (λ v. Holds first spells (row_of v))

@@ -1,4 +1,4 @@
--- Which bytes are a spelling of a value, and how many deviations stand in them: a relation of a value, bytes and a count.
+-- Which bytes are a spelling of a value, and how many deviations are in them: a relation of a value, bytes and a count.
 use Rattle.std.specs.Prelude.{◌≡◌, ℕ, ◌+◌, ◌⊎◌, Bool, true, false, List, [], ◌∷◌, ◌++◌, Option, None, Some, IsTrue}
 use Rattle.asn1_der.specs.Tree.{Tree, IsWhole, Writes}
 use Rattle.asn1_der.specs.Length.{element}
@@ -10,7 +10,7 @@ use Rattle.x509_spelling.specs.Deviations.{Deviation, counted}
 abbrev pub IsExact : {T : Type 0} → (T → Tree) → T → List ℕ → ℕ → Type 0
 IsExact tree value bytes n = Writes tree value bytes × (n ≡ 0)
 
--- the tag stands in the first octet alone: its number is below 31 (X.690, section 8.1.2.2)
+-- the tag is in the first octet alone: its number is below 31 (X.690, section 8.1.2.2)
 abbrev pub has_low_tag : List ℕ → Bool
 has_low_tag [] = false
 has_low_tag (octet ∷ octets) = has_low_number octet
@@ -35,7 +35,7 @@ LeadsDefault firsts spells is_default deviation value bytes rest n =
     (IsTrue (is_default value) × (begins firsts bytes ≡ false) × (rest ≡ bytes) × (n ≡ 0))
     ⊎ ((m : ℕ) × Leads spells value bytes rest m × (n ≡ m + counted deviation (is_default value)))
 
--- a field that is always written strictly: where it is missing it has its default, and `deviation` stands there
+-- a field that is always written strictly: where it is missing it has its default, and `deviation` is there
 abbrev pub LeadsImplied : {T : Type 0} → Firsts → (T → Tree) → (T → List ℕ → ℕ → Type 0) → (T → Bool) → Deviation → T → List ℕ → List ℕ → ℕ → Type 0
 LeadsImplied firsts tree spells is_default deviation value bytes rest n =
     (IsTrue (is_default value) × IsWhole (tree value) × (begins firsts bytes ≡ false) × (rest ≡ bytes) × (n ≡ 1))

@@ -6,7 +6,7 @@ use crate::spelled::Spelled;
 use byte_streams::Sink;
 use picky_asn1_der::{Asn1DerError, Serializer, WriteFields};
 
-/// A value that is lent to be written in front of fields. Its tree is the one that its spellings speak of.
+/// A value that is borrowed to be written in front of fields. Its tree is the one that its spellings speak of.
 #[derive(Drop)]
 pub struct Ahead<'a, A, F>(pub &'a A, pub F);
 

@@ -19,7 +19,7 @@ pub fn from_bytes<T: Spelled>(alloc: Global, bytes: &[u8]) -> Result<T, X509Faul
     Ok(counted.into_value())
 }
 
-/// How many deviations stand in the input, which is a spelling of a `T`.
+/// How many deviations are in the input, which is a spelling of a `T`.
 pub fn deviations<T: Spelled>(alloc: Global, bytes: &[u8]) -> Result<usize, X509Fault>
     ensures { CountsSpelling T.spells bytes.now result }
 {

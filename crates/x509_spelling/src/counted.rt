@@ -3,7 +3,7 @@ ghost use Rattle.std.specs.Prelude.{◌≡◌, ◌+◌, MatchResult};
 
 use crate::fault::X509Fault;
 
-/// A value, and how many deviations stand in the bytes that it was read from.
+/// A value, and how many deviations are in the bytes that it was read from.
 #[derive(Drop)]
 pub struct Counted<T> {
     /// The value.

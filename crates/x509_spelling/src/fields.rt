@@ -25,7 +25,7 @@ pub trait SpelledFields: Sized + Drop {
 
     ghost row_laws: { IsTrue is_sound → RowLaws row_firsts row_trees spells };
 
-    /// The fields of which the bytes are a spelling, and how many deviations stand there.
+    /// The fields of which the bytes are a spelling, and how many deviations are there.
     fn read_content(alloc: Global, content: &[u8]) -> Result<Counted<Self>, X509Fault>
         requires { IsTrue is_sound }
         ensures { Tells (λ fields n. spells fields content.now n) result };

@@ -26,7 +26,7 @@ pub trait Signed: Spelled {
 }
 
 /// The value of which the whole input is a spelling, with any count of deviations, and the bytes that its signature is
-/// over, where they stand in the input: a signer who deviated signed what it wrote. They are the strict spelling of the
+/// over, where they are in the input: a signer who deviated signed what it wrote. They are the strict spelling of the
 /// signed part exactly where nothing deviates in them.
 pub fn with_signed_part<T: Signed>(alloc: Global, bytes: &[u8]) -> Result<(T, &[u8]), X509Fault>
     ensures value { ReadsSpelling T.spells bytes.now (value_of result) }

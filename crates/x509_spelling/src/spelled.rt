@@ -21,7 +21,7 @@ pub trait Spelled: Serialize + Sized + Drop {
 
     ghost begun: { Firsts };
 
-    // Whether each tag that begins a value stands in one octet.
+    // Whether each tag that begins a value is in one octet.
     ghost has_low_tags: { Bool };
 
     ghost laws: { SpellingLaws has_low_tags begun written spells };
@@ -30,7 +30,7 @@ pub trait Spelled: Serialize + Sized + Drop {
     fn may_begin_with(first: u8) -> bool
         ensures { result ≡ may_begin begun first };
 
-    /// The value of which the bytes are a spelling, and how many deviations stand there.
+    /// The value of which the bytes are a spelling, and how many deviations are there.
     fn read_counted(alloc: Global, bytes: &[u8]) -> Result<Counted<Self>, X509Fault>
         ensures { Tells (λ value n. spells value bytes.now n) result };
 

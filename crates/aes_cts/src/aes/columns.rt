@@ -8,7 +8,7 @@ ghost use Rattle.aes_cts.specs.Aes.{word};
 use super::bytes::{inv_substituted_word, substituted_word};
 use super::mixing::{mixed_word, unmixed_word};
 
-/// A state (FIPS 197, section 3.4): a word for each column, whose highest byte stands in row 0.
+/// A state (FIPS 197, section 3.4): a word for each column, whose highest byte is in row 0.
 #[derive(Clone, Copy)]
 pub(crate) struct Columns {
     pub(crate) a: u32,

@@ -74,7 +74,7 @@ pub struct EncKdcRepPart {
 /// ```
 pub type EncAsRepPart = ApplicationTag<EncKdcRepPart, ENC_AS_REP_PART_TYPE>;
 
-/// The sealed part of a reply with a further ticket (RFC 4120, section 5.4.2).
+/// The sealed part of a reply with a service ticket (RFC 4120, section 5.4.2).
 ///
 /// ```text
 /// EncTGSRepPart ::=

@@ -51,7 +51,7 @@ pub struct KdcRep {
 /// ```
 pub type AsRep = ApplicationTag<KdcRep, AS_REP_MSG_TYPE>;
 
-/// A reply with a further ticket (RFC 4120, section 5.4.2).
+/// A reply with a service ticket (RFC 4120, section 5.4.2).
 ///
 /// ```text
 /// TGS-REP ::= [APPLICATION 13] KDC-REP

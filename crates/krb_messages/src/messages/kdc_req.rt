@@ -43,7 +43,7 @@ pub struct KdcReq {
 /// ```
 pub type AsReq = ApplicationTag<KdcReq, AS_REQ_MSG_TYPE>;
 
-/// A request for a further ticket (RFC 4120, section 5.4.1).
+/// A request for a service ticket (RFC 4120, section 5.4.1).
 ///
 /// ```text
 /// TGS-REQ ::= [APPLICATION 12] KDC-REQ

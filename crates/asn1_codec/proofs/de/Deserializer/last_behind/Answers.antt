@@ -11,7 +11,7 @@ first_octet lead tail bytes is = (lead ∷ [], tail, refl, is)
 longer : (lead : ℕ) (tail bytes : List ℕ) → bytes ≡ lead ∷ tail → length bytes ≡ 1 + length tail
 longer lead tail bytes is = omega (arith, ap length is)
 
--- bytes behind an octet, where they begin as others do
+-- bytes after an octet, where they begin as others do
 parted : (lead first : ℕ) (tail bytes rest more : List ℕ) → bytes ≡ lead ∷ tail → bytes ++ rest ≡ (first ∷ []) ++ more → (lead ≡ first) × (tail ++ rest ≡ more)
 parted lead first tail bytes rest more is e =
     let both : lead ∷ (tail ++ rest) ≡ first ∷ more = ap (λ l. l ++ rest) (sym is) ∙ e in
