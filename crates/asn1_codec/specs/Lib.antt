@@ -22,8 +22,3 @@ pub mod Unsigned
 pub mod UnsignedLaws
 pub mod Values
 pub mod Writing
-pub use Rattle.asn1_der.specs.Firsts
-pub use Rattle.asn1_der.specs.Length
-pub use Rattle.asn1_der.specs.Tagged
-pub use Rattle.asn1_der.specs.Tags
-pub use Rattle.asn1_der.specs.Tree

@@ -35,7 +35,6 @@ mod unsigned;
 mod vector;
 mod writing_calls;
 
-pub use asn1_der::{Asn1DerError, Content, PeekableReader, Rule, Unsupported};
 pub use de::{
     Deserialize, Deserializer, FromDer, from_bytes, from_exact_bytes, from_reader,
     from_reader_with_max_len,

@@ -5,7 +5,7 @@ use Rattle.asn1_elements.specs.Raw.{Raw, has_low_number, raw_tree}
 use Rattle.asn1_der.specs.Tree.{der}
 use Rattle.asn1_der.proofs.Leaf.{der-leaf}
 use Rattle.asn1_elements.specs.PathLaws.{IsElement, AreSome, LeadsTo, LeadsIn, in_element, some_more, at_front, behind_front, go_on, part_there, held_at, second_at}
-use Rattle.cms_types.specs.Certificate.{Certificate}
+use Rattle.x509_certificates.specs.declared.certificate.Certificate.{Certificate}
 use Rattle.key_functions.specs.declared.functions.Signed.{Signed}
 use Rattle.cms_types.specs.PartSpellings.{PartSpellings}
 use Rattle.cms_types.specs.Parts.{certificate_place, AreDigests, AreCertificates, AreSigners, IsSignedData, IsTagged, digests_are, certificates_are, signers_are, tagged_are, signed_are}

@@ -4,8 +4,8 @@ use Rattle.asn1_leaves.specs.ObjectIdentifier.{IsObjectIdentifier, is_object_ide
 use Rattle.asn1_der.specs.Tree.{leaf, IsWhole}
 use Rattle.asn1_der.proofs.Leaf.{whole-leaf}
 use Rattle.asn1_der.proofs.Spelling.{whole-wrapped}
-use Rattle.cms_types.specs.CertificateSpelled.TheImpl as certificate
-use Rattle.cms_types.specs.Certificate.{Certificate}
+use Rattle.x509_certificates.specs.contracts.certificate.CertificateSpelled.TheImpl as certificate
+use Rattle.x509_certificates.specs.declared.certificate.Certificate.{Certificate}
 use Rattle.cms_signed_data.specs.SignedParts.{attributes_tree}
 use Rattle.cms_signed_data.specs.Written.{attributes_of, id_of, id_tree}
 

@@ -15,11 +15,11 @@ use Rattle.x509_spelling.specs.Spellings.{IsExact}
 use Rattle.cms_types.specs.contracts.encapsulated_content_info.EncapsulatedContentInfoTagged.TheImpl as encapsulated_impl
 use Rattle.cms_types.specs.declared.encapsulated_content_info.EncapsulatedContentInfo.{EncapsulatedContentInfo}
 use Rattle.cms_signed_data.proofs.WholeLemmas.{oid_whole, id_whole}
-use Rattle.cms_types.specs.CertificateSpelled.TheImpl as certificate
+use Rattle.x509_certificates.specs.contracts.certificate.CertificateSpelled.TheImpl as certificate
 use Rattle.x509_spelling.specs.Answers.{ReadsSpelling}
 use Rattle.x509_spelling.specs.declared.fault.X509Fault.{X509Fault}
 use Rattle.x509_spelling.specs.declared.fault.X509Fault.TheVariants as x509
-use Rattle.cms_types.specs.Certificate.{Certificate}
+use Rattle.x509_certificates.specs.declared.certificate.Certificate.{Certificate}
 use Rattle.cms_signed_data.specs.Faults.{fault_of}
 use Rattle.cms_signed_data.specs.Around.{IsInfoAround}
 use Rattle.cms_signed_data.specs.SignedParts.{as_set}

@@ -2,7 +2,7 @@
 use Rattle.std.specs.Prelude.{ℕ, List, [], ◌∷◌}
 use Rattle.asn1_elements.specs.Parts.{IsPart}
 use Rattle.asn1_elements.specs.PathLaws.{LeadsTo}
-use Rattle.cms_types.specs.Certificate.{Certificate}
+use Rattle.x509_certificates.specs.declared.certificate.Certificate.{Certificate}
 use Rattle.cms_types.specs.contracts.content_info.ContentInfoSpelled.TheImpl as content_info
 use Rattle.cms_types.specs.contracts.signed_data.SignedDataSpelled.TheImpl as signed_data
 use Rattle.cms_types.specs.declared.signer_info.SignerInfo.{SignerInfo}

@@ -7,16 +7,3 @@ pub mod SignedLaws
 pub mod SignedParts
 pub mod Written
 pub mod WrittenLaws
-pub use Rattle.cms_types.specs.CertificateSpelled
-pub use Rattle.cms_types.specs.PartSpellings
-pub use Rattle.cms_types.specs.Parts
-pub use Rattle.cms_types.specs.SignedRows
-pub use Rattle.cms_types.specs.SpelledElements
-pub use Rattle.cms_types.specs.contracts.content_info.ContentInfoSpelled
-pub use Rattle.cms_types.specs.contracts.form.ContentInfoOfForm
-pub use Rattle.cms_types.specs.contracts.signer_info.SignerInfoSpelled
-pub use Rattle.cms_types.specs.declared.content_info.ContentInfo
-pub use Rattle.cms_types.specs.declared.set_of_one.SetOfOne
-pub use Rattle.cms_types.specs.declared.signer_info.SignerInfo
-pub use Rattle.key_functions.specs.KeyFunctions
-pub use Rattle.key_functions.specs.declared.functions.Signed

@@ -6,7 +6,7 @@ use Rattle.asn1_der.specs.Tree.{der}
 use Rattle.asn1_elements.specs.Parts.{IsPart}
 use Rattle.asn1_elements.specs.PartLaws.{part-one}
 use Rattle.asn1_elements.specs.PathLaws.{part_there}
-use Rattle.cms_types.specs.CertificateSpelled.TheImpl as certificate
+use Rattle.x509_certificates.specs.contracts.certificate.CertificateSpelled.TheImpl as certificate
 use Rattle.cms_types.specs.contracts.content_info.ContentInfoSpelled.TheImpl as content_info
 use Rattle.cms_types.specs.Parts.{content_place, certificate_place, attributes_place, digest_place, signature_place, parts_held}
 use Rattle.cms_signed_data.specs.declared.fault.SignedFault.{SignedFault}

@@ -4,8 +4,8 @@ use Rattle.sha2.specs.Sha256.{sha256}
 use Rattle.asn1_der.specs.Tree.{Tree, der}
 use Rattle.asn1_der.specs.Tagged.{tagged_tree}
 use Rattle.asn1_elements.specs.Parts.{IsPart}
-use Rattle.cms_types.specs.CertificateSpelled.TheImpl as certificate
-use Rattle.cms_types.specs.Certificate.{Certificate}
+use Rattle.x509_certificates.specs.contracts.certificate.CertificateSpelled.TheImpl as certificate
+use Rattle.x509_certificates.specs.declared.certificate.Certificate.{Certificate}
 use Rattle.x509_oids.specs.Identifiers as oids
 use Rattle.x509_parts.specs.RawParameters.{null}
 use Rattle.x509_parts.specs.declared.raw_algorithm_identifier.RawAlgorithmIdentifier.{RawAlgorithmIdentifier}

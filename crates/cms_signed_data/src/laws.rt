@@ -12,7 +12,7 @@ ghost use Rattle.cms_signed_data.specs.Written.{IsWritten};
 ghost use Rattle.asn1_der.specs.Octets.{octet_string_octet};
 
 use crate::fault::SignedFault;
-use cms_types::Certificate;
+use x509_certificates::Certificate;
 use x509_spelling::Spelled;
 
 /// Bytes are one signed content at most, with one certificate and one list of signed attributes. It does nothing when it runs: its

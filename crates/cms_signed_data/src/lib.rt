@@ -14,5 +14,4 @@ mod slices;
 mod written_parts;
 
 pub use fault::SignedFault;
-pub use key_functions::KeyFunctions;
 pub use signed_content::SignedContent;

@@ -8,12 +8,14 @@ use crate::around::info_around;
 use crate::fault::SignedFault;
 use crate::slices::Slices;
 use crate::written_parts::{attribute_bytes, signer_bytes, signer_id};
-use cms_types::{AlgorithmIdentifier, ContentInfo, Name, OfForm};
+use cms_types::{ContentInfo, OfForm};
 use key_functions::KeyFunctions;
 use picky_asn1::oid::ObjectIdentifier;
 use picky_asn1::wrapper::IntegerAsn1;
 use std::alloc::{AllocError, Global};
 use std::marker::Model;
+use x509_algorithms::AlgorithmIdentifier;
+use x509_names::Name;
 use x509_spelling::from_bytes;
 
 /// Signed data of one content, one certificate and one signer, with the parts of its bytes that are judged. A contract sees the

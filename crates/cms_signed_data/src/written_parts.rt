@@ -2,7 +2,7 @@
 ghost use Rattle.std.specs.Prelude.{◌≡◌, ◌⊎◌, ℕ, IfOk, MatchResult};
 ghost use Rattle.sha2.specs.Sha256.{sha256};
 ghost use Rattle.asn1_der.specs.Tree.{IsWhole, der};
-ghost use Rattle.cms_types.specs.Certificate.{Certificate};
+ghost use Rattle.x509_certificates.specs.declared.certificate.Certificate.{Certificate};
 ghost use Rattle.cms_types.specs.declared.signed_attributes.SignedAttributes.{SignedAttributes};
 ghost use Rattle.cms_types.specs.declared.signer_info.IssuerAndSerialNumber.{IssuerAndSerialNumber};
 ghost use Rattle.cms_signed_data.specs.SignedParts.{attributes_tree};
@@ -12,8 +12,8 @@ ghost use Rattle.x509_oids.specs.Identifiers as oids;
 use crate::assembling::{der_of, sequence_of, spelled};
 use crate::fault::SignedFault;
 use cms_types::{
-    AlgorithmIdentifier, Certificate, ContentTypeAttribute, EncapsulatedContentInfo,
-    IssuerAndSerialNumber, MessageDigestAttribute, Name, SetOfOne, SignedAttributes, SignerInfo,
+    ContentTypeAttribute, EncapsulatedContentInfo, IssuerAndSerialNumber, MessageDigestAttribute,
+    SetOfOne, SignedAttributes, SignerInfo,
 };
 use key_functions::{Signed, has_encoding};
 use picky_asn1::oid::ObjectIdentifier;
@@ -23,6 +23,9 @@ use picky_asn1::wrapper::{
 use picky_asn1_der::ExplicitContextTag;
 use sha2::{Digest, Sha256};
 use std::alloc::{AllocError, Global};
+use x509_algorithms::AlgorithmIdentifier;
+use x509_certificates::Certificate;
+use x509_names::Name;
 use x509_parts::RawAlgorithmIdentifier;
 use x509_spelling::{Spelled, from_bytes};
 

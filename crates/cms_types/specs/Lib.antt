@@ -3,9 +3,3 @@ pub mod Parts
 pub mod PartSpellings
 pub mod SignedRows
 pub mod SpelledElements
-pub use Rattle.x509_certificates.specs.AlgorithmIdentifier
-pub use Rattle.x509_certificates.specs.AlgorithmIdentifierParameters
-pub use Rattle.x509_certificates.specs.AlgorithmIdentifierSerialize
-pub use Rattle.x509_certificates.specs.AlgorithmKinds
-pub use Rattle.x509_certificates.specs.contracts.certificate.CertificateSpelled
-pub use Rattle.x509_certificates.specs.declared.certificate.Certificate

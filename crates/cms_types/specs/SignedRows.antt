@@ -2,7 +2,7 @@
 use Rattle.std.proofs.Common.{◌≡◌, ℕ, List, ap}
 use Rattle.std.specs.Prelude.{⊤}
 use Rattle.picky_asn1.specs.declared.wrapper.ObjectIdentifierAsn1.{ObjectIdentifierAsn1}
-use Rattle.x509_certificates.specs.AlgorithmIdentifier.{AlgorithmIdentifier}
+use Rattle.x509_algorithms.specs.declared.algorithm_identifier.AlgorithmIdentifier.{AlgorithmIdentifier}
 use Rattle.x509_certificates.specs.declared.certificate.Certificate.{Certificate}
 use Rattle.x509_open_types.specs.declared.enclosed.Explicit.{Explicit}
 use Rattle.x509_parts.specs.declared.raw_algorithm_identifier.RawAlgorithmIdentifier.{RawAlgorithmIdentifier}

@@ -12,7 +12,8 @@ use crate::signed_attributes::{ContentTypeAttribute, SignedAttributes};
 use crate::signed_data::SignedData;
 use crate::signer_info::{IssuerAndSerialNumber, SignerInfo};
 use picky_asn1::wrapper::{ObjectIdentifierAsn1, OctetStringAsn1};
-use x509_certificates::{AlgorithmIdentifier, Certificate};
+use x509_algorithms::AlgorithmIdentifier;
+use x509_certificates::Certificate;
 use x509_parts::RawAlgorithmIdentifier;
 use x509_spelling::Spelled;
 

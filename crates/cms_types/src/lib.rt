@@ -20,6 +20,3 @@ pub use set_of_one::SetOfOne;
 pub use signed_attributes::{ContentTypeAttribute, MessageDigestAttribute, SignedAttributes};
 pub use signed_data::SignedData;
 pub use signer_info::{IssuerAndSerialNumber, SignerInfo};
-pub use x509_certificates::{
-    AlgorithmIdentifier, AlgorithmIdentifierParameters, Certificate, Name,
-};

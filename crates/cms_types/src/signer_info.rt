@@ -12,9 +12,10 @@ use picky_asn1_der::{
     from_fields, read_sequence,
 };
 use std::alloc::Global;
-use x509_certificates::{Ahead, AlgorithmIdentifier, Name};
+use x509_algorithms::AlgorithmIdentifier;
+use x509_names::Name;
 use x509_parts::RawAlgorithmIdentifier;
-use x509_spelling::{Counted, Exact, Spelled, SpelledFields, X509Fault, read_fields};
+use x509_spelling::{Ahead, Counted, Exact, Spelled, SpelledFields, X509Fault, read_fields};
 
 /// A certificate by its issuer and serial number (RFC 5652, section 10.2.4).
 ///

@@ -5,11 +5,11 @@ use Rattle.asn1_der.specs.Tree.{leaf, IsWhole}
 use Rattle.asn1_der.proofs.Leaf.{whole-leaf}
 use Rattle.asn1_leaves.specs.ObjectIdentifier.{IsObjectIdentifier, is_object_identifier, oid_content}
 use Rattle.picky_asn1.specs.declared.wrapper.ObjectIdentifierAsn1.{ObjectIdentifierAsn1}
-use Rattle.x509_keys.specs.AlgorithmIdentifier.{AlgorithmIdentifier}
-use Rattle.x509_keys.specs.AlgorithmIdentifierParameters.{AlgorithmIdentifierParameters}
-use Rattle.x509_keys.specs.AlgorithmIdentifierParameters.TheVariants as kind
-use Rattle.x509_keys.specs.AlgorithmIdentifierSerialize.TheImpl as algorithm_impl
-use Rattle.x509_keys.specs.AlgorithmKinds.{is_parameters_of}
+use Rattle.x509_algorithms.specs.declared.algorithm_identifier.AlgorithmIdentifier.{AlgorithmIdentifier}
+use Rattle.x509_algorithms.specs.declared.algorithm_kinds.AlgorithmIdentifierParameters.{AlgorithmIdentifierParameters}
+use Rattle.x509_algorithms.specs.declared.algorithm_kinds.AlgorithmIdentifierParameters.TheVariants as kind
+use Rattle.x509_algorithms.specs.contracts.algorithm_identifier.AlgorithmIdentifierSerialize.TheImpl as algorithm_impl
+use Rattle.x509_algorithms.specs.AlgorithmKinds.{is_parameters_of}
 use Rattle.x509_parameters.specs.Curves.{curve}
 use Rattle.x509_parameters.specs.contracts.aes_parameters.AesParametersSerialize.TheImpl as aes_impl
 use Rattle.x509_parameters.specs.declared.aes_parameters.AesParameters.{AesParameters}

@@ -2,10 +2,10 @@
 use Rattle.std.specs.Prelude.{⊤, refl}
 use Rattle.asn1_der.specs.Tree.{Tree, Trees, primitive, constructed, absent, more, none, bare, AreWhole, IsWhole}
 use Rattle.asn1_leaves.specs.ObjectIdentifier.{IsObjectIdentifier}
-use Rattle.x509_keys.specs.AlgorithmIdentifier.{AlgorithmIdentifier}
-use Rattle.x509_keys.specs.AlgorithmIdentifierParameters.{AlgorithmIdentifierParameters}
-use Rattle.x509_keys.specs.AlgorithmIdentifierParameters.TheVariants.{Ec}
-use Rattle.x509_keys.specs.AlgorithmIdentifierSerialize.TheImpl as algorithm_impl
+use Rattle.x509_algorithms.specs.declared.algorithm_identifier.AlgorithmIdentifier.{AlgorithmIdentifier}
+use Rattle.x509_algorithms.specs.declared.algorithm_kinds.AlgorithmIdentifierParameters.{AlgorithmIdentifierParameters}
+use Rattle.x509_algorithms.specs.declared.algorithm_kinds.AlgorithmIdentifierParameters.TheVariants.{Ec}
+use Rattle.x509_algorithms.specs.contracts.algorithm_identifier.AlgorithmIdentifierSerialize.TheImpl as algorithm_impl
 use Rattle.x509_parameters.specs.Curves.{curve}
 
 -- the algorithm has a DER encoding: nothing is missing in its tree, since its object identifiers are such

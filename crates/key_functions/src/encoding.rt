@@ -1,7 +1,7 @@
 //! Algorithms can be written.
 ghost use Rattle.key_functions.specs.Encodings.{HasEncoding, IsCurveWhole};
 
-use x509_keys::{AlgorithmIdentifier, AlgorithmIdentifierParameters};
+use x509_algorithms::{AlgorithmIdentifier, AlgorithmIdentifierParameters};
 
 /// Each algorithm that a program holds has a DER encoding. It does nothing when it runs: its contract is the law.
 pub fn has_encoding(algorithm: &AlgorithmIdentifier)

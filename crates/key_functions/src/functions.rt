@@ -5,7 +5,8 @@ ghost use Rattle.std.specs.Option.{option_map};
 use picky_asn1::wrapper::{BitStringAsn1, OctetStringAsn1};
 use picky_asn1_der::Asn1RawDer;
 use std::alloc::{AllocError, Global};
-use x509_keys::{AlgorithmIdentifier, SubjectPublicKeyInfo};
+use x509_algorithms::AlgorithmIdentifier;
+use x509_keys::SubjectPublicKeyInfo;
 
 /// A signature with its algorithm.
 #[derive(Drop)]

@@ -2,7 +2,8 @@
 use crate::functions::{KeyFunctions, Signed, Theirs};
 use picky_asn1_der::Asn1RawDer;
 use std::alloc::{AllocError, Global};
-use x509_keys::{AlgorithmIdentifier, SubjectPublicKeyInfo};
+use x509_algorithms::AlgorithmIdentifier;
+use x509_keys::SubjectPublicKeyInfo;
 
 /// The key functions of a party without a key: no signature verifies, and every other function answers `None`.
 #[derive(Clone, Copy, Debug, Drop)]

@@ -2,7 +2,7 @@
 ghost use Rattle.key_functions.specs.Encodings.{HasEncoding, encoding-prop};
 
 use crate::encoding::has_encoding;
-use x509_keys::AlgorithmIdentifier;
+use x509_algorithms::AlgorithmIdentifier;
 
 /// The algorithm of signatures, which is known to have an encoding: key functions that keep it show by it that what they sign names
 /// such an algorithm.

@@ -8,7 +8,8 @@ ghost use Rattle.asn1_codec.specs.Reading.{IsNotNext, IsReadBy};
 ghost use Rattle.kpasswd_messages.specs.Reading.{der_kind, IsExcuse, TellsRead};
 ghost use Rattle.kpasswd_messages.specs.Writing.{IsUnwritten, write_kind};
 
-use asn1_codec::{Asn1DerError, FromDer, Serialize, from_reader, to_vec};
+use asn1_codec::{FromDer, Serialize, from_reader, to_vec};
+use asn1_der::Asn1DerError;
 use byte_streams::Source;
 use std::alloc::Global;
 use std::io::ErrorKind;

@@ -1,7 +1,7 @@
 -- Each request has a judgement.
 use Rattle.std.proofs.Common.{ℕ, Bool, true, false, not, List, Option, None, Some, Result, Ok, Err}
 use Rattle.picky_asn1.specs.BitString.{bit_of}
-use Rattle.picky_asn1.specs.GeneralizedTime.{seconds_of}
+use Rattle.asn1_leaves.specs.GeneralizedTime.{seconds_of}
 use Rattle.krb_crypto.specs.Suites.{cipher_number}
 use Rattle.krb_crypto.specs.declared.suite.CipherSuite.{CipherSuite}
 use Rattle.krb_types.specs.declared.data_types.authenticator.AuthenticatorInner.{AuthenticatorInner}

@@ -2,7 +2,7 @@
 use Rattle.std.specs.Prelude.{◌*◌, Bool, false, not, List, Option, None, Some, Result, Ok, Err}
 use Rattle.std.specs.List.{list_any}
 use Rattle.std.specs.Option.{option_map_or}
-use Rattle.picky_asn1.specs.GeneralizedTime.{seconds_of}
+use Rattle.asn1_leaves.specs.GeneralizedTime.{seconds_of}
 use Rattle.picky_asn1.specs.Numbers.{is_number}
 use Rattle.picky_asn1.specs.Bytes.{Bytes}
 use Rattle.krb_time.specs.Skew.{is_before, is_far}

@@ -6,7 +6,7 @@ ghost use Rattle.krb_messages.specs.Messages.{IsAsReq};
 ghost use Rattle.krb_messages.specs.declared.messages.kdc_req.KdcReq.{KdcReq};
 ghost use Rattle.krb_tickets.specs.Padata.{first_of};
 ghost use Rattle.picky_asn1.specs.Bytes.{Bytes};
-ghost use Rattle.picky_asn1_der.specs.Parts.{IsPart};
+ghost use Rattle.asn1_elements.specs.Parts.{IsPart};
 ghost use Rattle.asn1_der.specs.Octets.{octet_string_octet};
 
 /// What the checksum of a PKINIT authenticator is computed over, the one encoding of the request's body, is in the request's

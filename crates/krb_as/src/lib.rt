@@ -6,6 +6,4 @@ mod judge;
 pub mod laws;
 mod whole;
 
-pub use krb_tickets::{method_data, ticket_reply};
-pub use krb_types::krbtgt_of;
 pub use whole::judge_as;

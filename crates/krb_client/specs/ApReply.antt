@@ -6,7 +6,7 @@ use Rattle.krb_types.specs.declared.data_types.encrypted_data.EncryptedData.{Enc
 use Rattle.krb_messages.specs.declared.messages.ap_rep.ApRepInner.{ApRepInner}
 use Rattle.krb_messages.specs.Messages.{IsApRep, enc_ap_rep_part-injective, enc_ap_rep_part_tree, sole_ap_rep}
 use Rattle.krb_encrypted_data.specs.Sealed.{IsSealedIn, sole_sealed}
-use Rattle.picky_asn1.specs.GeneralizedTime.{seconds_of}
+use Rattle.asn1_leaves.specs.GeneralizedTime.{seconds_of}
 use Rattle.picky_asn1.specs.Numbers.{is_number}
 use Rattle.picky_asn1.specs.Bytes.{Bytes}
 use Rattle.decision_tables.specs.One.{IsSole}

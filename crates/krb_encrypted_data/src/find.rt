@@ -7,7 +7,8 @@ ghost use Rattle.krb_encrypted_data.specs.Found.{IsFound};
 ghost use Rattle.krb_encrypted_data.specs.Opens.{IsWantOfMemory, Opens};
 
 use crate::open::{OpenFault, open_part};
-use asn1_codec::{Asn1DerError, Deserialize, from_exact_bytes};
+use asn1_codec::{Deserialize, from_exact_bytes};
+use asn1_der::Asn1DerError;
 use krb_crypto::{KerberosCryptoError, Key};
 use std::alloc::{AllocError, Global};
 

@@ -5,7 +5,8 @@ ghost use Rattle.krb_crypto.specs.Suites.{cipher_number};
 ghost use Rattle.krb_encrypted_data.specs.Opens.{IsOpened, Opens};
 
 use crate::padded::read_padded;
-use asn1_codec::{Asn1DerError, Deserialize};
+use asn1_codec::Deserialize;
+use asn1_der::Asn1DerError;
 use krb_crypto::{Cipher, CipherSuite, KerberosCryptoError};
 use std::alloc::Global;
 use thiserror::Error;

@@ -1,7 +1,8 @@
 //! Reads a value whose encoding a suite's padding may follow.
 ghost use Rattle.krb_encrypted_data.specs.Padded.{ReadsPadded};
 
-use asn1_codec::{Asn1DerError, Deserialize, from_reader_with_max_len};
+use asn1_codec::{Deserialize, from_reader_with_max_len};
+use asn1_der::Asn1DerError;
 use krb_crypto::CipherSuite;
 use std::alloc::Global;
 

@@ -1,7 +1,7 @@
 -- A request's header is judged, a ticket has its times, and what grants it has a reply.
 use Rattle.std.proofs.Common.{◌≡◌, ◌≤◌, ◌<◌, ℕ, ◌+◌, min, Bool, not, List, length, drop, Option, Some, Result, Ok, Err, true, false, refl, sym, subst, arith}
 use Rattle.std.proofs.lemmas.List.{length-drop, length-take-le}
-use Rattle.picky_asn1.specs.GeneralizedTime.{seconds_of}
+use Rattle.asn1_leaves.specs.GeneralizedTime.{seconds_of}
 use Rattle.picky_asn1.specs.Numbers.{is_number}
 use Rattle.aes_cts.specs.Bytes.{IsBytes}
 use Rattle.aes_cts.proofs.States.{IsBytes-drop, IsBytes-take}
@@ -18,7 +18,7 @@ use Rattle.krb_messages.specs.declared.messages.kdc_req.KdcReq.{KdcReq}
 use Rattle.krb_messages.specs.declared.messages.kdc_req_body.KdcReqBody.{KdcReqBody}
 use Rattle.decision_tables.specs.Tables.{Table, done, refuse}
 use Rattle.decision_tables.proofs.Outcomes.{HasOutcome, has_done, has_made, has_refused, some_of}
-use Rattle.krb_tickets.specs.Sealing.{Seals, encrypted_by}
+use Rattle.krb_encrypted_data.specs.Sealing.{Seals, encrypted_by}
 use Rattle.krb_tickets.specs.Grant.{GrantRecord}
 use Rattle.krb_tickets.specs.Parts.{kdc_reply_of, reply_part, ticket_of, ticket_part}
 use Rattle.krb_tickets.specs.ReplyKeys.{ReplyKeyRecord}

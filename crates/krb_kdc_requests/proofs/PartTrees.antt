@@ -5,7 +5,7 @@ use Rattle.asn1_der.specs.Tagged.{tagged_tree}
 use Rattle.asn1_der.specs.Tree.{Tree, Trees, constructed, leaf, more, none, primitive, wrapped}
 use Rattle.asn1_leaves.specs.CharSets.{is_general_string}
 use Rattle.asn1_leaves.specs.declared.date.GeneralizedTime.{GeneralizedTime}
-use Rattle.picky_asn1.specs.GeneralizedTime.{time_text}
+use Rattle.asn1_leaves.specs.GeneralizedTime.{time_text}
 use Rattle.picky_asn1.specs.Integer.{integer_content}
 use Rattle.krb_crypto.specs.declared.suite.CipherSuite.{CipherSuite}
 use Rattle.krb_crypto.specs.Suites.{cipher_number}
@@ -14,7 +14,7 @@ use Rattle.krb_types.specs.declared.data_types.encryption_key.EncryptionKey.{Enc
 use Rattle.krb_types.specs.declared.data_types.principal_name.PrincipalName.{PrincipalName}
 use Rattle.krb_types.specs.contracts.data_types.encryption_key.EncryptionKeyTagged.TheImpl as encryption_key_impl
 use Rattle.krb_types.specs.contracts.data_types.principal_name.PrincipalNameTagged.TheImpl as principal_name_impl
-use Rattle.krb_tickets.specs.Sealing.{encryption_key}
+use Rattle.krb_encrypted_data.specs.Sealing.{encryption_key}
 use Rattle.krb_kdc_requests.proofs.Short.{AllFit, Fits, IsShort, fits_constructed, fits_primitive, fits_wrapped, looser, more_trees, no_trees, number_short, one_tree, short_cons, short_none, time_short}
 
 abbrev pub principal_name_tree : PrincipalName → Tree

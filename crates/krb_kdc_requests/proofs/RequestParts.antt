@@ -9,9 +9,9 @@ use Rattle.asn1_der.proofs.Spelling.{der-wrapped, wrapped-whole}
 use Rattle.picky_asn1.specs.Bytes.{Bytes}
 use Rattle.picky_asn1.specs.Integer.{integer_content}
 use Rattle.picky_asn1.specs.Numbers.{is_number}
-use Rattle.picky_asn1_der.specs.Parts.{AreElements, IsElementAt, IsPart, IsPartIn}
-use Rattle.picky_asn1_der.specs.Raw.{Raw, has_low_number}
-use Rattle.picky_asn1_der.specs.Splits.{SplitsInto}
+use Rattle.asn1_elements.specs.Parts.{AreElements, IsElementAt, IsPart, IsPartIn}
+use Rattle.asn1_elements.specs.Raw.{Raw, has_low_number}
+use Rattle.asn1_elements.specs.Splits.{SplitsInto}
 use Rattle.picky_asn1_der.specs.declared.wrapper.ExplicitContextTag.{ExplicitContextTag}
 use Rattle.krb_types.specs.Trees.{pa_data_tree}
 use Rattle.krb_types.specs.declared.data_types.pa_data.PaData.{PaData}

@@ -12,7 +12,7 @@ use Rattle.asn1_der.proofs.Digits.{digits-is}
 use Rattle.asn1_der.proofs.Elements.{element-split, length_octets-long, length_octets-short}
 use Rattle.asn1_leaves.specs.declared.date.GeneralizedTime.{GeneralizedTime}
 use Rattle.asn1_leaves.specs.Calendar.{days_in_month, two_digits}
-use Rattle.picky_asn1.specs.GeneralizedTime.{time_text}
+use Rattle.asn1_leaves.specs.GeneralizedTime.{time_text}
 use Rattle.picky_asn1.specs.Integer.{integer_content, natural_octets}
 use Rattle.aes_cts.specs.Bytes.{IsBytes}
 use Rattle.aes_cts.proofs.States.{IsBytes-append, IsBytes-drop, IsBytes-none, IsBytes-take}

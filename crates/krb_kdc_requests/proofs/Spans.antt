@@ -1,6 +1,6 @@
 -- The time that was found for a ticket is judged.
 use Rattle.std.proofs.Common.{◌≡◌, ℕ, true, false, Option, Ok, Err, refl, ap, ◌∙◌}
-use Rattle.picky_asn1.specs.GeneralizedTime.{seconds_of}
+use Rattle.asn1_leaves.specs.GeneralizedTime.{seconds_of}
 use Rattle.krb_messages.specs.declared.messages.kdc_req_body.KdcReqBody.{KdcReqBody}
 use Rattle.krb_tickets.specs.Times.{end_of, start_of}
 use Rattle.krb_kdc_requests.specs.Requests.{IsSpan, is_ended, lasting}

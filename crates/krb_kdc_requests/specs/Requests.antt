@@ -5,7 +5,7 @@ use Rattle.std.proofs.Common.{sym, ◌∙◌}
 use Rattle.krb_time.specs.Units.{Micros, Seconds}
 use Rattle.asn1_der.specs.Tree.{der}
 use Rattle.picky_asn1.specs.BitString.{Bits, bit_of}
-use Rattle.picky_asn1.specs.GeneralizedTime.{seconds_of}
+use Rattle.asn1_leaves.specs.GeneralizedTime.{seconds_of}
 use Rattle.picky_asn1.specs.Numbers.{is_number}
 use Rattle.picky_asn1.specs.Bytes.{Bytes}
 use Rattle.asn1_leaves.proofs.TimeLemmas.{seconds_of-injective}

@@ -5,15 +5,16 @@ ghost use Rattle.krb_accounts.specs.Accounts.{look_in};
 ghost use Rattle.krb_kdc_requests.specs.Requests.{account_of, header_rows, client_of, padata_in, has_refused_option, is_ended, is_postdated, lasting, service_of};
 ghost use Rattle.krb_tickets.specs.Parts.{session_key_of};
 ghost use Rattle.krb_types.specs.Refusals.{IsJudged};
-ghost use Rattle.picky_asn1.specs.GeneralizedTime.{seconds_of};
+ghost use Rattle.asn1_leaves.specs.GeneralizedTime.{seconds_of};
 
 use crate::span::Span;
 use krb_accounts::{Account, Accounts, Settings};
 use krb_constants::types::KERBEROS_VERSION;
 use krb_constants::{error_codes, kdc_options};
 use krb_crypto::CipherSuite;
+use krb_encrypted_data::key_at;
 use krb_messages::messages::{KdcReq, KdcReqBody};
-use krb_tickets::{end_of, key_at, start_of};
+use krb_tickets::{end_of, start_of};
 use krb_time::Moment;
 use krb_types::data_types::{PaData, PrincipalName};
 use krb_types::random_bytes::SESSION_SEED;

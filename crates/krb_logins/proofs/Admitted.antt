@@ -5,7 +5,7 @@ use Rattle.std.specs.Prelude.{ℕ, pos}
 use Rattle.asn1_leaves.specs.CharSets.{is_general_string}
 use Rattle.asn1_leaves.specs.declared.date.GeneralizedTime.{GeneralizedTime}
 use Rattle.picky_asn1.specs.Bytes.{Bytes}
-use Rattle.picky_asn1.specs.GeneralizedTime.{seconds_of}
+use Rattle.asn1_leaves.specs.GeneralizedTime.{seconds_of}
 use Rattle.picky_asn1.specs.Numbers.{is_number}
 use Rattle.krb_crypto.specs.Suites.{cipher_confounder_size, cipher_number}
 use Rattle.krb_types.specs.Names.{components, is_same_name, is_same_realm}

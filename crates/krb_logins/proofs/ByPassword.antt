@@ -2,7 +2,7 @@
 use Rattle.std.proofs.Common.{◌≡◌, ℕ, ◌*◌, ◌/◌, ◌%◌, false, List, [], ◌∷◌, None, Some, Result, Ok, Err, refl, sym, ◌∙◌, subst}
 use Rattle.asn1_leaves.specs.declared.date.GeneralizedTime.{GeneralizedTime}
 use Rattle.picky_asn1.specs.Bytes.{Bytes}
-use Rattle.picky_asn1.specs.GeneralizedTime.{seconds_of}
+use Rattle.asn1_leaves.specs.GeneralizedTime.{seconds_of}
 use Rattle.krb_time.specs.Skew.{is_far}
 use Rattle.krb_time.specs.Units.{Micros}
 use Rattle.krb_crypto.specs.Suites.{cipher_confounder_size}

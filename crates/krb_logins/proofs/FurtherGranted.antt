@@ -9,7 +9,7 @@ use Rattle.asn1_der.proofs.Spelling.{whole-wrapped}
 use Rattle.asn1_leaves.specs.CharSets.{is_general_string}
 use Rattle.asn1_leaves.specs.declared.date.GeneralizedTime.{GeneralizedTime}
 use Rattle.picky_asn1.specs.Bytes.{Bytes}
-use Rattle.picky_asn1.specs.GeneralizedTime.{seconds_of}
+use Rattle.asn1_leaves.specs.GeneralizedTime.{seconds_of}
 use Rattle.picky_asn1.specs.Numbers.{is_number}
 use Rattle.krb_time.specs.Skew.{is_far}
 use Rattle.krb_time.specs.Times.{moment_at}
@@ -49,10 +49,10 @@ use Rattle.pkinit_interface.specs.Rows.{PkinitRows}
 use Rattle.krb_kdc_requests.specs.Call.{CallRecord, skew_of}
 use Rattle.krb_kdc_requests.specs.Granting.{replied}
 use Rattle.krb_kdc_requests.specs.Requests.{IsSpan, account_of, body_bytes, client_of, padata_in, is_ended, lasting, service_of}
-use Rattle.krb_as.specs.TicketGranting.{krbtgt_of}
+use Rattle.krb_types.specs.TicketGranting.{krbtgt_of}
 use Rattle.krb_kdc_requests.specs.declared.span.Span.{Span}
-use Rattle.krb_replies.specs.TgsTable as table
-use Rattle.krb_replies.specs.TgsTable.{carried, counting, covered, further, further_ticket, is_known_checksum, is_of_body, of_carried, of_authenticated, of_ticket, authenticated_near, tgs_granted, tgs_table, ticket_granting, to_us}
+use Rattle.krb_tgs.specs.TgsTable as table
+use Rattle.krb_tgs.specs.TgsTable.{carried, counting, covered, further, further_ticket, is_known_checksum, is_of_body, of_carried, of_authenticated, of_ticket, authenticated_near, tgs_granted, tgs_table, ticket_granting, to_us}
 use Rattle.krb_replies.specs.Replies.{Replies, as_reply, reply_of, tgs_reply}
 use Rattle.krb_client.specs.Authenticators.{IsApRequest, authenticator_with, authenticator_parts_of}
 use Rattle.krb_client.specs.Client.{ClientRecord, CredentialRecord}

@@ -13,7 +13,7 @@ use Rattle.krb_frames.specs.declared.fault.AnswerRefusal.TheVariants as answer_r
 use Rattle.pkinit_interface.specs.Rows.{PkinitRows}
 use Rattle.krb_tickets.specs.Parts.{session_key_of}
 use Rattle.krb_kdc_requests.specs.Call.{CallRecord}
-use Rattle.krb_as.specs.TicketGranting.{krbtgt_of}
+use Rattle.krb_types.specs.TicketGranting.{krbtgt_of}
 use Rattle.krb_kdc_requests.specs.declared.span.Span.{Span}
 use Rattle.krb_replies.specs.Replies.{Replies}
 use Rattle.krb_ap_requests.specs.Admission.{AdmissionRecord}

@@ -10,7 +10,7 @@ use Rattle.decision_tables.specs.Tables.{Table}
 use Rattle.krb_frames.specs.declared.fault.AnswerRefusal.{AnswerRefusal}
 use Rattle.krb_frames.specs.declared.fault.AnswerRefusal.TheVariants as answer_refusal
 use Rattle.krb_kdc_requests.specs.Call.{CallRecord}
-use Rattle.krb_as.specs.TicketGranting.{krbtgt_of}
+use Rattle.krb_types.specs.TicketGranting.{krbtgt_of}
 use Rattle.krb_replies.specs.Replies as replies
 use Rattle.pkinit_interface.specs.Rows.{PkinitRows}
 use Rattle.krb_service.specs.Pair.{PairRecord}

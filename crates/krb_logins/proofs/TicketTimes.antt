@@ -3,7 +3,7 @@ use Rattle.std.proofs.Common.{◌≡◌, ◌<◌, ◌≤◌, ◌+◌, ◌*◌, f
 use Rattle.std.proofs.lemmas.Bool.{le-ltb, or_from}
 use Rattle.std.specs.Prelude.{nat_lt}
 use Rattle.asn1_leaves.specs.declared.date.GeneralizedTime.{GeneralizedTime}
-use Rattle.picky_asn1.specs.GeneralizedTime.{seconds_of}
+use Rattle.asn1_leaves.specs.GeneralizedTime.{seconds_of}
 use Rattle.krb_time.specs.Units.{Micros, Seconds}
 use Rattle.krb_kdc_requests.specs.Requests.{IsSpan}
 use Rattle.krb_kdc_requests.specs.declared.span.Span.{Span}

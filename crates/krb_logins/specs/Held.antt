@@ -1,6 +1,6 @@
 -- What the realm grants in a login, and what the client then holds (RFC 4120, sections 3.1.3, 3.1.5, 3.3.3, 3.3.4).
 use Rattle.std.specs.Prelude.{◌≡◌, true, false, None, Some, pos}
-use Rattle.picky_asn1.specs.GeneralizedTime.{seconds_of}
+use Rattle.asn1_leaves.specs.GeneralizedTime.{seconds_of}
 use Rattle.krb_crypto.specs.Suites.{cipher_confounder_size}
 use Rattle.krb_types.specs.RandomBytes.{Random, ticket_confounder}
 use Rattle.krb_types.specs.declared.data_types.encrypted_data.EncryptedData.{EncryptedData}
@@ -9,7 +9,7 @@ use Rattle.krb_tickets.specs.Grant.{GrantRecord}
 use Rattle.krb_tickets.specs.Parts.{session_key_of, ticket_of, ticket_part}
 use Rattle.krb_tickets.specs.Sealed.{IsSealedData, ticket_part_bytes}
 use Rattle.krb_kdc_requests.specs.Requests.{IsSpan}
-use Rattle.krb_as.specs.TicketGranting.{krbtgt_of}
+use Rattle.krb_types.specs.TicketGranting.{krbtgt_of}
 use Rattle.krb_kdc_requests.specs.declared.span.Span.{Span}
 use Rattle.krb_client.specs.Client.{ClientRecord, CredentialRecord}
 use Rattle.krb_client.specs.Held.{principal_name}

@@ -11,7 +11,7 @@ use Rattle.krb_tickets.specs.ReplyKeys.{ReplyKeyRecord, tgs_reply_key}
 use Rattle.krb_tickets.specs.Granted.{IsTicketReply}
 use Rattle.decision_tables.specs.Some.{HasSome}
 use Rattle.krb_kdc_requests.specs.Calls.{AreKeyed}
-use Rattle.krb_as.specs.TicketGranting.{krbtgt_of}
+use Rattle.krb_types.specs.TicketGranting.{krbtgt_of}
 use Rattle.krb_kdc_requests.specs.declared.span.Span.{Span}
 use Rattle.krb_replies.specs.Replies.{Replies}
 use Rattle.krb_ap_requests.specs.Admission.{AdmissionRecord}

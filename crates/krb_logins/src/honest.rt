@@ -1,6 +1,6 @@
 //! Whether a login is honest: the premise of its law, judged by what the parties hold.
 ghost use Rattle.std.specs.Prelude.{◌≡◌, ◌≤◌, ◌<◌, ◌*◌, false, IsTrue, Some};
-ghost use Rattle.picky_asn1.specs.GeneralizedTime.{seconds_of};
+ghost use Rattle.asn1_leaves.specs.GeneralizedTime.{seconds_of};
 ghost use Rattle.krb_accounts.specs.Account.{AccountRecord};
 ghost use Rattle.krb_accounts.specs.Accounts.{look_in};
 ghost use Rattle.krb_accounts.specs.Names.{parts};

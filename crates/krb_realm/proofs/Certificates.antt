@@ -1,10 +1,10 @@
 -- Whether bytes are a certificate.
 use Rattle.std.proofs.Common.{◌≡◌, Bool, false, true, Option, Some, Ok, Err, refl, sym, subst, inl, inr}
 use Rattle.picky_asn1.specs.Bytes.{Bytes}
-use Rattle.pkinit_requests.specs.CertificateSpelled.TheImpl as certificate_impl
+use Rattle.x509_certificates.specs.contracts.certificate.CertificateSpelled.TheImpl as certificate_impl
 use Rattle.x509_spelling.specs.declared.fault.X509Fault.{X509Fault}
 use Rattle.x509_spelling.specs.declared.fault.X509Fault.TheVariants.{Memory}
-use Rattle.pkinit_requests.specs.Anchors.{AnchorRecord, ReadsMade, anchor_of}
+use Rattle.pkinit_trust.specs.Anchors.{AnchorRecord, ReadsMade, anchor_of}
 use Rattle.krb_realm.specs.Settings.{IsCertificateIf, IsOwnCertificate}
 
 -- they are the certificate of the holder that was made

@@ -7,7 +7,7 @@ use Rattle.std.specs.Ordering.{eq_by_cmp, nat_cmp}
 use Rattle.picky_asn1.specs.Bytes.{Bytes}
 use Rattle.krb_accounts.specs.Account.{AccountRecord}
 use Rattle.krb_accounts.specs.Accounts.{AccountMap, name_cmp, name_total}
-use Rattle.krb_as.specs.TicketGranting.{krbtgt_of}
+use Rattle.krb_types.specs.TicketGranting.{krbtgt_of}
 use Rattle.krb_logins.specs.Honest.{IsGranting}
 use Rattle.krb_realm.specs.Realm.{RealmState, has_krbtgt, is_krbtgt, realm_record}
 

@@ -6,7 +6,7 @@ use Rattle.krb_client.specs.Client.{ClientRecord}
 use Rattle.krb_service.specs.Service.{ServiceRecord}
 use Rattle.krb_logins.specs.Parties.{LoginRecord, RealmRecord, RememberedRecord}
 use Rattle.pkinit_logins.specs.HonestByCertificate.{IsHonestByCertificate}
-use Rattle.pkinit_requests.specs.Anchors.{AnchorRecord}
+use Rattle.pkinit_trust.specs.Anchors.{AnchorRecord}
 use Rattle.pkinit_requests.specs.Trust.{TrustRecord}
 
 -- client and realm with their key functions

@@ -11,7 +11,7 @@ use Rattle.krb_accounts.specs.Account.{AccountRecord}
 use Rattle.krb_accounts.specs.Accounts.{AccountMap, changing, look_in, name_cmp, name_total, rekeyed}
 use Rattle.krb_accounts.specs.declared.refusal.RealmRefusal.TheVariants.{BadKeyLength, NumberSpent}
 use Rattle.krb_kdc_requests.specs.Calls.{AreKeyed, IsKeyed}
-use Rattle.krb_as.specs.TicketGranting.{krbtgt_of}
+use Rattle.krb_types.specs.TicketGranting.{krbtgt_of}
 use Rattle.krb_realm.specs.Realm.{IsRealm, is_krbtgt}
 use Rattle.krb_realm.proofs.Granting.{inserted, inserted_own, removed}
 

@@ -7,4 +7,4 @@ pub mod Logins
 pub use Rattle.krb_replies.specs.Replies
 pub use Rattle.krb_replies.specs.Errors
 pub use Rattle.krb_as.specs.AsTable
-pub use Rattle.krb_replies.specs.TgsTable
+pub use Rattle.krb_tgs.specs.TgsTable

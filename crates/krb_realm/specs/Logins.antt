@@ -7,7 +7,7 @@ use Rattle.krb_encrypted_data.specs.Sealing.{encryption_key}
 use Rattle.krb_service.specs.Pair.{PairRecord}
 use Rattle.krb_service.specs.Seen.{SeenRecord, IsWindow}
 use Rattle.krb_kdc_requests.specs.Call.{CallRecord}
-use Rattle.krb_as.specs.TicketGranting.{krbtgt_of}
+use Rattle.krb_types.specs.TicketGranting.{krbtgt_of}
 use Rattle.pkinit_interface.specs.Rows.{PkinitRows}
 use Rattle.key_functions.specs.KeyFunctions.{KeysRecord}
 use Rattle.pkinit_requests.specs.PkinitRows.{pkinit_rows}

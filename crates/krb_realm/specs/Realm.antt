@@ -14,7 +14,7 @@ use Rattle.krb_accounts.specs.Names.{is_realm_name, are_components}
 use Rattle.krb_accounts.specs.Settings.{SettingsRecord}
 use Rattle.krb_kdc_requests.specs.Call.{CallRecord}
 use Rattle.krb_kdc_requests.specs.Calls.{AreKeyed}
-use Rattle.krb_as.specs.TicketGranting.{krbtgt_of}
+use Rattle.krb_types.specs.TicketGranting.{krbtgt_of}
 use Rattle.krb_logins.specs.Parties.{RealmRecord}
 use Rattle.pkinit_requests.specs.Trust.{TrustRecord}
 use Rattle.krb_realm.specs.Settings.{SettingsState}

@@ -4,9 +4,9 @@ use Rattle.std.specs.Prelude.{ℕ, Bool, true, false, Option, None, Some}
 use Rattle.picky_asn1.specs.Bytes.{Bytes}
 use Rattle.krb_time.specs.Units.{Seconds}
 use Rattle.krb_accounts.specs.Settings.{SettingsRecord}
-use Rattle.pkinit_requests.specs.Certificate.{Certificate}
-use Rattle.pkinit_requests.specs.CertificateSpelled.TheImpl as certificate_impl
-use Rattle.pkinit_requests.specs.Anchors.{AnchorRecord}
+use Rattle.x509_certificates.specs.declared.certificate.Certificate.{Certificate}
+use Rattle.x509_certificates.specs.contracts.certificate.CertificateSpelled.TheImpl as certificate_impl
+use Rattle.pkinit_trust.specs.Anchors.{AnchorRecord}
 use Rattle.pkinit_requests.specs.Trust.{TrustRecord}
 
 pub record SettingsState : Type 0 where

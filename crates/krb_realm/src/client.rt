@@ -14,7 +14,7 @@ use krb_client::{ApAsked, AsAsked, AskRefusal, Credential, TakeRefusal, TgsAsked
 use krb_crypto::CipherSuite;
 use krb_time::Moment;
 use picky_asn1::date::GeneralizedTime;
-use pkinit_requests::Anchor;
+use pkinit_trust::Anchor;
 use std::alloc::Global;
 use std::marker::Model;
 

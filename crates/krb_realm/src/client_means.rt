@@ -8,7 +8,7 @@ use krb_messages::messages::{KdcRep, KdcReqBody};
 use krb_time::Moment;
 use krb_types::data_types::PaData;
 use pkinit_clients::ByCertificate;
-use pkinit_requests::Anchor;
+use pkinit_trust::Anchor;
 use std::alloc::Global;
 
 /// What a client has to authenticate itself by.

@@ -6,7 +6,7 @@ ghost use Rattle.krb_realm.specs.Clients.{ByCertificate};
 ghost use Rattle.krb_realm.specs.Logins.{remembered};
 ghost use Rattle.krb_realm.specs.Realm.{realm_record};
 ghost use Rattle.pkinit_logins.specs.HonestByCertificate.{IsHonestByCertificate};
-ghost use Rattle.pkinit_requests.specs.Anchors.{AnchorRecord};
+ghost use Rattle.pkinit_trust.specs.Anchors.{AnchorRecord};
 
 use crate::client_means::{Held, by_certificate};
 use crate::{Client, Realm};

@@ -2,9 +2,9 @@
 //! law.
 ghost use Rattle.std.specs.Prelude.{◌≡◌, ◌<◌, ◌^◌, ◌⊎◌, ℕ, List, [], ◌∷◌, ◌++◌, Option, Some, Result, length};
 ghost use Rattle.asn1_elements.specs.Parts.{IsPart};
-ghost use Rattle.pkinit_requests.specs.SignedContents.{IsSignedContent};
-ghost use Rattle.pkinit_requests.specs.SignedParts.{SignedParts};
-ghost use Rattle.pkinit_requests.specs.Parts.{attributes_place, certificate_place};
+ghost use Rattle.cms_signed_data.specs.SignedContents.{IsSignedContent};
+ghost use Rattle.cms_signed_data.specs.SignedParts.{SignedParts};
+ghost use Rattle.cms_types.specs.Parts.{attributes_place, certificate_place};
 ghost use Rattle.aes_cts.specs.Bytes.{IsBytes};
 ghost use Rattle.decision_tables.specs.Some.{HasSome};
 ghost use Rattle.key_functions.specs.KeyFunctions.{KeysRecord};
@@ -27,14 +27,13 @@ ghost use Rattle.pkinit_messages.specs.declared.pa_pk_as_req.PaPkAsReq.{PaPkAsRe
 ghost use Rattle.pkinit_requests.specs.AuthPacks.{IsPaPkAsReq};
 ghost use Rattle.pkinit_requests.specs.PkinitRows.{pkinit_rows};
 ghost use Rattle.pkinit_requests.specs.Trust.{TrustRecord};
-ghost use Rattle.pkinit_requests.specs.Certificates.{IsCertificate, ReadRecord};
+ghost use Rattle.pkinit_trust.specs.Certificates.{IsCertificate, ReadRecord};
 
 use crate::{Client, Settings};
 use key_functions::KeyFunctions;
 pub use krb_as::laws::{as_body_is_part, padata_is_part};
 pub use krb_crypto::laws::has_sealed;
 pub use krb_logins::laws::ap_request_presents_choice;
-pub use krb_replies::body_is_part;
 pub use krb_service::ap_laws::{
     has_judgement, has_presentation, has_reply_to, one_presentation, received_as_chosen,
 };
@@ -42,6 +41,7 @@ pub use krb_service::laws::{
     admissible_if_admitted, admitted_as_presented, admitted_if_presented, has_outcome,
     once_for_ever, one_outcome, refused_by_moment_alone,
 };
+pub use krb_tgs::laws::body_is_part;
 pub use pkinit_clients::laws::reply_verified_is_part;
 pub use pkinit_logins::laws::{agreement_granted, agreement_taken, one_key_by_certificate};
 pub use pkinit_requests::laws::judged_is_part;

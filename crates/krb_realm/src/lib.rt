@@ -35,7 +35,7 @@ pub use krb_types::data_types::{EncryptionKey, PrincipalName, Ticket};
 pub use login::{login_by_certificate, login_by_password};
 pub use picky_asn1::date::GeneralizedTime;
 pub use picky_asn1::wrapper::{GeneralStringAsn1, OctetStringAsn1};
-pub use pkinit_requests::Anchor;
+pub use pkinit_trust::Anchor;
 pub use realm::{Realm, words_needed};
 pub use respond::{Answering, serve, serve_bytes};
 pub use settings::Settings;

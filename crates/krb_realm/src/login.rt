@@ -2,7 +2,7 @@
 ghost use Rattle.std.specs.Prelude.{◌≡◌, ◌≤◌, List, length, IfOk, Result};
 ghost use Rattle.picky_asn1.specs.Bytes.{Bytes};
 ghost use Rattle.krb_accounts.specs.Names.{parts};
-ghost use Rattle.krb_as.specs.TicketGranting.{krbtgt_of};
+ghost use Rattle.krb_types.specs.TicketGranting.{krbtgt_of};
 ghost use Rattle.krb_logins.specs.Input.{login_of};
 ghost use Rattle.krb_logins.specs.Honest.{AreEnough, IsHonestByPassword, IsOneKey};
 ghost use Rattle.krb_logins.specs.LoginRun.{ApExchange, AsExchange, Exchanges, Login, LoginRun, TgsExchange};
@@ -17,7 +17,7 @@ ghost use Rattle.key_functions.specs.KeyFunctions.{no_functions};
 ghost use Rattle.krb_crypto.specs.Keys.{KeyRecord};
 ghost use Rattle.krb_encrypted_data.specs.Sealing.{encryption_key};
 ghost use Rattle.pkinit_logins.specs.HonestByCertificate.{IsHonestByCertificate};
-ghost use Rattle.pkinit_requests.specs.Anchors.{AnchorRecord};
+ghost use Rattle.pkinit_trust.specs.Anchors.{AnchorRecord};
 
 use crate::{Client, Realm};
 use key_functions::{KeyFunctions, NoKeys};

@@ -23,9 +23,10 @@ use krb_accounts::{
 use krb_constants::types::{AS_REQ_MSG_TYPE, TGS_REQ_MSG_TYPE};
 use krb_crypto::CipherSuite;
 use krb_frames::AnswerRefusal;
-use krb_replies::{Call, as_reply, krbtgt_of, read_as_req, read_tgs_req, tgs_reply};
+use krb_kdc_requests::{Call, read_as_req, read_tgs_req};
+use krb_replies::{as_reply, tgs_reply};
 use krb_time::Moment;
-use krb_types::krbtgt;
+use krb_types::{krbtgt, krbtgt_of};
 use picky_asn1::wrapper::GeneralStringAsn1;
 use pkinit_requests::RealmPkinit;
 use std::alloc::Global;

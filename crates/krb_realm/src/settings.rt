@@ -7,7 +7,8 @@ ghost use Rattle.krb_realm.specs.Settings.{IsCertificateIf, IsOwnCertificate, se
 
 use key_functions::KeyFunctions;
 use krb_accounts::{RealmRefusal, Settings as Limits};
-use pkinit_requests::{Anchor, RealmPkinit};
+use pkinit_requests::RealmPkinit;
+use pkinit_trust::Anchor;
 use std::alloc::{AllocError, Global};
 use std::marker::Model;
 use x509_spelling::X509Fault;

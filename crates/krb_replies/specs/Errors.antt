@@ -9,7 +9,7 @@ use Rattle.krb_messages.specs.declared.messages.krb_error.KrbErrorInner.{KrbErro
 use Rattle.krb_types.specs.declared.data_types.principal_name.PrincipalName.{PrincipalName}
 use Rattle.krb_types.specs.Refusals.{Code}
 use Rattle.krb_messages.specs.Messages.{krb_error_tree}
-use Rattle.krb_as.specs.TicketGranting.{krbtgt_of}
+use Rattle.krb_types.specs.TicketGranting.{krbtgt_of}
 
 -- the realm's ticket-granting service by its name, of type 2 (RFC 4120, section 7.3)
 abbrev pub ticket_service : Bytes → PrincipalName

@@ -2,4 +2,3 @@ pub mod Errors
 pub mod Replies
 pub mod Involved
 pub mod Judged
-pub use Rattle.krb_tgs.specs.TgsTable

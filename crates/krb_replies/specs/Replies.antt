@@ -9,7 +9,7 @@ use Rattle.krb_constants.specs.declared.error_codes.TheConstants.{KDC_ERR_PREAUT
 use Rattle.krb_accounts.specs.Account.{AccountRecord}
 use Rattle.pkinit_interface.specs.Rows.{PkinitRows}
 use Rattle.decision_tables.specs.Tables.{Table, done, ask, make}
-use Rattle.krb_as.specs.MethodData.{method_data_bytes}
+use Rattle.krb_tickets.specs.MethodData.{method_data_bytes}
 use Rattle.krb_messages.specs.Messages.{IsAsReq, IsTgsReq, sole_as_req, sole_tgs_req}
 use Rattle.krb_as.specs.AsTable.{as_table}
 use Rattle.krb_kdc_requests.specs.Call.{CallRecord}

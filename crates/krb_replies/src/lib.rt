@@ -11,6 +11,3 @@ pub mod laws;
 mod names;
 
 pub use answer::{as_reply, tgs_reply};
-pub use krb_as::krbtgt_of;
-pub use krb_kdc_requests::{Call, read_as_req, read_tgs_req};
-pub use krb_tgs::laws::body_is_part;

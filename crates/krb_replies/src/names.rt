@@ -2,9 +2,9 @@
 ghost use Rattle.std.specs.Prelude.{◌≡◌, IfOk};
 ghost use Rattle.krb_replies.specs.Errors.{ticket_service};
 
-use krb_as::krbtgt_of;
 use krb_constants::types::NT_SRV_INST;
 use krb_types::data_types::PrincipalName;
+use krb_types::krbtgt_of;
 use picky_asn1::wrapper::{Asn1SequenceOf, GeneralStringAsn1, IntegerAsn1};
 use picky_asn1_der::ExplicitContextTag;
 use std::alloc::{AllocError, Global};

@@ -4,7 +4,7 @@ use Rattle.std.specs.Prelude.{ℤ, pos, negsuc}
 use Rattle.std.proofs.lemmas.Bool.{cases_lt}
 use Rattle.std.proofs.lemmas.List.{length-take-le}
 use Rattle.asn1_der.specs.Tree.{der}
-use Rattle.picky_asn1.specs.GeneralizedTime.{seconds_of}
+use Rattle.asn1_leaves.specs.GeneralizedTime.{seconds_of}
 use Rattle.aes_cts.specs.Bytes.{IsBytes}
 use Rattle.aes_cts.proofs.States.{IsBytes-take}
 use Rattle.krb_crypto.specs.Suites.{cipher_confounder_size, cipher_key_size}

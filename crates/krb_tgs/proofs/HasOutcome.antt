@@ -2,7 +2,7 @@
 use Rattle.std.proofs.Common.{◌≡◌, ◌<◌, ℕ, ◌^◌, not, List, length, Option, None, Some, Result, Ok, Err, inl, inr, refl, sym, subst}
 use Rattle.std.specs.Option.{is_some, option_map}
 use Rattle.aes_cts.specs.Bytes.{IsBytes}
-use Rattle.picky_asn1.specs.GeneralizedTime.{seconds_of}
+use Rattle.asn1_leaves.specs.GeneralizedTime.{seconds_of}
 use Rattle.picky_asn1.specs.Numbers.{is_number}
 use Rattle.krb_time.specs.Skew.{is_far}
 use Rattle.krb_crypto.specs.declared.suite.CipherSuite.{CipherSuite}

@@ -4,7 +4,7 @@ ghost use Rattle.krb_kdc_requests.specs.Requests.{body_bytes, body_of};
 ghost use Rattle.krb_messages.specs.Messages.{IsTgsReq};
 ghost use Rattle.krb_messages.specs.declared.messages.kdc_req.KdcReq.{KdcReq};
 ghost use Rattle.picky_asn1.specs.Bytes.{Bytes};
-ghost use Rattle.picky_asn1_der.specs.Parts.{IsPart};
+ghost use Rattle.asn1_elements.specs.Parts.{IsPart};
 
 /// What a request's checksum is computed over, the one encoding of its body, is in the request's own bytes, and its place
 /// leads to nothing else: inside the application tag, where preauthentication data is there, the SEQUENCE's element number 3,

@@ -3,7 +3,7 @@ use Rattle.std.specs.Prelude.{◌≡◌, ℕ, List, [], ◌∷◌, Option, None,
 use Rattle.std.specs.Option.{option_map}
 use Rattle.asn1_der.specs.Length.{element, length_octets}
 use Rattle.asn1_der.specs.Tree.{Tree, constructed, der, trees_of}
-use Rattle.picky_asn1.specs.CharSets.{is_general_string}
+use Rattle.asn1_leaves.specs.CharSets.{is_general_string}
 use Rattle.picky_asn1.specs.Integer.{integer_content, natural_octets}
 use Rattle.picky_asn1.specs.Bytes.{Bytes}
 use Rattle.krb_crypto.specs.declared.suite.CipherSuite.{CipherSuite}

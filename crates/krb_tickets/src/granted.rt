@@ -4,10 +4,10 @@ ghost use Rattle.std.specs.Prelude.{◌≤◌, length, IfOk};
 ghost use Rattle.krb_tickets.specs.Grant.{grant_of};
 ghost use Rattle.krb_tickets.specs.Granted.{IsTicketReply, reply_key_of};
 
-use crate::confounder_at;
 use crate::grant::{Grant, sealed_ticket};
 use crate::reply::{ReplyKey, reply_bytes, sealed_reply};
 use krb_accounts::Account;
+use krb_encrypted_data::confounder_at;
 use krb_types::random_bytes::{REPLY_CONFOUNDER, TICKET_CONFOUNDER};
 use std::alloc::{AllocError, Global};
 

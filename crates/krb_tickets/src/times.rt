@@ -1,7 +1,7 @@
 //! A ticket's times.
 ghost use Rattle.std.specs.Prelude.{◌≡◌, ◌≤◌, ◌<◌, ◌+◌};
 ghost use Rattle.std.specs.Option.{option_map};
-ghost use Rattle.picky_asn1.specs.GeneralizedTime.{seconds_of};
+ghost use Rattle.asn1_leaves.specs.GeneralizedTime.{seconds_of};
 ghost use Rattle.krb_tickets.specs.Times.{end_of, old_end, start_of};
 
 use krb_accounts::Settings;

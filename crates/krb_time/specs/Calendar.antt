@@ -2,7 +2,7 @@
 use Rattle.std.specs.Prelude.{◌≡◌, ◌*◌}
 use Rattle.asn1_leaves.specs.declared.date.GeneralizedTime.{GeneralizedTime}
 use Rattle.picky_asn1.specs.Bytes.{Bytes}
-use Rattle.picky_asn1.specs.GeneralizedTime.{time_text, seconds_of}
+use Rattle.asn1_leaves.specs.GeneralizedTime.{time_text, seconds_of}
 use Rattle.krb_time.specs.Units.{Micros}
 
 -- the moment at which the second of this text begins

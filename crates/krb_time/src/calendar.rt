@@ -1,7 +1,7 @@
 //! Moments on the calendar.
 ghost use Rattle.std.specs.Prelude.{◌≡◌, ◌≢◌, ◌≤◌, ◌+◌, ◌*◌, ◌/◌, ◌%◌, ◌<◌, MatchOption};
 ghost use Rattle.asn1_leaves.specs.declared.date.GeneralizedTime.{GeneralizedTime as Time};
-ghost use Rattle.picky_asn1.specs.GeneralizedTime.{time_text, seconds_of};
+ghost use Rattle.asn1_leaves.specs.GeneralizedTime.{time_text, seconds_of};
 ghost use Rattle.krb_time.specs.Calendar.{IsMomentOfText};
 ghost use Rattle.krb_time.specs.Skew.{is_before};
 

@@ -1,6 +1,6 @@
 //! Times of messages.
 ghost use Rattle.std.specs.Prelude.{◌≡◌};
-ghost use Rattle.picky_asn1.specs.GeneralizedTime.{seconds_of};
+ghost use Rattle.asn1_leaves.specs.GeneralizedTime.{seconds_of};
 ghost use Rattle.krb_time.specs.Times.{moment_at};
 
 use crate::calendar::MICROSECONDS_IN_SECOND;

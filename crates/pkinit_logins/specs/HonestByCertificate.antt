@@ -1,7 +1,7 @@
 -- Which logins by certificate are honest (RFC 4556, section 3.2).
 use Rattle.std.specs.Prelude.{◌≡◌, Some}
 use Rattle.picky_asn1.specs.Bytes.{Bytes}
-use Rattle.krb_as.specs.TicketGranting.{krbtgt_of}
+use Rattle.krb_types.specs.TicketGranting.{krbtgt_of}
 use Rattle.krb_client.specs.Asked.{agreement_part}
 use Rattle.krb_client.specs.Client.{ClientRecord}
 use Rattle.krb_service.specs.Service.{ServiceRecord}

@@ -1,7 +1,7 @@
 //! Whether a login by certificate is honest: the premise of its law, judged by what the parties hold.
 ghost use Rattle.std.specs.Prelude.{◌≡◌, ◌≤◌, IfOk, IsTrue, length};
 ghost use Rattle.krb_accounts.specs.Names.{parts};
-ghost use Rattle.krb_as.specs.TicketGranting.{krbtgt_of};
+ghost use Rattle.krb_types.specs.TicketGranting.{krbtgt_of};
 ghost use Rattle.krb_logins.specs.Authenticated.{first_body};
 ghost use Rattle.krb_logins.specs.Input.{held_by, login_of, realm_of};
 ghost use Rattle.krb_logins.specs.Parties.{call_at};

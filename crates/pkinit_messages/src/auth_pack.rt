@@ -14,7 +14,8 @@ use picky_asn1_der::{
     Serializer, Tagged, fields_of, from_fields, read_sequence,
 };
 use std::alloc::AllocError;
-use x509_keys::{AlgorithmIdentifier, SubjectPublicKeyInfo};
+use x509_algorithms::AlgorithmIdentifier;
+use x509_keys::SubjectPublicKeyInfo;
 
 /// What a client signs to authenticate by certificate (RFC 4556, section 3.2.1). Its public value is a type of the agreement.
 ///

@@ -6,7 +6,7 @@ use Rattle.krb_types.specs.Refusals.{Code}
 use Rattle.krb_constants.specs.declared.error_codes.TheConstants.{KRB_ERR_GENERIC}
 use Rattle.decision_tables.specs.Tables.{Table, ask, done}
 use Rattle.decision_tables.proofs.Outcomes.{HasOutcome, has_asked, has_done, has_needed}
-use Rattle.cms_signed_data.specs.KeyFunctions.{KeysRecord}
+use Rattle.key_functions.specs.KeyFunctions.{KeysRecord}
 use Rattle.cms_signed_data.specs.Written.{IsWritten}
 use Rattle.pkinit_replies.specs.AgreementBytes.{agreement_bytes}
 use Rattle.pkinit_replies.specs.declared.public_key.AgreementPublicKey.{AgreementPublicKey}

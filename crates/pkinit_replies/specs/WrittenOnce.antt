@@ -4,18 +4,18 @@ use Rattle.asn1_der.specs.Length.{element}
 use Rattle.asn1_elements.specs.Parts.{IsPart}
 use Rattle.asn1_elements.specs.PartLaws.{part-one}
 use Rattle.asn1_elements.specs.PathLaws.{LeadsTo, go_on, held_at, part_there}
-use Rattle.cms_signed_data.specs.CertificateSpelled.TheImpl as certificate
+use Rattle.x509_certificates.specs.contracts.certificate.CertificateSpelled.TheImpl as certificate
 use Rattle.x509_parts.specs.contracts.raw_algorithm_identifier.RawAlgorithmIdentifierSpelled.TheImpl as raw_spelled
-use Rattle.cms_signed_data.specs.Signed.{Signed}
-use Rattle.cms_signed_data.specs.PartSpellings.{PartSpellings}
-use Rattle.cms_signed_data.specs.Parts.{AreCertificates, AreDigests, AreSigners, IsContentInfo, IsSignedData, IsTagged, certificate_place, certificates_are, digests_are, signed_are, signers_are, tagged_are}
-use Rattle.cms_signed_data.specs.SignedRows.{content_row, signed_row}
-use Rattle.cms_signed_data.specs.ContentInfoSpelled.TheImpl as content_info
-use Rattle.cms_signed_data.specs.ContentInfoOfForm.TheImpl as of_form
-use Rattle.cms_signed_data.specs.SignerInfoSpelled.TheImpl as signer_info
-use Rattle.cms_signed_data.specs.ContentInfo.{ContentInfo}
-use Rattle.cms_signed_data.specs.SetOfOne.{SetOfOne}
-use Rattle.cms_signed_data.specs.SignerInfo.{SignerInfo}
+use Rattle.key_functions.specs.declared.functions.Signed.{Signed}
+use Rattle.cms_types.specs.PartSpellings.{PartSpellings}
+use Rattle.cms_types.specs.Parts.{AreCertificates, AreDigests, AreSigners, IsContentInfo, IsSignedData, IsTagged, certificate_place, certificates_are, digests_are, signed_are, signers_are, tagged_are}
+use Rattle.cms_types.specs.SignedRows.{content_row, signed_row}
+use Rattle.cms_types.specs.contracts.content_info.ContentInfoSpelled.TheImpl as content_info
+use Rattle.cms_types.specs.contracts.form.ContentInfoOfForm.TheImpl as of_form
+use Rattle.cms_types.specs.contracts.signer_info.SignerInfoSpelled.TheImpl as signer_info
+use Rattle.cms_types.specs.declared.content_info.ContentInfo.{ContentInfo}
+use Rattle.cms_types.specs.declared.set_of_one.SetOfOne.{SetOfOne}
+use Rattle.cms_types.specs.declared.signer_info.SignerInfo.{SignerInfo}
 use Rattle.x509_parts.specs.declared.raw_algorithm_identifier.RawAlgorithmIdentifier.{RawAlgorithmIdentifier}
 use Rattle.cms_signed_data.specs.Written.{IsUnsigned, IsWritten, info_of}
 use Rattle.pkinit_replies.specs.SignedRowLaws.{HasOneStrict, held_strict, fourth_leads, five_same, second_leads, two_same, none_before, whole_count}

@@ -7,7 +7,7 @@ ghost use Rattle.pkinit_replies.specs.Replies.{as_bytes, dh_reply_bytes, dh_repl
 
 use crate::public_key::AgreementPublicKey;
 use crate::signed::{key_info_bytes, signed_key_info};
-use cms_signed_data::KeyFunctions;
+use key_functions::KeyFunctions;
 use krb_constants::error_codes;
 use krb_encrypted_data::read_whole;
 use krb_types::Refusal;

@@ -4,7 +4,8 @@ ghost use Rattle.picky_asn1.specs.Bytes.{Bytes};
 ghost use Rattle.cms_signed_data.specs.Written.{IsWritten};
 ghost use Rattle.pkinit_replies.specs.Replies.{dh_key_data, key_info_bytes, key_info_of};
 
-use cms_signed_data::{KeyFunctions, SignedContent, SignedFault};
+use cms_signed_data::{SignedContent, SignedFault};
+use key_functions::KeyFunctions;
 use picky_asn1::oid::ObjectIdentifier;
 use picky_asn1::wrapper::{BitStringAsn1, IntegerAsn1};
 use picky_asn1_der::{ExplicitContextTag, Optional, encoding_of};

@@ -10,7 +10,7 @@ use Rattle.asn1_der.specs.Tagged.{tagged_tree}
 use Rattle.asn1_der.proofs.Tagged.{tagged-injective}
 use Rattle.asn1_elements.specs.Raw.{Raw}
 use Rattle.picky_asn1.specs.Bytes.{Bytes}
-use Rattle.picky_asn1.specs.GeneralizedTime.{seconds_of}
+use Rattle.asn1_leaves.specs.GeneralizedTime.{seconds_of}
 use Rattle.decision_tables.specs.One.{IsSole}
 use Rattle.krb_time.specs.Times.{moment_at}
 use Rattle.krb_time.specs.Units.{Micros}

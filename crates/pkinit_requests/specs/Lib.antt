@@ -5,10 +5,3 @@ pub mod Judging
 pub mod PkinitRows
 pub mod PkinitTable
 pub mod Trust
-pub use Rattle.cms_signed_data.specs.Parts
-pub use Rattle.cms_signed_data.specs.SignedContents
-pub use Rattle.cms_signed_data.specs.SignedParts
-pub use Rattle.pkinit_trust.specs.Anchors
-pub use Rattle.pkinit_trust.specs.Certificate
-pub use Rattle.pkinit_trust.specs.CertificateSpelled
-pub use Rattle.pkinit_trust.specs.Certificates

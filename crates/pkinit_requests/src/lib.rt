@@ -12,5 +12,4 @@ mod realm;
 mod signer;
 mod table;
 
-pub use pkinit_trust::Anchor;
 pub use realm::RealmPkinit;

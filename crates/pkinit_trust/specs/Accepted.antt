@@ -3,7 +3,7 @@ use Rattle.std.specs.Prelude.{◌/◌, nat_le, Bool, false, true, not, ◌&&◌,
 use Rattle.std.specs.Bool.{nat_eq}
 use Rattle.std.specs.List.{list_any}
 use Rattle.std.specs.Cmp.Lexicographic.{pointwise}
-use Rattle.picky_asn1.specs.GeneralizedTime.{seconds_of}
+use Rattle.asn1_leaves.specs.GeneralizedTime.{seconds_of}
 use Rattle.krb_time.specs.Units.{Micros, Seconds}
 use Rattle.decision_tables.specs.Tables.{Table, and_then, done, refuse}
 use Rattle.x509_parts.specs.declared.time.Time.{Time}

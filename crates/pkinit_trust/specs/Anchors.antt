@@ -1,7 +1,7 @@
 -- Trust anchors (RFC 5280, section 6.1.1).
 use Rattle.std.specs.Prelude.{◌≡◌, ◌⊎◌, ◌↔◌, ℕ, List, Result, Ok, Err}
 use Rattle.picky_asn1.specs.Bytes.{Bytes}
-use Rattle.x509_certificates.specs.SubjectPublicKeyInfo.{SubjectPublicKeyInfo}
+use Rattle.x509_keys.specs.declared.subject_public_key_info.SubjectPublicKeyInfo.{SubjectPublicKeyInfo}
 use Rattle.x509_certificates.specs.declared.certificate.Certificate.{Certificate}
 use Rattle.x509_spelling.specs.declared.fault.X509Fault.{X509Fault}
 use Rattle.x509_spelling.specs.declared.fault.X509Fault.TheVariants.{Memory}

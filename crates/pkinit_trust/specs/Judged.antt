@@ -1,7 +1,7 @@
 -- What is judged of signed content (RFC 5652, section 5).
 use Rattle.std.specs.Prelude.{ℤ}
 use Rattle.picky_asn1.specs.Bytes.{Bytes}
-use Rattle.x509_certificates.specs.AlgorithmIdentifier.{AlgorithmIdentifier}
+use Rattle.x509_algorithms.specs.declared.algorithm_identifier.AlgorithmIdentifier.{AlgorithmIdentifier}
 use Rattle.x509_certificates.specs.Certificates.{NameSets}
 use Rattle.pkinit_trust.specs.declared.judged.JudgedContent as held
 

@@ -8,5 +8,3 @@ pub mod Refusals
 pub mod SignedContents
 pub mod Signers
 pub mod Trusted
-pub use Rattle.x509_certificates.specs.contracts.certificate.CertificateSpelled
-pub use Rattle.x509_certificates.specs.declared.certificate.Certificate

@@ -5,7 +5,8 @@ ghost use Rattle.pkinit_trust.specs.Anchors.{ReadsMade};
 use crate::certificates::name_bytes;
 use std::alloc::{AllocError, Global};
 use std::marker::Model;
-use x509_certificates::{Certificate, SubjectPublicKeyInfo};
+use x509_certificates::Certificate;
+use x509_keys::SubjectPublicKeyInfo;
 use x509_spelling::{Spelled, X509Fault, from_bytes};
 
 /// An authority that is trusted to issue certificates: its name and its public key (RFC 5280, section 6.1.1). Contracts see

@@ -3,7 +3,7 @@ ghost use Rattle.std.specs.Prelude.{◌≡◌};
 
 use cms_signed_data::SignedContent;
 use picky_asn1::wrapper::IntegerAsn1;
-use x509_certificates::AlgorithmIdentifier;
+use x509_algorithms::AlgorithmIdentifier;
 use x509_names::Name;
 
 /// The parts of signed content that tell who signed it (RFC 5652, section 5).

@@ -2,7 +2,8 @@
 
 use crate::rows::{Rows, columns_of};
 use anyhow::bail;
-use krb_program::{Moment, Outcome, Stop, run_settings};
+use krb_program::{Outcome, Stop, run_settings};
+use krb_realm::Moment;
 use std::alloc::Global;
 
 /// Runs with settings, random bytes, moment and standard input, each in a column, and what is expected of them.

@@ -1,6 +1,6 @@
 //! Frames of an exchange that changes a password, by RFC 3244, section 2.
 
-use asn1_codec::Asn1DerError;
+use asn1_der::Asn1DerError;
 use kpasswd_messages::{KrbPrivFrame, KrbPrivFrameError};
 use picky_asn1_der::Asn1RawDer;
 use std::alloc::Global;

@@ -5,4 +5,3 @@ pub mod AlgorithmsMade
 pub mod DigestRows
 pub mod HashIdentifiers
 pub mod Named
-pub use Rattle.x509_parameters.specs.declared.ec_parameters.EcParameters

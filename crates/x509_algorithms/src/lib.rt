@@ -19,5 +19,3 @@ pub use algorithm_kinds::{AlgorithmIdentifierParameters, AlgorithmKinds};
 pub use digest_info::DigestInfo;
 pub use hash_identifier::HashIdentifier;
 pub use named::{PlainAlgorithm, RsaAlgorithm};
-pub use x509_parameters::EcParameters;
-pub use x509_spelling::read_strict;

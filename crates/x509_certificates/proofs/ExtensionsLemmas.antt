@@ -1,7 +1,7 @@
 -- No value holds an empty list that is written.
 use Rattle.std.proofs.Common.{◌≡◌, Bool, true, false, List, Option, subst}
 use Rattle.std.specs.Prelude.{IsTrue}
-use Rattle.x509_spelling.specs.Optional.{Optional}
+use Rattle.asn1_codec.specs.declared.optional.Optional.{Optional}
 use Rattle.x509_extensions.specs.declared.extension.Extension.{Extension}
 use Rattle.x509_open_types.specs.declared.enclosed.Explicit.{Explicit}
 use Rattle.x509_certificates.specs.ExtensionsFields.{is_written}

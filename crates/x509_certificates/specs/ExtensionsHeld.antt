@@ -4,7 +4,7 @@ use Rattle.x509_extensions.specs.declared.authority_key_identifier.AuthorityKeyI
 use Rattle.x509_extensions.specs.declared.extension.Extension.{Extension}
 use Rattle.x509_extensions.specs.declared.extension_value.ExtensionValue.{ExtensionValue}
 use Rattle.x509_extensions.specs.declared.extension_value.ExtensionValue.TheVariants as kind
-use Rattle.x509_extensions.specs.Parameters.{or_else}
+use Rattle.x509_names.specs.Parameters.{or_else}
 use Rattle.x509_parts.specs.declared.basic_constraints.BasicConstraints.{BasicConstraints}
 
 abbrev pub first_among : {T : Type 0} → (ExtensionValue → Option T) → List Extension → Option T

@@ -5,7 +5,7 @@ use Rattle.std.specs.Prelude.{⊤, Option, IsTrue}
 use mathlib.Core.HLevel.{is_prop→PathP}
 use Rattle.asn1_der.specs.Tree.{Trees}
 use Rattle.asn1_der.specs.Firsts.{Firsts}
-use Rattle.x509_spelling.specs.Optional.{Optional}
+use Rattle.asn1_codec.specs.declared.optional.Optional.{Optional}
 use Rattle.x509_extensions.specs.declared.extension.Extension.{Extension}
 use Rattle.x509_open_types.specs.declared.enclosed.Explicit.{Explicit}
 use Rattle.x509_spelling.specs.Laws.{RowLaws}

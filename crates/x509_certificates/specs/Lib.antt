@@ -2,10 +2,5 @@ pub mod Certificates
 pub mod ExtensionsFields
 pub mod ExtensionsHeld
 pub mod ExtensionsLaws
-pub use Rattle.x509_keys.specs.AlgorithmIdentifier
-pub use Rattle.x509_keys.specs.AlgorithmIdentifierParameters
-pub use Rattle.x509_keys.specs.AlgorithmIdentifierSerialize
-pub use Rattle.x509_keys.specs.AlgorithmKinds
-pub use Rattle.x509_keys.specs.declared.subject_public_key_info.SubjectPublicKeyInfo
 pub mod AttributesAdded
 pub mod Requests

@@ -12,8 +12,8 @@ use byte_streams::Sink;
 use picky_asn1::wrapper::BitStringAsn1;
 use picky_asn1_der::{Asn1DerError, LentFields, Serialize, Serializer, fields_of};
 use std::alloc::{AllocError, Global};
+use x509_algorithms::AlgorithmIdentifier;
 use x509_extensions::{AuthorityKeyIdentifier, Extension, SubjectKeyIdentifier};
-use x509_keys::AlgorithmIdentifier;
 use x509_parts::BasicConstraints;
 use x509_spelling::{
     Ahead, Counted, Signed, Spelled, SpelledFields, X509Fault, read_fields, with_signed_part,

@@ -15,6 +15,3 @@ pub use certification_request::CertificationRequest;
 pub use certification_request_info::CertificationRequestInfo;
 pub use tbs_certificate::TbsCertificate;
 pub use version_field::VersionField;
-pub use x509_extensions::Name;
-pub use x509_keys::{AlgorithmIdentifier, AlgorithmIdentifierParameters, SubjectPublicKeyInfo};
-pub use x509_spelling::Ahead;

@@ -12,8 +12,9 @@ use picky_asn1_der::{
     Asn1DerError, DefaultField, ExplicitContextTag, LentFields, Serialize, Serializer, fields_of,
 };
 use std::alloc::{AllocError, Global};
-use x509_extensions::Name;
-use x509_keys::{AlgorithmIdentifier, SubjectPublicKeyInfo};
+use x509_algorithms::AlgorithmIdentifier;
+use x509_keys::SubjectPublicKeyInfo;
+use x509_names::Name;
 use x509_parts::{Validity, Version};
 use x509_spelling::{Ahead, Counted, Spelled, SpelledFields, X509Fault, read_fields};
 

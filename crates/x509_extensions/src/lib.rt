@@ -21,5 +21,3 @@ pub use extension_value::{
 pub use extension_view::ExtensionView;
 pub use extensions::Extensions;
 pub use key_usage::KeyUsage;
-pub use x509_names::Name;
-pub use x509_spelling::Critical;

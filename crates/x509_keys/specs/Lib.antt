@@ -1,7 +1,3 @@
 pub mod KeyIdentifiers
 pub mod KeyInfoLaws
 pub mod PublicKeys
-pub use Rattle.x509_algorithms.specs.AlgorithmKinds
-pub use Rattle.x509_algorithms.specs.contracts.algorithm_identifier.AlgorithmIdentifierSerialize
-pub use Rattle.x509_algorithms.specs.declared.algorithm_identifier.AlgorithmIdentifier
-pub use Rattle.x509_algorithms.specs.declared.algorithm_kinds.AlgorithmIdentifierParameters

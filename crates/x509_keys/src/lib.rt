@@ -12,4 +12,3 @@ pub use public_key::{
 };
 pub use rsa_public_key::{EncapsulatedRsaPublicKey, RsaPublicKey};
 pub use subject_public_key_info::SubjectPublicKeyInfo;
-pub use x509_algorithms::{AlgorithmIdentifier, AlgorithmIdentifierParameters};

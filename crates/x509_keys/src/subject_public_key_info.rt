@@ -1,7 +1,7 @@
 //! Public keys with their algorithms (RFC 5280, section 4.1.2.7).
 ghost use Rattle.std.specs.Prelude.{◌≡◌, ℕ, List, true, false, IsTrue, IfOk, MatchResult};
 ghost use Rattle.x509_keys.specs.PublicKeys.{is_key_of, kinds_of};
-ghost use Rattle.x509_algorithms.specs.EcParameters.TheVariants.{NamedCurve};
+ghost use Rattle.x509_parameters.specs.declared.ec_parameters.EcParameters.TheVariants.{NamedCurve};
 ghost use Rattle.asn1_der.specs.Octets.{sequence_octet};
 
 use crate::public_key::{EncapsulatedEcPoint, PublicKey, PublicKinds, is_of, of_kinds};
@@ -12,9 +12,10 @@ use picky_asn1::oid::ObjectIdentifier;
 use picky_asn1::wrapper::{BitStringAsn1Container, IntegerAsn1};
 use picky_asn1_der::{Asn1DerError, Deserialize, Deserializer, Serialize, Serializer};
 use std::alloc::{AllocError, Global};
-use x509_algorithms::{AlgorithmIdentifier, EcParameters, read_strict};
+use x509_algorithms::AlgorithmIdentifier;
 use x509_open_types::{Identified, Kinds, read_chosen_in};
-use x509_spelling::{Ahead, Counted, Spelled, SpelledItem, X509Fault};
+use x509_parameters::EcParameters;
+use x509_spelling::{Ahead, Counted, Spelled, SpelledItem, X509Fault, read_strict};
 
 /// A public key, and the algorithm that it is for. Inside a message of another kind, as one of Kerberos, the strict spelling alone is
 /// read.

@@ -4,7 +4,7 @@ use Rattle.std.specs.List.{flat_map, join_with_byte}
 use Rattle.std.proofs.lemmas.List.Concat.{flat_map-append}
 use Rattle.asn1_der.specs.Length.{element, length_octets}
 use Rattle.picky_asn1.specs.IntegerText.{hexadecimal}
-use Rattle.picky_asn1_der.specs.Raw.{Raw}
+use Rattle.asn1_elements.specs.Raw.{Raw}
 use Rattle.x509_names.specs.NameText.{element_text}
 
 -- what is behind the first of the joined texts, each text behind the byte

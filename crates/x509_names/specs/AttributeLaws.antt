@@ -8,7 +8,7 @@ use Rattle.asn1_der.proofs.Tagged.{TagLaws}
 use Rattle.asn1_leaves.specs.ObjectIdentifier.{oid_content}
 use Rattle.picky_asn1.specs.declared.wrapper.ObjectIdentifierAsn1.{ObjectIdentifierAsn1}
 use Rattle.asn1_leaves.specs.CharSets.{is_general_string}
-use Rattle.picky_asn1_der.specs.Raw.{Raw, has_low_number}
+use Rattle.asn1_elements.specs.Raw.{Raw, has_low_number}
 use Rattle.x509_parts.specs.declared.directory_string.DirectoryString.{DirectoryString}
 use Rattle.x509_parts.specs.declared.directory_string.DirectoryString.TheVariants.{PrintableString, Utf8String, BmpString}
 use Rattle.x509_names.specs.declared.attribute_type_and_value.AttributeValue.{AttributeValue}

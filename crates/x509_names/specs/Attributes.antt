@@ -5,7 +5,7 @@ use Rattle.std.specs.Cmp.Lexicographic.{pointwise}
 use Rattle.std.specs.Str.{is_utf8}
 use Rattle.asn1_leaves.specs.CharSets.{is_printable_string, is_bmp_string, is_general_string}
 use Rattle.asn1_leaves.specs.ObjectIdentifier.{oid_content, subidentifier}
-use Rattle.picky_asn1_der.specs.Raw.{Raw, has_low_number}
+use Rattle.asn1_elements.specs.Raw.{Raw, has_low_number}
 use Rattle.x509_oids.specs.Identifiers as oids
 use Rattle.x509_parts.specs.declared.directory_string.DirectoryString.{DirectoryString}
 use Rattle.x509_parts.specs.declared.directory_string.DirectoryString.TheVariants.{PrintableString, Utf8String, BmpString}

@@ -4,7 +4,7 @@ use Rattle.std.specs.List.{flat_map, join_with_byte}
 use Rattle.asn1_der.specs.Length.{element}
 use Rattle.asn1_leaves.specs.ObjectIdentifier.{dotted_text}
 use Rattle.picky_asn1.specs.IntegerText.{hexadecimal}
-use Rattle.picky_asn1_der.specs.Raw.{Raw}
+use Rattle.asn1_elements.specs.Raw.{Raw}
 use Rattle.x509_parts.specs.DirectoryStrings.{lossy_text}
 use Rattle.x509_names.specs.declared.attribute_type_and_value.AttributeValue.{AttributeValue}
 use Rattle.x509_names.specs.declared.attribute_type_and_value.AttributeValue.TheVariants.{Directory, Email, Custom}

@@ -2,15 +2,16 @@
 ghost use Rattle.std.specs.Prelude.{◌≡◌, ◌+◌, ◌%◌, true, MatchResult};
 ghost use Rattle.asn1_der.specs.Tree.{wrapped};
 ghost use Rattle.asn1_der.specs.Firsts.{only};
-ghost use Rattle.x509_spelling.specs.Refusals.{part_refusal};
-ghost use Rattle.x509_spelling.specs.Raw.{has_low_number};
+ghost use Rattle.asn1_codec.specs.Refusals.{part_refusal};
+ghost use Rattle.asn1_elements.specs.Raw.{has_low_number};
 ghost use Rattle.x509_spelling.specs.Spellings.{Holds};
 ghost use Rattle.x509_spelling.specs.Answers.{Tells};
 ghost use Rattle.asn1_der.specs.Octets.{octet_string_octet};
 
 use byte_streams::Sink;
+use picky_asn1_der::{Asn1DerError, Serialize, Serializer};
 use std::alloc::Global;
-use x509_spelling::{Asn1DerError, Counted, Serialize, Serializer, Spelled, X509Fault, content_of};
+use x509_spelling::{Counted, Spelled, X509Fault, content_of};
 
 /// A value whose spelling an OCTET STRING holds. What deviates there counts.
 #[derive(Drop)]

@@ -8,10 +8,9 @@ ghost use Rattle.x509_open_types.specs.KindLaws.{KindLaws};
 
 use byte_streams::Sink;
 use picky_asn1::oid::ObjectIdentifier;
+use picky_asn1_der::{Asn1DerError, Serializer, WriteFields};
 use std::alloc::Global;
-use x509_spelling::{
-    Asn1DerError, Counted, Serializer, SpelledFields, SpelledItem, WriteFields, X509Fault, sum_of,
-};
+use x509_spelling::{Counted, SpelledFields, SpelledItem, X509Fault, sum_of};
 
 /// Fields of one kind, with the object identifiers that denote it.
 pub trait Kind: SpelledFields {

@@ -5,9 +5,10 @@ ghost use Rattle.asn1_leaves.specs.ObjectIdentifier.{oid_content};
 use crate::kinds::Kind;
 use byte_streams::Sink;
 use picky_asn1::oid::ObjectIdentifier;
+use picky_asn1_der::{Asn1DerError, Serializer, WriteFields};
 use std::alloc::Global;
 use std::marker::{Model, PhantomData};
-use x509_spelling::{Asn1DerError, Counted, Serializer, SpelledFields, WriteFields, X509Fault};
+use x509_spelling::{Counted, SpelledFields, X509Fault};
 
 /// Some object identifiers, as a type.
 pub trait Identifiers {

@@ -7,7 +7,7 @@ use Rattle.asn1_der.specs.Length.{element}
 use Rattle.asn1_der.proofs.Elements.{element-split}
 use Rattle.asn1_der.specs.Firsts.{any_octet}
 use Rattle.asn1_der.proofs.Leaf.{leaf-whole, whole-leaf, der-leaf}
-use Rattle.picky_asn1_der.specs.Raw.{Raw, has_low_number, raw_tree}
+use Rattle.asn1_elements.specs.Raw.{Raw, has_low_number, raw_tree}
 use Rattle.picky_asn1_der.specs.RawLaws.{raw-injective}
 use Rattle.x509_spelling.specs.Spellings.{IsExact, has_low_tag}
 use Rattle.x509_spelling.specs.Laws.{SpellingLaws}

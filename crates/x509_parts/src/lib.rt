@@ -18,4 +18,3 @@ pub use raw_algorithm_identifier::{RawAlgorithmIdentifier, RawParameters};
 pub use time::Time;
 pub use validity::Validity;
 pub use version::Version;
-pub use x509_spelling::{CaFlag, X509Fault, deviations, encoded_len, from_bytes, to_vec};

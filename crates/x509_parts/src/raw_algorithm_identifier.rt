@@ -30,7 +30,7 @@ impl Clone for RawParameters {
 
 impl Serialize for RawParameters {
     ghost use Rattle.std.specs.Prelude.{refl};
-    ghost use Rattle.picky_asn1_der.specs.Raw.{raw_tree};
+    ghost use Rattle.asn1_elements.specs.Raw.{raw_tree};
     ghost use Rattle.picky_asn1_der.specs.RawLaws.{raw-begins, raw-injective};
     ghost use Rattle.asn1_der.specs.Firsts.{any_octet};
 
@@ -61,7 +61,7 @@ impl Deserialize for RawParameters {
 impl Spelled for RawParameters {
     ghost use Rattle.std.specs.Prelude.{refl, true};
     ghost use Rattle.asn1_der.specs.Firsts.{any_octet};
-    ghost use Rattle.picky_asn1_der.specs.Raw.{raw_tree};
+    ghost use Rattle.asn1_elements.specs.Raw.{raw_tree};
     ghost use Rattle.x509_spelling.specs.Spellings.{IsExact};
     ghost use Rattle.x509_parts.specs.RawParameters.{raw_laws};
 

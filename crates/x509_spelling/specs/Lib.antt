@@ -5,12 +5,6 @@ pub mod Laws
 pub mod PlainLaws
 pub mod FieldLaws
 pub mod RowLaws
-pub use Rattle.asn1_der.specs.Firsts
-pub use Rattle.asn1_der.specs.Tagged
-pub use Rattle.asn1_der.specs.Tree
-pub use Rattle.picky_asn1_der.specs.Optional
-pub use Rattle.picky_asn1_der.specs.Raw
-pub use Rattle.picky_asn1_der.specs.Refusals
 pub mod StrictReading
 pub mod SignedParts
 pub mod Defaults

@@ -1,8 +1,8 @@
 //! The calls that a user makes.
 ghost use Rattle.std.specs.Prelude.{◌≡◌, ◌↔◌, ℕ, None, length, IfOk, IfErr, MatchResult};
 ghost use Rattle.asn1_der.specs.Tree.{IsWhole, der};
-ghost use Rattle.picky_asn1_der.specs.Refusals.{refusal_of};
-ghost use Rattle.picky_asn1_der.specs.Writing.{IsTooLong};
+ghost use Rattle.asn1_codec.specs.Refusals.{refusal_of};
+ghost use Rattle.asn1_codec.specs.Writing.{IsTooLong};
 ghost use Rattle.x509_spelling.specs.Answers.{ReadsSpelling, CountsSpelling};
 
 use crate::fault::X509Fault;

@@ -38,9 +38,6 @@ pub use front::read_front;
 pub use implied::{Implied, Implies};
 pub use laws::valid_leaf_is_whole;
 pub use list::Many;
-pub use picky_asn1_der::{
-    Asn1DerError, Asn1RawDer, Deserialize, Deserializer, Serialize, Serializer, WriteFields,
-};
 pub use reading::read_strict;
 pub use sequence::{content_of, read_fields};
 pub use signed::{Signed, with_signed_part};

@@ -5,8 +5,8 @@ ghost use Rattle.x509_spelling.specs.StrictReading.{IsNoStrict, der_fault_of};
 
 use crate::fault::X509Fault;
 use crate::spelled::Spelled;
-use crate::{Asn1DerError, Asn1RawDer, Deserialize, Deserializer};
 use byte_streams::Source;
+use picky_asn1_der::{Asn1DerError, Asn1RawDer, Deserialize, Deserializer};
 use std::alloc::Global;
 
 /// Takes the value whose strict spelling is next. Where anything deviates in what is next, no value is read.

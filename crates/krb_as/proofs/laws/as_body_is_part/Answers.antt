@@ -1,5 +1,5 @@
 use Rattle.std.proofs.Common.{[], ◌∷◌, refl}
-use Rattle.picky_asn1_der.specs.PartLaws.{part-one}
+use Rattle.asn1_elements.specs.PartLaws.{part-one}
 use Rattle.krb_kdc_requests.proofs.RequestParts.{body_part}
 use Rattle.krb_as.proofs.laws.as_body_is_part.Goals as goal
 

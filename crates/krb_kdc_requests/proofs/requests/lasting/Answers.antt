@@ -1,6 +1,6 @@
 use Rattle.std.proofs.Common.{◌∙◌, sym}
 use Rattle.std.specs.Option.{option_map}
-use Rattle.picky_asn1.specs.GeneralizedTime.{seconds_of}
+use Rattle.asn1_leaves.specs.GeneralizedTime.{seconds_of}
 use Rattle.krb_kdc_requests.proofs.Spans.{lasting_given, lasting_refused}
 use Rattle.krb_kdc_requests.proofs.requests.lasting.Goals as goal
 

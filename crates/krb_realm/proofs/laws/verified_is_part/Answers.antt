@@ -1,5 +1,5 @@
 use Rattle.std.proofs.Common.{[], ◌∷◌, ◌++◌}
-use Rattle.pkinit_requests.specs.Parts.{attributes_place, certificate_place}
+use Rattle.cms_types.specs.Parts.{attributes_place, certificate_place}
 use Rattle.krb_realm.proofs.laws.verified_is_part.Goals as goal
 
 pub returns-clause-attributes : goal.returns-clause-attributes

@@ -1,7 +1,7 @@
 use Rattle.std.proofs.Common.{[], ◌∷◌, refl}
 use Rattle.krb_kdc_requests.proofs.RequestParts.{body_part}
 use Rattle.krb_tgs.proofs.laws.body_is_part.Goals as goal
-use Rattle.picky_asn1_der.specs.PartLaws.{part-one}
+use Rattle.asn1_elements.specs.PartLaws.{part-one}
 
 pub returns-clause-part : goal.returns-clause-part
 returns-clause-part c = body_part 108 refl

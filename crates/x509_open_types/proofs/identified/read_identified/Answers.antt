@@ -1,6 +1,6 @@
 use Rattle.std.specs.Prelude.{true, IsTrue}
 use Rattle.asn1_der.specs.Firsts.{only}
-use Rattle.x509_spelling.proofs.Chain.{at-exit}
+use Rattle.asn1_codec.proofs.Chain.{at-exit}
 use Rattle.x509_spelling.specs.Spellings.{IsExact, Leads, Joins}
 use Rattle.x509_spelling.specs.FieldLaws.{leads-one}
 use Rattle.x509_open_types.specs.OidLaws.{oid_tree, oid_laws}

@@ -1,4 +1,4 @@
-use Rattle.picky_asn1_der.proofs.Chain.{at-exit}
+use Rattle.asn1_codec.proofs.Chain.{at-exit}
 use Rattle.x509_spelling.proofs.Refusals.{exact_refused, exact_told}
 use Rattle.x509_spelling.proofs.exact.read_exact.Goals as goal
 

@@ -1,5 +1,5 @@
 use Rattle.std.proofs.Common.{inr}
-use Rattle.picky_asn1_der.proofs.Chain.{at-exit}
+use Rattle.asn1_codec.proofs.Chain.{at-exit}
 use Rattle.x509_spelling.proofs.Refusals.{no_front, front_refused, front_told}
 use Rattle.x509_spelling.proofs.front.read_front.Goals as goal
 

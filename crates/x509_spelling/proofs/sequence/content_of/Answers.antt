@@ -1,5 +1,5 @@
 use Rattle.std.proofs.Common.{sym, ◌∙◌}
-use Rattle.picky_asn1_der.proofs.Chain.{at-exit}
+use Rattle.asn1_codec.proofs.Chain.{at-exit}
 use Rattle.x509_spelling.proofs.Refusals.{no_element, same_element, some_left}
 use Rattle.x509_spelling.proofs.sequence.content_of.Goals as goal
 

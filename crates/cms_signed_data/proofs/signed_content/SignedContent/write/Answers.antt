@@ -1,5 +1,5 @@
 use Rattle.std.proofs.Common.{refl, inl}
-use Rattle.x509_spelling.proofs.Chain.{at-exit}
+use Rattle.asn1_codec.proofs.Chain.{at-exit}
 use Rattle.cms_signed_data.proofs.WriteLemmas.{unsigned, written}
 use Rattle.cms_signed_data.proofs.signed_content.SignedContent.write.Goals as goal
 

@@ -1,5 +1,5 @@
 use Rattle.std.proofs.Common.{inl, inr}
-use Rattle.x509_spelling.proofs.Chain.{at-exit}
+use Rattle.asn1_codec.proofs.Chain.{at-exit}
 use Rattle.cms_types.proofs.set_of_one.SetOfOneSpelled.read_counted.Goals as goal
 
 pub returns-in_err-read : goal.returns-in_err-read

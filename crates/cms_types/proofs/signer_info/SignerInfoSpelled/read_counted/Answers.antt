@@ -1,5 +1,5 @@
 use Rattle.std.proofs.Common.{inl, inr}
-use Rattle.x509_spelling.proofs.Chain.{at-exit}
+use Rattle.asn1_codec.proofs.Chain.{at-exit}
 use Rattle.cms_types.specs.SignedRows.{signer_row}
 use Rattle.cms_types.proofs.signer_info.SignerInfoSpelled.read_counted.Goals as goal
 

@@ -1,5 +1,5 @@
 use Rattle.std.proofs.Common.{inl, inr}
-use Rattle.x509_spelling.proofs.Chain.{at-exit}
+use Rattle.asn1_codec.proofs.Chain.{at-exit}
 use Rattle.x509_algorithms.specs.AlgorithmLaws.{row_of}
 use Rattle.x509_algorithms.proofs.algorithm_identifier.AlgorithmIdentifierSpelled.read_counted.Goals as goal
 

@@ -1,5 +1,5 @@
 use Rattle.std.proofs.Common.{inl, inr}
-use Rattle.x509_spelling.proofs.Chain.{at-exit}
+use Rattle.asn1_codec.proofs.Chain.{at-exit}
 use Rattle.x509_certificates.specs.Certificates.{certificate_row}
 use Rattle.x509_certificates.proofs.certificate.CertificateSpelled.read_counted.Goals as goal
 

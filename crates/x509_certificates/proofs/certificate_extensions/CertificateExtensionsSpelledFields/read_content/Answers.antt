@@ -1,5 +1,5 @@
 use Rattle.std.proofs.Common.{inl, inr, ap, sym, ◌∙◌}
-use Rattle.x509_spelling.proofs.Chain.{at-exit}
+use Rattle.asn1_codec.proofs.Chain.{at-exit}
 use Rattle.x509_certificates.specs.ExtensionsLaws.{ExtensionsRow, extensions_row}
 use Rattle.x509_certificates.proofs.ExtensionsLemmas.{never_empty}
 use Rattle.x509_certificates.proofs.certificate_extensions.CertificateExtensionsSpelledFields.read_content.Goals as goal

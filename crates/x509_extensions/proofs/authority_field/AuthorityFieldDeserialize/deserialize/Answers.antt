@@ -1,4 +1,4 @@
-use Rattle.x509_spelling.proofs.Chain.{at-exit, refused-as}
+use Rattle.asn1_codec.proofs.Chain.{at-exit, refused-as}
 use Rattle.x509_extensions.specs.AuthorityFields.{field_choice}
 use Rattle.x509_extensions.proofs.authority_field.AuthorityFieldDeserialize.deserialize.Goals as goal
 

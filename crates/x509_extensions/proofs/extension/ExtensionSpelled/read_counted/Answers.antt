@@ -1,6 +1,6 @@
 use Rattle.std.proofs.Common.{inl, inr, sym, subst}
 use Rattle.std.specs.Prelude.{IsTrue}
-use Rattle.x509_spelling.proofs.Chain.{at-exit}
+use Rattle.asn1_codec.proofs.Chain.{at-exit}
 use Rattle.x509_extensions.specs.ExtensionValues.{kinds_of}
 use Rattle.x509_extensions.specs.ExtensionLaws.{row_of}
 use Rattle.x509_extensions.proofs.extension.ExtensionSpelled.read_counted.Goals as goal

@@ -1,5 +1,5 @@
 use Rattle.std.proofs.Common.{inl, inr}
-use Rattle.x509_spelling.proofs.Chain.{at-exit}
+use Rattle.asn1_codec.proofs.Chain.{at-exit}
 use Rattle.x509_open_types.proofs.enclosed.EnclosedSpelled.read_counted.Goals as goal
 
 pub returns-in_err-read : goal.returns-in_err-read

@@ -1,5 +1,5 @@
 use Rattle.std.specs.Prelude.{IsTrue}
-use Rattle.x509_spelling.proofs.Chain.{at-exit}
+use Rattle.asn1_codec.proofs.Chain.{at-exit}
 use Rattle.x509_open_types.proofs.KindRefusals.{first_refused, kind_refused}
 use Rattle.x509_open_types.proofs.kinds.Tuple2Kinds.read_kind.Goals as goal
 

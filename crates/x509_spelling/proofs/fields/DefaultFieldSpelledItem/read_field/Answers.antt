@@ -1,5 +1,5 @@
 use Rattle.std.proofs.Common.{◌≡◌, true, sym, ◌∙◌}
-use Rattle.picky_asn1_der.proofs.Chain.{at-exit}
+use Rattle.asn1_codec.proofs.Chain.{at-exit}
 use Rattle.x509_spelling.specs.Spellings.{begins}
 use Rattle.x509_spelling.proofs.Refusals.{default_refused}
 use Rattle.x509_spelling.proofs.fields.DefaultFieldSpelledItem.read_field.Goals as goal

@@ -1,4 +1,4 @@
-use Rattle.picky_asn1_der.proofs.Chain.{at-exit}
+use Rattle.asn1_codec.proofs.Chain.{at-exit}
 use Rattle.x509_spelling.proofs.Refusals.{head_refused, tail_refused}
 use Rattle.x509_spelling.proofs.fields.Tuple2SpelledFields.read_content.Goals as goal
 

@@ -1,5 +1,5 @@
 use Rattle.std.proofs.Common.{[], ◌∷◌, ◌++◌, ap, sym, ◌∙◌}
-use Rattle.picky_asn1_der.proofs.Chain.{at-exit}
+use Rattle.asn1_codec.proofs.Chain.{at-exit}
 use Rattle.x509_spelling.proofs.ManyLemmas.{gone-none, gone-more, gone-all, gone-refused, shorter}
 use Rattle.x509_spelling.proofs.Refusals.{some_left, none_left}
 use Rattle.x509_spelling.proofs.list.ManySpelledFields.read_content.Goals as goal
