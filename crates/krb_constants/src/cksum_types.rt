@@ -44,3 +44,6 @@ pub const HMAC_SHA256_128_AES128: usize = 19;
 
 /// HMAC-SHA-384 under a derived key of AES-256 (RFC 8009, section 7).
 pub const HMAC_SHA384_192_AES256: usize = 20;
+
+/// The checksum of a first token of GSS-API (RFC 4121, section 4.1.1).
+pub const GSS_API: usize = 0x8003;
