@@ -8,9 +8,8 @@ use crate::exchange::{Terms, Tokens};
 use crate::mechanism::{Mechanism, is_first, kerberos_among};
 use crate::refusal::AcceptRefusal;
 use gss_context_tokens::{ApplicationTag0, GssApiNegInit, MechTypeList, NegTokenInit};
-use krb_encrypted_data::read_whole;
 use picky_asn1::wrapper::{ObjectIdentifierAsn1, OctetStringAsn1};
-use picky_asn1_der::encoding_of;
+use picky_asn1_der::{encoding_of, read_whole};
 use std::alloc::{AllocError, Global};
 
 /// The content octets of 1.3.6.1.5.5.2.

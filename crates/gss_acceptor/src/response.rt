@@ -7,7 +7,7 @@ use crate::elements::octets_in;
 use crate::exchange::Tokens;
 use crate::refusal::AcceptRefusal;
 use gss_context_tokens::{NegTokenTarg, NegTokenTarg1};
-use krb_encrypted_data::read_whole;
+use picky_asn1_der::read_whole;
 use std::alloc::Global;
 
 /// The tokens of a message after the first.

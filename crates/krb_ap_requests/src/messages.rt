@@ -1,17 +1,18 @@
 //! Reading a request, and opening what is sealed in it.
 ghost use Rattle.std.specs.Prelude.{IfOk};
 ghost use Rattle.std.specs.Int.{cast_unsigned, w32};
-ghost use Rattle.krb_encrypted_data.specs.Found.{IsFound};
+ghost use Rattle.picky_asn1_der.specs.Found.{IsFound};
 ghost use Rattle.krb_messages.specs.Messages.{IsApReq};
 ghost use Rattle.krb_ap_requests.specs.Messages.{IsAuthenticator, IsTicketPart};
 
 use krb_constants::key_usages;
 use krb_crypto::Key;
-use krb_encrypted_data::{open_sealed, read_whole};
+use krb_encrypted_data::open_sealed;
 use krb_messages::messages::{ApReq, ApReqInner};
 use krb_types::data_types::{
     Authenticator, AuthenticatorInner, EncTicketPart, EncTicketPartInner, EncryptedData,
 };
+use picky_asn1_der::read_whole;
 use std::alloc::{AllocError, Global};
 
 /// The AP request whose one encoding the bytes are, or none (RFC 4120, section 5.5.1).

@@ -1,7 +1,7 @@
 //! Reading replies, and opening their sealed parts.
 ghost use Rattle.std.specs.Prelude.{IfOk};
 ghost use Rattle.std.specs.Int.{cast_unsigned, w32};
-ghost use Rattle.krb_encrypted_data.specs.Found.{IsFound};
+ghost use Rattle.picky_asn1_der.specs.Found.{IsFound};
 ghost use Rattle.krb_messages.specs.Messages.{IsApRep, IsAsRep, IsTgsRep};
 ghost use Rattle.krb_client.specs.ApReply.{IsApPart};
 ghost use Rattle.krb_client.specs.AsReply.{IsAsPart};
@@ -11,11 +11,12 @@ ghost use Rattle.krb_client.specs.Taking.{IsTgsPart};
 use crate::asked::ApAsked;
 use krb_constants::key_usages;
 use krb_crypto::Key;
-use krb_encrypted_data::{open_sealed, read_whole};
+use krb_encrypted_data::open_sealed;
 use krb_messages::messages::{
     ApRep, ApRepInner, AsRep, EncAsRepPart, EncKdcRepPart, EncTgsRepPart, KdcRep, KrbError, TgsRep,
 };
 use krb_types::data_types::{EncApRepPart, EncApRepPartInner, EncryptedData};
+use picky_asn1_der::read_whole;
 use std::alloc::{AllocError, Global};
 
 /// The code of the error whose one encoding the bytes are, or none (RFC 4120, section 5.9.1).

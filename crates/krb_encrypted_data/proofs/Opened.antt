@@ -4,7 +4,7 @@ use Rattle.asn1_der.specs.Tree.{Tree}
 use Rattle.krb_crypto.specs.declared.suite.CipherSuite.{CipherSuite}
 use Rattle.krb_crypto.specs.Suites.{cipher_number}
 use Rattle.krb_types.specs.declared.data_types.encrypted_data.EncryptedData.{EncryptedData}
-use Rattle.krb_encrypted_data.specs.Found.{IsFound}
+use Rattle.picky_asn1_der.specs.Found.{IsFound}
 use Rattle.krb_encrypted_data.specs.Opens.{Opens}
 use Rattle.picky_asn1.specs.Numbers.{is_number}
 use Rattle.krb_encrypted_data.specs.Sealed.{IsSealedIn}

@@ -1,5 +1,4 @@
 pub mod Padded
-pub mod Found
 pub mod Opens
 pub mod Keys
 pub mod Sealed

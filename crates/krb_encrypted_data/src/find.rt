@@ -1,13 +1,12 @@
-//! Reading and opening, where any fault but `Memory` says that there is nothing.
+//! Opening, where any fault but `Memory` says that there is nothing.
 ghost use Rattle.std.specs.Prelude.{◌≡◌, ◌↔◌, IfOk, IsTrue};
 ghost use Rattle.std.specs.Int.{cast_unsigned, w32};
-ghost use Rattle.asn1_der.specs.Tree.{Writes};
 ghost use Rattle.krb_crypto.specs.Suites.{cipher_number};
-ghost use Rattle.krb_encrypted_data.specs.Found.{IsFound};
+ghost use Rattle.picky_asn1_der.specs.Found.{IsFound};
 ghost use Rattle.krb_encrypted_data.specs.Opens.{IsWantOfMemory, Opens};
 
 use crate::open::{OpenFault, open_part};
-use asn1_codec::{Deserialize, from_exact_bytes};
+use asn1_codec::Deserialize;
 use asn1_der::Asn1DerError;
 use krb_crypto::{KerberosCryptoError, Key};
 use std::alloc::{AllocError, Global};
@@ -21,24 +20,6 @@ impl OpenFault {
             self,
             OpenFault::Crypto(KerberosCryptoError::Memory) | OpenFault::Der(Asn1DerError::Memory)
         )
-    }
-}
-
-/// The value whose one spelling the bytes are, or none.
-pub fn read_whole<T: Deserialize + Drop>(
-    alloc: Global,
-    bytes: &[u8],
-) -> Result<Option<T>, AllocError>
-    ensures { IfOk result (IsFound (λ value. Writes T.tree value bytes.now)) }
-{
-    match from_exact_bytes(alloc, bytes) {
-        Ok(value) => Ok(Some(value)),
-        Err(fault) => {
-            if fault == Asn1DerError::Memory {
-                return Err(AllocError);
-            }
-            Ok(None)
-        }
     }
 }
 

@@ -10,7 +10,7 @@ mod random;
 mod seal;
 mod sealed;
 
-pub use find::{open_whole, read_whole};
+pub use find::open_whole;
 pub use key::encryption_key;
 pub use keys::{key_of, suite_of};
 pub use open::{OpenFault, open_part};

@@ -1,7 +1,7 @@
 //! Encrypted data of messages.
 ghost use Rattle.std.specs.Prelude.{◌≡◌, IfOk};
 ghost use Rattle.std.specs.Int.{cast_unsigned, w32};
-ghost use Rattle.krb_encrypted_data.specs.Found.{IsFound};
+ghost use Rattle.picky_asn1_der.specs.Found.{IsFound};
 ghost use Rattle.krb_encrypted_data.specs.Sealed.{IsSealedIn};
 
 use crate::find::open_whole;

@@ -1,10 +1,10 @@
 //! Reading requests.
 ghost use Rattle.std.specs.Prelude.{◌≡◌, IfOk};
-ghost use Rattle.krb_encrypted_data.specs.Found.{IsFound};
+ghost use Rattle.picky_asn1_der.specs.Found.{IsFound};
 ghost use Rattle.krb_messages.specs.Messages.{IsAsReq, IsTgsReq};
 
-use krb_encrypted_data::read_whole;
 use krb_messages::messages::{AsReq, KdcReq, TgsReq};
+use picky_asn1_der::read_whole;
 use std::alloc::{AllocError, Global};
 
 /// The AS request whose one encoding the bytes are, or none (RFC 4120, section 5.4.1).

@@ -6,7 +6,7 @@ use Rattle.krb_accounts.specs.Account.{AccountRecord}
 use Rattle.krb_types.specs.declared.data_types.encrypted_data.EncryptedData.{EncryptedData}
 use Rattle.krb_types.specs.declared.data_types.pa_enc_timestamp.PaEncTsEnc.{PaEncTsEnc}
 use Rattle.krb_types.specs.Trees as held
-use Rattle.krb_encrypted_data.specs.Found.{IsFound}
+use Rattle.picky_asn1_der.specs.Found.{IsFound}
 use Rattle.krb_encrypted_data.specs.Sealed.{IsSealedIn}
 use Rattle.krb_tickets.specs.EncryptedTimestamps.{IsEncryptedTimestamp, timestamp_tree}
 use Rattle.krb_types.specs.Trees.{encrypted_data_tree}

@@ -1,13 +1,14 @@
 //! The time that a client seals under its own key.
 ghost use Rattle.std.specs.Prelude.{◌≡◌, IfOk};
-ghost use Rattle.krb_encrypted_data.specs.Found.{IsFound};
+ghost use Rattle.picky_asn1_der.specs.Found.{IsFound};
 ghost use Rattle.krb_tickets.specs.EncryptedTimestamps.{IsEncryptedTimestamp, moment_of};
 
 use krb_accounts::Account;
 use krb_constants::key_usages;
-use krb_encrypted_data::{open_sealed, read_whole};
+use krb_encrypted_data::open_sealed;
 use krb_time::{Moment, moment_at};
 use krb_types::data_types::{EncryptedData, PaEncTsEnc};
+use picky_asn1_der::read_whole;
 use std::alloc::{AllocError, Global};
 
 /// The encrypted timestamp that a padata's value encodes, decrypted with the account's key, or none.

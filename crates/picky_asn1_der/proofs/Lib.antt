@@ -1,4 +1,5 @@
 pub mod ChoiceLemmas
 pub mod DefaultLemmas
 pub mod RawLemmas
+mod Reading
 pub use Rattle.asn1_codec.proofs.Chain

@@ -2,6 +2,7 @@ pub mod ChoiceLaws
 pub mod Choices
 pub mod DefaultLaws
 pub mod Defaults
+pub mod Found
 pub mod RawLaws
 pub use Rattle.asn1_elements.specs.Contents
 pub use Rattle.asn1_elements.specs.Identifiers

@@ -20,6 +20,7 @@ mod raw;
 mod raw_der;
 mod retagged;
 mod rows;
+mod whole;
 mod wrapper;
 
 pub use application_tag::ApplicationTag;
@@ -110,6 +111,7 @@ pub use lent::Lent;
 pub use raw::RawElement;
 pub use raw_der::Asn1RawDer;
 pub use retagged::Retagged;
+pub use whole::read_whole;
 pub use wrapper::ExplicitContextTag;
 pub use wrapper::ExplicitContextTag0;
 pub use wrapper::ExplicitContextTag1;

@@ -12,8 +12,9 @@
 //! | `picky_asn1_der::to_vec` | writes any of these types but tokens, PACs and NEGOEX, which have calls of their own | |
 #![tactic(auto)]
 
-pub use krb_encrypted_data::{OpenFault, open_part, open_whole, read_whole};
+pub use krb_encrypted_data::{OpenFault, open_part, open_whole};
 pub use krb_messages::from_bytes;
+pub use picky_asn1_der::read_whole;
 
 /// Numbers of the standards.
 pub mod constants {

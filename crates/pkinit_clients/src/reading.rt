@@ -1,9 +1,9 @@
 //! Reading what a realm replies to a client that authenticates by certificate.
 ghost use Rattle.std.specs.Prelude.{IfOk};
-ghost use Rattle.krb_encrypted_data.specs.Found.{IsFound};
+ghost use Rattle.picky_asn1_der.specs.Found.{IsFound};
 ghost use Rattle.pkinit_clients.specs.Replies.{IsKdcDhKeyInfo, IsPaPkAsRep};
 
-use krb_encrypted_data::read_whole;
+use picky_asn1_der::read_whole;
 use pkinit_messages::{KdcDhKeyInfo, PaPkAsRep};
 use std::alloc::{AllocError, Global};
 

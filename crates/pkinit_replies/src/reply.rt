@@ -1,6 +1,6 @@
 //! Replies by certificate.
 ghost use Rattle.std.specs.Prelude.{◌≡◌, ◌≤◌, length, IfOk};
-ghost use Rattle.krb_encrypted_data.specs.Found.{IsFound};
+ghost use Rattle.picky_asn1_der.specs.Found.{IsFound};
 ghost use Rattle.krb_types.specs.Refusals.{IsJudged};
 ghost use Rattle.pkinit_replies.specs.PublicKeys.{IsPublicKey};
 ghost use Rattle.pkinit_replies.specs.Replies.{as_bytes, dh_reply_bytes, dh_reply_of, pk_as_rep};
@@ -9,11 +9,10 @@ use crate::public_key::AgreementPublicKey;
 use crate::signed::{key_info_bytes, signed_key_info};
 use key_functions::KeyFunctions;
 use krb_constants::error_codes;
-use krb_encrypted_data::read_whole;
 use krb_types::Refusal;
 use picky_asn1::wrapper::{IntegerAsn1, OctetStringAsn1};
 use picky_asn1_der::{
-    Asn1RawDer, ExplicitContextTag, ImplicitContextTag, Optional, encoding_of, to_vec,
+    Asn1RawDer, ExplicitContextTag, ImplicitContextTag, Optional, encoding_of, read_whole, to_vec,
 };
 use pkinit_messages::{DhRepInfo, PaPkAsRep};
 use std::alloc::{AllocError, Global};

@@ -1,10 +1,9 @@
 //! Reading what a client authenticates by.
 ghost use Rattle.std.specs.Prelude.{IfOk};
-ghost use Rattle.krb_encrypted_data.specs.Found.{IsFound};
+ghost use Rattle.picky_asn1_der.specs.Found.{IsFound};
 ghost use Rattle.pkinit_requests.specs.AuthPacks.{IsAuthPack, IsPaPkAsReq};
 
-use krb_encrypted_data::read_whole;
-use picky_asn1_der::Asn1RawDer;
+use picky_asn1_der::{Asn1RawDer, read_whole};
 use pkinit_messages::{AuthPack, PaPkAsReq};
 use std::alloc::{AllocError, Global};
 

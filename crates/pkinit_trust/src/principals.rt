@@ -1,7 +1,7 @@
 //! The principal that a certificate names.
 ghost use Rattle.std.specs.Prelude.{◌≡◌, IfOk};
 ghost use Rattle.std.specs.Option.{option_copied};
-ghost use Rattle.krb_encrypted_data.specs.Found.{IsFound};
+ghost use Rattle.picky_asn1_der.specs.Found.{IsFound};
 ghost use Rattle.x509_certificates.specs.ExtensionsHeld.{first_among};
 ghost use Rattle.pkinit_trust.specs.Expected.{expected_of};
 ghost use Rattle.pkinit_trust.specs.Principals.{IsPrincipal, element_held, element_of, first_element, named, principal_element};
@@ -10,9 +10,8 @@ ghost use Rattle.pkinit_trust.specs.Refusals.{IsOutcome};
 use crate::expected::ExpectedSigner;
 use crate::principal_name::Krb5PrincipalName;
 use crate::refusal::{TrustFault, TrustRefusal};
-use krb_encrypted_data::read_whole;
 use krb_types::{is_same_name, is_same_realm};
-use picky_asn1_der::RawElement;
+use picky_asn1_der::{RawElement, read_whole};
 use std::alloc::{AllocError, Global};
 use x509_certificates::Certificate;
 use x509_extensions::{Extension, ExtensionView};

@@ -1,6 +1,6 @@
 use Rattle.std.proofs.Common.{◌≡◌, sym, ◌∙◌, true, false}
-use Rattle.krb_encrypted_data.proofs.Reading.{not_read, was_read}
-use Rattle.krb_encrypted_data.proofs.find.read_whole.Goals as goal
+use Rattle.picky_asn1_der.proofs.Reading.{not_read, was_read}
+use Rattle.picky_asn1_der.proofs.whole.read_whole.Goals as goal
 
 pub returns-in-Ok : goal.returns-in-Ok
 returns-in-Ok g c = was_read g.T.Serialize.seen g.T.Serialize.tree c.args.bytes.now c.in-Ok.value c.in-Ok.ensures.value
