@@ -184,7 +184,7 @@ impl Spelled for AlgorithmIdentifier {
 
     fn read_counted(alloc: Global, bytes: &[u8]) -> Result<Counted<Self>, X509Fault> {
         let read: Counted<(ObjectIdentifierAsn1, AlgorithmKinds)> = read_identified(
-            alloc, 48, bytes,
+            alloc, SEQUENCE, bytes,
         )?;
         let count = read.count;
         let (algorithm, kinds) = read.into_value();

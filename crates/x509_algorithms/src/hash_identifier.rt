@@ -87,7 +87,9 @@ impl Spelled for HashIdentifier {
     }
 
     fn read_counted(alloc: Global, bytes: &[u8]) -> Result<Counted<Self>, X509Fault> {
-        let read: Counted<(ObjectIdentifierAsn1, HashKinds)> = read_identified(alloc, 48, bytes)?;
+        let read: Counted<(ObjectIdentifierAsn1, HashKinds)> = read_identified(
+            alloc, SEQUENCE, bytes,
+        )?;
         let count = read.count;
         let (oid, _null) = read.into_value();
         let value = HashIdentifier { oid };

@@ -192,7 +192,7 @@ impl Spelled for Attribute {
 
     fn read_counted(alloc: Global, bytes: &[u8]) -> Result<Counted<Self>, X509Fault> {
         let read: Counted<(ObjectIdentifierAsn1, AttributeKinds)> = read_identified(
-            alloc, 48, bytes,
+            alloc, SEQUENCE, bytes,
         )?;
         let count = read.count;
         let (ty, kinds) = read.into_value();

@@ -118,7 +118,7 @@ impl Serialize for TbsCertificate {
         let key = (&self.subject_public_key_info, (&self.extensions.tagged, ()));
         let names = (&self.issuer, (&self.validity, (&self.subject, key)));
         to.list(
-            48,
+            SEQUENCE,
             &(
                 &version,
                 (&self.serial_number, Ahead(&self.signature, names)),

@@ -254,11 +254,11 @@ impl Serialize for Extension {
         let critical = &self.critical;
         match &self.extn_value {
             ExtensionValue::AuthorityKeyIdentifier(value) => to.list(
-                48,
+                SEQUENCE,
                 &(id, (critical, (value, ()))),
             ),
             ExtensionValue::SubjectKeyIdentifier(value) => to.list(
-                48,
+                SEQUENCE,
                 &(id, (critical, (value, ()))),
             ),
             ExtensionValue::KeyUsage(value) => to.list(SEQUENCE, &(id, (critical, (value, ())))),
@@ -311,7 +311,7 @@ impl Spelled for Extension {
 
     fn read_counted(alloc: Global, bytes: &[u8]) -> Result<Counted<Self>, X509Fault> {
         let read: Counted<(ObjectIdentifierAsn1, ExtensionRow)> = read_identified(
-            alloc, 48, bytes,
+            alloc, SEQUENCE, bytes,
         )?;
         let count = read.count;
         let (extn_id, (critical, kinds)) = read.into_value();

@@ -202,7 +202,9 @@ impl Spelled for SubjectPublicKeyInfo {
     }
 
     fn read_counted(alloc: Global, bytes: &[u8]) -> Result<Counted<Self>, X509Fault> {
-        let read: Counted<(AlgorithmIdentifier, PublicKinds)> = read_chosen_in(alloc, 48, bytes)?;
+        let read: Counted<(AlgorithmIdentifier, PublicKinds)> = read_chosen_in(
+            alloc, SEQUENCE, bytes,
+        )?;
         let count = read.count;
         let (algorithm, kinds) = read.into_value();
         let subject_public_key = of_kinds(kinds);

@@ -8,6 +8,7 @@ ghost use Rattle.x509_spelling.specs.Spellings.{Holds};
 ghost use Rattle.x509_spelling.specs.Answers.{Tells};
 ghost use Rattle.asn1_der.specs.Octets.{octet_string_octet};
 
+use asn1_der::octets::OCTET_STRING;
 use byte_streams::Sink;
 use picky_asn1_der::{Asn1DerError, Serialize, Serializer};
 use std::alloc::Global;
@@ -42,7 +43,7 @@ impl<T: Serialize> Serialize for Enclosed<T> {
         in alike-part T.seen v w (λ value. value.0) (λ held. record { 0 = held }) (λ value. refl) same };
 
     fn serialize<W: Sink>(&self, to: &mut Serializer<W>) -> Result<usize, Asn1DerError> {
-        to.wrapped(4, &self.0)
+        to.wrapped(OCTET_STRING, &self.0)
     }
 }
 
@@ -63,11 +64,11 @@ impl<T: Spelled> Spelled for Enclosed<T> {
         (holding_laws 4 refl T.has_low_tags T.begun T.written T.spells T.laws) (λ value. value.0) (λ v w e. λ i. record { 0 = e i }) };
 
     fn may_begin_with(first: u8) -> bool {
-        first == 4
+        first == OCTET_STRING
     }
 
     fn read_counted(alloc: Global, bytes: &[u8]) -> Result<Counted<Self>, X509Fault> {
-        let read = read_held::<T>(alloc, 4, bytes)?;
+        let read = read_held::<T>(alloc, OCTET_STRING, bytes)?;
         let count = read.count;
         let value = Enclosed(read.into_value());
         Ok(Counted { value, count })

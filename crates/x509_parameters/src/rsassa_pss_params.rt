@@ -92,7 +92,7 @@ impl Serialize for RsassaPssParams {
 
     fn serialize<W: Sink>(&self, to: &mut Serializer<W>) -> Result<usize, Asn1DerError> {
         to.list(
-            48,
+            SEQUENCE,
             &fields_of![self; hash_algorithm, mask_gen_algorithm, salt_length],
         )
     }

@@ -226,7 +226,7 @@ impl Deserialize for RawAlgorithmIdentifier {
     }
 
     fn deserialize<R: Source>(from: &mut Deserializer<R>) -> Result<Self, Asn1DerError> {
-        let row: RawAlgorithmRow = read_sequence(48, from)?;
+        let row: RawAlgorithmRow = read_sequence(SEQUENCE, from)?;
         let (algorithm, (parameters, ())) = row;
         Ok(RawAlgorithmIdentifier {
             algorithm,

@@ -84,15 +84,15 @@ impl Serialize for PrivateKeyFields {
         let public_key = &self.public_key;
         match &self.private_key {
             PrivateKeyValue::Rsa(key) => to.list(
-                48,
+                SEQUENCE,
                 &(&self.version, Ahead(algorithm, (key, (public_key, ())))),
             ),
             PrivateKeyValue::EC(key) => to.list(
-                48,
+                SEQUENCE,
                 &(&self.version, Ahead(algorithm, (key, (public_key, ())))),
             ),
             PrivateKeyValue::ED(key) => to.list(
-                48,
+                SEQUENCE,
                 &(&self.version, Ahead(algorithm, (key, (public_key, ())))),
             ),
         }
@@ -130,7 +130,7 @@ impl Spelled for PrivateKeyFields {
         // The public key's tag: the check wants each type that the call's impls name among this function's own.
         let TagNumber = TagNumber::<1>;
         let read: Counted<(u8, (AlgorithmIdentifier, PrivateKinds))> = read_chosen_behind(
-            alloc, 48, bytes,
+            alloc, SEQUENCE, bytes,
         )?;
         let count = read.count;
         let (version, (private_key_algorithm, kinds)) = read.into_value();
