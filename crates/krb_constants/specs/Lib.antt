@@ -1,1 +1,2 @@
 pub mod ErrorNames
+pub mod Masks

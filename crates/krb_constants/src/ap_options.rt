@@ -5,3 +5,6 @@ pub const USE_SESSION_KEY: usize = 1;
 
 /// The client requires a reply.
 pub const MUTUAL_REQUIRED: usize = 2;
+
+/// The bit of mutual-required in the first octet of ap-options.
+pub const MUTUAL_REQUIRED_MASK: u8 = 0x80 >> MUTUAL_REQUIRED;

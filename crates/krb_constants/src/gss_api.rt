@@ -1,5 +1,8 @@
 //! Numbers of the GSS-API mechanisms.
 
+/// The identifier octet of a context's first token, \[APPLICATION 0\] (RFC 2743, section 3.1).
+pub const INITIAL_TOKEN: u8 = 0x60;
+
 /// An AP-REQ (RFC 4121, section 4.1).
 pub const AP_REQ_TOKEN_ID: [u8; 2] = [0x01, 0x00];
 

@@ -24,3 +24,12 @@ pub const REPLY_CONFOUNDER: usize = 48;
 
 /// The confounder of the part of a service's reply.
 pub const AP_REPLY_CONFOUNDER: usize = 0;
+
+/// The client's part of an agreement in an AS request (RFC 4556, section 3.2.1).
+pub const CLIENT_AGREEMENT: usize = 32;
+
+/// The realm's part of an agreement in its reply (RFC 4556, section 3.2.3.1).
+pub const REALM_AGREEMENT: usize = 64;
+
+/// How many bytes a part of an agreement has.
+pub const AGREEMENT_SIZE: usize = 64;
