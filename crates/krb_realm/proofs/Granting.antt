@@ -8,16 +8,7 @@ use Rattle.picky_asn1.specs.Bytes.{Bytes}
 use Rattle.krb_accounts.specs.Account.{AccountRecord}
 use Rattle.krb_accounts.specs.Accounts.{AccountMap, name_cmp, name_total}
 use Rattle.krb_types.specs.TicketGranting.{krbtgt_of}
-use Rattle.krb_logins.specs.Honest.{IsGranting}
-use Rattle.krb_realm.specs.Realm.{RealmState, has_krbtgt, is_krbtgt, realm_record}
-
--- an account that is found is the one
-pub granting : (realm : RealmState) → has_krbtgt realm.name realm.accounts ≡ true → IsGranting (realm_record realm)
-granting realm has = of (get realm.accounts (krbtgt_of realm.name)) refl has
-  where
-    of : (found : Option AccountRecord) → get realm.accounts (krbtgt_of realm.name) ≡ found → is_some found ≡ true → IsGranting (realm_record realm)
-    of None is there = absurd (cc (there))
-    of (Some account) is there = record { account = account; found = is }
+use Rattle.krb_realm.specs.Realm.{has_krbtgt, is_krbtgt}
 
 given_or_kept : (same : Bool) (account : AccountRecord) (found : Option AccountRecord) → is_some found ≡ true → is_some (cond same (Some account) found) ≡ true
 given_or_kept true account found has = refl

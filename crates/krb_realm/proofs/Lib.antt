@@ -3,6 +3,7 @@ mod Begins
 mod Exchanges
 mod Admitting
 mod Granting
+mod GrantingRealms
 mod HonestParties
 mod Keyed
 mod Certificates

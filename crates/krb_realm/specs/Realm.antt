@@ -15,7 +15,6 @@ use Rattle.krb_accounts.specs.Settings.{SettingsRecord}
 use Rattle.krb_kdc_requests.specs.Call.{CallRecord}
 use Rattle.krb_kdc_requests.specs.Calls.{AreKeyed}
 use Rattle.krb_types.specs.TicketGranting.{krbtgt_of}
-use Rattle.krb_logins.specs.Parties.{RealmRecord}
 use Rattle.pkinit_requests.specs.Trust.{TrustRecord}
 use Rattle.krb_realm.specs.Settings.{SettingsState}
 use Rattle.krb_accounts.specs.declared.refusal.RealmRefusal.{RealmRefusal}
@@ -26,10 +25,6 @@ pub record RealmState : Type 0 where
   pub settings : SettingsRecord
   pub trust : TrustRecord
   pub accounts : AccountMap
-
--- the realm as logins see it
-abbrev pub realm_record : RealmState → RealmRecord
-realm_record realm = record { name = realm.name; settings = realm.settings; look = look_in realm.accounts }
 
 -- a call to the realm at a moment, with random bytes
 abbrev pub call_to : RealmState → Micros → Random → CallRecord

@@ -4,8 +4,7 @@ ghost use Rattle.krb_crypto.specs.Keys.{KeyRecord};
 ghost use Rattle.krb_logins.specs.Honest.{IsHonestByPassword};
 ghost use Rattle.krb_logins.specs.Input.{login_of};
 ghost use Rattle.krb_realm.specs.Clients.{ByKey};
-ghost use Rattle.krb_realm.specs.Logins.{remembered};
-ghost use Rattle.krb_realm.specs.Realm.{realm_record};
+ghost use Rattle.krb_realm.specs.Logins.{realm_record, remembered};
 
 use crate::client_means::Held;
 use crate::{Client, Realm};

@@ -12,6 +12,7 @@ mod client;
 mod client_means;
 mod honest;
 mod honest_by_certificate;
+pub mod kdc_laws;
 pub mod laws;
 mod login;
 mod realm;

@@ -1,5 +1,5 @@
 //! Realms.
-ghost use Rattle.std.specs.Prelude.{◌≡◌, ◌≤◌, ◌<◌, ◌^◌, false, ℕ, List, Ok, Err, Some, None, OnOk, OnErr, IfOk, IfErr, MatchResult, length, slice_get, ◌⊎◌};
+ghost use Rattle.std.specs.Prelude.{◌≡◌, ◌≤◌, ◌<◌, ◌^◌, true, false, ℕ, List, Ok, Err, Some, None, OnOk, OnErr, IfOk, IfErr, MatchResult, length, slice_get, ◌⊎◌};
 ghost use Rattle.std.specs.Option.{option_map_or};
 ghost use Rattle.std.specs.FinMap as finite;
 ghost use Rattle.aes_cts.specs.Bytes.{IsBytes};
@@ -14,7 +14,7 @@ ghost use Rattle.pkinit_requests.specs.Trust.{trust_of};
 ghost use Rattle.krb_realm.specs.Answers.{is_request_octet};
 ghost use Rattle.krb_realm.specs.Realm.{call_to, is_krbtgt};
 
-use crate::laws::has_reply;
+use crate::kdc_laws::has_reply;
 use crate::settings::Settings;
 use key_functions::KeyFunctions;
 use krb_accounts::{
@@ -74,10 +74,10 @@ impl Model for Realm {
 
 impl Realm {
     ghost use Rattle.krb_accounts.specs.Account.{AccountRecord};
-    ghost use Rattle.krb_realm.specs.Realm.{making, made, adding, adding_by_password, changing, first_key, realm_record, removing};
+    ghost use Rattle.krb_realm.specs.Realm.{making, made, adding, adding_by_password, changing, first_key, has_krbtgt, removing};
     ghost use Rattle.krb_accounts.specs.Passwords.{password_account, password_salt};
     ghost use Rattle.krb_accounts.specs.declared.refusal.RealmRefusal.{RealmRefusal};
-    ghost use Rattle.krb_logins.specs.Honest.{IsGranting};
+    ghost use Rattle.krb_accounts.specs.Accounts.{look_in};
     ghost use Rattle.krb_realm.specs.Answers.{BeginsRequest, IsAnswer};
 
     /// A realm of this name, whose ticket-granting service `krbtgt/name` has this key (RFC 4120, section 7.3).
@@ -116,7 +116,7 @@ impl Realm {
 
     /// What every realm has: the account of its ticket-granting service. It does nothing when it runs.
     pub fn is_granting(&self)
-        ensures { IsGranting (realm_record self.now) }
+        ensures { has_krbtgt self.now.name self.now.accounts ≡ true }
     {
         // The clause is of the fields: the proof sees them where one is read.
         let _settings = &self.settings;
@@ -124,7 +124,7 @@ impl Realm {
 
     /// What every realm has: accounts whose keys are keys of their suites. It does nothing when it runs.
     pub fn are_keyed(&self)
-        ensures { AreKeyed (realm_record self.now).look }
+        ensures { AreKeyed (look_in self.now.accounts) }
     {
         // The clause is of the fields: the proof sees them where one is read.
         let _settings = &self.settings;
@@ -286,7 +286,7 @@ impl Realm {
     }
 
     /// What a request at a moment, with these random bytes, is answered by.
-    pub(crate) fn call<'a>(&'a self, moment: Moment, words: &'a [u8]) -> Call<'a>
+    pub fn call<'a>(&'a self, moment: Moment, words: &'a [u8]) -> Call<'a>
         ensures call { call_of result ≡ call_to self.now moment words.now }
         ensures words { result.words.now ≡ words.now }
     {
@@ -300,7 +300,7 @@ impl Realm {
     }
 
     /// What requests by certificate are judged by, with these key functions.
-    pub(crate) fn pkinit<'a, K: KeyFunctions>(&'a self, keys: &'a K) -> RealmPkinit<'a, K>
+    pub fn pkinit<'a, K: KeyFunctions>(&'a self, keys: &'a K) -> RealmPkinit<'a, K>
         ensures trust { trust_of result.anchor result.certificate ≡ self.now.trust }
         ensures keys { result.keys.now ≡ keys.now }
     {

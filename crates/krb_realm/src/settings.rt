@@ -72,14 +72,14 @@ impl Settings {
     }
 
     /// How far clocks may differ, and how long tickets last.
-    pub(crate) fn limits(&self) -> Limits
+    pub fn limits(&self) -> Limits
         ensures { result ≡ self.now.limits }
     {
         self.limits
     }
 
     /// What requests by certificate are judged by, with these key functions.
-    pub(crate) fn pkinit<'a, K: KeyFunctions>(&'a self, keys: &'a K) -> RealmPkinit<'a, K>
+    pub fn pkinit<'a, K: KeyFunctions>(&'a self, keys: &'a K) -> RealmPkinit<'a, K>
         ensures trust { trust_of result.anchor result.certificate ≡ self.now.trust }
         ensures keys { result.keys.now ≡ keys.now }
     {
@@ -129,7 +129,7 @@ fn limits_and_certificate(
 
 /// Whether the bytes are a spelling of a certificate. Where the certificate is read, its holder is made, since a certificate is dear to
 /// drop.
-pub(crate) fn is_certificate(alloc: Global, bytes: &[u8]) -> Result<bool, AllocError>
+pub fn is_certificate(alloc: Global, bytes: &[u8]) -> Result<bool, AllocError>
     ensures { IfOk result (IsCertificateIf bytes.now) }
 {
     match Anchor::from_certificate(alloc, bytes) {

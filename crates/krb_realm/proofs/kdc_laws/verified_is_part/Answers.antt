@@ -1,6 +1,6 @@
 use Rattle.std.proofs.Common.{[], ◌∷◌, ◌++◌}
 use Rattle.cms_types.specs.Parts.{attributes_place, certificate_place}
-use Rattle.krb_realm.proofs.laws.verified_is_part.Goals as goal
+use Rattle.krb_realm.proofs.kdc_laws.verified_is_part.Goals as goal
 
 pub returns-clause-attributes : goal.returns-clause-attributes
 returns-clause-attributes c = λ bytes padata asked request content is first read signed.
