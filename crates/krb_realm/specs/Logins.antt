@@ -28,7 +28,7 @@ use Rattle.krb_logins.specs.Parties.{LoginRecord, RealmRecord, RememberedRecord}
 use Rattle.krb_logins.specs.Steps.{IsAnswered, IsApAsked, IsAsAsked, IsTgsAsked, reply_bytes}
 use Rattle.krb_logins.specs.declared.refusal.LoginRefusal.{LoginRefusal}
 use Rattle.krb_logins.specs.declared.refusal.LoginRefusal.TheVariants.{Admitted, Answered, Asked, Taken}
-use Rattle.krb_realm.specs.Realm.{RealmState}
+use Rattle.krb_kdc.specs.Realm.{RealmState}
 
 -- bytes as a call makes them
 abbrev pub Made : Type 0

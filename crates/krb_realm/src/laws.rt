@@ -9,13 +9,14 @@ ghost use Rattle.krb_realm.specs.Clients.{means_of};
 ghost use Rattle.krb_service.specs.Service.{ServiceRecord};
 ghost use Rattle.pkinit_requests.specs.PkinitRows.{pkinit_rows};
 
-use crate::{Client, Settings};
+use crate::client::Client;
 use key_functions::KeyFunctions;
-pub use crate::kdc_laws::{
+pub use krb_crypto::laws::has_sealed;
+use krb_kdc::Settings;
+pub use krb_kdc::laws::{
     as_body_is_part, body_is_part, has_reply, judged_is_part, of_involved_alone, one_reply,
     padata_is_part, verified_is_part,
 };
-pub use krb_crypto::laws::has_sealed;
 pub use krb_logins::laws::ap_request_presents_choice;
 pub use krb_service::ap_laws::{
     has_judgement, has_presentation, has_reply_to, one_presentation, received_as_chosen,

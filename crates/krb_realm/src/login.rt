@@ -18,10 +18,11 @@ ghost use Rattle.krb_encrypted_data.specs.Sealing.{encryption_key};
 ghost use Rattle.pkinit_logins.specs.HonestByCertificate.{IsHonestByCertificate};
 ghost use Rattle.pkinit_trust.specs.Anchors.{AnchorRecord};
 
-use crate::{Client, Realm};
+use crate::client::Client;
 use key_functions::{KeyFunctions, NoKeys};
 use krb_client::{ApAsked, AsAsked, AskRefusal, Credential, Means, TakeRefusal, TgsAsked};
 use krb_encrypted_data::encryption_key;
+use krb_kdc::Realm;
 use krb_logins::laws::one_key_by_password;
 use krb_logins::{LoginInput, LoginRefusal};
 use krb_service::{Admission, Service};
