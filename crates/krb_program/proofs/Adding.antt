@@ -1,7 +1,7 @@
 -- A loop that adds the accounts of a list.
 use Rattle.std.proofs.Common.{◌≡◌, ℕ, ◌+◌, ◌<◌, suc, List, length, drop, get_or, map, Ok, Err, refl, ◌∙◌, arith}
 use Rattle.std.proofs.lemmas.List.{drop_more}
-use Rattle.krb_realm.specs.Realm.{RealmState}
+use Rattle.krb_kdc.specs.Realm.{RealmState}
 use Rattle.krb_settings.specs.Written.{shown_account}
 use Rattle.krb_settings.specs.declared.settings.AccountSettings.{AccountSettings}
 use Rattle.krb_program.specs.Realms.{adding_account, in_account, with_account, with_accounts}

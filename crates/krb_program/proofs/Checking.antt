@@ -2,7 +2,7 @@
 use Rattle.std.proofs.Common.{◌≡◌, ◌≢◌, ◌⊎◌, List, ℕ, Result, Ok, Err, ap, sym, ◌∙◌}
 use Rattle.std.specs.Prelude.{MatchOption}
 use Rattle.std.specs.Result.{result_err}
-use Rattle.krb_realm.specs.Realm.{RealmState}
+use Rattle.krb_kdc.specs.Realm.{RealmState}
 use Rattle.krb_settings.proofs.Files as file
 use Rattle.krb_settings.specs.Files.{HasFault, IsRealmText}
 use Rattle.krb_settings.specs.Steps.{IsAside}

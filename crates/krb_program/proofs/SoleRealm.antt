@@ -1,6 +1,6 @@
 -- A settings file has one realm, or a fault.
 use Rattle.std.proofs.Common.{◌≡◌, ◌≢◌, List, ℕ, Result, Ok, Err, inl, inr, ap, sym, ◌∙◌}
-use Rattle.krb_realm.specs.Realm.{RealmState}
+use Rattle.krb_kdc.specs.Realm.{RealmState}
 use Rattle.krb_settings.proofs.Files as file
 use Rattle.krb_program.specs.Files.{IsRealmFile, HasFault}
 use Rattle.krb_program.specs.Realms.{realm_of_settings}

@@ -1,6 +1,6 @@
 -- What is said of a settings file.
 use Rattle.std.specs.Prelude.{ℕ, List}
-use Rattle.krb_realm.specs.Realm.{RealmState}
+use Rattle.krb_kdc.specs.Realm.{RealmState}
 use Rattle.krb_program.specs.Files.{IsRealmFile}
 use Rattle.krb_program.specs.declared.check.FileCheck.{FileCheck}
 use Rattle.krb_program.specs.declared.check.FileCheck.TheVariants.{Realm, Fault}

@@ -1,6 +1,6 @@
 -- The realm of a settings file.
 use Rattle.std.specs.Prelude.{◌≡◌, ◌⊎◌, ℕ, List, Ok, Err}
-use Rattle.krb_realm.specs.Realm.{RealmState}
+use Rattle.krb_kdc.specs.Realm.{RealmState}
 use Rattle.krb_settings.specs.Files.{IsRealmText}
 use Rattle.krb_settings.specs.Files as file
 use Rattle.krb_settings.specs.Written.{WrittenRealm}

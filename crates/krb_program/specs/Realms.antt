@@ -8,8 +8,8 @@ use Rattle.krb_accounts.specs.Accounts.{AccountMap}
 use Rattle.krb_accounts.specs.Passwords.{password_account, password_salt}
 use Rattle.krb_accounts.specs.declared.refusal.RealmRefusal.{RealmRefusal}
 use Rattle.krb_accounts.specs.declared.refusal.RealmRefusal.TheVariants.{BadSetting}
-use Rattle.krb_realm.specs.Realm.{RealmState, making, made, adding, adding_by_password, first_key}
-use Rattle.krb_realm.specs.Settings.{SettingsState, settings_by}
+use Rattle.krb_kdc.specs.Realm.{RealmState, making, made, adding, adding_by_password, first_key}
+use Rattle.krb_kdc.specs.Settings.{SettingsState, settings_by}
 use Rattle.krb_settings.specs.Steps.{◌>>=◌}
 use Rattle.krb_settings.specs.Written.{WrittenAccount, WrittenRealm, WrittenSecret, password, key}
 use Rattle.krb_program.specs.declared.fault.KdcFault.{KdcFault}

@@ -1,6 +1,6 @@
 //! What is said of a settings file.
 ghost use Rattle.std.specs.Prelude.{◌≡◌, ◌⊎◌, IfOk, MatchOption, Err, Ok};
-ghost use Rattle.krb_realm.specs.Realm.{RealmState};
+ghost use Rattle.krb_kdc.specs.Realm.{RealmState};
 ghost use Rattle.krb_settings.specs.Files.{IsRealmText};
 ghost use Rattle.krb_settings.specs.Written.{shown_realm};
 ghost use Rattle.krb_program.specs.Checks.{IsChecked};
@@ -8,7 +8,7 @@ ghost use Rattle.krb_program.specs.Realms.{realm_of_settings};
 
 use crate::fault::KdcFault;
 use crate::realm::realm_of_settings;
-use krb_realm::RealmRefusal;
+use krb_accounts::RealmRefusal;
 use krb_settings::{RealmSettings, SettingsFault, read_settings_file};
 use krb_settings_check::{Place, Remark, Rule, explain, explain_rule, warnings_of};
 use std::alloc::{AllocError, Global};

@@ -3,9 +3,10 @@
 use crate::clock::after_epoch;
 use crate::outcome::{Outcome, Stop};
 use crate::run::run_settings;
-use byte_streams::Watched;
-use krb_realm::{Moment, ServeFault, Sink, Source};
+use byte_streams::{Sink, Source, Watched};
+use krb_frames::ServeFault;
 use krb_settings::SETTINGS_LIMIT;
+use krb_time::Moment;
 use std::fs::{self, Files};
 use std::io::{self, ErrorKind, Read};
 use std::time::{Clock, SystemTime, UNIX_EPOCH};

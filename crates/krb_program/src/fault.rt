@@ -2,7 +2,8 @@
 ghost use Rattle.std.specs.Prelude.{◌≡◌};
 
 use crate::outcome::Stop;
-use krb_realm::{RealmRefusal, ServeFault};
+use krb_accounts::RealmRefusal;
+use krb_frames::ServeFault;
 use krb_settings::SettingsFault;
 use thiserror::Error;
 

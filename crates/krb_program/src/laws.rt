@@ -1,6 +1,6 @@
 //! What holds of every settings file. Each is a function that does nothing when it runs: its contract is the law.
 ghost use Rattle.std.specs.Prelude.{◌≡◌, ◌≢◌, ℕ, List};
-ghost use Rattle.krb_realm.specs.Realm.{RealmState};
+ghost use Rattle.krb_kdc.specs.Realm.{RealmState};
 ghost use Rattle.krb_program.specs.Files.{HasFault, IsRealmFile};
 ghost use Rattle.krb_program.specs.declared.fault.KdcFault.{KdcFault};
 ghost use Rattle.krb_program.specs.declared.fault.KdcFault.TheVariants as kdc_fault;

@@ -3,10 +3,12 @@
 use crate::console::run_with_arguments;
 use crate::outcome::{Outcome, Stop};
 use crate::serving::serve_at;
-use byte_streams::Watched;
-use krb_realm::{
-    Answering, CipherSuite, Moment, NoKeys, Realm, ServeFault, Settings, Sink, Source,
-};
+use byte_streams::{Sink, Source, Watched};
+use key_functions::NoKeys;
+use krb_crypto::CipherSuite;
+use krb_frames::ServeFault;
+use krb_kdc::{Answering, Realm, Settings};
+use krb_time::Moment;
 use std::alloc::Global;
 use std::env;
 use std::io::{self, BufReader, ErrorKind};

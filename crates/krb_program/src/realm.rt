@@ -3,12 +3,13 @@ ghost use Rattle.std.specs.Prelude.{◌≡◌, ◌⊎◌, Err, Ok, MatchResult, 
 ghost use Rattle.krb_accounts.specs.Refusal.{IsMemoryAside};
 ghost use Rattle.krb_settings.specs.Steps.{IsAside};
 ghost use Rattle.krb_settings.specs.Written.{shown_account, shown_realm};
-ghost use Rattle.krb_realm.specs.Realm.{making, made};
+ghost use Rattle.krb_kdc.specs.Realm.{making, made};
 ghost use Rattle.krb_program.specs.Files.{HasFault, IsRealmFile};
 ghost use Rattle.krb_program.specs.Realms.{adding_account, in_account, in_realm, realm_of_settings, settings_of, with_account, with_accounts};
 
 use crate::fault::KdcFault;
-use krb_realm::{Realm, RealmRefusal, Settings};
+use krb_accounts::RealmRefusal;
+use krb_kdc::{Realm, Settings};
 use krb_settings::{AccountSettings, RealmSettings, Secret, SettingsFault, read_settings_file};
 use std::alloc::Global;
 

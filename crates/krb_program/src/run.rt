@@ -8,7 +8,10 @@ ghost use Rattle.krb_program.specs.Runs.{IsEnd};
 use crate::outcome::{Outcome, Stop};
 use crate::realm::realm_of_file;
 use crate::serving::serve_at;
-use krb_realm::{Answering, Moment, NoKeys, Sink, Source};
+use byte_streams::{Sink, Source};
+use key_functions::NoKeys;
+use krb_kdc::Answering;
+use krb_time::Moment;
 use std::alloc::Global;
 
 /// Answers the frames of `reader` on `writer` for the realm of a settings file, each at one moment and with the next 128

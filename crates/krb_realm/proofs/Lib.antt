@@ -1,11 +1,7 @@
-mod Answered
-mod Begins
 mod Exchanges
 mod Admitting
-mod Granting
+mod GrantingRealms
 mod HonestParties
-mod Keyed
-mod Certificates
 mod KeyedLogins
 mod ClientMeans
 mod Asking

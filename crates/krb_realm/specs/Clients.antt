@@ -14,7 +14,7 @@ use Rattle.krb_client.specs.declared.refusal.AskRefusal.TheVariants.{BadCertific
 use Rattle.key_functions.specs.KeyFunctions.{KeysRecord}
 use Rattle.pkinit_trust.specs.Anchors.{AnchorRecord}
 use Rattle.pkinit_clients.specs.Means.{by_certificate}
-use Rattle.krb_realm.specs.Settings.{IsCertificateIf}
+use Rattle.krb_kdc.specs.Settings.{IsCertificateIf}
 
 -- by a key that the client shares with its realm; or by a certificate, with the authority that the client trusts to issue the realm's
 pub data ClientBy : Type 0 where

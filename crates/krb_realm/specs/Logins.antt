@@ -6,6 +6,7 @@ use Rattle.krb_types.specs.declared.data_types.encryption_key.EncryptionKey.{Enc
 use Rattle.krb_encrypted_data.specs.Sealing.{encryption_key}
 use Rattle.krb_service.specs.Pair.{PairRecord}
 use Rattle.krb_service.specs.Seen.{SeenRecord, IsWindow}
+use Rattle.krb_accounts.specs.Accounts.{look_in}
 use Rattle.krb_kdc_requests.specs.Call.{CallRecord}
 use Rattle.krb_types.specs.TicketGranting.{krbtgt_of}
 use Rattle.pkinit_interface.specs.Rows.{PkinitRows}
@@ -23,11 +24,11 @@ use Rattle.krb_client.specs.TgsReply.{takes_tgs_reply}
 use Rattle.krb_client.specs.declared.refusal.TakeRefusal.{TakeRefusal}
 use Rattle.krb_service.specs.Service.{ServiceRecord}
 use Rattle.krb_logins.specs.LoginRun.{IsAdmitted, Login}
-use Rattle.krb_logins.specs.Parties.{LoginRecord, RememberedRecord}
+use Rattle.krb_logins.specs.Parties.{LoginRecord, RealmRecord, RememberedRecord}
 use Rattle.krb_logins.specs.Steps.{IsAnswered, IsApAsked, IsAsAsked, IsTgsAsked, reply_bytes}
 use Rattle.krb_logins.specs.declared.refusal.LoginRefusal.{LoginRefusal}
 use Rattle.krb_logins.specs.declared.refusal.LoginRefusal.TheVariants.{Admitted, Answered, Asked, Taken}
-use Rattle.krb_realm.specs.Realm.{RealmState}
+use Rattle.krb_kdc.specs.Realm.{RealmState}
 
 -- bytes as a call makes them
 abbrev pub Made : Type 0
@@ -50,6 +51,10 @@ TgsAsk client login granting = IsStep sent_as (IsTgsAsked client granting login.
 
 unfoldable pub ApAsk : ClientRecord → LoginRecord → CredentialRecord → Result (Made × ApAskedRecord) LoginRefusal → Type 0
 ApAsk client login credential = IsStep sent_as (IsApAsked client credential login.client_ap login.words_ap) Asked
+
+-- the realm as logins see it
+abbrev pub realm_record : RealmState → RealmRecord
+realm_record realm = record { name = realm.name; settings = realm.settings; look = look_in realm.accounts }
 
 -- the rows by which a realm with these key functions judges requests by certificate
 abbrev pub realm_rows : RealmState → KeysRecord → PkinitRows

@@ -3,15 +3,15 @@ ghost use Rattle.std.specs.Prelude.{◌≡◌, ◌≤◌, ◌↔◌, ◌⊎◌, 
 ghost use Rattle.krb_accounts.specs.Names.{AreComponents, IsRealmName, are_components, parts};
 ghost use Rattle.krb_client.specs.Client.{client_of};
 ghost use Rattle.krb_client.specs.Refusals.{IsMemoryAside, IsTaken};
-ghost use Rattle.krb_realm.specs.Settings.{IsCertificateIf};
+ghost use Rattle.krb_kdc.specs.Settings.{IsCertificateIf};
 ghost use Rattle.krb_realm.specs.Clients.{IsNoClient};
 ghost use Rattle.krb_realm.specs.HeldClients.{client_by};
 
 use crate::client_means::{ClientMeans, Held};
-use crate::settings::is_certificate;
 use key_functions::KeyFunctions;
 use krb_client::{ApAsked, AsAsked, AskRefusal, Credential, TakeRefusal, TgsAsked};
 use krb_crypto::CipherSuite;
+use krb_kdc::is_certificate;
 use krb_time::Moment;
 use picky_asn1::date::GeneralizedTime;
 use pkinit_trust::Anchor;

@@ -4,12 +4,12 @@ ghost use Rattle.krb_crypto.specs.Keys.{KeyRecord};
 ghost use Rattle.krb_logins.specs.Honest.{IsHonestByPassword};
 ghost use Rattle.krb_logins.specs.Input.{login_of};
 ghost use Rattle.krb_realm.specs.Clients.{ByKey};
-ghost use Rattle.krb_realm.specs.Logins.{remembered};
-ghost use Rattle.krb_realm.specs.Realm.{realm_record};
+ghost use Rattle.krb_realm.specs.Logins.{realm_record, remembered};
 
+use crate::client::Client;
 use crate::client_means::Held;
-use crate::{Client, Realm};
 use key_functions::NoKeys;
+use krb_kdc::Realm;
 use krb_logins::{LoginInput, is_honest_by_key};
 use krb_service::Service;
 use std::alloc::Global;
@@ -17,7 +17,7 @@ use std::alloc::Global;
 /// Whether a login by password is honest, as [`login_by_password`] asks for one key on both sides. The pairs of client and time that
 /// the service holds count as all that it admitted. If memory runs out, the answer is false.
 ///
-/// [`login_by_password`]: crate::login_by_password
+/// [`login_by_password`]: crate::login::login_by_password
 pub fn is_honest_by_password(
     alloc: Global,
     client: &Client,

@@ -3,14 +3,14 @@ ghost use Rattle.std.specs.Prelude.{◌≡◌, ◌≤◌, IsTrue, length};
 ghost use Rattle.picky_asn1.specs.Bytes.{Bytes};
 ghost use Rattle.krb_logins.specs.Input.{login_of};
 ghost use Rattle.krb_realm.specs.Clients.{ByCertificate};
-ghost use Rattle.krb_realm.specs.Logins.{remembered};
-ghost use Rattle.krb_realm.specs.Realm.{realm_record};
+ghost use Rattle.krb_realm.specs.Logins.{realm_record, remembered};
 ghost use Rattle.pkinit_logins.specs.HonestByCertificate.{IsHonestByCertificate};
 ghost use Rattle.pkinit_trust.specs.Anchors.{AnchorRecord};
 
+use crate::client::Client;
 use crate::client_means::{Held, by_certificate};
-use crate::{Client, Realm};
 use key_functions::KeyFunctions;
+use krb_kdc::Realm;
 use krb_logins::LoginInput;
 use krb_service::Service;
 use std::alloc::Global;
@@ -18,7 +18,7 @@ use std::alloc::Global;
 /// Whether a login by the client's certificate is honest, as [`login_by_certificate`] asks for one key on both sides. The pairs of
 /// client and time that the service holds count as all that it admitted. If memory runs out, the answer is false.
 ///
-/// [`login_by_certificate`]: crate::login_by_certificate
+/// [`login_by_certificate`]: crate::login::login_by_certificate
 pub fn is_honest_by_certificate<C: KeyFunctions, R: KeyFunctions>(
     alloc: Global,
     client: &Client,

@@ -1,6 +1,5 @@
 use Rattle.krb_logins.specs.Input.{login_of}
-use Rattle.krb_realm.specs.Logins.{realm_rows}
-use Rattle.krb_realm.specs.Realm.{realm_record}
+use Rattle.krb_realm.specs.Logins.{realm_record, realm_rows}
 use Rattle.krb_realm.proofs.Exchanges.{exchanged, exit_of, not_exchanged}
 use Rattle.krb_realm.proofs.login.exchange.Goals as goal
 

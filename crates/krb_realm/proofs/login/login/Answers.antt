@@ -1,7 +1,6 @@
 use Rattle.std.proofs.Common.{refl}
 use Rattle.krb_logins.specs.Input.{login_of}
-use Rattle.krb_realm.specs.Logins.{realm_rows, remembered}
-use Rattle.krb_realm.specs.Realm.{realm_record}
+use Rattle.krb_realm.specs.Logins.{realm_record, realm_rows, remembered}
 use Rattle.krb_realm.proofs.Admitting.{by_credential, no_credential}
 use Rattle.krb_realm.proofs.Exchanges.{exit_of}
 use Rattle.krb_realm.proofs.login.login.Goals as goal

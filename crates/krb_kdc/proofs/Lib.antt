@@ -1,0 +1,5 @@
+pub mod Answered
+mod Begins
+mod Granting
+mod Keyed
+mod Certificates

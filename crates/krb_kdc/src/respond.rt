@@ -1,0 +1,109 @@
+//! A realm as the responder of a frame loop.
+ghost use Rattle.std.specs.Prelude.{◌≡◌, ◌≢◌, ℕ, ◌++◌, List, [], Some, Err, ◌⊎◌};
+ghost use Rattle.std.specs.Iterator.{IsFinite, DrainsIf};
+ghost use Rattle.std.specs.Io.KnownBytes.{Appends};
+ghost use Rattle.byte_streams.specs.Counting.{one_more};
+ghost use Rattle.krb_frames.specs.Serving.{WhereKnown, Left, IsServed, IsFinal, at};
+ghost use Rattle.krb_kdc.specs.Answers.{BeginsRequest, RealmReplies};
+
+use crate::realm::Realm;
+use byte_streams::{Sink, Source};
+use key_functions::KeyFunctions;
+use krb_frames::{AnswerRefusal, Responder, ServeFault};
+use krb_time::Moment;
+use std::alloc::Global;
+
+/// A realm with the key functions that it answers by: the responder of a frame loop.
+#[derive(Clone, Copy)]
+pub struct Answering<'a, K: KeyFunctions> {
+    /// The realm.
+    pub realm: &'a Realm,
+    /// Its key functions.
+    pub keys: &'a K,
+}
+
+impl<'a, K: KeyFunctions> Responder for Answering<'a, K> {
+    ghost use Rattle.krb_kdc.specs.Answers.{BeginsRequest, RealmReplies};
+    ghost use Rattle.krb_kdc.specs.Realm.{call_to};
+    ghost use Rattle.krb_replies.specs.Replies.{one_reply};
+    ghost use Rattle.pkinit_requests.specs.PkinitRows.{pkinit_rows};
+
+    ghost replies = { λ own message moment words reply. RealmReplies own.realm.now (K.functions own.keys.now) message moment words reply };
+
+    ghost may_want_memory = { λ _ message. BeginsRequest message };
+
+    ghost one_reply = { λ own message moment words.
+        one_reply (call_to own.realm.now moment words) (pkinit_rows own.realm.now.trust (K.functions own.keys.now)) message };
+
+    fn answer(
+        &self,
+        alloc: Global,
+        message: &[u8],
+        moment: Moment,
+        words: &[u8],
+    ) -> Result<Vec<u8>, AnswerRefusal> {
+        self.realm.answer(alloc, message, moment, words, self.keys)
+    }
+}
+
+/// Answers each frame of `reader` in a frame of `writer`, to the end of the stream, and gives how many were answered, held at the
+/// greatest `u64`.
+///
+/// Each message takes the next moment and the next 128 bytes of `words_reader`. A frame's faults come in this order: the stream
+/// ends within it or it is too long, no moment is left, too few random bytes are left, the message is no request, the reply is
+/// too long, the write fails. A fault leaves the replies before it written, and no part of the next but where the write failed.
+///
+/// What is taken of `reader` and `words_reader`, and when memory is asked for, is told at `krb_frames`' `serve`.
+pub fn serve<R: Source, W: Sink, M: Iterator<Item = Moment> + Drop, S: Source, K: KeyFunctions>(
+    alloc: Global,
+    realm: &Realm,
+    reader: &mut R,
+    writer: &mut W,
+    moments: M,
+    words_reader: &mut S,
+    keys: &K,
+) -> Result<u64, ServeFault>
+    requires can { M.can_next moments }
+    requires ends { IsFinite (M.remaining moments) }
+
+    // What was written, the answer and what is left are a run over the moments that were taken, and
+    // over any that may come after them.
+    ensures output { WhereKnown (R.left reader.old) (λ stream. WhereKnown (S.left words_reader.old) (λ words.
+        (taken written rest more : List ℕ) × DrainsIf M.next_gives (result ≡ Err ServeFault.NoMoment) moments taken
+        × Appends (W.written writer.old) (W.written writer.new) written
+        × (R.left reader.new ≡ Some rest) × (S.left words_reader.new ≡ Some more)
+        × ((later : List ℕ) → (result ≡ Err ServeFault.NoMoment → later ≡ [])
+        → IsServed (RealmReplies realm.now (K.functions keys.now)) BeginsRequest (at (taken ++ later) stream words) written result (at later rest more)))) }
+    ensures read_failed { result ≡ Err ServeFault.Read
+        → (R.failed reader.new ≡ one_more (R.failed reader.old)) ⊎ (S.failed words_reader.new ≡ one_more (S.failed words_reader.old)) }
+    ensures write_failed { result ≡ Err ServeFault.Write → W.failed writer.new ≡ one_more (W.failed writer.old) }
+
+    // No failed call is passed over.
+    ensures read_kept { result ≢ Err ServeFault.Read
+        → (R.failed reader.new ≡ R.failed reader.old) × (S.failed words_reader.new ≡ S.failed words_reader.old) }
+    ensures write_kept { result ≢ Err ServeFault.Write → W.failed writer.new ≡ W.failed writer.old }
+{
+    let answering = Answering { realm, keys };
+    krb_frames::serve(alloc, &answering, reader, writer, moments, words_reader)
+}
+
+/// Answers each frame of a stream in memory, as [`serve`] does, with these moments and random bytes. The replies' frames are
+/// appended to `replies`.
+pub fn serve_bytes<K: KeyFunctions>(
+    alloc: Global,
+    realm: &Realm,
+    stream: &[u8],
+    moments: &[Moment],
+    words: &[u8],
+    replies: &mut Vec<u8>,
+    keys: &K,
+) -> Result<u64, ServeFault>
+    ensures output { (written : List ℕ) × (left : Left) × (replies.new.items ≡ replies.old.items ++ written)
+        × IsServed (RealmReplies realm.now (K.functions keys.now)) BeginsRequest (at moments.now stream.now words.now) written result left }
+
+    // Bytes in memory never fail.
+    ensures devices { result ≢ Err ServeFault.Memory → IsFinal result }
+{
+    let answering = Answering { realm, keys };
+    krb_frames::serve_bytes(alloc, &answering, stream, moments, words, replies)
+}

@@ -1,7 +1,0 @@
-use Rattle.std.proofs.Common.{subst}
-use Rattle.krb_kdc_requests.specs.Calls.{AreKeyed}
-use Rattle.krb_realm.specs.Realm.{RealmState, realm_record}
-use Rattle.krb_realm.proofs.realm.Realm.are_keyed.Goals as goal
-
-pub returns : goal.returns
-returns c = subst (λ (r : RealmState). AreKeyed (realm_record r).look) c.self.view_is c.self.invariant.keyed
