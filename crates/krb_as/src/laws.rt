@@ -1,7 +1,8 @@
 //! What holds of every AS request.
 ghost use Rattle.std.specs.Prelude.{◌≡◌, ℕ, List, [], ◌∷◌, Some, IsSome};
 ghost use Rattle.asn1_der.specs.Length.{element};
-ghost use Rattle.krb_kdc_requests.specs.Requests.{body_bytes, body_of, padata_in};
+ghost use Rattle.krb_kdc_requests.specs.Requests.{body_of, padata_in};
+ghost use Rattle.krb_messages.specs.Bodies.{body_bytes};
 ghost use Rattle.krb_messages.specs.Messages.{IsAsReq};
 ghost use Rattle.krb_messages.specs.declared.messages.kdc_req.KdcReq.{KdcReq};
 ghost use Rattle.krb_tickets.specs.Padata.{first_of};

@@ -13,7 +13,6 @@ use Rattle.krb_messages.specs.declared.messages.kdc_req.KdcReq.{KdcReq}
 use Rattle.krb_messages.specs.declared.messages.kdc_req_body.KdcReqBody.{KdcReqBody}
 use Rattle.krb_messages.specs.declared.messages.krb_error.KrbErrorInner.{KrbErrorInner}
 use Rattle.krb_messages.specs.Messages.{IsKrbError, ap_req_tree, as_req_tree, authenticator_tree, sole_krb_error, tgs_req_tree}
-use Rattle.krb_messages.specs.Trees.{kdc_req_body_tree}
 use Rattle.decision_tables.specs.One.{IsSole}
 
 -- the encoding of a client's time
@@ -31,10 +30,6 @@ as_request_bytes request = der (as_req_tree request)
 -- the encoding of a TGS request
 unfoldable pub tgs_request_bytes : KdcReq → Bytes
 tgs_request_bytes request = der (tgs_req_tree request)
-
--- the encoding of a request's body
-unfoldable pub request_body_bytes : KdcReqBody → Bytes
-request_body_bytes body = der (kdc_req_body_tree body)
 
 -- the encoding of an authenticator
 unfoldable pub authenticator_bytes : AuthenticatorInner → Bytes

@@ -14,7 +14,8 @@ use Rattle.krb_messages.specs.declared.messages.kdc_req.KdcReq.{KdcReq}
 use Rattle.krb_client.specs.Asked.{TgsAskedRecord}
 use Rattle.krb_client.specs.Authenticators.{IsApRequest, IsAuthenticatorOf, sole_presented, sole_authenticator_of}
 use Rattle.krb_client.specs.Client.{ClientRecord, CredentialRecord}
-use Rattle.krb_client.specs.Messages.{request_body_bytes, tgs_request_bytes}
+use Rattle.krb_client.specs.Messages.{tgs_request_bytes}
+use Rattle.krb_messages.specs.Bodies.{body_bytes}
 use Rattle.krb_client.specs.Requests.{pa_data_of, nonce_of, request_body, kdc_request_of}
 
 -- the checksum of the session's suite over a text (usage 6; RFC 4120, section 7.5.1)
@@ -44,7 +45,7 @@ tgs_request_of client service till nonce request = kdc_request_of 12 (pa_data_of
 
 -- the encoding of the request's body
 abbrev pub tgs_body_bytes : ClientRecord → List Bytes → GeneralizedTime → ℕ → Bytes
-tgs_body_bytes client service till nonce = request_body_bytes (request_body client false service till nonce)
+tgs_body_bytes client service till nonce = body_bytes (request_body client false service till nonce)
 
 -- the bytes are the client's request for a ticket for the service till that time, by the credential, at the moment; of the
 -- random bytes the first are the confounder

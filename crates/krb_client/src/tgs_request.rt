@@ -1,7 +1,8 @@
 //! Asking for a service ticket.
 ghost use Rattle.std.specs.Prelude.{◌≡◌, ◌≤◌, ◌↔◌, ◌⊎◌, ℕ, List, length, false, Err, IfErr, IfOk};
 ghost use Rattle.krb_accounts.specs.Names.{are_components, parts};
-ghost use Rattle.krb_client.specs.Messages.{request_body_bytes, tgs_request_bytes};
+ghost use Rattle.krb_client.specs.Messages.{tgs_request_bytes};
+ghost use Rattle.krb_messages.specs.Bodies.{body_bytes};
 ghost use Rattle.krb_client.specs.Requests.{nonce_of};
 ghost use Rattle.krb_crypto.specs.Suites.{cipher_confounder_size};
 ghost use Rattle.krb_client.specs.TgsRequest.{AsksTgs, Authenticates, checksum_over, tgs_asked, tgs_body_bytes, tgs_request_of};
@@ -98,7 +99,7 @@ impl Client {
         ensures { IfOk result (λ bytes. bytes.items ≡ tgs_body_bytes self.now service.now till nonce) }
     {
         let body = self.request_body(alloc, false, service, till, nonce)?;
-        let bytes = request_body_bytes(alloc, body)?;
+        let bytes = body_bytes(alloc, body)?;
         Ok(bytes)
     }
 
@@ -168,9 +169,9 @@ fn checksum_over(
 }
 
 // The encoding of the request's body.
-#[tactic(auto, unfolding(crate::specs::Messages::request_body_bytes))]
-fn request_body_bytes(alloc: Global, body: KdcReqBody) -> Result<Vec<u8>, AllocError>
-    ensures { IfOk result (λ bytes. bytes.items ≡ request_body_bytes body) }
+#[tactic(auto, unfolding(krb_messages::specs::Bodies::body_bytes))]
+fn body_bytes(alloc: Global, body: KdcReqBody) -> Result<Vec<u8>, AllocError>
+    ensures { IfOk result (λ bytes. bytes.items ≡ body_bytes body) }
 {
     let bytes = encoding_of(alloc, body)?;
     Ok(bytes)

@@ -18,7 +18,8 @@ use Rattle.krb_types.specs.declared.data_types.pa_data.PaData.{PaData}
 use Rattle.krb_messages.specs.Trees.{kdc_req_body_tree, kdc_req_inner_tree}
 use Rattle.krb_messages.specs.declared.messages.kdc_req.KdcReq.{KdcReq}
 use Rattle.krb_tickets.specs.Padata.{first_padata, first_of}
-use Rattle.krb_kdc_requests.specs.Requests.{body_bytes, padata_in}
+use Rattle.krb_kdc_requests.specs.Requests.{padata_in}
+use Rattle.krb_messages.specs.Bodies.{body_bytes}
 
 -- a part of a part is a part
 pub within : (path further bytes inner part : List ℕ) → IsPart bytes path inner → IsPart inner further part → IsPart bytes (path ++ further) part

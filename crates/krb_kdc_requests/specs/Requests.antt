@@ -3,7 +3,6 @@ use Rattle.std.specs.Prelude.{◌≡◌, ℕ, nat_le, Bool, not, ◌||◌, List,
 use Rattle.std.specs.Option.{option_map, option_map_or}
 use Rattle.std.proofs.Common.{sym, ◌∙◌}
 use Rattle.krb_time.specs.Units.{Micros, Seconds}
-use Rattle.asn1_der.specs.Tree.{der}
 use Rattle.picky_asn1.specs.BitString.{Bits, bit_of}
 use Rattle.asn1_leaves.specs.GeneralizedTime.{seconds_of}
 use Rattle.picky_asn1.specs.Numbers.{is_number}
@@ -17,7 +16,6 @@ use Rattle.krb_constants.specs.declared.error_codes.TheConstants.{KDC_ERR_BAD_PV
 use Rattle.krb_constants.specs.declared.kdc_options.TheConstants.{ENC_TKT_IN_SKEY, FORWARDED, POSTDATED, PROXY, RENEW, VALIDATE}
 use Rattle.krb_messages.specs.declared.messages.kdc_req.KdcReq.{KdcReq}
 use Rattle.krb_messages.specs.declared.messages.kdc_req_body.KdcReqBody.{KdcReqBody}
-use Rattle.krb_messages.specs.Trees.{kdc_req_body_tree}
 use Rattle.decision_tables.specs.One.{IsSole}
 use Rattle.decision_tables.specs.Tables.{Table, done, make, refuse}
 use Rattle.krb_accounts.specs.Account.{AccountRecord}
@@ -52,10 +50,6 @@ body_of request = request.req_body.0
 -- the padata of a request
 abbrev pub padata_in : KdcReq → List PaData
 padata_in request = option_map_or (λ tagged. tagged.0) request.padata.0 []
-
--- the one encoding of a request's body
-unfoldable pub body_bytes : KdcReqBody → Bytes
-body_bytes body = der (kdc_req_body_tree body)
 
 -- the request is of this message type and to this realm, which grants nothing that its options ask for beside a ticket
 abbrev pub header_rows : ℕ → Bytes → KdcReq → Table (Result (Unit {0}) Code)

@@ -48,7 +48,8 @@ use Rattle.krb_ap_requests.specs.declared.presented.Authenticated.{Authenticated
 use Rattle.pkinit_interface.specs.Rows.{PkinitRows}
 use Rattle.krb_kdc_requests.specs.Call.{CallRecord, skew_of}
 use Rattle.krb_kdc_requests.specs.Granting.{replied}
-use Rattle.krb_kdc_requests.specs.Requests.{IsSpan, account_of, body_bytes, client_of, padata_in, is_ended, lasting, service_of}
+use Rattle.krb_kdc_requests.specs.Requests.{IsSpan, account_of, client_of, padata_in, is_ended, lasting, service_of}
+use Rattle.krb_messages.specs.Bodies.{body_bytes}
 use Rattle.krb_types.specs.TicketGranting.{krbtgt_of}
 use Rattle.krb_kdc_requests.specs.declared.span.Span.{Span}
 use Rattle.krb_tgs.specs.TgsTable as table
@@ -57,7 +58,7 @@ use Rattle.krb_replies.specs.Replies.{Replies, as_reply, reply_of, tgs_reply}
 use Rattle.krb_client.specs.Authenticators.{IsApRequest, authenticator_with, authenticator_parts_of}
 use Rattle.krb_client.specs.Client.{ClientRecord, CredentialRecord}
 use Rattle.krb_client.specs.Held.{principal_name}
-use Rattle.krb_client.specs.Messages.{authenticator_bytes, request_body_bytes, tgs_request_bytes}
+use Rattle.krb_client.specs.Messages.{authenticator_bytes, tgs_request_bytes}
 use Rattle.krb_client.specs.Requests.{pa_data_of, nonce_of, request_body}
 use Rattle.krb_client.specs.TgsRequest.{checksum_over, tgs_body_bytes, tgs_request_of}
 use Rattle.krb_service.specs.Service.{ServiceRecord}
@@ -154,8 +155,7 @@ module _ (suite : CipherSuite) (key : Bytes) (body : KdcReqBody) (authenticator 
       (refuse (not (is_of_body (cipher_checksum suite) key body sum)) 41
       (done (Ok tt))))
 
-  covers_by : (sum : Checksum) → sum ≡ checksum_by suite key (request_body_bytes body) → (sum_rows sum).gives (Ok tt)
-  unfolding request_body_bytes body_bytes
+  covers_by : (sum : Checksum) → sum ≡ checksum_by suite key (body_bytes body) → (sum_rows sum).gives (Ok tt)
   covers_by sum is =
       subst (λ s. (sum_rows s).gives (Ok tt)) (sym is)
       (by_refuse {T = Unit {0}} {E = ℕ} (not (is_known_checksum (pos (checksum_number (cipher_checksum suite))))) 15
@@ -166,7 +166,7 @@ module _ (suite : CipherSuite) (key : Bytes) (body : KdcReqBody) (authenticator 
       (by_refuse {T = Unit {0}} {E = ℕ} (not (is_of_body (cipher_checksum suite) key body (checksum_by suite key (body_bytes body)))) 41 (done (Ok tt)) (Ok tt)
       (ap not (own_realm (checksum_of (cipher_checksum suite) key 6 (body_bytes body)))) refl)))
 
-  covers : (sum : Checksum) → sum ≡ checksum_by suite key (request_body_bytes body) → table.checksum_in authenticator ≡ Some sum → (covered suite key authenticator body).gives (Ok tt)
+  covers : (sum : Checksum) → sum ≡ checksum_by suite key (body_bytes body) → table.checksum_in authenticator ≡ Some sum → (covered suite key authenticator body).gives (Ok tt)
   covers sum is has = by_need {T = Unit {0}} {E = ℕ} (table.checksum_in authenticator) 50 sum_rows sum (Ok tt) has (covers_by sum is)
 
 -- the client's request can be written

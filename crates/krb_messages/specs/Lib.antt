@@ -1,3 +1,4 @@
 pub mod Trees
 pub mod Messages
 pub mod KrbResults
+pub mod Bodies

@@ -7,9 +7,11 @@
 ghost use Rattle.std.specs.Prelude.{◌≡◌};
 ghost use Rattle.asn1_codec.specs.Reads.{ReadsWhole};
 
+mod bodies;
 mod krb_result;
 pub mod messages;
 
+pub use bodies::body_bytes;
 pub use krb_result::{KrbResult, ResultExt};
 use picky_asn1_der::{Asn1DerError, FromDer, from_exact_bytes};
 use std::alloc::Global;

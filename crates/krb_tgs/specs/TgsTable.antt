@@ -39,7 +39,7 @@ use Rattle.krb_ap_requests.specs.declared.presented.Authenticated.{Authenticated
 use Rattle.krb_kdc_requests.specs.Call.{CallRecord, skew_of}
 use Rattle.krb_kdc_requests.specs.Granting.{replied}
 use Rattle.krb_kdc_requests.specs.Requests.{body_of, header_rows, padata_in, lasting, service_of}
-pub use Rattle.krb_kdc_requests.specs.Requests.{body_bytes}
+use Rattle.krb_messages.specs.Bodies.{body_bytes}
 use Rattle.krb_types.specs.TicketGranting.{krbtgt_of}
 use Rattle.krb_kdc_requests.specs.declared.span.Span.{Span}
 

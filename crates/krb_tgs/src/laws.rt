@@ -1,6 +1,7 @@
 //! What holds of every TGS request.
 ghost use Rattle.std.specs.Prelude.{◌≡◌, List, [], ◌∷◌, IsSome};
-ghost use Rattle.krb_kdc_requests.specs.Requests.{body_bytes, body_of};
+ghost use Rattle.krb_kdc_requests.specs.Requests.{body_of};
+ghost use Rattle.krb_messages.specs.Bodies.{body_bytes};
 ghost use Rattle.krb_messages.specs.Messages.{IsTgsReq};
 ghost use Rattle.krb_messages.specs.declared.messages.kdc_req.KdcReq.{KdcReq};
 ghost use Rattle.picky_asn1.specs.Bytes.{Bytes};

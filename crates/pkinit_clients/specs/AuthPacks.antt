@@ -7,7 +7,7 @@ use Rattle.asn1_elements.specs.Raw.{Raw}
 use Rattle.picky_asn1.specs.Bytes.{Bytes}
 use Rattle.krb_time.specs.Units.{Micros}
 use Rattle.krb_messages.specs.declared.messages.kdc_req_body.KdcReqBody.{KdcReqBody}
-use Rattle.krb_kdc_requests.specs.Requests.{body_bytes}
+use Rattle.krb_messages.specs.Bodies.{body_bytes}
 use Rattle.pkinit_messages.specs.declared.auth_pack.AuthPack.{AuthPack}
 use Rattle.pkinit_messages.specs.declared.pk_authenticator.PkAuthenticator.{PkAuthenticator}
 use Rattle.pkinit_clients.specs.contracts.encoding.Asn1RawDerAuthPackTree.TheImpl as pack_impl

@@ -20,7 +20,7 @@ use Rattle.krb_types.specs.Refusals.{Code}
 use Rattle.krb_constants.specs.declared.error_codes.TheConstants.{KDC_ERR_PADATA_TYPE_NOSUPP, KDC_ERR_PREAUTH_FAILED, KRB_AP_ERR_SKEW, KRB_ERR_GENERIC}
 use Rattle.krb_messages.specs.declared.messages.kdc_req_body.KdcReqBody.{KdcReqBody}
 use Rattle.pkinit_interface.specs.Calls.{AgreedRecord, PkinitCallRecord}
-use Rattle.krb_kdc_requests.specs.Requests.{body_bytes}
+use Rattle.krb_messages.specs.Bodies.{body_bytes}
 use Rattle.key_functions.specs.KeyFunctions.{KeysRecord}
 use Rattle.key_functions.specs.KeyFunctions.TheirValue.{WholeValue}
 use Rattle.key_functions.specs.declared.functions.Signed.{Signed}

@@ -15,7 +15,7 @@ use Rattle.decision_tables.specs.One.{IsSole}
 use Rattle.krb_time.specs.Times.{moment_at}
 use Rattle.krb_time.specs.Units.{Micros}
 use Rattle.krb_messages.specs.declared.messages.kdc_req_body.KdcReqBody.{KdcReqBody}
-use Rattle.krb_kdc_requests.specs.Requests.{body_bytes}
+use Rattle.krb_messages.specs.Bodies.{body_bytes}
 use Rattle.pkinit_messages.specs.declared.auth_pack.AuthPack.{AuthPack}
 use Rattle.pkinit_messages.specs.declared.pa_pk_as_req.PaPkAsReq.{PaPkAsReq}
 use Rattle.pkinit_messages.specs.contracts.pa_pk_as_req.PaPkAsReqTagged.TheImpl as request_impl

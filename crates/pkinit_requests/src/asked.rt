@@ -2,17 +2,18 @@
 ghost use Rattle.std.specs.Prelude.{◌≡◌, IfOk};
 ghost use Rattle.std.specs.Option.{option_copied, option_map};
 ghost use Rattle.krb_types.specs.Refusals.{IsJudged};
-ghost use Rattle.krb_kdc_requests.specs.Requests.{body_bytes};
+ghost use Rattle.krb_messages.specs.Bodies.{body_bytes};
 ghost use Rattle.pkinit_requests.specs.AuthPacks.{covers, is_sha1_of, time_in, value_in};
 ghost use Rattle.pkinit_requests.specs.PkinitTable.{asked_by};
 
 use crate::parts::Asked;
 use krb_constants::error_codes;
+use krb_messages::body_bytes;
 use krb_messages::messages::KdcReqBody;
 use krb_time::{Moment, moment_at};
 use krb_types::Refusal;
 use picky_asn1::wrapper::OctetStringAsn1;
-use picky_asn1_der::{Asn1RawDer, to_vec};
+use picky_asn1_der::Asn1RawDer;
 use pkinit_messages::AuthPack;
 use sha1::Sha1;
 use std::alloc::{AllocError, Global};
@@ -82,15 +83,4 @@ fn is_sha1_of(bytes: &[u8], checksum: Option<&OctetStringAsn1>) -> bool
         }
         None => false,
     }
-}
-
-// The body's one encoding.
-#[tactic(auto, unfolding(krb_kdc_requests::specs::Requests::body_bytes))]
-fn body_bytes(alloc: Global, body: &KdcReqBody) -> Result<Vec<u8>, AllocError>
-    ensures { IfOk result (λ bytes. bytes.items ≡ body_bytes body.now) }
-{
-    let Ok(bytes) = to_vec(alloc, body) else {
-        return Err(AllocError);
-    };
-    Ok(bytes)
 }
