@@ -39,7 +39,7 @@ impl Acceptor {
     }
 
     /// Takes an initiator's first token, at a moment: one of Kerberos (RFC 4121, section 4.1), or one of SPNEGO that offers Kerberos
-    /// (RFC 4178, section 4.2.1). Of the random bytes the first 16 count.
+    /// (RFC 4178, section 4.2.1). `words`: random bytes, of which the first 16 count.
     ///
     /// A token of Kerberos establishes a context. It may be in one of SPNEGO, if Kerberos is the first mechanism. If it isn't, or has
     /// no token, the answer asks for Kerberos. The context is then established by [`Acceptor::resume`].
@@ -64,8 +64,8 @@ impl Acceptor {
         }
     }
 
-    /// Takes the initiator's next token, which a negotiation waits for (RFC 4178, section 4.2.2), at a moment. Of the random bytes the
-    /// first 16 count.
+    /// Takes the initiator's next token, which a negotiation waits for (RFC 4178, section 4.2.2), at a moment. `words`: random bytes, of
+    /// which the first 16 count.
     ///
     /// The first token of Kerberos establishes a context. MICs of the list of mechanisms are due if Kerberos isn't the first of them. The
     /// initiator sends its MIC with its token, or, if there is an AP-REP, may send it after the acceptor's. A context whose initiator's

@@ -8,7 +8,8 @@ const AGREEMENT: usize = 32;
 /// How many random bytes an agreement takes.
 pub(crate) const AGREEMENT_BYTES: usize = 64;
 
-/// The random bytes of the client's agreement among those of an AS request (RFC 4556, section 3.2.1).
+/// The random bytes of the client's agreement among those of an AS request (RFC 4556, section 3.2.1). `words`: random bytes, 96 or
+/// more.
 pub fn agreement_part(words: &[u8]) -> &[u8]
     requires { 96 ≤ length words.now }
     ensures part { result.now ≡ agreement_part words.now }

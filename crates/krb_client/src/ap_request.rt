@@ -22,7 +22,7 @@ impl Client {
     /// The request to a service by what a realm granted, at the moment, and what the client has to remember for the reply
     /// (RFC 4120, section 3.2.2). `mutual_required` asks for a reply, and `with_subkey` chooses a key for what follows.
     ///
-    /// The first random bytes are the confounder, and bytes 32 to 63 the subkey's seed. Fails only if memory runs out.
+    /// `words`: random bytes, 96 or more. The first are the confounder, and 32 to 63 the subkey's seed. Fails only if memory runs out.
     pub fn ap_request(
         &self,
         alloc: Global,

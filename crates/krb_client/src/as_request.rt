@@ -24,8 +24,8 @@ impl Client {
     /// The request for a ticket for a service of the client's realm till a time, at the moment, with the padata of the client's
     /// means, and what the client has to remember for the reply (RFC 4120, section 3.1.1).
     ///
-    /// Of the random bytes the first are the means' confounder, 16 to 19 the nonce, and 32 to 95 the agreement's. A name that
-    /// isn't of 1 to 16 components of 1 to 255 characters below 128 is refused, and after it what the means refuse.
+    /// `words`: random bytes, 96 or more. The first are the means' confounder, 16 to 19 the nonce, and 32 to 95 the agreement's. A name
+    /// that isn't of 1 to 16 components of 1 to 255 characters below 128 is refused, and after it what the means refuse.
     pub fn as_request<M: Means>(
         &self,
         alloc: Global,

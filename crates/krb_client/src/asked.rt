@@ -31,7 +31,7 @@ impl Model for AsAsked {
 }
 
 impl AsAsked {
-    /// What there is to remember of a request for this service, with this nonce, at the moment, by these random bytes.
+    /// What there is to remember of a request for this service, with this nonce, at the moment. `words`: random bytes, 96 or more.
     pub fn new(service: Vec<GeneralStringAsn1>, nonce: u32, moment: Moment, words: &[u8]) -> AsAsked
         requires { 96 ≤ length words.now }
         ensures { result ≡ record { service = service.items; nonce = nonce; moment = moment; agreement = agreement_part words.now } }

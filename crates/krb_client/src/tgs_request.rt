@@ -33,7 +33,7 @@ impl Client {
     /// The request for a ticket for a service of the client's realm till a time, by what the realm granted for itself, at the
     /// moment, and what the client has to remember for the reply (RFC 4120, section 3.3.1).
     ///
-    /// Of the random bytes the first are the confounder, and 16 to 19 the nonce. A name that isn't of 1 to 16 components of
+    /// `words`: random bytes, 96 or more. The first are the confounder, and 16 to 19 the nonce. A name that isn't of 1 to 16 components of
     /// 1 to 255 characters below 128 is refused.
     pub fn tgs_request(
         &self,

@@ -14,7 +14,7 @@ use std::alloc::Global;
 /// Answers each frame of `reader` in a frame of `writer`, to the end of the stream, and gives how
 /// many were answered, held at the greatest `u64`.
 ///
-/// Each message takes the next moment and the next 128 bytes of `words_reader`. A frame's faults
+/// Each message takes the next moment and the next 128 random bytes of `words_reader`. A frame's faults
 /// come in this order: the stream ends within it or it is too long, no moment is left, too few
 /// random bytes are left, the message is no request, the reply is too long, the write fails. A fault
 /// leaves the replies before it written, and no part of the next but where the write failed.

@@ -130,7 +130,8 @@ impl Realm {
         let _settings = &self.settings;
     }
 
-    /// There is a reply to each request at each moment, by `laws::one_reply` exactly one. It does nothing when it runs.
+    /// There is a reply to each request at each moment, by `laws::one_reply` exactly one. It does nothing when it runs. `words`: random
+    /// bytes, 128 or more.
     pub fn has_reply<K: KeyFunctions>(&self, message: &[u8], moment: Moment, words: &[u8], keys: &K)
         requires { 128 ≤ length words.now }
         ensures { HasSome (Replies (call_to self.now moment words.now) (pkinit_rows self.now.trust (K.functions keys.now)) message.now) }
@@ -249,7 +250,7 @@ impl Realm {
         self.accounts.change_key(name, suite, key)
     }
 
-    /// The reply to a message at a moment, with random bytes of which the first 128 count (RFC 4120, sections 3.1 and 3.3).
+    /// The reply to a message at a moment (RFC 4120, sections 3.1 and 3.3). `words`: random bytes, of which the first 128 count.
     /// There is exactly one: `has_reply` and `laws::one_reply`.
     ///
     /// A realm with an anchor and an own certificate also grants by certificate (RFC 4556, section 3.2). The key functions verify

@@ -49,7 +49,7 @@ impl<'a, K: KeyFunctions> Responder for Answering<'a, K> {
 /// Answers each frame of `reader` in a frame of `writer`, to the end of the stream, and gives how many were answered, held at the
 /// greatest `u64`.
 ///
-/// Each message takes the next moment and the next 128 bytes of `words_reader`. A frame's faults come in this order: the stream
+/// Each message takes the next moment and the next 128 random bytes of `words_reader`. A frame's faults come in this order: the stream
 /// ends within it or it is too long, no moment is left, too few random bytes are left, the message is no request, the reply is
 /// too long, the write fails. A fault leaves the replies before it written, and no part of the next but where the write failed.
 ///
@@ -87,8 +87,8 @@ pub fn serve<R: Source, W: Sink, M: Iterator<Item = Moment> + Drop, S: Source, K
     krb_frames::serve(alloc, &answering, reader, writer, moments, words_reader)
 }
 
-/// Answers each frame of a stream in memory, as [`serve`] does, with these moments and random bytes. The replies' frames are
-/// appended to `replies`.
+/// Answers each frame of a stream in memory, as [`serve`] does, with these moments. The replies' frames are appended to `replies`.
+/// `words`: random bytes, 128 for each message.
 pub fn serve_bytes<K: KeyFunctions>(
     alloc: Global,
     realm: &Realm,

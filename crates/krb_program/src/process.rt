@@ -26,8 +26,8 @@ const MOMENT: &[u8; 15] = b"20000101000000Z";
 /// The whole program over its process: it answers the frames of standard input on standard output, as its arguments say. It
 /// says on standard error in one line why it stopped, and returns its status.
 ///
-/// With arguments it is [`run_with_arguments`]. Without, it serves the stored run, at one fixed moment and with zero words. Its
-/// realm is `R`, with no account beside its own service, whose key has 32 zero bytes.
+/// With arguments it is [`run_with_arguments`]. Without, it serves the stored run, at one fixed moment and with random bytes that are
+/// zero. Its realm is `R`, with no account beside its own service, whose key has 32 zero bytes.
 pub fn run_process(rt: &HostRuntime) -> ExitCode {
     let outcome = match run(rt) {
         Ok(outcome) => outcome,

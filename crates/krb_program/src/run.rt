@@ -15,7 +15,7 @@ use krb_time::Moment;
 use std::alloc::Global;
 
 /// Answers the frames of `reader` on `writer` for the realm of a settings file, each at one moment and with the next 128
-/// bytes of `words_reader`. The realm has no key functions.
+/// random bytes of `words_reader`. The realm has no key functions.
 ///
 /// The outcome has status 0 and no line where the stream was served to its end. It has status 1 where the file is no
 /// realm's: nothing was read or written then. It has status 2, and the fault's name, where serving stopped early, or where

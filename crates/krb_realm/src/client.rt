@@ -119,9 +119,9 @@ impl Client {
     /// The request for a ticket for a service of the client's realm till a time, at the moment, and what the client has to remember
     /// for the reply (RFC 4120, section 3.1.1; RFC 4556, section 3.2.1).
     ///
-    /// Of the random bytes the first are the confounder, 16 to 19 the nonce, and 32 to 95 the agreement's. A name that isn't of 1 to
-    /// 16 components of 1 to 255 characters below 128 is `BadName`. Then `NoKeyFunction` says that the client has a certificate, and
-    /// its key functions have no public value or don't sign.
+    /// `words`: random bytes, 96 or more. The first are the confounder, 16 to 19 the nonce, and 32 to 95 the agreement's. A name that
+    /// isn't of 1 to 16 components of 1 to 255 characters below 128 is `BadName`. Then `NoKeyFunction` says that the client has a
+    /// certificate, and its key functions have no public value or don't sign.
     pub fn as_request<K: KeyFunctions>(
         &self,
         alloc: Global,
@@ -166,8 +166,8 @@ impl Client {
     /// The request for a ticket for a service of the client's realm till a time, by what the realm granted for itself, at the
     /// moment, and what the client has to remember for the reply (RFC 4120, section 3.3.1).
     ///
-    /// Of the random bytes the first are the confounder, and 16 to 19 the nonce. A name that isn't of 1 to 16 components of 1 to 255
-    /// characters below 128 is refused.
+    /// `words`: random bytes, 96 or more. The first are the confounder, and 16 to 19 the nonce. A name that isn't of 1 to 16 components
+    /// of 1 to 255 characters below 128 is refused.
     pub fn tgs_request(
         &self,
         alloc: Global,
@@ -210,7 +210,7 @@ impl Client {
     /// The request to a service by what a realm granted, at the moment, and what the client has to remember for the reply
     /// (RFC 4120, section 3.2.2). `mutual_required` asks for a reply, and `with_subkey` chooses a key for what follows.
     ///
-    /// The first random bytes are the confounder, and bytes 32 to 63 the subkey's seed. Fails only if memory runs out.
+    /// `words`: random bytes, 96 or more. The first are the confounder, and 32 to 63 the subkey's seed. Fails only if memory runs out.
     pub fn ap_request(
         &self,
         alloc: Global,

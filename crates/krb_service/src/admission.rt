@@ -123,8 +123,8 @@ fn untagged<const N: u8, T: Drop>(tagged: Option<ExplicitContextTag<N, T>>) -> O
     None
 }
 
-/// The reply to what was presented, if one is required (RFC 4120, section 3.2.4). Only the first 16 random bytes count. This
-/// fails only if memory runs out. It takes no memory if no reply is required.
+/// The reply to what was presented, if one is required (RFC 4120, section 3.2.4). `words`: random bytes, of which the first 16
+/// count. This fails only if memory runs out. It takes no memory if no reply is required.
 ///
 /// The session key has to be one of the presented suite, as `KeytabEntry::receive` gives it.
 pub fn reply_to(

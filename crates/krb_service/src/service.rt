@@ -112,7 +112,7 @@ impl Service {
     }
 
     /// Admits an AP request at a moment, or refuses it (RFC 4120, section 3.2.3). The greatest moment that was ever
-    /// handed in judges it, and of the random bytes the first 16 count, where a reply is asked for.
+    /// handed in judges it. `words`: random bytes, of which the first 16 count, where a reply is asked for.
     ///
     /// A refused call records nothing. Where memory runs out the request may come again.
     pub fn admit(
