@@ -1,1 +1,2 @@
+pub mod KeyUsages
 pub mod ErrorNames
