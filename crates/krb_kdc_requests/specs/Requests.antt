@@ -15,6 +15,7 @@ use Rattle.krb_types.specs.declared.data_types.principal_name.PrincipalName.{Pri
 use Rattle.krb_types.specs.Refusals.{Code}
 use Rattle.krb_constants.specs.declared.error_codes.TheConstants.{KDC_ERR_BAD_PVNO, KDC_ERR_CANNOT_POSTDATE, KDC_ERR_NEVER_VALID, KDC_ERR_BADOPTION, KRB_AP_ERR_MSG_TYPE, KDC_ERR_WRONG_REALM}
 use Rattle.krb_constants.specs.declared.kdc_options.TheConstants.{ENC_TKT_IN_SKEY, FORWARDED, POSTDATED, PROXY, RENEW, VALIDATE}
+use Rattle.krb_constants.specs.declared.types.TheConstants.{KERBEROS_VERSION}
 use Rattle.krb_messages.specs.declared.messages.kdc_req.KdcReq.{KdcReq}
 use Rattle.krb_messages.specs.declared.messages.kdc_req_body.KdcReqBody.{KdcReqBody}
 use Rattle.krb_messages.specs.Trees.{kdc_req_body_tree}
@@ -63,7 +64,7 @@ body_bytes body = der (kdc_req_body_tree body)
 abbrev pub header_rows : ℕ → Bytes → KdcReq → Table (Result (Unit {0}) Code)
 header_rows kind realm request =
     -- `pvno` is 5 (RFC 4120, section 5.4.1). Test: `as pvno`, `tgs pvno`.
-    refuse (not (is_number 5 request.pvno.0)) KDC_ERR_BAD_PVNO
+    refuse (not (is_number KERBEROS_VERSION request.pvno.0)) KDC_ERR_BAD_PVNO
     -- `msg-type` is 10 in an AS-REQ, and 12 in a TGS-REQ (RFC 4120, section 5.4.1). Test: `as msg-type`, `tgs msg-type`.
     (refuse (not (is_number kind request.msg_type.0)) KRB_AP_ERR_MSG_TYPE
     -- `realm` is this realm, character by character (RFC 4120, section 5.4.1). Test: `as realm`, `tgs realm`.
