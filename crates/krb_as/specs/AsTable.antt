@@ -13,6 +13,8 @@ use Rattle.krb_types.specs.declared.data_types.pa_data.PaData.{PaData}
 use Rattle.krb_types.specs.Names.{components}
 use Rattle.krb_types.specs.Refusals.{Code}
 use Rattle.krb_constants.specs.declared.error_codes.TheConstants.{KDC_ERR_C_PRINCIPAL_UNKNOWN, KDC_ERR_S_PRINCIPAL_UNKNOWN, KDC_ERR_CANNOT_POSTDATE, KDC_ERR_ETYPE_NOSUPP, KDC_ERR_PREAUTH_FAILED, KDC_ERR_PREAUTH_REQUIRED, KRB_AP_ERR_SKEW}
+use Rattle.krb_constants.specs.declared.padata_types.TheConstants.{PA_ENC_TIMESTAMP, PA_PK_AS_REQ}
+use Rattle.krb_constants.specs.declared.types.TheConstants.{AS_REQ_MSG_TYPE}
 use Rattle.krb_messages.specs.declared.messages.kdc_req.KdcReq.{KdcReq}
 use Rattle.krb_messages.specs.declared.messages.kdc_req_body.KdcReqBody.{KdcReqBody}
 use Rattle.decision_tables.specs.Tables.{Table, and_then, ask, done, need, refuse}
@@ -49,7 +51,7 @@ abbrev pub timestamped : CallRecord → AccountRecord → List PaData → Table 
 timestamped call client padata =
     -- Padata PA-ENC-TIMESTAMP is there; of several the first counts (RFC 4120, section 5.2.7.2). Test: `as no preauthentication`,
     -- `as no padata`, `as padata twice, first bad`.
-    need (first_of 2 padata) KDC_ERR_PREAUTH_REQUIRED (λ value.
+    need (first_of PA_ENC_TIMESTAMP padata) KDC_ERR_PREAUTH_REQUIRED (λ value.
     -- The encrypted timestamp decrypts under the client's key, for key usage 1, to one PA-ENC-TS-ENC; its kvno isn't compared (RFC 4120,
     -- section 5.2.7.2). Test: `as PA-ENC-TIMESTAMP wrong key`, `as PA-ENC-TIMESTAMP wrong usage`.
     ask (IsEncryptedTimestamp client value) (sole_encrypted_timestamp client value) (done (Err KDC_ERR_PREAUTH_FAILED)) (λ timestamp.
@@ -73,7 +75,7 @@ abbrev pub authenticated : CallRecord → PkinitRows → AccountRecord → List 
 authenticated call rows client name request =
     -- Padata PA-PK-AS-REQ wins over PA-ENC-TIMESTAMP; of several the first counts (RFC 4556, section 3.2.2). Test:
     -- `as PA-PK-AS-REQ alone`, `as PA-PK-AS-REQ and PA-ENC-TIMESTAMP`.
-    authenticated_by call rows client name request (first_of 16 (padata_in request))
+    authenticated_by call rows client name request (first_of PA_PK_AS_REQ (padata_in request))
 
 -- the whole table, for the accounts of client and service if they have one
 -- Not judged: `rtime`, `addresses`, `enc-authorization-data` and `additional-tickets`; the `nonce` is copied, of any size (RFC 4120,
@@ -82,7 +84,7 @@ authenticated call rows client name request =
 -- `as client type`, `as service type`.
 abbrev pub as_table : CallRecord → PkinitRows → Option AccountRecord → Option AccountRecord → KdcReq → Table (Result Bytes Code)
 as_table call rows of_client of_service request =
-    and_then (header_rows 10 call.realm request) (λ _.
+    and_then (header_rows AS_REQ_MSG_TYPE call.realm request) (λ _.
     -- `cname` is there (RFC 4120, section 3.1.3). Test: `as client absent`.
     need (client_of (body_of request)) KDC_ERR_C_PRINCIPAL_UNKNOWN (λ client_name.
     -- `cname` has an account (RFC 4120, section 3.1.3). Test: `as client unknown`.
