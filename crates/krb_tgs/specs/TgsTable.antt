@@ -23,7 +23,11 @@ use Rattle.krb_types.specs.declared.data_types.pa_data.PaData.{PaData}
 use Rattle.krb_types.specs.declared.data_types.principal_name.PrincipalName.{PrincipalName}
 use Rattle.krb_types.specs.Refusals.{Code}
 use Rattle.krb_constants.specs.declared.error_codes.TheConstants.{KDC_ERR_C_PRINCIPAL_UNKNOWN, KDC_ERR_S_PRINCIPAL_UNKNOWN, KDC_ERR_POLICY, KDC_ERR_ETYPE_NOSUPP, KDC_ERR_SUMTYPE_NOSUPP, KDC_ERR_PADATA_TYPE_NOSUPP, KRB_AP_ERR_BAD_INTEGRITY, KRB_AP_ERR_SKEW, KRB_AP_ERR_MODIFIED, KRB_AP_ERR_INAPP_CKSUM, KDC_ERR_WRONG_REALM}
+use Rattle.krb_constants.specs.KeyUsages.{key_usage}
+use Rattle.krb_constants.specs.declared.key_usages.TheConstants.{TGS_REQ_PA_DATA_AP_REQ_AUTHENTICATOR, TGS_REQ_PA_DATA_AP_REQ_AUTHENTICATOR_CKSUM}
+use Rattle.krb_constants.specs.declared.padata_types.TheConstants.{PA_TGS_REQ}
 use Rattle.krb_constants.specs.declared.ticket_flags.TheConstants.{PRE_AUTHENT}
+use Rattle.krb_constants.specs.declared.types.TheConstants.{TGS_REQ_MSG_TYPE}
 use Rattle.krb_encrypted_data.specs.Keys.{suite_of}
 use Rattle.krb_messages.specs.declared.messages.ap_req.ApReqInner.{ApReqInner}
 use Rattle.krb_messages.specs.declared.messages.kdc_req.KdcReq.{KdcReq}
@@ -46,7 +50,7 @@ use Rattle.krb_kdc_requests.specs.declared.span.Span.{Span}
 -- the request is a TGS request to this realm, without `enc-authorization-data`, with which no ticket is granted
 abbrev pub to_us : Bytes → KdcReq → Table (Result (Unit {0}) Code)
 to_us realm request =
-    and_then (header_rows 12 realm request) (λ _.
+    and_then (header_rows TGS_REQ_MSG_TYPE realm request) (λ _.
     -- There is no `enc-authorization-data` (RFC 4120, section 5.4.1). Test: `tgs sealed authorization data`.
     refuse (is_some (body_of request).enc_authorization_data.0) KDC_ERR_POLICY
     (done (Ok tt)))
@@ -56,7 +60,7 @@ abbrev pub carried : List PaData → Table (Result ApReqInner Code)
 carried padata =
     -- Padata PA-TGS-REQ is there; of several the first counts (RFC 4120, section 5.2.7.1). Test: `tgs no padata`, `tgs other padata`,
     -- `tgs padata twice, first bad`.
-    need (first_of 1 padata) KDC_ERR_PADATA_TYPE_NOSUPP (λ value.
+    need (first_of PA_TGS_REQ padata) KDC_ERR_PADATA_TYPE_NOSUPP (λ value.
     -- PA-TGS-REQ is the DER encoding of one AP-REQ (RFC 4120, section 5.2.7.1). Test: `tgs AP-REQ junk`, `tgs AP-REQ long length`.
     ask (IsApReq value) (sole_ap_req value) (done (Err KRB_AP_ERR_MODIFIED)) (λ ap_req.
     done (Ok ap_req)))
@@ -79,7 +83,7 @@ ticket_granting call granting ap_req =
 -- the authenticator, which is the ticket's client's, and whose time is near the moment
 abbrev pub authenticated_near : CallRecord → EncTicketPartInner → ApReqInner → Table (Result Authenticated Code)
 authenticated_near call part ap_req =
-    and_then (authenticated 7 part ap_req.authenticator.0) (λ authenticated.
+    and_then (authenticated (key_usage TGS_REQ_PA_DATA_AP_REQ_AUTHENTICATOR) part ap_req.authenticator.0) (λ authenticated.
     -- Clock skew: the authenticator's `ctime` differs from now by the skew at most (RFC 4120, section 3.2.3). Test:
     -- `tgs authenticator skew far`, `tgs authenticator skew edges`.
     refuse (is_far (skew_of call) call.moment authenticated.time) KRB_AP_ERR_SKEW
@@ -95,7 +99,8 @@ is_known_checksum kind = list_any (λ suite. is_number (checksum_number suite) k
 
 -- the checksum is that of the body's encoding under the session key (key usage 6; RFC 4120, section 7.5.1)
 abbrev pub is_of_body : ChecksumSuite → Bytes → KdcReqBody → Checksum → Bool
-is_of_body kind key body checksum = pointwise nat_eq checksum.checksum.0 (checksum_of kind key 6 (body_bytes body))
+is_of_body kind key body checksum =
+    pointwise nat_eq checksum.checksum.0 (checksum_of kind key (key_usage TGS_REQ_PA_DATA_AP_REQ_AUTHENTICATOR_CKSUM) (body_bytes body))
 
 -- the authenticator's checksum covers the request's body
 abbrev pub covered : CipherSuite → Bytes → AuthenticatorInner → KdcReqBody → Table (Result (Unit {0}) Code)
