@@ -13,6 +13,8 @@ use Rattle.krb_types.specs.declared.data_types.pa_data.PaData.{PaData}
 use Rattle.krb_types.specs.Names.{components}
 use Rattle.krb_types.specs.Refusals.{Code}
 use Rattle.krb_constants.specs.declared.error_codes.TheConstants.{KDC_ERR_C_PRINCIPAL_UNKNOWN, KDC_ERR_S_PRINCIPAL_UNKNOWN, KDC_ERR_CANNOT_POSTDATE, KDC_ERR_ETYPE_NOSUPP, KDC_ERR_PREAUTH_FAILED, KDC_ERR_PREAUTH_REQUIRED, KRB_AP_ERR_SKEW}
+use Rattle.krb_constants.specs.declared.padata_types.TheConstants.{PA_ENC_TIMESTAMP, PA_PK_AS_REQ}
+use Rattle.krb_constants.specs.declared.types.TheConstants.{AS_REQ_MSG_TYPE}
 use Rattle.krb_messages.specs.declared.messages.kdc_req.KdcReq.{KdcReq}
 use Rattle.krb_messages.specs.declared.messages.kdc_req_body.KdcReqBody.{KdcReqBody}
 use Rattle.decision_tables.specs.Tables.{Table, and_then, ask, done, need, refuse}
@@ -30,24 +32,32 @@ use Rattle.krb_kdc_requests.specs.declared.span.Span.{Span}
 abbrev pub is_later : CallRecord → KdcReqBody → Bool
 is_later call body = option_map_or (λ from. is_before (skew_of call) call.moment (seconds_of from.0.0 * 1000000)) body.from.0 false
 
--- the client takes the suite
+-- `etype` lists the suite
 abbrev pub is_listed : CipherSuite → KdcReqBody → Bool
 is_listed suite body = list_any (λ etype. is_number (cipher_number suite) etype) body.etype.0
 
--- what the ticket is to be: its times and its suite
+-- the ticket's times, and its suite as the client's `etype` has to list it
 abbrev pub possible : CallRecord → CipherSuite → KdcReqBody → Table (Result Span Code)
 possible call suite body =
+    -- `from` isn't later than now plus the clock skew (RFC 4120, section 3.1.3). Test: `as from edges`.
     refuse (is_later call body) KDC_ERR_CANNOT_POSTDATE
     (and_then (lasting call.settings.lifetime call.moment None body) (λ span.
+    -- `etype` lists the encryption type of the client's key (RFC 4120, section 3.1.3). Test: `as etype list` of `five_suites.txt`.
     refuse (not (is_listed suite body)) KDC_ERR_ETYPE_NOSUPP
     (done (Ok span))))
 
 -- the client shows that it has its key by an encrypted timestamp
 abbrev pub timestamped : CallRecord → AccountRecord → List PaData → Table (Result (Unit {0}) Code)
 timestamped call client padata =
-    need (first_of 2 padata) KDC_ERR_PREAUTH_REQUIRED (λ value.
+    -- Padata PA-ENC-TIMESTAMP is there; of several the first counts (RFC 4120, section 5.2.7.2). Test: `as no preauthentication`,
+    -- `as no padata`, `as padata twice, first bad`.
+    need (first_of PA_ENC_TIMESTAMP padata) KDC_ERR_PREAUTH_REQUIRED (λ value.
+    -- The encrypted timestamp decrypts under the client's key, for key usage 1, to one PA-ENC-TS-ENC; its kvno isn't compared (RFC 4120,
+    -- section 5.2.7.2). Test: `as PA-ENC-TIMESTAMP wrong key`, `as PA-ENC-TIMESTAMP wrong usage`.
     ask (IsEncryptedTimestamp client value) (sole_encrypted_timestamp client value) (done (Err KDC_ERR_PREAUTH_FAILED)) (λ timestamp.
+    -- `pausec` is from 0 to 999,999; a missing one is 0 (RFC 4120, section 5.2.4). Test: `as microseconds`.
     need (moment_of timestamp) KDC_ERR_PREAUTH_FAILED (λ time.
+    -- Clock skew: `patimestamp` differs from now by the skew at most (RFC 4120, section 5.2.7.2). Test: `as skew edges`, `as skew far`.
     refuse (is_far (skew_of call) call.moment time) KRB_AP_ERR_SKEW
     (done (Ok tt)))))
 
@@ -60,19 +70,32 @@ authenticated_by call rows client name request (Some padata) =
     and_then (rows.judges (pkinit_call call name (body_of request)) padata) (λ agreed.
     done (Ok (agreed_reply_key client.suite (agreed_key client.suite agreed.secret) agreed.reply)))
 
--- padata of type 16, PA-PK-AS-REQ, wins over an encrypted timestamp
+-- the reply key, as the first padata PA-PK-AS-REQ gives it, and else the encrypted timestamp
 abbrev pub authenticated : CallRecord → PkinitRows → AccountRecord → List Bytes → KdcReq → Table (Result ReplyKeyRecord Code)
-authenticated call rows client name request = authenticated_by call rows client name request (first_of 16 (padata_in request))
+authenticated call rows client name request =
+    -- Padata PA-PK-AS-REQ wins over PA-ENC-TIMESTAMP; of several the first counts (RFC 4556, section 3.2.2). Test:
+    -- `as PA-PK-AS-REQ alone`, `as PA-PK-AS-REQ and PA-ENC-TIMESTAMP`.
+    authenticated_by call rows client name request (first_of PA_PK_AS_REQ (padata_in request))
 
--- the whole table, of the accounts of client and service if they have one
+-- the whole table, for the accounts of client and service if they have one
+-- Not judged: `rtime`, `addresses`, `enc-authorization-data` and `additional-tickets`; the `nonce` is copied, of any size (RFC 4120,
+-- section 3.1.3). Test: `as rtime, addresses`, `as sealed authorization data`, `as additional tickets`, `as nonce`.
+-- Ignored: the name type of `cname` and of `sname`; names are compared by their components (RFC 4120, section 6.2). Test:
+-- `as client type`, `as service type`.
 abbrev pub as_table : CallRecord → PkinitRows → Option AccountRecord → Option AccountRecord → KdcReq → Table (Result Bytes Code)
 as_table call rows of_client of_service request =
-    and_then (header_rows 10 call.realm request) (λ _.
+    and_then (header_rows AS_REQ_MSG_TYPE call.realm request) (λ _.
+    -- `cname` is there (RFC 4120, section 3.1.3). Test: `as client absent`.
     need (client_of (body_of request)) KDC_ERR_C_PRINCIPAL_UNKNOWN (λ client_name.
+    -- `cname` has an account (RFC 4120, section 3.1.3). Test: `as client unknown`.
     need of_client KDC_ERR_C_PRINCIPAL_UNKNOWN (λ client.
+    -- `sname` is there (RFC 4120, section 3.1.3). Test: `as service absent`.
     need (service_of (body_of request)) KDC_ERR_S_PRINCIPAL_UNKNOWN (λ service_name.
+    -- `sname` has an account (RFC 4120, section 3.1.3). Test: `as service unknown`.
     need of_service KDC_ERR_S_PRINCIPAL_UNKNOWN (λ service.
     and_then (possible call client.suite (body_of request)) (λ span.
     and_then (authenticated call rows client (components client_name) request) (λ under.
+    -- The ticket has the flags initial and pre-authent, a session key of the client's suite, no renew-till, no caddr, and no realm
+    -- transited (RFC 4120, section 3.1.3). Test: `as honest`.
     granted call (record { client_name = client_name; client = client; service_name = service_name; service = service })
     under span (body_of request))))))))

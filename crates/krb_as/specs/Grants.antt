@@ -22,7 +22,7 @@ pub record Principals : Type 0 where
   pub service_name : PrincipalName
   pub service : AccountRecord
 
--- the same as code holds them
+-- the same, as the code has them
 abbrev pub principals_of : held.Principals → Principals
 principals_of these = record {
   client_name = these.client_name.now;
@@ -31,7 +31,7 @@ principals_of these = record {
   service = these.service.now;
 }
 
--- a first ticket: the client's suite, a session key of it, and the names and the nonce as they were asked with
+-- the first ticket: a session key of the client's suite, the flags initial and pre-authent, and the request's names and nonce
 abbrev pub first_ticket : CallRecord → Principals → KdcReqBody → Span → GrantRecord
 first_ticket call principals body span = record {
   suite = principals.client.suite;
@@ -46,6 +46,6 @@ first_ticket call principals body span = record {
   nonce = body.nonce.0;
 }
 
--- the reply that grants it
+-- the reply that grants the first ticket
 abbrev pub granted : CallRecord → Principals → ReplyKeyRecord → Span → KdcReqBody → Table (Result Bytes Code)
 granted call principals under span body = replied (first_ticket call principals body span) under principals.service call.words

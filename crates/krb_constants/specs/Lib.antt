@@ -1,2 +1,3 @@
+pub mod KeyUsages
 pub mod ErrorNames
 pub mod Masks

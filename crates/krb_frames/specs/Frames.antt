@@ -14,20 +14,25 @@ frame_room stream = if nat_lt 65536 (announced stream) then 4 else 4 + announced
 
 -- a reply in its frame
 abbrev pub framed : List ℕ → List ℕ
-framed reply = big_bytes 4 (length reply) ++ reply
+framed reply =
+    -- A message follows its length in four octets, the highest first (RFC 4120, section 7.2.2). Test: `serve` of `realms.txt`.
+    big_bytes 4 (length reply) ++ reply
 
--- what is at the front of a stream: nothing, no frame, or a whole message with the rest behind it
+-- what is at the front of a stream: nothing, no frame, or a whole message, and the rest that follows it
 pub data Front : Type 0 where
   Ended : Front
   Bad : ServeFault → Front
   Whole : (message rest : List ℕ) → Front
 
--- a message has at most 65,536 bytes
+-- the front of these bytes
 abbrev pub front_of : List ℕ → Front
 front_of stream =
     if nat_lt 0 (length stream) then
+    -- The stream doesn't end inside a length (RFC 4120, section 7.2.2). Test: `serve` of `realms.txt`.
     (if nat_lt (length stream) 4 then Bad Truncated
+    -- A length is 65,536 at most (RFC 4120, section 7.2.2). Test: `serve` of `realms.txt`.
     else if nat_lt 65536 (announced stream) then Bad FrameTooLong
+    -- The stream doesn't end inside a message (RFC 4120, section 7.2.2). Test: `stops_at_the_first_fault`.
     else if nat_lt (length (drop 4 stream)) (announced stream) then Bad Truncated
     else Whole (take (announced stream) (drop 4 stream)) (drop (announced stream) (drop 4 stream)))
     else Ended

@@ -14,6 +14,7 @@ use Rattle.krb_types.specs.declared.data_types.principal_name.PrincipalName.{Pri
 use Rattle.krb_types.specs.Refusals.{Code}
 use Rattle.krb_constants.specs.declared.error_codes.TheConstants.{KDC_ERR_BAD_PVNO, KDC_ERR_CANNOT_POSTDATE, KDC_ERR_NEVER_VALID, KDC_ERR_BADOPTION, KRB_AP_ERR_MSG_TYPE, KDC_ERR_WRONG_REALM}
 use Rattle.krb_constants.specs.declared.kdc_options.TheConstants.{ENC_TKT_IN_SKEY, FORWARDED, POSTDATED, PROXY, RENEW, VALIDATE}
+use Rattle.krb_constants.specs.declared.types.TheConstants.{KERBEROS_VERSION}
 use Rattle.krb_messages.specs.declared.messages.kdc_req.KdcReq.{KdcReq}
 use Rattle.krb_messages.specs.declared.messages.kdc_req_body.KdcReqBody.{KdcReqBody}
 use Rattle.decision_tables.specs.One.{IsSole}
@@ -51,13 +52,22 @@ body_of request = request.req_body.0
 abbrev pub padata_in : KdcReq → List PaData
 padata_in request = option_map_or (λ tagged. tagged.0) request.padata.0 []
 
--- the request is of this message type and to this realm, which grants nothing that its options ask for beside a ticket
+-- the request is of this message type, to this realm, and without an option that the realm doesn't grant
+-- Ignored: other options (forwardable, proxiable, allow-postdate, renewable, renewable-ok, ..): the ticket has none of them (RFC 4120,
+-- section 5.4.1). Test: `as harmless options`, `tgs harmless options`.
 abbrev pub header_rows : ℕ → Bytes → KdcReq → Table (Result (Unit {0}) Code)
 header_rows kind realm request =
-    refuse (not (is_number 5 request.pvno.0)) KDC_ERR_BAD_PVNO
+    -- `pvno` is 5 (RFC 4120, section 5.4.1). Test: `as pvno`, `tgs pvno`.
+    refuse (not (is_number KERBEROS_VERSION request.pvno.0)) KDC_ERR_BAD_PVNO
+    -- `msg-type` is 10 in an AS-REQ, and 12 in a TGS-REQ (RFC 4120, section 5.4.1). Test: `as msg-type`, `tgs msg-type`.
     (refuse (not (is_number kind request.msg_type.0)) KRB_AP_ERR_MSG_TYPE
+    -- `realm` is this realm, character by character (RFC 4120, section 5.4.1). Test: `as realm`, `tgs realm`.
     (refuse (not (is_same_realm (body_of request).realm.0 realm)) KDC_ERR_WRONG_REALM
+    -- Of `kdc-options`, renew, validate, forwarded, proxy and enc-tkt-in-skey are refused (RFC 4120, section 5.4.1). Test:
+    -- `as option renew`, `as option validate`, `as option forwarded`, `as option proxy`, `as option enc-tkt-in-skey`,
+    -- `tgs option renew`, `tgs option validate`, `tgs option forwarded`, `tgs option proxy`, `tgs option enc-tkt-in-skey`.
     (refuse (has_refused_option (body_of request).kdc_options.0) KDC_ERR_BADOPTION
+    -- Of `kdc-options`, postdated is refused (RFC 4120, section 3.1.3). Test: `as option postdated`, `tgs option postdated`.
     (refuse (is_postdated (body_of request).kdc_options.0) KDC_ERR_CANNOT_POSTDATE
     (done (Ok tt))))))
 
@@ -76,9 +86,14 @@ sole_span lifetime moment old till a b x y = λ i. record {
 abbrev pub is_ended : Span → Bool
 is_ended span = nat_le (seconds_of span.until) (seconds_of span.start)
 
--- what there is of time for the ticket
+-- the seconds in which the ticket starts and ends
 abbrev pub lasting : Seconds → Micros → Option Seconds → KdcReqBody → Table (Result Span Code)
 lasting lifetime moment old body =
+    -- The endtime is the least of `till`, the starttime plus the lifetime, the presented ticket's endtime and the year 9999; `till`
+    -- 19700101000000Z means no end (RFC 4120, sections 3.1.3, 3.3.3 and 5.4.1). Test: `as till edges`, `as padata among others`,
+    -- `tgs till edges`, `tgs ticket end edges`.
     make (IsSpan lifetime moment old (seconds_of body.till.0.0)) (sole_span lifetime moment old (seconds_of body.till.0.0)) (λ span.
+    -- The endtime is after the starttime, which is now (RFC 4120, section 3.1.3). Test: `as till edges` of `five_suites.txt`,
+    -- `tgs old end`.
     refuse (is_ended span) KDC_ERR_NEVER_VALID
     (done (Ok span)))

@@ -5,24 +5,25 @@ use Rattle.krb_time.specs.Units.{Micros}
 use Rattle.asn1_der.specs.Tree.{der}
 use Rattle.asn1_leaves.specs.declared.date.GeneralizedTime.{GeneralizedTime}
 use Rattle.picky_asn1.specs.Bytes.{Bytes}
+use Rattle.krb_constants.specs.declared.types.TheConstants.{KERBEROS_VERSION, KRB_ERROR_MSG_TYPE, NT_SRV_INST}
 use Rattle.krb_messages.specs.declared.messages.krb_error.KrbErrorInner.{KrbErrorInner}
 use Rattle.krb_types.specs.declared.data_types.principal_name.PrincipalName.{PrincipalName}
 use Rattle.krb_types.specs.Refusals.{Code}
 use Rattle.krb_messages.specs.Messages.{krb_error_tree}
 use Rattle.krb_types.specs.TicketGranting.{krbtgt_of}
 
--- the realm's ticket-granting service by its name, of type 2 (RFC 4120, section 7.3)
+-- the name of the realm's ticket-granting service, of name type NT-SRV-INST (RFC 4120, sections 6.2 and 7.3)
 abbrev pub ticket_service : Bytes → PrincipalName
 ticket_service realm = record {
-  name_type = record { 0 = pos 2 };
+  name_type = record { 0 = pos NT_SRV_INST };
   name_string = record { 0 = krbtgt_of realm };
 }
 
 -- the error with this code, at a time and its microseconds, about a service; no optional field but the data
 abbrev pub error_of : Bytes → GeneralizedTime → Micros → PrincipalName → Code → Option Bytes → KrbErrorInner
 error_of realm time microseconds service code e_data = record {
-  pvno = record { 0 = pos 5 };
-  msg_type = record { 0 = pos 30 };
+  pvno = record { 0 = pos KERBEROS_VERSION };
+  msg_type = record { 0 = pos KRB_ERROR_MSG_TYPE };
   ctime = record { 0 = None };
   cusec = record { 0 = None };
   stime = record { 0 = record { 0 = time } };

@@ -2,6 +2,7 @@
 use Rattle.std.specs.Prelude.{◌≡◌, ◌⊎◌, List, Some}
 use Rattle.picky_asn1.specs.Bytes.{Bytes}
 use Rattle.krb_accounts.specs.Account.{AccountRecord}
+use Rattle.krb_constants.specs.declared.padata_types.TheConstants.{PA_TGS_REQ}
 use Rattle.krb_types.specs.Names.{components}
 use Rattle.krb_types.specs.declared.data_types.enc_ticket_part.EncTicketPartInner.{EncTicketPartInner}
 use Rattle.krb_types.specs.declared.data_types.principal_name.PrincipalName.{PrincipalName}
@@ -18,7 +19,7 @@ use Rattle.krb_types.specs.TicketGranting.{krbtgt_of}
 -- the request carries a ticket that has this part, sealed under the key of the realm's ticket-granting service
 pub record IsByTicket (call : CallRecord) (request : KdcReq) (ap_req : ApReqInner) (part : EncTicketPartInner) : Type 0 where
   pub value : Bytes
-  pub first : first_of 1 (padata_in request) ≡ Some value
+  pub first : first_of PA_TGS_REQ (padata_in request) ≡ Some value
   pub read : IsApReq value ap_req
   pub granting : AccountRecord
   pub account : call.look (krbtgt_of call.realm) ≡ Some granting

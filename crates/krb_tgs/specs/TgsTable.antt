@@ -23,7 +23,11 @@ use Rattle.krb_types.specs.declared.data_types.pa_data.PaData.{PaData}
 use Rattle.krb_types.specs.declared.data_types.principal_name.PrincipalName.{PrincipalName}
 use Rattle.krb_types.specs.Refusals.{Code}
 use Rattle.krb_constants.specs.declared.error_codes.TheConstants.{KDC_ERR_C_PRINCIPAL_UNKNOWN, KDC_ERR_S_PRINCIPAL_UNKNOWN, KDC_ERR_POLICY, KDC_ERR_ETYPE_NOSUPP, KDC_ERR_SUMTYPE_NOSUPP, KDC_ERR_PADATA_TYPE_NOSUPP, KRB_AP_ERR_BAD_INTEGRITY, KRB_AP_ERR_SKEW, KRB_AP_ERR_MODIFIED, KRB_AP_ERR_INAPP_CKSUM, KDC_ERR_WRONG_REALM}
+use Rattle.krb_constants.specs.KeyUsages.{key_usage}
+use Rattle.krb_constants.specs.declared.key_usages.TheConstants.{TGS_REQ_PA_DATA_AP_REQ_AUTHENTICATOR, TGS_REQ_PA_DATA_AP_REQ_AUTHENTICATOR_CKSUM}
+use Rattle.krb_constants.specs.declared.padata_types.TheConstants.{PA_TGS_REQ}
 use Rattle.krb_constants.specs.declared.ticket_flags.TheConstants.{PRE_AUTHENT}
+use Rattle.krb_constants.specs.declared.types.TheConstants.{TGS_REQ_MSG_TYPE}
 use Rattle.krb_encrypted_data.specs.Keys.{suite_of}
 use Rattle.krb_messages.specs.declared.messages.ap_req.ApReqInner.{ApReqInner}
 use Rattle.krb_messages.specs.declared.messages.kdc_req.KdcReq.{KdcReq}
@@ -43,27 +47,32 @@ use Rattle.krb_messages.specs.Bodies.{body_bytes}
 use Rattle.krb_types.specs.TicketGranting.{krbtgt_of}
 use Rattle.krb_kdc_requests.specs.declared.span.Span.{Span}
 
--- the request is a TGS request to this realm, without sealed authorization data, which no ticket is granted with
+-- the request is a TGS request to this realm, without `enc-authorization-data`, with which no ticket is granted
 abbrev pub to_us : Bytes → KdcReq → Table (Result (Unit {0}) Code)
 to_us realm request =
-    and_then (header_rows 12 realm request) (λ _.
+    and_then (header_rows TGS_REQ_MSG_TYPE realm request) (λ _.
+    -- There is no `enc-authorization-data` (RFC 4120, section 5.4.1). Test: `tgs sealed authorization data`.
     refuse (is_some (body_of request).enc_authorization_data.0) KDC_ERR_POLICY
     (done (Ok tt)))
 
--- the AP request that the first padata of type 1 is
+-- the AP-REQ that the first padata PA-TGS-REQ is
 abbrev pub carried : List PaData → Table (Result ApReqInner Code)
 carried padata =
-    need (first_of 1 padata) KDC_ERR_PADATA_TYPE_NOSUPP (λ value.
+    -- Padata PA-TGS-REQ is there; of several the first counts (RFC 4120, section 5.2.7.1). Test: `tgs no padata`, `tgs other padata`,
+    -- `tgs padata twice, first bad`.
+    need (first_of PA_TGS_REQ padata) KDC_ERR_PADATA_TYPE_NOSUPP (λ value.
+    -- PA-TGS-REQ is the DER encoding of one AP-REQ (RFC 4120, section 5.2.7.1). Test: `tgs AP-REQ junk`, `tgs AP-REQ long length`.
     ask (IsApReq value) (sole_ap_req value) (done (Err KRB_AP_ERR_MODIFIED)) (λ ap_req.
     done (Ok ap_req)))
 
--- the ticket is of a client of the realm, and counts at the moment
+-- the ticket's client is one of this realm, and the ticket is valid at the moment
 abbrev pub counting : CallRecord → EncTicketPartInner → Table (Result (Unit {0}) Code)
 counting call part =
+    -- The ticket's `crealm` is this realm (RFC 4120, section 3.3.3). Test: `tgs ticket client realm`.
     refuse (not (is_same_realm part.crealm.0 call.realm)) KDC_ERR_WRONG_REALM
     (timely (skew_of call) call.moment part)
 
--- the part of a ticket for the realm's ticket-granting service
+-- the part of the presented ticket, which is for the realm's ticket-granting service
 abbrev pub ticket_granting : CallRecord → AccountRecord → ApReqInner → Table (Result EncTicketPartInner Code)
 ticket_granting call granting ap_req =
     and_then (ap_fields call.realm (krbtgt_of call.realm) granting.kvno ap_req) (λ _.
@@ -71,63 +80,74 @@ ticket_granting call granting ap_req =
     and_then (counting call part) (λ _.
     done (Ok part))))
 
--- the authenticator of the ticket's client, of a time near the moment
+-- the authenticator, which is the ticket's client's, and whose time is near the moment
 abbrev pub authenticated_near : CallRecord → EncTicketPartInner → ApReqInner → Table (Result Authenticated Code)
 authenticated_near call part ap_req =
-    and_then (authenticated 7 part ap_req.authenticator.0) (λ authenticated.
+    and_then (authenticated (key_usage TGS_REQ_PA_DATA_AP_REQ_AUTHENTICATOR) part ap_req.authenticator.0) (λ authenticated.
+    -- Clock skew: the authenticator's `ctime` differs from now by the skew at most (RFC 4120, section 3.2.3). Test:
+    -- `tgs authenticator skew far`, `tgs authenticator skew edges`.
     refuse (is_far (skew_of call) call.moment authenticated.time) KRB_AP_ERR_SKEW
     (done (Ok authenticated)))
 
+-- the authenticator's `cksum`
 abbrev pub checksum_in : AuthenticatorInner → Option Checksum
 checksum_in authenticator = option_map (λ tagged. tagged.0) authenticator.cksum.0
 
--- the type is that of a suite's checksum: triple DES (RFC 3961, section 6.3), AES (RFC 3962, section 7), AES with SHA-2 (RFC 8009, section 6)
+-- the checksum type is a suite's: of triple DES (RFC 3961, section 6.3), AES (RFC 3962, section 7) or AES with SHA-2 (RFC 8009, section 6)
 abbrev pub is_known_checksum : ℤ → Bool
 is_known_checksum kind = list_any (λ suite. is_number (checksum_number suite) kind) checksum_suites
 
--- the checksum is that of the body's encoding under the session's key (usage 6; RFC 4120, section 7.5.1)
+-- the checksum is that of the body's encoding under the session key (key usage 6; RFC 4120, section 7.5.1)
 abbrev pub is_of_body : ChecksumSuite → Bytes → KdcReqBody → Checksum → Bool
-is_of_body kind key body checksum = pointwise nat_eq checksum.checksum.0 (checksum_of kind key 6 (body_bytes body))
+is_of_body kind key body checksum =
+    pointwise nat_eq checksum.checksum.0 (checksum_of kind key (key_usage TGS_REQ_PA_DATA_AP_REQ_AUTHENTICATOR_CKSUM) (body_bytes body))
 
--- the authenticator covers the request's body
+-- the authenticator's checksum covers the request's body
 abbrev pub covered : CipherSuite → Bytes → AuthenticatorInner → KdcReqBody → Table (Result (Unit {0}) Code)
 covered suite key authenticator body =
+    -- The authenticator has a `cksum` (RFC 4120, section 3.3.3). Test: `tgs checksum missing`.
     need (checksum_in authenticator) KRB_AP_ERR_INAPP_CKSUM (λ checksum.
+    -- `cksumtype` is 12, 15, 16, 19 or 20 (RFC 4120, section 3.3.3). Test: `tgs checksum unknown type`.
     refuse (not (is_known_checksum checksum.cksumtype.0)) KDC_ERR_SUMTYPE_NOSUPP
+    -- `cksumtype` is that of the session key's suite (RFC 4120, section 3.3.3). Test: `tgs checksum other suite` of `five_suites.txt`.
     (refuse (not (is_number (checksum_number (cipher_checksum suite)) checksum.cksumtype.0)) KRB_AP_ERR_INAPP_CKSUM
+    -- `cksum` is the checksum of the DER encoding of `req-body`, for key usage 6 (RFC 4120, section 3.3.3). Test:
+    -- `tgs checksum differs`, `tgs checksum wrong usage`, `tgs body changed after the checksum`.
     (refuse (not (is_of_body (cipher_checksum suite) key body checksum)) KRB_AP_ERR_MODIFIED
     (done (Ok tt)))))
 
--- the suite of a number
+-- the suite of an encryption type
 abbrev pub suite_numbered : ℤ → Option CipherSuite
 suite_numbered number = find (λ suite. is_number (cipher_number suite) number) cipher_suites
 
--- the first number, in the client's order, that is a suite's
+-- the first encryption type, in the client's order, that is a suite's
 abbrev pub first_number : List ℤ → Option ℤ
 first_number numbers = find (λ number. is_some (suite_numbered number)) numbers
 
+-- the suite of the first such encryption type
 abbrev pub suite_of_first : Option ℤ → Option CipherSuite
 suite_of_first None = None
 suite_of_first (Some number) = suite_numbered number
 
--- the first suite that the client takes of those that are known
+-- the first suite that the client's `etype` lists
 abbrev pub first_known : List ℤ → Option CipherSuite
 first_known numbers = suite_of_first (first_number numbers)
 
+-- the authenticator's subkey
 abbrev pub subkey_in : AuthenticatorInner → Option EncryptionKey
 subkey_in authenticator = option_map (λ tagged. tagged.0) authenticator.subkey.0
 
--- a subkey is taken where it is one of a suite
+-- the reply key that is a subkey, if its type and length are a suite's
 abbrev pub under_subkey : EncryptionKey → Option ReplyKeyRecord
 under_subkey subkey = option_map (λ suite. tgs_subkey_reply_key suite subkey.key_value.0) (suite_of subkey)
 
--- what the reply is sealed under: the authenticator's subkey where it has one, else the session's key
+-- the reply key: the authenticator's subkey, and without one the session key
 abbrev pub reply_key : CipherSuite → Bytes → Option EncryptionKey → Option ReplyKeyRecord
 reply_key suite key None = Some (tgs_reply_key suite key)
 reply_key suite key (Some subkey) = under_subkey subkey
 
--- a service ticket: of the old one its client, the time of the first authentication and whether that was by
--- preauthentication (flag 10; RFC 4120, section 5.3)
+-- the service ticket: client, authtime and flag pre-authent are the presented ticket's, and the flag initial isn't set (RFC 4120,
+-- section 5.3)
 abbrev pub further_ticket : CallRecord → EncTicketPartInner → PrincipalName → CipherSuite → KdcReqBody → Span → GrantRecord
 further_ticket call part service suite body span = record {
   suite = suite;
@@ -142,46 +162,59 @@ further_ticket call part service suite body span = record {
   nonce = body.nonce.0;
 }
 
--- what the ticket is granted with, and the key that the reply is sealed under
+-- the reply that grants the service ticket, sealed under the reply key
 abbrev pub further : CallRecord → EncTicketPartInner → Authenticated → PrincipalName → AccountRecord → KdcReqBody → Table (Result Bytes Code)
 further call part authenticated service_name service body =
     and_then (lasting call.settings.lifetime call.moment (Some (seconds_of part.endtime.0.0)) body) (λ span.
+    -- `etype` lists a known encryption type; the session key is of the first that is known (RFC 4120, section 3.3.3). Test:
+    -- `tgs no known suite`, `tgs first known suite` of `five_suites.txt`.
     need (first_known body.etype.0) KDC_ERR_ETYPE_NOSUPP (λ suite.
+    -- The reply key is the subkey, for key usage 9, whose type and length are a suite's; without one it is the session key, for key
+    -- usage 8 (RFC 4120, section 3.3.3). Test: `tgs subkey type`, `tgs subkey`, `tgs honest`.
     need (reply_key authenticated.suite part.key.0.key_value.0 (subkey_in authenticated.authenticator)) KRB_AP_ERR_BAD_INTEGRITY (λ under.
+    -- The ticket has client, authtime and flag pre-authent of the presented ticket; the flag initial isn't set (RFC 4120, section
+    -- 3.3.3). Test: `tgs honest`, `tgs ticket flags short`.
     replied (further_ticket call part service_name suite body span) under service call.words)))
 
 -- the name has an account
 abbrev pub has_account : CallRecord → PrincipalName → Bool
 has_account call name = is_some (call.look (components name))
 
--- what is granted to the client of a ticket that is shown by an authenticator: client and service still have accounts
+-- the reply to the ticket's client, whose authenticator covers the body: client and service still have accounts
 abbrev pub tgs_granted : CallRecord → EncTicketPartInner → Authenticated → KdcReqBody → Table (Result Bytes Code)
 tgs_granted call part authenticated body =
+    -- The ticket's client still has an account (RFC 4120, section 3.3.3). Test: `tgs client no account, service unknown`.
     refuse (not (has_account call part.cname.0)) KDC_ERR_C_PRINCIPAL_UNKNOWN
+    -- `sname` is there (RFC 4120, section 3.3.3). Test: `tgs service absent`.
     (need (service_of body) KDC_ERR_S_PRINCIPAL_UNKNOWN (λ service_name.
+    -- `sname` has an account (RFC 4120, section 3.3.3). Test: `tgs service unknown`.
     need (call.look (components service_name)) KDC_ERR_S_PRINCIPAL_UNKNOWN (λ service.
     further call part authenticated service_name service body)))
 
--- with the authenticator
+-- the rows that read the authenticator: its checksum covers the body, and the ticket is granted
 abbrev pub of_authenticated : CallRecord → KdcReqBody → EncTicketPartInner → Authenticated → Table (Result Bytes Code)
 of_authenticated call body part authenticated =
     and_then (covered authenticated.suite part.key.0.key_value.0 authenticated.authenticator body) (λ _.
     tgs_granted call part authenticated body)
 
--- with the ticket's part
+-- the rows that read the ticket's part: its client's authenticator, and what this grants
 abbrev pub of_ticket : CallRecord → KdcReqBody → ApReqInner → EncTicketPartInner → Table (Result Bytes Code)
 of_ticket call body ap_req part =
     and_then (authenticated_near call part ap_req)
     (of_authenticated call body part)
 
--- with the AP request; a realm has its ticket-granting service's account, and one without it knows no such service
+-- the rows that read the AP-REQ: its ticket is for the realm's ticket-granting service, and its authenticator the client's
 abbrev pub of_carried : CallRecord → KdcReqBody → ApReqInner → Table (Result Bytes Code)
 of_carried call body ap_req =
+    -- The realm has the account of `krbtgt` (RFC 4120, section 7.3). No test: each realm has this account.
     need (call.look (krbtgt_of call.realm)) KDC_ERR_S_PRINCIPAL_UNKNOWN (λ granting.
     and_then (ticket_granting call granting ap_req)
     (of_ticket call body ap_req))
 
 -- the whole table
+-- Not judged: replay, since a realm remembers nothing between requests (RFC 4120, section 3.3.3). No test: the contract alone covers it.
+-- Not judged: `from`, `rtime`, `addresses`, the body's `cname` and `additional-tickets` (RFC 4120, section 3.3.3). Test:
+-- `tgs from edges`, `tgs body client`, `tgs additional tickets`, `tgs rtime, addresses` of `five_suites.txt`.
 abbrev pub tgs_table : CallRecord → KdcReq → Table (Result Bytes Code)
 tgs_table call request =
     and_then (to_us call.realm request) (λ _.

@@ -6,6 +6,8 @@ use Rattle.asn1_der.specs.Tree.{Tree, Writes}
 use Rattle.asn1_leaves.specs.GeneralizedTime.{seconds_of}
 use Rattle.picky_asn1.specs.Bytes.{Bytes}
 use Rattle.krb_accounts.specs.Account.{AccountRecord}
+use Rattle.krb_constants.specs.KeyUsages.{key_usage}
+use Rattle.krb_constants.specs.declared.key_usages.TheConstants.{AS_REQ_TIMESTAMP}
 use Rattle.krb_types.specs.declared.data_types.encrypted_data.EncryptedData.{EncryptedData}
 use Rattle.krb_types.specs.declared.data_types.pa_enc_timestamp.PaEncTsEnc.{PaEncTsEnc}
 use Rattle.krb_types.specs.Trees as held
@@ -21,14 +23,14 @@ timestamp_tree = held.pa_enc_ts_enc_tree
 pub record IsEncryptedTimestamp (account : AccountRecord) (bytes : Bytes) (timestamp : PaEncTsEnc) : Type 0 where
   pub sealed : EncryptedData
   pub writes : Writes held.encrypted_data_tree sealed bytes
-  pub opens : IsSealedIn {T = PaEncTsEnc} timestamp_tree account.suite account.key 1 sealed timestamp
+  pub opens : IsSealedIn {T = PaEncTsEnc} timestamp_tree account.suite account.key (key_usage AS_REQ_TIMESTAMP) sealed timestamp
 
 -- there is one at most
 pub sole_encrypted_timestamp : (account : AccountRecord) (bytes : Bytes) (v w : PaEncTsEnc) → IsEncryptedTimestamp account bytes v → IsEncryptedTimestamp account bytes w → v ≡ w
 sole_encrypted_timestamp account bytes v w x y =
     let same = held.encrypted_data-injective x.sealed y.sealed x.writes.0 y.writes.0 (sym x.writes.1 ∙ y.writes.1) in
-    let first = subst (λ s. IsSealedIn {T = PaEncTsEnc} timestamp_tree account.suite account.key 1 s v) same x.opens in
-    sole_sealed timestamp_tree held.pa_enc_ts_enc-injective account.suite account.key 1 y.sealed v w first y.opens
+    let first = subst (λ s. IsSealedIn {T = PaEncTsEnc} timestamp_tree account.suite account.key (key_usage AS_REQ_TIMESTAMP) s v) same x.opens in
+    sole_sealed timestamp_tree held.pa_enc_ts_enc-injective account.suite account.key (key_usage AS_REQ_TIMESTAMP) y.sealed v w first y.opens
 
 -- missing microseconds are zero
 abbrev pub or_zero : Option ℤ → ℤ

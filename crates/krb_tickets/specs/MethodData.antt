@@ -10,6 +10,7 @@ use Rattle.krb_crypto.specs.declared.suite.CipherSuite.{CipherSuite}
 use Rattle.krb_crypto.specs.declared.suite.CipherSuite.TheVariants.{Aes256CtsHmacSha196}
 use Rattle.krb_crypto.specs.Suites.{cipher_number}
 use Rattle.krb_accounts.specs.Account.{AccountRecord}
+use Rattle.krb_constants.specs.declared.padata_types.TheConstants.{PA_ENC_TIMESTAMP, PA_ETYPE_INFO2, PA_PK_AS_REQ}
 use Rattle.krb_types.specs.declared.data_types.etype_info2.EtypeInfo2Entry.{EtypeInfo2Entry}
 use Rattle.krb_types.specs.declared.data_types.pa_data.PaData.{PaData}
 use Rattle.krb_types.specs.Trees as held
@@ -43,11 +44,11 @@ pa_data_of kind value = record { padata_type = record { 0 = pos kind }; padata_d
 -- these two, and PA-PK-AS-REQ without data where certificates are accepted (RFC 4556, section 3.4)
 abbrev pub method_list : Bool → PaData → PaData → List PaData
 method_list false info timestamp = info ∷ timestamp ∷ []
-method_list true info timestamp = info ∷ timestamp ∷ pa_data_of 16 [] ∷ []
+method_list true info timestamp = info ∷ timestamp ∷ pa_data_of PA_PK_AS_REQ [] ∷ []
 
 -- PA-ETYPE-INFO2, and PA-ENC-TIMESTAMP without data
 unfoldable pub method_data : Bool → AccountRecord → List PaData
-method_data by_certificate account = method_list by_certificate (pa_data_of 19 (key_info_bytes account)) (pa_data_of 2 [])
+method_data by_certificate account = method_list by_certificate (pa_data_of PA_ETYPE_INFO2 (key_info_bytes account)) (pa_data_of PA_ENC_TIMESTAMP [])
 
 -- METHOD-DATA
 abbrev pub method_data_tree : List PaData → Tree

@@ -7,6 +7,9 @@ use Rattle.asn1_leaves.specs.declared.date.GeneralizedTime.{GeneralizedTime}
 use Rattle.krb_crypto.specs.declared.suite.CipherSuite.{CipherSuite}
 use Rattle.krb_crypto.specs.Sealing.{seed_key_of}
 use Rattle.krb_crypto.specs.Suites.{cipher_seed_size}
+use Rattle.krb_constants.specs.declared.padata_types.TheConstants.{PA_PK_AS_REP}
+use Rattle.krb_constants.specs.declared.ticket_flags.TheConstants.{INITIAL_MASK, PRE_AUTHENT_MASK}
+use Rattle.krb_constants.specs.declared.types.TheConstants.{AS_REP_MSG_TYPE, KERBEROS_VERSION, TGS_REP_MSG_TYPE}
 use Rattle.krb_types.specs.declared.data_types.encrypted_data.EncryptedData.{EncryptedData}
 use Rattle.krb_types.specs.declared.data_types.enc_ticket_part.EncTicketPartInner.{EncTicketPartInner}
 use Rattle.krb_types.specs.declared.data_types.last_req.LastReqInner.{LastReqInner}
@@ -21,6 +24,7 @@ use Rattle.krb_types.specs.declared.data_types.pa_data.PaData.{PaData}
 use Rattle.krb_tickets.specs.MethodData.{pa_data_of}
 use Rattle.krb_tickets.specs.Grant.{GrantRecord}
 use Rattle.krb_tickets.specs.declared.grant.TicketFlags.{TicketFlags}
+use Rattle.krb_tickets.specs.declared.parts.TheConstants.{DOMAIN_X500_COMPRESS, NO_LAST_REQUEST}
 use Rattle.krb_tickets.specs.declared.reply.Exchange.{Exchange}
 use Rattle.krb_tickets.specs.declared.reply.Exchange.TheVariants.{As, Tgs}
 
@@ -30,7 +34,7 @@ session_key_of suite words = seed_key_of suite (session_seed (cipher_seed_size s
 
 -- initial is bit 9 of 32, and preauthenticated bit 10 (RFC 4120, section 5.3)
 abbrev pub flags_octet : TicketFlags → ℕ
-flags_octet flags = (if flags.initial then 0x40 else 0x00) + (if flags.pre_authenticated then 0x20 else 0x00)
+flags_octet flags = (if flags.initial then INITIAL_MASK else 0x00) + (if flags.pre_authenticated then PRE_AUTHENT_MASK else 0x00)
 
 abbrev pub flags_of : TicketFlags → Bits
 flags_of flags = record { octets = 0x00 ∷ flags_octet flags ∷ 0x00 ∷ 0x00 ∷ []; unused = 0 }
@@ -47,11 +51,11 @@ no_flags = refl
 
 -- no realm was passed through, spelled as DOMAIN-X500-COMPRESS (RFC 4120, section 7.5.5)
 abbrev pub no_realms : TransitedEncoding
-no_realms = record { tr_type = record { 0 = pos 1 }; contents = record { 0 = [] } }
+no_realms = record { tr_type = record { 0 = pos DOMAIN_X500_COMPRESS }; contents = record { 0 = [] } }
 
 -- one last request, of type 0, which says nothing (RFC 4120, section 5.4.2)
 abbrev pub last_requests : GeneralizedTime → List LastReqInner
-last_requests start = record { lr_type = record { 0 = pos 0 }; lr_value = record { 0 = record { 0 = start } } } ∷ []
+last_requests start = record { lr_type = record { 0 = pos NO_LAST_REQUEST }; lr_value = record { 0 = record { 0 = start } } } ∷ []
 
 -- the part under the service's key: no realm was passed through, and no address and no right is told
 unfoldable pub ticket_part : GrantRecord → EncTicketPartInner
@@ -99,7 +103,7 @@ one_end grant = refl
 -- the ticket with its part as ciphertext
 unfoldable pub ticket_of : GrantRecord → EncryptedData → TicketInner
 ticket_of grant part = record {
-  tkt_vno = record { 0 = pos 5 };
+  tkt_vno = record { 0 = pos KERBEROS_VERSION };
   realm = record { 0 = grant.realm };
   sname = record { 0 = grant.service };
   enc_part = record { 0 = part };
@@ -107,17 +111,17 @@ ticket_of grant part = record {
 
 -- the message type (RFC 4120, section 5.10)
 abbrev pub reply_type : Exchange → ℕ
-reply_type As = 11
-reply_type Tgs = 13
+reply_type As = AS_REP_MSG_TYPE
+reply_type Tgs = TGS_REP_MSG_TYPE
 
 -- PA-PK-AS-REP with this data (RFC 4556, section 3.2.3)
 abbrev pub padata_of : Option Bytes → Option (ExplicitContextTag 2 (List PaData))
-padata_of pk_as_rep = option_map (λ value. record { 0 = pa_data_of 17 value ∷ [] }) pk_as_rep
+padata_of pk_as_rep = option_map (λ value. record { 0 = pa_data_of PA_PK_AS_REP value ∷ [] }) pk_as_rep
 
 -- the reply with its ticket, its part as ciphertext, and PA-PK-AS-REP where the client authenticated by certificate
 unfoldable pub kdc_reply_of : Exchange → Option Bytes → GrantRecord → TicketInner → EncryptedData → KdcRep
 kdc_reply_of exchange pk_as_rep grant ticket part = record {
-  pvno = record { 0 = pos 5 };
+  pvno = record { 0 = pos KERBEROS_VERSION };
   msg_type = record { 0 = pos (reply_type exchange) };
   padata = record { 0 = padata_of pk_as_rep };
   crealm = record { 0 = grant.realm };

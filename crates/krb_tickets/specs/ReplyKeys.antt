@@ -1,10 +1,11 @@
 -- The reply key, under which the reply's own part is sealed (RFC 4120, sections 3.1.3, 3.3.3, 7.5.1).
 use Rattle.std.specs.Prelude.{ℕ, Option, None, Some}
-use Rattle.std.specs.Int.{cast_unsigned, w32}
 use Rattle.std.specs.Option.{option_map}
 use Rattle.picky_asn1.specs.Bytes.{Bytes}
 use Rattle.krb_crypto.specs.declared.suite.CipherSuite.{CipherSuite}
 use Rattle.krb_accounts.specs.Account.{AccountRecord}
+use Rattle.krb_constants.specs.KeyUsages.{key_usage}
+use Rattle.krb_constants.specs.declared.key_usages.TheConstants.{AS_REP_ENC, TGS_REP_ENC_SESSION_KEY, TGS_REP_ENC_SUB_KEY}
 use Rattle.krb_tickets.specs.declared.reply.Exchange.{Exchange}
 use Rattle.krb_tickets.specs.declared.reply.Exchange.TheVariants.{As, Tgs}
 use Rattle.krb_tickets.specs.declared.reply.ReplyKey as held
@@ -26,22 +27,22 @@ reply_key_of this = record {
   suite = this.key.now.suite;
   key = this.key.now.bytes;
   kvno = this.kvno;
-  usage = cast_unsigned w32 this.usage;
+  usage = key_usage this.usage;
   pk_as_rep = option_map (λ reply. reply.now) this.pk_as_rep;
 }
 
 -- in an AS exchange the client's key
 abbrev pub as_reply_key : AccountRecord → ReplyKeyRecord
-as_reply_key client = record { exchange = As; suite = client.suite; key = client.key; kvno = Some client.kvno; usage = 3; pk_as_rep = None }
+as_reply_key client = record { exchange = As; suite = client.suite; key = client.key; kvno = Some client.kvno; usage = key_usage AS_REP_ENC; pk_as_rep = None }
 
 -- in a TGS exchange the presented ticket's session key
 abbrev pub tgs_reply_key : CipherSuite → Bytes → ReplyKeyRecord
-tgs_reply_key suite key = record { exchange = Tgs; suite = suite; key = key; kvno = None; usage = 8; pk_as_rep = None }
+tgs_reply_key suite key = record { exchange = Tgs; suite = suite; key = key; kvno = None; usage = key_usage TGS_REP_ENC_SESSION_KEY; pk_as_rep = None }
 
 -- or the authenticator's subkey, where there is one
 abbrev pub tgs_subkey_reply_key : CipherSuite → Bytes → ReplyKeyRecord
-tgs_subkey_reply_key suite key = record { exchange = Tgs; suite = suite; key = key; kvno = None; usage = 9; pk_as_rep = None }
+tgs_subkey_reply_key suite key = record { exchange = Tgs; suite = suite; key = key; kvno = None; usage = key_usage TGS_REP_ENC_SUB_KEY; pk_as_rep = None }
 
 -- in an AS exchange by certificate the key that both agreed on, and PA-PK-AS-REP (RFC 4556, section 3.2.3.1)
 abbrev pub agreed_reply_key : CipherSuite → Bytes → Bytes → ReplyKeyRecord
-agreed_reply_key suite key reply = record { exchange = As; suite = suite; key = key; kvno = None; usage = 3; pk_as_rep = Some reply }
+agreed_reply_key suite key reply = record { exchange = As; suite = suite; key = key; kvno = None; usage = key_usage AS_REP_ENC; pk_as_rep = Some reply }

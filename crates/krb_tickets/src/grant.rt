@@ -1,5 +1,7 @@
 //! What a ticket is granted with, and the sealed ticket.
 ghost use Rattle.std.specs.Prelude.{◌≡◌, length, IfOk};
+ghost use Rattle.krb_constants.specs.KeyUsages.{key_usage};
+ghost use Rattle.krb_constants.specs.declared.key_usages.TheConstants.{TICKET_REP};
 ghost use Rattle.krb_crypto.specs.Suites.{cipher_confounder_size};
 ghost use Rattle.krb_tickets.specs.Grant.{grant_of};
 ghost use Rattle.krb_tickets.specs.Sealed.{IsSealedData, ticket_part_bytes};
@@ -60,7 +62,7 @@ pub fn sealed_ticket(
     confounder: &[u8],
 ) -> Result<EncryptedData, AllocError>
     requires { length confounder.now ≡ cipher_confounder_size service.now.suite }
-    ensures { IfOk result (IsSealedData service.now 2 confounder.now (ticket_part_bytes (ticket_part (grant_of grant.now)))) }
+    ensures { IfOk result (IsSealedData service.now (key_usage TICKET_REP) confounder.now (ticket_part_bytes (ticket_part (grant_of grant.now)))) }
 {
     let part = ticket_part(alloc, grant)?;
     let plain = ticket_part_bytes(alloc, part)?;

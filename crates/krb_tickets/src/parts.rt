@@ -4,6 +4,7 @@ ghost use Rattle.krb_tickets.specs.Grant.{grant_of};
 ghost use Rattle.krb_tickets.specs.Parts.{flags_octet, flags_of, last_requests, no_realms, reply_part, ticket_part};
 
 use crate::grant::{Grant, TicketFlags};
+use krb_constants::ticket_flags::{INITIAL_MASK, PRE_AUTHENT_MASK};
 use krb_encrypted_data::encryption_key;
 use krb_messages::messages::EncKdcRepPart;
 use krb_types::data_types::{
@@ -17,13 +18,7 @@ use picky_asn1_der::{ExplicitContextTag, LentFields, Optional};
 use result_pairs::both;
 use std::alloc::{AllocError, Global};
 
-/// The flag `initial`, bit 9 of 32, in the second octet (RFC 4120, section 5.3).
-const INITIAL: u8 = 0x40;
-
-/// The flag `pre-authent`, bit 10 of 32, in the second octet (RFC 4120, section 5.3).
-const PRE_AUTHENTICATED: u8 = 0x20;
-
-/// The spelling of passed realms that RFC 4120 names, DOMAIN-X500-COMPRESS (section 7.5.5).
+/// The encoding of transited realms that RFC 4120 names, DOMAIN-X500-COMPRESS (section 7.5.5).
 const DOMAIN_X500_COMPRESS: u64 = 1;
 
 /// A last request of type 0 says nothing (RFC 4120, section 5.4.2).
@@ -99,9 +94,9 @@ fn flags_of(alloc: Global, flags: TicketFlags) -> Result<KerberosFlags, AllocErr
 fn flags_octet(flags: TicketFlags) -> u8
     ensures { result ≡ flags_octet flags }
 {
-    let initial = if flags.initial { INITIAL } else { 0x00 };
+    let initial = if flags.initial { INITIAL_MASK } else { 0x00 };
     let pre_authenticated = if flags.pre_authenticated {
-        PRE_AUTHENTICATED
+        PRE_AUTHENT_MASK
     } else {
         0x00
     };

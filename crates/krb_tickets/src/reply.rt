@@ -12,6 +12,7 @@ use crate::methods::pa_data;
 use crate::parts::reply_part;
 use krb_accounts::Account;
 use krb_constants::key_usages;
+use krb_constants::padata_types::PA_PK_AS_REP;
 use krb_constants::types::{
     AS_REP_MSG_TYPE, ENC_AS_REP_PART_TYPE, ENC_TGS_REP_PART_TYPE, KERBEROS_VERSION,
     TGS_REP_MSG_TYPE,
@@ -26,9 +27,6 @@ use picky_asn1_der::{
 };
 use result_pairs::both;
 use std::alloc::{AllocError, Global};
-
-/// The type of PA-PK-AS-REP (RFC 4556, section 3.1.3).
-const PA_PK_AS_REP: u32 = 17;
 
 /// The exchange that a ticket is granted in (RFC 4120, sections 3.1 and 3.3).
 #[derive(Clone, Copy, Debug, PartialEq, Eq)]
