@@ -1,7 +1,8 @@
-//! The suites.
+//! The suites, and the sizes of AES keys.
 ghost use Rattle.asn1_copies.specs.Copied.{equal};
 
 use crate::Copies;
+use aes_cts::AesSize;
 use krb_crypto::aes::{
     Aes128CtsHmacSha196, Aes256CtsHmacSha196, HmacSha196Aes128, HmacSha196Aes256,
 };
@@ -10,6 +11,10 @@ use krb_crypto::aes_sha2::{
 };
 use krb_crypto::des::{Des3CbcSha1Kd, HmacSha1Des3Kd};
 use krb_crypto::{ChecksumSuite, CipherSuite};
+
+impl Copies for AesSize {
+    ghost is_copy = { equal };
+}
 
 impl Copies for CipherSuite {
     ghost is_copy = { equal };

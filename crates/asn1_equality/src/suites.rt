@@ -1,10 +1,12 @@
-//! The suites.
+//! The suites, and the sizes of AES keys.
 ghost use Rattle.std.specs.Prelude.{refl};
 ghost use Rattle.asn1_equality.specs.Equalities.{bare};
+ghost use Rattle.aes_cts.specs.contracts.aes.AesSize.{the_type as aes_size_type};
 ghost use Rattle.krb_crypto.specs.contracts.suite.CipherSuite.{the_type as cipher_suite_type};
 ghost use Rattle.krb_crypto.specs.contracts.suite.ChecksumSuite.{the_type as checksum_suite_type};
 
 use crate::Equality;
+use aes_cts::AesSize;
 use krb_crypto::aes::{
     Aes128CtsHmacSha196, Aes256CtsHmacSha196, HmacSha196Aes128, HmacSha196Aes256,
 };
@@ -13,6 +15,10 @@ use krb_crypto::aes_sha2::{
 };
 use krb_crypto::des::{Des3CbcSha1Kd, HmacSha1Des3Kd};
 use krb_crypto::{ChecksumSuite, CipherSuite};
+
+impl Equality for AesSize {
+    ghost is_equality = { bare aes_size_type tt };
+}
 
 impl Equality for CipherSuite {
     ghost is_equality = { bare cipher_suite_type tt };

@@ -1,6 +1,6 @@
 //! Bytes at their places: what the binary layouts of other crates are written and read by.
 //!
-//! A layout is a list of parts, and a part is a place with its bytes: laid out is what has every part at
+//! A layout is a list of parts, and a part is a place with its bytes. Bytes are laid out if they have every part at
 //! its place. Numbers are two, four or eight bytes, the highest or the lowest first.
 #![tactic(auto)]
 

@@ -10,7 +10,7 @@ use std::io::ErrorKind;
 /// What [`read_front`] read.
 #[derive(Clone, Copy, Debug)]
 pub struct Front {
-    /// How many bytes were read.
+    /// The count of bytes that were read.
     pub count: usize,
     /// The fault of the device, where it failed before all was read.
     pub fault: Option<ErrorKind>,
@@ -44,7 +44,7 @@ pub fn read_front<R: Source>(reader: &mut R, buffer: &mut [u8]) -> Front
     }
 }
 
-/// What a source gave up to its end or its first fault.
+/// The bytes that a source gave up to its end or its first fault.
 #[derive(Debug, Drop)]
 pub struct Came {
     /// The bytes that came.

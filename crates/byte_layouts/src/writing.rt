@@ -16,7 +16,7 @@ pub fn put_at(bytes: &mut [u8], place: usize, content: &[u8])
     bytes[place..place + content.len()].copy_from_slice(content);
 }
 
-// What a write that stopped is answered by.
+// Returns the error of a write that stopped.
 fn stopped(fault: WholeFault) -> ErrorKind
     ensures { result ≡ stop_kind fault }
 {

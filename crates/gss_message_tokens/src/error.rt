@@ -21,10 +21,10 @@ pub enum GssApiMessageError {
     /// The device failed, or the bytes end inside the token (`UnexpectedEof`).
     #[error("IO error: {0}")]
     IoError(ErrorKind),
-    /// What is in the place of a MIC token's filler.
+    /// A MIC token's filler isn't all FF: these bytes are there.
     #[error("invalid MIC token filler: {0:?}")]
     InvalidMicFiller([u8; 5]),
-    /// What is in the place of a wrap token's filler.
+    /// A wrap token's filler isn't FF: this byte is there.
     #[error("invalid wrap token filler: {0}")]
     InvalidWrapFiller(u8),
     /// The token's content isn't DER. No call of this crate returns it.
@@ -93,7 +93,7 @@ impl From<AllocError> for GssApiMessageError {
     }
 }
 
-// The fault of a write that stopped.
+// Returns the fault of a write that stopped.
 pub(crate) fn write_fault(fault: WholeFault) -> GssApiMessageError
     ensures { result ≡ of_whole_fault fault }
 {

@@ -10,19 +10,19 @@ use std::io;
 use std::io::ErrorKind;
 use thiserror::Error;
 
-/// How many bytes name a machine.
+/// The length of MachineID: 32 bytes (MS-KILE, section 2.2.5).
 pub const MACHINE_ID_LENGTH: usize = 32;
 
 const RECORD_LEN: usize = 40;
 
-/// What a service is told of the process that asks.
+/// LSAP_TOKEN_INFO_INTEGRITY: the integrity level of the client's process (MS-KILE, section 2.2.5).
 #[derive(Clone, Copy, Debug, PartialEq, Eq)]
 pub struct LsapTokenInfoIntegrity {
-    /// 0 where the process has its user's whole token, 1 where its token is restricted.
+    /// Flags: 0 is a full token, 1 a restricted one.
     pub flags: u32,
-    /// The integrity level.
+    /// TokenIL: the integrity level.
     pub token_il: u32,
-    /// The random name of the machine.
+    /// MachineID: the random identifier of the client's machine.
     pub machine_id: [u8; MACHINE_ID_LENGTH],
 }
 
@@ -47,7 +47,7 @@ impl From<LsapTokenInfoIntegrityError> for io::Error {
 impl LsapTokenInfoIntegrity {
     ghost use Rattle.gss_message_tokens.specs.Integrity.{IsIntegrityRecord, FitsRecord, record_at, IsRecordStop};
 
-    // Its 40 bytes.
+    // Encodes the record in its 40 bytes.
     fn bytes(&self) -> [u8; RECORD_LEN]
         ensures { IsIntegrityRecord self.now result }
     {
@@ -73,7 +73,7 @@ impl LsapTokenInfoIntegrity {
         }
     }
 
-    // The record that these 40 bytes are.
+    // Decodes the record from its 40 bytes.
     fn of_bytes(bytes: &[u8; RECORD_LEN]) -> LsapTokenInfoIntegrity
         ensures laid { IsIntegrityRecord result bytes.now }
         ensures read { result ≡ record_at bytes.now }

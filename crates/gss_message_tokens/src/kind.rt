@@ -1,11 +1,11 @@
-//! Which token some bytes are, and why they are none.
+//! The token that some bytes are, or why they are none.
 ghost use Rattle.std.specs.Prelude.{◌≡◌};
 ghost use Rattle.gss_message_tokens.specs.Judging.{id_of, id_judged, mic_filler_judged, wrap_filler_judged, filler_judged, judged};
 
 use crate::error::GssApiMessageError;
 use std::io::ErrorKind;
 
-/// How many bytes stand before a token's checksum.
+/// The length of a token's header: the bytes before its checksum.
 pub(crate) const HEADER_LEN: usize = 16;
 
 pub(crate) const MIC_FILLER: [u8; 5] = [0xff; 5];
@@ -21,7 +21,7 @@ pub enum TokenKind {
     Wrap,
 }
 
-// Octets 0 and 1.
+// TOK_ID, octets 0 and 1.
 pub(crate) fn id(kind: TokenKind) -> [u8; 2]
     ensures { result ≡ id_of kind }
 {

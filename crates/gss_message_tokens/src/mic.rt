@@ -16,13 +16,13 @@ use std::alloc::{AllocError, Global};
 /// What `GSS_GetMIC` makes: a checksum over a payload that travels elsewhere, with a sequence number.
 #[derive(Debug, Drop, PartialEq, Eq)]
 pub struct MicToken {
-    /// Whether the acceptor sent it (1), it was sealed (2), and an acceptor's subkey was used (4).
+    /// Flags: SentByAcceptor (1), Sealed (2) and AcceptorSubkey (4) (RFC 4121, section 4.2.2).
     pub flags: u8,
-    /// The sequence number.
+    /// SND_SEQ: the sequence number.
     pub seq_num: u64,
-    /// What the checksum is over. It is neither written nor read.
+    /// The message that the checksum covers. It is neither written nor read.
     pub payload: Option<Vec<u8>>,
-    /// The checksum.
+    /// SGN_CKSUM: the checksum.
     pub checksum: Vec<u8>,
 }
 
@@ -90,7 +90,7 @@ impl MicToken {
         }
     }
 
-    /// Its first 16 bytes, over which the checksum is too.
+    /// Encodes the token's first 16 bytes, which the checksum covers too.
     pub fn header(&self) -> [u8; HEADER_LEN]
         ensures laid { IsLaidOut (mic_header (mic_of self.now)) result }
         ensures size { length result ≡ 16 }

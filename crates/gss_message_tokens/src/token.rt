@@ -13,8 +13,8 @@ use byte_streams::{Sink, Source, write_whole};
 use std::alloc::Global;
 use std::io::ErrorKind;
 
-// A token's header. What comes first in the bytes is answered: a wrong id or filler, and the fault of a device only
-// behind bytes in which nothing is wrong.
+// Reads a token's header. The first fault in the bytes is returned: a wrong id or filler. A device's fault is returned only
+// after bytes in which nothing is wrong.
 pub(crate) fn read_header<R: Source>(
     kind: TokenKind,
     reader: &mut R,
@@ -57,7 +57,7 @@ pub(crate) fn read_checksum<R: Source>(
     }
 }
 
-// A token's first 16 bytes, and those behind them.
+// Joins a token's first 16 bytes and those after them.
 #[derive(Drop)]
 pub(crate) struct Token {
     pub(crate) header: [u8; HEADER_LEN],

@@ -13,18 +13,18 @@ use byte_layouts::{put_at, u16_be, u16_be_bytes, u64_be, u64_be_bytes};
 use byte_streams::{Sink, Source};
 use std::alloc::{AllocError, Global};
 
-/// What `GSS_Wrap` makes: a payload, sealed or with a checksum, behind a sequence number.
+/// What `GSS_Wrap` makes: a header with a sequence number, and the payload, sealed or with a checksum.
 #[derive(Debug, Drop, PartialEq, Eq)]
 pub struct WrapToken {
-    /// Whether the acceptor sent it (1), it was sealed (2), and an acceptor's subkey was used (4).
+    /// Flags: SentByAcceptor (1), Sealed (2) and AcceptorSubkey (4) (RFC 4121, section 4.2.2).
     pub flags: u8,
-    /// How many filler bytes were added before sealing, or the checksum's size.
+    /// EC: the count of filler bytes that were added before sealing, or the size of the checksum.
     pub ec: u16,
-    /// By how many bytes the data is turned to the right.
+    /// RRC: the count of bytes by which the data is rotated to the right.
     pub rrc: u16,
-    /// The sequence number.
+    /// SND_SEQ: the sequence number.
     pub seq_num: u64,
-    /// What was wrapped. It is neither written nor read.
+    /// The message that was wrapped. It is neither written nor read.
     pub payload: Option<Vec<u8>>,
     /// The bytes after the header, from octet 16 on.
     pub checksum: Vec<u8>,
@@ -52,7 +52,7 @@ impl Clone for WrapToken {
 impl WrapToken {
     ghost use Rattle.gss_message_tokens.specs.Tokens.{WrapFields, wrap_of, wrap_header, IsWrapToken};
 
-    /// An initiator's sealed token, under the acceptor's subkey, with nothing behind its header yet.
+    /// An initiator's sealed token, under the acceptor's subkey, with nothing after its header yet.
     pub fn with_seq_number(alloc: Global, seq_num: u64) -> WrapToken
         ensures fields { wrap_of result ≡ record { flags = 6; ec = 0; rrc = 0; seq_num = seq_num; checksum = [] } }
         ensures payload { result.payload ≡ None }
@@ -67,14 +67,14 @@ impl WrapToken {
         }
     }
 
-    /// How many bytes its header has.
+    /// The length of the header: 16 bytes.
     pub fn header_len() -> usize
         ensures { result ≡ 16 }
     {
         HEADER_LEN
     }
 
-    /// Its first 16 bytes.
+    /// Encodes the token's first 16 bytes.
     pub fn header(&self) -> [u8; HEADER_LEN]
         ensures laid { IsLaidOut (wrap_header (wrap_of self.now)) result }
         ensures size { length result ≡ 16 }
@@ -89,7 +89,7 @@ impl WrapToken {
         header
     }
 
-    /// Sets the count of bytes by which the data is turned.
+    /// Sets RRC, the count of bytes by which the data is rotated.
     pub fn set_rrc(&mut self, rrc: u16)
         ensures { self.new ≡ record self.old { rrc = rrc } }
     {

@@ -15,7 +15,7 @@ use krb_profile::{DecryptWithoutChecksum, EncryptWithoutChecksum};
 use std::alloc::Global;
 
 impl CipherSuite {
-    /// What encrypts by this suite.
+    /// The cipher of this suite.
     pub fn cipher(&self) -> &CipherSuite
         ensures { result.now ≡ self.now }
     {
@@ -24,7 +24,7 @@ impl CipherSuite {
 }
 
 impl ChecksumSuite {
-    /// What makes this checksum.
+    /// The keyed checksum of this suite.
     pub fn hasher(&self) -> &ChecksumSuite
         ensures { result.now ≡ self.now }
     {

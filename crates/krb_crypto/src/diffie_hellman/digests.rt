@@ -7,7 +7,7 @@ ghost use Rattle.krb_crypto.specs.Agreement.{seed_octets_of};
 use sha1::{DIGEST_LEN, Sha1};
 use std::alloc::{AllocError, Global};
 
-/// How many octets there are at most: a digest's number is one octet.
+/// The most octets that the digests give: a digest's number is one octet, and a digest has 20.
 pub const OCTETS: usize = 256 * DIGEST_LEN;
 
 /// The first `len` octets of the numbered digests of a secret.
@@ -24,7 +24,7 @@ pub fn seed_octets(alloc: Global, secret: &[u8], len: usize) -> Result<Vec<u8>, 
     Ok(octets)
 }
 
-// The digest of the number and the secret.
+// Computes the digest of the number and the secret.
 fn numbered_digest(number: u8, secret: &[u8]) -> [u8; DIGEST_LEN]
     ensures { result ≡ sha1 (number ∷ secret.now) }
 {

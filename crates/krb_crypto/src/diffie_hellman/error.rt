@@ -1,4 +1,4 @@
-//! What the agreement of a key refuses.
+//! Why no key was agreed on.
 
 ghost use Rattle.std.specs.Prelude.{◌≡◌};
 ghost use Rattle.krb_crypto.specs.declared.diffie_hellman.error.DiffieHellmanError.TheVariants.{Memory};
@@ -9,7 +9,7 @@ use thiserror::Error;
 /// Why no key was agreed on.
 #[derive(Debug, Drop, Error)]
 pub enum DiffieHellmanError {
-    /// A seed that isn't whole bytes. No call of this crate answers it.
+    /// A seed that isn't whole bytes. No call of this crate returns it.
     #[error("invalid bit length: {0}")]
     BitLen(String),
 
@@ -22,7 +22,7 @@ pub enum DiffieHellmanError {
     Memory,
 }
 
-/// What a call of this module returns.
+/// The result of a call of this module.
 pub type DiffieHellmanResult<T> = Result<T, DiffieHellmanError>;
 
 impl From<AllocError> for DiffieHellmanError {

@@ -11,12 +11,12 @@ use crate::diffie_hellman::digests::{OCTETS, seed_octets};
 use crate::diffie_hellman::error::{DiffieHellmanError, DiffieHellmanResult};
 use std::alloc::{AllocError, Global};
 
-/// The nonces by which two exchanges of one secret agree on different keys.
-#[derive(Clone, Copy)]
+/// Both nonces of an exchange, by which two exchanges of one secret agree on different keys (RFC 4556, section 3.2.3.1).
+#[derive(Drop)]
 pub struct DhNonce<'a> {
-    /// The client's.
+    /// The client's nonce, n_c (clientDHNonce).
     pub client_nonce: &'a [u8],
-    /// The server's.
+    /// The KDC's nonce, n_k (serverDHNonce).
     pub server_nonce: &'a [u8],
 }
 
@@ -49,7 +49,7 @@ pub fn generate_key_from_shared_secret(
     }
 }
 
-// The secret, and the nonces behind it.
+// Appends both nonces to the secret.
 fn with_nonces(mut secret: Vec<u8>, nonce: Option<DhNonce>) -> Result<Vec<u8>, AllocError>
     ensures { IfOk result (λ made. made.items ≡ secret_with secret.items nonce.entry) }
 {
