@@ -63,9 +63,12 @@ key_in keys anchor client asked padata =
     and_then_told (λ fault. NotTrusted) (secret_of keys (pkinit_asked anchor client asked) padata) (λ secret.
     done (Ok (key_by client secret)))
 
--- the key of a reply
+-- Judges an AS-REP by its padata PA-PK-AS-REP, and makes the reply key of the secret.
 abbrev pub reply_key : KeysRecord → AnchorRecord → ClientRecord → AsAskedRecord → KdcRep → Table (Result KeyRecord TakeRefusal)
-reply_key keys anchor client asked reply = need (pk_as_rep_in reply) NotTrusted (key_in keys anchor client asked)
+reply_key keys anchor client asked reply =
+    -- The AS-REP has padata of the type PA-PK-AS-REP, of which the first counts (RFC 4556, section 3.2.4).
+    -- Test: `a@R, no padata`, `e@R, a first type 17 that doesn't read` of `pkinit_steps.txt`.
+    need (pk_as_rep_in reply) NotTrusted (key_in keys anchor client asked)
 
 -- by a certificate, with the authority that the client trusts to issue the realm's, and the client's key functions
 abbrev pub by_certificate : Bytes → AnchorRecord → KeysRecord → MeansRecord
