@@ -33,8 +33,8 @@ pk_as_req_bytes request = der (tagged_tree sequence_octet request_impl.ghosts.ro
 abbrev pub pack_bytes : KdcReqBody → Micros → GeneralizedTime → Raw → Bytes
 pack_bytes body moment second value = auth_pack_bytes (auth_pack_of (authenticator_of body second (moment % 1000000)) value)
 
--- the bytes are the data of PA-PK-AS-REQ for a request with this body, at the moment: the public value of the random bytes, signed
--- by the holder of the certificate
+-- The bytes are the padata-value of a PA-PK-AS-REQ for a request with this body, at the moment. The holder of the certificate signed
+-- the public value of the random bytes.
 pub record IsPkAsReqOf (keys : KeysRecord) (certificate : Bytes) (body : KdcReqBody) (moment : Micros) (words bytes : Bytes) : Type 0 where
   pub value : Raw
   pub is_value : keys.public_value words ≡ Some value

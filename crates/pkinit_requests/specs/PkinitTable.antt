@@ -1,5 +1,5 @@
--- What an AS request with PA-PK-AS-REQ is refused with, or granted with, in parts of one table, row by row: the first case that
--- holds counts (RFC 4556, section 3.2.2).
+-- How the KDC judges an AS request with PA-PK-AS-REQ, in parts of one table: the first case that holds counts (RFC 4556, section
+-- 3.2.2).
 use Rattle.std.specs.Prelude.{Bool, not, Result, Ok, Err}
 use Rattle.std.specs.Bool.{nat_eq}
 use Rattle.std.specs.Cmp.Lexicographic.{pointwise}

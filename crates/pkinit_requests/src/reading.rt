@@ -1,4 +1,4 @@
-//! Reading what a client authenticates by.
+//! Reads PA-PK-AS-REQ and AuthPack.
 ghost use Rattle.std.specs.Prelude.{IfOk};
 ghost use Rattle.krb_encrypted_data.specs.Found.{IsFound};
 ghost use Rattle.pkinit_requests.specs.AuthPacks.{IsAuthPack, IsPaPkAsReq};
