@@ -11,7 +11,8 @@ pub record SignedParts : Type 0 where
   pub certificate : List ℕ
   pub signed_attributes : List ℕ
 
--- the signed attributes under the tag of a SET OF in place of [0], as a signature covers them (RFC 5652, section 5.4)
+-- A signature covers the signed attributes as they are in the input, with the tag of a SET OF in place of [0] (RFC 5652, section 5.4).
+-- Test: `good: signature over first byte A0`, `good: plain`.
 abbrev pub as_set : List ℕ → List ℕ
 as_set [] = []
 as_set (first ∷ rest) = 0x31 ∷ rest

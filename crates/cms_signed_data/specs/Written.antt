@@ -22,18 +22,19 @@ use Rattle.cms_types.specs.Parts.{certificate_place}
 use Rattle.cms_signed_data.specs.SignedParts.{as_set, attributes_tree}
 use Rattle.asn1_der.specs.Octets.{sequence_octet}
 
--- SHA-256 with NULL
+-- The algorithm SHA-256 is written with the parameters NULL (RFC 5754, section 2).
 abbrev pub sha256_algorithm : RawAlgorithmIdentifier
 sha256_algorithm = record { algorithm = record { 0 = oids.sha256 }; parameters = record { 0 = null } }
 
--- the type of the content, and its SHA-256
+-- The signed attributes are the eContentType, and the SHA-256 digest of the eContent octets in what is written (RFC 5652, section 5.4).
+-- Test: `certificate 0, 0 deviations in it`, `rsa`.
 abbrev pub attributes_of : List ℕ → List ℕ → SignedAttributes
 attributes_of content_type content = record {
   content_type = record { ty = record { 0 = oids.content_type }; values = record { 0 = record { 0 = content_type } } };
   message_digest = record { ty = record { 0 = oids.message_digest }; values = record { 0 = sha256 content } };
 }
 
--- what is signed
+-- The bytes that the party signs: the signed attributes with the tag of a SET OF (RFC 5652, section 5.4).
 abbrev pub signed_bytes : List ℕ → List ℕ → List ℕ
 signed_bytes content_type content = as_set (der (attributes_tree (attributes_of content_type content)))
 
@@ -75,8 +76,8 @@ abbrev pub info_of : List ℕ → List ℕ → Certificate → Signed → Conten
 info_of content_type content value signed =
     info_with content_type content value (signer_of (id_of value) (attributes_of content_type content) signed)
 
--- the bytes are signed content of this type and content around the given bytes of a certificate: the party signed the signed
--- attributes as a SET OF, and no more deviates in the whole than in the certificate
+-- The bytes are signed data of this type and content. The given bytes of the certificate are in it unchanged, and nothing else deviates
+-- from DER (RFC 5652, section 5.1). Test: `certificate 38, 7 deviations in it`.
 pub record IsWritten (sign : List ℕ → Option Signed) (content_type content given bytes : List ℕ) : Type 0 where
   pub value : Certificate
   pub count : ℕ
@@ -86,10 +87,11 @@ pub record IsWritten (sign : List ℕ → Option Signed) (content_type content g
   pub spelled : content_info.ghosts.spells (info_of content_type content value signed) bytes count
   pub certificate_at : IsPart bytes certificate_place given
 
--- the given bytes are a certificate's, and the party doesn't sign
+-- The given bytes are a certificate's, and the party doesn't sign. Test: `sign none`.
 abbrev pub IsUnsigned : (List ℕ → Option Signed) → List ℕ → List ℕ → List ℕ → Type 0
 IsUnsigned sign content_type content given =
     ((value : Certificate) × (count : ℕ) × certificate.ghosts.spells value given count) × (sign (signed_bytes content_type content) ≡ None)
 
+-- The given bytes are no certificate. Test: `certificate with 00 behind`, `certificate empty`.
 abbrev pub IsNoCertificate : List ℕ → Type 0
 IsNoCertificate given = (value : Certificate) (count : ℕ) → certificate.ghosts.spells value given count → ⊥

@@ -32,7 +32,7 @@ pub(crate) fn info_around(
     Ok(bytes)
 }
 
-// The same without its type.
+// The SignedData alone, without the ContentInfo around it.
 fn data_around(
     alloc: Global,
     content_type: &ObjectIdentifier,

@@ -46,23 +46,30 @@ sha256_id-is = refl
 abbrev pub is_id : ObjectIdentifierAsn1 → List ℕ → Bool
 is_id oid content = pointwise nat_eq (oid_content oid.0) content
 
--- SHA-256 with NULL, which may be missing in what is read
+-- SHA-256 has the parameters NULL, which may be missing in what is read: others are refused (RFC 5754, section 2).
+-- Test: `good: digest parameters missing`, `digest identifier with octets as parameters`.
 unfoldable pub is_sha256 : RawAlgorithmIdentifier → Bool
 is_sha256 algorithm = is_id algorithm.algorithm sha256_id && is_null algorithm.parameters.0
 
--- content-type, of the content's type, and message-digest
+-- The signed attributes are content-type, which is the eContentType, and then message-digest (RFC 5652, sections 5.3, 11.1 and 11.2).
+-- Test: `fault: attributes exchanged`, `fault: content type attribute differs`.
 unfoldable pub are_attributes : ObjectIdentifierAsn1 → SignedAttributes → Bool
 are_attributes content_type attributes =
     is_id attributes.content_type.ty content_type_id
     && (is_id attributes.message_digest.ty message_digest_id && pointwise nat_eq attributes.content_type.values.0.0 content_type.0)
 
+-- The SignerInfo has version 1, and its digestAlgorithm is SHA-256 (RFC 5652, section 5.3).
+-- Test: `fault: signer version 3`, `fault: signer's digest SHA-384`.
 unfoldable pub is_signer : ObjectIdentifierAsn1 → SignerInfo → Bool
 is_signer content_type signer =
     (signer.version == 1) && (is_sha256 signer.digest_algorithm && are_attributes content_type signer.signed_attributes)
 
+-- SignedData has version 3, and its digestAlgorithm is SHA-256 (RFC 5652, section 5.1). Test: `fault: version 1`, `fault: digest SHA-384`.
 unfoldable pub is_signed : SignedData → Bool
 is_signed signed =
     (signed.version == 3) && (is_sha256 signed.digest_algorithms.0 && is_signer signed.encap_content_info.content_type signed.signer_infos.0)
 
+-- The contentType of ContentInfo is id-signedData (RFC 5652, sections 3 and 5.1).
+-- Test: `fault: outer type data`, `fault: outer type enveloped`.
 unfoldable pub has_form : ContentInfo → Bool
 has_form info = is_id info.content_type signed_data_id && is_signed info.content.0

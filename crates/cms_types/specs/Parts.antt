@@ -19,8 +19,8 @@ use Rattle.cms_types.specs.SignedRows.{signer_row, signed_row, content_row}
 use Rattle.cms_types.specs.SpelledElements.{SpellsElements, Ends, Row, Found, ended, held_are, row_some, row_front, row_behind, found_on, alone_in, second_in}
 use Rattle.asn1_der.specs.Octets.{octet_string_octet, sequence_octet}
 
--- paths from the whole: to the content's OCTET STRING, to the certificate, to the signed attributes, to the OCTET STRING of
--- the digest in them, and to that of the signature
+-- paths from the ContentInfo: to the OCTET STRING eContent, to the certificate, and to the signed attributes. Then to the OCTET
+-- STRINGs of message-digest and of signature.
 abbrev pub content_place : List ℕ
 content_place = 1 ∷ 0 ∷ 2 ∷ 1 ∷ 0 ∷ []
 

@@ -14,6 +14,8 @@ use Rattle.cms_types.specs.declared.signed_data.SignedData.{SignedData}
 use Rattle.cms_types.specs.declared.signer_info.IssuerAndSerialNumber.{IssuerAndSerialNumber}
 use Rattle.cms_types.specs.declared.signer_info.SignerInfo.{SignerInfo}
 
+-- The sid is issuerAndSerialNumber. unsignedAttrs are refused, even if empty (RFC 5652, section 5.3).
+-- Test: `fault: subject key identifier`, `fault: unsigned attributes empty`.
 abbrev pub SignerRow : Type 0
 SignerRow = ℕ × (IssuerAndSerialNumber × (RawAlgorithmIdentifier × (SignedAttributes × (AlgorithmIdentifier × (List ℕ × ⊤)))))
 
@@ -31,6 +33,8 @@ one_signer v w e =
       signature = f.1.1.1.1.1.0;
     }) e
 
+-- SignedData has one digest algorithm, one content, one certificate and one signer. crls are refused, even if empty (RFC 5652, section
+-- 5.1). Test: `fault: two certificates`, `fault: two signers`, `fault: crls present and empty`.
 abbrev pub SignedRow : Type 0
 SignedRow = ℕ × (SetOfOne RawAlgorithmIdentifier × (EncapsulatedContentInfo × (Explicit 0 Certificate × (SetOfOne SignerInfo × ⊤))))
 

@@ -43,7 +43,7 @@ pub in_front : {A B : Type 0} (spells : A → List ℕ → ℕ → Type 0) → S
     → spells f.0 front m → others f.1 rest k → Row spells others f (front ++ rest) (m + k)
 in_front spells are others f front rest m k s o = (rest, m, k, (front, s, low_front front (are f.0 front m s), refl), o, refl)
 
--- where the first field stands, and those behind it
+-- the paths to the first field and to those that follow it
 module _ {A B : Type 0} (spells : A → List ℕ → ℕ → Type 0) (are : SpellsElements spells) (others : B → List ℕ → ℕ → Type 0)
     (f : A × B) (b : List ℕ) (n : ℕ) (s : Row spells others f b n) where
   pub row_some : AreSome s.0 → AreSome b

@@ -1,4 +1,4 @@
-//! Algorithms can be written.
+//! Each algorithm can be written.
 ghost use Rattle.key_functions.specs.Encodings.{HasEncoding, IsCurveWhole};
 
 use x509_algorithms::{AlgorithmIdentifier, AlgorithmIdentifierParameters};
@@ -11,7 +11,7 @@ pub fn has_encoding(algorithm: &AlgorithmIdentifier)
     hold_curve(algorithm.parameters());
 }
 
-// Nothing is done: the identifier of a curve that is held is one.
+// Does nothing when it runs: a curve's identifier is an object identifier.
 fn hold_curve(parameters: &AlgorithmIdentifierParameters)
     ensures { IsCurveWhole parameters.now }
 {

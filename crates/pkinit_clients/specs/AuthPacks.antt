@@ -16,7 +16,8 @@ use Rattle.pkinit_clients.specs.contracts.encoding.Asn1RawDerAuthPackTree.TheImp
 abbrev pub auth_data : List ℕ
 auth_data = 1 ∷ 3 ∷ 6 ∷ 1 ∷ 5 ∷ 2 ∷ 3 ∷ 1 ∷ []
 
--- PKAuthenticator: the client's time as a second with its microseconds, the body's nonce, and the SHA-1 digest of the body
+-- PKAuthenticator has cusec and ctime of the client's time, the body's nonce, and as paChecksum the SHA-1 digest of the body (RFC 4556,
+-- section 3.2.1). Test: `a@R for h, test`, `f@R for h, test` of `pkinit_steps.txt`.
 abbrev pub authenticator_of : KdcReqBody → GeneralizedTime → Micros → PkAuthenticator
 authenticator_of body second microsecond = record {
   cusec = record { 0 = pos microsecond };
@@ -25,8 +26,8 @@ authenticator_of body second microsecond = record {
   pa_checksum = record { 0 = Some (record { 0 = sha1 (body_bytes body) }) };
 }
 
--- AuthPack: the authenticator, and the client's public value as its key functions give it. The client takes no reply under its own
--- key, and uses its public value once
+-- AuthPack has pkAuthenticator, and as clientPublicValue what the key functions give. It has neither supportedCMSTypes nor clientDHNonce
+-- (RFC 4556, section 3.2.1). Test: `b@R for HTTP/www, public`, `a@R for h, alg` of `pkinit_steps.txt`.
 abbrev pub auth_pack_of : PkAuthenticator → Raw → AuthPack Raw
 auth_pack_of authenticator value = record {
   pk_authenticator = record { 0 = authenticator };

@@ -7,7 +7,7 @@ use Rattle.pkinit_trust.specs.declared.refusal.TrustFault.TheVariants as trust_f
 use Rattle.pkinit_clients.specs.declared.fault.ReplyFault.{ReplyFault}
 use Rattle.pkinit_clients.specs.declared.fault.ReplyFault.TheVariants.{NotTrusted, Memory}
 
--- whatever tells against a signer, the client doesn't trust the reply
+-- whatever the reason against a signer is, the client doesn't trust the reply
 abbrev pub fault_of : trust.TrustFault → ReplyFault
 fault_of (trust_fault.Refused refusal) = NotTrusted
 fault_of trust_fault.Memory = Memory

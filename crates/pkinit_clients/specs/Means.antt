@@ -24,7 +24,7 @@ use Rattle.pkinit_clients.specs.Asked.{PkinitAskedRecord, client_agreement_bytes
 use Rattle.pkinit_clients.specs.Replies.{secret_of}
 use Rattle.pkinit_clients.specs.Requests.{IsNoPkAsReq, IsPkAsReqOf, sole_pk_as_req}
 
--- the padata is PA-PK-AS-REQ (RFC 4556, section 3.1.3) for a request with this body, at the moment
+-- the padata is PA-PK-AS-REQ for a request with this body, at the moment (RFC 4556, section 3.1.3)
 pub record IsPkinitPadata (keys : KeysRecord) (certificate : Bytes) (body : KdcReqBody) (moment : Micros) (words : Random) (padata : PaData) : Type 0 where
   pub value : Bytes
   pub is_request : IsPkAsReqOf keys certificate body moment (client_agreement_bytes words) value
@@ -35,11 +35,11 @@ pub sole_pkinit_padata : (keys : KeysRecord) (certificate : Bytes) (body : KdcRe
 sole_pkinit_padata keys certificate body moment words a b x y =
     x.made ∙ ap (pa_data_of 16) (sole_pk_as_req keys certificate body moment (client_agreement_bytes words) x.value y.value x.is_request y.is_request) ∙ sym y.made
 
--- there is no such padata
+-- the client has no padata PA-PK-AS-REQ
 abbrev pub IsNoPkinitPadata : KeysRecord → Bytes → KdcReqBody → Micros → Random → Type 0
 IsNoPkinitPadata keys certificate body moment words = IsNoPkAsReq keys certificate body moment (client_agreement_bytes words)
 
--- the data of the first padata PA-PK-AS-REP of a reply (RFC 4556, section 3.1.3)
+-- the padata-value of the first padata PA-PK-AS-REP of a reply (RFC 4556, section 3.1.3)
 abbrev pub pk_as_rep_in : KdcRep → Option Bytes
 pk_as_rep_in reply = first_of 17 (option_map_or (λ tagged. tagged.0) reply.padata.0 [])
 
@@ -57,17 +57,20 @@ pkinit_asked anchor client asked = record {
 abbrev pub key_by : ClientRecord → Bytes → KeyRecord
 key_by client secret = record { suite = client.suite; bytes = agreed_key client.suite secret }
 
--- the key of the secret that the data of PA-PK-AS-REP give
+-- the reply key of the secret that the padata-value of PA-PK-AS-REP gives
 abbrev pub key_in : KeysRecord → AnchorRecord → ClientRecord → AsAskedRecord → Bytes → Table (Result KeyRecord TakeRefusal)
 key_in keys anchor client asked padata =
     and_then_told (λ fault. NotTrusted) (secret_of keys (pkinit_asked anchor client asked) padata) (λ secret.
     done (Ok (key_by client secret)))
 
--- the key of a reply
+-- Judges an AS-REP by its padata PA-PK-AS-REP, and makes the reply key of the secret.
 abbrev pub reply_key : KeysRecord → AnchorRecord → ClientRecord → AsAskedRecord → KdcRep → Table (Result KeyRecord TakeRefusal)
-reply_key keys anchor client asked reply = need (pk_as_rep_in reply) NotTrusted (key_in keys anchor client asked)
+reply_key keys anchor client asked reply =
+    -- The AS-REP has padata of the type PA-PK-AS-REP, of which the first counts (RFC 4556, section 3.2.4).
+    -- Test: `a@R, no padata`, `e@R, a first type 17 that doesn't read` of `pkinit_steps.txt`.
+    need (pk_as_rep_in reply) NotTrusted (key_in keys anchor client asked)
 
--- by a certificate, with the authority that the client trusts to issue the realm's, and the client's key functions
+-- the means of a client with this certificate, this anchor for the realm's certificate, and these key functions
 abbrev pub by_certificate : Bytes → AnchorRecord → KeysRecord → MeansRecord
 by_certificate certificate anchor keys = record {
   asks = IsPkinitPadata keys certificate;

@@ -17,7 +17,8 @@ use Rattle.pkinit_replies.specs.WrittenOnce.{one_written}
 use Rattle.pkinit_clients.specs.AuthPacks.{auth_data, auth_pack_bytes, auth_pack_of, authenticator_of}
 use Rattle.asn1_der.specs.Octets.{sequence_octet}
 
--- PA-PK-AS-REQ: what is signed, and neither whom the client trusts nor a key of the KDC's that it knows
+-- PA-PK-AS-REQ has signedAuthPack, and neither trustedCertifiers nor kdcPkId (RFC 4556, section 3.2.1).
+-- Test: `a@R for h, test`, `a@R loose for h, test` of `pkinit_steps.txt`.
 abbrev pub pk_as_req_of : Bytes → PaPkAsReq
 pk_as_req_of signed = record {
   signed_auth_pack = record { 0 = signed };
@@ -32,8 +33,8 @@ pk_as_req_bytes request = der (tagged_tree sequence_octet request_impl.ghosts.ro
 abbrev pub pack_bytes : KdcReqBody → Micros → GeneralizedTime → Raw → Bytes
 pack_bytes body moment second value = auth_pack_bytes (auth_pack_of (authenticator_of body second (moment % 1000000)) value)
 
--- the bytes are the data of PA-PK-AS-REQ for a request with this body, at the moment: the public value of the random bytes, signed
--- by the holder of the certificate
+-- The bytes are the padata-value of a PA-PK-AS-REQ for a request with this body, at the moment. The holder of the certificate signed
+-- the public value of the random bytes.
 pub record IsPkAsReqOf (keys : KeysRecord) (certificate : Bytes) (body : KdcReqBody) (moment : Micros) (words bytes : Bytes) : Type 0 where
   pub value : Raw
   pub is_value : keys.public_value words ≡ Some value
@@ -51,7 +52,8 @@ pub record IsUnsignedPack (keys : KeysRecord) (body : KdcReqBody) (moment : Micr
   pub of_moment : IsSecondOf moment second
   pub unsigned : keys.sign (signed_bytes auth_data (pack_bytes body moment second value)) ≡ None
 
--- there are none: the key functions have no public value or no signature, or the certificate is none
+-- There is no PA-PK-AS-REQ if the key functions have no public value or no signature, or the bytes are no certificate.
+-- Test: `a@R for h, nopublic`, `b@R for h, nosign` of `pkinit_steps.txt`.
 abbrev pub IsNoPkAsReq : KeysRecord → Bytes → KdcReqBody → Micros → Bytes → Type 0
 IsNoPkAsReq keys certificate body moment words =
     (keys.public_value words ≡ None) ⊎ (IsUnsignedPack keys body moment words ⊎ IsNoCertificate certificate)

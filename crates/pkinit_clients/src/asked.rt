@@ -26,7 +26,7 @@ pub struct PkinitAsked<'a> {
     pub words: &'a [u8],
 }
 
-/// Of the random bytes of a request those of its agreement, from 32 to 95.
+/// The 64 random bytes of a request, from 32 to 95, by which the client agrees on a secret.
 pub fn agreement_words(words: &[u8]) -> &[u8]
     requires { 96 ≤ length words.now }
     ensures part { result.now ≡ client_agreement_bytes words.now }

@@ -1,4 +1,4 @@
-//! What a client signs.
+//! The AuthPack that a client signs.
 ghost use Rattle.std.specs.Prelude.{◌≡◌, IfOk};
 ghost use Rattle.sha1.specs.Sha1.{sha1};
 ghost use Rattle.krb_messages.specs.Bodies.{body_bytes};
@@ -35,7 +35,7 @@ pub(crate) fn auth_pack_bytes(
     encoding_of(alloc, pack)
 }
 
-// The authenticator of a request with this body.
+// The PKAuthenticator of a request with this body.
 fn authenticator_of(
     alloc: Global,
     body: &KdcReqBody,
@@ -56,7 +56,7 @@ fn authenticator_of(
     })
 }
 
-// The SHA-1 digest of the body.
+// The paChecksum: the SHA-1 digest of the KDC-REQ-BODY.
 fn checksum_of(alloc: Global, body: &KdcReqBody) -> Result<OctetStringAsn1, AllocError>
     ensures { IfOk result (λ checksum. checksum ≡ sha1 (body_bytes body.now)) }
 {

@@ -1,4 +1,4 @@
-//! Authenticating by certificate.
+//! The means of a client by its certificate.
 ghost use Rattle.std.specs.Prelude.{◌≡◌, ◌≤◌, ◌⊎◌, length, IfErr, IfOk};
 ghost use Rattle.std.specs.Option.{option_copied};
 ghost use Rattle.krb_client.specs.Refusals.{IsTaken};
@@ -66,7 +66,7 @@ impl<'a, K: KeyFunctions> Means for ByCertificate<'a, K> {
     }
 }
 
-// The padata, or none where the key functions answer none.
+// The padata PA-PK-AS-REQ. The client has none if its key functions have no public value or no signature.
 fn pkinit_padata<K: KeyFunctions>(
     alloc: Global,
     keys: &K,
@@ -89,7 +89,7 @@ fn pkinit_padata<K: KeyFunctions>(
     Ok(padata)
 }
 
-// The padata with these data.
+// The padata PA-PK-AS-REQ with this padata-value.
 fn pa_data_of(alloc: Global, value: Vec<u8>) -> Result<PaData, AllocError>
     ensures { IfOk result (λ padata. padata ≡ pa_data_of 16 value.items) }
 {
@@ -100,7 +100,7 @@ fn pa_data_of(alloc: Global, value: Vec<u8>) -> Result<PaData, AllocError>
     })
 }
 
-// The key of the reply.
+// The reply key, which is made of the secret that the reply's PA-PK-AS-REP gives.
 fn reply_key<K: KeyFunctions>(
     alloc: Global,
     own: &ByCertificate<'_, K>,
@@ -123,7 +123,7 @@ fn reply_key<K: KeyFunctions>(
     }
 }
 
-// The data of the reply's first padata PA-PK-AS-REP.
+// The padata-value of the reply's first PA-PK-AS-REP.
 fn pk_as_rep_in(reply: &KdcRep) -> Option<&OctetStringAsn1>
     ensures { option_copied result ≡ pk_as_rep_in reply.now }
 {
@@ -133,7 +133,7 @@ fn pk_as_rep_in(reply: &KdcRep) -> Option<&OctetStringAsn1>
     }
 }
 
-// The secret, by the data of the padata.
+// The secret that this padata-value gives.
 fn secret_in<K: KeyFunctions>(
     alloc: Global,
     own: &ByCertificate<'_, K>,

@@ -1,4 +1,4 @@
-//! Reading what a realm replies to a client that authenticates by certificate.
+//! Reads PA-PK-AS-REP and KDCDHKeyInfo.
 ghost use Rattle.std.specs.Prelude.{IfOk};
 ghost use Rattle.picky_asn1_der.specs.Found.{IsFound};
 ghost use Rattle.pkinit_clients.specs.Replies.{IsKdcDhKeyInfo, IsPaPkAsRep};

@@ -1,4 +1,4 @@
-//! Taking the realm's part of an agreement.
+//! Takes the secret from a PA-PK-AS-REP.
 ghost use Rattle.std.specs.Prelude.{◌≡◌, length};
 ghost use Rattle.std.specs.Option.{option_copied};
 ghost use Rattle.pkinit_clients.specs.Asked.{asked_of};
@@ -41,7 +41,7 @@ pub fn secret_of<K: KeyFunctions>(
     taken
 }
 
-// Of the reply that was read.
+// Takes the secret from a PA-PK-AS-REP: it has to have dhInfo.
 fn take_reply<K: KeyFunctions>(
     alloc: Global,
     keys: &K,
@@ -59,7 +59,7 @@ fn take_reply<K: KeyFunctions>(
     }
 }
 
-// Of the bytes of signed content.
+// Takes the secret from the octets of dhSignedData: they have to be SignedData of the one form.
 fn take_signed<K: KeyFunctions>(
     alloc: Global,
     keys: &K,
@@ -84,7 +84,7 @@ fn take_signed<K: KeyFunctions>(
     }
 }
 
-// Of signed content.
+// Takes the secret from the SignedData: its type has to be id-pkinit-DHKeyData, and the realm has to have signed it.
 fn take_content<K: KeyFunctions>(
     alloc: Global,
     keys: &K,
@@ -101,14 +101,14 @@ fn take_content<K: KeyFunctions>(
     take_key_data(alloc, keys, asked, content.content())
 }
 
-// The content is a KDCDHKeyInfo, by its type.
+// Whether the eContentType is id-pkinit-DHKeyData.
 fn is_dh_key_data(content: &SignedContent<'_>) -> bool
     ensures { result ≡ is_dh_key_data content.now }
 {
     content.content_type().as_bytes() == DH_KEY_DATA.as_slice()
 }
 
-// Of the bytes of KDCDHKeyInfo.
+// Takes the secret from the eContent octets: they have to be a KDCDHKeyInfo.
 fn take_key_data<K: KeyFunctions>(
     alloc: Global,
     keys: &K,
@@ -126,7 +126,7 @@ fn take_key_data<K: KeyFunctions>(
     taken
 }
 
-// Of KDCDHKeyInfo.
+// Takes the secret from a KDCDHKeyInfo: it has to have the request's nonce, and a public value that the client accepts.
 fn take_key_info<K: KeyFunctions>(
     alloc: Global,
     keys: &K,

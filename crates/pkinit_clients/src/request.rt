@@ -1,4 +1,4 @@
-//! Asking by certificate.
+//! The padata-value of a PA-PK-AS-REQ.
 ghost use Rattle.std.specs.Prelude.{◌≡◌, IfOk, MatchOption, length};
 ghost use Rattle.pkinit_clients.specs.Requests.{IsNoPkAsReq, IsPkAsReqOf, pk_as_req_bytes, pk_as_req_of};
 

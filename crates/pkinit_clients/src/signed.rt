@@ -1,4 +1,4 @@
-//! Signing an AuthPack.
+//! Signs an AuthPack.
 ghost use Rattle.std.specs.Prelude.{◌≡◌, ◌⊎◌, None, IfOk, MatchOption};
 ghost use Rattle.cms_signed_data.specs.Written.{IsNoCertificate, IsWritten, signed_bytes};
 ghost use Rattle.pkinit_clients.specs.AuthPacks.{auth_data};
@@ -8,7 +8,8 @@ use key_functions::KeyFunctions;
 use picky_asn1::oid::ObjectIdentifier;
 use std::alloc::{AllocError, Global};
 
-/// The signed content over an AuthPack around the certificate, or `None` if its holder doesn't sign, or it isn't one.
+/// The SignedData over an AuthPack, with the certificate in it. `None` if the certificate's holder doesn't sign, or the bytes are no
+/// certificate.
 pub(crate) fn signed_auth_pack<K: KeyFunctions>(
     alloc: Global,
     keys: &K,

@@ -1,4 +1,4 @@
-//! Who signed a reply.
+//! Whether the realm signed a reply.
 ghost use Rattle.pkinit_clients.specs.Asked.{asked_of, expected_realm};
 ghost use Rattle.pkinit_clients.specs.Faults.{IsTakenAs};
 ghost use Rattle.pkinit_clients.specs.Replies.{signed_by};
@@ -31,7 +31,7 @@ pub(crate) fn check_signed<K: KeyFunctions>(
     check_by(alloc, keys, &expected, content)
 }
 
-// The same, by whom is expected to have signed it.
+// Judges whether the expected principal signed the content.
 fn check_by<K: KeyFunctions>(
     alloc: Global,
     keys: &K,

@@ -10,8 +10,8 @@ use Rattle.pkinit_clients.specs.Asked.{PkinitAskedRecord, expected_realm}
 use Rattle.pkinit_logins.specs.Agreements.{AreAgreeing, IsKeyInfoText, IsPackText, IsTrusted}
 use Rattle.pkinit_logins.specs.Honest.{expected_client}
 
--- of a client that asks at a moment by its random bytes, and a realm that is called so: both agree, the realm has an anchor and a
--- certificate, and each accepts the other's certificate and verifies what its holder signs
+-- An exchange by certificate is honest if both agree on a secret by their random bytes, and the realm has an anchor and a certificate.
+-- Each accepts the other's certificate too, and verifies what its holder signs.
 pub record IsHonestExchange (client_keys : KeysRecord) (certificate : Bytes) (trust : TrustRecord) (realm_keys : KeysRecord) (call : PkinitCallRecord) (asked : PkinitAskedRecord) : Type 0 where
   pub agreeing : AreAgreeing client_keys realm_keys asked.words (agreement_bytes call.words)
   pub realm_anchor : AnchorRecord

@@ -1,4 +1,4 @@
-//! What a client signs.
+//! The AuthPack that a client signs.
 ghost use Rattle.asn1_der.specs.Octets.{sequence_octet};
 
 use crate::client_public_value::ClientPublicValue;
@@ -43,10 +43,10 @@ pub struct AuthPack<V: ClientPublicValue> {
     pub client_dh_nonce: Optional<Option<ExplicitContextTag3<DhNonce>>>,
 }
 
-/// The same for an agreement of Diffie and Hellman.
+/// An AuthPack whose clientPublicValue is a Diffie-Hellman key.
 pub type DhAuthPack = AuthPack<DhReqInfo>;
 
-/// The same for an agreement on an elliptic curve.
+/// An AuthPack whose clientPublicValue is a key on an elliptic curve.
 pub type EcAuthPack = AuthPack<SubjectPublicKeyInfo>;
 
 type AuthPackRow<V> = Row4<

@@ -1,4 +1,4 @@
-//! Which agreement it is.
+//! The algorithm of a client's public value.
 ghost use Rattle.asn1_der.specs.Octets.{sequence_octet};
 
 use crate::dh_domain_parameters::DhDomainParameters;

@@ -1,4 +1,4 @@
-//! Certifiers.
+//! The authorities that a client trusts.
 ghost use Rattle.asn1_der.specs.Octets.{sequence_octet};
 
 use asn1_der::octets::SEQUENCE;

@@ -1,4 +1,4 @@
-//! The end of an exchange.
+//! The checksum that ends an exchange of PKU2U.
 ghost use Rattle.asn1_der.specs.Octets.{sequence_octet};
 
 use asn1_der::octets::SEQUENCE;

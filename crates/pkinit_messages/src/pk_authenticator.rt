@@ -1,4 +1,4 @@
-//! What binds a signature to its request.
+//! The PKAuthenticator, which binds a signature to its request.
 ghost use Rattle.asn1_der.specs.Octets.{sequence_octet};
 
 use asn1_der::octets::SEQUENCE;

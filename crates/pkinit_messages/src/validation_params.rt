@@ -1,4 +1,4 @@
-//! How a prime was made.
+//! The seed and the counter of a Diffie-Hellman prime.
 ghost use Rattle.asn1_der.specs.Octets.{sequence_octet};
 
 use asn1_der::octets::SEQUENCE;
@@ -9,7 +9,8 @@ use picky_asn1_der::{
     read_sequence,
 };
 
-/// By which a prime of Diffie and Hellman can be made again (RFC 3279, section 2.3.3). It is made by reading alone.
+/// The seed and the counter by which a Diffie-Hellman prime can be generated again (RFC 3279, section 2.3.3). A value is made by
+/// reading alone.
 ///
 /// ```text
 /// ValidationParms ::= SEQUENCE {

@@ -26,8 +26,8 @@ use Rattle.asn1_der.specs.Octets.{sequence_octet}
 abbrev pub dh_key_data : List ℕ
 dh_key_data = 1 ∷ 3 ∷ 6 ∷ 1 ∷ 5 ∷ 2 ∷ 3 ∷ 2 ∷ []
 
--- KDCDHKeyInfo: the realm's public value, and the nonce of the client's authenticator. The value is used once, so it has no time
--- at which it expires
+-- KDCDHKeyInfo has the realm's subjectPublicKey and the nonce of pkAuthenticator. It has no dhKeyExpiration, since the realm uses its
+-- value once (RFC 4556, section 3.2.3.1). Test: `granted a suite 18`.
 abbrev pub key_info_of : Bits → ℤ → KdcDhKeyInfo
 key_info_of value nonce = record {
   subject_public_key = record { 0 = value };
@@ -38,18 +38,25 @@ key_info_of value nonce = record {
 unfoldable pub key_info_bytes : KdcDhKeyInfo → Bytes
 key_info_bytes info = der (tagged_tree sequence_octet info_impl.ghosts.row_tree info_impl.ghosts.row_of info)
 
--- PA-PK-AS-REP with DHRepInfo: what is signed, and no nonce of the realm
+-- PA-PK-AS-REP has dhInfo with dhSignedData. It has no serverDHNonce, so the reply key is made of the secret alone (RFC 4556, section
+-- 3.2.3.1). Test: `granted a suite 18`, `granted, client nonce`.
 abbrev pub dh_reply_of : Bytes → PaPkAsRep
 dh_reply_of signed = DhInfo (record { 0 = record { dh_signed_data = record { 0 = signed }; server_dh_nonce = record { 0 = None } } })
 
 unfoldable pub dh_reply_bytes : PaPkAsRep → Bytes
 dh_reply_bytes reply = der (reply_impl.ghosts.tree reply)
 
--- PA-PK-AS-REP to an authenticator with this nonce: the public value of the random bytes, signed by the holder of the certificate
+-- The PA-PK-AS-REP to a pkAuthenticator with this nonce: the public value of the random bytes, signed by the holder of the certificate.
 abbrev pub pk_as_rep : KeysRecord → Bytes → ℤ → Random → Table (Result Bytes Code)
 pk_as_rep keys certificate nonce words =
+    -- The KDC has a public value of its key agreement (RFC 4556, section 3.2.3.1).
+    -- Test: `public_value none`, `public_value none, client e`.
     need (keys.public_value (agreement_bytes words)) KRB_ERR_GENERIC (λ element.
+    -- The KDC's public value is a SEQUENCE of any element and a BIT STRING (RFC 5280, section 4.1.2.7).
+    -- Test: `public_value NULL`, `public_value bits first`.
     ask (IsPublicKey element) (sole_public_key element) (done (Err KRB_ERR_GENERIC)) (λ key.
+    -- The KDC signs KDCDHKeyInfo as the dhSignedData of DHRepInfo, with its certificate (RFC 4556, section 3.2.3.1).
+    -- Test: `sign none, and an algorithm named`, `sign none, client d`.
     ask (IsWritten keys.sign dh_key_data (key_info_bytes (key_info_of key.subject_public_key nonce)) certificate)
     (one_written keys.sign dh_key_data (key_info_bytes (key_info_of key.subject_public_key nonce)) certificate) (done (Err KRB_ERR_GENERIC)) (λ signed.
     done (Ok (dh_reply_bytes (dh_reply_of signed))))))

@@ -11,7 +11,7 @@ use Rattle.asn1_der.specs.Octets.{sequence_octet}
 abbrev pub HasOneStrict : {T : Type 0} → (T → List ℕ → ℕ → Type 0) → Type 0
 HasOneStrict {T} spells = (v : T) (x y : List ℕ) → spells v x 0 → spells v y 0 → x ≡ y
 
--- so has what one element holds
+-- what one element holds has one such spelling too
 pub held_strict : {T W : Type 0} (spells : T → List ℕ → ℕ → Type 0) → HasOneStrict spells → (first : ℕ) (held : W → T)
     → HasOneStrict (λ (w : W). Holds first spells (held w))
 held_strict spells one first held w x y s t = s.2 ∙ ap (element first) (one (held w) s.0 t.0 s.1 t.1) ∙ sym t.2
@@ -21,7 +21,7 @@ none_beside : (n v d e c g r1 r2 r3 r4 r5 : ℕ) → n ≡ v + r1 → r1 ≡ d +
     → (v ≡ 0) × (d ≡ 0) × (e ≡ 0) × (g ≡ 0)
 none_beside n v d e c g r1 r2 r3 r4 r5 p1 p2 p3 p4 p5 p6 p7 = (omega arith, omega arith, omega arith, omega arith)
 
--- of two fields the second
+-- where the second of two fields has the whole count, the first has none
 pub none_before : (n o t r1 r2 : ℕ) → n ≡ o + r1 → r1 ≡ t + r2 → r2 ≡ 0 → t ≡ n → o ≡ 0
 none_before n o t r1 r2 p1 p2 p3 p4 = omega arith
 
@@ -49,7 +49,7 @@ module _ {V D E C G : Type 0} (v_spells : V → List ℕ → ℕ → Type 0) (d_
         (row_behind e_spells e_are (Row c_spells (Row g_spells Ends)) f.1.1 s.1.4.0 s.1.4.2 s.1.4.4 0 inner
         (row_front c_spells c_are (Row g_spells Ends) f.1.1.1 s.1.4.4.0 s.1.4.4.2 s.1.4.4.4 some))))
 
-    -- where the fourth has the whole count, and is the same, the bytes are
+    -- two spellings whose fourth field has the whole count and is the same are the same bytes
     pub five_same : HasOneStrict v_spells → HasOneStrict d_spells → HasOneStrict e_spells → HasOneStrict g_spells
         → (a b : List ℕ) (n m : ℕ) (s : FiveFields f a n) (t : FiveFields f b m) → s.1.4.4.4.1 ≡ n → t.1.4.4.4.1 ≡ m → s.1.4.4.4.3.0 ≡ t.1.4.4.4.3.0 → a ≡ b
     five_same one_v one_d one_e one_g a b n m s t cs ct same =
@@ -77,7 +77,7 @@ module _ {V D E C G : Type 0} (v_spells : V → List ℕ → ℕ → Type 0) (d_
         let content : s.0 ≡ t.0 = s.1.3.3 ∙ (λ i. v i ++ rest1 i) ∙ sym t.1.3.3 in
         s.2 ∙ ap (element sequence_octet) content ∙ sym t.2
 
--- the same of two fields, of which the second deviates alone
+-- a SEQUENCE of two fields of which the second deviates alone
 module _ {O T : Type 0} (o_spells : O → List ℕ → ℕ → Type 0) (t_spells : T → List ℕ → ℕ → Type 0) (f : O × (T × ⊤)) where
   abbrev pub TwoFields : List ℕ → ℕ → Type 0
   TwoFields = Holds 48 (Row o_spells (Row t_spells Ends)) f

@@ -1,4 +1,4 @@
--- Of a party, a content and a certificate's bytes one signed content is written at most.
+-- A party writes at most one SignedData of a content with a certificate's bytes.
 use Rattle.std.proofs.Common.{◌≡◌, ℕ, List, [], ◌∷◌, Option, None, Some, refl, sym, ap, ◌∙◌, subst}
 use Rattle.asn1_der.specs.Length.{element}
 use Rattle.asn1_elements.specs.Parts.{IsPart}
@@ -69,7 +69,7 @@ module _ (info : ContentInfo) (given : List ℕ) (n : ℕ) (is_given : p.certifi
     inner_is : inner ≡ given
     inner_is = part-one certificate_place b inner given inner_there at
 
-    -- so its count is the whole one's
+    -- the certificate has the count of the whole
     inner_count : is_data.1.4.4.4.1 ≡ n
     inner_count =
         (certificate.ghosts.laws.one info.content.0.certificates.0 info.content.0.certificates.0 given is_data.1.4.4.4.1 n

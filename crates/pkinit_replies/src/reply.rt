@@ -1,4 +1,4 @@
-//! Replies by certificate.
+//! The padata-value of a PA-PK-AS-REP.
 ghost use Rattle.std.specs.Prelude.{◌≡◌, ◌≤◌, length, IfOk};
 ghost use Rattle.picky_asn1_der.specs.Found.{IsFound};
 ghost use Rattle.krb_types.specs.Refusals.{IsJudged};

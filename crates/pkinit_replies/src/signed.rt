@@ -1,4 +1,4 @@
-//! What a realm signs.
+//! Signs a KDCDHKeyInfo.
 ghost use Rattle.std.specs.Prelude.{◌≡◌, IfOk, MatchOption};
 ghost use Rattle.picky_asn1.specs.Bytes.{Bytes};
 ghost use Rattle.cms_signed_data.specs.Written.{IsWritten};
@@ -31,7 +31,8 @@ pub(crate) fn key_info_bytes(
     encoding_of(alloc, info)
 }
 
-/// The signed content over KDCDHKeyInfo around the certificate, or `None` if its holder doesn't sign, or it isn't one.
+/// The SignedData over KDCDHKeyInfo, with the certificate in it. `None` if the certificate's holder doesn't sign, or the bytes are no
+/// certificate.
 pub(crate) fn signed_key_info<K: KeyFunctions>(
     alloc: Global,
     keys: &K,

@@ -1,9 +1,9 @@
--- What a client asks for by certificate.
+-- The fields of an AuthPack that the KDC reads (RFC 4556, section 3.2.1).
 use Rattle.std.specs.Prelude.{ℤ}
 use Rattle.asn1_elements.specs.Raw.{Raw}
 use Rattle.krb_time.specs.Units.{Micros}
 
--- its public value, and the time and the nonce of its authenticator
+-- the element of clientPublicValue, and the time and the nonce of pkAuthenticator
 pub record AskedRecord : Type 0 where
   pub value : Raw
   pub time : Micros

@@ -1,4 +1,4 @@
--- What a client authenticates by (RFC 4556, section 3.2.1).
+-- PA-PK-AS-REQ and AuthPack, and the fields of an AuthPack (RFC 4556, section 3.2.1).
 use Rattle.std.specs.Prelude.{Bool, false, Option, None, Some, [], ◌∷◌}
 use Rattle.std.specs.Bool.{nat_eq}
 use Rattle.std.specs.Option.{option_map}
@@ -22,7 +22,7 @@ use Rattle.pkinit_messages.specs.contracts.pa_pk_as_req.PaPkAsReqTagged.TheImpl 
 use Rattle.pkinit_requests.specs.contracts.auth_packs.Asn1RawDerAuthPackEncoding.TheImpl as pack_impl
 use Rattle.asn1_der.specs.Octets.{sequence_octet}
 
--- the bytes are the one encoding of the PA-PK-AS-REQ
+-- the bytes are the one DER encoding of this PA-PK-AS-REQ
 unfoldable pub IsPaPkAsReq : Bytes → PaPkAsReq → Type 0
 IsPaPkAsReq bytes request = Writes (tagged_tree sequence_octet request_impl.ghosts.row_tree request_impl.ghosts.row_of) request bytes
 
@@ -31,7 +31,7 @@ unfolding IsPaPkAsReq
 sole_pa_pk_as_req bytes v w p q =
     tagged-injective 48 request_impl.ghosts.row_tree request_impl.ghosts.row_laws request_impl.ghosts.row_of request_impl.ghosts.one_row v w p.0 q.0 (sym p.1 ∙ q.1)
 
--- the bytes are the one encoding of the AuthPack, of which the client's public value is any element
+-- the bytes are the one DER encoding of this AuthPack, whose clientPublicValue is any element
 unfoldable pub IsAuthPack : Bytes → AuthPack Raw → Type 0
 IsAuthPack bytes pack = Writes pack_impl.ghosts.pack_tree pack bytes
 
@@ -43,11 +43,11 @@ sole_auth_pack bytes v w p q = pack_impl.ghosts.pack_injective v w p.0 q.0 (sym 
 abbrev pub auth_data : Bytes
 auth_data = 0x2B ∷ 0x06 ∷ 0x01 ∷ 0x05 ∷ 0x02 ∷ 0x03 ∷ 0x01 ∷ []
 
--- the client's public value
+-- the element of clientPublicValue, if it is there
 abbrev pub value_in : AuthPack Raw → Option Raw
 value_in pack = option_map (λ tagged. tagged.0) pack.client_public_value.0
 
--- the client's time, or none where its microseconds are no part of a second
+-- the time of ctime and cusec, or none where cusec is no part of a second
 unfoldable pub time_in : AuthPack Raw → Option Micros
 time_in pack = moment_at (seconds_of pack.pk_authenticator.0.ctime.0.0) pack.pk_authenticator.0.cusec.0
 
@@ -56,6 +56,6 @@ abbrev pub is_sha1_of : Bytes → Option Bytes → Bool
 is_sha1_of bytes None = false
 is_sha1_of bytes (Some checksum) = pointwise nat_eq checksum (sha1 bytes)
 
--- the authenticator is of the request with this body
+-- paChecksum is the SHA-1 digest of the KDC-REQ-BODY
 abbrev pub covers : KdcReqBody → AuthPack Raw → Bool
 covers body pack = is_sha1_of (body_bytes body) (option_map (λ tagged. tagged.0) pack.pk_authenticator.0.pa_checksum.0)

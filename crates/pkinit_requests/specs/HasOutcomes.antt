@@ -41,7 +41,7 @@ use Rattle.pkinit_requests.specs.Judging.{JudgingRecord, judging_by}
 use Rattle.pkinit_requests.specs.PkinitTable.{agreed_on, asked_by, is_auth_data, of_auth_pack, of_content, of_request, of_signed, pkinit_table, signed_by_client}
 use Rattle.pkinit_requests.specs.Trust.{TrustRecord}
 
--- of the parts' own outcomes one follows, whose error the whole has as one of its own
+-- the whole has the outcome of the part that decides, and that part's error is one of the whole's
 told : {A T E F : Type 0} (told_as : E → F) (t : Table (Result A E)) (rest : A → Table (Result T F)) (unmet : (s : Result T F) → (and_then_told told_as t rest).gives s → ⊥)
     → ((a : A) → t.gives (Ok a) → HasOutcome (rest a)) → (r : Result A E) → t.gives r → ⊥
 told told_as t rest unmet each (Ok a) x = each a x (λ s y. unmet s (inl (a, x, y)))
@@ -127,7 +127,7 @@ has_request keys judging padata =
     (λ request r. has_asked (IsSignedContent request.signed_auth_pack.0) (one_content request.signed_auth_pack.0) (done (Err KDC_ERR_PREAUTH_FAILED)) (of_content keys judging) (has_done (Err KDC_ERR_PREAUTH_FAILED))
     (λ content s. has_content keys judging content))
 
--- the whole part has one
+-- the whole part of the table has an outcome
 pub has_pkinit : (keys : KeysRecord) (trust : TrustRecord) (call : PkinitCallRecord) (padata : Bytes) → HasOutcome (pkinit_table keys trust call padata)
 unfolding pkinit_table
 has_pkinit keys trust call padata =

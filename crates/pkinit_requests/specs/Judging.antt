@@ -8,7 +8,7 @@ use Rattle.pkinit_trust.specs.Anchors.{AnchorRecord}
 use Rattle.pkinit_trust.specs.Expected.{ExpectedRecord, expected_of}
 use Rattle.pkinit_requests.specs.declared.judging.Judging as held
 
--- who is expected to have signed; the realm's own certificate, and its skew; the request's body, and random bytes
+-- the principal that is expected to have signed; the realm's own certificate and its clock skew; the request's body, and random bytes
 pub record JudgingRecord : Type 0 where
   pub expected : ExpectedRecord
   pub certificate : Bytes

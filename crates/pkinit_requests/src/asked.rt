@@ -1,4 +1,4 @@
-//! What a client asks for by certificate.
+//! Reads the fields of an AuthPack by which the KDC judges it.
 ghost use Rattle.std.specs.Prelude.{◌≡◌, IfOk};
 ghost use Rattle.std.specs.Option.{option_copied, option_map};
 ghost use Rattle.krb_types.specs.Refusals.{IsJudged};
@@ -18,7 +18,8 @@ use pkinit_messages::AuthPack;
 use sha1::Sha1;
 use std::alloc::{AllocError, Global};
 
-/// What the AuthPack asks for, if it is of the request with this body.
+/// Reads clientPublicValue, and the time and the nonce of pkAuthenticator. Refuses an AuthPack whose paChecksum isn't that of the
+/// body.
 pub(crate) fn asked_by<'a>(
     alloc: Global,
     body: &KdcReqBody,
@@ -56,7 +57,7 @@ fn time_in(pack: &AuthPack<Asn1RawDer>) -> Option<Moment>
     moment_at(authenticator.ctime.0.0, &authenticator.cusec.0)
 }
 
-// The authenticator has the SHA-1 digest of the body.
+// Whether paChecksum is the SHA-1 digest of the KDC-REQ-BODY.
 fn covers(alloc: Global, body: &KdcReqBody, pack: &AuthPack<Asn1RawDer>) -> Result<bool, AllocError>
     ensures { IfOk result (λ is. is ≡ covers body.now pack.now) }
 {

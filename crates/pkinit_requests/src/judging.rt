@@ -2,14 +2,14 @@
 use krb_messages::messages::KdcReqBody;
 use pkinit_trust::ExpectedSigner;
 
-/// The client, and the realm's settings and the request's parts that count for it.
+/// The client that has to have signed, with the realm's settings and the request's parts by which its AuthPack is judged.
 #[derive(Clone, Copy)]
 pub(crate) struct Judging<'a> {
     /// The client, and what its certificate is judged by.
     pub(crate) expected: ExpectedSigner<'a>,
     /// The realm's own certificate.
     pub(crate) certificate: &'a [u8],
-    /// By how many microseconds clocks may differ.
+    /// The clock skew in microseconds.
     pub(crate) skew: u64,
     /// The request's body.
     pub(crate) body: &'a KdcReqBody,

@@ -1,17 +1,17 @@
-//! What a client asks for by certificate, as it is handed on.
+//! The fields of an AuthPack that the KDC has read.
 use krb_time::Moment;
 use picky_asn1::wrapper::IntegerAsn1;
 use picky_asn1_der::Asn1RawDer;
 use std::marker::Model;
 
-/// The client's public value, and the time and the nonce of its authenticator. A contract sees the values.
+/// The client's public value, and the time and the nonce of its pkAuthenticator. A contract sees the values.
 #[derive(Drop)]
 pub(crate) struct Asked<'a> {
-    /// The public value.
+    /// The element of clientPublicValue.
     pub(crate) value: &'a Asn1RawDer,
-    /// The time.
+    /// The time that ctime and cusec give.
     pub(crate) time: Moment,
-    /// The nonce.
+    /// The nonce of pkAuthenticator.
     pub(crate) nonce: &'a IntegerAsn1,
 }
 

@@ -1,4 +1,4 @@
-//! Reading what a client authenticates by.
+//! Reads PA-PK-AS-REQ and AuthPack.
 ghost use Rattle.std.specs.Prelude.{IfOk};
 ghost use Rattle.picky_asn1_der.specs.Found.{IsFound};
 ghost use Rattle.pkinit_requests.specs.AuthPacks.{IsAuthPack, IsPaPkAsReq};

@@ -49,7 +49,7 @@ impl<'a, K: KeyFunctions> Pkinit for RealmPkinit<'a, K> {
     }
 }
 
-// The whole part. Only a realm with an anchor and a certificate takes such padata.
+// Judges a PA-PK-AS-REQ: only a realm with an anchor and a certificate takes it.
 #[tactic(auto, unfolding(crate::specs::PkinitTable::pkinit_table))]
 fn judge_pk_as_req<K: KeyFunctions>(
     alloc: Global,

@@ -1,4 +1,4 @@
-//! Who signed a request.
+//! Whether the client signed its AuthPack.
 ghost use Rattle.krb_types.specs.Refusals.{IsJudged};
 ghost use Rattle.pkinit_requests.specs.PkinitTable.{signed_by_client};
 ghost use Rattle.pkinit_trust.specs.Expected.{expected_of};

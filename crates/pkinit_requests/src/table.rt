@@ -1,4 +1,4 @@
-//! Judging a request by certificate, part by part.
+//! Judges the padata-value of a PA-PK-AS-REQ, part by part.
 ghost use Rattle.std.specs.Prelude.{◌≡◌, ◌≤◌, length};
 ghost use Rattle.krb_types.specs.Refusals.{IsJudged};
 ghost use Rattle.pkinit_interface.specs.Calls.{agreed_as};
@@ -24,7 +24,7 @@ use std::alloc::Global;
 /// The content octets of id-pkinit-authData, 1.3.6.1.5.2.3.1.
 const AUTH_DATA: [u8; 7] = [0x2B, 0x06, 0x01, 0x05, 0x02, 0x03, 0x01];
 
-/// By an anchor and a certificate.
+/// Judges the padata-value of a PA-PK-AS-REQ: it has to be the one DER encoding of it.
 pub(crate) fn judge_request<K: KeyFunctions>(
     alloc: Global,
     keys: &K,
@@ -43,7 +43,7 @@ pub(crate) fn judge_request<K: KeyFunctions>(
     judged
 }
 
-// Of the bytes of signed content.
+// Judges the octets of signedAuthPack: they have to be SignedData of the one form.
 fn judge_signed<K: KeyFunctions>(
     alloc: Global,
     keys: &K,
@@ -69,7 +69,7 @@ fn judge_signed<K: KeyFunctions>(
     }
 }
 
-// Of signed content.
+// Judges the SignedData: its eContent has to be an AuthPack, by its type and by its octets.
 fn judge_content<K: KeyFunctions>(
     alloc: Global,
     keys: &K,
@@ -91,14 +91,14 @@ fn judge_content<K: KeyFunctions>(
     judged
 }
 
-// The content is an AuthPack, by its type.
+// Whether the eContentType is id-pkinit-authData.
 fn is_auth_data(content: &SignedContent<'_>) -> bool
     ensures { result ≡ is_auth_data content.now }
 {
     content.content_type().as_bytes() == AUTH_DATA.as_slice()
 }
 
-// Of an AuthPack.
+// Judges the AuthPack: first its fields with paChecksum, then its signer, then its time and its public value.
 fn judge_auth_pack<K: KeyFunctions>(
     alloc: Global,
     keys: &K,
@@ -115,7 +115,7 @@ fn judge_auth_pack<K: KeyFunctions>(
     agree_on(alloc, keys, judging, &asked)
 }
 
-// With what the client asks for.
+// Judges the time of pkAuthenticator, agrees on a secret by clientPublicValue, and makes the reply.
 fn agree_on<K: KeyFunctions>(
     alloc: Global,
     keys: &K,

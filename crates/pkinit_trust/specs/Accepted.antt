@@ -25,7 +25,7 @@ abbrev pub time_seconds : Time → Seconds
 time_seconds (Utc time) = seconds_of time.0.time
 time_seconds (Generalized time) = seconds_of time.0
 
--- the second of the moment is one of the validity, which has both its ends
+-- The second of the moment is one of the validity. Both notBefore and notAfter belong to it.
 abbrev pub is_valid_at : Micros → Validity → Bool
 is_valid_at moment validity =
     nat_le (time_seconds validity.not_before) (moment / 1000000) && nat_le (moment / 1000000) (time_seconds validity.not_after)
@@ -34,22 +34,34 @@ abbrev pub is_generic : ExtensionValue → Bool
 is_generic (kind.Generic octets) = true
 is_generic other = false
 
--- the extension is critical, and of a kind that is not recognised
+-- The extension is critical, and of a kind that is not recognised.
 abbrev pub is_unrecognised : Extension → Bool
 is_unrecognised extension = extension.critical.0.0 && is_generic extension.extn_value
 
 abbrev pub has_unrecognised : Certificate → Bool
 has_unrecognised certificate = list_any is_unrecognised (extensions_in certificate.tbs_certificate.extensions.tagged.0)
 
--- the certificate is valid at the moment, and the anchor issued it
+-- Judges a certificate under the anchor: its validity, its issuer, its critical extensions and its signature.
+-- Not judged: keyUsage, extKeyUsage (id-pkinit-KPClientAuth, id-pkinit-KPKdc) and basicConstraints (RFC 4556, sections 3.2.2 and 3.2.4).
+-- Test: `critical key usage and constraints`, `CA TRUE client certificate`.
+-- Not judged: revocation, and the validity and the extensions of the anchor's own certificate (RFC 5280, section 6.1).
+-- No test: no row has a list of revocation.
 abbrev pub issued : KeysRecord → ExpectedRecord → ReadRecord → Table (Result (Unit {0}) TrustRefusal)
 issued keys expected read =
+    -- The second of the moment is not before notBefore and not after notAfter (RFC 5280, section 6.1.3).
+    -- Test: `validity ends in this second, moment plus 999999`, `certificate ended a second ago`.
     refuse (not (is_valid_at expected.moment read.certificate.tbs_certificate.validity)) InvalidCertificate
+    -- The issuer is the anchor's subject, as DER: a PrintableString is not a UTF8String (RFC 5280, section 6.1.3).
+    -- Test: `another issuer`, `issuer in Printable`.
     (refuse (not (pointwise nat_eq (name_bytes read.certificate.tbs_certificate.issuer) expected.anchor.subject)) CantVerifyCertificate
+    -- Each critical extension is of a recognised kind (RFC 5280, section 4.2).
+    -- Test: `critical generic extension`, `generic extension not critical`.
     (refuse (has_unrecognised read.certificate) CantVerifyCertificate
+    -- The signature verifies under the anchor's key, by signatureAlgorithm, over the octets of tbsCertificate in the input (RFC 5280,
+    -- section 6.1.3). Test: `certificate spelled loosely, signed over its strict spelling`, `signature of the certificate wrong`.
     (refuse (not (keys.verifies expected.anchor.key read.certificate.signature_algorithm read.signed read.certificate.signature_value.octets)) CantVerifyCertificate
     (done (Ok tt)))))
 
--- and it names the expected principal
+-- Judges a certificate under the anchor, and then the principal that it names.
 abbrev pub accepted : KeysRecord → ExpectedRecord → ReadRecord → Table (Result (Unit {0}) TrustRefusal)
 accepted keys expected read = and_then (issued keys expected read) (λ _. named expected read.certificate)

@@ -30,7 +30,7 @@ sole_certificate bytes v w p q = λ i. record {
   signed = part-one (0 ∷ []) bytes v.signed w.signed p.part q.part i;
 }
 
--- a value of which the bytes are a spelling, and what is signed of it; or there is none
+-- a value of which the bytes are a spelling, and the part of them that is signed; or there is none
 abbrev pub IsFoundSigned : {T : Type 0} → (T → List ℕ → ℕ → Type 0) → Bytes → Option (T × Bor Bytes) → Type 0
 IsFoundSigned {T} spells bytes None = (value : T) (n : ℕ) → spells value bytes n → ⊥
 IsFoundSigned spells bytes (Some read) = ((n : ℕ) × spells read.0 bytes n) × IsPart bytes (0 ∷ []) read.1.now
@@ -41,6 +41,6 @@ GivesOf {T} spells bytes error judged_by answer =
     ((value : T) × (part : Bytes) × ((n : ℕ) × spells value bytes n) × IsPart bytes (0 ∷ []) part × judged_by value part answer)
     ⊎ (((value : T) (n : ℕ) → spells value bytes n → ⊥) × (answer ≡ Err error))
 
--- the encoding of a name
+-- the DER of a Name
 unfoldable pub name_bytes : List (List AttributeTypeAndValue) → Bytes
 name_bytes name = der (tagged_tree sequence_octet name_impl.ghosts.row_tree name_impl.ghosts.row_of name)

@@ -1,4 +1,4 @@
--- Whom signed content is expected from.
+-- The principal that is expected to have signed some content.
 use Rattle.std.specs.Prelude.{List}
 use Rattle.picky_asn1.specs.Bytes.{Bytes}
 use Rattle.krb_time.specs.Units.{Micros}

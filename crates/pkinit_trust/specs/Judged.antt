@@ -5,8 +5,8 @@ use Rattle.x509_algorithms.specs.declared.algorithm_identifier.AlgorithmIdentifi
 use Rattle.x509_certificates.specs.Certificates.{NameSets}
 use Rattle.pkinit_trust.specs.declared.judged.JudgedContent as held
 
--- the content and the signer's certificate; the certificate's issuer and serial number as the signer names them; the digest that is
--- signed, the bytes that the signature covers, and the signature
+-- The content and the signer's certificate; issuer and serialNumber as sid names them; the digest that is signed. Then the bytes that
+-- the signature covers, and the signature.
 pub record JudgedRecord : Type 0 where
   pub content : Bytes
   pub certificate : Bytes

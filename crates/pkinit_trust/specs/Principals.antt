@@ -36,7 +36,7 @@ principal_tree = tagged_tree sequence_octet name_impl.ghosts.row_tree name_impl.
 principal-injective : IsInjective principal_tree
 principal-injective = tagged-injective 48 name_impl.ghosts.row_tree name_impl.ghosts.row_laws name_impl.ghosts.row_of name_impl.ghosts.one_row
 
--- the element is the one encoding of the principal
+-- The element is the one DER encoding of this KRB5PrincipalName.
 unfoldable pub IsPrincipal : Raw → Krb5PrincipalName → Type 0
 IsPrincipal raw principal = Writes principal_tree principal (der (raw_tree raw))
 
@@ -48,12 +48,12 @@ sole_principal raw v w p q = principal-injective v w p.0 q.0 (sym p.1 ∙ q.1)
 abbrev pub pkinit_san : Bytes
 pkinit_san = 0x2B ∷ 0x06 ∷ 0x01 ∷ 0x05 ∷ 0x02 ∷ 0x02 ∷ []
 
--- the element of an other name of the type id-pkinit-san
+-- The value of an otherName of the type id-pkinit-san.
 abbrev pub principal_element : GeneralName → Option Raw
 principal_element (name_kind.OtherName name) = if pointwise nat_eq (oid_content name.type_id.0) pkinit_san then Some name.value.0 else None
 principal_element other = None
 
--- the first among some names
+-- The element of the first otherName of the type id-pkinit-san among some names.
 abbrev pub first_element : List GeneralName → Option Raw
 first_element [] = None
 first_element (name ∷ names) = or_else (principal_element name) (first_element names)
@@ -62,20 +62,28 @@ abbrev pub element_held : ExtensionValue → Option Raw
 element_held (kind.SubjectAltName held) = first_element held.0
 element_held other = None
 
--- the first among all subject alternative names, in the order of the extensions
+-- The element of the first otherName of the type id-pkinit-san among all subjectAltNames, in the order of the extensions.
 abbrev pub element_of : Certificate → Option Raw
 element_of certificate = first_among element_held (extensions_in certificate.tbs_certificate.extensions.tagged.0)
 
--- the certificate names the expected principal, whatever the type of its name
+-- Judges which principal a certificate names.
+-- Not judged: the name-type of principalName (RFC 4120, section 6.2). Test: `name type 7 in the certificate`.
 abbrev pub named : ExpectedRecord → Certificate → Table (Result (Unit {0}) TrustRefusal)
 named expected certificate =
+    -- A subjectAltName has an otherName of the type id-pkinit-san, of which the first counts (RFC 4556, section 3.2.2).
+    -- Test: `no names`, `two subject alternative names, the principal in the second`.
     need (element_of certificate) NameMismatch (λ element.
+    -- The value of this otherName is the one DER encoding of a KRB5PrincipalName (RFC 4556, section 3.2.2).
+    -- Test: `first of two doesn't read`, `name type not minimal`.
     ask (IsPrincipal element) (sole_principal element) (done (Err NameMismatch)) (λ principal.
+    -- The realm of KRB5PrincipalName is the principal's (RFC 4556, section 3.2.2). Test: `other realm`, `realm in small letters`.
     refuse (not (is_same_realm principal.realm.0 expected.realm)) NameMismatch
+    -- The principalName of KRB5PrincipalName has the components of the principal's name (RFC 4556, section 3.2.2).
+    -- Test: `other principal`, `component more`.
     (refuse (not (is_same_name (components principal.principal_name.0) expected.name)) NameMismatch
     (done (Ok tt)))))
 
--- the principal `a` of the realm `R`, with the name type 1
+-- The DER of the principal `a` of the realm `R`, with the name type 1.
 a_of_r : der (principal_tree (record {
   realm = record { 0 = codes "R" };
   principal_name = record { 0 = record { name_type = record { 0 = pos 1 }; name_string = record { 0 = codes "a" ∷ [] } } };

@@ -12,12 +12,17 @@ use Rattle.pkinit_trust.specs.Judged.{JudgedRecord}
 use Rattle.pkinit_trust.specs.declared.refusal.TrustRefusal.{TrustRefusal}
 use Rattle.pkinit_trust.specs.declared.refusal.TrustRefusal.TheVariants.{InvalidSignature}
 
--- the certificate's holder signed the content: the signer has its issuer and serial number, the digest is the content's, and the
--- signature covers the signed attributes under its key
+-- Judges whether the certificate's holder signed the content.
 abbrev pub signed_by : KeysRecord → Certificate → JudgedRecord → Table (Result (Unit {0}) TrustRefusal)
 signed_by keys certificate judged =
+    -- The sid of the SignerInfo has the certificate's issuer (RFC 5652, section 5.3). Test: `other issuer`, `issuer is the subject`.
     refuse (not (pointwise nat_eq (name_bytes certificate.tbs_certificate.issuer) (name_bytes judged.issuer))) InvalidSignature
+    -- The sid of the SignerInfo has the certificate's serialNumber (RFC 5652, section 5.3). Test: `other serial`, `serial modulo 256`.
     (refuse (not (pointwise nat_eq (integer_content certificate.tbs_certificate.serial_number) (integer_content judged.serial))) InvalidSignature
+    -- The message-digest attribute is the SHA-256 digest of the eContent octets (RFC 5652, sections 5.4 and 5.6).
+    -- Test: `digest of other content`, `digest empty`.
     (refuse (not (pointwise nat_eq (sha256 judged.content) judged.digest)) InvalidSignature
+    -- The signature verifies under the certificate's key over the signed attributes with the tag of a SET OF (RFC 5652, section 5.4).
+    -- Test: `signature over first byte A0`, `signature over the content`.
     (refuse (not (keys.verifies certificate.tbs_certificate.subject_public_key_info judged.algorithm judged.covered judged.signature)) InvalidSignature
     (done (Ok tt)))))

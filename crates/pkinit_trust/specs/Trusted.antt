@@ -10,12 +10,14 @@ use Rattle.pkinit_trust.specs.Signers.{signed_by}
 use Rattle.pkinit_trust.specs.declared.refusal.TrustRefusal.{TrustRefusal}
 use Rattle.pkinit_trust.specs.declared.refusal.TrustRefusal.TheVariants.{CantVerifyCertificate}
 
--- with the content's certificate read
+-- Judges signed content by the signer's certificate: first the certificate, then the signature.
 abbrev pub trusted_by : KeysRecord → ExpectedRecord → JudgedRecord → ReadRecord → Table (Result (Unit {0}) TrustRefusal)
 trusted_by keys expected judged read =
     and_then (accepted keys expected read) (λ _. signed_by keys read.certificate judged)
 
--- the expected principal, whose certificate is accepted, signed the content
+-- Judges signed content: the expected principal signed it, and its certificate is accepted.
 abbrev pub trusted : KeysRecord → ExpectedRecord → JudgedRecord → Table (Result (Unit {0}) TrustRefusal)
 trusted keys expected judged =
+    -- The signer's certificate is read, in any of its spellings (RFC 5280, section 4.1).
+    -- No test: the reader of signed data refuses such content first.
     ask (IsCertificate judged.certificate) (sole_certificate judged.certificate) (done (Err CantVerifyCertificate)) (trusted_by keys expected judged)

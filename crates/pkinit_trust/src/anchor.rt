@@ -28,22 +28,22 @@ impl Model for Anchor {
 impl Anchor {
     ghost use Rattle.pkinit_trust.specs.Anchors.{anchor_of};
 
-    /// The subject of a certificate. The certificate may have any of the accepted spellings. Its validity, its extensions and
-    /// its own signature are not judged.
+    /// The anchor with a certificate's subject and public key. The certificate may have any of the accepted spellings. Its
+    /// validity, its extensions and its own signature are not judged.
     pub fn from_certificate(alloc: Global, bytes: &[u8]) -> Result<Anchor, X509Fault>
         ensures { ReadsMade ⟦<Certificate as Spelled>⟧.spells anchor_of bytes.now result }
     {
         anchor_in::<Certificate>(alloc, bytes)
     }
 
-    /// The encoding of its name.
+    /// The DER of the authority's name.
     pub fn subject(&self) -> &[u8]
         ensures { result.now ≡ self.now.subject }
     {
         self.subject.as_slice()
     }
 
-    /// Its public key.
+    /// The authority's public key.
     pub fn key(&self) -> &SubjectPublicKeyInfo
         ensures { result.now ≡ self.now.key }
     {

@@ -1,4 +1,4 @@
-//! Whom signed content is expected from.
+//! The principal that is expected to have signed some content.
 use crate::anchor::Anchor;
 use krb_time::Moment;
 use picky_asn1::wrapper::GeneralStringAsn1;

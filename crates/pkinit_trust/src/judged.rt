@@ -6,7 +6,7 @@ use picky_asn1::wrapper::IntegerAsn1;
 use x509_algorithms::AlgorithmIdentifier;
 use x509_names::Name;
 
-/// The parts of signed content that tell who signed it (RFC 5652, section 5).
+/// The parts of signed content that show who signed it (RFC 5652, section 5).
 #[derive(Clone, Copy)]
 pub struct JudgedContent<'a> {
     /// The content's octets.

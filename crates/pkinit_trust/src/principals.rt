@@ -60,7 +60,7 @@ fn principal_in(
     read_whole(alloc, &bytes)
 }
 
-// The first principal's element among all subject alternative names.
+// The value of the first otherName of the type id-pkinit-san among all subjectAltNames.
 fn element_of(certificate: &Certificate) -> Option<&RawElement>
     ensures { option_copied result ≡ element_of certificate.now }
 {
@@ -104,7 +104,7 @@ fn first_element(names: &[GeneralName]) -> Option<&RawElement>
     None
 }
 
-// The element of an other name that is of a principal's type.
+// The value of an otherName of the type id-pkinit-san.
 fn principal_element(name: &GeneralName) -> Option<&RawElement>
     ensures { option_copied result ≡ principal_element name.now }
 {

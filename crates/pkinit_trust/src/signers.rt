@@ -1,4 +1,4 @@
-//! Who signed some content.
+//! Whether the holder of a certificate signed some content.
 ghost use Rattle.std.specs.Prelude.{◌≡◌};
 ghost use Rattle.std.specs.Bool.{nat_eq};
 ghost use Rattle.std.specs.Cmp.Lexicographic.{pointwise};
