@@ -1,5 +1,5 @@
 # What openssl makes of messages.cnf, for the scripts that write lines of it.
-settings=$(dirname "$0")/../../replay_messages/data/messages.cnf
+settings=$(dirname "$0")/messages.cnf
 made=$(mktemp) || exit 1
 trap 'rm -f "$made"' EXIT
 
@@ -18,6 +18,6 @@ lines_of() {
 
 # What the file is, and what its lines are.
 head_of() {
-    echo "# $1 as $(openssl version | cut -d' ' -f1,2) makes them (openssl.sh, of types.txt and messages.cnf)."
+    echo "# $1 as $(openssl version | cut -d' ' -f1,2) makes them ($(basename "$0"), of messages.cnf)."
     echo '# Type | bytes in hexadecimal, and perhaps | written other bytes, or | refused.'
 }

@@ -1,4 +1,5 @@
-//! Reads recorded messages of Kerberos as their types, and writes them back.
+//! Reads recorded messages of Kerberos, tokens of the GSS-API, credentials of CredSSP, and messages of PKINIT and PKU2U as their
+//! types, compares them with what is expected, and writes them back.
 #![tactic(auto)]
 
 mod credentials;
@@ -9,6 +10,7 @@ mod replies;
 mod requests;
 mod sealed;
 mod tickets;
+mod tokens;
 
 use anyhow::bail;
 use std::alloc::Global;
@@ -29,7 +31,8 @@ impl Lines for Messages {
 fn main(rt: HostRuntime) -> anyhow::Result<()> {
     replay(&rt, &Messages, "openssl.txt")?;
     replay(&rt, &Messages, "clients.txt")?;
-    replay(&rt, &Messages, "odd.txt")
+    replay(&rt, &Messages, "odd.txt")?;
+    tokens::replay_tokens(&rt)
 }
 
 /// Whether a message is read as expected, and written back.

@@ -1,6 +1,6 @@
 //! What clients sign, by the kinds of public values. Each type has a function of its own, since one match over all of them is
 //! dear to prove.
-use crate::copies::is_copied;
+use crate::tokens::copies::is_copied;
 use anyhow::bail;
 use picky_asn1_der::{Asn1RawDer, FromDer, from_exact_bytes};
 use pkinit_messages::{AuthPack, DhAuthPack, EcAuthPack};

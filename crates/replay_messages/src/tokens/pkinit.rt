@@ -1,6 +1,6 @@
 //! Messages of PKINIT and PKU2U.
 
-use crate::{auth_packs, exchange, keys, pku2u};
+use crate::tokens::{auth_packs, exchange, keys, pku2u};
 use anyhow::bail;
 use std::alloc::Global;
 use test_support::{Lines, Recorded, recorded_of, replay};

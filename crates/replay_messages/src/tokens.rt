@@ -1,6 +1,5 @@
 //! Reads recorded tokens of the GSS-API, credentials of CredSSP, and messages of PKINIT and PKU2U as their types, compares them
 //! with what is expected, and writes them back.
-#![tactic(auto)]
 
 mod auth_packs;
 mod copies;
@@ -27,11 +26,12 @@ impl Lines for Tokens {
     }
 }
 
-fn main(rt: HostRuntime) -> anyhow::Result<()> {
-    replay(&rt, &Tokens, "openssl.txt")?;
-    replay(&rt, &Tokens, "published.txt")?;
-    replay(&rt, &Tokens, "odd.txt")?;
-    pkinit::replay_messages(&rt)
+/// Reads the recorded tokens, credentials and messages of PKINIT as their types, and writes them back.
+pub fn replay_tokens(rt: &HostRuntime) -> anyhow::Result<()> {
+    replay(rt, &Tokens, "tokens.txt")?;
+    replay(rt, &Tokens, "published_tokens.txt")?;
+    replay(rt, &Tokens, "odd_tokens.txt")?;
+    pkinit::replay_messages(rt)
 }
 
 /// Whether a token is read as expected, and written back.

@@ -1,6 +1,6 @@
 //! Messages of PKU2U, by the names of their types. Each type has a function of its own, since one match over all of them is dear
 //! to prove.
-use crate::copies::is_copied;
+use crate::tokens::copies::is_copied;
 use pkinit_messages::{
     KrbFinished, Pku2uNegoBody, Pku2uNegoRep, Pku2uNegoReq, Pku2uNegoReqMetadata,
 };

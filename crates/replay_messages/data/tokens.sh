@@ -1,8 +1,8 @@
 #!/bin/sh
-# Writes the lines of openssl.txt: each type of types.txt once or more, as openssl makes it of replay_messages's messages.cnf, and
+# Writes the lines of tokens.txt: each type of token_types.txt once or more, as openssl makes it of messages.cnf, and
 # tokens around messages.
 here=$(dirname "$0")
-. "$here/../../replay_messages/data/value.sh"
+. "$here/value.sh"
 
 # A token: a mechanism, two octets and what follows them, under the tag [APPLICATION 0] (openssl makes it primitive here).
 token() {
@@ -15,7 +15,7 @@ sequence() {
 }
 
 head_of Tokens
-lines_of "$here/types.txt"
+lines_of "$here/token_types.txt"
 reply=$(token 1.2.840.113554.1.2.2.3 0401 "$(value SEQUENCE:tgt_rep)")
 echo "KrbMessage<TgtRep> | $reply"
 echo "KrbMessage<TgtRep> | ${reply}00 | written $reply"
