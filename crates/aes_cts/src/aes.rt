@@ -27,7 +27,7 @@ pub const AES128_KEY_SIZE: usize = 16;
 /// The bytes of a key of AES-256 (RFC 3962, section 6).
 pub const AES256_KEY_SIZE: usize = 32;
 
-/// Which AES: by the size of its keys.
+/// The sizes of AES keys that Kerberos uses (RFC 3962, section 6).
 #[derive(Clone, Copy, Debug, PartialEq, Eq)]
 pub enum AesSize {
     /// Keys of 32 bytes.

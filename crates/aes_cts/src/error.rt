@@ -1,4 +1,4 @@
-//! What the cryptographic calls refuse.
+//! The refusals of the cryptographic calls.
 
 ghost use Rattle.std.specs.Prelude.{◌≡◌};
 ghost use Rattle.aes_cts.specs.declared.error.KerberosCryptoError.TheVariants.{Memory};
@@ -9,19 +9,19 @@ use thiserror::Error;
 /// Why a cryptographic call was refused. The refusals are numbered from 1 to 10, in this order.
 #[derive(Debug, Drop, Error)]
 pub enum KerberosCryptoError {
-    /// The key's bytes, and those wanted.
+    /// The key has a wrong length: its bytes, and those that are required.
     #[error("invalid key length: {0} bytes, expected {1}")]
     KeyLength(usize, usize),
 
-    /// The cipher text's bytes, and those wanted at least.
+    /// The ciphertext is too short: its bytes, and those that are required at least.
     #[error("invalid cipher text length: {0} bytes, expected at least {1}")]
     CipherLength(usize, usize),
 
-    /// A number that no suite has.
+    /// No suite has this number.
     #[error("invalid algorithm identifier: {0}")]
     AlgorithmIdentifier(usize),
 
-    /// How many bytes stood where one that numbers a suite was wanted.
+    /// A suite's number is one byte: this many bytes were given.
     #[error("invalid algorithm identifier of {0} bytes")]
     AlgorithmIdentifierData(usize),
 
@@ -29,19 +29,19 @@ pub enum KerberosCryptoError {
     #[error("bad integrity: the computed checksum differs from the one in the message")]
     IntegrityCheck,
 
-    /// The cipher failed. No call of this crate answers it.
+    /// The cipher failed. No call of this crate returns it.
     #[error("cipher error: {0}")]
     CipherError(String),
 
-    /// A cipher text that isn't whole blocks.
+    /// The ciphertext isn't whole blocks.
     #[error("padding error: the cipher text is not whole blocks")]
     CipherUnpad,
 
-    /// A text that isn't whole blocks.
+    /// The plaintext isn't whole blocks.
     #[error("padding error: the text is not whole blocks")]
     CipherPad,
 
-    /// A seed of a wrong length. No call of this crate answers it.
+    /// The seed has a wrong length. No call of this crate returns it.
     #[error("invalid seed bit length: {0}")]
     SeedBitLen(String),
 
@@ -50,7 +50,7 @@ pub enum KerberosCryptoError {
     Memory,
 }
 
-/// What a cryptographic call returns.
+/// The result of a cryptographic call.
 pub type KerberosCryptoResult<T> = Result<T, KerberosCryptoError>;
 
 impl KerberosCryptoError {

@@ -47,6 +47,7 @@ is_weak key = list_any (λ weak. bytes_eq weak key) weak_keys
 unfoldable pub mended : List ℕ → List ℕ
 mended key = if is_weak key then slice_set key 7 (bit_xor (slice_index key 7) 0xf0) else key
 
--- the key of triple DES that 21 bytes make
+-- Random-to-key stretches each seven of 21 octets to eight of odd parity, and corrects a weak key with F0 (RFC 3961, section 6.3.1).
+-- Test: `des3-seed` of `standards.txt`.
 unfoldable pub random_to_key : List ℕ → List ℕ
 random_to_key seed = flat_map (λ i. mended (stretched (block_at 7 seed i))) (range_with_len 0 3)

@@ -1,4 +1,4 @@
-//! Opening: the text of a chain of whole blocks (RFC 3961, section 6.3).
+//! Decryption of a chain of whole blocks (RFC 3961, section 6.3).
 
 ghost use Rattle.std.specs.Prelude.{◌≡◌, ◌≢◌, ◌%◌, ℕ, List, length, Err, IfOk, IfErr, OnOk};
 ghost use Rattle.aes_cts.specs.Bytes.{IsBytes};
@@ -37,7 +37,7 @@ pub fn decrypt_des(alloc: Global, key: &[u8], cipher_data: &[u8]) -> KerberosCry
     Ok(text)
 }
 
-/// The text of whole blocks that this is the chain of, under a cipher that these round keys undo.
+/// Decrypts a chain of whole blocks by the round keys that undo its cipher.
 fn decrypt_chain(alloc: Global, keys: &KeySchedule, chain: &[u8]) -> Result<Vec<u8>, AllocError>
     requires { length chain.now % 8 ≡ 0 }
     ensures bytes { (E : List ℕ → List ℕ) → IsBlockCipher 8 E (cipher_under keys.now)

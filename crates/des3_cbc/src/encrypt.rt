@@ -1,4 +1,4 @@
-//! Sealing: the chain of a text padded with zeros (RFC 3961, section 6.3).
+//! Encryption of a text padded with zeros in a chain (RFC 3961, section 6.3).
 
 ghost use Rattle.std.specs.Prelude.{◌≡◌, ◌≢◌, ◌%◌, length, Err, IfOk, IfErr, OnOk};
 ghost use Rattle.aes_cts.specs.Bytes.{sum_of_bytes};
@@ -32,7 +32,7 @@ pub fn encrypt_des(alloc: Global, key: &[u8], payload: &[u8]) -> KerberosCryptoR
     Ok(chain)
 }
 
-/// The text with zeros added up to whole blocks.
+/// Adds zeros to the text up to whole blocks.
 fn zero_filled(alloc: Global, text: &[u8]) -> Result<Vec<u8>, AllocError>
     ensures filled { IfOk result (λ v. v.items ≡ zero_filled 8 text.now) }
     ensures whole { IfOk result (λ v. length v.items % 8 ≡ 0) }
@@ -43,7 +43,7 @@ fn zero_filled(alloc: Global, text: &[u8]) -> Result<Vec<u8>, AllocError>
     Ok(filled)
 }
 
-/// The chain of whole blocks under these round keys.
+/// Encrypts whole blocks in a chain under these round keys.
 fn encrypt_chain(alloc: Global, keys: &KeySchedule, text: &[u8]) -> Result<Vec<u8>, AllocError>
     requires { length text.now % 8 ≡ 0 }
     ensures { IfOk result (λ c. IsChained 8 (cipher_under keys.now) text.now c.items) }

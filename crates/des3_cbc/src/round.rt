@@ -7,7 +7,7 @@ ghost use Rattle.des3_cbc.specs.Tables.{expansion, permutation};
 ghost use Rattle.des3_cbc.specs.Des.{cipher_function, network, selected};
 ghost use Rattle.des3_cbc.specs.Places.{placed};
 
-/// What each box puts for each six bits, in its place among the 32 bits and permuted by P: the words of box S1, of S2
+/// The output of each box for each six bits, in its place among the 32 bits and permuted by P: the words of box S1, of S2
 /// and so on, 64 of each.
 #[rattlefmt::skip]
 const JOINED: [u32; 512] = [
@@ -86,7 +86,7 @@ const JOINED: [u32; 512] = [
 ];
 
 /// The six bits that box `k`, from 0 on, is given: those of E(R), added to those of the round key. E takes six bits that
-/// stand side by side, across the ends of R too, so that turning R by 4k + 5 places puts them last.
+/// are side by side, across the ends of R too, so that turning R by 4k + 5 places puts them last.
 fn sixth(right: u32, key: u64, k: u32) -> usize
     requires { k < 8 }
     ensures small { result < 64 }

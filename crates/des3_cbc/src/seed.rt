@@ -69,7 +69,7 @@ fn stretched(seven: &[u8]) -> [u8; 8]
     ]
 }
 
-/// Seven bits, and one behind them that makes the number of ones odd.
+/// Seven bits, and a last one that makes the number of ones odd.
 fn with_odd_parity(seven: u8) -> u8
     requires { seven < 128 }
     ensures { result ≡ with_odd_parity (low_bits 7 seven) }

@@ -8,7 +8,7 @@ use Rattle.example_acceptor.specs.declared.frame.Frame.{Frame}
 
 -- a token, wrapped or not, is this message's, and leaves this context
 abbrev pub IsOfMessage : Bool → ContextRecord → List ℕ → ContextRecord → List ℕ → Type 0
-IsOfMessage true old token new message = (protection : Protection) × TakesWrap old new token protection message
+IsOfMessage true old token new message = (number : ℕ) × (protection : Protection) × TakesWrap old new token number protection message
 IsOfMessage false old token new message = (new ≡ old) × (message ≡ token)
 
 -- a message's MIC, if the frame asks for it, or else an empty frame

@@ -45,6 +45,8 @@ pub data Step : Type 0 where
 -- by a token of Kerberos in a message of SPNEGO
 unfoldable pub held : Bytes → Exchange → Table (Result Step AcceptRefusal)
 held token exchange =
+    -- The mechanism's token in a message of SPNEGO is Kerberos' first token (RFC 4178, sections 4.2.1 and 4.2.2; RFC 4121, section 4.1).
+    -- Test: `other mechanisms, no mechanism, another token, and octets behind.`, `Not the token that is due.`.
     ask (IsApReqToken token) (sole_ap_req token) (done (Err NotAToken)) (λ message. done (Ok (AdmitRequest message (Some exchange))))
 
 -- by the tokens of SPNEGO's first message. If Kerberos' token isn't there, it is asked for
@@ -62,11 +64,14 @@ negotiated token = and_then (offered token) opened
 -- by a first token: one of Kerberos, or else of SPNEGO
 unfoldable pub carried : Bytes → Table (Result Step AcceptRefusal)
 carried token =
+    -- A first token of Kerberos is the element 60 with the mechanism's identifier, the token id 01 00 and the AP-REQ, and nothing
+    -- follows it (RFC 4121, section 4.1; RFC 2743, section 3.1). Another token is one of SPNEGO. Test: `No such tokens.`.
     ask (IsApReqToken token) (sole_ap_req token) (negotiated token) (λ message. done (Ok (AdmitRequest message None)))
 
 -- by the tokens of a later message, where Kerberos' first token is due
 abbrev pub responded_to : Terms → Tokens → Table (Result Step AcceptRefusal)
 responded_to terms tokens =
+    -- A later message has Kerberos' first token where that is due (RFC 4178, section 4.2.2). Test: `Not the token that is due.`.
     need tokens.mechanism NotAToken (λ token. held token (record { supported = None; terms = terms; mic = tokens.mic }))
 
 -- where the initiator's MIC is due
@@ -95,7 +100,7 @@ abbrev pub then_judged : {A B : Type 0} → Result A AcceptRefusal → (A → Re
 then_judged (Ok a) rest = rest a
 then_judged (Err refusal) rest = Err refusal
 
--- what an admission is judged by, in this order: checksum, sequence number, key, suite
+-- what an admission is judged by, in this order: checksum, sequence number, key, suite (RFC 4121, sections 2 and 4.1.1)
 abbrev pub judged : AdmissionRecord → Result Judged AcceptRefusal
 judged admission =
     then_judged (initial_in admission.checksum) (λ initial.
@@ -120,10 +125,13 @@ abbrev pub IsEstablished : AdmissionRecord → Result EstablishedRecord AcceptRe
 IsEstablished admission (Ok established) = (made : Judged) × (judged admission ≡ Ok made) × (established ≡ established_of admission made)
 IsEstablished admission (Err refusal) = (judged admission ≡ Err refusal) ⊎ ((refusal ≡ Memory) × ((made : Judged) × (judged admission ≡ Ok made)))
 
--- by this AP-REQ: the service admits it, and the context is established; or the service refuses it
+-- The service admits the AP-REQ, and the context is established. What is refused after the admission is remembered: the same token is
+-- then a replay. Test: `Refused after the admission.`.
 abbrev pub Establishes : ServiceRecord → Micros → Bytes → Random → Result EstablishedRecord AcceptRefusal → ServiceRecord → Type 0
 Establishes service moment message random result after =
     ((admission : AdmissionRecord) × Admits service moment message random (Ok admission) after × IsEstablished admission result)
+    -- The service refuses the AP-REQ, also one that it admitted before (RFC 4120, section 3.2.3). Test: `The same token`,
+    -- `Another service.`.
     ⊎ ((cause : AdmitRefusal) × Admits service moment message random (Err cause) after × (result ≡ Err (Admit cause)))
 
 -- what was made of the AP-REQ is answered as it came
@@ -138,7 +146,8 @@ Takes (AdmitRequest message exchange) service moment random result after =
     (made : Result EstablishedRecord AcceptRefusal) × Establishes service moment message random made after × IsAnsweredAs exchange made result
 Takes (VerifyMic unverified theirs) service moment random result after = (after ≡ service) × IsVerified unverified theirs result
 
--- what a token asks is done. A token that asks nothing is refused as the table says, or because memory ran out. Then nothing changes
+-- What a token asks is done. A token that asks nothing is refused as the table says, or because memory ran out, and nothing changes.
+-- Test: `What is refused of an AP-REQ bare is refused in a negotiation.`.
 abbrev pub Handles : Table (Result Step AcceptRefusal) → ServiceRecord → Micros → Random → Result Accepted AcceptRefusal → ServiceRecord → Type 0
 Handles table service moment random result after =
     ((step : Step) × table.gives (Ok step) × Takes step service moment random result after)

@@ -32,7 +32,9 @@ abbrev pub octets_field : ℕ → Option Bytes → Bytes
 octets_field tag None = []
 octets_field tag (Some octets) = element tag (element octet_string_octet octets)
 
--- negTokenResp [1]
+-- An answer of SPNEGO is a negTokenResp [1] with its state, and the mechanism's token and the acceptor's MIC if there are such. The first
+-- answer names the mechanism as it was offered (RFC 4178, section 4.2.2). Test: `SPNEGO: either identifier`, `Kerberos first, and no
+-- token`.
 abbrev pub neg_token_resp : NegState → Option Mechanism → Option Bytes → Option Bytes → Bytes
 neg_token_resp state supported token mic =
     element 161 (element sequence_octet (state_field state ++ (supported_field supported ++ (octets_field 162 token ++ octets_field 163 mic))))

@@ -4,20 +4,27 @@ use Rattle.std.specs.Prelude.{◌==◌, not, nat_lt, length, take, drop, Option,
 use Rattle.picky_asn1.specs.Bytes.{Bytes}
 use Rattle.picky_asn1.specs.Numbers.{is_number}
 use Rattle.byte_layouts.specs.Numbers.{le32_at}
+use Rattle.krb_constants.specs.declared.cksum_types.TheConstants.{GSS_API}
 use Rattle.krb_types.specs.declared.data_types.checksum.Checksum.{Checksum}
 use Rattle.gss_acceptor.specs.declared.checksum.InitialChecksum.{InitialChecksum}
 use Rattle.gss_acceptor.specs.declared.refusal.AcceptRefusal.{AcceptRefusal}
 use Rattle.gss_acceptor.specs.declared.refusal.AcceptRefusal.TheVariants.{NoChecksum, OtherChecksum}
 
--- what follows the flags, as the ticket of a delegation, isn't judged
+-- what a checksum's octets say
+-- Not judged: the flags and the channel bindings, which the caller gets, and the octets after the flags, as those of a delegation (RFC
+-- 4121, sections 4.1.1.1 and 4.1.1.2). Test: `Octets behind the flags, which are read by nobody.`.
 abbrev pub initial_sum : Bytes → Result InitialChecksum AcceptRefusal
 initial_sum octets =
+    -- The checksum has 24 octets or more, and its first field, the length of the channel bindings, is 16 (RFC 4121, section 4.1.1).
+    -- Test: `Refused after the admission.`.
     if nat_lt (length octets) 24 then Err OtherChecksum
     else (if not (le32_at 0 octets == 16) then Err OtherChecksum
     else Ok (record { bindings = take 16 (drop 4 octets); flags = record { 0 = le32_at 20 octets } }))
 
 abbrev pub initial_of : Checksum → Result InitialChecksum AcceptRefusal
-initial_of checksum = if not (is_number 0x8003 checksum.cksumtype.0) then Err NoChecksum else initial_sum checksum.checksum.0
+initial_of checksum =
+    -- The authenticator has a checksum of type 0x8003 (RFC 4121, section 4.1.1). Test: `Refused after the admission.`.
+    if not (is_number GSS_API checksum.cksumtype.0) then Err NoChecksum else initial_sum checksum.checksum.0
 
 abbrev pub initial_in : Option Checksum → Result InitialChecksum AcceptRefusal
 initial_in None = Err NoChecksum

@@ -30,10 +30,12 @@ IsGiven accepted result = (result ≡ Err Memory) ⊎ (result ≡ Ok accepted)
 abbrev pub waiting : Bytes → Stage → Accepted
 waiting reply at = ContinueNeeded (record { reply = reply; negotiation = record { stage = at } })
 
--- Kerberos' first token is asked for: MICs are due, or not
+-- the state of an answer that asks for Kerberos' first token
 abbrev pub asking_state : Bool → NegState
 asking_state required = if required then RequestMic else AcceptIncomplete
 
+-- Where Kerberos' token isn't there, the answer names Kerberos and has no token. Its state is request-mic if Kerberos isn't the first
+-- mechanism, and else accept-incomplete (RFC 4178, section 4.2.2). Test: `Kerberos first, and no token`, `SPNEGO: another mechanism`.
 abbrev pub asking : Mechanism → Terms → Accepted
 asking mechanism terms = waiting (neg_token_resp (asking_state terms.required) (Some mechanism) None None) (stage.Token terms)
 
@@ -58,11 +60,13 @@ abbrev pub IsNoExchange : ContextRecord → Bytes → Bytes → TokenRefusal →
 IsNoExchange before list theirs cause =
     IsMicRefusal before list theirs cause ⊎ ((between : ContextRecord) × TakesMic before between list theirs × IsUnmade between cause)
 
--- the initiator's MIC came with its token: the acceptor's is sent with the answer. A wrong one ends the negotiation
+-- the initiator's MIC came with its token: the acceptor's is sent with the answer
 abbrev pub IsMicAnswered : EstablishedRecord → Option Mechanism → Bytes → Bytes → Result Accepted AcceptRefusal → Type 0
 IsMicAnswered established supported list theirs result =
     ((after : ContextRecord) × (own : Bytes) × ExchangesMics established.context after list theirs own
     × IsGiven (completed (record established { context = after }) supported (Some own)) result)
+    -- The initiator's MIC is right, also where it isn't due; a wrong one ends the negotiation (RFC 4178, section 5). Test: `Wrong MICs: of
+    -- another list,`, `A wrong MIC that isn't due.`.
     ⊎ ((cause : TokenRefusal) × IsNoExchange established.context list theirs cause × (result ≡ Err (Mic cause)))
 
 -- the acceptor's last token is sent with its MIC, and then the initiator's is due
@@ -77,11 +81,12 @@ Demands established supported list result =
     × IsGiven (awaiting (record established { context = record established.context { sending = established.context.sending + 1 } }) supported list own) result)
     ⊎ ((cause : TokenRefusal) × IsUnmade established.context cause × (result ≡ Err (Mic cause)))
 
--- the initiator's MIC didn't come with its token. Where MICs are due, it may come later only if the acceptor sends the last token of
--- the mechanism
+-- the initiator's MIC didn't come with its token
 abbrev pub IsConcludedWithout : EstablishedRecord → Option Mechanism → Terms → Result Accepted AcceptRefusal → Type 0
 IsConcludedWithout established supported terms result =
     MatchBool terms.required
+    -- Where MICs are due and the acceptor sends no AP-REP, the initiator's MIC comes with its token. Else it may come after the acceptor's,
+    -- whose answer has the state accept-incomplete (RFC 4178, section 5). Test: `Wrong MICs: of another list,`, `With an AP-REP`.
     (MatchBool (is_some established.reply) (Demands established supported terms.list result) (result ≡ Err NoMic))
     (IsGiven (completed established supported None) result)
 
@@ -95,11 +100,13 @@ abbrev pub IsAnswered : Option Exchange → EstablishedRecord → Result Accepte
 IsAnswered None established result = result ≡ Ok (Established established)
 IsAnswered (Some exchange) established result = IsConcluded exchange established result
 
--- the initiator's MIC, which is due: the context is handed out, and nothing is answered. A wrong one ends the negotiation
+-- the initiator's MIC, which is due: the context is handed out, and nothing is answered
 abbrev pub IsVerified : Unverified → Bytes → Result Accepted AcceptRefusal → Type 0
 IsVerified unverified theirs result =
     ((after : ContextRecord) × TakesMic unverified.established.context after unverified.list theirs
     × (result ≡ Ok (Established (record unverified.established { context = after }))))
+    -- The initiator's MIC that is due is right; a wrong one ends the negotiation (RFC 4178, section 5). Test: `Wrong MICs: of another
+    -- list,`, `With an AP-REP`.
     ⊎ ((cause : TokenRefusal) × IsMicRefusal unverified.established.context unverified.list theirs cause × (result ≡ Err (Mic cause)))
 
 -- the tokens of a message, where the initiator's MIC is due

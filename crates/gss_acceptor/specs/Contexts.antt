@@ -18,18 +18,22 @@ abbrev pub number_of : ℤ → Option ℕ
 number_of (pos n) = if nat_lt n 4294967296 then Some n else None
 number_of (negsuc n) = if nat_lt n 2147483648 then Some (4294967295 - n) else None
 
--- the initiator's first sequence number, which counts from 0 where it isn't told (RFC 4120, section 5.5.1)
+-- the initiator's first sequence number
 abbrev pub first_number : Option ℤ → Result ℕ AcceptRefusal
 first_number None = Ok 0
+-- The initiator's first sequence number has 32 bits, also where it is written as the negative number of these bits. It is 0 where the
+-- authenticator has none (RFC 4120, section 5.5.1). Test: `Octets behind the flags, which are read by nobody.`, `No subkey,`.
 first_number (Some number) = or_refused (number_of number) BadSequenceNumber
 
--- the initiator's subkey if it has one, or else the session key (RFC 4121, section 2)
+-- the context's key
 abbrev pub context_key : Option EncryptionKey → EncryptionKey → Result KeyRecord AcceptRefusal
+-- The context's key is the initiator's subkey, or else the session key (RFC 4121, section 2). Test: `A subkey of another suite`, `No
+-- subkey,`.
 context_key (Some subkey) session = or_refused (key_in subkey) UnknownKey
 context_key None session = or_refused (key_in session) UnknownKey
 
--- the acceptor's end. Its numbers count from 0 where it sends an AP-REP, which has no sequence number (RFC 4120, section 5.5.2), and
--- else from the initiator's first number
+-- The acceptor's own numbers begin at 0 where it sends an AP-REP, which has no sequence number (RFC 4120, section 5.5.2), and else at
+-- the initiator's first number. Test: `get_mic ok`.
 abbrev pub context_in : KeyRecord → ℕ → Bool → Result ContextRecord AcceptRefusal
 context_in key number has_reply =
     if is_newer key.suite then Ok (record {
@@ -39,4 +43,5 @@ context_in key number has_reply =
       sending = if has_reply then 0 else number;
       taking = number;
     })
+    -- The key is of a suite of AES: triple DES has the tokens of RFC 1964. Test: `Refused after the admission.`.
     else Err OldSuite

@@ -21,7 +21,8 @@ abbrev pub IsDue : Bytes → Stage → Type 0
 IsDue list (Token terms) = (terms.required ≡ true) × (terms.list ≡ list)
 IsDue list (Mic unverified) = unverified.list ≡ list
 
--- it is due still, or the context that is handed out has it
+-- Where MICs are due, no context is handed out before the initiator's MIC was verified (RFC 4178, section 5). Test: `Wrong MICs: of
+-- another list,`.
 abbrev pub IsDueAfter : Bytes → Accepted → Type 0
 IsDueAfter list (Established established) = HasMic list established.context
 IsDueAfter list (ContinueNeeded continuation) = IsDue list continuation.negotiation.stage

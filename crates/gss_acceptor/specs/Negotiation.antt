@@ -38,14 +38,18 @@ sole_neg_init token v w p q =
 abbrev pub is_spnego : ObjectIdentifierAsn1 → Bool
 is_spnego identifier = pointwise nat_eq (oid_content identifier.0) spnego_octets
 
--- the octets that MICs are over: the DER encoding of the MechTypeList (section 5)
+-- an identifier of the MechTypeList
 abbrev pub mech_type_tree : ObjectIdentifierAsn1 → Tree
 mech_type_tree identifier = leaf (is_object_identifier identifier.0) 6 (oid_content identifier.0)
 
+-- MICs are over the DER encoding of the MechTypeList, with the context's next sequence numbers (RFC 4178, section 5; RFC 4121, section
+-- 4.2.6.1). Test: `SPNEGO: another mechanism`, `MICs that aren't due,`.
 abbrev pub mech_types_octets : List ObjectIdentifierAsn1 → Bytes
 mech_types_octets list = der (constructed sequence_octet (trees_of mech_type_tree list))
 
--- the tokens are the first mechanism's: of another one they don't count
+-- the tokens, if Kerberos is the first mechanism
+-- Ignored: the optimistic token of another mechanism, which is the first (RFC 4178, section 4.2.1). Test: `SPNEGO: another mechanism`,
+-- `Higher numbers,`.
 abbrev pub optimistic : Bool → Tokens → Tokens
 optimistic first tokens = if first then tokens else record { mechanism = None; mic = None }
 
@@ -58,6 +62,8 @@ offer_by mechanism list tokens = record {
 }
 
 abbrev pub offer_among : List ObjectIdentifierAsn1 → Tokens → Result Offer AcceptRefusal
+-- Kerberos is among the mechanisms that SPNEGO offers, by either identifier; the first such identifier counts (RFC 4178, section 4.2.1;
+-- MS-SPNG, section 3.1.5.2). Test: `SPNEGO: either identifier`, `other mechanisms, no mechanism, another token, and octets behind.`.
 offer_among list tokens = option_map_or (λ mechanism. Ok (offer_by mechanism list tokens)) (kerberos_among list) (Err NoKerberos)
 
 abbrev pub tokens_of : NegTokenInit → Tokens
@@ -71,7 +77,10 @@ offer_in message = if is_spnego message.oid then offer_of message.neg_token_init
 
 -- what a token offers
 unfoldable pub offered : Bytes → Table (Result Offer AcceptRefusal)
-offered token = ask (IsNegInit token) (sole_neg_init token) (done (Err NotAToken)) (λ message. done (offer_in message))
+offered token =
+    -- A first token of SPNEGO is the DER encoding of a NegTokenInit after SPNEGO's identifier (RFC 4178, section 4.2.1). Test: `No such
+    -- tokens.`, `other mechanisms, no mechanism, another token, and octets behind.`.
+    ask (IsNegInit token) (sole_neg_init token) (done (Err NotAToken)) (λ message. done (offer_in message))
 
 -- memory ran out, or this is given
 abbrev pub IsRead : {T : Type 0} → (Result T AcceptRefusal → Type 0) → Result T AcceptRefusal → Type 0

@@ -33,6 +33,6 @@ sole_ap_req token a b x y =
     let contents : ap_req_front ++ a ≡ ap_req_front ++ b = (element-one 96 96 (ap_req_front ++ a) (ap_req_front ++ b) [] [] tokens).1 in
     ap (drop 13) contents
 
--- the token that holds an AP-REP
+-- An AP-REP is sent in a token with the id 02 00 (RFC 4121, section 4.1). Test: `Etype 17.`, `Etype 18.`, `Etype 19.`, `Etype 20.`.
 abbrev pub ap_rep_token : Bytes → Bytes
 ap_rep_token reply = element 96 (ap_rep_front ++ reply)

@@ -5,11 +5,9 @@ ghost use Rattle.gss_acceptor.specs.Checksum.{initial_in, initial_of, initial_su
 
 use crate::refusal::AcceptRefusal;
 use byte_layouts::{array_at, u32_le};
+use krb_constants::cksum_types::GSS_API;
 use krb_types::data_types::Checksum;
 use picky_asn1::is_number;
-
-/// The type of the checksum, 0x8003.
-const CHECKSUM_TYPE: u32 = 0x8003;
 
 /// The length of the channel bindings.
 const BINDINGS: u32 = 16;
@@ -53,7 +51,7 @@ pub(crate) fn initial_in(checksum: &Option<Checksum>) -> Result<InitialChecksum,
 fn initial_of(checksum: &Checksum) -> Result<InitialChecksum, AcceptRefusal>
     ensures { result ≡ initial_of checksum.now }
 {
-    if !is_number(&checksum.cksumtype.0, CHECKSUM_TYPE) {
+    if !is_number(&checksum.cksumtype.0, GSS_API as u32) {
         return Err(AcceptRefusal::NoChecksum);
     }
     initial_sum(checksum.checksum.0.as_bytes())

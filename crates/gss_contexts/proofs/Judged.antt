@@ -115,11 +115,10 @@ protection_is s number p d message token x =
 -- the end takes the message that a token carries
 pub takes_wrap : (c new : ContextRecord) (s : Sender) (p : Protection) (message token : List ℕ) (number : ℕ) → s ≡ peer c → p ≡ protection_of (is_set (get_or token 2 0) 2)
     → AreBytes token → is_wrap token ≡ true → IsPeersHeader c token number → (d : List ℕ) × IsCarried s p d message token
-    → ((d n : List ℕ) → IsCarried s p d n token → n ≡ message) → new ≡ record c { taking = number + 1 } → TakesWrap c new token p message
+    → ((d n : List ℕ) → IsCarried s p d n token → n ≡ message) → new ≡ record c { taking = number + 1 } → TakesWrap c new token number p message
 takes_wrap c new s p message token number is_peer is_flagged bytes is peers x only moved =
     let carried = subst (λ q. IsCarried (peer c) q x.0 message token) is_flagged (subst (λ t. IsCarried t p x.0 message token) is_peer x.1) in
     record {
-      number = number;
       is_new = peers.is_new;
       followed = peers.followed;
       confounder = x.0;

@@ -91,15 +91,16 @@ wrap_is_taken c s number p d message token is x is_new followed e (inr (fine, in
     absurd (not_unread (peer c) p d message token other.0 e (subst (λ (t : List ℕ). Carries (peer c) p (be16_at 4 token) d message token t) one z.carries)
     (subst (λ v. IsUnread (peer c) v token other.0 e) (protection_is (peer c) number p d message token y) other.2))
 
-pub one_unwrapping : (c new : ContextRecord) (s : Sender) (number : ℕ) (p q : Protection) (d message taken token : List ℕ) → s ≡ peer c
-    → IsWrapOf s number p d message token → number < last_number → TakesWrap c new token q taken
-    → (q ≡ p) × (taken ≡ message) × (new ≡ record c { taking = number + 1 })
-one_unwrapping c new s number p q d message taken token is x followed takes =
+pub one_unwrapping : (c new : ContextRecord) (s : Sender) (number n : ℕ) (p q : Protection) (d message taken token : List ℕ) → s ≡ peer c
+    → IsWrapOf s number p d message token → number < last_number → TakesWrap c new token n q taken
+    → (n ≡ number) × (q ≡ p) × (taken ≡ message) × (new ≡ record c { taking = number + 1 })
+one_unwrapping c new s number n p q d message taken token is x followed takes =
     let y = subst (λ t. IsWrapOf t number p d message token) is x in
     let follows = takes.followed in
-    let same : takes.number ≡ number =
-    sym (be64-again 8 takes.number token (omega arith) takes.is_wrap_of.laid.header.1.1.1.1.1.0) ∙ be64-again 8 number token (omega arith) y.laid.header.1.1.1.1.1.0 in (
-      sym (protection_is (peer c) takes.number q takes.confounder taken token takes.is_wrap_of) ∙ protection_is (peer c) number p d message token y,
+    let same : n ≡ number =
+    sym (be64-again 8 n token (omega arith) takes.is_wrap_of.laid.header.1.1.1.1.1.0) ∙ be64-again 8 number token (omega arith) y.laid.header.1.1.1.1.1.0 in (
+      same,
+      sym (protection_is (peer c) n q takes.confounder taken token takes.is_wrap_of) ∙ protection_is (peer c) number p d message token y,
       sym (takes.only p number d message y),
-      takes.moved ∙ ap (λ n. moved_to c (n + 1)) same,
+      takes.moved ∙ ap (λ k. moved_to c (k + 1)) same,
     )

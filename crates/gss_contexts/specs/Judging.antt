@@ -28,10 +28,18 @@ is_wrap token =
 -- the number of a token whose header is the peer's, or the first refusal
 unfoldable pub judged : ContextRecord → Bool → List ℕ → Result ℕ TokenRefusal
 judged c is_token token =
+    -- The token has its TOK_ID and its filler, and 16 octets or more (RFC 4121, sections 4.2.6.1 and 4.2.6.2). Test: `A foreign id, a wrong
+    -- filler of the header, a short token.`.
     if not is_token then Err NoSuchToken
+    -- The flag SentByAcceptor names the other side (RFC 4121, section 4.2.2). Test: `unwrap OwnDirection`, `verify_mic OwnDirection`.
     else if beq (is_set (slice_index token 2) 1) (is_acceptor c.side) then Err OwnDirection
+    -- The flag AcceptorSubkey is set if and only if the context's key is the acceptor's subkey (RFC 4121, section 4.2.2). Test: `unwrap
+    -- OtherKey`, `verify_mic OtherKey`.
     else if not (beq (is_set (slice_index token 2) 4) c.acceptor_subkey) then Err OtherKey
+    -- The sequence number is the least that is taken, or a higher one: numbers may be left out (RFC 4121, section 4.2.1). Test: `unwrap
+    -- OldNumber`, `verify_mic OldNumber`.
     else if nat_lt (be64_at 8 token) c.taking then Err OldNumber
+    -- The sequence number isn't the last of 64 bits, which none follows. Test: `unwrap NumbersUsedUp`, `verify_mic NumbersUsedUp`.
     else if nat_eq (be64_at 8 token) last_number then Err NumbersUsedUp
     else Ok (be64_at 8 token)
 
@@ -51,16 +59,16 @@ pub record TakesMic (c new : ContextRecord) (message token : List ℕ) : Type 0 
   pub is_mic_of : IsMicOf (peer c) number message token
   pub moved : new ≡ record c { taking = number + 1 }
 
--- why a MIC token is refused: its header, or else its checksum
+-- A MIC token is refused by its header, or else by its checksum, which is over the message and the header (RFC 4121, sections 4.2.4 and
+-- 4.2.6.1). Test: `verify_mic WrongChecksum`.
 abbrev pub IsMicRefusal : ContextRecord → List ℕ → List ℕ → TokenRefusal → Type 0
 IsMicRefusal c message token e =
     (judged c (is_mic token) token ≡ Err e)
     ⊎ ((number : ℕ) × (judged c (is_mic token) token ≡ Ok number)
     × ((e ≡ Memory) ⊎ ((e ≡ WrongChecksum) × (IsMicOf (peer c) number message token → ⊥))))
 
--- the end takes the wrap token: it is the peer's, of this message and no other, with a number that isn't old
-pub record TakesWrap (c new : ContextRecord) (token : List ℕ) (protection : Protection) (message : List ℕ) : Type 0 where
-  pub number : ℕ
+-- the end takes the wrap token: it is the peer's, of this message and no other, with this number, which isn't old
+pub record TakesWrap (c new : ContextRecord) (token : List ℕ) (number : ℕ) (protection : Protection) (message : List ℕ) : Type 0 where
   pub is_new : c.taking ≤ number
   pub followed : number < last_number
   pub confounder : List ℕ
@@ -83,8 +91,8 @@ pub record IsCarried (sender : Sender) (protection : Protection) (confounder mes
   pub is_text : IsTextOf token text
   pub carries : Carries sender protection (be16_at 4 token) confounder message token text
 
--- why data are no message's: nothing is sealed under the key, or the checksum differs. Or the sealed text doesn't end with
--- the token's header
+-- The data are no message's if nothing is encrypted to them under the key, or the checksum differs (WrongChecksum), or the plaintext doesn't
+-- end with the token's header (OtherHeader) (RFC 4121, section 4.2.4). Test: `unwrap WrongChecksum`, `unwrap OtherHeader`.
 abbrev pub IsUnread : Sender → Protection → List ℕ → List ℕ → TokenRefusal → Type 0
 IsUnread s Sealed token text WrongChecksum =
     (d p : List ℕ) → IsSealedBy s.key.suite s.key.bytes (seal_usage s.side) d p text → ⊥

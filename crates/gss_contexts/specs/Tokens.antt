@@ -1,9 +1,11 @@
 -- Which octets are a token of a message (RFC 4121, sections 4.2.2 to 4.2.6).
 use Rattle.std.specs.Prelude.{◌≡◌, ℕ, ◌-◌, ◌%◌, ◌^◌, ◌<◌, List, ◌∷◌, ◌++◌, length, take, drop, Bool, true, false, not, nat_eq}
+use Rattle.std.specs.Int.{cast_unsigned, w32}
 use Rattle.std.specs.Int.Bits.{bit_and}
 use Rattle.krb_crypto.specs.Sealing.{IsSealedBy, checksum_of}
 use Rattle.krb_crypto.specs.Suites.{cipher_checksum}
 use Rattle.krb_crypto.specs.Keys.{KeyRecord}
+use Rattle.krb_constants.specs.declared.key_usages.TheConstants.{ACCEPTOR_SEAL, ACCEPTOR_SIGN, INITIATOR_SEAL, INITIATOR_SIGN}
 use Rattle.gss_message_tokens.specs.Tokens.{IsMicToken, IsWrapToken}
 use Rattle.gss_contexts.specs.declared.sender.Sender.{Sender}
 use Rattle.gss_contexts.specs.declared.side.Side.{Side}
@@ -13,12 +15,12 @@ use Rattle.gss_contexts.specs.declared.side.Protection.TheVariants.{Sealed, Chec
 
 -- the key usages of what a side sends (section 2): of wrap tokens, and of MIC tokens
 abbrev pub seal_usage : Side → ℕ
-seal_usage Initiator = 24
-seal_usage Acceptor = 22
+seal_usage Initiator = cast_unsigned w32 INITIATOR_SEAL
+seal_usage Acceptor = cast_unsigned w32 ACCEPTOR_SEAL
 
 abbrev pub sign_usage : Side → ℕ
-sign_usage Initiator = 25
-sign_usage Acceptor = 23
+sign_usage Initiator = cast_unsigned w32 INITIATOR_SIGN
+sign_usage Acceptor = cast_unsigned w32 ACCEPTOR_SIGN
 
 abbrev pub is_acceptor : Side → Bool
 is_acceptor Initiator = false

@@ -54,6 +54,8 @@ impl Model for Context {
 pub struct Unwrapped {
     /// The message.
     pub message: Vec<u8>,
+    /// The token's sequence number. If it is higher than the least number that was taken before, tokens of the peer are missing.
+    pub sequence_number: u64,
     /// How the token protected it.
     pub protection: Protection,
 }
@@ -93,7 +95,17 @@ impl Context {
         Ok(Context { sender, numbers })
     }
 
-    // The number of a token whose header is the peer's.
+    /// The sequence numbers of the next tokens.
+    ///
+    /// The least number that is taken is one more than the number of the last token that was taken. So a caller of
+    /// [`Context::verify_mic`] learns its token's number, and by the least number before the call how many tokens are missing.
+    pub fn numbers(&self) -> SequenceNumbers
+        ensures { result ≡ record { sending = self.now.sending; taking = self.now.taking } }
+    {
+        self.numbers
+    }
+
+    // Returns the number of a token whose header is the peer's.
     #[tactic(auto, unfolding(crate::specs::Judging::judged))]
     fn judge(&self, is_token: bool, token: &[u8]) -> Result<u64, TokenRefusal>
         requires { IsTrue is_token → 16 ≤ length token.now }
@@ -135,7 +147,8 @@ impl Context {
         Ok(token)
     }
 
-    /// Takes the peer's MIC token of a message (RFC 4121, section 4.2.6.1). Only higher numbers are taken after it.
+    /// Takes the peer's MIC token of a message (RFC 4121, section 4.2.6.1). Only higher numbers are taken after it. The token's
+    /// number is one less than the least number that [`Context::numbers`] has after the call.
     ///
     /// The refusals, in this order: `NoSuchToken`, `OwnDirection`, `OtherKey`, `OldNumber`, `NumbersUsedUp`, `Memory`,
     /// `WrongChecksum`. A refused call changes nothing.
@@ -188,7 +201,7 @@ impl Context {
     /// The refusals, in this order: `NoSuchToken`, `OwnDirection`, `OtherKey`, `OldNumber`, `NumbersUsedUp`, `Memory`,
     /// `WrongChecksum`, `OtherHeader`. A refused call changes nothing.
     pub fn unwrap(&mut self, alloc: Global, token: &[u8]) -> Result<Unwrapped, TokenRefusal>
-        ensures taken { IfOk result (λ u. TakesWrap self.old self.new token.now u.protection u.message.items) }
+        ensures taken { IfOk result (λ u. TakesWrap self.old self.new token.now u.sequence_number u.protection u.message.items) }
         ensures refused { IfErr result (λ e. (self.new ≡ self.old) × IsWrapRefusal self.old token.now e) }
     {
         let number = self.judge(is_wrap(token), token)?;
@@ -197,6 +210,7 @@ impl Context {
         self.numbers.taking = number + 1;
         Ok(Unwrapped {
             message,
+            sequence_number: number,
             protection,
         })
     }

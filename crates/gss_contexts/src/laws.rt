@@ -22,10 +22,10 @@ pub fn wrap_is_taken()
         → to.taking ≤ number → number < last_number → (e : TokenRefusal) → IsWrapRefusal to token e → e ≡ Memory }
 {}
 
-/// The other end takes a wrap token as its message, under its protection. The least number is then the one after the
-/// token's. It does nothing when it runs: its contract is the law.
+/// The other end takes a wrap token as its message, with its number and under its protection. The least number is then the
+/// one after the token's. It does nothing when it runs: its contract is the law.
 pub fn unwraps_to_its_message()
-    ensures { (from to new : ContextRecord) (number : ℕ) (p q : Protection) (d message taken token : List ℕ) → sender_of from ≡ peer to
-        → IsWrapOf (sender_of from) number p d message token → number < last_number → TakesWrap to new token q taken
-        → (q ≡ p) × (taken ≡ message) × (new ≡ record to { taking = number + 1 }) }
+    ensures { (from to new : ContextRecord) (number n : ℕ) (p q : Protection) (d message taken token : List ℕ) → sender_of from ≡ peer to
+        → IsWrapOf (sender_of from) number p d message token → number < last_number → TakesWrap to new token n q taken
+        → (n ≡ number) × (q ≡ p) × (taken ≡ message) × (new ≡ record to { taking = number + 1 }) }
 {}

@@ -2,14 +2,7 @@
 ghost use Rattle.std.specs.Prelude.{◌≡◌};
 ghost use Rattle.std.specs.Int.{cast_unsigned, w32};
 
-// The key usages of RFC 4121, section 2.
-const ACCEPTOR_SEAL: i32 = 22;
-
-const ACCEPTOR_SIGN: i32 = 23;
-
-const INITIATOR_SEAL: i32 = 24;
-
-const INITIATOR_SIGN: i32 = 25;
+use krb_constants::key_usages::{ACCEPTOR_SEAL, ACCEPTOR_SIGN, INITIATOR_SEAL, INITIATOR_SIGN};
 
 /// How a wrap token protects its message (RFC 4121, section 4.2.4).
 #[derive(Clone, Copy, Debug, PartialEq, Eq)]
@@ -53,7 +46,7 @@ impl Side {
         }
     }
 
-    // The key usage of the wrap tokens that it sends.
+    // Returns the key usage of the wrap tokens that this side sends (RFC 4121, section 2).
     pub(crate) fn seal_usage(self) -> i32
         ensures { cast_unsigned w32 result ≡ seal_usage self }
     {
@@ -63,7 +56,7 @@ impl Side {
         }
     }
 
-    // The key usage of the MIC tokens that it sends.
+    // Returns the key usage of the MIC tokens that this side sends (RFC 4121, section 2).
     pub(crate) fn sign_usage(self) -> i32
         ensures { cast_unsigned w32 result ≡ sign_usage self }
     {

@@ -11,7 +11,7 @@ use Rattle.gss_message_tokens.specs.declared.integrity.LsapTokenInfoIntegrity.{L
 abbrev pub record_parts : LsapTokenInfoIntegrity → List Part
 record_parts r = part 0 (le32 r.flags) ∷ part 4 (le32 r.token_il) ∷ part 8 r.machine_id ∷ []
 
--- the record is laid out in the bytes
+-- LSAP_TOKEN_INFO_INTEGRITY is Flags, TokenIL and MachineID in 40 octets (MS-KILE, section 2.2.5). Test: `integrity_record` of `integrity.rt`.
 pub record IsIntegrityRecord (r : LsapTokenInfoIntegrity) (whole : List ℕ) : Type 0 where
   pub parts : IsLaidOut (record_parts r) whole
   pub size : length whole ≡ 40

@@ -6,7 +6,7 @@ use Rattle.gss_message_tokens.specs.declared.kind.TokenKind.TheVariants.{Mic, Wr
 use Rattle.gss_message_tokens.specs.declared.error.GssApiMessageError.{GssApiMessageError}
 use Rattle.gss_message_tokens.specs.declared.error.GssApiMessageError.TheVariants.{InvalidId, IoError, InvalidMicFiller, InvalidWrapFiller}
 
--- octets 0 and 1
+-- TOK_ID, octets 0 and 1
 abbrev pub id_of : TokenKind → List ℕ
 id_of Mic = 4 ∷ 4 ∷ []
 id_of Wrap = 5 ∷ 4 ∷ []
@@ -41,11 +41,12 @@ filler_judged Wrap = wrap_filler_judged
 abbrev pub length_judged : ErrorKind → List ℕ → Verdict
 length_judged short whole = if nat_lt (length whole) 16 then Err (IoError short) else Ok tt
 
--- what the first says, and else the second
+-- the first fault, or else the second
 abbrev pub or_else : Verdict → Verdict → Verdict
 or_else (Ok _) next = next
 or_else (Err e) next = Err e
 
--- what is first wrong with these bytes as the front of a token
+-- A wrong TOK_ID (InvalidId) comes before a wrong filler (InvalidMicFiller, InvalidWrapFiller), and this before fewer than 16 octets
+-- (RFC 4121, section 4.2.6). Test: `refusals` of `tokens.rt`, `tokens` of `failing.rt`.
 abbrev pub judged : TokenKind → ErrorKind → List ℕ → Verdict
 judged kind short whole = or_else (id_judged kind whole) (or_else (filler_judged kind whole) (length_judged short whole))

@@ -17,7 +17,8 @@ abbrev pub mic_header : MicFields → List Part
 mic_header m =
     part 0 (4 ∷ 4 ∷ []) ∷ part 2 (m.flags ∷ []) ∷ part 3 (255 ∷ 255 ∷ 255 ∷ 255 ∷ 255 ∷ []) ∷ part 8 (be64 m.seq_num) ∷ []
 
--- the MIC token is laid out in the bytes: its header, and from octet 16 to the last SGN_CKSUM
+-- A MIC token is TOK_ID 04 04, flags, five octets FF, SND_SEQ, and from octet 16 to the end SGN_CKSUM (RFC 4121, section 4.2.6.1).
+-- Test: `mic_token` of `tokens.rt`.
 pub record IsMicToken (m : MicFields) (whole : List ℕ) : Type 0 where
   pub header : IsLaidOut (mic_header m) whole
   pub long : 16 ≤ length whole
@@ -36,7 +37,9 @@ abbrev pub wrap_header : WrapFields → List Part
 wrap_header w =
     part 0 (5 ∷ 4 ∷ []) ∷ part 2 (w.flags ∷ []) ∷ part 3 (255 ∷ []) ∷ part 4 (be16 w.ec) ∷ part 6 (be16 w.rrc) ∷ part 8 (be64 w.seq_num) ∷ []
 
--- the wrap token is laid out in the bytes: its header, and from octet 16 to the last its data
+-- A wrap token is TOK_ID 05 04, flags, FF, EC, RRC, SND_SEQ, and from octet 16 to the end the data (RFC 4121, section 4.2.6.2). Test:
+-- `wrap_token` of `tokens.rt`.
+-- Not judged: EC and RRC; nothing is decrypted. Test: `wrap_token` of `tokens.rt`.
 pub record IsWrapToken (w : WrapFields) (whole : List ℕ) : Type 0 where
   pub header : IsLaidOut (wrap_header w) whole
   pub long : 16 ≤ length whole

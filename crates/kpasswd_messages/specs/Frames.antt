@@ -3,15 +3,16 @@ use Rattle.std.specs.Prelude.{◌≡◌, ℕ, ◌+◌, List, [], ◌∷◌, ◌+
 use Rattle.byte_layouts.specs.Parts.{Part, part, Stands, IsLaidOut}
 use Rattle.byte_layouts.specs.Numbers.{be16}
 
--- octets 2 and 3 of six the version; the lengths on both sides of it may be any
+-- the header has six octets, and the version 1 in octets 2 and 3
+-- Not judged: the two lengths of the header. Test: `lengths` of `priv_frames.rt`.
 abbrev pub IsHeader : List ℕ → Type 0
 IsHeader header = (length header ≡ 6) × Stands (part 2 (be16 1)) header
 
--- octets 2 and 3 the version, from 6 on the AP message, and right behind it the KRB-PRIV
+-- octets 2 and 3 the version, from 6 on the AP message, followed by the KRB-PRIV
 abbrev pub frame_parts : List ℕ → List ℕ → List Part
 frame_parts ap private = part 2 (be16 1) ∷ part 6 ap ∷ part (6 + length ap) private ∷ []
 
--- the parts are laid out in the bytes, and nothing behind them
+-- the parts are laid out in the bytes, and nothing follows them
 pub record IsFramed (ap private whole : List ℕ) : Type 0 where
   pub parts : IsLaidOut (frame_parts ap private) whole
   pub size : length whole ≡ 6 + length ap + length private
@@ -20,12 +21,13 @@ pub record IsFramed (ap private whole : List ℕ) : Type 0 where
 abbrev pub length_parts : List ℕ → List ℕ → List Part
 length_parts ap private = part 0 (be16 (6 + length ap + length private)) ∷ part 4 (be16 (length ap)) ∷ []
 
--- the frame with its true lengths is laid out in the bytes
+-- A frame is the whole length, the version 1, the AP message's length, the AP message and the KRB-PRIV (RFC 3244, section 2). Test:
+-- `written` of `priv_frames.rt`, `read` of `priv_frames.rt`.
 pub record IsFrame (ap private whole : List ℕ) : Type 0 where
   pub framed : IsFramed ap private whole
   pub lengths : IsLaidOut (length_parts ap private) whole
 
--- a header that tells these lengths, and the parts
+-- a header with these lengths, and the parts
 abbrev pub framed : ℕ → ℕ → List ℕ → List ℕ → List ℕ
 framed count size ap private = be16 count ++ (be16 1 ++ (be16 size ++ (ap ++ private)))
 

@@ -19,7 +19,8 @@ abbrev pub hmac_size_of : AesSize → ℕ
 hmac_size_of Aes128 = 32
 hmac_size_of Aes256 = 48
 
--- half of them: the bytes of a checksum, and of the keys that check (RFC 8009, section 5)
+-- A checksum, Ki and Kc have half of them: 16 or 24 octets. Ke has 16 or 32 (RFC 8009, sections 3 and 5). Test: `derive 19`,
+-- `derive 20`.
 abbrev pub tag_size_of : AesSize → ℕ
 tag_size_of Aes128 = 16
 tag_size_of Aes256 = 24
@@ -33,8 +34,8 @@ name_of Aes256 = codes "aes256-cts-hmac-sha384-192"
 abbrev pub sha2_derived_key_of : AesSize → ℕ → List ℕ → List ℕ → List ℕ
 sha2_derived_key_of aes size key label = kdf_of (hmac_sha2_of aes) key label size
 
--- the key of a password and a salt: 32,768 rounds over the suite's name, a zero byte and the salt, then a derivation (RFC
--- 8009, section 4)
+-- String-to-key is PBKDF2 with 32,768 iterations over the suite's name, a zero byte and the salt, then KDF-HMAC-SHA2 with
+-- "kerberos" (RFC 8009, section 4). Test: `key 19`, `key 20`.
 unfoldable pub sha2_password_key_of : AesSize → List ℕ → List ℕ → List ℕ
 sha2_password_key_of aes password salt =
     sha2_derived_key_of aes (key_length_of aes)

@@ -9,12 +9,13 @@ use Rattle.aes_cts.specs.declared.error.KerberosCryptoError.TheVariants.{CipherL
 use Rattle.krb_profile.specs.Profile.{Profile}
 use Rattle.krb_aes_sha2.specs.Derivation.{hmac_sha2_of, sha2_derived_key_of, sha2_password_key_of, tag_size_of}
 
--- the HMAC, cut to half (RFC 8009, section 5)
+-- The checksum is the HMAC, cut to 16 or 24 octets, also of a text that isn't encrypted with it (RFC 8009, sections 5 and 6). Test:
+-- `checksum 19`, `checksum 20`.
 abbrev pub sha2_tag_of : AesSize → List ℕ → List ℕ → List ℕ
 sha2_tag_of size key text = take (tag_size_of size) (hmac_sha2_of size key text)
 
--- fewer bytes than a confounder and a checksum come before a key of another length, and this before a checksum that isn't
--- the encrypted text's
+-- Decryption refuses fewer bytes than a confounder and a checksum (CipherLength), then another length of the key (KeyLength), then
+-- the checksum (IntegrityCheck). Test: `too_short` of `aes_sha2.rt`.
 pub record IsSha2Refusal (size least key_bytes bytes : ℕ) (e : KerberosCryptoError) : Type 0 where
   pub short : bytes < least → e ≡ CipherLength bytes least
   pub keyed : least ≤ bytes → key_bytes ≢ size → e ≡ KeyLength key_bytes size
@@ -24,8 +25,8 @@ pub record IsSha2Refusal (size least key_bytes bytes : ℕ) (e : KerberosCryptoE
 abbrev pub least_of : AesSize → ℕ
 least_of size = 16 + tag_size_of size
 
--- ciphertext stealing, with the checksum over a block of zeros, which is the initial vector, and the encrypted text (RFC 8009,
--- section 5)
+-- Encryption is ciphertext stealing, with the checksum over the initial vector of zeros and the ciphertext (RFC 8009, section 5).
+-- Test: `seal 19`, `seal 20`; `tag_over_plaintext`.
 abbrev pub aes_sha2_profile : AesSize → Profile
 aes_sha2_profile size = record {
   key_size = key_length_of size;

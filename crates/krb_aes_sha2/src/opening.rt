@@ -1,4 +1,4 @@
-//! Opening a message that AES with SHA-2 seals (RFC 8009, section 5).
+//! Decryption by AES with SHA-2 (RFC 8009, section 5).
 
 ghost use Rattle.std.specs.Prelude.{◌≡◌, ◌≢◌, ◌⊎◌, ◌-◌, ◌<◌, ◌≤◌, ℕ, List, ◌++◌, length, take, drop, vec_len, Err, IfOk, IfErr, OnOk};
 ghost use Rattle.std.specs.Int.{cast_unsigned, w32};
@@ -18,8 +18,9 @@ use aes_cts::{
 use krb_profile::{DecryptWithoutChecksum, same_bytes, usage_ke, usage_ki};
 use std::alloc::Global;
 
-/// The message that is sealed here, 32 or 40 bytes shorter. The refusals, in this order: fewer bytes than these
-/// (`CipherLength`), a key of another length (`KeyLength`), a checksum that isn't the encrypted text's (`IntegrityCheck`).
+/// Decrypts a message and verifies its checksum. The message is 32 or 40 bytes shorter. The refusals, in this order:
+/// fewer bytes than these (`CipherLength`), a key of another length (`KeyLength`), a checksum that isn't the encrypted
+/// text's (`IntegrityCheck`).
 pub fn decrypt_message(
     alloc: Global,
     key: &[u8],
@@ -32,7 +33,7 @@ pub fn decrypt_message(
     ensures refusals { IfErr result (λ e. IsSha2Refusal (key_length_of aes_size.now) (least_of aes_size.now)
         (length key.now) (length cipher_data.now) e) }
 
-    // Where it isn't memory, nothing is sealed here.
+    // Where the refusal isn't memory, no message is encrypted to these bytes.
     ensures refused { IfErr result (λ e. (e ≡ Memory)
         ⊎ IsNothingSealedAs (aes_sha2_profile aes_size.now) key.now (cast_unsigned w32 key_usage) cipher_data.now) }
 {
@@ -45,7 +46,7 @@ pub fn decrypt_message(
     Ok(opened.plaintext)
 }
 
-/// The message that is encrypted here. Its checksum isn't checked. The refusals, in this order: fewer bytes than a
+/// Decrypts a message. Its checksum isn't verified. The refusals, in this order: fewer bytes than a
 /// confounder and a checksum (`CipherLength`), a key of another length (`KeyLength`).
 pub fn decrypt_message_no_checksum(
     alloc: Global,

@@ -1,4 +1,4 @@
-//! Sealing a message, and checksums that stand alone (RFC 8009, sections 5 and 6).
+//! Encryption, and keyed checksums (RFC 8009, sections 5 and 6).
 
 ghost use Rattle.std.specs.Prelude.{◌≡◌, ◌≢◌, List, ℕ, ◌++◌, length, Err, IfOk, IfErr};
 ghost use Rattle.std.specs.Int.{cast_unsigned, w32};
@@ -16,8 +16,8 @@ use std::alloc::Global;
 /// The block of zeros that the chain begins with, and that a checksum covers before the encrypted text.
 pub(crate) const INITIAL_VECTOR: [u8; AES_BLOCK_SIZE] = [0; AES_BLOCK_SIZE];
 
-/// The message, encrypted after the confounder, and the checksum of the initial vector and the encrypted text: 32 bytes
-/// more than the message, or 40. A key of another length is refused (`KeyLength`).
+/// Encrypts confounder and message, and adds the checksum of the initial vector and the ciphertext: 32 bytes more than
+/// the message, or 40. A key of another length is refused (`KeyLength`).
 pub fn encrypt_message(
     alloc: Global,
     key: &[u8],
@@ -32,7 +32,7 @@ pub fn encrypt_message(
         → IsSealedAs (aes_sha2_profile aes_size.now) key.now (cast_unsigned w32 key_usage) confounder payload.now b
         → b ≡ c.items) }
 
-    // No other confounder or message is sealed to the same bytes.
+    // No other confounder or message is encrypted to the same bytes.
     ensures one_text { IfOk result (λ c. (d q : List ℕ)
         → IsSealedAs (aes_sha2_profile aes_size.now) key.now (cast_unsigned w32 key_usage) d q c.items
         → (d ≡ confounder) × (q ≡ payload.now)) }
@@ -53,7 +53,7 @@ pub fn encrypt_message(
     Ok(encrypted)
 }
 
-/// The message, encrypted after the confounder, and the key of the checksum that is still to be made. A key of another
+/// Encrypts confounder and message, and returns the key of the checksum that is still to be made. A key of another
 /// length is refused (`KeyLength`).
 pub fn encrypt_message_no_checksum(
     alloc: Global,
@@ -128,7 +128,7 @@ pub fn encryption_checksum(
     Ok(checksum)
 }
 
-/// The checksum of a text that stands alone, 16 or 24 bytes. A key of another length is refused (`KeyLength`).
+/// The keyed checksum of a text, 16 or 24 bytes. A key of another length is refused (`KeyLength`).
 pub fn checksum_sha2(
     alloc: Global,
     key: &[u8],

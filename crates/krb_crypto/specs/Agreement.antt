@@ -12,6 +12,7 @@ numbered_digests x (suc n) = numbered_digests x n ++ sha1 (n ∷ x)
 unfoldable pub seed_octets_of : ℕ → List ℕ → List ℕ
 seed_octets_of len x = take len (numbered_digests x (div_ceil len 20))
 
--- octetstring2key: random-to-key of the digests cut to the seed's bits, which are whole octets
+-- octetstring2key is random-to-key of SHA1(00 | x), SHA1(01 | x), .., cut to the seed's bits, which are whole octets (RFC 4556,
+-- section 3.2.3.1). Test: `agree` of `standards.txt`.
 abbrev pub agreement_key_of : (List ℕ → List ℕ) → ℕ → List ℕ → List ℕ
 agreement_key_of random_to_key seed_bits x = random_to_key (seed_octets_of (div_ceil seed_bits 8) x)

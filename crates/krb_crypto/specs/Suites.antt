@@ -24,7 +24,8 @@ cipher_profile Aes256CtsHmacSha384192 = aes_sha2_profile Aes256
 abbrev pub cipher_suites : List CipherSuite
 cipher_suites = Aes128CtsHmacSha196 ∷ Aes256CtsHmacSha196 ∷ Des3CbcSha1Kd ∷ Aes128CtsHmacSha256128 ∷ Aes256CtsHmacSha384192 ∷ []
 
--- the number that names a suite as `etype` (RFC 3962, section 7; RFC 3961, section 8; RFC 8009, section 7)
+-- The etypes are 17 and 18 (AES), 19 and 20 (AES with SHA-2) and 16 (triple DES) (RFC 3962, section 7; RFC 3961, section 8; RFC 8009,
+-- section 7). Test: `numbers` of `aes_sha2.rt`, `numbers` of `des.rt`.
 abbrev pub cipher_number : CipherSuite → ℕ
 cipher_number Aes128CtsHmacSha196 = 17
 cipher_number Aes256CtsHmacSha196 = 18
@@ -48,7 +49,7 @@ cipher_seed_bits suite = 8 * cipher_seed_size suite
 abbrev pub cipher_confounder_size : CipherSuite → ℕ
 cipher_confounder_size suite = (cipher_profile suite).confounder_size
 
--- how many bytes the checksum behind what is encrypted has
+-- how many bytes the checksum after a ciphertext has
 abbrev pub cipher_tag_size : CipherSuite → ℕ
 cipher_tag_size suite = (cipher_profile suite).tag_size
 
@@ -64,7 +65,8 @@ checksum_cipher HmacSha384192Aes256 = Aes256CtsHmacSha384192
 abbrev pub checksum_suites : List ChecksumSuite
 checksum_suites = HmacSha196Aes128 ∷ HmacSha196Aes256 ∷ HmacSha1Des3Kd ∷ HmacSha256128Aes128 ∷ HmacSha384192Aes256 ∷ []
 
--- the number that names a checksum as `cksumtype` (RFC 3962, section 7; RFC 3961, section 8; RFC 8009, section 7)
+-- The cksumtypes are 15 and 16 (AES), 19 and 20 (AES with SHA-2) and 12 (triple DES) (RFC 3962, section 7; RFC 3961, section 8; RFC
+-- 8009, section 7). Test: `numbers` of `aes_sha2.rt`, `numbers` of `des.rt`.
 abbrev pub checksum_number : ChecksumSuite → ℕ
 checksum_number HmacSha196Aes128 = 15
 checksum_number HmacSha196Aes256 = 16

@@ -10,7 +10,7 @@ use std::alloc::{AllocError, Global};
 /// The bytes that SHA-1 hashes at a time.
 const SHA1_BLOCK_LEN: usize = 64;
 
-/// What the bytes of the key are xored with for the inner and for the outer hash.
+/// The bytes that the key is xored with for the inner and for the outer hash (ipad and opad; RFC 2104, section 2).
 pub(crate) const INNER_PAD: u8 = 0x36;
 
 pub(crate) const OUTER_PAD: u8 = 0x5C;
@@ -28,7 +28,7 @@ pub fn hmac<H: BlockHash<N, B>, const N: usize, const B: usize>(
     code(&inner, &outer, front, back)
 }
 
-/// HMAC-SHA1 as the sealing of Kerberos calls it: the first 64 bytes of `key` are the key, longer keys are not hashed,
+/// HMAC-SHA1 as the encryption of Kerberos calls it: the first 64 bytes of `key` are the key, longer keys are not hashed,
 /// and the answer has `mac_size` bytes, zeros following the digest's 20.
 pub fn hmac_sha1(
     alloc: Global,
@@ -99,7 +99,7 @@ fn block_of_key<H: BlockHash<N, B>, const N: usize, const B: usize>(key: &[u8]) 
     }
 }
 
-// The bytes and zeros.
+// Adds zeros to the bytes.
 fn filled<const B: usize>(bytes: &[u8]) -> [u8; B]
     requires { length bytes.now ≤ B }
     ensures { result ≡ fitted B bytes.now }

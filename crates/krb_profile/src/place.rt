@@ -5,9 +5,9 @@ ghost use Rattle.std.specs.Prelude.{◌<◌};
 /// A byte of the copies.
 #[derive(Clone, Copy)]
 pub struct Place {
-    /// How many bytes a copy has.
+    /// The count of a copy's bytes.
     pub len: usize,
-    /// Which byte of its copy it is.
+    /// The byte's place in its copy.
     pub index: usize,
     /// The byte of the input in which its bits begin.
     pub byte: usize,
@@ -37,7 +37,7 @@ impl Place {
         }
     }
 
-    /// The place behind this one: in the same copy, or in the next one, which is rotated by 13 bits more.
+    /// The next place: in the same copy, or in the next one, which is rotated by 13 bits more.
     pub fn next(self) -> Place
         ensures len { result.len ≡ self.len }
         ensures at { (p : ℕ) → IsPlace p self → IsPlace (p + 1) result }

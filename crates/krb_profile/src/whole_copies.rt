@@ -4,7 +4,7 @@
 ghost use Rattle.std.specs.Prelude.{◌≡◌, ℕ, ◌+◌, ◌-◌, ◌*◌, ◌/◌, ◌%◌, ◌^◌, ◌<◌, length};
 ghost use Rattle.krb_profile.specs.NFold.{n_fold_of, number_at, residue};
 
-/// How many copies of 40 bits the least common multiple of 40 and 128 has.
+/// The count of copies of 40 bits in the least common multiple of 40 and 128.
 const COPIES: usize = 16;
 
 const TWO_TO_13: u64 = 1 << 13;

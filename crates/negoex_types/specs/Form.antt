@@ -33,7 +33,7 @@ pub record Layout (V : Type 0) : Type 1 where
   pub head : V → ℕ → List ℕ
   pub body : V → ℕ → List ℕ
 
--- what is returned is what was read; memory aside
+-- the call returns what was read, or memory ran out
 abbrev pub Answers : {T V : Type 0} → (T → V) → Answer V → Result T NegoexError → Type 0
 Answers view told result = MatchResult result (λ t. told ≡ Ok (view t)) (λ e. (e.kind ≡ OutOfMemory) ⊎ (told ≡ Err e.kind))
 
@@ -45,12 +45,14 @@ AnswersExactly told result = MatchResult result (λ v. told ≡ Ok v) (λ e. tol
 abbrev pub IsWithin : ℕ → ℕ → Type 0
 IsWithin o n = 0 < n → o + n < 2 ^ 32
 
--- a header and a payload were put behind what was there
+-- a header and a payload were appended to what was there
 pub record IsPut {V : Type 0} (l : Layout V) (v : V) (o : ℕ) (old new data_old data_new : List ℕ) : Type 0 where
   pub header : new ≡ old ++ l.head v o
   pub payload : data_new ≡ data_old ++ l.body v o
   pub within : IsWithin o (l.payload v)
 
--- nothing was put: memory ran out, or the payload ends past 32 bits
+-- Nothing is written if memory ran out, or if the payload ends past 32 bits (InvalidInput) (MS-NEGOEX, section 2.2.6.2). No test: such a
+-- payload has 4 GiB.
+-- Not judged: cbHeaderLength and cbMessageLength, which aren't compared with the bytes. Test: `values` of `negoex.rt`.
 abbrev pub IsTooLong : ℕ → ℕ → NegoexError → Type 0
 IsTooLong o n e = (e.kind ≡ OutOfMemory) ⊎ ((e.kind ≡ InvalidInput) × (2 ^ 32 ≤ o + n))

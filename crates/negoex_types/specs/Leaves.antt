@@ -53,7 +53,7 @@ long_layout = record {
   body = λ _ _. [];
 }
 
--- of these values only the one that fits is read, and for another there is this fault
+-- a number that has to be this one: another is refused by this fault
 abbrev pub judged_layout : ℕ → ErrorKind → Layout ℕ → Layout ℕ
 judged_layout wanted fault l = record {
   width = l.width;
@@ -65,11 +65,11 @@ judged_layout wanted fault l = record {
   body = l.body;
 }
 
--- "NEGOEXTS", the highest byte last
+-- The signature is "NEGOEXTS" (InvalidData) (MS-NEGOEX, section 2.2.6.2). Test: `refused_exchanges` of `negoex.rt`.
 abbrev pub signature_layout : Layout ℕ
 signature_layout = judged_layout 6004521257897772366 InvalidData long_layout
 
--- CHECKSUM_SCHEME_RFC3961
+-- The checksum scheme is CHECKSUM_SCHEME_RFC3961 (InvalidInput) (MS-NEGOEX, section 2.2.5.1.3). Test: `other_refusals` of `negoex.rt`.
 abbrev pub scheme_layout : Layout ℕ
 scheme_layout = judged_layout 1 InvalidInput number_layout
 

@@ -19,7 +19,7 @@ type_number Alert = 7
 abbrev pub all_types : List MessageType
 all_types = InitiatorNego ∷ AcceptorNego ∷ InitiatorMetaData ∷ AcceptorMetaData ∷ Challenge ∷ ApRequest ∷ Verify ∷ Alert ∷ []
 
--- the one of these types with the number
+-- The message type is one of MS-NEGOEX, section 2.2.6.1 (InvalidData). Test: `refused_exchanges` of `negoex.rt`.
 abbrev pub type_among : List MessageType → ℕ → Answer MessageType
 type_among [] n = Err InvalidData
 type_among (t ∷ ts) n = if nat_eq n (type_number t) then Ok t else type_among ts n

@@ -5,12 +5,14 @@ use Rattle.byte_layouts.specs.Parts.{part, Stands}
 use Rattle.byte_layouts.specs.Numbers.{le32, le32_at}
 use Rattle.negoex_types.specs.Form.{Layout, Answer, cut, then_read}
 
--- the elements' headers stand one behind the other from a place on
+-- the elements' headers follow one another from a place on
 abbrev pub AreElements : {V : Type 0} → Layout V → ℕ → List V → List ℕ → Type 0
 AreElements l place [] whole = Unit {0}
 AreElements l place (x ∷ xs) whole = l.IsLaid x (cut place l.width whole) whole × AreElements l (place + l.width) xs whole
 
--- octets 0 to 3 the offset of the elements, 4 to 7 their count; without elements the offset may be any
+-- A vector is the offset of its elements in octets 0 to 3 of the header, their count in 4 to 7, and the elements at the offset. Without
+-- elements the offset may be any (MS-NEGOEX, section 2.2.5.2). Test: `schemes_and_extensions` of `negoex.rt`;
+-- `second_vector_over_first`.
 pub record IsVector {V : Type 0} (l : Layout V) (xs : List V) (header whole : List ℕ) : Type 0 where
   pub size : length header ≡ 8
   pub count : Stands (part 4 (le32 (length xs))) header
@@ -36,6 +38,8 @@ begins_past header whole = nat_lt 0 (le32_at 4 header) && nat_lt (length whole) 
 abbrev pub vector_read : {V : Type 0} → Layout V → List ℕ → List ℕ → Answer (List V)
 vector_read l header whole =
     if nat_lt (length header) 8 then Err UnexpectedEof
+    -- An offset past the message is refused if there are elements (InvalidData), and elements past its end are (UnexpectedEof) (MS-NEGOEX,
+    -- section 2.2.5.2). Test: `refused_exchanges` of `negoex.rt`, `offsets_at_the_end` of `negoex.rt`.
     else if begins_past header whole then Err InvalidData
     else elements_at l (le32_at 4 header) (le32_at 0 header) whole
 
@@ -54,12 +58,12 @@ abbrev pub bodies : {V : Type 0} → Layout V → ℕ → List V → List ℕ
 bodies l place [] = []
 bodies l place (x ∷ xs) = l.body x place ++ bodies l (place + l.payload x) xs
 
--- no elements are at offset 0
+-- A vector without elements is written with offset 0 (MS-NEGOEX, section 2.2.5.2). Test: `offsets_at_the_end` of `negoex.rt`.
 abbrev pub offset_of : {V : Type 0} → List V → ℕ → ℕ
 offset_of [] o = 0
 offset_of (x ∷ xs) o = o
 
--- the place behind the elements' headers
+-- the place after the elements' headers
 abbrev pub behind_heads : {V : Type 0} → Layout V → List V → ℕ → ℕ
 behind_heads l xs o = o + length xs * l.width
 

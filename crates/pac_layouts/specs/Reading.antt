@@ -1,4 +1,4 @@
--- What a PAC's bytes hold, or what is first wrong with them, in the order of the bytes. `stop` says why the bytes end.
+-- The buffers in a PAC's bytes, or the first fault, in the order of the bytes. `stop` says why the bytes end.
 use Rattle.std.specs.Prelude.{◌≡◌, ℕ, zero, suc, ◌+◌, ◌-◌, List, [], ◌∷◌, length, take, drop, Option, Result, Ok, Err, nat_lt, nat_eq, if◌then◌else◌, MatchResult, ◌⊎◌}
 use Rattle.std.specs.declared.io.ErrorKind.{ErrorKind}
 use Rattle.byte_layouts.specs.Numbers.{le32_at, le64_at}
@@ -15,17 +15,20 @@ abbrev pub and_then : {A B : Type 0} → Result A PacError → (A → Result B P
 and_then (Ok a) next = next a
 and_then (Err e) next = Err e
 
--- the answer, seen so, is what is told, or memory ran out
+-- the call returns this value or fault, or memory ran out
 abbrev pub Gives : {A B : Type 0} → (A → B) → Result A PacError → Result B PacError → Type 0
 Gives view result told = MatchResult result (λ a. told ≡ Ok (view a)) (λ e. (e ≡ Memory) ⊎ (told ≡ Err e))
 
--- the count of buffers, behind which the version is 0
+-- the count of buffers
 abbrev pub head_at : Option ErrorKind → List ℕ → Result ℕ PacError
 head_at stop whole =
     if nat_lt (length whole) 8 then Err (short_of stop)
+    -- Version is 0 (MS-PAC, section 2.3). Test: `refusals` of `pac.rt`, `wrong_pacs` of `failing.rt`.
     else if nat_eq (le32_at 4 whole) 0 then Ok (le32_at 0 whole) else Err (InvalidVersion (le32_at 4 whole))
 
 -- the row at this place: first its type, and then all of it
+-- The ulType is known, and is judged before the rest of its PAC_INFO_BUFFER (PacBufferType) (MS-PAC, section 2.4). Test: `refusals` of
+-- `pac.rt`, `wrong_pacs` of `failing.rt`.
 abbrev pub kind_at : Option ErrorKind → ℕ → List ℕ → Result PacBufferType PacError
 kind_at stop place whole = if nat_lt (length whole - place) 4 then Err (short_of stop) else kind_judged (le32_at place whole)
 
@@ -37,16 +40,18 @@ fields_at stop kind place whole =
 abbrev pub info_at : Option ErrorKind → ℕ → List ℕ → Result PacInfoBuffer PacError
 info_at stop place whole = and_then (kind_at stop place whole) (λ kind. fields_at stop kind place whole)
 
--- the content that a row speaks of
+-- the content at the Offset of a PAC_INFO_BUFFER
+-- Not judged: that an Offset is a multiple of 8 (MS-PAC, section 2.4). Test: `ranges` of `pac.rt`.
 abbrev pub content_at : Option ErrorKind → PacInfoBuffer → List ℕ → Result Buffer PacError
 content_at stop info whole =
+    -- A content ends within the bytes (MS-PAC, section 2.4). Test: `ranges` of `pac.rt`, `wrong_pacs` of `failing.rt`.
     if nat_lt (length whole) (info.offset + info.cb_buffer_size) then Err (range_of stop)
     else Ok (record { info = info; content = take info.cb_buffer_size (drop info.offset whole) })
 
 abbrev pub buffer_at : Option ErrorKind → ℕ → List ℕ → Result Buffer PacError
 buffer_at stop place whole = and_then (info_at stop place whole) (λ info. content_at stop info whole)
 
--- so many buffers, whose rows stand from this place on
+-- so many buffers, whose rows begin at this place
 abbrev pub buffers_at : Option ErrorKind → ℕ → ℕ → List ℕ → Result (List Buffer) PacError
 buffers_at stop zero place whole = Ok []
 buffers_at stop (suc n) place whole =

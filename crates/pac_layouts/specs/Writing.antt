@@ -18,7 +18,8 @@ abbrev pub rooms_of : List Buffer → ℕ
 rooms_of [] = 0
 rooms_of (b ∷ bs) = room_of b + rooms_of bs
 
--- how many bytes a PAC with these buffers has
+-- A PAC is written with each content at the caller's Offset, in room for sizes that are rounded up to 8 (MS-PAC, sections 2.3 and 2.4).
+-- Test: `structure_example` of `pac.rt`.
 abbrev pub pac_size : List Buffer → ℕ
 pac_size bs = 8 + rooms_of bs
 
@@ -38,7 +39,7 @@ pac_bytes bs = put_all (pac_parts bs) (replicate (pac_size bs) 0)
 abbrev pub pac_written : List Buffer → Result (List ℕ) PacError
 pac_written bs = and_then (counted (pac_size bs) bs) (λ _. Ok (pac_bytes bs))
 
--- each content lies at n or behind
+-- each content begins at n or after it
 abbrev pub AreBehind : ℕ → List Buffer → Type 0
 AreBehind n [] = Unit {0}
 AreBehind n (b ∷ bs) = (n ≤ b.info.offset) × AreBehind n bs
@@ -46,7 +47,7 @@ AreBehind n (b ∷ bs) = (n ≤ b.info.offset) × AreBehind n bs
 abbrev pub content_part : Buffer → Part
 content_part b = part b.info.offset b.content
 
--- the contents lie behind the table, and apart from each other
+-- the contents follow the table, and don't overlap
 pub record ArePlaced (bs : List Buffer) : Type 0 where
   pub behind : AreBehind (8 + 16 * length bs) bs
   pub apart : AreAllApart (map content_part bs)

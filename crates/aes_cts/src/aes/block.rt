@@ -12,7 +12,7 @@ impl KeySchedule {
     ghost use Rattle.aes_cts.specs.Aes.{aes_cipher};
     ghost use Rattle.aes_cts.specs.Expanded.{IsScheduleOf};
 
-    /// The cipher of a block. Out of line its state stays in four registers, whatever the caller does.
+    /// Encrypts a block. Out of line its state stays in four registers, whatever the caller does.
     #[inline(never)]
     pub fn encrypt_block(&self, block: &[u8; 16]) -> [u8; 16]
         ensures under { (key : List ℕ) → IsScheduleOf self.now key → result ≡ aes_cipher key block.now }
@@ -30,7 +30,7 @@ impl KeySchedule {
 }
 
 impl InverseSchedule {
-    /// The block whose cipher this is, by the equivalent inverse cipher (FIPS 197, section 5.3.5). Out of line as above.
+    /// Decrypts a block by the equivalent inverse cipher (FIPS 197, section 5.3.5). Out of line as above.
     #[inline(never)]
     pub(crate) fn decrypt_block(&self, block: &[u8; 16]) -> [u8; 16]
         ensures is_inverse { result ≡ inv_cipher (schedule_of self.now.keys.rounds self.now.keys.words) self.now.keys.rounds block.now }

@@ -1,4 +1,4 @@
-//! Opening: the chain, and the chain with ciphertext stealing (RFC 3962, section 5).
+//! Decryption: the chain, and the chain with ciphertext stealing (RFC 3962, section 5).
 
 ghost use Rattle.std.specs.Prelude.{◌≡◌, ◌≢◌, ◌-◌, ◌*◌, ◌%◌, ◌<◌, ◌≤◌, ◌++◌, ℕ, List, take, length, vec_len, Err, IsOk, IfOk, IfErr, OnOk};
 ghost use Rattle.aes_cts.specs.Aes.{aes_cipher, aes_inverse, cipher};
@@ -46,8 +46,7 @@ pub fn decrypt_aes_cbc(
     Ok(text)
 }
 
-/// The text whose chain of whole blocks under these round keys this is, with room for the two blocks that stealing
-/// turns.
+/// Decrypts a chain of whole blocks under these round keys, with room for the two blocks that stealing exchanges.
 fn decrypt_chain(alloc: Global, keys: &InverseSchedule, chain: &[u8]) -> Result<Vec<u8>, AllocError>
     requires { length chain.now % 16 ≡ 0 }
     ensures bytes { IfOk result (λ p. IsBytes p.items) }
@@ -105,7 +104,7 @@ pub fn decrypt_aes_cts(
     Ok(text)
 }
 
-/// The text of more than one block that is stolen to this.
+/// Decrypts more than one block with ciphertext stealing.
 fn decrypt_stolen(
     alloc: Global,
     key: &[u8],
@@ -152,7 +151,7 @@ fn last_two_blocks(keys: &InverseSchedule, cipher_data: &[u8], front: usize) -> 
     )
 }
 
-/// What a chain adds to the block after its first `count`: the last of these, or zeros.
+/// The block that a chain adds to the one after its first `count`: the last of these, or zeros.
 fn block_before(chain: &[u8], count: usize) -> [u8; 16]
     requires { 16 * count ≤ length chain.now }
     ensures { result ≡ before 16 chain.now count }

@@ -1,4 +1,4 @@
-//! Sealing: the chain, and the chain with ciphertext stealing (RFC 3962, section 5).
+//! Encryption: the chain, and the chain with ciphertext stealing (RFC 3962, section 5).
 
 ghost use Rattle.std.specs.Prelude.{◌≡◌, ◌≢◌, ◌*◌, ◌%◌, ◌<◌, ◌≤◌, length, vec_len, Err, IfOk, IfErr, OnOk};
 ghost use Rattle.aes_cts.specs.Aes.{aes_cipher, cipher};
@@ -41,7 +41,7 @@ pub fn encrypt_aes_cbc(
     Ok(chain)
 }
 
-/// The chain of a text under these round keys, with zeros added up to whole blocks.
+/// Encrypts a text in a chain under these round keys, with zeros added up to whole blocks.
 fn encrypt_chain(alloc: Global, keys: &KeySchedule, text: &[u8]) -> Result<Vec<u8>, AllocError>
     ensures { IfOk result (λ c. IsChained 16
         (cipher (schedule_of keys.now.rounds keys.now.words) keys.now.rounds) (zero_filled 16 text.now) c.items) }

@@ -73,7 +73,7 @@ impl KeySchedule {
 }
 
 /// The round keys of one key, and beside them those of the middle rounds with their columns unmixed, as the
-/// equivalent inverse cipher wants them.
+/// equivalent inverse cipher requires them.
 #[derive(Drop)]
 pub(crate) struct InverseSchedule {
     pub(crate) keys: KeySchedule,
@@ -118,7 +118,7 @@ fn expand(words: &mut [u32; MOST_WORDS], key_words: usize)
     }
 }
 
-/// What is added to an earlier word to make word `i`, from the word before it.
+/// The word that is added to an earlier one to make word `i`, from the word before it.
 #[inline(always)]
 fn turned_word(key_words: usize, i: usize, previous: u32) -> u32
     requires some { 0 < key_words }
