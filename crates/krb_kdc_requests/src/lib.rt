@@ -9,6 +9,6 @@ mod span;
 pub use call::Call;
 pub use read::{read_as_req, read_tgs_req};
 pub use requests::{
-    account_of, check_header, client_of, lasting, padata_in, service_of, session_key,
+    account_of, body_bytes, check_header, client_of, lasting, padata_in, service_of, session_key,
 };
 pub use span::Span;

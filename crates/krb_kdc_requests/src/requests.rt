@@ -2,7 +2,7 @@
 ghost use Rattle.std.specs.Prelude.{◌≡◌, ◌≤◌, length, IfOk};
 ghost use Rattle.std.specs.Option.{option_copied, option_map};
 ghost use Rattle.krb_accounts.specs.Accounts.{look_in};
-ghost use Rattle.krb_kdc_requests.specs.Requests.{account_of, header_rows, client_of, padata_in, has_refused_option, is_ended, is_postdated, lasting, service_of};
+ghost use Rattle.krb_kdc_requests.specs.Requests.{account_of, body_bytes, header_rows, client_of, padata_in, has_refused_option, is_ended, is_postdated, lasting, service_of};
 ghost use Rattle.krb_tickets.specs.Parts.{session_key_of};
 ghost use Rattle.krb_types.specs.Refusals.{IsJudged};
 ghost use Rattle.asn1_leaves.specs.GeneralizedTime.{seconds_of};
@@ -22,6 +22,7 @@ use krb_types::{Refusal, is_same_realm};
 use picky_asn1::date::GeneralizedTime;
 use picky_asn1::is_number;
 use picky_asn1::wrapper::{BitStringAsn1, GeneralStringAsn1, OctetStringAsn1};
+use picky_asn1_der::to_vec;
 use std::alloc::{AllocError, Global};
 
 /// Judges whether a request is of this message type and to this realm, and its options.
@@ -92,6 +93,17 @@ pub fn account_of<'a>(accounts: &'a Accounts, name: Option<&PrincipalName>) -> O
         return None;
     };
     accounts.get(name.name_string.0.as_slice())
+}
+
+/// The DER of the KDC-REQ-BODY.
+#[tactic(auto, unfolding(crate::specs::Requests::body_bytes))]
+pub fn body_bytes(alloc: Global, body: &KdcReqBody) -> Result<Vec<u8>, AllocError>
+    ensures { IfOk result (λ bytes. bytes.items ≡ body_bytes body.now) }
+{
+    let Ok(bytes) = to_vec(alloc, body) else {
+        return Err(AllocError);
+    };
+    Ok(bytes)
 }
 
 /// The padata of a request.

@@ -8,12 +8,12 @@ ghost use Rattle.krb_types.specs.Refusals.{IsJudged};
 
 use krb_constants::{error_codes, key_usages};
 use krb_crypto::{ChecksumSuite, Cipher, Key};
+use krb_kdc_requests::body_bytes;
 use krb_messages::messages::KdcReqBody;
 use krb_types::Refusal;
 use krb_types::data_types::{AuthenticatorInner, Checksum};
 use picky_asn1::is_number;
 use picky_asn1::wrapper::IntegerAsn1;
-use picky_asn1_der::to_vec;
 use std::alloc::{AllocError, Global};
 
 /// Judges whether an authenticator covers the request's body: by the checksum of the session's suite, under the session's
@@ -76,15 +76,4 @@ fn is_of_body(
         &bytes,
     )?;
     Ok(checksum.checksum.0.as_bytes() == sum.as_slice())
-}
-
-// The body's one encoding.
-#[tactic(auto, unfolding(crate::specs::TgsTable::body_bytes))]
-fn body_bytes(alloc: Global, body: &KdcReqBody) -> Result<Vec<u8>, AllocError>
-    ensures { IfOk result (λ bytes. bytes.items ≡ body_bytes body.now) }
-{
-    let Ok(bytes) = to_vec(alloc, body) else {
-        return Err(AllocError);
-    };
-    Ok(bytes)
 }

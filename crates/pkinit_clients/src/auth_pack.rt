@@ -4,10 +4,11 @@ ghost use Rattle.sha1.specs.Sha1.{sha1};
 ghost use Rattle.krb_kdc_requests.specs.Requests.{body_bytes};
 ghost use Rattle.pkinit_clients.specs.AuthPacks.{auth_pack_bytes, auth_pack_of, authenticator_of};
 
+use krb_kdc_requests::body_bytes;
 use krb_messages::messages::KdcReqBody;
 use picky_asn1::date::GeneralizedTime;
 use picky_asn1::wrapper::{GeneralizedTimeAsn1, IntegerAsn1, OctetStringAsn1};
-use picky_asn1_der::{Asn1RawDer, ExplicitContextTag, Optional, encoding_of, to_vec};
+use picky_asn1_der::{Asn1RawDer, ExplicitContextTag, Optional, encoding_of};
 use pkinit_messages::{AuthPack, PkAuthenticator};
 use result_pairs::both;
 use sha1::Sha1;
@@ -63,15 +64,4 @@ fn checksum_of(alloc: Global, body: &KdcReqBody) -> Result<OctetStringAsn1, Allo
     let digest = Sha1::digest(&bytes);
     let octets = Vec::from_slice(alloc, digest.as_slice())?;
     Ok(OctetStringAsn1::from(octets))
-}
-
-// The DER of the KDC-REQ-BODY.
-#[tactic(auto, unfolding(krb_kdc_requests::specs::Requests::body_bytes))]
-fn body_bytes(alloc: Global, body: &KdcReqBody) -> Result<Vec<u8>, AllocError>
-    ensures { IfOk result (λ bytes. bytes.items ≡ body_bytes body.now) }
-{
-    let Ok(bytes) = to_vec(alloc, body) else {
-        return Err(AllocError);
-    };
-    Ok(bytes)
 }
