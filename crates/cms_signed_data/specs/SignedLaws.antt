@@ -13,6 +13,7 @@ use Rattle.cms_signed_data.specs.declared.fault.SignedFault.{SignedFault}
 use Rattle.cms_signed_data.specs.declared.fault.SignedFault.TheVariants.{Memory}
 use Rattle.cms_signed_data.specs.SignedParts.{SignedParts, content_of, digest_of, signature_of, attributes_tree}
 use Rattle.cms_signed_data.specs.SignedContents.{IsSignedContent, Reads}
+use Rattle.asn1_der.specs.Octets.{octet_string_octet}
 
 module _ (bytes : List ℕ) (parts : SignedParts) (is : IsSignedContent bytes parts) where
   -- the certificate's bytes are a spelling of the value's certificate
@@ -30,13 +31,13 @@ module _ (bytes : List ℕ) (parts : SignedParts) (is : IsSignedContent bytes pa
       part-one attributes_place bytes parts.signed_attributes held.inner is.attributes_at (part_there bytes held.inner attributes_place held.leads) ∙ held.is.0.1
 
   -- the octets of content, digest and signature are in the bytes
-  pub content_there : IsPart bytes content_place (element 4 (content_of parts.info))
+  pub content_there : IsPart bytes content_place (element octet_string_octet (content_of parts.info))
   content_there = (parts_held parts.info bytes is.form.0.0 is.form.0.1).content_at
 
-  pub digest_there : IsPart bytes digest_place (element 4 (digest_of parts.info))
+  pub digest_there : IsPart bytes digest_place (element octet_string_octet (digest_of parts.info))
   digest_there = (parts_held parts.info bytes is.form.0.0 is.form.0.1).digest_at
 
-  pub signature_there : IsPart bytes signature_place (element 4 (signature_of parts.info))
+  pub signature_there : IsPart bytes signature_place (element octet_string_octet (signature_of parts.info))
   signature_there = (parts_held parts.info bytes is.form.0.0 is.form.0.1).signature_at
 
 -- bytes are one signed content

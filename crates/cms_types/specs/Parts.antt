@@ -17,7 +17,7 @@ use Rattle.cms_types.specs.contracts.form.ContentInfoOfForm.TheImpl as of_form
 use Rattle.cms_types.specs.PartSpellings.{PartSpellings}
 use Rattle.cms_types.specs.SignedRows.{signer_row, signed_row, content_row}
 use Rattle.cms_types.specs.SpelledElements.{SpellsElements, Ends, Row, Found, ended, held_are, row_some, row_front, row_behind, found_on, alone_in, second_in}
-use Rattle.asn1_der.specs.Octets.{octet_string_octet, sequence_octet}
+use Rattle.asn1_der.specs.Octets.{octet_string_octet, sequence_octet, set_octet}
 
 -- paths from the ContentInfo: to the OCTET STRING eContent, to the certificate, and to the signed attributes. Then to the OCTET
 -- STRINGs of message-digest and of signature.
@@ -49,7 +49,7 @@ module _ {V I D A G S : Type 0} (v_spells : V → List ℕ → ℕ → Type 0) (
     (d_spells : D → List ℕ → ℕ → Type 0) (d_are : SpellsElements d_spells) (a_spells : A → List ℕ → ℕ → Type 0) (a_are : SpellsElements a_spells)
     (g_spells : G → List ℕ → ℕ → Type 0) (g_are : SpellsElements g_spells) (s_spells : S → List ℕ → ℕ → Type 0) (s_are : SpellsElements s_spells)
     (f : V × (I × (D × (A × (G × (S × ⊤)))))) (b : List ℕ) (n : ℕ)
-    (s : Holds 48 (Row v_spells (Row i_spells (Row d_spells (Row a_spells (Row g_spells (Row s_spells Ends)))))) f b n) where
+    (s : Holds sequence_octet (Row v_spells (Row i_spells (Row d_spells (Row a_spells (Row g_spells (Row s_spells Ends)))))) f b n) where
   abbrev s0 : Row v_spells (Row i_spells (Row d_spells (Row a_spells (Row g_spells (Row s_spells Ends))))) f s.0 n
   s0 = s.1
 
@@ -79,7 +79,7 @@ module _ {V I D A G S : Type 0} (v_spells : V → List ℕ → ℕ → Type 0) (
 
   behind_2 : (k : ℕ) (inner : List ℕ) → LeadsIn s2.0 k inner → LeadsTo b (suc (suc (suc k)) ∷ []) inner
   behind_2 k inner at =
-      in_element 48 s.0 b refl s.2 (suc (suc (suc k))) inner
+      in_element sequence_octet s.0 b refl s.2 (suc (suc (suc k))) inner
       (row_behind v_spells v_are (Row i_spells (Row d_spells (Row a_spells (Row g_spells (Row s_spells Ends))))) f s.0 n s0 (suc (suc k)) inner
       (row_behind i_spells i_are (Row d_spells (Row a_spells (Row g_spells (Row s_spells Ends)))) f.1 s0.0 s0.2 s1 (suc k) inner
       (row_behind d_spells d_are (Row a_spells (Row g_spells (Row s_spells Ends))) f.1.1 s1.0 s1.2 s2 k inner at)))
@@ -108,7 +108,7 @@ module _ {V I D A G S : Type 0} (v_spells : V → List ℕ → ℕ → Type 0) (
 module _ {V D E C T : Type 0} (v_spells : V → List ℕ → ℕ → Type 0) (v_are : SpellsElements v_spells) (d_spells : D → List ℕ → ℕ → Type 0) (d_are : SpellsElements d_spells)
     (e_spells : E → List ℕ → ℕ → Type 0) (e_are : SpellsElements e_spells) (c_spells : C → List ℕ → ℕ → Type 0) (c_are : SpellsElements c_spells)
     (t_spells : T → List ℕ → ℕ → Type 0) (t_are : SpellsElements t_spells)
-    (f : V × (D × (E × (C × (T × ⊤))))) (b : List ℕ) (n : ℕ) (s : Holds 48 (Row v_spells (Row d_spells (Row e_spells (Row c_spells (Row t_spells Ends))))) f b n) where
+    (f : V × (D × (E × (C × (T × ⊤))))) (b : List ℕ) (n : ℕ) (s : Holds sequence_octet (Row v_spells (Row d_spells (Row e_spells (Row c_spells (Row t_spells Ends))))) f b n) where
   abbrev r0 : Row v_spells (Row d_spells (Row e_spells (Row c_spells (Row t_spells Ends)))) f s.0 n
   r0 = s.1
 
@@ -135,7 +135,7 @@ module _ {V D E C T : Type 0} (v_spells : V → List ℕ → ℕ → Type 0) (v_
 
   behind_1 : (k : ℕ) (inner : List ℕ) → LeadsIn r1.0 k inner → LeadsTo b (suc (suc k) ∷ []) inner
   behind_1 k inner at =
-      in_element 48 s.0 b refl s.2 (suc (suc k)) inner
+      in_element sequence_octet s.0 b refl s.2 (suc (suc k)) inner
       (row_behind v_spells v_are (Row d_spells (Row e_spells (Row c_spells (Row t_spells Ends)))) f s.0 n r0 (suc k) inner
       (row_behind d_spells d_are (Row e_spells (Row c_spells (Row t_spells Ends))) f.1 r0.0 r0.2 r1 k inner at))
 
@@ -173,25 +173,25 @@ module _ {V D E C T : Type 0} (v_spells : V → List ℕ → ℕ → Type 0) (v_
 -- signed data by the spellings of its parts
 module _ (p : PartSpellings) where
   abbrev pub IsSignerInfo : SignerInfo → List ℕ → ℕ → Type 0
-  IsSignerInfo v = Holds 48 (Row p.version (Row p.sid (Row p.digest_algorithm (Row p.attributes (Row p.algorithm (Row p.octets Ends)))))) (signer_row v)
+  IsSignerInfo v = Holds sequence_octet (Row p.version (Row p.sid (Row p.digest_algorithm (Row p.attributes (Row p.algorithm (Row p.octets Ends)))))) (signer_row v)
 
   abbrev pub AreDigests : SetOfOne RawAlgorithmIdentifier → List ℕ → ℕ → Type 0
-  AreDigests v = Holds 49 p.digest_algorithm v.0
+  AreDigests v = Holds set_octet p.digest_algorithm v.0
 
   abbrev pub AreCertificates : Explicit 0 Certificate → List ℕ → ℕ → Type 0
   AreCertificates v = Holds 160 p.certificate v.0
 
   abbrev pub AreSigners : SetOfOne SignerInfo → List ℕ → ℕ → Type 0
-  AreSigners v = Holds 49 IsSignerInfo v.0
+  AreSigners v = Holds set_octet IsSignerInfo v.0
 
   abbrev pub IsSignedData : SignedData → List ℕ → ℕ → Type 0
-  IsSignedData v = Holds 48 (Row p.version (Row AreDigests (Row p.encapsulated (Row AreCertificates (Row AreSigners Ends))))) (signed_row v)
+  IsSignedData v = Holds sequence_octet (Row p.version (Row AreDigests (Row p.encapsulated (Row AreCertificates (Row AreSigners Ends))))) (signed_row v)
 
   abbrev pub IsTagged : Explicit 0 SignedData → List ℕ → ℕ → Type 0
   IsTagged v = Holds 160 IsSignedData v.0
 
   abbrev pub IsContentInfo : ContentInfo → List ℕ → ℕ → Type 0
-  IsContentInfo v = Holds 48 (Row p.oid (Row IsTagged Ends)) (content_row v)
+  IsContentInfo v = Holds sequence_octet (Row p.oid (Row IsTagged Ends)) (content_row v)
 
   pub signer_are : SpellsElements IsSignerInfo
   signer_are v b n s = (sequence_octet, s.0, refl, s.2)
@@ -200,13 +200,13 @@ module _ (p : PartSpellings) where
   signed_are v b n s = (sequence_octet, s.0, refl, s.2)
 
   pub digests_are : SpellsElements AreDigests
-  digests_are = held_are p.digest_algorithm 49 refl (λ w. w.0)
+  digests_are = held_are p.digest_algorithm set_octet refl (λ w. w.0)
 
   pub certificates_are : SpellsElements AreCertificates
   certificates_are = held_are p.certificate 160 refl (λ w. w.0)
 
   pub signers_are : SpellsElements AreSigners
-  signers_are = held_are IsSignerInfo 49 refl (λ w. w.0)
+  signers_are = held_are IsSignerInfo set_octet refl (λ w. w.0)
 
   pub tagged_are : SpellsElements IsTagged
   tagged_are = held_are IsSignedData 160 refl (λ w. w.0)
@@ -239,7 +239,7 @@ module _ (p : PartSpellings) where
 
     signer_in : Found (IsSignerInfo signer) signed_at.inner (4 ∷ 0 ∷ [])
     signer_in =
-        alone_in IsSignerInfo signer_are 49 refl signer signed_at.inner (4 ∷ [])
+        alone_in IsSignerInfo signer_are set_octet refl signer signed_at.inner (4 ∷ [])
         (signers_in p.version p.version_are AreDigests digests_are p.encapsulated p.encapsulated_are AreCertificates certificates_are AreSigners signers_are
         (signed_row signs) signed_at.inner signed_at.count signed_at.is)
 

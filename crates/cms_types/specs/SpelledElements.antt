@@ -8,6 +8,7 @@ use Rattle.asn1_elements.specs.Raw.{has_low_number}
 use Rattle.asn1_elements.specs.PathLaws.{IsElement, AreSome, LeadsTo, LeadsIn, in_element, some_more, at_front, behind_front, at_alone, go_on}
 use Rattle.x509_spelling.specs.Spellings.{has_low_tag, Leads, IsEnd, Joins, Holds}
 use Rattle.x509_spelling.specs.Laws.{SpellingLaws}
+use Rattle.asn1_der.specs.Octets.{sequence_octet}
 
 -- each spelling is an element, whose tag is in one octet
 abbrev pub SpellsElements : {T : Type 0} → (T → List ℕ → ℕ → Type 0) → Type 0
@@ -81,7 +82,7 @@ alone_in spells are first low v bytes path found =
 
 -- the second of two fields is the element number 1
 pub second_in : {A B : Type 0} (a_spells : A → List ℕ → ℕ → Type 0) → SpellsElements a_spells → (b_spells : B → List ℕ → ℕ → Type 0) → SpellsElements b_spells
-    → (f : A × (B × ⊤)) (b : List ℕ) (n : ℕ) → Holds 48 (Row a_spells (Row b_spells Ends)) f b n → Found (b_spells f.1.0) b (1 ∷ [])
+    → (f : A × (B × ⊤)) (b : List ℕ) (n : ℕ) → Holds sequence_octet (Row a_spells (Row b_spells Ends)) f b n → Found (b_spells f.1.0) b (1 ∷ [])
 second_in a_spells a_are b_spells b_are f b n s =
     let r0 = s.1 in
     let r1 = r0.4 in
@@ -90,7 +91,7 @@ second_in a_spells a_are b_spells b_are f b n s =
       count = r1.1;
       is = r1.3.1;
       leads =
-          in_element 48 s.0 b refl s.2 1 r1.3.0
+          in_element sequence_octet s.0 b refl s.2 1 r1.3.0
           (row_behind a_spells a_are (Row b_spells Ends) f s.0 n r0 0 r1.3.0
           (row_front b_spells b_are Ends f.1 r0.0 r0.2 r1 (ended f.1.1 r1.0 r1.2 r1.4)));
     }

@@ -39,7 +39,7 @@ impl<T: Serialize> Serialize for SetOfOne<T> {
         in alike-part T.seen v w (λ value. value.0) (λ held. record { 0 = held }) (λ value. refl) same };
 
     fn serialize<W: Sink>(&self, to: &mut Serializer<W>) -> Result<usize, Asn1DerError> {
-        to.wrapped(49, &self.0)
+        to.wrapped(SET, &self.0)
     }
 }
 
@@ -49,7 +49,7 @@ impl<T: Deserialize + Drop> Deserialize for SetOfOne<T> {
     }
 
     fn deserialize<R: Source>(from: &mut Deserializer<R>) -> Result<Self, Asn1DerError> {
-        let value = from.wrapped(49)?;
+        let value = from.wrapped(SET)?;
         Ok(SetOfOne(value))
     }
 }
@@ -75,7 +75,7 @@ impl<T: Spelled> Spelled for SetOfOne<T> {
     }
 
     fn read_counted(alloc: Global, bytes: &[u8]) -> Result<Counted<Self>, X509Fault> {
-        let read = read_held::<T>(alloc, 49, bytes)?;
+        let read = read_held::<T>(alloc, SET, bytes)?;
         let count = read.count;
         let value = SetOfOne(read.into_value());
         Ok(Counted { value, count })

@@ -2,11 +2,13 @@
 //! holds of every honest one.
 #![tactic(auto)]
 
+mod granting;
 mod honest;
 mod input;
 pub mod laws;
 mod refusal;
 
+pub use granting::granting_service;
 pub use honest::{is_honest, is_honest_by_key};
 pub use input::{LoginInput, LoginMoments};
 pub use refusal::LoginRefusal;

@@ -1,8 +1,6 @@
 //! Whole logins.
 ghost use Rattle.std.specs.Prelude.{◌≡◌, ◌≤◌, List, length, IfOk, Result};
 ghost use Rattle.picky_asn1.specs.Bytes.{Bytes};
-ghost use Rattle.krb_accounts.specs.Names.{parts};
-ghost use Rattle.krb_types.specs.TicketGranting.{krbtgt_of};
 ghost use Rattle.krb_logins.specs.Input.{login_of};
 ghost use Rattle.krb_logins.specs.Honest.{AreEnough, IsHonestByPassword, IsOneKey};
 ghost use Rattle.krb_logins.specs.LoginRun.{ApExchange, AsExchange, Exchanges, Login, LoginRun, TgsExchange};
@@ -24,12 +22,11 @@ use krb_client::{ApAsked, AsAsked, AskRefusal, Credential, Means, TakeRefusal, T
 use krb_encrypted_data::encryption_key;
 use krb_kdc::Realm;
 use krb_logins::laws::one_key_by_password;
-use krb_logins::{LoginInput, LoginRefusal};
+use krb_logins::{LoginInput, LoginRefusal, granting_service};
 use krb_service::{Admission, Service};
 use krb_time::Moment;
 use krb_types::data_types::EncryptionKey;
-use krb_types::krbtgt;
-use picky_asn1::wrapper::{GeneralStringAsn1, OctetStringAsn1};
+use picky_asn1::wrapper::OctetStringAsn1;
 use pkinit_logins::laws::one_key_by_certificate;
 use std::alloc::{AllocError, Global};
 
@@ -301,16 +298,6 @@ fn ask_as<M: Means>(
         Ok(sent) => Ok(sent),
         Err(refusal) => Err(LoginRefusal::Asked(refusal)),
     }
-}
-
-// The components of a realm's ticket-granting service (RFC 4120, section 7.3).
-fn granting_service(alloc: Global, realm: &GeneralStringAsn1) -> Result<Vec<Vec<u8>>, AllocError>
-    ensures { IfOk result (λ name. parts name.items ≡ krbtgt_of realm.now) }
-{
-    let first = Vec::from_slice(alloc, krbtgt())?;
-    let second = Vec::from_slice(alloc, realm.as_bytes())?;
-    let name = vec![in alloc; first, second]?;
-    Ok(name)
 }
 
 // By a ticket it asks for a further one.

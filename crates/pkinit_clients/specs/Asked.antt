@@ -3,14 +3,9 @@ use Rattle.std.specs.Prelude.{ℕ}
 use Rattle.picky_asn1.specs.Bytes.{Bytes}
 use Rattle.krb_time.specs.Units.{Micros}
 use Rattle.krb_types.specs.TicketGranting.{krbtgt_of}
-use Rattle.krb_types.specs.RandomBytes.{Random, random_part}
 use Rattle.pkinit_trust.specs.Anchors.{AnchorRecord}
 use Rattle.pkinit_trust.specs.Expected.{ExpectedRecord}
 use Rattle.pkinit_clients.specs.declared.asked.PkinitAsked as held
-
--- the random bytes of the client's agreement among those of its request
-abbrev pub client_agreement_bytes : Random → Bytes
-client_agreement_bytes = random_part 32 64
 
 -- the client's realm and its anchor; the moment, the nonce, and the random bytes of the agreement
 pub record PkinitAskedRecord : Type 0 where

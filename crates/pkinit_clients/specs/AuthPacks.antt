@@ -1,10 +1,11 @@
 -- What a client signs to authenticate by certificate (RFC 4556, section 3.2.1).
-use Rattle.std.specs.Prelude.{ℕ, None, Some, List, [], ◌∷◌, pos}
+use Rattle.std.specs.Prelude.{ℕ, None, Some, List, pos}
 use Rattle.sha1.specs.Sha1.{sha1}
 use Rattle.asn1_leaves.specs.declared.date.GeneralizedTime.{GeneralizedTime}
 use Rattle.asn1_der.specs.Tree.{der}
 use Rattle.asn1_elements.specs.Raw.{Raw}
 use Rattle.picky_asn1.specs.Bytes.{Bytes}
+use Rattle.x509_oids.specs.Identifiers as oids
 use Rattle.krb_time.specs.Units.{Micros}
 use Rattle.krb_messages.specs.declared.messages.kdc_req_body.KdcReqBody.{KdcReqBody}
 use Rattle.krb_messages.specs.Bodies.{body_bytes}
@@ -12,9 +13,9 @@ use Rattle.pkinit_messages.specs.declared.auth_pack.AuthPack.{AuthPack}
 use Rattle.pkinit_messages.specs.declared.pk_authenticator.PkAuthenticator.{PkAuthenticator}
 use Rattle.pkinit_clients.specs.contracts.encoding.Asn1RawDerAuthPackTree.TheImpl as pack_impl
 
--- id-pkinit-authData, 1.3.6.1.5.2.3.1
+-- id-pkinit-authData, the type of an AuthPack as signed content
 abbrev pub auth_data : List ℕ
-auth_data = 1 ∷ 3 ∷ 6 ∷ 1 ∷ 5 ∷ 2 ∷ 3 ∷ 1 ∷ []
+auth_data = oids.pkinit_auth_data
 
 -- PKAuthenticator has cusec and ctime of the client's time, the body's nonce, and as paChecksum the SHA-1 digest of the body (RFC 4556,
 -- section 3.2.1). Test: `a@R for h, test`, `f@R for h, test` of `pkinit_steps.txt`.

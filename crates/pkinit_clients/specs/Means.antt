@@ -4,6 +4,7 @@ use Rattle.std.specs.Option.{option_map_or}
 use Rattle.std.proofs.Common.{ap, sym, ◌∙◌}
 use Rattle.picky_asn1.specs.Bytes.{Bytes}
 use Rattle.krb_time.specs.Units.{Micros}
+use Rattle.krb_constants.specs.declared.padata_types.TheConstants.{PA_PK_AS_REP, PA_PK_AS_REQ}
 use Rattle.krb_types.specs.RandomBytes.{Random}
 use Rattle.krb_types.specs.declared.data_types.pa_data.PaData.{PaData}
 use Rattle.krb_messages.specs.declared.messages.kdc_rep.KdcRep.{KdcRep}
@@ -11,7 +12,7 @@ use Rattle.krb_messages.specs.declared.messages.kdc_req_body.KdcReqBody.{KdcReqB
 use Rattle.krb_crypto.specs.Keys.{KeyRecord}
 use Rattle.krb_crypto.specs.AgreedKeys.{agreed_key}
 use Rattle.krb_tickets.specs.Padata.{first_of}
-use Rattle.krb_client.specs.Asked.{AsAskedRecord}
+use Rattle.krb_client.specs.Asked.{AsAskedRecord, agreement_part}
 use Rattle.krb_client.specs.Client.{ClientRecord}
 use Rattle.krb_client.specs.Means.{MeansRecord}
 use Rattle.krb_client.specs.Requests.{pa_data_of}
@@ -20,28 +21,28 @@ use Rattle.krb_client.specs.declared.refusal.TakeRefusal.TheVariants.{NotTrusted
 use Rattle.decision_tables.specs.Tables.{Table, and_then_told, done, need}
 use Rattle.key_functions.specs.KeyFunctions.{KeysRecord}
 use Rattle.pkinit_trust.specs.Anchors.{AnchorRecord}
-use Rattle.pkinit_clients.specs.Asked.{PkinitAskedRecord, client_agreement_bytes}
+use Rattle.pkinit_clients.specs.Asked.{PkinitAskedRecord}
 use Rattle.pkinit_clients.specs.Replies.{secret_of}
 use Rattle.pkinit_clients.specs.Requests.{IsNoPkAsReq, IsPkAsReqOf, sole_pk_as_req}
 
 -- the padata is PA-PK-AS-REQ for a request with this body, at the moment (RFC 4556, section 3.1.3)
 pub record IsPkinitPadata (keys : KeysRecord) (certificate : Bytes) (body : KdcReqBody) (moment : Micros) (words : Random) (padata : PaData) : Type 0 where
   pub value : Bytes
-  pub is_request : IsPkAsReqOf keys certificate body moment (client_agreement_bytes words) value
-  pub made : padata ≡ pa_data_of 16 value
+  pub is_request : IsPkAsReqOf keys certificate body moment (agreement_part words) value
+  pub made : padata ≡ pa_data_of PA_PK_AS_REQ value
 
 pub sole_pkinit_padata : (keys : KeysRecord) (certificate : Bytes) (body : KdcReqBody) (moment : Micros) (words : Random) (a b : PaData)
     → IsPkinitPadata keys certificate body moment words a → IsPkinitPadata keys certificate body moment words b → a ≡ b
 sole_pkinit_padata keys certificate body moment words a b x y =
-    x.made ∙ ap (pa_data_of 16) (sole_pk_as_req keys certificate body moment (client_agreement_bytes words) x.value y.value x.is_request y.is_request) ∙ sym y.made
+    x.made ∙ ap (pa_data_of PA_PK_AS_REQ) (sole_pk_as_req keys certificate body moment (agreement_part words) x.value y.value x.is_request y.is_request) ∙ sym y.made
 
 -- the client has no padata PA-PK-AS-REQ
 abbrev pub IsNoPkinitPadata : KeysRecord → Bytes → KdcReqBody → Micros → Random → Type 0
-IsNoPkinitPadata keys certificate body moment words = IsNoPkAsReq keys certificate body moment (client_agreement_bytes words)
+IsNoPkinitPadata keys certificate body moment words = IsNoPkAsReq keys certificate body moment (agreement_part words)
 
 -- the padata-value of the first padata PA-PK-AS-REP of a reply (RFC 4556, section 3.1.3)
 abbrev pub pk_as_rep_in : KdcRep → Option Bytes
-pk_as_rep_in reply = first_of 17 (option_map_or (λ tagged. tagged.0) reply.padata.0 [])
+pk_as_rep_in reply = first_of PA_PK_AS_REP (option_map_or (λ tagged. tagged.0) reply.padata.0 [])
 
 -- what a client with this anchor remembers of what it asked
 abbrev pub pkinit_asked : AnchorRecord → ClientRecord → AsAskedRecord → PkinitAskedRecord

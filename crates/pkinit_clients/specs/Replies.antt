@@ -1,9 +1,10 @@
 -- What a client makes of a reply by certificate, in parts of one table: the first case that holds counts (RFC 4556, section 3.2.4).
-use Rattle.std.specs.Prelude.{Bool, not, Option, None, Some, [], ◌∷◌, Result, Ok, Err}
+use Rattle.std.specs.Prelude.{◌≡◌, Bool, not, Option, None, Some, Result, Ok, Err, refl}
 use Rattle.std.specs.Bool.{nat_eq}
 use Rattle.std.specs.Cmp.Lexicographic.{pointwise}
 use Rattle.std.proofs.Common.{sym, ◌∙◌}
-use Rattle.asn1_leaves.specs.ObjectIdentifier.{oid_content}
+use Rattle.asn1_leaves.specs.ObjectIdentifier.{oid_content, subidentifier}
+use Rattle.x509_oids.specs.Identifiers as oids
 use Rattle.asn1_der.specs.Tree.{Writes}
 use Rattle.asn1_der.specs.Tagged.{tagged_tree}
 use Rattle.asn1_der.proofs.Tagged.{tagged-injective}
@@ -29,6 +30,7 @@ use Rattle.pkinit_clients.specs.Faults.{Secret}
 use Rattle.pkinit_clients.specs.declared.fault.ReplyFault.{ReplyFault}
 use Rattle.pkinit_clients.specs.declared.fault.ReplyFault.TheVariants.{NotTrusted}
 use Rattle.asn1_der.specs.Octets.{sequence_octet}
+use Rattle.pkinit_clients.specs.declared.reply.TheConstants.{DH_KEY_DATA}
 
 -- The bytes are the one DER encoding of this PA-PK-AS-REP.
 unfoldable pub IsPaPkAsRep : Bytes → PaPkAsRep → Type 0
@@ -45,15 +47,16 @@ IsKdcDhKeyInfo bytes info = Writes (tagged_tree sequence_octet info_impl.ghosts.
 pub sole_kdc_dh_key_info : (bytes : Bytes) → IsSole (IsKdcDhKeyInfo bytes)
 unfolding IsKdcDhKeyInfo
 sole_kdc_dh_key_info bytes v w p q =
-    tagged-injective 48 info_impl.ghosts.row_tree info_impl.ghosts.row_laws info_impl.ghosts.row_of info_impl.ghosts.one_row v w p.0 q.0 (sym p.1 ∙ q.1)
+    tagged-injective sequence_octet info_impl.ghosts.row_tree info_impl.ghosts.row_laws info_impl.ghosts.row_of info_impl.ghosts.one_row v w p.0 q.0 (sym p.1 ∙ q.1)
 
--- the content octets of id-pkinit-DHKeyData, 1.3.6.1.5.2.3.2
-abbrev pub dh_key_octets : Bytes
-dh_key_octets = 0x2B ∷ 0x06 ∷ 0x01 ∷ 0x05 ∷ 0x02 ∷ 0x03 ∷ 0x02 ∷ []
+-- DH_KEY_DATA has the content octets of id-pkinit-DHKeyData
+pub dh_key_data-is : oid_content oids.pkinit_dhkey_data ≡ DH_KEY_DATA
+unfolding oid_content subidentifier
+dh_key_data-is = refl
 
 -- The eContentType is id-pkinit-DHKeyData.
 abbrev pub is_dh_key_data : SignedParts → Bool
-is_dh_key_data content = pointwise nat_eq (oid_content content.info.content.0.encap_content_info.content_type.0) dh_key_octets
+is_dh_key_data content = pointwise nat_eq (oid_content content.info.content.0.encap_content_info.content_type.0) DH_KEY_DATA
 
 -- The octets of dhSignedData, where PA-PK-AS-REP has dhInfo.
 -- Ignored: serverDHNonce, since the client sends no clientDHNonce (RFC 4556, section 3.2.3.1).

@@ -14,7 +14,7 @@ mod request;
 mod signed;
 mod signer;
 
-pub use asked::{PkinitAsked, agreement_words};
+pub use asked::PkinitAsked;
 pub use fault::ReplyFault;
 pub use means::ByCertificate;
 pub use reply::secret_of;

@@ -7,13 +7,13 @@ ghost use Rattle.pkinit_clients.specs.Faults.{IsTakenAs, as_secret};
 ghost use Rattle.pkinit_clients.specs.Means.{IsNoPkinitPadata, IsPkinitPadata, key_in, pk_as_rep_in, pkinit_asked, reply_key};
 ghost use Rattle.pkinit_clients.specs.Replies.{secret_of};
 
-use crate::asked::{PkinitAsked, agreement_words};
+use crate::asked::PkinitAsked;
 use crate::fault::ReplyFault;
 use crate::reply::secret_of;
 use crate::request::pk_as_req;
 use key_functions::KeyFunctions;
-use krb_client::{AsAsked, AskRefusal, Client, Means, TakeRefusal};
-use krb_constants::padata_types::PA_PK_AS_REQ;
+use krb_client::{AsAsked, AskRefusal, Client, Means, TakeRefusal, agreement_part};
+use krb_constants::padata_types::{PA_PK_AS_REP, PA_PK_AS_REQ};
 use krb_crypto::Key;
 use krb_crypto::diffie_hellman::agreed_key;
 use krb_messages::messages::{KdcRep, KdcReqBody};
@@ -24,9 +24,6 @@ use picky_asn1::wrapper::{IntegerAsn1, OctetStringAsn1};
 use picky_asn1_der::ExplicitContextTag;
 use pkinit_trust::Anchor;
 use std::alloc::{AllocError, Global};
-
-/// The padata type PA-PK-AS-REP (RFC 4556, section 3.1.3).
-const PA_PK_AS_REP: u32 = 17;
 
 /// The means of a client that authenticates by certificate (RFC 4556, section 3.1): the padata is PA-PK-AS-REQ, and the reply is
 /// encrypted under the key that both agree on.
@@ -80,7 +77,7 @@ fn pkinit_padata<K: KeyFunctions>(
     ensures refusal { IfErr result (λ refusal. (refusal ≡ AskRefusal.Memory)
         ⊎ ((refusal ≡ AskRefusal.NoKeyFunction) × IsNoPkinitPadata (K.functions keys.now) certificate.now body.now moment words.now)) }
 {
-    let agreement = agreement_words(words);
+    let agreement = agreement_part(words);
     let made = pk_as_req(alloc, keys, certificate, body, moment, agreement)?;
     let Some(value) = made else {
         return Err(AskRefusal::NoKeyFunction);
@@ -91,7 +88,7 @@ fn pkinit_padata<K: KeyFunctions>(
 
 // The padata PA-PK-AS-REQ with this padata-value.
 fn pa_data_of(alloc: Global, value: Vec<u8>) -> Result<PaData, AllocError>
-    ensures { IfOk result (λ padata. padata ≡ pa_data_of 16 value.items) }
+    ensures { IfOk result (λ padata. padata ≡ pa_data_of PA_PK_AS_REQ value.items) }
 {
     let kind = IntegerAsn1::from_u64(alloc, u64::from(PA_PK_AS_REQ))?;
     Ok(PaData {

@@ -16,7 +16,7 @@ use pkinit_messages::{KdcDhKeyInfo, PaPkAsRep};
 use std::alloc::Global;
 
 /// The content octets of id-pkinit-DHKeyData, 1.3.6.1.5.2.3.2.
-const DH_KEY_DATA: [u8; 7] = [0x2B, 0x06, 0x01, 0x05, 0x02, 0x03, 0x02];
+pub(crate) const DH_KEY_DATA: [u8; 7] = [0x2B, 0x06, 0x01, 0x05, 0x02, 0x03, 0x02];
 
 /// The secret that client and realm share, by the data of the padata PA-PK-AS-REP (RFC 4556, section 3.2.4).
 ///

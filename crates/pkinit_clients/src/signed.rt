@@ -5,7 +5,6 @@ ghost use Rattle.pkinit_clients.specs.AuthPacks.{auth_data};
 
 use cms_signed_data::{SignedContent, SignedFault};
 use key_functions::KeyFunctions;
-use picky_asn1::oid::ObjectIdentifier;
 use std::alloc::{AllocError, Global};
 
 /// The SignedData over an AuthPack, with the certificate in it. `None` if the certificate's holder doesn't sign, or the bytes are no
@@ -20,7 +19,7 @@ pub(crate) fn signed_auth_pack<K: KeyFunctions>(
         (((K.functions keys.now).sign (signed_bytes auth_data pack.now) ≡ None) ⊎ IsNoCertificate certificate.now)
         (λ bytes. IsWritten (K.functions keys.now).sign auth_data pack.now certificate.now bytes.items)) }
 {
-    let content_type = auth_data(alloc)?;
+    let content_type = x509_oids::pkinit_auth_data(alloc)?;
     match SignedContent::write(alloc, &content_type, pack, certificate, keys) {
         Ok(signed) => Ok(signed),
         Err(fault) => {
@@ -29,15 +28,5 @@ pub(crate) fn signed_auth_pack<K: KeyFunctions>(
             }
             Ok(None)
         }
-    }
-}
-
-// id-pkinit-authData.
-fn auth_data(alloc: Global) -> Result<ObjectIdentifier, AllocError>
-    ensures { IfOk result (λ oid. oid ≡ auth_data) }
-{
-    match ObjectIdentifier::from_arcs(alloc, &[1, 3, 6, 1, 5, 2, 3, 1]) {
-        Ok(oid) => Ok(oid),
-        Err(_) => Err(AllocError),
     }
 }

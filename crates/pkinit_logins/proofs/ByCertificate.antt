@@ -37,7 +37,8 @@ use Rattle.pkinit_replies.specs.AgreementBytes.{agreement_bytes}
 use Rattle.pkinit_requests.specs.PkinitRows.{pkinit_rows}
 use Rattle.pkinit_requests.specs.PkinitTable.{pkinit_table}
 use Rattle.pkinit_requests.specs.Trust.{TrustRecord}
-use Rattle.pkinit_clients.specs.Asked.{PkinitAskedRecord, client_agreement_bytes}
+use Rattle.krb_client.specs.Asked.{agreement_part}
+use Rattle.pkinit_clients.specs.Asked.{PkinitAskedRecord}
 use Rattle.pkinit_clients.specs.Faults.{Secret}
 use Rattle.pkinit_clients.specs.Means.{IsPkinitPadata, by_certificate, key_in, pk_as_rep_in, pkinit_asked}
 use Rattle.pkinit_clients.specs.Replies.{secret_of}
@@ -85,7 +86,7 @@ module _ (client : ClientRecord) (certificate : Bytes) (anchor : AnchorRecord) (
       near by.honest.near.start (common_skew realm service) (skew_of call) login.realm_as login.client_as by.honest.near.realm_as by.honest.near.client_as
       (lesser (realm.settings.skew * 1000000) service.seen.skew)
 
-  abbrev request : IsHonestRequest client_keys realm_keys certificate login.client_as (client_agreement_bytes login.words_as) trust judged
+  abbrev request : IsHonestRequest client_keys realm_keys certificate login.client_as (agreement_part login.words_as) trust judged
   request = record {
     anchor = by.realm_anchor;
     has_anchor = by.has_anchor;
@@ -136,7 +137,7 @@ module _ (client : ClientRecord) (certificate : Bytes) (anchor : AnchorRecord) (
   module _ (padata : PaData) (it : IsPkinitPadata client_keys certificate body login.client_as login.words_as padata) where
     found : (s : Result AgreedRecord ℕ) → (pkinit_table realm_keys trust judged it.value).gives s → (agreed : AgreedRecord) × IsAgreed agreed × (s ≡ Ok agreed)
     found s gives =
-        let granted = granting.granted client_keys realm_keys certificate login.client_as (client_agreement_bytes login.words_as) trust judged request it.value it.is_request s gives in
+        let granted = granting.granted client_keys realm_keys certificate login.client_as (agreement_part login.words_as) trust judged request it.value it.is_request s gives in
         (granted.agreed, (granted.same_secret, granted.is_reply), granted.is_agreed)
 
     replied_under : (r : Result ReplyKeyRecord ℕ) → (authenticated call (pkinit_rows trust realm_keys) account client.components (as_request_of padata body)).gives r
@@ -148,7 +149,7 @@ module _ (client : ClientRecord) (certificate : Bytes) (anchor : AnchorRecord) (
 
   pub authenticated_by_certificate : IsAuthenticated client (by_certificate certificate anchor client_keys) realm (pkinit_rows trust realm_keys) account login
   authenticated_by_certificate = record {
-    asks = granting.asked client_keys realm_keys certificate login.client_as (client_agreement_bytes login.words_as) trust judged request;
+    asks = granting.asked client_keys realm_keys certificate login.client_as (agreement_part login.words_as) trust judged request;
     shown = λ padata it r x.
         let replied = replied_under padata it r x in
         (key_under replied.0, replied.2, agreed_one replied.0 replied.1);

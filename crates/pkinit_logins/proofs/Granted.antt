@@ -37,7 +37,7 @@ use Rattle.pkinit_replies.specs.declared.public_key.AgreementPublicKey.{Agreemen
 use Rattle.pkinit_requests.specs.Asked.{AskedRecord}
 use Rattle.pkinit_requests.specs.AuthPacks as realm
 use Rattle.pkinit_requests.specs.Judging.{JudgingRecord, judging_by}
-use Rattle.pkinit_requests.specs.PkinitTable.{agreed_on, asked_by, is_auth_data, of_auth_pack, of_content, pkinit_table}
+use Rattle.pkinit_requests.specs.PkinitTable.{agreed_on, auth_pack_fields, is_auth_data, of_auth_pack, of_content, pkinit_table}
 use Rattle.pkinit_requests.specs.Trust.{TrustRecord}
 use Rattle.pkinit_clients.specs.AuthPacks as client
 use Rattle.pkinit_clients.specs.Requests.{IsNoPkAsReq, IsPkAsReqOf, pack_bytes, pk_as_req_bytes, pk_as_req_of}
@@ -91,7 +91,7 @@ abbrev pub asked_for : KdcReqBody → Micros → Raw → AskedRecord
 asked_for body moment value = record { value = value; time = moment; nonce = body.nonce.0 }
 
 pub asks : (body : KdcReqBody) (moment : Micros) (second : GeneralizedTime) (value : Raw) → IsSecondOf moment second
-    → (asked_by body (pack_of body moment second value)).gives (Ok (asked_for body moment value))
+    → (auth_pack_fields body (pack_of body moment second value)).gives (Ok (asked_for body moment value))
 asks body moment second value e =
     by_need {A = Micros} {T = AskedRecord} {E = Code} (realm.time_in (pack_of body moment second value)) KDC_ERR_PREAUTH_FAILED _ moment (Ok (asked_for body moment value))
     (written_time body moment second value e)

@@ -13,7 +13,8 @@ use Rattle.pkinit_replies.specs.PublicKeys.{IsPublicKey}
 use Rattle.pkinit_replies.specs.declared.public_key.AgreementPublicKey.{AgreementPublicKey}
 use Rattle.pkinit_requests.specs.PkinitTable.{pkinit_table}
 use Rattle.pkinit_requests.specs.Trust.{TrustRecord}
-use Rattle.pkinit_clients.specs.Asked.{PkinitAskedRecord, client_agreement_bytes}
+use Rattle.krb_client.specs.Asked.{agreement_part}
+use Rattle.pkinit_clients.specs.Asked.{PkinitAskedRecord}
 use Rattle.pkinit_clients.specs.Means.{IsPkinitPadata}
 use Rattle.pkinit_clients.specs.Replies.{secret_of}
 use Rattle.pkinit_clients.specs.Requests.{IsPkAsReqOf}
@@ -22,9 +23,9 @@ use Rattle.pkinit_logins.proofs.Shown.{shown}
 
 -- the data of padata that were made
 pub of_padata : (keys : KeysRecord) (certificate : Bytes) (body : KdcReqBody) (moment : Micros) (words : Random) (padata : PaData) (bytes : Bytes)
-    → bytes ≡ padata.padata_data.0 → IsPkinitPadata keys certificate body moment words padata → IsPkAsReqOf keys certificate body moment (client_agreement_bytes words) bytes
+    → bytes ≡ padata.padata_data.0 → IsPkinitPadata keys certificate body moment words padata → IsPkAsReqOf keys certificate body moment (agreement_part words) bytes
 of_padata keys certificate body moment words padata bytes same it =
-    subst (λ (b : Bytes). IsPkAsReqOf keys certificate body moment (client_agreement_bytes words) b) (sym (same ∙ ap (λ (p : PaData). p.padata_data.0) it.made)) it.is_request
+    subst (λ (b : Bytes). IsPkAsReqOf keys certificate body moment (agreement_part words) b) (sym (same ∙ ap (λ (p : PaData). p.padata_data.0) it.made)) it.is_request
 
 -- what the realm grants and the client takes
 pub honest_by : (client_keys realm_keys : KeysRecord) (certificate : Bytes) (trust : TrustRecord) (own_call call : PkinitCallRecord) (own_asked asked : PkinitAskedRecord) (padata : Bytes)

@@ -9,7 +9,8 @@ use Rattle.krb_client.specs.Means.{MeansRecord}
 use Rattle.key_functions.specs.KeyFunctions.{KeysRecord}
 use Rattle.pkinit_trust.specs.Anchors.{AnchorRecord}
 use Rattle.pkinit_requests.specs.Trust.{TrustRecord}
-use Rattle.pkinit_clients.specs.Asked.{PkinitAskedRecord, client_agreement_bytes}
+use Rattle.krb_client.specs.Asked.{agreement_part}
+use Rattle.pkinit_clients.specs.Asked.{PkinitAskedRecord}
 use Rattle.pkinit_clients.specs.Means.{IsPkinitPadata, reply_key, sole_pkinit_padata}
 use Rattle.pkinit_logins.specs.Exchange.{IsHonestExchange}
 
@@ -20,7 +21,7 @@ asked_at client anchor nonce moment words = record {
   anchor = anchor;
   moment = moment;
   nonce = nonce;
-  words = client_agreement_bytes words;
+  words = agreement_part words;
 }
 
 -- the padata PA-PK-AS-REQ, where the exchange with this realm is honest

@@ -4,7 +4,8 @@ ghost use Rattle.asn1_elements.specs.Raw.{Raw};
 ghost use Rattle.krb_kdc_requests.specs.Call.{call_of, pkinit_call};
 ghost use Rattle.pkinit_interface.specs.Calls.{AgreedRecord};
 ghost use Rattle.pkinit_interface.specs.Calls as calls;
-ghost use Rattle.pkinit_clients.specs.Asked.{asked_of, client_agreement_bytes};
+ghost use Rattle.krb_client.specs.Asked.{agreement_part};
+ghost use Rattle.pkinit_clients.specs.Asked.{asked_of};
 ghost use Rattle.pkinit_clients.specs.Means.{IsPkinitPadata};
 ghost use Rattle.pkinit_clients.specs.Replies.{secret_of};
 ghost use Rattle.pkinit_clients.specs.Requests.{IsPkAsReqOf};
@@ -23,7 +24,7 @@ use krb_messages::messages::{KdcRep, KdcReqBody};
 use krb_time::Moment;
 use krb_types::data_types::PaData;
 use picky_asn1_der::Asn1RawDer;
-use pkinit_clients::{ByCertificate, PkinitAsked, agreement_words, secret_of};
+use pkinit_clients::{ByCertificate, PkinitAsked, secret_of};
 use pkinit_interface::{Pkinit, PkinitCall};
 use pkinit_replies::public_key_of;
 use pkinit_requests::RealmPkinit;
@@ -117,13 +118,13 @@ fn is_honest_by<C: KeyFunctions, R: KeyFunctions>(
 ) -> bool
     requires { 96 ≤ length words.now }
     ensures { IsTrue result
-        → IsPkAsReqOf (C.functions exchange.now.own.now.keys.now) exchange.now.own.now.certificate.now body.now moment (client_agreement_bytes words.now) padata.now
+        → IsPkAsReqOf (C.functions exchange.now.own.now.keys.now) exchange.now.own.now.certificate.now body.now moment (agreement_part words.now) padata.now
         → IsHonestExchange (C.functions exchange.now.own.now.keys.now) exchange.now.own.now.certificate.now
         (trust_of exchange.now.pkinit.now.anchor exchange.now.pkinit.now.certificate) (R.functions exchange.now.pkinit.now.keys.now)
         (pkinit_call (call_of exchange.now.realm.now) exchange.now.client.now.components body.now)
         (asked_at exchange.now.client.now exchange.now.own.now.anchor.now exchange.now.nonce moment words.now) }
 {
-    let agreement = agreement_words(words);
+    let agreement = agreement_part(words);
     let asked = PkinitAsked {
         realm: exchange.client.realm(),
         anchor: exchange.own.anchor,

@@ -1,7 +1,5 @@
 //! Whether a login by certificate is honest: the premise of its law, judged by what the parties hold.
-ghost use Rattle.std.specs.Prelude.{◌≡◌, ◌≤◌, IfOk, IsTrue, length};
-ghost use Rattle.krb_accounts.specs.Names.{parts};
-ghost use Rattle.krb_types.specs.TicketGranting.{krbtgt_of};
+ghost use Rattle.std.specs.Prelude.{◌≤◌, IsTrue, length};
 ghost use Rattle.krb_logins.specs.Authenticated.{first_body};
 ghost use Rattle.krb_logins.specs.Input.{held_by, login_of, realm_of};
 ghost use Rattle.krb_logins.specs.Parties.{call_at};
@@ -16,13 +14,11 @@ use crate::exchange::Exchange;
 use key_functions::KeyFunctions;
 use krb_client::Client;
 use krb_kdc_requests::Call;
-use krb_logins::{LoginInput, is_honest};
+use krb_logins::{LoginInput, granting_service, is_honest};
 use krb_service::Service;
-use krb_types::krbtgt;
-use picky_asn1::wrapper::GeneralStringAsn1;
 use pkinit_clients::ByCertificate;
 use pkinit_requests::RealmPkinit;
-use std::alloc::{AllocError, Global};
+use std::alloc::Global;
 
 /// Whether a login by certificate is honest: of this client with its certificate, at the realm that is called so, and at this service.
 /// The moments and the random bytes are the input's. What the service holds counts as what it admitted. If memory runs out, the answer
@@ -84,14 +80,4 @@ fn has_honest_exchange<C: KeyFunctions, R: KeyFunctions>(
         Ok(_) => true,
         Err(_) => false,
     }
-}
-
-// The components of a realm's ticket-granting service (RFC 4120, section 7.3).
-fn granting_service(alloc: Global, realm: &GeneralStringAsn1) -> Result<Vec<Vec<u8>>, AllocError>
-    ensures { IfOk result (λ name. parts name.items ≡ krbtgt_of realm.now) }
-{
-    let first = Vec::from_slice(alloc, krbtgt())?;
-    let second = Vec::from_slice(alloc, realm.as_bytes())?;
-    let name = vec![in alloc; first, second]?;
-    Ok(name)
 }

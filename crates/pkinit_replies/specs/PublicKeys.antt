@@ -16,4 +16,4 @@ IsPublicKey element key = Writes (tagged_tree sequence_octet key_impl.ghosts.row
 pub sole_public_key : (element : Raw) → IsSole (IsPublicKey element)
 unfolding IsPublicKey
 sole_public_key element v w p q =
-    tagged-injective 48 key_impl.ghosts.row_tree key_impl.ghosts.row_laws key_impl.ghosts.row_of key_impl.ghosts.one_row v w p.0 q.0 (sym p.1 ∙ q.1)
+    tagged-injective sequence_octet key_impl.ghosts.row_tree key_impl.ghosts.row_laws key_impl.ghosts.row_of key_impl.ghosts.one_row v w p.0 q.0 (sym p.1 ∙ q.1)

@@ -1,10 +1,11 @@
 -- What a realm replies to a client that authenticates by certificate (RFC 4556, section 3.2.3.1).
-use Rattle.std.specs.Prelude.{ℕ, ℤ, List, [], ◌∷◌, None, Result, Ok, Err, Vec}
+use Rattle.std.specs.Prelude.{ℕ, ℤ, List, None, Result, Ok, Err, Vec}
 use Rattle.std.specs.Global.{Global}
 use Rattle.asn1_der.specs.Tree.{der}
 use Rattle.asn1_der.specs.Tagged.{tagged_tree}
 use Rattle.picky_asn1.specs.BitString.{Bits}
 use Rattle.picky_asn1.specs.Bytes.{Bytes}
+use Rattle.x509_oids.specs.Identifiers as oids
 use Rattle.decision_tables.specs.Tables.{Table, ask, done, need}
 use Rattle.krb_types.specs.RandomBytes.{Random}
 use Rattle.krb_types.specs.Refusals.{Code}
@@ -22,9 +23,9 @@ use Rattle.pkinit_replies.specs.PublicKeys.{IsPublicKey, sole_public_key}
 use Rattle.pkinit_replies.specs.WrittenOnce.{one_written}
 use Rattle.asn1_der.specs.Octets.{sequence_octet}
 
--- id-pkinit-DHKeyData, 1.3.6.1.5.2.3.2
+-- id-pkinit-DHKeyData, the type of a KDCDHKeyInfo as signed content
 abbrev pub dh_key_data : List ℕ
-dh_key_data = 1 ∷ 3 ∷ 6 ∷ 1 ∷ 5 ∷ 2 ∷ 3 ∷ 2 ∷ []
+dh_key_data = oids.pkinit_dhkey_data
 
 -- KDCDHKeyInfo has the realm's subjectPublicKey and the nonce of pkAuthenticator. It has no dhKeyExpiration, since the realm uses its
 -- value once (RFC 4556, section 3.2.3.1). Test: `granted a suite 18`.

@@ -33,7 +33,7 @@ whole_count n o t r1 r2 v d e c g k1 k2 k3 k4 k5 p1 p2 p3 q1 q2 q3 q4 q5 q6 whol
 module _ {V D E C G : Type 0} (v_spells : V → List ℕ → ℕ → Type 0) (d_spells : D → List ℕ → ℕ → Type 0) (e_spells : E → List ℕ → ℕ → Type 0)
     (c_spells : C → List ℕ → ℕ → Type 0) (g_spells : G → List ℕ → ℕ → Type 0) where
   abbrev pub FiveFields : V × (D × (E × (C × (G × ⊤)))) → List ℕ → ℕ → Type 0
-  FiveFields = Holds 48 (Row v_spells (Row d_spells (Row e_spells (Row c_spells (Row g_spells Ends)))))
+  FiveFields = Holds sequence_octet (Row v_spells (Row d_spells (Row e_spells (Row c_spells (Row g_spells Ends)))))
 
   module _ (f : V × (D × (E × (C × (G × ⊤))))) where
     -- the path to the fourth
@@ -43,7 +43,7 @@ module _ {V D E C G : Type 0} (v_spells : V → List ℕ → ℕ → Type 0) (d_
         let inner = s.1.4.4.4.3.0 in
         let some : AreSome s.1.4.4.4.0 =
         row_some g_spells g_are Ends f.1.1.1.1 s.1.4.4.4.0 s.1.4.4.4.2 s.1.4.4.4.4 (ended f.1.1.1.1.1 s.1.4.4.4.4.0 s.1.4.4.4.4.2 s.1.4.4.4.4.4) in
-        in_element 48 s.0 b refl s.2 3 inner
+        in_element sequence_octet s.0 b refl s.2 3 inner
         (row_behind v_spells v_are (Row d_spells (Row e_spells (Row c_spells (Row g_spells Ends)))) f s.0 n s.1 2 inner
         (row_behind d_spells d_are (Row e_spells (Row c_spells (Row g_spells Ends))) f.1 s.1.0 s.1.2 s.1.4 1 inner
         (row_behind e_spells e_are (Row c_spells (Row g_spells Ends)) f.1.1 s.1.4.0 s.1.4.2 s.1.4.4 0 inner
@@ -80,11 +80,11 @@ module _ {V D E C G : Type 0} (v_spells : V → List ℕ → ℕ → Type 0) (d_
 -- a SEQUENCE of two fields of which the second deviates alone
 module _ {O T : Type 0} (o_spells : O → List ℕ → ℕ → Type 0) (t_spells : T → List ℕ → ℕ → Type 0) (f : O × (T × ⊤)) where
   abbrev pub TwoFields : List ℕ → ℕ → Type 0
-  TwoFields = Holds 48 (Row o_spells (Row t_spells Ends)) f
+  TwoFields = Holds sequence_octet (Row o_spells (Row t_spells Ends)) f
 
   pub second_leads : SpellsElements o_spells → SpellsElements t_spells → (b : List ℕ) (n : ℕ) (s : TwoFields b n) → LeadsTo b (1 ∷ []) s.1.4.3.0
   second_leads o_are t_are b n s =
-      in_element 48 s.0 b refl s.2 1 s.1.4.3.0
+      in_element sequence_octet s.0 b refl s.2 1 s.1.4.3.0
       (row_behind o_spells o_are (Row t_spells Ends) f s.0 n s.1 0 s.1.4.3.0
       (row_front t_spells t_are Ends f.1 s.1.0 s.1.2 s.1.4 (ended f.1.1 s.1.4.0 s.1.4.2 s.1.4.4)))
 

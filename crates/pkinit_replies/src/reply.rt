@@ -10,6 +10,7 @@ use crate::signed::{key_info_bytes, signed_key_info};
 use key_functions::KeyFunctions;
 use krb_constants::error_codes;
 use krb_types::Refusal;
+use krb_types::random_bytes::{AGREEMENT_SIZE, REALM_AGREEMENT};
 use picky_asn1::wrapper::{IntegerAsn1, OctetStringAsn1};
 use picky_asn1_der::{
     Asn1RawDer, ExplicitContextTag, ImplicitContextTag, Optional, encoding_of, read_whole, to_vec,
@@ -31,7 +32,11 @@ pub fn pk_as_rep<K: KeyFunctions>(
     requires { 128 ≤ length words.now }
     ensures { IsJudged (pk_as_rep (K.functions keys.now) certificate.now nonce.now words.now).gives (as_bytes result) }
 {
-    let Some(element) = keys.public_value(alloc, &words[64..128])? else {
+    let Some(element) = keys.public_value(
+        alloc,
+        &words[REALM_AGREEMENT..REALM_AGREEMENT + AGREEMENT_SIZE],
+    )?
+    else {
         return Err(Refusal::Krb(error_codes::KRB_ERR_GENERIC));
     };
     let Some(key) = public_key_of(alloc, &element)? else {

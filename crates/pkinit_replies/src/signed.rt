@@ -6,7 +6,6 @@ ghost use Rattle.pkinit_replies.specs.Replies.{dh_key_data, key_info_bytes, key_
 
 use cms_signed_data::{SignedContent, SignedFault};
 use key_functions::KeyFunctions;
-use picky_asn1::oid::ObjectIdentifier;
 use picky_asn1::wrapper::{BitStringAsn1, IntegerAsn1};
 use picky_asn1_der::{ExplicitContextTag, Optional, encoding_of};
 use pkinit_messages::KdcDhKeyInfo;
@@ -43,7 +42,7 @@ pub(crate) fn signed_key_info<K: KeyFunctions>(
         ((bytes : Bytes) → IsWritten (K.functions keys.now).sign dh_key_data info.now certificate.now bytes → ⊥)
         (λ bytes. IsWritten (K.functions keys.now).sign dh_key_data info.now certificate.now bytes.items)) }
 {
-    let content_type = dh_key_data(alloc)?;
+    let content_type = x509_oids::pkinit_dhkey_data(alloc)?;
     match SignedContent::write(alloc, &content_type, info, certificate, keys) {
         Ok(signed) => Ok(signed),
         Err(fault) => {
@@ -52,15 +51,5 @@ pub(crate) fn signed_key_info<K: KeyFunctions>(
             }
             Ok(None)
         }
-    }
-}
-
-// id-pkinit-DHKeyData.
-fn dh_key_data(alloc: Global) -> Result<ObjectIdentifier, AllocError>
-    ensures { IfOk result (λ oid. oid ≡ dh_key_data) }
-{
-    match ObjectIdentifier::from_arcs(alloc, &[1, 3, 6, 1, 5, 2, 3, 2]) {
-        Ok(oid) => Ok(oid),
-        Err(_) => Err(AllocError),
     }
 }

@@ -1,5 +1,5 @@
 -- PA-PK-AS-REQ and AuthPack, and the fields of an AuthPack (RFC 4556, section 3.2.1).
-use Rattle.std.specs.Prelude.{Bool, false, Option, None, Some, [], ◌∷◌}
+use Rattle.std.specs.Prelude.{◌≡◌, Bool, false, Option, None, Some, refl}
 use Rattle.std.specs.Bool.{nat_eq}
 use Rattle.std.specs.Option.{option_map}
 use Rattle.std.specs.Cmp.Lexicographic.{pointwise}
@@ -11,6 +11,8 @@ use Rattle.asn1_der.proofs.Tagged.{tagged-injective}
 use Rattle.asn1_elements.specs.Raw.{Raw}
 use Rattle.picky_asn1.specs.Bytes.{Bytes}
 use Rattle.asn1_leaves.specs.GeneralizedTime.{seconds_of}
+use Rattle.asn1_leaves.specs.ObjectIdentifier.{oid_content, subidentifier}
+use Rattle.x509_oids.specs.Identifiers as oids
 use Rattle.decision_tables.specs.One.{IsSole}
 use Rattle.krb_time.specs.Times.{moment_at}
 use Rattle.krb_time.specs.Units.{Micros}
@@ -21,6 +23,7 @@ use Rattle.pkinit_messages.specs.declared.pa_pk_as_req.PaPkAsReq.{PaPkAsReq}
 use Rattle.pkinit_messages.specs.contracts.pa_pk_as_req.PaPkAsReqTagged.TheImpl as request_impl
 use Rattle.pkinit_requests.specs.contracts.auth_packs.Asn1RawDerAuthPackEncoding.TheImpl as pack_impl
 use Rattle.asn1_der.specs.Octets.{sequence_octet}
+use Rattle.pkinit_requests.specs.declared.table.TheConstants.{AUTH_DATA}
 
 -- the bytes are the one DER encoding of this PA-PK-AS-REQ
 unfoldable pub IsPaPkAsReq : Bytes → PaPkAsReq → Type 0
@@ -29,7 +32,7 @@ IsPaPkAsReq bytes request = Writes (tagged_tree sequence_octet request_impl.ghos
 pub sole_pa_pk_as_req : (bytes : Bytes) → IsSole (IsPaPkAsReq bytes)
 unfolding IsPaPkAsReq
 sole_pa_pk_as_req bytes v w p q =
-    tagged-injective 48 request_impl.ghosts.row_tree request_impl.ghosts.row_laws request_impl.ghosts.row_of request_impl.ghosts.one_row v w p.0 q.0 (sym p.1 ∙ q.1)
+    tagged-injective sequence_octet request_impl.ghosts.row_tree request_impl.ghosts.row_laws request_impl.ghosts.row_of request_impl.ghosts.one_row v w p.0 q.0 (sym p.1 ∙ q.1)
 
 -- the bytes are the one DER encoding of this AuthPack, whose clientPublicValue is any element
 unfoldable pub IsAuthPack : Bytes → AuthPack Raw → Type 0
@@ -39,9 +42,10 @@ pub sole_auth_pack : (bytes : Bytes) → IsSole (IsAuthPack bytes)
 unfolding IsAuthPack
 sole_auth_pack bytes v w p q = pack_impl.ghosts.pack_injective v w p.0 q.0 (sym p.1 ∙ q.1)
 
--- the content octets of id-pkinit-authData, 1.3.6.1.5.2.3.1
-abbrev pub auth_data : Bytes
-auth_data = 0x2B ∷ 0x06 ∷ 0x01 ∷ 0x05 ∷ 0x02 ∷ 0x03 ∷ 0x01 ∷ []
+-- AUTH_DATA has the content octets of id-pkinit-authData
+pub auth_data-is : oid_content oids.pkinit_auth_data ≡ AUTH_DATA
+unfolding oid_content subidentifier
+auth_data-is = refl
 
 -- the element of clientPublicValue, if it is there
 abbrev pub value_in : AuthPack Raw → Option Raw

@@ -35,10 +35,10 @@ use Rattle.pkinit_trust.specs.declared.refusal.TrustRefusal.TheVariants.{CantVer
 use Rattle.pkinit_replies.specs.AgreementBytes.{agreement_bytes}
 use Rattle.pkinit_replies.specs.Replies.{pk_as_rep}
 use Rattle.pkinit_replies.proofs.ReplyOutcome.{has_reply}
-use Rattle.pkinit_requests.specs.Asked.{AskedRecord}
+use Rattle.pkinit_requests.specs.AuthPackFields.{AuthPackFieldsRecord}
 use Rattle.pkinit_requests.specs.AuthPacks.{IsAuthPack, IsPaPkAsReq, covers, sole_auth_pack, sole_pa_pk_as_req, time_in, value_in}
 use Rattle.pkinit_requests.specs.Judging.{JudgingRecord, judging_by}
-use Rattle.pkinit_requests.specs.PkinitTable.{agreed_on, asked_by, is_auth_data, of_auth_pack, of_content, of_request, of_signed, pkinit_table, signed_by_client}
+use Rattle.pkinit_requests.specs.PkinitTable.{agreed_on, auth_pack_fields, is_auth_data, of_auth_pack, of_content, of_request, of_signed, pkinit_table, signed_by_client}
 use Rattle.pkinit_requests.specs.Trust.{TrustRecord}
 
 -- the whole has the outcome of the part that decides, and that part's error is one of the whole's
@@ -97,23 +97,23 @@ has_trusted keys expected judged =
     (has_told (λ error. error) (issued keys expected read) (λ _. named expected read.certificate) (has_issued keys expected read) (λ _ _. has_named expected read))
     (λ _ _. has_signed keys read judged))
 
-has_agreed : (keys : KeysRecord) (judging : JudgingRecord) (asked : AskedRecord) → HasOutcome (agreed_on keys judging asked)
-has_agreed keys judging asked =
-    has_refused {T = AgreedRecord} (is_far judging.skew judging.expected.moment asked.time) KRB_AP_ERR_SKEW _
-    (λ _. has_needed (keys.agree (WholeValue asked.value) (agreement_bytes judging.words)) KDC_ERR_KEY_TOO_WEAK _
-    (λ secret e. has_then (pk_as_rep keys judging.certificate asked.nonce judging.words) (λ reply. done (Ok (record { secret = secret; reply = reply })))
-    (has_reply keys judging.certificate asked.nonce judging.words) (λ reply r. has_done (Ok (record { secret = secret; reply = reply })))))
+has_agreed : (keys : KeysRecord) (judging : JudgingRecord) (fields : AuthPackFieldsRecord) → HasOutcome (agreed_on keys judging fields)
+has_agreed keys judging fields =
+    has_refused {T = AgreedRecord} (is_far judging.skew judging.expected.moment fields.time) KRB_AP_ERR_SKEW _
+    (λ _. has_needed (keys.agree (WholeValue fields.value) (agreement_bytes judging.words)) KDC_ERR_KEY_TOO_WEAK _
+    (λ secret e. has_then (pk_as_rep keys judging.certificate fields.nonce judging.words) (λ reply. done (Ok (record { secret = secret; reply = reply })))
+    (has_reply keys judging.certificate fields.nonce judging.words) (λ reply r. has_done (Ok (record { secret = secret; reply = reply })))))
 
-has_asked_by : (body : KdcReqBody) (pack : AuthPack Raw) → HasOutcome (asked_by body pack)
-has_asked_by body pack =
-    has_needed (value_in pack) KDC_ERR_PREAUTH_FAILED _ (λ value v. has_needed (time_in pack) KDC_ERR_PREAUTH_FAILED _ (λ time t. has_refused {T = AskedRecord} (not (covers body pack)) KDC_ERR_PREAUTH_FAILED _ (λ _. has_done (Ok _))))
+has_auth_pack_fields : (body : KdcReqBody) (pack : AuthPack Raw) → HasOutcome (auth_pack_fields body pack)
+has_auth_pack_fields body pack =
+    has_needed (value_in pack) KDC_ERR_PREAUTH_FAILED _ (λ value v. has_needed (time_in pack) KDC_ERR_PREAUTH_FAILED _ (λ time t. has_refused {T = AuthPackFieldsRecord} (not (covers body pack)) KDC_ERR_PREAUTH_FAILED _ (λ _. has_done (Ok _))))
 
 has_pack : (keys : KeysRecord) (judging : JudgingRecord) (content : SignedParts) (pack : AuthPack Raw) → HasOutcome (of_auth_pack keys judging content pack)
 has_pack keys judging content pack =
-    has_then (asked_by judging.body pack) (λ asked. and_then (signed_by_client keys judging.expected content) (λ _. agreed_on keys judging asked)) (has_asked_by judging.body pack)
-    (λ asked a. has_then {A = Unit {0}} (signed_by_client keys judging.expected content) (λ _. agreed_on keys judging asked)
+    has_then (auth_pack_fields judging.body pack) (λ fields. and_then (signed_by_client keys judging.expected content) (λ _. agreed_on keys judging fields)) (has_auth_pack_fields judging.body pack)
+    (λ fields a. has_then {A = Unit {0}} (signed_by_client keys judging.expected content) (λ _. agreed_on keys judging fields)
     (has_told code_of (trusted keys judging.expected (judged_in content)) (λ _. done (Ok tt)) (has_trusted keys judging.expected (judged_in content)) (λ _ _. has_done (Ok tt)))
-    (λ _ _. has_agreed keys judging asked))
+    (λ _ _. has_agreed keys judging fields))
 
 has_content : (keys : KeysRecord) (judging : JudgingRecord) (content : SignedParts) → HasOutcome (of_content keys judging content)
 has_content keys judging content =

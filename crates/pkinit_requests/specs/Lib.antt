@@ -1,5 +1,5 @@
 pub mod AuthPacks
-pub mod Asked
+pub mod AuthPackFields
 pub mod HasOutcomes
 pub mod Judging
 pub mod PkinitRows

@@ -25,17 +25,18 @@ use Rattle.pkinit_trust.specs.SignedContents.{judged_in}
 use Rattle.pkinit_trust.specs.Trusted.{trusted}
 use Rattle.pkinit_replies.specs.AgreementBytes.{agreement_bytes}
 use Rattle.pkinit_replies.specs.Replies.{pk_as_rep}
-use Rattle.pkinit_requests.specs.Asked.{AskedRecord}
-use Rattle.pkinit_requests.specs.AuthPacks.{IsAuthPack, IsPaPkAsReq, auth_data, covers, sole_auth_pack, sole_pa_pk_as_req, time_in, value_in}
+use Rattle.pkinit_requests.specs.AuthPackFields.{AuthPackFieldsRecord}
+use Rattle.pkinit_requests.specs.AuthPacks.{IsAuthPack, IsPaPkAsReq, covers, sole_auth_pack, sole_pa_pk_as_req, time_in, value_in}
 use Rattle.pkinit_requests.specs.Judging.{JudgingRecord, judging_by}
 use Rattle.pkinit_requests.specs.Trust.{TrustRecord}
+use Rattle.pkinit_requests.specs.declared.table.TheConstants.{AUTH_DATA}
 
 -- Judges the fields of an AuthPack: clientPublicValue, and the time and the checksum of pkAuthenticator.
 -- Not judged: the nonce of pkAuthenticator may differ from the body's (RFC 4556, section 3.2.1).
 -- Test: `granted, negative body nonce`, `granted, nonces differ (twin)`.
 -- Ignored: supportedCMSTypes and clientDHNonce (RFC 4556, section 3.2.1). Test: `granted, supported types`, `granted, client nonce`.
-abbrev pub asked_by : KdcReqBody → AuthPack Raw → Table (Result AskedRecord Code)
-asked_by body pack =
+abbrev pub auth_pack_fields : KdcReqBody → AuthPack Raw → Table (Result AuthPackFieldsRecord Code)
+auth_pack_fields body pack =
     -- The AuthPack has clientPublicValue, which may be any element (RFC 4556, section 3.2.1).
     -- Test: `public value missing`, `granted, public value NULL`.
     need (value_in pack) KDC_ERR_PREAUTH_FAILED (λ value.
@@ -55,27 +56,27 @@ signed_by_client keys expected content =
     and_then_told code_of (trusted keys expected (judged_in content)) (λ _. done (Ok tt))
 
 -- Judges the time of pkAuthenticator and agrees on a secret by clientPublicValue.
-abbrev pub agreed_on : KeysRecord → JudgingRecord → AskedRecord → Table (Result AgreedRecord Code)
-agreed_on keys judging asked =
+abbrev pub agreed_on : KeysRecord → JudgingRecord → AuthPackFieldsRecord → Table (Result AgreedRecord Code)
+agreed_on keys judging fields =
     -- The ctime and cusec of pkAuthenticator are within the clock skew (RFC 4556, section 3.2.2).
     -- Test: `PKAuthenticator late by a microsecond`, `granted, skew late edge`.
-    refuse (is_far judging.skew judging.expected.moment asked.time) KRB_AP_ERR_SKEW
+    refuse (is_far judging.skew judging.expected.moment fields.time) KRB_AP_ERR_SKEW
     -- The KDC's key agreement has a secret for clientPublicValue (RFC 4556, section 3.2.2).
     -- Test: `agree none, client b`, `agree none, loose realm`.
-    (need (keys.agree (WholeValue asked.value) (agreement_bytes judging.words)) KDC_ERR_KEY_TOO_WEAK (λ secret.
-    and_then (pk_as_rep keys judging.certificate asked.nonce judging.words) (λ reply.
+    (need (keys.agree (WholeValue fields.value) (agreement_bytes judging.words)) KDC_ERR_KEY_TOO_WEAK (λ secret.
+    and_then (pk_as_rep keys judging.certificate fields.nonce judging.words) (λ reply.
     done (Ok (record { secret = secret; reply = reply })))))
 
 -- Judges an AuthPack: its fields, then who signed it, then its time and its public value.
 abbrev pub of_auth_pack : KeysRecord → JudgingRecord → SignedParts → AuthPack Raw → Table (Result AgreedRecord Code)
 of_auth_pack keys judging content pack =
-    and_then (asked_by judging.body pack) (λ asked.
+    and_then (auth_pack_fields judging.body pack) (λ fields.
     and_then (signed_by_client keys judging.expected content) (λ _.
-    agreed_on keys judging asked))
+    agreed_on keys judging fields))
 
 -- The eContentType is id-pkinit-authData.
 abbrev pub is_auth_data : SignedParts → Bool
-is_auth_data content = pointwise nat_eq (oid_content content.info.content.0.encap_content_info.content_type.0) auth_data
+is_auth_data content = pointwise nat_eq (oid_content content.info.content.0.encap_content_info.content_type.0) AUTH_DATA
 
 -- Judges SignedData of the one form.
 abbrev pub of_content : KeysRecord → JudgingRecord → SignedParts → Table (Result AgreedRecord Code)

@@ -2,8 +2,8 @@
 //! padata of the type PA-PK-AS-REQ, and the error code of each.
 #![tactic(auto)]
 
-mod asked;
 mod auth_packs;
+mod fields;
 mod judging;
 pub mod laws;
 mod parts;

@@ -6,7 +6,7 @@ use std::marker::Model;
 
 /// The client's public value, and the time and the nonce of its pkAuthenticator. A contract sees the values.
 #[derive(Drop)]
-pub(crate) struct Asked<'a> {
+pub(crate) struct AuthPackFields<'a> {
     /// The element of clientPublicValue.
     pub(crate) value: &'a Asn1RawDer,
     /// The time that ctime and cusec give.
@@ -15,10 +15,10 @@ pub(crate) struct Asked<'a> {
     pub(crate) nonce: &'a IntegerAsn1,
 }
 
-impl<'a> Model for Asked<'a> {
-    ghost use Rattle.pkinit_requests.specs.Asked.{AskedRecord};
+impl<'a> Model for AuthPackFields<'a> {
+    ghost use Rattle.pkinit_requests.specs.AuthPackFields.{AuthPackFieldsRecord};
 
-    ghost Value = { AskedRecord };
+    ghost Value = { AuthPackFieldsRecord };
 
     ghost view = { λ a. record { value = a.value.now; time = a.time; nonce = a.nonce.now } };
 }

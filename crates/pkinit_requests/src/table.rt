@@ -5,9 +5,9 @@ ghost use Rattle.pkinit_interface.specs.Calls.{agreed_as};
 ghost use Rattle.pkinit_requests.specs.Judging.{judging_of};
 ghost use Rattle.pkinit_requests.specs.PkinitTable.{agreed_on, is_auth_data, of_auth_pack, of_content, of_request, of_signed};
 
-use crate::asked::asked_by;
+use crate::fields::auth_pack_fields;
 use crate::judging::Judging;
-use crate::parts::Asked;
+use crate::parts::AuthPackFields;
 use crate::reading::{read_auth_pack, read_pa_pk_as_req};
 use crate::signer::check_signed;
 use cms_signed_data::{SignedContent, SignedFault};
@@ -15,6 +15,7 @@ use key_functions::{KeyFunctions, Theirs};
 use krb_constants::error_codes;
 use krb_constants::error_codes::KDC_ERR_KEY_TOO_WEAK;
 use krb_types::Refusal;
+use krb_types::random_bytes::{AGREEMENT_SIZE, REALM_AGREEMENT};
 use picky_asn1_der::Asn1RawDer;
 use pkinit_interface::Agreed;
 use pkinit_messages::AuthPack;
@@ -22,7 +23,7 @@ use pkinit_replies::pk_as_rep;
 use std::alloc::Global;
 
 /// The content octets of id-pkinit-authData, 1.3.6.1.5.2.3.1.
-const AUTH_DATA: [u8; 7] = [0x2B, 0x06, 0x01, 0x05, 0x02, 0x03, 0x01];
+pub(crate) const AUTH_DATA: [u8; 7] = [0x2B, 0x06, 0x01, 0x05, 0x02, 0x03, 0x01];
 
 /// Judges the padata-value of a PA-PK-AS-REQ: it has to be the one DER encoding of it.
 pub(crate) fn judge_request<K: KeyFunctions>(
@@ -110,9 +111,9 @@ fn judge_auth_pack<K: KeyFunctions>(
     requires near { judging.now.skew ≤ 86400000000 }
     ensures { IsJudged (of_auth_pack (K.functions keys.now) (judging_of judging.now) content.now pack.now).gives (agreed_as result) }
 {
-    let asked = asked_by(alloc, judging.body, pack)?;
+    let fields = auth_pack_fields(alloc, judging.body, pack)?;
     check_signed(alloc, keys, &judging.expected, content)?;
-    agree_on(alloc, keys, judging, &asked)
+    agree_on(alloc, keys, judging, &fields)
 }
 
 // Judges the time of pkAuthenticator, agrees on a secret by clientPublicValue, and makes the reply.
@@ -120,23 +121,30 @@ fn agree_on<K: KeyFunctions>(
     alloc: Global,
     keys: &K,
     judging: &Judging<'_>,
-    asked: &Asked<'_>,
+    fields: &AuthPackFields<'_>,
 ) -> Result<Agreed, Refusal>
     requires long { 128 ≤ length judging.now.words.now }
     requires near { judging.now.skew ≤ 86400000000 }
-    ensures { IsJudged (agreed_on (K.functions keys.now) (judging_of judging.now) asked.now).gives (agreed_as result) }
+    ensures { IsJudged (agreed_on (K.functions keys.now) (judging_of judging.now) fields.now).gives (agreed_as result) }
 {
     if judging
         .expected
         .moment
-        .is_far_from(asked.time, judging.skew)
+        .is_far_from(fields.time, judging.skew)
     {
         return Err(Refusal::Krb(error_codes::KRB_AP_ERR_SKEW));
     }
-    let theirs = Theirs::Whole(asked.value);
-    let Some(secret) = keys.agree(alloc, theirs, &judging.words[64..128])? else {
+    let theirs = Theirs::Whole(fields.value);
+    let words = &judging.words[REALM_AGREEMENT..REALM_AGREEMENT + AGREEMENT_SIZE];
+    let Some(secret) = keys.agree(alloc, theirs, words)? else {
         return Err(Refusal::Krb(KDC_ERR_KEY_TOO_WEAK));
     };
-    let reply = pk_as_rep(alloc, keys, judging.certificate, asked.nonce, judging.words)?;
+    let reply = pk_as_rep(
+        alloc,
+        keys,
+        judging.certificate,
+        fields.nonce,
+        judging.words,
+    )?;
     Ok(Agreed { secret, reply })
 }

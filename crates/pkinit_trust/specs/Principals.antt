@@ -5,7 +5,8 @@ use Rattle.std.specs.Cmp.Lexicographic.{pointwise}
 use Rattle.std.proofs.Common.{sym, ◌∙◌}
 use Rattle.picky_asn1.specs.Bytes.{Bytes}
 use Rattle.picky_asn1.specs.Integer.{integer_content, natural_octets}
-use Rattle.asn1_leaves.specs.ObjectIdentifier.{oid_content}
+use Rattle.asn1_leaves.specs.ObjectIdentifier.{oid_content, subidentifier}
+use Rattle.x509_oids.specs.Identifiers as oids
 use Rattle.asn1_der.specs.Length.{element, length_octets}
 use Rattle.asn1_der.specs.Tree.{Tree, Writes, der}
 use Rattle.asn1_der.specs.Tagged.{tagged_tree}
@@ -29,12 +30,13 @@ use Rattle.pkinit_trust.specs.contracts.principal_name.Krb5PrincipalNameTagged.T
 use Rattle.pkinit_trust.specs.declared.refusal.TrustRefusal.{TrustRefusal}
 use Rattle.pkinit_trust.specs.declared.refusal.TrustRefusal.TheVariants.{NameMismatch}
 use Rattle.asn1_der.specs.Octets.{sequence_octet}
+use Rattle.pkinit_trust.specs.declared.principals.TheConstants.{PKINIT_SAN}
 
 abbrev pub principal_tree : Krb5PrincipalName → Tree
 principal_tree = tagged_tree sequence_octet name_impl.ghosts.row_tree name_impl.ghosts.row_of
 
 principal-injective : IsInjective principal_tree
-principal-injective = tagged-injective 48 name_impl.ghosts.row_tree name_impl.ghosts.row_laws name_impl.ghosts.row_of name_impl.ghosts.one_row
+principal-injective = tagged-injective sequence_octet name_impl.ghosts.row_tree name_impl.ghosts.row_laws name_impl.ghosts.row_of name_impl.ghosts.one_row
 
 -- The element is the one DER encoding of this KRB5PrincipalName.
 unfoldable pub IsPrincipal : Raw → Krb5PrincipalName → Type 0
@@ -44,13 +46,14 @@ pub sole_principal : (raw : Raw) → IsSole (IsPrincipal raw)
 unfolding IsPrincipal
 sole_principal raw v w p q = principal-injective v w p.0 q.0 (sym p.1 ∙ q.1)
 
--- id-pkinit-san, 1.3.6.1.5.2.2
-abbrev pub pkinit_san : Bytes
-pkinit_san = 0x2B ∷ 0x06 ∷ 0x01 ∷ 0x05 ∷ 0x02 ∷ 0x02 ∷ []
+-- PKINIT_SAN has the content octets of id-pkinit-san
+pub pkinit_san-is : oid_content oids.pkinit_san ≡ PKINIT_SAN
+unfolding oid_content subidentifier
+pkinit_san-is = refl
 
 -- The value of an otherName of the type id-pkinit-san.
 abbrev pub principal_element : GeneralName → Option Raw
-principal_element (name_kind.OtherName name) = if pointwise nat_eq (oid_content name.type_id.0) pkinit_san then Some name.value.0 else None
+principal_element (name_kind.OtherName name) = if pointwise nat_eq (oid_content name.type_id.0) PKINIT_SAN then Some name.value.0 else None
 principal_element other = None
 
 -- The element of the first otherName of the type id-pkinit-san among some names.

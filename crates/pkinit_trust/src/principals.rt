@@ -18,7 +18,7 @@ use x509_extensions::{Extension, ExtensionView};
 use x509_names::GeneralName;
 
 /// The content octets of id-pkinit-san, 1.3.6.1.5.2.2.
-const PKINIT_SAN: [u8; 6] = [0x2B, 0x06, 0x01, 0x05, 0x02, 0x02];
+pub(crate) const PKINIT_SAN: [u8; 6] = [0x2B, 0x06, 0x01, 0x05, 0x02, 0x02];
 
 /// Judges whether the certificate names the expected principal.
 pub(crate) fn check_named(

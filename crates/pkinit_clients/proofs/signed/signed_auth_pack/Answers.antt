@@ -4,7 +4,7 @@ use Rattle.pkinit_clients.proofs.signed.signed_auth_pack.Goals as goal
 
 pub returns-in-Ok : goal.returns-in-Ok
 returns-in-Ok g c =
-    signs_at (g.K.KeyFunctions.functions c.args.keys.now).sign c.args.pack.now c.args.certificate.now c.in_ok-content_type.content_type auth_data c.in_ok-content_type.ensures c.in-Ok.signed
+    signs_at (g.K.KeyFunctions.functions c.args.keys.now).sign c.args.pack.now c.args.certificate.now c.in_ok-content_type.content_type auth_data c.in_ok-content_type.ensures.1 c.in-Ok.signed
     c.in-Ok.ensures
 
 pub returns : goal.returns

@@ -24,6 +24,6 @@ returns g c = λ true is.
       anchor = exchange.own.now.anchor.now;
       moment = c.args.moment;
       nonce = exchange.nonce;
-      words = c.agreement_words-agreement.ensures.part i;
+      words = c.agreement_part-agreement.ensures.part i;
     })
     is (c.has_public_key.ensures c.if-not-has_public_key.false) (c.has_one_secret.ensures true)

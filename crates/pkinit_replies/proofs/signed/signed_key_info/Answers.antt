@@ -4,7 +4,7 @@ use Rattle.pkinit_replies.proofs.signed.signed_key_info.Goals as goal
 
 pub returns-in-Ok : goal.returns-in-Ok
 returns-in-Ok g c =
-    found_at (g.K.KeyFunctions.functions c.args.keys.now).sign c.args.info.now c.args.certificate.now c.in_ok-content_type.content_type dh_key_data c.in_ok-content_type.ensures c.in-Ok.signed
+    found_at (g.K.KeyFunctions.functions c.args.keys.now).sign c.args.info.now c.args.certificate.now c.in_ok-content_type.content_type dh_key_data c.in_ok-content_type.ensures.1 c.in-Ok.signed
     c.in-Ok.ensures
 
 pub returns : goal.returns

@@ -4,7 +4,7 @@ use Rattle.asn1_elements.specs.Raw.{Raw}
 use Rattle.krb_time.specs.Units.{Micros}
 
 -- the element of clientPublicValue, and the time and the nonce of pkAuthenticator
-pub record AskedRecord : Type 0 where
+pub record AuthPackFieldsRecord : Type 0 where
   pub value : Raw
   pub time : Micros
   pub nonce : ℤ

@@ -4,9 +4,9 @@ ghost use Rattle.std.specs.Option.{option_copied, option_map};
 ghost use Rattle.krb_types.specs.Refusals.{IsJudged};
 ghost use Rattle.krb_messages.specs.Bodies.{body_bytes};
 ghost use Rattle.pkinit_requests.specs.AuthPacks.{covers, is_sha1_of, time_in, value_in};
-ghost use Rattle.pkinit_requests.specs.PkinitTable.{asked_by};
+ghost use Rattle.pkinit_requests.specs.PkinitTable.{auth_pack_fields};
 
-use crate::parts::Asked;
+use crate::parts::AuthPackFields;
 use krb_constants::error_codes;
 use krb_messages::body_bytes;
 use krb_messages::messages::KdcReqBody;
@@ -20,12 +20,12 @@ use std::alloc::{AllocError, Global};
 
 /// Reads clientPublicValue, and the time and the nonce of pkAuthenticator. Refuses an AuthPack whose paChecksum isn't that of the
 /// body.
-pub(crate) fn asked_by<'a>(
+pub(crate) fn auth_pack_fields<'a>(
     alloc: Global,
     body: &KdcReqBody,
     pack: &'a AuthPack<Asn1RawDer>,
-) -> Result<Asked<'a>, Refusal>
-    ensures { IsJudged (asked_by body.now pack.now).gives result }
+) -> Result<AuthPackFields<'a>, Refusal>
+    ensures { IsJudged (auth_pack_fields body.now pack.now).gives result }
 {
     let Some(value) = value_in(pack) else {
         return Err(Refusal::Krb(error_codes::KDC_ERR_PREAUTH_FAILED));
@@ -37,7 +37,7 @@ pub(crate) fn asked_by<'a>(
         return Err(Refusal::Krb(error_codes::KDC_ERR_PREAUTH_FAILED));
     }
     let nonce = &pack.pk_authenticator.0.nonce.0;
-    Ok(Asked { value, time, nonce })
+    Ok(AuthPackFields { value, time, nonce })
 }
 
 fn value_in(pack: &AuthPack<Asn1RawDer>) -> Option<&Asn1RawDer>
