@@ -1,4 +1,4 @@
-//! Judging AS requests: the rows of a realm's table, part by part.
+//! Judges AS requests by the rows of a realm's table, part by part.
 ghost use Rattle.std.specs.Prelude.{◌≡◌, ◌≤◌, length, Some};
 ghost use Rattle.krb_as.specs.AsTable.{authenticated, authenticated_by, is_later, is_listed, possible, timestamped};
 ghost use Rattle.krb_as.specs.Authenticated.{reply_key_as};
@@ -20,7 +20,7 @@ use picky_asn1::wrapper::GeneralStringAsn1;
 use pkinit_interface::{Agreed, Pkinit, PkinitCall};
 use std::alloc::Global;
 
-/// Judges the ticket's times and its suite.
+/// Judges the ticket's times, and whether `etype` lists the suite of the client's key.
 pub(crate) fn check_possible(
     call: &Call<'_>,
     suite: CipherSuite,
@@ -38,7 +38,7 @@ pub(crate) fn check_possible(
     Ok(span)
 }
 
-// The ticket is to start later than the moment and the skew.
+// Whether `from` is later than the moment by more than the skew.
 fn is_later(call: &Call<'_>, body: &KdcReqBody) -> bool
     ensures { result ≡ is_later (call_of call.now) body.now }
 {
@@ -48,7 +48,7 @@ fn is_later(call: &Call<'_>, body: &KdcReqBody) -> bool
     }
 }
 
-// The client takes the suite.
+// Whether `etype` lists the suite.
 fn is_listed(suite: CipherSuite, body: &KdcReqBody) -> bool
     ensures { result ≡ is_listed suite body.now }
 {
@@ -69,7 +69,7 @@ pub(crate) enum Authenticated {
     ByCertificate(Key, Vec<u8>),
 }
 
-/// Authenticates the client of this name.
+/// Authenticates the client: by PA-PK-AS-REQ where it is there, else by PA-ENC-TIMESTAMP.
 pub(crate) fn authenticate<P: Pkinit>(
     alloc: Global,
     call: &Call<'_>,
@@ -97,7 +97,7 @@ pub(crate) fn authenticate<P: Pkinit>(
     )
 }
 
-// The same by the data of PA-PK-AS-REQ.
+// Authenticates the client by the data of PA-PK-AS-REQ, and derives the key that both agreed on (RFC 4556, section 3.2.3.1).
 fn agree_by<P: Pkinit>(
     alloc: Global,
     call: &Call<'_>,
@@ -124,13 +124,14 @@ fn agree_by<P: Pkinit>(
     Ok(Authenticated::ByCertificate(key, reply))
 }
 
+// The secret and the data of PA-PK-AS-REP.
 fn parts_of(agreed: Agreed) -> (Vec<u8>, Vec<u8>)
     ensures { (result.0 ≡ agreed.secret) × (result.1 ≡ agreed.reply) }
 {
     (agreed.secret, agreed.reply)
 }
 
-// Judges what shows that the client has its key: an encrypted timestamp near the moment (RFC 4120, section 5.2.7.2).
+// Judges whether the client proves that it has its key, by an encrypted timestamp near the moment (RFC 4120, section 5.2.7.2).
 fn check_timestamp(
     alloc: Global,
     call: &Call<'_>,
