@@ -1,12 +1,12 @@
 //! Granting a first ticket.
 ghost use Rattle.std.specs.Prelude.{◌≡◌, ◌≤◌, Ok, length, IfOk};
 ghost use Rattle.krb_tickets.specs.ReplyKeys.{reply_key_of};
-ghost use Rattle.krb_as.specs.Authenticated.{reply_key_by};
+ghost use Rattle.krb_as.specs.Preauthentication.{reply_key_by};
 ghost use Rattle.krb_kdc_requests.specs.Call.{call_of};
 ghost use Rattle.krb_as.specs.Grants.{first_ticket, granted, principals_of};
 ghost use Rattle.krb_tickets.specs.Grant.{grant_of};
 
-use crate::judge::Authenticated;
+use crate::judge::Preauthentication;
 use krb_accounts::Account;
 use krb_kdc_requests::{Call, Span, session_key};
 use krb_messages::messages::KdcReqBody;
@@ -32,7 +32,7 @@ pub(crate) fn grant(
     alloc: Global,
     call: &Call<'_>,
     principals: Principals,
-    authenticated: &Authenticated,
+    authenticated: &Preauthentication,
     span: Span,
     body: &KdcReqBody,
 ) -> Result<Vec<u8>, AllocError>
@@ -47,12 +47,12 @@ pub(crate) fn grant(
 }
 
 // The reply key: the client's own, or the key that both agreed on.
-fn reply_key_by<'a>(authenticated: &'a Authenticated, client: &'a Account) -> ReplyKey<'a>
+fn reply_key_by<'a>(authenticated: &'a Preauthentication, client: &'a Account) -> ReplyKey<'a>
     ensures { reply_key_of result ≡ reply_key_by client.now authenticated.now }
 {
     match authenticated {
-        Authenticated::ByTimestamp => ReplyKey::of_client(client),
-        Authenticated::ByCertificate(key, reply) => ReplyKey::of_agreement(key, reply),
+        Preauthentication::ByTimestamp => ReplyKey::of_client(client),
+        Preauthentication::ByCertificate(key, reply) => ReplyKey::of_agreement(key, reply),
     }
 }
 

@@ -1,7 +1,7 @@
 //! Judges AS requests by the rows of a realm's table, part by part.
 ghost use Rattle.std.specs.Prelude.{◌≡◌, ◌≤◌, length, Some};
 ghost use Rattle.krb_as.specs.AsTable.{authenticated, authenticated_by, is_later, is_listed, possible, timestamped};
-ghost use Rattle.krb_as.specs.Authenticated.{reply_key_as};
+ghost use Rattle.krb_as.specs.Preauthentication.{reply_key_as};
 ghost use Rattle.krb_kdc_requests.specs.Call.{call_of};
 ghost use Rattle.krb_types.specs.Refusals.{IsJudged};
 
@@ -60,9 +60,9 @@ fn is_listed(suite: CipherSuite, body: &KdcReqBody) -> bool
         .any(|etype| is_number(etype, number))
 }
 
-/// How a client was authenticated.
+/// The preauthentication by which a client was authenticated.
 #[derive(Drop)]
-pub(crate) enum Authenticated {
+pub(crate) enum Preauthentication {
     /// By an encrypted timestamp.
     ByTimestamp,
     /// By certificate, with the key that both agreed on, and the data of PA-PK-AS-REP.
@@ -77,14 +77,14 @@ pub(crate) fn authenticate<P: Pkinit>(
     client: &Account,
     name: &[GeneralStringAsn1],
     request: &KdcReq,
-) -> Result<Authenticated, Refusal>
+) -> Result<Preauthentication, Refusal>
     requires { 128 ≤ length call.now.words.now }
     ensures { IsJudged (authenticated (call_of call.now) (P.rows pkinit.now) client.now name.now request.now).gives (reply_key_as client.now result) }
 {
     let padata = padata_in(request);
     let Some(pk_as_req) = first_of(padata, PA_PK_AS_REQ) else {
         check_timestamp(alloc, call, client, padata)?;
-        return Ok(Authenticated::ByTimestamp);
+        return Ok(Preauthentication::ByTimestamp);
     };
     agree_by(
         alloc,
@@ -106,11 +106,11 @@ fn agree_by<P: Pkinit>(
     name: &[GeneralStringAsn1],
     request: &KdcReq,
     padata: &[u8],
-) -> Result<Authenticated, Refusal>
+) -> Result<Preauthentication, Refusal>
     requires { 128 ≤ length call.now.words.now }
     ensures { IsJudged (authenticated_by (call_of call.now) (P.rows pkinit.now) client.now name.now request.now (Some padata.now)).gives (reply_key_as client.now result) }
 {
-    let asked = PkinitCall {
+    let pkinit_call = PkinitCall {
         realm: call.realm,
         skew: call.skew(),
         client: name,
@@ -118,10 +118,10 @@ fn agree_by<P: Pkinit>(
         moment: call.moment,
         words: call.words,
     };
-    let agreed = pkinit.judge(alloc, &asked, padata)?;
+    let agreed = pkinit.judge(alloc, &pkinit_call, padata)?;
     let (secret, reply) = parts_of(agreed);
     let key = agreed_key(alloc, client.suite(), secret)?;
-    Ok(Authenticated::ByCertificate(key, reply))
+    Ok(Preauthentication::ByCertificate(key, reply))
 }
 
 // The secret and the data of PA-PK-AS-REP.

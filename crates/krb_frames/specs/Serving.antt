@@ -58,9 +58,9 @@ module _ (replies : List ℕ → Micros → List ℕ → Option (List ℕ) → T
   Run old (reply ∷ done) new = (mid : Left) × Step old reply mid × Run mid done new
 
   -- what was written of the next reply: a front of its frame where the write failed, and else nothing
-  abbrev pub IsPart : Left → ServeFault → List ℕ → Type 0
-  IsPart s Write part = (reply : List ℕ) × (after : Left) × (n : ℕ) × Step s reply after × (part ≡ take n (framed reply))
-  IsPart s fault part = part ≡ []
+  abbrev pub IsReplyFront : Left → ServeFault → List ℕ → Type 0
+  IsReplyFront s Write part = (reply : List ℕ) × (after : Left) × (n : ℕ) × Step s reply after × (part ≡ take n (framed reply))
+  IsReplyFront s fault part = part ≡ []
 
 -- `wants message`: whether the responder may need memory to answer the message
 module _ (replies : List ℕ → Micros → List ℕ → Option (List ℕ) → Type 0) (wants : List ℕ → Type 0) where
@@ -94,7 +94,7 @@ module _ (replies : List ℕ → Micros → List ℕ → Option (List ℕ) → T
   abbrev pub IsServed : Left → List ℕ → Result ℕ ServeFault → Left → Type 0
   IsServed start written result new = (done : List (List ℕ)) × (s : Left) × Run replies start done s × MatchResult result
       (λ count. (front_of s.stream ≡ Ended) × (new ≡ s) × (written ≡ concat (map framed done)) × (count ≡ min (length done) (2 ^ 64 - 1)))
-      (λ fault. StopsBy s fault new × (part : List ℕ) × IsPart replies s fault part × (written ≡ concat (map framed done) ++ part))
+      (λ fault. StopsBy s fault new × (part : List ℕ) × IsReplyFront replies s fault part × (written ≡ concat (map framed done) ++ part))
 
 -- calls of `next` gave these moments, then none where the fault is `NoMoment`, and left this iterator
 abbrev pub Draws : {M : Type 0} → (M → Option Micros → M → Type 0) → Result ℕ ServeFault → M → List Micros → M → Type 0

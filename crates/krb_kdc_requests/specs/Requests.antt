@@ -64,11 +64,11 @@ body_bytes body = der (kdc_req_body_tree body)
 -- Ignored: other options (forwardable, proxiable, allow-postdate, renewable, renewable-ok, ..): the ticket has none of them (RFC 4120,
 -- section 5.4.1). Test: `as harmless options`, `tgs harmless options`.
 abbrev pub header_rows : ℕ → Bytes → KdcReq → Table (Result (Unit {0}) Code)
-header_rows kind realm request =
+header_rows message_type realm request =
     -- `pvno` is 5 (RFC 4120, section 5.4.1). Test: `as pvno`, `tgs pvno`.
     refuse (not (is_number KERBEROS_VERSION request.pvno.0)) KDC_ERR_BAD_PVNO
     -- `msg-type` is 10 in an AS-REQ, and 12 in a TGS-REQ (RFC 4120, section 5.4.1). Test: `as msg-type`, `tgs msg-type`.
-    (refuse (not (is_number kind request.msg_type.0)) KRB_AP_ERR_MSG_TYPE
+    (refuse (not (is_number message_type request.msg_type.0)) KRB_AP_ERR_MSG_TYPE
     -- `realm` is this realm, character by character (RFC 4120, section 5.4.1). Test: `as realm`, `tgs realm`.
     (refuse (not (is_same_realm (body_of request).realm.0 realm)) KDC_ERR_WRONG_REALM
     -- Of `kdc-options`, renew, validate, forwarded, proxy and enc-tkt-in-skey are refused (RFC 4120, section 5.4.1). Test:

@@ -25,13 +25,17 @@ use picky_asn1::wrapper::{BitStringAsn1, GeneralStringAsn1, OctetStringAsn1};
 use std::alloc::{AllocError, Global};
 
 /// Judges a request's header: it has to be of version 5, of this message type and to this realm, without a refused option.
-pub fn check_header(kind: u8, realm: &GeneralStringAsn1, request: &KdcReq) -> Result<(), Refusal>
-    ensures { IsJudged (header_rows kind realm.now request.now).gives result }
+pub fn check_header(
+    message_type: u8,
+    realm: &GeneralStringAsn1,
+    request: &KdcReq,
+) -> Result<(), Refusal>
+    ensures { IsJudged (header_rows message_type realm.now request.now).gives result }
 {
     if !is_number(&request.pvno.0, KERBEROS_VERSION) {
         return Err(Refusal::Krb(error_codes::KDC_ERR_BAD_PVNO));
     }
-    if !is_number(&request.msg_type.0, u32::from(kind)) {
+    if !is_number(&request.msg_type.0, u32::from(message_type)) {
         return Err(Refusal::Krb(error_codes::KRB_AP_ERR_MSG_TYPE));
     }
     let body = &request.req_body.0;

@@ -31,14 +31,14 @@ pub fn end_of(
 ) -> GeneralizedTime
     ensures { seconds_of result ≡ end_of settings.lifetime (seconds_of start) (option_map seconds_of old) (seconds_of till) }
 {
-    let asked = if till.seconds() == NO_END {
+    let requested = if till.seconds() == NO_END {
         LAST_SECOND
     } else {
         till.seconds()
     };
     let old = old_end(old).min(LAST_SECOND);
     let greatest = (start.seconds() + settings.lifetime()).min(old);
-    GeneralizedTime::from_seconds(asked.min(greatest))
+    GeneralizedTime::from_seconds(requested.min(greatest))
 }
 
 // The presented ticket's endtime, in a TGS exchange.
