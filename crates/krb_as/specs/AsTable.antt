@@ -1,4 +1,4 @@
--- What an AS request is answered, in parts of one table, row by row: the first case that holds counts (RFC 4120, section 3.1.3).
+-- The outcome of an AS request, in parts of one table, row by row: the first case that holds counts (RFC 4120, section 3.1.3).
 use Rattle.std.specs.Prelude.{◌*◌, Bool, false, not, List, Option, None, Some, Result, Ok, Err}
 use Rattle.std.specs.List.{list_any}
 use Rattle.std.specs.Option.{option_map_or}
@@ -28,7 +28,7 @@ use Rattle.krb_as.specs.Grants.{granted}
 use Rattle.krb_kdc_requests.specs.Requests.{body_of, client_of, header_rows, lasting, padata_in, service_of}
 use Rattle.krb_kdc_requests.specs.declared.span.Span.{Span}
 
--- the ticket is to start later than the moment and the skew
+-- `from` is later than the moment by more than the skew
 abbrev pub is_later : CallRecord → KdcReqBody → Bool
 is_later call body = option_map_or (λ from. is_before (skew_of call) call.moment (seconds_of from.0.0 * 1000000)) body.from.0 false
 
@@ -46,7 +46,7 @@ possible call suite body =
     refuse (not (is_listed suite body)) KDC_ERR_ETYPE_NOSUPP
     (done (Ok span))))
 
--- the client shows that it has its key by an encrypted timestamp
+-- the client proves by an encrypted timestamp that it has its key
 abbrev pub timestamped : CallRecord → AccountRecord → List PaData → Table (Result (Unit {0}) Code)
 timestamped call client padata =
     -- Padata PA-ENC-TIMESTAMP is there; of several the first counts (RFC 4120, section 5.2.7.2). Test: `as no preauthentication`,
@@ -61,7 +61,7 @@ timestamped call client padata =
     refuse (is_far (skew_of call) call.moment time) KRB_AP_ERR_SKEW
     (done (Ok tt)))))
 
--- the key under which the client is replied to: its own, or by certificate the key that both agree on (RFC 4556, section 3.2.3.1)
+-- the reply key: the client's own, or by certificate the key that both agree on (RFC 4556, section 3.2.3.1)
 abbrev pub authenticated_by : CallRecord → PkinitRows → AccountRecord → List Bytes → KdcReq → Option Bytes → Table (Result ReplyKeyRecord Code)
 authenticated_by call rows client name request None =
     and_then (timestamped call client (padata_in request)) (λ _.

@@ -1,4 +1,4 @@
--- The ticket that a realm grants in an AS exchange (RFC 4120, section 3.1.3).
+-- The first ticket, which a realm grants in an AS exchange (RFC 4120, section 3.1.3).
 use Rattle.std.specs.Prelude.{true, Result}
 use Rattle.picky_asn1.specs.Bytes.{Bytes}
 use Rattle.krb_accounts.specs.Account.{AccountRecord}

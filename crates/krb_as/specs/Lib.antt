@@ -1,3 +1,3 @@
-pub mod Authenticated
+pub mod Preauthentication
 pub mod Grants
 pub mod AsTable

@@ -1,12 +1,12 @@
 //! Granting a first ticket.
 ghost use Rattle.std.specs.Prelude.{◌≡◌, ◌≤◌, Ok, length, IfOk};
 ghost use Rattle.krb_tickets.specs.ReplyKeys.{reply_key_of};
-ghost use Rattle.krb_as.specs.Authenticated.{reply_key_by};
+ghost use Rattle.krb_as.specs.Preauthentication.{reply_key_by};
 ghost use Rattle.krb_kdc_requests.specs.Call.{call_of};
 ghost use Rattle.krb_as.specs.Grants.{first_ticket, granted, principals_of};
 ghost use Rattle.krb_tickets.specs.Grant.{grant_of};
 
-use crate::judge::Authenticated;
+use crate::judge::Preauthentication;
 use krb_accounts::Account;
 use krb_kdc_requests::{Call, Span, session_key};
 use krb_messages::messages::KdcReqBody;
@@ -14,25 +14,25 @@ use krb_tickets::{Grant, ReplyKey, TicketFlags, ticket_reply};
 use krb_types::data_types::PrincipalName;
 use std::alloc::{AllocError, Global};
 
-/// Who asks for a ticket for whom, with their accounts.
+/// The client and the service of a request, with their accounts.
 #[derive(Clone, Copy, Drop)]
 pub(crate) struct Principals<'a> {
-    /// The client, as it named itself.
+    /// The request's `cname`.
     pub(crate) client_name: &'a PrincipalName,
-    /// Its account.
+    /// The client's account.
     pub(crate) client: &'a Account,
-    /// The service, as the client named it.
+    /// The request's `sname`.
     pub(crate) service_name: &'a PrincipalName,
-    /// Its account.
+    /// The service's account.
     pub(crate) service: &'a Account,
 }
 
-/// The reply with a ticket that lasts so long (RFC 4120, section 3.1.3).
+/// Makes the reply with the first ticket, under the reply key (RFC 4120, section 3.1.3).
 pub(crate) fn grant(
     alloc: Global,
     call: &Call<'_>,
     principals: Principals,
-    authenticated: &Authenticated,
+    authenticated: &Preauthentication,
     span: Span,
     body: &KdcReqBody,
 ) -> Result<Vec<u8>, AllocError>
@@ -46,17 +46,17 @@ pub(crate) fn grant(
     made
 }
 
-// The key under which the client is replied to.
-fn reply_key_by<'a>(authenticated: &'a Authenticated, client: &'a Account) -> ReplyKey<'a>
+// The reply key: the client's own, or the key that both agreed on.
+fn reply_key_by<'a>(authenticated: &'a Preauthentication, client: &'a Account) -> ReplyKey<'a>
     ensures { reply_key_of result ≡ reply_key_by client.now authenticated.now }
 {
     match authenticated {
-        Authenticated::ByTimestamp => ReplyKey::of_client(client),
-        Authenticated::ByCertificate(key, reply) => ReplyKey::of_agreement(key, reply),
+        Preauthentication::ByTimestamp => ReplyKey::of_client(client),
+        Preauthentication::ByCertificate(key, reply) => ReplyKey::of_agreement(key, reply),
     }
 }
 
-// What the ticket is granted with.
+// Makes what the first ticket is granted with: a session key of the client's suite, and the request's names and nonce.
 fn first_ticket<'a>(
     alloc: Global,
     call: &Call<'a>,

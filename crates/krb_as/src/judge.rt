@@ -1,7 +1,7 @@
-//! Judging AS requests: the rows of a realm's table, part by part.
+//! Judges AS requests by the rows of a realm's table, part by part.
 ghost use Rattle.std.specs.Prelude.{◌≡◌, ◌≤◌, length, Some};
 ghost use Rattle.krb_as.specs.AsTable.{authenticated, authenticated_by, is_later, is_listed, possible, timestamped};
-ghost use Rattle.krb_as.specs.Authenticated.{reply_key_as};
+ghost use Rattle.krb_as.specs.Preauthentication.{reply_key_as};
 ghost use Rattle.krb_kdc_requests.specs.Call.{call_of};
 ghost use Rattle.krb_types.specs.Refusals.{IsJudged};
 
@@ -20,7 +20,7 @@ use picky_asn1::wrapper::GeneralStringAsn1;
 use pkinit_interface::{Agreed, Pkinit, PkinitCall};
 use std::alloc::Global;
 
-/// Judges the ticket's times and its suite.
+/// Judges the ticket's times, and whether `etype` lists the suite of the client's key.
 pub(crate) fn check_possible(
     call: &Call<'_>,
     suite: CipherSuite,
@@ -38,7 +38,7 @@ pub(crate) fn check_possible(
     Ok(span)
 }
 
-// The ticket is to start later than the moment and the skew.
+// Whether `from` is later than the moment by more than the skew.
 fn is_later(call: &Call<'_>, body: &KdcReqBody) -> bool
     ensures { result ≡ is_later (call_of call.now) body.now }
 {
@@ -48,7 +48,7 @@ fn is_later(call: &Call<'_>, body: &KdcReqBody) -> bool
     }
 }
 
-// The client takes the suite.
+// Whether `etype` lists the suite.
 fn is_listed(suite: CipherSuite, body: &KdcReqBody) -> bool
     ensures { result ≡ is_listed suite body.now }
 {
@@ -60,16 +60,16 @@ fn is_listed(suite: CipherSuite, body: &KdcReqBody) -> bool
         .any(|etype| is_number(etype, number))
 }
 
-/// How a client was authenticated.
+/// The preauthentication by which a client was authenticated.
 #[derive(Drop)]
-pub(crate) enum Authenticated {
+pub(crate) enum Preauthentication {
     /// By an encrypted timestamp.
     ByTimestamp,
     /// By certificate, with the key that both agreed on, and the data of PA-PK-AS-REP.
     ByCertificate(Key, Vec<u8>),
 }
 
-/// Authenticates the client of this name.
+/// Authenticates the client: by PA-PK-AS-REQ where it is there, else by PA-ENC-TIMESTAMP.
 pub(crate) fn authenticate<P: Pkinit>(
     alloc: Global,
     call: &Call<'_>,
@@ -77,14 +77,14 @@ pub(crate) fn authenticate<P: Pkinit>(
     client: &Account,
     name: &[GeneralStringAsn1],
     request: &KdcReq,
-) -> Result<Authenticated, Refusal>
+) -> Result<Preauthentication, Refusal>
     requires { 128 ≤ length call.now.words.now }
     ensures { IsJudged (authenticated (call_of call.now) (P.rows pkinit.now) client.now name.now request.now).gives (reply_key_as client.now result) }
 {
     let padata = padata_in(request);
     let Some(pk_as_req) = first_of(padata, PA_PK_AS_REQ) else {
         check_timestamp(alloc, call, client, padata)?;
-        return Ok(Authenticated::ByTimestamp);
+        return Ok(Preauthentication::ByTimestamp);
     };
     agree_by(
         alloc,
@@ -97,7 +97,7 @@ pub(crate) fn authenticate<P: Pkinit>(
     )
 }
 
-// The same by the data of PA-PK-AS-REQ.
+// Authenticates the client by the data of PA-PK-AS-REQ, and derives the key that both agreed on (RFC 4556, section 3.2.3.1).
 fn agree_by<P: Pkinit>(
     alloc: Global,
     call: &Call<'_>,
@@ -106,11 +106,11 @@ fn agree_by<P: Pkinit>(
     name: &[GeneralStringAsn1],
     request: &KdcReq,
     padata: &[u8],
-) -> Result<Authenticated, Refusal>
+) -> Result<Preauthentication, Refusal>
     requires { 128 ≤ length call.now.words.now }
     ensures { IsJudged (authenticated_by (call_of call.now) (P.rows pkinit.now) client.now name.now request.now (Some padata.now)).gives (reply_key_as client.now result) }
 {
-    let asked = PkinitCall {
+    let pkinit_call = PkinitCall {
         realm: call.realm,
         skew: call.skew(),
         client: name,
@@ -118,19 +118,20 @@ fn agree_by<P: Pkinit>(
         moment: call.moment,
         words: call.words,
     };
-    let agreed = pkinit.judge(alloc, &asked, padata)?;
+    let agreed = pkinit.judge(alloc, &pkinit_call, padata)?;
     let (secret, reply) = parts_of(agreed);
     let key = agreed_key(alloc, client.suite(), secret)?;
-    Ok(Authenticated::ByCertificate(key, reply))
+    Ok(Preauthentication::ByCertificate(key, reply))
 }
 
+// The secret and the data of PA-PK-AS-REP.
 fn parts_of(agreed: Agreed) -> (Vec<u8>, Vec<u8>)
     ensures { (result.0 ≡ agreed.secret) × (result.1 ≡ agreed.reply) }
 {
     (agreed.secret, agreed.reply)
 }
 
-// Judges what shows that the client has its key: an encrypted timestamp near the moment (RFC 4120, section 5.2.7.2).
+// Judges whether the client proves that it has its key, by an encrypted timestamp near the moment (RFC 4120, section 5.2.7.2).
 fn check_timestamp(
     alloc: Global,
     call: &Call<'_>,

@@ -1,4 +1,4 @@
-//! What holds of every AS request.
+//! Laws of every AS request.
 ghost use Rattle.std.specs.Prelude.{◌≡◌, ℕ, List, [], ◌∷◌, Some, IsSome};
 ghost use Rattle.asn1_der.specs.Length.{element};
 ghost use Rattle.krb_kdc_requests.specs.Requests.{body_of, padata_in};

@@ -1,4 +1,4 @@
-//! The AS exchange as a realm sees it (RFC 4120, section 3.1): its table and the code of each row.
+//! The AS exchange of a realm (RFC 4120, section 3.1): its table and the code of each row.
 #![tactic(auto)]
 
 mod grant;

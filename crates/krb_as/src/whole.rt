@@ -1,4 +1,4 @@
-//! Judging an AS request as a whole.
+//! Judges an AS request by the whole table.
 ghost use Rattle.std.specs.Prelude.{◌≤◌, length};
 ghost use Rattle.std.specs.Option.{option_copied};
 ghost use Rattle.krb_as.specs.AsTable.{as_table};
@@ -16,8 +16,8 @@ use krb_types::Refusal;
 use pkinit_interface::Pkinit;
 use std::alloc::Global;
 
-/// The reply that grants a first ticket, or the code of the error, by the table of the realm that is called, of these
-/// accounts of client and service, if they have one (RFC 4120, section 3.1.3).
+/// Judges an AS request by the realm's table, for the accounts of client and service if they have one (RFC 4120, section
+/// 3.1.3). It gives the reply that grants the first ticket, or the error code.
 pub fn judge_as<P: Pkinit>(
     alloc: Global,
     call: &Call<'_>,

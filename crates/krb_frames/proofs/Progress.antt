@@ -7,7 +7,7 @@ use Rattle.std.proofs.KnownBytes.{Appends-nil, Appends-trans, Appends-kept, Keep
 use Rattle.krb_frames.specs.declared.fault.ServeFault.{ServeFault}
 use Rattle.krb_frames.specs.declared.fault.ServeFault.TheVariants.{Truncated, FrameTooLong, NoRequest, Read, Write, NoWords, NoMoment, ReplyTooLong, Memory}
 use Rattle.krb_frames.specs.Frames.{Ended, Whole, front_of, framed}
-use Rattle.krb_frames.specs.Serving.{Left, at, Run, Step, Asks, TakesMoment, IsReply, IsServed, StopsBy, IsPart, Draws}
+use Rattle.krb_frames.specs.Serving.{Left, at, Run, Step, Asks, TakesMoment, IsReply, IsServed, StopsBy, IsReplyFront, Draws}
 use Rattle.krb_frames.specs.Steps.{IsFrontFault, IsStepFault, IsAnswered}
 
 -- serving ended so
@@ -93,7 +93,7 @@ module _ (replies : List ℕ → ℕ → List ℕ → Option (List ℕ) → Type
       stopped : (taken : List ℕ) (left : List ℕ → List ℕ) (fault : ServeFault) (new_stream new_words new : Option (List ℕ)) (end : M) (rest more : List ℕ)
           → Draws gives (Failed fault) start taken end → Keeps written new → new_stream ≡ Some rest → new_words ≡ Some more
           → ((later : List ℕ) → (Failed fault ≡ Failed NoMoment → later ≡ []) → Run replies (at (taken ++ later) stream words) p.done (at (left later) p.rest p.more)
-          × StopsBy replies wants (at (left later) p.rest p.more) fault (at later rest more) × IsPart replies (at (left later) p.rest p.more) fault [])
+          × StopsBy replies wants (at (left later) p.rest p.more) fault (at later rest more) × IsReplyFront replies (at (left later) p.rest p.more) fault [])
           → Shows new_stream new_words new end (Failed fault)
       stopped taken left fault new_stream new_words new end rest more draws keeps stream_known words_known why = (
         taken,
@@ -162,7 +162,7 @@ module _ (replies : List ℕ → ℕ → List ℕ → Option (List ℕ) → Type
           -- it stopped at this frame, of whose reply nothing was written
           stopped_here : (fault : ServeFault) (new_words new : Option (List ℕ)) (more : List ℕ) → Draws gives (Failed fault) start (p.taken ++ moment ∷ []) next → Keeps written new
               → new_words ≡ Some more → ((later : List ℕ) → StopsBy replies wants (at (moment ∷ later) p.rest p.more) fault (at later rest more)
-              × IsPart replies (at (moment ∷ later) p.rest p.more) fault []) → Shows new_stream new_words new next (Failed fault)
+              × IsReplyFront replies (at (moment ∷ later) p.rest p.more) fault []) → Shows new_stream new_words new next (Failed fault)
           stopped_here fault new_words new more draws keeps words_known why =
               stopped (p.taken ++ moment ∷ []) (λ l. moment ∷ l) fault new_stream new_words new next rest more draws keeps known words_known
               (λ later _. let q = why later in (run_with moment later, q.0, q.1))

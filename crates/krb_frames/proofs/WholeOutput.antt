@@ -5,7 +5,7 @@ use Rattle.std.proofs.lemmas.List.{nil_from_length}
 use Rattle.krb_frames.specs.declared.fault.ServeFault.{ServeFault}
 use Rattle.krb_frames.specs.declared.fault.ServeFault.TheVariants.{Truncated, FrameTooLong, NoRequest, Read, Write, NoWords, NoMoment, ReplyTooLong, Memory}
 use Rattle.krb_frames.specs.Frames.{framed}
-use Rattle.krb_frames.specs.Serving.{Left, Run, Step, IsServed, IsPart, IsFinal, IsFrontOf}
+use Rattle.krb_frames.specs.Serving.{Left, Run, Step, IsServed, IsReplyFront, IsFinal, IsFrontOf}
 use Rattle.krb_frames.proofs.Turns.{Why, same_asks, no_step, same_result, same_left}
 
 concat-map-append : (done more : List (List ℕ)) → concat (map framed (done ++ more)) ≡ concat (map framed done) ++ concat (map framed more)
@@ -62,7 +62,7 @@ module _ (replies : List ℕ → ℕ → List ℕ → Option (List ℕ) → Type
     count : IfOk result (λ n. n ≡ min (length done) (2 ^ 64 - 1))
     final : IsFinal result → part ≡ []
 
-  part_of : (s : Left) (fault : ServeFault) (part : List ℕ) → IsPart replies s fault part → Part s part
+  part_of : (s : Left) (fault : ServeFault) (part : List ℕ) → IsReplyFront replies s fault part → Part s part
   part_of s Truncated part is = inl is
   part_of s FrameTooLong part is = inl is
   part_of s NoRequest part is = inl is
@@ -73,7 +73,7 @@ module _ (replies : List ℕ → ℕ → List ℕ → Option (List ℕ) → Type
   part_of s ReplyTooLong part is = inl is
   part_of s Memory part is = inl is
 
-  no_part : (s : Left) (fault : ServeFault) (part : List ℕ) → IsPart replies s fault part → IsFinal (Failed fault) → part ≡ []
+  no_part : (s : Left) (fault : ServeFault) (part : List ℕ) → IsReplyFront replies s fault part → IsFinal (Failed fault) → part ≡ []
   no_part s Truncated part is final = is
   no_part s FrameTooLong part is final = is
   no_part s NoRequest part is final = is

@@ -8,7 +8,7 @@ use Rattle.krb_frames.specs.declared.fault.ServeFault.TheVariants.{Truncated, Fr
 abbrev pub announced : List ℕ → ℕ
 announced stream = big_number 4 stream
 
--- how many bytes reading the first frame takes at most: its length, and its message where that isn't too long
+-- the most bytes that reading the first frame consumes: its length, and its message where that isn't too long
 abbrev pub frame_room : List ℕ → ℕ
 frame_room stream = if nat_lt 65536 (announced stream) then 4 else 4 + announced stream
 
@@ -37,14 +37,14 @@ front_of stream =
     else Whole (take (announced stream) (drop 4 stream)) (drop (announced stream) (drop 4 stream)))
     else Ended
 
--- two bytes in their frame, and a frame with a byte after it
+-- worked: two bytes in their frame, and a frame with a byte after it
 framed-example : framed (7 ∷ 8 ∷ []) ≡ 0 ∷ 0 ∷ 0 ∷ 2 ∷ 7 ∷ 8 ∷ []
 framed-example = refl
 
 front_of-example : front_of (0 ∷ 0 ∷ 0 ∷ 2 ∷ 7 ∷ 8 ∷ 9 ∷ []) ≡ Whole (7 ∷ 8 ∷ []) (9 ∷ [])
 front_of-example = refl
 
--- three bytes are no length, and 65,537 is too long
+-- worked: three bytes are no length, and 65,537 is too long
 truncated-example : front_of (0 ∷ 0 ∷ 0 ∷ []) ≡ Bad Truncated
 truncated-example = refl
 

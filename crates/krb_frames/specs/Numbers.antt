@@ -5,10 +5,12 @@ use Rattle.krb_frames.specs.declared.fault.AnswerRefusal.TheVariants as refusal
 use Rattle.krb_frames.specs.declared.fault.ServeFault.{ServeFault}
 use Rattle.krb_frames.specs.declared.fault.ServeFault.TheVariants.{Truncated, FrameTooLong, NoRequest, Read, Write, NoWords, NoMoment, ReplyTooLong, Memory}
 
+-- the number of a responder's refusal
 abbrev pub refusal_number : AnswerRefusal → ℕ
 refusal_number refusal.Unreadable = 1
 refusal_number refusal.Memory = 2
 
+-- the number of a fault that stops serving
 abbrev pub fault_number : ServeFault → ℕ
 fault_number Truncated = 1
 fault_number FrameTooLong = 2

@@ -7,7 +7,7 @@ use Rattle.krb_frames.specs.declared.fault.ServeFault.{ServeFault}
 use Rattle.krb_frames.specs.declared.fault.ServeFault.TheVariants.{Truncated, FrameTooLong, NoRequest, Read, Write, NoWords, NoMoment, ReplyTooLong, Memory}
 use Rattle.krb_frames.specs.Frames.{Ended, Bad, Whole, announced, frame_room, front_of, framed}
 
--- a fact of the bytes of a device, where they are known
+-- the property holds of the bytes of a device, where they are known
 abbrev pub WhereKnown : Option (List ℕ) → (List ℕ → Type 0) → Type 0
 WhereKnown known P = (bytes : List ℕ) → known ≡ Some bytes → P bytes
 
@@ -17,10 +17,11 @@ pub record Left : Type 0 where
   pub stream : List ℕ
   pub words : List ℕ
 
+-- these moments, this stream and these random bytes are still to be served
 abbrev pub at : List Micros → List ℕ → List ℕ → Left
 at moments stream words = record { moments = moments; stream = stream; words = words }
 
--- the next frame is whole and takes the next moment; the random bytes aside `new` is left
+-- the next frame is whole and takes the next moment, which leaves `new` but for its random bytes
 abbrev pub TakesMoment : Left → Left → Type 0
 TakesMoment old new = (message : List ℕ) × (moment : Micros) × (front_of old.stream ≡ Whole message new.stream) × (old.moments ≡ moment ∷ new.moments)
 
@@ -32,11 +33,11 @@ BreaksFrame old new = (n : ℕ) × (n ≤ frame_room old.stream) × (new ≡ at 
 abbrev pub BreaksWords : Left → Left → Type 0
 BreaksWords old new = TakesMoment old new × (n : ℕ) × (n ≤ 128) × (new.words ≡ drop n old.words)
 
--- the next frame's length was read, and there was no memory for the message
+-- the next frame's length was read, and memory ran out for the message
 abbrev pub LacksRoom : Left → Left → Type 0
 LacksRoom old new = (4 ≤ length old.stream) × (announced old.stream ≤ 65536) × (new ≡ at old.moments (drop 4 old.stream) old.words)
 
--- `replies message moment words answer`: whether a responder may answer so. None is of bytes that are no request
+-- `replies message moment words answer`: whether the responder may answer so; the answer is none where the bytes are no request
 module _ (replies : List ℕ → Micros → List ℕ → Option (List ℕ) → Type 0) where
   -- 128 random bytes are there, and with them the message may be answered so
   abbrev pub IsReply : List ℕ → Micros → List ℕ → Option (List ℕ) → Type 0
@@ -56,24 +57,24 @@ module _ (replies : List ℕ → Micros → List ℕ → Option (List ℕ) → T
   Run old [] new = new ≡ old
   Run old (reply ∷ done) new = (mid : Left) × Step old reply mid × Run mid done new
 
-  -- what stands of the next reply: a front of its frame where the write failed, and else nothing
-  abbrev pub IsPart : Left → ServeFault → List ℕ → Type 0
-  IsPart s Write part = (reply : List ℕ) × (after : Left) × (n : ℕ) × Step s reply after × (part ≡ take n (framed reply))
-  IsPart s fault part = part ≡ []
+  -- what was written of the next reply: a front of its frame where the write failed, and else nothing
+  abbrev pub IsReplyFront : Left → ServeFault → List ℕ → Type 0
+  IsReplyFront s Write part = (reply : List ℕ) × (after : Left) × (n : ℕ) × Step s reply after × (part ≡ take n (framed reply))
+  IsReplyFront s fault part = part ≡ []
 
--- and `wants message`: whether the responder may want memory for the message
+-- `wants message`: whether the responder may need memory to answer the message
 module _ (replies : List ℕ → Micros → List ℕ → Option (List ℕ) → Type 0) (wants : List ℕ → Type 0) where
-  -- the responder wanted memory for the next message, which took its moment and 128 random bytes
+  -- memory ran out while the responder answered the next message, which took its moment and 128 random bytes
   abbrev pub LacksAnswer : Left → Left → Type 0
   LacksAnswer old new = (message : List ℕ) × (moment : Micros) × (front_of old.stream ≡ Whole message new.stream)
       × (old.moments ≡ moment ∷ new.moments) × (128 ≤ length old.words) × (new.words ≡ drop 128 old.words) × wants message
 
-  -- the next frame has a reply, and there was no memory for its frame
+  -- the next frame has a reply, and memory ran out for the reply's frame
   abbrev pub LacksFrame : Left → Left → Type 0
   LacksFrame old new = (reply : List ℕ) × Step replies old reply new
 
-  -- why serving stops where this is left, and what it then leaves. A message that is no request is answered before any growth of a reply:
-  -- memory is wanting for the message, for an answer to it where the responder may want it, or for the frame of a reply that it has
+  -- serving stops by this fault where `s` is left to serve, and leaves `new`. Memory runs out for a message, for its answer where the
+  -- responder may need memory for it, or for the frame of its reply; so bytes that are no request are found however little memory there is
   abbrev pub StopsBy : Left → ServeFault → Left → Type 0
   StopsBy s Truncated new = (front_of s.stream ≡ Bad Truncated) × (new ≡ at s.moments [] s.words)
   StopsBy s FrameTooLong new = (front_of s.stream ≡ Bad FrameTooLong) × (new ≡ at s.moments (drop 4 s.stream) s.words)
@@ -89,19 +90,19 @@ module _ (replies : List ℕ → Micros → List ℕ → Option (List ℕ) → T
   StopsBy s ReplyTooLong new = (reply : List ℕ) × Asks replies s (Some reply) new × (65536 < length reply)
   StopsBy s Memory new = LacksRoom s new ⊎ LacksAnswer s new ⊎ LacksFrame s new
 
-  -- what was written, the answer and what is left: the frames of a run's replies, up to where serving stops
+  -- what was written is the frames of a run's replies, up to where serving stops with this result and leaves `new`
   abbrev pub IsServed : Left → List ℕ → Result ℕ ServeFault → Left → Type 0
   IsServed start written result new = (done : List (List ℕ)) × (s : Left) × Run replies start done s × MatchResult result
       (λ count. (front_of s.stream ≡ Ended) × (new ≡ s) × (written ≡ concat (map framed done)) × (count ≡ min (length done) (2 ^ 64 - 1)))
-      (λ fault. StopsBy s fault new × (part : List ℕ) × IsPart replies s fault part × (written ≡ concat (map framed done) ++ part))
+      (λ fault. StopsBy s fault new × (part : List ℕ) × IsReplyFront replies s fault part × (written ≡ concat (map framed done) ++ part))
 
--- calls of `next` gave these moments, then none where that is the fault, and left this iterator
+-- calls of `next` gave these moments, then none where the fault is `NoMoment`, and left this iterator
 abbrev pub Draws : {M : Type 0} → (M → Option Micros → M → Type 0) → Result ℕ ServeFault → M → List Micros → M → Type 0
 Draws gives (Ok _) start taken end = Yields gives start taken end
 Draws gives (Err NoMoment) start taken end = YieldsThen gives start taken None end
 Draws gives (Err _) start taken end = Yields gives start taken end
 
--- the stream was served as far as it can be: no device and no memory failed
+-- serving ended without a fault of a device or of memory
 abbrev pub IsFinal : Result ℕ ServeFault → Type 0
 IsFinal (Ok _) = ⊤
 IsFinal (Err Read) = ⊥
@@ -109,5 +110,6 @@ IsFinal (Err Write) = ⊥
 IsFinal (Err Memory) = ⊥
 IsFinal (Err _) = ⊤
 
+-- the second list begins with the first
 abbrev pub IsFrontOf : {A : Type 0} → List A → List A → Type 0
 IsFrontOf {A} xs ys = (more : List A) × (ys ≡ xs ++ more)

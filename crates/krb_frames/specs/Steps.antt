@@ -8,33 +8,34 @@ use Rattle.krb_frames.specs.declared.fault.ServeFault.TheVariants.{Truncated, Fr
 use Rattle.krb_frames.specs.Frames.{Bad, announced, frame_room, front_of, framed}
 use Rattle.krb_frames.specs.Serving.{IsReply}
 
--- a reader's count of failures after a fault, and a writer's
+-- a reader's count of failures after a fault
 abbrev pub after_read_fault : ℕ → ServeFault → ℕ
 after_read_fault old Read = one_more old
 after_read_fault old _ = old
 
+-- a writer's count of failures after a fault
 abbrev pub after_write_fault : ℕ → ServeFault → ℕ
 after_write_fault old Write = one_more old
 after_write_fault old _ = old
 
--- the first n bytes of a buffer were read from a stream, and leave these: none where there was more room
+-- the first n bytes of the buffer were read from the stream, which has `left`; it has none where the buffer isn't full
 pub record IsFilled (stream : List ℕ) (left : Option (List ℕ)) (buffer : List ℕ) (n : ℕ) : Type 0 where
   pub rest : List ℕ
   pub known : left ≡ Some rest
   pub whole : stream ≡ take n buffer ++ rest
   pub ends : n < length buffer → rest ≡ []
 
--- these bytes were read from a stream, and leave the rest
+-- these bytes were read from the stream, which has the rest left
 pub record IsTaken (stream : List ℕ) (left : Option (List ℕ)) (bytes : List ℕ) : Type 0 where
   pub rest : List ℕ
   pub known : left ≡ Some rest
   pub whole : stream ≡ bytes ++ rest
 
--- of a stream these many bytes at most were read before its reader failed
+-- at most so many bytes of the stream were read before its reader failed
 abbrev pub IsBroken : List ℕ → Option (List ℕ) → ℕ → Type 0
 IsBroken stream left room = (n : ℕ) × (n ≤ room) × (left ≡ Some (drop n stream))
 
--- the stream's front is why no frame was read, and these bytes are left
+-- no frame was read from the stream by this fault, and these bytes are left
 abbrev pub IsFrontFault : List ℕ → Option (List ℕ) → ServeFault → Type 0
 IsFrontFault stream left Truncated = (front_of stream ≡ Bad Truncated) × (left ≡ Some [])
 IsFrontFault stream left FrameTooLong = (front_of stream ≡ Bad FrameTooLong) × (left ≡ Some (drop 4 stream))
@@ -42,14 +43,14 @@ IsFrontFault stream left Read = IsBroken stream left (frame_room stream)
 IsFrontFault stream left Memory = (4 ≤ length stream) × (announced stream ≤ 65536) × (left ≡ Some (drop 4 stream))
 IsFrontFault stream left _ = ⊥
 
--- why a message of this size was not read, and these bytes are left
+-- a message of this size was not read by this fault, and these bytes are left
 abbrev pub IsMessageStop : List ℕ → Option (List ℕ) → ℕ → ServeFault → Type 0
 IsMessageStop stream left size Truncated = (length stream < size) × (left ≡ Some [])
 IsMessageStop stream left size Read = IsBroken stream left size
 IsMessageStop stream left size Memory = left ≡ Some stream
 IsMessageStop stream left size _ = ⊥
 
--- why a message has no random bytes, and these are left
+-- a message got no random bytes by this fault, and these are left
 abbrev pub IsWordsStop : List ℕ → Option (List ℕ) → ServeFault → Type 0
 IsWordsStop words left NoWords = (length words < 128) × (left ≡ Some [])
 IsWordsStop words left Read = IsBroken words left 128
@@ -103,7 +104,7 @@ module _ (replies : List ℕ → Micros → List ℕ → Option (List ℕ) → T
   abbrev pub LacksMemory : List ℕ → Micros → List ℕ → Type 0
   LacksMemory message moment words = wants message ⊎ ((reply : List ℕ) × IsReply replies message moment words (Some reply) × (length reply ≤ 65536))
 
-  -- why a message was not answered, what was written of its reply, and the random bytes that are left
+  -- a message was not answered by this fault; so much of its reply was written, and these random bytes are left
   abbrev pub IsStepFault : List ℕ → Micros → List ℕ → Option (List ℕ) → Option (List ℕ) → Option (List ℕ) → ServeFault → Type 0
   IsStepFault message moment words old new left NoWords = (length words < 128) × Keeps old new × (left ≡ Some [])
   IsStepFault message moment words old new left NoRequest = IsReply replies message moment words None × Keeps old new × (left ≡ Some (drop 128 words))

@@ -1,11 +1,11 @@
-//! Why a message gets no reply, and why serving stops.
+//! The refusals of a responder, and the faults that stop serving.
 ghost use Rattle.std.specs.Prelude.{◌≡◌};
 ghost use Rattle.krb_frames.specs.declared.fault.AnswerRefusal.TheVariants as answer_refusal;
 
 use std::alloc::AllocError;
 use thiserror::Error;
 
-/// Why a responder gives no reply.
+/// A responder's refusal to reply.
 #[derive(Clone, Copy, Debug, PartialEq, Eq, Error)]
 pub enum AnswerRefusal {
     /// The message is no request.
@@ -35,7 +35,7 @@ impl From<AllocError> for AnswerRefusal {
     }
 }
 
-/// Why serving stopped before the end of the stream. It is shown as its name.
+/// A fault by which serving stopped before the end of the stream. It prints as its name.
 #[derive(Clone, Copy, Debug, PartialEq, Eq, Error)]
 pub enum ServeFault {
     /// The stream ended within a frame.

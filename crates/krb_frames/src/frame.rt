@@ -1,4 +1,4 @@
-//! One frame: read, answered and written.
+//! Reads one frame, answers its message and writes the reply's frame.
 ghost use Rattle.std.specs.Prelude.{◌≡◌, ℕ, ◌<◌, ◌≤◌, List, length, take, drop, Some, None, IfOk, IfErr, MatchOption, MatchResult};
 ghost use Rattle.std.specs.Io.KnownBytes.{Appends};
 ghost use Rattle.krb_frames.specs.Frames.{front_of, framed};
@@ -12,14 +12,14 @@ use byteorder::{BigEndian, ByteOrder};
 use krb_time::Moment;
 use std::alloc::{AllocError, Global};
 
-/// How many random bytes a message is answered with.
+/// The number of random bytes with which a message is answered.
 pub const WORDS_NEEDED: usize = 128;
 
-/// How many bytes a message or a reply may have.
+/// The most bytes of a message or a reply.
 pub const FRAME_LIMIT: usize = 65_536;
 
-// Fills `buffer`, and gives how many bytes were read: fewer than there is room for only at the end
-// of the stream.
+// Fills `buffer`, and returns the number of bytes that were read. It is less than the buffer's length at the end of the stream
+// alone.
 fn fill<R: Source>(reader: &mut R, buffer: &mut [u8]) -> Result<usize, ServeFault>
     ensures bound { IfOk result (λ n. n ≤ length buffer.new) }
     ensures front { WhereKnown (R.left reader.old) (λ stream. MatchResult result (λ n. IsFilled stream (R.left reader.new) buffer.new n)
@@ -34,7 +34,7 @@ fn fill<R: Source>(reader: &mut R, buffer: &mut [u8]) -> Result<usize, ServeFaul
     }
 }
 
-// The next `size` bytes.
+// Reads a message of `size` bytes.
 fn read_message<R: Source>(
     alloc: Global,
     reader: &mut R,
@@ -55,7 +55,7 @@ fn read_message<R: Source>(
     Ok(message)
 }
 
-// The next message, or none at the end of the stream.
+// Reads the next frame: its message, or none at the end of the stream.
 pub(crate) fn read_frame<R: Source>(
     alloc: Global,
     reader: &mut R,
@@ -84,7 +84,7 @@ pub(crate) fn read_frame<R: Source>(
     Ok(Some(message))
 }
 
-// The 128 random bytes of one message.
+// Reads the 128 random bytes of one message.
 fn read_words<K: Source>(words_reader: &mut K) -> Result<[u8; WORDS_NEEDED], ServeFault>
     ensures front { WhereKnown (K.left words_reader.old) (λ words. MatchResult result
         (λ taken. (taken ≡ take 128 words) × (128 ≤ length words) × (K.left words_reader.new ≡ Some (drop 128 words)))
@@ -102,7 +102,7 @@ fn read_words<K: Source>(words_reader: &mut K) -> Result<[u8; WORDS_NEEDED], Ser
     Ok(words)
 }
 
-// A reply in its frame: its length and its bytes.
+// Makes the frame of a reply: its length in four octets, and its bytes.
 fn frame_of(alloc: Global, reply: &[u8]) -> Result<Vec<u8>, AllocError>
     requires { length reply.now ≤ 65536 }
     ensures { IfOk result (λ frame. frame.items ≡ framed reply.now) }
@@ -115,7 +115,7 @@ fn frame_of(alloc: Global, reply: &[u8]) -> Result<Vec<u8>, AllocError>
     Ok(frame)
 }
 
-// Writes a reply in its frame, all in one write where the writer takes all.
+// Writes the frame of a reply, in one call where the writer takes all.
 fn write_frame<W: Sink>(alloc: Global, writer: &mut W, reply: &[u8]) -> Result<(), ServeFault>
     requires { length reply.now ≤ 65536 }
     ensures written { MatchResult result (λ _. Appends (W.written writer.old) (W.written writer.new) (framed reply.now))
@@ -133,7 +133,7 @@ fn write_frame<W: Sink>(alloc: Global, writer: &mut W, reply: &[u8]) -> Result<(
     }
 }
 
-// Answers one message: with the next 128 random bytes, and in one frame.
+// Answers one message with the next 128 random bytes, and writes the reply in one frame.
 pub(crate) fn answer_frame<A: Responder, K: Source, W: Sink>(
     alloc: Global,
     responder: &A,

@@ -1,4 +1,4 @@
-//! What holds of every run of serving.
+//! Laws of every run of serving.
 ghost use Rattle.std.specs.Prelude.{◌≡◌, ℕ, ◌≤◌, ◌⊎◌, List, length, map, Result};
 ghost use Rattle.std.specs.List.{concat};
 ghost use Rattle.krb_frames.specs.Frames.{framed};
@@ -14,9 +14,8 @@ pub fn runs_agree<A: Responder>()
         → Run (A.replies responder) start more t → IsFrontOf done more ⊎ IsFrontOf more done }
 {}
 
-/// Where no device and no memory failed, what was written is the one output of these moments, stream
-/// and random bytes, the answer the one answer, and what is left the same. Whatever was written else is
-/// a front of it. It does nothing when it runs: its contract is the law.
+/// Where no device failed and memory didn't run out, the output of these moments, stream and random bytes is one, and so are the
+/// result and what is left. What any other run writes is a front of it. It does nothing when it runs: its contract is the law.
 pub fn output_is_whole<A: Responder>()
     ensures front { (responder : A) (start s t : Left) (all part : List ℕ) (whole other : Result ℕ ServeFault) → IsFinal whole
         → IsServed (A.replies responder) (A.may_want_memory responder) start all whole s

@@ -1,8 +1,8 @@
 //! Messages in frames: the loop that answers a stream of requests.
 //!
 //! A frame is a message after its length in four bytes, the highest first (RFC 4120, section 7.2.2).
-//! [`serve`] reads frames to the end of a stream and writes each reply in a frame of its own. Who
-//! replies is a [`Responder`]. Each message is answered at the next moment and with the next 128
+//! [`serve`] reads frames to the end of a stream and writes each reply in a frame of its own. A
+//! [`Responder`] replies. Each message is answered at the next moment and with the next 128
 //! random bytes.
 #![tactic(auto)]
 

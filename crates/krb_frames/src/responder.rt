@@ -1,22 +1,21 @@
-//! Who replies to messages.
+//! A responder: it replies to messages.
 ghost use Rattle.std.specs.Prelude.{◌≡◌, ℕ, List, Option, None, Some, IfErr, MatchResult, length};
 
 use crate::AnswerRefusal;
 use krb_time::Moment;
 use std::alloc::Global;
 
-/// Who replies to messages, each at a moment and with 128 random bytes.
+/// A responder replies to messages, each at a moment and with 128 random bytes.
 pub trait Responder {
     ghost use Rattle.krb_frames.specs.declared.fault.AnswerRefusal.{AnswerRefusal};
 
-    // The reply that a message may have at a moment with these random bytes. None is of bytes that
-    // are no request.
+    // Whether a message may have this reply at a moment with these random bytes. It is none where the bytes are no request.
     ghost replies: { Self → List ℕ → ℕ → List ℕ → Option (List ℕ) → Type 0 };
 
-    // Whether answering a message may want memory. Any other is answered however little memory there is.
+    // Whether answering a message may need memory. Any other is answered however little memory there is.
     ghost may_want_memory: { Self → List ℕ → Type 0 };
 
-    /// The reply to `message`. Only `Unreadable` says that it is no request.
+    /// Replies to `message`. The refusal `Unreadable` alone says that it is no request.
     fn answer(
         &self,
         alloc: Global,

@@ -11,23 +11,22 @@ use byte_streams::{Sink, Source};
 use krb_time::Moment;
 use std::alloc::Global;
 
-/// Answers each frame of `reader` in a frame of `writer`, to the end of the stream, and gives how
-/// many were answered, held at the greatest `u64`.
+/// Answers each frame of `reader` in a frame of `writer`, to the end of the stream. It returns the
+/// number of frames that were answered, or the greatest `u64` where that is less.
 ///
 /// Each message takes the next moment and the next 128 random bytes of `words_reader`. A frame's faults
 /// come in this order: the stream ends within it or it is too long, no moment is left, too few
 /// random bytes are left, the message is no request, the reply is too long, the write fails. A fault
 /// leaves the replies before it written, and no part of the next but where the write failed.
 ///
-/// No more is taken: of `reader` the frames up to the last one read, or four bytes where that is too
-/// long, and of `words_reader` nothing for a frame that has no moment. Memory is asked for once a
-/// frame's length is read and not too long, and then once its moment and its random bytes are taken, so
-/// a fault that is found before that is answered however little memory there is. A message that is no
-/// request is answered `NoRequest` before any growth of a reply: `Memory` may be answered in its place
-/// only where the responder may want memory for it (`Responder::answer`).
+/// `reader` is read up to the end of the last frame, or of four bytes where a frame is too long.
+/// `words_reader` isn't read for a frame that has no moment. A message is allocated once its length is
+/// read and not too long. A reply is allocated once the moment and the random bytes are taken. A fault
+/// that is found before needs no memory. A message that is no request stops serving with `NoRequest`.
+/// `Memory` may take its place only where the responder may need memory for it (`Responder::answer`).
 ///
-/// A reply is handed to `writer`, in one call where that takes all, before the next frame is read. A
-/// writer that buffers would hold it back.
+/// A reply is written to `writer`, in one call where that takes all, before the next frame is read. A
+/// writer with a buffer may delay it.
 pub fn serve<A: Responder, R: Source, W: Sink, M: Iterator<Item = Moment> + Drop, K: Source>(
     alloc: Global,
     responder: &A,
@@ -39,7 +38,7 @@ pub fn serve<A: Responder, R: Source, W: Sink, M: Iterator<Item = Moment> + Drop
     requires can { M.can_next moments }
     requires ends { IsFinite (M.remaining moments) }
 
-    // What was written, the answer and what is left are a run over the moments that were taken, and
+    // What was written, the result and what is left are a run over the moments that were taken, and
     // over any that may come after them.
     ensures output { WhereKnown (R.left reader.old) (λ stream. WhereKnown (K.left words_reader.old) (λ words.
         (taken written rest more : List ℕ) × DrainsIf M.next_gives (result ≡ Err ServeFault.NoMoment) moments taken
@@ -51,7 +50,7 @@ pub fn serve<A: Responder, R: Source, W: Sink, M: Iterator<Item = Moment> + Drop
         → (R.failed reader.new ≡ one_more (R.failed reader.old)) ⊎ (K.failed words_reader.new ≡ one_more (K.failed words_reader.old)) }
     ensures write_failed { result ≡ Err ServeFault.Write → W.failed writer.new ≡ one_more (W.failed writer.old) }
 
-    // No failed call is passed over.
+    // A call of a device that failed is reported.
     ensures read_kept { result ≢ Err ServeFault.Read
         → (R.failed reader.new ≡ R.failed reader.old) × (K.failed words_reader.new ≡ K.failed words_reader.old) }
     ensures write_kept { result ≢ Err ServeFault.Write → W.failed writer.new ≡ W.failed writer.old }
@@ -59,7 +58,7 @@ pub fn serve<A: Responder, R: Source, W: Sink, M: Iterator<Item = Moment> + Drop
     serve_frames(alloc, responder, reader, writer, &mut moments, words_reader)
 }
 
-// The loop over the frames. Of `moments` one is taken for each frame.
+// The loop over the frames. Each frame takes one of `moments`.
 fn serve_frames<A: Responder, R: Source, W: Sink, M: Iterator<Item = Moment>, K: Source>(
     alloc: Global,
     responder: &A,
@@ -80,7 +79,7 @@ fn serve_frames<A: Responder, R: Source, W: Sink, M: Iterator<Item = Moment>, K:
         → (R.failed reader.new ≡ one_more (R.failed reader.old)) ⊎ (K.failed words_reader.new ≡ one_more (K.failed words_reader.old)) }
     ensures write_failed { result ≡ Err ServeFault.Write → W.failed writer.new ≡ one_more (W.failed writer.old) }
 
-    // No failed call is passed over.
+    // A call of a device that failed is reported.
     ensures read_kept { result ≢ Err ServeFault.Read
         → (R.failed reader.new ≡ R.failed reader.old) × (K.failed words_reader.new ≡ K.failed words_reader.old) }
     ensures write_kept { result ≢ Err ServeFault.Write → W.failed writer.new ≡ W.failed writer.old }

@@ -1,4 +1,4 @@
--- What a realm answers a request by.
+-- A call to a realm: what it judges a request by.
 use Rattle.std.specs.Prelude.{◌*◌, List}
 use Rattle.krb_types.specs.RandomBytes.{Random}
 use Rattle.krb_time.specs.Units.{Micros}
@@ -17,6 +17,7 @@ pub record CallRecord : Type 0 where
   pub moment : Micros
   pub words : Random
 
+-- the call of the code, as definitions see it
 abbrev pub call_of : held.Call → CallRecord
 call_of call = record {
   realm = call.realm.now;
@@ -26,11 +27,11 @@ call_of call = record {
   words = call.words.now;
 }
 
--- the skew that the settings say
+-- the clock skew of the realm's settings, in microseconds
 abbrev pub skew_of : CallRecord → Micros
 skew_of call = call.settings.skew * 1000000
 
--- the same for a request by certificate, with the client's name as the request has it, and the request's body
+-- the call by which a request by certificate is judged, with the client's name as the request has it, and the request's body
 abbrev pub pkinit_call : CallRecord → List Bytes → KdcReqBody → PkinitCallRecord
 pkinit_call call name body = record {
   realm = call.realm;

@@ -1,4 +1,4 @@
--- What a call to a realm's table is.
+-- The premises on a call to a realm: a moment that KerberosTime has, enough random bytes, and keys of their suites' length.
 use Rattle.std.specs.Prelude.{◌≡◌, ◌≤◌, List, length, Some}
 use Rattle.picky_asn1.specs.Bytes.{Bytes}
 use Rattle.aes_cts.specs.Bytes.{IsBytes}
@@ -8,7 +8,7 @@ use Rattle.krb_accounts.specs.Account.{AccountRecord}
 use Rattle.krb_accounts.specs.Accounts.{Look}
 use Rattle.krb_kdc_requests.specs.Call.{CallRecord}
 
--- the account's key is one of its suite
+-- the account's key has the length of its suite, and is bytes
 pub record IsKeyed (account : AccountRecord) : Type 0 where
   pub sized : length account.key ≡ cipher_key_size account.suite
   pub bytes : IsBytes account.key
@@ -17,7 +17,7 @@ pub record IsKeyed (account : AccountRecord) : Type 0 where
 abbrev pub AreKeyed : Look → Type 0
 AreKeyed look = (name : List Bytes) (account : AccountRecord) → look name ≡ Some account → IsKeyed account
 
--- a moment of the years 0 to 9999, 128 random bytes, and accounts whose keys are keys
+-- the call has a moment of the years 0 to 9999, 128 random bytes, and accounts whose keys are of their suites
 pub record IsCall (call : CallRecord) : Type 0 where
   pub in_time : IsMoment call.moment
   pub enough : 128 ≤ length call.words

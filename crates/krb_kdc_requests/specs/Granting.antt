@@ -12,7 +12,7 @@ use Rattle.krb_tickets.specs.Grant.{GrantRecord}
 use Rattle.krb_tickets.specs.ReplyKeys.{ReplyKeyRecord}
 use Rattle.krb_tickets.specs.Granted.{IsTicketReply, sole_ticket_reply}
 
--- memory aside, the reply's bytes are an outcome of the table's
+-- unless memory runs out, the reply's bytes or the error code are the outcome of the table
 abbrev pub IsGranted : (Result Bytes Code → Type 0) → Result (Vec ℕ Global) Refusal → Type 0
 IsGranted gives (Ok bytes) = gives (Ok bytes.items)
 IsGranted gives (Err (Krb code)) = gives (Err code)

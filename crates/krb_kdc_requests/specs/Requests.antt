@@ -1,4 +1,4 @@
--- What a request to a KDC asks for, and what AS and TGS requests are judged by alike (RFC 4120, sections 3.1.3, 3.3.3, 5.4.1).
+-- The fields of a KDC-REQ, and the rows that AS and TGS requests share (RFC 4120, sections 3.1.3, 3.3.3, 5.4.1).
 use Rattle.std.specs.Prelude.{◌≡◌, ℕ, nat_le, Bool, not, ◌||◌, List, [], Option, None, Some, Result, Ok}
 use Rattle.std.specs.Option.{option_map, option_map_or}
 use Rattle.std.proofs.Common.{sym, ◌∙◌}
@@ -33,13 +33,15 @@ has_refused_option options =
 abbrev pub is_postdated : Bits → Bool
 is_postdated options = bit_of options POSTDATED
 
+-- the body's `cname`
 abbrev pub client_of : KdcReqBody → Option PrincipalName
 client_of body = option_map (λ tagged. tagged.0) body.cname.0
 
+-- the body's `sname`
 abbrev pub service_of : KdcReqBody → Option PrincipalName
 service_of body = option_map (λ tagged. tagged.0) body.sname.0
 
--- the account of a name, where the name is given and has one
+-- the account of a name, or none where no name is given or the name has no account
 abbrev pub account_of : Look → Option PrincipalName → Option AccountRecord
 account_of look None = None
 account_of look (Some name) = look (components name)
@@ -56,11 +58,11 @@ padata_in request = option_map_or (λ tagged. tagged.0) request.padata.0 []
 -- Ignored: other options (forwardable, proxiable, allow-postdate, renewable, renewable-ok, ..): the ticket has none of them (RFC 4120,
 -- section 5.4.1). Test: `as harmless options`, `tgs harmless options`.
 abbrev pub header_rows : ℕ → Bytes → KdcReq → Table (Result (Unit {0}) Code)
-header_rows kind realm request =
+header_rows message_type realm request =
     -- `pvno` is 5 (RFC 4120, section 5.4.1). Test: `as pvno`, `tgs pvno`.
     refuse (not (is_number KERBEROS_VERSION request.pvno.0)) KDC_ERR_BAD_PVNO
     -- `msg-type` is 10 in an AS-REQ, and 12 in a TGS-REQ (RFC 4120, section 5.4.1). Test: `as msg-type`, `tgs msg-type`.
-    (refuse (not (is_number kind request.msg_type.0)) KRB_AP_ERR_MSG_TYPE
+    (refuse (not (is_number message_type request.msg_type.0)) KRB_AP_ERR_MSG_TYPE
     -- `realm` is this realm, character by character (RFC 4120, section 5.4.1). Test: `as realm`, `tgs realm`.
     (refuse (not (is_same_realm (body_of request).realm.0 realm)) KDC_ERR_WRONG_REALM
     -- Of `kdc-options`, renew, validate, forwarded, proxy and enc-tkt-in-skey are refused (RFC 4120, section 5.4.1). Test:
@@ -71,18 +73,19 @@ header_rows kind realm request =
     (refuse (is_postdated (body_of request).kdc_options.0) KDC_ERR_CANNOT_POSTDATE
     (done (Ok tt))))))
 
--- a ticket lasts from the second of the moment on; where it is granted by an older ticket, not past that one's end
+-- a ticket starts in the second of the moment; its endtime is at most the presented ticket's, in a TGS exchange
 pub record IsSpan (lifetime : Seconds) (moment : Micros) (old : Option Seconds) (till : Seconds) (span : Span) : Type 0 where
   pub starts : seconds_of span.start ≡ start_of moment
   pub ends : seconds_of span.until ≡ end_of lifetime (start_of moment) old till
 
+-- a ticket has one starttime and one endtime
 pub sole_span : (lifetime : Seconds) (moment : Micros) (old : Option Seconds) (till : Seconds) → IsSole (IsSpan lifetime moment old till)
 sole_span lifetime moment old till a b x y = λ i. record {
   start = seconds_of-injective a.start b.start (x.starts ∙ sym y.starts) i;
   until = seconds_of-injective a.until b.until (x.ends ∙ sym y.ends) i;
 }
 
--- it ends where it starts, or earlier
+-- the endtime isn't after the starttime
 abbrev pub is_ended : Span → Bool
 is_ended span = nat_le (seconds_of span.until) (seconds_of span.start)
 

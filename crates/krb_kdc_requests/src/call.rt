@@ -1,11 +1,11 @@
-//! What a realm answers a request by.
+//! A call to a realm: what it judges a request by.
 ghost use Rattle.std.specs.Prelude.{◌≡◌, ◌≤◌};
 
 use krb_accounts::{Accounts, Settings};
 use krb_time::{MICROSECONDS_IN_SECOND, Moment};
 use picky_asn1::wrapper::GeneralStringAsn1;
 
-/// A call to a realm: its name, settings and accounts, the moment, and random bytes, of which the first 128 count.
+/// A call to a realm: its name, settings and accounts, the moment, and random bytes.
 #[derive(Clone, Copy)]
 pub struct Call<'a> {
     /// The realm's name.
@@ -16,14 +16,14 @@ pub struct Call<'a> {
     pub accounts: &'a Accounts,
     /// The moment at which it is called.
     pub moment: Moment,
-    /// The random bytes.
+    /// The random bytes, of which the first 128 are used.
     pub words: &'a [u8],
 }
 
 impl Call<'_> {
     ghost use Rattle.krb_kdc_requests.specs.Call.{call_of, skew_of};
 
-    /// The realm's skew in microseconds, a day at most.
+    /// The realm's clock skew in microseconds, a day at most.
     pub fn skew(&self) -> u64
         ensures value { result ≡ skew_of (call_of self.now) }
         ensures most { result ≤ 86400000000 }

@@ -1,4 +1,5 @@
-//! What requests to a KDC share (RFC 4120, sections 3.1, 3.3 and 5.4): names, times and what is asked for.
+//! What AS and TGS requests share (RFC 4120, sections 3.1, 3.3 and 5.4): reading them, their header's rows, the names in them and
+//! the ticket's times.
 #![tactic(auto)]
 
 mod call;

@@ -1,4 +1,4 @@
-//! What a request to a KDC asks for, and what AS and TGS requests are judged by alike.
+//! The fields of a KDC-REQ, and the rows that AS and TGS requests share.
 ghost use Rattle.std.specs.Prelude.{◌≡◌, ◌≤◌, length, IfOk};
 ghost use Rattle.std.specs.Option.{option_copied, option_map};
 ghost use Rattle.krb_accounts.specs.Accounts.{look_in};
@@ -24,14 +24,18 @@ use picky_asn1::is_number;
 use picky_asn1::wrapper::{BitStringAsn1, GeneralStringAsn1, OctetStringAsn1};
 use std::alloc::{AllocError, Global};
 
-/// Judges whether a request is of this message type and to this realm, and its options.
-pub fn check_header(kind: u8, realm: &GeneralStringAsn1, request: &KdcReq) -> Result<(), Refusal>
-    ensures { IsJudged (header_rows kind realm.now request.now).gives result }
+/// Judges a request's header: it has to be of version 5, of this message type and to this realm, without a refused option.
+pub fn check_header(
+    message_type: u8,
+    realm: &GeneralStringAsn1,
+    request: &KdcReq,
+) -> Result<(), Refusal>
+    ensures { IsJudged (header_rows message_type realm.now request.now).gives result }
 {
     if !is_number(&request.pvno.0, KERBEROS_VERSION) {
         return Err(Refusal::Krb(error_codes::KDC_ERR_BAD_PVNO));
     }
-    if !is_number(&request.msg_type.0, u32::from(kind)) {
+    if !is_number(&request.msg_type.0, u32::from(message_type)) {
         return Err(Refusal::Krb(error_codes::KRB_AP_ERR_MSG_TYPE));
     }
     let body = &request.req_body.0;
@@ -47,7 +51,7 @@ pub fn check_header(kind: u8, realm: &GeneralStringAsn1, request: &KdcReq) -> Re
     Ok(())
 }
 
-// One of forwarded, proxy, enc-tkt-in-skey, renew and validate (RFC 4120, section 5.4.1).
+// Whether forwarded, proxy, enc-tkt-in-skey, renew or validate is set (RFC 4120, section 5.4.1).
 fn has_refused_option(options: &BitStringAsn1) -> bool
     ensures { result ≡ has_refused_option options.now }
 {
@@ -58,13 +62,14 @@ fn has_refused_option(options: &BitStringAsn1) -> bool
         || options.bit(kdc_options::VALIDATE)
 }
 
+// Whether postdated is set (RFC 4120, section 5.4.1).
 fn is_postdated(options: &BitStringAsn1) -> bool
     ensures { result ≡ is_postdated options.now }
 {
     options.bit(kdc_options::POSTDATED)
 }
 
-/// The client, where the request names one.
+/// The body's `cname`.
 pub fn client_of(body: &KdcReqBody) -> Option<&PrincipalName>
     ensures { option_copied result ≡ client_of body.now }
 {
@@ -74,7 +79,7 @@ pub fn client_of(body: &KdcReqBody) -> Option<&PrincipalName>
     }
 }
 
-/// The service, where the request names one.
+/// The body's `sname`.
 pub fn service_of(body: &KdcReqBody) -> Option<&PrincipalName>
     ensures { option_copied result ≡ service_of body.now }
 {
@@ -84,7 +89,7 @@ pub fn service_of(body: &KdcReqBody) -> Option<&PrincipalName>
     }
 }
 
-/// The account of a name, where the name is given and has one.
+/// The account of a name, or none where no name is given or the name has no account.
 pub fn account_of<'a>(accounts: &'a Accounts, name: Option<&PrincipalName>) -> Option<&'a Account>
     ensures { option_copied result ≡ account_of (look_in accounts.now) (option_copied name.entry) }
 {
@@ -104,8 +109,8 @@ pub fn padata_in(request: &KdcReq) -> &[PaData]
     }
 }
 
-/// How long a ticket may last that is asked for at a moment, by an older ticket that ends in its second, if there is one. It
-/// isn't granted where it would end as it starts.
+/// The starttime and endtime of a ticket that is granted at a moment. `old` is the presented ticket's endtime, in a TGS
+/// exchange. A ticket that would end where it starts, or earlier, is refused.
 pub fn lasting(
     settings: Settings,
     moment: Moment,
@@ -123,14 +128,14 @@ pub fn lasting(
     Ok(span)
 }
 
-// It ends where it starts, or earlier.
+// Whether the endtime isn't after the starttime.
 fn is_ended(span: Span) -> bool
     ensures { result ≡ is_ended span }
 {
     span.until.seconds() <= span.start.seconds()
 }
 
-/// The key of a session, of this suite: that of its seed among the random bytes.
+/// Makes a session key of this suite, of its seed among the random bytes.
 pub fn session_key(
     alloc: Global,
     suite: CipherSuite,

@@ -1,4 +1,4 @@
--- The error message of a realm (RFC 4120, section 5.9.1).
+-- The KRB-ERROR of a realm (RFC 4120, section 5.9.1).
 use Rattle.std.specs.Prelude.{Option, None, pos}
 use Rattle.std.specs.Option.{option_map}
 use Rattle.krb_time.specs.Units.{Micros}
@@ -19,7 +19,7 @@ ticket_service realm = record {
   name_string = record { 0 = krbtgt_of realm };
 }
 
--- the error with this code, at a time and its microseconds, about a service; no optional field but the data
+-- the KRB-ERROR with this code, stime, susec and sname; of the optional fields it has `e-data` alone
 abbrev pub error_of : Bytes → GeneralizedTime → Micros → PrincipalName → Code → Option Bytes → KrbErrorInner
 error_of realm time microseconds service code e_data = record {
   pvno = record { 0 = pos KERBEROS_VERSION };
@@ -37,5 +37,6 @@ error_of realm time microseconds service code e_data = record {
   e_data = record { 0 = option_map (λ bytes. record { 0 = bytes }) e_data };
 }
 
+-- the DER encoding of that KRB-ERROR
 abbrev pub error_bytes : Bytes → GeneralizedTime → Micros → PrincipalName → Code → Option Bytes → Bytes
 error_bytes realm time microseconds service code e_data = der (krb_error_tree (error_of realm time microseconds service code e_data))

@@ -1,4 +1,4 @@
--- A reply rests on the accounts involved alone.
+-- A reply depends on the accounts that its request involves alone.
 use Rattle.std.specs.Prelude.{◌≡◌, ◌⊎◌, List, Option, Some}
 use Rattle.picky_asn1.specs.Bytes.{Bytes}
 use Rattle.krb_messages.specs.declared.messages.kdc_req.KdcReq.{KdcReq}
@@ -16,8 +16,8 @@ use Rattle.krb_replies.specs.Replies.{Replies}
 abbrev pub IsNamed : Option PrincipalName → List Bytes → Type 0
 IsNamed name these = (given : PrincipalName) × (name ≡ Some given) × (these ≡ components given)
 
--- the bytes are an AS request of this client, or for this service; or a TGS request, and these are the ticket-granting
--- service, the service, or the client of the ticket that the request comes with
+-- the bytes are an AS-REQ of this client, or for this service; or a TGS-REQ, and these are the ticket-granting service, the service,
+-- or the presented ticket's client
 abbrev pub IsInvolved : CallRecord → Bytes → List Bytes → Type 0
 IsInvolved call bytes these =
     ((request : KdcReq) × IsAsReq bytes request

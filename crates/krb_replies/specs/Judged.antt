@@ -1,4 +1,4 @@
--- What is judged of a request, with what an error tells.
+-- The outcome of a request's table with an error's e-data, and the reply that it makes.
 use Rattle.std.specs.Prelude.{◌≡◌, ℕ, ◌%◌, Option, Result, Ok, Err, Vec}
 use Rattle.std.specs.Global.{Global}
 use Rattle.std.specs.Option.{option_map}
@@ -13,12 +13,12 @@ use Rattle.krb_time.specs.SecondOf.{IsSecondOf}
 use Rattle.krb_replies.specs.Replies.{named_service}
 use Rattle.krb_replies.specs.declared.kdc_error.KdcError.{KdcError}
 
--- the reply's bytes are an outcome of the table's, or the error's code is, with the e-data that belongs to it
+-- the reply's bytes are the outcome of the table, or the error code is, and the e-data belongs to this code
 abbrev pub IsJudgement : (Result Bytes Code → Type 0) → (Code → Option Bytes) → Result (Vec ℕ Global) KdcError → Type 0
 IsJudgement gives e_data (Ok bytes) = gives (Ok bytes.items)
 IsJudgement gives e_data (Err kdc_error) = gives (Err kdc_error.code) × (option_map (λ h. h.items) kdc_error.e_data ≡ e_data kdc_error.code)
 
--- the bytes are what was granted, or the error that tells this about the request's service, in the second of the moment
+-- the bytes are the reply that was granted, or the KRB-ERROR about the request's service, in the second of the moment
 abbrev pub IsAnswerWith : CallRecord → KdcReq → Result (Vec ℕ Global) KdcError → Bytes → Type 0
 IsAnswerWith call request (Ok reply) bytes = bytes ≡ reply.items
 IsAnswerWith call request (Err kdc_error) bytes =

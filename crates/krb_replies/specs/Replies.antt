@@ -18,7 +18,7 @@ use Rattle.krb_tgs.specs.TgsTable.{tgs_table}
 use Rattle.krb_replies.specs.Errors.{ticket_service, error_bytes}
 use Rattle.krb_time.specs.SecondOf.{IsSecondOf, sole_second}
 
--- the service that an error names: the request's, or the realm's ticket-granting service
+-- the sname of a KRB-ERROR: the request's, and without one the realm's ticket-granting service
 abbrev pub named_service : Bytes → Option PrincipalName → PrincipalName
 named_service realm None = ticket_service realm
 named_service realm (Some name) = name
@@ -64,7 +64,7 @@ replies call rows request =
     -- Test: `as outer tag!`, `as damaged bytes!`, `as length long!`.
     ask (IsAsReq request) (sole_as_req request)
     -- The bytes are the DER encoding of a TGS-REQ with nothing after it, else there is no reply (RFC 4120, section 5.4.1). Test:
-    -- `tgs byte behind!`, `tgs damaged bytes!`, `message a KRB-ERROR!`.
+    -- `tgs length one more!`, `tgs damaged bytes!`, `message a KRB-ERROR!`.
     (ask (IsTgsReq request) (sole_tgs_req request) (done None) (tgs_reply call))
     (λ v. as_reply call rows (account_of call.look (client_of (body_of v))) (account_of call.look (service_of (body_of v))) v)
 
@@ -72,7 +72,7 @@ replies call rows request =
 unfoldable pub Replies : CallRecord → PkinitRows → Bytes → Option Bytes → Type 0
 Replies call rows request reply = (replies call rows request).gives reply
 
--- there is one at most
+-- a message has one reply at most
 pub one_reply : (call : CallRecord) (rows : PkinitRows) (request : Bytes) (a b : Option Bytes) → Replies call rows request a → Replies call rows request b → a ≡ b
 unfolding Replies
 one_reply call rows request = (replies call rows request).one

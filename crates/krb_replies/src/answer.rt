@@ -1,4 +1,4 @@
-//! The answers to requests, and the error that answers one.
+//! Replies to requests: a ticket, or a KRB-ERROR.
 ghost use Rattle.std.specs.Prelude.{◌≡◌, ◌≤◌, ◌%◌, None, Some, IfOk, length};
 ghost use Rattle.std.specs.Option.{option_copied, option_map};
 ghost use Rattle.asn1_leaves.specs.declared.date.GeneralizedTime.{GeneralizedTime};
@@ -27,8 +27,8 @@ use krb_types::data_types::PrincipalName;
 use pkinit_interface::Pkinit;
 use std::alloc::{AllocError, Global};
 
-/// The reply to an AS request: a ticket, or the error with its code (RFC 4120, section 3.1; RFC 4556, section 3.1). `pkinit`
-/// judges a request by certificate. It lends the request on, so that one way out alone drops it.
+/// The reply to an AS request: a ticket, or the KRB-ERROR with its code (RFC 4120, section 3.1; RFC 4556, section 3.1). `pkinit`
+/// judges a request by certificate. The request is borrowed below, so that it is dropped once.
 pub fn as_reply<P: Pkinit>(
     alloc: Global,
     call: &Call<'_>,
@@ -43,7 +43,7 @@ pub fn as_reply<P: Pkinit>(
     as_reply_to(alloc, call, pkinit, &request)
 }
 
-/// The reply to a TGS request: a ticket, or the error with its code (RFC 4120, section 3.3). It lends the request on.
+/// The reply to a TGS request: a ticket, or the KRB-ERROR with its code (RFC 4120, section 3.3). The request is borrowed below.
 pub fn tgs_reply(alloc: Global, call: &Call<'_>, request: KdcReq) -> Result<Vec<u8>, AllocError>
     requires { 128 ≤ length call.now.words.now }
     ensures { IfOk result (λ bytes. (tgs_reply (call_of call.now) request).gives (Some bytes.items)) }
@@ -51,7 +51,7 @@ pub fn tgs_reply(alloc: Global, call: &Call<'_>, request: KdcReq) -> Result<Vec<
     tgs_reply_to(alloc, call, &request)
 }
 
-// The reply to an AS request.
+// The reply to a borrowed AS request.
 fn as_reply_to<P: Pkinit>(
     alloc: Global,
     call: &Call<'_>,
@@ -67,7 +67,7 @@ fn as_reply_to<P: Pkinit>(
     judged_reply(alloc, call, request, judged)
 }
 
-// The reply to a TGS request.
+// The reply to a borrowed TGS request.
 fn tgs_reply_to(alloc: Global, call: &Call<'_>, request: &KdcReq) -> Result<Vec<u8>, AllocError>
     requires { 128 ≤ length call.now.words.now }
     ensures { IfOk result (λ bytes. (tgs_reply (call_of call.now) request.now).gives (Some bytes.items)) }
@@ -76,7 +76,7 @@ fn tgs_reply_to(alloc: Global, call: &Call<'_>, request: &KdcReq) -> Result<Vec<
     judged_reply(alloc, call, request, judged)
 }
 
-// What is granted, or the error with this code and e-data about the request's service.
+// The reply that was granted, or the KRB-ERROR with this code and e-data about the request's service.
 fn judged_reply(
     alloc: Global,
     call: &Call<'_>,
@@ -94,7 +94,7 @@ fn judged_reply(
     }
 }
 
-// The reply with the ticket that an AS request is granted, or the code and e-data of the error that answers it.
+// Judges an AS request: the reply with the ticket, or the code and e-data of the KRB-ERROR that answers it.
 fn as_judgement<P: Pkinit>(
     alloc: Global,
     call: &Call<'_>,
@@ -120,7 +120,7 @@ fn as_judgement<P: Pkinit>(
     }
 }
 
-// The reply with the ticket that a TGS request is granted, or the code and e-data of the error that answers it.
+// Judges a TGS request: the reply with the ticket, or the code of the KRB-ERROR that answers it, without e-data.
 fn tgs_judgement(
     alloc: Global,
     call: &Call<'_>,
@@ -136,8 +136,8 @@ fn tgs_judgement(
     }
 }
 
-// The error with this code and e-data that answers a request for this service. If the request names none, the error is
-// about the realm's ticket-granting service.
+// The KRB-ERROR with this code and e-data that answers a request for this service. If the request has no `sname`, the KRB-ERROR
+// has that of the realm's ticket-granting service.
 fn error_reply(
     alloc: Global,
     call: &Call<'_>,
@@ -157,8 +157,8 @@ fn error_reply(
     Ok(reply)
 }
 
-// The e-data of an error: with the one that asks for preauthentication, how the client authenticates, of PA-PK-AS-REQ where
-// PKINIT is offered.
+// The e-data of a KRB-ERROR: METHOD-DATA with KDC_ERR_PREAUTH_REQUIRED, with PA-PK-AS-REQ where PKINIT is offered, and none with
+// another code.
 fn e_data_of(
     alloc: Global,
     offered: bool,

@@ -1,4 +1,4 @@
-//! Writing errors.
+//! Writes a KRB-ERROR.
 ghost use Rattle.std.specs.Prelude.{◌≡◌, ◌%◌, IfOk};
 ghost use Rattle.std.specs.Option.{option_map};
 ghost use Rattle.asn1_leaves.specs.declared.date.GeneralizedTime.{GeneralizedTime};
@@ -22,8 +22,8 @@ use picky_asn1_der::{
 use std::alloc::{AllocError, Global};
 use std::marker::Model;
 
-// An error with no optional field but its data (RFC 4120, section 5.9.1), of a realm and a service that are borrowed. A contract
-// sees the whole message.
+// A KRB-ERROR whose one optional field is `e-data` (RFC 4120, section 5.9.1), with borrowed names of realm and service. Its model
+// is the whole message.
 #[derive(Drop)]
 struct LentError<'a> {
     pvno: ExplicitContextTag0<IntegerAsn1>,
@@ -80,7 +80,7 @@ impl<'a> Serialize for LentError<'a> {
     }
 }
 
-/// The encoding of an error with this code and e-data, at a moment, about a service (RFC 4120, section 5.9.1).
+/// Encodes the KRB-ERROR with this code and e-data, at a moment, about a service (RFC 4120, section 5.9.1).
 pub(crate) fn error_message(
     alloc: Global,
     realm: &GeneralStringAsn1,
@@ -110,7 +110,7 @@ pub(crate) fn error_message(
     Ok(bytes)
 }
 
-// The data as a field.
+// `e-data` as a field of the message.
 fn data_of(e_data: Option<Vec<u8>>) -> Option<ExplicitContextTag12<OctetStringAsn1>>
     ensures { result ≡ option_map (λ bytes. record { 0 = bytes }) (option_map (λ bytes. bytes.items) e_data) }
 {

@@ -1,10 +1,10 @@
-//! What an error says.
+//! The code and e-data of a KRB-ERROR.
 
-/// What an error that answers a request says: its code and e-data.
+/// The code and e-data of the KRB-ERROR that answers a request.
 #[derive(Drop)]
 pub(crate) struct KdcError {
     /// The code (RFC 4120, section 7.5.9).
     pub(crate) code: u32,
-    /// What belongs to the code.
+    /// The e-data that belongs to the code.
     pub(crate) e_data: Option<Vec<u8>>,
 }

@@ -1,4 +1,4 @@
-//! What holds of every realm's replies.
+//! Laws of every realm's replies.
 ghost use Rattle.std.specs.Prelude.{◌≡◌, ◌<◌, ◌^◌, ℕ, List, Option, length};
 ghost use Rattle.aes_cts.specs.Bytes.{IsBytes};
 ghost use Rattle.krb_kdc_requests.specs.Call.{CallRecord};

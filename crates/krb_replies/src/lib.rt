@@ -1,4 +1,4 @@
-//! What a realm replies: the definition over whole messages, and its answers to AS and TGS requests.
+//! Replies of a realm: their definition over whole messages, and the code that answers AS and TGS requests.
 //!
 //! `specs/Replies` is the reply as one table, a relation with at most one outcome. The rows of an exchange are those of
 //! `krb_as` and `krb_tgs`.

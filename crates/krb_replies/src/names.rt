@@ -9,7 +9,7 @@ use picky_asn1::wrapper::{Asn1SequenceOf, GeneralStringAsn1, IntegerAsn1};
 use picky_asn1_der::ExplicitContextTag;
 use std::alloc::{AllocError, Global};
 
-/// The ticket-granting service of a realm, as messages name it (RFC 4120, section 7.3).
+/// The name of a realm's ticket-granting service, of name type NT-SRV-INST (RFC 4120, sections 6.2 and 7.3).
 pub(crate) fn ticket_service(
     alloc: Global,
     realm: &GeneralStringAsn1,

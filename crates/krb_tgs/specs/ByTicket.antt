@@ -1,4 +1,4 @@
--- The older ticket that a TGS request comes with (RFC 4120, sections 3.3.1, 5.4.1).
+-- The presented ticket of a TGS request, and the accounts that the request involves (RFC 4120, sections 3.3.1, 5.4.1).
 use Rattle.std.specs.Prelude.{◌≡◌, ◌⊎◌, List, Some}
 use Rattle.picky_asn1.specs.Bytes.{Bytes}
 use Rattle.krb_accounts.specs.Account.{AccountRecord}
@@ -16,7 +16,7 @@ use Rattle.krb_kdc_requests.specs.Call.{CallRecord}
 use Rattle.krb_kdc_requests.specs.Requests.{body_of, padata_in, service_of}
 use Rattle.krb_types.specs.TicketGranting.{krbtgt_of}
 
--- the request carries a ticket that has this part, sealed under the key of the realm's ticket-granting service
+-- the request presents a ticket with this part, encrypted under the key of the realm's ticket-granting service
 pub record IsByTicket (call : CallRecord) (request : KdcReq) (ap_req : ApReqInner) (part : EncTicketPartInner) : Type 0 where
   pub value : Bytes
   pub first : first_of PA_TGS_REQ (padata_in request) ≡ Some value
@@ -25,7 +25,7 @@ pub record IsByTicket (call : CallRecord) (request : KdcReq) (ap_req : ApReqInne
   pub account : call.look (krbtgt_of call.realm) ≡ Some granting
   pub opens : IsTicketPart granting.suite granting.key (enc_part_in ap_req) part
 
--- the ticket-granting service, the service that the request names, and the client of the ticket that it comes with
+-- these are the components of the ticket-granting service, of the service that the request names, or of the presented ticket's client
 abbrev pub IsInvolvedFurther : CallRecord → KdcReq → List Bytes → Type 0
 IsInvolvedFurther call request these =
     (these ≡ krbtgt_of call.realm)

@@ -1,4 +1,4 @@
--- What a TGS request is answered, in parts of one table, row by row: the first case that holds counts (RFC 4120, section 3.3.3).
+-- The outcome of a TGS request, in parts of one table, row by row: the first case that holds counts (RFC 4120, section 3.3.3).
 use Rattle.std.specs.Prelude.{Bool, false, not, List, Option, None, Some, Result, Ok, Err, ℤ}
 use Rattle.std.specs.Bool.{nat_eq}
 use Rattle.std.specs.Cmp.Lexicographic.{pointwise}

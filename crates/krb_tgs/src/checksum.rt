@@ -16,8 +16,8 @@ use picky_asn1::is_number;
 use picky_asn1::wrapper::IntegerAsn1;
 use std::alloc::{AllocError, Global};
 
-/// Judges whether an authenticator covers the request's body: by the checksum of the session's suite, under the session's
-/// key, of the body's one encoding (RFC 4120, section 3.3.3).
+/// Judges whether the authenticator's checksum covers the request's body. It has to be of the session key's suite, under the
+/// session key, and of the body's DER encoding (RFC 4120, section 3.3.3).
 pub(crate) fn check_covered(
     alloc: Global,
     key: &Key,
@@ -42,6 +42,7 @@ pub(crate) fn check_covered(
     Ok(())
 }
 
+// The authenticator's `cksum`.
 fn checksum_in(authenticator: &AuthenticatorInner) -> Option<&Checksum>
     ensures { option_copied result ≡ checksum_in authenticator.now }
 {
@@ -51,7 +52,7 @@ fn checksum_in(authenticator: &AuthenticatorInner) -> Option<&Checksum>
     }
 }
 
-// The type is that of a suite's checksum (RFC 3961, section 6.3.2; RFC 3962, section 7; RFC 8009, section 6).
+// Whether the checksum type is a suite's (RFC 3961, section 6.3.2; RFC 3962, section 7; RFC 8009, section 6).
 fn is_known_checksum(kind: &IntegerAsn1) -> bool
     ensures { result ≡ is_known_checksum kind.now }
 {
@@ -60,7 +61,7 @@ fn is_known_checksum(kind: &IntegerAsn1) -> bool
         .any(|suite| is_number(kind, u32::from(suite)))
 }
 
-// The checksum is that of the body's encoding. Fails only if memory runs out.
+// Whether the checksum is that of the body's encoding, for key usage 6. It fails only if memory runs out.
 fn is_of_body(
     alloc: Global,
     key: &Key,

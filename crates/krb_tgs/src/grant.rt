@@ -1,4 +1,4 @@
-//! Granting a ticket by an older one.
+//! Grants a service ticket by the presented ticket.
 ghost use Rattle.std.specs.Prelude.{◌≡◌, ◌≤◌, length, IfOk};
 ghost use Rattle.std.specs.Option.{is_some, option_copied, option_map};
 ghost use Rattle.krb_kdc_requests.specs.Call.{call_of};
@@ -23,18 +23,18 @@ use picky_asn1::is_number;
 use picky_asn1::wrapper::IntegerAsn1;
 use std::alloc::{AllocError, Global};
 
-/// An AP request that a TGS request carries, opened: the ticket's part, its session key, and the authenticator under this key.
+/// What the AP-REQ of a TGS request holds, decrypted: the ticket's part, its session key, and the authenticator under this key.
 #[derive(Clone, Copy, Drop)]
 pub(crate) struct OpenedApReq<'a> {
     /// The ticket's part.
     pub(crate) part: &'a EncTicketPartInner,
-    /// The session's key.
+    /// The session key.
     pub(crate) key: &'a Key,
     /// The authenticator.
     pub(crate) authenticated: &'a Authenticated,
 }
 
-/// The reply with a ticket for the service, by an older ticket with its authenticator (RFC 4120, section 3.3.3).
+/// Makes the reply with a ticket for the service, by the presented ticket and its authenticator (RFC 4120, section 3.3.3).
 pub(crate) fn grant(
     alloc: Global,
     call: &Call<'_>,
@@ -63,7 +63,7 @@ pub(crate) fn grant(
     Ok(reply)
 }
 
-// The first suite that the client takes of those that are known.
+// The first known suite that the client's `etype` lists.
 fn first_known(numbers: &[IntegerAsn1]) -> Option<CipherSuite>
     ensures { result ≡ first_known numbers.now }
 {
@@ -73,21 +73,21 @@ fn first_known(numbers: &[IntegerAsn1]) -> Option<CipherSuite>
     }
 }
 
-// The first number, in the client's order, that is a suite's.
+// The first encryption type, in the client's order, that is a suite's.
 fn first_number(numbers: &[IntegerAsn1]) -> Option<&IntegerAsn1>
     ensures { option_copied result ≡ first_number numbers.now }
 {
     numbers.iter().find(|number| is_suite(number))
 }
 
-// The number is a suite's.
+// Whether the encryption type is a suite's.
 fn is_suite(number: &IntegerAsn1) -> bool
     ensures { result ≡ is_some (suite_numbered number.now) }
 {
     suite_numbered(number).is_some()
 }
 
-// The suite of a number.
+// The suite of an encryption type.
 fn suite_numbered(number: &IntegerAsn1) -> Option<CipherSuite>
     ensures { result ≡ suite_numbered number.now }
 {
@@ -97,6 +97,7 @@ fn suite_numbered(number: &IntegerAsn1) -> Option<CipherSuite>
         .find(|suite| is_number(number, u32::from(suite)))
 }
 
+// The authenticator's subkey, as the message has it.
 fn subkey_in(authenticator: &AuthenticatorInner) -> Option<&EncryptionKey>
     ensures { option_copied result ≡ subkey_in authenticator.now }
 {
@@ -106,7 +107,7 @@ fn subkey_in(authenticator: &AuthenticatorInner) -> Option<&EncryptionKey>
     }
 }
 
-// The authenticator's subkey, where it has one; and none at all where it has one that is of no suite.
+// The authenticator's subkey, if it has one. The outer `None` is a subkey of no suite, the inner one no subkey.
 fn subkey_of(authenticator: &AuthenticatorInner) -> Option<Option<Key>>
     ensures { (session : KeyRecord) → reply_key session.suite session.bytes (subkey_in authenticator.now) ≡ option_map (under session) result }
 {
@@ -117,7 +118,7 @@ fn subkey_of(authenticator: &AuthenticatorInner) -> Option<Option<Key>>
     Some(Some(key))
 }
 
-// What the reply is sealed under: the subkey, where there is one, else the session's key.
+// The reply key: the subkey where there is one, else the session key.
 fn reply_key<'a>(session: &'a Key, subkey: &'a Option<Key>) -> ReplyKey<'a>
     ensures { reply_key_of result ≡ under session.now subkey.now }
 {
@@ -127,7 +128,7 @@ fn reply_key<'a>(session: &'a Key, subkey: &'a Option<Key>) -> ReplyKey<'a>
     }
 }
 
-// What the ticket is granted with.
+// Makes what the service ticket is granted with: client, authtime and flag pre-authent are the presented ticket's.
 fn further_ticket<'a>(
     alloc: Global,
     call: &Call<'a>,

@@ -1,4 +1,4 @@
-//! Judging TGS requests: the rows of a realm's table, part by part.
+//! Judges TGS requests by the rows of a realm's table, part by part.
 ghost use Rattle.std.specs.Prelude.{◌≡◌};
 ghost use Rattle.krb_kdc_requests.specs.Call.{call_of};
 ghost use Rattle.krb_types.specs.TicketGranting.{krbtgt_of};
@@ -22,7 +22,7 @@ use picky_asn1::wrapper::GeneralStringAsn1;
 use result_pairs::if_passed;
 use std::alloc::Global;
 
-/// Judges whether it is a TGS request to this realm, and its options.
+/// Judges the request's header, and refuses a request with `enc-authorization-data`.
 pub(crate) fn check_request(realm: &GeneralStringAsn1, request: &KdcReq) -> Result<(), Refusal>
     ensures { IsJudged (to_us realm.now request.now).gives result }
 {
@@ -33,7 +33,7 @@ pub(crate) fn check_request(realm: &GeneralStringAsn1, request: &KdcReq) -> Resu
     Ok(())
 }
 
-/// The AP request that the first padata of type 1 is.
+/// Reads the AP-REQ that the first padata PA-TGS-REQ is.
 pub(crate) fn carried(alloc: Global, padata: &[PaData]) -> Result<ApReqInner, Refusal>
     ensures { IsJudged (carried padata.now).gives result }
 {
@@ -46,8 +46,8 @@ pub(crate) fn carried(alloc: Global, padata: &[PaData]) -> Result<ApReqInner, Re
     Ok(ap_req)
 }
 
-/// Opens the ticket, and judges whether it is one for this realm's ticket-granting service, which has this name, of a client of
-/// the realm, that counts at the moment.
+/// Decrypts the presented ticket. It has to be for this realm's ticket-granting service, which has this name, of a client of the
+/// realm, and valid at the moment.
 pub(crate) fn open_ticket_granting(
     alloc: Global,
     call: &Call<'_>,
@@ -64,7 +64,7 @@ pub(crate) fn open_ticket_granting(
     if_passed(part, judged)
 }
 
-// Judges whether the ticket is of a client of the realm, and counts at the moment.
+// Judges whether the ticket's client is one of this realm, and the ticket is valid at the moment.
 fn check_counting(call: &Call<'_>, part: &EncTicketPartInner) -> Result<(), Refusal>
     ensures { IsJudged (counting (call_of call.now) part.now).gives result }
 {
@@ -74,7 +74,7 @@ fn check_counting(call: &Call<'_>, part: &EncTicketPartInner) -> Result<(), Refu
     check_times(call.skew(), call.moment, part)
 }
 
-/// Opens the authenticator of the ticket's client, and judges whether its time is near the moment.
+/// Decrypts the authenticator, which has to be the ticket's client's, and whose time has to be near the moment.
 pub(crate) fn open_authenticator(
     alloc: Global,
     call: &Call<'_>,

@@ -1,4 +1,4 @@
-//! What holds of every TGS request.
+//! Laws of every TGS request.
 ghost use Rattle.std.specs.Prelude.{◌≡◌, List, [], ◌∷◌, IsSome};
 ghost use Rattle.krb_kdc_requests.specs.Requests.{body_of};
 ghost use Rattle.krb_messages.specs.Bodies.{body_bytes};
@@ -7,9 +7,9 @@ ghost use Rattle.krb_messages.specs.declared.messages.kdc_req.KdcReq.{KdcReq};
 ghost use Rattle.picky_asn1.specs.Bytes.{Bytes};
 ghost use Rattle.asn1_elements.specs.Parts.{IsPart};
 
-/// What a request's checksum is computed over, the one encoding of its body, is in the request's own bytes, and its place
-/// leads to nothing else: inside the application tag, where preauthentication data is there, the SEQUENCE's element number 3,
-/// counted from 0, and what its tag holds (RFC 4120, section 5.4.1). It does nothing when it runs: its contract is the law.
+/// The bytes that a request's checksum is computed over, its body's DER encoding, are in the request's own bytes. In a request
+/// with padata they are in the SEQUENCE's element number 3, counted from 0, under its tag (RFC 4120, section 5.4.1). This place
+/// has no other bytes. It does nothing when it runs: its contract is the law.
 pub fn body_is_part()
     ensures part { (bytes : Bytes) (request : KdcReq) → IsTgsReq bytes request → IsSome request.padata.0
         → IsPart bytes (0 ∷ 3 ∷ 0 ∷ []) (body_bytes (body_of request)) }

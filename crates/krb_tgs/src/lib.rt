@@ -1,7 +1,7 @@
-//! The TGS exchange as a realm sees it (RFC 4120, section 3.3): its table and the code of each row.
+//! The TGS exchange of a realm (RFC 4120, section 3.3): its table and the code of each row.
 //!
-//! What the request's ticket and authenticator are judged by is `krb_ap_requests`'s, and what AS and TGS requests are judged by
-//! alike `krb_as`'s.
+//! The rows for the presented ticket and its authenticator are in `krb_ap_requests`. Those that AS and TGS requests share are in
+//! `krb_kdc_requests`.
 #![tactic(auto)]
 
 mod checksum;

@@ -1,4 +1,4 @@
-//! Judging a TGS request as a whole. Each function owns one of the messages that were opened, and lends it to the next.
+//! Judges a TGS request by the whole table. Each function owns one decrypted message, which the next one borrows.
 ghost use Rattle.std.specs.Prelude.{◌≡◌, ◌≤◌, length, Some};
 ghost use Rattle.krb_kdc_requests.specs.Call.{call_of};
 ghost use Rattle.krb_kdc_requests.specs.Granting.{IsGranted};
@@ -18,8 +18,8 @@ use krb_types::data_types::{EncTicketPartInner, PrincipalName};
 use krb_types::{Refusal, krbtgt_of};
 use std::alloc::Global;
 
-/// The reply that grants a ticket by an older one, or the code of the error, by the table of the realm that is called (RFC
-/// 4120, section 3.3.3).
+/// Judges a TGS request by the realm's table (RFC 4120, section 3.3.3). It gives the reply that grants the service ticket, or
+/// the error code.
 pub fn judge_tgs(alloc: Global, call: &Call<'_>, request: &KdcReq) -> Result<Vec<u8>, Refusal>
     requires { 128 ≤ length call.now.words.now }
     ensures { IsGranted (tgs_table (call_of call.now) request.now).gives result }
@@ -32,7 +32,7 @@ pub fn judge_tgs(alloc: Global, call: &Call<'_>, request: &KdcReq) -> Result<Vec
     judged
 }
 
-// With the AP request that it carries.
+// Judges the AP-REQ: its ticket has to be for the realm's ticket-granting service.
 fn judge_carried(
     alloc: Global,
     call: &Call<'_>,
@@ -52,7 +52,7 @@ fn judge_carried(
     judged
 }
 
-// With the ticket's part.
+// Judges the ticket's part: its session key has to decrypt an authenticator of its client.
 fn judge_ticket(
     alloc: Global,
     call: &Call<'_>,
@@ -69,7 +69,7 @@ fn judge_ticket(
     judged
 }
 
-// With the authenticator.
+// Judges the authenticator: its checksum has to cover the request's body.
 fn judge_authenticated(
     alloc: Global,
     call: &Call<'_>,
@@ -91,7 +91,7 @@ fn judge_authenticated(
     judge_accounts(alloc, call, &opened, body)
 }
 
-// The session's key, of the suite that the authenticator was opened by.
+// The session key, of the suite that decrypted the authenticator.
 fn session_key(part: &EncTicketPartInner, authenticated: &Authenticated) -> Key
     requires { suite_of part.now.key.0 ≡ Some authenticated.now.suite }
     ensures { result ≡ record { suite = authenticated.now.suite; bytes = part.now.key.0.key_value.0 } }
@@ -102,7 +102,7 @@ fn session_key(part: &EncTicketPartInner, authenticated: &Authenticated) -> Key
     }
 }
 
-// With a request that its client is proved to have made: client and service still have accounts.
+// Judges the names of a request that its client has made: the client still has an account, and so has the service.
 fn judge_accounts(
     alloc: Global,
     call: &Call<'_>,
@@ -125,7 +125,7 @@ fn judge_accounts(
     grant(alloc, call, opened, service_name, service, body)
 }
 
-// The name has an account.
+// Whether the name has an account.
 fn has_account(call: &Call<'_>, name: &PrincipalName) -> bool
     ensures { result ≡ has_account (call_of call.now) name.now }
 {

@@ -7,8 +7,8 @@ use Rattle.krb_types.specs.declared.data_types.principal_name.PrincipalName.{Pri
 use Rattle.krb_tickets.specs.declared.grant.Grant as held
 use Rattle.krb_tickets.specs.declared.grant.TicketFlags.{TicketFlags}
 
--- the session key with its suite, the realm of client and service, their names, the ticket's flags and times, and the nonce of the
--- request
+-- what a ticket is granted with: the session key and its suite, the realm of client and service, their names, the ticket's flags and
+-- times, and the request's nonce
 pub record GrantRecord : Type 0 where
   pub suite : CipherSuite
   pub session : Bytes
@@ -21,7 +21,7 @@ pub record GrantRecord : Type 0 where
   pub until : GeneralizedTime
   pub nonce : ℤ
 
--- the same as a definition sees it
+-- the grant of the code, as definitions see it
 abbrev pub grant_of : held.Grant → GrantRecord
 grant_of this = record {
   suite = this.suite;

@@ -13,8 +13,8 @@ use Rattle.krb_tickets.specs.Parts.{kdc_reply_of, reply_part, ticket_of, ticket_
 use Rattle.krb_tickets.specs.Sealed.{IsSealedData, IsSealedReply, kdc_reply_bytes, reply_part_bytes, sole_sealed_data, sole_sealed_reply, ticket_part_bytes}
 pub use Rattle.krb_tickets.specs.ReplyKeys.{ReplyKeyRecord, agreed_reply_key, as_reply_key, reply_key_of, tgs_reply_key, tgs_subkey_reply_key}
 
--- the bytes are the encoding of the reply in which the ticket's part is sealed under the service's key (usage 2; RFC 4120,
--- section 7.5.1), and the reply's part under the reply key
+-- the bytes are the encoding of the reply in which the ticket's part is encrypted under the service's key (key usage 2; RFC 4120,
+-- section 7.5.1), and the reply's own part under the reply key
 pub record IsTicketReply (grant : GrantRecord) (under : ReplyKeyRecord) (service : AccountRecord) (words : Random) (bytes : Bytes) : Type 0 where
   pub ticket_data : EncryptedData
   pub ticket_sealed : IsSealedData service (key_usage TICKET_REP) (ticket_confounder (cipher_confounder_size service.suite) words) (ticket_part_bytes (ticket_part grant)) ticket_data
@@ -22,7 +22,7 @@ pub record IsTicketReply (grant : GrantRecord) (under : ReplyKeyRecord) (service
   pub reply_sealed : IsSealedReply under (reply_confounder (cipher_confounder_size under.suite) words) (reply_part_bytes under.exchange (reply_part grant)) reply_data
   pub encoding : bytes ≡ kdc_reply_bytes under.exchange (kdc_reply_of under.exchange under.pk_as_rep grant (ticket_of grant ticket_data) reply_data)
 
--- there is one at most
+-- a grant has one such reply at most
 pub sole_ticket_reply : (grant : GrantRecord) (under : ReplyKeyRecord) (service : AccountRecord) (words : Random) (a b : Bytes)
     → IsTicketReply grant under service words a → IsTicketReply grant under service words b → a ≡ b
 sole_ticket_reply grant under service words a b x y =

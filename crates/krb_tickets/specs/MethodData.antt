@@ -1,4 +1,4 @@
--- What a client is told that has to authenticate first: the data of error 25 (RFC 4120, sections 5.2.7.5, 5.9.1).
+-- METHOD-DATA, the e-data of KDC_ERR_PREAUTH_REQUIRED: how a client may authenticate first (RFC 4120, sections 5.2.7.5, 5.9.1).
 use Rattle.std.specs.Prelude.{◌≡◌, ℕ, List, [], ◌∷◌, Option, None, Some, pos, codes, refl, if◌then◌else◌, Bool, true, false}
 use Rattle.std.specs.Option.{option_map}
 use Rattle.asn1_der.specs.Length.{element, length_octets}
@@ -16,7 +16,7 @@ use Rattle.krb_types.specs.declared.data_types.pa_data.PaData.{PaData}
 use Rattle.krb_types.specs.Trees as held
 use Rattle.asn1_der.specs.Octets.{sequence_octet}
 
--- how a key is made of a password: the suite, and the salt if there is one
+-- how a key is made of a password: the etype of its suite, and the salt if there is one
 abbrev pub key_entry : CipherSuite → Option Bytes → EtypeInfo2Entry
 key_entry suite salt = record {
   etype = record { 0 = pos (cipher_number suite) };
@@ -24,40 +24,41 @@ key_entry suite salt = record {
   s2kparams = record { 0 = None };
 }
 
--- ETYPE-INFO2, a list of one entry
+-- ETYPE-INFO2 as a tree
 abbrev pub key_info_tree : List EtypeInfo2Entry → Tree
 key_info_tree entries = constructed sequence_octet (trees_of held.etype_info2_entry_tree entries)
 
--- a salt that is no GeneralString has no tree, so that nothing is written of it
+-- the encoding of ETYPE-INFO2 with the one entry of an account; nothing is written of a salt that is no GeneralString
 unfoldable pub key_info_bytes : AccountRecord → Bytes
 key_info_bytes account = der (key_info_tree (key_entry account.suite account.salt ∷ []))
 
--- the salt as it is told: as a GeneralString, or not at all
-abbrev pub told_salt : Option Bytes → Option Bytes
-told_salt None = None
-told_salt (Some salt) = if is_general_string salt then Some salt else None
+-- the salt that the entry has: one that is a GeneralString, else none
+abbrev pub salt_of : Option Bytes → Option Bytes
+salt_of None = None
+salt_of (Some salt) = if is_general_string salt then Some salt else None
 
--- data of one type
+-- the padata of this type with this value
 abbrev pub pa_data_of : ℕ → Bytes → PaData
 pa_data_of kind value = record { padata_type = record { 0 = pos kind }; padata_data = record { 0 = value } }
 
--- these two, and PA-PK-AS-REQ without data where certificates are accepted (RFC 4556, section 3.4)
+-- these two entries, and an empty PA-PK-AS-REQ where certificates are accepted (RFC 4556, section 3.4)
 abbrev pub method_list : Bool → PaData → PaData → List PaData
 method_list false info timestamp = info ∷ timestamp ∷ []
 method_list true info timestamp = info ∷ timestamp ∷ pa_data_of PA_PK_AS_REQ [] ∷ []
 
--- PA-ETYPE-INFO2, and PA-ENC-TIMESTAMP without data
+-- the entries for an account: PA-ETYPE-INFO2, an empty PA-ENC-TIMESTAMP, and an empty PA-PK-AS-REQ where certificates are accepted
 unfoldable pub method_data : Bool → AccountRecord → List PaData
 method_data by_certificate account = method_list by_certificate (pa_data_of PA_ETYPE_INFO2 (key_info_bytes account)) (pa_data_of PA_ENC_TIMESTAMP [])
 
--- METHOD-DATA
+-- METHOD-DATA as a tree
 abbrev pub method_data_tree : List PaData → Tree
 method_data_tree methods = constructed sequence_octet (trees_of held.pa_data_tree methods)
 
+-- the encoding of METHOD-DATA for an account
 unfoldable pub method_data_bytes : Bool → AccountRecord → Bytes
 method_data_bytes by_certificate account = der (method_data_tree (method_data by_certificate account))
 
--- by the salt Ra, for AES with 256-bit keys
+-- worked: the METHOD-DATA for an AES-256 key with the salt Ra
 salted : (key : Bytes) (kvno : ℕ)
     → method_data_bytes false (record { suite = Aes256CtsHmacSha196; key = key; kvno = kvno; salt = Some (codes "Ra") })
     ≡ 0x30 ∷ 0x25 ∷ 0x30 ∷ 0x18 ∷ 0xA1 ∷ 0x03 ∷ 0x02 ∷ 0x01 ∷ 0x13 ∷ 0xA2 ∷ 0x11 ∷ 0x04 ∷ 0x0F ∷ 0x30 ∷ 0x0D ∷ 0x30
@@ -66,7 +67,7 @@ salted : (key : Bytes) (kvno : ℕ)
 unfolding method_data_bytes method_data key_info_bytes element length_octets integer_content natural_octets
 salted key kvno = refl
 
--- where the realm accepts certificates too
+-- worked: the same, where the realm accepts certificates
 salted_anchored : (key : Bytes) (kvno : ℕ)
     → method_data_bytes true (record { suite = Aes256CtsHmacSha196; key = key; kvno = kvno; salt = Some (codes "Ra") })
     ≡ 0x30 ∷ 0x30 ∷ 0x30 ∷ 0x18 ∷ 0xA1 ∷ 0x03 ∷ 0x02 ∷ 0x01 ∷ 0x13 ∷ 0xA2 ∷ 0x11 ∷ 0x04 ∷ 0x0F ∷ 0x30 ∷ 0x0D ∷ 0x30

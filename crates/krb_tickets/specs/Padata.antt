@@ -10,6 +10,6 @@ use Rattle.picky_asn1.specs.Bytes.{Bytes}
 unfoldable pub first_padata : ℕ → List PaData → Option PaData
 first_padata kind padata = find (λ pa_data. is_number kind pa_data.padata_type.0) padata
 
--- its data, which counts alone
+-- the value of the first padata of a type; later ones are ignored
 unfoldable pub first_of : ℕ → List PaData → Option Bytes
 first_of kind padata = option_map (λ pa_data. pa_data.padata_data.0) (first_padata kind padata)

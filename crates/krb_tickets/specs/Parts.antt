@@ -28,18 +28,19 @@ use Rattle.krb_tickets.specs.declared.parts.TheConstants.{DOMAIN_X500_COMPRESS, 
 use Rattle.krb_tickets.specs.declared.reply.Exchange.{Exchange}
 use Rattle.krb_tickets.specs.declared.reply.Exchange.TheVariants.{As, Tgs}
 
--- the session's key: that of a seed
+-- the session key of this suite, made of a seed among the random bytes
 abbrev pub session_key_of : CipherSuite → Random → Bytes
 session_key_of suite words = seed_key_of suite (session_seed (cipher_seed_size suite) words)
 
--- initial is bit 9 of 32, and preauthenticated bit 10 (RFC 4120, section 5.3)
+-- the second octet of a ticket's flags: initial is bit 9 of 32, and pre-authent bit 10 (RFC 4120, section 5.3)
 abbrev pub flags_octet : TicketFlags → ℕ
 flags_octet flags = (if flags.initial then INITIAL_MASK else 0x00) + (if flags.pre_authenticated then PRE_AUTHENT_MASK else 0x00)
 
+-- a ticket's flags, as 32 bits
 abbrev pub flags_of : TicketFlags → Bits
 flags_of flags = record { octets = 0x00 ∷ flags_octet flags ∷ 0x00 ∷ 0x00 ∷ []; unused = 0 }
 
--- those of an AS exchange's ticket, and of a TGS exchange's
+-- worked: the flags of an AS exchange's ticket, and of a TGS exchange's
 initial_flags : flags_of (record { initial = true; pre_authenticated = true }) ≡ record { octets = 0x00 ∷ 0x60 ∷ 0x00 ∷ 0x00 ∷ []; unused = 0 }
 initial_flags = refl
 
@@ -49,7 +50,7 @@ later_flags = refl
 no_flags : flags_of (record { initial = false; pre_authenticated = false }) ≡ record { octets = 0x00 ∷ 0x00 ∷ 0x00 ∷ 0x00 ∷ []; unused = 0 }
 no_flags = refl
 
--- no realm was passed through, spelled as DOMAIN-X500-COMPRESS (RFC 4120, section 7.5.5)
+-- the transited encoding that names no realm, as DOMAIN-X500-COMPRESS (RFC 4120, section 7.5.5)
 abbrev pub no_realms : TransitedEncoding
 no_realms = record { tr_type = record { 0 = pos DOMAIN_X500_COMPRESS }; contents = record { 0 = [] } }
 
@@ -57,7 +58,7 @@ no_realms = record { tr_type = record { 0 = pos DOMAIN_X500_COMPRESS }; contents
 abbrev pub last_requests : GeneralizedTime → List LastReqInner
 last_requests start = record { lr_type = record { 0 = pos NO_LAST_REQUEST }; lr_value = record { 0 = record { 0 = start } } } ∷ []
 
--- the part under the service's key: no realm was passed through, and no address and no right is told
+-- the ticket's part under the service's key: it has no renew-till, no caddr and no authorization-data, and no realm transited
 unfoldable pub ticket_part : GrantRecord → EncTicketPartInner
 ticket_part grant = record {
   flags = record { 0 = flags_of grant.flags };
@@ -73,7 +74,7 @@ ticket_part grant = record {
   authorization_data = record { 0 = None };
 }
 
--- the part under the reply key: one last request, of type 0, at the start
+-- the reply's own part, under the reply key: it has one last request, of type 0, at the starttime
 unfoldable pub reply_part : GrantRecord → EncKdcRepPart
 reply_part grant = record {
   key = record { 0 = encryption_key grant.suite grant.session };
@@ -91,7 +92,7 @@ reply_part grant = record {
   encrypted_pa_data = record { 0 = None };
 }
 
--- client and service share one key, and know the same end
+-- the ticket and its reply have one session key and one endtime
 one_session_key : (grant : GrantRecord) → (ticket_part grant).key.0 ≡ (reply_part grant).key.0
 unfolding ticket_part reply_part
 one_session_key grant = refl
@@ -100,7 +101,7 @@ one_end : (grant : GrantRecord) → (ticket_part grant).endtime.0 ≡ (reply_par
 unfolding ticket_part reply_part
 one_end grant = refl
 
--- the ticket with its part as ciphertext
+-- the ticket, with its part as ciphertext
 unfoldable pub ticket_of : GrantRecord → EncryptedData → TicketInner
 ticket_of grant part = record {
   tkt_vno = record { 0 = pos KERBEROS_VERSION };
@@ -109,12 +110,12 @@ ticket_of grant part = record {
   enc_part = record { 0 = part };
 }
 
--- the message type (RFC 4120, section 5.10)
+-- the message type of the exchange's reply (RFC 4120, section 5.10)
 abbrev pub reply_type : Exchange → ℕ
 reply_type As = AS_REP_MSG_TYPE
 reply_type Tgs = TGS_REP_MSG_TYPE
 
--- PA-PK-AS-REP with this data (RFC 4556, section 3.2.3)
+-- the reply's padata: PA-PK-AS-REP with this data, or none (RFC 4556, section 3.2.3)
 abbrev pub padata_of : Option Bytes → Option (ExplicitContextTag 2 (List PaData))
 padata_of pk_as_rep = option_map (λ value. record { 0 = pa_data_of PA_PK_AS_REP value ∷ [] }) pk_as_rep
 

@@ -1,4 +1,4 @@
--- The reply key, under which the reply's own part is sealed (RFC 4120, sections 3.1.3, 3.3.3, 7.5.1).
+-- The reply key, under which the reply's own part is encrypted (RFC 4120, sections 3.1.3, 3.3.3, 7.5.1).
 use Rattle.std.specs.Prelude.{ℕ, Option, None, Some}
 use Rattle.std.specs.Option.{option_map}
 use Rattle.picky_asn1.specs.Bytes.{Bytes}
@@ -10,7 +10,7 @@ use Rattle.krb_tickets.specs.declared.reply.Exchange.{Exchange}
 use Rattle.krb_tickets.specs.declared.reply.Exchange.TheVariants.{As, Tgs}
 use Rattle.krb_tickets.specs.declared.reply.ReplyKey as held
 
--- the exchange that is replied in, the key with its suite and, where the ciphertext has one, its kvno, the key usage, and the data of
+-- the exchange of the reply; the key with its suite and, where the ciphertext has one, its kvno; the key usage; and the data of
 -- PA-PK-AS-REP where client and realm agreed on the key
 pub record ReplyKeyRecord : Type 0 where
   pub exchange : Exchange
@@ -20,7 +20,7 @@ pub record ReplyKeyRecord : Type 0 where
   pub usage : ℕ
   pub pk_as_rep : Option Bytes
 
--- the same as a definition sees it
+-- the reply key of the code, as definitions see it
 abbrev pub reply_key_of : held.ReplyKey → ReplyKeyRecord
 reply_key_of this = record {
   exchange = this.exchange;
@@ -31,18 +31,18 @@ reply_key_of this = record {
   pk_as_rep = option_map (λ reply. reply.now) this.pk_as_rep;
 }
 
--- in an AS exchange the client's key
+-- the client's key is the reply key of an AS exchange by encrypted timestamp
 abbrev pub as_reply_key : AccountRecord → ReplyKeyRecord
 as_reply_key client = record { exchange = As; suite = client.suite; key = client.key; kvno = Some client.kvno; usage = key_usage AS_REP_ENC; pk_as_rep = None }
 
--- in a TGS exchange the presented ticket's session key
+-- the presented ticket's session key is the reply key of a TGS exchange without a subkey
 abbrev pub tgs_reply_key : CipherSuite → Bytes → ReplyKeyRecord
 tgs_reply_key suite key = record { exchange = Tgs; suite = suite; key = key; kvno = None; usage = key_usage TGS_REP_ENC_SESSION_KEY; pk_as_rep = None }
 
--- or the authenticator's subkey, where there is one
+-- the authenticator's subkey is the reply key of a TGS exchange where there is one
 abbrev pub tgs_subkey_reply_key : CipherSuite → Bytes → ReplyKeyRecord
 tgs_subkey_reply_key suite key = record { exchange = Tgs; suite = suite; key = key; kvno = None; usage = key_usage TGS_REP_ENC_SUB_KEY; pk_as_rep = None }
 
--- in an AS exchange by certificate the key that both agreed on, and PA-PK-AS-REP (RFC 4556, section 3.2.3.1)
+-- the agreed key is the reply key of an AS exchange by certificate, whose reply has PA-PK-AS-REP (RFC 4556, section 3.2.3.1)
 abbrev pub agreed_reply_key : CipherSuite → Bytes → Bytes → ReplyKeyRecord
 agreed_reply_key suite key reply = record { exchange = As; suite = suite; key = key; kvno = None; usage = key_usage AS_REP_ENC; pk_as_rep = Some reply }

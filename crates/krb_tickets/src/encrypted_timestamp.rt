@@ -1,4 +1,4 @@
-//! The time that a client seals under its own key.
+//! The encrypted timestamp of a client, under its own key (RFC 4120, section 5.2.7.2).
 ghost use Rattle.std.specs.Prelude.{◌≡◌, IfOk};
 ghost use Rattle.picky_asn1_der.specs.Found.{IsFound};
 ghost use Rattle.krb_tickets.specs.EncryptedTimestamps.{IsEncryptedTimestamp, moment_of};
@@ -11,7 +11,8 @@ use krb_types::data_types::{EncryptedData, PaEncTsEnc};
 use picky_asn1_der::read_whole;
 use std::alloc::{AllocError, Global};
 
-/// The encrypted timestamp that a padata's value encodes, decrypted with the account's key, or none.
+/// Decrypts the encrypted timestamp that a padata's value encodes, with the account's key. `None` where the bytes aren't one
+/// EncryptedData, or don't decrypt to one PA-ENC-TS-ENC.
 pub fn open_encrypted_timestamp(
     alloc: Global,
     account: &Account,
@@ -28,7 +29,7 @@ pub fn open_encrypted_timestamp(
     timestamp
 }
 
-/// The moment of a timestamp, or none if its microseconds are no part of a second. Missing microseconds are zero.
+/// The moment of a timestamp, or none if its `pausec` is no part of a second. A missing `pausec` is zero.
 #[tactic(auto, unfolding(crate::specs::EncryptedTimestamps::moment_of))]
 pub fn moment_of(timestamp: &PaEncTsEnc) -> Option<Moment>
     ensures { result ≡ moment_of timestamp.now }

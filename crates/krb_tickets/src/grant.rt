@@ -1,4 +1,4 @@
-//! What a ticket is granted with, and the sealed ticket.
+//! What a ticket is granted with, and the ticket with its encrypted part.
 ghost use Rattle.std.specs.Prelude.{◌≡◌, length, IfOk};
 ghost use Rattle.krb_constants.specs.KeyUsages.{key_usage};
 ghost use Rattle.krb_constants.specs.declared.key_usages.TheConstants.{TICKET_REP};
@@ -41,20 +41,20 @@ pub struct Grant<'a> {
     pub start: GeneralizedTime,
     /// The second that the ticket ends in.
     pub until: GeneralizedTime,
-    /// The number by which the client knows its request again.
+    /// The request's nonce, which the reply repeats.
     pub nonce: &'a IntegerAsn1,
 }
 
 /// The flags of a ticket that a realm sets (RFC 4120, section 5.3); all others are zero.
 #[derive(Clone, Copy, Debug, PartialEq, Eq)]
 pub struct TicketFlags {
-    /// It was granted in an AS exchange, and not by another ticket: bit 9.
+    /// The ticket was granted in an AS exchange, and not by another ticket: bit 9.
     pub initial: bool,
-    /// The client authenticated itself before: bit 10.
+    /// The client authenticated itself before the first ticket was granted: bit 10.
     pub pre_authenticated: bool,
 }
 
-/// The ticket's part under the service's key, behind the confounder, with the key's kvno (RFC 4120, section 5.3).
+/// Encrypts the ticket's part under the service's key, with the confounder and the key's kvno (RFC 4120, section 5.3).
 pub fn sealed_ticket(
     alloc: Global,
     grant: &Grant<'_>,
@@ -72,7 +72,7 @@ pub fn sealed_ticket(
     Ok(sealed)
 }
 
-/// The ticket with its sealed part.
+/// Makes the ticket with its encrypted part.
 #[tactic(auto, unfolding(crate::specs::Parts::ticket_of))]
 pub(crate) fn ticket_of(
     alloc: Global,
@@ -92,7 +92,7 @@ pub(crate) fn ticket_of(
     })
 }
 
-// The encoding has a function of its own, which also drops what it encodes: no other sees what that is made of.
+// Encodes the ticket's part, and drops it.
 #[tactic(auto, unfolding(crate::specs::Sealed::ticket_part_bytes))]
 fn ticket_part_bytes(alloc: Global, part: EncTicketPartInner) -> Result<Vec<u8>, AllocError>
     ensures { IfOk result (λ bytes. bytes.items ≡ ticket_part_bytes part) }

@@ -11,9 +11,9 @@ use krb_encrypted_data::confounder_at;
 use krb_types::random_bytes::{REPLY_CONFOUNDER, TICKET_CONFOUNDER};
 use std::alloc::{AllocError, Global};
 
-/// The reply with the ticket (RFC 4120, section 5.4.2): the ticket's part under the service's key, with its kvno, and the
-/// reply's part under the reply key. The ticket's confounder and the reply's are random bytes in their places. Memory is the
-/// only refusal.
+/// Makes the reply with the ticket (RFC 4120, section 5.4.2): the ticket's part under the service's key, with its kvno, and
+/// the reply's own part under the reply key. Both confounders are random bytes at their places. It fails only if memory runs
+/// out.
 pub fn ticket_reply(
     alloc: Global,
     grant: &Grant<'_>,

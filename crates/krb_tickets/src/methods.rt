@@ -1,6 +1,6 @@
-//! What a client is told that has to authenticate first.
+//! METHOD-DATA: how a client may authenticate before it is granted a ticket.
 ghost use Rattle.std.specs.Prelude.{◌≡◌, IfOk};
-ghost use Rattle.krb_tickets.specs.MethodData.{method_list, key_entry, key_info_bytes, method_data_bytes, pa_data_of, told_salt};
+ghost use Rattle.krb_tickets.specs.MethodData.{method_list, key_entry, key_info_bytes, method_data_bytes, pa_data_of, salt_of};
 
 use krb_accounts::Account;
 use krb_constants::padata_types::{PA_ENC_TIMESTAMP, PA_ETYPE_INFO2, PA_PK_AS_REQ};
@@ -28,7 +28,7 @@ pub fn method_data(
     Ok(bytes)
 }
 
-// These two, and PA-PK-AS-REQ without data where the realm accepts certificates (RFC 4556, section 3.4).
+// Lists these two entries, and an empty PA-PK-AS-REQ where the realm accepts certificates (RFC 4556, section 3.4).
 fn method_list(
     alloc: Global,
     by_certificate: bool,
@@ -46,7 +46,7 @@ fn method_list(
     Ok(Asn1SequenceOf::from(entries))
 }
 
-// The encoding of how the client makes its key.
+// Encodes ETYPE-INFO2, which says how the client makes its key of a password.
 #[tactic(auto, unfolding(crate::specs::MethodData::key_info_bytes))]
 fn key_info(alloc: Global, client: &Account) -> Result<Vec<u8>, AllocError>
     ensures { IfOk result (λ bytes. bytes.items ≡ key_info_bytes client.now) }
@@ -57,9 +57,9 @@ fn key_info(alloc: Global, client: &Account) -> Result<Vec<u8>, AllocError>
     Ok(bytes)
 }
 
-// The one entry of that.
+// Makes the one entry of ETYPE-INFO2: the etype of the client's key, and the salt if there is one.
 fn key_entry(alloc: Global, client: &Account) -> Result<EtypeInfo2Entry, AllocError>
-    ensures { IfOk result (λ entry. entry ≡ key_entry client.now.suite (told_salt client.now.salt)) }
+    ensures { IfOk result (λ entry. entry ≡ key_entry client.now.suite (salt_of client.now.salt)) }
 {
     let suite = client.suite();
     let etype = IntegerAsn1::from_u64(alloc, u64::from(u8::from(suite)))?;
@@ -71,9 +71,9 @@ fn key_entry(alloc: Global, client: &Account) -> Result<EtypeInfo2Entry, AllocEr
     })
 }
 
-// The salt as a string, where it is one.
+// The salt as a KerberosString, or none where it isn't one.
 fn salt_of(alloc: Global, client: &Account) -> Result<Option<KerberosStringAsn1>, AllocError>
-    ensures { IfOk result (λ salt. salt ≡ told_salt client.now.salt) }
+    ensures { IfOk result (λ salt. salt ≡ salt_of client.now.salt) }
 {
     match client.salt() {
         Some(salt) => GeneralStringAsn1::from_content(alloc, salt.as_bytes()),
@@ -81,7 +81,7 @@ fn salt_of(alloc: Global, client: &Account) -> Result<Option<KerberosStringAsn1>
     }
 }
 
-/// Padata of a type (RFC 4120, section 5.2.7).
+/// Makes the padata of this type with this value (RFC 4120, section 5.2.7).
 pub fn pa_data(alloc: Global, kind: u32, value: Vec<u8>) -> Result<PaData, AllocError>
     ensures { IfOk result (λ made. made ≡ pa_data_of kind value.items) }
 {

@@ -18,6 +18,7 @@ pub fn first_of(padata: &[PaData], kind: u32) -> Option<&OctetStringAsn1>
     }
 }
 
+// The first padata of a type.
 fn first_padata(padata: &[PaData], kind: u32) -> Option<&PaData>
     ensures { option_copied result ≡ first_padata kind padata.now }
 {

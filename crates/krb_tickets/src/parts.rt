@@ -1,4 +1,4 @@
-//! The parts of a granted ticket and of its reply, before they are sealed.
+//! The parts of a granted ticket and of its reply, before encryption.
 ghost use Rattle.std.specs.Prelude.{◌≡◌, IfOk};
 ghost use Rattle.krb_tickets.specs.Grant.{grant_of};
 ghost use Rattle.krb_tickets.specs.Parts.{flags_octet, flags_of, last_requests, no_realms, reply_part, ticket_part};
@@ -21,10 +21,10 @@ use std::alloc::{AllocError, Global};
 /// The encoding of transited realms that RFC 4120 names, DOMAIN-X500-COMPRESS (section 7.5.5).
 const DOMAIN_X500_COMPRESS: u64 = 1;
 
-/// A last request of type 0 says nothing (RFC 4120, section 5.4.2).
+/// The type of a last request that says nothing (RFC 4120, section 5.4.2).
 const NO_LAST_REQUEST: u64 = 0;
 
-/// The part of the ticket that the service alone reads (RFC 4120, section 5.3).
+/// Makes the part of the ticket that the service decrypts (RFC 4120, section 5.3).
 #[tactic(auto, unfolding(crate::specs::Parts::ticket_part))]
 pub(crate) fn ticket_part(
     alloc: Global,
@@ -52,7 +52,7 @@ pub(crate) fn ticket_part(
     })
 }
 
-/// The part of the reply that the client alone reads (RFC 4120, section 5.4.2).
+/// Makes the part of the reply that the client decrypts (RFC 4120, section 5.4.2).
 #[tactic(auto, unfolding(crate::specs::Parts::reply_part))]
 pub(crate) fn reply_part(alloc: Global, grant: &Grant<'_>) -> Result<EncKdcRepPart, AllocError>
     ensures { IfOk result (λ part. part ≡ reply_part (grant_of grant.now)) }
@@ -79,7 +79,7 @@ pub(crate) fn reply_part(alloc: Global, grant: &Grant<'_>) -> Result<EncKdcRepPa
     })
 }
 
-// The flags as 32 bits.
+// Makes a ticket's flags, as 32 bits.
 fn flags_of(alloc: Global, flags: TicketFlags) -> Result<KerberosFlags, AllocError>
     ensures { IfOk result (λ bits. bits ≡ flags_of flags) }
 {
@@ -90,7 +90,7 @@ fn flags_of(alloc: Global, flags: TicketFlags) -> Result<KerberosFlags, AllocErr
     Ok(bits)
 }
 
-// The second of their four octets.
+// The second of the four octets of a ticket's flags.
 fn flags_octet(flags: TicketFlags) -> u8
     ensures { result ≡ flags_octet flags }
 {
@@ -103,7 +103,7 @@ fn flags_octet(flags: TicketFlags) -> u8
     initial + pre_authenticated
 }
 
-// No realm lies between that of the client and that of the service.
+// Makes the transited encoding that names no realm.
 fn no_realms(alloc: Global) -> Result<TransitedEncoding, AllocError>
     ensures { IfOk result (λ transited. transited ≡ no_realms) }
 {
@@ -114,7 +114,7 @@ fn no_realms(alloc: Global) -> Result<TransitedEncoding, AllocError>
     })
 }
 
-// A realm that keeps no last requests names none, as one entry (RFC 4120 wants one).
+// Makes last-req of one entry, which says nothing: RFC 4120 requires one, and the realm keeps no last requests.
 fn last_requests(alloc: Global, start: GeneralizedTime) -> Result<LastReq, AllocError>
     ensures { IfOk result (λ requests. requests ≡ last_requests start) }
 {

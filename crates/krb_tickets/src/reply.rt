@@ -1,4 +1,4 @@
-//! The reply that a ticket is granted by, and the key that its own part is sealed under.
+//! The reply that grants a ticket, and the reply key, under which its own part is encrypted.
 ghost use Rattle.std.specs.Prelude.{◌≡◌, length, pos, IfOk};
 ghost use Rattle.std.specs.Option.{option_map};
 ghost use Rattle.krb_crypto.specs.Suites.{cipher_confounder_size};
@@ -33,20 +33,20 @@ use std::alloc::{AllocError, Global};
 pub enum Exchange {
     /// By the client's own key.
     As,
-    /// By a ticket that it was granted before.
+    /// By a ticket that the client was granted before.
     Tgs,
 }
 
-/// The key that a reply's own part is sealed under (RFC 4120, sections 3.1.3 and 3.3.3).
+/// The key under which a reply's own part is encrypted (RFC 4120, sections 3.1.3 and 3.3.3).
 #[derive(Clone, Copy)]
 pub struct ReplyKey<'a> {
-    /// The exchange that is replied in.
+    /// The exchange of the reply.
     pub exchange: Exchange,
     /// The key.
     pub key: &'a Key,
     /// The kvno, if there is one.
     pub kvno: Option<u32>,
-    /// What the key is used for (RFC 4120, section 7.5.1).
+    /// The key usage (RFC 4120, section 7.5.1).
     pub usage: i32,
     /// The data of PA-PK-AS-REP, if client and realm agreed on the key.
     pub pk_as_rep: Option<&'a [u8]>,
@@ -55,7 +55,7 @@ pub struct ReplyKey<'a> {
 impl<'a> ReplyKey<'a> {
     ghost use Rattle.krb_tickets.specs.ReplyKeys.{agreed_reply_key, as_reply_key, reply_key_of, tgs_reply_key, tgs_subkey_reply_key};
 
-    /// The client's key, by which it is replied to in an AS exchange.
+    /// The client's key, the reply key of an AS exchange by encrypted timestamp.
     pub fn of_client(client: &'a Account) -> ReplyKey<'a>
         ensures { reply_key_of result ≡ as_reply_key client.now }
     {
@@ -68,7 +68,7 @@ impl<'a> ReplyKey<'a> {
         }
     }
 
-    /// The presented ticket's session key, by which its client is replied to in a TGS exchange without a subkey.
+    /// The presented ticket's session key, the reply key of a TGS exchange without a subkey.
     pub fn of_session(key: &'a Key) -> ReplyKey<'a>
         ensures { reply_key_of result ≡ tgs_reply_key key.now.suite key.now.bytes }
     {
@@ -81,7 +81,7 @@ impl<'a> ReplyKey<'a> {
         }
     }
 
-    /// The authenticator's subkey, by which its client is replied to in a TGS exchange.
+    /// The authenticator's subkey, the reply key of a TGS exchange that has one.
     pub fn of_subkey(key: &'a Key) -> ReplyKey<'a>
         ensures { reply_key_of result ≡ tgs_subkey_reply_key key.now.suite key.now.bytes }
     {
@@ -94,7 +94,7 @@ impl<'a> ReplyKey<'a> {
         }
     }
 
-    /// The key that client and realm agreed on by certificate, with the data of PA-PK-AS-REP.
+    /// The key that client and realm agreed on by certificate, with the data of PA-PK-AS-REP, the reply key of such an exchange.
     pub fn of_agreement(key: &'a Key, pk_as_rep: &'a [u8]) -> ReplyKey<'a>
         ensures { reply_key_of result ≡ agreed_reply_key key.now.suite key.now.bytes pk_as_rep.now }
     {
@@ -108,7 +108,7 @@ impl<'a> ReplyKey<'a> {
     }
 }
 
-/// The reply's part under the reply key, after the confounder. Fails only if memory runs out.
+/// Encrypts the reply's own part under the reply key, with the confounder. It fails only if memory runs out.
 pub fn sealed_reply(
     alloc: Global,
     grant: &Grant<'_>,
@@ -132,8 +132,8 @@ pub fn sealed_reply(
     Ok(sealed)
 }
 
-/// The encoding of the exchange's reply with the sealed parts of the ticket and of the reply, and with PA-PK-AS-REP where its data
-/// is given.
+/// Encodes the exchange's reply with the encrypted parts of the ticket and of the reply, and with PA-PK-AS-REP where its data is
+/// given.
 pub fn reply_bytes(
     alloc: Global,
     exchange: Exchange,
@@ -149,7 +149,7 @@ pub fn reply_bytes(
     Ok(bytes)
 }
 
-// The reply with PA-PK-AS-REP, if its data is given, and the sealed parts of the ticket and of the reply.
+// Makes the reply with the encrypted parts of the ticket and of the reply, and with PA-PK-AS-REP where its data is given.
 #[tactic(auto, unfolding(crate::specs::Parts::kdc_reply_of))]
 fn kdc_reply_of(
     alloc: Global,
@@ -181,7 +181,7 @@ fn kdc_reply_of(
     })
 }
 
-// PA-PK-AS-REP with this data (RFC 4556, section 3.2.3).
+// Makes the reply's padata: PA-PK-AS-REP with this data, or none (RFC 4556, section 3.2.3).
 fn padata_of(
     alloc: Global,
     pk_as_rep: Option<&[u8]>,
@@ -197,7 +197,7 @@ fn padata_of(
     Ok(Some(ExplicitContextTag(entries)))
 }
 
-// The message type.
+// The message type of the exchange's reply (RFC 4120, section 5.10).
 fn reply_type(alloc: Global, exchange: Exchange) -> Result<IntegerAsn1, AllocError>
     ensures { IfOk result (λ kind. kind ≡ pos (reply_type exchange)) }
 {
@@ -207,8 +207,7 @@ fn reply_type(alloc: Global, exchange: Exchange) -> Result<IntegerAsn1, AllocErr
     }
 }
 
-// The encodings. Each has a function of its own, which also drops what it encodes: no other sees what that is made of.
-
+// Encodes the reply's own part as an EncASRepPart or EncTGSRepPart, and drops it.
 #[tactic(auto, unfolding(crate::specs::Sealed::reply_part_bytes))]
 fn reply_part_bytes(
     alloc: Global,
@@ -223,6 +222,7 @@ fn reply_part_bytes(
     }
 }
 
+// Encodes the reply as an AS-REP or TGS-REP, and drops it.
 #[tactic(auto, unfolding(crate::specs::Sealed::kdc_reply_bytes))]
 fn kdc_reply_bytes(alloc: Global, exchange: Exchange, reply: KdcRep) -> Result<Vec<u8>, AllocError>
     ensures { IfOk result (λ bytes. bytes.items ≡ kdc_reply_bytes exchange reply) }

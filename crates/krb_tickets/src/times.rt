@@ -8,21 +8,21 @@ use krb_accounts::Settings;
 use krb_time::Moment;
 use picky_asn1::date::GeneralizedTime;
 
-/// The end that asks for as late a one as may be, 1970-01-01 00:00:00 (RFC 4120, section 3.1.3), in seconds since year 0.
+/// The `till` that requests the latest endtime that is permitted, 1970-01-01 00:00:00 (RFC 4120, section 5.4.1), in seconds since year 0.
 const NO_END: u64 = 62_167_219_200;
 
-/// The last second that a message can name, 9999-12-31 23:59:59.
+/// The last second that a KerberosTime can have, 9999-12-31 23:59:59.
 const LAST_SECOND: u64 = 315_569_519_999;
 
-/// The second that a ticket starts in.
+/// The starttime of a ticket that is granted at a moment: the moment's second.
 pub fn start_of(moment: Moment) -> GeneralizedTime
     ensures { seconds_of result ≡ start_of moment }
 {
     moment.second()
 }
 
-/// The second that a ticket ends in: the least of the end asked for, the start and the greatest lifetime, the end of the
-/// ticket that it is granted by, if one is, and the last second of year 9999 (RFC 4120, sections 3.1.3, 3.3.3).
+/// The endtime of a ticket: the least of the requested end, the starttime plus the greatest lifetime, the presented ticket's
+/// endtime in a TGS exchange, and the last second of year 9999 (RFC 4120, sections 3.1.3, 3.3.3).
 pub fn end_of(
     settings: Settings,
     start: GeneralizedTime,
@@ -31,17 +31,17 @@ pub fn end_of(
 ) -> GeneralizedTime
     ensures { seconds_of result ≡ end_of settings.lifetime (seconds_of start) (option_map seconds_of old) (seconds_of till) }
 {
-    let asked = if till.seconds() == NO_END {
+    let requested = if till.seconds() == NO_END {
         LAST_SECOND
     } else {
         till.seconds()
     };
     let old = old_end(old).min(LAST_SECOND);
     let greatest = (start.seconds() + settings.lifetime()).min(old);
-    GeneralizedTime::from_seconds(asked.min(greatest))
+    GeneralizedTime::from_seconds(requested.min(greatest))
 }
 
-// The end of the ticket that a new one is granted by, if one is.
+// The presented ticket's endtime, in a TGS exchange.
 fn old_end(old: Option<GeneralizedTime>) -> u64
     ensures { result ≡ old_end (option_map seconds_of old) }
 {

@@ -1,4 +1,4 @@
--- What a request by certificate is judged by, and what it agrees on (RFC 4556, section 3.2).
+-- The call by which a request by certificate is judged, and what client and realm agree on (RFC 4556, section 3.2).
 use Rattle.std.specs.Prelude.{Result, Ok, Err, List}
 use Rattle.picky_asn1.specs.Bytes.{Bytes}
 use Rattle.krb_time.specs.Units.{Micros}
@@ -8,8 +8,8 @@ use Rattle.krb_messages.specs.declared.messages.kdc_req_body.KdcReqBody.{KdcReqB
 use Rattle.pkinit_interface.specs.declared.call.Agreed as agreed_held
 use Rattle.pkinit_interface.specs.declared.call.PkinitCall as held
 
--- the realm's name and its skew; the components of the client's name, as the request has it, and the request's body; the moment,
--- and random bytes
+-- the realm's name and its clock skew; the components of the request's `cname`, and the request's body; the moment, and random
+-- bytes
 pub record PkinitCallRecord : Type 0 where
   pub realm : Bytes
   pub skew : Micros
@@ -18,6 +18,7 @@ pub record PkinitCallRecord : Type 0 where
   pub moment : Micros
   pub words : Random
 
+-- the call of the code, as definitions see it
 abbrev pub call_of : held.PkinitCall → PkinitCallRecord
 call_of call = record {
   realm = call.realm.now;
@@ -33,6 +34,7 @@ pub record AgreedRecord : Type 0 where
   pub secret : Bytes
   pub reply : Bytes
 
+-- the agreement of the code, or its refusal, as definitions see it
 abbrev pub agreed_as : Result agreed_held.Agreed Refusal → Result AgreedRecord Refusal
 agreed_as (Ok agreed) = Ok (record { secret = agreed.secret.items; reply = agreed.reply.items })
 agreed_as (Err refusal) = Err refusal

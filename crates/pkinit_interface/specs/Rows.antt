@@ -6,7 +6,7 @@ use Rattle.decision_tables.specs.Tables.{Table}
 use Rattle.krb_types.specs.Refusals.{Code}
 use Rattle.pkinit_interface.specs.Calls.{AgreedRecord, PkinitCallRecord}
 
--- whether a client is told of PA-PK-AS-REQ; what its data is judged to be, as parts of a table; and that this has an outcome
+-- whether METHOD-DATA offers PA-PK-AS-REQ; the table that judges its data; and that this table has an outcome
 pub record PkinitRows : Type 1 where
   pub offered : Bool
   pub judges : PkinitCallRecord → Bytes → Table (Result AgreedRecord Code)

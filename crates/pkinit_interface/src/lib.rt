@@ -1,4 +1,4 @@
-//! PKINIT as an AS exchange sees it (RFC 4556): what a request by certificate is judged by, and what client and realm agree on.
+//! PKINIT for an AS exchange (RFC 4556): the call by which a request by certificate is judged, and what client and realm agree on.
 //! How certificates, signatures and public values are judged is in crates above the exchange's own.
 #![tactic(auto)]
 

@@ -7,19 +7,19 @@ use crate::call::{Agreed, PkinitCall};
 use krb_types::Refusal;
 use std::alloc::Global;
 
-/// How a realm authenticates clients by certificate (RFC 4556). Contracts see the rows of the AS exchange's table that judge
+/// How a realm authenticates clients by certificate (RFC 4556). Its model is the rows of the AS exchange's table that judge
 /// PA-PK-AS-REQ.
 pub trait Pkinit {
     ghost use Rattle.pkinit_interface.specs.Rows.{PkinitRows};
 
     ghost rows: { Self → PkinitRows };
 
-    /// Whether a client that has to authenticate first is told of PA-PK-AS-REQ.
+    /// Whether METHOD-DATA offers PA-PK-AS-REQ to a client that has to authenticate first.
     fn is_offered(&self) -> bool
         ensures { result ≡ (rows self.now).offered };
 
-    /// What the data of a padata PA-PK-AS-REQ agrees on, or the error code of the first row that refuses it (RFC 4556, section
-    /// 3.2.2).
+    /// Judges the data of PA-PK-AS-REQ: what client and realm agree on, or the error code of the first row that refuses it (RFC
+    /// 4556, section 3.2.2).
     fn judge(&self, alloc: Global, call: &PkinitCall<'_>, padata: &[u8]) -> Result<Agreed, Refusal>
         requires long { 128 ≤ length call.now.words.now }
         requires near { call.now.skew ≤ 86400000000 }

@@ -1,6 +1,6 @@
 use Rattle.krb_tickets.specs.Grant.{grant_of}
 use Rattle.krb_tickets.specs.ReplyKeys.{reply_key_of}
-use Rattle.krb_as.specs.Authenticated.{reply_key_by}
+use Rattle.krb_as.specs.Preauthentication.{reply_key_by}
 use Rattle.krb_kdc_requests.specs.Call.{call_of}
 use Rattle.krb_as.specs.Grants.{first_ticket, principals_of}
 use Rattle.krb_as.proofs.Replied.{replied_by}

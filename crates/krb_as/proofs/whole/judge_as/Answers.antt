@@ -2,7 +2,7 @@ use Rattle.std.proofs.Common.{Ok, Err, ap, sym, subst}
 use Rattle.std.specs.Option.{option_copied}
 use Rattle.std.proofs.lemmas.Result.{err_from_is_err_and}
 use Rattle.krb_types.specs.Refusals.{IsJudged}
-use Rattle.krb_as.specs.Authenticated.{reply_key_by}
+use Rattle.krb_as.specs.Preauthentication.{reply_key_by}
 use Rattle.krb_kdc_requests.specs.Call.{call_of}
 use Rattle.krb_as.specs.AsTable.{authenticated, possible}
 use Rattle.krb_as.proofs.Judged.{given_ticket, refused_client, refused_ticket}
