@@ -24,7 +24,7 @@ pub use x509_keys::{
 pub use x509_names::{
     AttributeTypeAndValue, AttributeTypeAndValueParameters, AttributeValue, DirectoryName,
     EdiPartyName, GeneralName, GeneralNames, Name, NameAttr, NamePrettyFormatter, OtherName,
-    RdnSequence, RelativeDistinguishedName,
+    RdnSequence, RelativeDistinguishedName, Rfc4514,
 };
 pub use x509_oids as oids;
 pub use x509_parameters::{

@@ -3,8 +3,8 @@ use crate::told::Answer;
 use anyhow::{Context, bail};
 use picky_asn1::wrapper::ObjectIdentifierAsn1;
 use picky_asn1_x509::{
-    AlgorithmIdentifier, DirectoryString, Name, NamePrettyFormatter, ShaVariant,
-    UnsupportedAlgorithmError, X509Fault, from_bytes,
+    AlgorithmIdentifier, Certificate, DirectoryString, GeneralName, Name, NamePrettyFormatter,
+    ShaVariant, UnsupportedAlgorithmError, X509Fault, from_bytes,
 };
 use std::alloc::{AllocError, Global};
 use std::fmt;
@@ -15,9 +15,14 @@ pub fn agrees(alloc: Global, line: &str) -> anyhow::Result<bool> {
     let (digits, text) = rest.split_once(" | ").context("a line of two columns")?;
     let bytes = hex::decode(alloc, digits)?;
     let answer = match type_name {
+        "AltNames" => alt_names(alloc, &bytes, text),
+        "BasicConstraints" => basic_constraints(alloc, &bytes, text),
         "CommonName" => common_name(alloc, &bytes, text),
         "DirectoryString" => directory_string(alloc, &bytes, text),
+        "GeneralName" => general_name(alloc, &bytes, text),
+        "KeyUsage" => key_usage(alloc, &bytes, text),
         "Name" => name(alloc, &bytes, text),
+        "Rfc4514" => rfc4514(alloc, &bytes, text),
         "UnsupportedAlgorithmError" => unsupported(alloc, &bytes, text),
         other => bail!("no type {other}"),
     };
@@ -33,6 +38,57 @@ fn directory_string(alloc: Global, bytes: &[u8], text: &str) -> Answer {
 fn name(alloc: Global, bytes: &[u8], text: &str) -> Answer {
     let name: Name = from_bytes(alloc, bytes)?;
     Ok(is_printed(alloc, &name, text)? && is_printed(alloc, &NamePrettyFormatter(&name), text)?)
+}
+
+/// A name in the notation of RFC 4514.
+fn rfc4514(alloc: Global, bytes: &[u8], text: &str) -> Answer {
+    let name: Name = from_bytes(alloc, bytes)?;
+    is_printed(alloc, &name.rfc4514(), text)
+}
+
+fn general_name(alloc: Global, bytes: &[u8], text: &str) -> Answer {
+    let name: GeneralName = from_bytes(alloc, bytes)?;
+    is_printed(alloc, &name, text)
+}
+
+/// What the extension for it of a certificate prints, `none` where there is none.
+fn key_usage(alloc: Global, bytes: &[u8], text: &str) -> Answer {
+    let certificate: Certificate = from_bytes(alloc, bytes)?;
+    match certificate.key_usage() {
+        Some(usage) => is_printed(alloc, usage, text),
+        None => Ok(text == "none"),
+    }
+}
+
+/// The further names of a certificate's subject, with `, ` between each two.
+fn alt_names(alloc: Global, bytes: &[u8], text: &str) -> Answer {
+    let certificate: Certificate = from_bytes(alloc, bytes)?;
+    match certificate.subject_alt_names() {
+        Some(names) => are_printed(alloc, names.as_slice(), text),
+        None => Ok(text == "none"),
+    }
+}
+
+fn are_printed(alloc: Global, names: &[GeneralName], text: &str) -> Answer {
+    let mut texts = text.split(", ");
+    for name in names {
+        let Some(text) = texts.next() else {
+            return Ok(false);
+        };
+        if !is_printed(alloc, name, text)? {
+            return Ok(false);
+        }
+    }
+    Ok(texts.next().is_none())
+}
+
+/// Whether a certificate says that it is an authority's.
+fn basic_constraints(alloc: Global, bytes: &[u8], text: &str) -> Answer {
+    let certificate: Certificate = from_bytes(alloc, bytes)?;
+    Ok(match certificate.basic_constraints() {
+        Some(constraints) => (text == "CA:TRUE") == constraints.ca(),
+        None => text == "none",
+    })
 }
 
 /// The first common name of a name.

@@ -4,7 +4,9 @@ use Rattle.x509_extensions.specs.declared.authority_key_identifier.AuthorityKeyI
 use Rattle.x509_extensions.specs.declared.extension.Extension.{Extension}
 use Rattle.x509_extensions.specs.declared.extension_value.ExtensionValue.{ExtensionValue}
 use Rattle.x509_extensions.specs.declared.extension_value.ExtensionValue.TheVariants as kind
+use Rattle.x509_extensions.specs.declared.key_usage.KeyUsage.{KeyUsage}
 use Rattle.x509_names.specs.Parameters.{or_else}
+use Rattle.x509_names.specs.declared.general_name.GeneralName.{GeneralName}
 use Rattle.x509_parts.specs.declared.basic_constraints.BasicConstraints.{BasicConstraints}
 
 abbrev pub first_among : {T : Type 0} → (ExtensionValue → Option T) → List Extension → Option T
@@ -22,3 +24,11 @@ authority_held other = None
 abbrev pub constraints_held : ExtensionValue → Option BasicConstraints
 constraints_held (kind.BasicConstraints held) = Some held.0
 constraints_held other = None
+
+abbrev pub usage_held : ExtensionValue → Option KeyUsage
+usage_held (kind.KeyUsage held) = Some held.0
+usage_held other = None
+
+abbrev pub subject_names_held : ExtensionValue → Option (List GeneralName)
+subject_names_held (kind.SubjectAltName held) = Some held.0
+subject_names_held other = None

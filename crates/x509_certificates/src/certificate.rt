@@ -13,7 +13,9 @@ use picky_asn1::wrapper::BitStringAsn1;
 use picky_asn1_der::{Asn1DerError, LentFields, Serialize, Serializer, fields_of};
 use std::alloc::{AllocError, Global};
 use x509_algorithms::AlgorithmIdentifier;
-use x509_extensions::{AuthorityKeyIdentifier, Extension, SubjectKeyIdentifier};
+use x509_extensions::{
+    AuthorityKeyIdentifier, Extension, KeyUsage, SubjectAltName, SubjectKeyIdentifier,
+};
 use x509_parts::BasicConstraints;
 use x509_spelling::{
     Ahead, Counted, Signed, Spelled, SpelledFields, X509Fault, read_fields, with_signed_part,
@@ -50,7 +52,7 @@ type CertificateRow = (TbsCertificate, (AlgorithmIdentifier, (BitStringAsn1, ())
 
 impl Certificate {
     ghost use Rattle.x509_certificates.specs.ExtensionsFields.{extensions_in};
-    ghost use Rattle.x509_certificates.specs.ExtensionsHeld.{first_among, key_held, authority_held, constraints_held};
+    ghost use Rattle.x509_certificates.specs.ExtensionsHeld.{first_among, key_held, authority_held, constraints_held, subject_names_held, usage_held};
 
     /// The certificate of which the whole input is a spelling, with any count of deviations, and the bytes that its
     /// signature is over, where they are in the input. They are what the strict spelling of `tbs_certificate` is
@@ -92,6 +94,24 @@ impl Certificate {
         ensures { MatchOption result
             (first_among constraints_held (extensions_in self.now.tbs_certificate.extensions.tagged.0) ≡ None)
             (λ constraints. first_among constraints_held (extensions_in self.now.tbs_certificate.extensions.tagged.0) ≡ Some constraints.now) }
+    {
+        first_held(self.extensions())
+    }
+
+    /// What the key may be used for, of the first extension that says it.
+    pub fn key_usage(&self) -> Option<&KeyUsage>
+        ensures { MatchOption result
+            (first_among usage_held (extensions_in self.now.tbs_certificate.extensions.tagged.0) ≡ None)
+            (λ usage. first_among usage_held (extensions_in self.now.tbs_certificate.extensions.tagged.0) ≡ Some usage.now) }
+    {
+        first_held(self.extensions())
+    }
+
+    /// Further names of the subject, of the first extension that has some.
+    pub fn subject_alt_names(&self) -> Option<&SubjectAltName>
+        ensures { MatchOption result
+            (first_among subject_names_held (extensions_in self.now.tbs_certificate.extensions.tagged.0) ≡ None)
+            (λ names. first_among subject_names_held (extensions_in self.now.tbs_certificate.extensions.tagged.0) ≡ Some names.now) }
     {
         first_held(self.extensions())
     }

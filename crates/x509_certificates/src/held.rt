@@ -1,10 +1,10 @@
 //! The first value of a kind among some extensions.
 ghost use Rattle.std.specs.Prelude.{◌≡◌, Option, None, Some, MatchOption};
 ghost use Rattle.x509_extensions.specs.declared.extension_value.ExtensionValue.{ExtensionValue};
-ghost use Rattle.x509_certificates.specs.ExtensionsHeld.{first_among, key_held, authority_held, constraints_held};
+ghost use Rattle.x509_certificates.specs.ExtensionsHeld.{first_among, key_held, authority_held, constraints_held, subject_names_held, usage_held};
 
 use picky_asn1::wrapper::OctetStringAsn1;
-use x509_extensions::{AuthorityKeyIdentifier, Extension, ExtensionView};
+use x509_extensions::{AuthorityKeyIdentifier, Extension, ExtensionView, KeyUsage, SubjectAltName};
 use x509_parts::BasicConstraints;
 
 /// What extensions of one kind hold.
@@ -46,6 +46,28 @@ impl Held for BasicConstraints {
     fn held_in(extension: &Extension) -> Option<&BasicConstraints> {
         match extension.extn_value() {
             ExtensionView::BasicConstraints(constraints) => Some(constraints),
+            _ => None,
+        }
+    }
+}
+
+impl Held for KeyUsage {
+    ghost held_by = { usage_held };
+
+    fn held_in(extension: &Extension) -> Option<&KeyUsage> {
+        match extension.extn_value() {
+            ExtensionView::KeyUsage(usage) => Some(usage),
+            _ => None,
+        }
+    }
+}
+
+impl Held for SubjectAltName {
+    ghost held_by = { subject_names_held };
+
+    fn held_in(extension: &Extension) -> Option<&SubjectAltName> {
+        match extension.extn_value() {
+            ExtensionView::SubjectAltName(names) => Some(names),
             _ => None,
         }
     }

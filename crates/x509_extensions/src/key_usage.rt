@@ -126,6 +126,13 @@ impl KeyUsage {
         self.0.bit(8)
     }
 
+    // Whether the key has the use with this number.
+    pub(crate) fn has_use(&self, number: usize) -> bool
+        ensures { result ≡ bit_of self.now.0 number }
+    {
+        self.0.bit(number)
+    }
+
     /// Says whether signatures may be made with the key.
     pub fn set_digital_signature(&mut self, alloc: Global, value: bool) -> Result<(), AllocError>
         ensures { MatchResult result (λ _. IsSet 0 value self.old self.new) (λ _. self.new ≡ self.old) }

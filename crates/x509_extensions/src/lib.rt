@@ -10,6 +10,7 @@ mod extension_value;
 mod extension_view;
 mod extensions;
 mod key_usage;
+mod key_usage_text;
 
 pub use authority_field::AuthorityField;
 pub use authority_key_identifier::AuthorityKeyIdentifier;

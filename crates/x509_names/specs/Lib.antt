@@ -3,7 +3,9 @@ pub mod AttributeMade
 pub mod Attributes
 pub mod EdiNames
 pub mod GeneralNames
+pub mod GeneralText
 pub mod NameAttrs
 pub mod NameRows
 pub mod NameText
 pub mod Parameters
+pub mod Rfc4514

@@ -142,35 +142,56 @@ impl<'a> fmt::Display for Value<'a> {
             AttributeValue::Directory(string) => write!(f, "{string}"),
             AttributeValue::Email(address) => write!(f, "{address}"),
             AttributeValue::Custom(raw) => {
-                let element = Element(raw);
+                let element = Element::of_raw(raw);
                 write!(f, "{element}")
             }
         }
     }
 }
 
-// An element, its octets in hexadecimal.
+/// An element, its octets in hexadecimal.
 #[derive(Clone, Copy)]
-struct Element<'a>(&'a RawElement);
+pub(crate) struct Element<'a> {
+    first: u8,
+    content: &'a [u8],
+}
+
+impl<'a> Element<'a> {
+    /// The element with this identifier octet and this content.
+    pub(crate) fn new(first: u8, content: &'a [u8]) -> Element<'a>
+        ensures first { result.first ≡ first }
+        ensures content { result.content.now ≡ content.now }
+    {
+        Element { first, content }
+    }
+
+    /// An element that was kept as it stood.
+    pub(crate) fn of_raw(raw: &'a RawElement) -> Element<'a>
+        ensures first { result.first ≡ raw.now.first }
+        ensures content { result.content.now ≡ raw.now.content }
+    {
+        Element::new(raw.first(), raw.content())
+    }
+}
 
 impl<'a> fmt::Display for Element<'a> {
     ghost use Rattle.std.specs.Prelude.{Some};
     ghost use Rattle.x509_names.specs.NameText.{element_text};
 
-    ghost output = { λ element. Some (element_text element.0.now) };
+    ghost output = { λ element. Some (element_text (record { first = element.first; content = element.content.now })) };
 
     fn fmt<W: fmt::Write>(&self, f: &mut fmt::Formatter<W>) -> fmt::Result {
-        let first = Octet(self.0.first());
-        let octets = LengthOctets::of(self.0.content().len());
+        let first = Octet(self.first);
+        let octets = LengthOctets::of(self.content.len());
         let length = Octets(octets.as_bytes());
-        let content = Octets(self.0.content());
+        let content = Octets(self.content);
         write!(f, "{first}{length}{content}")
     }
 }
 
-// Octets, each as two hexadecimal digits.
+/// Octets, each as two hexadecimal digits.
 #[derive(Clone, Copy)]
-struct Octets<'a>(&'a [u8]);
+pub(crate) struct Octets<'a>(pub(crate) &'a [u8]);
 
 impl<'a> fmt::Display for Octets<'a> {
     ghost use Rattle.std.specs.Prelude.{Some};
@@ -188,9 +209,9 @@ impl<'a> fmt::Display for Octets<'a> {
     }
 }
 
-// An octet as two hexadecimal digits.
+/// An octet as two hexadecimal digits.
 #[derive(Clone, Copy)]
-struct Octet(u8);
+pub(crate) struct Octet(pub(crate) u8);
 
 impl fmt::Display for Octet {
     ghost use Rattle.std.specs.Prelude.{Some};
