@@ -33,7 +33,7 @@ use Rattle.pkinit_clients.specs.Faults.{Secret}
 use Rattle.pkinit_clients.specs.Replies.{IsKdcDhKeyInfo, IsPaPkAsRep, is_dh_key_data, of_content, of_key_data, of_key_info, of_reply, of_signed, secret_of, signed_by, signed_in, sole_kdc_dh_key_info, sole_pa_pk_as_rep}
 use Rattle.pkinit_clients.specs.declared.fault.ReplyFault.TheVariants.{NotTrusted}
 
--- of the first part's own outcomes one follows
+-- the whole has the outcome of its first part where that part decides
 follows : {A T E F : Type 0} (told : E → F) (t : Table (Result A E)) (rest : A → Table (Result T F)) → ((s : Result T F) → (and_then_told {A = A} {T = T} {E = E} {F = F} told t rest).gives s → ⊥)
     → ((a : A) → t.gives (Ok a) → HasOutcome (rest a)) → (r : Result A E) → t.gives r → ⊥
 follows told t rest none each (Ok a) x = each a x (λ s y. none s (inl (a, x, y)))

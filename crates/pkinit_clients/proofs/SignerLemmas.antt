@@ -28,7 +28,7 @@ module _ (keys : KeysRecord) (expected : ExpectedRecord) (content : SignedParts)
   refused_as fault told is outcome =
       subst (λ (f : ReplyFault). IsTakenAs (signed_by keys expected content).gives (Err f)) (sym is) (refused fault outcome)
 
--- by the name of the realm's ticket-granting service
+-- the signer is expected under the name of the realm's ticket-granting service
 pub signed_as : (keys : KeysRecord) (asked : PkinitAskedRecord) (content : SignedParts) (name : List (List ℕ)) → name ≡ krbtgt_of asked.realm → (answer : Result (Unit {0}) ReplyFault)
     → IsTakenAs (signed_by keys (record { realm = asked.realm; name = name; anchor = asked.anchor; moment = asked.moment }) content).gives answer
     → IsTakenAs (signed_by keys (expected_realm asked) content).gives answer

@@ -36,14 +36,14 @@ use Rattle.pkinit_clients.specs.Verified.{IsVerifiedPart, signed_place}
 tagged : (first : ℕ) (tree : Tree) → has_low_number first ≡ true → IsWhole (wrapped first tree) → IsElement (der (wrapped first tree))
 tagged first tree low whole = (first, der tree, low, der-wrapped first tree (wrapped-whole first tree whole))
 
--- and holds a SEQUENCE that is in it
+-- the content of this element is the SEQUENCE in it
 in_tag : (first : ℕ) (own : Trees) → has_low_number first ≡ true → IsWhole (wrapped first (constructed 48 own))
     → LeadsTo (der (wrapped first (constructed 48 own))) (0 ∷ []) (der (constructed 48 own))
 in_tag first own low whole =
     held_at first (der (constructed 48 own)) (der (wrapped first (constructed 48 own))) low (48, ders own, refl, refl)
     (der-wrapped first (constructed 48 own) (wrapped-whole first (constructed 48 own) whole))
 
--- of trees under [0] to [6] the third
+-- the third of seven trees under [0] to [6] is at its place
 module _ (a b c d e f g : Tree) where
   abbrev behind_third : Trees
   behind_third = more (wrapped 163 d) (more (wrapped 164 e) (more (wrapped 165 f) (more (wrapped 166 g) none)))
@@ -85,7 +85,7 @@ are_some : (padata : List PaData) → AreSome (ders (trees_of pa_data_tree padat
 are_some [] = ([], refl)
 are_some (pa_data ∷ padata) = some_more (der (pa_data_tree pa_data)) (ders (trees_of pa_data_tree padata)) (ders (trees_of pa_data_tree (pa_data ∷ padata))) (is_element pa_data) refl (are_some padata)
 
--- one that is found has a number
+-- padata that is found has a place among the others
 numbered : (test : PaData → Bool) (padata : List PaData) (pa_data : PaData) → find test padata ≡ Some pa_data
     → (n : ℕ) × LeadsIn (ders (trees_of pa_data_tree padata)) n (der (pa_data_tree pa_data))
 numbered test [] pa_data e = absurd (cc (e))

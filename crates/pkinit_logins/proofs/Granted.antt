@@ -34,7 +34,7 @@ use Rattle.pkinit_replies.specs.AgreementBytes.{agreement_bytes}
 use Rattle.pkinit_replies.specs.PublicKeys.{IsPublicKey}
 use Rattle.pkinit_replies.specs.Replies.{dh_key_data, dh_reply_bytes, dh_reply_of, key_info_bytes, key_info_of, pk_as_rep}
 use Rattle.pkinit_replies.specs.declared.public_key.AgreementPublicKey.{AgreementPublicKey}
-use Rattle.pkinit_requests.specs.Asked.{AskedRecord}
+use Rattle.pkinit_requests.specs.AuthPackFields.{AuthPackFieldsRecord}
 use Rattle.pkinit_requests.specs.AuthPacks as realm
 use Rattle.pkinit_requests.specs.Judging.{JudgingRecord, judging_by}
 use Rattle.pkinit_requests.specs.PkinitTable.{agreed_on, auth_pack_fields, is_auth_data, of_auth_pack, of_content, pkinit_table}
@@ -64,7 +64,7 @@ unfolding realm.IsAuthPack client.auth_pack_bytes
 written_pack body moment second value whole =
     (((((tt, tt), ((tt, tt), ((tt, tt), ((tt, tt), tt)))), tt), (whole-wrapped 161 (raw_tree value) whole, tt)), refl)
 
--- by its type it is one
+-- its eContentType is id-pkinit-authData
 written_type : (sign : Bytes → Option Signed) (content certificate signed : Bytes) (w : IsWritten sign client.auth_data content certificate signed)
     → is_auth_data (written_parts sign client.auth_data content certificate signed w) ≡ true
 unfolding oid_content subidentifier
@@ -87,15 +87,15 @@ written_digest : (body : KdcReqBody) (moment : Micros) (second : GeneralizedTime
 written_digest body moment second value = same_octets (sha1 (body_bytes body))
 
 -- what the client asks for
-abbrev pub asked_for : KdcReqBody → Micros → Raw → AskedRecord
+abbrev pub asked_for : KdcReqBody → Micros → Raw → AuthPackFieldsRecord
 asked_for body moment value = record { value = value; time = moment; nonce = body.nonce.0 }
 
 pub asks : (body : KdcReqBody) (moment : Micros) (second : GeneralizedTime) (value : Raw) → IsSecondOf moment second
     → (auth_pack_fields body (pack_of body moment second value)).gives (Ok (asked_for body moment value))
 asks body moment second value e =
-    by_need {A = Micros} {T = AskedRecord} {E = Code} (realm.time_in (pack_of body moment second value)) KDC_ERR_PREAUTH_FAILED _ moment (Ok (asked_for body moment value))
+    by_need {A = Micros} {T = AuthPackFieldsRecord} {E = Code} (realm.time_in (pack_of body moment second value)) KDC_ERR_PREAUTH_FAILED _ moment (Ok (asked_for body moment value))
     (written_time body moment second value e)
-    (by_refuse {T = AskedRecord} {E = Code} (not (realm.covers body (pack_of body moment second value))) KDC_ERR_PREAUTH_FAILED _ (Ok (asked_for body moment value))
+    (by_refuse {T = AuthPackFieldsRecord} {E = Code} (not (realm.covers body (pack_of body moment second value))) KDC_ERR_PREAUTH_FAILED _ (Ok (asked_for body moment value))
     (ap not (written_digest body moment second value)) refl)
 
 -- the realm signs something over its KDCDHKeyInfo
@@ -106,7 +106,7 @@ written_over own other certificate read value nonce reads signs =
     let made = signs text refl in
     some_written own.sign dh_key_data (key_info_bytes (key_info_of value nonce)) certificate read.certificate reads.count made.0 refl reads.spelled made.1 (own.encodes text made.0 made.1)
 
--- so it has a reply
+-- the realm has a reply
 replies : (keys : KeysRecord) (own : Bytes) (nonce : ℤ) (words : Random) (element : Raw) (key : AgreementPublicKey) (signed : Bytes)
     → keys.public_value (agreement_bytes words) ≡ Some element → IsPublicKey element key
     → IsWritten keys.sign dh_key_data (key_info_bytes (key_info_of key.subject_public_key nonce)) own signed
@@ -115,8 +115,8 @@ replies keys own nonce words element key signed value is written =
     by_need {A = Raw} {T = Bytes} {E = Code} (keys.public_value (agreement_bytes words)) KRB_ERR_GENERIC _ element (Ok (dh_reply_bytes (dh_reply_of signed))) value
     (inl (key, is, inl (signed, written, refl)))
 
--- and both agree
-agrees : (keys : KeysRecord) (judging : JudgingRecord) (asked : AskedRecord) (secret reply : Bytes)
+-- both agree on the secret
+agrees : (keys : KeysRecord) (judging : JudgingRecord) (asked : AuthPackFieldsRecord) (secret reply : Bytes)
     → is_far judging.skew judging.expected.moment asked.time ≡ false → keys.agree (WholeValue asked.value) (agreement_bytes judging.words) ≡ Some secret
     → (pk_as_rep keys judging.certificate asked.nonce judging.words).gives (Ok reply)
     → (agreed_on keys judging asked).gives (Ok (record { secret = secret; reply = reply }))

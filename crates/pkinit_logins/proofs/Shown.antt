@@ -45,7 +45,7 @@ use Rattle.pkinit_replies.specs.PublicKeys.{IsPublicKey, sole_public_key}
 use Rattle.pkinit_replies.specs.Replies.{dh_key_data, dh_reply_bytes, dh_reply_of, key_info_bytes, key_info_of, pk_as_rep}
 use Rattle.pkinit_replies.specs.WrittenOnce.{one_written}
 use Rattle.pkinit_replies.specs.declared.public_key.AgreementPublicKey.{AgreementPublicKey}
-use Rattle.pkinit_requests.specs.Asked.{AskedRecord}
+use Rattle.pkinit_requests.specs.AuthPackFields.{AuthPackFieldsRecord}
 use Rattle.pkinit_requests.specs.AuthPacks.{IsAuthPack, IsPaPkAsReq, sole_auth_pack, sole_pa_pk_as_req}
 use Rattle.pkinit_requests.specs.Judging.{JudgingRecord, judging_by}
 use Rattle.pkinit_requests.specs.PkinitTable.{agreed_on, auth_pack_fields, is_auth_data, of_auth_pack, of_content, of_request, of_signed, pkinit_table, signed_by_client}
@@ -170,7 +170,7 @@ module _ (client_keys realm_keys : KeysRecord) (certificate : Bytes) (trust : Tr
   abbrev pack : AuthPack Raw
   pack = granting.pack_of call.body asked.moment is.second is.value
 
-  abbrev asks_for : AskedRecord
+  abbrev asks_for : AuthPackFieldsRecord
   asks_for = granting.asked_for call.body asked.moment is.value
 
   abbrev parts : SignedParts
@@ -200,7 +200,7 @@ module _ (client_keys realm_keys : KeysRecord) (certificate : Bytes) (trust : Tr
         found_as {A = AuthPack Raw} {T = AgreedRecord} {E = Code} (IsAuthPack pack_text) (sole_auth_pack pack_text) KDC_ERR_PREAUTH_FAILED (of_auth_pack realm_keys judging parts) agreed pack
         (granting.written_pack call.body asked.moment is.second is.value (key_element is.value key is_key)) typed.1 in
         let asking : (and_then signer (λ _. agreed_on realm_keys judging asks_for)).gives (Ok agreed) =
-        went_on_as {A = AskedRecord} {T = AgreedRecord} {E = Code} (auth_pack_fields call.body pack) (λ a. and_then signer (λ _. agreed_on realm_keys judging a)) agreed asks_for
+        went_on_as {A = AuthPackFieldsRecord} {T = AgreedRecord} {E = Code} (auth_pack_fields call.body pack) (λ a. and_then signer (λ _. agreed_on realm_keys judging a)) agreed asks_for
         (granting.asks call.body asked.moment is.second is.value is.of_moment) packed in
         let signing = went_on {A = Unit {0}} {T = AgreedRecord} {E = Code} signer (λ _. agreed_on realm_keys judging asks_for) agreed asking in
         let by =

@@ -30,13 +30,13 @@ pub written_reply : (signed bytes : Bytes) → bytes ≡ dh_reply_bytes (dh_repl
 unfolding IsPaPkAsRep dh_reply_bytes
 written_reply signed bytes e = (((tt, tt), tt), e)
 
--- so is what the realm signed
+-- the KDCDHKeyInfo that the realm signed is read back
 pub written_info : (value : Bits) (nonce : ℤ) → IsWhole (leaf (is_bit_string value) 3 (bit_content value))
     → IsKdcDhKeyInfo (key_info_bytes (key_info_of value nonce)) (key_info_of value nonce)
 unfolding IsKdcDhKeyInfo key_info_bytes
 written_info value nonce whole = ((whole-wrapped 160 (leaf (is_bit_string value) 3 (bit_content value)) whole, ((tt, tt), tt)), refl)
 
--- by its type it is one
+-- its eContentType is id-pkinit-DHKeyData
 written_type : (sign : Bytes → Option Signed) (content certificate signed : Bytes) (w : IsWritten sign dh_key_data content certificate signed)
     → is_dh_key_data (written_parts sign dh_key_data content certificate signed w) ≡ true
 unfolding oid_content subidentifier

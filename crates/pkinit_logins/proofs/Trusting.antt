@@ -54,7 +54,7 @@ module _ (own other : KeysRecord) (content_type content certificate bytes : List
       (not (other.verifies read.certificate.tbs_certificate.subject_public_key_info w.signed.algorithm (signed_bytes content_type content) w.signed.signature)) InvalidSignature
       (done (Ok tt)) (Ok tt) (ap not (verified read.certificate IsText signs this)) refl)))
 
-  -- so is what it signs
+  -- the content that its holder signs is trusted
   pub is_trusted : (expected : ExpectedRecord) (IsText : List ℕ → Type 0) → IsTrusted own other expected certificate IsText → IsText (signed_bytes content_type content)
       → (trusted other expected judged).gives (Ok tt)
   is_trusted expected IsText trusted_one this =

@@ -13,7 +13,7 @@ there : (valid : Bool) (first : ℕ) (content : List ℕ) (other : ℕ) (held : 
 there true first content other held e = tt
 there false first content other held e = let never = e ∙ element-split other held in absurd (cc (never))
 
--- so is an element that is a public key, and the key's bits
+-- an element that is a public key is there, and so are the key's bits
 pub key_element : (element : Raw) (key : AgreementPublicKey) → IsPublicKey element key → IsWhole (raw_tree element)
 unfolding IsPublicKey
 key_element raw key is = there (has_low_number raw.first) raw.first raw.content 48 _ is.1

@@ -17,7 +17,7 @@ ghost use Rattle.pkinit_requests.specs.PkinitTable.{pkinit_table};
 ghost use Rattle.pkinit_requests.specs.Trust.{trust_of};
 
 use key_functions::KeyFunctions;
-use krb_client::{AsAsked, AskRefusal, Client, Means, TakeRefusal};
+use krb_client::{AsAsked, AskRefusal, Client, Means, TakeRefusal, agreement_part};
 use krb_crypto::Key;
 use krb_kdc_requests::Call;
 use krb_messages::messages::{KdcRep, KdcReqBody};

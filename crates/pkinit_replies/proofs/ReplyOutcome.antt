@@ -18,7 +18,7 @@ module _ (keys : KeysRecord) (certificate : Bytes) (nonce : ℤ) (words : Random
   abbrev info : AgreementPublicKey → Bytes
   info key = key_info_bytes (key_info_of key.subject_public_key nonce)
 
-  -- with the realm's public key
+  -- the outcome where the realm has a public key
   abbrev of_key : AgreementPublicKey → Table (Result Bytes Code)
   of_key key =
       ask (IsWritten keys.sign dh_key_data (info key) certificate) (one_written keys.sign dh_key_data (info key) certificate) (done (Err KRB_ERR_GENERIC))

@@ -29,7 +29,7 @@ module _ (sign : List ℕ → Option Signed) (content given : List ℕ) where
   none_at content_type fault other (inl memory) bytes w = other memory
   none_at content_type fault other (inr unread) bytes w = unread.1 w.value w.count w.certificate_spelled
 
--- the same at equal bytes and an equal answer
+-- what holds of these bytes and this answer holds of equal ones
 pub moved : (sign : List ℕ → Option Signed) (given content_type lent text : List ℕ) (signed other : Option (Vec ℕ Global)) → lent ≡ text → signed ≡ other
     → Found sign lent given content_type signed → Found sign text given content_type other
 moved sign given content_type lent text signed other same is found =

@@ -30,7 +30,7 @@ none_for {T} {A} spells make bytes fault (inr reads) = inr (λ made. (
   λ found. absurd (let never = (reads found.0).1 (found.1, found.2) in cc (never)),
 ))
 
--- where no value was read, its fault is handed on
+-- where no value was read, the fault is returned
 pub none_made : {T A : Type 0} (spells : T → List ℕ → ℕ → Type 0) (make : T → A) (bytes : Bytes) (fault : X509Fault) (answer : Result A X509Fault)
     → IsErrAnd answer (λ told. told ≡ fault) → ReadsSpelling spells bytes (Err fault) → ReadsMade spells make bytes answer
 none_made spells make bytes fault (Ok made) is reads = absurd is

@@ -49,7 +49,7 @@ judged_in {T} spells bytes certificate refusal judged_by found value signed is s
     outcome_as (judged_by value signed.now) (GivesOf spells certificate refusal judged_by)
     (λ r given. inl (value, signed.now, at_place.0, at_place.1, given)) answer judged
 
--- of certificates: the table's word
+-- where the value is a certificate, the outcome is the table's
 abbrev pub certificate_gives : KeysRecord → ExpectedRecord → JudgedRecord → Certificate → Bytes → Result (Unit {0}) TrustRefusal → Type 0
 certificate_gives keys expected judged value part =
     (trusted_by keys expected judged (record { certificate = value; signed = part })).gives
