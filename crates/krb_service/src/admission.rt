@@ -1,7 +1,7 @@
-//! Admissions.
+//! What a service gets of a client that it admits.
 ghost use Rattle.std.specs.Prelude.{◌≡◌, ◌≤◌, false, length, IfOk};
 ghost use Rattle.std.specs.Option.{option_map};
-ghost use Rattle.krb_ap_requests.specs.Admission.{admission_of, checksum_of, seq_number_of, subkey_of};
+ghost use Rattle.krb_service.specs.Admission.{admission_of, checksum_of, seq_number_of, starttime_of, subkey_of};
 ghost use Rattle.krb_service.specs.ApReply.{HasSessionKey, IsReplyTo};
 
 use crate::reply::ap_reply;
@@ -9,14 +9,19 @@ use krb_ap_requests::Presented;
 use krb_crypto::Key;
 use krb_encrypted_data::key_of;
 use krb_types::data_types::{
-    AuthenticatorInner, Checksum, EncTicketPartInner, EncryptionKey, PrincipalName, Realm,
+    AuthenticatorInner, Checksum, EncTicketPartInner, EncryptionKey, KerberosFlags, PrincipalName,
+    Realm,
 };
+use picky_asn1::date::GeneralizedTime;
 use picky_asn1::wrapper::IntegerAsn1;
 use picky_asn1_der::ExplicitContextTag;
 use std::alloc::{AllocError, Global};
 use std::marker::Model;
 
-/// What a service is told of a client that it admits (RFC 4120, section 3.2.3).
+/// What a service gets of a client that it admits, from the ticket and the authenticator (RFC 4120, section 3.2.3).
+///
+/// The service judged the ticket's times and flags at the moment of the call. A context that lasts longer has to compare
+/// `endtime` with the clock again (`Moment::is_after`).
 #[derive(Drop)]
 pub struct Admission {
     /// The client's realm.
@@ -25,6 +30,14 @@ pub struct Admission {
     pub client: PrincipalName,
     /// The session key, which the client knows.
     pub session: EncryptionKey,
+    /// The ticket's authtime: when the client authenticated itself for its first ticket (RFC 4120, section 5.3).
+    pub authtime: GeneralizedTime,
+    /// When the ticket starts: its starttime, or its authtime where it has no starttime (RFC 4120, section 5.3).
+    pub starttime: GeneralizedTime,
+    /// The ticket's endtime (RFC 4120, section 5.3).
+    pub endtime: GeneralizedTime,
+    /// The ticket's flags, which `krb_constants::ticket_flags` numbers (RFC 4120, section 5.3).
+    pub flags: KerberosFlags,
     /// The key that the client chose for what follows, if it chose one.
     pub subkey: Option<EncryptionKey>,
     /// The authenticator's checksum (RFC 4120, section 5.5.1). The service doesn't judge it.
@@ -37,7 +50,7 @@ pub struct Admission {
 
 impl Model for Admission {
     ghost use Rattle.std.specs.Option.{option_map};
-    ghost use Rattle.krb_ap_requests.specs.Admission.{AdmissionRecord};
+    ghost use Rattle.krb_service.specs.Admission.{AdmissionRecord};
 
     ghost Value = { AdmissionRecord };
 
@@ -45,6 +58,10 @@ impl Model for Admission {
       realm = a.realm;
       client = a.client;
       session = a.session;
+      authtime = a.authtime;
+      starttime = a.starttime;
+      endtime = a.endtime;
+      flags = a.flags;
       subkey = a.subkey;
       checksum = a.checksum;
       seq_number = a.seq_number;
@@ -74,9 +91,13 @@ struct Taken {
 
 // The admission of the ticket's client, with what was taken from the authenticator and this reply.
 fn admission_with(part: EncTicketPartInner, taken: Taken, reply: Option<Vec<u8>>) -> Admission
-    ensures { result ≡ record { realm = part.crealm.0; client = part.cname.0; session = part.key.0; subkey = taken.subkey; checksum = taken.checksum; seq_number = taken.seq_number; reply = option_map (λ v. v.items) reply } }
+    ensures { result ≡ record { realm = part.crealm.0; client = part.cname.0; session = part.key.0; authtime = part.auth_time.0.0; starttime = starttime_of part; endtime = part.endtime.0.0; flags = part.flags.0; subkey = taken.subkey; checksum = taken.checksum; seq_number = taken.seq_number; reply = option_map (λ v. v.items) reply } }
 {
+    let authtime = part.auth_time.0.0;
+    let starttime = starttime_of(&part);
+    let endtime = part.endtime.0.0;
     let EncTicketPartInner {
+        flags: ExplicitContextTag(flags),
         key: ExplicitContextTag(session),
         crealm: ExplicitContextTag(realm),
         cname: ExplicitContextTag(client),
@@ -91,10 +112,24 @@ fn admission_with(part: EncTicketPartInner, taken: Taken, reply: Option<Vec<u8>>
         realm,
         client,
         session,
+        authtime,
+        starttime,
+        endtime,
+        flags,
         subkey,
         checksum,
         seq_number,
         reply,
+    }
+}
+
+// When the ticket starts: its starttime, or its authtime where it has no starttime.
+fn starttime_of(part: &EncTicketPartInner) -> GeneralizedTime
+    ensures { result ≡ starttime_of part.now }
+{
+    match &part.starttime.0 {
+        Some(tagged) => tagged.0.0,
+        None => part.auth_time.0.0,
     }
 }
 
