@@ -133,7 +133,7 @@ opened key usage encrypted =
     ask (IsAuthenticator suite key.key_value.0 usage encrypted) (sole_authenticator suite key.key_value.0 usage encrypted) (done (Err KRB_AP_ERR_BAD_INTEGRITY)) (λ authenticator.
     done (Ok (suite, authenticator))))
 
--- the moment that an authenticator of the ticket's client tells
+-- the moment of an authenticator of the ticket's client: its ctime and cusec
 abbrev pub authenticator_time : EncTicketPartInner → AuthenticatorInner → Table (Result Micros Code)
 authenticator_time part authenticator =
     -- The authenticator-vno is 5 (RFC 4120, section 5.5.1). Test: `tgs authenticator version` of `kdc_exchanges.txt`.
@@ -146,8 +146,8 @@ authenticator_time part authenticator =
     (need (moment_at (seconds_of authenticator.ctime.0.0) authenticator.cusec.0) KRB_AP_ERR_MODIFIED (λ time.
     done (Ok time))))
 
--- the authenticator under the ticket's key, with the key's suite and the moment that it tells; the usage is 11 to a
--- service, 7 to a ticket-granting service (RFC 4120, section 7.5.1)
+-- the decrypted authenticator, with the session key's suite and the authenticator's moment; the key usage is 11 to a service, and 7 to the
+-- ticket-granting service (RFC 4120, section 7.5.1)
 abbrev pub authenticated : ℕ → EncTicketPartInner → EncryptedData → Table (Result Authenticated Code)
 authenticated usage part encrypted =
     and_then (opened part.key.0 usage encrypted) (λ found.

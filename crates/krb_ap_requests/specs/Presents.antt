@@ -65,7 +65,7 @@ request_of outer part_cipher cipher = record {
   authenticator = record { 0 = encrypted outer.etype outer.kvno cipher };
 }
 
--- the value's encoding is sealed to this ciphertext behind the confounder, by the suite of the number that the data tells
+-- the value's encoding is encrypted to this ciphertext behind the confounder, by the suite whose number is the etype
 pub record SealsTo {T : Type 0} (tree : T → Tree) (etype : ℤ) (key : Bytes) (usage : ℕ) (confounder : Bytes) (value : T) (cipher : Bytes) : Type 0 where
   pub suite : CipherSuite
   pub numbered : is_number (cipher_number suite) etype ≡ true
