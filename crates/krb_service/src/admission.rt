@@ -69,7 +69,7 @@ impl Model for Admission {
     } };
 }
 
-/// The admission of what was presented, with the reply to it.
+/// Makes the admission of what was presented, with the AP-REP to it.
 pub fn admission_of(presented: Presented, reply: Option<Vec<u8>>) -> Admission
     ensures { result ≡ admission_of presented (option_map (λ bytes. bytes.items) reply) }
 {
@@ -81,7 +81,7 @@ pub fn admission_of(presented: Presented, reply: Option<Vec<u8>>) -> Admission
     admission_with(part, taken_from(authenticator), reply)
 }
 
-// What an admission takes from an authenticator.
+// The fields of an authenticator that an admission has.
 #[derive(Drop)]
 struct Taken {
     subkey: Option<EncryptionKey>,
@@ -89,7 +89,7 @@ struct Taken {
     seq_number: Option<IntegerAsn1>,
 }
 
-// The admission of the ticket's client, with what was taken from the authenticator and this reply.
+// Makes the admission of the ticket's client, with the authenticator's fields and this AP-REP.
 fn admission_with(part: EncTicketPartInner, taken: Taken, reply: Option<Vec<u8>>) -> Admission
     ensures { result ≡ record { realm = part.crealm.0; client = part.cname.0; session = part.key.0; authtime = part.auth_time.0.0; starttime = starttime_of part; endtime = part.endtime.0.0; flags = part.flags.0; subkey = taken.subkey; checksum = taken.checksum; seq_number = taken.seq_number; reply = option_map (λ v. v.items) reply } }
 {
@@ -123,7 +123,7 @@ fn admission_with(part: EncTicketPartInner, taken: Taken, reply: Option<Vec<u8>>
     }
 }
 
-// When the ticket starts: its starttime, or its authtime where it has no starttime.
+// Returns the ticket's starttime, or its authtime where it has no starttime.
 fn starttime_of(part: &EncTicketPartInner) -> GeneralizedTime
     ensures { result ≡ starttime_of part.now }
 {
@@ -133,7 +133,7 @@ fn starttime_of(part: &EncTicketPartInner) -> GeneralizedTime
     }
 }
 
-// The key that the client chose, its checksum and its sequence number.
+// Takes the subkey, the checksum and the sequence number out of an authenticator.
 fn taken_from(mut authenticator: AuthenticatorInner) -> Taken
     ensures { result ≡ record { subkey = subkey_of authenticator; checksum = checksum_of authenticator; seq_number = seq_number_of authenticator } }
 {
@@ -148,7 +148,7 @@ fn taken_from(mut authenticator: AuthenticatorInner) -> Taken
     }
 }
 
-// The value under a tag, if there is one.
+// Returns the value under a tag, if there is one.
 fn untagged<const N: u8, T: Drop>(tagged: Option<ExplicitContextTag<N, T>>) -> Option<T>
     ensures { result ≡ option_map (λ value. value.0) tagged }
 {
@@ -180,7 +180,7 @@ pub fn reply_to(
     Ok(Some(bytes))
 }
 
-// The session key, which is one of the presented suite.
+// Returns the session key, which is one of the presented suite.
 fn session_key(presented: &Presented) -> Key
     requires { HasSessionKey presented.now }
     ensures { result ≡ record { suite = presented.now.suite; bytes = presented.now.part.key.0.key_value.0 } }
