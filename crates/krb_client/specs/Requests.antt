@@ -23,7 +23,7 @@ nonce_of words = from_be_bytes w32 (nonce_bytes words) % 2147483648
 abbrev pub no_options : Bits
 no_options = record { octets = 0 ∷ 0 ∷ 0 ∷ 0 ∷ []; unused = 0 }
 
--- the client's name, where it is told
+-- the client's name, where the request has it
 abbrev pub name_where : ClientRecord → Bool → Option (ExplicitContextTag 1 PrincipalName)
 name_where client named = if named then Some (record { 0 = principal_name NT_PRINCIPAL client.components }) else None
 

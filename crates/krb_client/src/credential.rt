@@ -144,7 +144,7 @@ impl Credential {
     }
 }
 
-// When the ticket starts: its starttime, or its authtime where it has no starttime.
+// Returns the ticket's starttime, or its authtime where it has no starttime.
 fn starttime_of(part: &EncKdcRepPart) -> GeneralizedTime
     ensures { result ≡ starttime_of part.now }
 {
