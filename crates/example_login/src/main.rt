@@ -163,7 +163,7 @@ fn present(
     Ok(())
 }
 
-/// Prints what the service was told of the client.
+/// Prints what the service gets of the client, and what of it the client has, too.
 fn show(rt: &HostRuntime, admission: &Admission, credential: &Credential) -> anyhow::Result<()> {
     let realm = str::from_utf8(admission.realm.as_bytes())?;
     for component in admission.client.name_string.0.as_slice() {
@@ -173,7 +173,19 @@ fn show(rt: &HostRuntime, admission: &Admission, credential: &Credential) -> any
     if admission.session.key_value.0.as_bytes() == credential.key().as_bytes() {
         println!(rt; "client and service hold the same session key")?;
     }
+    if is_same_span(admission, credential) && &admission.flags == credential.flags() {
+        println!(rt;
+            "and know that the ticket is valid up to {}",
+            admission.endtime
+        )?;
+    }
     Ok(())
+}
+
+fn is_same_span(admission: &Admission, credential: &Credential) -> bool {
+    admission.authtime == credential.authtime()
+        && admission.starttime == credential.starttime()
+        && admission.endtime == credential.endtime()
 }
 
 /// The components of a name, which stand between slashes.

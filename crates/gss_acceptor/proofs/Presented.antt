@@ -1,8 +1,8 @@
 -- A context has what the client chose.
 use Rattle.std.proofs.Common.{◌≡◌, ℕ, Bool, true, false, List, Result, Ok, Err, refl, sym, ap, subst, ◌∙◌, inl, inr, if◌then◌else◌, arith}
 use Rattle.std.specs.Prelude.{◌≤◌, ◌+◌, max, is_some, Option, None, Some, MatchBool, MatchOption}
-use Rattle.krb_ap_requests.specs.Admission.{AdmissionRecord}
-use Rattle.krb_ap_requests.specs.Presents.{Choice, Presents, TellsOf}
+use Rattle.krb_service.specs.Admission.{AdmissionRecord, TellsOf}
+use Rattle.krb_ap_requests.specs.Presents.{Choice, Presents}
 use Rattle.krb_crypto.specs.Keys.{KeyRecord}
 use Rattle.krb_service.specs.Pair.{PairRecord}
 use Rattle.krb_service.specs.Seen.{IsWindow}

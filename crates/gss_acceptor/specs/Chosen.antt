@@ -1,7 +1,7 @@
 -- What an established context has of the authenticator and the ticket of the AP-REQ (RFC 4121, sections 2, 4.1.1 and 4.2; RFC 4120,
 -- section 3.2.3).
 use Rattle.std.specs.Prelude.{◌≡◌, ◌≤◌, ℕ, Ok}
-use Rattle.krb_ap_requests.specs.Admission.{checksum_of, seq_number_of, subkey_of}
+use Rattle.krb_service.specs.Admission.{checksum_of, seq_number_of, subkey_of}
 use Rattle.krb_ap_requests.specs.Presents.{Choice}
 use Rattle.gss_acceptor.specs.Checksum.{initial_in}
 use Rattle.gss_acceptor.specs.Contexts.{context_key, first_number}

@@ -8,6 +8,7 @@ use Rattle.krb_crypto.specs.Suites.{cipher_key_size, cipher_number}
 use Rattle.krb_encrypted_data.specs.Keys.{suite_of}
 use Rattle.krb_types.specs.Names.{components, is_same_name, is_same_realm}
 use Rattle.krb_constants.specs.declared.ap_options.TheConstants.{MUTUAL_REQUIRED, USE_SESSION_KEY}
+use Rattle.krb_constants.specs.declared.types.TheConstants.{AP_REQ_MSG_TYPE, KERBEROS_VERSION}
 use Rattle.picky_asn1.specs.Numbers.{is_number}
 use Rattle.krb_time.specs.Times.{moment_at}
 use Rattle.krb_time.specs.Units.{Micros}
@@ -21,9 +22,9 @@ use Rattle.krb_ap_requests.specs.declared.presented.Presented.{Presented}
 pub record IsAcceptable (entry : EntryRecord) (skew moment : Micros) (choice : Choice) : Type 0 where
   pub keyed : length entry.key ≡ cipher_key_size entry.suite
   pub method : bit_of choice.outer.options USE_SESSION_KEY ≡ false
-  pub version : is_number 5 choice.outer.pvno ≡ true
-  pub ticket_version : is_number 5 choice.outer.tkt_vno ≡ true
-  pub kind : is_number 14 choice.outer.msg_type ≡ true
+  pub version : is_number KERBEROS_VERSION choice.outer.pvno ≡ true
+  pub ticket_version : is_number KERBEROS_VERSION choice.outer.tkt_vno ≡ true
+  pub kind : is_number AP_REQ_MSG_TYPE choice.outer.msg_type ≡ true
   pub realm : is_same_realm choice.outer.realm entry.realm ≡ true
   pub name : is_same_name (components choice.outer.service) entry.components ≡ true
   pub kvno : option_map_or (is_number entry.kvno) choice.outer.part_kvno true ≡ true
@@ -33,7 +34,7 @@ pub record IsAcceptable (entry : EntryRecord) (skew moment : Micros) (choice : C
   pub suite : CipherSuite
   pub session : suite_of choice.part.key.0 ≡ Some suite
   pub etype : is_number (cipher_number suite) choice.outer.etype ≡ true
-  pub authenticator_version : is_number 5 choice.authenticator.authenticator_vno.0 ≡ true
+  pub authenticator_version : is_number KERBEROS_VERSION choice.authenticator.authenticator_vno.0 ≡ true
   pub client : is_of_client choice.part choice.authenticator ≡ true
   pub time : Micros
   pub ctime : moment_at (seconds_of choice.authenticator.ctime.0.0) choice.authenticator.cusec.0 ≡ Some time

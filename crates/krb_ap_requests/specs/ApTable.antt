@@ -1,8 +1,10 @@
 -- How an AP request is judged, in parts of one table: the first case that holds counts (RFC 4120, section 3.2.3).
 use Rattle.std.specs.Prelude.{ℕ, ◌*◌, Bool, true, not, ◌&&◌, ◌||◌, List, Result, Ok, Err}
+use Rattle.std.specs.Int.{cast_unsigned, w32}
 use Rattle.std.specs.Option.{option_map_or}
 use Rattle.picky_asn1.specs.BitString.{bit_of}
 use Rattle.asn1_leaves.specs.GeneralizedTime.{seconds_of}
+use Rattle.krb_constants.specs.declared.key_usages.TheConstants.{AP_REQ_AUTHENTICATOR}
 use Rattle.krb_crypto.specs.declared.suite.CipherSuite.{CipherSuite}
 use Rattle.krb_crypto.specs.Suites.{cipher_number}
 use Rattle.krb_types.specs.declared.data_types.authenticator.AuthenticatorInner.{AuthenticatorInner}
@@ -17,6 +19,7 @@ use Rattle.krb_types.specs.Refusals.{Code}
 use Rattle.krb_constants.specs.declared.ap_options.TheConstants.{MUTUAL_REQUIRED, USE_SESSION_KEY}
 use Rattle.krb_constants.specs.declared.error_codes.TheConstants.{KRB_AP_ERR_BAD_INTEGRITY, KRB_AP_ERR_TKT_EXPIRED, KRB_AP_ERR_TKT_NYV, KRB_AP_ERR_NOT_US, KRB_AP_ERR_BADMATCH, KRB_AP_ERR_BADVERSION, KRB_AP_ERR_MSG_TYPE, KRB_AP_ERR_MODIFIED, KRB_AP_ERR_BADKEYVER, KRB_AP_ERR_NOKEY, KRB_AP_ERR_METHOD}
 use Rattle.krb_constants.specs.declared.ticket_flags.TheConstants.{INVALID}
+use Rattle.krb_constants.specs.declared.types.TheConstants.{AP_REQ_MSG_TYPE, KERBEROS_VERSION}
 use Rattle.picky_asn1.specs.Numbers.{is_number}
 use Rattle.picky_asn1.specs.Bytes.{Bytes}
 use Rattle.decision_tables.specs.Tables.{Table, done, ask, and_then, need, refuse}
@@ -38,7 +41,7 @@ enc_part_in request = (ticket_in request).enc_part.0
 
 -- the request and its ticket are of version 5
 abbrev pub is_version_5 : ApReqInner → Bool
-is_version_5 request = is_number 5 request.pvno.0 && is_number 5 (ticket_in request).tkt_vno.0
+is_version_5 request = is_number KERBEROS_VERSION request.pvno.0 && is_number KERBEROS_VERSION (ticket_in request).tkt_vno.0
 
 -- the ticket is for the service of this realm and this name
 abbrev pub is_for : Bytes → List Bytes → TicketInner → Bool
@@ -52,17 +55,27 @@ kvno_fits kvno encrypted = option_map_or (λ tagged. is_number kvno tagged.0) en
 -- kvno
 abbrev pub ap_fields : Bytes → List Bytes → ℕ → ApReqInner → Table (Result (Unit {0}) Code)
 ap_fields realm name kvno request =
+    -- The request's pvno and the ticket's tkt-vno are 5 (RFC 4120, section 3.2.3). Test: `ticket version`; `tgs AP-REQ pvno`,
+    -- `tgs ticket version` of `kdc_exchanges.txt`.
     refuse (not (is_version_5 request)) KRB_AP_ERR_BADVERSION
-    (refuse (not (is_number 14 request.msg_type.0)) KRB_AP_ERR_MSG_TYPE
+    -- The msg-type is KRB_AP_REQ (RFC 4120, section 3.2.3). Test: `tgs AP-REQ type` of `kdc_exchanges.txt`.
+    (refuse (not (is_number AP_REQ_MSG_TYPE request.msg_type.0)) KRB_AP_ERR_MSG_TYPE
+    -- The ticket is for this service of this realm; the name type is ignored (RFC 4120, section 3.2.3). Test: `name`, `name type`;
+    -- `tgs ticket realm`, `tgs ticket name` of `kdc_exchanges.txt`.
     (refuse (not (is_for realm name (ticket_in request))) KRB_AP_ERR_NOT_US
+    -- The ticket's kvno is that of the service's key, or is missing (RFC 4120, section 3.2.3). Test: `no key number`; `Krb(44)` of
+    -- `logins.txt`; `tgs key number`, `tgs no key number` of `kdc_exchanges.txt`.
     (refuse (not (kvno_fits kvno (enc_part_in request))) KRB_AP_ERR_BADKEYVER
     (done (Ok tt)))))
 
 -- the request isn't under a session key, it is for this service, and sealed as this service can open it
 abbrev pub for_service : Bytes → List Bytes → CipherSuite → ℕ → ApReqInner → Table (Result (Unit {0}) Code)
 for_service realm name suite kvno request =
+    -- The option use-session-key isn't set: no service of this stack has a session key (RFC 4120, section 5.5.1). Test:
+    -- `use session key in two bits`.
     refuse (bit_of request.ap_options.0 USE_SESSION_KEY) KRB_AP_ERR_METHOD
     (and_then (ap_fields realm name kvno request) (λ _.
+    -- The etype of the ticket's enc-part is that of the service's key (RFC 4120, section 3.2.3). Test: `etype`.
     refuse (not (is_number (cipher_number suite) (enc_part_in request).etype.0)) KRB_AP_ERR_NOKEY
     (done (Ok tt))))
 
@@ -70,7 +83,7 @@ for_service realm name suite kvno request =
 abbrev pub ticket_start : EncTicketPartInner → Seconds
 ticket_start part = option_map_or (λ tagged. seconds_of tagged.0.0) part.starttime.0 (seconds_of part.auth_time.0.0)
 
--- the ticket starts later than the moment and the skew, or isn't valid yet (flag 7; RFC 4120, section 2.2)
+-- the ticket starts later than the moment and the skew, or its flag invalid is set (RFC 4120, section 2.2)
 abbrev pub is_early : Micros → Micros → EncTicketPartInner → Bool
 is_early skew moment part = is_before skew moment (ticket_start part * 1000000) || bit_of part.flags.0 INVALID
 
@@ -78,20 +91,26 @@ is_early skew moment part = is_before skew moment (ticket_start part * 1000000) 
 abbrev pub is_late : Micros → Micros → EncTicketPartInner → Bool
 is_late skew moment part = is_before skew (seconds_of part.endtime.0.0 * 1000000) moment
 
--- the ticket counts at this moment
+-- the ticket has started, has not ended, and isn't invalid at this moment
 abbrev pub timely : Micros → Micros → EncTicketPartInner → Table (Result (Unit {0}) Code)
 timely skew moment part =
+    -- The ticket's starttime, or else its authtime, is at most the skew after now, and its flag invalid isn't set (RFC 4120, section
+    -- 3.2.3). Test: `start past skew`, `invalid flag`; `tgs ticket authtime stands for start`, `tgs ticket invalid flag` of
+    -- `kdc_exchanges.txt`.
     refuse (is_early skew moment part) KRB_AP_ERR_TKT_NYV
+    -- Now is at most the skew after the ticket's endtime (RFC 4120, section 3.2.3). Test: `end past skew`.
     (refuse (is_late skew moment part) KRB_AP_ERR_TKT_EXPIRED
     (done (Ok tt)))
 
 -- the part that the service's key opens
 abbrev pub opened_part : CipherSuite → Bytes → EncryptedData → Table (Result EncTicketPartInner Code)
 opened_part suite key encrypted =
+    -- The ticket's enc-part decrypts under the service's key, for key usage 2 (RFC 4120, section 3.2.3). Test: `wrong usage`,
+    -- `ticket part cut`; `tgs ticket wrong key`, `tgs ticket etype` of `kdc_exchanges.txt`.
     ask (IsTicketPart suite key encrypted) (sole_ticket_part suite key encrypted) (done (Err KRB_AP_ERR_BAD_INTEGRITY)) (λ part.
     done (Ok part))
 
--- the part that the service's key opens, of a ticket that counts
+-- the part that the service's key opens, of a ticket that is valid at this moment
 abbrev pub valid_part : CipherSuite → Bytes → Micros → Micros → EncryptedData → Table (Result EncTicketPartInner Code)
 valid_part suite key skew moment encrypted =
     and_then (opened_part suite key encrypted) (λ part.
@@ -106,20 +125,29 @@ is_of_client part authenticator =
 -- the suite of the ticket's key, and the authenticator that this key opens for the usage
 abbrev pub opened : EncryptionKey → ℕ → EncryptedData → Table (Result (CipherSuite × AuthenticatorInner) Code)
 opened key usage encrypted =
+    -- The session key's type and length are a suite's (RFC 3961, section 3). Test: `key length`; `tgs ticket key type`,
+    -- `tgs ticket key length` of `kdc_exchanges.txt`.
     need (suite_of key) KRB_AP_ERR_BAD_INTEGRITY (λ suite.
+    -- The authenticator decrypts under the session key, for its key usage (RFC 4120, section 3.2.3). Test: `authenticator wrong key`;
+    -- `tgs authenticator wrong usage` of `kdc_exchanges.txt`.
     ask (IsAuthenticator suite key.key_value.0 usage encrypted) (sole_authenticator suite key.key_value.0 usage encrypted) (done (Err KRB_AP_ERR_BAD_INTEGRITY)) (λ authenticator.
     done (Ok (suite, authenticator))))
 
--- the moment that an authenticator of the ticket's client tells
+-- the moment of an authenticator of the ticket's client: its ctime and cusec
 abbrev pub authenticator_time : EncTicketPartInner → AuthenticatorInner → Table (Result Micros Code)
 authenticator_time part authenticator =
-    refuse (not (is_number 5 authenticator.authenticator_vno.0)) KRB_AP_ERR_BADVERSION
+    -- The authenticator-vno is 5 (RFC 4120, section 5.5.1). Test: `tgs authenticator version` of `kdc_exchanges.txt`.
+    refuse (not (is_number KERBEROS_VERSION authenticator.authenticator_vno.0)) KRB_AP_ERR_BADVERSION
+    -- The authenticator's crealm and cname are the ticket's (RFC 4120, section 3.2.3). Test: `authenticator realm`;
+    -- `tgs authenticator realm`, `tgs authenticator client` of `kdc_exchanges.txt`.
     (refuse (not (is_of_client part authenticator)) KRB_AP_ERR_BADMATCH
+    -- The authenticator's cusec is from 0 to 999,999 (RFC 4120, section 5.2.4). Test: `microseconds -1`; `tgs authenticator microseconds`
+    -- of `kdc_exchanges.txt`.
     (need (moment_at (seconds_of authenticator.ctime.0.0) authenticator.cusec.0) KRB_AP_ERR_MODIFIED (λ time.
     done (Ok time))))
 
--- the authenticator under the ticket's key, with the key's suite and the moment that it tells; the usage is 11 to a
--- service, 7 to a ticket-granting service (RFC 4120, section 7.5.1)
+-- the decrypted authenticator, with the session key's suite and the authenticator's moment; the key usage is 11 to a service, and 7 to the
+-- ticket-granting service (RFC 4120, section 7.5.1)
 abbrev pub authenticated : ℕ → EncTicketPartInner → EncryptedData → Table (Result Authenticated Code)
 authenticated usage part encrypted =
     and_then (opened part.key.0 usage encrypted) (λ found.
@@ -139,10 +167,12 @@ presented_with request part a = record {
 -- what the request presents whose ticket has this part
 abbrev pub valid_authenticator : ApReqInner → EncTicketPartInner → Table (Result Presented Code)
 valid_authenticator request part =
-    and_then (authenticated 11 part request.authenticator.0) (λ a.
+    and_then (authenticated (cast_unsigned w32 AP_REQ_AUTHENTICATOR) part request.authenticator.0) (λ a.
     done (Ok (presented_with request part a)))
 
--- what the request presents to the service of this key at a moment, up to the time that it tells
+-- what the request presents to the service of this key at a moment, without the judgement of the authenticator's time
+-- Not judged: the authenticator's checksum, seq-number and authorization-data, the ticket's caddr, transited and authorization-data, and
+-- the client's realm (RFC 4120, sections 3.2.3, 5.3, 5.5.1). Test: `checksum not judged`.
 unfoldable pub presented : EntryRecord → Micros → Micros → ApReqInner → Table (Result Presented Code)
 presented entry skew moment request =
     and_then (for_service entry.realm entry.components entry.suite entry.kvno request) (λ _.

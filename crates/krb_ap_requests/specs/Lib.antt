@@ -1,7 +1,6 @@
 pub mod Refusal
 pub mod Messages
 pub mod Entry
-pub mod Admission
 pub mod ApTable
 pub mod Received
 pub mod Presents

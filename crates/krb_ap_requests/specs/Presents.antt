@@ -1,10 +1,13 @@
--- What an AP request is made of, with what is sealed in it and the confounders (RFC 4120, sections 3.2.2, 5.5.1; RFC 3961, section 5.3).
+-- What an AP-REQ is made of: its fields, its encrypted parts, and the confounder of each (RFC 4120, sections 3.2.2, 5.5.1; RFC 3961, section
+-- 5.3).
 use Rattle.std.specs.Prelude.{◌≡◌, ℕ, true, Option, ℤ}
+use Rattle.std.specs.Int.{cast_unsigned, w32}
 use Rattle.std.specs.Option.{option_map}
 use Rattle.asn1_der.specs.Tree.{Tree, Writes}
 use Rattle.picky_asn1.specs.BitString.{Bits}
 use Rattle.picky_asn1.specs.Bytes.{Bytes}
 use Rattle.picky_asn1.specs.Numbers.{is_number}
+use Rattle.krb_constants.specs.declared.key_usages.TheConstants.{AP_REQ_AUTHENTICATOR, TICKET_REP}
 use Rattle.krb_crypto.specs.declared.suite.CipherSuite.{CipherSuite}
 use Rattle.krb_crypto.specs.Sealing.{IsSealedBy}
 use Rattle.krb_crypto.specs.Suites.{cipher_number}
@@ -13,10 +16,9 @@ use Rattle.krb_types.specs.declared.data_types.encrypted_data.EncryptedData.{Enc
 use Rattle.krb_types.specs.declared.data_types.enc_ticket_part.EncTicketPartInner.{EncTicketPartInner}
 use Rattle.krb_types.specs.declared.data_types.principal_name.PrincipalName.{PrincipalName}
 use Rattle.krb_messages.specs.declared.messages.ap_req.ApReqInner.{ApReqInner}
-use Rattle.krb_ap_requests.specs.Admission.{AdmissionRecord, checksum_of, seq_number_of, subkey_of}
 use Rattle.krb_messages.specs.Messages.{IsApReq, authenticator_tree, enc_ticket_part_tree}
 
--- what a request shows to all: its fields and its ticket's, but for the two ciphertexts
+-- the fields of a request and of its ticket, but for the two ciphertexts
 pub record Outer : Type 0 where
   pub pvno : ℤ
   pub msg_type : ℤ
@@ -63,7 +65,7 @@ request_of outer part_cipher cipher = record {
   authenticator = record { 0 = encrypted outer.etype outer.kvno cipher };
 }
 
--- the value's encoding is sealed to this ciphertext behind the confounder, by the suite of the number that the data tells
+-- the value's encoding is encrypted to this ciphertext behind the confounder, by the suite whose number is the etype
 pub record SealsTo {T : Type 0} (tree : T → Tree) (etype : ℤ) (key : Bytes) (usage : ℕ) (confounder : Bytes) (value : T) (cipher : Bytes) : Type 0 where
   pub suite : CipherSuite
   pub numbered : is_number (cipher_number suite) etype ≡ true
@@ -72,19 +74,10 @@ pub record SealsTo {T : Type 0} (tree : T → Tree) (etype : ℤ) (key : Bytes) 
   pub sealed : IsSealedBy suite key usage confounder plain cipher
 
 -- the bytes are the one encoding of an AP request with these outer fields, whose ticket seals the part under the
--- service's key (usage 2), and whose authenticator is sealed under the part's key (usage 11; RFC 4120, section 7.5.1)
+-- service's key, and whose authenticator is sealed under the part's key (RFC 4120, section 7.5.1)
 pub record Presents (key : Bytes) (choice : Choice) (message : Bytes) : Type 0 where
   pub part_cipher : Bytes
   pub cipher : Bytes
   pub writes : IsApReq message (request_of choice.outer part_cipher cipher)
-  pub part : SealsTo {T = EncTicketPartInner} enc_ticket_part_tree choice.outer.part_etype key 2 choice.part_confounder choice.part part_cipher
-  pub authenticator : SealsTo {T = AuthenticatorInner} authenticator_tree choice.outer.etype choice.part.key.0.key_value.0 11 choice.confounder choice.authenticator cipher
-
--- the admission has the client, the keys, the checksum and the sequence number as they were chosen
-pub record TellsOf (choice : Choice) (admission : AdmissionRecord) : Type 0 where
-  pub realm : admission.realm ≡ choice.part.crealm.0
-  pub client : admission.client ≡ choice.part.cname.0
-  pub session : admission.session ≡ choice.part.key.0
-  pub subkey : admission.subkey ≡ subkey_of choice.authenticator
-  pub checksum : admission.checksum ≡ checksum_of choice.authenticator
-  pub seq_number : admission.seq_number ≡ seq_number_of choice.authenticator
+  pub part : SealsTo {T = EncTicketPartInner} enc_ticket_part_tree choice.outer.part_etype key (cast_unsigned w32 TICKET_REP) choice.part_confounder choice.part part_cipher
+  pub authenticator : SealsTo {T = AuthenticatorInner} authenticator_tree choice.outer.etype choice.part.key.0.key_value.0 (cast_unsigned w32 AP_REQ_AUTHENTICATOR) choice.confounder choice.authenticator cipher

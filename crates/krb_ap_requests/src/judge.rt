@@ -25,21 +25,22 @@ use picky_asn1::wrapper::GeneralStringAsn1;
 use result_pairs::if_passed;
 use std::alloc::Global;
 
-// The ticket of a request (RFC 4120, section 5.5.1).
+// Returns the ticket of a request (RFC 4120, section 5.5.1).
 fn ticket_in(request: &ApReqInner) -> &TicketInner
     ensures { result.now ≡ ticket_in request.now }
 {
     &request.ticket.0.0
 }
 
-/// The ticket's part as ciphertext (RFC 4120, section 5.3).
+/// Returns the enc-part of a request's ticket (RFC 4120, section 5.3).
 pub fn enc_part_in(request: &ApReqInner) -> &EncryptedData
     ensures { result.now ≡ enc_part_in request.now }
 {
     &request.ticket.0.0.enc_part.0
 }
 
-/// Judges the request's own fields: it has to be for this service, and sealed as the service can open it.
+/// Judges the request's own fields, in this order. Its option use-session-key must not be set (code 48). Then come the rows of
+/// [`check_fields`]. The etype of the ticket's enc-part has to be that of the service's key (45; RFC 4120, section 3.2.3).
 pub fn check_recipient(
     realm: &GeneralStringAsn1,
     name: &[GeneralStringAsn1],
@@ -59,9 +60,9 @@ pub fn check_recipient(
     Ok(())
 }
 
-/// Judges the request's own fields (RFC 4120, section 3.2.3): request and ticket have to be of version 5 (code 39), it has
-/// to be an AP request (40), its ticket for the service of this realm and this name (35), and under its key of this
-/// kvno, where it has one (44).
+/// Judges the request's own fields (RFC 4120, section 3.2.3), in this order. Its pvno and the ticket's tkt-vno have to be 5 (code
+/// 39), and its msg-type has to be KRB_AP_REQ (40). The ticket has to be for the service of this realm and this name (35). The kvno of
+/// the ticket's enc-part has to be this one, or missing (44).
 pub fn check_fields(
     realm: &GeneralStringAsn1,
     name: &[GeneralStringAsn1],
@@ -85,7 +86,7 @@ pub fn check_fields(
     Ok(())
 }
 
-// The request and its ticket are of version 5.
+// Whether the request's pvno and its ticket's tkt-vno are 5.
 fn is_version_5(request: &ApReqInner) -> bool
     ensures { result ≡ is_version_5 request.now }
 {
@@ -93,7 +94,7 @@ fn is_version_5(request: &ApReqInner) -> bool
         && is_number(&ticket_in(request).tkt_vno.0, KERBEROS_VERSION)
 }
 
-// The ticket is for the service of this realm and this name.
+// Whether the ticket is for the service of this realm and this name.
 fn is_for(realm: &GeneralStringAsn1, name: &[GeneralStringAsn1], ticket: &TicketInner) -> bool
     ensures { result ≡ is_for realm.now name.now ticket.now }
 {
@@ -101,7 +102,7 @@ fn is_for(realm: &GeneralStringAsn1, name: &[GeneralStringAsn1], ticket: &Ticket
         && is_same_name(ticket.sname.0.name_string.0.as_slice(), name)
 }
 
-// The data has the kvno, or none.
+// Whether the data has this kvno, or none.
 fn kvno_fits(kvno: u32, encrypted: &EncryptedData) -> bool
     ensures { result ≡ kvno_fits kvno encrypted.now }
 {
@@ -127,7 +128,7 @@ pub fn check_ticket(
     if_passed(part, judged)
 }
 
-/// The ticket's part, which the service's key has to open (code 31; RFC 4120, section 5.3).
+/// Decrypts the ticket's enc-part under the service's key, which has to open it (code 31; RFC 4120, section 5.3).
 pub fn open_ticket(
     alloc: Global,
     key: &Key,
@@ -156,7 +157,7 @@ pub fn check_times(skew: u64, moment: Moment, part: &EncTicketPartInner) -> Resu
     Ok(())
 }
 
-// The second in which a ticket starts.
+// Returns the ticket's starttime, or its authtime where it has no starttime.
 fn start_of(part: &EncTicketPartInner) -> GeneralizedTime
     ensures { seconds_of result ≡ ticket_start part.now }
 {
@@ -166,7 +167,7 @@ fn start_of(part: &EncTicketPartInner) -> GeneralizedTime
     }
 }
 
-// The ticket starts later than the moment and the skew, or isn't valid yet.
+// Whether the ticket starts later than the moment and the skew, or its flag invalid is set.
 fn is_early(skew: u64, moment: Moment, part: &EncTicketPartInner) -> bool
     requires { skew ≤ 86400000000 }
     ensures { result ≡ is_early skew moment part.now }
@@ -174,7 +175,7 @@ fn is_early(skew: u64, moment: Moment, part: &EncTicketPartInner) -> bool
     moment.is_before(start_of(part), skew) || part.flags.0.bit(ticket_flags::INVALID)
 }
 
-// The moment is past the ticket's end and the skew.
+// Whether the moment is later than the ticket's endtime and the skew.
 fn is_late(skew: u64, moment: Moment, part: &EncTicketPartInner) -> bool
     requires { skew ≤ 86400000000 }
     ensures { result ≡ is_late skew moment part.now }
@@ -182,7 +183,7 @@ fn is_late(skew: u64, moment: Moment, part: &EncTicketPartInner) -> bool
     moment.is_after(part.endtime.0.0, skew)
 }
 
-/// What a request presents whose ticket has this part.
+/// Judges the authenticator of a request whose ticket has this part, and returns what the request presents.
 pub fn check_presented(
     alloc: Global,
     request: &ApReqInner,
@@ -205,7 +206,7 @@ pub fn check_presented(
     }
 }
 
-// What a request presents with this part and this authenticator.
+// Joins the ticket's part and the authenticator to what a request presents.
 fn presented_with(
     request: &ApReqInner,
     part: EncTicketPartInner,
@@ -252,7 +253,7 @@ pub fn check_authenticator(
     }
 }
 
-// The suite of the ticket's key, and the authenticator that this key opens for the usage.
+// Decrypts the authenticator under the session key for the usage, and returns it with the key's suite.
 fn open_under(
     alloc: Global,
     key: &EncryptionKey,
@@ -289,7 +290,7 @@ fn authenticator_time(
     Ok(time)
 }
 
-// The authenticator is of the ticket's client.
+// Whether the authenticator's crealm and cname are the ticket's.
 fn is_of_client(part: &EncTicketPartInner, authenticator: &AuthenticatorInner) -> bool
     ensures { result ≡ is_of_client part.now authenticator.now }
 {

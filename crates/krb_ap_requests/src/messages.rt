@@ -1,4 +1,4 @@
-//! Reading a request, and opening what is sealed in it.
+//! Reads an AP-REQ, and decrypts its ticket's enc-part and its authenticator.
 ghost use Rattle.std.specs.Prelude.{IfOk};
 ghost use Rattle.std.specs.Int.{cast_unsigned, w32};
 ghost use Rattle.picky_asn1_der.specs.Found.{IsFound};
@@ -15,7 +15,7 @@ use krb_types::data_types::{
 use picky_asn1_der::read_whole;
 use std::alloc::{AllocError, Global};
 
-/// The AP request whose one encoding the bytes are, or none (RFC 4120, section 5.5.1).
+/// Returns the AP-REQ whose DER encoding the bytes are, or none (RFC 4120, section 5.5.1).
 pub fn read_ap_req(alloc: Global, message: &[u8]) -> Result<Option<ApReqInner>, AllocError>
     ensures { IfOk result (IsFound (IsApReq message.now)) }
 {
@@ -26,7 +26,7 @@ pub fn read_ap_req(alloc: Global, message: &[u8]) -> Result<Option<ApReqInner>, 
     }
 }
 
-/// The ticket's part that the service's key opens, or none (RFC 4120, section 5.3).
+/// Returns the ticket's part that the service's key opens, or none (RFC 4120, section 5.3).
 pub(crate) fn open_part(
     alloc: Global,
     key: &Key,
@@ -41,7 +41,7 @@ pub(crate) fn open_part(
     }
 }
 
-/// The authenticator that the session key opens for the usage, or none (RFC 4120, section 5.5.1).
+/// Returns the authenticator that the session key opens for the usage, or none (RFC 4120, section 5.5.1).
 pub(crate) fn open_authenticator(
     alloc: Global,
     key: &Key,

@@ -8,7 +8,7 @@ use krb_types::data_types::{AuthenticatorInner, EncTicketPartInner};
 pub struct Authenticated {
     /// The suite of the session key, which opened it.
     pub suite: CipherSuite,
-    /// What was sealed.
+    /// The authenticator as it was encrypted.
     pub authenticator: AuthenticatorInner,
     /// The moment of its ctime and cusec.
     pub time: Moment,

@@ -1,6 +1,9 @@
 -- What a client takes as a service's reply (RFC 4120, section 3.2.5): the first case that holds counts.
 use Rattle.std.specs.Prelude.{◌≡◌, ◌/◌, ◌%◌, ◌==◌, Bool, not, ◌&&◌, Result, Ok, Err}
+use Rattle.std.specs.Int.{cast_unsigned, w32}
+use Rattle.krb_constants.specs.declared.types.TheConstants.{AP_REP_MSG_TYPE}
 use Rattle.krb_time.specs.Units.{Micros}
+use Rattle.krb_constants.specs.declared.key_usages.TheConstants.{AP_REP_ENC}
 use Rattle.krb_types.specs.declared.data_types.enc_ap_rep_part.EncApRepPartInner.{EncApRepPartInner}
 use Rattle.krb_types.specs.declared.data_types.encrypted_data.EncryptedData.{EncryptedData}
 use Rattle.krb_messages.specs.declared.messages.ap_rep.ApRepInner.{ApRepInner}
@@ -16,13 +19,13 @@ use Rattle.krb_client.specs.Taking.{is_of_type, takes_message}
 use Rattle.krb_client.specs.declared.refusal.TakeRefusal.{TakeRefusal}
 use Rattle.krb_client.specs.declared.refusal.TakeRefusal.TheVariants.{NotAsked, NotSealed, Unreadable}
 
--- the part of the reply, sealed under the session's key (usage 12; RFC 4120, section 7.5.1)
+-- the part of the reply, encrypted under the session key (RFC 4120, section 7.5.1)
 unfoldable pub IsApPart : ApAskedRecord → EncryptedData → EncApRepPartInner → Type 0
-IsApPart asked sealed part = IsSealedIn {T = EncApRepPartInner} enc_ap_rep_part_tree asked.suite asked.key 12 sealed part
+IsApPart asked sealed part = IsSealedIn {T = EncApRepPartInner} enc_ap_rep_part_tree asked.suite asked.key (cast_unsigned w32 AP_REP_ENC) sealed part
 
 pub sole_ap_part : (asked : ApAskedRecord) (sealed : EncryptedData) → IsSole (IsApPart asked sealed)
 unfolding IsApPart
-sole_ap_part asked sealed = sole_sealed enc_ap_rep_part_tree enc_ap_rep_part-injective asked.suite asked.key 12 sealed
+sole_ap_part asked sealed = sole_sealed enc_ap_rep_part_tree enc_ap_rep_part-injective asked.suite asked.key (cast_unsigned w32 AP_REP_ENC) sealed
 
 -- the part has the second of the moment, and its microseconds
 abbrev pub tells : Micros → EncApRepPartInner → Bool
@@ -32,20 +35,24 @@ tells moment part = (seconds_of part.ctime.0.0 == moment / 1000000) && is_number
 abbrev pub Shown : Type 0
 Shown = Result (Unit {0}) TakeRefusal
 
--- with the part opened: it must have the authenticator's time
+-- what the client takes of the decrypted part: it must have the authenticator's time
+-- Not judged: a subkey and a seq-number of the AP-REP (RFC 4120, section 5.5.2). No test: the contract alone covers it.
 abbrev pub takes_time : ApAskedRecord → EncApRepPartInner → Table Shown
 takes_time asked part =
+    -- The part's ctime and cusec are the authenticator's (RFC 4120, section 3.2.5). Test: `take_ap_reply` of `clients.txt`.
     refuse (not (tells asked.time part)) NotAsked
     (done (Ok tt))
 
--- with the reply read
+-- what the client takes of a reply that was read
 abbrev pub takes_answer : ApAskedRecord → ApRepInner → Table Shown
 takes_answer asked reply =
-    refuse (not (is_of_type 15 reply.pvno.0 reply.msg_type.0)) Unreadable
+    -- The reply's pvno is 5, and its msg-type is KRB_AP_REP (RFC 4120, section 5.5.2). No test: the contract alone covers it.
+    refuse (not (is_of_type AP_REP_MSG_TYPE reply.pvno.0 reply.msg_type.0)) Unreadable
+    -- The enc-part decrypts under the session key for key usage 12 (RFC 4120, section 3.2.5). Test: `take_ap_reply` of `clients.txt`.
     (ask (IsApPart asked reply.enc_part.0) (sole_ap_part asked reply.enc_part.0) (done (Err NotSealed))
     (takes_time asked))
 
--- the reply as it comes
+-- what the client takes of a reply's bytes
 unfoldable pub takes_ap_reply : ApAskedRecord → Bytes → Table Shown
 takes_ap_reply asked bytes = takes_message bytes (IsApRep bytes) (sole_ap_rep bytes) (takes_answer asked)
 
@@ -53,6 +60,6 @@ takes_ap_reply asked bytes = takes_message bytes (IsApRep bytes) (sole_ap_rep by
 abbrev pub TakesApReply : ApAskedRecord → Bytes → Shown → Type 0
 TakesApReply asked bytes taken = (takes_ap_reply asked bytes).gives taken
 
--- there is one outcome at most
+-- a reply has one outcome at most
 pub one_showing : (asked : ApAskedRecord) (bytes : Bytes) (a b : Shown) → TakesApReply asked bytes a → TakesApReply asked bytes b → a ≡ b
 one_showing asked bytes = (takes_ap_reply asked bytes).one

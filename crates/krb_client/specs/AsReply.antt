@@ -1,5 +1,8 @@
 -- What a client takes as the reply to its AS request (RFC 4120, section 3.1.5): the first case that holds counts.
 use Rattle.std.specs.Prelude.{◌≡◌, not, Err}
+use Rattle.std.specs.Int.{cast_unsigned, w32}
+use Rattle.krb_constants.specs.declared.types.TheConstants.{AS_REP_MSG_TYPE}
+use Rattle.krb_constants.specs.declared.key_usages.TheConstants.{AS_REP_ENC}
 use Rattle.krb_crypto.specs.Keys.{KeyRecord}
 use Rattle.krb_crypto.specs.declared.suite.CipherSuite.{CipherSuite}
 use Rattle.picky_asn1.specs.Bytes.{Bytes}
@@ -16,29 +19,32 @@ use Rattle.krb_client.specs.Means.{MeansRecord}
 use Rattle.krb_client.specs.Taking.{IsTgsPart, Taken, is_of_type, sole_tgs_part, takes_message, takes_part}
 use Rattle.krb_client.specs.declared.refusal.TakeRefusal.TheVariants.{NotSealed, Unreadable}
 
--- the part of an AS reply, sealed under the key (usage 3; RFC 4120, section 7.5.1), as AS replies have it
+-- the data is an EncASRepPart, encrypted under the key (RFC 4120, sections 5.4.2, 7.5.1)
 unfoldable pub IsAsPart : CipherSuite → Bytes → EncryptedData → EncKdcRepPart → Type 0
-IsAsPart suite key sealed part = IsSealedIn {T = EncKdcRepPart} enc_as_rep_part_tree suite key 3 sealed part
+IsAsPart suite key sealed part = IsSealedIn {T = EncKdcRepPart} enc_as_rep_part_tree suite key (cast_unsigned w32 AS_REP_ENC) sealed part
 
 pub sole_as_part : (suite : CipherSuite) (key : Bytes) (sealed : EncryptedData) → IsSole (IsAsPart suite key sealed)
 unfolding IsAsPart
-sole_as_part suite key sealed = sole_sealed enc_as_rep_part_tree enc_as_rep_part-injective suite key 3 sealed
+sole_as_part suite key sealed = sole_sealed enc_as_rep_part_tree enc_as_rep_part-injective suite key (cast_unsigned w32 AS_REP_ENC) sealed
 
--- with the reply's key: the part may have the tag of TGS replies too (RFC 4120, section 5.4.2)
+-- what the client takes of a reply with its key: the part may have the tag of TGS replies too (RFC 4120, section 5.4.2)
 abbrev pub takes_sealed : ClientRecord → KeyRecord → AsAskedRecord → KdcRep → Table Taken
 takes_sealed client key asked reply =
+    -- The enc-part decrypts under the reply key for key usage 3, to an EncASRepPart or an EncTGSRepPart; its kvno isn't compared (RFC 4120,
+    -- sections 3.1.5, 5.4.2). Test: `exchange_tag` of `logins.txt`; `take_as_reply key number`, `00 behind` of `clients.txt`.
     ask (IsAsPart key.suite key.bytes reply.enc_part.0) (sole_as_part key.suite key.bytes reply.enc_part.0)
-    (ask (IsTgsPart key.suite key.bytes 3 reply.enc_part.0) (sole_tgs_part key.suite key.bytes 3 reply.enc_part.0) (done (Err NotSealed)) (takes_part client asked.service asked.nonce reply))
+    (ask (IsTgsPart key.suite key.bytes (cast_unsigned w32 AS_REP_ENC) reply.enc_part.0) (sole_tgs_part key.suite key.bytes (cast_unsigned w32 AS_REP_ENC) reply.enc_part.0) (done (Err NotSealed)) (takes_part client asked.service asked.nonce reply))
     (takes_part client asked.service asked.nonce reply)
 
--- with the reply read, by the client's means
+-- what the client takes of a reply that was read, by its means
 abbrev pub takes_reply : ClientRecord → MeansRecord → AsAskedRecord → KdcRep → Table Taken
 takes_reply client means asked reply =
-    refuse (not (is_of_type 11 reply.pvno.0 reply.msg_type.0)) Unreadable
+    -- The reply's pvno is 5, and its msg-type is KRB_AS_REP (RFC 4120, section 5.4.2). Test: `take_as_reply msg-type` of `clients.txt`.
+    refuse (not (is_of_type AS_REP_MSG_TYPE reply.pvno.0 reply.msg_type.0)) Unreadable
     (and_then (means.reply_key client asked reply) (λ key.
     takes_sealed client key asked reply))
 
--- the reply as it comes
+-- what the client takes of a reply's bytes
 unfoldable pub takes_as_reply : ClientRecord → MeansRecord → AsAskedRecord → Bytes → Table Taken
 takes_as_reply client means asked bytes = takes_message bytes (IsAsRep bytes) (sole_as_rep bytes) (takes_reply client means asked)
 
@@ -46,7 +52,7 @@ takes_as_reply client means asked bytes = takes_message bytes (IsAsRep bytes) (s
 abbrev pub TakesAsReply : ClientRecord → MeansRecord → AsAskedRecord → Bytes → Taken → Type 0
 TakesAsReply client means asked bytes taken = (takes_as_reply client means asked bytes).gives taken
 
--- there is one outcome at most
+-- a reply has one outcome at most
 pub one_taking : (client : ClientRecord) (means : MeansRecord) (asked : AsAskedRecord) (bytes : Bytes) (a b : Taken)
     → TakesAsReply client means asked bytes a → TakesAsReply client means asked bytes b → a ≡ b
 one_taking client means asked bytes = (takes_as_reply client means asked bytes).one

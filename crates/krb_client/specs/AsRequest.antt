@@ -4,6 +4,7 @@ use Rattle.std.proofs.Common.{ap, sym, ◌∙◌}
 use Rattle.krb_time.specs.Units.{Micros}
 use Rattle.picky_asn1.specs.Bytes.{Bytes}
 use Rattle.asn1_leaves.specs.declared.date.GeneralizedTime.{GeneralizedTime}
+use Rattle.krb_constants.specs.declared.types.TheConstants.{AS_REQ_MSG_TYPE}
 use Rattle.krb_types.specs.declared.data_types.pa_data.PaData.{PaData}
 use Rattle.krb_types.specs.RandomBytes.{Random}
 use Rattle.krb_messages.specs.declared.messages.kdc_req.KdcReq.{KdcReq}
@@ -23,7 +24,7 @@ as_body client service till words = request_body client true service till (nonce
 
 -- the request with its padata
 abbrev pub as_request_of : PaData → KdcReqBody → KdcReq
-as_request_of padata body = kdc_request_of 10 padata body
+as_request_of padata body = kdc_request_of AS_REQ_MSG_TYPE padata body
 
 -- the bytes are the client's request for a ticket for the service till that time, at the moment, with the padata of its means
 pub record AsksAs (client : ClientRecord) (means : MeansRecord) (service : List Bytes) (till : GeneralizedTime) (moment : Micros) (words : Random) (bytes : Bytes) : Type 0 where

@@ -7,6 +7,8 @@ use Rattle.krb_time.specs.Units.{Micros}
 use Rattle.picky_asn1.specs.BitString.{Bits}
 use Rattle.picky_asn1.specs.Bytes.{Bytes}
 use Rattle.asn1_leaves.specs.declared.date.GeneralizedTime.{GeneralizedTime}
+use Rattle.krb_constants.specs.declared.ap_options.TheConstants.{MUTUAL_REQUIRED_MASK}
+use Rattle.krb_constants.specs.declared.types.TheConstants.{AP_REQ_MSG_TYPE, KERBEROS_VERSION, NT_PRINCIPAL}
 use Rattle.krb_types.specs.declared.data_types.authenticator.AuthenticatorInner.{AuthenticatorInner}
 use Rattle.krb_types.specs.declared.data_types.checksum.Checksum.{Checksum}
 use Rattle.krb_types.specs.declared.data_types.encrypted_data.EncryptedData.{EncryptedData}
@@ -23,9 +25,9 @@ use Rattle.krb_encrypted_data.specs.Sealing.{Seals, sole_seals}
 -- the client's part of an authenticator, and the microseconds of its time
 abbrev pub authenticator_parts_of : ClientRecord → Micros → AuthenticatorParts
 authenticator_parts_of client microsecond = record {
-  version = pos 5;
+  version = pos KERBEROS_VERSION;
   realm = client.realm;
-  name = principal_name 1 client.components;
+  name = principal_name NT_PRINCIPAL client.components;
   microsecond = pos microsecond;
 }
 
@@ -54,15 +56,15 @@ pub sole_authenticator_of : (client : ClientRecord) (moment : Micros) (checksum 
 sole_authenticator_of client moment checksum subkey a b x y =
     x.is_made ∙ ap (λ second. authenticator_with (authenticator_parts_of client (moment % 1000000)) second checksum subkey) (sole_second moment x.second y.second x.of_moment y.of_moment) ∙ sym y.is_made
 
--- bit 2, mutual-required (RFC 4120, section 5.5.1), where the service is to answer
+-- the option mutual-required where the service is to answer (RFC 4120, section 5.5.1)
 abbrev pub options_of : Bool → Bits
-options_of mutual_required = record { octets = (if mutual_required then 0x20 else 0) ∷ 0 ∷ 0 ∷ 0 ∷ []; unused = 0 }
+options_of mutual_required = record { octets = (if mutual_required then MUTUAL_REQUIRED_MASK else 0) ∷ 0 ∷ 0 ∷ 0 ∷ []; unused = 0 }
 
 -- the request with its sealed authenticator
 abbrev pub ap_request_of : Bool → TicketInner → EncryptedData → ApReqInner
 ap_request_of mutual_required ticket authenticator = record {
-  pvno = record { 0 = pos 5 };
-  msg_type = record { 0 = pos 14 };
+  pvno = record { 0 = pos KERBEROS_VERSION };
+  msg_type = record { 0 = pos AP_REQ_MSG_TYPE };
   ap_options = record { 0 = options_of mutual_required };
   ticket = record { 0 = record { 0 = ticket } };
   authenticator = record { 0 = authenticator };

@@ -1,5 +1,7 @@
 -- What clients are, and what they are granted (RFC 4120, sections 3.1, 3.2).
 use Rattle.std.specs.Prelude.{not, ◌&&◌, List, Result, Ok, Err, if◌then◌else◌}
+use Rattle.asn1_leaves.specs.declared.date.GeneralizedTime.{GeneralizedTime}
+use Rattle.picky_asn1.specs.BitString.{Bits}
 use Rattle.picky_asn1.specs.Bytes.{Bytes}
 use Rattle.krb_crypto.specs.declared.suite.CipherSuite.{CipherSuite}
 use Rattle.krb_accounts.specs.Names.{are_components, is_realm_name}
@@ -20,10 +22,15 @@ client_of realm components suite =
     if not (is_realm_name realm && are_components components) then Err BadName
     else Ok (record { realm = realm; components = components; suite = suite })
 
--- what a client is granted: a ticket, the session's key of a suite, and the service that the ticket is for
+-- what a client is granted: a ticket, the session key with its suite, the service that the ticket is for, and the ticket's times and
+-- flags, as the KDC's reply has them (RFC 4120, section 5.4.2)
 pub record CredentialRecord : Type 0 where
   pub ticket : TicketInner
   pub suite : CipherSuite
   pub key : Bytes
   pub realm : Bytes
   pub service : PrincipalName
+  pub authtime : GeneralizedTime
+  pub starttime : GeneralizedTime
+  pub endtime : GeneralizedTime
+  pub flags : Bits

@@ -5,6 +5,7 @@ use Rattle.picky_asn1.specs.BitString.{Bits}
 use Rattle.picky_asn1.specs.Bytes.{Bytes}
 use Rattle.picky_asn1_der.specs.declared.wrapper.ExplicitContextTag.{ExplicitContextTag}
 use Rattle.asn1_leaves.specs.declared.date.GeneralizedTime.{GeneralizedTime}
+use Rattle.krb_constants.specs.declared.types.TheConstants.{KERBEROS_VERSION, NT_PRINCIPAL, NT_SRV_INST}
 use Rattle.krb_crypto.specs.Suites.{cipher_number}
 use Rattle.krb_types.specs.declared.data_types.pa_data.PaData.{PaData}
 use Rattle.krb_types.specs.declared.data_types.principal_name.PrincipalName.{PrincipalName}
@@ -22,9 +23,9 @@ nonce_of words = from_be_bytes w32 (nonce_bytes words) % 2147483648
 abbrev pub no_options : Bits
 no_options = record { octets = 0 ∷ 0 ∷ 0 ∷ 0 ∷ []; unused = 0 }
 
--- the client's name, where it is told
+-- the client's name, where the request has it
 abbrev pub name_where : ClientRecord → Bool → Option (ExplicitContextTag 1 PrincipalName)
-name_where client named = if named then Some (record { 0 = principal_name 1 client.components }) else None
+name_where client named = if named then Some (record { 0 = principal_name NT_PRINCIPAL client.components }) else None
 
 -- the client, where it is named, a service of its realm, the end asked for, the nonce, and the client's suite as the only one
 abbrev pub request_body : ClientRecord → Bool → List Bytes → GeneralizedTime → ℕ → KdcReqBody
@@ -32,7 +33,7 @@ request_body client named service till nonce = record {
   kdc_options = record { 0 = no_options };
   cname = record { 0 = name_where client named };
   realm = record { 0 = client.realm };
-  sname = record { 0 = Some (record { 0 = principal_name 2 service }) };
+  sname = record { 0 = Some (record { 0 = principal_name NT_SRV_INST service }) };
   from = record { 0 = None };
   till = record { 0 = record { 0 = till } };
   rtime = record { 0 = None };
@@ -50,7 +51,7 @@ pa_data_of kind value = record { padata_type = record { 0 = pos kind }; padata_d
 -- the request of a type, with one PA-DATA as its padata
 abbrev pub kdc_request_of : ℕ → PaData → KdcReqBody → KdcReq
 kdc_request_of kind pa_data body = record {
-  pvno = record { 0 = pos 5 };
+  pvno = record { 0 = pos KERBEROS_VERSION };
   msg_type = record { 0 = pos kind };
   padata = record { 0 = Some (record { 0 = pa_data ∷ [] }) };
   req_body = record { 0 = body };

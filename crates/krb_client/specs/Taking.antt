@@ -1,11 +1,14 @@
 -- What a client takes as a reply (RFC 4120, sections 3.1.5, 3.2.5, 3.3.4): the rules that its kinds have in common. The first
 -- case that holds counts.
 use Rattle.std.specs.Prelude.{ℕ, ℤ, Bool, not, ◌&&◌, List, Result, Ok, Err}
+use Rattle.std.specs.Option.{option_map_or}
+use Rattle.asn1_leaves.specs.declared.date.GeneralizedTime.{GeneralizedTime}
 use Rattle.krb_crypto.specs.declared.suite.CipherSuite.{CipherSuite}
 use Rattle.krb_types.specs.declared.data_types.encrypted_data.EncryptedData.{EncryptedData}
 use Rattle.krb_messages.specs.declared.messages.enc_kdc_rep_part.EncKdcRepPart.{EncKdcRepPart}
 use Rattle.krb_messages.specs.declared.messages.kdc_rep.KdcRep.{KdcRep}
 use Rattle.krb_messages.specs.Messages.{enc_tgs_rep_part-injective, enc_tgs_rep_part_tree}
+use Rattle.krb_constants.specs.declared.types.TheConstants.{KERBEROS_VERSION}
 use Rattle.krb_encrypted_data.specs.Keys.{suite_of}
 use Rattle.krb_encrypted_data.specs.Sealed.{IsSealedIn, sole_sealed}
 use Rattle.picky_asn1.specs.Numbers.{is_number}
@@ -21,15 +24,19 @@ use Rattle.krb_client.specs.declared.refusal.TakeRefusal.TheVariants.{NotAsked, 
 -- the bytes as they come: they are an error, or a reply, which the following cases read
 abbrev pub takes_message : {A T : Type 0} (bytes : Bytes) (IsReply : A → Type 0) → IsSole IsReply → (A → Table (Result T TakeRefusal)) → Table (Result T TakeRefusal)
 takes_message bytes IsReply sole rest =
+    -- A KRB-ERROR is refused with its error-code; its pvno and msg-type aren't judged (RFC 4120, section 3.1.6). Test:
+    -- `take_as_reply KRB-ERROR` of `clients.txt`.
     ask (IsErrorCode bytes) (sole_error_code bytes)
+    -- The bytes are the DER encoding of one AS-REP, TGS-REP or AP-REP, as the client asked for (RFC 4120, sections 5.4.2, 5.5.2). Test:
+    -- `cut_reply` of `logins.txt`.
     (ask IsReply sole (done (Err Unreadable)) rest)
     (λ code. done (Err (Refused code)))
 
 -- the message says that it is of version 5, and of this type (RFC 4120, section 5.10)
 abbrev pub is_of_type : ℕ → ℤ → ℤ → Bool
-is_of_type number version kind = is_number 5 version && is_number number kind
+is_of_type number version kind = is_number KERBEROS_VERSION version && is_number number kind
 
--- the part of a KDC's reply, with the tag of TGS replies, sealed under the key for the usage
+-- the data is an EncTGSRepPart, encrypted under the key for the usage (RFC 4120, section 5.4.2)
 unfoldable pub IsTgsPart : CipherSuite → Bytes → ℕ → EncryptedData → EncKdcRepPart → Type 0
 IsTgsPart suite key usage sealed part = IsSealedIn {T = EncKdcRepPart} enc_tgs_rep_part_tree suite key usage sealed part
 
@@ -37,11 +44,15 @@ pub sole_tgs_part : (suite : CipherSuite) (key : Bytes) (usage : ℕ) (sealed : 
 unfolding IsTgsPart
 sole_tgs_part suite key usage sealed = sole_sealed enc_tgs_rep_part_tree enc_tgs_rep_part-injective suite key usage sealed
 
--- what a KDC's reply grants, or why the client doesn't take it
+-- what a KDC's reply grants, or the reason why the client doesn't take it
 abbrev pub Taken : Type 0
 Taken = Result CredentialRecord TakeRefusal
 
--- the reply's ticket, with the key, realm and service of its opened part
+-- a ticket's start: its starttime, or its authtime where it has no starttime (RFC 4120, section 5.4.2)
+abbrev pub starttime_of : EncKdcRepPart → GeneralizedTime
+starttime_of part = option_map_or (λ tagged. tagged.0.0) part.start_time.0 part.auth_time.0.0
+
+-- the reply's ticket, with the key, realm, service, times and flags of its opened part
 abbrev pub credential_of : KdcRep → EncKdcRepPart → CipherSuite → CredentialRecord
 credential_of reply part suite = record {
   ticket = reply.ticket.0.0;
@@ -49,11 +60,21 @@ credential_of reply part suite = record {
   key = part.key.0.key_value.0;
   realm = part.srealm.0;
   service = part.sname.0;
+  authtime = part.auth_time.0.0;
+  starttime = starttime_of part;
+  endtime = part.end_time.0.0;
+  flags = part.flags.0;
 }
 
--- with the part opened: it answers what the client asked for this service, with the nonce
+-- what the client takes of the decrypted part: it answers what the client asked for this service, with the nonce
+-- Not judged: the reply's times, flags and addresses, and the ticket's own fields (RFC 4120, sections 3.1.5, 3.3.4). No test: the
+-- contract alone covers it.
 abbrev pub takes_part : ClientRecord → List Bytes → ℕ → KdcRep → EncKdcRepPart → Table Taken
 takes_part client service nonce reply part =
+    -- The part's nonce is the request's; crealm and cname are the client's; srealm and sname are those that it asked for; the name type
+    -- is ignored (RFC 4120, sections 3.1.5, 3.3.4). Test: 'one to another nonce' of `logins.txt`; `take_as_reply service`, `client type`
+    -- of `clients.txt`.
     refuse (not (is_answer client.realm client.components service nonce reply part)) NotAsked
+    -- The session key's type and length are a suite's (RFC 3961, section 3). No test: the contract alone covers it.
     (need (suite_of part.key.0) NotAsked (λ suite.
     done (Ok (credential_of reply part suite))))

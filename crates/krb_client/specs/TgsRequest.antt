@@ -1,10 +1,14 @@
--- The request for a service ticket (RFC 4120, sections 3.3.1, 5.4.1): an AP request with a checksum over the body stands as
--- its preauthentication data.
+-- The request for a service ticket (RFC 4120, sections 3.3.1, 5.4.1). Its padata is an AP-REQ, whose authenticator has a checksum over
+-- the request's body.
 use Rattle.std.specs.Prelude.{◌≡◌, ℕ, false, List, None, Some, pos}
+use Rattle.std.specs.Int.{cast_unsigned, w32}
 use Rattle.std.proofs.Common.{ap, sym, ◌∙◌}
 use Rattle.krb_time.specs.Units.{Micros}
 use Rattle.picky_asn1.specs.Bytes.{Bytes}
 use Rattle.asn1_leaves.specs.declared.date.GeneralizedTime.{GeneralizedTime}
+use Rattle.krb_constants.specs.declared.key_usages.TheConstants.{TGS_REQ_PA_DATA_AP_REQ_AUTHENTICATOR, TGS_REQ_PA_DATA_AP_REQ_AUTHENTICATOR_CKSUM}
+use Rattle.krb_constants.specs.declared.padata_types.TheConstants.{PA_TGS_REQ}
+use Rattle.krb_constants.specs.declared.types.TheConstants.{TGS_REQ_MSG_TYPE}
 use Rattle.krb_crypto.specs.Sealing.{checksum_of}
 use Rattle.krb_crypto.specs.Suites.{checksum_number, cipher_checksum, cipher_confounder_size}
 use Rattle.krb_types.specs.declared.data_types.authenticator.AuthenticatorInner.{AuthenticatorInner}
@@ -18,30 +22,30 @@ use Rattle.krb_client.specs.Messages.{tgs_request_bytes}
 use Rattle.krb_messages.specs.Bodies.{body_bytes}
 use Rattle.krb_client.specs.Requests.{pa_data_of, nonce_of, request_body, kdc_request_of}
 
--- the checksum of the session's suite over a text (usage 6; RFC 4120, section 7.5.1)
+-- the checksum of the session key's suite over a text (RFC 4120, section 7.5.1)
 abbrev pub checksum_over : CredentialRecord → Bytes → Checksum
 checksum_over credential text = record {
   cksumtype = record { 0 = pos (checksum_number (cipher_checksum credential.suite)) };
-  checksum = record { 0 = checksum_of (cipher_checksum credential.suite) credential.key 6 text };
+  checksum = record { 0 = checksum_of (cipher_checksum credential.suite) credential.key (cast_unsigned w32 TGS_REQ_PA_DATA_AP_REQ_AUTHENTICATOR_CKSUM) text };
 }
 
--- the AP request by which a text is sent: the authenticator has its checksum and no subkey, and is sealed for usage 7
--- (RFC 4120, section 7.5.1)
+-- the AP-REQ of a TGS request: the authenticator has the checksum over the text and no subkey, and is encrypted for the key usage of
+-- TGS requests (RFC 4120, section 7.5.1)
 pub record Authenticates (client : ClientRecord) (credential : CredentialRecord) (moment : Micros) (confounder text request : Bytes) : Type 0 where
   pub authenticator : AuthenticatorInner
   pub authenticates : IsAuthenticatorOf client moment (Some (checksum_over credential text)) None authenticator
-  pub presents : IsApRequest credential 7 false authenticator confounder request
+  pub presents : IsApRequest credential (cast_unsigned w32 TGS_REQ_PA_DATA_AP_REQ_AUTHENTICATOR) false authenticator confounder request
 
 pub sole_authentication : (client : ClientRecord) (credential : CredentialRecord) (moment : Micros) (confounder text a b : Bytes)
     → Authenticates client credential moment confounder text a → Authenticates client credential moment confounder text b → a ≡ b
 sole_authentication client credential moment confounder text a b x y =
-    sole_presented credential 7 false confounder x.authenticator y.authenticator a b
+    sole_presented credential (cast_unsigned w32 TGS_REQ_PA_DATA_AP_REQ_AUTHENTICATOR) false confounder x.authenticator y.authenticator a b
     (sole_authenticator_of client moment (Some (checksum_over credential text)) None x.authenticator y.authenticator x.authenticates y.authenticates)
     x.presents y.presents
 
 -- the request with its AP request, PA-TGS-REQ (RFC 4120, section 7.5.2); the client's name is in the ticket alone
 abbrev pub tgs_request_of : ClientRecord → List Bytes → GeneralizedTime → ℕ → Bytes → KdcReq
-tgs_request_of client service till nonce request = kdc_request_of 12 (pa_data_of 1 request) (request_body client false service till nonce)
+tgs_request_of client service till nonce request = kdc_request_of TGS_REQ_MSG_TYPE (pa_data_of PA_TGS_REQ request) (request_body client false service till nonce)
 
 -- the encoding of the request's body
 abbrev pub tgs_body_bytes : ClientRecord → List Bytes → GeneralizedTime → ℕ → Bytes

@@ -2,11 +2,7 @@
 ghost use Rattle.std.specs.Prelude.{◌≡◌, ◌≤◌, length};
 ghost use Rattle.krb_client.specs.Asked.{agreement_part};
 
-/// Where the random bytes of an agreement begin among those of an AS request.
-const AGREEMENT: usize = 32;
-
-/// How many random bytes an agreement takes.
-pub(crate) const AGREEMENT_BYTES: usize = 64;
+use krb_types::random_bytes::{AGREEMENT_SIZE, CLIENT_AGREEMENT};
 
 /// The random bytes of the client's agreement among those of an AS request (RFC 4556, section 3.2.1). `words`: random bytes, 96 or
 /// more.
@@ -15,5 +11,5 @@ pub fn agreement_part(words: &[u8]) -> &[u8]
     ensures part { result.now ≡ agreement_part words.now }
     ensures sized { length result.now ≡ 64 }
 {
-    &words[AGREEMENT..AGREEMENT + AGREEMENT_BYTES]
+    &words[CLIENT_AGREEMENT..CLIENT_AGREEMENT + AGREEMENT_SIZE]
 }

@@ -41,7 +41,7 @@ impl Client {
     }
 }
 
-// The same, of the reply that was read.
+// Takes an AP-REP that was read: judges its type, decrypts its enc-part under the session key, and judges the part.
 fn take_answer(alloc: Global, asked: &ApAsked, reply: &ApRepInner) -> Result<(), TakeRefusal>
     ensures { IsTaken (takes_answer asked.now reply.now) result }
 {
@@ -56,7 +56,7 @@ fn take_answer(alloc: Global, asked: &ApAsked, reply: &ApRepInner) -> Result<(),
     taken
 }
 
-// The same, with the part that was opened.
+// Judges the part of an AP-REP: it has to have the authenticator's time.
 fn take_time(asked: &ApAsked, part: &EncApRepPartInner) -> Result<(), TakeRefusal>
     ensures { IsTaken (takes_time asked.now part.now) result }
 {

@@ -42,7 +42,7 @@ impl Client {
         taken
     }
 
-    // The same, of the reply that was read.
+    // Takes an AS-REP that was read: judges its type, and takes the rest under the key that the means have for it.
     fn take_reply<M: Means>(
         &self,
         alloc: Global,
@@ -61,7 +61,7 @@ impl Client {
         }
     }
 
-    // The same, with the reply's key.
+    // Takes an AS-REP under its reply key: decrypts its enc-part, and judges the part.
     fn take_sealed(
         &self,
         alloc: Global,

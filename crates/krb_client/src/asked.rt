@@ -3,9 +3,10 @@ ghost use Rattle.std.specs.Prelude.{◌≡◌, ◌≤◌, length};
 ghost use Rattle.std.specs.Option.{option_copied};
 ghost use Rattle.krb_client.specs.Asked.{agreement_part};
 
-use crate::agreement::{AGREEMENT_BYTES, agreement_part};
+use crate::agreement::agreement_part;
 use krb_crypto::{CipherSuite, Key};
 use krb_time::Moment;
+use krb_types::random_bytes::AGREEMENT_SIZE;
 use picky_asn1::wrapper::{GeneralStringAsn1, OctetStringAsn1};
 use std::marker::Model;
 
@@ -16,7 +17,7 @@ pub struct AsAsked {
     service: Vec<GeneralStringAsn1>,
     nonce: u32,
     moment: Moment,
-    agreement: [u8; AGREEMENT_BYTES],
+    agreement: [u8; AGREEMENT_SIZE],
 }
 
 impl Model for AsAsked {
@@ -36,7 +37,7 @@ impl AsAsked {
         requires { 96 ≤ length words.now }
         ensures { result ≡ record { service = service.items; nonce = nonce; moment = moment; agreement = agreement_part words.now } }
     {
-        let mut agreement = [0; AGREEMENT_BYTES];
+        let mut agreement = [0; AGREEMENT_SIZE];
         agreement.copy_from_slice(agreement_part(words));
         AsAsked {
             service,

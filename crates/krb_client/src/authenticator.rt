@@ -9,6 +9,7 @@ use crate::client::Client;
 use crate::copies::ticket_copy;
 use crate::credential::Credential;
 use crate::names::principal_name;
+use krb_constants::ap_options::MUTUAL_REQUIRED_MASK;
 use krb_constants::types::{AP_REQ_MSG_TYPE, AUTHENTICATOR_TYPE, KERBEROS_VERSION, NT_PRINCIPAL};
 use krb_encrypted_data::sealed_data;
 use krb_messages::messages::ApReqInner;
@@ -21,9 +22,6 @@ use picky_asn1::wrapper::{BitStringAsn1, GeneralStringAsn1, GeneralizedTimeAsn1,
 use picky_asn1_der::{ExplicitContextTag, Optional, tagged_encoding};
 use result_pairs::both;
 use std::alloc::{AllocError, Global};
-
-/// The option `mutual-required`, bit 2, in the first of the options' octets (RFC 4120, section 5.5.1).
-const MUTUAL_REQUIRED: u8 = 0x20;
 
 // The parts of an authenticator that need memory: the client's, and the microseconds of its time. They are made at once, so that
 // what makes an authenticator has one way out.
@@ -127,7 +125,11 @@ fn authenticator_bytes(alloc: Global, inner: AuthenticatorInner) -> Result<Vec<u
 fn options_of(alloc: Global, mutual_required: bool) -> Result<ApOptions, AllocError>
     ensures { IfOk result (λ options. options ≡ options_of mutual_required) }
 {
-    let first = if mutual_required { MUTUAL_REQUIRED } else { 0 };
+    let first = if mutual_required {
+        MUTUAL_REQUIRED_MASK
+    } else {
+        0
+    };
     let Ok(options) = BitStringAsn1::new(alloc, &[first, 0, 0, 0], 0) else {
         return Err(AllocError);
     };

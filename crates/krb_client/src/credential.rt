@@ -1,25 +1,30 @@
-//! What a client is granted.
+//! What a KDC grants a client.
 ghost use Rattle.std.specs.Prelude.{◌≡◌, Some, IfOk};
 ghost use Rattle.krb_encrypted_data.specs.Keys.{key_in};
-ghost use Rattle.krb_client.specs.Taking.{credential_of};
+ghost use Rattle.krb_client.specs.Taking.{credential_of, starttime_of};
 
 use crate::copies::ticket_copy;
 use krb_crypto::{CipherSuite, Key};
 use krb_messages::messages::{EncKdcRepPart, KdcRep};
-use krb_types::data_types::{PrincipalName, Ticket};
+use krb_types::data_types::{KerberosFlags, PrincipalName, Ticket};
+use picky_asn1::date::GeneralizedTime;
 use picky_asn1::wrapper::GeneralStringAsn1;
 use result_pairs::both;
 use std::alloc::AllocError;
 use std::marker::Model;
 
-/// What a realm granted a client: a ticket, the session's key, which client and service share, and the service's realm
-/// and name. A contract sees these, the key as its suite and its bytes.
+/// What a realm granted a client: a ticket, the session's key, which client and service share, the service's realm
+/// and name, and the ticket's times and flags. A contract sees these, the key as its suite and its bytes.
 #[derive(Drop)]
 pub struct Credential {
     ticket: Ticket,
     key: Key,
     realm: GeneralStringAsn1,
     service: PrincipalName,
+    authtime: GeneralizedTime,
+    starttime: GeneralizedTime,
+    endtime: GeneralizedTime,
+    flags: KerberosFlags,
 }
 
 impl Model for Credential {
@@ -27,7 +32,17 @@ impl Model for Credential {
 
     ghost Value = { CredentialRecord };
 
-    ghost view = { λ c. record { ticket = c.ticket.0; suite = c.key.suite; key = c.key.bytes; realm = c.realm; service = c.service } };
+    ghost view = { λ c. record {
+      ticket = c.ticket.0;
+      suite = c.key.suite;
+      key = c.key.bytes;
+      realm = c.realm;
+      service = c.service;
+      authtime = c.authtime;
+      starttime = c.starttime;
+      endtime = c.endtime;
+      flags = c.flags;
+    } };
 }
 
 impl Credential {
@@ -50,13 +65,18 @@ impl Credential {
     {
         let realm: Result<_, AllocError> = part.srealm.0.clone();
         let service: Result<_, AllocError> = part.sname.0.clone();
-        let ticket = both(ticket_copy(&reply.ticket.0), Ok(key));
-        let ((realm, service), (ticket, key)) = both(both(realm, service), ticket)?;
+        let flags: Result<_, AllocError> = part.flags.0.clone();
+        let ticket = both(ticket_copy(&reply.ticket.0), both(flags, Ok(key)));
+        let ((realm, service), (ticket, (flags, key))) = both(both(realm, service), ticket)?;
         Ok(Credential {
             ticket,
             key,
             realm,
             service,
+            authtime: part.auth_time.0.0,
+            starttime: starttime_of(part),
+            endtime: part.end_time.0.0,
+            flags,
         })
     }
 
@@ -93,5 +113,43 @@ impl Credential {
         ensures { result.now ≡ self.now.service }
     {
         &self.service
+    }
+
+    /// The ticket's authtime: when the client authenticated itself for its first ticket (RFC 4120, section 5.4.2).
+    pub fn authtime(&self) -> GeneralizedTime
+        ensures { result ≡ self.now.authtime }
+    {
+        self.authtime
+    }
+
+    /// When the ticket starts: its starttime, or its authtime where it has no starttime (RFC 4120, section 5.4.2).
+    pub fn starttime(&self) -> GeneralizedTime
+        ensures { result ≡ self.now.starttime }
+    {
+        self.starttime
+    }
+
+    /// The ticket's endtime, after which services refuse it (RFC 4120, section 5.4.2). The client compares no time itself.
+    pub fn endtime(&self) -> GeneralizedTime
+        ensures { result ≡ self.now.endtime }
+    {
+        self.endtime
+    }
+
+    /// The ticket's flags, which `krb_constants::ticket_flags` numbers (RFC 4120, section 5.4.2).
+    pub fn flags(&self) -> &KerberosFlags
+        ensures { result.now ≡ self.now.flags }
+    {
+        &self.flags
+    }
+}
+
+// Returns the ticket's starttime, or its authtime where it has no starttime.
+fn starttime_of(part: &EncKdcRepPart) -> GeneralizedTime
+    ensures { result ≡ starttime_of part.now }
+{
+    match &part.start_time.0 {
+        Some(tagged) => tagged.0.0,
+        None => part.auth_time.0.0,
     }
 }

@@ -67,7 +67,7 @@ impl Client {
         Ok(Asn1SequenceOf::from(suites))
     }
 
-    // The client's name, where it is to be told.
+    // The client's name, where the request is to have it.
     fn name_where(
         &self,
         alloc: Global,

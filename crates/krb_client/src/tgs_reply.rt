@@ -39,7 +39,7 @@ impl Client {
         taken
     }
 
-    // The same, of the reply that was read.
+    // Takes a TGS-REP that was read: judges its type, decrypts its enc-part under the session key, and judges the part.
     fn take_further(
         &self,
         alloc: Global,

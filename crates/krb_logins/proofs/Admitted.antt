@@ -19,7 +19,7 @@ use Rattle.krb_tickets.specs.Times.{asked_end}
 use Rattle.krb_tickets.specs.Grant.{GrantRecord}
 use Rattle.krb_kdc_requests.specs.declared.span.Span.{Span}
 use Rattle.krb_ap_requests.specs.Acceptable.{IsAcceptable, presented_choice}
-use Rattle.krb_ap_requests.specs.Admission.{AdmissionRecord, admission_of}
+use Rattle.krb_service.specs.Admission.{AdmissionRecord, admission_of}
 use Rattle.krb_service.specs.ApReply.{IsReplyTo}
 use Rattle.krb_ap_requests.specs.Presents.{Choice, Presents}
 use Rattle.krb_ap_requests.specs.declared.presented.Presented.{Presented}

@@ -72,7 +72,7 @@ module _ (client : ClientRecord) (asked : List Bytes) (number : ℕ) (exchange :
   held : (account : AccountRecord) (words : Random) → IsSealedData account 2 (ticket_confounder (cipher_confounder_size account.suite) words) (ticket_part_bytes (ticket_part grant)) ticket
       → IsHeld account words grant (credential_of reply (reply_part grant) grant.suite)
   unfolding kdc_reply_of reply_part
-  held account words it = record { part = ticket; sealed = it; ticket = refl; suite = refl; key = refl; realm = refl; service = refl }
+  held account words it = record { part = ticket; sealed = it; ticket = refl; suite = refl; key = refl; realm = refl; service = refl; authtime = refl; starttime = refl; endtime = refl; flags = refl }
 
   abbrev with_suite : CipherSuite → Table Taken
   with_suite suite = done (Ok (credential_of reply (reply_part grant) suite))

@@ -16,7 +16,7 @@ use Rattle.krb_kdc_requests.specs.Call.{CallRecord}
 use Rattle.krb_types.specs.TicketGranting.{krbtgt_of}
 use Rattle.krb_kdc_requests.specs.declared.span.Span.{Span}
 use Rattle.krb_replies.specs.Replies.{Replies}
-use Rattle.krb_ap_requests.specs.Admission.{AdmissionRecord}
+use Rattle.krb_service.specs.Admission.{AdmissionRecord}
 use Rattle.krb_ap_requests.specs.declared.refusal.AdmitRefusal.{AdmitRefusal}
 use Rattle.krb_ap_requests.specs.declared.refusal.AdmitRefusal.TheVariants as admit_refusal
 use Rattle.krb_client.specs.Asked.{ApAskedRecord, AsAskedRecord, TgsAskedRecord}

@@ -12,7 +12,7 @@ use Rattle.decision_tables.specs.Tables.{Table, and_then, as_made, done, make, r
 use Rattle.krb_service.specs.Pair.{PairRecord, is_among}
 use Rattle.krb_ap_requests.proofs.Accepted.{presented_as_chosen}
 use Rattle.krb_ap_requests.specs.Acceptable.{presented_choice}
-use Rattle.krb_ap_requests.specs.Admission.{admission_of}
+use Rattle.krb_service.specs.Admission.{admission_of}
 use Rattle.krb_service.specs.ApReply.{IsReplyTo, sole_reply_to}
 use Rattle.krb_ap_requests.specs.ApTable.{presented}
 use Rattle.krb_ap_requests.specs.Presents.{Choice, Presents, request_of}

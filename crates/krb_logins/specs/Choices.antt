@@ -1,8 +1,11 @@
 -- What a client chooses that asks a service (RFC 4120, section 3.2.2).
 use Rattle.std.specs.Prelude.{◌≡◌, ◌⊎◌, Bool, None, Ok, pos}
+use Rattle.std.specs.Int.{cast_unsigned, w32}
 use Rattle.std.specs.Option.{option_map}
 use Rattle.picky_asn1.specs.Bytes.{Bytes}
 use Rattle.krb_time.specs.Units.{Micros}
+use Rattle.krb_constants.specs.declared.key_usages.TheConstants.{TICKET_REP}
+use Rattle.krb_constants.specs.declared.types.TheConstants.{AP_REQ_MSG_TYPE, KERBEROS_VERSION}
 use Rattle.krb_crypto.specs.Suites.{cipher_number}
 use Rattle.krb_types.specs.RandomBytes.{Random}
 use Rattle.krb_types.specs.declared.data_types.authenticator.AuthenticatorInner.{AuthenticatorInner}
@@ -22,8 +25,8 @@ use Rattle.krb_client.specs.TgsReply.{TakesTgsReply}
 abbrev pub choice_by : CredentialRecord → Bool → EncTicketPartInner → Bytes → AuthenticatorInner → Bytes → Choice
 choice_by credential mutual_required part part_confounder authenticator confounder = record {
   outer = record {
-    pvno = pos 5;
-    msg_type = pos 14;
+    pvno = pos KERBEROS_VERSION;
+    msg_type = pos AP_REQ_MSG_TYPE;
     options = options_of mutual_required;
     tkt_vno = credential.ticket.tkt_vno.0;
     realm = credential.ticket.realm.0;
@@ -44,7 +47,7 @@ abbrev pub IsOfReply : MeansRecord → CredentialRecord → Type 0
 IsOfReply means credential = (client : ClientRecord) × (reply : Bytes)
     × (((asked : AsAskedRecord) × TakesAsReply client means asked reply (Ok credential)) ⊎ ((asked : TgsAskedRecord) × TakesTgsReply client asked reply (Ok credential)))
 
--- a client that has a name asks by a credential, whose ticket seals a part under the service's key (usage 2; RFC 4120, section 7.5.1). The
+-- a client that has a name asks by a credential, whose ticket seals a part under the service's key (RFC 4120, section 7.5.1). The
 -- session key in that part is the credential's
 pub record AsksService (client : ClientRecord) (means : MeansRecord) (credential : CredentialRecord) (mutual_required with_subkey : Bool) (moment : Micros) (words : Random) (bytes key : Bytes) : Type 0 where
   pub realm : IsRealmName client.realm
@@ -52,6 +55,6 @@ pub record AsksService (client : ClientRecord) (means : MeansRecord) (credential
   pub of_reply : IsOfReply means credential
   pub part : EncTicketPartInner
   pub part_confounder : Bytes
-  pub sealed : SealsTo {T = EncTicketPartInner} enc_ticket_part_tree credential.ticket.enc_part.0.etype.0 key 2 part_confounder part credential.ticket.enc_part.0.cipher.0
+  pub sealed : SealsTo {T = EncTicketPartInner} enc_ticket_part_tree credential.ticket.enc_part.0.etype.0 key (cast_unsigned w32 TICKET_REP) part_confounder part credential.ticket.enc_part.0.cipher.0
   pub session : part.key.0.key_value.0 ≡ credential.key
   pub asks : AsksAp client credential mutual_required with_subkey moment words bytes

@@ -1,12 +1,15 @@
 -- What the realm grants in a login, and what the client then holds (RFC 4120, sections 3.1.3, 3.1.5, 3.3.3, 3.3.4).
 use Rattle.std.specs.Prelude.{◌≡◌, true, false, None, Some, pos}
+use Rattle.std.specs.Int.{cast_unsigned, w32}
 use Rattle.asn1_leaves.specs.GeneralizedTime.{seconds_of}
+use Rattle.krb_constants.specs.declared.key_usages.TheConstants.{TICKET_REP}
+use Rattle.krb_constants.specs.declared.types.TheConstants.{NT_PRINCIPAL, NT_SRV_INST}
 use Rattle.krb_crypto.specs.Suites.{cipher_confounder_size}
 use Rattle.krb_types.specs.RandomBytes.{Random, ticket_confounder}
 use Rattle.krb_types.specs.declared.data_types.encrypted_data.EncryptedData.{EncryptedData}
 use Rattle.krb_accounts.specs.Account.{AccountRecord}
 use Rattle.krb_tickets.specs.Grant.{GrantRecord}
-use Rattle.krb_tickets.specs.Parts.{session_key_of, ticket_of, ticket_part}
+use Rattle.krb_tickets.specs.Parts.{flags_of, session_key_of, ticket_of, ticket_part}
 use Rattle.krb_tickets.specs.Sealed.{IsSealedData, ticket_part_bytes}
 use Rattle.krb_kdc_requests.specs.Requests.{IsSpan}
 use Rattle.krb_types.specs.TicketGranting.{krbtgt_of}
@@ -22,8 +25,8 @@ first_grant client realm login span = record {
   suite = client.suite;
   session = session_key_of client.suite login.realm_words_as;
   realm = realm.name;
-  client = principal_name 1 client.components;
-  service = principal_name 2 (krbtgt_of client.realm);
+  client = principal_name NT_PRINCIPAL client.components;
+  service = principal_name NT_SRV_INST (krbtgt_of client.realm);
   flags = record { initial = true; pre_authenticated = true };
   auth_time = span.start;
   start = span.start;
@@ -42,8 +45,8 @@ further_grant client realm login first span = record {
   suite = client.suite;
   session = session_key_of client.suite login.realm_words_tgs;
   realm = realm.name;
-  client = principal_name 1 client.components;
-  service = principal_name 2 login.service;
+  client = principal_name NT_PRINCIPAL client.components;
+  service = principal_name NT_SRV_INST login.service;
   flags = record { initial = false; pre_authenticated = true };
   auth_time = first.start;
   start = span.start;
@@ -56,13 +59,17 @@ abbrev pub IsFurtherSpan : RealmRecord → LoginRecord → Span → Span → Typ
 IsFurtherSpan realm login first span =
     IsSpan realm.settings.lifetime login.realm_tgs (Some (seconds_of first.until)) (seconds_of login.till) span
 
--- the client holds what was granted: the ticket, whose part is sealed under the service's key (usage 2; RFC 4120, section
--- 7.5.1), its session key, and the service that it is for
+-- the client holds what was granted: the ticket, whose part is encrypted under the service's key (RFC 4120, section
+-- 7.5.1), its session key, the service that it is for, and its times and flags
 pub record IsHeld (account : AccountRecord) (words : Random) (grant : GrantRecord) (credential : CredentialRecord) : Type 0 where
   pub part : EncryptedData
-  pub sealed : IsSealedData account 2 (ticket_confounder (cipher_confounder_size account.suite) words) (ticket_part_bytes (ticket_part grant)) part
+  pub sealed : IsSealedData account (cast_unsigned w32 TICKET_REP) (ticket_confounder (cipher_confounder_size account.suite) words) (ticket_part_bytes (ticket_part grant)) part
   pub ticket : credential.ticket ≡ ticket_of grant part
   pub suite : credential.suite ≡ grant.suite
   pub key : credential.key ≡ grant.session
   pub realm : credential.realm ≡ grant.realm
   pub service : credential.service ≡ grant.service
+  pub authtime : credential.authtime ≡ grant.auth_time
+  pub starttime : credential.starttime ≡ grant.start
+  pub endtime : credential.endtime ≡ grant.until
+  pub flags : credential.flags ≡ flags_of grant.flags

@@ -14,7 +14,7 @@ use Rattle.krb_kdc_requests.specs.Calls.{AreKeyed}
 use Rattle.krb_types.specs.TicketGranting.{krbtgt_of}
 use Rattle.krb_kdc_requests.specs.declared.span.Span.{Span}
 use Rattle.krb_replies.specs.Replies.{Replies}
-use Rattle.krb_ap_requests.specs.Admission.{AdmissionRecord}
+use Rattle.krb_service.specs.Admission.{AdmissionRecord}
 use Rattle.krb_client.specs.ApReply.{TakesApReply}
 use Rattle.krb_client.specs.ApRequest.{AsksAp, ap_asked}
 use Rattle.krb_client.specs.AsReply.{TakesAsReply}

@@ -6,7 +6,7 @@ use Rattle.krb_types.specs.declared.data_types.encryption_key.EncryptionKey.{Enc
 use Rattle.krb_encrypted_data.specs.Sealing.{encryption_key}
 use Rattle.pkinit_interface.specs.Rows.{PkinitRows}
 use Rattle.krb_types.specs.TicketGranting.{krbtgt_of}
-use Rattle.krb_ap_requests.specs.Admission.{AdmissionRecord}
+use Rattle.krb_service.specs.Admission.{AdmissionRecord}
 use Rattle.krb_ap_requests.specs.declared.refusal.AdmitRefusal.{AdmitRefusal}
 use Rattle.krb_client.specs.Asked.{ApAskedRecord}
 use Rattle.krb_client.specs.ApReply.{takes_ap_reply}
@@ -54,7 +54,7 @@ Exchanges client means realm rows login result =
     ((granting : CredentialRecord) × AsExchange client means realm rows login (Ok granting) × TgsExchange client realm rows login granting result)
     ⊎ ((refusal : LoginRefusal) × AsExchange client means realm rows login (Err refusal) × (result ≡ Err refusal))
 
--- the client's key, and what the service was told of the client
+-- the client's session key, and the service's admission of the client
 abbrev pub Login : Type 0
 Login = EncryptionKey × AdmissionRecord
 

@@ -6,7 +6,7 @@ use Rattle.krb_encrypted_data.specs.Sealing.{encryption_key}
 use Rattle.krb_service.specs.Pair.{PairRecord}
 use Rattle.krb_service.specs.Seen.{SeenRecord, IsWindow}
 use Rattle.pkinit_interface.specs.Rows.{PkinitRows}
-use Rattle.krb_ap_requests.specs.Admission.{AdmissionRecord}
+use Rattle.krb_service.specs.Admission.{AdmissionRecord}
 use Rattle.krb_ap_requests.specs.declared.refusal.AdmitRefusal.{AdmitRefusal}
 use Rattle.krb_ap_requests.specs.declared.refusal.AdmitRefusal.TheVariants as admit_refusal
 use Rattle.krb_client.specs.Asked.{ApAskedRecord}

@@ -12,7 +12,7 @@ use Rattle.krb_types.specs.TicketGranting.{krbtgt_of}
 use Rattle.pkinit_interface.specs.Rows.{PkinitRows}
 use Rattle.key_functions.specs.KeyFunctions.{KeysRecord}
 use Rattle.pkinit_requests.specs.PkinitRows.{pkinit_rows}
-use Rattle.krb_ap_requests.specs.Admission.{AdmissionRecord}
+use Rattle.krb_service.specs.Admission.{AdmissionRecord}
 use Rattle.krb_ap_requests.specs.declared.refusal.AdmitRefusal.{AdmitRefusal}
 use Rattle.krb_client.specs.Asked.{ApAskedRecord, AsAskedRecord, TgsAskedRecord}
 use Rattle.krb_client.specs.ApReply.{takes_ap_reply}

@@ -1,8 +1,11 @@
 -- The reply by which a service shows that it could open the ticket (RFC 4120, sections 3.2.4, 5.5.2).
 use Rattle.std.specs.Prelude.{◌≡◌, Bool, true, false, Option, None, Some, pos}
+use Rattle.std.specs.Int.{cast_unsigned, w32}
 use Rattle.std.proofs.Common.{ap, sym, ◌∙◌}
 use Rattle.picky_asn1.specs.Bytes.{Bytes}
 use Rattle.asn1_der.specs.Tree.{der}
+use Rattle.krb_constants.specs.declared.key_usages.TheConstants.{AP_REP_ENC}
+use Rattle.krb_constants.specs.declared.types.TheConstants.{AP_REP_MSG_TYPE, KERBEROS_VERSION}
 use Rattle.krb_crypto.specs.Suites.{cipher_confounder_size}
 use Rattle.krb_crypto.specs.declared.suite.CipherSuite.{CipherSuite}
 use Rattle.krb_types.specs.declared.data_types.authenticator.AuthenticatorInner.{AuthenticatorInner}
@@ -27,21 +30,21 @@ ap_rep_part authenticator = record {
 
 abbrev pub ap_rep_of : EncryptedData → ApRepInner
 ap_rep_of part = record {
-  pvno = record { 0 = pos 5 };
-  msg_type = record { 0 = pos 15 };
+  pvno = record { 0 = pos KERBEROS_VERSION };
+  msg_type = record { 0 = pos AP_REP_MSG_TYPE };
   enc_part = record { 0 = part };
 }
 
--- the bytes are the encoding of the reply, whose part is sealed under the session key (usage 12; RFC 4120, section 7.5.1)
+-- the bytes are the encoding of the reply, whose part is encrypted under the session key (RFC 4120, section 7.5.1)
 pub record IsReplyUnder (suite : CipherSuite) (key confounder : Bytes) (authenticator : AuthenticatorInner) (bytes : Bytes) : Type 0 where
   pub part : EncryptedData
-  pub sealed : Seals suite key None 12 confounder (der (enc_ap_rep_part_tree (ap_rep_part authenticator))) part
+  pub sealed : Seals suite key None (cast_unsigned w32 AP_REP_ENC) confounder (der (enc_ap_rep_part_tree (ap_rep_part authenticator))) part
   pub encoding : bytes ≡ der (ap_rep_tree (ap_rep_of part))
 
 -- there is one at most
 pub sole_reply_under : (suite : CipherSuite) (key confounder : Bytes) (authenticator : AuthenticatorInner) → IsSole (IsReplyUnder suite key confounder authenticator)
 sole_reply_under suite key confounder authenticator a b x y =
-    let same = sole_seals suite key None 12 confounder (der (enc_ap_rep_part_tree (ap_rep_part authenticator))) x.part y.part x.sealed y.sealed in
+    let same = sole_seals suite key None (cast_unsigned w32 AP_REP_ENC) confounder (der (enc_ap_rep_part_tree (ap_rep_part authenticator))) x.part y.part x.sealed y.sealed in
     x.encoding ∙ ap (λ part. der (ap_rep_tree (ap_rep_of part))) same ∙ sym y.encoding
 
 -- the reply, if one is required, with the first of the random bytes as confounder

@@ -1,7 +1,7 @@
 -- Which lists of admitted pairs have none twice, and how many calls were admitted (RFC 4120, section 3.2.3).
 use Rattle.std.specs.Prelude.{◌≡◌, ℕ, suc, false, List, [], ◌∷◌, Result, Ok, Err}
 use Rattle.krb_service.specs.Pair.{PairRecord, is_among}
-use Rattle.krb_ap_requests.specs.Admission.{AdmissionRecord}
+use Rattle.krb_service.specs.Admission.{AdmissionRecord}
 use Rattle.krb_ap_requests.specs.declared.refusal.AdmitRefusal.{AdmitRefusal}
 
 -- each pair of client and time differs from all that were admitted before it

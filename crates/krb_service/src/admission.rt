@@ -1,7 +1,7 @@
-//! Admissions.
+//! What a service gets of a client that it admits.
 ghost use Rattle.std.specs.Prelude.{◌≡◌, ◌≤◌, false, length, IfOk};
 ghost use Rattle.std.specs.Option.{option_map};
-ghost use Rattle.krb_ap_requests.specs.Admission.{admission_of, checksum_of, seq_number_of, subkey_of};
+ghost use Rattle.krb_service.specs.Admission.{admission_of, checksum_of, seq_number_of, starttime_of, subkey_of};
 ghost use Rattle.krb_service.specs.ApReply.{HasSessionKey, IsReplyTo};
 
 use crate::reply::ap_reply;
@@ -9,14 +9,19 @@ use krb_ap_requests::Presented;
 use krb_crypto::Key;
 use krb_encrypted_data::key_of;
 use krb_types::data_types::{
-    AuthenticatorInner, Checksum, EncTicketPartInner, EncryptionKey, PrincipalName, Realm,
+    AuthenticatorInner, Checksum, EncTicketPartInner, EncryptionKey, KerberosFlags, PrincipalName,
+    Realm,
 };
+use picky_asn1::date::GeneralizedTime;
 use picky_asn1::wrapper::IntegerAsn1;
 use picky_asn1_der::ExplicitContextTag;
 use std::alloc::{AllocError, Global};
 use std::marker::Model;
 
-/// What a service is told of a client that it admits (RFC 4120, section 3.2.3).
+/// What a service gets of a client that it admits, from the ticket and the authenticator (RFC 4120, section 3.2.3).
+///
+/// The service judged the ticket's times and flags at the moment of the call. A context that lasts longer has to compare
+/// `endtime` with the clock again (`Moment::is_after`).
 #[derive(Drop)]
 pub struct Admission {
     /// The client's realm.
@@ -25,6 +30,14 @@ pub struct Admission {
     pub client: PrincipalName,
     /// The session key, which the client knows.
     pub session: EncryptionKey,
+    /// The ticket's authtime: when the client authenticated itself for its first ticket (RFC 4120, section 5.3).
+    pub authtime: GeneralizedTime,
+    /// When the ticket starts: its starttime, or its authtime where it has no starttime (RFC 4120, section 5.3).
+    pub starttime: GeneralizedTime,
+    /// The ticket's endtime (RFC 4120, section 5.3).
+    pub endtime: GeneralizedTime,
+    /// The ticket's flags, which `krb_constants::ticket_flags` numbers (RFC 4120, section 5.3).
+    pub flags: KerberosFlags,
     /// The key that the client chose for what follows, if it chose one.
     pub subkey: Option<EncryptionKey>,
     /// The authenticator's checksum (RFC 4120, section 5.5.1). The service doesn't judge it.
@@ -37,7 +50,7 @@ pub struct Admission {
 
 impl Model for Admission {
     ghost use Rattle.std.specs.Option.{option_map};
-    ghost use Rattle.krb_ap_requests.specs.Admission.{AdmissionRecord};
+    ghost use Rattle.krb_service.specs.Admission.{AdmissionRecord};
 
     ghost Value = { AdmissionRecord };
 
@@ -45,6 +58,10 @@ impl Model for Admission {
       realm = a.realm;
       client = a.client;
       session = a.session;
+      authtime = a.authtime;
+      starttime = a.starttime;
+      endtime = a.endtime;
+      flags = a.flags;
       subkey = a.subkey;
       checksum = a.checksum;
       seq_number = a.seq_number;
@@ -52,7 +69,7 @@ impl Model for Admission {
     } };
 }
 
-/// The admission of what was presented, with the reply to it.
+/// Makes the admission of what was presented, with the AP-REP to it.
 pub fn admission_of(presented: Presented, reply: Option<Vec<u8>>) -> Admission
     ensures { result ≡ admission_of presented (option_map (λ bytes. bytes.items) reply) }
 {
@@ -64,7 +81,7 @@ pub fn admission_of(presented: Presented, reply: Option<Vec<u8>>) -> Admission
     admission_with(part, taken_from(authenticator), reply)
 }
 
-// What an admission takes from an authenticator.
+// The fields of an authenticator that an admission has.
 #[derive(Drop)]
 struct Taken {
     subkey: Option<EncryptionKey>,
@@ -72,11 +89,15 @@ struct Taken {
     seq_number: Option<IntegerAsn1>,
 }
 
-// The admission of the ticket's client, with what was taken from the authenticator and this reply.
+// Makes the admission of the ticket's client, with the authenticator's fields and this AP-REP.
 fn admission_with(part: EncTicketPartInner, taken: Taken, reply: Option<Vec<u8>>) -> Admission
-    ensures { result ≡ record { realm = part.crealm.0; client = part.cname.0; session = part.key.0; subkey = taken.subkey; checksum = taken.checksum; seq_number = taken.seq_number; reply = option_map (λ v. v.items) reply } }
+    ensures { result ≡ record { realm = part.crealm.0; client = part.cname.0; session = part.key.0; authtime = part.auth_time.0.0; starttime = starttime_of part; endtime = part.endtime.0.0; flags = part.flags.0; subkey = taken.subkey; checksum = taken.checksum; seq_number = taken.seq_number; reply = option_map (λ v. v.items) reply } }
 {
+    let authtime = part.auth_time.0.0;
+    let starttime = starttime_of(&part);
+    let endtime = part.endtime.0.0;
     let EncTicketPartInner {
+        flags: ExplicitContextTag(flags),
         key: ExplicitContextTag(session),
         crealm: ExplicitContextTag(realm),
         cname: ExplicitContextTag(client),
@@ -91,6 +112,10 @@ fn admission_with(part: EncTicketPartInner, taken: Taken, reply: Option<Vec<u8>>
         realm,
         client,
         session,
+        authtime,
+        starttime,
+        endtime,
+        flags,
         subkey,
         checksum,
         seq_number,
@@ -98,7 +123,17 @@ fn admission_with(part: EncTicketPartInner, taken: Taken, reply: Option<Vec<u8>>
     }
 }
 
-// The key that the client chose, its checksum and its sequence number.
+// Returns the ticket's starttime, or its authtime where it has no starttime.
+fn starttime_of(part: &EncTicketPartInner) -> GeneralizedTime
+    ensures { result ≡ starttime_of part.now }
+{
+    match &part.starttime.0 {
+        Some(tagged) => tagged.0.0,
+        None => part.auth_time.0.0,
+    }
+}
+
+// Takes the subkey, the checksum and the sequence number out of an authenticator.
 fn taken_from(mut authenticator: AuthenticatorInner) -> Taken
     ensures { result ≡ record { subkey = subkey_of authenticator; checksum = checksum_of authenticator; seq_number = seq_number_of authenticator } }
 {
@@ -113,7 +148,7 @@ fn taken_from(mut authenticator: AuthenticatorInner) -> Taken
     }
 }
 
-// The value under a tag, if there is one.
+// Returns the value under a tag, if there is one.
 fn untagged<const N: u8, T: Drop>(tagged: Option<ExplicitContextTag<N, T>>) -> Option<T>
     ensures { result ≡ option_map (λ value. value.0) tagged }
 {
@@ -145,7 +180,7 @@ pub fn reply_to(
     Ok(Some(bytes))
 }
 
-// The session key, which is one of the presented suite.
+// Returns the session key, which is one of the presented suite.
 fn session_key(presented: &Presented) -> Key
     requires { HasSessionKey presented.now }
     ensures { result ≡ record { suite = presented.now.suite; bytes = presented.now.part.key.0.key_value.0 } }

@@ -13,15 +13,14 @@ use crate::admission::Admission;
 use crate::entry::KeytabEntry;
 use crate::once::admit_once;
 use crate::seen::Seen;
-use krb_accounts::{RealmRefusal, are_components, components_of, is_realm_name, realm_name_of};
+use krb_accounts::{
+    RealmRefusal, SKEW_LIMIT, are_components, components_of, is_realm_name, realm_name_of,
+};
 use krb_ap_requests::AdmitRefusal;
 use krb_crypto::{CipherSuite, Key};
 use krb_time::Moment;
 use std::alloc::Global;
 use std::marker::Model;
-
-/// The most seconds by which clocks may be allowed to differ: a day.
-const SKEW_LIMIT: u64 = 86_400;
 
 /// A service: its key with its realm and its name, and what it has seen. A contract sees both. Realm and name are names, the
 /// key has as many bytes as its suite's keys, and its kvno is 1 or more.
