@@ -3,6 +3,9 @@
 /// The version of Kerberos, of messages, tickets and authenticators (RFC 4120, section 5.4.1).
 pub const KERBEROS_VERSION: u32 = 5;
 
+/// The identifier octet of a constructed value under an application tag, without the tag's number (X.690, section 8.1.2).
+pub const APPLICATION: u8 = 0x60;
+
 /// An AS-REQ (RFC 4120, section 5.10).
 pub const AS_REQ_MSG_TYPE: u8 = 10;
 
