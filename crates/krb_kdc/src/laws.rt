@@ -7,6 +7,7 @@ ghost use Rattle.cms_types.specs.Parts.{attributes_place, certificate_place};
 ghost use Rattle.aes_cts.specs.Bytes.{IsBytes};
 ghost use Rattle.decision_tables.specs.Some.{HasSome};
 ghost use Rattle.key_functions.specs.KeyFunctions.{KeysRecord};
+ghost use Rattle.krb_constants.specs.declared.padata_types.TheConstants.{PA_PK_AS_REQ};
 ghost use Rattle.krb_kdc_requests.specs.Call.{CallRecord};
 ghost use Rattle.krb_kdc_requests.specs.Calls.{IsCall};
 ghost use Rattle.krb_kdc_requests.specs.Requests.{padata_in};
@@ -52,10 +53,10 @@ pub fn has_reply()
 /// spelled (RFC 4556, section 3.2.1). The padata are at the request's `0, 2, 0`, and `entry` counts them. It does nothing when it
 /// runs: its contract is the law.
 pub fn verified_is_part()
-    ensures attributes { (bytes padata : Bytes) (asked : KdcReq) (request : PaPkAsReq) (content : SignedParts) → IsAsReq bytes asked → first_of 16 (padata_in asked) ≡ Some padata
+    ensures attributes { (bytes padata : Bytes) (asked : KdcReq) (request : PaPkAsReq) (content : SignedParts) → IsAsReq bytes asked → first_of PA_PK_AS_REQ (padata_in asked) ≡ Some padata
         → IsPaPkAsReq padata request → IsSignedContent request.signed_auth_pack.0 content
         → ((entry : ℕ) × IsPart bytes (0 ∷ 2 ∷ 0 ∷ entry ∷ 1 ∷ 0 ∷ 0 ∷ 0 ∷ 0 ∷ attributes_place) content.signed_attributes) }
-    ensures certificate { (bytes padata : Bytes) (asked : KdcReq) (request : PaPkAsReq) (content : SignedParts) (read : ReadRecord) → IsAsReq bytes asked → first_of 16 (padata_in asked) ≡ Some padata
+    ensures certificate { (bytes padata : Bytes) (asked : KdcReq) (request : PaPkAsReq) (content : SignedParts) (read : ReadRecord) → IsAsReq bytes asked → first_of PA_PK_AS_REQ (padata_in asked) ≡ Some padata
         → IsPaPkAsReq padata request → IsSignedContent request.signed_auth_pack.0 content → IsCertificate content.certificate read
         → ((entry : ℕ) × IsPart bytes (0 ∷ 2 ∷ 0 ∷ entry ∷ 1 ∷ 0 ∷ 0 ∷ 0 ∷ 0 ∷ (certificate_place ++ 0 ∷ [])) read.signed) }
 {

@@ -20,7 +20,7 @@ use key_functions::KeyFunctions;
 use krb_accounts::{
     Account, Accounts, RealmRefusal, are_components, is_realm_name, password_salt, realm_name_of,
 };
-use krb_constants::types::{AS_REQ_MSG_TYPE, TGS_REQ_MSG_TYPE};
+use krb_constants::types::{APPLICATION, AS_REQ_MSG_TYPE, TGS_REQ_MSG_TYPE};
 use krb_crypto::CipherSuite;
 use krb_frames::AnswerRefusal;
 use krb_kdc_requests::{Call, read_as_req, read_tgs_req};
@@ -31,9 +31,6 @@ use picky_asn1::wrapper::GeneralStringAsn1;
 use pkinit_requests::RealmPkinit;
 use std::alloc::Global;
 use std::marker::Model;
-
-/// The identifier octet of a constructed value under an application tag, without the tag's number (X.690, section 8.1.2).
-const APPLICATION: u8 = 0x60;
 
 /// How many random bytes a request takes.
 pub fn words_needed() -> usize
@@ -80,7 +77,7 @@ impl Realm {
     ghost use Rattle.krb_accounts.specs.Accounts.{look_in};
     ghost use Rattle.krb_kdc.specs.Answers.{BeginsRequest, IsAnswer};
 
-    /// A realm of this name, whose ticket-granting service `krbtgt/name` has this key (RFC 4120, section 7.3).
+    /// Makes a realm of this name, whose ticket-granting service `krbtgt/name` has this key (RFC 4120, section 7.3).
     pub fn new(
         alloc: Global,
         name: &[u8],
@@ -286,7 +283,7 @@ impl Realm {
         Err(AnswerRefusal::Unreadable)
     }
 
-    /// What a request at a moment, with these random bytes, is answered by.
+    /// Lends what a request at a moment is answered by: the realm's name, limits and accounts, and these random bytes.
     pub fn call<'a>(&'a self, moment: Moment, words: &'a [u8]) -> Call<'a>
         ensures call { call_of result ≡ call_to self.now moment words.now }
         ensures words { result.words.now ≡ words.now }
@@ -300,7 +297,7 @@ impl Realm {
         }
     }
 
-    /// What requests by certificate are judged by, with these key functions.
+    /// Lends what requests by certificate are judged by: the realm's anchor and certificate, and these key functions.
     pub fn pkinit<'a, K: KeyFunctions>(&'a self, keys: &'a K) -> RealmPkinit<'a, K>
         ensures trust { trust_of result.anchor result.certificate ≡ self.now.trust }
         ensures keys { result.keys.now ≡ keys.now }
@@ -321,7 +318,7 @@ fn begins_request(message: &[u8]) -> bool
     }
 }
 
-// The account's key is one of its suite. It does nothing when it runs: its contract states this of a caller's account.
+// The key of an account has the length of its suite. It does nothing when it runs: its contract states this of a caller's account.
 fn is_keyed(account: &Account)
     ensures { IsKeyed account.now }
 {

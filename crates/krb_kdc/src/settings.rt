@@ -71,14 +71,14 @@ impl Settings {
         }
     }
 
-    /// How far clocks may differ, and how long tickets last.
+    /// Gives the limits: how far clocks may differ, and how long tickets last.
     pub(crate) fn limits(&self) -> Limits
         ensures { result ≡ self.now.limits }
     {
         self.limits
     }
 
-    /// What requests by certificate are judged by, with these key functions.
+    /// Lends what requests by certificate are judged by: the anchor, the own certificate, and these key functions.
     pub fn pkinit<'a, K: KeyFunctions>(&'a self, keys: &'a K) -> RealmPkinit<'a, K>
         ensures trust { trust_of result.anchor result.certificate ≡ self.now.trust }
         ensures keys { result.keys.now ≡ keys.now }
@@ -90,7 +90,7 @@ impl Settings {
         }
     }
 
-    // The realm's own certificate.
+    // Lends the realm's own certificate.
     fn certificate(&self) -> Option<&[u8]>
         ensures { option_copied result ≡ self.now.trust.certificate }
     {
@@ -101,7 +101,7 @@ impl Settings {
     }
 }
 
-// The limits, and a copy of the own certificate.
+// Makes the limits, and copies the own certificate.
 fn limits_and_certificate(
     alloc: Global,
     skew: u64,
@@ -127,8 +127,7 @@ fn limits_and_certificate(
     Ok((limits, Some(own)))
 }
 
-/// Whether the bytes are a spelling of a certificate. Where the certificate is read, its holder is made, since a certificate is dear to
-/// drop.
+/// Whether the bytes are a spelling of a certificate. What is read is kept as its holder alone, since a certificate is dear to drop.
 pub fn is_certificate(alloc: Global, bytes: &[u8]) -> Result<bool, AllocError>
     ensures { IfOk result (IsCertificateIf bytes.now) }
 {

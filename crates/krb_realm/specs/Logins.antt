@@ -69,27 +69,27 @@ AsTake client means asked reply = IsStep (λ credential. credential) (IsTaken (t
 unfoldable pub TgsTake : ClientRecord → TgsAskedRecord → Bytes → Result CredentialRecord LoginRefusal → Type 0
 TgsTake client asked reply = IsStep (λ credential. credential) (IsTaken (takes_tgs_reply client asked reply)) Taken
 
--- what a service that admitted these pairs goes by
+-- what a service that admitted these pairs remembers
 abbrev pub remembered : ServiceRecord → List PairRecord → RememberedRecord
 remembered service admitted = record { admitted = admitted; greatest = service.seen.greatest }
 
--- so the service did, and what it has seen is what it then remembers
+-- the service did this, and what it has seen is what it then remembers
 abbrev pub Remembers : SeenRecord → (RememberedRecord → Type 0) → Type 0
 Remembers seen did = (after : RememberedRecord) × did after × IsWindow seen after.admitted × (seen.greatest ≡ after.greatest)
 
--- the service admits the client, or tells why not
+-- the service admits the client by its AP request, or refuses it
 unfoldable pub Admit : ServiceRecord → LoginRecord → Bytes → RememberedRecord → Result AdmissionRecord LoginRefusal → SeenRecord → Type 0
 Admit service login request before (Ok admission) seen = Remembers seen (IsAdmitted service login request before (Ok admission))
 Admit service login request before (Err refusal) seen =
     (cause : AdmitRefusal) × Remembers seen (IsAdmitted service login request before (Err cause)) × (refusal ≡ Admitted cause)
 
--- the client takes the service's reply, and has the session's key
+-- the client takes the AP reply, and has its session key
 unfoldable pub Show : ApAskedRecord → AdmissionRecord → Result EncryptionKey LoginRefusal → Type 0
 Show asked admission (Ok key) = IsTaken (takes_ap_reply asked (reply_bytes admission.reply)) (Ok tt) × (key ≡ encryption_key asked.suite asked.key)
 Show asked admission (Err refusal) =
     (cause : TakeRefusal) × IsTaken (takes_ap_reply asked (reply_bytes admission.reply)) (Err cause) × (refusal ≡ Taken cause)
 
--- that key, with what the service was told
+-- the client's session key, with the service's admission
 unfoldable pub Keyed : ApAskedRecord → AdmissionRecord → Result Login LoginRefusal → Type 0
 Keyed asked admission (Ok login) = Show asked admission (Ok login.0) × (login.1 ≡ admission)
 Keyed asked admission (Err refusal) = Show asked admission (Err refusal)

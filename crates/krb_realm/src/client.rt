@@ -254,14 +254,14 @@ impl Client {
         self.asking.take_ap_reply(alloc, asked, reply)
     }
 
-    /// Who asks.
+    /// Lends the client's name and suite, by which it makes requests and takes replies.
     pub(crate) fn asking(&self) -> &krb_client::Client
         ensures { result.now ≡ self.now.client }
     {
         &self.asking
     }
 
-    /// The client's means, with its key functions.
+    /// Lends the means by which the client authenticates itself, with its key functions.
     pub(crate) fn means<'a, K: KeyFunctions>(&'a self, keys: &'a K) -> ClientMeans<'a, K>
         ensures by { client_by result.held.now ≡ self.now.by }
         ensures keys { result.keys.now ≡ keys.now }
@@ -273,7 +273,7 @@ impl Client {
     }
 }
 
-// The client of this name, and a copy of its certificate.
+// Makes the client of this name, and copies its certificate.
 fn named_and_certified(
     alloc: Global,
     realm: &[u8],
@@ -296,7 +296,7 @@ fn named_and_certified(
     }
 }
 
-// A copy of the bytes, which are a certificate.
+// Copies the bytes, if they are a certificate.
 fn certified(alloc: Global, bytes: &[u8]) -> Result<Vec<u8>, AskRefusal>
     ensures { MatchResult result
         (λ own. IsCertificateIf bytes.now true × (own.items ≡ bytes.now))

@@ -11,7 +11,7 @@ use pkinit_clients::ByCertificate;
 use pkinit_trust::Anchor;
 use std::alloc::Global;
 
-/// What a client has to authenticate itself by.
+/// What a client authenticates itself by.
 #[derive(Drop)]
 pub(crate) enum Held {
     /// A key that it shares with its realm.
@@ -20,7 +20,7 @@ pub(crate) enum Held {
     Certificate(Vec<u8>, Anchor),
 }
 
-/// A client's means, with its key functions.
+/// What a client authenticates itself by, with its key functions.
 #[derive(Clone, Copy)]
 pub(crate) struct ClientMeans<'a, K: KeyFunctions> {
     pub held: &'a Held,
@@ -66,7 +66,7 @@ impl<'a, K: KeyFunctions> Means for ClientMeans<'a, K> {
     }
 }
 
-/// The means by a certificate.
+/// Makes the means of a client that has a certificate.
 pub(crate) fn by_certificate<'a, K: KeyFunctions>(
     certificate: &'a Vec<u8>,
     anchor: &'a Anchor,

@@ -18,7 +18,7 @@ use std::alloc::Global;
 /// Whether a login by the client's certificate is honest, as [`login_by_certificate`] asks for one key on both sides. The pairs of
 /// client and time that the service holds count as all that it admitted. If memory runs out, the answer is false.
 ///
-/// [`login_by_certificate`]: crate::login::login_by_certificate
+/// [`login_by_certificate`]: crate::login_by_certificate
 pub fn is_honest_by_certificate<C: KeyFunctions, R: KeyFunctions>(
     alloc: Global,
     client: &Client,

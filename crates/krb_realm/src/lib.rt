@@ -2,10 +2,15 @@
 //!
 //! A [`Realm`] has a name, settings and accounts. [`Realm::answer`] gives the reply to a message at a moment, and
 //! [`serve`] answers the frames of a stream. A [`Client`] asks and takes replies, and a [`Service`] admits each of its
-//! requests once. What the parts are is in crates of their own, which this one hands on under one name.
+//! requests once. What the parts are is in crates of their own, the realm in `krb_kdc`, which this one hands on under one name.
 //!
 //! A realm grants by password, and by certificate where its settings have an anchor and an own certificate (RFC 4556). Its
 //! signatures and key agreements are the caller's [`KeyFunctions`]. A realm that grants by password alone takes [`NoKeys`].
+//!
+//! A client requests and takes replies as its means say, those of its password or of its certificate (`means_of`). A whole login is a
+//! run of client, realm and service on every input, and the first refusal ends it (`LoginRun`). Every login has one outcome (law
+//! `one_login`). An honest login ends with one session key at client and service, under the client's name (`IsOneKey`). A login that is
+//! told to be honest is honest (`is_honest_by_password`, `is_honest_by_certificate`).
 #![tactic(auto)]
 
 mod client;

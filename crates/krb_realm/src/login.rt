@@ -30,10 +30,11 @@ use picky_asn1::wrapper::OctetStringAsn1;
 use pkinit_logins::laws::one_key_by_certificate;
 use std::alloc::{AllocError, Global};
 
-/// Logs a client in at a service by its password (RFC 4120, sections 3.1, 3.3, 3.2). The realm has no key functions. The client asks it
-/// for a first ticket, and by it for one for the service. The service admits it by that. Each step takes the bytes of the one before
-/// it, and the first refusal ends the login. The result is the client's session key, and what the service was told. If the
-/// login is honest, that key is the one that the service was told, and the client is named.
+/// Logs a client in at a service by its password (RFC 4120, sections 3.1, 3.3, 3.2). The realm has no key functions.
+///
+/// The client asks the realm for a TGT, and with the TGT for a service ticket. The service admits the client by its AP request. Each
+/// step takes the bytes of the one before it, and the first refusal ends the login. The result is the client's session key and the
+/// service's admission. If the login is honest, both have the same key, and the admission names the client.
 pub fn login_by_password(
     alloc: Global,
     client: &Client,
@@ -41,12 +42,7 @@ pub fn login_by_password(
     service: &mut Service,
     input: &LoginInput<'_>,
 ) -> Result<(EncryptionKey, Admission), LoginRefusal>
-    requires client_as { 96 ≤ length input.now.words_as.now }
-    requires client_tgs { 96 ≤ length input.now.words_tgs.now }
-    requires client_ap { 96 ≤ length input.now.words_ap.now }
-    requires realm_as { 128 ≤ length input.now.realm_words_as.now }
-    requires realm_tgs { 128 ≤ length input.now.realm_words_tgs.now }
-    requires service { 16 ≤ length input.now.service_words.now }
+    requires { AreEnough (login_of input.now) }
     ensures run { (admitted : List PairRecord) → IsWindow service.old.seen admitted
         → Remembers service.new.seen (LoginRun client.now.client (means_of client.now no_functions) (realm_record realm.now) (realm_rows realm.now no_functions)
         service.old (login_of input.now) (remembered service.old admitted) result) }
@@ -72,10 +68,11 @@ pub fn login_by_password(
 }
 
 /// Logs a client in at a service by its certificate (RFC 4556, section 3; RFC 4120, sections 3.1, 3.3, 3.2). Client and realm have key
-/// functions of their own: they sign for each other, and agree on the key of the first reply. Else it is as [`login_by_password`].
+/// functions of their own: they sign for each other, and agree on the reply key of the AS reply. Else it is as
+/// [`login_by_password`].
 ///
-/// If the login is honest by certificate, the client's session key is the one that the service was told, and the client is named: if
-/// each party accepts the other's certificate and verifies what its holder signs in this login, and both agree on one secret.
+/// If the login is honest by certificate, client and service have the same session key, and the admission names the client. It is
+/// honest if each party accepts the other's certificate, verifies what its holder signs in this login, and both agree on one secret.
 pub fn login_by_certificate<C: KeyFunctions, R: KeyFunctions>(
     alloc: Global,
     client: &Client,
@@ -85,12 +82,7 @@ pub fn login_by_certificate<C: KeyFunctions, R: KeyFunctions>(
     client_keys: &C,
     realm_keys: &R,
 ) -> Result<(EncryptionKey, Admission), LoginRefusal>
-    requires client_as { 96 ≤ length input.now.words_as.now }
-    requires client_tgs { 96 ≤ length input.now.words_tgs.now }
-    requires client_ap { 96 ≤ length input.now.words_ap.now }
-    requires realm_as { 128 ≤ length input.now.realm_words_as.now }
-    requires realm_tgs { 128 ≤ length input.now.realm_words_tgs.now }
-    requires service { 16 ≤ length input.now.service_words.now }
+    requires { AreEnough (login_of input.now) }
     ensures run { (admitted : List PairRecord) → IsWindow service.old.seen admitted
         → Remembers service.new.seen (LoginRun client.now.client (means_of client.now (C.functions client_keys.now)) (realm_record realm.now) (realm_rows realm.now (R.functions realm_keys.now))
         service.old (login_of input.now) (remembered service.old admitted) result) }
@@ -116,7 +108,7 @@ pub fn login_by_certificate<C: KeyFunctions, R: KeyFunctions>(
     )
 }
 
-// A login by any means of the client.
+// Logs a client in by any means of authentication.
 fn login<M: Means, R: KeyFunctions>(
     alloc: Global,
     client: &krb_client::Client,
@@ -126,12 +118,7 @@ fn login<M: Means, R: KeyFunctions>(
     input: &LoginInput<'_>,
     keys: &R,
 ) -> Result<(EncryptionKey, Admission), LoginRefusal>
-    requires client_as { 96 ≤ length input.now.words_as.now }
-    requires client_tgs { 96 ≤ length input.now.words_tgs.now }
-    requires client_ap { 96 ≤ length input.now.words_ap.now }
-    requires realm_as { 128 ≤ length input.now.realm_words_as.now }
-    requires realm_tgs { 128 ≤ length input.now.realm_words_tgs.now }
-    requires service { 16 ≤ length input.now.service_words.now }
+    requires { AreEnough (login_of input.now) }
     ensures run { (admitted : List PairRecord) → IsWindow service.old.seen admitted
         → Remembers service.new.seen (LoginRun client.now (M.means means.now) (realm_record realm.now) (realm_rows realm.now (R.functions keys.now))
         service.old (login_of input.now) (remembered service.old admitted) result) }
@@ -142,7 +129,7 @@ fn login<M: Means, R: KeyFunctions>(
     ap_exchange(alloc, client, service, &credential, input)
 }
 
-// Every honest login by a key that client and realm share ends with one key. It does nothing when it runs.
+// Every honest login by a key that client and realm share ends with one session key. It does nothing when it runs.
 fn keyed_ends_with_one_key(
     client: &Client,
     realm: &Realm,
@@ -163,7 +150,7 @@ fn keyed_ends_with_one_key(
     one_key_by_password(&realm.pkinit(&NoKeys));
 }
 
-// Every honest login by the client's certificate ends so. It does nothing when it runs.
+// Every honest login by the client's certificate ends with one session key. It does nothing when it runs.
 fn certified_ends_with_one_key<C: KeyFunctions, R: KeyFunctions>(
     client: &Client,
     realm: &Realm,
@@ -188,7 +175,7 @@ fn certified_ends_with_one_key<C: KeyFunctions, R: KeyFunctions>(
     one_key_by_certificate();
 }
 
-// Both exchanges with the realm: the ticket for the service.
+// Runs both exchanges with the realm, which end with a service ticket.
 fn exchange<M: Means, R: KeyFunctions>(
     alloc: Global,
     client: &krb_client::Client,
@@ -197,17 +184,14 @@ fn exchange<M: Means, R: KeyFunctions>(
     input: &LoginInput<'_>,
     keys: &R,
 ) -> Result<Credential, LoginRefusal>
-    requires client_as { 96 ≤ length input.now.words_as.now }
-    requires client_tgs { 96 ≤ length input.now.words_tgs.now }
-    requires realm_as { 128 ≤ length input.now.realm_words_as.now }
-    requires realm_tgs { 128 ≤ length input.now.realm_words_tgs.now }
+    requires { AreEnough (login_of input.now) }
     ensures { Exchanges client.now (M.means means.now) (realm_record realm.now) (realm_rows realm.now (R.functions keys.now)) (login_of input.now) result }
 {
     let granting = as_exchange(alloc, client, means, realm, input, keys)?;
     tgs_exchange(alloc, client, realm, &granting, input, keys)
 }
 
-// The AS exchange: the ticket for the realm's ticket-granting service.
+// Runs the AS exchange, which ends with a TGT.
 fn as_exchange<M: Means, R: KeyFunctions>(
     alloc: Global,
     client: &krb_client::Client,
@@ -216,8 +200,7 @@ fn as_exchange<M: Means, R: KeyFunctions>(
     input: &LoginInput<'_>,
     keys: &R,
 ) -> Result<Credential, LoginRefusal>
-    requires client { 96 ≤ length input.now.words_as.now }
-    requires realm { 128 ≤ length input.now.realm_words_as.now }
+    requires { AreEnough (login_of input.now) }
     ensures { AsExchange client.now (M.means means.now) (realm_record realm.now) (realm_rows realm.now (R.functions keys.now)) (login_of input.now) result }
 {
     let (request, asked) = ask_as(alloc, client, means, input)?;
@@ -232,7 +215,7 @@ fn as_exchange<M: Means, R: KeyFunctions>(
     take_as(alloc, client, means, &asked, &reply)
 }
 
-// The TGS exchange: by that ticket the one for the service.
+// Runs the TGS exchange, which ends with a service ticket.
 fn tgs_exchange<R: KeyFunctions>(
     alloc: Global,
     client: &krb_client::Client,
@@ -241,8 +224,7 @@ fn tgs_exchange<R: KeyFunctions>(
     input: &LoginInput<'_>,
     keys: &R,
 ) -> Result<Credential, LoginRefusal>
-    requires client { 96 ≤ length input.now.words_tgs.now }
-    requires realm { 128 ≤ length input.now.realm_words_tgs.now }
+    requires { AreEnough (login_of input.now) }
     ensures { TgsExchange client.now (realm_record realm.now) (realm_rows realm.now (R.functions keys.now)) (login_of input.now) granting.now result }
 {
     let (request, asked) = ask_tgs(alloc, client, granting, input)?;
@@ -257,7 +239,7 @@ fn tgs_exchange<R: KeyFunctions>(
     take_tgs(alloc, client, &asked, &reply)
 }
 
-// The AP exchange: by the ticket for the service the client is admitted.
+// Runs the AP exchange, in which the service admits the client by its AP request.
 fn ap_exchange(
     alloc: Global,
     client: &krb_client::Client,
@@ -265,8 +247,7 @@ fn ap_exchange(
     credential: &Credential,
     input: &LoginInput<'_>,
 ) -> Result<(EncryptionKey, Admission), LoginRefusal>
-    requires client { 96 ≤ length input.now.words_ap.now }
-    requires service { 16 ≤ length input.now.service_words.now }
+    requires { AreEnough (login_of input.now) }
     ensures run { (admitted : List PairRecord) → IsWindow service.old.seen admitted
         → Remembers service.new.seen (ApExchange client.now service.old (login_of input.now) credential.now (remembered service.old admitted) result) }
     ensures rest { service.new ≡ record service.old { seen = service.new.seen } }
@@ -277,7 +258,7 @@ fn ap_exchange(
     keyed(alloc, client, &asked, admission)
 }
 
-// The client asks for a first ticket.
+// The client makes its AS request for a TGT.
 #[tactic(auto, unfolding(crate::specs::Logins::AsAsk, krb_logins::specs::Steps::IsAsAsked))]
 fn ask_as<M: Means>(
     alloc: Global,
@@ -293,14 +274,12 @@ fn ask_as<M: Means>(
         return Err(LoginRefusal::Asked(AskRefusal::Memory));
     };
     let moment = input.moments.client_as;
-    let words = input.words_as;
-    match client.as_request(alloc, means, &service, input.till, moment, words) {
-        Ok(sent) => Ok(sent),
-        Err(refusal) => Err(LoginRefusal::Asked(refusal)),
-    }
+    client
+        .as_request(alloc, means, &service, input.till, moment, input.words_as)
+        .map_err(LoginRefusal::Asked)
 }
 
-// By a ticket it asks for a further one.
+// The client asks for a service ticket with its TGT.
 #[tactic(auto, unfolding(crate::specs::Logins::TgsAsk, krb_logins::specs::Steps::IsTgsAsked))]
 fn ask_tgs(
     alloc: Global,
@@ -313,13 +292,12 @@ fn ask_tgs(
 {
     let moment = input.moments.client_tgs;
     let words = input.words_tgs;
-    match client.tgs_request(alloc, granting, input.service, input.till, moment, words) {
-        Ok(sent) => Ok(sent),
-        Err(refusal) => Err(LoginRefusal::Asked(refusal)),
-    }
+    client
+        .tgs_request(alloc, granting, input.service, input.till, moment, words)
+        .map_err(LoginRefusal::Asked)
 }
 
-// It asks the service, which is to reply, and chooses no subkey.
+// The client makes its AP request, with mutual-required and without a subkey.
 #[tactic(auto, unfolding(crate::specs::Logins::ApAsk, krb_logins::specs::Steps::IsApAsked))]
 fn ask_ap(
     alloc: Global,
@@ -331,13 +309,12 @@ fn ask_ap(
     ensures { ApAsk client.now (login_of input.now) credential.now result }
 {
     let moment = input.moments.client_ap;
-    match client.ap_request(alloc, credential, true, false, moment, input.words_ap) {
-        Ok(sent) => Ok(sent),
-        Err(refusal) => Err(LoginRefusal::Asked(refusal)),
-    }
+    client
+        .ap_request(alloc, credential, true, false, moment, input.words_ap)
+        .map_err(LoginRefusal::Asked)
 }
 
-// The realm answers.
+// The realm answers an AS or TGS request.
 #[tactic(auto, unfolding(crate::specs::Logins::Answer, krb_logins::specs::Steps::IsAnswered))]
 fn answer<R: KeyFunctions>(
     alloc: Global,
@@ -350,13 +327,12 @@ fn answer<R: KeyFunctions>(
     requires { 128 ≤ length words.now }
     ensures { Answer (call_at (realm_record realm.now) moment words.now) (realm_rows realm.now (R.functions keys.now)) message.now result }
 {
-    match realm.answer(alloc, message, moment, words, keys) {
-        Ok(reply) => Ok(reply),
-        Err(refusal) => Err(LoginRefusal::Answered(refusal)),
-    }
+    realm
+        .answer(alloc, message, moment, words, keys)
+        .map_err(LoginRefusal::Answered)
 }
 
-// The client takes the reply to its request for a first ticket.
+// The client takes the AS reply.
 #[tactic(auto, unfolding(crate::specs::Logins::AsTake))]
 fn take_as<M: Means>(
     alloc: Global,
@@ -367,13 +343,12 @@ fn take_as<M: Means>(
 ) -> Result<Credential, LoginRefusal>
     ensures { AsTake client.now (M.means means.now) asked.now reply.now result }
 {
-    match client.take_as_reply(alloc, means, asked, reply) {
-        Ok(credential) => Ok(credential),
-        Err(refusal) => Err(LoginRefusal::Taken(refusal)),
-    }
+    client
+        .take_as_reply(alloc, means, asked, reply)
+        .map_err(LoginRefusal::Taken)
 }
 
-// It takes the reply to that for a further one.
+// The client takes the TGS reply.
 #[tactic(auto, unfolding(crate::specs::Logins::TgsTake))]
 fn take_tgs(
     alloc: Global,
@@ -383,13 +358,12 @@ fn take_tgs(
 ) -> Result<Credential, LoginRefusal>
     ensures { TgsTake client.now asked.now reply.now result }
 {
-    match client.take_tgs_reply(alloc, asked, reply) {
-        Ok(credential) => Ok(credential),
-        Err(refusal) => Err(LoginRefusal::Taken(refusal)),
-    }
+    client
+        .take_tgs_reply(alloc, asked, reply)
+        .map_err(LoginRefusal::Taken)
 }
 
-// The service admits the client.
+// The service admits the client by its AP request.
 fn admit(
     alloc: Global,
     service: &mut Service,
@@ -402,18 +376,13 @@ fn admit(
     ensures rest { service.new ≡ record service.old { seen = service.new.seen } }
     ensures skew { service.new.seen.skew ≡ service.old.seen.skew }
 {
-    match service.admit(
-        alloc,
-        message,
-        input.moments.service_ap,
-        input.service_words,
-    ) {
-        Ok(admission) => Ok(admission),
-        Err(refusal) => Err(LoginRefusal::Admitted(refusal)),
-    }
+    let moment = input.moments.service_ap;
+    service
+        .admit(alloc, message, moment, input.service_words)
+        .map_err(LoginRefusal::Admitted)
 }
 
-// What the service was told, with the client's key: a function of its own, since it owns the admission where it may fail.
+// Joins the client's session key with the service's admission, which it takes by value, since the key may fail.
 fn keyed(
     alloc: Global,
     client: &krb_client::Client,
@@ -426,7 +395,7 @@ fn keyed(
     Ok((key, admission))
 }
 
-// The client takes the service's reply, and returns the session key.
+// The client takes the AP reply, and makes its session key.
 fn show(
     alloc: Global,
     client: &krb_client::Client,
@@ -444,7 +413,7 @@ fn show(
     Ok(key)
 }
 
-// The bytes of the service's reply, of which there are none where there is no reply.
+// Gives the bytes of the AP reply. Where there is no reply they are empty.
 fn reply_of(admission: &Admission) -> &[u8]
     ensures { result.now ≡ reply_bytes admission.now.reply }
 {
@@ -454,7 +423,7 @@ fn reply_of(admission: &Admission) -> &[u8]
     }
 }
 
-// The session's key with the number of its suite.
+// Makes the session key as an EncryptionKey, with the number of its suite.
 fn session_key(alloc: Global, asked: &ApAsked) -> Result<EncryptionKey, AllocError>
     ensures { IfOk result (λ key. key ≡ encryption_key asked.now.suite asked.now.key) }
 {

@@ -1,5 +1,6 @@
 //! Whole logins.
-ghost use Rattle.std.specs.Prelude.{◌≤◌, length};
+ghost use Rattle.krb_logins.specs.Honest.{AreEnough};
+ghost use Rattle.krb_logins.specs.Input.{login_of};
 
 use crate::certificates::BothKeys;
 use crate::stage::{Conditions, Stage};
@@ -83,12 +84,7 @@ fn is_honest(
 
 /// All steps have one moment and the same random bytes.
 fn input_of<'a>(at: Conditions, service: &'a [Vec<u8>], random: &'a [u8; 128]) -> LoginInput<'a>
-    ensures words_as { 96 ≤ length result.words_as.now }
-    ensures words_tgs { 96 ≤ length result.words_tgs.now }
-    ensures words_ap { 96 ≤ length result.words_ap.now }
-    ensures realm_words_as { 128 ≤ length result.realm_words_as.now }
-    ensures realm_words_tgs { 128 ≤ length result.realm_words_tgs.now }
-    ensures service_words { 16 ≤ length result.service_words.now }
+    ensures { AreEnough (login_of result) }
 {
     LoginInput {
         service,

@@ -1,13 +1,16 @@
 use Rattle.krb_logins.specs.Input.{login_of}
+use Rattle.krb_logins.specs.declared.refusal.LoginRefusal.TheVariants.{Admitted}
+use Rattle.krb_realm.specs.Logins.{Admit, remembered}
 use Rattle.krb_realm.proofs.Admitting.{did_admit, did_refuse}
+use Rattle.krb_realm.proofs.Exchanges.{told_as}
 use Rattle.krb_realm.proofs.login.admit.Goals as goal
 
-pub returns-in-Ok-clause-admits : goal.returns-in-Ok-clause-admits
-returns-in-Ok-clause-admits c = λ admitted window.
-    did_admit c.args.service.now (login_of c.args.input.now) c.args.message.now admitted c.admit.new.self.seen c.in-Ok.ensures.greatest
-    c.in-Ok.admission (c.in-Ok.ensures.remembers admitted window)
-
-pub returns-in-Err-clause-admits : goal.returns-in-Err-clause-admits
-returns-in-Err-clause-admits c = λ admitted window.
-    did_refuse c.args.service.now (login_of c.args.input.now) c.args.message.now admitted c.admit.new.self.seen c.in-Err.ensures.greatest
-    c.in-Err.refusal (c.in-Err.ensures.remembers admitted window)
+pub returns-clause-admits : goal.returns-clause-admits
+returns-clause-admits c = λ admitted window.
+    let service = c.args.service.now in
+    let login = login_of c.args.input.now in
+    let seen = c.admit.new.self.seen in
+    told_as Admitted c.admit.result c.map_err.result c.map_err.ensures.cases
+    (λ result. Admit service login c.args.message.now (remembered service admitted) result seen)
+    (λ admission is. did_admit service login c.args.message.now admitted seen c.admit.ensures.greatest admission (rw is at c.admit.ensures.remembers admitted window))
+    (λ refusal is. did_refuse service login c.args.message.now admitted seen c.admit.ensures.greatest refusal (rw is at c.admit.ensures.remembers admitted window))

@@ -7,16 +7,6 @@ use Rattle.krb_realm.proofs.ClientMeans.{same_means}
 use Rattle.krb_realm.proofs.LoginMeans.{run_as}
 use Rattle.krb_realm.proofs.login.login_by_certificate.Goals as goal
 
-pub certified_ends_with_one_key-requires : goal.certified_ends_with_one_key-requires
-certified_ends_with_one_key-requires g c = record {
-  client_as = c.requires.client_as;
-  client_tgs = c.requires.client_tgs;
-  client_ap = c.requires.client_ap;
-  realm_as = c.requires.realm_as;
-  realm_tgs = c.requires.realm_tgs;
-  service = c.requires.service;
-}
-
 pub returns-clause-run : goal.returns-clause-run
 returns-clause-run g c = λ admitted window.
     run_as (realm_record c.args.realm.now) (realm_rows c.args.realm.now (g.R.KeyFunctions.functions c.args.realm_keys.now)) c.args.service.now (remembered c.args.service.now admitted) (login_of c.args.input.now) c.login.result

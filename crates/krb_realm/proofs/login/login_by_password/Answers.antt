@@ -7,16 +7,6 @@ use Rattle.krb_realm.proofs.ClientMeans.{same_means}
 use Rattle.krb_realm.proofs.LoginMeans.{run_as}
 use Rattle.krb_realm.proofs.login.login_by_password.Goals as goal
 
-pub keyed_ends_with_one_key-requires : goal.keyed_ends_with_one_key-requires
-keyed_ends_with_one_key-requires c = record {
-  client_as = c.requires.client_as;
-  client_tgs = c.requires.client_tgs;
-  client_ap = c.requires.client_ap;
-  realm_as = c.requires.realm_as;
-  realm_tgs = c.requires.realm_tgs;
-  service = c.requires.service;
-}
-
 pub returns-clause-run : goal.returns-clause-run
 returns-clause-run c = λ admitted window.
     run_as (realm_record c.args.realm.now) (realm_rows c.args.realm.now no_functions) c.args.service.now (remembered c.args.service.now admitted) (login_of c.args.input.now) c.login.result
