@@ -44,7 +44,7 @@ places() {
             echo "$path | nowhere"
             status=1
         fi
-    done <docs/items.txt
+    done <tools/items.txt
     return $status
 }
 

@@ -1,6 +1,6 @@
 """Lists the public calls of the product's crates, and for each that may refuse the clauses that say what a refusal leaves.
 
-usage: docs/calls.py [CRATE ..]     run from the top; ends with 1 where a call that may refuse can change what it is lent, and no
+usage: tools/calls.py [CRATE ..]     run from the top; ends with 1 where a call that may refuse can change what it is lent, and no
                                     clause names that afterwards
 
 A call that is lent nothing to change leaves everything as it was. `CRATE::TYPE::CALL | ANSWER | what it may change: clauses`.
@@ -10,14 +10,14 @@ import glob, os, re, sys
 # Crates of tests, replays, examples and times.
 NOT_PRODUCT = re.compile(r"(replay|example|test|bench)_")
 BLOCK = re.compile(r"(?:unsafe )?(impl|(?:pub(?:\(crate\))? )?trait)\b(?:<.*?>(?= ))? (?:(?P<of>[\w:]+)(?:<.*>)? for )?(?P<name>\w+)")
-CALL = re.compile(r"(?P<indent> *)(?P<pub>pub )?(?:const )?(?:unsafe )?fn (?P<name>\w+)")
+CALL = re.compile(r"(?P<indent> *)(?P<pub>pub )?(?:pub\(\w+\) )?(?:const )?(?:unsafe )?fn (?P<name>\w+)")
 STATED = re.compile(r" *(?P<kind>ensures|requires)(?: (?P<name>\w+))? \{")
 LENT = re.compile(r"(\w+): &(?:'\w+ )?mut\b")
 
 
-def calls_of(path):
-    """Each public call of a file: the type or trait that it belongs to, its name, its signature and its clauses."""
-    with open(path) as it:
+def functions_of(path):
+    """Each function of a file: the type or trait that it belongs to, its name, whether it is public, its signature and its clauses."""
+    with open(path, encoding="utf-8") as it:
         lines = it.read().split("\n")
     owner, is_open, at = "", False, 0
     while at < len(lines):
@@ -28,14 +28,21 @@ def calls_of(path):
         elif line == "}":
             owner, is_open = "", False
         call = CALL.match(line)
-        if call and (call["pub"] or is_open and len(call["indent"]) == 4):
+        if call:
             head, clauses, at = header_of(lines, at)
-            yield owner, call["name"], head, clauses
+            yield owner, call["name"], bool(call["pub"] or is_open and len(call["indent"]) == 4), head, clauses
         at += 1
 
 
+def calls_of(path):
+    """Each public call of a file, with the clauses that it ensures."""
+    for owner, name, is_public, head, clauses in functions_of(path):
+        if is_public:
+            yield owner, name, head, [it for it in clauses if it[0]]
+
+
 def header_of(lines, at):
-    """The signature that begins at a line, its clauses as pairs of name and text, and the line at which they end."""
+    """The signature that begins at a line, its clauses as pairs of name and text (a requirement has no name), and the line at which they end."""
     head, clauses, depth = [], [], 0
     while True:
         line = lines[at]
@@ -48,8 +55,7 @@ def header_of(lines, at):
             head.append(line)
         depth += line.count("{") - line.count("}") if clauses else 0
         if depth == 0 and line.endswith(("{}", ";")) or line.endswith("{") and (not clauses or line.strip() == "{"):
-            said = [(name, " ".join(" ".join(text).split())) for name, text in clauses if name]
-            return " ".join(" ".join(head).split()), said, at
+            return " ".join(" ".join(head).split()), [(name, " ".join(" ".join(text).split())) for name, text in clauses], at
         at += 1
 
 
@@ -85,4 +91,5 @@ def main():
     sys.exit(missing > 0)
 
 
-main()
+if __name__ == "__main__":
+    main()
