@@ -141,10 +141,10 @@ impl<'a> fmt::Display for Groups<'a> {
     ghost output = { λ groups. Some (groups_text groups.0.now) };
 
     fn fmt<W: fmt::Write>(&self, f: &mut fmt::Formatter<W>) -> fmt::Result {
-        let (first, second) = (group(self.0, 0), group(self.0, 1));
-        let (third, fourth) = (group(self.0, 2), group(self.0, 3));
-        let (fifth, sixth) = (group(self.0, 4), group(self.0, 5));
-        let (seventh, eighth) = (group(self.0, 6), group(self.0, 7));
+        let (first, second) = (group_of(self.0, 0), group_of(self.0, 1));
+        let (third, fourth) = (group_of(self.0, 2), group_of(self.0, 3));
+        let (fifth, sixth) = (group_of(self.0, 4), group_of(self.0, 5));
+        let (seventh, eighth) = (group_of(self.0, 6), group_of(self.0, 7));
         write!(
             f,
             "{first}:{second}:{third}:{fourth}:{fifth}:{sixth}:{seventh}:{eighth}"
@@ -169,7 +169,7 @@ impl fmt::Display for Group {
 }
 
 // The two octets with this number.
-fn group(octets: &[u8], number: usize) -> Group
+fn group_of(octets: &[u8], number: usize) -> Group
     requires { number < 8 }
     ensures { result.0 ≡ group_at octets.now number }
 {
