@@ -74,7 +74,7 @@ module _ (replies : List ℕ → Micros → List ℕ → Option (List ℕ) → T
   LacksFrame old new = (reply : List ℕ) × Step replies old reply new
 
   -- serving stops by this fault where `s` is left to serve, and leaves `new`. Memory runs out for a message, for its answer where the
-  -- responder may need memory for it, or for the frame of its reply; so bytes that are no request are found however little memory there is
+  -- responder may need memory for it, or for the frame of its reply; so bytes that are no request are found before any growth of a reply
   abbrev pub StopsBy : Left → ServeFault → Left → Type 0
   StopsBy s Truncated new = (front_of s.stream ≡ Bad Truncated) × (new ≡ at s.moments [] s.words)
   StopsBy s FrameTooLong new = (front_of s.stream ≡ Bad FrameTooLong) × (new ≡ at s.moments (drop 4 s.stream) s.words)
