@@ -12,7 +12,7 @@ pub record SignedParts : Type 0 where
   pub signed_attributes : List ℕ
 
 -- A signature covers the signed attributes as they are in the input, with the tag of a SET OF in place of [0] (RFC 5652, section 5.4).
--- Test: `good: signature over first byte A0`, `good: plain`.
+-- Test: `good: signature over first byte A0`, `good: plain`, `signed_attributes_with_context_tag.edit`.
 abbrev pub as_set : List ℕ → List ℕ
 as_set [] = []
 as_set (first ∷ rest) = 0x31 ∷ rest

@@ -42,8 +42,8 @@ impl<'a> Model for SignedContent<'a> {
 impl<'a> SignedContent<'a> {
     /// The signed content that the whole input is, if it is of the one form: certificate and algorithms may deviate from DER.
     ///
-    /// `Unreadable` if it isn't. So are lists of revocation, unsigned attributes, further attributes or another order of them,
-    /// a second value of an attribute, and a SHA-256 with parameters other than NULL.
+    /// `Unreadable` if it isn't. So are crls, unsignedAttrs, further attributes, another order of them, and a second value of an
+    /// attribute. So is a SHA-256 with parameters other than NULL.
     pub fn read(alloc: Global, bytes: &'a [u8]) -> Result<SignedContent<'a>, SignedFault>
         ensures { Reads (IsSignedContent bytes.now) result }
     {

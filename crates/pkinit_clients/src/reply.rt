@@ -18,11 +18,11 @@ use std::alloc::Global;
 /// The content octets of id-pkinit-DHKeyData, 1.3.6.1.5.2.3.2.
 pub(crate) const DH_KEY_DATA: [u8; 7] = [0x2B, 0x06, 0x01, 0x05, 0x02, 0x03, 0x02];
 
-/// The secret that client and realm share, by the data of the padata PA-PK-AS-REP (RFC 4556, section 3.2.4).
+/// The secret that client and realm share, by the padata-value of PA-PK-AS-REP (RFC 4556, section 3.2.4).
 ///
-/// It is taken if it reads as DHRepInfo, the realm's ticket-granting service signed it by a certificate that is accepted at the
-/// moment of the request, it has the request's nonce, and the key functions agree. Else it is `NotTrusted`. A time at which the
-/// realm's value expires and a nonce of the realm's are not read, since the client uses its own value once.
+/// The padata-value has to have dhInfo, whose dhSignedData the realm's ticket-granting service signed. Its certificate has to be
+/// accepted at the moment of the request. KDCDHKeyInfo has to have the request's nonce, and the key functions have to agree. Else the
+/// answer is `NotTrusted`. dhKeyExpiration and serverDHNonce are ignored, since the client uses its own value once.
 #[tactic(auto, unfolding(crate::specs::Replies::secret_of))]
 pub fn secret_of<K: KeyFunctions>(
     alloc: Global,

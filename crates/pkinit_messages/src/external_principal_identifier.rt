@@ -9,7 +9,8 @@ use picky_asn1_der::{
     ImplicitContextTag2, Optional, Row3, Serializer, Tagged, fields_of, from_fields, read_sequence,
 };
 
-/// Whom a client trusts to certify a KDC, as the DER of a name, of an issuer with a serial number, or of a key's identifier (RFC 4556, section 3.2.1).
+/// An authority that a client trusts to certify a KDC (RFC 4556, section 3.2.1). It is the DER of a name, or of an issuer with a serial
+/// number, or a key's identifier.
 ///
 /// ```text
 /// ExternalPrincipalIdentifier ::= SEQUENCE {

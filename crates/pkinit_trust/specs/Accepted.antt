@@ -58,7 +58,7 @@ issued keys expected read =
     -- Test: `critical generic extension`, `generic extension not critical`.
     (refuse (has_unrecognised read.certificate) CantVerifyCertificate
     -- The signature verifies under the anchor's key, by signatureAlgorithm, over the octets of tbsCertificate in the input (RFC 5280,
-    -- section 6.1.3). Test: `certificate spelled loosely, signed over its strict spelling`, `signature of the certificate wrong`.
+    -- section 6.1.3). Test: `certificate spelled loosely, signed over its strict spelling`, `verifies_reencoded_part.edit`.
     (refuse (not (keys.verifies expected.anchor.key read.certificate.signature_algorithm read.signed read.certificate.signature_value.octets)) CantVerifyCertificate
     (done (Ok tt)))))
 
