@@ -3,6 +3,8 @@
 //! `krb_realm_check FILE` ends with status 0 and prints `FILE: ok` where it is. What is likely a slip is a line
 //! `FILE:LINE: warning: ..` on standard error. Else it ends with status 1, and the first fault is a line `FILE:LINE: ..` on
 //! standard error: the word, and what was expected. It shows no key and no password.
+//!
+//! It is safe, returns, and meets what its calls require. No contract says what standard output holds.
 #![tactic(auto)]
 
 use anyhow::bail;
