@@ -4,15 +4,15 @@
 #![tactic(auto)]
 
 pub mod data_types;
-mod krbtgt;
 mod name_reading;
 mod names;
 pub mod random_bytes;
 mod refusal;
+mod ticket_granting;
 
-pub use krbtgt::{krbtgt, krbtgt_of};
 pub use name_reading::{
     NameTextFault, PrincipalText, components_of_text, principal_of_text, printed_name_is_read,
 };
 pub use names::{is_same_name, is_same_realm};
 pub use refusal::Refusal;
+pub use ticket_granting::{krbtgt, krbtgt_of};
