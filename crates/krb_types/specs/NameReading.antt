@@ -105,7 +105,7 @@ unfolding components_in
 host = refl
 
 user : principal_in (codes "user@EXAMPLE.COM") ≡ Ok (codes "user" ∷ [], Some (codes "EXAMPLE.COM"))
-unfolding principal_in, split_realm, components_in, realm_in
+unfolding principal_in split_realm components_in realm_in
 user = refl
 
 quoted : components_in (codes "a\\/b\\n") ≡ Ok ((97 ∷ 47 ∷ 98 ∷ 10 ∷ []) ∷ [])
