@@ -62,9 +62,10 @@ plant: crate-named ## list wrong bodies that a crate's contracts let through: ma
 fmt: $(if $(CRATE),crate-named) ## lay out the files of each crate, or of one: make fmt CRATE=krb_tgs
 	for crate in $(or $(CRATE),$(CRATES)); do (cd crates/$$crate && $(RT) fmt) || exit 1; done
 
-docs: ## check that the paths, crates and words that the documents name exist
+docs: ## check that the paths, crates and words that the documents name exist, and that no number of a standard stands bare
 	docs/items.sh >/dev/null
 	tools/docpaths
+	tools/numbers
 
 budget: ## the gate in a clean clone, with its minutes crate by crate
 	bench/gate.sh
