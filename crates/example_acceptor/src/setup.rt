@@ -5,9 +5,10 @@ use anyhow::{Context, bail};
 use byte_streams::Watched;
 use gss_acceptor::Acceptor;
 use krb_service::Service;
-use krb_settings::{AccountSettings, RealmSettings, SETTINGS_LIMIT, Secret, read_settings_file};
+use krb_settings::{RealmSettings, SETTINGS_LIMIT, Secret, read_settings_file};
 use krb_settings_check::explain;
 use krb_time::Moment;
+use krb_types::components_of_text;
 use std::env;
 use std::fs::{self, Files};
 use std::io::{self, Read};
@@ -74,11 +75,13 @@ fn read_file(rt: &HostRuntime, path: &str) -> io::Result<Vec<u8>> {
 
 // The service of this name, which has to have a key.
 fn service_of(rt: &HostRuntime, settings: &RealmSettings, name: &str) -> anyhow::Result<Service> {
-    let Some(account) = settings
+    let components = components_of_text(rt.alloc(), name)?;
+    let found = settings
         .accounts
         .iter()
-        .find(|account| is_named(account, name))
-    else {
+        .find(|account| account.name == components);
+    drop(components);
+    let Some(account) = found else {
         bail!("no account {name}");
     };
     let Secret::Key(key) = &account.secret else {
@@ -94,16 +97,4 @@ fn service_of(rt: &HostRuntime, settings: &RealmSettings, name: &str) -> anyhow:
         settings.skew,
     );
     Ok(made?)
-}
-
-// Whether the account's components, with `/` between them, are this name.
-fn is_named(account: &AccountSettings, name: &str) -> bool {
-    let mut parts = name.split('/');
-    for component in &account.name {
-        match parts.next() {
-            Some(part) if part.as_bytes() == component.as_slice() => {}
-            _ => return false,
-        }
-    }
-    parts.next().is_none()
 }

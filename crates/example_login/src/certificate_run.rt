@@ -1,8 +1,8 @@
 //! A login by certificate, with key functions of the caller's own.
 
 use crate::toy_keys::ToyKeys;
-use crate::{HOST, REALM, SUITE, USER, name_of, random_bytes, use_ticket};
-use krb_realm::{Anchor, Client, Realm, Settings, SignatureAlgorithm};
+use crate::{HOST, REALM, SUITE, USER, random_bytes, use_ticket};
+use krb_realm::{Anchor, Client, Realm, Settings, SignatureAlgorithm, components_of_text};
 use picky_asn1_der::Asn1RawDer;
 use result_pairs::if_passed;
 use std::alloc::Global;
@@ -73,7 +73,7 @@ fn use_keys(
 
 /// A client that authenticates by its certificate.
 fn make_client(alloc: Global) -> anyhow::Result<Client> {
-    let name = name_of(alloc, USER)?;
+    let name = components_of_text(alloc, USER)?;
     let own = hex::decode(alloc, USER_CERTIFICATE)?;
     let client = Client::by_certificate(alloc, REALM, &name, SUITE, &own, anchor(alloc)?)?;
     Ok(client)
@@ -95,8 +95,8 @@ fn add_accounts(
     user_key: &[u8],
     host_key: &[u8],
 ) -> anyhow::Result<()> {
-    realm.add_account_by_key(alloc, &name_of(alloc, USER)?, SUITE, user_key)?;
-    realm.add_account_by_key(alloc, &name_of(alloc, HOST)?, SUITE, host_key)?;
+    realm.add_account_by_key(alloc, &components_of_text(alloc, USER)?, SUITE, user_key)?;
+    realm.add_account_by_key(alloc, &components_of_text(alloc, HOST)?, SUITE, host_key)?;
     Ok(())
 }
 

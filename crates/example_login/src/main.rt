@@ -12,7 +12,7 @@ use anyhow::Context;
 use certificate_run::log_in_by_certificate;
 use krb_realm::{
     Admission, AsAsked, CipherSuite, Client, Credential, KeyFunctions, Moment, NoKeys, Realm,
-    Service, Settings,
+    Service, Settings, components_of_text,
 };
 use replies::print_reply;
 use result_pairs::if_passed;
@@ -78,13 +78,13 @@ fn make_realm(rt: &HostRuntime, host_key: &[u8]) -> anyhow::Result<Realm> {
 }
 
 fn add_accounts(alloc: Global, realm: &mut Realm, host_key: &[u8]) -> anyhow::Result<()> {
-    realm.add_account_by_password(alloc, &name_of(alloc, USER)?, SUITE, PASSWORD)?;
-    realm.add_account_by_key(alloc, &name_of(alloc, HOST)?, SUITE, host_key)?;
+    realm.add_account_by_password(alloc, &components_of_text(alloc, USER)?, SUITE, PASSWORD)?;
+    realm.add_account_by_key(alloc, &components_of_text(alloc, HOST)?, SUITE, host_key)?;
     Ok(())
 }
 
 fn make_client(alloc: Global) -> anyhow::Result<Client> {
-    let name = name_of(alloc, USER)?;
+    let name = components_of_text(alloc, USER)?;
     let client = Client::by_password(alloc, REALM, &name, SUITE, PASSWORD)?;
     Ok(client)
 }
@@ -110,7 +110,7 @@ fn ask_realm<K: KeyFunctions>(
     client: &Client,
     keys: &K,
 ) -> anyhow::Result<(Vec<u8>, AsAsked)> {
-    let host = name_of(rt.alloc(), HOST)?;
+    let host = components_of_text(rt.alloc(), HOST)?;
     let till = moment_of(b"20000101100000Z")?.second();
     let words = random_bytes::<96>(rt)?;
     let asked = client.as_request(rt.alloc(), &host, till, now()?, &words, keys)?;
@@ -143,7 +143,7 @@ fn ask_service(
 }
 
 fn make_service(alloc: Global, host_key: &[u8]) -> anyhow::Result<Service> {
-    let name = name_of(alloc, HOST)?;
+    let name = components_of_text(alloc, HOST)?;
     let service = Service::new(alloc, REALM, &name, SUITE, host_key, 1, 300)?; // key 1, 300 seconds of skew
     Ok(service)
 }
@@ -186,16 +186,6 @@ fn is_same_span(admission: &Admission, credential: &Credential) -> bool {
     admission.authtime == credential.authtime()
         && admission.starttime == credential.starttime()
         && admission.endtime == credential.endtime()
-}
-
-/// The components of a name, which stand between slashes.
-fn name_of(alloc: Global, text: &str) -> anyhow::Result<Vec<Vec<u8>>> {
-    let mut name = Vec::new(alloc);
-    for component in text.split('/') {
-        let component = Vec::from_slice(alloc, component.as_bytes())?;
-        name.push(component)?;
-    }
-    Ok(name)
 }
 
 /// The moment of all that happens here. In earnest it is the clock's.

@@ -11,8 +11,10 @@ mod settings;
 
 pub use account::Account;
 pub use accounts::Accounts;
-pub use names::{are_components, components_of, is_realm_name, realm_name_of};
+pub use names::{
+    CHARACTER_LIMIT, COMPONENT_LIMIT, are_components, components_of, is_realm_name, realm_name_of,
+};
 pub use packed::{BLOCK_ROOM, pack, pack_within};
 pub use passwords::password_salt;
 pub use refusal::RealmRefusal;
-pub use settings::Settings;
+pub use settings::{LIFETIME_LIMIT, SKEW_LIMIT, Settings};

@@ -8,10 +8,10 @@ use picky_asn1::wrapper::GeneralStringAsn1;
 use std::alloc::{AllocError, Global};
 
 /// The most characters of a realm's name and of a component.
-const CHARACTER_LIMIT: usize = 255;
+pub const CHARACTER_LIMIT: usize = 255;
 
 /// The most components of a principal's name.
-const COMPONENT_LIMIT: usize = 16;
+pub const COMPONENT_LIMIT: usize = 16;
 
 /// Whether a realm may have this name: 1 to 255 characters below 128.
 pub fn is_realm_name(name: &[u8]) -> bool

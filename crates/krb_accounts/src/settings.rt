@@ -7,10 +7,10 @@ use crate::refusal::RealmRefusal;
 use std::marker::Model;
 
 /// The most seconds by which clocks may be allowed to differ: a day.
-const SKEW_LIMIT: u64 = 86_400;
+pub const SKEW_LIMIT: u64 = 86_400;
 
 /// The most seconds for which tickets may be allowed to last: a year of 365 days.
-const LIFETIME_LIMIT: u64 = 31_536_000;
+pub const LIFETIME_LIMIT: u64 = 31_536_000;
 
 /// A realm's settings: how far clocks may differ, and how long tickets last. A contract sees both.
 #[derive(Clone, Copy, Debug, PartialEq, Eq)]

@@ -35,6 +35,7 @@ pub use krb_logins::{LoginInput, LoginMoments, LoginRefusal};
 pub use krb_service::{Admission, Service};
 pub use krb_time::Moment;
 pub use krb_types::data_types::{EncryptionKey, PrincipalName, Ticket};
+pub use krb_types::{NameTextFault, PrincipalText, components_of_text, principal_of_text};
 pub use login::{login_by_certificate, login_by_password};
 pub use picky_asn1::date::GeneralizedTime;
 pub use picky_asn1::wrapper::{GeneralStringAsn1, OctetStringAsn1};

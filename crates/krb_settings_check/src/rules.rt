@@ -3,20 +3,12 @@
 use crate::outline::Outline;
 use crate::words::expected;
 use crate::{Place, Remark};
+use krb_accounts::{CHARACTER_LIMIT, COMPONENT_LIMIT, SKEW_LIMIT};
 use krb_crypto::CipherSuite;
 use krb_settings::{Field, suite_at, suite_name};
 use std::alloc::{AllocError, Global};
 use std::fmt;
 use toml::Value;
-
-/// The most seconds by which clocks may be allowed to differ.
-const SKEW_LIMIT: i64 = 86_400;
-
-/// The most bytes of a realm's name and of a component.
-const NAME_LIMIT: usize = 255;
-
-/// The most components of a name.
-const COMPONENT_LIMIT: usize = 16;
 
 /// What a realm refuses in a settings file.
 #[derive(Clone, Copy, Debug, PartialEq, Eq)]
@@ -52,7 +44,7 @@ pub fn explain_rule(
 
 fn range(alloc: Global, outline: &Outline, place: Place) -> Result<Remark, AllocError> {
     let skew = whole_number(outline, place, Field::Skew);
-    let (field, number) = if SKEW_LIMIT < skew {
+    let (field, number) = if (SKEW_LIMIT as i64) < skew {
         (Field::Skew, skew)
     } else {
         (
@@ -155,7 +147,7 @@ fn slip_of(text: &str) -> Option<Slip> {
     }
     match text.len() {
         0 => Some(Slip::Empty),
-        length if NAME_LIMIT < length => Some(Slip::TooLong(length)),
+        length if CHARACTER_LIMIT < length => Some(Slip::TooLong(length)),
         _ => None,
     }
 }

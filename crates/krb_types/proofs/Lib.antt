@@ -1,1 +1,2 @@
 pub mod NamesRead
+pub mod PrintedNames

@@ -8,6 +8,8 @@ mod moments;
 #[cfg(test)]
 mod moving;
 #[cfg(test)]
+mod names;
+#[cfg(test)]
 mod seen;
 #[cfg(test)]
 mod serving;

@@ -1,4 +1,4 @@
-use Rattle.std.proofs.Common.{◌≡◌, Some, None, ap, sym, ◌∙◌}
+use Rattle.std.proofs.Common.{Some, None, ap, sym, ◌∙◌}
 use Rattle.krb_types.specs.NameReading.{option_octets, octets, split_realm}
 use Rattle.krb_types.proofs.NamesRead.{at_exit, fault-name, principal-alone, principal-fault, principal-with, with_octets}
 use Rattle.krb_types.proofs.name_reading.principal_of_text.Goals.{in-Some+in_ok-realm_of-in-Some, in-None}

@@ -1,5 +1,4 @@
-use Rattle.std.proofs.Common.{◌≡◌, [], ◌∷◌, ◌++◌, Ok, List, sym, ap, ◌∙◌, inr}
-use Rattle.krb_types.specs.NameReading.{octets}
+use Rattle.std.proofs.Common.{sym, ◌∙◌, inr}
 use Rattle.krb_types.proofs.NamesRead.{at_exit, fault-realm, is_none, is_some, realm-many, realm-ok}
 use Rattle.krb_types.proofs.name_reading.realm_of.Goals as goal
 
