@@ -1,4 +1,4 @@
-//! What holds of every context that is established.
+//! The laws of established contexts.
 ghost use Rattle.std.specs.Prelude.{◌≡◌, ℕ, List, Option, Ok, true};
 ghost use Rattle.krb_ap_requests.specs.Presents.{Choice, Presents};
 ghost use Rattle.krb_service.specs.Pair.{PairRecord};
