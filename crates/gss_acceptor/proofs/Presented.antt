@@ -74,6 +74,10 @@ chosen : (choice : Choice) (admission : AdmissionRecord) (made : Judged) (establ
 chosen choice admission made established tells by is = record {
   realm = ap (λ (e : EstablishedRecord). e.realm) is ∙ tells.realm;
   client = ap (λ (e : EstablishedRecord). e.client) is ∙ tells.client;
+  authtime = ap (λ (e : EstablishedRecord). e.authtime) is ∙ tells.authtime;
+  starttime = ap (λ (e : EstablishedRecord). e.starttime) is ∙ tells.starttime;
+  endtime = ap (λ (e : EstablishedRecord). e.endtime) is ∙ tells.endtime;
+  ticket_flags = ap (λ (e : EstablishedRecord). e.ticket_flags) is ∙ tells.flags;
   initial = ap initial_in (sym tells.checksum) ∙ by.initial ∙ ap (λ (e : EstablishedRecord). Ok (record { bindings = e.bindings; flags = e.flags })) (sym is);
   first = established.context.taking;
   number = ap first_number (sym tells.seq_number) ∙ by.number ∙ ap (λ (e : EstablishedRecord). Ok e.context.taking) (sym is);
@@ -106,6 +110,10 @@ kept : (choice : Choice) (established : EstablishedRecord) (after : ContextRecor
 kept choice established after reply is follows = record {
   realm = is.realm;
   client = is.client;
+  authtime = is.authtime;
+  starttime = is.starttime;
+  endtime = is.endtime;
+  ticket_flags = is.ticket_flags;
   initial = is.initial;
   first = is.first;
   number = is.number;

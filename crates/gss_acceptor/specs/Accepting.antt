@@ -114,6 +114,10 @@ abbrev pub established_of : AdmissionRecord → Judged → EstablishedRecord
 established_of admission made = record {
   realm = admission.realm;
   client = admission.client;
+  authtime = admission.authtime;
+  starttime = admission.starttime;
+  endtime = admission.endtime;
+  ticket_flags = admission.flags;
   bindings = made.initial.bindings;
   flags = made.initial.flags;
   context = made.context;

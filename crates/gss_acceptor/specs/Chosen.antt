@@ -10,12 +10,17 @@ use Rattle.gss_acceptor.specs.declared.accepted.Accepted.{Accepted}
 use Rattle.gss_acceptor.specs.declared.accepted.Accepted.TheVariants.{ContinueNeeded, Established}
 use Rattle.gss_acceptor.specs.declared.accepted.Stage.{Stage}
 use Rattle.gss_acceptor.specs.declared.accepted.Stage.TheVariants.{Token, Mic}
+use Rattle.krb_service.specs.Admission.{starttime_of}
 
--- the client is the ticket's; flags and bindings are the authenticator's; the key is the authenticator's subkey if it has one, or else
+-- the client, the times and the ticket's flags are the ticket's; flags and bindings are the authenticator's; the key is the authenticator's subkey if it has one, or else
 -- the session key. No number below the authenticator's is taken: those of a verified MIC and before it aren't, too
 pub record IsChosen (choice : Choice) (established : EstablishedRecord) : Type 0 where
   pub realm : established.realm ≡ choice.part.crealm.0
   pub client : established.client ≡ choice.part.cname.0
+  pub authtime : established.authtime ≡ choice.part.auth_time.0.0
+  pub starttime : established.starttime ≡ starttime_of choice.part
+  pub endtime : established.endtime ≡ choice.part.endtime.0.0
+  pub ticket_flags : established.ticket_flags ≡ choice.part.flags.0
   pub initial : initial_in (checksum_of choice.authenticator) ≡ Ok (record { bindings = established.bindings; flags = established.flags })
   pub first : ℕ
   pub number : first_number (seq_number_of choice.authenticator) ≡ Ok first

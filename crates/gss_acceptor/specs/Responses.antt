@@ -1,4 +1,4 @@
--- What the initiator's tokens of SPNEGO behind the first hold (RFC 4178, section 4.2.2).
+-- The initiator's tokens of SPNEGO after the first (RFC 4178, section 4.2.2).
 use Rattle.std.specs.Prelude.{Option, None, Some, is_some, Result, Ok, Err, if◌then◌else◌}
 use Rattle.std.proofs.Common.{sym, ◌∙◌}
 use Rattle.std.specs.Option.{option_map}

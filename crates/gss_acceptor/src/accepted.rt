@@ -1,10 +1,10 @@
-//! What becomes of an initiator's token that isn't refused.
+//! The result of an initiator's token that isn't refused.
 
 use crate::established::Established;
 use crate::exchange::{Terms, Unverified};
 use std::marker::Model;
 
-/// What becomes of an initiator's token that isn't refused.
+/// The result of an initiator's token that isn't refused.
 #[derive(Drop)]
 pub enum Accepted {
     /// The context is established (GSS_S_COMPLETE of RFC 2743, section 1.2.1.1).
@@ -13,7 +13,7 @@ pub enum Accepted {
     ContinueNeeded(Continuation),
 }
 
-/// What a negotiation goes on with.
+/// The token that a negotiation sends, and the negotiation itself.
 #[derive(Drop)]
 pub struct Continuation {
     /// The token to send to the initiator.
@@ -37,7 +37,7 @@ pub struct Negotiation {
     pub(crate) stage: Stage,
 }
 
-/// What a negotiation waits for.
+/// The message that a negotiation waits for.
 #[derive(Drop)]
 pub(crate) enum Stage {
     /// The first token of Kerberos.

@@ -165,7 +165,7 @@ impl Acceptor {
         }
     }
 
-    // Takes the first token of Kerberos behind the first of SPNEGO.
+    // Takes the first token of Kerberos after the first of SPNEGO.
     fn take_response(
         &mut self,
         alloc: Global,

@@ -12,7 +12,7 @@ use picky_asn1::is_number;
 /// The length of the channel bindings.
 const BINDINGS: u32 = 16;
 
-/// How many octets precede the octets of delegation.
+/// The length of the checksum without the octets of delegation: 24 octets.
 const SIZE: usize = 24;
 
 /// The flags of a context, by the constants of [`context_flags`](crate::context_flags) (RFC 4121, section 4.1.1.1).
@@ -28,7 +28,7 @@ impl ContextFlags {
     }
 }
 
-/// What the initiator says of the context in its authenticator (RFC 4121, section 4.1.1).
+/// The channel bindings and flags that the initiator chose for the context, of its authenticator's checksum (RFC 4121, section 4.1.1).
 #[derive(Clone, Copy, Debug, PartialEq, Eq)]
 pub struct InitialChecksum {
     /// The hash of the channel bindings, or zeros (RFC 4121, section 4.1.1.2). It isn't judged.
@@ -37,7 +37,7 @@ pub struct InitialChecksum {
     pub flags: ContextFlags,
 }
 
-/// What the authenticator's checksum says, which has to be of type 0x8003. What follows the flags isn't read.
+/// Reads the authenticator's checksum, which has to be of type 0x8003. The octets after the flags aren't read.
 pub(crate) fn initial_in(checksum: &Option<Checksum>) -> Result<InitialChecksum, AcceptRefusal>
     ensures { result ≡ initial_in checksum.now }
 {
@@ -47,7 +47,7 @@ pub(crate) fn initial_in(checksum: &Option<Checksum>) -> Result<InitialChecksum,
     }
 }
 
-// What a checksum says.
+// Reads a checksum by its type.
 fn initial_of(checksum: &Checksum) -> Result<InitialChecksum, AcceptRefusal>
     ensures { result ≡ initial_of checksum.now }
 {
@@ -57,7 +57,7 @@ fn initial_of(checksum: &Checksum) -> Result<InitialChecksum, AcceptRefusal>
     initial_sum(checksum.checksum.0.as_bytes())
 }
 
-// What the octets of a checksum of this type say.
+// Reads the octets of a checksum of this type.
 fn initial_sum(octets: &[u8]) -> Result<InitialChecksum, AcceptRefusal>
     ensures { result ≡ initial_sum octets.now }
 {

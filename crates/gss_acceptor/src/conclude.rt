@@ -1,4 +1,4 @@
-//! How a negotiation goes on and ends: with the exchange of MICs where it is due (RFC 4178, section 5).
+//! The end of a negotiation, with the exchange of MICs where it is due (RFC 4178, section 5).
 ghost use Rattle.std.specs.Prelude.{◌≡◌, IfErr, IfOk};
 ghost use Rattle.std.specs.Option.{option_map};
 ghost use Rattle.gss_acceptor.specs.Concluding.{Demands, ExchangesMics, IsConcluded, IsConcludedWithout, IsGiven, IsMicAnswered, IsNoExchange, IsVerified, asking, awaiting, completed, waiting};

@@ -10,17 +10,28 @@ use crate::judge::{Judged, judge};
 use crate::refusal::AcceptRefusal;
 use gss_contexts::Context;
 use krb_service::Admission;
-use krb_types::data_types::{PrincipalName, Realm};
+use krb_types::data_types::{KerberosFlags, PrincipalName, Realm};
+use picky_asn1::date::GeneralizedTime;
 use std::alloc::Global;
 use std::marker::Model;
 
-/// A context that is established: the client, what it asked for, and the acceptor's end.
+/// A context that is established: the client, its ticket's times and flags, the flags that it asks for, and the acceptor's end.
+///
+/// A context doesn't end with its ticket. A caller that requires this compares `endtime` with the clock (`Moment::is_after`).
 #[derive(Drop)]
 pub struct Established {
     /// The client's realm.
     pub realm: Realm,
     /// The client, as its ticket names it.
     pub client: PrincipalName,
+    /// The ticket's authtime: when the client authenticated itself for its first ticket (RFC 4120, section 5.3).
+    pub authtime: GeneralizedTime,
+    /// When the ticket starts: its starttime, or its authtime where it has no starttime (RFC 4120, section 5.3).
+    pub starttime: GeneralizedTime,
+    /// The ticket's endtime (RFC 4120, section 5.3).
+    pub endtime: GeneralizedTime,
+    /// The ticket's flags, which `krb_constants::ticket_flags` numbers (RFC 4120, section 5.3).
+    pub ticket_flags: KerberosFlags,
     /// The hash of the channel bindings, or zeros (RFC 4121, section 4.1.1.2). It isn't judged.
     pub bindings: [u8; 16],
     /// The flags that the initiator asks for. They change nothing here. Where the flag of mutual authentication and the AP-REQ's
@@ -41,6 +52,10 @@ impl Model for Established {
     ghost view = { λ e. record {
       realm = e.realm;
       client = e.client;
+      authtime = e.authtime;
+      starttime = e.starttime;
+      endtime = e.endtime;
+      ticket_flags = e.ticket_flags;
       bindings = e.bindings;
       flags = e.flags;
       context = e.context;
@@ -86,14 +101,26 @@ fn answered(
 
 // The context with its client and the answer to it.
 fn completed(admission: Admission, judged: Judged, reply: Option<Vec<u8>>) -> Established
-    ensures { result ≡ record { realm = admission.realm; client = admission.client; bindings = judged.initial.bindings; flags = judged.initial.flags; context = judged.context; reply = option_map (λ v. v.items) reply } }
+    ensures { result ≡ record { realm = admission.realm; client = admission.client; authtime = admission.authtime; starttime = admission.starttime; endtime = admission.endtime; ticket_flags = admission.flags; bindings = judged.initial.bindings; flags = judged.initial.flags; context = judged.context; reply = option_map (λ v. v.items) reply } }
 {
     let Judged { initial, context } = judged;
-    let Admission { realm, client, .. } = admission;
+    let Admission {
+        realm,
+        client,
+        authtime,
+        starttime,
+        endtime,
+        flags: ticket_flags,
+        ..
+    } = admission;
     let InitialChecksum { bindings, flags } = initial;
     Established {
         realm,
         client,
+        authtime,
+        starttime,
+        endtime,
+        ticket_flags,
         bindings,
         flags,
         context,

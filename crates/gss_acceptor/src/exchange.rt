@@ -26,7 +26,7 @@ pub(crate) struct Terms {
     pub(crate) required: bool,
 }
 
-/// How a token of Kerberos came in a message of SPNEGO.
+/// The message of SPNEGO around a token of Kerberos.
 #[derive(Drop)]
 pub(crate) struct Exchange {
     /// The mechanism that the answer has to name, which the first one does.

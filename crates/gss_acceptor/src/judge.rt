@@ -1,4 +1,4 @@
-//! What is judged of an admission.
+//! Judges the admission of a context's client.
 ghost use Rattle.std.specs.Prelude.{◌≡◌};
 ghost use Rattle.gss_acceptor.specs.Accepting.{judged};
 
@@ -8,7 +8,7 @@ use crate::refusal::AcceptRefusal;
 use gss_contexts::Context;
 use krb_service::Admission;
 
-/// What is judged of an admission: the authenticator's checksum, and the context.
+/// An admission that was judged: the authenticator's checksum, and the context.
 #[derive(Drop)]
 pub(crate) struct Judged {
     pub(crate) initial: InitialChecksum,

@@ -1,4 +1,4 @@
-//! What holds of every context that is established.
+//! The laws of established contexts.
 ghost use Rattle.std.specs.Prelude.{◌≡◌, ℕ, List, Option, Ok, true};
 ghost use Rattle.krb_ap_requests.specs.Presents.{Choice, Presents};
 ghost use Rattle.krb_service.specs.Pair.{PairRecord};
@@ -17,9 +17,10 @@ ghost use Rattle.gss_acceptor.specs.declared.exchange.Exchange.{Exchange};
 ghost use Rattle.gss_acceptor.specs.declared.exchange.Unverified.{Unverified};
 ghost use Rattle.gss_acceptor.specs.declared.negotiation.Offer.{Offer};
 
-/// The token of an established context holds an AP-REQ that a client presented, sealed under the service's key and the session key, and
-/// the context has what the client chose: its name, the flags and bindings, the key and the sequence number. So has a context that waits
-/// for its initiator's MIC, and what is handed out when the MIC was verified. It does nothing when it runs: its contract is the law.
+/// The token of an established context holds an AP-REQ that a client presented, sealed under the service's key and the
+/// session key, and the context has what the client chose: its name, its ticket's times and flags, the flags and
+/// bindings, the key and the sequence number. So has a context that waits for its initiator's MIC, and what is handed
+/// out when the MIC was verified. It does nothing when it runs: its contract is the law.
 pub fn established_as_presented()
     ensures first { (service after : ServiceRecord) (moment : ℕ) (token random : List ℕ) (admitted : List PairRecord) (established : EstablishedRecord)
         → IsWindow service.seen admitted → Handles (carried token) service moment random (Ok (Established established)) after
@@ -33,8 +34,9 @@ pub fn established_as_presented()
         → IsChosenAfter choice accepted }
 {}
 
-/// If Kerberos isn't the first mechanism that SPNEGO offers, no context is handed out before a MIC of the whole list was verified, as the
-/// initiator makes it under the context's key. Who changes the list on its way needs that key. It does nothing.
+/// If Kerberos isn't the first mechanism that SPNEGO offers, no context is handed out before a MIC of the whole list
+/// was verified, as the initiator makes it under the context's key. Who changes the list on its way needs that key. It
+/// does nothing.
 pub fn established_under_mic()
     ensures first { (service after : ServiceRecord) (moment : ℕ) (token random : List ℕ) (offer : Offer) (accepted : Accepted)
         → ((message : List ℕ) → IsApReqToken token message → ⊥) → (offered token).gives (Ok offer) → offer.terms.required ≡ true

@@ -11,7 +11,7 @@ pub(crate) const KRB5: [u8; 9] = [0x2a, 0x86, 0x48, 0x86, 0xf7, 0x12, 0x01, 0x02
 /// The content octets of 1.2.840.48018.1.2.2.
 const MS_KRB5: [u8; 9] = [0x2a, 0x86, 0x48, 0x82, 0xf7, 0x12, 0x01, 0x02, 0x02];
 
-/// By which identifier a list of mechanisms names Kerberos.
+/// The identifiers by which a list of mechanisms names Kerberos.
 #[derive(Clone, Copy, Debug, PartialEq, Eq)]
 pub enum Mechanism {
     /// 1.2.840.113554.1.2.2 (RFC 4121, section 4.1).

@@ -25,7 +25,7 @@ pub(crate) struct Offer {
     pub(crate) tokens: Tokens,
 }
 
-/// What a first token of SPNEGO offers.
+/// The offer of a first token of SPNEGO (RFC 4178, section 4.2.1).
 pub(crate) fn read_offer(alloc: Global, token: &[u8]) -> Result<Offer, AcceptRefusal>
     ensures { IsRead (offered token.now).gives result }
 {
@@ -36,7 +36,7 @@ pub(crate) fn read_offer(alloc: Global, token: &[u8]) -> Result<Offer, AcceptRef
     }
 }
 
-// What the message offers.
+// Reads the offer of a message.
 fn offer_in(alloc: Global, message: GssApiNegInit) -> Result<Offer, AcceptRefusal>
     ensures { IsRead (λ r. r ≡ offer_in message) result }
 {

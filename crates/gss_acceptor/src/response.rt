@@ -1,4 +1,4 @@
-//! The initiator's tokens of SPNEGO behind the first (RFC 4178, section 4.2.2).
+//! The initiator's tokens of SPNEGO after the first (RFC 4178, section 4.2.2).
 ghost use Rattle.std.specs.Prelude.{◌≡◌};
 ghost use Rattle.gss_acceptor.specs.Negotiation.{IsRead};
 ghost use Rattle.gss_acceptor.specs.Responses.{responded, tokens_in};

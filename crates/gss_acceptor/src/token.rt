@@ -10,17 +10,17 @@ use std::alloc::{AllocError, Global};
 /// The identifier octet of a first token (RFC 2743, section 3.1).
 const TOKEN: u8 = 0x60;
 
-/// What precedes an AP-REQ in its token: the mechanism's identifier, and the token id.
+/// The octets before an AP-REQ in its token: the mechanism's identifier, and the token id (RFC 4121, section 4.1).
 const AP_REQ_FRONT: [u8; 13] = [
     0x06, 0x09, 0x2a, 0x86, 0x48, 0x86, 0xf7, 0x12, 0x01, 0x02, 0x02, 0x01, 0x00,
 ];
 
-/// What precedes an AP-REP in its token.
+/// The octets before an AP-REP in its token (RFC 4121, section 4.1).
 const AP_REP_FRONT: [u8; 13] = [
     0x06, 0x09, 0x2a, 0x86, 0x48, 0x86, 0xf7, 0x12, 0x01, 0x02, 0x02, 0x02, 0x00,
 ];
 
-/// The AP-REQ that a token holds, if it is such a token.
+/// Returns the AP-REQ in a token of Kerberos, if the octets are one.
 pub(crate) fn ap_req_in(token: &[u8]) -> Option<&[u8]>
     ensures { MatchOption result ((request : List ℕ) → IsApReqToken token.now request → ⊥) (λ request. IsApReqToken token.now request.now) }
 {
@@ -28,7 +28,7 @@ pub(crate) fn ap_req_in(token: &[u8]) -> Option<&[u8]>
     request_in(content)
 }
 
-// The content of a token, if the octets are one.
+// Returns the content of a first token, if the octets are one.
 fn content_of(token: &[u8]) -> Option<&[u8]>
     ensures { MatchOption result ((content : List ℕ) → token.now ≡ element 96 content → ⊥) (λ content. token.now ≡ element 96 content.now) }
 {
@@ -45,7 +45,7 @@ fn content_of(token: &[u8]) -> Option<&[u8]>
     None
 }
 
-// What follows mechanism and token id of an AP-REQ, if they precede it.
+// Returns the octets after mechanism and token id of an AP-REQ, if the content begins with these.
 fn request_in(content: &[u8]) -> Option<&[u8]>
     ensures { MatchOption result ((request : List ℕ) → content.now ≡ ap_req_front ++ request → ⊥) (λ request. content.now ≡ ap_req_front ++ request.now) }
 {
@@ -55,7 +55,7 @@ fn request_in(content: &[u8]) -> Option<&[u8]>
     }
 }
 
-/// The token that holds an AP-REP.
+/// Makes the token of an AP-REP.
 pub(crate) fn ap_rep_token(alloc: Global, reply: &[u8]) -> Result<Vec<u8>, AllocError>
     ensures { IfOk result (λ token. token.items ≡ ap_rep_token reply.now) }
 {

@@ -13,13 +13,15 @@ pub(crate) fn gets_mic(alloc: Global, context: &mut Context, row: &Row<'_>) -> b
     is_made(alloc, row, context.get_mic(alloc, message), token)
 }
 
-/// `verify_mic EXPECTED | MESSAGE TOKEN`
+/// `verify_mic EXPECTED | MESSAGE TOKEN`, where the context has then the token's sequence number.
 pub(crate) fn verifies_mic(alloc: Global, context: &mut Context, row: &Row<'_>) -> bool {
     let [message, token] = row.columns.as_slice() else {
         return false;
     };
     match context.verify_mic(alloc, message, token) {
-        Ok(()) => row.expected == "ok",
+        Ok(()) => {
+            row.expected == "ok" && has_number(token, context.numbers().taking.saturating_sub(1))
+        }
         Err(refusal) => is_named(alloc, &refusal, row.expected),
     }
 }
@@ -54,7 +56,15 @@ fn is_made(
     }
 }
 
-/// `unwrap EXPECTED | TOKEN MESSAGE`, where a token is expected to be taken under its protection.
+/// Whether this is the sequence number in octets 8 to 15 of the token (RFC 4121, section 4.2.6).
+fn has_number(token: &[u8], number: u64) -> bool {
+    match token.get(8..16) {
+        Some(octets) => octets == number.to_be_bytes().as_slice(),
+        None => false,
+    }
+}
+
+/// `unwrap EXPECTED | TOKEN MESSAGE`, where a token is expected to be taken under its protection, with its sequence number.
 pub(crate) fn unwraps(alloc: Global, context: &mut Context, row: &Row<'_>) -> bool {
     let [token, message] = row.columns.as_slice() else {
         return false;
@@ -62,6 +72,7 @@ pub(crate) fn unwraps(alloc: Global, context: &mut Context, row: &Row<'_>) -> bo
     match context.unwrap(alloc, token) {
         Ok(taken) => {
             is_named(alloc, &taken.protection, row.expected)
+                && has_number(token, taken.sequence_number)
                 && taken.message.as_slice() == message.as_slice()
         }
         Err(refusal) => is_named(alloc, &refusal, row.expected),
