@@ -119,14 +119,17 @@ fn text_of(alloc: Global, answer: &Result<Admission, AdmitRefusal>) -> anyhow::R
 fn admission_text(alloc: Global, admission: &Admission) -> anyhow::Result<String> {
     let client = str::from_utf8(client_of(admission)?)?;
     let realm = str::from_utf8(admission.realm.as_bytes())?;
-    let session = hex::encode(alloc, admission.session.key_value.0.as_bytes())?;
-    let keys = keys_text(alloc, admission)?;
+    let (session, keys) = both(session_text(alloc, admission), keys_text(alloc, admission))?;
     let text = format!(in alloc;
         "Ok client {client} in {realm} key {} {}",
         session.as_str(),
         keys.as_str()
     )?;
     Ok(text)
+}
+
+fn session_text(alloc: Global, admission: &Admission) -> anyhow::Result<String> {
+    Ok(hex::encode(alloc, admission.session.key_value.0.as_bytes())?)
 }
 
 /// The client's name, which is of one component in each row.
@@ -138,8 +141,8 @@ fn client_of(admission: &Admission) -> anyhow::Result<&[u8]> {
 }
 
 fn keys_text(alloc: Global, admission: &Admission) -> anyhow::Result<String> {
-    let subkey = subkey_text(alloc, &admission.subkey)?;
-    let reply = reply_text(alloc, &admission.reply)?;
+    let subkey = subkey_text(alloc, &admission.subkey);
+    let (subkey, reply) = both(subkey, reply_text(alloc, &admission.reply))?;
     let text = format!(in alloc; "subkey {} reply {}", subkey.as_str(), reply.as_str())?;
     Ok(text)
 }

@@ -3,7 +3,7 @@
 use crate::columns::{bytes_of, components_of, moment_of, parts_of, second_of, suite_of};
 use crate::keys::{RowKeys, keys_of, replier_of};
 use crate::parties::{Party, party_of};
-use crate::replies::{words, words_by};
+use crate::replies::words_by;
 use crate::rows::Rows;
 use anyhow::bail;
 use krb_realm::{
@@ -110,14 +110,18 @@ fn asked_by(alloc: Global, clients: &[PkinitClient], words: &[&str]) -> anyhow::
     let [name, service, till, moment, first, more, keys] = words else {
         bail!("as_request of other than seven words");
     };
-    let asking = Asking {
-        till: second_of(*till)?,
-        moment: moment_of(*moment)?,
-        random: words_by(first.parse()?, more.parse()?),
-    };
+    let asking = asking_of(*till, *moment, *first, *more)?;
     let client = client_named(clients, *name)?;
     let keys = keys_of(alloc, *keys)?;
     request_by(alloc, client, *service, asking, &keys)
+}
+
+fn asking_of(till: &str, moment: &str, first: &str, more: &str) -> anyhow::Result<Asking> {
+    Ok(Asking {
+        till: second_of(till)?,
+        moment: moment_of(moment)?,
+        random: words_by(first.parse()?, more.parse()?),
+    })
 }
 
 fn request_by(
@@ -164,11 +168,22 @@ fn made_by(alloc: Global, words: &[&str]) -> anyhow::Result<String> {
         bail!("by_certificate of other than five words");
     };
     let suite = suite_of(*suite)?;
-    let realm = bytes_of(alloc, *realm)?;
-    let name = digits_name(alloc, *name)?;
-    let certificate = bytes_of(alloc, *certificate)?;
-    let anchor = Anchor::from_certificate(alloc, &bytes_of(alloc, *anchor)?)?;
-    match Client::by_certificate(alloc, &realm, &name, suite, &certificate, anchor) {
+    let named = both(bytes_of(alloc, *realm), digits_name(alloc, *name));
+    let certificates = both(bytes_of(alloc, *certificate), issuer_of(alloc, *anchor));
+    let ((realm, name), (own, anchor)) = both(named, certificates)?;
+    let made = Client::by_certificate(alloc, &realm, &name, suite, &own, anchor);
+    made_text(alloc, made)
+}
+
+/// The holder of a certificate, who issues others.
+fn issuer_of(alloc: Global, certificate: &str) -> anyhow::Result<Anchor> {
+    let certificate = bytes_of(alloc, certificate)?;
+    Ok(Anchor::from_certificate(alloc, &certificate)?)
+}
+
+/// Whether a client was made, or the name of the refusal.
+fn made_text(alloc: Global, made: Result<Client, AskRefusal>) -> anyhow::Result<String> {
+    match made {
         Ok(client) => {
             drop(client);
             Ok(format!(in alloc; "Ok")?)
@@ -308,11 +323,12 @@ pub(crate) fn made_client(
     own: &str,
 ) -> anyhow::Result<Client> {
     let suite = suite_of(suite)?;
-    let name = components_of(alloc, name)?;
-    let own = bytes_of(alloc, own)?;
-    let anchor = Anchor::from_certificate(alloc, &bytes_of(alloc, anchor)?)?;
-    let client = Client::by_certificate(alloc, realm.as_bytes(), &name, suite, &own, anchor)?;
-    Ok(client)
+    let certificates = both(bytes_of(alloc, own), issuer_of(alloc, anchor));
+    let (name, (own, anchor)) = both(components_of(alloc, name), certificates)?;
+    let client = Client::by_certificate(alloc, realm.as_bytes(), &name, suite, &own, anchor);
+    drop(name);
+    drop(own);
+    Ok(client?)
 }
 
 /// What a client remembers of its request for its realm's ticket-granting service.
@@ -322,16 +338,21 @@ fn first_asked(
     party: &Party,
     realm: &str,
 ) -> anyhow::Result<AsAsked> {
-    let service = format!(in alloc; "krbtgt/{realm}")?;
-    let service = components_of(alloc, service.as_str())?;
-    let asking = Asking {
-        till: second_of("20000102000000Z")?,
-        moment: moment_of("7")?,
-        random: words(),
-    };
-    let keys = keys_of(alloc, "test")?;
+    let asking = asking_of("20000102000000Z", "7", "0", "1")?;
+    let (service, keys) = both(granting_service(alloc, realm), keys_of(alloc, "test"))?;
     let functions = party.functions(&keys, &[]);
-    let (request, asked) = ask(alloc, client, &service, asking, &functions)?;
+    remembered(ask(alloc, client, &service, asking, &functions))
+}
+
+/// The components of a realm's ticket-granting service.
+fn granting_service(alloc: Global, realm: &str) -> anyhow::Result<Vec<Vec<u8>>> {
+    let service = format!(in alloc; "krbtgt/{realm}")?;
+    components_of(alloc, service.as_str())
+}
+
+/// What the client remembers of a request that it made.
+fn remembered(asked: Result<(Vec<u8>, AsAsked), AskRefusal>) -> anyhow::Result<AsAsked> {
+    let (request, asked) = asked?;
     drop(request);
     Ok(asked)
 }

@@ -9,8 +9,8 @@ use crate::replies::{name_of, realm_by, words_by};
 use crate::rows::Rows;
 use anyhow::{Context, bail};
 use krb_realm::{
-    Admission, Client, EncryptionKey, GeneralizedTime, KeyFunctions, LoginInput, LoginMoments,
-    LoginRefusal, Realm, Service, Settings, login_by_certificate,
+    Admission, CipherSuite, Client, EncryptionKey, GeneralizedTime, KeyFunctions, LoginInput,
+    LoginMoments, LoginRefusal, Realm, Service, Settings, login_by_certificate,
 };
 use result_pairs::{both, if_passed};
 use std::alloc::Global;
@@ -310,9 +310,12 @@ fn add_service(alloc: Global, realm: &mut Realm, words: &str) -> anyhow::Result<
     let [suite, key, _, _] = words.as_slice() else {
         bail!("a service of other than four words");
     };
-    let key = bytes_of(alloc, *key)?;
-    realm.add_account_by_key(alloc, &name_of(alloc, b"h")?, suite_of(*suite)?, &key)?;
-    Ok(())
+    let suite = suite_of(*suite)?;
+    let (name, key) = both(name_of(alloc, b"h"), bytes_of(alloc, *key))?;
+    let added = realm.add_account_by_key(alloc, &name, suite, &key);
+    drop(name);
+    drop(key);
+    Ok(added?)
 }
 
 /// Removes an account, or changes its key.
@@ -322,14 +325,32 @@ fn change(alloc: Global, realm: &mut Realm, words: &str) -> anyhow::Result<()> {
     }
     let words = parts_of(alloc, words, ' ')?;
     match words.as_slice() {
-        [name] => realm.remove_account(&components_of(alloc, *name)?)?,
-        [name, suite, key] => {
-            let key = bytes_of(alloc, *key)?;
-            realm.change_key(&components_of(alloc, *name)?, suite_of(*suite)?, &key)?;
-        }
+        [name] => remove(alloc, realm, *name),
+        [name, suite, key] => rekey(alloc, realm, *name, *suite, *key),
         _ => bail!("a change of other than one or three words"),
     }
-    Ok(())
+}
+
+fn remove(alloc: Global, realm: &mut Realm, name: &str) -> anyhow::Result<()> {
+    let name = components_of(alloc, name)?;
+    let removed = realm.remove_account(&name);
+    drop(name);
+    Ok(removed?)
+}
+
+fn rekey(
+    alloc: Global,
+    realm: &mut Realm,
+    name: &str,
+    suite: &str,
+    key: &str,
+) -> anyhow::Result<()> {
+    let suite = suite_of(suite)?;
+    let (name, key) = both(components_of(alloc, name), bytes_of(alloc, key))?;
+    let changed = realm.change_key(&name, suite, &key);
+    drop(name);
+    drop(key);
+    Ok(changed?)
 }
 
 /// The service `h` of these words: suite, key, its kvno and the skew.
@@ -338,18 +359,20 @@ fn service_of(alloc: Global, words: &str) -> anyhow::Result<Service> {
     let [suite, key, kvno, skew] = words.as_slice() else {
         bail!("a service of other than four words");
     };
-    let (suite, key) = (suite_of(*suite)?, bytes_of(alloc, *key)?);
-    let name = name_of(alloc, b"h")?;
-    let service = Service::new(
-        alloc,
-        b"R",
-        &name,
-        suite,
-        &key,
-        kvno.parse()?,
-        skew.parse()?,
-    )?;
-    Ok(service)
+    let numbers = (suite_of(*suite)?, kvno.parse()?, skew.parse()?);
+    service_by(alloc, numbers, *key)
+}
+
+fn service_by(
+    alloc: Global,
+    (suite, kvno, skew): (CipherSuite, u32, u64),
+    key: &str,
+) -> anyhow::Result<Service> {
+    let (name, key) = both(name_of(alloc, b"h"), bytes_of(alloc, key))?;
+    let service = Service::new(alloc, b"R", &name, suite, &key, kvno, skew);
+    drop(name);
+    drop(key);
+    Ok(service?)
 }
 
 /// The times of these words: six moments between commas, till, and by how much each random byte is more than the one before it.
