@@ -4,7 +4,7 @@ use Rattle.picky_asn1.specs.Bytes.{Bytes}
 use Rattle.krb_types.specs.RandomBytes.{Random}
 use Rattle.krb_types.specs.declared.data_types.principal_name.PrincipalName.{PrincipalName}
 use Rattle.krb_time.specs.Units.{Micros}
-use Rattle.krb_ap_requests.specs.Admission.{AdmissionRecord}
+use Rattle.krb_service.specs.Admission.{AdmissionRecord}
 use Rattle.krb_ap_requests.specs.declared.refusal.AdmitRefusal.{AdmitRefusal}
 use Rattle.krb_service.specs.Pair.{PairRecord}
 use Rattle.krb_service.specs.RememberingService.{IsStep, remembering}
