@@ -4,11 +4,12 @@ ghost use Rattle.asn1_der.specs.Length.{element};
 ghost use Rattle.gss_acceptor.specs.Tokens.{IsApReqToken, ap_rep_token, ap_req_front};
 
 use crate::elements::{element_of, joined};
+use krb_constants::gss_api::INITIAL_TOKEN;
 use picky_asn1_der::split_element;
 use std::alloc::{AllocError, Global};
 
 /// The identifier octet of a first token (RFC 2743, section 3.1).
-const TOKEN: u8 = 0x60;
+const TOKEN: u8 = INITIAL_TOKEN;
 
 /// The octets before an AP-REQ in its token: the mechanism's identifier, and the token id (RFC 4121, section 4.1).
 const AP_REQ_FRONT: [u8; 13] = [

@@ -10,13 +10,14 @@ ghost use Rattle.gss_context_tokens.specs.Refusals.{IsUnread};
 
 use crate::front::split_value;
 use gss_message_tokens::GssApiMessageError;
+use krb_constants::gss_api::INITIAL_TOKEN;
 use picky_asn1::wrapper::ObjectIdentifierAsn1;
 use picky_asn1_der::{Asn1DerError, FromDer, from_exact_bytes, split_element};
 use std::alloc::Global;
 use std::io::ErrorKind;
 
 /// The identifier octet of a token.
-pub(crate) const TOKEN: u8 = 0x60;
+pub(crate) const TOKEN: u8 = INITIAL_TOKEN;
 
 /// What a fault of DER is answered by.
 pub(crate) fn token_fault(fault: Asn1DerError) -> GssApiMessageError

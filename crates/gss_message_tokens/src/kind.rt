@@ -3,14 +3,11 @@ ghost use Rattle.std.specs.Prelude.{◌≡◌};
 ghost use Rattle.gss_message_tokens.specs.Judging.{id_of, id_judged, mic_filler_judged, wrap_filler_judged, filler_judged, judged};
 
 use crate::error::GssApiMessageError;
+use krb_constants::gss_api::{MIC_FILLER, WRAP_FILLER};
 use std::io::ErrorKind;
 
 /// The length of a token's header: the bytes before its checksum.
 pub(crate) const HEADER_LEN: usize = 16;
-
-pub(crate) const MIC_FILLER: [u8; 5] = [0xff; 5];
-
-pub(crate) const WRAP_FILLER: u8 = 0xff;
 
 /// The two tokens that carry a sequence number (RFC 4121, sections 4.2.6.1 and 4.2.6.2).
 #[derive(Clone, Copy, Debug)]

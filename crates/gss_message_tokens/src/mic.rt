@@ -7,10 +7,11 @@ ghost use Rattle.gss_message_tokens.specs.Refusals.{IsRefusal, IsExcuse, TellsRe
 ghost use Rattle.gss_message_tokens.specs.declared.kind.TokenKind.{TokenKind};
 
 use crate::error::GssApiMessageError;
-use crate::kind::{HEADER_LEN, MIC_FILLER, TokenKind, id};
+use crate::kind::{HEADER_LEN, TokenKind, id};
 use crate::token::{read_token, write_token};
 use byte_layouts::{put_at, u64_be, u64_be_bytes};
 use byte_streams::{Sink, Source};
+use krb_constants::gss_api::MIC_FILLER;
 use std::alloc::{AllocError, Global};
 
 /// What `GSS_GetMIC` makes: a checksum over a payload that travels elsewhere, with a sequence number.

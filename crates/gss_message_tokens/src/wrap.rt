@@ -7,10 +7,11 @@ ghost use Rattle.gss_message_tokens.specs.Refusals.{IsRefusal, IsExcuse, TellsRe
 ghost use Rattle.gss_message_tokens.specs.declared.kind.TokenKind.{TokenKind};
 
 use crate::error::GssApiMessageError;
-use crate::kind::{HEADER_LEN, TokenKind, WRAP_FILLER, id};
+use crate::kind::{HEADER_LEN, TokenKind, id};
 use crate::token::{read_token, write_token};
 use byte_layouts::{put_at, u16_be, u16_be_bytes, u64_be, u64_be_bytes};
 use byte_streams::{Sink, Source};
+use krb_constants::gss_api::WRAP_FILLER;
 use std::alloc::{AllocError, Global};
 
 /// What `GSS_Wrap` makes: a header with a sequence number, and the payload, sealed or with a checksum.

@@ -33,6 +33,7 @@ takes_sealed client key asked reply =
     -- The enc-part decrypts under the reply key for key usage 3, to an EncASRepPart or an EncTGSRepPart; its kvno isn't compared (RFC 4120,
     -- sections 3.1.5, 5.4.2). Test: `exchange_tag` of `logins.txt`; `take_as_reply key number`, `00 behind` of `clients.txt`.
     ask (IsAsPart key.suite key.bytes reply.enc_part.0) (sole_as_part key.suite key.bytes reply.enc_part.0)
+    -- Where it is no EncASRepPart it may be an EncTGSRepPart (RFC 4120, section 5.4.2). Test: `exchange_tag` of `logins.txt`.
     (ask (IsTgsPart key.suite key.bytes (cast_unsigned w32 AS_REP_ENC) reply.enc_part.0) (sole_tgs_part key.suite key.bytes (cast_unsigned w32 AS_REP_ENC) reply.enc_part.0) (done (Err NotSealed)) (takes_part client asked.service asked.nonce reply))
     (takes_part client asked.service asked.nonce reply)
 

@@ -111,7 +111,7 @@ fn timestamp_bytes(
 // The padata with the sealed time.
 #[tactic(auto, unfolding(crate::specs::Messages::encrypted_bytes))]
 fn timestamp_padata(alloc: Global, encrypted_timestamp: EncryptedData) -> Result<PaData, AllocError>
-    ensures { IfOk result (λ padata. padata ≡ pa_data_of 2 (encrypted_bytes encrypted_timestamp)) }
+    ensures { IfOk result (λ padata. padata ≡ pa_data_of PA_ENC_TIMESTAMP (encrypted_bytes encrypted_timestamp)) }
 {
     let value = encoding_of(alloc, encrypted_timestamp)?;
     pa_data_of(alloc, PA_ENC_TIMESTAMP, value)

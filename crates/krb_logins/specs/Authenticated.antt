@@ -1,6 +1,8 @@
 -- What honest clients and realms agree on, by whatever means the client authenticates itself (RFC 4120, section 3.1; RFC 4556,
 -- section 3.2).
 use Rattle.std.specs.Prelude.{◌≡◌, Result, Ok}
+use Rattle.krb_constants.specs.KeyUsages.{key_usage}
+use Rattle.krb_constants.specs.declared.key_usages.TheConstants.{AS_REP_ENC}
 use Rattle.krb_types.specs.Refusals.{Code}
 use Rattle.krb_types.specs.declared.data_types.pa_data.PaData.{PaData}
 use Rattle.krb_messages.specs.declared.messages.kdc_rep.KdcRep.{KdcRep}
@@ -28,11 +30,11 @@ first_body client login = as_body client (krbtgt_of client.realm) login.till log
 abbrev pub first_asked : ClientRecord → LoginRecord → AsAskedRecord
 first_asked client login = as_asked (krbtgt_of client.realm) login.client_as login.words_as
 
--- the realm's reply key is of an AS exchange (usage 3; RFC 4120, section 7.5.1). Of each reply whose padata is the same PA-PK-AS-REP,
+-- the realm's reply key is of an AS exchange (RFC 4120, section 7.5.1). Of each reply whose padata is the same PA-PK-AS-REP,
 -- or none where there is none, the client takes that key and nothing else
 pub record IsAgreedKey (client : ClientRecord) (means : MeansRecord) (asked : AsAskedRecord) (under : ReplyKeyRecord) : Type 0 where
   pub exchange : under.exchange ≡ As
-  pub usage : under.usage ≡ 3
+  pub usage : under.usage ≡ key_usage AS_REP_ENC
   pub taken : (reply : KdcRep) → reply.padata.0 ≡ padata_of under.pk_as_rep → (key : Result KeyRecord TakeRefusal)
       → (means.reply_key client asked reply).gives key → key ≡ Ok (record { suite = under.suite; bytes = under.key })
 

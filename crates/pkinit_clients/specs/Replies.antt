@@ -71,7 +71,7 @@ signed_in (EncKeyPack pack) = None
 abbrev pub of_key_info : KeysRecord → PkinitAskedRecord → KdcDhKeyInfo → Table Secret
 of_key_info keys asked info =
     -- The nonce of KDCDHKeyInfo is the request's (RFC 4556, section 3.2.4).
-    -- Test: `a@R, PKAuthenticator's nonce is another`, `e@R, nonce modulo 2^32` of `pkinit_steps.txt`; `secret_in-forgets_the_nonce.edit`.
+    -- Test: `a@R, PKAuthenticator's nonce is another`, `e@R, nonce modulo 2^32` of `pkinit_steps.txt`.
     refuse (not (is_number asked.nonce info.nonce.0)) NotTrusted
     -- The client's key agreement has a secret for subjectPublicKey (RFC 4556, section 3.2.3.1).
     -- Test: `b@R, agree none`, `a@R loose, agree none` of `pkinit_steps.txt`.
