@@ -1,7 +1,7 @@
 //! A service, and what it admits.
 
 use crate::stage::Stage;
-use crate::told::{admission_text, ok, refused};
+use crate::told::{admission_text, admitted_times, ok, refused};
 use crate::words::{bytes_of, name_of, suite_of};
 use anyhow::{Context, bail};
 use krb_realm::{Admission, AdmitRefusal, CipherSuite, Moment, Service};
@@ -60,6 +60,16 @@ fn keep_reply(stage: &mut Stage, mut admission: Admission) {
         stage.reply = reply;
     }
     drop(admission);
+}
+
+/// Presents the last request, and returns the times and flags of its ticket.
+pub(crate) fn admit_times(stage: &mut Stage, alloc: Global) -> anyhow::Result<String> {
+    let at = stage.conditions;
+    let service = stage.service.as_mut().context("no service")?;
+    let admission = service.admit(alloc, &stage.request, at.moment, &at.random.bytes())?;
+    let text = admitted_times(alloc, &admission);
+    drop(admission);
+    text
 }
 
 /// Presents no bytes.

@@ -1,7 +1,7 @@
 //! A client, and the replies that it takes.
 
 use crate::stage::Stage;
-use crate::told::{digits_of, done, ok, refused, sole_component, suite_key_text};
+use crate::told::{digits_of, done, ok, refused, sole_component, suite_key_text, times_text};
 use crate::words::{name_of, suite_of, text_of};
 use anyhow::{Context, bail};
 use krb_realm::{AskRefusal, CipherSuite, Client, Credential, KeyFunctions, TakeRefusal};
@@ -89,6 +89,19 @@ pub(crate) fn ap_reply(stage: &mut Stage, alloc: Global) -> anyhow::Result<Strin
 /// What the credential is, and its ticket.
 pub(crate) fn credential(stage: &Stage, alloc: Global) -> anyhow::Result<String> {
     credential_text(alloc, stage.credential()?)
+}
+
+/// The times and flags of the credential's ticket.
+pub(crate) fn credential_times(stage: &Stage, alloc: Global) -> anyhow::Result<String> {
+    let held = stage.credential()?;
+    let (authtime, starttime) = (held.authtime(), held.starttime());
+    times_text(
+        alloc,
+        authtime,
+        starttime,
+        held.endtime(),
+        held.flags().as_bytes(),
+    )
 }
 
 fn credential_text(alloc: Global, credential: &Credential) -> anyhow::Result<String> {

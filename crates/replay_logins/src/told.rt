@@ -1,7 +1,7 @@
 //! Texts of what calls give.
 
 use anyhow::{Context, bail};
-use krb_realm::{Admission, CipherSuite, EncryptionKey, PrincipalName};
+use krb_realm::{Admission, CipherSuite, EncryptionKey, GeneralizedTime, PrincipalName};
 use std::alloc::Global;
 use std::fmt::Debug;
 
@@ -55,6 +55,31 @@ pub(crate) fn login_text(
     let key = key_text(alloc, key)?;
     let admitted = admission_text(alloc, admission)?;
     let text = format!(in alloc; "key {key} admitted {admitted}")?;
+    Ok(text)
+}
+
+/// The times and flags of the admitted ticket.
+pub(crate) fn admitted_times(alloc: Global, admission: &Admission) -> anyhow::Result<String> {
+    let a = admission;
+    times_text(
+        alloc,
+        a.authtime,
+        a.starttime,
+        a.endtime,
+        a.flags.as_bytes(),
+    )
+}
+
+/// A ticket's times, and its flags as octets.
+pub(crate) fn times_text(
+    alloc: Global,
+    authtime: GeneralizedTime,
+    starttime: GeneralizedTime,
+    endtime: GeneralizedTime,
+    flags: &[u8],
+) -> anyhow::Result<String> {
+    let flags = digits_of(alloc, flags)?;
+    let text = format!(in alloc; "from {authtime} start {starttime} end {endtime} flags {flags}")?;
     Ok(text)
 }
 
