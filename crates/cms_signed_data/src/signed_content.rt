@@ -59,6 +59,9 @@ impl<'a> SignedContent<'a> {
         })
     }
 
+    /// Frees what the signed content holds.
+    pub fn release(self) {}
+
     /// The content's type.
     pub fn content_type(&self) -> &ObjectIdentifier
         ensures { result.now ≡ self.now.info.content.0.encap_content_info.content_type.0 }

@@ -72,7 +72,7 @@ fn take_signed<K: KeyFunctions>(
     match SignedContent::read(alloc, bytes) {
         Ok(content) => {
             let taken = take_content(alloc, keys, asked, &content);
-            drop(content);
+            content.release();
             taken
         }
         Err(fault) => {

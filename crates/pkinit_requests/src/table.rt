@@ -58,7 +58,7 @@ fn judge_signed<K: KeyFunctions>(
     match SignedContent::read(alloc, bytes) {
         Ok(content) => {
             let judged = judge_content(alloc, keys, judging, &content);
-            drop(content);
+            content.release();
             judged
         }
         Err(fault) => {
