@@ -8,9 +8,6 @@ use krb_constants::gss_api::INITIAL_TOKEN;
 use picky_asn1_der::split_element;
 use std::alloc::{AllocError, Global};
 
-/// The identifier octet of a first token (RFC 2743, section 3.1).
-const TOKEN: u8 = INITIAL_TOKEN;
-
 /// The octets before an AP-REQ in its token: the mechanism's identifier, and the token id (RFC 4121, section 4.1).
 const AP_REQ_FRONT: [u8; 13] = [
     0x06, 0x09, 0x2a, 0x86, 0x48, 0x86, 0xf7, 0x12, 0x01, 0x02, 0x02, 0x01, 0x00,
@@ -37,7 +34,7 @@ fn content_of(token: &[u8]) -> Option<&[u8]>
         Ok(split) => split,
         Err(_) => return None,
     };
-    if u8::from(element.tag()) != TOKEN {
+    if u8::from(element.tag()) != INITIAL_TOKEN {
         return None;
     }
     if rest.is_empty() {
@@ -61,5 +58,5 @@ pub(crate) fn ap_rep_token(alloc: Global, reply: &[u8]) -> Result<Vec<u8>, Alloc
     ensures { IfOk result (λ token. token.items ≡ ap_rep_token reply.now) }
 {
     let content = joined(alloc, &AP_REP_FRONT, reply)?;
-    element_of::<TOKEN>(alloc, content)
+    element_of::<INITIAL_TOKEN>(alloc, content)
 }

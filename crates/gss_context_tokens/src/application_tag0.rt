@@ -1,11 +1,11 @@
-//! What the GSS-API puts in front of a first token.
+//! The application tag of a first token of the GSS-API.
 ghost use Rattle.std.specs.Prelude.{◌≡◌};
 
 use byte_streams::{Sink, Source};
 use picky_asn1_der::{Asn1DerError, Deserializer, Serializer, Tagged};
 
-/// A value under the constructed application tag 0 in place of its own (RFC 2743, section 3.1): what the value holds stands right
-/// behind the tag. Its first octet is 0x60.
+/// A value under the constructed application tag 0 in place of its own (RFC 2743, section 3.1): the value's content
+/// follows the tag. Its first octet is 0x60.
 #[derive(Debug, Drop, PartialEq, Eq)]
 pub struct ApplicationTag0<T>(pub T);
 

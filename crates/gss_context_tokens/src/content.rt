@@ -1,4 +1,4 @@
-//! What is in a token, from its front on.
+//! The content of a token.
 ghost use Rattle.std.specs.Prelude.{◌≡◌, ℕ, ◌<◌, List, length, MatchResult};
 ghost use Rattle.std.specs.declared.io.ErrorKind.{ErrorKind};
 ghost use Rattle.picky_asn1.specs.declared.wrapper.ObjectIdentifierAsn1.{ObjectIdentifierAsn1};
@@ -16,10 +16,7 @@ use picky_asn1_der::{Asn1DerError, FromDer, from_exact_bytes, split_element};
 use std::alloc::Global;
 use std::io::ErrorKind;
 
-/// The identifier octet of a token.
-pub(crate) const TOKEN: u8 = INITIAL_TOKEN;
-
-/// What a fault of DER is answered by.
+/// Returns the error of a fault of DER.
 pub(crate) fn token_fault(fault: Asn1DerError) -> GssApiMessageError
     ensures { result ≡ of_der_fault fault }
 {
@@ -36,7 +33,7 @@ fn content_of(bytes: &[u8]) -> Result<&[u8], GssApiMessageError>
         Ok(split) => split,
         Err(fault) => return Err(token_fault(fault)),
     };
-    if u8::from(element.tag()) != TOKEN {
+    if u8::from(element.tag()) != INITIAL_TOKEN {
         return Err(GssApiMessageError::Asn1Error(Asn1DerError::InvalidData));
     }
     Ok(element.content())

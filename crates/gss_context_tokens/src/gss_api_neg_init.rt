@@ -26,7 +26,7 @@ use picky_asn1_der::{
 pub struct GssApiNegInit {
     /// The mechanism.
     pub oid: ObjectIdentifierAsn1,
-    /// What the client offers.
+    /// The offer of the client.
     pub neg_token_init: ExplicitContextTag0<NegTokenInit>,
 }
 

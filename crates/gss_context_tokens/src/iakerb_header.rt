@@ -32,7 +32,7 @@ pub type IAKerbCookie = Option<ExplicitContextTag2<OctetStringAsn1>>;
 pub struct IAKerbHeader {
     /// The realm of the KDC that the message is for.
     pub target_realm: ExplicitContextTag1<Utf8StringAsn1>,
-    /// What the service sent with the reply before.
+    /// The cookie that the service sent with the reply before.
     pub cookie: Optional<IAKerbCookie>,
     /// Flags, which messages of today's clients have and the draft doesn't.
     pub flags: Optional<Option<ExplicitContextTag3<BitStringAsn1>>>,

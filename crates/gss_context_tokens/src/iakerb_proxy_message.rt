@@ -107,7 +107,7 @@ impl<T: Serialize> IAKerbProxyMessage<T> {
     ghost use Rattle.gss_context_tokens.specs.Tokens.{token_bytes};
     ghost use Rattle.gss_context_tokens.specs.Refusals.{IsUnwritten, IsWritten};
 
-    /// What stands inside the token.
+    /// Encodes the content of the token.
     fn content(&self, alloc: Global) -> Result<Vec<u8>, GssApiMessageError>
         ensures { MatchResult result
             (λ bytes. bytes.items ≡ proxy_message_content T.tree self.now)

@@ -30,7 +30,7 @@ use std::alloc::Global;
 pub struct KrbMessage<T> {
     /// The mechanism.
     pub krb5_oid: ObjectIdentifierAsn1,
-    /// Which message it is (RFC 4121, section 4.1).
+    /// TOK_ID: the id of the message (RFC 4121, section 4.1).
     pub krb5_token_id: [u8; 2],
     /// The message.
     pub krb_msg: T,
@@ -68,7 +68,7 @@ impl<T: Serialize> KrbMessage<T> {
     ghost use Rattle.gss_context_tokens.specs.Tokens.{token_bytes};
     ghost use Rattle.gss_context_tokens.specs.Refusals.{IsUnwritten, IsWritten};
 
-    /// What stands inside the token.
+    /// Encodes the content of the token.
     fn content(&self, alloc: Global) -> Result<Vec<u8>, GssApiMessageError>
         ensures { MatchResult result
             (λ bytes. bytes.items ≡ krb_message_content T.tree self.now)
@@ -129,7 +129,7 @@ impl<T: Serialize> KrbMessage<T> {
 
 type KrbMessageRow<T> = Row3<ObjectIdentifierAsn1, OctetPair, T>;
 
-/// What stands inside a token, as a SEQUENCE; in [`ApplicationTag0`] it is the token.
+/// The content of a token, as a SEQUENCE; in [`ApplicationTag0`] it is the token.
 impl<T: Deserialize + Drop> Tagged for KrbMessage<T> {
     ghost use Rattle.std.proofs.Common.{refl, true, None, Some};
     ghost use Rattle.asn1_der.specs.Seen.{Alike, seen_part};

@@ -1,4 +1,4 @@
-//! What is written is read again, and a token is read in one way, as laws.
+//! The laws that a written token is read again, and that a token is read in one way.
 ghost use Rattle.std.specs.Prelude.{◌≡◌, ℕ, List, ◌++◌, length};
 ghost use Rattle.asn1_der.specs.Tree.{Writes, der};
 ghost use Rattle.asn1_der.specs.Length.{element};

@@ -11,7 +11,7 @@ use picky_asn1_der::{
     read_sequence,
 };
 
-/// What a client offers (RFC 4178, section 4.2.1).
+/// NegTokenInit: the offer of a client (RFC 4178, section 4.2.1).
 ///
 /// ```text
 /// NegTokenInit ::= SEQUENCE {

@@ -91,7 +91,7 @@ impl Deserialize for StrictHeader {
 
 type ProxyRow<T> = Row4<IAKerbMechanism, OctetPair, StrictHeader, T>;
 
-/// What stands inside a token, as a SEQUENCE; in [`ApplicationTag0`](crate::application_tag0::ApplicationTag0) it is the token. The
+/// The content of a token, as a SEQUENCE; in [`ApplicationTag0`](crate::application_tag0::ApplicationTag0) it is the token. The
 /// header is read from its one spelling: where anything follows its fields, and for another mechanism or token id, it is `InvalidData`.
 impl<T: Deserialize + Drop> Tagged for IAKerbProxyMessage<T> {
     ghost use Rattle.std.proofs.Common.{refl, true, None, Some};

@@ -1,4 +1,4 @@
-//! How tokens are written.
+//! The writing of tokens.
 ghost use Rattle.std.specs.Prelude.{◌≡◌, ◌++◌, MatchResult};
 ghost use Rattle.std.specs.Io.KnownBytes.{Appends};
 ghost use Rattle.asn1_der.specs.Tree.{der};
@@ -7,7 +7,7 @@ ghost use Rattle.gss_context_tokens.specs.Tokens.{mechanism_tree, token_bytes};
 ghost use Rattle.gss_context_tokens.specs.Refusals.{IsUnwritten, IsStopped};
 ghost use Rattle.gss_context_tokens.specs.Refusals as faults;
 
-use crate::content::{TOKEN, token_fault};
+use crate::content::token_fault;
 use byte_layouts::write_bytes;
 use byte_streams::Sink;
 use gss_message_tokens::GssApiMessageError;
@@ -16,7 +16,7 @@ use picky_asn1_der::{Retagged, Serialize, to_byte_buf, to_vec};
 use std::alloc::Global;
 use std::io::ErrorKind;
 
-/// What stands inside a token, as a value of DER: a SEQUENCE (0x30), and 0x60 in [`ApplicationTag0`](crate::application_tag0::ApplicationTag0).
+/// The content of a token, as a value of DER: a SEQUENCE (0x30), and 0x60 in [`ApplicationTag0`](crate::application_tag0::ApplicationTag0).
 pub type TokenSequence = Retagged<0x30, OctetStringAsn1>;
 
 /// The value of DER that has this content.
@@ -62,14 +62,14 @@ pub(crate) fn token_of(alloc: Global, content: Vec<u8>) -> Result<Vec<u8>, GssAp
         (λ fault. fault ≡ GssApiMessageError.Memory) }
 {
     let octets = OctetStringAsn1::from(content);
-    let token: Retagged<TOKEN, OctetStringAsn1> = Retagged(octets);
+    let token: Retagged<INITIAL_TOKEN, OctetStringAsn1> = Retagged(octets);
     match to_vec(alloc, &token) {
         Ok(bytes) => Ok(bytes),
         Err(_) => Err(GssApiMessageError::Memory),
     }
 }
 
-/// What a write that stopped is answered by.
+/// Returns the error of a write that stopped.
 fn stop_fault(kind: ErrorKind) -> GssApiMessageError
     ensures { result ≡ faults.stop_fault kind }
 {

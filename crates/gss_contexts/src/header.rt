@@ -9,7 +9,7 @@ use crate::side::Protection;
 use gss_message_tokens::{MicToken, WrapToken};
 use std::alloc::Global;
 
-/// How many octets a header has.
+/// The length of a header: 16 octets.
 pub(crate) const HEADER: usize = 16;
 
 // The flags of RFC 4121, section 4.2.2.
@@ -19,14 +19,14 @@ pub(crate) const SEALED: u8 = 2;
 
 pub(crate) const ACCEPTOR_SUBKEY: u8 = 4;
 
-// Whether the flag is set.
+// Judges whether the flag is set.
 pub(crate) fn is_set(flags: u8, flag: u8) -> bool
     ensures { result ≡ is_set flags flag }
 {
     flags & flag != 0
 }
 
-// What the flags say of a wrap token's protection.
+// Returns the protection of a wrap token by its flags.
 pub(crate) fn protection_of(flags: u8) -> Protection
     ensures { result ≡ protection_of (is_set flags 2) }
 {
@@ -44,7 +44,7 @@ pub(crate) fn flag_if(is_set: bool, flag: u8) -> u8
     if is_set { flag } else { 0 }
 }
 
-// The header of a MIC token.
+// Encodes the header of a MIC token.
 pub(crate) fn mic_header(alloc: Global, flags: u8, number: u64) -> [u8; HEADER]
     ensures laid { IsLaidOut (mic_header (record { flags = flags; seq_num = number; checksum = [] })) result }
     ensures size { length result ≡ 16 }
@@ -58,7 +58,7 @@ pub(crate) fn mic_header(alloc: Global, flags: u8, number: u64) -> [u8; HEADER]
     token.header()
 }
 
-// The header of a wrap token that isn't rotated.
+// Encodes the header of a wrap token that isn't rotated.
 pub(crate) fn wrap_header(alloc: Global, flags: u8, ec: u16, number: u64) -> [u8; HEADER]
     ensures laid { IsLaidOut (wrap_header (record { flags = flags; ec = ec; rrc = 0; seq_num = number; checksum = [] })) result }
     ensures size { length result ≡ 16 }
@@ -74,7 +74,7 @@ pub(crate) fn wrap_header(alloc: Global, flags: u8, ec: u16, number: u64) -> [u8
     token.header()
 }
 
-// Whether the octets begin as a MIC token does.
+// Judges whether the octets begin as a MIC token does.
 pub(crate) fn is_mic(token: &[u8]) -> bool
     ensures test { result ≡ is_mic token.now }
     ensures long { IsTrue result → 16 ≤ length token.now }
@@ -85,7 +85,7 @@ pub(crate) fn is_mic(token: &[u8]) -> bool
         && !is_set(token[2], SEALED)
 }
 
-// Whether the octets begin as a wrap token does.
+// Judges whether the octets begin as a wrap token does.
 pub(crate) fn is_wrap(token: &[u8]) -> bool
     ensures test { result ≡ is_wrap token.now }
     ensures long { IsTrue result → 16 ≤ length token.now }

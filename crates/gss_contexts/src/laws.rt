@@ -1,4 +1,4 @@
-//! What holds of the two ends of a context.
+//! The laws of the two ends of a context.
 ghost use Rattle.std.specs.Prelude.{◌≡◌, ◌≤◌, ◌<◌, ◌+◌, ℕ, List};
 ghost use Rattle.gss_contexts.specs.Contexts.{ContextRecord, last_number, peer, sender_of};
 ghost use Rattle.gss_contexts.specs.Judging.{IsMicRefusal, IsWrapRefusal, TakesWrap};

@@ -16,7 +16,7 @@ use byte_layouts::u16_be;
 use krb_crypto::KerberosCryptoError;
 use std::alloc::{AllocError, Global};
 
-// The refusal of a token that isn't decrypted.
+// Returns the refusal of a token that isn't decrypted.
 fn refusal_of(fault: KerberosCryptoError) -> TokenRefusal
     ensures { result ≡ refusal_of fault }
 {
@@ -26,7 +26,7 @@ fn refusal_of(fault: KerberosCryptoError) -> TokenRefusal
     }
 }
 
-// How many octets precede a filler of EC octets and the header, if the text ends with these.
+// Returns the count of octets before a filler of EC octets and the header, if the text ends with these.
 pub(crate) fn message_len(text: &[u8], ec: u16, header: &[u8]) -> Option<usize>
     requires { length header.now ≡ 16 }
     ensures { MatchOption result ((m f : List ℕ) → length f ≡ ec → text.now ≡ m ++ (f ++ header.now) → ⊥)
@@ -42,7 +42,7 @@ pub(crate) fn message_len(text: &[u8], ec: u16, header: &[u8]) -> Option<usize>
     Some(text.len() - behind)
 }
 
-// The message that is sealed before the token's header.
+// Returns the message before the token's header, at the end of the plaintext.
 fn message_before(mut plain: Vec<u8>, token: &[u8]) -> Result<Vec<u8>, TokenRefusal>
     requires { 16 ≤ length token.now }
     ensures read { IfOk result (λ m. (f : List ℕ) × (length f ≡ be16_at 4 token.now) × (plain.items ≡ m.items ++ (f ++ header_without_rrc token.now))) }
@@ -58,7 +58,7 @@ fn message_before(mut plain: Vec<u8>, token: &[u8]) -> Result<Vec<u8>, TokenRefu
 }
 
 impl Sender {
-    // Whether the octets after the header are the peer's checksum of a MIC token.
+    // Judges whether the octets after the header are the peer's checksum of a MIC token.
     pub(crate) fn is_peers_sum(
         &self,
         alloc: Global,
@@ -74,7 +74,7 @@ impl Sender {
         Ok(carried == sum.as_slice())
     }
 
-    // The message that the peer sealed to a text.
+    // Decrypts the message of a text.
     fn read_sealed(&self, alloc: Global, token: &[u8], text: &[u8]) -> Result<Vec<u8>, TokenRefusal>
         requires newer { IsTrue (is_newer self.now.key.suite) }
         requires long { 16 ≤ length token.now }
@@ -89,7 +89,7 @@ impl Sender {
         }
     }
 
-    // The message of a text that isn't sealed, if its checksum is the peer's.
+    // Returns the message of a text that isn't encrypted, if its checksum is the peer's.
     fn read_summed(&self, alloc: Global, token: &[u8], text: &[u8]) -> Result<Vec<u8>, TokenRefusal>
         requires { 16 ≤ length token.now }
         ensures read { IfOk result (λ m. (d : List ℕ) × Carries (peer_of self.now) Checksum (be16_at 4 token.now) d m.items token.now text.now) }
@@ -112,7 +112,7 @@ impl Sender {
         Ok(read)
     }
 
-    // The message of a text of this protection.
+    // Reads the message of a text of this protection.
     fn read(
         &self,
         alloc: Global,
@@ -132,7 +132,7 @@ impl Sender {
         }
     }
 
-    // The message that the peer's wrap token carries.
+    // Reads the message of the peer's wrap token.
     pub(crate) fn open(
         &self,
         alloc: Global,

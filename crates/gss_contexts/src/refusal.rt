@@ -26,7 +26,7 @@ pub enum TokenRefusal {
     /// The checksum is not that of the message, or nothing is sealed under the key.
     #[error("the checksum is wrong")]
     WrongChecksum,
-    /// What is sealed does not end with filler of EC octets and the token's header.
+    /// The plaintext does not end with filler of EC octets and the token's header.
     #[error("what is sealed does not end with the filler and the token's header")]
     OtherHeader,
     /// Triple DES, whose tokens are those of RFC 1964.

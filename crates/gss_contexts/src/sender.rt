@@ -10,7 +10,7 @@ use crate::side::{Protection, Side};
 use krb_crypto::Key;
 use std::alloc::{AllocError, Global};
 
-/// Who protects tokens, and under which key.
+/// The side that protects tokens, and its key.
 #[derive(Drop)]
 pub struct Sender {
     /// The key.
@@ -22,7 +22,7 @@ pub struct Sender {
 }
 
 impl Sender {
-    // The flags of its tokens.
+    // Returns the flags of its tokens.
     fn flags(&self, sealed: bool) -> u8
         ensures marked { IsMarked self.now sealed result }
         ensures clear { result < 8 }
@@ -32,7 +32,7 @@ impl Sender {
             | flag_if(self.acceptor_subkey, ACCEPTOR_SUBKEY)
     }
 
-    // Its MIC token of a message.
+    // Makes the MIC token of a message.
     pub(crate) fn mic_token(
         &self,
         alloc: Global,
@@ -46,7 +46,7 @@ impl Sender {
         joined(alloc, &header, &sum)
     }
 
-    // Its sealed wrap token of a message, with this confounder.
+    // Makes the encrypted wrap token of a message, with this confounder.
     fn sealed_token(
         &self,
         alloc: Global,
@@ -65,7 +65,7 @@ impl Sender {
         joined(alloc, &header, &text)
     }
 
-    // Its wrap token of a message that isn't sealed.
+    // Makes the wrap token of a message that isn't encrypted.
     fn summed_token(
         &self,
         alloc: Global,
@@ -82,7 +82,7 @@ impl Sender {
         joined(alloc, &header, &text)
     }
 
-    // Its wrap token of a message.
+    // Makes the wrap token of a message.
     pub(crate) fn wrap_token(
         &self,
         alloc: Global,

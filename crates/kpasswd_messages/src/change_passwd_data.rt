@@ -10,7 +10,7 @@ use picky_asn1_der::{
     Fields, Optional, Row3, Serializer, Tagged, fields_of, from_fields, read_sequence,
 };
 
-/// A new password, and whose it is to be (RFC 3244, section 2).
+/// A new password, and the principal that gets it (RFC 3244, section 2).
 ///
 /// ```text
 /// ChangePasswdData ::= SEQUENCE {
@@ -22,7 +22,7 @@ use picky_asn1_der::{
 pub struct ChangePasswdData {
     /// The password.
     pub new_passwd: ExplicitContextTag0<OctetStringAsn1>,
-    /// Whose it is to be; where it is missing, the sender's.
+    /// The principal that gets the password; where it is missing, the sender.
     pub target_name: Optional<Option<ExplicitContextTag1<PrincipalName>>>,
     /// The realm of that principal.
     pub target_realm: Optional<Option<ExplicitContextTag2<Realm>>>,

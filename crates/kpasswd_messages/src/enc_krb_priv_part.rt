@@ -1,4 +1,4 @@
-//! The sealed part of a private message.
+//! The encrypted part of KRB-PRIV.
 ghost use Rattle.asn1_der.specs.Octets.{sequence_octet};
 
 use asn1_der::octets::SEQUENCE;
@@ -14,7 +14,7 @@ use picky_asn1_der::{
 };
 use std::alloc::AllocError;
 
-/// What a private message holds under a key that both sides know (RFC 4120, section 5.7.1).
+/// The fields of EncKrbPrivPart, which is encrypted under a key that both sides know (RFC 4120, section 5.7.1).
 ///
 /// ```text
 /// EncKrbPrivPart ::= [APPLICATION 28] SEQUENCE {
@@ -27,7 +27,7 @@ use std::alloc::AllocError;
 /// ```
 #[derive(Debug, Drop, PartialEq, Eq)]
 pub struct EncKrbPrivPartInner {
-    /// What the program above sends.
+    /// user-data: the bytes of the application.
     pub user_data: ExplicitContextTag0<OctetStringAsn1>,
     /// The sender's time.
     pub timestamp: Optional<Option<ExplicitContextTag1<KerberosTime>>>,
@@ -41,7 +41,7 @@ pub struct EncKrbPrivPartInner {
     pub r_address: Optional<Option<ExplicitContextTag5<HostAddress>>>,
 }
 
-/// The sealed part of a private message (RFC 4120, section 5.7.1).
+/// EncKrbPrivPart, the encrypted part of KRB-PRIV (RFC 4120, section 5.7.1).
 pub type EncKrbPrivPart = ApplicationTag<EncKrbPrivPartInner, KRB_PRIV_ENC_PART>;
 
 type EncKrbPrivPartInnerRow = Row6<

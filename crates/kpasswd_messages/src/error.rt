@@ -9,7 +9,7 @@ use thiserror::Error;
 #[derive(Clone, Copy, Debug, PartialEq, Eq, Error)]
 #[error("the frame of a password change cannot be read or written: {kind}")]
 pub struct KrbPrivFrameError {
-    /// What is wrong with the bytes or the parts, the device's fault, or `OutOfMemory`.
+    /// The fault of the bytes or of a part, the device's fault, or `OutOfMemory`.
     pub kind: ErrorKind,
 }
 

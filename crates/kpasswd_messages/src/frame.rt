@@ -18,7 +18,7 @@ use byte_streams::{Sink, Source};
 use std::alloc::{AllocError, Global};
 use std::io::ErrorKind;
 
-// The greatest length that two bytes tell.
+// The greatest length of two bytes.
 const MOST_BYTES: usize = 65_535;
 
 /// A request or a reply of the exchange, as its two parts.
@@ -61,7 +61,7 @@ impl<A: FromDer, P: FromDer> KrbPrivFrame<A, P> {
     }
 }
 
-// Puts a header with these lengths, and the parts, behind what is there.
+// Appends a header with these lengths, and the parts.
 fn put_frame(
     to: &mut Vec<u8>,
     count: u16,
@@ -79,7 +79,7 @@ fn put_frame(
     Ok(())
 }
 
-// The length of a whole frame; `InvalidInput` where it doesn't fit its two bytes.
+// Computes the length of a whole frame; `InvalidInput` where it doesn't fit its two bytes.
 fn count_of(ap_message: &[u8], krb_priv: &[u8]) -> Result<u16, ErrorKind>
     ensures { MatchResult result
         (λ count. (count ≡ 6 + length ap_message.now + length krb_priv.now) × (count < 2 ^ 16))
@@ -94,7 +94,7 @@ fn count_of(ap_message: &[u8], krb_priv: &[u8]) -> Result<u16, ErrorKind>
     Ok((behind + HEADER_LEN) as u16)
 }
 
-// The two parts behind their header; `InvalidInput` where a length doesn't fit its two bytes.
+// Encodes the header and the two parts; `InvalidInput` where a length doesn't fit its two bytes.
 fn bytes_of(alloc: Global, ap_message: &[u8], krb_priv: &[u8]) -> Result<Vec<u8>, ErrorKind>
     ensures { MatchResult result
         (λ bytes. (bytes.items ≡ frame_bytes ap_message.now krb_priv.now) × IsFrame ap_message.now krb_priv.now bytes.items)
@@ -110,7 +110,7 @@ fn bytes_of(alloc: Global, ap_message: &[u8], krb_priv: &[u8]) -> Result<Vec<u8>
 }
 
 impl<A: Serialize, P: Serialize> KrbPrivFrame<A, P> {
-    // The frame's bytes.
+    // Encodes the frame.
     fn bytes(&self, alloc: Global) -> Result<Vec<u8>, ErrorKind>
         ensures { MatchResult result
             (λ bytes. (bytes.items ≡ frame_bytes (der (A.tree self.now.ap_message)) (der (P.tree self.now.krb_priv)))

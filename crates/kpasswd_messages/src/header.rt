@@ -15,7 +15,7 @@ pub(crate) const HEADER_LEN: usize = 6;
 
 pub(crate) const VERSION: u16 = 1;
 
-// Whether a header begins with these bytes; where they end inside it, `short` says why. The lengths aren't judged.
+// Judges that a header begins with these bytes; where they end inside it, `short` says why. The lengths aren't judged.
 fn judge_header(bytes: &[u8], short: ErrorKind) -> Result<(), ErrorKind>
     ensures fine { IfOk result (λ _. Stands (part 2 (be16 1)) bytes.now × (6 ≤ length bytes.now)) }
     ensures wrong { IfErr result (λ e. ((e ≡ ErrorKind.InvalidData) × HasOtherVersion bytes.now) ⊎ ((e ≡ short) × (length bytes.now < 6) × (HasOtherVersion bytes.now → ⊥))) }
@@ -32,7 +32,7 @@ fn judge_header(bytes: &[u8], short: ErrorKind) -> Result<(), ErrorKind>
     Ok(())
 }
 
-// Reads a header, and leaves what follows it. A wrong version that is there is answered before the fault of a device.
+// Reads a header, and leaves what follows it. A wrong version that is there is refused before the fault of a device.
 pub(crate) fn read_header<R: Source>(reader: &mut R) -> Result<(), ErrorKind>
     ensures found { IfOk result (λ _. (header : List ℕ) × IsHeader header × Consumes (R.left reader.old) (R.left reader.new) header) }
     ensures count { MatchResult result (λ _. R.failed reader.new ≡ R.failed reader.old)

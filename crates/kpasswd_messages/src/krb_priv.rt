@@ -1,4 +1,4 @@
-//! Private messages.
+//! KRB-PRIV.
 ghost use Rattle.asn1_der.specs.Octets.{sequence_octet};
 
 use asn1_der::octets::SEQUENCE;
@@ -11,7 +11,7 @@ use picky_asn1_der::{
     ExplicitContextTag3, Fields, Row3, Serializer, Tagged, fields_of, from_fields, read_sequence,
 };
 
-/// What a private message holds (RFC 4120, section 5.7.1).
+/// The fields of KRB-PRIV (RFC 4120, section 5.7.1).
 ///
 /// ```text
 /// KRB-PRIV ::= [APPLICATION 21] SEQUENCE {
@@ -30,7 +30,7 @@ pub struct KrbPrivInner {
     pub enc_part: ExplicitContextTag3<EncryptedData>,
 }
 
-/// A private message (RFC 4120, section 5.7.1).
+/// KRB-PRIV, a private message (RFC 4120, section 5.7.1).
 pub type KrbPriv = ApplicationTag<KrbPrivInner, KRB_PRIV>;
 
 type KrbPrivInnerRow = Row3<

@@ -14,7 +14,7 @@ use byte_streams::Source;
 use std::alloc::Global;
 use std::io::ErrorKind;
 
-// What a fault of DER is answered by.
+// Returns the error of a fault of DER.
 fn kind_of(fault: Asn1DerError) -> ErrorKind
     ensures { result ≡ der_kind fault }
 {
@@ -43,7 +43,7 @@ pub(crate) fn read_part<T: FromDer, R: Source>(
     }
 }
 
-// What a part that isn't written is answered by.
+// Returns the error of a part that isn't written.
 fn unwritten(fault: Asn1DerError) -> ErrorKind
     ensures { result ≡ write_kind fault }
 {
@@ -53,7 +53,7 @@ fn unwritten(fault: Asn1DerError) -> ErrorKind
     }
 }
 
-// The bytes of a part; `InvalidInput` where its type refuses to write this value.
+// Encodes a part; `InvalidInput` where its type refuses to write this value.
 pub(crate) fn part_bytes<T: Serialize>(alloc: Global, value: &T) -> Result<Vec<u8>, ErrorKind>
     ensures { MatchResult result (λ bytes. bytes.items ≡ der (T.tree value.now)) (IsUnwritten (refusal_of T.refusal value.now)) }
 {

@@ -16,28 +16,28 @@ use std::alloc::Global;
 
 /// A type of which messages are made up (MS-NEGOEX, section 2.2.5).
 pub trait NegoexDataType: Wide {
-    // What the size counts beside header and payload.
+    // The bytes that the size counts besides header and payload.
     ghost spare: { ℕ };
 
-    // Where `encode` says that the payload begins.
+    // The place that `encode` gives the payload.
     ghost place: { Self → ℕ };
 
-    /// How many bytes header and payload have; the greatest `usize` where they would have more.
+    /// The length of header and payload; the greatest `usize` where it would be more.
     fn size(&self) -> usize
         ensures { result ≡ min (Self.layout.width + spare + Self.layout.payload (Self.view self.now)) (2 ^ 64 - 1) };
 
-    /// Where [`encode`](NegoexDataType::encode) says that the payload begins.
+    /// The place that [`encode`](NegoexDataType::encode) gives the payload.
     fn payload_offset(&self) -> usize
         ensures { result ≡ place self.now };
 
-    /// How many bytes the header has.
+    /// The length of the header.
     fn header_size() -> usize
         ensures { result ≡ Self.layout.width }
     {
         Self::width()
     }
 
-    /// Writes the header and right behind it the payload; a front of them where the writer stops.
+    /// Writes the header followed by the payload; a front of them where the writer stops.
     fn encode<W: Sink>(&self, alloc: Global, to: &mut W) -> Result<(), NegoexError>
         ensures written { MatchResult result
             (λ _. Appends (W.written to.old) (W.written to.new) (message_bytes Self.layout [] (Self.view self.now) (place self.now)))
@@ -53,8 +53,8 @@ pub trait NegoexDataType: Wide {
         write_value(alloc, self, self.payload_offset(), &[], to)
     }
 
-    /// Writes the header, as it is where the payload begins at `offset`, to the one and the payload to the other; gives
-    /// how many bytes the payload has. A front of either where its writer stops.
+    /// Writes the header, as it is where the payload begins at `offset`, to the one and the payload to the other; returns
+    /// the length of the payload. A front of either where its writer stops.
     fn encode_with_payload<W: Sink, D: Sink>(
         &self,
         alloc: Global,
@@ -206,7 +206,7 @@ impl NegoexDataType for Extension {
     }
 }
 
-// The size counts the four zeros that stand before the value in a message.
+// The size counts the four zeros before the value in a message.
 impl NegoexDataType for Checksum {
     ghost use Rattle.std.specs.Prelude.{refl};
     ghost use Rattle.negoex_messages.specs.Widths.{at_most_40};

@@ -11,7 +11,7 @@ use std::alloc::{AllocError, Global};
 /// A token of a scheme, or its metadata before the exchange.
 #[derive(Debug, Drop, PartialEq, Eq)]
 pub struct Exchange {
-    /// What the message begins with.
+    /// The header that the message begins with.
     pub header: MessageHeader,
     /// The scheme.
     pub auth_scheme: AuthScheme,

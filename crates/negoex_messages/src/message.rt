@@ -11,7 +11,7 @@ use std::alloc::Global;
 
 /// A message of NEGOEX.
 pub trait NegoexMessage: Wide {
-    // What stands between header and payload.
+    // The bytes between header and payload.
     ghost filler: { List ℕ };
 
     // The offset of the payload, which is the header's own length field.

@@ -15,7 +15,7 @@ pub const PROTOCOL_VERSION: u64 = 0;
 /// The schemes that a party offers.
 #[derive(Debug, Drop, PartialEq, Eq)]
 pub struct Nego {
-    /// What the message begins with.
+    /// The header that the message begins with.
     pub header: MessageHeader,
     /// Random bytes.
     pub random: [u8; RANDOM_ARRAY_SIZE],
@@ -23,7 +23,7 @@ pub struct Nego {
     pub protocol_version: u64,
     /// The schemes, the preferred one first.
     pub auth_schemes: AuthSchemeVector,
-    /// What extends the message.
+    /// The extensions of the message.
     pub extensions: ExtensionVector,
 }
 

@@ -10,7 +10,7 @@ use negoex_types::{Laid, NegoexError};
 use std::alloc::Global;
 use std::io::ErrorKind;
 
-// A header that ends too soon is answered by the device's fault, if it failed.
+// A header that ends too soon is refused by the device's fault, if it failed.
 fn cut_short(kind: ErrorKind, fault: Option<ErrorKind>) -> ErrorKind
     ensures { MatchOption fault (result ≡ kind) (λ cause. IsCutShort cause kind result) }
 {
@@ -23,7 +23,7 @@ fn cut_short(kind: ErrorKind, fault: Option<ErrorKind>) -> ErrorKind
     }
 }
 
-// The value with this header, in this message.
+// Reads the value with this header, in this message.
 fn value_of<T: Laid>(alloc: Global, header: &[u8], message: &[u8]) -> Result<T, NegoexError>
     requires { length header.now ≤ T.layout.width }
     ensures exact { Answers T.view (T.layout.read header.now message.now) result }

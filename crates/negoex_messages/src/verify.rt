@@ -11,7 +11,7 @@ use std::alloc::{AllocError, Global};
 /// A checksum over all messages so far.
 #[derive(Debug, Drop, PartialEq, Eq)]
 pub struct Verify {
-    /// What the message begins with.
+    /// The header that the message begins with.
     pub header: MessageHeader,
     /// The scheme whose key the checksum is made with.
     pub auth_scheme: AuthScheme,
@@ -125,7 +125,7 @@ impl Wide for Verify {
     }
 }
 
-// Four zeros stand before the checksum's value, and count as the header's.
+// Four zeros precede the checksum's value, and count as the header's.
 impl NegoexMessage for Verify {
     ghost use Rattle.std.specs.Prelude.{[], ◌∷◌};
 

@@ -1,4 +1,4 @@
-//! Bytes that are put behind others, and places in a message.
+//! Bytes that are appended to others, and places in a message.
 ghost use Rattle.std.specs.Prelude.{◌≡◌, ℕ, ◌+◌, ◌*◌, ◌^◌, ◌<◌, ◌≤◌, ◌++◌, take, drop, MatchResult};
 ghost use Rattle.std.specs.declared.io.ErrorKind.{ErrorKind};
 ghost use Rattle.byte_layouts.specs.Numbers.{le32};
@@ -8,14 +8,14 @@ use crate::error::NegoexError;
 use byte_layouts::u32_le_bytes;
 use std::io::ErrorKind;
 
-// So many bytes from `place` on; fewer where they end before.
+// Returns so many bytes from `place` on; fewer where they end before.
 pub(crate) fn cut_of(bytes: &[u8], place: usize, size: usize) -> &[u8]
     ensures { result.now ≡ cut place size bytes.now }
 {
     front_of(rest_of(bytes, place), size)
 }
 
-/// The first bytes; fewer where they end before.
+/// Returns the first bytes; fewer where they end before.
 pub fn front_of(bytes: &[u8], size: usize) -> &[u8]
     ensures { result.now ≡ take size bytes.now }
 {
@@ -25,7 +25,7 @@ pub fn front_of(bytes: &[u8], size: usize) -> &[u8]
     &bytes[..size]
 }
 
-// The bytes after the first.
+// Returns the bytes after the first.
 pub(crate) fn rest_of(bytes: &[u8], size: usize) -> &[u8]
     ensures { result.now ≡ drop size bytes.now }
 {
@@ -35,7 +35,7 @@ pub(crate) fn rest_of(bytes: &[u8], size: usize) -> &[u8]
     &bytes[size..]
 }
 
-/// Puts bytes that follow others; `OutOfMemory` where there is no room for them.
+/// Appends bytes to others; `OutOfMemory` where there is no room for them.
 pub fn extend(to: &mut Vec<u8>, bytes: &[u8]) -> Result<(), NegoexError>
     ensures { MatchResult result (λ _. to.new.items ≡ to.old.items ++ bytes.now) (λ e. e.kind ≡ ErrorKind.OutOfMemory) }
 {
@@ -47,7 +47,7 @@ pub fn extend(to: &mut Vec<u8>, bytes: &[u8]) -> Result<(), NegoexError>
     }
 }
 
-// Puts a number of four bytes, the lowest first.
+// Appends a number of four bytes, the lowest first.
 pub(crate) fn extend_number(to: &mut Vec<u8>, number: usize) -> Result<(), NegoexError>
     requires { number < 2 ^ 32 }
     ensures { MatchResult result (λ _. to.new.items ≡ to.old.items ++ le32 number) (λ e. e.kind ≡ ErrorKind.OutOfMemory) }
@@ -55,7 +55,7 @@ pub(crate) fn extend_number(to: &mut Vec<u8>, number: usize) -> Result<(), Negoe
     extend(to, &u32_le_bytes(number as u32))
 }
 
-/// The place behind so many things of one size, which has to be a number of 32 bits: `InvalidInput` where it isn't.
+/// Computes the place after so many elements of one size, which has to be a number of 32 bits: `InvalidInput` where it isn't.
 pub fn place_behind(place: usize, count: usize, size: usize) -> Result<usize, NegoexError>
     ensures { MatchResult result (λ behind. (behind ≡ place + count * size) × (behind < 2 ^ 32))
         (λ e. (e.kind ≡ ErrorKind.InvalidInput) × (2 ^ 32 ≤ place + count * size)) }

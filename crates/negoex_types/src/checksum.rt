@@ -11,7 +11,7 @@ use std::alloc::{AllocError, Global};
 /// A checksum over messages.
 #[derive(Debug, Drop, PartialEq, Eq)]
 pub struct Checksum {
-    /// How many bytes the checksum's own header has: 20. It isn't judged.
+    /// cbHeaderLength: the length of the checksum's own header, 20. It isn't judged.
     pub header_len: u32,
     /// [`CHECKSUM_SCHEME_RFC3961`](crate::fields::CHECKSUM_SCHEME_RFC3961). Another is written, and not read.
     pub checksum_scheme: u32,
@@ -21,7 +21,7 @@ pub struct Checksum {
     pub checksum_value: ByteVector,
 }
 
-// What stands before the checksum's value.
+// The fields before the checksum's value.
 impl Wide for (u32, (ChecksumScheme, u32)) {
     fn width() -> usize {
         12

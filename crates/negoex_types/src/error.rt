@@ -9,7 +9,7 @@ use thiserror::Error;
 #[derive(Clone, Copy, Debug, PartialEq, Eq, Error)]
 #[error("the NEGOEX message cannot be read or written: {kind}")]
 pub struct NegoexError {
-    /// What is wrong with the bytes or the value, the device's fault, or `OutOfMemory`.
+    /// The fault of the bytes or of the value, the device's fault, or `OutOfMemory`.
     pub kind: ErrorKind,
 }
 

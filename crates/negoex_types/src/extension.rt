@@ -1,4 +1,4 @@
-//! What extends a message (MS-NEGOEX, section 2.2.5.1.4).
+//! EXTENSION: the extensions of a message (MS-NEGOEX, section 2.2.5.1.4).
 ghost use Rattle.std.specs.Prelude.{◌≡◌};
 
 use crate::error::NegoexError;
@@ -7,12 +7,12 @@ use crate::leaves::ByteVector;
 use crate::pairs::put_both;
 use std::alloc::{AllocError, Global};
 
-/// What extends a message.
+/// EXTENSION: an extension of a message.
 #[derive(Debug, Drop, PartialEq, Eq)]
 pub struct Extension {
-    /// What it extends the message by.
+    /// ExtensionType: the type of the extension.
     pub extension_type: u32,
-    /// Its value.
+    /// ExtensionValue: the bytes of the extension.
     pub extension_value: ByteVector,
 }
 

@@ -8,13 +8,13 @@ use byte_layouts::{array_at, u32_le, u32_le_bytes, u64_le, u64_le_bytes};
 use std::alloc::Global;
 use std::io::ErrorKind;
 
-/// What each message begins with (MS-NEGOEX, section 2.2.3).
+/// "NEGOEXTS", the signature that each message begins with (MS-NEGOEX, section 2.2.3).
 pub const NEGOEXTS_MESSAGE_SIGNATURE: u64 = 0x5354_5845_4f47_454e;
 
 /// The only scheme of checksums (MS-NEGOEX, section 2.2.3).
 pub const CHECKSUM_SCHEME_RFC3961: u32 = 1;
 
-/// How many random bytes a message has (MS-NEGOEX, section 2.2.4).
+/// The length of a message's random bytes: 32 (MS-NEGOEX, section 2.2.4).
 pub const RANDOM_ARRAY_SIZE: usize = 32;
 
 impl Laid for u32 {

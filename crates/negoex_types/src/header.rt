@@ -1,4 +1,4 @@
-//! What each message begins with (MS-NEGOEX, section 2.2.6.2).
+//! MESSAGE_HEADER, which each message begins with (MS-NEGOEX, section 2.2.6.2).
 ghost use Rattle.std.specs.Prelude.{◌≡◌};
 
 use crate::error::NegoexError;
@@ -8,20 +8,20 @@ use crate::leaves::{AuthScheme, AuthSchemeVector, ConversationId};
 use crate::message_type::MessageType;
 use std::alloc::Global;
 
-/// What each message begins with.
+/// MESSAGE_HEADER: the fields that each message begins with.
 #[derive(Clone, Copy, Debug, PartialEq, Eq)]
 pub struct MessageHeader {
     /// [`NEGOEXTS_MESSAGE_SIGNATURE`](crate::fields::NEGOEXTS_MESSAGE_SIGNATURE). Another is written, and not read.
     pub signature: u64,
-    /// What the message is for.
+    /// MessageType: the type of the message.
     pub message_type: MessageType,
     /// The message's number in its conversation.
     pub sequence_num: u32,
-    /// How many bytes stand before the message's payload. It isn't judged.
+    /// cbHeaderLength: the count of the bytes before the message's payload. It isn't judged.
     pub header_len: u32,
-    /// How many bytes the message has. It isn't judged.
+    /// cbMessageLength: the count of the message's bytes. It isn't judged.
     pub message_len: u32,
-    /// The conversation.
+    /// ConversationId: the identifier of the conversation.
     pub conversation_id: ConversationId,
 }
 
@@ -85,14 +85,14 @@ impl Wide for (MessageHeader, AuthScheme) {
     }
 }
 
-// What stands before the vectors of an offer.
+// The fields before the vectors of an offer.
 impl Wide for (MessageHeader, ([u8; RANDOM_ARRAY_SIZE], u64)) {
     fn width() -> usize {
         80
     }
 }
 
-// What stands before the extensions.
+// The fields before the extensions.
 impl Wide
     for (
         (MessageHeader, ([u8; RANDOM_ARRAY_SIZE], u64)),

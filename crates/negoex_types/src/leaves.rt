@@ -52,13 +52,13 @@ impl Wide for u8 {
     }
 }
 
-/// What names a conversation or an authentication scheme (MS-NEGOEX, section 2.2.2).
+/// GUID: the identifier of a conversation or of an authentication scheme (MS-NEGOEX, section 2.2.2).
 pub type Guid = Uuid;
 
-/// What names a conversation.
+/// CONVERSATION_ID: the identifier of a conversation.
 pub type ConversationId = Guid;
 
-/// What names an authentication scheme.
+/// AUTH_SCHEME: the identifier of an authentication scheme.
 pub type AuthScheme = Guid;
 
 /// Schemes, as an offset and a count.

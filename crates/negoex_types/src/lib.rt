@@ -1,6 +1,6 @@
 //! Layouts of NEGOEX (MS-NEGOEX, section 2.2), and the types of which its messages are made up.
 //!
-//! A type has a header of fixed size, in which its fields stand one behind the other, and a payload, to which vectors
+//! A type has a header of fixed size, in which its fields follow one another, and a payload, to which vectors
 //! in the header point by an offset from the message's start. Pairs of fields and vectors join layouts; a struct is a row
 //! of pairs.
 #![tactic(auto)]

@@ -8,7 +8,7 @@ use byte_layouts::{u32_le, u32_le_bytes};
 use std::alloc::Global;
 use std::io::ErrorKind;
 
-/// What a message is for. The types are numbered from 0 to 7, in this order.
+/// The type of a message. The types are numbered from 0 to 7, in this order.
 #[derive(Clone, Copy, Debug, PartialEq, Eq)]
 pub enum MessageType {
     /// The initiator's schemes.
@@ -25,7 +25,7 @@ pub enum MessageType {
     ApRequest,
     /// A checksum over the messages so far.
     Verify,
-    /// That something is wrong.
+    /// An alert: the negotiation went wrong.
     Alert,
 }
 

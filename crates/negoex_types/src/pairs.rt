@@ -1,4 +1,4 @@
-//! Two fields, the second right behind the first.
+//! Two fields, of which the second follows the first.
 ghost use Rattle.std.specs.Prelude.{◌≡◌, ◌+◌, MatchResult};
 ghost use Rattle.negoex_types.specs.Form.{IsPut, IsTooLong};
 ghost use Rattle.negoex_types.specs.Pairs.{pair_layout};
@@ -8,7 +8,7 @@ use crate::error::NegoexError;
 use crate::laid::{Laid, Wide};
 use std::alloc::Global;
 
-/// Puts the first, and the second behind it, in the header and in the payload, which begins at `offset`.
+/// Appends the first and then the second to the header and to the payload, which begins at `offset`.
 pub fn put_both<A: Laid, B: Laid>(
     alloc: Global,
     first: &A,
@@ -27,7 +27,7 @@ pub fn put_both<A: Laid, B: Laid>(
     second.put(alloc, behind, header, payload)
 }
 
-/// Puts two fields, and the third behind both.
+/// Appends two fields, and then the third.
 pub fn put_three<A: Laid, B: Laid, C: Laid>(
     alloc: Global,
     first: &A,

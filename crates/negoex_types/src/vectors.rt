@@ -10,7 +10,7 @@ use byte_layouts::u32_le;
 use std::alloc::Global;
 use std::io::ErrorKind;
 
-// So many elements from `offset` on. Room is made for no element before it is read, so for no more than the message has bytes.
+// Reads so many elements from `offset` on. Room is made for no element before it is read, so for no more than the message has bytes.
 fn read_elements<T: Wide + Drop>(
     alloc: Global,
     message: &[u8],
@@ -37,7 +37,7 @@ fn read_elements<T: Wide + Drop>(
     Ok(elements)
 }
 
-// Puts the elements' headers behind `headers`, and gives their payloads, which begin at `first`.
+// Appends the elements' headers to `headers`, and returns their payloads, which begin at `first`.
 fn put_elements<T: Laid>(
     alloc: Global,
     elements: &[T],
@@ -59,7 +59,7 @@ fn put_elements<T: Laid>(
     Ok(put)
 }
 
-// The sum of the elements' payloads behind so many bytes, up to the greatest `usize`.
+// Adds the lengths of the elements' payloads to so many bytes, up to the greatest `usize`.
 fn sum_payloads<T: Laid>(elements: &[T], before: usize) -> usize
     ensures { result ≡ min (before + payloads T.layout (map T.view elements.now)) (2 ^ 64 - 1) }
 {

@@ -1,4 +1,4 @@
-//! A buffer of a PAC: its row and its content.
+//! A buffer of a PAC: its PAC_INFO_BUFFER and its content (MS-PAC, section 2.4).
 ghost use Rattle.std.specs.Prelude.{◌≡◌, ◌+◌, ◌≤◌, ◌<◌, ◌^◌, length, None, Ok, Err, IfOk, IfErr, MatchResult};
 ghost use Rattle.byte_layouts.specs.Parts.{put_all};
 ghost use Rattle.pac_layouts.specs.Buffers.{buffer_of, one_buffer_parts, IsSized};
@@ -12,7 +12,7 @@ use byte_layouts::put_at;
 use std::alloc::{AllocError, Global};
 use std::io::ErrorKind;
 
-/// A buffer of a PAC.
+/// A buffer of a PAC: its PAC_INFO_BUFFER, the row of the table, and its content.
 #[derive(Debug, Drop, PartialEq, Eq)]
 pub struct PacBuffer {
     info_buffer: PacInfoBuffer,
@@ -31,7 +31,7 @@ impl Clone for PacBuffer {
     }
 }
 
-// The buffer that this row speaks of. It may end at the last of the bytes; where it ends past them, `stop` says why.
+// Reads the content of a row. It may end at the last of the bytes; where it ends past them, `stop` says why.
 fn read_content(
     alloc: Global,
     bytes: &[u8],
@@ -54,7 +54,7 @@ fn read_content(
 }
 
 impl PacBuffer {
-    /// The buffer of this row and this content.
+    /// Makes the buffer of this row and this content.
     pub fn new(info_buffer: PacInfoBuffer, bytes: Vec<u8>) -> PacBuffer
         ensures { buffer_of result ≡ record { info = info_buffer; content = bytes.items } }
     {
@@ -64,14 +64,14 @@ impl PacBuffer {
         }
     }
 
-    /// Its row.
+    /// The buffer's row.
     pub fn info_buffer(&self) -> PacInfoBuffer
         ensures { result ≡ (buffer_of self.now).info }
     {
         self.info_buffer
     }
 
-    /// Its content.
+    /// The buffer's content.
     pub fn data(&self) -> &[u8]
         ensures { result.now ≡ (buffer_of self.now).content }
     {
@@ -113,7 +113,7 @@ impl PacBuffer {
         Ok(())
     }
 
-    // The buffer whose row is at `place`.
+    // Reads the buffer whose row is at `place`.
     pub(crate) fn read(
         alloc: Global,
         bytes: &[u8],
@@ -127,7 +127,7 @@ impl PacBuffer {
         read_content(alloc, bytes, info, stop)
     }
 
-    // How many bytes of a PAC it takes: its row, and its size rounded up to 8.
+    // Computes the bytes that the buffer takes: its row, and its size rounded up to 8.
     pub(crate) fn room(&self) -> usize
         ensures size { result ≡ room_of (buffer_of self.now) }
         ensures fit { ((buffer_of self.now).info.cb_buffer_size < 2 ^ 32) × ((buffer_of self.now).info.offset < 2 ^ 64) }
@@ -137,7 +137,7 @@ impl PacBuffer {
         INFO_LEN + (self.info_buffer.cb_buffer_size() as usize + 7) / 8 * 8
     }
 
-    // Whether it has its row's size, and ends within `size` bytes.
+    // Judges that the content has its row's size, and ends within `size` bytes.
     pub(crate) fn is_sized(&self, size: usize) -> bool
         ensures { result ≡ is_sized size (buffer_of self.now) }
     {

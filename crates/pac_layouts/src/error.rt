@@ -12,11 +12,11 @@ use thiserror::Error;
 /// Why a PAC was not read or written.
 #[derive(Debug, Drop, Error)]
 pub enum PacError {
-    /// A version that isn't 0. No call returns it: see `InvalidVersion`.
+    /// The version isn't 0. No call returns this: see `InvalidVersion`.
     #[error("the version must be 0, but it is {0}")]
     Version(u32),
 
-    /// A number that is no buffer's type.
+    /// The ulType is unknown: this number.
     #[error("invalid PAC buffer type: {0}")]
     PacBufferType(u32),
 
@@ -24,7 +24,7 @@ pub enum PacError {
     #[error("unable to read or write bytes: {0}")]
     IoError(ErrorKind),
 
-    /// The version that is in place of 0.
+    /// The version isn't 0: this number.
     #[error("invalid version: expected 0, but got {0}")]
     InvalidVersion(u32),
 
@@ -60,7 +60,7 @@ impl From<io::Error> for PacError {
     }
 }
 
-// What is answered where bytes are missing: the fault of the device that stopped, or that they end.
+// Returns the fault where bytes are missing: that of the device that stopped, or that they end.
 pub(crate) fn short_fault(stop: Option<ErrorKind>) -> PacError
     ensures { result ≡ short_of stop }
 {
@@ -70,7 +70,7 @@ pub(crate) fn short_fault(stop: Option<ErrorKind>) -> PacError
     }
 }
 
-// What is answered where a buffer ends past the bytes.
+// Returns the fault of a buffer that ends past the bytes.
 pub(crate) fn range_fault(stop: Option<ErrorKind>) -> PacError
     ensures { result ≡ range_of stop }
 {
@@ -80,7 +80,7 @@ pub(crate) fn range_fault(stop: Option<ErrorKind>) -> PacError
     }
 }
 
-// The fault of a write that stopped.
+// Returns the fault of a write that stopped.
 pub(crate) fn write_fault(fault: WholeFault) -> PacError
     ensures { result ≡ of_whole_fault fault }
 {

@@ -1,4 +1,4 @@
-//! A row of a PAC's table: what a buffer holds, how long it is and where it stands (MS-PAC, section 2.4).
+//! PAC_INFO_BUFFER, a row of a PAC's table: the type, the size and the offset of a buffer (MS-PAC, section 2.4).
 ghost use Rattle.std.specs.Prelude.{◌≡◌, ℕ, ◌+◌, ◌≤◌, ◌⊎◌, List, length, take, None, Err, IfOk, IfErr, IfSome, MatchResult};
 ghost use Rattle.std.specs.Io.KnownBytes.{Consumes, Appends};
 ghost use Rattle.byte_layouts.specs.Parts.{IsLaidOut, put_all};
@@ -13,10 +13,10 @@ use byte_layouts::{put_at, read_front, u32_le, u32_le_bytes, u64_le, u64_le_byte
 use byte_streams::{Sink, Source, write_whole};
 use std::io::ErrorKind;
 
-/// How many bytes a row of the table has.
+/// The length of a PAC_INFO_BUFFER: 16 bytes.
 pub(crate) const INFO_LEN: usize = 16;
 
-/// A row of the table.
+/// PAC_INFO_BUFFER, a row of the table.
 #[derive(Clone, Copy, Debug, PartialEq, Eq)]
 pub struct PacInfoBuffer {
     ul_type: PacBufferType,
@@ -24,7 +24,7 @@ pub struct PacInfoBuffer {
     offset: u64,
 }
 
-// What the buffer whose row is at `place` holds.
+// Reads ulType of the row at `place`.
 fn read_kind(bytes: &[u8], place: usize, stop: Option<ErrorKind>) -> Result<PacBufferType, PacError>
     ensures { result ≡ kind_at stop place bytes.now }
 {
@@ -34,7 +34,7 @@ fn read_kind(bytes: &[u8], place: usize, stop: Option<ErrorKind>) -> Result<PacB
     PacBufferType::try_from(u32_le(bytes, place))
 }
 
-// The fields after the type, of the row at `place`.
+// Reads the fields after ulType, of the row at `place`.
 fn read_fields(
     kind: PacBufferType,
     bytes: &[u8],
@@ -54,7 +54,7 @@ fn read_fields(
 }
 
 impl PacInfoBuffer {
-    /// The row of a buffer of this type, with so many bytes, that begins so many bytes after the PAC's first.
+    /// Makes the row of a buffer of this type, size and offset from the PAC's first byte.
     pub fn new(ul_type: PacBufferType, cb_buffer_size: u32, offset: u64) -> PacInfoBuffer
         ensures { result ≡ record { ul_type = ul_type; cb_buffer_size = cb_buffer_size; offset = offset } }
     {
@@ -65,28 +65,28 @@ impl PacInfoBuffer {
         }
     }
 
-    /// What the buffer holds.
+    /// ulType: the type of the buffer.
     pub fn ul_type(&self) -> PacBufferType
         ensures { result ≡ self.now.ul_type }
     {
         self.ul_type
     }
 
-    /// How many bytes it has.
+    /// cbBufferSize: the count of the buffer's bytes.
     pub fn cb_buffer_size(&self) -> u32
         ensures { result ≡ self.now.cb_buffer_size }
     {
         self.cb_buffer_size
     }
 
-    /// Where it begins, in bytes from the PAC's first.
+    /// Offset: the place of the buffer, in bytes from the PAC's first.
     pub fn offset(&self) -> u64
         ensures { result ≡ self.now.offset }
     {
         self.offset
     }
 
-    // The row at `place`; where it isn't all there, `stop` says why.
+    // Reads the row at `place`; where bytes are missing, `stop` says why.
     pub(crate) fn read(
         bytes: &[u8],
         place: usize,
@@ -110,7 +110,7 @@ impl PacInfoBuffer {
         put_at(bytes, place + 8, &u64_le_bytes(self.offset));
     }
 
-    // Its 16 bytes.
+    // Encodes the row in its 16 bytes.
     fn bytes(&self) -> [u8; INFO_LEN]
         ensures { IsInfo self.now result }
     {

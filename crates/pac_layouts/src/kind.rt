@@ -1,10 +1,10 @@
-//! What a buffer of a PAC holds (MS-PAC, section 2.4).
+//! The types of buffers of a PAC (MS-PAC, section 2.4).
 ghost use Rattle.std.specs.Prelude.{◌≡◌};
 ghost use Rattle.pac_layouts.specs.Kinds.{kind_number, kind_judged};
 
 use crate::PacError;
 
-/// What a buffer holds (`ulType`).
+/// The type of a buffer (ulType).
 #[derive(Clone, Copy, Debug, PartialEq, Eq)]
 pub enum PacBufferType {
     /// Logon information.
@@ -22,7 +22,7 @@ pub enum PacBufferType {
     /// The client's name and the time of its ticket.
     ClientInfo,
 
-    /// Who delegated to whom.
+    /// Constrained delegation information.
     ConstrainedDelegationInformation,
 
     /// The user's principal name and the domain's DNS name.

@@ -15,7 +15,7 @@ use byte_streams::{Sink, Source, write_whole};
 use std::alloc::{AllocError, Global};
 use std::io::ErrorKind;
 
-// How many bytes stand before the table: the count of buffers and the version.
+// The length of the bytes before the table: cBuffers and Version.
 const HEAD_LEN: usize = 8;
 
 /// A PAC.
@@ -33,7 +33,7 @@ impl Clone for Pac {
     }
 }
 
-// How many buffers there are.
+// Reads cBuffers, the count of buffers.
 fn read_head(bytes: &[u8], stop: Option<ErrorKind>) -> Result<u32, PacError>
     ensures exact { result ≡ head_at stop bytes.now }
     ensures room { IfOk result (λ _. 8 ≤ length bytes.now) }
@@ -55,7 +55,7 @@ fn keep(buffers: &mut Vec<PacBuffer>, buffer: PacBuffer) -> Result<(), AllocErro
     Ok(())
 }
 
-// The buffers. Room is made for those alone whose rows are there, whatever the count is: for at most one in 16 bytes.
+// Reads the buffers. Room is made for those alone whose rows are there, whatever the count is: for at most one in 16 bytes.
 fn read_buffers(
     alloc: Global,
     bytes: &[u8],
@@ -74,7 +74,7 @@ fn read_buffers(
     Ok(buffers)
 }
 
-// The PAC that these bytes hold.
+// Reads a PAC from these bytes.
 fn read_pac(alloc: Global, bytes: &[u8], stop: Option<ErrorKind>) -> Result<Pac, PacError>
     ensures exact { Gives pac_buffers result (pac_at stop bytes.now) }
     ensures laid { IfOk result (λ p. IsPac (pac_buffers p) bytes.now) }
@@ -83,7 +83,7 @@ fn read_pac(alloc: Global, bytes: &[u8], stop: Option<ErrorKind>) -> Result<Pac,
     Ok(Pac { buffers })
 }
 
-// How many bytes a PAC with these buffers has; none where that is past what memory holds.
+// Computes the length of a PAC with these buffers; none where that is past what memory holds.
 fn size_of(buffers: &[PacBuffer]) -> Option<usize>
     ensures size { IfSome result (λ n. n ≡ pac_size (map buffer_of buffers.now)) }
     ensures fit { IfSome result (λ _. FieldsFit (map buffer_of buffers.now)) }
@@ -101,7 +101,7 @@ fn are_sized(buffers: &[PacBuffer], size: usize) -> bool
     buffers.iter().all(|buffer| buffer.is_sized(size))
 }
 
-// How many buffers there are, where each is of its size and within `size` bytes.
+// Counts the buffers, where each is of its size and within `size` bytes.
 fn count_sized(buffers: &[PacBuffer], size: usize) -> Result<u32, PacError>
     ensures { result ≡ counted size (map buffer_of buffers.now) }
 {
@@ -154,21 +154,21 @@ impl Pac {
     ghost use Rattle.pac_layouts.specs.Refusals.{IsRefusal, IsExcuse, TellsPac};
     ghost use Rattle.pac_layouts.specs.Writing.{IsWriteRefusal};
 
-    /// A PAC of these buffers.
+    /// Makes a PAC of these buffers.
     pub fn new(buffers: Vec<PacBuffer>) -> Pac
         ensures { pac_buffers result ≡ map buffer_of buffers.items }
     {
         Pac { buffers }
     }
 
-    /// Its buffers.
+    /// The PAC's buffers.
     pub fn buffers(&self) -> &[PacBuffer]
         ensures { map buffer_of result.now ≡ pac_buffers self.now }
     {
         &self.buffers
     }
 
-    // Its bytes.
+    // Encodes the PAC.
     fn bytes(&self, alloc: Global) -> Result<Vec<u8>, PacError>
         ensures exact { Gives (λ v. v.items) result (pac_written (pac_buffers self.now)) }
         ensures fit { IfOk result (λ _. AllFit (pac_buffers self.now)) }
@@ -233,8 +233,8 @@ impl Pac {
     }
 }
 
-/// The law that reading gives back what was written, of buffers whose numbers fit their fields and whose contents lie
-/// behind the table, apart from each other and inside the bytes.
+/// The law that reading gives back what was written, of buffers whose numbers fit their fields and whose contents
+/// follow the table, don't overlap and are inside the bytes.
 pub fn written_is_read()
     ensures { (bs : List Buffer) (out : List ℕ) → AllFit bs → ArePlaced bs → pac_written bs ≡ Ok out → pac_at None out ≡ Ok bs }
 {}

@@ -5,10 +5,10 @@ use Rattle.gss_acceptor.proofs.token.content_of.Goals as goal
 pub returns-in-Err : goal.returns-in-Err
 returns-in-Err c = no_element c.args.token.now c.in-Err.ensures.0
 
-pub returns-then-from-ne-TOKEN : goal.returns-then-from-ne-TOKEN
-returns-then-from-ne-TOKEN c =
+pub returns-then-from-ne-INITIAL_TOKEN : goal.returns-then-from-ne-INITIAL_TOKEN
+returns-then-from-ne-INITIAL_TOKEN c =
     let same : c.from.result ≡ c.in-Ok.split.0.first = cc (c.from.ensures, c.tag.ensures) in
-    other_element c.args.token.now c.in-Ok.split.0.first c.from.result c.in-Ok.split.0.content c.in-Ok.split.1.now c.in-Ok.ensures.split.1 same c.if-from-ne-TOKEN.true
+    other_element c.args.token.now c.in-Ok.split.0.first c.from.result c.in-Ok.split.0.content c.in-Ok.split.1.now c.in-Ok.ensures.split.1 same c.if-from-ne-INITIAL_TOKEN.true
 
 pub returns : goal.returns
 returns c =
