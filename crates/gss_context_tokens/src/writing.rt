@@ -11,6 +11,7 @@ use crate::content::token_fault;
 use byte_layouts::write_bytes;
 use byte_streams::Sink;
 use gss_message_tokens::GssApiMessageError;
+use krb_constants::gss_api::INITIAL_TOKEN;
 use picky_asn1::wrapper::{ObjectIdentifierAsn1, OctetStringAsn1};
 use picky_asn1_der::{Retagged, Serialize, to_byte_buf, to_vec};
 use std::alloc::Global;
