@@ -8,7 +8,7 @@ mod integrity;
 #[cfg(test)]
 mod negoex;
 #[cfg(test)]
-mod negoex_types;
+mod negoex_values;
 #[cfg(test)]
 mod pac;
 #[cfg(test)]
