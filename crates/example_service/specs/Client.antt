@@ -16,8 +16,8 @@ abbrev pub client_in : Result AdmissionRecord AdmitRefusal → Result PrincipalN
 client_in (Ok admission) = Ok admission.client
 client_in (Err refusal) = Err refusal
 
--- the answer tells the client of what the service answered. Whatever list of admitted pairs it held the window of, that is an answer of
--- the service that remembers all of them, so it admits none twice
+-- the service gave some answer, and this is the client in it. It is the answer of a service that remembers every admitted pair, whatever
+-- list of pairs the replay cache is the window of: so no request of a client and time is admitted twice
 abbrev pub IsClient : ServiceRecord → Bytes → Micros → Random → Result PrincipalName AdmitRefusal → ServiceRecord → Type 0
 IsClient old request moment words result new = (answer : Result AdmissionRecord AdmitRefusal) × (result ≡ client_in answer)
     × ((admitted : List PairRecord) → IsWindow old.seen admitted
