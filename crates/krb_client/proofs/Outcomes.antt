@@ -1,7 +1,7 @@
 -- What a table gives by what its first row says.
-use Rattle.std.proofs.Common.{◌≡◌, Bool, true, false, Result, Ok, Err, inl, inr, refl}
+use Rattle.std.proofs.Common.{◌≡◌, Bool, true, false, Option, None, Some, Result, Ok, Err, inl, inr, refl, subst, sym}
 use Rattle.decision_tables.specs.One.{IsSole}
-use Rattle.decision_tables.specs.Tables.{Table, and_then, ask, refuse}
+use Rattle.decision_tables.specs.Tables.{Table, and_then, ask, need, refuse}
 use Rattle.krb_client.specs.Refusals.{IsTaken}
 use Rattle.krb_client.specs.declared.refusal.TakeRefusal.{TakeRefusal}
 use Rattle.krb_client.specs.declared.refusal.TakeRefusal.TheVariants.{Memory, NotAsked, NotSealed, NotTrusted, Refused, Unreadable}
@@ -11,6 +11,12 @@ pub passed : {T : Type 0} (case : Bool) (refusal : TakeRefusal) (rest : Table (R
     → case ≡ false → IsTaken rest taken → IsTaken (refuse case refusal rest) taken
 passed true refusal rest taken e given = absurd (cc (e))
 passed false refusal rest taken e given = given
+
+-- the value is there
+pub needed : {A T : Type 0} (own : Option A) (refusal : TakeRefusal) (rest : A → Table (Result T TakeRefusal)) (taken : Result T TakeRefusal) (a : A)
+    → own ≡ Some a → IsTaken (rest a) taken → IsTaken (need own refusal rest) taken
+needed None refusal rest taken a e given = absurd (cc (e))
+needed {A} (Some b) refusal rest taken a e given = let same : b ≡ a = cc (e) in subst (λ (x : A). IsTaken (rest x) taken) (sym same) given
 
 -- a value has the property
 pub found : {A T : Type 0} (P : A → Type 0) (sole : IsSole P) (otherwise : Table (Result T TakeRefusal)) (rest : A → Table (Result T TakeRefusal)) (taken : Result T TakeRefusal) (a : A)
