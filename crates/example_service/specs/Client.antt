@@ -16,9 +16,9 @@ abbrev pub client_in : Result AdmissionRecord AdmitRefusal → Result PrincipalN
 client_in (Ok admission) = Ok admission.client
 client_in (Err refusal) = Err refusal
 
--- the service gave some answer, and this is the client in it. It is the answer of a service that remembers every admitted pair, whatever
--- list of pairs the replay cache is the window of: so no request of a client and time is admitted twice
+-- of whatever list of admitted pairs the service holds the window: the answer has the client of an answer of the service that
+-- remembers all of them, and so none is admitted twice
 abbrev pub IsClient : ServiceRecord → Bytes → Micros → Random → Result PrincipalName AdmitRefusal → ServiceRecord → Type 0
-IsClient old request moment words result new = (answer : Result AdmissionRecord AdmitRefusal) × (result ≡ client_in answer)
-    × ((admitted : List PairRecord) → IsWindow old.seen admitted
-        → IsStep (remembering old (max old.seen.greatest moment) admitted request words).gives admitted answer new.seen)
+IsClient old request moment words result new = (admitted : List PairRecord) → IsWindow old.seen admitted
+    → (answer : Result AdmissionRecord AdmitRefusal) × IsStep (remembering old (max old.seen.greatest moment) admitted request words).gives admitted answer new.seen
+    × (result ≡ client_in answer)
