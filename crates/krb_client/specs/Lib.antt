@@ -15,4 +15,3 @@ pub mod AsReply
 pub mod TgsReply
 pub mod ApReply
 pub mod Asked
-pub mod Answers

@@ -15,7 +15,7 @@ use Rattle.picky_asn1.specs.Numbers.{is_number}
 use Rattle.picky_asn1.specs.Bytes.{Bytes}
 use Rattle.decision_tables.specs.One.{IsSole}
 use Rattle.decision_tables.specs.Tables.{Table, ask, done, need, refuse}
-use Rattle.krb_client.specs.Answers.{is_answer}
+use Rattle.krb_reply_match.specs.Answers.{is_answer}
 use Rattle.krb_client.specs.Client.{ClientRecord, CredentialRecord}
 use Rattle.krb_client.specs.Messages.{IsErrorCode, sole_error_code}
 use Rattle.krb_client.specs.declared.refusal.TakeRefusal.{TakeRefusal}

@@ -4,7 +4,6 @@
 #![tactic(auto)]
 
 mod agreement;
-mod answer;
 mod ap_reply;
 mod ap_request;
 mod as_reply;
@@ -25,7 +24,6 @@ mod tgs_reply;
 mod tgs_request;
 
 pub use agreement::agreement_part;
-pub use answer::is_answer;
 pub use asked::{ApAsked, AsAsked, TgsAsked};
 pub use by_key::ByKey;
 pub use client::Client;

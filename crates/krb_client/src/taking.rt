@@ -1,16 +1,16 @@
 //! Taking replies: the rules that their kinds have in common.
 ghost use Rattle.std.specs.Prelude.{◌≡◌};
-ghost use Rattle.krb_client.specs.Answers.{is_answer};
+ghost use Rattle.krb_reply_match.specs.Answers.{is_answer};
 ghost use Rattle.krb_client.specs.Refusals.{IsTaken};
 ghost use Rattle.krb_client.specs.Taking.{is_of_type, takes_part};
 
-use crate::answer::is_answer;
 use crate::client::Client;
 use crate::credential::Credential;
 use crate::refusal::TakeRefusal;
 use krb_constants::types::KERBEROS_VERSION;
 use krb_encrypted_data::key_of;
 use krb_messages::messages::{EncKdcRepPart, KdcRep};
+use krb_reply_match::is_answer;
 use picky_asn1::is_number;
 use picky_asn1::wrapper::{GeneralStringAsn1, IntegerAsn1};
 

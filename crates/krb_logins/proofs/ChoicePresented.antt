@@ -28,7 +28,7 @@ use Rattle.krb_encrypted_data.specs.Keys.{suite_of}
 use Rattle.krb_encrypted_data.specs.Sealing.{encrypted_by}
 use Rattle.krb_ap_requests.specs.Presents.{Presents}
 use Rattle.krb_ap_requests.proofs.Shown.{request-outer}
-use Rattle.krb_client.specs.Answers.{is_answer}
+use Rattle.krb_reply_match.specs.Answers.{is_answer}
 use Rattle.krb_client.specs.Asked.{AsAskedRecord, TgsAskedRecord}
 use Rattle.krb_client.specs.ApRequest.{presented_subkey}
 use Rattle.krb_client.specs.AsReply.{takes_as_reply, takes_reply, takes_sealed}

@@ -22,7 +22,7 @@ use Rattle.krb_tickets.specs.Grant.{GrantRecord}
 use Rattle.krb_tickets.specs.declared.reply.Exchange.{Exchange}
 use Rattle.krb_tickets.specs.Parts.{kdc_reply_of, reply_part, session_key_of, ticket_of, ticket_part}
 use Rattle.krb_tickets.specs.Sealed.{IsSealedData, ticket_part_bytes}
-use Rattle.krb_client.specs.Answers.{is_answer}
+use Rattle.krb_reply_match.specs.Answers.{is_answer}
 use Rattle.krb_client.specs.Client.{ClientRecord, CredentialRecord}
 use Rattle.krb_client.specs.Taking.{Taken, credential_of, takes_part}
 use Rattle.krb_client.specs.declared.refusal.TakeRefusal.{TakeRefusal}

@@ -6,7 +6,8 @@ use Rattle.krb_types.specs.Names.{components, is_same_name, is_same_realm}
 use Rattle.picky_asn1.specs.Numbers.{is_number}
 use Rattle.picky_asn1.specs.Bytes.{Bytes}
 
--- the opened part has the request's nonce, the reply names the client, and the part the service, in the client's realm
+-- The opened part has the request's nonce. The reply names the client, and the part the service, in the client's realm (RFC 4120,
+-- sections 3.1.5 and 3.3.4).
 unfoldable pub is_answer : Bytes → List Bytes → List Bytes → ℕ → KdcRep → EncKdcRepPart → Bool
 is_answer realm client service nonce reply part =
     is_number nonce part.nonce.0

@@ -1,6 +1,6 @@
 //! Which reply of a KDC answers a request.
 ghost use Rattle.std.specs.Prelude.{◌≡◌};
-ghost use Rattle.krb_client.specs.Answers.{is_answer};
+ghost use Rattle.krb_reply_match.specs.Answers.{is_answer};
 
 use krb_messages::messages::{EncKdcRepPart, KdcRep};
 use krb_types::{is_same_name, is_same_realm};
