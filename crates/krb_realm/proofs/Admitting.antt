@@ -5,25 +5,23 @@ use Rattle.krb_types.specs.declared.data_types.encryption_key.EncryptionKey.{Enc
 use Rattle.krb_encrypted_data.specs.Sealing.{encryption_key}
 use Rattle.krb_service.specs.Pair.{PairRecord}
 use Rattle.krb_service.specs.Seen.{SeenRecord, IsWindow}
-use Rattle.pkinit_interface.specs.Rows.{PkinitRows}
 use Rattle.krb_service.specs.Admission.{AdmissionRecord}
 use Rattle.krb_ap_requests.specs.declared.refusal.AdmitRefusal.{AdmitRefusal}
 use Rattle.krb_ap_requests.specs.declared.refusal.AdmitRefusal.TheVariants as admit_refusal
 use Rattle.krb_client.specs.Asked.{ApAskedRecord}
 use Rattle.krb_client.specs.ApReply.{takes_ap_reply}
 use Rattle.krb_client.specs.Client.{ClientRecord, CredentialRecord}
-use Rattle.krb_client.specs.Means.{MeansRecord}
 use Rattle.krb_client.specs.Refusals.{IsTaken}
 use Rattle.krb_client.specs.declared.refusal.TakeRefusal.{TakeRefusal}
 use Rattle.krb_client.specs.declared.refusal.TakeRefusal.TheVariants as take_refusal
 use Rattle.krb_service.specs.RememberingService.{IsStep, remembering}
 use Rattle.krb_service.specs.Service.{ServiceRecord}
-use Rattle.krb_logins.specs.LoginRun.{ApExchange, Exchanges, IsAdmitted, Login, LoginRun, after_admission}
-use Rattle.krb_logins.specs.Parties.{LoginRecord, RealmRecord, RememberedRecord}
+use Rattle.krb_logins.specs.LoginRun.{ApExchange, IsAdmitted, Login, after_admission}
+use Rattle.krb_logins.specs.Parties.{LoginRecord, RememberedRecord}
 use Rattle.krb_logins.specs.Steps.{reply_bytes}
 use Rattle.krb_logins.specs.declared.refusal.LoginRefusal.{LoginRefusal}
 use Rattle.krb_logins.specs.declared.refusal.LoginRefusal.TheVariants.{Admitted, Taken}
-use Rattle.krb_realm.specs.Logins.{Admit, ApAsk, Keyed, Made, Remembers, Show, remembered}
+use Rattle.krb_realm.specs.ApExchanges.{Admit, ApAsk, Keyed, Made, Remembers, Show, remembered}
 
 -- the service's step
 module _ (service : ServiceRecord) (login : LoginRecord) (request : Bytes) (admitted : List PairRecord) (seen : SeenRecord) (raised : seen.greatest ≡ max service.seen.greatest login.service_ap) where
@@ -101,15 +99,3 @@ module _ (client : ClientRecord) (service : ServiceRecord) (login : LoginRecord)
       unfolding Keyed Show
       ap_keyed (Ok made) x = ap_taken (Ok made) (inl (tt, x.0.0, λ i. Ok (x.0.1 i, x.1 i)))
       ap_keyed (Err refusal) x = ap_taken (Err refusal) (inr (x.0, x.1, ap Err x.2))
-
--- the login
-module _ (client : ClientRecord) (means : MeansRecord) (realm : RealmRecord) (rows : PkinitRows) (service : ServiceRecord) (login : LoginRecord) (before : RememberedRecord) (seen : SeenRecord) (result : Result Login LoginRefusal) where
-  pub no_credential : (refusal : LoginRefusal) → Exchanges client means realm rows login (Err refusal) → result ≡ Err refusal → IsWindow seen before.admitted → seen.greatest ≡ before.greatest
-      → Remembers seen (LoginRun client means realm rows service login before result)
-  unfolding LoginRun
-  no_credential refusal x same window greatest = (before, inr (refusal, x, same, refl), window, greatest)
-
-  pub by_credential : (credential : CredentialRecord) → Exchanges client means realm rows login (Ok credential) → Remembers seen (ApExchange client service login credential before result)
-      → Remembers seen (LoginRun client means realm rows service login before result)
-  unfolding LoginRun
-  by_credential credential x y = (y.0, inl (credential, x, y.1), y.2, y.3)

@@ -1,5 +1,5 @@
 -- The exchanges of a login with the realm, by the steps of one call.
-use Rattle.std.proofs.Common.{◌≡◌, Result, Ok, Err, IsErrAnd, MatchResult, inl, inr, subst, sym, ap, refl, ◌∙◌}
+use Rattle.std.proofs.Common.{◌≡◌, Result, Ok, Err, inl, inr, subst, ap, refl, ◌∙◌}
 use Rattle.picky_asn1.specs.Bytes.{Bytes}
 use Rattle.decision_tables.specs.Tables.{Table}
 use Rattle.krb_kdc_requests.specs.Call.{CallRecord}
@@ -18,19 +18,8 @@ use Rattle.krb_logins.specs.Parties.{LoginRecord, RealmRecord, call_at}
 use Rattle.krb_logins.specs.Steps.{IsAnswered, IsAsAsked, IsTgsAsked}
 use Rattle.krb_logins.specs.declared.refusal.LoginRefusal.{LoginRefusal}
 use Rattle.krb_logins.specs.declared.refusal.LoginRefusal.TheVariants.{Answered, Asked, Taken}
-use Rattle.krb_realm.specs.Logins.{Answer, AsAsk, AsTake, Made, TgsAsk, TgsTake, sent_as, IsStep}
-
--- what the exit of a `?` returns
-pub exit_of : {T : Type 0} (result : Result T LoginRefusal) (refusal : LoginRefusal) → IsErrAnd result (λ y. y ≡ refusal) → result ≡ Err refusal
-exit_of (Ok made) refusal is = absurd is
-exit_of (Err other) refusal is = ap Err is
-
--- what `map_err` returns
-pub told_as : {A E : Type 0} (own : E → LoginRefusal) (result : Result A E) (told : Result A LoginRefusal) → MatchResult result (λ made. told ≡ Ok made) (λ cause. IsErrAnd told (λ refusal. refusal ≡ own cause))
-    → (Is : Result A LoginRefusal → Type 0) → ((made : A) → result ≡ Ok made → Is (Ok made)) → ((cause : E) → result ≡ Err cause → Is (Err (own cause))) → Is told
-told_as own (Ok made) told is Is ok err = subst Is (sym is) (ok made refl)
-told_as own (Err cause) (Err refusal) is Is ok err = subst (λ r. Is (Err r)) (sym is) (err cause refl)
-told_as own (Err cause) (Ok made) is Is ok err = absurd is
+use Rattle.krb_realm.specs.ApExchanges.{IsStep, Made, sent_as}
+use Rattle.krb_realm.specs.Logins.{Answer, AsAsk, AsTake, TgsAsk, TgsTake}
 
 -- the last step
 step_ended : {V E : Type 0} (does : Result V E → Type 0) (own : E → LoginRefusal) (result : Result V LoginRefusal) → IsStep (λ made. made) does own result → followed does own ended result

@@ -1,5 +1,7 @@
 mod Exchanges
 mod Admitting
+mod StepEnds
+mod LoginEnds
 mod GrantingRealms
 mod HonestParties
 mod KeyedLogins

@@ -1,3 +1,4 @@
 pub mod Clients
 pub mod HeldClients
 pub mod Logins
+pub mod ApExchanges

@@ -4,7 +4,8 @@ ghost use Rattle.krb_crypto.specs.Keys.{KeyRecord};
 ghost use Rattle.krb_logins.specs.Honest.{IsHonestByPassword};
 ghost use Rattle.krb_logins.specs.Input.{login_of};
 ghost use Rattle.krb_realm.specs.Clients.{ByKey};
-ghost use Rattle.krb_realm.specs.Logins.{realm_record, remembered};
+ghost use Rattle.krb_realm.specs.ApExchanges.{remembered};
+ghost use Rattle.krb_realm.specs.Logins.{realm_record};
 
 use crate::client::Client;
 use crate::client_means::Held;

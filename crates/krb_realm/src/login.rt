@@ -1,34 +1,32 @@
 //! Whole logins.
-ghost use Rattle.std.specs.Prelude.{◌≡◌, ◌≤◌, List, length, IfOk, Result};
+ghost use Rattle.std.specs.Prelude.{◌≡◌, ◌≤◌, List, length, Result};
 ghost use Rattle.picky_asn1.specs.Bytes.{Bytes};
 ghost use Rattle.krb_logins.specs.Input.{login_of};
 ghost use Rattle.krb_logins.specs.Honest.{AreEnough, IsHonestByPassword, IsOneKey};
-ghost use Rattle.krb_logins.specs.LoginRun.{ApExchange, AsExchange, Exchanges, Login, LoginRun, TgsExchange};
+ghost use Rattle.krb_logins.specs.LoginRun.{AsExchange, Exchanges, Login, LoginRun, TgsExchange};
 ghost use Rattle.krb_logins.specs.Parties.{RememberedRecord, call_at};
-ghost use Rattle.krb_logins.specs.Steps.{reply_bytes};
 ghost use Rattle.krb_service.specs.Pair.{PairRecord};
 ghost use Rattle.krb_service.specs.Seen.{IsWindow};
-ghost use Rattle.krb_realm.specs.Logins.{Admit, Answer, ApAsk, AsAsk, AsTake, Keyed, Remembers, Show, TgsAsk, TgsTake, realm_record, realm_rows, remembered};
+ghost use Rattle.krb_realm.specs.ApExchanges.{Remembers, remembered};
+ghost use Rattle.krb_realm.specs.Logins.{Answer, AsAsk, AsTake, TgsAsk, TgsTake, realm_record, realm_rows};
 ghost use Rattle.krb_realm.specs.Clients.{ByCertificate, ByKey, means_of};
 ghost use Rattle.key_functions.specs.KeyFunctions.{no_functions};
 ghost use Rattle.krb_crypto.specs.Keys.{KeyRecord};
-ghost use Rattle.krb_encrypted_data.specs.Sealing.{encryption_key};
 ghost use Rattle.pkinit_logins.specs.HonestByCertificate.{IsHonestByCertificate};
 ghost use Rattle.pkinit_trust.specs.Anchors.{AnchorRecord};
 
 use crate::client::Client;
+use crate::presenting::ap_exchange;
 use key_functions::{KeyFunctions, NoKeys};
-use krb_client::{ApAsked, AsAsked, AskRefusal, Credential, Means, TakeRefusal, TgsAsked};
-use krb_encrypted_data::encryption_key;
+use krb_client::{AsAsked, AskRefusal, Credential, Means, TgsAsked};
 use krb_kdc::Realm;
 use krb_logins::laws::one_key_by_password;
 use krb_logins::{LoginInput, LoginRefusal, granting_service};
 use krb_service::{Admission, Service};
 use krb_time::Moment;
 use krb_types::data_types::EncryptionKey;
-use picky_asn1::wrapper::OctetStringAsn1;
 use pkinit_logins::laws::one_key_by_certificate;
-use std::alloc::{AllocError, Global};
+use std::alloc::Global;
 
 /// Logs a client in at a service by its password (RFC 4120, sections 3.1, 3.3, 3.2). The realm has no key functions.
 ///
@@ -239,25 +237,6 @@ fn tgs_exchange<R: KeyFunctions>(
     take_tgs(alloc, client, &asked, &reply)
 }
 
-// Runs the AP exchange, in which the service admits the client by its AP request.
-fn ap_exchange(
-    alloc: Global,
-    client: &krb_client::Client,
-    service: &mut Service,
-    credential: &Credential,
-    input: &LoginInput<'_>,
-) -> Result<(EncryptionKey, Admission), LoginRefusal>
-    requires { AreEnough (login_of input.now) }
-    ensures run { (admitted : List PairRecord) → IsWindow service.old.seen admitted
-        → Remembers service.new.seen (ApExchange client.now service.old (login_of input.now) credential.now (remembered service.old admitted) result) }
-    ensures rest { service.new ≡ record service.old { seen = service.new.seen } }
-    ensures skew { service.new.seen.skew ≡ service.old.seen.skew }
-{
-    let (request, asked) = ask_ap(alloc, client, credential, input)?;
-    let admission = admit(alloc, service, &request, input)?;
-    keyed(alloc, client, &asked, admission)
-}
-
 // The client makes its AS request for a TGT.
 #[tactic(auto, unfolding(crate::specs::Logins::AsAsk, krb_logins::specs::Steps::IsAsAsked))]
 fn ask_as<M: Means>(
@@ -294,23 +273,6 @@ fn ask_tgs(
     let words = input.words_tgs;
     client
         .tgs_request(alloc, granting, input.service, input.till, moment, words)
-        .map_err(LoginRefusal::Asked)
-}
-
-// The client makes its AP request, with mutual-required and without a subkey.
-#[tactic(auto, unfolding(crate::specs::Logins::ApAsk, krb_logins::specs::Steps::IsApAsked))]
-fn ask_ap(
-    alloc: Global,
-    client: &krb_client::Client,
-    credential: &Credential,
-    input: &LoginInput<'_>,
-) -> Result<(Vec<u8>, ApAsked), LoginRefusal>
-    requires { 96 ≤ length input.now.words_ap.now }
-    ensures { ApAsk client.now (login_of input.now) credential.now result }
-{
-    let moment = input.moments.client_ap;
-    client
-        .ap_request(alloc, credential, true, false, moment, input.words_ap)
         .map_err(LoginRefusal::Asked)
 }
 
@@ -361,72 +323,4 @@ fn take_tgs(
     client
         .take_tgs_reply(alloc, asked, reply)
         .map_err(LoginRefusal::Taken)
-}
-
-// The service admits the client by its AP request.
-fn admit(
-    alloc: Global,
-    service: &mut Service,
-    message: &[u8],
-    input: &LoginInput<'_>,
-) -> Result<Admission, LoginRefusal>
-    requires { 16 ≤ length input.now.service_words.now }
-    ensures admits { (admitted : List PairRecord) → IsWindow service.old.seen admitted
-        → Admit service.old (login_of input.now) message.now (remembered service.old admitted) result service.new.seen }
-    ensures rest { service.new ≡ record service.old { seen = service.new.seen } }
-    ensures skew { service.new.seen.skew ≡ service.old.seen.skew }
-{
-    let moment = input.moments.service_ap;
-    service
-        .admit(alloc, message, moment, input.service_words)
-        .map_err(LoginRefusal::Admitted)
-}
-
-// Joins the client's session key with the service's admission, which it takes by value, since the key may fail.
-fn keyed(
-    alloc: Global,
-    client: &krb_client::Client,
-    asked: &ApAsked,
-    admission: Admission,
-) -> Result<(EncryptionKey, Admission), LoginRefusal>
-    ensures { Keyed asked.now admission result }
-{
-    let key = show(alloc, client, asked, &admission)?;
-    Ok((key, admission))
-}
-
-// The client takes the AP reply, and makes its session key.
-fn show(
-    alloc: Global,
-    client: &krb_client::Client,
-    asked: &ApAsked,
-    admission: &Admission,
-) -> Result<EncryptionKey, LoginRefusal>
-    ensures { Show asked.now admission.now result }
-{
-    if let Err(refusal) = client.take_ap_reply(alloc, asked, reply_of(admission)) {
-        return Err(LoginRefusal::Taken(refusal));
-    }
-    let Ok(key) = session_key(alloc, asked) else {
-        return Err(LoginRefusal::Taken(TakeRefusal::Memory));
-    };
-    Ok(key)
-}
-
-// Gives the bytes of the AP reply. Where there is no reply they are empty.
-fn reply_of(admission: &Admission) -> &[u8]
-    ensures { result.now ≡ reply_bytes admission.now.reply }
-{
-    match &admission.reply {
-        Some(reply) => reply,
-        None => &[],
-    }
-}
-
-// Makes the session key as an EncryptionKey, with the number of its suite.
-fn session_key(alloc: Global, asked: &ApAsked) -> Result<EncryptionKey, AllocError>
-    ensures { IfOk result (λ key. key ≡ encryption_key asked.now.suite asked.now.key) }
-{
-    let key = OctetStringAsn1::new(alloc, asked.key().as_bytes())?;
-    encryption_key(alloc, asked.suite(), &key)
 }
