@@ -12,7 +12,7 @@ use Rattle.krb_client.specs.declared.refusal.AskRefusal.TheVariants.{Memory}
 use Rattle.krb_logins.specs.Parties.{LoginRecord}
 use Rattle.krb_logins.specs.Steps.{IsAsAsked}
 use Rattle.krb_logins.specs.declared.refusal.LoginRefusal.TheVariants.{Asked}
-use Rattle.krb_realm.specs.ApExchanges.{Made}
+use Rattle.krb_ap_exchange.specs.ApExchanges.{Made}
 use Rattle.krb_realm.specs.Logins.{AsAsk}
 
 module _ (client : ClientRecord) (named : IsRealmName client.realm) (means : MeansRecord) (login : LoginRecord) where

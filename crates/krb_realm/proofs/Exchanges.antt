@@ -18,7 +18,7 @@ use Rattle.krb_logins.specs.Parties.{LoginRecord, RealmRecord, call_at}
 use Rattle.krb_logins.specs.Steps.{IsAnswered, IsAsAsked, IsTgsAsked}
 use Rattle.krb_logins.specs.declared.refusal.LoginRefusal.{LoginRefusal}
 use Rattle.krb_logins.specs.declared.refusal.LoginRefusal.TheVariants.{Answered, Asked, Taken}
-use Rattle.krb_realm.specs.ApExchanges.{IsStep, Made, sent_as}
+use Rattle.krb_ap_exchange.specs.ApExchanges.{IsStep, Made, sent_as}
 use Rattle.krb_realm.specs.Logins.{Answer, AsAsk, AsTake, TgsAsk, TgsTake}
 
 -- the last step

@@ -1,6 +1,4 @@
 mod Exchanges
-mod Admitting
-mod StepEnds
 mod LoginEnds
 mod GrantingRealms
 mod HonestParties

@@ -8,7 +8,7 @@ use Rattle.krb_service.specs.Service.{ServiceRecord}
 use Rattle.krb_logins.specs.LoginRun.{Login, LoginRun}
 use Rattle.krb_logins.specs.Parties.{LoginRecord, RealmRecord, RememberedRecord}
 use Rattle.krb_logins.specs.declared.refusal.LoginRefusal.{LoginRefusal}
-use Rattle.krb_realm.specs.ApExchanges.{Remembers}
+use Rattle.krb_ap_exchange.specs.ApExchanges.{Remembers}
 
 module _ (realm : RealmRecord) (rows : PkinitRows) (service : ServiceRecord) (before : RememberedRecord) (login : LoginRecord) (result : Result Login LoginRefusal) where
   module _ (own wanted : ClientRecord) (same : own ≡ wanted) (held means : MeansRecord) (are : held ≡ means) where

@@ -1,4 +1,3 @@
 pub mod Clients
 pub mod HeldClients
 pub mod Logins
-pub mod ApExchanges

@@ -17,7 +17,7 @@ use Rattle.krb_logins.specs.Parties.{LoginRecord, RealmRecord}
 use Rattle.krb_logins.specs.Steps.{IsAnswered, IsAsAsked, IsTgsAsked}
 use Rattle.krb_logins.specs.declared.refusal.LoginRefusal.{LoginRefusal}
 use Rattle.krb_logins.specs.declared.refusal.LoginRefusal.TheVariants.{Answered, Asked, Taken}
-use Rattle.krb_realm.specs.ApExchanges.{IsStep, Made, sent_as}
+use Rattle.krb_ap_exchange.specs.ApExchanges.{IsStep, Made, sent_as}
 use Rattle.krb_kdc.specs.Realm.{RealmState}
 
 unfoldable pub AsAsk : ClientRecord → MeansRecord → LoginRecord → Result (Made × AsAskedRecord) LoginRefusal → Type 0

@@ -4,7 +4,7 @@ ghost use Rattle.krb_crypto.specs.Keys.{KeyRecord};
 ghost use Rattle.krb_logins.specs.Honest.{IsHonestByPassword};
 ghost use Rattle.krb_logins.specs.Input.{login_of};
 ghost use Rattle.krb_realm.specs.Clients.{ByKey};
-ghost use Rattle.krb_realm.specs.ApExchanges.{remembered};
+ghost use Rattle.krb_ap_exchange.specs.ApExchanges.{remembered};
 ghost use Rattle.krb_realm.specs.Logins.{realm_record};
 
 use crate::client::Client;
@@ -18,7 +18,7 @@ use std::alloc::Global;
 /// Whether a login by password is honest, as [`login_by_password`] asks for one key on both sides. The pairs of client and time that
 /// the service holds count as all that it admitted. If memory runs out, the answer is false.
 ///
-/// [`login_by_password`]: crate::login_by_password
+/// [`login_by_password`]: crate::login::login_by_password
 pub fn is_honest_by_password(
     alloc: Global,
     client: &Client,

@@ -3,7 +3,7 @@ ghost use Rattle.std.specs.Prelude.{◌≡◌, ◌≤◌, IsTrue, length};
 ghost use Rattle.picky_asn1.specs.Bytes.{Bytes};
 ghost use Rattle.krb_logins.specs.Input.{login_of};
 ghost use Rattle.krb_realm.specs.Clients.{ByCertificate};
-ghost use Rattle.krb_realm.specs.ApExchanges.{remembered};
+ghost use Rattle.krb_ap_exchange.specs.ApExchanges.{remembered};
 ghost use Rattle.krb_realm.specs.Logins.{realm_record};
 ghost use Rattle.pkinit_logins.specs.HonestByCertificate.{IsHonestByCertificate};
 ghost use Rattle.pkinit_trust.specs.Anchors.{AnchorRecord};
@@ -19,7 +19,7 @@ use std::alloc::Global;
 /// Whether a login by the client's certificate is honest, as [`login_by_certificate`] asks for one key on both sides. The pairs of
 /// client and time that the service holds count as all that it admitted. If memory runs out, the answer is false.
 ///
-/// [`login_by_certificate`]: crate::login_by_certificate
+/// [`login_by_certificate`]: crate::login::login_by_certificate
 pub fn is_honest_by_certificate<C: KeyFunctions, R: KeyFunctions>(
     alloc: Global,
     client: &Client,

@@ -19,7 +19,6 @@ mod honest;
 mod honest_by_certificate;
 pub mod laws;
 mod login;
-mod presenting;
 
 pub use byte_streams::{Sink, SinkFault, Source};
 pub use client::Client;

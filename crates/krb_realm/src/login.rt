@@ -7,7 +7,7 @@ ghost use Rattle.krb_logins.specs.LoginRun.{AsExchange, Exchanges, Login, LoginR
 ghost use Rattle.krb_logins.specs.Parties.{RememberedRecord, call_at};
 ghost use Rattle.krb_service.specs.Pair.{PairRecord};
 ghost use Rattle.krb_service.specs.Seen.{IsWindow};
-ghost use Rattle.krb_realm.specs.ApExchanges.{Remembers, remembered};
+ghost use Rattle.krb_ap_exchange.specs.ApExchanges.{Remembers, remembered};
 ghost use Rattle.krb_realm.specs.Logins.{Answer, AsAsk, AsTake, TgsAsk, TgsTake, realm_record, realm_rows};
 ghost use Rattle.krb_realm.specs.Clients.{ByCertificate, ByKey, means_of};
 ghost use Rattle.key_functions.specs.KeyFunctions.{no_functions};
@@ -16,8 +16,8 @@ ghost use Rattle.pkinit_logins.specs.HonestByCertificate.{IsHonestByCertificate}
 ghost use Rattle.pkinit_trust.specs.Anchors.{AnchorRecord};
 
 use crate::client::Client;
-use crate::presenting::ap_exchange;
 use key_functions::{KeyFunctions, NoKeys};
+use krb_ap_exchange::ap_exchange;
 use krb_client::{AsAsked, AskRefusal, Credential, Means, TgsAsked};
 use krb_kdc::Realm;
 use krb_logins::laws::one_key_by_password;

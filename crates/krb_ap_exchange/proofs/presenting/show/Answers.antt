@@ -1,5 +1,5 @@
-use Rattle.krb_realm.proofs.Admitting.{no_room, not_shown, was_shown}
-use Rattle.krb_realm.proofs.presenting.show.Goals as goal
+use Rattle.krb_ap_exchange.proofs.Admitting.{no_room, not_shown, was_shown}
+use Rattle.krb_ap_exchange.proofs.presenting.show.Goals as goal
 
 pub returns-in-Err : goal.returns-in-Err
 returns-in-Err c =

@@ -1,6 +1,6 @@
-use Rattle.krb_realm.proofs.Admitting.{key_told, no_key}
-use Rattle.krb_realm.proofs.StepEnds.{exit_of}
-use Rattle.krb_realm.proofs.presenting.keyed.Goals as goal
+use Rattle.krb_ap_exchange.proofs.Admitting.{key_told, no_key}
+use Rattle.krb_ap_exchange.proofs.StepEnds.{exit_of}
+use Rattle.krb_ap_exchange.proofs.presenting.keyed.Goals as goal
 
 pub returns-in_err-key : goal.returns-in_err-key
 returns-in_err-key c =

@@ -7,7 +7,7 @@ ghost use Rattle.krb_logins.specs.Steps.{reply_bytes};
 ghost use Rattle.krb_service.specs.Pair.{PairRecord};
 ghost use Rattle.krb_service.specs.Seen.{IsWindow};
 ghost use Rattle.krb_encrypted_data.specs.Sealing.{encryption_key};
-ghost use Rattle.krb_realm.specs.ApExchanges.{Admit, ApAsk, Keyed, Remembers, Show, remembered};
+ghost use Rattle.krb_ap_exchange.specs.ApExchanges.{Admit, ApAsk, Keyed, Remembers, Show, remembered};
 
 use krb_client::{ApAsked, Client, Credential, TakeRefusal};
 use krb_encrypted_data::encryption_key;

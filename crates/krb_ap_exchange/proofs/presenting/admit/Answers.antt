@@ -1,9 +1,9 @@
 use Rattle.krb_logins.specs.Input.{login_of}
 use Rattle.krb_logins.specs.declared.refusal.LoginRefusal.TheVariants.{Admitted}
-use Rattle.krb_realm.specs.ApExchanges.{Admit, remembered}
-use Rattle.krb_realm.proofs.Admitting.{did_admit, did_refuse}
-use Rattle.krb_realm.proofs.StepEnds.{told_as}
-use Rattle.krb_realm.proofs.presenting.admit.Goals as goal
+use Rattle.krb_ap_exchange.specs.ApExchanges.{Admit, remembered}
+use Rattle.krb_ap_exchange.proofs.Admitting.{did_admit, did_refuse}
+use Rattle.krb_ap_exchange.proofs.StepEnds.{told_as}
+use Rattle.krb_ap_exchange.proofs.presenting.admit.Goals as goal
 
 pub returns-clause-admits : goal.returns-clause-admits
 returns-clause-admits c = λ admitted window.

@@ -21,7 +21,7 @@ use Rattle.krb_logins.specs.Parties.{LoginRecord, RememberedRecord}
 use Rattle.krb_logins.specs.Steps.{reply_bytes}
 use Rattle.krb_logins.specs.declared.refusal.LoginRefusal.{LoginRefusal}
 use Rattle.krb_logins.specs.declared.refusal.LoginRefusal.TheVariants.{Admitted, Taken}
-use Rattle.krb_realm.specs.ApExchanges.{Admit, ApAsk, Keyed, Made, Remembers, Show, remembered}
+use Rattle.krb_ap_exchange.specs.ApExchanges.{Admit, ApAsk, Keyed, Made, Remembers, Show, remembered}
 
 -- the service's step
 module _ (service : ServiceRecord) (login : LoginRecord) (request : Bytes) (admitted : List PairRecord) (seen : SeenRecord) (raised : seen.greatest ≡ max service.seen.greatest login.service_ap) where

@@ -1,9 +1,9 @@
 use Rattle.std.proofs.Common.{refl}
 use Rattle.krb_logins.specs.Input.{login_of}
-use Rattle.krb_realm.specs.ApExchanges.{remembered}
-use Rattle.krb_realm.proofs.Admitting.{ap_keyed, ap_refused, ap_unasked}
-use Rattle.krb_realm.proofs.StepEnds.{exit_of}
-use Rattle.krb_realm.proofs.presenting.ap_exchange.Goals as goal
+use Rattle.krb_ap_exchange.specs.ApExchanges.{remembered}
+use Rattle.krb_ap_exchange.proofs.Admitting.{ap_keyed, ap_refused, ap_unasked}
+use Rattle.krb_ap_exchange.proofs.StepEnds.{exit_of}
+use Rattle.krb_ap_exchange.proofs.presenting.ap_exchange.Goals as goal
 
 pub returns-in_err-request-clause-run : goal.returns-in_err-request-clause-run
 returns-in_err-request-clause-run c = λ admitted window.

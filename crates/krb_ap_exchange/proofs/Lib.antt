@@ -1,0 +1,2 @@
+mod Admitting
+pub mod StepEnds
