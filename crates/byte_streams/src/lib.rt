@@ -7,8 +7,8 @@
 //!
 //! [`read_full`] reads the next bytes of the source in their order, and fewer than there is room for only where the source ends. After
 //! `Ok`, [`write_whole`] has written all bytes, and after a fault the first of them. A fault is answered only where the device's count of
-//! failures rose or stood at its maximum, and with the device's own kind if it named one. Want of memory is no failure, and nothing is
-//! written then.
+//! failures rose or stood at its maximum, and with the device's own kind if it named one. A refused growth is no failure of the device, and
+//! writes nothing.
 #![tactic(auto)]
 
 mod exact;
