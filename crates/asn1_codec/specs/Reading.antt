@@ -78,6 +78,7 @@ abbrev pub IsOwn : Asn1DerError → Type 0
 IsOwn (Other kind) = ⊥
 IsOwn fault = ⊤
 
+-- how many calls of the source had failed when it gave this answer: one more than before it where the answer is a fault of the source
 abbrev pub result_faults : {T : Type 0} → Result T Asn1DerError → ℕ → ℕ
 result_faults (Ok value) faults = faults
 result_faults (Err fault) faults = faults_after fault faults

@@ -36,8 +36,10 @@ ReadsWhole {T} seen reads input answer =
 abbrev pub BeginsWith : {T : Type 0} → (T → Tree) → T → List ℕ → Type 0
 BeginsWith tree value input = BeginsBy (Writes tree) value input
 
+-- memory aside, the answer is the value whose one encoding begins the input, or a fault where there is none
 abbrev pub Reads : {T : Type 0} → (T → Tree) → List ℕ → Result T Asn1DerError → Type 0
 Reads tree input answer = ReadsFront as_is (Writes tree) input answer
 
+-- memory aside, the answer is the value whose one encoding the input is, or a fault where there is none
 abbrev pub ReadsAll : {T : Type 0} → (T → Tree) → List ℕ → Result T Asn1DerError → Type 0
 ReadsAll tree input answer = ReadsWhole as_is (Writes tree) input answer

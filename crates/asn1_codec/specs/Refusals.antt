@@ -26,6 +26,7 @@ abbrev pub refusal_in : {A : Type 0} → (A → Option Unsupported) → List A �
 refusal_in refuses [] = None
 refusal_in refuses (value ∷ values) = first_refusal (refuses value) (refusal_in refuses values)
 
+-- the first refusal among the values of a list: a type of elements with none refuses none
 abbrev pub refusal_of_list : {A : Type 0} → Option (A → Option Unsupported) → List A → Option Unsupported
 refusal_of_list None values = None
 refusal_of_list (Some refuses) values = refusal_in refuses values

@@ -16,6 +16,7 @@ use Rattle.asn1_der.specs.Octets.{boolean_octet, null_octet, utf8_string_octet}
 abbrev pub bool_tree : Bool → Tree
 bool_tree = leaf_as (λ _. true) bool_content boolean_octet
 
+-- NULL is universal 5 and has no content octets (X.690, section 8.8)
 abbrev pub null_tree : ⊤ → Tree
 null_tree = leaf_as (λ _. true) null_content null_octet
 

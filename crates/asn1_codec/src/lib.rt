@@ -3,6 +3,11 @@
 //! A [`Deserializer`] takes elements from a source, a [`Serializer`] writes them into a sink. A type is [`Serialize`] and
 //! [`Deserialize`], most by their row of fields ([`Tagged`]) or by their content ([`Leaf`]). The forms that types are
 //! made of (tags, choices, defaults) are in `picky_asn1_der`, which hands on all names of this crate.
+//!
+//! [`from_bytes`] answers a value if and only if the input begins with bytes that the type reads as it, and [`from_exact_bytes`] if and
+//! only if the input is such bytes. Of a [`Deserialize`] type these are the value's one encoding. [`from_reader`] takes just the bytes of
+//! the value, within its limit. By the law [`one_reading`] its answer is independent of the reader's cuts, device faults aside. [`to_vec`],
+//! [`to_bytes`], [`to_byte_buf`] and [`to_writer`] write the encoding, and refuse what the type refuses.
 #![tactic(auto)]
 
 ghost use Rattle.std.specs.Prelude.{◌≡◌};

@@ -11,6 +11,7 @@ pub data Firsts : Type 0 where
 abbrev pub only : ℕ → Firsts
 only first = one_of (first ∷ [])
 
+-- whether the encoding of a value may begin with this identifier octet (X.690, section 8.1.2)
 abbrev pub may_begin : Firsts → ℕ → Bool
 may_begin any_octet first = true
 may_begin (one_of octets) first = list_any (λ octet. octet == first) octets

@@ -37,12 +37,14 @@ abbrev mutual
   IsWhole (constructed first parts) = AreWhole parts
   IsWhole absent = ⊥
 
+  -- none of the trees is missing, nor a part of one
   pub AreWhole : Trees → Type 0
   AreWhole none = ⊤
   AreWhole (more tree trees) = IsWhole tree × AreWhole trees
   AreWhole (bare octet trees) = AreWhole trees
 
--- the value is written as these bytes: they are the encoding of its tree, in which nothing is missing
+-- The value is written as these bytes: they are the one encoding of its tree, in which nothing is missing. Nothing else is read as it
+-- (X.690, section 10). Test: `as length long!`, `as integer padded FF!`.
 abbrev pub Writes : {T : Type 0} → (T → Tree) → T → List ℕ → Type 0
 Writes tree value bytes = IsWhole (tree value) × (bytes ≡ der (tree value))
 
@@ -74,6 +76,7 @@ put tree None trees = trees
 put tree (Some value) trees = more (tree value) trees
 
 -- the trees of the elements of a list
+-- Not judged: the order of a SET OF, which is kept (X.690, section 11.6). Test: `lists` of `identifiers.rt`.
 abbrev pub trees_of : {A : Type 0} → (A → Tree) → List A → Trees
 trees_of tree [] = none
 trees_of tree (value ∷ values) = more (tree value) (trees_of tree values)

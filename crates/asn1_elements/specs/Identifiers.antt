@@ -10,6 +10,7 @@ class_at (suc zero) = Application
 class_at (suc (suc zero)) = ContextSpecific
 class_at (suc (suc (suc more))) = Private
 
+-- the class that the bits 8 and 7 of an identifier octet say (X.690, section 8.1.2.2)
 abbrev pub class_of : ℕ → TagClass
 class_of octet = class_at (octet / 64)
 

@@ -6,7 +6,7 @@ pub record Raw : Type 0 where
   pub first : ℕ
   pub content : List ℕ
 
--- the tag's number is in the identifier octet itself (X.690, section 8.1.2.2): it is below 31
+-- A tag's number is in the identifier octet itself: it is below 31 (X.690, section 8.1.2.2). Test: `not_split` of `elements.rt`.
 abbrev pub has_low_number : ℕ → Bool
 has_low_number first = not (first % 32 == 31)
 

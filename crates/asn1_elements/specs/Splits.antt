@@ -14,6 +14,7 @@ raw_bytes raw = element raw.first raw.content
 abbrev pub SplitsInto : List ℕ → Raw → List ℕ → Type 0
 SplitsInto input raw rest = (has_low_number raw.first ≡ true) × (input ≡ element raw.first raw.content ++ rest)
 
+-- no element whose tag is in one octet begins the input
 abbrev pub IsNoSplit : List ℕ → Type 0
 IsNoSplit input = (raw : Raw) (rest : List ℕ) → SplitsInto input raw rest → ⊥
 

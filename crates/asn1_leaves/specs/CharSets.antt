@@ -6,6 +6,7 @@ use Rattle.std.specs.List.{list_all, list_any}
 abbrev pub is_general_string : List ℕ → Bool
 is_general_string = list_all (λ character. nat_lt character 128)
 
+-- The characters of a KerberosString are below 128 (RFC 4120, section 5.2.1). Test: `tgs text past 127!`.
 abbrev pub IsGeneralString : List ℕ → Type 0
 IsGeneralString characters = IsTrue (is_general_string characters)
 

@@ -3,7 +3,8 @@ use Rattle.std.specs.Prelude.{◌≡◌, ℕ, ◌+◌, ◌*◌, ◌/◌, ◌%◌
 use Rattle.asn1_leaves.specs.declared.date.GeneralizedTime.{GeneralizedTime}
 use Rattle.asn1_leaves.specs.Calendar.{day_number, days_of_months, two_digits}
 
--- YYYYMMDDHHMMSSZ
+-- A GeneralizedTime is `YYYYMMDDHHMMSSZ`, without a fraction of a second (X.690, section 11.7; RFC 4120, section 5.2.3). Test: `no_times`
+-- of `leaves.rt`; `as time second 60!`.
 abbrev pub calendar_text : ℕ → ℕ → ℕ → ℕ → ℕ → ℕ → List ℕ
 calendar_text year month day hour minute second =
     two_digits (year / 100) ++ two_digits (year % 100) ++ two_digits month ++ two_digits day

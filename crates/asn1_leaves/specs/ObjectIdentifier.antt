@@ -25,6 +25,7 @@ is_object_identifier (first ∷ second ∷ arcs) =
 is_object_identifier (first ∷ []) = false
 is_object_identifier [] = false
 
+-- the arcs are those of an object identifier that is held (X.660, section 6; X.690, section 8.19)
 abbrev pub IsObjectIdentifier : List ℕ → Type 0
 IsObjectIdentifier arcs = IsTrue (is_object_identifier arcs)
 

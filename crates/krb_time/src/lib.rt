@@ -1,4 +1,8 @@
 //! Moments: points in time to the microsecond, in the years 0 to 9999.
+//!
+//! `Moment::new` makes a moment of microseconds before the year 10000, and of no others. `second`, `microsecond`, `at` and `from_text` go
+//! by the calendar: a moment is its second with the microseconds since then. [`moment_at`] answers a moment if and only if the microseconds
+//! are part of a second. `is_before`, `is_after` and `is_far_from` compare by the clock skew.
 #![tactic(auto)]
 
 mod calendar;

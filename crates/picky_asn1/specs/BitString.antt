@@ -7,12 +7,14 @@ pub record Bits : Type 0 where
   pub octets : List ℕ
   pub unused : ℕ
 
--- at most 7 bits are unused, and they are zero; where there is no octet none is unused
+-- At most 7 bits are unused, and they are zero; where there is no octet none is unused (X.690, sections 8.6.2 and 11.2.1). Test:
+-- `unused_bits` of `leaves.rt`; `as bits unused not zero!`.
 abbrev pub is_bit_string : Bits → Bool
 is_bit_string bits =
     nat_le bits.unused (if length bits.octets == 0 then 0 else 7)
     && (slice_index bits.octets (length bits.octets - 1) % 2 ^ bits.unused == 0)
 
+-- the octets and the number of unused bits are those of a BIT STRING (X.690, sections 8.6 and 11.2)
 abbrev pub IsBitString : Bits → Type 0
 IsBitString bits = IsTrue (is_bit_string bits)
 
@@ -20,7 +22,8 @@ IsBitString bits = IsTrue (is_bit_string bits)
 abbrev pub bit_count : Bits → ℕ
 bit_count bits = 8 * length bits.octets - bits.unused
 
--- bit i, counted from the first octet's most significant; those that are missing are 0
+-- Bit i, counted from the first octet's most significant. Missing bits are 0, so that flags of fewer than 32 bits are read (RFC 4120,
+-- section 5.2.8). Test: `tgs short options`, `tgs ticket flags short`.
 abbrev pub bit_of : Bits → ℕ → Bool
 bit_of bits i = bit_at (slice_index bits.octets (i / 8)) (7 - i % 8) == 1
 

@@ -30,13 +30,15 @@ integer_value octets =
     if nat_lt (slice_index octets 0) 128 then pos (number_from_digits 256 octets)
     else negsuc (number_from_digits 256 (map complement octets))
 
--- there is an octet, and the first nine bits are not all zero and not all one
+-- An INTEGER has the fewest octets: at least one, and the first nine bits are not all zero and not all one (X.690, section 8.3). Test:
+-- `no_integers` of `leaves.rt`; `as integer padded FF!`.
 abbrev pub is_integer : List ℕ → Bool
 is_integer [] = false
 is_integer (octet ∷ []) = true
 is_integer (first ∷ second ∷ octets) =
     not (((first == 0) && nat_lt second 128) || ((first == 255) && nat_le 128 second))
 
+-- the octets are the content of an INTEGER (X.690, section 8.3)
 abbrev pub IsInteger : List ℕ → Type 0
 IsInteger octets = IsTrue (is_integer octets)
 

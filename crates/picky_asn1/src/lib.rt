@@ -1,4 +1,8 @@
 //! The leaf types of ASN.1: integers, strings, object identifiers and times, and their lists, as DER has them (X.690).
+//!
+//! `from_content` of INTEGER, BIT STRING and the string types answers a value if and only if the content meets the type's condition, and
+//! `new` refuses what doesn't. INTEGER has any size and sign. SEQUENCE OF and SET OF keep the given order. `BitStringAsn1::set` turns one
+//! bit, and no other. `IntegerAsn1::to_i64`, [`is_number`] and `as_unsigned_bytes_be` say the number.
 #![tactic(auto)]
 
 pub mod bit_string;

@@ -2,6 +2,11 @@
 //!
 //! [`from_bytes`] reads a value from its one spelling, and [`to_vec`] writes it. A struct names its fields once, as a
 //! row of pairs, and is read and written through it ([`Tagged`]); docs/DER.md says how a type is written.
+//!
+//! Tags, choices, defaults, lists, containers and raw elements have one encoding for each value, which [`Serialize`] writes and
+//! [`Deserialize`] reads. `Asn1RawDer::new` makes a raw element of bytes if and only if they are one element. [`encoding_of`] and
+//! [`tagged_encoding`] answer the encoding of a value, and [`Lent`] is written as the value that it borrows. What [`read_whole`] finds is
+//! the value that the bytes are the encoding of. `LentFields::copied` copies each field by its own `clone`.
 #![tactic(auto)]
 
 ghost use Rattle.std.specs.Prelude.{◌≡◌};

@@ -3,6 +3,9 @@
 //! A value of a type parameter is dropped by one call, of a function that is proved once. In a function that owns a big value at its
 //! own type, such as a decoded message, the drop is spelled out at each way out, and is most of that function's proof. So a function
 //! that makes a big value keeps the outcome of what it does with it, lets the value go by `drop`, and answers the outcome.
+//!
+//! [`both`] answers both values, or the first error of the two. [`if_passed`] answers its value where the check passed, and else the
+//! check's error. Neither call can run out of memory.
 #![tactic(auto)]
 
 ghost use Rattle.std.specs.Prelude.{◌≡◌, Err, IfOk, Ok};
