@@ -1,6 +1,8 @@
 //! The credentials that a client delegates to a server by CredSSP (MS-CSSP, section 2.2.1.2).
 //!
 //! The names, fields and tags are those of the ported crate.
+//!
+//! Each type is read if and only if the bytes are its one encoding, and is written as that encoding (`Serialize`, `Deserialize`).
 #![tactic(auto)]
 
 mod ts_credentials;

@@ -25,6 +25,7 @@ BeginsProxyMessage reads m bytes =
 abbrev pub seen_message : {T : Type 0} → Seen T → Seen (KrbMessage T)
 seen_message seen = seen_part (λ m. (m.krb5_oid, (m.krb5_token_id, m.krb_msg))) (seen_pair as_is (seen_pair as_is seen))
 
+-- What two IAKERB messages of one token have in common: the header, and what is alike in the messages that they carry.
 abbrev pub seen_proxy_message : {T : Type 0} → Seen T → Seen (IAKerbProxyMessage T)
 seen_proxy_message seen = seen_part (λ m. (m.header, m.krb_msg)) (seen_pair as_is seen)
 
@@ -32,6 +33,7 @@ seen_proxy_message seen = seen_part (λ m. (m.header, m.krb_msg)) (seen_pair as_
 abbrev pub krb_message_content : {T : Type 0} → (T → Tree) → KrbMessage T → List ℕ
 krb_message_content tree m = told_content m.krb5_oid m.krb5_token_id (der (tree m.krb_msg))
 
+-- The content of an IAKERB token: the mechanism, the token id 05 01, the header and the message.
 abbrev pub proxy_message_content : {T : Type 0} → (T → Tree) → IAKerbProxyMessage T → List ℕ
 proxy_message_content tree m = told_content iakerb proxy_id (der (header_writing.ghosts.tree m.header) ++ der (tree m.krb_msg))
 

@@ -42,5 +42,6 @@ IsProxied bytes message = (inner : List ℕ) × IsOfMechanism bytes iakerb inner
 abbrev pub told_content : ObjectIdentifierAsn1 → List ℕ → List ℕ → List ℕ
 told_content mechanism id message = der (mechanism_tree mechanism) ++ (id ++ message)
 
+-- An initial context token with this content: the content under the tag 0x60 (RFC 2743, section 3.1).
 abbrev pub token_bytes : List ℕ → List ℕ
 token_bytes content = element 96 content

@@ -3,6 +3,10 @@
 //!
 //! The token id of a message is two bare octets, not an element. A token is read if and only if its one spelling begins
 //! the bytes, and is written as that spelling.
+//!
+//! `KrbMessage` and `IAKerbProxyMessage` are read if and only if a token of theirs begins the bytes (laws `one_krb_message`,
+//! `one_proxy_message`). What is written is read again (law `written_is_read`). Of an IAKERB header, elements after the known ones are
+//! ignored. The tokens of SPNEGO (RFC 4178) are read if and only if the bytes are their one encoding, and are written as it.
 #![tactic(auto)]
 
 mod application_tag0;

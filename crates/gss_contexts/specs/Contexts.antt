@@ -18,6 +18,7 @@ pub record ContextRecord : Type 0 where
   pub sending : ℕ
   pub taking : ℕ
 
+-- The side of the other end of a context.
 abbrev pub other_side : Side → Side
 other_side Initiator = Acceptor
 other_side Acceptor = Initiator
@@ -29,6 +30,7 @@ sender_of c = record { key = c.key; side = c.side; acceptor_subkey = c.acceptor_
 abbrev pub peer_of : Sender → Sender
 peer_of s = record { key = s.key; side = other_side s.side; acceptor_subkey = s.acceptor_subkey }
 
+-- Who protects the tokens that an end takes: the other side, under the same key.
 abbrev pub peer : ContextRecord → Sender
 peer c = peer_of (sender_of c)
 

@@ -22,6 +22,7 @@ abbrev pub sign_usage : Side → ℕ
 sign_usage Initiator = cast_unsigned w32 INITIATOR_SIGN
 sign_usage Acceptor = cast_unsigned w32 ACCEPTOR_SIGN
 
+-- Whether the side is the acceptor, whose tokens have the flag SentByAcceptor (RFC 4121, section 4.2.2).
 abbrev pub is_acceptor : Side → Bool
 is_acceptor Initiator = false
 is_acceptor Acceptor = true
@@ -112,6 +113,8 @@ pub record WritesMic (sender : Sender) (number : ℕ) (message token : List ℕ)
   pub made : IsMicOf sender number message token
   pub clear : made.flags < 8
 
+-- The wrap token that an end writes: no reserved flag, a right rotation count of 0, and no filler octets where it is sealed (RFC 4121,
+-- section 4.2.6.2).
 pub record WritesWrap (sender : Sender) (number : ℕ) (protection : Protection) (confounder message token : List ℕ) : Type 0 where
   pub made : IsWrapOf sender number protection confounder message token
   pub clear : made.flags < 8

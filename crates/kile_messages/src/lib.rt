@@ -1,5 +1,8 @@
 //! What Microsoft's extensions of Kerberos send: data beside requests, errors and tickets (MS-KILE, section 2.2), messages to a
 //! proxy of KDCs (MS-KKDCP), and those of user to user (draft-swift-win2k-krb-user2user).
+//!
+//! Each type is read if and only if the bytes are its one encoding, and is written as that encoding (`Serialize`, `Deserialize`).
+//! `KdcProxyMessage::from_raw` reads the message that begins its input, and leaves the rest.
 #![tactic(auto)]
 
 mod kdc_proxy_message;

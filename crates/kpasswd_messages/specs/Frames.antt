@@ -31,5 +31,6 @@ pub record IsFrame (ap private whole : List ℕ) : Type 0 where
 abbrev pub framed : ℕ → ℕ → List ℕ → List ℕ → List ℕ
 framed count size ap private = be16 count ++ (be16 1 ++ (be16 size ++ (ap ++ private)))
 
+-- The octets of a frame with its true lengths (RFC 3244, section 2).
 abbrev pub frame_bytes : List ℕ → List ℕ → List ℕ
 frame_bytes ap private = framed (6 + length ap + length private) (length ap) ap private

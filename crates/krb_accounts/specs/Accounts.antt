@@ -23,6 +23,7 @@ AccountMap = FinMap name_cmp AccountRecord
 abbrev pub Look : Type 0
 Look = List Bytes → Option AccountRecord
 
+-- The account that each name has among these.
 abbrev pub look_in : AccountMap → Look
 look_in accounts = get accounts
 
@@ -45,6 +46,7 @@ abbrev pub rekeyed : CipherSuite → Bytes → Option AccountRecord → Result A
 rekeyed suite key None = Err Unknown
 rekeyed suite key (Some account) = with_key suite key account
 
+-- The account with its next key, or the refusal: first of the key's length, then of an unknown name, then of the greatest kvno.
 abbrev pub changing : AccountMap → List Bytes → CipherSuite → Bytes → Result AccountRecord RealmRefusal
 changing accounts name suite key =
     if not (length key == cipher_key_size suite) then Err BadKeyLength else rekeyed suite key (get accounts name)

@@ -4,17 +4,19 @@ use Rattle.std.specs.List.{list_all}
 use Rattle.std.specs.Global.{Global}
 use Rattle.picky_asn1.specs.Bytes.{Bytes}
 
--- 1 to 255 characters, all below 128
+-- A realm's name has 1 to 255 characters, each below 128. Test: `realm is empty`, `realm c4` of `realms.txt`.
 abbrev pub is_realm_name : Bytes → Bool
 is_realm_name name = nat_le 1 (length name) && nat_le (length name) 255 && list_all (λ character. nat_lt character 128) name
 
+-- The octets are the name of a realm, or a component of a name.
 abbrev pub IsRealmName : Bytes → Type 0
 IsRealmName name = IsTrue (is_realm_name name)
 
--- 1 to 16 components, each as a realm's name
+-- A name has 1 to 16 components, and each is as a realm's name. Test: `component 2 of name is empty`, `add_by_key - 17`.
 abbrev pub are_components : List Bytes → Bool
 are_components name = nat_le 1 (length name) && nat_le (length name) 16 && list_all is_realm_name name
 
+-- The components are a principal's name.
 abbrev pub AreComponents : List Bytes → Type 0
 AreComponents name = IsTrue (are_components name)
 

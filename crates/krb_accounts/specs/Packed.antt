@@ -4,6 +4,7 @@ use Rattle.std.specs.List.{flat_map, list_all}
 use Rattle.std.proofs.Common.{ap, arith, ◌∙◌}
 use Rattle.picky_asn1.specs.Bytes.{Bytes}
 
+-- The octets of a text in a block: each character plus one, then a zero.
 abbrev pub packed_text : Bytes → Bytes
 packed_text text = map (λ character. character + 1) text ++ 0 ∷ []
 

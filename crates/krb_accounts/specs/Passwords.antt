@@ -6,7 +6,7 @@ use Rattle.krb_crypto.specs.declared.suite.CipherSuite.{CipherSuite}
 use Rattle.krb_crypto.specs.Sealing.{password_key_of}
 use Rattle.krb_accounts.specs.Account.{AccountRecord}
 
--- the salt of a principal's password: the realm, and behind it the components
+-- The salt of a password is the realm, followed by the components (RFC 4120, section 4). Test: `as no preauthentication`.
 abbrev pub password_salt : Bytes → List Bytes → Bytes
 password_salt realm components = realm ++ flat_map (λ component. component) components
 

@@ -14,5 +14,6 @@ IsSkew skew = skew ≤ 86400
 abbrev pub IsLifetime : Seconds → Type 0
 IsLifetime lifetime = (1 ≤ lifetime) × (lifetime ≤ 31536000)
 
+-- The clock skew and the greatest lifetime are in their ranges, both in seconds.
 abbrev pub AreSettings : Seconds → Seconds → Type 0
 AreSettings skew lifetime = IsSkew skew × IsLifetime lifetime

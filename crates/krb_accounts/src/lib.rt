@@ -1,4 +1,9 @@
 //! What a realm knows, without any message: its settings, the rules for names, and the accounts.
+//!
+//! `Accounts` is a finite map from the components of a name to an account. `Settings::new`, `Account::by_key`, `realm_name_of` and
+//! `components_of` refuse by the rules of settings, keys and names, and only by them. `Accounts::change_key` gives a key the next kvno, and
+//! refuses where the kvno is the greatest. `password_salt` is the realm followed by the components. `pack` puts texts into a block of
+//! octets, and a block has one list of texts (`unpacked-packed`).
 #![tactic(auto)]
 
 mod account;

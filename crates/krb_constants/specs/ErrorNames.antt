@@ -12,6 +12,7 @@ error_names = map (λ row. (row.0, row.1.now)) ERROR_NAMES
 abbrev pub name_in : List (ℕ × List ℕ) → ℕ → Option (List ℕ)
 name_in rows code = option_map (λ row. row.1) (find (λ row. nat_eq row.0 code) rows)
 
+-- The name of the constant that has this number as an error code (RFC 4120, section 7.5.9).
 unfoldable pub error_name : ℕ → Option (List ℕ)
 error_name = name_in error_names
 

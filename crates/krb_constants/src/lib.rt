@@ -1,6 +1,9 @@
 //! Numbers of the standards: each stands here once. Those of encryption types that are supported are `krb_crypto::CipherSuite`'s own.
 //!
 //! `picky_krb` hands them on under the paths of the ported crate.
+//!
+//! `error_name` gives the name of an error code, if the code has one (RFC 4120, section 7.5.9). An `ErrorCode` is displayed as that name
+//! and its number, or else as the number alone (`error_text`).
 #![tactic(auto)]
 
 pub mod ap_options;

@@ -1,4 +1,8 @@
 //! EncryptedData (RFC 4120, section 5.2.9): encryption of a value's encoding under a key, and decryption.
+//!
+//! `open_part`, `open_whole` and `open_sealed` give a value if and only if the ciphertext encrypts its encoding under the key, for the
+//! usage (`Opens`). No other value can come out. `sealed_data` encrypts a text with the given confounder (`Seals`), and what it encrypts
+//! opens again (`sealed_opens`). `suite_of` and `key_of` judge a key by its type and its length.
 #![tactic(auto)]
 
 mod find;

@@ -2,6 +2,10 @@
 //!
 //! The names, fields and tags are the standard's; [`from_bytes`] reads a message that is all of its input, and
 //! `picky_asn1_der::to_vec` writes one.
+//!
+//! Each type is read if and only if the bytes are its one encoding, and is written as that encoding (`ReadsWhole`).
+//! `ResultExt::deserialize` reads a KRB-ERROR where the first octet is 0x7E, and else the message. `body_bytes` is the one encoding of a
+//! request's body.
 #![tactic(auto)]
 
 ghost use Rattle.std.specs.Prelude.{◌≡◌};

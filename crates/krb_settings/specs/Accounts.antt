@@ -32,9 +32,11 @@ key_of value = text_of Key value >>= bytes_of >>= (λ bytes. Ok (key bytes))
 
 -- of a password and a key there is just one
 abbrev pub secret_of : Option Data → Option Data → Result WrittenSecret TableFault
+-- An account has a password or a key. Test: `neither password nor key`.
 secret_of None None = Err NeitherSecret
 secret_of (Some value) None = password_of value
 secret_of None (Some value) = key_of value
+-- An account hasn't both a password and a key. Test: `both password and key`.
 secret_of (Some _) (Some _) = Err BothSecrets
 
 abbrev pub secret_at : Members → Result WrittenSecret TableFault
@@ -42,6 +44,8 @@ secret_at document = secret_of (get_member (field_name Password) document) (get_
 
 -- the account that a table writes, or the first of its faults
 abbrev pub account_of : Members → Result WrittenAccount TableFault
+-- Of an account's faults the first counts: an unknown key, the name, the suite, the secret. Test: `no name`, `no suite` of `files.txt`,
+-- `unknown suite`.
 account_of document =
     only account_fields document >>= (λ _. name_at document >>= (λ name. suite_at document >>= (λ suite.
     secret_at document >>= (λ secret. Ok (record { name = name; suite = suite; secret = secret })))))

@@ -13,6 +13,7 @@ use Rattle.krb_settings.specs.declared.field.Field.TheVariants.{Account, Key, Li
 use Rattle.krb_settings.specs.declared.fault.TableFault.{TableFault}
 use Rattle.krb_settings.specs.declared.fault.TableFault.TheVariants.{UnknownKey, Missing, WrongType, UnknownSuite, BadDigits}
 
+-- The key of a field in a settings file.
 abbrev pub field_name : Field → List ℕ
 field_name Account = codes "account"
 field_name Key = codes "key"
@@ -37,10 +38,12 @@ abbrev pub has_only : List Field → Members → Bool
 has_only fields document = list_all (is_among fields) (keys_in document)
 
 abbrev pub only : List Field → Members → Result (Unit {0}) TableFault
+-- Each key of a table is the name of a field. Test: `unknown key "skwe"`, `unknown key "pasword"`.
 only fields document = if has_only fields document then Ok tt else Err UnknownKey
 
 -- what a field holds, where the table has it
 abbrev pub present : Field → Option Data → Result Data TableFault
+-- Each field that a table needs is there. Test: `no realm` of `files.txt`, `no suite` of `files.txt`.
 present field None = Err (Missing field)
 present field (Some value) = Ok value
 
@@ -50,14 +53,17 @@ value_at field document = present field (get_member (field_name field) document)
 -- a text, a whole number that isn't negative, a list
 abbrev pub text_of : Field → Data → Result (List ℕ) TableFault
 text_of field (string text) = Ok text
+-- A component, a realm, a suite, a key and a password are texts. Test: `realm is a whole number`, `password is a whole number`.
 text_of field _ = Err (WrongType field)
 
 abbrev pub natural_of : Field → Data → Result ℕ TableFault
 natural_of field (integer (pos n)) = Ok n
+-- The skew and the lifetime are whole numbers that aren't negative. Test: `skew is a number with a fraction`, `skew is a text`.
 natural_of field _ = Err (WrongType field)
 
 abbrev pub list_of : Field → Data → Result Items TableFault
 list_of field (array items) = Ok items
+-- The name of an account is a list. Test: `name is a text`.
 list_of field _ = Err (WrongType field)
 
 abbrev pub text_at : Field → Members → Result (List ℕ) TableFault
@@ -76,14 +82,17 @@ suite_name Aes256CtsHmacSha384192 = codes "aes256-cts-hmac-sha384-192"
 
 -- the suite of a name
 unfoldable pub suite_named : List ℕ → Result CipherSuite TableFault
+-- A suite has one of five names (RFC 3961, section 6.3; RFC 3962, section 7; RFC 8009, section 4). Test: `unknown suite`.
 suite_named name = ok_or (find (λ suite. pointwise nat_eq name (suite_name suite)) cipher_suites) UnknownSuite
 
+-- The suite that the field `suite` of a table names.
 abbrev pub suite_at : Members → Result CipherSuite TableFault
 suite_at document = text_at Suite document >>= suite_named
 
 -- the bytes that hexadecimal digits write, two a byte
 abbrev pub digits_told : {E : Type 0} → Result (List ℕ) E → Result (List ℕ) TableFault
 digits_told (Ok bytes) = Ok bytes
+-- A key is pairs of hexadecimal digits. Test: `character 10 of key is no hexadecimal digit`, `key has 63 hexadecimal digits`.
 digits_told (Err _) = Err BadDigits
 
 abbrev pub bytes_of : List ℕ → Result (List ℕ) TableFault

@@ -19,7 +19,9 @@ IsRealmText text realm = (document : Members) × IsDocument text document × (re
 
 -- the bytes have no document, and this is why. A text that is too long has no other fault
 abbrev pub IsUnread : List ℕ → SettingsFault → Type 0
+-- A file has at most 1,048,576 bytes. Test: `/dev/zero` of `named_files.txt`.
 IsUnread text TooLong = 1048576 < length text
+-- A file is UTF-8 and TOML 1.0. Test: `invalid UTF-8` of `named_files.txt`, `unclosed string` of `files.txt`.
 IsUnread text (NotToml _) = (length text ≤ 1048576) × ((document : Members) → ¬ IsDocument text document)
 IsUnread text _ = ⊥
 

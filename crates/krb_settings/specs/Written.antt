@@ -16,6 +16,7 @@ pub record WrittenAccount : Type 0 where
   pub suite : CipherSuite
   pub secret : WrittenSecret
 
+-- What a settings file writes: the realm's name, its suite and key, the clock skew and the greatest lifetime in seconds, and the accounts.
 pub record WrittenRealm : Type 0 where
   pub name : List ℕ
   pub suite : CipherSuite
@@ -32,6 +33,7 @@ shown_secret (Key bytes) = key bytes.items
 abbrev pub shown_account : AccountSettings → WrittenAccount
 shown_account a = record { name = map (λ part. part.items) a.name.items; suite = a.suite; secret = shown_secret a.secret }
 
+-- The realm that the value of the program holds.
 abbrev pub shown_realm : RealmSettings → WrittenRealm
 shown_realm r = record {
   name = r.name.items;

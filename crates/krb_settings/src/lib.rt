@@ -14,6 +14,10 @@
 //! ```
 //!
 //! [`read_settings_file`] gives what a file writes, or the first of its faults. `krb_settings_check` has their messages.
+//!
+//! `read_settings_file` gives the realm that the TOML text writes, or the first fault of the file (`IsRealmText`, `HasFault`). A file
+//! writes at most one realm, and none if it has a fault other than `Memory` (laws `one_realm`, `no_realm_with_fault`). `suite_name` and
+//! `Field::name` are the words that a file has for suites and fields.
 #![tactic(auto)]
 
 mod account;

@@ -37,7 +37,7 @@ is_at c = nat_eq c 64
 abbrev pub is_slash : ℕ → Bool
 is_slash c = nat_eq c 47
 
--- a realm's name is to be printable and in upper case, with no blank and no @
+-- A realm's name has no control character, `@`, blank or lower-case letter, or there is a warning. Test: `realm has a blank`.
 abbrev pub realm_cases : List ℕ → List Case
 realm_cases name =
     (list_any is_control name, warning.RealmControl)
@@ -50,7 +50,8 @@ realm_cases name =
 abbrev pub has_blank_end : List ℕ → Bool
 has_blank_end part = is_blank (slice_index part 0) || is_blank (slice_index part (length part - 1))
 
--- a component is to be printable, with no slash, no @ and no blank at an end
+-- A component has no slash, `@` or control character, and no blank at an end, or there is a warning. Test: `a component of name has a
+-- slash`, `a component of name begins or ends with a blank`.
 abbrev pub name_cases : List (List ℕ) → List Case
 name_cases name =
     (list_any (list_any is_slash) name, warning.NameSlash)
@@ -71,6 +72,8 @@ has_many_rounds Aes128CtsHmacSha256128 = true
 has_many_rounds Aes256CtsHmacSha384192 = true
 has_many_rounds _ = false
 
+-- A password has at least 12 octets, ends in no line break, isn't the example's and is of no suite of RFC 8009, or there is a warning.
+-- Test: `password has fewer than 12 octets` of `files.txt`, `password ends in a line break`.
 abbrev pub password_cases : CipherSuite → List ℕ → List Case
 password_cases suite text =
     (nat_eq (length text) 0, warning.PasswordEmpty)
@@ -88,6 +91,9 @@ abbrev pub is_des3 : CipherSuite → Bool
 is_des3 Des3CbcSha1Kd = true
 is_des3 _ = false
 
+-- A key is none of the example's and not one octet repeated, or there is a warning. One of triple DES has odd parity and no weak part (RFC
+-- 3961, section 6.3.1). Test: `key is one octet repeated` of `files.txt`, `key has an octet of even parity`, `key has a weak or semi-weak
+-- DES key in it`.
 abbrev pub key_cases : CipherSuite → List ℕ → List Case
 key_cases suite octets =
     (list_any (λ example. pointwise nat_eq octets example) EXAMPLE_KEYS, warning.KeyExample)
@@ -106,6 +112,8 @@ abbrev pub holder_case : Option ℕ → Case
 holder_case None = (false, warning.KeyOfAccount 0)
 holder_case (Some index) = (true, warning.KeyOfAccount (index + 1))
 
+-- An account's key is neither the realm's nor an earlier account's, or there is a warning. Test: `key is the realm's too`, `key is account
+-- 1's too`.
 abbrev pub shared_cases : List ℕ → List WrittenAccount → List ℕ → List Case
 shared_cases realm_key earlier octets =
     (pointwise nat_eq octets realm_key, warning.KeyOfRealm)
@@ -126,6 +134,6 @@ abbrev pub accounts_found : WrittenRealm → ℕ → List WrittenAccount → Lis
 accounts_found realm index [] = []
 accounts_found realm index (account ∷ rest) = account_found realm index account ++ accounts_found realm (suc index) rest
 
--- the warnings of a realm: of its name, of its key and of each account
+-- The warnings of a realm are those of its name, of its key and of each account, in the order of the file. Test: `warning` of `files.txt`.
 abbrev pub warnings : WrittenRealm → List Found
 warnings realm = met place.File (realm_cases realm.name) ++ met place.File (key_cases realm.suite realm.key) ++ accounts_found realm 0 realm.accounts

@@ -2,6 +2,10 @@
 //!
 //! [`explain`] gives the message of a file's fault: line, word, and what was expected. [`warnings_of`] gives what is likely a slip.
 //! None of them shows a key or a password.
+//!
+//! `warnings_of` gives the warnings whose tests hold of the realm, in the order of the accounts, each in its words (`warnings`,
+//! `found_text`). A `Remark` is displayed as its line and its words (`remark_text`). On which line a warning is, and what `explain` says of
+//! a fault, has no contract.
 #![tactic(auto)]
 
 mod cases;

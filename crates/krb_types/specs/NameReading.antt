@@ -14,6 +14,7 @@ Octets = List ℕ
 abbrev pub octets : List (Vec ℕ Global) → List Octets
 octets name = map (λ component. component.items) name
 
+-- The octets of the realm, if a realm was read.
 abbrev pub option_octets : Option (Vec ℕ Global) → Option Octets
 option_octets realm = option_map (λ octets. octets.items) realm
 
@@ -97,6 +98,7 @@ IsFault read fault = (fault ≡ Memory) ⊎ (read ≡ Err fault)
 abbrev pub is_ascii : Octets → Bool
 is_ascii = list_all (λ octet. nat_lt octet 128)
 
+-- Each octet of each component is below 128.
 abbrev pub are_ascii : List Octets → Bool
 are_ascii = list_all is_ascii
 

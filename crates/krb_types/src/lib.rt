@@ -1,6 +1,10 @@
 //! What Kerberos messages hold (RFC 4120, sections 5.2 to 5.5), and how requests are refused.
 //!
 //! The names, fields and tags are the standard's. `picky_krb` hands these modules on beside the messages.
+//!
+//! Each type is read if and only if the bytes are its one encoding, and is written as that encoding (`Serialize`, `Deserialize`).
+//! `is_same_realm` and `is_same_name` compare by characters. `components_of_text` and `principal_of_text` read a name in text, or give the
+//! fault of the text (RFC 1964, section 2.1.1). A name of ASCII characters that was printed is read again (law `printed_name_is_read`).
 #![tactic(auto)]
 
 pub mod data_types;

@@ -1,4 +1,7 @@
 //! What PKINIT (RFC 4556) and PKU2U send and sign.
+//!
+//! Each type is read if and only if the bytes are its one encoding, and is written as that encoding (`Serialize`, `Deserialize`). An
+//! `AuthPack` holds algorithms and keys of X.509 in their DER encoding only.
 #![tactic(auto)]
 
 mod auth_pack;
