@@ -1,8 +1,10 @@
 //! A copy of a value is the value, for the types of Kerberos.
 //!
-//! [`Copies`] is the law. Each type of the Kerberos messages has it, with the leaves and wrappers of its fields. A type with a
-//! parameter has it where its parameter has. [`RowCopies`] is the law of a record's fields. For the types of X.509 each contract of
-//! `clone` says it.
+//! Each type of the Kerberos messages has the law [`Copies`], with the leaves and wrappers of its fields, and with the faults. A type
+//! with a parameter has it where its parameter has. For the types of X.509 each contract of `clone` says it.
+//!
+//! A copy by `clone` of a value whose type has [`Copies`] is the value (`is_copy`), and [`copy_of`] returns such a copy. Copies of a
+//! record's fields, each by the field's own `clone`, are the fields ([`RowCopies`]).
 #![tactic(auto)]
 
 ghost use Rattle.std.specs.Prelude.{◌≡◌, IfOk};

@@ -1,8 +1,11 @@
 //! `==` of the types of X.509 and Kerberos is equality of values.
 //!
-//! [`Equality`] is the law. Each type of X.509 and of the Kerberos messages has it, with the leaves and wrappers of its fields, and
-//! with the faults. A type with a parameter has it where its parameter has. Of the views, which lend what they show,
-//! [`attribute_views`], [`extension_views`] and [`name_views`] say it of what is borrowed.
+//! Each type of X.509 and of the Kerberos messages has the law [`Equality`], with the leaves and wrappers of its fields, and with the
+//! faults. A type with a parameter has it where its parameter has.
+//!
+//! `==` of two values whose type has [`Equality`] is true exactly where they are one value (`is_equality`), and [`is_one_value`]
+//! compares them so. `==` of two views is true exactly where they borrow one value ([`attribute_views`], [`extension_views`],
+//! [`name_views`]).
 #![tactic(auto)]
 
 ghost use Rattle.std.specs.Prelude.{◌≡◌};

@@ -20,6 +20,7 @@ use Rattle.krb_kdc.specs.Settings.{SettingsState}
 use Rattle.krb_accounts.specs.declared.refusal.RealmRefusal.{RealmRefusal}
 use Rattle.krb_accounts.specs.declared.refusal.RealmRefusal.TheVariants.{BadName, BadKeyLength, Exists, KeptAccount, Unknown}
 
+-- A realm: its name, the limits of its settings, its anchor and its own certificate, and its accounts.
 pub record RealmState : Type 0 where
   pub name : Bytes
   pub settings : SettingsRecord

@@ -4,8 +4,10 @@ use Rattle.gss_message_tokens.specs.Tokens.{MicFields, WrapFields, mic_of, wrap_
 use Rattle.gss_message_tokens.specs.declared.mic.MicToken.{MicToken}
 use Rattle.gss_message_tokens.specs.declared.wrap.WrapToken.{WrapToken}
 
+-- What a MIC token carries, and its payload's octets where it has one (RFC 4121, section 4.2.6.1).
 abbrev pub seen_mic : MicToken → MicFields × Option (List ℕ)
 seen_mic token = (mic_of token, payload_of token.payload)
 
+-- What a wrap token carries, and its payload's octets where it has one (RFC 4121, section 4.2.6.2).
 abbrev pub seen_wrap : WrapToken → WrapFields × Option (List ℕ)
 seen_wrap token = (wrap_of token, payload_of token.payload)

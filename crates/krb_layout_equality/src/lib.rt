@@ -1,7 +1,11 @@
 //! `==` of tokens, PACs and NEGOEX messages is equality of all that contracts see of them.
 //!
-//! These types hold their bytes in a `Vec`, of which a contract tells more than its bytes. Each law speaks of the words by which the
+//! These types hold their bytes in a `Vec`, of which a contract says more than its bytes. Each law speaks of the words by which the
 //! contracts of a type name what a value carries.
+//!
+//! `==` of two tokens, two PACs or two of their buffers is true exactly where a contract sees one thing of both ([`mic_tokens`],
+//! [`wrap_tokens`], [`pacs`], [`buffers`]). So is `==` of two NEGOEX messages, checksums or extensions ([`nego_messages`],
+//! [`exchange_messages`], [`verify_messages`], [`checksums`], [`extensions`]).
 #![tactic(auto)]
 
 ghost use Rattle.std.specs.Prelude.{◌≡◌};

@@ -30,6 +30,7 @@ abbrev pub means_by : ClientBy → KeysRecord → MeansRecord
 means_by (ByKey key) keys = by_key key.suite key.bytes
 means_by (ByCertificate certificate anchor) keys = by_certificate certificate anchor keys
 
+-- A client's means: by its key, or by its certificate with these key functions (RFC 4120, section 3.1.1; RFC 4556, section 3.2.1).
 abbrev pub means_of : ClientState → KeysRecord → MeansRecord
 means_of client keys = means_by client.by keys
 

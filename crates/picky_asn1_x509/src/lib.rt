@@ -2,6 +2,8 @@
 //!
 //! [`from_bytes`] reads a value from every spelling that is accepted for it. [`deviations`] counts what deviates there.
 //! [`to_vec`] writes the strict spelling, and [`encoded_len`] returns its length.
+//!
+//! This crate has no contract of its own. Each item is one of a crate below, with its contract there.
 #![tactic(auto)]
 
 pub use picky_asn1::oid;

@@ -10,6 +10,8 @@
 //! | `picky_krb::from_bytes` | the message that is the whole input | are refused |
 //! | `picky_asn1_der::from_bytes` | the value whose encoding begins the input | stay unread |
 //! | `picky_asn1_der::to_vec` | writes any of these types but tokens, PACs and NEGOEX, which have calls of their own | |
+//!
+//! This crate has no contract of its own. Each item is one of a crate below, with its contract there.
 #![tactic(auto)]
 
 pub use krb_encrypted_data::{OpenFault, open_part, open_whole};

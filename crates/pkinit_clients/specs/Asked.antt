@@ -15,6 +15,7 @@ pub record PkinitAskedRecord : Type 0 where
   pub nonce : ℕ
   pub words : Bytes
 
+-- What a client remembers of a request by certificate, to judge its reply (RFC 4556, section 3.2.4).
 abbrev pub asked_of : held.PkinitAsked → PkinitAskedRecord
 asked_of asked = record {
   realm = asked.realm.now;

@@ -10,5 +10,6 @@ pub record TrustRecord : Type 0 where
   pub anchor : Option AnchorRecord
   pub certificate : Option Bytes
 
+-- The realm's anchor and its own certificate, where it has them (RFC 4556, section 3.2).
 abbrev pub trust_of : Option (Bor AnchorRecord) → Option (Bor Bytes) → TrustRecord
 trust_of anchor certificate = record { anchor = option_copied anchor; certificate = option_copied certificate }

@@ -12,6 +12,7 @@ pub record ExpectedRecord : Type 0 where
   pub anchor : AnchorRecord
   pub moment : Micros
 
+-- The principal that is expected to have signed, with its anchor and the moment (RFC 4556, sections 3.2.2 and 3.2.4).
 abbrev pub expected_of : held.ExpectedSigner → ExpectedRecord
 expected_of expected = record {
   realm = expected.realm.now;

@@ -17,6 +17,7 @@ pub record JudgedRecord : Type 0 where
   pub algorithm : AlgorithmIdentifier
   pub signature : Bytes
 
+-- The parts of signed content that show who signed it (RFC 5652, section 5).
 abbrev pub judged_of : held.JudgedContent → JudgedRecord
 judged_of judged = record {
   content = judged.content.now;

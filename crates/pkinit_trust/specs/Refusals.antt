@@ -9,6 +9,7 @@ use Rattle.pkinit_trust.specs.declared.refusal.TrustRefusal.TheVariants.{Invalid
 use Rattle.pkinit_trust.specs.declared.refusal.TrustFault.{TrustFault}
 use Rattle.pkinit_trust.specs.declared.refusal.TrustFault.TheVariants.{Refused, Memory}
 
+-- The error code of a KRB-ERROR for a refusal of signed content (RFC 4556, section 3.1.3).
 abbrev pub code_of : TrustRefusal → Code
 code_of InvalidCertificate = KDC_ERR_INVALID_CERTIFICATE
 code_of CantVerifyCertificate = KDC_ERR_CANT_VERIFY_CERTIFICATE
