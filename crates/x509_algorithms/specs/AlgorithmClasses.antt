@@ -90,7 +90,8 @@ is_hash content = is_among is_hash_of_digests (octet_behind digests content) || 
 abbrev pub is_signature : List ℕ → Bool
 is_signature content = is_among is_signature_of_ecdsa (octet_behind ecdsa content) || (is_among is_signature_of_nist_signatures (octet_behind nist_signatures content) || is_among is_signature_of_edwards (octet_behind edwards content))
 
--- Other algorithms that have no parameters: X25519, X448 and DSA with SHA-1 (RFC 8410, section 3; RFC 3279, section 2.2.2).
+-- X25519, X448 and DSA with SHA-1 have no parameters: NULL is refused there (RFC 8410, section 3; RFC 3279, section 2.2.2).
+-- Test: `300706032B656E0500` of `standards.txt`, `300B06072A8648CE3804030500` of `standards.txt`.
 abbrev pub is_plain : List ℕ → Bool
 is_plain content = is_among is_plain_of_edwards (octet_behind edwards content) || is_among is_plain_of_dsa (octet_behind dsa content)
 

@@ -17,6 +17,7 @@ use Rattle.x509_algorithms.specs.declared.named.PlainAlgorithm.{PlainAlgorithm}
 use Rattle.x509_algorithms.specs.declared.named.PlainAlgorithm.TheVariants as plain
 use Rattle.x509_algorithms.specs.AlgorithmKinds.{is_parameters_of}
 
+-- The arcs of RSA's object identifier, of its keys and of its signatures by hash (RFC 8017, appendix C; RFC 4055).
 abbrev pub rsa_arcs : RsaAlgorithm → List ℕ
 rsa_arcs rsa.Encryption = oids.rsa_encryption
 rsa_arcs rsa.Md5 = oids.md5_with_rsa_encrypthion
@@ -61,6 +62,7 @@ hash_has_null hash.SHA3_512 = refl
 hash_has_null hash.SHAKE128 = refl
 hash_has_null hash.SHAKE256 = refl
 
+-- The arcs of the object identifier of an algorithm without parameters (RFC 5758, section 3.2; RFC 8410, section 3; RFC 9881, section 2).
 abbrev pub plain_arcs : PlainAlgorithm → List ℕ
 plain_arcs plain.DsaSha1 = oids.dsa_with_sha1
 plain_arcs plain.EcdsaSha256 = oids.ecdsa_with_sha256
@@ -96,6 +98,7 @@ plain_has_none plain.MlDsa44 = refl
 plain_has_none plain.MlDsa65 = refl
 plain_has_none plain.MlDsa87 = refl
 
+-- The arcs of AES-128's object identifier, by mode (NIST, Computer Security Objects Register).
 abbrev pub aes128_arcs : AesMode → List ℕ
 aes128_arcs mode.Ecb = oids.aes128_ecb
 aes128_arcs mode.Cbc = oids.aes128_cbc
@@ -117,6 +120,7 @@ aes128_has mode.Gcm params = refl
 aes128_has mode.Ccm params = refl
 aes128_has mode.WrapPad params = refl
 
+-- The arcs of AES-192's object identifier, by mode (NIST, Computer Security Objects Register).
 abbrev pub aes192_arcs : AesMode → List ℕ
 aes192_arcs mode.Ecb = oids.aes192_ecb
 aes192_arcs mode.Cbc = oids.aes192_cbc
@@ -138,6 +142,7 @@ aes192_has mode.Gcm params = refl
 aes192_has mode.Ccm params = refl
 aes192_has mode.WrapPad params = refl
 
+-- The arcs of AES-256's object identifier, by mode (NIST, Computer Security Objects Register).
 abbrev pub aes256_arcs : AesMode → List ℕ
 aes256_arcs mode.Ecb = oids.aes256_ecb
 aes256_arcs mode.Cbc = oids.aes256_cbc

@@ -1,4 +1,8 @@
 //! Identifiers of algorithms with their parameters, and of digests, each with its spellings (RFC 5280, section 4.1.1.2).
+//!
+//! An algorithm and a digest are read from each accepted spelling, their deviations are counted, and they are written in DER (`Spelled`).
+//! The parameters are of the kind that the class of the algorithm's identifier decides. Each maker of `AlgorithmIdentifier` returns the
+//! identifier and the parameters that its name says (`IsMade`).
 #![tactic(auto)]
 
 mod algorithm_class;

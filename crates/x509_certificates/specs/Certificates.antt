@@ -15,6 +15,8 @@ use Rattle.x509_certificates.specs.declared.version_field.VersionField.{VersionF
 abbrev pub NameSets : Type 0
 NameSets = List (List AttributeTypeAndValue)
 
+-- A TBSCertificate ends with its extensions: issuerUniqueID and subjectUniqueID are refused (RFC 5280, section 4.1.2.8).
+-- No test: the contract alone covers it.
 abbrev pub TbsRow : Type 0
 TbsRow =
     DefaultField VersionField × (ℤ × (AlgorithmIdentifier × (NameSets × (Validity × (NameSets × (SubjectPublicKeyInfo × CertificateExtensions))))))

@@ -7,11 +7,12 @@ abbrev pub has_some : {A : Type 0} → List A → Bool
 has_some [] = false
 has_some (first ∷ rest) = true
 
--- an empty list is written as nothing
+-- An empty list of extensions is refused (RFC 5280, section 4.1.2.9). No test: the contract alone covers it.
 abbrev pub is_written : Option (Explicit 3 (List Extension)) → Bool
 is_written None = true
 is_written (Some field) = has_some field.0
 
+-- The extensions of a certificate: none where the field is missing (RFC 5280, section 4.1.2.9).
 abbrev pub extensions_in : Option (Explicit 3 (List Extension)) → List Extension
 extensions_in None = []
 extensions_in (Some field) = field.0

@@ -1,4 +1,8 @@
 //! Certificates (RFC 5280, section 4.1) and requests for them (RFC 2986).
+//!
+//! Each type is read from each accepted spelling, its deviations are counted, and it is written in DER (`Spelled`). `with_signed_part` also
+//! returns the signed bytes as they are in the input, and never a new encoding. A reader of `Certificate` returns the first
+//! extension of its kind. `with_attribute` and `add_attribute` append the attribute to those of a request.
 #![tactic(auto)]
 
 mod certificate;

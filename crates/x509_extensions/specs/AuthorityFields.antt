@@ -33,10 +33,12 @@ field_back (SerialNumber number) = refl
 
 -- a field under its tag
 
+-- A field that may be missing, under its implicit tag (X.680, section 31.2).
 abbrev pub implicit : {T : Type 0} (n : ℕ) → Option T → Option (ImplicitContextTag n T)
 implicit n None = None
 implicit n (Some field) = Some (record { 0 = field })
 
+-- A field that may be missing, under its explicit tag (X.680, section 31.2).
 abbrev pub explicit : {T : Type 0} (n : ℕ) → Option T → Option (ExplicitContextTag n T)
 explicit n None = None
 explicit n (Some field) = Some (record { 0 = field })

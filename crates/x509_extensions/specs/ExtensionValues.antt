@@ -35,6 +35,8 @@ extension_number (first ∷ second ∷ number ∷ other ∷ octets) = 0
 abbrev pub Held : Type 0 → Type 0
 Held T = Enclosed T × ⊤
 
+-- The value of keyUsage is a BIT STRING whose unused bits are zero (RFC 5280, section 4.2.1.3; X.690, section 11.2.1).
+-- Test: `030201A1` of `standards.txt`.
 abbrev pub ExtensionKinds : Type 0
 ExtensionKinds =
     KindOf (Held AuthorityKeyIdentifier) (KindOf (Held (List ℕ)) (KindOf (Held KeyUsage) (KindOf (Held (List GeneralName)) (KindOf (Held (List GeneralName))
@@ -46,7 +48,8 @@ held container = (record { 0 = container.0 }, tt)
 abbrev boxed : {T : Type 0} → Held T → OctetStringContainer T
 boxed fields = record { 0 = fields.0.0 }
 
--- the value as one of nine kinds
+-- An extension's value is of the kind that its identifier decides. An unknown extension keeps its octets (RFC 5280, section 4.2).
+-- Test: `published.txt`, `30170603551d200410300e300c060a60864801650302013009` of `published.txt`.
 abbrev pub kinds_of : ExtensionValue → ExtensionKinds
 kinds_of (kind.AuthorityKeyIdentifier value) = This (held value)
 kinds_of (kind.SubjectKeyIdentifier value) = Other (This (held value))

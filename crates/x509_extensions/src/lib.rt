@@ -1,5 +1,10 @@
 //! Extensions of certificates (RFC 5280, sections 4.1.2.9 and 4.2), each with its encodings, and key usages (sections 4.2.1.3
 //! and 4.2.1.12).
+//!
+//! Each type is read from each accepted spelling, its deviations are counted, and it is written in DER (`Spelled`). The value of an
+//! extension has the type that its identifier decides, and an unknown extension keeps its octets. The makers of `Extension` return a
+//! noncritical extension of that identifier and value (`IsMade`). A setter of `KeyUsage` changes that one use (`IsSet`), or nothing where
+//! it fails.
 #![tactic(auto)]
 
 mod authority_field;

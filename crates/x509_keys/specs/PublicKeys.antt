@@ -14,6 +14,8 @@ use Rattle.x509_spelling.specs.declared.strict.Strict.{Strict}
 use Rattle.x509_keys.specs.declared.public_key.PublicKey.{PublicKey}
 use Rattle.x509_keys.specs.declared.public_key.PublicKey.TheVariants as kind
 
+-- The BIT STRING of RSA's key has no unused bits (RFC 5280, section 4.1.2.7).
+-- Test: `301A300D06092A864886F70D01010105000309013006020105020103` of `standards.txt`.
 abbrev pub PublicKinds : Type 0
 PublicKinds = KindOf (Strict (BitStringContainer RsaPublicKey) × ⊤) (KindOf (Bits × ⊤) (KindOf (Bits × ⊤) (LastKind (Bits × ⊤))))
 

@@ -39,7 +39,7 @@ cut_last xs d some =
     let below : length xs - 1 < length xs = omega (arith, some) in
     sym (take_all (length xs - 1 + 1) xs above) ∙ take_more xs (length xs - 1) d below
 
--- the octets behind the first, from those before the last
+-- the octets after the first, from those before the last
 behind_last : (octets : List ℕ) (last : ℕ) → escaped_behind (octets ++ last ∷ []) ≡ flat_map escaped octets ++ last_escaped last
 behind_last [] last = refl
 behind_last (octet ∷ []) last = ap (λ front. front ++ last_escaped last) (sym (append-nil (escaped octet)))

@@ -8,5 +8,6 @@ abbrev assigner : Option DirectoryString → Option (ExplicitContextTag 0 Direct
 assigner None = None
 assigner (Some name) = Some (record { 0 = name })
 
+-- An EDIPartyName of a partyName and perhaps a nameAssigner (RFC 5280, section 4.2.1.6).
 abbrev pub edi_name : DirectoryString → Option DirectoryString → EdiPartyName
 edi_name party_name name_assigner = record { name_assigner = record { 0 = assigner name_assigner }; party_name = record { 0 = party_name } }

@@ -24,6 +24,7 @@ attribute_number attribute.OrganizationalUnitName = 11
 attribute_number attribute.GivenName = 42
 attribute_number attribute.Phone = 20
 
+-- The arcs of an attribute's object identifier: id-at (2.5.4) and its number (X.520, section 6).
 abbrev pub attribute_arcs : NameAttr → List ℕ
 attribute_arcs name = 2 ∷ 5 ∷ 4 ∷ attribute_number name ∷ []
 

@@ -54,6 +54,7 @@ abbrev pub common_name_among : List AttributeTypeAndValue → Option DirectorySt
 common_name_among [] = None
 common_name_among (v ∷ vs) = or_else (common_name_of v) (common_name_among vs)
 
+-- The first commonName of a name, in the order of its sets (RFC 5280, section 4.1.2.4).
 abbrev pub first_common_name : List (List AttributeTypeAndValue) → Option DirectoryString
 first_common_name [] = None
 first_common_name (set ∷ sets) = or_else (common_name_among set) (first_common_name sets)

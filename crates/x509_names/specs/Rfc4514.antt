@@ -65,7 +65,7 @@ first_escaped octet = if (octet == 32) || (octet == 35) then 92 ∷ encode_utf8 
 abbrev pub last_escaped : ℕ → List ℕ
 last_escaped octet = if octet == 32 then 92 ∷ encode_utf8 octet else escaped octet
 
--- the octets behind the first
+-- the octets after the first
 abbrev pub escaped_behind : List ℕ → List ℕ
 escaped_behind [] = []
 escaped_behind (octet ∷ []) = last_escaped octet

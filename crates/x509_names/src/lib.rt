@@ -1,4 +1,8 @@
 //! Names of X.509 (RFC 5280, sections 4.1.2.4 and 4.2.1.6), which are spelled in one way.
+//!
+//! Each type is read if and only if the bytes are its DER (`Exact`), and is written as that. The value of an attribute has the type that
+//! its identifier decides. The makers of attributes return what their names say, and `Name::find_common_name` returns the first common
+//! name. What is printed of a name is proved.
 #![tactic(auto)]
 
 mod agreed;

@@ -1,5 +1,8 @@
 //! Values of which an object identifier in front of them decides the kind, as those of extensions, attributes and
 //! algorithms' parameters.
+//!
+//! For one object identifier, bytes have at most one value of the kind that it decides. `read_identified`, `read_chosen`, `read_chosen_in`
+//! and `read_chosen_behind` return that value and its count of deviations, or refuse bytes that have none.
 #![tactic(auto)]
 
 mod chosen;

@@ -4,6 +4,7 @@ use Rattle.picky_asn1.specs.declared.wrapper.ObjectIdentifierAsn1.{ObjectIdentif
 use Rattle.x509_parameters.specs.declared.ec_parameters.EcParameters.{EcParameters}
 use Rattle.x509_parameters.specs.declared.ec_parameters.EcParameters.TheVariants.{NamedCurve}
 
+-- The object identifier of the named curve (RFC 5480, section 2.1.1).
 abbrev pub curve : EcParameters → ObjectIdentifierAsn1
 curve (NamedCurve oid) = oid
 

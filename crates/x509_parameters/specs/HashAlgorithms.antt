@@ -9,6 +9,7 @@ use Rattle.x509_parameters.specs.declared.hash_algorithm.HashAlgorithm.TheVarian
 use Rattle.x509_parameters.specs.declared.hash_algorithm.HashOid.{HashOid}
 use Rattle.asn1_der.specs.Octets.{sequence_octet}
 
+-- The arcs of a hash algorithm's object identifier (NIST, Computer Security Objects Register).
 abbrev pub hash_arcs : HashAlgorithm → List ℕ
 hash_arcs hash.SHA224 = oids.sha224
 hash_arcs hash.SHA256 = oids.sha256

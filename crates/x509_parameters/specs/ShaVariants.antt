@@ -6,6 +6,7 @@ use Rattle.x509_parameters.specs.Arcs.{nist_hashes}
 use Rattle.x509_parameters.specs.declared.sha_variant.ShaVariant.{ShaVariant}
 use Rattle.x509_parameters.specs.declared.sha_variant.ShaVariant.TheVariants as hash
 
+-- The arcs of a hash algorithm's object identifier, MD5 and SHA-1 among them (RFC 8017, appendix B.1).
 abbrev pub sha_arcs : ShaVariant → List ℕ
 sha_arcs hash.MD5 = oids.md5
 sha_arcs hash.SHA1 = oids.sha1

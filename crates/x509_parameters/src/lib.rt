@@ -1,4 +1,8 @@
 //! Parameters of algorithms, each with its spellings: hashes, RSASSA-PSS, curves and AES (RFC 8017, RFC 5480, RFC 5084).
+//!
+//! Hashes and the parameters of RSASSA-PSS are read from each accepted spelling, their deviations are counted, and they are written in DER
+//! (`Spelled`). Curves and parameters of AES are read if and only if the bytes are their DER (`Exact`). `HashAlgorithm::identifier` and
+//! `ShaVariant::identifier` return the object identifier of the hash.
 #![tactic(auto)]
 
 mod aes_parameters;

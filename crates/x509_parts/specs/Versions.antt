@@ -5,6 +5,7 @@ use Rattle.std.proofs.lemmas.Bool.{eqb-true}
 use Rattle.x509_parts.specs.declared.version.Version.{Version}
 use Rattle.x509_parts.specs.declared.version.Version.TheVariants.{V1, V2, V3}
 
+-- The number of a version: v1 is 0, v2 is 1 and v3 is 2 (RFC 5280, section 4.1.2.1).
 abbrev pub version_number : Version → ℕ
 version_number V1 = 0
 version_number V2 = 1

@@ -2,6 +2,9 @@
 //!
 //! The names and fields are the ported crate's. [`from_bytes`] reads a value from every spelling that is accepted for it,
 //! [`deviations`] counts what deviates there, and [`to_vec`] writes the strict spelling.
+//!
+//! The value and its count are those that `Spelled` of the type defines, and an exact type has a count of 0 alone. `Time::moment` is the
+//! moment of a time of either type. What is printed of a time and of a string is proved.
 #![tactic(auto)]
 
 mod basic_constraints;

@@ -55,7 +55,8 @@ is_private_of {P} arcs key behind =
     case_belongs (λ oid. is_rsa (oid_content oid)) (case_belongs (λ oid. is_elliptic (oid_content oid)) (λ oid (last : LastKind (Held P (List ℕ))). is_named_curve (oid_content oid)))
     arcs (private_kinds key behind)
 
--- version 1 if a public key follows, else 0 (RFC 5958, section 2)
+-- The version of a OneAsymmetricKey is v2 (1) exactly where a publicKey is present, else v1 (0) (RFC 5958, section 2).
+-- Test: `302E020101300506032B657004220420D4EE72DBF913584AD5B6D8F1F769F8AD3AFE7C28CBF1D4FBE097A88F44755842` of `standards.txt`.
 abbrev pub version_with : {P : Type 0} → Option P → ℕ
 version_with None = 0
 version_with (Some key) = 1

@@ -2,6 +2,7 @@
 use Rattle.std.specs.Prelude.{◌≡◌, ℕ, Option, None, Some, refl}
 use Rattle.picky_asn1_der.specs.declared.wrapper.ExplicitContextTag.{ExplicitContextTag}
 
+-- A field that may be missing, under its explicit tag (X.680, section 31.2).
 abbrev pub under : {A : Type 0} {N : ℕ} → Option A → Option (ExplicitContextTag N A)
 under None = None
 under (Some value) = Some (record { 0 = value })

@@ -6,6 +6,7 @@ use Rattle.x509_spelling.specs.declared.counted.Counted.{Counted}
 use Rattle.x509_spelling.specs.declared.fault.X509Fault.{X509Fault}
 use Rattle.x509_spelling.specs.declared.fault.X509Fault.TheVariants.{Der, Leaf, Meaning, Memory}
 
+-- The number of a fault of X.509, from 1 to 4.
 abbrev pub fault_number : X509Fault → ℕ
 fault_number Der = 1
 fault_number Leaf = 2

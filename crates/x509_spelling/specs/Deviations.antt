@@ -2,25 +2,35 @@
 use Rattle.std.specs.Prelude.{ℕ, Bool, true, false}
 
 pub data Deviation : Type 0 where
-  -- an extension's `critical` is FALSE and is spelled out (RFC 5280, section 4.1)
+  -- The `critical` of an extension that is FALSE may be present, against DER: it is read and counted (RFC 5280, section 4.1).
+  -- Test: `critical of an extension spelled out as FALSE`.
   critical_false_spelled : Deviation
-  -- `cA` of basic constraints is FALSE and is spelled out (RFC 5280, section 4.2.1.9)
+  -- The `cA` of basic constraints that is FALSE may be present, against DER: it is read and counted (RFC 5280, section 4.2.1.9).
+  -- Test: `cA of basic constraints spelled out as FALSE`.
   ca_false_spelled : Deviation
-  -- a certificate's version is v1 and is spelled out (RFC 5280, section 4.1)
+  -- The `version` of a certificate that is v1 may be present, against DER: it is read and counted (RFC 5280, section 4.1).
+  -- Test: `TbsCertificate` of `openssl.txt`.
   version_1_spelled : Deviation
-  -- an algorithm of the RSA family has no parameters in place of NULL (RFC 4055, sections 1.2 and 5)
+  -- The parameters NULL of an algorithm of the RSA family may be missing: that is read and counted (RFC 4055, sections 1.2 and 5).
+  -- Test: `no NULL beside an algorithm of the RSA family`.
   null_missing : Deviation
-  -- an algorithm that has no parameters has NULL (RFC 5758, section 3.2; RFC 8410, section 3)
+  -- NULL may follow ECDSA, EdDSA or ML-DSA, which have no parameters: it is read and counted (RFC 5758, section 3.2; RFC 8410,
+  -- section 3; RFC 9881, section 2). Test: `NULL beside an algorithm that has no parameters`.
   null_spelled : Deviation
-  -- an algorithm of which nothing is known has no parameters, which are written as NULL
+  -- Where any algorithm is read (RawAlgorithmIdentifier), its parameters may be missing: that is counted, and NULL is written (RFC
+  -- 5280, section 4.1.1.2). Test: `no parameters beside an algorithm of which nothing`.
   raw_parameters_missing : Deviation
-  -- a hash has no parameters in place of NULL (RFC 8017, appendix A.2.4; RFC 4055, section 2.1)
+  -- The parameters NULL of a hash may be missing in a DigestInfo and in RSASSA-PSS: that is read and counted (RFC 8017, appendix
+  -- A.2.4; RFC 4055, section 2.1). Test: `no NULL beside the hash of a digest, or of RSASSA-PSS`.
   hash_parameters_missing : Deviation
-  -- a field of an authority key identifier follows one of greater tag (RFC 5280, section 4.2.1.1)
+  -- The fields of an authority key identifier may be in another order than that of their tags: it counts once (RFC 5280, section
+  -- 4.2.1.1). Test: `fields of an authority key identifier out of order`.
   fields_out_of_order : Deviation
-  -- a field of an authority key identifier is there again
+  -- A field of an authority key identifier may be repeated: the last one is the value, and each other one counts (RFC 5280,
+  -- section 4.2.1.1). Test: `a field of an authority key identifier twice,`.
   field_repeated : Deviation
-  -- a certification request has no attributes, not even an empty set of them (RFC 2986, section 4.1)
+  -- The `attributes` of a certification request may be missing: that is read and counted (RFC 2986, section 4.1).
+  -- Test: `CertificationRequestInfo` of `openssl.txt`.
   attributes_missing : Deviation
 
 -- a place counts one where the deviation is there

@@ -10,7 +10,8 @@ abbrev pub der_fault_of : X509Fault → Asn1DerError
 der_fault_of fault.Memory = Memory
 der_fault_of other = InvalidData
 
--- memory ran out, or the bytes are the strict spelling of no value
+-- Inside a message of Kerberos a value of X.509 is read from its DER alone: each deviation is refused (X.690, section 10).
+-- Test: `SEQUENCE:auth_pack_without_null` of `pkinit_refused.txt`.
 abbrev pub IsNoStrict : {T : Type 0} → (T → List ℕ → ℕ → Type 0) → List ℕ → Asn1DerError → Type 0
 IsNoStrict {T} spells bytes told =
     (told ≡ Memory) ⊎ ((told ≡ InvalidData) × ((value : T) → spells value bytes 0 → ⊥))

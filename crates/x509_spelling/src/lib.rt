@@ -3,6 +3,10 @@
 //! Certificates in the field aren't always DER: some spell out a default, or leave out a NULL. A [`Spelled`] type says
 //! which such bytes are read as which value, and counts what deviates in them; it is written strictly. [`from_bytes`]
 //! reads a value, [`deviations`] counts, and [`to_vec`] writes: it gives the same bytes exactly where the count is 0.
+//!
+//! Bytes have at most one value and one count of deviations. `from_bytes` reads the whole input and returns that value, and `deviations`
+//! the count. `to_vec` writes DER, which is the input again exactly where the count is 0. `with_signed_part` returns the signed bytes as
+//! they are in the input, and `read_strict` reads DER alone.
 #![tactic(auto)]
 
 mod agreeing;
