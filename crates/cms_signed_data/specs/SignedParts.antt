@@ -6,6 +6,7 @@ use Rattle.cms_types.specs.contracts.signed_attributes.SignedAttributesTagged.Th
 use Rattle.cms_types.specs.declared.content_info.ContentInfo.{ContentInfo}
 use Rattle.cms_types.specs.declared.signed_attributes.SignedAttributes.{SignedAttributes}
 
+-- Signed data, with the octets of its certificate and of its signed attributes as they are in the input (RFC 5652, section 5).
 pub record SignedParts : Type 0 where
   pub info : ContentInfo
   pub certificate : List ℕ
@@ -17,13 +18,15 @@ abbrev pub as_set : List ℕ → List ℕ
 as_set [] = []
 as_set (first ∷ rest) = 0x31 ∷ rest
 
--- the content, its digest as the signed attributes have it, and the signature
+-- The octets of eContent (RFC 5652, section 5.2).
 abbrev pub content_of : ContentInfo → List ℕ
 content_of info = info.content.0.encap_content_info.content.0
 
+-- The digest of the content, as the attribute message-digest has it (RFC 5652, section 11.2).
 abbrev pub digest_of : ContentInfo → List ℕ
 digest_of info = info.content.0.signer_infos.0.signed_attributes.message_digest.values.0
 
+-- The octets of the signature (RFC 5652, section 5.3).
 abbrev pub signature_of : ContentInfo → List ℕ
 signature_of info = info.content.0.signer_infos.0.signature
 

@@ -31,6 +31,7 @@ module _ (sign : List ℕ → Option Signed) (content_type content given bytes :
       let held = (parts_held (info_of content_type content w.value w.signed) bytes w.count w.spelled).attributes_at in
       subst (λ (l : List ℕ). IsPart bytes attributes_place l) held.is.0.1 (part_there bytes held.inner attributes_place held.leads)
 
+  -- The parts of what is written: the given certificate, and the DER of the signed attributes (RFC 5652, section 5).
   abbrev pub written_parts : SignedParts
   written_parts = record {
     info = info_of content_type content w.value w.signed;

@@ -19,20 +19,23 @@ use Rattle.cms_types.specs.SignedRows.{signer_row, signed_row, content_row}
 use Rattle.cms_types.specs.SpelledElements.{SpellsElements, Ends, Row, Found, ended, held_are, row_some, row_front, row_behind, found_on, alone_in, second_in}
 use Rattle.asn1_der.specs.Octets.{octet_string_octet, sequence_octet, set_octet}
 
--- paths from the ContentInfo: to the OCTET STRING eContent, to the certificate, and to the signed attributes. Then to the OCTET
--- STRINGs of message-digest and of signature.
+-- The path from the ContentInfo to the OCTET STRING eContent (RFC 5652, section 5.2).
 abbrev pub content_place : List ℕ
 content_place = 1 ∷ 0 ∷ 2 ∷ 1 ∷ 0 ∷ []
 
+-- The path from the ContentInfo to the one certificate (RFC 5652, section 5.1).
 abbrev pub certificate_place : List ℕ
 certificate_place = 1 ∷ 0 ∷ 3 ∷ 0 ∷ []
 
+-- The path from the ContentInfo to signedAttrs of the one signer (RFC 5652, section 5.3).
 abbrev pub attributes_place : List ℕ
 attributes_place = 1 ∷ 0 ∷ 4 ∷ 0 ∷ 3 ∷ []
 
+-- The path from the ContentInfo to the OCTET STRING of message-digest (RFC 5652, section 11.2).
 abbrev pub digest_place : List ℕ
 digest_place = 1 ∷ 0 ∷ 4 ∷ 0 ∷ 3 ∷ 1 ∷ 1 ∷ 0 ∷ []
 
+-- The path from the ContentInfo to the OCTET STRING signature of the one signer (RFC 5652, section 5.3).
 abbrev pub signature_place : List ℕ
 signature_place = 1 ∷ 0 ∷ 4 ∷ 0 ∷ 5 ∷ []
 

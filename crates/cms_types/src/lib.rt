@@ -3,6 +3,10 @@
 //!
 //! The types are read like those of X.509: the certificate and the algorithms may deviate from DER, and the deviations are
 //! counted. [`OfForm`] judges what the types leave open: versions, identifiers and algorithms.
+//!
+//! Each type is read from each accepted spelling, its deviations are counted, and it is written in DER (`Spelled`). `OfForm::is_of_form`
+//! is true exactly of the values of the one form (`has_form`). The places of certificate, content, signed attributes, digest and signature
+//! in the bytes follow from the spelling (law `parts_held` in `specs/`).
 #![tactic(auto)]
 
 mod content_info;

@@ -15,6 +15,7 @@ pub data TheirValue : Type 0 where
   WholeValue : Raw → TheirValue
   ValueBits : Bits → TheirValue
 
+-- The public value that the peer sent (RFC 4556, sections 3.2.1 and 3.2.3.1).
 abbrev pub theirs_of : lent.Theirs → TheirValue
 theirs_of (variant.Whole element) = WholeValue element.now
 theirs_of (variant.Bits bits) = ValueBits bits.now

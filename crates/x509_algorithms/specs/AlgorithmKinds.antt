@@ -23,8 +23,8 @@ AlgorithmKinds =
     KindOf (Implied ⊤ × ⊤) (KindOf (⊤ × ⊤) (KindOf (DefaultField ⊤ × ⊤) (KindOf ⊤
     (KindOf (EcParameters × ⊤) (KindOf (RsassaPssParams × ⊤) (LastKind (AesParameters × ⊤)))))))
 
--- The parameters are of the kind that the algorithm's identifier decides: with an unknown algorithm they are refused (RFC 5280, section
--- 4.1.1.2). Test: `300606022A030500` of `standards.txt`, `300F06092A864886F70D01010106022A03` of `standards.txt`.
+-- The parameters of an AlgorithmIdentifier are of the kind that its identifier decides, and an unknown algorithm is refused (RFC 5280,
+-- section 4.1.1.2). Test: `300606022A030500` of `standards.txt`, `300F06092A864886F70D01010106022A03` of `standards.txt`.
 abbrev pub belongs : List ℕ → AlgorithmKinds → Bool
 belongs =
     case_belongs (λ arcs. is_rsa (oid_content arcs)) (case_belongs (λ arcs. is_hash (oid_content arcs)) (case_belongs (λ arcs. is_signature (oid_content arcs))

@@ -17,8 +17,8 @@ pub data Deviation : Type 0 where
   -- NULL may follow ECDSA, EdDSA or ML-DSA, which have no parameters: it is read and counted (RFC 5758, section 3.2; RFC 8410,
   -- section 3; RFC 9881, section 2). Test: `NULL beside an algorithm that has no parameters`.
   null_spelled : Deviation
-  -- The parameters of an unknown algorithm may be missing: that is read and counted, and NULL is written (RFC 5280, section
-  -- 4.1.1.2). Test: `no parameters beside an algorithm of which nothing`.
+  -- Where any algorithm is read (RawAlgorithmIdentifier), its parameters may be missing: that is counted, and NULL is written (RFC
+  -- 5280, section 4.1.1.2). Test: `no parameters beside an algorithm of which nothing`.
   raw_parameters_missing : Deviation
   -- The parameters NULL of a hash may be missing in a DigestInfo and in RSASSA-PSS: that is read and counted (RFC 8017, appendix
   -- A.2.4; RFC 4055, section 2.1). Test: `no NULL beside the hash of a digest, or of RSASSA-PSS`.
