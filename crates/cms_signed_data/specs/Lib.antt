@@ -5,5 +5,6 @@ pub mod PartSlices
 pub mod SignedContents
 pub mod SignedLaws
 pub mod SignedParts
+pub mod Covered
 pub mod Written
 pub mod WrittenLaws

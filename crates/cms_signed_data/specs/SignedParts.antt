@@ -1,5 +1,5 @@
 -- Signed data with two of its parts as bytes.
-use Rattle.std.specs.Prelude.{ℕ, List, [], ◌∷◌}
+use Rattle.std.specs.Prelude.{ℕ, List}
 use Rattle.asn1_der.specs.Tree.{Tree}
 use Rattle.asn1_der.specs.Tagged.{tagged_tree}
 use Rattle.cms_types.specs.contracts.signed_attributes.SignedAttributesTagged.TheImpl as attributes_impl
@@ -11,12 +11,6 @@ pub record SignedParts : Type 0 where
   pub info : ContentInfo
   pub certificate : List ℕ
   pub signed_attributes : List ℕ
-
--- A signature covers the signed attributes as they are in the input, with the tag of a SET OF in place of [0] (RFC 5652, section 5.4).
--- Test: `good: signature over first byte A0`, `good: plain`, `signed_attributes_with_context_tag.edit`.
-abbrev pub as_set : List ℕ → List ℕ
-as_set [] = []
-as_set (first ∷ rest) = 0x31 ∷ rest
 
 -- The octets of eContent (RFC 5652, section 5.2).
 abbrev pub content_of : ContentInfo → List ℕ

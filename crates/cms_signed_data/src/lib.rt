@@ -12,6 +12,7 @@
 
 mod around;
 mod assembling;
+mod covered;
 mod fault;
 pub mod laws;
 mod signed_content;

@@ -1,10 +1,12 @@
 //! Signed content of one form: what is borrowed of its bytes, and how it is written.
-ghost use Rattle.std.specs.Prelude.{◌≡◌, ◌⊎◌, ℕ, IfOk, IsTrue, MatchOption, MatchResult};
+ghost use Rattle.std.specs.Prelude.{◌≡◌, ◌⊎◌, ℕ, IsTrue, MatchOption, MatchResult};
 ghost use Rattle.cms_signed_data.specs.SignedContents.{IsSignedContent, Reads};
-ghost use Rattle.cms_signed_data.specs.SignedParts.{as_set, content_of, digest_of, signature_of};
+ghost use Rattle.cms_signed_data.specs.Covered.{as_set};
+ghost use Rattle.cms_signed_data.specs.SignedParts.{content_of, digest_of, signature_of};
 ghost use Rattle.cms_signed_data.specs.Written.{IsWritten, IsUnsigned, IsNoCertificate};
 
 use crate::around::info_around;
+use crate::covered::as_set;
 use crate::fault::SignedFault;
 use crate::slices::Slices;
 use crate::written_parts::{attribute_bytes, signer_bytes, signer_id};
@@ -12,7 +14,7 @@ use cms_types::{ContentInfo, OfForm};
 use key_functions::KeyFunctions;
 use picky_asn1::oid::ObjectIdentifier;
 use picky_asn1::wrapper::IntegerAsn1;
-use std::alloc::{AllocError, Global};
+use std::alloc::Global;
 use std::marker::Model;
 use x509_algorithms::AlgorithmIdentifier;
 use x509_names::Name;
@@ -29,7 +31,8 @@ pub struct SignedContent<'a> {
 
 impl<'a> Model for SignedContent<'a> {
     ghost use Rattle.std.specs.Prelude.{◌≡◌};
-    ghost use Rattle.cms_signed_data.specs.SignedParts.{SignedParts, as_set, content_of, digest_of, signature_of};
+    ghost use Rattle.cms_signed_data.specs.Covered.{as_set};
+    ghost use Rattle.cms_signed_data.specs.SignedParts.{SignedParts, content_of, digest_of, signature_of};
 
     ghost Value = { SignedParts };
 
@@ -50,7 +53,7 @@ impl<'a> SignedContent<'a> {
         let Some(slices) = Slices::of_bytes(bytes) else {
             return Err(SignedFault::Unreadable);
         };
-        let judged = judged_of(alloc, slices.signed_attributes)?;
+        let judged = as_set(alloc, slices.signed_attributes)?;
         let info: ContentInfo = read_of_form(alloc, bytes)?;
         Ok(SignedContent {
             info,
@@ -151,7 +154,7 @@ impl<'a> SignedContent<'a> {
     {
         let id = signer_id(alloc, certificate)?;
         let attributes = attribute_bytes(alloc, content_type, content)?;
-        let judged = judged_of(alloc, &attributes)?;
+        let judged = as_set(alloc, &attributes)?;
         let Some(signed) = keys.sign(alloc, &judged)? else {
             return Ok(None);
         };
@@ -170,16 +173,4 @@ fn read_of_form<T: OfForm + Drop>(alloc: Global, bytes: &[u8]) -> Result<T, Sign
         return Err(SignedFault::Unreadable);
     }
     Ok(value)
-}
-
-// The signed attributes as a SET OF.
-fn judged_of(alloc: Global, attributes: &[u8]) -> Result<Vec<u8>, AllocError>
-    ensures { IfOk result (λ judged. judged.items ≡ as_set attributes.now) }
-{
-    let Some((_, rest)) = attributes.split_first() else {
-        return Ok(Vec::new(alloc));
-    };
-    let mut judged = vec![in alloc; 0x31u8]?;
-    judged.extend_from_slice(rest)?;
-    Ok(judged)
 }
