@@ -22,7 +22,7 @@ use Rattle.x509_spelling.specs.declared.fault.X509Fault.TheVariants as x509
 use Rattle.x509_certificates.specs.declared.certificate.Certificate.{Certificate}
 use Rattle.cms_signed_data.specs.Faults.{fault_of}
 use Rattle.cms_signed_data.specs.Around.{IsInfoAround}
-use Rattle.cms_signed_data.specs.Covered.{as_set}
+use Rattle.cms_signed_attributes.specs.Covered.{as_set}
 use Rattle.cms_signed_data.specs.SignedParts.{attributes_tree}
 use Rattle.cms_signed_data.specs.Written.{sha256_algorithm, encapsulated_of, attributes_of, signed_bytes, id_of, id_tree, signer_of, IsWritten, IsUnsigned, IsNoCertificate}
 use Rattle.key_functions.specs.declared.functions.Signed.{Signed}

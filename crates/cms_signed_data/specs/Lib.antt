@@ -5,6 +5,5 @@ pub mod PartSlices
 pub mod SignedContents
 pub mod SignedLaws
 pub mod SignedParts
-pub mod Covered
 pub mod Written
 pub mod WrittenLaws

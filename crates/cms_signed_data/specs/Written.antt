@@ -19,7 +19,7 @@ use Rattle.cms_types.specs.declared.signed_data.SignedData.{SignedData}
 use Rattle.cms_types.specs.declared.signer_info.IssuerAndSerialNumber.{IssuerAndSerialNumber}
 use Rattle.cms_types.specs.declared.signer_info.SignerInfo.{SignerInfo}
 use Rattle.cms_types.specs.Parts.{certificate_place}
-use Rattle.cms_signed_data.specs.Covered.{as_set}
+use Rattle.cms_signed_attributes.specs.Covered.{as_set}
 use Rattle.cms_signed_data.specs.SignedParts.{attributes_tree}
 use Rattle.asn1_der.specs.Octets.{sequence_octet}
 

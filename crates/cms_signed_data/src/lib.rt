@@ -12,7 +12,6 @@
 
 mod around;
 mod assembling;
-mod covered;
 mod fault;
 pub mod laws;
 mod signed_content;

@@ -1,15 +1,15 @@
 //! Signed content of one form: what is borrowed of its bytes, and how it is written.
 ghost use Rattle.std.specs.Prelude.{◌≡◌, ◌⊎◌, ℕ, IsTrue, MatchOption, MatchResult};
 ghost use Rattle.cms_signed_data.specs.SignedContents.{IsSignedContent, Reads};
-ghost use Rattle.cms_signed_data.specs.Covered.{as_set};
+ghost use Rattle.cms_signed_attributes.specs.Covered.{as_set};
 ghost use Rattle.cms_signed_data.specs.SignedParts.{content_of, digest_of, signature_of};
 ghost use Rattle.cms_signed_data.specs.Written.{IsWritten, IsUnsigned, IsNoCertificate};
 
 use crate::around::info_around;
-use crate::covered::as_set;
 use crate::fault::SignedFault;
 use crate::slices::Slices;
 use crate::written_parts::{attribute_bytes, signer_bytes, signer_id};
+use cms_signed_attributes::as_set;
 use cms_types::{ContentInfo, OfForm};
 use key_functions::KeyFunctions;
 use picky_asn1::oid::ObjectIdentifier;
@@ -31,7 +31,7 @@ pub struct SignedContent<'a> {
 
 impl<'a> Model for SignedContent<'a> {
     ghost use Rattle.std.specs.Prelude.{◌≡◌};
-    ghost use Rattle.cms_signed_data.specs.Covered.{as_set};
+    ghost use Rattle.cms_signed_attributes.specs.Covered.{as_set};
     ghost use Rattle.cms_signed_data.specs.SignedParts.{SignedParts, content_of, digest_of, signature_of};
 
     ghost Value = { SignedParts };

@@ -1,5 +1,5 @@
 -- Signed content as it is judged.
-use Rattle.cms_signed_data.specs.Covered.{as_set}
+use Rattle.cms_signed_attributes.specs.Covered.{as_set}
 use Rattle.cms_signed_data.specs.SignedParts.{SignedParts, content_of, digest_of, signature_of}
 use Rattle.pkinit_trust.specs.Judged.{JudgedRecord}
 

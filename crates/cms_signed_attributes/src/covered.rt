@@ -1,6 +1,6 @@
 //! What a signature covers.
 ghost use Rattle.std.specs.Prelude.{◌≡◌, IfOk};
-ghost use Rattle.cms_signed_data.specs.Covered.{as_set};
+ghost use Rattle.cms_signed_attributes.specs.Covered.{as_set};
 
 use asn1_der::octets::SET;
 use std::alloc::{AllocError, Global};
