@@ -135,9 +135,10 @@ inv_cipher w n s = inv_rounds w (inv_sub_bytes (inv_shift_rows (add_round_key s 
 abbrev pub IsAesKey : List ℕ → Type 0
 IsAesKey key = (length key ≡ 16) ⊎ (length key ≡ 32)
 
--- AES of a block under a key, and what undoes it
+-- AES of a block under a key (FIPS 197, section 5.1)
 unfoldable pub aes_cipher : List ℕ → List ℕ → List ℕ
 aes_cipher key block = cipher (key_schedule key) (round_count key) block
 
+-- the inverse cipher of AES of a block under a key (FIPS 197, section 5.3)
 unfoldable pub aes_inverse : List ℕ → List ℕ → List ℕ
 aes_inverse key block = inv_cipher (key_schedule key) (round_count key) block

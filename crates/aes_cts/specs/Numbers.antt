@@ -3,6 +3,7 @@ use Rattle.std.specs.Prelude.{ℕ}
 use Rattle.aes_cts.specs.declared.error.KerberosCryptoError.{KerberosCryptoError}
 use Rattle.aes_cts.specs.declared.error.KerberosCryptoError.TheVariants.{KeyLength, CipherLength, AlgorithmIdentifier, AlgorithmIdentifierData, IntegrityCheck, CipherError, CipherUnpad, CipherPad, SeedBitLen, Memory}
 
+-- the number of a refusal, from 1 to 10, which no other variant has
 abbrev pub refusal_number : KerberosCryptoError → ℕ
 refusal_number (KeyLength found wanted) = 1
 refusal_number (CipherLength found wanted) = 2

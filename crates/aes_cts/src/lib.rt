@@ -1,5 +1,10 @@
 //! AES (FIPS 197), and cipher block chaining with ciphertext stealing over it (RFC 3962, section 5).
 //! The calls of `aes` take the key; the cipher of single blocks is reached through its chains and its round keys.
+//!
+//! AES-128 and AES-256 are as FIPS 197 defines them by polynomials, and the inverse cipher undoes the cipher. [`encrypt_aes_cbc`] and
+//! [`decrypt_aes_cbc`] chain it from an initial vector of zeros. [`encrypt_aes_cts`] and [`decrypt_aes_cts`] steal ciphertext at every
+//! length, and a ciphertext of 16 bytes or more has one plaintext of its length. A [`KeySchedule`] holds the round keys of its key. Each
+//! refusal comes exactly where its clause says.
 #![tactic(auto)]
 
 pub mod aes;

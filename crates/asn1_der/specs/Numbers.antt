@@ -3,7 +3,7 @@ use Rattle.std.specs.Prelude.{ℕ}
 use Rattle.asn1_der.specs.declared.error.Asn1DerError.{Asn1DerError}
 use Rattle.asn1_der.specs.declared.error.Asn1DerError.TheVariants.{TruncatedData, InvalidData, UnsupportedValue, UnsupportedType, InvalidSink, Message, Other, Memory}
 
--- the number of a fault, from 1 to 8, which no other fault has
+-- the number of a fault, from 1 to 8, which no other variant has
 abbrev pub fault_number : Asn1DerError → ℕ
 fault_number TruncatedData = 1
 fault_number InvalidData = 2

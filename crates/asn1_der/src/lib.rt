@@ -2,7 +2,7 @@
 //!
 //! `LengthOctets::of` answers the one minimal spelling of a length. [`length_of`] reads that spelling alone, and [`following`] says how
 //! many octets follow the first one. A [`PeekableReader`] gives the octet that was peeked at, and then the rest in order. A [`Content`]
-//! holds the octets that it was made of. `Asn1DerError::number` gives each fault a number of its own.
+//! holds the octets that it was made of. `Asn1DerError::number` gives each variant a number of its own.
 #![tactic(auto)]
 
 ghost use Rattle.std.specs.Prelude.{◌≡◌};

@@ -6,6 +6,7 @@ use Rattle.byteorder.specs.Endian.{big_bytes, big_number, little_bytes, little_n
 unfoldable pub be16 : ℕ → List ℕ
 be16 n = big_bytes 2 n
 
+-- the number that the two bytes at a place are, the highest first
 unfoldable pub be16_at : ℕ → List ℕ → ℕ
 be16_at place whole = big_number 2 (drop place whole)
 
@@ -13,6 +14,7 @@ be16_at place whole = big_number 2 (drop place whole)
 unfoldable pub be64 : ℕ → List ℕ
 be64 n = big_bytes 8 n
 
+-- the number that the eight bytes at a place are, the highest first
 unfoldable pub be64_at : ℕ → List ℕ → ℕ
 be64_at place whole = big_number 8 (drop place whole)
 
@@ -20,6 +22,7 @@ be64_at place whole = big_number 8 (drop place whole)
 unfoldable pub le32 : ℕ → List ℕ
 le32 n = little_bytes 4 n
 
+-- the number that the four bytes at a place are, the lowest first
 unfoldable pub le32_at : ℕ → List ℕ → ℕ
 le32_at place whole = little_number 4 (drop place whole)
 
@@ -27,6 +30,7 @@ le32_at place whole = little_number 4 (drop place whole)
 unfoldable pub le64 : ℕ → List ℕ
 le64 n = little_bytes 8 n
 
+-- the number that the eight bytes at a place are, the lowest first
 unfoldable pub le64_at : ℕ → List ℕ → ℕ
 le64_at place whole = little_number 8 (drop place whole)
 

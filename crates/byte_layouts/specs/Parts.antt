@@ -6,6 +6,7 @@ pub record Part : Type 0 where
   pub place : ℕ
   pub bytes : List ℕ
 
+-- bytes with the place of the first of them
 abbrev pub part : ℕ → List ℕ → Part
 part place bytes = record { place = place; bytes = bytes }
 

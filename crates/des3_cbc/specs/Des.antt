@@ -69,9 +69,10 @@ des_inverse key block = cipher_by (reverse (round_keys key)) block
 abbrev pub part : List ℕ → ℕ → List ℕ
 part key i = block_at 8 key i
 
--- triple DES of a block under a key of 24 bytes: E_K3(D_K2(E_K1(block))), and what undoes it
+-- triple DES of a block under a key of 24 bytes: E_K3(D_K2(E_K1(block))) (FIPS 46-3)
 unfoldable pub triple_des_cipher : List ℕ → List ℕ → List ℕ
 triple_des_cipher key block = des_cipher (part key 2) (des_inverse (part key 1) (des_cipher (part key 0) block))
 
+-- the inverse of triple DES of a block under a key of 24 bytes: D_K1(E_K2(D_K3(block))) (FIPS 46-3)
 unfoldable pub triple_des_inverse : List ℕ → List ℕ → List ℕ
 triple_des_inverse key block = des_inverse (part key 0) (des_cipher (part key 1) (des_inverse (part key 2) block))

@@ -40,6 +40,7 @@ unfoldable pub weak_keys : List (List ℕ)
 weak_keys =
     flat_map (λ p. map (λ q. p.0 ∷ q.0 ∷ p.0 ∷ q.0 ∷ p.1 ∷ q.1 ∷ p.1 ∷ q.1 ∷ []) weak_pairs) weak_pairs
 
+-- whether a key of eight bytes is weak or semi-weak (NIST SP 800-67)
 unfoldable pub is_weak : List ℕ → Bool
 is_weak key = list_any (λ weak. bytes_eq weak key) weak_keys
 

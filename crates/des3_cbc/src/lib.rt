@@ -1,5 +1,9 @@
 //! The Triple Data Encryption Algorithm (FIPS 46-3) in a chain of blocks, and the keys that Kerberos makes for it
 //! (RFC 3961, section 6.3). The cipher of single blocks is reached through its chain alone.
+//!
+//! The cipher is that of the tables of FIPS 46-3, and its inverse undoes it for every key. [`encrypt_des`] and [`decrypt_des`] chain it
+//! from an initial vector of zeros; encryption fills the last block with zeros. [`random_to_key`] makes the key of 21 bytes, of odd parity
+//! and with no weak part.
 #![tactic(auto)]
 
 ghost use Rattle.std.specs.Prelude.{◌≡◌, ◌≢◌, length, IsOk, OnOk, Err};

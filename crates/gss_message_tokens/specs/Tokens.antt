@@ -45,10 +45,11 @@ pub record IsWrapToken (w : WrapFields) (whole : List ℕ) : Type 0 where
   pub long : 16 ≤ length whole
   pub checksum : drop 16 whole ≡ w.checksum
 
--- what a token carries but for its payload, which is neither written nor read
+-- the fields of a MIC token; its payload is neither written nor read
 abbrev pub mic_of : MicToken → MicFields
 mic_of t = record { flags = t.flags; seq_num = t.seq_num; checksum = t.checksum.items }
 
+-- the fields of a wrap token; its payload is neither written nor read
 abbrev pub wrap_of : WrapToken → WrapFields
 wrap_of t = record { flags = t.flags; ec = t.ec; rrc = t.rrc; seq_num = t.seq_num; checksum = t.checksum.items }
 

@@ -2,6 +2,7 @@
 use Rattle.std.specs.Prelude.{◌+◌, ◌++◌, take, drop, Ok}
 use Rattle.negoex_types.specs.Form.{Layout, then_read}
 
+-- two fields of a struct, one right behind the other in the header and in the payload (MS-NEGOEX, section 2.2)
 abbrev pub pair_layout : {A B : Type 0} → Layout A → Layout B → Layout (A × B)
 pair_layout a b = record {
   width = a.width + b.width;

@@ -10,18 +10,18 @@ abbrev pub AreElements : {V : Type 0} → Layout V → ℕ → List V → List �
 AreElements l place [] whole = Unit {0}
 AreElements l place (x ∷ xs) whole = l.IsLaid x (cut place l.width whole) whole × AreElements l (place + l.width) xs whole
 
--- A vector is the offset of its elements in octets 0 to 3 of the header, their count in 4 to 7, and the elements at the offset. Without
--- elements the offset may be any (MS-NEGOEX, section 2.2.5.2). Test: `schemes_and_extensions` of `negoex.rt`;
--- `second_vector_over_first`.
+-- the octets of a vector's header, and its elements where the header says (MS-NEGOEX, section 2.2.5.2)
 pub record IsVector {V : Type 0} (l : Layout V) (xs : List V) (header whole : List ℕ) : Type 0 where
   pub size : length header ≡ 8
   pub count : Stands (part 4 (le32 (length xs))) header
   pub elements : AreElements l (le32_at 0 header) xs whole
 
+-- each element fits the layout
 abbrev pub AllFit : {V : Type 0} → Layout V → List V → Type 0
 AllFit l [] = Unit {0}
 AllFit l (x ∷ xs) = l.Fits x × AllFit l xs
 
+-- the count is a number of 32 bits, and each element fits the layout
 abbrev pub VectorFits : {V : Type 0} → Layout V → List V → Type 0
 VectorFits l xs = (length xs < 2 ^ 32) × AllFit l xs
 
@@ -67,6 +67,8 @@ offset_of (x ∷ xs) o = o
 abbrev pub behind_heads : {V : Type 0} → Layout V → List V → ℕ → ℕ
 behind_heads l xs o = o + length xs * l.width
 
+-- A vector is the offset of its elements in octets 0 to 3 of the header, their count in 4 to 7, and the elements at the offset. Without
+-- elements the offset may be any (MS-NEGOEX, section 2.2.5.2). Test: `schemes_and_extensions` of `negoex.rt`; `second_vector_over_first`.
 abbrev pub vector_layout : {V : Type 0} → Layout V → Layout (List V)
 vector_layout l = record {
   width = 8;

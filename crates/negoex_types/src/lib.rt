@@ -3,6 +3,10 @@
 //! A type has a header of fixed size, in which its fields follow one another, and a payload, to which vectors
 //! in the header point by an offset from the message's start. Pairs of fields and vectors join layouts; a struct is a row
 //! of pairs.
+//!
+//! Each type of [`Laid`] is read as its layout says, or refused for its first fault in the order of the bytes (`from_header`). `put`
+//! appends the header and the payload that the layout says, and refuses a payload that ends past 32 bits. A vector's element is kept only
+//! once it is read: no more than the message has bytes, whatever the count is.
 #![tactic(auto)]
 
 mod bytes;

@@ -12,9 +12,11 @@ pub record Buffer : Type 0 where
   pub info : PacInfoBuffer
   pub content : List ℕ
 
+-- the PAC_INFO_BUFFER of a buffer, and its content (MS-PAC, section 2.4)
 abbrev pub buffer_of : PacBuffer → Buffer
 buffer_of b = record { info = b.info_buffer; content = b.data.items }
 
+-- the buffers of a PAC in their order (MS-PAC, section 2.3)
 abbrev pub pac_buffers : Pac → List Buffer
 pac_buffers p = map buffer_of p.buffers.items
 
@@ -70,6 +72,7 @@ abbrev pub FieldsFit : List Buffer → Type 0
 FieldsFit [] = Unit {0}
 FieldsFit (b ∷ bs) = ((b.info.cb_buffer_size < 2 ^ 32) × (b.info.offset < 2 ^ 64)) × FieldsFit bs
 
+-- the count of buffers, and each size and Offset, is a number that its field holds (MS-PAC, sections 2.3 and 2.4)
 pub record AllFit (bs : List Buffer) : Type 0 where
   pub count : length bs < 2 ^ 32
   pub fields : FieldsFit bs

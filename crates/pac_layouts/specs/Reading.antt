@@ -26,17 +26,18 @@ head_at stop whole =
     -- Version is 0 (MS-PAC, section 2.3). Test: `refusals` of `pac.rt`, `wrong_pacs` of `failing.rt`.
     else if nat_eq (le32_at 4 whole) 0 then Ok (le32_at 0 whole) else Err (InvalidVersion (le32_at 4 whole))
 
--- the row at this place: first its type, and then all of it
--- The ulType is known, and is judged before the rest of its PAC_INFO_BUFFER (PacBufferType) (MS-PAC, section 2.4). Test: `refusals` of
--- `pac.rt`, `wrong_pacs` of `failing.rt`.
+-- The ulType of the row at this place is known, and is judged before the rest of its PAC_INFO_BUFFER (PacBufferType) (MS-PAC, section 2.4).
+-- Test: `refusals` of `pac.rt`, `wrong_pacs` of `failing.rt`.
 abbrev pub kind_at : Option ErrorKind → ℕ → List ℕ → Result PacBufferType PacError
 kind_at stop place whole = if nat_lt (length whole - place) 4 then Err (short_of stop) else kind_judged (le32_at place whole)
 
+-- the row of this ulType at this place
 abbrev pub fields_at : Option ErrorKind → PacBufferType → ℕ → List ℕ → Result PacInfoBuffer PacError
 fields_at stop kind place whole =
     if nat_lt (length whole - place) 16 then Err (short_of stop)
     else Ok (record { ul_type = kind; cb_buffer_size = le32_at (place + 4) whole; offset = le64_at (place + 8) whole })
 
+-- the PAC_INFO_BUFFER at this place: first its ulType, and then all of it (MS-PAC, section 2.4)
 abbrev pub info_at : Option ErrorKind → ℕ → List ℕ → Result PacInfoBuffer PacError
 info_at stop place whole = and_then (kind_at stop place whole) (λ kind. fields_at stop kind place whole)
 
@@ -48,6 +49,7 @@ content_at stop info whole =
     if nat_lt (length whole) (info.offset + info.cb_buffer_size) then Err (range_of stop)
     else Ok (record { info = info; content = take info.cb_buffer_size (drop info.offset whole) })
 
+-- the buffer of the PAC_INFO_BUFFER at this place, with the content at its Offset (MS-PAC, section 2.4)
 abbrev pub buffer_at : Option ErrorKind → ℕ → List ℕ → Result Buffer PacError
 buffer_at stop place whole = and_then (info_at stop place whole) (λ info. content_at stop info whole)
 
@@ -57,5 +59,6 @@ buffers_at stop zero place whole = Ok []
 buffers_at stop (suc n) place whole =
     and_then (buffer_at stop place whole) (λ b. and_then (buffers_at stop n (place + 16) whole) (λ bs. Ok (b ∷ bs)))
 
+-- the buffers of the PAC in these bytes, or its first fault (MS-PAC, sections 2.3 and 2.4)
 abbrev pub pac_at : Option ErrorKind → List ℕ → Result (List Buffer) PacError
 pac_at stop whole = and_then (head_at stop whole) (λ count. buffers_at stop count 8 whole)
