@@ -32,6 +32,7 @@ abbrev pub IsChosenAt : Choice → Stage → Type 0
 IsChosenAt choice (Token terms) = ⊥
 IsChosenAt choice (Mic unverified) = IsChosen choice unverified.established
 
+-- The context that is established, or that waits for the initiator's MIC, is as the client chose.
 abbrev pub IsChosenAfter : Choice → Accepted → Type 0
 IsChosenAfter choice (Established established) = IsChosen choice established
 IsChosenAfter choice (ContinueNeeded continuation) = IsChosenAt choice continuation.negotiation.stage

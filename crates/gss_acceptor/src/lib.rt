@@ -1,5 +1,10 @@
 //! An acceptor of the GSS-API (RFC 2743) for the mechanism Kerberos (RFC 4121), bare or negotiated by SPNEGO (RFC 4178), over a
 //! service that admits each request once.
+//!
+//! `Acceptor::accept` and `Acceptor::resume` do what the table of tokens says, and refuse what it refuses (`Handles`). An AP-REQ makes a
+//! context if and only if `Service::admit` admits it and the admission fits a context, unless memory runs out (`Establishes`, `judged`).
+//! The context has the name, times, flags, bindings and key that the client presented (law `established_as_presented`). Where SPNEGO
+//! doesn't offer Kerberos first, a context is handed out only after the initiator's MIC was verified (law `established_under_mic`).
 #![tactic(auto)]
 
 mod accepted;

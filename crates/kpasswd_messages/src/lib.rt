@@ -1,9 +1,9 @@
 //! The exchange that changes a password (RFC 3244): its frame, KRB-PRIV and ChangePasswdData.
 //!
 //! KRB-PRIV and its parts are read if and only if the bytes are their one encoding, and are written as that encoding.
-//! `KrbPrivFrame::deserialize` gives two messages as they are laid out in the bytes that it takes, or the first fault of the bytes or of
-//! the device (`IsFramedAs`, `IsRefusal`). `KrbPrivFrame::serialize` writes the frame with its true lengths, and refuses one of more than
-//! 65,535 bytes with nothing written. A written frame is read again, where each part has at most 10,240 bytes (law `written_is_read`).
+//! `KrbPrivFrame::deserialize` gives two messages as they are laid out in the taken bytes, or the first fault of the bytes or of the device
+//! (`IsFramedAs`, `IsRefusal`). `KrbPrivFrame::serialize` writes the frame with its true lengths, and refuses one of more than 65,535 bytes
+//! with nothing written. A written frame is read again, where each part has at most 10,240 bytes (law `written_is_read`).
 #![tactic(auto)]
 
 mod ap_message;

@@ -5,6 +5,7 @@ use Rattle.krb_types.specs.declared.refusal.Refusal.TheVariants as judging
 use Rattle.krb_ap_requests.specs.declared.refusal.AdmitRefusal.{AdmitRefusal}
 use Rattle.krb_ap_requests.specs.declared.refusal.AdmitRefusal.TheVariants.{Unreadable, Krb, Memory}
 
+-- The number of a refusal, which of an error is the same for each code.
 abbrev pub refusal_number : AdmitRefusal → ℕ
 refusal_number Unreadable = 1
 refusal_number (Krb code) = 2

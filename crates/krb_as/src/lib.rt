@@ -1,4 +1,7 @@
 //! The AS exchange of a realm (RFC 4120, section 3.1): its table and the code of each row.
+//!
+//! `judge_as` gives the reply that `as_table` grants, or the code of the first row that refuses, for each implementation of `Pkinit`. The
+//! body and the first padata of a type are parts of the request's own bytes (laws `as_body_is_part`, `padata_is_part`).
 #![tactic(auto)]
 
 mod grant;

@@ -13,6 +13,7 @@ ask_number ask_refusal.BadCertificate = 4
 ask_number ask_refusal.NoKeyFunction = 2
 ask_number ask_refusal.Memory = 3
 
+-- The number of a refusal of a reply.
 abbrev pub take_number : TakeRefusal → ℕ
 take_number take_refusal.Unreadable = 1
 take_number (take_refusal.Refused code) = 2

@@ -1,6 +1,11 @@
 //! A client: it asks a realm for a first ticket and for further ones, asks a service by what it was granted, and takes their
 //! replies (RFC 4120, sections 3.1 to 3.3). How it authenticates itself is a trait, `Means`. A key that it shares with its realm is
 //! one such means, `ByKey`. `AsAsked`, `TgsAsked` and `ApAsked` are what it remembers of its requests.
+//!
+//! `Client::as_request`, `Client::tgs_request` and `Client::ap_request` write the one encoding of what the client asks, with what is sealed
+//! in it (`AsksAs`, `AsksTgs`, `AsksAp`). `Client::take_as_reply`, `Client::take_tgs_reply` and `Client::take_ap_reply` accept a reply if
+//! and only if it answers the request. The first reason against a reply decides the refusal (`IsTaken`). The key of `Client::by_password`
+//! is the password's.
 #![tactic(auto)]
 
 mod agreement;

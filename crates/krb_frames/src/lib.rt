@@ -4,6 +4,11 @@
 //! [`serve`] reads frames to the end of a stream and writes each reply in a frame of its own. A
 //! [`Responder`] replies. Each message is answered at the next moment and with the next 128
 //! random bytes.
+//!
+//! `serve` writes the frames of the replies to the messages of the stream, however the reader cuts the bytes (`IsServed`). Two runs over
+//! the same moments, stream and random bytes write the same as far as both go (laws `runs_agree`, `output_is_whole`). `Read` and `Write`
+//! are returned only if a device counted a failed call. A message that is no request is `NoRequest`; `Memory` can take its place only where
+//! the responder may want memory for it.
 #![tactic(auto)]
 
 mod fault;

@@ -109,6 +109,7 @@ pub record IsHonestByPassword (asking : ClientRecord) (key : Bytes) (realm : Rea
   pub honest : IsHonestLogin asking realm asked_for before login
   pub shared : honest.client.account.key ≡ key
 
+-- The number of the step at which a login was refused: 1 to ask, 2 to reply, 3 to take the reply, 4 to admit.
 abbrev pub login_number : LoginRefusal → ℕ
 login_number (Asked refusal) = 1
 login_number (Answered refusal) = 2

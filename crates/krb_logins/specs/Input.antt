@@ -6,6 +6,7 @@ use Rattle.krb_kdc_requests.specs.declared.call.Call as called
 use Rattle.krb_logins.specs.Parties.{LoginRecord, RealmRecord, RememberedRecord}
 use Rattle.krb_logins.specs.declared.input.LoginInput as held
 
+-- The login of an input: the service, `till`, the moments in microseconds and the random bytes of each step.
 abbrev pub login_of : held.LoginInput → LoginRecord
 login_of input = record {
   service = parts input.service.now;

@@ -5,7 +5,7 @@ use Rattle.krb_program.specs.Files.{IsRealmFile}
 use Rattle.krb_program.specs.declared.check.FileCheck.{FileCheck}
 use Rattle.krb_program.specs.declared.check.FileCheck.TheVariants.{Realm, Fault}
 
--- the file is passed just where it writes a realm
+-- A file is passed if and only if it writes a realm. Test: `files.txt`.
 abbrev pub IsChecked : List ℕ → FileCheck → Type 0
 IsChecked text (Realm _) = (realm : RealmState) × IsRealmFile text realm
 IsChecked text (Fault _) = (realm : RealmState) → ¬ IsRealmFile text realm

@@ -6,5 +6,6 @@ use Rattle.krb_time.specs.Units.{Micros, Seconds}
 abbrev pub epoch : Seconds
 epoch = 62167219200
 
+-- The moment in microseconds that is so many seconds and microseconds after 1970-01-01 00:00:00 UTC.
 abbrev pub micros_after_epoch : Seconds → Micros → Micros
 micros_after_epoch seconds micros = (epoch + seconds) * 1000000 + micros

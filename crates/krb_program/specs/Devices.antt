@@ -19,9 +19,11 @@ pub record Devices : Type 0 where
   pub reader : Device
   pub writer : Device
 
+-- A device with these bytes, where they are known, and this count of failed calls.
 abbrev pub device : Option (List ℕ) → ℕ → Device
 device bytes failed = record { bytes = bytes; failed = failed }
 
+-- The devices of the random bytes, of the messages and of the replies.
 abbrev pub devices : Device → Device → Device → Devices
 devices words reader writer = record { words = words; reader = reader; writer = writer }
 

@@ -18,6 +18,7 @@ use Rattle.krb_program.specs.declared.fault.KdcFault.TheVariants.{Account, Realm
 -- skew and lifetime, where they are in their ranges; a file has no anchor and no certificate
 abbrev pub settings_of : Seconds → Seconds → Result SettingsState KdcFault
 settings_of skew lifetime =
+    -- The clock skew is at most 86,400 seconds, and the lifetime from 1 to 31,536,000. Test: `skew is 100000`, `lifetime is 0`.
     if nat_le skew 86400 && nat_le 1 lifetime && nat_le lifetime 31536000 then Ok (settings_by skew lifetime None None)
     else Err (Realm BadSetting)
 
@@ -31,7 +32,10 @@ in_account number (Err refusal) = Err (Account number refusal)
 
 -- whether an account is added, in the realm's order of refusals
 abbrev pub adding_secret : AccountMap → List (List ℕ) → CipherSuite → WrittenSecret → Result (Unit {0}) RealmRefusal
+-- A name has one account at most, and `krbtgt` with the realm's name has one from the start. Test: `name ["a"] is account 1's, on line 7`,
+-- `name ["krbtgt", "R"] is the ticket-granting service's, whose key is the realm's`.
 adding_secret accounts name suite (password _) = adding_by_password accounts name
+-- A key has as many octets as the keys of its suite. Test: `key has 64 hexadecimal digits`, `key has 62 hexadecimal digits`.
 adding_secret accounts name suite (key bytes) = adding accounts name suite bytes
 
 abbrev pub adding_account : RealmState → WrittenAccount → Result (Unit {0}) RealmRefusal
@@ -53,6 +57,7 @@ with_accounts number realm [] = Ok realm
 with_accounts number realm (account ∷ rest) =
     in_account number (adding_account realm account) >>= (λ _. with_accounts (suc number) (with_account realm account) rest)
 
+-- The realm that a settings file writes, or the first refusal: of its settings, of its name and key, of its accounts in their order.
 abbrev pub realm_of_settings : WrittenRealm → Result RealmState KdcFault
 realm_of_settings written = settings_of written.skew written.lifetime >>= (λ settings.
     in_realm (making written.name written.suite written.key) >>= (λ _.

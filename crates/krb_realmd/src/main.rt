@@ -3,6 +3,8 @@
 //! `krb_realm SETTINGS WORDS MOMENT` serves the realm of a settings file, with the random bytes of the file WORDS, and each
 //! message at the moment `now` or `YYYYMMDDHHMMSSZ`. Without arguments it serves the stored run: the realm `R` with no
 //! account beside its own service, whose key has 32 zero bytes, at one fixed moment and with random bytes that are zero.
+//!
+//! It is safe, returns, and meets what its calls require. No contract says what standard output holds.
 #![tactic(auto)]
 
 use krb_program::run_process;

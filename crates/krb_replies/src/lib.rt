@@ -2,6 +2,9 @@
 //!
 //! `specs/Replies` is the reply as one table, a relation with at most one outcome. The rows of an exchange are those of
 //! `krb_as` and `krb_tgs`.
+//!
+//! `as_reply` and `tgs_reply` give a reply that the table allows: a ticket, or a KRB-ERROR with its code. A message has one reply at most,
+//! and a request has one (laws `one_reply`, `has_reply`). The reply depends on the involved accounts alone (law `of_involved_alone`).
 #![tactic(auto)]
 
 mod answer;

@@ -40,6 +40,7 @@ checksum_of authenticator = option_map (λ tagged. tagged.0) authenticator.cksum
 abbrev pub seq_number_of : AuthenticatorInner → Option ℤ
 seq_number_of authenticator = option_map (λ tagged. tagged.0) authenticator.seq_number.0
 
+-- What a service gets from a presented AP-REQ, with the bytes of the AP-REP, if there is one (RFC 4120, section 3.2.4).
 abbrev pub admission_of : Presented → Option Bytes → AdmissionRecord
 admission_of presented reply = record {
   realm = presented.part.crealm.0;

@@ -2,6 +2,9 @@
 //!
 //! The rows for the presented ticket and its authenticator are in `krb_ap_requests`. Those that AS and TGS requests share are in
 //! `krb_kdc_requests`.
+//!
+//! `judge_tgs` gives the reply that `tgs_table` grants, or the code of the first row that refuses. The checksum covers the one encoding of
+//! the body, which is a part of the request's own bytes (law `body_is_part`).
 #![tactic(auto)]
 
 mod checksum;
