@@ -25,7 +25,8 @@ abbrev pub is_wrap : List ℕ → Bool
 is_wrap token =
     nat_le 16 (length token) && bytes_eq (take 2 token) (5 ∷ 4 ∷ []) && nat_eq (slice_index token 3) 255
 
--- the number of a token whose header is the peer's, or the first refusal
+-- The number of a token whose header is the peer's, or the first refusal: of its id and filler, of its direction, of its subkey's flag, and
+-- of its number (RFC 4121, section 4.2).
 unfoldable pub judged : ContextRecord → Bool → List ℕ → Result ℕ TokenRefusal
 judged c is_token token =
     -- The token has its TOK_ID and its filler, and 16 octets or more (RFC 4121, sections 4.2.6.1 and 4.2.6.2). Test: `A foreign id, a wrong
@@ -105,7 +106,8 @@ IsUnread s protection token text e = ⊥
 abbrev pub IsUnopened : Sender → Protection → List ℕ → TokenRefusal → Type 0
 IsUnopened s protection token e = (text : List ℕ) × IsTextOf token text × IsUnread s protection token text e
 
--- why a wrap token is refused: its header, or else its data
+-- A wrap token is refused by its header, or else by its data: they don't decrypt, or don't end with the header (RFC 4121, section 4.2.4).
+-- Test: `unwrap WrongChecksum`.
 abbrev pub IsWrapRefusal : ContextRecord → List ℕ → TokenRefusal → Type 0
 IsWrapRefusal c token e =
     (judged c (is_wrap token) token ≡ Err e)
