@@ -62,11 +62,12 @@ plant: crate-named ## list wrong bodies that a crate's contracts let through: ma
 fmt: $(if $(CRATE),crate-named) ## lay out the files of each crate, or of one: make fmt CRATE=krb_tgs
 	for crate in $(or $(CRATE),$(CRATES)); do (cd crates/$$crate && $(RT) fmt) || exit 1; done
 
-docs: ## check that the documents name what exists, that no number of a standard stands bare, and that the written pages are what the sources say
+docs: ## check that the documents name what exists, that no number of a standard stands bare, and that the written pages and identifiers are what their sources say
 	tools/items.sh >/dev/null
 	tools/docpaths
 	tools/pages --check
 	tools/numbers
+	tools/oids --check
 
 budget: ## the gate in a clean clone, with its minutes crate by crate
 	bench/gate.sh
