@@ -37,12 +37,13 @@ krb_message_content tree m = told_content m.krb5_oid m.krb5_token_id (der (tree 
 abbrev pub proxy_message_content : {T : Type 0} → (T → Tree) → IAKerbProxyMessage T → List ℕ
 proxy_message_content tree m = told_content iakerb proxy_id (der (header_writing.ghosts.tree m.header) ++ der (tree m.krb_msg))
 
--- a message of which each part has a spelling
+-- A token of which each part has an encoding (RFC 4121, section 4.1).
 pub record IsWholeMessage {T : Type 0} (tree : T → Tree) (m : KrbMessage T) : Type 0 where
   pub mechanism : IsWhole (mechanism_tree m.krb5_oid)
   pub id : length m.krb5_token_id ≡ 2
   pub message : IsWhole (tree m.krb_msg)
 
+-- A token of the IAKERB proxy of which header and message have encodings (draft-ietf-kitten-iakerb, section 3).
 pub record IsWholeProxyMessage {T : Type 0} (tree : T → Tree) (m : IAKerbProxyMessage T) : Type 0 where
   pub header : IsWhole (header_writing.ghosts.tree m.header)
   pub message : IsWhole (tree m.krb_msg)
