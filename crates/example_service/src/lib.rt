@@ -1,6 +1,6 @@
 //! A service of one's own, over the rules and the replay cache of `krb_service`.
 //!
-//! Whoever presents a fresh AP-REQ for the service is told by name, and each request is admitted once.
+//! Whoever presents a fresh AP-REQ for the service is given by name, and each request is admitted once.
 #![tactic(auto)]
 
 ghost use Rattle.std.specs.Prelude.{◌≤◌, length};

@@ -46,7 +46,7 @@ pub data Step : Type 0 where
 unfoldable pub held : Bytes → Exchange → Table (Result Step AcceptRefusal)
 held token exchange =
     -- The mechanism's token in a message of SPNEGO is Kerberos' first token (RFC 4178, sections 4.2.1 and 4.2.2; RFC 4121, section 4.1).
-    -- Test: `other mechanisms, no mechanism, another token, and octets behind.`, `Not the token that is due.`.
+    -- Test: `other mechanisms, no mechanism, another token, and octets after it.`, `Not the token that is due.`.
     ask (IsApReqToken token) (sole_ap_req token) (done (Err NotAToken)) (λ message. done (Ok (AdmitRequest message (Some exchange))))
 
 -- by the tokens of SPNEGO's first message. If Kerberos' token isn't there, it is asked for

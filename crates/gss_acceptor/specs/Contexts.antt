@@ -22,7 +22,7 @@ number_of (negsuc n) = if nat_lt n 2147483648 then Some (4294967295 - n) else No
 abbrev pub first_number : Option ℤ → Result ℕ AcceptRefusal
 first_number None = Ok 0
 -- The initiator's first sequence number has 32 bits, also where it is written as the negative number of these bits. It is 0 where the
--- authenticator has none (RFC 4120, section 5.5.1). Test: `Octets behind the flags, which are read by nobody.`, `No subkey,`.
+-- authenticator has none (RFC 4120, section 5.5.1). Test: `Octets after the flags, which aren't read.`, `No subkey,`.
 first_number (Some number) = or_refused (number_of number) BadSequenceNumber
 
 -- the context's key

@@ -63,7 +63,7 @@ offer_by mechanism list tokens = record {
 
 abbrev pub offer_among : List ObjectIdentifierAsn1 → Tokens → Result Offer AcceptRefusal
 -- Kerberos is among the mechanisms that SPNEGO offers, by either identifier; the first such identifier counts (RFC 4178, section 4.2.1;
--- MS-SPNG, section 3.1.5.2). Test: `SPNEGO: either identifier`, `other mechanisms, no mechanism, another token, and octets behind.`.
+-- MS-SPNG, section 3.1.5.2). Test: `SPNEGO: either identifier`, `other mechanisms, no mechanism, another token, and octets after it.`.
 offer_among list tokens = option_map_or (λ mechanism. Ok (offer_by mechanism list tokens)) (kerberos_among list) (Err NoKerberos)
 
 abbrev pub tokens_of : NegTokenInit → Tokens
@@ -79,7 +79,7 @@ offer_in message = if is_spnego message.oid then offer_of message.neg_token_init
 unfoldable pub offered : Bytes → Table (Result Offer AcceptRefusal)
 offered token =
     -- A first token of SPNEGO is the DER encoding of a NegTokenInit after SPNEGO's identifier (RFC 4178, section 4.2.1). Test: `No such
-    -- tokens.`, `other mechanisms, no mechanism, another token, and octets behind.`.
+    -- tokens.`, `other mechanisms, no mechanism, another token, and octets after it.`.
     ask (IsNegInit token) (sole_neg_init token) (done (Err NotAToken)) (λ message. done (offer_in message))
 
 -- memory ran out, or this is given

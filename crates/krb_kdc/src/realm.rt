@@ -283,7 +283,7 @@ impl Realm {
         Err(AnswerRefusal::Unreadable)
     }
 
-    /// Lends what a request at a moment is answered by: the realm's name, limits and accounts, and these random bytes.
+    /// Borrows what a request at a moment is answered by: the realm's name, limits and accounts, and these random bytes.
     pub fn call<'a>(&'a self, moment: Moment, words: &'a [u8]) -> Call<'a>
         ensures call { call_of result ≡ call_to self.now moment words.now }
         ensures words { result.words.now ≡ words.now }
@@ -297,7 +297,7 @@ impl Realm {
         }
     }
 
-    /// Lends what requests by certificate are judged by: the realm's anchor and certificate, and these key functions.
+    /// Borrows what requests by certificate are judged by: the realm's anchor and certificate, and these key functions.
     pub fn pkinit<'a, K: KeyFunctions>(&'a self, keys: &'a K) -> RealmPkinit<'a, K>
         ensures trust { trust_of result.anchor result.certificate ≡ self.now.trust }
         ensures keys { result.keys.now ≡ keys.now }

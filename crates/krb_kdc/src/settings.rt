@@ -78,7 +78,7 @@ impl Settings {
         self.limits
     }
 
-    /// Lends what requests by certificate are judged by: the anchor, the own certificate, and these key functions.
+    /// Borrows what requests by certificate are judged by: the anchor, the own certificate, and these key functions.
     pub fn pkinit<'a, K: KeyFunctions>(&'a self, keys: &'a K) -> RealmPkinit<'a, K>
         ensures trust { trust_of result.anchor result.certificate ≡ self.now.trust }
         ensures keys { result.keys.now ≡ keys.now }
@@ -90,7 +90,7 @@ impl Settings {
         }
     }
 
-    // Lends the realm's own certificate.
+    // Borrows the realm's own certificate.
     fn certificate(&self) -> Option<&[u8]>
         ensures { option_copied result ≡ self.now.trust.certificate }
     {

@@ -254,14 +254,14 @@ impl Client {
         self.asking.take_ap_reply(alloc, asked, reply)
     }
 
-    /// Lends the client's name and suite, by which it makes requests and takes replies.
+    /// Borrows the client's name and suite, by which it makes requests and takes replies.
     pub(crate) fn asking(&self) -> &krb_client::Client
         ensures { result.now ≡ self.now.client }
     {
         &self.asking
     }
 
-    /// Lends the means by which the client authenticates itself, with its key functions.
+    /// Borrows the means by which the client authenticates itself, with its key functions.
     pub(crate) fn means<'a, K: KeyFunctions>(&'a self, keys: &'a K) -> ClientMeans<'a, K>
         ensures by { client_by result.held.now ≡ self.now.by }
         ensures keys { result.keys.now ≡ keys.now }

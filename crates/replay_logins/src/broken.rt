@@ -17,7 +17,7 @@ struct Served<'a> {
 }
 
 /// Serves the last request as a stream of one frame, and then over a writer that fails at each byte, over a reader that fails at each
-/// call, and over random bytes that fail at each call. Tells what is written, and how many of each end by that fault with the front
+/// call, and over random bytes that fail at each call. Prints what is written, and how many of each end by that fault with the front
 /// of it that they have to write.
 pub(crate) fn serve_broken(stage: &Stage, alloc: Global) -> anyhow::Result<String> {
     let random = stage.conditions.random.bytes();

@@ -1,5 +1,5 @@
 #!/bin/bash
-# Writes published.txt: what the certificates of RFC 5280, appendix C, are made of, as it stands there, and the same looser.
+# Writes published.txt: the parts of the certificates of RFC 5280, appendix C, as they are published, and the same parts looser.
 cd "$(dirname "$0")" || exit 1
 folder=$(mktemp -d) || exit 1
 trap 'rm -rf "$folder"' EXIT
@@ -9,7 +9,7 @@ elements() {
     openssl asn1parse -inform DER -in "$folder/whole" | sed -n "s/^ *\([0-9]*\):d=$1 .*: *\([^ ].*\)$/\1 \2/p"
 }
 
-# The element that stands at a place, as hexadecimal digits.
+# The element at a place, as hexadecimal digits.
 at() {
     openssl asn1parse -inform DER -in "$folder/whole" -strparse "$1" -noout -out "$folder/part" || exit 1
     od -An -v -tx1 <"$folder/part" | tr -d ' \n'

@@ -47,7 +47,7 @@ short_name content =
 abbrev pub is_special : ℕ → Bool
 is_special octet = (octet == 34) || (octet == 43) || (octet == 44) || (octet == 59) || (octet == 60) || (octet == 62) || (octet == 92)
 
--- the characters that stand for themselves: the other ones of ASCII that print
+-- the characters that are written as themselves: the other ones of ASCII that print
 abbrev pub is_plain : ℕ → Bool
 is_plain octet = nat_le 32 octet && nat_le octet 126
 

@@ -26,7 +26,7 @@ impl<'a> fmt::Display for Escaped<'a> {
     }
 }
 
-// The octets behind the first.
+// The octets after the first.
 #[derive(Clone, Copy)]
 struct Behind<'a>(&'a [u8]);
 

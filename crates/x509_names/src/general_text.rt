@@ -9,7 +9,7 @@ use std::fmt;
 
 /// The kind, a colon, and the name: `DNS:server.example.com`, `email:`, `URI:`, `IP Address:`, `DirName:` (by RFC 4514),
 /// `Registered ID:`, `othername:` (its identifier, `=#` and the hexadecimal digits of its value's encoding) and
-/// `EdiPartyName:`. The octets of a host, address or URI stand as they are: names are compared by themselves, not by this text.
+/// `EdiPartyName:`. The octets of a host, address or URI aren't changed: names are compared by themselves, not by this text.
 impl fmt::Display for GeneralName {
     ghost use Rattle.std.specs.Prelude.{Some};
     ghost use Rattle.x509_names.specs.GeneralText.{general_text};

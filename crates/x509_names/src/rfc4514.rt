@@ -14,7 +14,7 @@ use x509_parts::DirectoryString;
 /// A name, which prints in the notation of RFC 4514, as `CN=server.example.com,O=Example\, Inc.,C=SE`: its sets of
 /// attributes from the last to the first with commas between them, and the attributes of a set with `+` between them.
 ///
-/// The types of section 3 have their short names there (CN, L, ST, O, OU, C, STREET, DC and UID), and their values stand as
+/// The types of section 3 have their short names there (CN, L, ST, O, OU, C, STREET, DC and UID), and their values are
 /// text. Any other type is its identifier in dotted text, and its value `#` and the hexadecimal digits of its encoding, as is
 /// a BMPString. In a text each octet that isn't a character of ASCII that prints is a backslash and two digits, so one name
 /// prints as one line. Names are compared by themselves, not by this text.

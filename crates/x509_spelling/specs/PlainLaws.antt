@@ -1,4 +1,4 @@
--- Plain types, of which two values that show the same are the same. A spelling tells a value of such a type alone.
+-- Plain types, of which two values that show the same are the same. A spelling determines a value of such a type alone.
 use Rattle.std.proofs.Common.{◌≡◌, refl}
 use Rattle.std.specs.Prelude.{⊤}
 use Rattle.asn1_der.specs.Tree.{Tree, absent}
