@@ -4,7 +4,7 @@
 # encrypted, only protected by a checksum, and neither, and through SPNEGO. ntlm_first.py, over the same library, offers NTLM before
 # Kerberos, so that both sides' MICs of the list are due. It is refused as it should be with triple DES, for another
 # service, by a clock that is 10 minutes off, and where its frames come again or have one octet changed. Prints what each gave; the
-# status is 1 where one differs from what it should, and 2 where a tool is missing. All files stand in a temporary folder, and what is
+# status is 1 where one differs from what it should, and 2 where a tool is missing. All files are in a temporary folder, and what is
 # started is ended.
 set -u
 script=gss_clients

@@ -1,9 +1,9 @@
 #!/bin/sh
 # Stock clients of MIT and Heimdal log in to the realm of examples/settings.toml, with keys made anew, behind socat on 127.0.0.1: by
-# password and by keytab, with a further ticket for a service, which opens it and takes a message, and each refused as it should be
+# password and by keytab, with a service ticket, which the service opens and takes a message, and each refused as it should be
 # with a wrong password, an unknown name and a clock that is 10 minutes off. Then they log in where all keys are of each other suite,
 # and where realm, user and service have keys of different ones. Prints what each gave; the status is 1 where one differs
-# from what it should, and 2 where a tool is missing. All files stand in a temporary folder, and what is started is ended.
+# from what it should, and 2 where a tool is missing. All files are in a temporary folder, and what is started is ended.
 #
 # Heimdal's clients are those on the path (Debian: heimdal-clients), or those unpacked in the folder HEIMDAL, or else they are
 # downloaded by apt-get and unpacked in the temporary folder, so that they can be used beside MIT's.

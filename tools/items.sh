@@ -1,7 +1,7 @@
 #!/bin/sh
-# Tells of each item of items.txt in which crate it stands, or why it stands in none. Ends with 1 where the front doesn't name an
+# Prints for each item of items.txt the crate that has it, or why none has it. Ends with 1 where the front doesn't name an
 # item that has no reason, or names one that has. With `table` it writes the same as rows of DIFFERENCES.md, one for the items of a
-# module that stand in one crate.
+# module that one crate has.
 cd "$(dirname "$0")/.." || exit 1
 front=crates/picky_krb/src/lib.rt
 all="$(sed -n 's/^picky_krb: //p' crates.txt) negoex_types"

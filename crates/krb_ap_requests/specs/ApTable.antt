@@ -95,7 +95,7 @@ is_late skew moment part = is_before skew (seconds_of part.endtime.0.0 * 1000000
 abbrev pub timely : Micros → Micros → EncTicketPartInner → Table (Result (Unit {0}) Code)
 timely skew moment part =
     -- The ticket's starttime, or else its authtime, is at most the skew after now, and its flag invalid isn't set (RFC 4120, section
-    -- 3.2.3). Test: `start past skew`, `invalid flag`; `tgs ticket authtime stands for start`, `tgs ticket invalid flag` of
+    -- 3.2.3). Test: `start past skew`, `invalid flag`; `tgs ticket authtime in place of start`, `tgs ticket invalid flag` of
     -- `kdc_exchanges.txt`.
     refuse (is_early skew moment part) KRB_AP_ERR_TKT_NYV
     -- Now is at most the skew after the ticket's endtime (RFC 4120, section 3.2.3). Test: `end past skew`.

@@ -39,7 +39,7 @@ Shown = Result (Unit {0}) TakeRefusal
 -- Not judged: a subkey and a seq-number of the AP-REP (RFC 4120, section 5.5.2). No test: the contract alone covers it.
 abbrev pub takes_time : ApAskedRecord → EncApRepPartInner → Table Shown
 takes_time asked part =
-    -- The part's ctime and cusec are the authenticator's (RFC 4120, section 3.2.5). Test: `take_ap_reply` of `clients.txt`.
+    -- The ctime and cusec of EncAPRepPart are the authenticator's (RFC 4120, section 3.2.5). Test: `take_ap_reply` of `clients.txt`.
     refuse (not (tells asked.time part)) NotAsked
     (done (Ok tt))
 
