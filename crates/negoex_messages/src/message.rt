@@ -6,6 +6,7 @@ ghost use Rattle.negoex_messages.specs.Messages.{IsMessage, message_bytes, IsTru
 
 use crate::writing::{bytes_of, write_value};
 use byte_streams::Sink;
+use negoex_structs::{Exchange, Nego, Verify};
 use negoex_types::{Laid, NegoexError, Wide, front_of};
 use std::alloc::Global;
 
@@ -74,3 +75,52 @@ pub trait NegoexMessage: Wide {
 pub fn written_is_read<M: NegoexMessage>()
     ensures { WrittenIsRead M.layout M.filler }
 {}
+
+impl NegoexMessage for Exchange {
+    ghost use Rattle.std.specs.Prelude.{[]};
+
+    ghost filler = { [] };
+
+    ghost offset = { λ e. e.header.header_len };
+
+    fn filling() -> &'static [u8] {
+        &[]
+    }
+
+    fn payload_offset(&self) -> usize {
+        self.header.header_len as usize
+    }
+}
+
+impl NegoexMessage for Nego {
+    ghost use Rattle.std.specs.Prelude.{[]};
+
+    ghost filler = { [] };
+
+    ghost offset = { λ n. n.header.header_len };
+
+    fn filling() -> &'static [u8] {
+        &[]
+    }
+
+    fn payload_offset(&self) -> usize {
+        self.header.header_len as usize
+    }
+}
+
+// Four zeros precede the checksum's value, and count as the header's.
+impl NegoexMessage for Verify {
+    ghost use Rattle.std.specs.Prelude.{[], ◌∷◌};
+
+    ghost filler = { 0 ∷ 0 ∷ 0 ∷ 0 ∷ [] };
+
+    ghost offset = { λ v. v.header.header_len };
+
+    fn filling() -> &'static [u8] {
+        &[0, 0, 0, 0]
+    }
+
+    fn payload_offset(&self) -> usize {
+        self.header.header_len as usize
+    }
+}
