@@ -10,7 +10,7 @@ import glob, os, re, sys
 # Crates of tests, replays, examples and times.
 NOT_PRODUCT = re.compile(r"(replay|example|test|bench)_")
 BLOCK = re.compile(r"(?:unsafe )?(impl|(?:pub(?:\(crate\))? )?trait)\b(?:<.*?>(?= ))? (?:(?P<of>[\w:]+)(?:<.*>)? for )?(?P<name>\w+)")
-CALL = re.compile(r"(?P<indent> *)(?P<pub>pub )?(?:pub\(\w+\) )?(?:const )?(?:unsafe )?fn (?P<name>\w+)")
+CALL = re.compile(r"(?P<indent> *)(?P<pub>pub )?(?:pub\(\w+\) )?(?:final )?(?:const )?(?:unsafe )?fn (?P<name>\w+)")
 STATED = re.compile(r" *(?P<kind>ensures|requires)(?: (?P<name>\w+))? \{")
 LENT = re.compile(r"(\w+): &(?:'\w+ )?mut\b")
 

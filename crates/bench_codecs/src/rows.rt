@@ -3,7 +3,8 @@
 use anyhow::{Context, bail};
 use gss_message_tokens::{MicToken, WrapToken};
 use krb_crypto::{Cipher, CipherSuite};
-use negoex_messages::{Extension, MessageType, Nego, NegoexMessage};
+use negoex_messages::{Extension, MessageType, NegoexMessage};
+use negoex_structs::Nego;
 use pac_layouts::Pac;
 use picky_asn1_x509::{AlgorithmIdentifier, deviations, from_bytes, to_vec};
 use std::alloc::Global;

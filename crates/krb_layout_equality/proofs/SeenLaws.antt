@@ -26,15 +26,15 @@ use Rattle.negoex_types.specs.contracts.header.MessageHeader.{the_type as header
 use Rattle.negoex_types.specs.contracts.header.MessageHeaderPartialEq.TheImpl as header
 use Rattle.negoex_types.specs.contracts.header.MessageHeaderLaid.TheImpl as laid_header
 use Rattle.negoex_types.specs.contracts.message_type.MessageType.{the_type as message_type}
-use Rattle.negoex_messages.specs.contracts.exchange.Exchange.{the_type as exchange_type}
-use Rattle.negoex_messages.specs.contracts.exchange.ExchangePartialEq.TheImpl as exchange
-use Rattle.negoex_messages.specs.contracts.exchange.ExchangeLaid.TheImpl as laid_exchange
-use Rattle.negoex_messages.specs.contracts.nego.Nego.{the_type as nego_type}
-use Rattle.negoex_messages.specs.contracts.nego.NegoPartialEq.TheImpl as nego
-use Rattle.negoex_messages.specs.contracts.nego.NegoLaid.TheImpl as laid_nego
-use Rattle.negoex_messages.specs.contracts.verify.Verify.{the_type as verify_type}
-use Rattle.negoex_messages.specs.contracts.verify.VerifyPartialEq.TheImpl as verify
-use Rattle.negoex_messages.specs.contracts.verify.VerifyLaid.TheImpl as laid_verify
+use Rattle.negoex_structs.specs.contracts.exchange.Exchange.{the_type as exchange_type}
+use Rattle.negoex_structs.specs.contracts.exchange.ExchangePartialEq.TheImpl as exchange
+use Rattle.negoex_structs.specs.contracts.exchange.ExchangeLaid.TheImpl as laid_exchange
+use Rattle.negoex_structs.specs.contracts.nego.Nego.{the_type as nego_type}
+use Rattle.negoex_structs.specs.contracts.nego.NegoPartialEq.TheImpl as nego
+use Rattle.negoex_structs.specs.contracts.nego.NegoLaid.TheImpl as laid_nego
+use Rattle.negoex_structs.specs.contracts.verify.Verify.{the_type as verify_type}
+use Rattle.negoex_structs.specs.contracts.verify.VerifyPartialEq.TheImpl as verify
+use Rattle.negoex_structs.specs.contracts.verify.VerifyLaid.TheImpl as laid_verify
 use Rattle.krb_layout_equality.specs.Seen.{seen_mic, seen_wrap}
 use Rattle.krb_layout_equality.proofs.Seeing.{IsSeen, whole, kinds, put_as, both, last, fields, options, vectors}
 

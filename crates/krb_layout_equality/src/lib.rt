@@ -14,7 +14,8 @@ ghost use Rattle.pac_layouts.specs.Buffers.{buffer_of, pac_buffers};
 ghost use Rattle.krb_layout_equality.specs.Seen.{seen_mic, seen_wrap};
 
 use gss_message_tokens::{MicToken, WrapToken};
-use negoex_messages::{Checksum, Exchange, Extension, Laid, Nego, Verify};
+use negoex_structs::{Exchange, Nego, Verify};
+use negoex_types::{Checksum, Extension, Laid};
 use pac_layouts::{Pac, PacBuffer};
 
 /// Two MIC tokens are equal exactly where they carry one thing, and have one payload.

@@ -1,5 +1,3 @@
 pub mod Messages
 pub mod Sources
-pub mod StructLaws
-pub mod Structs
 pub mod Widths

@@ -31,14 +31,14 @@ pub trait NegoexDataType: Wide {
         ensures { result ≡ place self.now };
 
     /// The length of the header.
-    fn header_size() -> usize
+    final fn header_size() -> usize
         ensures { result ≡ Self.layout.width }
     {
         Self::width()
     }
 
     /// Writes the header followed by the payload; a front of them where the writer stops.
-    fn encode<W: Sink>(&self, alloc: Global, to: &mut W) -> Result<(), NegoexError>
+    final fn encode<W: Sink>(&self, alloc: Global, to: &mut W) -> Result<(), NegoexError>
         ensures written { MatchResult result
             (λ _. Appends (W.written to.old) (W.written to.new) (message_bytes Self.layout [] (Self.view self.now) (place self.now)))
             (λ _. (n : ℕ) × Appends (W.written to.old) (W.written to.new)
@@ -55,7 +55,7 @@ pub trait NegoexDataType: Wide {
 
     /// Writes the header, as it is where the payload begins at `offset`, to the one and the payload to the other; returns
     /// the length of the payload. A front of either where its writer stops.
-    fn encode_with_payload<W: Sink, D: Sink>(
+    final fn encode_with_payload<W: Sink, D: Sink>(
         &self,
         alloc: Global,
         offset: usize,
@@ -92,7 +92,11 @@ pub trait NegoexDataType: Wide {
     /// The first fault in the order of the bytes is returned. First comes what is wrong with those of the header that are
     /// there, then a fault of the device or `UnexpectedEof`, then what is wrong with the payload. Or memory ran out
     /// (`OutOfMemory`).
-    fn decode<R: Source>(alloc: Global, from: &mut R, message: &[u8]) -> Result<Self, NegoexError>
+    final fn decode<R: Source>(
+        alloc: Global,
+        from: &mut R,
+        message: &[u8],
+    ) -> Result<Self, NegoexError>
         ensures found { IfOk result (λ t. (header : List ℕ) × Self.layout.IsLaid (Self.view t) header message.now
             × Consumes (R.left from.old) (R.left from.new) header) }
         ensures only { IfSome (R.left from.old) (λ bytes.

@@ -8,20 +8,15 @@
 #![tactic(auto)]
 
 mod data_type;
-mod exchange;
 mod message;
-mod nego;
 mod reading;
-mod verify;
 mod writing;
 
 pub use data_type::NegoexDataType;
-pub use exchange::Exchange;
 pub use message::{NegoexMessage, written_is_read};
-pub use nego::{Nego, PROTOCOL_VERSION};
+pub use negoex_structs::{Exchange, Nego, PROTOCOL_VERSION, Verify};
 pub use negoex_types::{
     AuthScheme, AuthSchemeVector, ByteVector, CHECKSUM_SCHEME_RFC3961, Checksum, ConversationId,
     Extension, ExtensionVector, Guid, Laid, MessageHeader, MessageType, NEGOEXTS_MESSAGE_SIGNATURE,
     NegoexError, RANDOM_ARRAY_SIZE, Wide,
 };
-pub use verify::Verify;

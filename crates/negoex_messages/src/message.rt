@@ -6,6 +6,7 @@ ghost use Rattle.negoex_messages.specs.Messages.{IsMessage, message_bytes, IsTru
 
 use crate::writing::{bytes_of, write_value};
 use byte_streams::Sink;
+use negoex_structs::{Exchange, Nego, Verify};
 use negoex_types::{Laid, NegoexError, Wide, front_of};
 use std::alloc::Global;
 
@@ -30,7 +31,7 @@ pub trait NegoexMessage: Wide {
     /// The first fault in the order of the fields is returned, where each element of a vector comes with all that it
     /// points to. It is `InvalidData` for a wrong signature, message type or offset past the message. It is `InvalidInput`
     /// for a wrong checksum scheme, and `UnexpectedEof` for bytes that end before. Or memory ran out (`OutOfMemory`).
-    fn decode(alloc: Global, message: &[u8]) -> Result<Self, NegoexError>
+    final fn decode(alloc: Global, message: &[u8]) -> Result<Self, NegoexError>
         ensures found { IfOk result (λ m. IsMessage Self.layout (Self.view m) message.now) }
         ensures only { (v : Self.Value) → Self.layout.Fits v → IsMessage Self.layout v message.now → GivesBack Self.view v result }
         ensures exact { Answers Self.view (Self.layout.read (take Self.layout.width message.now) message.now) result }
@@ -39,7 +40,7 @@ pub trait NegoexMessage: Wide {
     }
 
     /// The message's bytes; `InvalidInput` where the payload ends past 32 bits.
-    fn to_bytes(&self, alloc: Global) -> Result<Vec<u8>, NegoexError>
+    final fn to_bytes(&self, alloc: Global) -> Result<Vec<u8>, NegoexError>
         ensures exact { MatchResult result
             (λ bytes. bytes.items ≡ message_bytes Self.layout filler (Self.view self.now) (offset self.now))
             (IsTooLong (offset self.now) (Self.layout.payload (Self.view self.now))) }
@@ -51,7 +52,7 @@ pub trait NegoexMessage: Wide {
 
     /// Writes the message; a front of it where the writer stops. Nothing is written where the payload ends past 32 bits,
     /// which is `InvalidInput`.
-    fn encode<W: Sink>(&self, alloc: Global, to: &mut W) -> Result<(), NegoexError>
+    final fn encode<W: Sink>(&self, alloc: Global, to: &mut W) -> Result<(), NegoexError>
         ensures written { MatchResult result
             (λ _. Appends (W.written to.old) (W.written to.new) (message_bytes Self.layout filler (Self.view self.now) (offset self.now)))
             (λ _. (n : ℕ) × Appends (W.written to.old) (W.written to.new)
@@ -74,3 +75,52 @@ pub trait NegoexMessage: Wide {
 pub fn written_is_read<M: NegoexMessage>()
     ensures { WrittenIsRead M.layout M.filler }
 {}
+
+impl NegoexMessage for Exchange {
+    ghost use Rattle.std.specs.Prelude.{[]};
+
+    ghost filler = { [] };
+
+    ghost offset = { λ e. e.header.header_len };
+
+    fn filling() -> &'static [u8] {
+        &[]
+    }
+
+    fn payload_offset(&self) -> usize {
+        self.header.header_len as usize
+    }
+}
+
+impl NegoexMessage for Nego {
+    ghost use Rattle.std.specs.Prelude.{[]};
+
+    ghost filler = { [] };
+
+    ghost offset = { λ n. n.header.header_len };
+
+    fn filling() -> &'static [u8] {
+        &[]
+    }
+
+    fn payload_offset(&self) -> usize {
+        self.header.header_len as usize
+    }
+}
+
+// Four zeros precede the checksum's value, and count as the header's.
+impl NegoexMessage for Verify {
+    ghost use Rattle.std.specs.Prelude.{[], ◌∷◌};
+
+    ghost filler = { 0 ∷ 0 ∷ 0 ∷ 0 ∷ [] };
+
+    ghost offset = { λ v. v.header.header_len };
+
+    fn filling() -> &'static [u8] {
+        &[0, 0, 0, 0]
+    }
+
+    fn payload_offset(&self) -> usize {
+        self.header.header_len as usize
+    }
+}

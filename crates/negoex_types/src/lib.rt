@@ -30,4 +30,4 @@ pub use header::MessageHeader;
 pub use laid::{Laid, Wide};
 pub use leaves::{AuthScheme, AuthSchemeVector, ByteVector, ConversationId, Guid};
 pub use message_type::MessageType;
-pub use pairs::{put_both, put_three};
+pub use pairs::put_both;

@@ -27,27 +27,6 @@ pub fn put_both<A: Laid, B: Laid>(
     second.put(alloc, behind, header, payload)
 }
 
-/// Appends two fields, and then the third.
-pub fn put_three<A: Laid, B: Laid, C: Laid>(
-    alloc: Global,
-    first: &A,
-    second: &B,
-    third: &C,
-    offset: usize,
-    header: &mut Vec<u8>,
-    payload: &mut Vec<u8>,
-) -> Result<(), NegoexError>
-    ensures { MatchResult result
-        (λ _. IsPut (pair_layout (pair_layout A.layout B.layout) C.layout) ((A.view first.now, B.view second.now), C.view third.now) offset
-        header.old.items header.new.items payload.old.items payload.new.items)
-        (IsTooLong offset (A.layout.payload (A.view first.now) + B.layout.payload (B.view second.now) + C.layout.payload (C.view third.now))) }
-{
-    let before = payload.len();
-    put_both(alloc, first, second, offset, header, payload)?;
-    let behind = place_behind(offset, payload.len() - before, 1)?;
-    third.put(alloc, behind, header, payload)
-}
-
 impl<A: Wide + Drop, B: Laid + Drop> Laid for (A, B) {
     ghost use Rattle.negoex_types.specs.Pairs.{pair_layout};
     ghost use Rattle.negoex_types.specs.PairLaws.{pair_laws};

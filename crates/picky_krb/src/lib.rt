@@ -97,8 +97,9 @@ pub mod messages {
 pub mod negoex {
     pub use negoex_messages::{
         CHECKSUM_SCHEME_RFC3961, Laid, NEGOEXTS_MESSAGE_SIGNATURE, NegoexDataType, NegoexError,
-        NegoexMessage, PROTOCOL_VERSION, RANDOM_ARRAY_SIZE, Wide, written_is_read,
+        NegoexMessage, RANDOM_ARRAY_SIZE, Wide, written_is_read,
     };
+    pub use negoex_structs::PROTOCOL_VERSION;
 
     /// What messages hold (MS-NEGOEX, section 2.2.5).
     pub mod data_types {
@@ -110,7 +111,7 @@ pub mod negoex {
 
     /// Its messages (MS-NEGOEX, section 2.2.6).
     pub mod messages {
-        pub use negoex_messages::{Exchange, Nego, Verify};
+        pub use negoex_structs::{Exchange, Nego, Verify};
     }
 }
 

@@ -3,7 +3,8 @@
 use crate::negoex::VERIFY;
 use byte_streams::{Sink, Source};
 use gss_message_tokens::{GssApiMessageError, LsapTokenInfoIntegrity, MicToken, WrapToken};
-use negoex_messages::{MessageHeader, NegoexDataType, NegoexMessage, Verify};
+use negoex_messages::{MessageHeader, NegoexDataType, NegoexMessage};
+use negoex_structs::Verify;
 use pac_layouts::{Pac, PacError, PacInfoBuffer};
 use std::alloc::Global;
 use std::io::ErrorKind;

@@ -7,7 +7,7 @@ use Rattle.negoex_types.specs.StructLaws.{header_laws, bytes_laws, extension_law
 use Rattle.negoex_types.specs.Structs.{header_layout, bytes_layout, extension_layout, checksum_layout}
 use Rattle.negoex_types.specs.VectorLaws.{vector_laws}
 use Rattle.negoex_types.specs.Vectors.{vector_layout}
-use Rattle.negoex_messages.specs.Structs.{exchange_layout, verify_layout, nego_layout}
+use Rattle.negoex_structs.specs.Structs.{exchange_layout, verify_layout, nego_layout}
 
 pub exchange_laws : LayoutLaws exchange_layout
 exchange_laws = pair_laws _ bytes_layout (pair_laws header_layout guid_layout header_laws guid_laws) bytes_laws

@@ -1,11 +1,12 @@
 //! The schemes that a party offers (MS-NEGOEX, section 2.2.6.3).
-ghost use Rattle.std.specs.Prelude.{◌≡◌};
+ghost use Rattle.std.specs.Prelude.{◌≡◌, ◌+◌, MatchResult};
+ghost use Rattle.negoex_types.specs.Form.{IsPut, IsTooLong};
+ghost use Rattle.negoex_types.specs.Pairs.{pair_layout};
 
-use crate::message::NegoexMessage;
+use crate::header::header_of;
 use negoex_types::{
     AuthScheme, AuthSchemeVector, ConversationId, Extension, ExtensionVector, Laid, MessageHeader,
-    MessageType, NEGOEXTS_MESSAGE_SIGNATURE, NegoexError, RANDOM_ARRAY_SIZE, Wide, place_behind,
-    put_three,
+    MessageType, NegoexError, RANDOM_ARRAY_SIZE, Wide, place_behind, put_both,
 };
 use std::alloc::{AllocError, Global};
 
@@ -28,11 +29,12 @@ pub struct Nego {
 }
 
 impl Nego {
-    ghost use Rattle.std.specs.Prelude.{◌+◌, ◌^◌, ◌≤◌, map, MatchResult};
+    ghost use Rattle.std.specs.Prelude.{◌^◌, ◌≤◌, map};
     ghost use Rattle.std.specs.declared.io.ErrorKind.{ErrorKind};
     ghost use Rattle.negoex_types.specs.Leaves.{guid_layout};
     ghost use Rattle.negoex_types.specs.Structs.{extension_layout};
     ghost use Rattle.negoex_types.specs.Vectors.{vector_layout};
+    ghost use Rattle.negoex_structs.specs.Structs.{made_header};
 
     /// A message of these schemes and extensions, with its true lengths; `InvalidInput` where it has 2^32 bytes or more.
     pub fn new(
@@ -45,15 +47,9 @@ impl Nego {
     ) -> Result<Nego, NegoexError>
         ensures { MatchResult result
             (λ m. m ≡ record {
-              header = record {
-                signature = 6004521257897772366;
-                message_type = message_type;
-                sequence_num = sequence_num;
-                header_len = 96;
-                message_len = 96 + (vector_layout guid_layout).payload (map (λ s. s) auth_schemes.items)
-                    + (vector_layout extension_layout).payload (map ⟦<Extension as Laid>⟧.view extensions.items);
-                conversation_id = conversation_id;
-              };
+              header = made_header message_type conversation_id sequence_num 96
+                  ((vector_layout guid_layout).payload (map (λ s. s) auth_schemes.items)
+                  + (vector_layout extension_layout).payload (map ⟦<Extension as Laid>⟧.view extensions.items));
               random = random;
               protocol_version = 0;
               auth_schemes = auth_schemes;
@@ -62,23 +58,39 @@ impl Nego {
             (λ e. (e.kind ≡ ErrorKind.InvalidInput) × (2 ^ 32 ≤ 96 + (vector_layout guid_layout).payload (map (λ s. s) auth_schemes.items)
             + (vector_layout extension_layout).payload (map ⟦<Extension as Laid>⟧.view extensions.items))) }
     {
-        let behind = place_behind(96, auth_schemes.payload_size(), 1)?;
-        let message_len = place_behind(behind, extensions.payload_size(), 1)? as u32;
+        let payload = auth_schemes
+            .payload_size()
+            .saturating_add(extensions.payload_size());
+        let header = header_of(message_type, conversation_id, sequence_num, 96, payload)?;
         Ok(Nego {
-            header: MessageHeader {
-                signature: NEGOEXTS_MESSAGE_SIGNATURE,
-                message_type,
-                sequence_num,
-                header_len: 96,
-                message_len,
-                conversation_id,
-            },
+            header,
             random,
             protocol_version: PROTOCOL_VERSION,
             auth_schemes,
             extensions,
         })
     }
+}
+
+/// Appends two fields, and then the third.
+pub fn put_three<A: Laid, B: Laid, C: Laid>(
+    alloc: Global,
+    first: &A,
+    second: &B,
+    third: &C,
+    offset: usize,
+    header: &mut Vec<u8>,
+    payload: &mut Vec<u8>,
+) -> Result<(), NegoexError>
+    ensures { MatchResult result
+        (λ _. IsPut (pair_layout (pair_layout A.layout B.layout) C.layout) ((A.view first.now, B.view second.now), C.view third.now) offset
+        header.old.items header.new.items payload.old.items payload.new.items)
+        (IsTooLong offset (A.layout.payload (A.view first.now) + B.layout.payload (B.view second.now) + C.layout.payload (C.view third.now))) }
+{
+    let before = payload.len();
+    put_both(alloc, first, second, offset, header, payload)?;
+    let behind = place_behind(offset, payload.len() - before, 1)?;
+    third.put(alloc, behind, header, payload)
 }
 
 type Fixed = (MessageHeader, ([u8; RANDOM_ARRAY_SIZE], u64));
@@ -101,8 +113,8 @@ impl Clone for Nego {
 
 impl Laid for Nego {
     ghost use Rattle.std.specs.Prelude.{map};
-    ghost use Rattle.negoex_messages.specs.Structs.{NegoValue, nego_layout};
-    ghost use Rattle.negoex_messages.specs.StructLaws.{nego_laws};
+    ghost use Rattle.negoex_structs.specs.Structs.{NegoValue, nego_layout};
+    ghost use Rattle.negoex_structs.specs.StructLaws.{nego_laws};
 
     ghost Value = { NegoValue };
 
@@ -159,21 +171,5 @@ impl Laid for Nego {
 impl Wide for Nego {
     fn width() -> usize {
         96
-    }
-}
-
-impl NegoexMessage for Nego {
-    ghost use Rattle.std.specs.Prelude.{[]};
-
-    ghost filler = { [] };
-
-    ghost offset = { λ n. n.header.header_len };
-
-    fn filling() -> &'static [u8] {
-        &[]
-    }
-
-    fn payload_offset(&self) -> usize {
-        self.header.header_len as usize
     }
 }

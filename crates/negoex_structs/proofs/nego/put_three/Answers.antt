@@ -3,7 +3,7 @@ use Rattle.byte_layouts.proofs.Exits.{at-exit}
 use Rattle.negoex_types.specs.Pairs.{pair_layout}
 use Rattle.negoex_types.specs.PairLaws.{pair_laws}
 use Rattle.negoex_types.proofs.PairPut.{pair-put, first-long, long-more}
-use Rattle.negoex_types.proofs.pairs.put_three.Goals as goal
+use Rattle.negoex_structs.proofs.nego.put_three.Goals as goal
 
 pub returns-in_err-put_both : goal.returns-in_err-put_both
 returns-in_err-put_both g c = at-exit _ _ _ _ c.from_residual.ensures.1 (long-more _ _ _ _ c.in_err-put_both.ensures)

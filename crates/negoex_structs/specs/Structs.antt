@@ -1,10 +1,23 @@
 -- The structs of messages, field by field in the standard's order (MS-NEGOEX, section 2.2.6).
-use Rattle.std.specs.Prelude.{ℕ, List}
+use Rattle.std.specs.Prelude.{ℕ, ◌+◌, List}
 use Rattle.negoex_types.specs.Form.{Layout}
 use Rattle.negoex_types.specs.Leaves.{guid_layout, long_layout, random_layout}
 use Rattle.negoex_types.specs.Pairs.{pair_layout}
 use Rattle.negoex_types.specs.Structs.{HeaderValue, header_layout, bytes_layout, ExtensionValue, extension_layout, ChecksumValue, checksum_layout}
 use Rattle.negoex_types.specs.Vectors.{vector_layout}
+use Rattle.negoex_types.specs.declared.header.MessageHeader.{MessageHeader}
+use Rattle.negoex_types.specs.declared.message_type.MessageType.{MessageType}
+
+-- The header of a message that is made: the signature "NEGOEXTS", and the message's true lengths (MS-NEGOEX, section 2.2.6.2).
+abbrev pub made_header : MessageType → List ℕ → ℕ → ℕ → ℕ → MessageHeader
+made_header message_type conversation_id sequence_num header_len payload = record {
+  signature = 6004521257897772366;
+  message_type = message_type;
+  sequence_num = sequence_num;
+  header_len = header_len;
+  message_len = header_len + payload;
+  conversation_id = conversation_id;
+}
 
 abbrev pub ExchangeValue : Type 0
 ExchangeValue = (HeaderValue × List ℕ) × List ℕ

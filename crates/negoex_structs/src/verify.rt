@@ -1,10 +1,10 @@
 //! A checksum over all messages so far (MS-NEGOEX, section 2.2.6.5).
 ghost use Rattle.std.specs.Prelude.{◌≡◌};
 
-use crate::message::NegoexMessage;
+use crate::header::header_of;
 use negoex_types::{
     AuthScheme, ByteVector, CHECKSUM_SCHEME_RFC3961, Checksum, ConversationId, Laid, MessageHeader,
-    MessageType, NEGOEXTS_MESSAGE_SIGNATURE, NegoexError, Wide, place_behind, put_both,
+    MessageType, NegoexError, Wide, put_both,
 };
 use std::alloc::{AllocError, Global};
 
@@ -22,6 +22,7 @@ pub struct Verify {
 impl Verify {
     ghost use Rattle.std.specs.Prelude.{◌+◌, ◌^◌, ◌≤◌, length, MatchResult};
     ghost use Rattle.std.specs.declared.io.ErrorKind.{ErrorKind};
+    ghost use Rattle.negoex_structs.specs.Structs.{made_header};
 
     /// A message of this checksum, with its true lengths; `InvalidInput` where it has 2^32 bytes or more.
     pub fn new(
@@ -34,29 +35,21 @@ impl Verify {
     ) -> Result<Verify, NegoexError>
         ensures { MatchResult result
             (λ m. m ≡ record {
-              header = record {
-                signature = 6004521257897772366;
-                message_type = message_type;
-                sequence_num = sequence_num;
-                header_len = 80;
-                message_len = 80 + length checksum_value.items;
-                conversation_id = conversation_id;
-              };
+              header = made_header message_type conversation_id sequence_num 80 (length checksum_value.items);
               auth_scheme = auth_scheme;
               checksum = record { header_len = 20; checksum_scheme = 1; checksum_type = checksum_type; checksum_value = checksum_value };
             })
             (λ e. (e.kind ≡ ErrorKind.InvalidInput) × (2 ^ 32 ≤ 80 + length checksum_value.items)) }
     {
-        let message_len = place_behind(80, checksum_value.len(), 1)? as u32;
+        let header = header_of(
+            message_type,
+            conversation_id,
+            sequence_num,
+            80,
+            checksum_value.len(),
+        )?;
         Ok(Verify {
-            header: MessageHeader {
-                signature: NEGOEXTS_MESSAGE_SIGNATURE,
-                message_type,
-                sequence_num,
-                header_len: 80,
-                message_len,
-                conversation_id,
-            },
+            header,
             auth_scheme,
             checksum: Checksum {
                 header_len: 20,
@@ -82,8 +75,8 @@ impl Clone for Verify {
 }
 
 impl Laid for Verify {
-    ghost use Rattle.negoex_messages.specs.Structs.{VerifyValue, verify_layout};
-    ghost use Rattle.negoex_messages.specs.StructLaws.{verify_laws};
+    ghost use Rattle.negoex_structs.specs.Structs.{VerifyValue, verify_layout};
+    ghost use Rattle.negoex_structs.specs.StructLaws.{verify_laws};
 
     ghost Value = { VerifyValue };
 
@@ -122,22 +115,5 @@ impl Laid for Verify {
 impl Wide for Verify {
     fn width() -> usize {
         76
-    }
-}
-
-// Four zeros precede the checksum's value, and count as the header's.
-impl NegoexMessage for Verify {
-    ghost use Rattle.std.specs.Prelude.{[], ◌∷◌};
-
-    ghost filler = { 0 ∷ 0 ∷ 0 ∷ 0 ∷ [] };
-
-    ghost offset = { λ v. v.header.header_len };
-
-    fn filling() -> &'static [u8] {
-        &[0, 0, 0, 0]
-    }
-
-    fn payload_offset(&self) -> usize {
-        self.header.header_len as usize
     }
 }

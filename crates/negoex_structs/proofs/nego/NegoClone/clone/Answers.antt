@@ -1,7 +1,7 @@
 use Rattle.std.proofs.Common.{◌≡◌}
 use Rattle.byte_layouts.proofs.CloneLaws.{copies-seen}
 use Rattle.negoex_types.specs.contracts.extension.ExtensionLaid.TheImpl as extension
-use Rattle.negoex_messages.proofs.nego.NegoClone.clone.Goals as goal
+use Rattle.negoex_structs.proofs.nego.NegoClone.clone.Goals as goal
 
 -- the same behind what is the same
 both_same : {A B C : Type 0} (x : A) (b d : B) (c e : C) → d ≡ b → e ≡ c → ◌≡◌ {A = (A × B) × C} ((x, d), e) ((x, b), c)

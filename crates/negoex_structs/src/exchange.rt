@@ -1,10 +1,10 @@
 //! A token of a scheme (MS-NEGOEX, section 2.2.6.4).
 ghost use Rattle.std.specs.Prelude.{◌≡◌};
 
-use crate::message::NegoexMessage;
+use crate::header::header_of;
 use negoex_types::{
-    AuthScheme, ByteVector, ConversationId, Laid, MessageHeader, MessageType,
-    NEGOEXTS_MESSAGE_SIGNATURE, NegoexError, Wide, place_behind, put_both,
+    AuthScheme, ByteVector, ConversationId, Laid, MessageHeader, MessageType, NegoexError, Wide,
+    put_both,
 };
 use std::alloc::{AllocError, Global};
 
@@ -22,6 +22,7 @@ pub struct Exchange {
 impl Exchange {
     ghost use Rattle.std.specs.Prelude.{◌+◌, ◌^◌, ◌≤◌, length, MatchResult};
     ghost use Rattle.std.specs.declared.io.ErrorKind.{ErrorKind};
+    ghost use Rattle.negoex_structs.specs.Structs.{made_header};
 
     /// A message of this scheme, with its true lengths; `InvalidInput` where it has 2^32 bytes or more.
     pub fn new(
@@ -33,29 +34,21 @@ impl Exchange {
     ) -> Result<Exchange, NegoexError>
         ensures { MatchResult result
             (λ m. m ≡ record {
-              header = record {
-                signature = 6004521257897772366;
-                message_type = message_type;
-                sequence_num = sequence_num;
-                header_len = 64;
-                message_len = 64 + length exchange.items;
-                conversation_id = conversation_id;
-              };
+              header = made_header message_type conversation_id sequence_num 64 (length exchange.items);
               auth_scheme = auth_scheme;
               exchange = exchange;
             })
             (λ e. (e.kind ≡ ErrorKind.InvalidInput) × (2 ^ 32 ≤ 64 + length exchange.items)) }
     {
-        let message_len = place_behind(64, exchange.len(), 1)? as u32;
+        let header = header_of(
+            message_type,
+            conversation_id,
+            sequence_num,
+            64,
+            exchange.len(),
+        )?;
         Ok(Exchange {
-            header: MessageHeader {
-                signature: NEGOEXTS_MESSAGE_SIGNATURE,
-                message_type,
-                sequence_num,
-                header_len: 64,
-                message_len,
-                conversation_id,
-            },
+            header,
             auth_scheme,
             exchange,
         })
@@ -77,8 +70,8 @@ impl Clone for Exchange {
 
 impl Laid for Exchange {
     ghost use Rattle.std.specs.Prelude.{map};
-    ghost use Rattle.negoex_messages.specs.Structs.{ExchangeValue, exchange_layout};
-    ghost use Rattle.negoex_messages.specs.StructLaws.{exchange_laws};
+    ghost use Rattle.negoex_structs.specs.Structs.{ExchangeValue, exchange_layout};
+    ghost use Rattle.negoex_structs.specs.StructLaws.{exchange_laws};
 
     ghost Value = { ExchangeValue };
 
@@ -117,21 +110,5 @@ impl Laid for Exchange {
 impl Wide for Exchange {
     fn width() -> usize {
         64
-    }
-}
-
-impl NegoexMessage for Exchange {
-    ghost use Rattle.std.specs.Prelude.{[]};
-
-    ghost filler = { [] };
-
-    ghost offset = { λ e. e.header.header_len };
-
-    fn filling() -> &'static [u8] {
-        &[]
-    }
-
-    fn payload_offset(&self) -> usize {
-        self.header.header_len as usize
     }
 }
