@@ -1,3 +1,2 @@
 pub mod Macs
 pub mod Sha2Laws
-pub mod Opened

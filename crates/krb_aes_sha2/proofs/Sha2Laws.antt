@@ -7,7 +7,7 @@ use Rattle.aes_cts.specs.Bytes.{IsBytes}
 use Rattle.aes_cts.specs.Chains.{IsBlockCipher, IsStolen}
 use Rattle.aes_cts.specs.declared.aes.AesSize.{AesSize}
 use Rattle.aes_cts.proofs.Rounds.{IsAesKey-of_size, aes_block_cipher}
-use Rattle.aes_cts.proofs.Stealing.{stolen_function, stolen_text}
+use Rattle.aes_cts.proofs.Stealing.{length-stolen, stolen_function, stolen_text}
 use Rattle.krb_profile.specs.Derivation.{usage_constant}
 use Rattle.krb_profile.specs.Profile.{ke_of}
 use Rattle.krb_profile.proofs.Laws.{HasLaws}
@@ -37,6 +37,7 @@ aes_sha2_laws size = record {
   filled_front = λ text. ([], sym (append-nil text));
   filled_again = λ text. refl;
   one_cipher = λ key text c d long first second. stolen_function 16 (aes_cipher key) text c d (omega arith) first second;
+  cipher_sized = λ key text c long stolen. length-stolen 16 (aes_cipher key) text c (omega arith) long stolen;
   one_text = λ key usage sized bytes. one_stolen size key usage;
   has_cipher = λ key usage sized bytes s s_bytes.
       has_stolen 16 (aes_cipher (ke_of (aes_sha2_profile size) key usage)) (aes_inverse (ke_of (aes_sha2_profile size) key usage)) (usage_pair size key usage) s s_bytes;

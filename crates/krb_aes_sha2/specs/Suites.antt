@@ -1,12 +1,12 @@
 -- The suites of AES with SHA-2, by the size of their keys (RFC 8009).
-use Rattle.std.specs.Prelude.{◌≡◌, ◌≢◌, ◌⊎◌, ℕ, ◌+◌, ◌<◌, ◌≤◌, List, ◌++◌, take, replicate}
+use Rattle.std.specs.Prelude.{ℕ, ◌+◌, List, ◌++◌, take, replicate}
 use Rattle.aes_cts.specs.Aes.{aes_cipher}
 use Rattle.aes_cts.specs.AesSize.{key_length_of}
 use Rattle.aes_cts.specs.Chains.{IsStolen}
 use Rattle.aes_cts.specs.declared.aes.AesSize.{AesSize}
 use Rattle.aes_cts.specs.declared.error.KerberosCryptoError.{KerberosCryptoError}
-use Rattle.aes_cts.specs.declared.error.KerberosCryptoError.TheVariants.{CipherLength, IntegrityCheck, KeyLength, Memory}
 use Rattle.krb_profile.specs.Profile.{Profile}
+use Rattle.krb_profile.specs.Sealing.{IsRefusalInOrder}
 use Rattle.krb_aes_sha2.specs.Derivation.{hmac_sha2_of, sha2_derived_key_of, sha2_password_key_of, tag_size_of}
 
 -- The checksum is the HMAC, cut to 16 or 24 octets, also of a text that isn't encrypted with it (RFC 8009, sections 5 and 6). Test:
@@ -16,10 +16,8 @@ sha2_tag_of size key text = take (tag_size_of size) (hmac_sha2_of size key text)
 
 -- Decryption refuses fewer bytes than a confounder and a checksum (CipherLength), then another length of the key (KeyLength), then
 -- the checksum (IntegrityCheck). Test: `too_short` of `aes_sha2.rt`.
-pub record IsSha2Refusal (size least key_bytes bytes : ℕ) (e : KerberosCryptoError) : Type 0 where
-  pub short : bytes < least → e ≡ CipherLength bytes least
-  pub keyed : least ≤ bytes → key_bytes ≢ size → e ≡ KeyLength key_bytes size
-  pub judged : least ≤ bytes → key_bytes ≡ size → (e ≡ Memory) ⊎ (e ≡ IntegrityCheck)
+abbrev pub IsSha2Refusal : ℕ → ℕ → ℕ → ℕ → KerberosCryptoError → Type 0
+IsSha2Refusal = IsRefusalInOrder
 
 -- the least that can be opened
 abbrev pub least_of : AesSize → ℕ

@@ -15,7 +15,7 @@ use crate::sealing::INITIAL_VECTOR;
 use aes_cts::{
     AES_BLOCK_SIZE, AesSize, KerberosCryptoError, KerberosCryptoResult, decrypt_aes_cts,
 };
-use krb_profile::{DecryptWithoutChecksum, same_bytes, usage_ke, usage_ki};
+use krb_profile::{DecryptWithoutChecksum, usage_ke, usage_ki};
 use std::alloc::Global;
 
 /// Decrypts a message and verifies its checksum. The message is 32 or 40 bytes shorter. The refusals, in this order:
@@ -40,10 +40,7 @@ pub fn decrypt_message(
     let opened = decrypt_message_no_checksum(alloc, key, key_usage, cipher_data, aes_size)?;
     let encrypted = &cipher_data[..cipher_data.len() - tag_size(aes_size)];
     let tag = tag(alloc, &opened.ki, &INITIAL_VECTOR, encrypted, aes_size)?;
-    if !same_bytes(&tag, &opened.checksum) {
-        return Err(KerberosCryptoError::IntegrityCheck);
-    }
-    Ok(opened.plaintext)
+    opened.verified(&tag)
 }
 
 /// Decrypts a message. Its checksum isn't verified. The refusals, in this order: fewer bytes than a
@@ -97,13 +94,6 @@ pub fn decrypt_message_no_checksum(
     )?;
     let text = decrypt_aes_cts(alloc, &ke, encrypted, aes_size)?;
     let ki = derived(alloc, key, &usage_ki(key_usage), tag_size, aes_size)?;
-    let confounder = Vec::from_slice(alloc, &text[..AES_BLOCK_SIZE])?;
-    let plaintext = Vec::from_slice(alloc, &text[AES_BLOCK_SIZE..])?;
-    let checksum = Vec::from_slice(alloc, checksum)?;
-    Ok(DecryptWithoutChecksum {
-        plaintext,
-        confounder,
-        checksum,
-        ki,
-    })
+    let opened = DecryptWithoutChecksum::of_text(alloc, &text, AES_BLOCK_SIZE, checksum, ki)?;
+    Ok(opened)
 }

@@ -43,14 +43,15 @@ pub fn encrypt_message(
     ensures memory { length key.now ≡ key_length_of aes_size.now → IfErr result (λ e. e ≡ Memory) }
 {
     let sealed = encrypt_message_no_checksum(alloc, key, key_usage, payload, aes_size, confounder)?;
-    let EncryptWithoutChecksum {
-        mut encrypted,
-        ki,
-        ..
-    } = sealed;
-    let tag = tag(alloc, &ki, &INITIAL_VECTOR, &encrypted, aes_size)?;
-    encrypted.extend_from_slice(&tag)?;
-    Ok(encrypted)
+    let tag = tag(
+        alloc,
+        &sealed.ki,
+        &INITIAL_VECTOR,
+        &sealed.encrypted,
+        aes_size,
+    )?;
+    let bytes = sealed.with_checksum(&tag)?;
+    Ok(bytes)
 }
 
 /// Encrypts confounder and message, and returns the key of the checksum that is still to be made. A key of another

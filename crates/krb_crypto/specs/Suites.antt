@@ -4,21 +4,32 @@ use Rattle.aes_cts.specs.declared.aes.AesSize.TheVariants.{Aes128, Aes256}
 use Rattle.aes_cts.specs.declared.error.KerberosCryptoError.{KerberosCryptoError}
 use Rattle.aes_cts.specs.declared.error.KerberosCryptoError.TheVariants.{AlgorithmIdentifier, AlgorithmIdentifierData}
 use Rattle.krb_profile.specs.Profile.{Profile}
-use Rattle.krb_aes.specs.Suites.{aes128_profile, aes256_profile}
+use Rattle.krb_aes.specs.Suites.{aes_profile}
 use Rattle.krb_aes_sha2.specs.Suites.{aes_sha2_profile}
 use Rattle.krb_des3.specs.Suite.{des3_profile}
+use Rattle.krb_crypto.specs.declared.family.Family.{Family}
+use Rattle.krb_crypto.specs.declared.family.Family.TheVariants.{Aes, TripleDes, AesSha2}
 use Rattle.krb_crypto.specs.declared.suite.CipherSuite.{CipherSuite}
 use Rattle.krb_crypto.specs.declared.suite.CipherSuite.TheVariants.{Aes128CtsHmacSha196, Aes256CtsHmacSha196, Des3CbcSha1Kd, Aes128CtsHmacSha256128, Aes256CtsHmacSha384192}
 use Rattle.krb_crypto.specs.declared.suite.ChecksumSuite.{ChecksumSuite}
 use Rattle.krb_crypto.specs.declared.suite.ChecksumSuite.TheVariants.{HmacSha196Aes128, HmacSha196Aes256, HmacSha1Des3Kd, HmacSha256128Aes128, HmacSha384192Aes256}
 
+-- the family of a suite, and the size of its keys (RFC 3962, section 7; RFC 3961, section 6.3; RFC 8009, section 5)
+abbrev pub cipher_family : CipherSuite → Family
+cipher_family Aes128CtsHmacSha196 = Aes Aes128
+cipher_family Aes256CtsHmacSha196 = Aes Aes256
+cipher_family Des3CbcSha1Kd = TripleDes
+cipher_family Aes128CtsHmacSha256128 = AesSha2 Aes128
+cipher_family Aes256CtsHmacSha384192 = AesSha2 Aes256
+
 -- the profile that distinguishes a suite from the others: all definitions of sealing are in terms of it
+abbrev pub family_profile : Family → Profile
+family_profile (Aes size) = aes_profile size
+family_profile TripleDes = des3_profile
+family_profile (AesSha2 size) = aes_sha2_profile size
+
 abbrev pub cipher_profile : CipherSuite → Profile
-cipher_profile Aes128CtsHmacSha196 = aes128_profile
-cipher_profile Aes256CtsHmacSha196 = aes256_profile
-cipher_profile Des3CbcSha1Kd = des3_profile
-cipher_profile Aes128CtsHmacSha256128 = aes_sha2_profile Aes128
-cipher_profile Aes256CtsHmacSha384192 = aes_sha2_profile Aes256
+cipher_profile suite = family_profile (cipher_family suite)
 
 -- all suites
 abbrev pub cipher_suites : List CipherSuite

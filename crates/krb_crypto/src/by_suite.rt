@@ -5,8 +5,9 @@ ghost use Rattle.krb_crypto.specs.Sealing.{IsEncryptedBy, IsOpeningRefusal, IsRe
 ghost use Rattle.krb_crypto.specs.Suites.{checksum_key_size, cipher_checksum, cipher_confounder_size, cipher_key_size, cipher_seed_bits, cipher_tag_size};
 
 use crate::cipher::{Checksum, Cipher};
+use crate::family::Family;
 use crate::suite::{ChecksumSuite, CipherSuite};
-use aes_cts::{AES_BLOCK_SIZE, AesSize, KerberosCryptoResult};
+use aes_cts::{AES_BLOCK_SIZE, KerberosCryptoResult};
 use des3_cbc::{DES3_BLOCK_SIZE, DES3_SEED_LEN};
 use krb_aes::checksum_sha_aes;
 use krb_aes_sha2::checksum_sha2;
@@ -78,22 +79,18 @@ impl Cipher for CipherSuite {
     }
 
     fn seed_bit_len(&self) -> usize {
-        match self {
-            CipherSuite::Aes128CtsHmacSha196 => AesSize::Aes128.seed_bit_len(),
-            CipherSuite::Aes256CtsHmacSha196 => AesSize::Aes256.seed_bit_len(),
-            CipherSuite::Des3CbcSha1Kd => 8 * DES3_SEED_LEN,
-            CipherSuite::Aes128CtsHmacSha256128 => AesSize::Aes128.seed_bit_len(),
-            CipherSuite::Aes256CtsHmacSha384192 => AesSize::Aes256.seed_bit_len(),
+        match self.family() {
+            Family::Aes(size) => size.seed_bit_len(),
+            Family::TripleDes => 8 * DES3_SEED_LEN,
+            Family::AesSha2(size) => size.seed_bit_len(),
         }
     }
 
     fn confounder_size(&self) -> usize {
-        match self {
-            CipherSuite::Aes128CtsHmacSha196 => AES_BLOCK_SIZE,
-            CipherSuite::Aes256CtsHmacSha196 => AES_BLOCK_SIZE,
-            CipherSuite::Des3CbcSha1Kd => DES3_BLOCK_SIZE,
-            CipherSuite::Aes128CtsHmacSha256128 => AES_BLOCK_SIZE,
-            CipherSuite::Aes256CtsHmacSha384192 => AES_BLOCK_SIZE,
+        match self.family() {
+            Family::Aes(_) => AES_BLOCK_SIZE,
+            Family::TripleDes => DES3_BLOCK_SIZE,
+            Family::AesSha2(_) => AES_BLOCK_SIZE,
         }
     }
 
@@ -119,44 +116,24 @@ impl Cipher for CipherSuite {
         payload: &[u8],
         confounder: &[u8],
     ) -> KerberosCryptoResult<Vec<u8>> {
-        match self {
-            CipherSuite::Aes128CtsHmacSha196 => krb_aes::encrypt_message(
+        match self.family() {
+            Family::Aes(size) => krb_aes::encrypt_message(
                 alloc,
                 key,
                 key_usage,
                 payload,
-                &AesSize::Aes128,
+                &size,
                 block_of(confounder),
             ),
-            CipherSuite::Aes256CtsHmacSha196 => krb_aes::encrypt_message(
+            Family::TripleDes => {
+                krb_des3::encrypt_message(alloc, key, key_usage, payload, block_of(confounder))
+            }
+            Family::AesSha2(size) => krb_aes_sha2::encrypt_message(
                 alloc,
                 key,
                 key_usage,
                 payload,
-                &AesSize::Aes256,
-                block_of(confounder),
-            ),
-            CipherSuite::Des3CbcSha1Kd => krb_des3::encrypt_message(
-                alloc,
-                key,
-                key_usage,
-                payload,
-                block_of(confounder),
-            ),
-            CipherSuite::Aes128CtsHmacSha256128 => krb_aes_sha2::encrypt_message(
-                alloc,
-                key,
-                key_usage,
-                payload,
-                &AesSize::Aes128,
-                block_of(confounder),
-            ),
-            CipherSuite::Aes256CtsHmacSha384192 => krb_aes_sha2::encrypt_message(
-                alloc,
-                key,
-                key_usage,
-                payload,
-                &AesSize::Aes256,
+                &size,
                 block_of(confounder),
             ),
         }
@@ -169,41 +146,14 @@ impl Cipher for CipherSuite {
         key_usage: i32,
         cipher_data: &[u8],
     ) -> KerberosCryptoResult<Vec<u8>> {
-        match self {
-            CipherSuite::Aes128CtsHmacSha196 => krb_aes::decrypt_message(
-                alloc,
-                key,
-                key_usage,
-                cipher_data,
-                &AesSize::Aes128,
-            ),
-            CipherSuite::Aes256CtsHmacSha196 => krb_aes::decrypt_message(
-                alloc,
-                key,
-                key_usage,
-                cipher_data,
-                &AesSize::Aes256,
-            ),
-            CipherSuite::Des3CbcSha1Kd => krb_des3::decrypt_message(
-                alloc,
-                key,
-                key_usage,
-                cipher_data,
-            ),
-            CipherSuite::Aes128CtsHmacSha256128 => krb_aes_sha2::decrypt_message(
-                alloc,
-                key,
-                key_usage,
-                cipher_data,
-                &AesSize::Aes128,
-            ),
-            CipherSuite::Aes256CtsHmacSha384192 => krb_aes_sha2::decrypt_message(
-                alloc,
-                key,
-                key_usage,
-                cipher_data,
-                &AesSize::Aes256,
-            ),
+        match self.family() {
+            Family::Aes(size) => {
+                krb_aes::decrypt_message(alloc, key, key_usage, cipher_data, &size)
+            }
+            Family::TripleDes => krb_des3::decrypt_message(alloc, key, key_usage, cipher_data),
+            Family::AesSha2(size) => {
+                krb_aes_sha2::decrypt_message(alloc, key, key_usage, cipher_data, &size)
+            }
         }
     }
 
@@ -215,44 +165,28 @@ impl Cipher for CipherSuite {
         payload: &[u8],
         confounder: &[u8],
     ) -> KerberosCryptoResult<EncryptWithoutChecksum> {
-        match self {
-            CipherSuite::Aes128CtsHmacSha196 => krb_aes::encrypt_message_no_checksum(
+        match self.family() {
+            Family::Aes(size) => krb_aes::encrypt_message_no_checksum(
                 alloc,
                 key,
                 key_usage,
                 payload,
-                &AesSize::Aes128,
+                &size,
                 block_of(confounder),
             ),
-            CipherSuite::Aes256CtsHmacSha196 => krb_aes::encrypt_message_no_checksum(
-                alloc,
-                key,
-                key_usage,
-                payload,
-                &AesSize::Aes256,
-                block_of(confounder),
-            ),
-            CipherSuite::Des3CbcSha1Kd => krb_des3::encrypt_message_no_checksum(
+            Family::TripleDes => krb_des3::encrypt_message_no_checksum(
                 alloc,
                 key,
                 key_usage,
                 payload,
                 block_of(confounder),
             ),
-            CipherSuite::Aes128CtsHmacSha256128 => krb_aes_sha2::encrypt_message_no_checksum(
+            Family::AesSha2(size) => krb_aes_sha2::encrypt_message_no_checksum(
                 alloc,
                 key,
                 key_usage,
                 payload,
-                &AesSize::Aes128,
-                block_of(confounder),
-            ),
-            CipherSuite::Aes256CtsHmacSha384192 => krb_aes_sha2::encrypt_message_no_checksum(
-                alloc,
-                key,
-                key_usage,
-                payload,
-                &AesSize::Aes256,
+                &size,
                 block_of(confounder),
             ),
         }
@@ -265,41 +199,16 @@ impl Cipher for CipherSuite {
         key_usage: i32,
         cipher_data: &[u8],
     ) -> KerberosCryptoResult<DecryptWithoutChecksum> {
-        match self {
-            CipherSuite::Aes128CtsHmacSha196 => krb_aes::decrypt_message_no_checksum(
-                alloc,
-                key,
-                key_usage,
-                cipher_data,
-                &AesSize::Aes128,
-            ),
-            CipherSuite::Aes256CtsHmacSha196 => krb_aes::decrypt_message_no_checksum(
-                alloc,
-                key,
-                key_usage,
-                cipher_data,
-                &AesSize::Aes256,
-            ),
-            CipherSuite::Des3CbcSha1Kd => krb_des3::decrypt_message_no_checksum(
-                alloc,
-                key,
-                key_usage,
-                cipher_data,
-            ),
-            CipherSuite::Aes128CtsHmacSha256128 => krb_aes_sha2::decrypt_message_no_checksum(
-                alloc,
-                key,
-                key_usage,
-                cipher_data,
-                &AesSize::Aes128,
-            ),
-            CipherSuite::Aes256CtsHmacSha384192 => krb_aes_sha2::decrypt_message_no_checksum(
-                alloc,
-                key,
-                key_usage,
-                cipher_data,
-                &AesSize::Aes256,
-            ),
+        match self.family() {
+            Family::Aes(size) => {
+                krb_aes::decrypt_message_no_checksum(alloc, key, key_usage, cipher_data, &size)
+            }
+            Family::TripleDes => {
+                krb_des3::decrypt_message_no_checksum(alloc, key, key_usage, cipher_data)
+            }
+            Family::AesSha2(size) => {
+                krb_aes_sha2::decrypt_message_no_checksum(alloc, key, key_usage, cipher_data, &size)
+            }
         }
     }
 
@@ -310,38 +219,14 @@ impl Cipher for CipherSuite {
         key_usage: i32,
         payload: &[u8],
     ) -> KerberosCryptoResult<Vec<u8>> {
-        match self {
-            CipherSuite::Aes128CtsHmacSha196 => krb_aes::encryption_checksum(
-                alloc,
-                key,
-                key_usage,
-                payload,
-                &AesSize::Aes128,
-            ),
-            CipherSuite::Aes256CtsHmacSha196 => krb_aes::encryption_checksum(
-                alloc,
-                key,
-                key_usage,
-                payload,
-                &AesSize::Aes256,
-            ),
-            CipherSuite::Des3CbcSha1Kd => krb_des3::encryption_checksum(
-                alloc, key, key_usage, payload,
-            ),
-            CipherSuite::Aes128CtsHmacSha256128 => krb_aes_sha2::encryption_checksum(
-                alloc,
-                key,
-                key_usage,
-                payload,
-                &AesSize::Aes128,
-            ),
-            CipherSuite::Aes256CtsHmacSha384192 => krb_aes_sha2::encryption_checksum(
-                alloc,
-                key,
-                key_usage,
-                payload,
-                &AesSize::Aes256,
-            ),
+        match self.family() {
+            Family::Aes(size) => {
+                krb_aes::encryption_checksum(alloc, key, key_usage, payload, &size)
+            }
+            Family::TripleDes => krb_des3::encryption_checksum(alloc, key, key_usage, payload),
+            Family::AesSha2(size) => {
+                krb_aes_sha2::encryption_checksum(alloc, key, key_usage, payload, &size)
+            }
         }
     }
 
@@ -351,42 +236,20 @@ impl Cipher for CipherSuite {
         password: &[u8],
         salt: &[u8],
     ) -> KerberosCryptoResult<Vec<u8>> {
-        match self {
-            CipherSuite::Aes128CtsHmacSha196 => krb_aes::derive_key_from_password(
-                alloc,
-                password,
-                salt,
-                &AesSize::Aes128,
-            ),
-            CipherSuite::Aes256CtsHmacSha196 => krb_aes::derive_key_from_password(
-                alloc,
-                password,
-                salt,
-                &AesSize::Aes256,
-            ),
-            CipherSuite::Des3CbcSha1Kd => krb_des3::derive_key_from_password(alloc, password, salt),
-            CipherSuite::Aes128CtsHmacSha256128 => krb_aes_sha2::derive_key_from_password(
-                alloc,
-                password,
-                salt,
-                &AesSize::Aes128,
-            ),
-            CipherSuite::Aes256CtsHmacSha384192 => krb_aes_sha2::derive_key_from_password(
-                alloc,
-                password,
-                salt,
-                &AesSize::Aes256,
-            ),
+        match self.family() {
+            Family::Aes(size) => krb_aes::derive_key_from_password(alloc, password, salt, &size),
+            Family::TripleDes => krb_des3::derive_key_from_password(alloc, password, salt),
+            Family::AesSha2(size) => {
+                krb_aes_sha2::derive_key_from_password(alloc, password, salt, &size)
+            }
         }
     }
 
     fn random_to_key(&self, alloc: Global, seed: &[u8]) -> KerberosCryptoResult<Vec<u8>> {
-        let key = match self {
-            CipherSuite::Aes128CtsHmacSha196 => krb_aes::random_to_key(alloc, seed)?,
-            CipherSuite::Aes256CtsHmacSha196 => krb_aes::random_to_key(alloc, seed)?,
-            CipherSuite::Des3CbcSha1Kd => krb_des3::random_to_key(alloc, seed)?,
-            CipherSuite::Aes128CtsHmacSha256128 => krb_aes_sha2::random_to_key(alloc, seed)?,
-            CipherSuite::Aes256CtsHmacSha384192 => krb_aes_sha2::random_to_key(alloc, seed)?,
+        let key = match self.family() {
+            Family::Aes(_) => krb_aes::random_to_key(alloc, seed)?,
+            Family::TripleDes => krb_des3::random_to_key(alloc, seed)?,
+            Family::AesSha2(_) => krb_aes_sha2::random_to_key(alloc, seed)?,
         };
         Ok(key)
     }
@@ -410,36 +273,10 @@ impl Checksum for ChecksumSuite {
         key_usage: i32,
         payload: &[u8],
     ) -> KerberosCryptoResult<Vec<u8>> {
-        match self {
-            ChecksumSuite::HmacSha196Aes128 => checksum_sha_aes(
-                alloc,
-                key,
-                key_usage,
-                payload,
-                &AesSize::Aes128,
-            ),
-            ChecksumSuite::HmacSha196Aes256 => checksum_sha_aes(
-                alloc,
-                key,
-                key_usage,
-                payload,
-                &AesSize::Aes256,
-            ),
-            ChecksumSuite::HmacSha1Des3Kd => checksum_sha_des3(alloc, key, key_usage, payload),
-            ChecksumSuite::HmacSha256128Aes128 => checksum_sha2(
-                alloc,
-                key,
-                key_usage,
-                payload,
-                &AesSize::Aes128,
-            ),
-            ChecksumSuite::HmacSha384192Aes256 => checksum_sha2(
-                alloc,
-                key,
-                key_usage,
-                payload,
-                &AesSize::Aes256,
-            ),
+        match self.family() {
+            Family::Aes(size) => checksum_sha_aes(alloc, key, key_usage, payload, &size),
+            Family::TripleDes => checksum_sha_des3(alloc, key, key_usage, payload),
+            Family::AesSha2(size) => checksum_sha2(alloc, key, key_usage, payload, &size),
         }
     }
 }

@@ -2,52 +2,32 @@ use Rattle.std.proofs.Common.{w32, SFits}
 use Rattle.std.proofs.lemmas.Int.{to_z-of_z}
 use Rattle.krb_crypto.proofs.by_suite.CipherSuiteCipher.encrypt.Goals as goal
 
-pub returns-in-Aes128CtsHmacSha196-clause-only : goal.returns-in-Aes128CtsHmacSha196-clause-only
-returns-in-Aes128CtsHmacSha196-clause-only c =
+pub returns-in-Aes-clause-only : goal.returns-in-Aes-clause-only
+returns-in-Aes-clause-only c =
     let fits : SFits w32 c.args.key_usage = c.ranges.key_usage in
-    rw c.in-Aes128CtsHmacSha196.is (rw c.block_of.ensures at (simp to_z-of_z at c.encrypt_message.ensures.only))
+    rw (← c.family.ensures, c.in-Aes.is) (rw c.block_of.ensures at (simp to_z-of_z at c.encrypt_message.ensures.only))
 
-pub returns-in-Aes128CtsHmacSha196-clause-one_text : goal.returns-in-Aes128CtsHmacSha196-clause-one_text
-returns-in-Aes128CtsHmacSha196-clause-one_text c =
+pub returns-in-Aes-clause-one_text : goal.returns-in-Aes-clause-one_text
+returns-in-Aes-clause-one_text c =
     let fits : SFits w32 c.args.key_usage = c.ranges.key_usage in
-    rw c.in-Aes128CtsHmacSha196.is (rw c.block_of.ensures at (simp to_z-of_z at c.encrypt_message.ensures.one_text))
+    rw (← c.family.ensures, c.in-Aes.is) (rw c.block_of.ensures at (simp to_z-of_z at c.encrypt_message.ensures.one_text))
 
-pub returns-in-Aes256CtsHmacSha196-clause-only : goal.returns-in-Aes256CtsHmacSha196-clause-only
-returns-in-Aes256CtsHmacSha196-clause-only c =
+pub returns-in-TripleDes-clause-only : goal.returns-in-TripleDes-clause-only
+returns-in-TripleDes-clause-only c =
     let fits : SFits w32 c.args.key_usage = c.ranges.key_usage in
-    rw c.in-Aes256CtsHmacSha196.is (rw c.block_of-in-Aes256CtsHmacSha196.ensures at (simp to_z-of_z at c.encrypt_message-in-Aes256CtsHmacSha196.ensures.only))
+    rw (← c.family.ensures, c.in-TripleDes.is) (rw c.block_of-in-TripleDes.ensures at (simp to_z-of_z at c.encrypt_message-in-TripleDes.ensures.only))
 
-pub returns-in-Aes256CtsHmacSha196-clause-one_text : goal.returns-in-Aes256CtsHmacSha196-clause-one_text
-returns-in-Aes256CtsHmacSha196-clause-one_text c =
+pub returns-in-TripleDes-clause-one_text : goal.returns-in-TripleDes-clause-one_text
+returns-in-TripleDes-clause-one_text c =
     let fits : SFits w32 c.args.key_usage = c.ranges.key_usage in
-    rw c.in-Aes256CtsHmacSha196.is (rw c.block_of-in-Aes256CtsHmacSha196.ensures at (simp to_z-of_z at c.encrypt_message-in-Aes256CtsHmacSha196.ensures.one_text))
+    rw (← c.family.ensures, c.in-TripleDes.is) (rw c.block_of-in-TripleDes.ensures at (simp to_z-of_z at c.encrypt_message-in-TripleDes.ensures.one_text))
 
-pub returns-in-Des3CbcSha1Kd-clause-only : goal.returns-in-Des3CbcSha1Kd-clause-only
-returns-in-Des3CbcSha1Kd-clause-only c =
+pub returns-in-AesSha2-clause-only : goal.returns-in-AesSha2-clause-only
+returns-in-AesSha2-clause-only c =
     let fits : SFits w32 c.args.key_usage = c.ranges.key_usage in
-    rw c.in-Des3CbcSha1Kd.is (rw c.block_of-in-Des3CbcSha1Kd.ensures at (simp to_z-of_z at c.encrypt_message-in-Des3CbcSha1Kd.ensures.only))
+    rw (← c.family.ensures, c.in-AesSha2.is) (rw c.block_of-in-AesSha2.ensures at (simp to_z-of_z at c.encrypt_message-in-AesSha2.ensures.only))
 
-pub returns-in-Des3CbcSha1Kd-clause-one_text : goal.returns-in-Des3CbcSha1Kd-clause-one_text
-returns-in-Des3CbcSha1Kd-clause-one_text c =
+pub returns-in-AesSha2-clause-one_text : goal.returns-in-AesSha2-clause-one_text
+returns-in-AesSha2-clause-one_text c =
     let fits : SFits w32 c.args.key_usage = c.ranges.key_usage in
-    rw c.in-Des3CbcSha1Kd.is (rw c.block_of-in-Des3CbcSha1Kd.ensures at (simp to_z-of_z at c.encrypt_message-in-Des3CbcSha1Kd.ensures.one_text))
-
-pub returns-in-Aes128CtsHmacSha256128-clause-only : goal.returns-in-Aes128CtsHmacSha256128-clause-only
-returns-in-Aes128CtsHmacSha256128-clause-only c =
-    let fits : SFits w32 c.args.key_usage = c.ranges.key_usage in
-    rw c.in-Aes128CtsHmacSha256128.is (rw c.block_of-in-Aes128CtsHmacSha256128.ensures at (simp to_z-of_z at c.encrypt_message-in-Aes128CtsHmacSha256128.ensures.only))
-
-pub returns-in-Aes128CtsHmacSha256128-clause-one_text : goal.returns-in-Aes128CtsHmacSha256128-clause-one_text
-returns-in-Aes128CtsHmacSha256128-clause-one_text c =
-    let fits : SFits w32 c.args.key_usage = c.ranges.key_usage in
-    rw c.in-Aes128CtsHmacSha256128.is (rw c.block_of-in-Aes128CtsHmacSha256128.ensures at (simp to_z-of_z at c.encrypt_message-in-Aes128CtsHmacSha256128.ensures.one_text))
-
-pub returns-in-Aes256CtsHmacSha384192-clause-only : goal.returns-in-Aes256CtsHmacSha384192-clause-only
-returns-in-Aes256CtsHmacSha384192-clause-only c =
-    let fits : SFits w32 c.args.key_usage = c.ranges.key_usage in
-    rw c.in-Aes256CtsHmacSha384192.is (rw c.block_of-in-Aes256CtsHmacSha384192.ensures at (simp to_z-of_z at c.encrypt_message-in-Aes256CtsHmacSha384192.ensures.only))
-
-pub returns-in-Aes256CtsHmacSha384192-clause-one_text : goal.returns-in-Aes256CtsHmacSha384192-clause-one_text
-returns-in-Aes256CtsHmacSha384192-clause-one_text c =
-    let fits : SFits w32 c.args.key_usage = c.ranges.key_usage in
-    rw c.in-Aes256CtsHmacSha384192.is (rw c.block_of-in-Aes256CtsHmacSha384192.ensures at (simp to_z-of_z at c.encrypt_message-in-Aes256CtsHmacSha384192.ensures.one_text))
+    rw (← c.family.ensures, c.in-AesSha2.is) (rw c.block_of-in-AesSha2.ensures at (simp to_z-of_z at c.encrypt_message-in-AesSha2.ensures.one_text))
