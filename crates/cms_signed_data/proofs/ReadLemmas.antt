@@ -5,7 +5,7 @@ use Rattle.asn1_der.specs.Length.{element}
 use Rattle.asn1_der.proofs.Elements.{element-content}
 use Rattle.asn1_elements.specs.Parts.{IsPart}
 use Rattle.asn1_elements.specs.PartLaws.{part-one}
-use Rattle.x509_spelling.specs.Answers.{ReadsSpelling}
+use Rattle.x509_codec.specs.Answers.{ReadsSpelling}
 use Rattle.x509_spelling.specs.declared.fault.X509Fault.{X509Fault}
 use Rattle.x509_spelling.specs.declared.fault.X509Fault.TheVariants as x509
 use Rattle.cms_types.specs.Parts.{certificate_place, attributes_place}

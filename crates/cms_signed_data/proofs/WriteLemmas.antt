@@ -16,7 +16,7 @@ use Rattle.cms_types.specs.contracts.encapsulated_content_info.EncapsulatedConte
 use Rattle.cms_types.specs.declared.encapsulated_content_info.EncapsulatedContentInfo.{EncapsulatedContentInfo}
 use Rattle.cms_signed_data.proofs.WholeLemmas.{oid_whole, id_whole}
 use Rattle.x509_certificates.specs.contracts.certificate.CertificateSpelled.TheImpl as certificate
-use Rattle.x509_spelling.specs.Answers.{ReadsSpelling}
+use Rattle.x509_codec.specs.Answers.{ReadsSpelling}
 use Rattle.x509_spelling.specs.declared.fault.X509Fault.{X509Fault}
 use Rattle.x509_spelling.specs.declared.fault.X509Fault.TheVariants as x509
 use Rattle.x509_certificates.specs.declared.certificate.Certificate.{Certificate}

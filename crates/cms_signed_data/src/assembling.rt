@@ -9,7 +9,8 @@ ghost use Rattle.asn1_der.specs.Octets.{sequence_octet};
 use asn1_der::octets::SEQUENCE;
 use picky_asn1_der::{RawElement, Serialize};
 use std::alloc::{AllocError, Global};
-use x509_spelling::{Spelled, to_vec};
+use x509_codec::to_vec;
+use x509_spelling::Spelled;
 
 /// The DER of a value.
 pub(crate) fn der_of<T: Serialize>(alloc: Global, value: &T) -> Result<Vec<u8>, AllocError>

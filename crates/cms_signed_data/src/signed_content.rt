@@ -17,8 +17,8 @@ use picky_asn1::wrapper::IntegerAsn1;
 use std::alloc::Global;
 use std::marker::Model;
 use x509_algorithms::AlgorithmIdentifier;
+use x509_codec::from_bytes;
 use x509_names::Name;
-use x509_spelling::from_bytes;
 
 /// Signed data of one content, one certificate and one signer, with the parts of its bytes that are judged. A contract sees the
 /// value, the certificate's bytes and those of the signed attributes.

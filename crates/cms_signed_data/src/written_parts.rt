@@ -25,9 +25,10 @@ use sha2::{Digest, Sha256};
 use std::alloc::{AllocError, Global};
 use x509_algorithms::AlgorithmIdentifier;
 use x509_certificates::Certificate;
+use x509_codec::from_bytes;
 use x509_names::Name;
 use x509_parts::RawAlgorithmIdentifier;
-use x509_spelling::{Spelled, from_bytes};
+use x509_spelling::Spelled;
 
 /// The DER of issuer and serial number of the certificate that the bytes spell.
 pub(crate) fn signer_id(alloc: Global, certificate: &[u8]) -> Result<Vec<u8>, SignedFault>

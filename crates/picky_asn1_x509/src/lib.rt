@@ -15,6 +15,7 @@ pub use x509_certificates::{
     Certificate, CertificateExtensions, CertificationRequest, CertificationRequestInfo,
     TbsCertificate,
 };
+pub use x509_codec::{Signed, deviations, encoded_len, from_bytes, to_vec, with_signed_part};
 pub use x509_extensions::{
     AuthorityKeyIdentifier, ExtendedKeyUsage, Extension, ExtensionValue, ExtensionView, Extensions,
     IssuerAltName, KeyIdentifier, KeyUsage, SubjectAltName, SubjectKeyIdentifier,
@@ -40,6 +41,4 @@ pub use x509_private_keys::{
     ECPrivateKey, EncapsulatedEcSecret, PRIVATE_KEY_INFO_VERSION_1, PRIVATE_KEY_INFO_VERSION_2,
     PrivateKeyInfo, PrivateKeyValue, RsaPrivateKey,
 };
-pub use x509_spelling::{
-    Signed, Spelled, X509Fault, deviations, encoded_len, from_bytes, to_vec, with_signed_part,
-};
+pub use x509_spelling::{Spelled, X509Fault};

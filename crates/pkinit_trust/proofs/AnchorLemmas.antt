@@ -2,7 +2,7 @@
 use Rattle.std.proofs.Common.{◌≡◌, ℕ, List, Result, Ok, Err, refl, inl, inr, ap, sym, ◌∙◌, subst}
 use Rattle.std.specs.Prelude.{IsErrAnd}
 use Rattle.picky_asn1.specs.Bytes.{Bytes}
-use Rattle.x509_spelling.specs.Answers.{ReadsSpelling}
+use Rattle.x509_codec.specs.Answers.{ReadsSpelling}
 use Rattle.x509_spelling.specs.declared.fault.X509Fault.{X509Fault}
 use Rattle.x509_spelling.specs.declared.fault.X509Fault.TheVariants.{Memory}
 use Rattle.pkinit_trust.specs.Anchors.{ReadsMade}

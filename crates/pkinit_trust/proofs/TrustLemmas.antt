@@ -2,7 +2,7 @@
 use Rattle.std.proofs.Common.{◌≡◌, ℕ, List, Option, None, Some, Result, Ok, Err, refl, subst, inl, inr}
 use Rattle.std.specs.Borrow.{Bor}
 use Rattle.picky_asn1.specs.Bytes.{Bytes}
-use Rattle.x509_spelling.specs.Answers.{ReadsSpelling}
+use Rattle.x509_codec.specs.Answers.{ReadsSpelling}
 use Rattle.x509_spelling.specs.declared.fault.X509Fault.{X509Fault}
 use Rattle.x509_spelling.specs.declared.fault.X509Fault.TheVariants as x509
 use Rattle.x509_certificates.specs.declared.certificate.Certificate.{Certificate}

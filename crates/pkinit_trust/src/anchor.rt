@@ -6,8 +6,9 @@ use crate::certificates::name_bytes;
 use std::alloc::{AllocError, Global};
 use std::marker::Model;
 use x509_certificates::Certificate;
+use x509_codec::from_bytes;
 use x509_keys::SubjectPublicKeyInfo;
-use x509_spelling::{Spelled, X509Fault, from_bytes};
+use x509_spelling::{Spelled, X509Fault};
 
 /// An authority that is trusted to issue certificates: its name and its public key (RFC 5280, section 6.1.1). Contracts see
 /// the encoding of the name, and the key.

@@ -5,8 +5,9 @@ ghost use Rattle.std.specs.Cmp.Lexicographic.{pointwise};
 ghost use Rattle.pkinit_trust.specs.Certificates.{IsFoundSigned, name_bytes};
 
 use std::alloc::{AllocError, Global};
+use x509_codec::{Signed, with_signed_part};
 use x509_names::Name;
-use x509_spelling::{Signed, X509Fault, with_signed_part};
+use x509_spelling::X509Fault;
 
 /// The value that the bytes spell with the slice of them that is signed, or `None`. It is generic, since a certificate is dear
 /// to drop.
@@ -32,7 +33,7 @@ pub(crate) fn read_signed<T: Signed + Drop>(
 pub(crate) fn name_bytes(alloc: Global, name: &Name) -> Result<Vec<u8>, AllocError>
     ensures { IfOk result (λ bytes. bytes.items ≡ name_bytes name.now) }
 {
-    let Ok(bytes) = x509_spelling::to_vec(alloc, name) else {
+    let Ok(bytes) = x509_codec::to_vec(alloc, name) else {
         return Err(AllocError);
     };
     Ok(bytes)

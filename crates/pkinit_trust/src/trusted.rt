@@ -21,7 +21,7 @@ use crate::signers::check_signer;
 use key_functions::KeyFunctions;
 use std::alloc::Global;
 use x509_certificates::Certificate;
-use x509_spelling::Signed;
+use x509_codec::Signed;
 
 /// Judges whether the expected principal signed the content, and its certificate, which the content has, is accepted. Of
 /// several reasons against it the first in the order of [`TrustRefusal`] is returned.

@@ -7,7 +7,7 @@ use picky_asn1_der::Asn1RawDer;
 use std::alloc::Global;
 use test_support::{DigestKeys, KnownKey};
 use x509_algorithms::AlgorithmIdentifier;
-use x509_spelling::from_bytes;
+use x509_codec::from_bytes;
 
 /// sha256WithRSAEncryption with NULL.
 const ALGORITHM: &str = "300d06092a864886f70d01010b0500";

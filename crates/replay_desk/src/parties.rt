@@ -6,7 +6,7 @@ use krb_realm::Anchor;
 use result_pairs::both;
 use std::alloc::Global;
 use test_support::{DigestKeys, KnownKey};
-use x509_spelling::to_vec;
+use x509_codec::to_vec;
 
 /// A party by the certificates of its anchor and of its own.
 #[derive(Drop)]

@@ -13,7 +13,7 @@ use picky_asn1_der::Asn1RawDer;
 use std::alloc::Global;
 use test_support::{DigestKeys, KnownKey};
 use x509_algorithms::AlgorithmIdentifier;
-use x509_spelling::to_vec;
+use x509_codec::to_vec;
 
 /// A SubjectPublicKeyInfo of RSA.
 const PUBLIC_VALUE: &str = "301a300d06092a864886f70d01010105000309003006020105020103";

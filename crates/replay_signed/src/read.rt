@@ -11,7 +11,8 @@ use sha2::{Digest, Sha256};
 use std::alloc::Global;
 use test_support::GivenSignature;
 use x509_certificates::Certificate;
-use x509_spelling::{Spelled, deviations, from_bytes, to_vec};
+use x509_codec::{deviations, from_bytes, to_vec};
+use x509_spelling::Spelled;
 
 /// Where the signature's algorithm is in the bytes.
 const ALGORITHM: [usize; 5] = [1, 0, 4, 0, 4];

@@ -9,8 +9,8 @@ use picky_asn1::wrapper::GeneralStringAsn1;
 use pkinit_trust::{Anchor, ExpectedSigner, JudgedContent, TrustFault, check_trusted};
 use std::alloc::Global;
 use test_support::{KnownKey, verifier};
+use x509_codec::to_vec;
 use x509_keys::SubjectPublicKeyInfo;
-use x509_spelling::to_vec;
 
 /// Signed content, and who its signer is to be.
 #[derive(Clone, Copy)]

@@ -8,7 +8,7 @@ use picky_asn1::oid::ObjectIdentifier;
 use std::alloc::Global;
 use test_support::{GivenSignature, signer};
 use x509_algorithms::AlgorithmIdentifier;
-use x509_spelling::from_bytes;
+use x509_codec::from_bytes;
 
 /// What is to be written, and what comes of it.
 #[derive(Clone, Copy)]

@@ -1,7 +1,8 @@
 //! One spelling, read, counted and rewritten.
 use crate::line::{Recorded, Wanted};
 use std::alloc::Global;
-use x509_spelling::{Spelled, X509Fault, deviations, encoded_len, from_bytes, to_vec};
+use x509_codec::{deviations, encoded_len, from_bytes, to_vec};
+use x509_spelling::{Spelled, X509Fault};
 
 /// Whether a recorded spelling is read, counted and rewritten as expected, memory aside.
 pub type Answer = Result<bool, X509Fault>;

@@ -1,7 +1,7 @@
 //! Certificates (RFC 5280, section 4.1).
 ghost use Rattle.std.specs.Prelude.{◌≡◌, None, Some, IfOk, MatchOption, MatchResult};
-ghost use Rattle.x509_spelling.specs.Answers.{ReadsSpelling};
-ghost use Rattle.x509_spelling.specs.SignedParts.{IsSignedPart, value_of};
+ghost use Rattle.x509_codec.specs.Answers.{ReadsSpelling};
+ghost use Rattle.x509_codec.specs.SignedParts.{IsSignedPart, value_of};
 ghost use Rattle.x509_certificates.specs.Certificates.{certificate_row};
 ghost use Rattle.asn1_der.specs.Octets.{sequence_octet};
 
@@ -13,13 +13,12 @@ use picky_asn1::wrapper::BitStringAsn1;
 use picky_asn1_der::{Asn1DerError, LentFields, Serialize, Serializer, fields_of};
 use std::alloc::{AllocError, Global};
 use x509_algorithms::AlgorithmIdentifier;
+use x509_codec::{Signed, with_signed_part};
 use x509_extensions::{
     AuthorityKeyIdentifier, Extension, KeyUsage, SubjectAltName, SubjectKeyIdentifier,
 };
 use x509_parts::BasicConstraints;
-use x509_spelling::{
-    Ahead, Counted, Signed, Spelled, SpelledFields, X509Fault, read_fields, with_signed_part,
-};
+use x509_spelling::{Ahead, Counted, Spelled, SpelledFields, X509Fault, read_fields};
 
 /// A certificate: who a key belongs to, as its issuer signs it.
 ///
@@ -190,7 +189,7 @@ fn of_row(row: CertificateRow) -> Certificate
 }
 
 impl Signed for Certificate {
-    ghost use Rattle.x509_spelling.specs.SignedParts.{holds_first};
+    ghost use Rattle.x509_codec.specs.SignedParts.{holds_first};
 
     type Part = TbsCertificate;
 

@@ -1,7 +1,7 @@
 //! Certification requests (RFC 2986, section 4.2).
 ghost use Rattle.std.specs.Prelude.{◌≡◌, IfOk, MatchResult};
-ghost use Rattle.x509_spelling.specs.Answers.{ReadsSpelling};
-ghost use Rattle.x509_spelling.specs.SignedParts.{IsSignedPart, value_of};
+ghost use Rattle.x509_codec.specs.Answers.{ReadsSpelling};
+ghost use Rattle.x509_codec.specs.SignedParts.{IsSignedPart, value_of};
 ghost use Rattle.x509_certificates.specs.Requests.{request_row};
 ghost use Rattle.asn1_der.specs.Octets.{sequence_octet};
 
@@ -12,9 +12,8 @@ use picky_asn1::wrapper::BitStringAsn1;
 use picky_asn1_der::{Asn1DerError, LentFields, Serialize, Serializer, fields_of};
 use std::alloc::{AllocError, Global};
 use x509_algorithms::AlgorithmIdentifier;
-use x509_spelling::{
-    Ahead, Counted, Signed, Spelled, SpelledFields, X509Fault, read_fields, with_signed_part,
-};
+use x509_codec::{Signed, with_signed_part};
+use x509_spelling::{Ahead, Counted, Spelled, SpelledFields, X509Fault, read_fields};
 
 /// A request for a certificate, signed with the key that it is to have.
 ///
@@ -137,7 +136,7 @@ fn of_row(row: RequestRow) -> CertificationRequest
 }
 
 impl Signed for CertificationRequest {
-    ghost use Rattle.x509_spelling.specs.SignedParts.{holds_first};
+    ghost use Rattle.x509_codec.specs.SignedParts.{holds_first};
 
     type Part = CertificationRequestInfo;
 

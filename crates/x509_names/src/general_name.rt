@@ -173,46 +173,30 @@ impl Exact for GeneralName {
     ghost plain = { tt };
 }
 
+// The alternative with this many others in front of it, as a pattern.
+macro_rules! alternative {
+    (0; $value:pat) => { $value };
+    (1; $value:pat) => { Choice::Other($value) };
+    (2; $value:pat) => { Choice::Other(alternative![1; $value]) };
+    (3; $value:pat) => { Choice::Other(alternative![2; $value]) };
+    (4; $value:pat) => { Choice::Other(alternative![3; $value]) };
+    (5; $value:pat) => { Choice::Other(alternative![4; $value]) };
+    (6; $value:pat) => { Choice::Other(alternative![5; $value]) };
+    (7; $value:pat) => { Choice::Other(alternative![6; $value]) };
+}
+
 // The name that the alternative is.
 fn general_of(choice: GeneralNameChoice) -> GeneralName
     ensures { general_choice result ≡ choice }
 {
     match choice {
-        Choice::This(ImplicitContextTag(value)) => GeneralName::OtherName(value),
-        Choice::Other(Choice::This(ImplicitContextTag(value))) => GeneralName::Rfc822Name(value),
-        Choice::Other(Choice::Other(Choice::This(ImplicitContextTag(value)))) =>
-            GeneralName::DnsName(value),
-        Choice::Other(Choice::Other(Choice::Other(Choice::This(ExplicitContextTag(value))))) =>
-            GeneralName::DirectoryName(value),
-        Choice::Other(
-            Choice::Other(Choice::Other(Choice::Other(Choice::This(ImplicitContextTag(value))))),
-        ) => GeneralName::EdiPartyName(value),
-        Choice::Other(
-            Choice::Other(
-                Choice::Other(
-                    Choice::Other(Choice::Other(Choice::This(ImplicitContextTag(value)))),
-                ),
-            ),
-        ) => GeneralName::Uri(value),
-        Choice::Other(
-            Choice::Other(
-                Choice::Other(
-                    Choice::Other(
-                        Choice::Other(Choice::Other(Choice::This(ImplicitContextTag(value)))),
-                    ),
-                ),
-            ),
-        ) => GeneralName::IpAddress(value),
-        Choice::Other(
-            Choice::Other(
-                Choice::Other(
-                    Choice::Other(
-                        Choice::Other(
-                            Choice::Other(Choice::Other(Last(ImplicitContextTag(value)))),
-                        ),
-                    ),
-                ),
-            ),
-        ) => GeneralName::RegisteredId(value),
+        alternative![0; Choice::This(ImplicitContextTag(name))] => GeneralName::OtherName(name),
+        alternative![1; Choice::This(ImplicitContextTag(name))] => GeneralName::Rfc822Name(name),
+        alternative![2; Choice::This(ImplicitContextTag(name))] => GeneralName::DnsName(name),
+        alternative![3; Choice::This(ExplicitContextTag(name))] => GeneralName::DirectoryName(name),
+        alternative![4; Choice::This(ImplicitContextTag(name))] => GeneralName::EdiPartyName(name),
+        alternative![5; Choice::This(ImplicitContextTag(name))] => GeneralName::Uri(name),
+        alternative![6; Choice::This(ImplicitContextTag(name))] => GeneralName::IpAddress(name),
+        alternative![7; Last(ImplicitContextTag(name))] => GeneralName::RegisteredId(name),
     }
 }

@@ -2,4 +2,3 @@ pub mod Refusals
 pub mod Rewriting
 pub mod ManyLemmas
 mod StrictLemmas
-pub mod SignedLemmas

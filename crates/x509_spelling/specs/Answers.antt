@@ -1,5 +1,5 @@
 -- What reading a spelling answers.
-use Rattle.std.specs.Prelude.{◌≡◌, ◌↔◌, ◌⊎◌, ℕ, List, Result, Ok, Err, MatchResult}
+use Rattle.std.specs.Prelude.{◌≡◌, ◌⊎◌, ℕ, Result, MatchResult}
 use Rattle.asn1_der.specs.declared.error.Asn1DerError.{Asn1DerError}
 use Rattle.asn1_der.specs.declared.error.Asn1DerError.TheVariants as der_fault
 use Rattle.x509_spelling.specs.declared.counted.Counted.{Counted}
@@ -26,13 +26,3 @@ IsRefusal {T} P fault = (fault ≡ Memory) ⊎ ((value : T) (n : ℕ) → P valu
 -- a value and a count with the property, or a refusal
 abbrev pub Tells : {T : Type 0} → (T → ℕ → Type 0) → Result (Counted T) X509Fault → Type 0
 Tells P result = MatchResult result (λ told. P told.value told.count) (IsRefusal P)
-
--- either memory ran out, or the answer is a value if and only if the bytes are a spelling of it, with any count
-abbrev pub ReadsSpelling : {T : Type 0} → (T → List ℕ → ℕ → Type 0) → List ℕ → Result T X509Fault → Type 0
-ReadsSpelling {T} spells bytes answer =
-    (answer ≡ Err Memory) ⊎ ((value : T) → (answer ≡ Ok value) ↔ ((n : ℕ) × spells value bytes n))
-
--- either memory ran out, or the answer is a count if and only if the bytes are a spelling of some value with that count
-abbrev pub CountsSpelling : {T : Type 0} → (T → List ℕ → ℕ → Type 0) → List ℕ → Result ℕ X509Fault → Type 0
-CountsSpelling {T} spells bytes answer =
-    (answer ≡ Err Memory) ⊎ ((n : ℕ) → (answer ≡ Ok n) ↔ ((value : T) × spells value bytes n))

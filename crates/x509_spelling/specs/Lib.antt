@@ -6,5 +6,4 @@ pub mod PlainLaws
 pub mod FieldLaws
 pub mod RowLaws
 pub mod StrictReading
-pub mod SignedParts
 pub mod Defaults

@@ -1,5 +1,5 @@
-use Rattle.x509_spelling.proofs.SignedLemmas.{spelled_by, reads_at_exit, some_whole, some_part, signed_part}
-use Rattle.x509_spelling.proofs.signed.with_signed_part.Goals as goal
+use Rattle.x509_codec.proofs.SignedLemmas.{spelled_by, reads_at_exit, some_whole, some_part, signed_part}
+use Rattle.x509_codec.proofs.signed.with_signed_part.Goals as goal
 
 pub returns-in_err-value-clause-value : goal.returns-in_err-value-clause-value
 returns-in_err-value-clause-value g c = reads_at_exit g.T.Spelled.spells c.args.bytes.now _ _ c.from_residual.ensures.1 c.in_err-value.ensures.value

@@ -9,10 +9,10 @@ use Rattle.asn1_elements.specs.Raw.{Raw}
 use Rattle.asn1_elements.specs.Splits.{SplitsInto, IsNoSplit, raw_bytes}
 use Rattle.asn1_elements.specs.Parts.{AreElements, IsPart, IsStep}
 use Rattle.x509_spelling.specs.declared.fault.X509Fault.{X509Fault}
-use Rattle.x509_spelling.specs.Answers.{ReadsSpelling}
+use Rattle.x509_codec.specs.Answers.{ReadsSpelling}
 use Rattle.x509_spelling.specs.Laws.{SpellingLaws}
 use Rattle.x509_spelling.proofs.Rewriting as rewritten
-use Rattle.x509_spelling.specs.SignedParts.{HoldsFirst, IsSignedPart, value_of, leads_element}
+use Rattle.x509_codec.specs.SignedParts.{HoldsFirst, IsSignedPart, value_of, leads_element}
 
 -- what was read is spelled by the bytes
 pub spelled_by : {T : Type 0} (spells : T → List ℕ → ℕ → Type 0) (bytes : List ℕ) (value : T) → ReadsSpelling spells bytes (Ok value) → (n : ℕ) × spells value bytes n

@@ -1,5 +1,5 @@
 use Rattle.x509_spelling.proofs.Rewriting.{written-strict}
-use Rattle.x509_spelling.proofs.calls.to_vec.Goals as goal
+use Rattle.x509_codec.proofs.calls.to_vec.Goals as goal
 
 pub returns-in-Ok-clause-strict : goal.returns-in-Ok-clause-strict
 returns-in-Ok-clause-strict g c =

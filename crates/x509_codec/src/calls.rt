@@ -3,11 +3,10 @@ ghost use Rattle.std.specs.Prelude.{◌≡◌, ◌↔◌, ℕ, None, length, IfO
 ghost use Rattle.asn1_der.specs.Tree.{IsWhole, der};
 ghost use Rattle.asn1_codec.specs.Refusals.{refusal_of};
 ghost use Rattle.asn1_codec.specs.Writing.{IsTooLong};
-ghost use Rattle.x509_spelling.specs.Answers.{ReadsSpelling, CountsSpelling};
+ghost use Rattle.x509_codec.specs.Answers.{ReadsSpelling, CountsSpelling};
 
-use crate::fault::X509Fault;
-use crate::spelled::Spelled;
 use std::alloc::Global;
+use x509_spelling::{Spelled, X509Fault};
 
 /// The value of which the whole input is a spelling, with any count of deviations. Writing it gives the input back
 /// exactly where the count is 0.

@@ -1,5 +1,5 @@
 use Rattle.x509_spelling.proofs.Rewriting.{rewriting}
-use Rattle.x509_spelling.proofs.calls.from_bytes.Goals as goal
+use Rattle.x509_codec.proofs.calls.from_bytes.Goals as goal
 
 pub returns-clause-rewriting : goal.returns-clause-rewriting
 returns-clause-rewriting g c =

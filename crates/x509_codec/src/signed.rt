@@ -1,13 +1,12 @@
 //! Values that bear a signature over their first field.
 ghost use Rattle.std.specs.Prelude.{◌≡◌, ℕ, List, IfOk};
-ghost use Rattle.x509_spelling.specs.Answers.{ReadsSpelling};
-ghost use Rattle.x509_spelling.specs.SignedParts.{HoldsFirst, IsSignedPart, value_of};
+ghost use Rattle.x509_codec.specs.Answers.{ReadsSpelling};
+ghost use Rattle.x509_codec.specs.SignedParts.{HoldsFirst, IsSignedPart, value_of};
 
 use crate::calls::from_bytes;
-use crate::fault::X509Fault;
-use crate::spelled::Spelled;
 use picky_asn1_der::split_element;
 use std::alloc::Global;
+use x509_spelling::{Spelled, X509Fault};
 
 /// A SEQUENCE of what is signed, the algorithm that signed it, and the signature (RFC 5280, section 4.1; RFC 2986,
 /// section 4.2).
