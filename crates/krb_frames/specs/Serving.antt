@@ -1,7 +1,9 @@
 -- What serving a stream writes and how it ends: the run of a machine over frames.
-use Rattle.std.specs.Prelude.{◌≡◌, ℕ, ◌-◌, ◌^◌, ◌<◌, ◌≤◌, ◌⊎◌, min, List, [], ◌∷◌, ◌++◌, length, take, drop, map, Option, Some, None, Result, Ok, Err, MatchResult, ⊤}
+use Rattle.std.specs.Prelude.{◌≡◌, ◌≢◌, ℕ, ◌-◌, ◌^◌, ◌<◌, ◌≤◌, ◌⊎◌, min, List, [], ◌∷◌, ◌++◌, length, take, drop, map, Option, Some, None, Result, Ok, Err, MatchResult, ⊤}
+use Rattle.std.specs.Io.KnownBytes.{Appends}
 use Rattle.std.specs.Iterator.{Yields, YieldsThen}
 use Rattle.std.specs.List.{concat}
+use Rattle.byte_streams.specs.Counting.{one_more}
 use Rattle.krb_time.specs.Units.{Micros}
 use Rattle.krb_frames.specs.declared.fault.ServeFault.{ServeFault}
 use Rattle.krb_frames.specs.declared.fault.ServeFault.TheVariants.{Truncated, FrameTooLong, NoRequest, Read, Write, NoWords, NoMoment, ReplyTooLong, Memory}
@@ -10,6 +12,16 @@ use Rattle.krb_frames.specs.Frames.{Ended, Bad, Whole, announced, frame_room, fr
 -- the property holds of the bytes of a device, where they are known
 abbrev pub WhereKnown : Option (List ℕ) → (List ℕ → Type 0) → Type 0
 WhereKnown known P = (bytes : List ℕ) → known ≡ Some bytes → P bytes
+
+-- the bytes of the devices, where they are known: what their readers have left of the stream and of the random bytes, and what the writer wrote
+pub record DeviceBytes : Type 0 where
+  pub stream : Option (List ℕ)
+  pub words : Option (List ℕ)
+  pub written : Option (List ℕ)
+
+-- such bytes
+abbrev pub device_bytes : Option (List ℕ) → Option (List ℕ) → Option (List ℕ) → DeviceBytes
+device_bytes stream words written = record { stream = stream; words = words; written = written }
 
 -- what is still to be served: the moments, the stream and the random bytes
 pub record Left : Type 0 where
@@ -95,6 +107,33 @@ module _ (replies : List ℕ → Micros → List ℕ → Option (List ℕ) → T
   IsServed start written result new = (done : List (List ℕ)) × (s : Left) × Run replies start done s × MatchResult result
       (λ count. (front_of s.stream ≡ Ended) × (new ≡ s) × (written ≡ concat (map framed done)) × (count ≡ min (length done) (2 ^ 64 - 1)))
       (λ fault. StopsBy s fault new × (part : List ℕ) × IsReplyFront replies s fault part × (written ≡ concat (map framed done) ++ part))
+
+  -- what serving ensures of its devices' bytes, where they are known: what was written, the result and what is left are a run over the
+  -- moments that were taken, and over any that may come after them. `Takes moments`: whether these moments were taken
+  abbrev pub Serves : (List Micros → Type 0) → DeviceBytes → DeviceBytes → Result ℕ ServeFault → Type 0
+  Serves Takes old new result = WhereKnown old.stream (λ stream. WhereKnown old.words (λ words.
+      (taken : List Micros) × (written : List ℕ) × (rest : List ℕ) × (more : List ℕ) × Takes taken × Appends old.written new.written written
+      × (new.stream ≡ Some rest) × (new.words ≡ Some more)
+      × ((later : List Micros) → (result ≡ Err NoMoment → later ≡ []) → IsServed (at (taken ++ later) stream words) written result (at later rest more))))
+
+-- ---- what serving ensures of its devices' counts of failed calls
+
+-- after the fault `Read` one of the two readers has counted one failure more
+abbrev pub CountsReadFault : Result ℕ ServeFault → ℕ → ℕ → ℕ → ℕ → Type 0
+CountsReadFault result stream_old stream_new words_old words_new =
+    result ≡ Err Read → (stream_new ≡ one_more stream_old) ⊎ (words_new ≡ one_more words_old)
+
+-- after the fault `Write` the writer has counted one failure more
+abbrev pub CountsWriteFault : Result ℕ ServeFault → ℕ → ℕ → Type 0
+CountsWriteFault result old new = result ≡ Err Write → new ≡ one_more old
+
+-- after any other result no call of a reader has failed: a failed call is reported
+abbrev pub KeepsReadCounts : Result ℕ ServeFault → ℕ → ℕ → ℕ → ℕ → Type 0
+KeepsReadCounts result stream_old stream_new words_old words_new = result ≢ Err Read → (stream_new ≡ stream_old) × (words_new ≡ words_old)
+
+-- after any other result no call of the writer has failed
+abbrev pub KeepsWriteCount : Result ℕ ServeFault → ℕ → ℕ → Type 0
+KeepsWriteCount result old new = result ≢ Err Write → new ≡ old
 
 -- calls of `next` gave these moments, then none where the fault is `NoMoment`, and left this iterator
 abbrev pub Draws : {M : Type 0} → (M → Option Micros → M → Type 0) → Result ℕ ServeFault → M → List Micros → M → Type 0

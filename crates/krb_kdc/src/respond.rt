@@ -1,9 +1,7 @@
 //! A realm as the responder of a frame loop.
-ghost use Rattle.std.specs.Prelude.{◌≡◌, ◌≢◌, ℕ, ◌++◌, List, [], Some, Err, ◌⊎◌};
+ghost use Rattle.std.specs.Prelude.{◌≡◌, ◌≢◌, ℕ, ◌++◌, List, Err};
 ghost use Rattle.std.specs.Iterator.{IsFinite, DrainsIf};
-ghost use Rattle.std.specs.Io.KnownBytes.{Appends};
-ghost use Rattle.byte_streams.specs.Counting.{one_more};
-ghost use Rattle.krb_frames.specs.Serving.{WhereKnown, Left, IsServed, IsFinal, at};
+ghost use Rattle.krb_frames.specs.Serving.{CountsReadFault, CountsWriteFault, IsFinal, IsServed, KeepsReadCounts, KeepsWriteCount, Left, Serves, at, device_bytes};
 ghost use Rattle.krb_kdc.specs.Answers.{BeginsRequest, RealmReplies};
 
 use crate::realm::Realm;
@@ -66,22 +64,13 @@ pub fn serve<R: Source, W: Sink, M: Iterator<Item = Moment> + Drop, S: Source, K
     requires can { M.can_next moments }
     requires ends { IsFinite (M.remaining moments) }
 
-    // What was written, the answer and what is left are a run over the moments that were taken, and
-    // over any that may come after them.
-    ensures output { WhereKnown (R.left reader.old) (λ stream. WhereKnown (S.left words_reader.old) (λ words.
-        (taken written rest more : List ℕ) × DrainsIf M.next_gives (result ≡ Err ServeFault.NoMoment) moments taken
-        × Appends (W.written writer.old) (W.written writer.new) written
-        × (R.left reader.new ≡ Some rest) × (S.left words_reader.new ≡ Some more)
-        × ((later : List ℕ) → (result ≡ Err ServeFault.NoMoment → later ≡ [])
-        → IsServed (RealmReplies realm.now (K.functions keys.now)) BeginsRequest (at (taken ++ later) stream words) written result (at later rest more)))) }
-    ensures read_failed { result ≡ Err ServeFault.Read
-        → (R.failed reader.new ≡ one_more (R.failed reader.old)) ⊎ (S.failed words_reader.new ≡ one_more (S.failed words_reader.old)) }
-    ensures write_failed { result ≡ Err ServeFault.Write → W.failed writer.new ≡ one_more (W.failed writer.old) }
-
-    // No failed call is passed over.
-    ensures read_kept { result ≢ Err ServeFault.Read
-        → (R.failed reader.new ≡ R.failed reader.old) × (S.failed words_reader.new ≡ S.failed words_reader.old) }
-    ensures write_kept { result ≢ Err ServeFault.Write → W.failed writer.new ≡ W.failed writer.old }
+    ensures output { Serves (RealmReplies realm.now (K.functions keys.now)) BeginsRequest (DrainsIf M.next_gives (result ≡ Err ServeFault.NoMoment) moments)
+        (device_bytes (R.left reader.old) (S.left words_reader.old) (W.written writer.old))
+        (device_bytes (R.left reader.new) (S.left words_reader.new) (W.written writer.new)) result }
+    ensures read_failed { CountsReadFault result (R.failed reader.old) (R.failed reader.new) (S.failed words_reader.old) (S.failed words_reader.new) }
+    ensures write_failed { CountsWriteFault result (W.failed writer.old) (W.failed writer.new) }
+    ensures read_kept { KeepsReadCounts result (R.failed reader.old) (R.failed reader.new) (S.failed words_reader.old) (S.failed words_reader.new) }
+    ensures write_kept { KeepsWriteCount result (W.failed writer.old) (W.failed writer.new) }
 {
     let answering = Answering { realm, keys };
     krb_frames::serve(alloc, &answering, reader, writer, moments, words_reader)
