@@ -5,18 +5,18 @@ ghost use Rattle.krb_frames.specs.Frames.{framed};
 ghost use Rattle.krb_frames.specs.Serving.{Left, Run, IsServed, IsFinal, IsFrontOf};
 ghost use Rattle.krb_frames.specs.declared.fault.ServeFault.{ServeFault};
 
-use crate::Responder;
+use crate::SoleResponder;
 
 /// Of two runs over the same moments, stream and random bytes, the replies of one are the first
 /// replies of the other. It does nothing when it runs: its contract is the law.
-pub fn runs_agree<A: Responder>()
+pub fn runs_agree<A: SoleResponder>()
     ensures { (responder : A) (start s t : Left) (done more : List (List ℕ)) → Run (A.replies responder) start done s
         → Run (A.replies responder) start more t → IsFrontOf done more ⊎ IsFrontOf more done }
 {}
 
 /// Where no device failed and memory didn't run out, the output of these moments, stream and random bytes is one, and so are the
 /// result and what is left. What any other run writes is a front of it. It does nothing when it runs: its contract is the law.
-pub fn output_is_whole<A: Responder>()
+pub fn output_is_whole<A: SoleResponder>()
     ensures front { (responder : A) (start s t : Left) (all part : List ℕ) (whole other : Result ℕ ServeFault) → IsFinal whole
         → IsServed (A.replies responder) (A.may_want_memory responder) start all whole s
         → IsServed (A.replies responder) (A.may_want_memory responder) start part other t → IsFrontOf part all }

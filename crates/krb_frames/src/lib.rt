@@ -3,7 +3,8 @@
 //! A frame is a message after its length in four bytes, the highest first (RFC 4120, section 7.2.2).
 //! [`serve`] reads frames to the end of a stream and writes each reply in a frame of its own. A
 //! [`Responder`] replies. Each message is answered at the next moment and with the next 128
-//! random bytes.
+//! random bytes. Where each message has at most one reply ([`SoleResponder`]), the output is one
+//! ([`output_is_whole`]).
 #![tactic(auto)]
 
 mod fault;
@@ -15,5 +16,5 @@ mod stream;
 pub use fault::{AnswerRefusal, ServeFault};
 pub use frame::{FRAME_LIMIT, WORDS_NEEDED};
 pub use laws::{output_is_whole, runs_agree};
-pub use responder::Responder;
+pub use responder::{Responder, SoleResponder};
 pub use stream::{serve, serve_bytes};

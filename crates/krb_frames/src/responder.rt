@@ -27,8 +27,14 @@ pub trait Responder {
         ensures reply { MatchResult result (λ reply. replies self.now message.now moment words.now (Some reply.items))
             (λ refusal. refusal ≡ AnswerRefusal.Unreadable → replies self.now message.now moment words.now None) }
         ensures memory { IfErr result (λ refusal. refusal ≡ AnswerRefusal.Memory → may_want_memory self.now message.now) };
+}
 
+/// A responder that has at most one reply to a message at a moment and with the same random bytes. Its law is `one_reply`, which says
+/// this of `replies`.
+///
+/// A responder over accounts in a file, whose bytes no contract knows, is a [`Responder`] without this law.
+pub trait SoleResponder: Responder {
     // A message has at most one reply.
     ghost one_reply: { (responder : Self) (message : List ℕ) (moment : ℕ) (words : List ℕ) (a b : Option (List ℕ))
-        → replies responder message moment words a → replies responder message moment words b → a ≡ b };
+        → Self.replies responder message moment words a → Self.replies responder message moment words b → a ≡ b };
 }

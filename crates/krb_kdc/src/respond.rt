@@ -7,7 +7,7 @@ ghost use Rattle.krb_kdc.specs.Answers.{BeginsRequest, RealmReplies};
 use crate::realm::Realm;
 use byte_streams::{Sink, Source};
 use key_functions::KeyFunctions;
-use krb_frames::{AnswerRefusal, Responder, ServeFault};
+use krb_frames::{AnswerRefusal, Responder, ServeFault, SoleResponder};
 use krb_time::Moment;
 use std::alloc::Global;
 
@@ -22,16 +22,10 @@ pub struct Answering<'a, K: KeyFunctions> {
 
 impl<'a, K: KeyFunctions> Responder for Answering<'a, K> {
     ghost use Rattle.krb_kdc.specs.Answers.{BeginsRequest, RealmReplies};
-    ghost use Rattle.krb_kdc.specs.Realm.{call_to};
-    ghost use Rattle.krb_replies.specs.Replies.{one_reply};
-    ghost use Rattle.pkinit_requests.specs.PkinitRows.{pkinit_rows};
 
     ghost replies = { λ own message moment words reply. RealmReplies own.realm.now (K.functions own.keys.now) message moment words reply };
 
     ghost may_want_memory = { λ _ message. BeginsRequest message };
-
-    ghost one_reply = { λ own message moment words.
-        one_reply (call_to own.realm.now moment words) (pkinit_rows own.realm.now.trust (K.functions own.keys.now)) message };
 
     fn answer(
         &self,
@@ -42,6 +36,15 @@ impl<'a, K: KeyFunctions> Responder for Answering<'a, K> {
     ) -> Result<Vec<u8>, AnswerRefusal> {
         self.realm.answer(alloc, message, moment, words, self.keys)
     }
+}
+
+impl<'a, K: KeyFunctions> SoleResponder for Answering<'a, K> {
+    ghost use Rattle.krb_kdc.specs.Realm.{call_to};
+    ghost use Rattle.krb_replies.specs.Replies.{one_reply};
+    ghost use Rattle.pkinit_requests.specs.PkinitRows.{pkinit_rows};
+
+    ghost one_reply = { λ own message moment words.
+        one_reply (call_to own.realm.now moment words) (pkinit_rows own.realm.now.trust (K.functions own.keys.now)) message };
 }
 
 /// Answers each frame of `reader` in a frame of `writer`, to the end of the stream, and gives how many were answered, held at the

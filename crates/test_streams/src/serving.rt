@@ -4,7 +4,8 @@ ghost use Rattle.std.proofs.Common.{sym, ◌∙◌};
 
 use byte_streams::{Sink, Source, Watched};
 use krb_frames::{
-    AnswerRefusal, FRAME_LIMIT, Responder, ServeFault, WORDS_NEEDED, serve, serve_bytes,
+    AnswerRefusal, FRAME_LIMIT, Responder, ServeFault, SoleResponder, WORDS_NEEDED, serve,
+    serve_bytes,
 };
 use krb_time::Moment;
 use std::alloc::{AllocError, Global};
@@ -38,7 +39,9 @@ impl Responder for Toy {
             _ => Err(AnswerRefusal::Memory),
         }
     }
+}
 
+impl SoleResponder for Toy {
     ghost one_reply = { λ _ message moment words a b first second. first ∙ sym second };
 }
 
