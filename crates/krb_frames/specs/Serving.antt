@@ -6,7 +6,7 @@ use Rattle.std.specs.List.{concat}
 use Rattle.byte_streams.specs.Counting.{one_more}
 use Rattle.krb_time.specs.Units.{Micros}
 use Rattle.krb_frames.specs.declared.fault.ServeFault.{ServeFault}
-use Rattle.krb_frames.specs.declared.fault.ServeFault.TheVariants.{Truncated, FrameTooLong, NoRequest, Read, Write, NoWords, NoMoment, ReplyTooLong, Memory}
+use Rattle.krb_frames.specs.declared.fault.ServeFault.TheVariants.{Truncated, FrameTooLong, NoRequest, Read, Write, NoWords, NoMoment, ReplyTooLong, Memory, Accounts}
 use Rattle.krb_frames.specs.Frames.{Ended, Bad, Whole, announced, frame_room, front_of, framed}
 
 -- the property holds of the bytes of a device, where they are known
@@ -49,8 +49,16 @@ BreaksWords old new = TakesMoment old new × (n : ℕ) × (n ≤ 128) × (new.wo
 abbrev pub LacksRoom : Left → Left → Type 0
 LacksRoom old new = (4 ≤ length old.stream) × (announced old.stream ≤ 65536) × (new ≡ at old.moments (drop 4 old.stream) old.words)
 
+-- the accounts can't be read by which the next message is answered, which took its moment and 128 random bytes
+abbrev pub LacksAccounts : Left → Left → Type 0
+LacksAccounts old new = TakesMoment old new × (128 ≤ length old.words) × (new.words ≡ drop 128 old.words)
+
 -- `replies message moment words answer`: whether the responder may answer so; the answer is none where the bytes are no request
 module _ (replies : List ℕ → Micros → List ℕ → Option (List ℕ) → Type 0) where
+  -- some message is no request
+  unfoldable pub MayRefuse : Type 0
+  MayRefuse = (message : List ℕ) × (moment : Micros) × (words : List ℕ) × replies message moment words None
+
   -- 128 random bytes are there, and with them the message may be answered so
   abbrev pub IsReply : List ℕ → Micros → List ℕ → Option (List ℕ) → Type 0
   IsReply message moment words answer = (128 ≤ length words) × replies message moment (take 128 words) answer
@@ -101,6 +109,8 @@ module _ (replies : List ℕ → Micros → List ℕ → Option (List ℕ) → T
   -- A reply of more than 65,536 bytes isn't written (RFC 4120, section 7.2.2). Test: `long_replies`.
   StopsBy s ReplyTooLong new = (reply : List ℕ) × Asks replies s (Some reply) new × (65536 < length reply)
   StopsBy s Memory new = LacksRoom s new ⊎ LacksAnswer s new ⊎ LacksFrame s new
+  -- Where the accounts can't be read, the run ends, and the message gets no reply. Test: `stops_without_accounts`.
+  StopsBy s Accounts new = LacksAccounts s new
 
   -- what was written is the frames of a run's replies, up to where serving stops with this result and leaves `new`
   abbrev pub IsServed : Left → List ℕ → Result ℕ ServeFault → Left → Type 0
@@ -141,12 +151,13 @@ Draws gives (Ok _) start taken end = Yields gives start taken end
 Draws gives (Err NoMoment) start taken end = YieldsThen gives start taken None end
 Draws gives (Err _) start taken end = Yields gives start taken end
 
--- serving ended without a fault of a device or of memory
+-- serving ended without a fault of a device, of memory or of the accounts
 abbrev pub IsFinal : Result ℕ ServeFault → Type 0
 IsFinal (Ok _) = ⊤
 IsFinal (Err Read) = ⊥
 IsFinal (Err Write) = ⊥
 IsFinal (Err Memory) = ⊥
+IsFinal (Err Accounts) = ⊥
 IsFinal (Err _) = ⊤
 
 -- the second list begins with the first

@@ -14,8 +14,8 @@ pub fn runs_agree<A: SoleResponder>()
         → Run (A.replies responder) start more t → IsFrontOf done more ⊎ IsFrontOf more done }
 {}
 
-/// Where no device failed and memory didn't run out, the output of these moments, stream and random bytes is one, and so are the
-/// result and what is left. What any other run writes is a front of it. It does nothing when it runs: its contract is the law.
+/// Where no device failed, memory didn't run out and the accounts could be read, the output of these moments, stream and random bytes
+/// is one, and so are the result and what is left. What any other run writes is a front of it. It does nothing when it runs: its contract is the law.
 pub fn output_is_whole<A: SoleResponder>()
     ensures front { (responder : A) (start s t : Left) (all part : List ℕ) (whole other : Result ℕ ServeFault) → IsFinal whole
         → IsServed (A.replies responder) (A.may_want_memory responder) start all whole s

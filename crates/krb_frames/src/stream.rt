@@ -1,7 +1,7 @@
 //! The loop over the frames of a stream.
 ghost use Rattle.std.specs.Prelude.{◌≡◌, ◌≢◌, ℕ, ◌++◌, List, Err};
 ghost use Rattle.std.specs.Iterator.{IsFinite, DrainsIf};
-ghost use Rattle.krb_frames.specs.Serving.{CountsReadFault, CountsWriteFault, Draws, IsFinal, IsServed, KeepsReadCounts, KeepsWriteCount, Left, Serves, at, device_bytes};
+ghost use Rattle.krb_frames.specs.Serving.{CountsReadFault, CountsWriteFault, Draws, IsFinal, IsServed, KeepsReadCounts, KeepsWriteCount, Left, MayRefuse, Serves, at, device_bytes};
 
 use crate::frame::{answer_frame, read_frame};
 use crate::{Responder, ServeFault};
@@ -14,14 +14,16 @@ use std::alloc::Global;
 ///
 /// Each message takes the next moment and the next 128 random bytes of `words_reader`. A frame's faults
 /// come in this order: the stream ends within it or it is too long, no moment is left, too few
-/// random bytes are left, the message is no request, the reply is too long, the write fails. A fault
-/// leaves the replies before it written, and no part of the next but where the write failed.
+/// random bytes are left, the message is no request or the accounts can't be read, the reply is too
+/// long, the write fails. A fault leaves the replies before it written, and no part of the next but
+/// where the write failed.
 ///
 /// `reader` is read up to the end of the last frame, or of four bytes where a frame is too long.
 /// `words_reader` isn't read for a frame that has no moment. A message is allocated once its length is
 /// read and not too long. A reply is allocated once the moment and the random bytes are taken. A fault
 /// that is found before needs no memory. A message that is no request stops serving with `NoRequest`.
 /// `Memory` may take its place only where the responder may need memory for it (`Responder::answer`).
+/// Where the responder can't read its accounts, serving stops with `Accounts`.
 ///
 /// A reply is written to `writer`, in one call where that takes all, before the next frame is read. A
 /// writer with a buffer may delay it.
@@ -43,6 +45,8 @@ pub fn serve<A: Responder, R: Source, W: Sink, M: Iterator<Item = Moment> + Drop
     ensures write_failed { CountsWriteFault result (W.failed writer.old) (W.failed writer.new) }
     ensures read_kept { KeepsReadCounts result (R.failed reader.old) (R.failed reader.new) (K.failed words_reader.old) (K.failed words_reader.new) }
     ensures write_kept { KeepsWriteCount result (W.failed writer.old) (W.failed writer.new) }
+    ensures no_request { result ≡ Err ServeFault.NoRequest → MayRefuse (A.replies responder.now) }
+    ensures accounts { result ≡ Err ServeFault.Accounts → A.may_lack_accounts responder.now }
 {
     serve_frames(alloc, responder, reader, writer, &mut moments, words_reader)
 }
@@ -65,6 +69,8 @@ fn serve_frames<A: Responder, R: Source, W: Sink, M: Iterator<Item = Moment>, K:
     ensures write_failed { CountsWriteFault result (W.failed writer.old) (W.failed writer.new) }
     ensures read_kept { KeepsReadCounts result (R.failed reader.old) (R.failed reader.new) (K.failed words_reader.old) (K.failed words_reader.new) }
     ensures write_kept { KeepsWriteCount result (W.failed writer.old) (W.failed writer.new) }
+    ensures no_request { result ≡ Err ServeFault.NoRequest → MayRefuse (A.replies responder.now) }
+    ensures accounts { result ≡ Err ServeFault.Accounts → A.may_lack_accounts responder.now }
 {
     let mut answered = 0u64;
     'frames: while let Some(message) = read_frame(alloc, reader)? {
@@ -91,7 +97,8 @@ pub fn serve_bytes<A: Responder>(
         × IsServed (A.replies responder.now) (A.may_want_memory responder.now) (at moments.now stream.now words.now) written result left }
 
     // Bytes in memory never fail.
-    ensures devices { result ≢ Err ServeFault.Memory → IsFinal result }
+    ensures devices { result ≢ Err ServeFault.Memory → result ≢ Err ServeFault.Accounts → IsFinal result }
+    ensures accounts { result ≡ Err ServeFault.Accounts → A.may_lack_accounts responder.now }
 {
     let mut reader = stream;
     let mut words_reader = words;

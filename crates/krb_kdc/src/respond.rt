@@ -27,6 +27,8 @@ impl<'a, K: KeyFunctions> Responder for Answering<'a, K> {
 
     ghost may_want_memory = { λ _ message. BeginsRequest message };
 
+    ghost may_lack_accounts = { λ _. ⊥ };
+
     fn answer(
         &self,
         alloc: Global,
@@ -74,6 +76,9 @@ pub fn serve<R: Source, W: Sink, M: Iterator<Item = Moment> + Drop, S: Source, K
     ensures write_failed { CountsWriteFault result (W.failed writer.old) (W.failed writer.new) }
     ensures read_kept { KeepsReadCounts result (R.failed reader.old) (R.failed reader.new) (S.failed words_reader.old) (S.failed words_reader.new) }
     ensures write_kept { KeepsWriteCount result (W.failed writer.old) (W.failed writer.new) }
+
+    // The accounts are in memory.
+    ensures accounts { result ≢ Err ServeFault.Accounts }
 {
     let answering = Answering { realm, keys };
     krb_frames::serve(alloc, &answering, reader, writer, moments, words_reader)
@@ -95,6 +100,9 @@ pub fn serve_bytes<K: KeyFunctions>(
 
     // Bytes in memory never fail.
     ensures devices { result ≢ Err ServeFault.Memory → IsFinal result }
+
+    // The accounts are in memory.
+    ensures accounts { result ≢ Err ServeFault.Accounts }
 {
     let answering = Answering { realm, keys };
     krb_frames::serve_bytes(alloc, &answering, stream, moments, words, replies)

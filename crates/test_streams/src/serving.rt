@@ -1,5 +1,5 @@
 //! Streams served over whole, slow and failing devices.
-ghost use Rattle.std.specs.Prelude.{◌≡◌, ◌<◌, ◌++◌, length, take, nat_lt, if◌then◌else◌, Some, None};
+ghost use Rattle.std.specs.Prelude.{◌≡◌, ◌<◌, ◌++◌, length, take, nat_lt, if◌then◌else◌, Some, None, ⊤};
 ghost use Rattle.std.proofs.Common.{sym, ◌∙◌};
 
 use byte_streams::{Sink, Source, Watched};
@@ -20,6 +20,8 @@ impl Responder for Toy {
         answer ≡ (if nat_lt 0 (length message) then Some (take 1 words ++ message) else None) };
 
     ghost may_want_memory = { λ _ message. 0 < length message };
+
+    ghost may_lack_accounts = { λ _. ⊥ };
 
     fn answer(
         &self,
@@ -101,6 +103,42 @@ fn stops_at_the_first_fault(rt: HostRuntime) {
         };
         assert!(rt; is_served(rt.alloc(), &case), "at {stream:?}");
     }
+}
+
+// Its accounts can't be read.
+struct Unread;
+
+impl Responder for Unread {
+    ghost replies = { λ _ _ _ _ _. ⊥ };
+
+    ghost may_want_memory = { λ _ _. ⊥ };
+
+    ghost may_lack_accounts = { λ _. ⊤ };
+
+    fn answer(
+        &self,
+        _alloc: Global,
+        _message: &[u8],
+        _moment: Moment,
+        _words: &[u8],
+    ) -> Result<Vec<u8>, AnswerRefusal> {
+        Err(AnswerRefusal::Accounts)
+    }
+}
+
+fn end_without_accounts(alloc: Global) -> Option<(Result<u64, ServeFault>, usize)> {
+    let moments = [Moment::new(0)?; 2];
+    let words = words_of_two(alloc).ok()?;
+    let mut replies = Vec::new(alloc);
+    let end = serve_bytes(alloc, &Unread, STREAM, &moments, &words, &mut replies);
+    Some((end, replies.len()))
+}
+
+// The first message gets no reply.
+#[test]
+fn stops_without_accounts(rt: HostRuntime) {
+    let end = end_without_accounts(rt.alloc());
+    assert!(rt; end == Some((Err(ServeFault::Accounts), 0)));
 }
 
 // A frame of as many bytes `x`.

@@ -30,6 +30,7 @@ fn faults(rt: HostRuntime) {
         (ServeFault::NoMoment, 7, "NoMoment"),
         (ServeFault::ReplyTooLong, 8, "ReplyTooLong"),
         (ServeFault::Memory, 9, "Memory"),
+        (ServeFault::Accounts, 10, "Accounts"),
     ] {
         assert!(rt; fault.number() == number, "at {number}");
         assert!(rt; is_fault(rt.alloc(), fault, name), "at {number}");
@@ -41,6 +42,7 @@ fn refusals(rt: HostRuntime) {
     for (refusal, number, text) in [
         (AnswerRefusal::Unreadable, 1, "the message is no request"),
         (AnswerRefusal::Memory, 2, "out of memory"),
+        (AnswerRefusal::Accounts, 3, "the accounts can't be read"),
     ] {
         assert!(rt; refusal.number() == number, "at {number}");
         assert!(rt; is_refusal(rt.alloc(), refusal, text), "at {number}");
