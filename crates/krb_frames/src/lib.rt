@@ -4,7 +4,7 @@
 //! [`serve`] reads frames to the end of a stream and writes each reply in a frame of its own. A
 //! [`Responder`] replies. Each message is answered at the next moment and with the next 128
 //! random bytes. Where each message has at most one reply ([`SoleResponder`]), the output is one
-//! ([`output_is_whole`]).
+//! ([`output_is_whole`]). By a [`Tolerant`] responder a message that is no request doesn't stop serving.
 #![tactic(auto)]
 
 mod fault;
@@ -12,9 +12,11 @@ mod frame;
 mod laws;
 mod responder;
 mod stream;
+mod tolerant;
 
 pub use fault::{AnswerRefusal, ServeFault};
 pub use frame::{FRAME_LIMIT, WORDS_NEEDED};
-pub use laws::{output_is_whole, runs_agree};
+pub use laws::{goes_on, output_is_whole, runs_agree};
 pub use responder::{Responder, SoleResponder};
 pub use stream::{serve, serve_bytes};
+pub use tolerant::Tolerant;

@@ -21,7 +21,8 @@ use std::alloc::Global;
 /// `reader` is read up to the end of the last frame, or of four bytes where a frame is too long.
 /// `words_reader` isn't read for a frame that has no moment. A message is allocated once its length is
 /// read and not too long. A reply is allocated once the moment and the random bytes are taken. A fault
-/// that is found before needs no memory. A message that is no request stops serving with `NoRequest`.
+/// that is found before needs no memory. A message that is no request stops serving with `NoRequest`,
+/// unless the responder has a reply to it too ([`Tolerant`](crate::Tolerant)).
 /// `Memory` may take its place only where the responder may need memory for it (`Responder::answer`).
 /// Where the responder can't read its accounts, serving stops with `Accounts`.
 ///

@@ -4,8 +4,8 @@ ghost use Rattle.std.proofs.Common.{sym, ◌∙◌};
 
 use byte_streams::{Sink, Source, Watched};
 use krb_frames::{
-    AnswerRefusal, FRAME_LIMIT, Responder, ServeFault, SoleResponder, WORDS_NEEDED, serve,
-    serve_bytes,
+    AnswerRefusal, FRAME_LIMIT, Responder, ServeFault, SoleResponder, Tolerant, WORDS_NEEDED,
+    serve, serve_bytes,
 };
 use krb_time::Moment;
 use std::alloc::{AllocError, Global};
@@ -139,6 +139,22 @@ fn end_without_accounts(alloc: Global) -> Option<(Result<u64, ServeFault>, usize
 fn stops_without_accounts(rt: HostRuntime) {
     let end = end_without_accounts(rt.alloc());
     assert!(rt; end == Some((Err(ServeFault::Accounts), 0)));
+}
+
+fn is_tolerated(alloc: Global) -> Option<bool> {
+    let moments = [Moment::new(0)?; 2];
+    let words = words_of_two(alloc).ok()?;
+    let mut replies = Vec::new(alloc);
+    let tolerant = Tolerant { responder: &Toy };
+    let stream = b"\0\0\0\0\0\0\0\x01a";
+    let end = serve_bytes(alloc, &tolerant, stream, &moments, &words, &mut replies);
+    Some(end == Ok(2) && replies.as_slice() == b"\0\0\0\0\0\0\0\x02Ba".as_slice())
+}
+
+// A message that is no request gets an empty reply, and the next is answered.
+#[test]
+fn goes_on_by_empty_reply(rt: HostRuntime) {
+    assert!(rt; is_tolerated(rt.alloc()) == Some(true));
 }
 
 // A frame of as many bytes `x`.

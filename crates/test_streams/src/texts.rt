@@ -1,7 +1,7 @@
 //! Numbers and texts of faults and refusals, and the laws of streams, which are called once.
 
 use crate::serving::Toy;
-use krb_frames::{AnswerRefusal, ServeFault, output_is_whole, runs_agree};
+use krb_frames::{AnswerRefusal, ServeFault, Tolerant, goes_on, output_is_whole, runs_agree};
 use std::alloc::Global;
 
 fn is_fault(alloc: Global, fault: ServeFault, text: &str) -> bool {
@@ -53,4 +53,6 @@ fn refusals(rt: HostRuntime) {
 fn laws(_rt: HostRuntime) {
     runs_agree::<Toy>();
     output_is_whole::<Toy>();
+    output_is_whole::<Tolerant<'_, Toy>>();
+    goes_on::<Toy>();
 }
