@@ -7,7 +7,7 @@ use Rattle.std.proofs.Math.Seq.{drop-drop}
 use Rattle.std.proofs.lemmas.List.{take_all, take_at, drop_at}
 use Rattle.byteorder.specs.Endian.{big_number}
 use Rattle.byteorder.specs.Numbers.{big_from-append}
-use Rattle.krb_frames.specs.declared.fault.ServeFault.TheVariants.{Truncated, FrameTooLong, NoRequest, Read, Write, NoWords, NoMoment, ReplyTooLong, Memory}
+use Rattle.krb_frames.specs.declared.fault.ServeFault.TheVariants.{Truncated, FrameTooLong, NoRequest, Read, Write, NoWords, NoMoment, ReplyTooLong, Memory, Accounts}
 use Rattle.krb_frames.specs.declared.fault.ServeFault.{ServeFault}
 use Rattle.krb_frames.specs.Frames.{Front, Ended, Bad, Whole, front_of, announced, frame_room}
 use Rattle.krb_frames.specs.Steps.{IsFilled, IsTaken, IsBroken, IsMessageStop, IsFrontFault}
@@ -133,6 +133,7 @@ IsFrontFault-after_prefix stream size rest left b small Write why = absurd why
 IsFrontFault-after_prefix stream size rest left b small NoWords why = absurd why
 IsFrontFault-after_prefix stream size rest left b small NoMoment why = absurd why
 IsFrontFault-after_prefix stream size rest left b small ReplyTooLong why = absurd why
+IsFrontFault-after_prefix stream size rest left b small Accounts why = absurd why
 IsFrontFault-after_prefix stream size rest left b small Memory known = (b.enough, omega (arith, b.size_is), left-behind_prefix stream size rest left b known)
 
 pub front_of-whole : (stream : List ℕ) (size : ℕ) (rest : List ℕ) → Begins stream size rest → size ≤ 65536

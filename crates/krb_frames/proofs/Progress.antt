@@ -5,7 +5,7 @@ use Rattle.std.specs.Iterator.{Yields, DrainsIf}
 use Rattle.std.specs.Io.KnownBytes.{Appends, Keeps}
 use Rattle.std.proofs.KnownBytes.{Appends-nil, Appends-trans, Appends-kept, Keeps-refl}
 use Rattle.krb_frames.specs.declared.fault.ServeFault.{ServeFault}
-use Rattle.krb_frames.specs.declared.fault.ServeFault.TheVariants.{Truncated, FrameTooLong, NoRequest, Read, Write, NoWords, NoMoment, ReplyTooLong, Memory}
+use Rattle.krb_frames.specs.declared.fault.ServeFault.TheVariants.{Truncated, FrameTooLong, NoRequest, Read, Write, NoWords, NoMoment, ReplyTooLong, Memory, Accounts}
 use Rattle.krb_frames.specs.Frames.{Ended, Whole, front_of, framed}
 use Rattle.krb_frames.specs.Serving.{Left, at, Run, Step, Asks, TakesMoment, IsReply, IsServed, StopsBy, IsReplyFront, Draws}
 use Rattle.krb_frames.specs.Steps.{IsFrontFault, IsStepFault, IsAnswered}
@@ -122,6 +122,7 @@ module _ (replies : List ℕ → ℕ → List ℕ → Option (List ℕ) → Type
       stopped_at_front new_stream NoWords why = absurd why
       stopped_at_front new_stream NoMoment why = absurd why
       stopped_at_front new_stream ReplyTooLong why = absurd why
+      stopped_at_front new_stream Accounts why = absurd why
       stopped_at_front new_stream Memory (enough, small, known) =
           stopped p.taken (λ l. l) Memory new_stream left_words written now (drop 4 p.rest) p.more p.yields (Keeps-refl _) known p.words_known
           (λ later _. (p.run later, inl (enough, small, refl), refl))
@@ -194,6 +195,8 @@ module _ (replies : List ℕ → ℕ → List ℕ → Option (List ℕ) → Type
           stopped_at_step new_words new NoMoment why = absurd why
           stopped_at_step new_words new ReplyTooLong (reply, replied, long, keeps, left) =
               stopped_here ReplyTooLong new_words new (drop 128 p.more) drained keeps left (λ later. ((reply, asks later (Some reply) replied, long), refl))
+          stopped_at_step new_words new Accounts (enough, keeps, left) =
+              stopped_here Accounts new_words new (drop 128 p.more) drained keeps left (λ later. ((takes later (drop 128 p.more), enough, refl), refl))
           stopped_at_step new_words new Memory (enough, inl wanted, keeps, left) =
               stopped_here Memory new_words new (drop 128 p.more) drained keeps left (λ later. (inr (inl (message, moment, front, refl, enough, refl, wanted)), refl))
           stopped_at_step new_words new Memory (enough, inr (reply, replied, fits), keeps, left) =
@@ -214,3 +217,4 @@ DrainsIf-from_Draws gives start end taken (Err NoWords) draws = (end, draws, λ 
 DrainsIf-from_Draws gives start end taken (Err NoMoment) draws = (draws.0, draws.1, λ _. (end, draws.2))
 DrainsIf-from_Draws gives start end taken (Err ReplyTooLong) draws = (end, draws, λ e. absurd (cc (e)))
 DrainsIf-from_Draws gives start end taken (Err Memory) draws = (end, draws, λ e. absurd (cc (e)))
+DrainsIf-from_Draws gives start end taken (Err Accounts) draws = (end, draws, λ e. absurd (cc (e)))

@@ -3,12 +3,12 @@ use Rattle.std.proofs.Common.{zero, suc, ◌≡◌, ◌≢◌, ℕ, ◌+◌, ◌
 use Rattle.std.proofs.lemmas.Bool.Decides.{nat_tests}
 use Rattle.std.proofs.Math.Nat.{not-le_of_lt}
 use Rattle.krb_frames.specs.declared.fault.ServeFault.{ServeFault}
-use Rattle.krb_frames.specs.declared.fault.ServeFault.TheVariants.{Truncated, FrameTooLong, NoRequest, Read, Write, NoWords, NoMoment, ReplyTooLong, Memory}
+use Rattle.krb_frames.specs.declared.fault.ServeFault.TheVariants.{Truncated, FrameTooLong, NoRequest, Read, Write, NoWords, NoMoment, ReplyTooLong, Memory, Accounts}
 use Rattle.krb_frames.specs.Frames.{Front, Ended, Bad, Whole, front_of}
 use Rattle.krb_frames.specs.Numbers.{fault_number}
 use Rattle.krb_frames.specs.Serving.{Left, at, Asks, Step, StopsBy, IsFinal}
 
--- ---- turns as numbers: 0 is the end, a fault's number the fault, and 10 a reply
+-- ---- turns as numbers: 0 is the end, a fault's number the fault, and 11 a reply
 
 abbrev fault_at : ℕ → ServeFault
 fault_at (suc zero) = Truncated
@@ -21,7 +21,7 @@ fault_at _ = ReplyTooLong
 abbrev front_number : Front → ℕ
 front_number Ended = 0
 front_number (Bad fault) = fault_number fault
-front_number (Whole _ _) = 10
+front_number (Whole _ _) = 11
 
 abbrev answer_number : Option (List ℕ) → ℕ
 answer_number None = 0
@@ -36,7 +36,7 @@ turn_of front moments words answer =
     else if nat_lt words 128 then 6
     else if answer == 0 then 3
     else if nat_lt 65537 answer then 8
-    else 10
+    else 11
 
 turn_of-ended : (f m w a : ℕ) → f ≡ 0 → turn_of f m w a ≡ 0
 turn_of-ended f m w a p = grind (arith, nat_tests)
@@ -47,22 +47,22 @@ turn_of-truncated f m w a p = grind (arith, nat_tests)
 turn_of-long : (f m w a : ℕ) → f ≡ 2 → turn_of f m w a ≡ 2
 turn_of-long f m w a p = grind (arith, nat_tests)
 
-turn_of-no_moment : (f m w a : ℕ) → f ≡ 10 → m ≡ 0 → turn_of f m w a ≡ 7
+turn_of-no_moment : (f m w a : ℕ) → f ≡ 11 → m ≡ 0 → turn_of f m w a ≡ 7
 turn_of-no_moment f m w a p q = grind (arith, nat_tests)
 
-turn_of-no_words : (f m w a : ℕ) → f ≡ 10 → m ≢ 0 → w < 128 → turn_of f m w a ≡ 6
+turn_of-no_words : (f m w a : ℕ) → f ≡ 11 → m ≢ 0 → w < 128 → turn_of f m w a ≡ 6
 turn_of-no_words f m w a p q r = grind (arith, nat_tests)
 
-turn_of-no_request : (f m w a : ℕ) → f ≡ 10 → m ≢ 0 → 128 ≤ w → a ≡ 0 → turn_of f m w a ≡ 3
+turn_of-no_request : (f m w a : ℕ) → f ≡ 11 → m ≢ 0 → 128 ≤ w → a ≡ 0 → turn_of f m w a ≡ 3
 turn_of-no_request f m w a p q r s = grind (arith, nat_tests)
 
-turn_of-long_reply : (f m w a : ℕ) → f ≡ 10 → m ≢ 0 → 128 ≤ w → 65537 < a → turn_of f m w a ≡ 8
+turn_of-long_reply : (f m w a : ℕ) → f ≡ 11 → m ≢ 0 → 128 ≤ w → 65537 < a → turn_of f m w a ≡ 8
 turn_of-long_reply f m w a p q r s = grind (arith, nat_tests)
 
-turn_of-reply : (f m w a : ℕ) → f ≡ 10 → m ≢ 0 → 128 ≤ w → a ≢ 0 → a ≤ 65537 → turn_of f m w a ≡ 10
+turn_of-reply : (f m w a : ℕ) → f ≡ 11 → m ≢ 0 → 128 ≤ w → a ≢ 0 → a ≤ 65537 → turn_of f m w a ≡ 11
 turn_of-reply f m w a p q r s t = grind (arith, nat_tests)
 
-fault_number-within : (fault : ServeFault) → (0 < fault_number fault) × (fault_number fault < 10)
+fault_number-within : (fault : ServeFault) → (0 < fault_number fault) × (fault_number fault < 11)
 fault_number-within Truncated = (lit< tt, lit< tt)
 fault_number-within FrameTooLong = (lit< tt, lit< tt)
 fault_number-within NoRequest = (lit< tt, lit< tt)
@@ -72,6 +72,7 @@ fault_number-within NoWords = (lit< tt, lit< tt)
 fault_number-within NoMoment = (lit< tt, lit< tt)
 fault_number-within ReplyTooLong = (lit< tt, lit< tt)
 fault_number-within Memory = (lit< tt, lit< tt)
+fault_number-within Accounts = (lit< tt, lit< tt)
 
 abbrev Failed : ServeFault → Result ℕ ServeFault
 Failed fault = Err fault
@@ -86,12 +87,13 @@ fault_at-number NoWords final = refl
 fault_at-number NoMoment final = refl
 fault_at-number ReplyTooLong final = refl
 fault_at-number Memory final = absurd final
+fault_at-number Accounts final = absurd final
 
 abbrev number_of : Result ℕ ServeFault → ℕ
 number_of (Ok _) = 0
 number_of (Err fault) = fault_number fault
 
-number_of-below : (result : Result ℕ ServeFault) → number_of result < 10
+number_of-below : (result : Result ℕ ServeFault) → number_of result < 11
 number_of-below (Ok _) = lit< tt
 number_of-below (Err fault) = (fault_number-within fault).1
 
@@ -130,8 +132,8 @@ module _ (replies : List ℕ → ℕ → List ℕ → Option (List ℕ) → Type
   abbrev turn : Left → ℕ → ℕ
   turn s a = turn_of (front_number (front_of s.stream)) (length s.moments) (length s.words) a
 
-  no_frame : (s : Left) (front : Front) → front_of s.stream ≡ front → front_number front < 10 → HasAnswer s 0
-  no_frame s front e below b after asks = let n : 10 ≡ front_number front = ap front_number (sym asks.2 ∙ e) in absurd (omega (arith, n, below))
+  no_frame : (s : Left) (front : Front) → front_of s.stream ≡ front → front_number front < 11 → HasAnswer s 0
+  no_frame s front e below b after asks = let n : 11 ≡ front_number front = ap front_number (sym asks.2 ∙ e) in absurd (omega (arith, n, below))
 
   an_answer : (s new : Left) (result : Result ℕ ServeFault) → IsFinal result → Why s result new → (a : ℕ) × HasAnswer s a
   an_answer s new (Ok _) final (front, same) = (0, no_frame s Ended front (lit< tt))
@@ -144,6 +146,7 @@ module _ (replies : List ℕ → ℕ → List ℕ → Option (List ℕ) → Type
   an_answer s new (Err NoMoment) final (message, rest, front, none, same) = (0, λ b after asks. absurd (not_nil asks.1 after.moments s.moments asks.3 (ap length none)))
   an_answer s new (Err ReplyTooLong) final (reply, asks, long) = (1 + length reply, λ b after other. ap answer_number (same_asks replies one_reply s after new b (Some reply) other asks).0)
   an_answer s new (Err Memory) final why = absurd final
+  an_answer s new (Err Accounts) final why = absurd final
 
   turn-final : (s new : Left) (result : Result ℕ ServeFault) → IsFinal result → Why s result new → (a : ℕ) → HasAnswer s a → turn s a ≡ number_of result
   turn-final s new (Ok _) final (front, same) a answers = turn_of-ended (front_number (front_of s.stream)) (length s.moments) (length s.words) a (ap front_number front)
@@ -163,8 +166,9 @@ module _ (replies : List ℕ → ℕ → List ℕ → Option (List ℕ) → Type
       turn_of-long_reply (front_number (front_of s.stream)) (length s.moments) (length s.words) a (ap front_number asks.2) (not_nil asks.1 new.moments s.moments asks.3) asks.5.0
       (omega (arith, n, long))
   turn-final s new (Err Memory) final why a answers = absurd final
+  turn-final s new (Err Accounts) final why a answers = absurd final
 
-  turn-step : (s t : Left) (reply : List ℕ) → Step replies s reply t → (a : ℕ) → HasAnswer s a → turn s a ≡ 10
+  turn-step : (s t : Left) (reply : List ℕ) → Step replies s reply t → (a : ℕ) → HasAnswer s a → turn s a ≡ 11
   turn-step s t reply (asks, fits) a answers =
       let n = answers (Some reply) t asks in
       turn_of-reply (front_number (front_of s.stream)) (length s.moments) (length s.words) a (ap front_number asks.2) (not_nil asks.1 t.moments s.moments asks.3) asks.5.0
@@ -222,3 +226,4 @@ module _ (replies : List ℕ → ℕ → List ℕ → Option (List ℕ) → Type
       other ∙ ap (λ l. at [] l s.words) (same_rest s.stream m n rest more f g) ∙ sym same
   same_left s t u (Err ReplyTooLong) final (x, asks, long) (y, other, again) = (same_asks replies one_reply s u t (Some y) (Some x) other asks).1
   same_left s t u (Err Memory) final why other = absurd final
+  same_left s t u (Err Accounts) final why other = absurd final

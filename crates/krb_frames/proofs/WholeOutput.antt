@@ -3,7 +3,7 @@ use Rattle.std.proofs.Common.{◌≡◌, ℕ, ◌-◌, ◌^◌, ◌≤◌, ◌�
 use Rattle.std.specs.List.{concat}
 use Rattle.std.proofs.lemmas.List.{nil_from_length}
 use Rattle.krb_frames.specs.declared.fault.ServeFault.{ServeFault}
-use Rattle.krb_frames.specs.declared.fault.ServeFault.TheVariants.{Truncated, FrameTooLong, NoRequest, Read, Write, NoWords, NoMoment, ReplyTooLong, Memory}
+use Rattle.krb_frames.specs.declared.fault.ServeFault.TheVariants.{Truncated, FrameTooLong, NoRequest, Read, Write, NoWords, NoMoment, ReplyTooLong, Memory, Accounts}
 use Rattle.krb_frames.specs.Frames.{framed}
 use Rattle.krb_frames.specs.Serving.{Left, Run, Step, IsServed, IsReplyFront, IsFinal, IsFrontOf}
 use Rattle.krb_frames.proofs.Turns.{Why, same_asks, no_step, same_result, same_left}
@@ -72,6 +72,7 @@ module _ (replies : List ℕ → ℕ → List ℕ → Option (List ℕ) → Type
   part_of s NoMoment part is = inl is
   part_of s ReplyTooLong part is = inl is
   part_of s Memory part is = inl is
+  part_of s Accounts part is = inl is
 
   no_part : (s : Left) (fault : ServeFault) (part : List ℕ) → IsReplyFront replies s fault part → IsFinal (Failed fault) → part ≡ []
   no_part s Truncated part is final = is
@@ -83,6 +84,7 @@ module _ (replies : List ℕ → ℕ → List ℕ → Option (List ℕ) → Type
   no_part s NoMoment part is final = is
   no_part s ReplyTooLong part is final = is
   no_part s Memory part is final = absurd final
+  no_part s Accounts part is final = absurd final
 
   pub served : (start new : Left) (written : List ℕ) (result : Result ℕ ServeFault) → IsServed replies wants start written result new → Served start written result new
   served start new written (Ok n) (done, s, run, (ended, same, whole, count)) = record {

@@ -2,3 +2,4 @@ pub mod Frames
 pub mod Numbers
 pub mod Serving
 pub mod Steps
+pub mod Tolerance

@@ -1,15 +1,27 @@
 -- What serving a stream writes and how it ends: the run of a machine over frames.
-use Rattle.std.specs.Prelude.{◌≡◌, ℕ, ◌-◌, ◌^◌, ◌<◌, ◌≤◌, ◌⊎◌, min, List, [], ◌∷◌, ◌++◌, length, take, drop, map, Option, Some, None, Result, Ok, Err, MatchResult, ⊤}
+use Rattle.std.specs.Prelude.{◌≡◌, ◌≢◌, ℕ, ◌-◌, ◌^◌, ◌<◌, ◌≤◌, ◌⊎◌, min, List, [], ◌∷◌, ◌++◌, length, take, drop, map, Option, Some, None, Result, Ok, Err, MatchResult, ⊤}
+use Rattle.std.specs.Io.KnownBytes.{Appends}
 use Rattle.std.specs.Iterator.{Yields, YieldsThen}
 use Rattle.std.specs.List.{concat}
+use Rattle.byte_streams.specs.Counting.{one_more}
 use Rattle.krb_time.specs.Units.{Micros}
 use Rattle.krb_frames.specs.declared.fault.ServeFault.{ServeFault}
-use Rattle.krb_frames.specs.declared.fault.ServeFault.TheVariants.{Truncated, FrameTooLong, NoRequest, Read, Write, NoWords, NoMoment, ReplyTooLong, Memory}
+use Rattle.krb_frames.specs.declared.fault.ServeFault.TheVariants.{Truncated, FrameTooLong, NoRequest, Read, Write, NoWords, NoMoment, ReplyTooLong, Memory, Accounts}
 use Rattle.krb_frames.specs.Frames.{Ended, Bad, Whole, announced, frame_room, front_of, framed}
 
 -- the property holds of the bytes of a device, where they are known
 abbrev pub WhereKnown : Option (List ℕ) → (List ℕ → Type 0) → Type 0
 WhereKnown known P = (bytes : List ℕ) → known ≡ Some bytes → P bytes
+
+-- the bytes of the devices, where they are known: what their readers have left of the stream and of the random bytes, and what the writer wrote
+pub record DeviceBytes : Type 0 where
+  pub stream : Option (List ℕ)
+  pub words : Option (List ℕ)
+  pub written : Option (List ℕ)
+
+-- such bytes
+abbrev pub device_bytes : Option (List ℕ) → Option (List ℕ) → Option (List ℕ) → DeviceBytes
+device_bytes stream words written = record { stream = stream; words = words; written = written }
 
 -- what is still to be served: the moments, the stream and the random bytes
 pub record Left : Type 0 where
@@ -37,8 +49,16 @@ BreaksWords old new = TakesMoment old new × (n : ℕ) × (n ≤ 128) × (new.wo
 abbrev pub LacksRoom : Left → Left → Type 0
 LacksRoom old new = (4 ≤ length old.stream) × (announced old.stream ≤ 65536) × (new ≡ at old.moments (drop 4 old.stream) old.words)
 
+-- the accounts can't be read by which the next message is answered, which took its moment and 128 random bytes
+abbrev pub LacksAccounts : Left → Left → Type 0
+LacksAccounts old new = TakesMoment old new × (128 ≤ length old.words) × (new.words ≡ drop 128 old.words)
+
 -- `replies message moment words answer`: whether the responder may answer so; the answer is none where the bytes are no request
 module _ (replies : List ℕ → Micros → List ℕ → Option (List ℕ) → Type 0) where
+  -- some message is no request
+  unfoldable pub MayRefuse : Type 0
+  MayRefuse = (message : List ℕ) × (moment : Micros) × (words : List ℕ) × replies message moment words None
+
   -- 128 random bytes are there, and with them the message may be answered so
   abbrev pub IsReply : List ℕ → Micros → List ℕ → Option (List ℕ) → Type 0
   IsReply message moment words answer = (128 ≤ length words) × replies message moment (take 128 words) answer
@@ -89,6 +109,8 @@ module _ (replies : List ℕ → Micros → List ℕ → Option (List ℕ) → T
   -- A reply of more than 65,536 bytes isn't written (RFC 4120, section 7.2.2). Test: `long_replies`.
   StopsBy s ReplyTooLong new = (reply : List ℕ) × Asks replies s (Some reply) new × (65536 < length reply)
   StopsBy s Memory new = LacksRoom s new ⊎ LacksAnswer s new ⊎ LacksFrame s new
+  -- Where the accounts can't be read, the run ends, and the message gets no reply. Test: `stops_without_accounts`.
+  StopsBy s Accounts new = LacksAccounts s new
 
   -- what was written is the frames of a run's replies, up to where serving stops with this result and leaves `new`
   abbrev pub IsServed : Left → List ℕ → Result ℕ ServeFault → Left → Type 0
@@ -96,18 +118,46 @@ module _ (replies : List ℕ → Micros → List ℕ → Option (List ℕ) → T
       (λ count. (front_of s.stream ≡ Ended) × (new ≡ s) × (written ≡ concat (map framed done)) × (count ≡ min (length done) (2 ^ 64 - 1)))
       (λ fault. StopsBy s fault new × (part : List ℕ) × IsReplyFront replies s fault part × (written ≡ concat (map framed done) ++ part))
 
+  -- what serving ensures of its devices' bytes, where they are known: what was written, the result and what is left are a run over the
+  -- moments that were taken, and over any that may come after them. `Takes moments`: whether these moments were taken
+  abbrev pub Serves : (List Micros → Type 0) → DeviceBytes → DeviceBytes → Result ℕ ServeFault → Type 0
+  Serves Takes old new result = WhereKnown old.stream (λ stream. WhereKnown old.words (λ words.
+      (taken : List Micros) × (written : List ℕ) × (rest : List ℕ) × (more : List ℕ) × Takes taken × Appends old.written new.written written
+      × (new.stream ≡ Some rest) × (new.words ≡ Some more)
+      × ((later : List Micros) → (result ≡ Err NoMoment → later ≡ []) → IsServed (at (taken ++ later) stream words) written result (at later rest more))))
+
+-- ---- what serving ensures of its devices' counts of failed calls
+
+-- after the fault `Read` one of the two readers has counted one failure more
+abbrev pub CountsReadFault : Result ℕ ServeFault → ℕ → ℕ → ℕ → ℕ → Type 0
+CountsReadFault result stream_old stream_new words_old words_new =
+    result ≡ Err Read → (stream_new ≡ one_more stream_old) ⊎ (words_new ≡ one_more words_old)
+
+-- after the fault `Write` the writer has counted one failure more
+abbrev pub CountsWriteFault : Result ℕ ServeFault → ℕ → ℕ → Type 0
+CountsWriteFault result old new = result ≡ Err Write → new ≡ one_more old
+
+-- after any other result no call of a reader has failed: a failed call is reported
+abbrev pub KeepsReadCounts : Result ℕ ServeFault → ℕ → ℕ → ℕ → ℕ → Type 0
+KeepsReadCounts result stream_old stream_new words_old words_new = result ≢ Err Read → (stream_new ≡ stream_old) × (words_new ≡ words_old)
+
+-- after any other result no call of the writer has failed
+abbrev pub KeepsWriteCount : Result ℕ ServeFault → ℕ → ℕ → Type 0
+KeepsWriteCount result old new = result ≢ Err Write → new ≡ old
+
 -- calls of `next` gave these moments, then none where the fault is `NoMoment`, and left this iterator
 abbrev pub Draws : {M : Type 0} → (M → Option Micros → M → Type 0) → Result ℕ ServeFault → M → List Micros → M → Type 0
 Draws gives (Ok _) start taken end = Yields gives start taken end
 Draws gives (Err NoMoment) start taken end = YieldsThen gives start taken None end
 Draws gives (Err _) start taken end = Yields gives start taken end
 
--- serving ended without a fault of a device or of memory
+-- serving ended without a fault of a device, of memory or of the accounts
 abbrev pub IsFinal : Result ℕ ServeFault → Type 0
 IsFinal (Ok _) = ⊤
 IsFinal (Err Read) = ⊥
 IsFinal (Err Write) = ⊥
 IsFinal (Err Memory) = ⊥
+IsFinal (Err Accounts) = ⊥
 IsFinal (Err _) = ⊤
 
 -- the second list begins with the first

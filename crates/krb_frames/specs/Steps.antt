@@ -4,9 +4,9 @@ use Rattle.std.specs.Io.KnownBytes.{Appends, Keeps}
 use Rattle.krb_time.specs.Units.{Micros}
 use Rattle.byte_streams.specs.Counting.{one_more}
 use Rattle.krb_frames.specs.declared.fault.ServeFault.{ServeFault}
-use Rattle.krb_frames.specs.declared.fault.ServeFault.TheVariants.{Truncated, FrameTooLong, NoRequest, Read, Write, NoWords, ReplyTooLong, Memory}
+use Rattle.krb_frames.specs.declared.fault.ServeFault.TheVariants.{Truncated, FrameTooLong, NoRequest, Read, Write, NoWords, ReplyTooLong, Memory, Accounts}
 use Rattle.krb_frames.specs.Frames.{Bad, announced, frame_room, front_of, framed}
-use Rattle.krb_frames.specs.Serving.{IsReply}
+use Rattle.krb_frames.specs.Serving.{IsReply, MayRefuse}
 
 -- a reader's count of failures after a fault
 abbrev pub after_read_fault : ℕ → ServeFault → ℕ
@@ -77,6 +77,7 @@ IsAnswerFault Write = ⊤
 IsAnswerFault NoWords = ⊤
 IsAnswerFault ReplyTooLong = ⊤
 IsAnswerFault Memory = ⊤
+IsAnswerFault Accounts = ⊤
 IsAnswerFault _ = ⊥
 
 -- the faults that reading a frame may have
@@ -86,6 +87,12 @@ IsReadFault FrameTooLong = ⊤
 IsReadFault Read = ⊤
 IsReadFault Memory = ⊤
 IsReadFault _ = ⊥
+
+-- a fault by which a responder refused is one by which it may refuse
+abbrev pub IsRefusal : (List ℕ → Micros → List ℕ → Option (List ℕ) → Type 0) → Type 0 → ServeFault → Type 0
+IsRefusal replies lacks NoRequest = MayRefuse replies
+IsRefusal replies lacks Accounts = lacks
+IsRefusal replies lacks _ = ⊤
 
 -- what was written of a frame, where writing it stopped
 abbrev pub IsWrittenPart : List ℕ → Option (List ℕ) → Option (List ℕ) → ServeFault → Type 0
@@ -116,4 +123,5 @@ module _ (replies : List ℕ → Micros → List ℕ → Option (List ℕ) → T
   IsStepFault message moment words old new left Read = IsBroken words left 128 × Keeps old new
   IsStepFault message moment words old new left Memory =
       (128 ≤ length words) × LacksMemory message moment words × Keeps old new × (left ≡ Some (drop 128 words))
+  IsStepFault message moment words old new left Accounts = (128 ≤ length words) × Keeps old new × (left ≡ Some (drop 128 words))
   IsStepFault message moment words old new left _ = ⊥

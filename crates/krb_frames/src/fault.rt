@@ -14,6 +14,9 @@ pub enum AnswerRefusal {
     /// Memory ran out.
     #[error("out of memory")]
     Memory = 2,
+    /// The accounts can't be read: their file is damaged or gone, say. A responder whose accounts are in memory never refuses so.
+    #[error("the accounts can't be read")]
+    Accounts = 3,
 }
 
 impl AnswerRefusal {
@@ -65,6 +68,9 @@ pub enum ServeFault {
     /// Memory ran out.
     #[error("Memory")]
     Memory = 9,
+    /// The responder can't read its accounts ([`AnswerRefusal::Accounts`]). The message got no reply.
+    #[error("Accounts")]
+    Accounts = 10,
 }
 
 impl ServeFault {

@@ -3,8 +3,8 @@ ghost use Rattle.std.specs.Prelude.{◌≡◌, ℕ, ◌<◌, ◌≤◌, List, le
 ghost use Rattle.std.specs.Io.KnownBytes.{Appends};
 ghost use Rattle.krb_frames.specs.Frames.{front_of, framed};
 ghost use Rattle.krb_frames.specs.Frames.Front.{Ended, Whole};
-ghost use Rattle.krb_frames.specs.Serving.{WhereKnown, IsReply};
-ghost use Rattle.krb_frames.specs.Steps.{IsFilled, IsTaken, IsBroken, IsMessageFault, IsMessageStop, IsWordsFault, IsWordsStop, IsAnswerFault, IsAnswered, IsFrontFault, IsReadFault, IsStepFault, IsWrittenPart, after_read_fault, after_write_fault};
+ghost use Rattle.krb_frames.specs.Serving.{IsReply, WhereKnown};
+ghost use Rattle.krb_frames.specs.Steps.{IsFilled, IsTaken, IsBroken, IsMessageFault, IsMessageStop, IsWordsFault, IsWordsStop, IsAnswerFault, IsAnswered, IsFrontFault, IsReadFault, IsRefusal, IsStepFault, IsWrittenPart, after_read_fault, after_write_fault};
 
 use crate::{AnswerRefusal, Responder, ServeFault};
 use byte_streams::{Sink, Source, WholeFault, read_full, write_whole};
@@ -146,6 +146,7 @@ pub(crate) fn answer_frame<A: Responder, K: Source, W: Sink>(
         (λ _. IsAnswered (A.replies responder.now) message.now moment words (W.written writer.old) (W.written writer.new) (K.left words_reader.new))
         (IsStepFault (A.replies responder.now) (A.may_want_memory responder.now) message.now moment words (W.written writer.old) (W.written writer.new) (K.left words_reader.new))) }
     ensures faults { IfErr result IsAnswerFault }
+    ensures refusals { IfErr result (IsRefusal (A.replies responder.now) (A.may_lack_accounts responder.now)) }
     ensures read_count { MatchResult result (λ _. K.failed words_reader.new ≡ K.failed words_reader.old)
         (λ fault. K.failed words_reader.new ≡ after_read_fault (K.failed words_reader.old) fault) }
     ensures write_count { MatchResult result (λ _. W.failed writer.new ≡ W.failed writer.old)
@@ -156,6 +157,7 @@ pub(crate) fn answer_frame<A: Responder, K: Source, W: Sink>(
         Ok(reply) => reply,
         Err(AnswerRefusal::Unreadable) => return Err(ServeFault::NoRequest),
         Err(AnswerRefusal::Memory) => return Err(ServeFault::Memory),
+        Err(AnswerRefusal::Accounts) => return Err(ServeFault::Accounts),
     };
     if reply.len() > FRAME_LIMIT {
         return Err(ServeFault::ReplyTooLong);

@@ -3,12 +3,12 @@
 //! A frame is a message after its length in four bytes, the highest first (RFC 4120, section 7.2.2).
 //! [`serve`] reads frames to the end of a stream and writes each reply in a frame of its own. A
 //! [`Responder`] replies. Each message is answered at the next moment and with the next 128
-//! random bytes.
+//! random bytes. By a [`Tolerant`] responder a message that is no request doesn't stop serving.
 //!
 //! `serve` writes the frames of the replies to the messages of the stream, however the reader cuts the bytes (`IsServed`). Two runs over
-//! the same moments, stream and random bytes write the same as far as both go (laws `runs_agree`, `output_is_whole`). `Read` and `Write`
-//! are returned only if a device counted a failed call. A message that is no request is `NoRequest`; `Memory` can take its place only where
-//! the responder may want memory for it.
+//! the same moments, stream and random bytes write the same as far as both go, where each message has at most one reply
+//! ([`SoleResponder`]; laws `runs_agree`, `output_is_whole`). `Read` and `Write` are returned only if a device counted a failed call. A
+//! message that is no request is `NoRequest`; `Memory` can take its place only where the responder may want memory for it.
 #![tactic(auto)]
 
 mod fault;
@@ -16,9 +16,11 @@ mod frame;
 mod laws;
 mod responder;
 mod stream;
+mod tolerant;
 
 pub use fault::{AnswerRefusal, ServeFault};
 pub use frame::{FRAME_LIMIT, WORDS_NEEDED};
-pub use laws::{output_is_whole, runs_agree};
-pub use responder::Responder;
+pub use laws::{goes_on, output_is_whole, runs_agree};
+pub use responder::{Responder, SoleResponder};
 pub use stream::{serve, serve_bytes};
+pub use tolerant::Tolerant;

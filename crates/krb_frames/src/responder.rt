@@ -15,7 +15,11 @@ pub trait Responder {
     // Whether answering a message may need memory. Any other is answered however little memory there is.
     ghost may_want_memory: { Self → List ℕ → Type 0 };
 
-    /// Replies to `message`. The refusal `Unreadable` alone says that it is no request.
+    // Whether the accounts may be unreadable. Of accounts in memory they never are.
+    ghost may_lack_accounts: { Self → Type 0 };
+
+    /// Replies to `message`. The refusal `Unreadable` alone says that it is no request. The refusal `Accounts` says that the accounts
+    /// can't be read.
     fn answer(
         &self,
         alloc: Global,
@@ -26,9 +30,16 @@ pub trait Responder {
         requires { length words.now ≡ 128 }
         ensures reply { MatchResult result (λ reply. replies self.now message.now moment words.now (Some reply.items))
             (λ refusal. refusal ≡ AnswerRefusal.Unreadable → replies self.now message.now moment words.now None) }
-        ensures memory { IfErr result (λ refusal. refusal ≡ AnswerRefusal.Memory → may_want_memory self.now message.now) };
+        ensures memory { IfErr result (λ refusal. refusal ≡ AnswerRefusal.Memory → may_want_memory self.now message.now) }
+        ensures accounts { IfErr result (λ refusal. refusal ≡ AnswerRefusal.Accounts → may_lack_accounts self.now) };
+}
 
+/// A responder that has at most one reply to a message at a moment and with the same random bytes. Its law is `one_reply`, which says
+/// this of `replies`.
+///
+/// A responder over accounts in a file, whose bytes no contract knows, is a [`Responder`] without this law.
+pub trait SoleResponder: Responder {
     // A message has at most one reply.
     ghost one_reply: { (responder : Self) (message : List ℕ) (moment : ℕ) (words : List ℕ) (a b : Option (List ℕ))
-        → replies responder message moment words a → replies responder message moment words b → a ≡ b };
+        → Self.replies responder message moment words a → Self.replies responder message moment words b → a ≡ b };
 }

@@ -1,9 +1,7 @@
 //! The loop over the frames of a stream.
-ghost use Rattle.std.specs.Prelude.{◌≡◌, ◌≢◌, ℕ, ◌++◌, List, [], Some, Err, ◌⊎◌};
+ghost use Rattle.std.specs.Prelude.{◌≡◌, ◌≢◌, ℕ, ◌++◌, List, Err};
 ghost use Rattle.std.specs.Iterator.{IsFinite, DrainsIf};
-ghost use Rattle.std.specs.Io.KnownBytes.{Appends};
-ghost use Rattle.byte_streams.specs.Counting.{one_more};
-ghost use Rattle.krb_frames.specs.Serving.{WhereKnown, Left, Draws, IsServed, IsFinal, at};
+ghost use Rattle.krb_frames.specs.Serving.{CountsReadFault, CountsWriteFault, Draws, IsFinal, IsServed, KeepsReadCounts, KeepsWriteCount, Left, MayRefuse, Serves, at, device_bytes};
 
 use crate::frame::{answer_frame, read_frame};
 use crate::{Responder, ServeFault};
@@ -16,14 +14,17 @@ use std::alloc::Global;
 ///
 /// Each message takes the next moment and the next 128 random bytes of `words_reader`. A frame's faults
 /// come in this order: the stream ends within it or it is too long, no moment is left, too few
-/// random bytes are left, the message is no request, the reply is too long, the write fails. A fault
-/// leaves the replies before it written, and no part of the next but where the write failed.
+/// random bytes are left, the message is no request or the accounts can't be read, the reply is too
+/// long, the write fails. A fault leaves the replies before it written, and no part of the next but
+/// where the write failed.
 ///
 /// `reader` is read up to the end of the last frame, or of four bytes where a frame is too long.
 /// `words_reader` isn't read for a frame that has no moment. A message is allocated once its length is
 /// read and not too long. A reply is allocated once the moment and the random bytes are taken. A fault
-/// that is found before needs no memory. A message that is no request stops serving with `NoRequest`.
+/// that is found before needs no memory. A message that is no request stops serving with `NoRequest`,
+/// unless the responder has a reply to it too ([`Tolerant`](crate::Tolerant)).
 /// `Memory` may take its place only where the responder may need memory for it (`Responder::answer`).
+/// Where the responder can't read its accounts, serving stops with `Accounts`.
 ///
 /// A reply is written to `writer`, in one call where that takes all, before the next frame is read. A
 /// writer with a buffer may delay it.
@@ -38,22 +39,15 @@ pub fn serve<A: Responder, R: Source, W: Sink, M: Iterator<Item = Moment> + Drop
     requires can { M.can_next moments }
     requires ends { IsFinite (M.remaining moments) }
 
-    // What was written, the result and what is left are a run over the moments that were taken, and
-    // over any that may come after them.
-    ensures output { WhereKnown (R.left reader.old) (λ stream. WhereKnown (K.left words_reader.old) (λ words.
-        (taken written rest more : List ℕ) × DrainsIf M.next_gives (result ≡ Err ServeFault.NoMoment) moments taken
-        × Appends (W.written writer.old) (W.written writer.new) written
-        × (R.left reader.new ≡ Some rest) × (K.left words_reader.new ≡ Some more)
-        × ((later : List ℕ) → (result ≡ Err ServeFault.NoMoment → later ≡ [])
-        → IsServed (A.replies responder.now) (A.may_want_memory responder.now) (at (taken ++ later) stream words) written result (at later rest more)))) }
-    ensures read_failed { result ≡ Err ServeFault.Read
-        → (R.failed reader.new ≡ one_more (R.failed reader.old)) ⊎ (K.failed words_reader.new ≡ one_more (K.failed words_reader.old)) }
-    ensures write_failed { result ≡ Err ServeFault.Write → W.failed writer.new ≡ one_more (W.failed writer.old) }
-
-    // A call of a device that failed is reported.
-    ensures read_kept { result ≢ Err ServeFault.Read
-        → (R.failed reader.new ≡ R.failed reader.old) × (K.failed words_reader.new ≡ K.failed words_reader.old) }
-    ensures write_kept { result ≢ Err ServeFault.Write → W.failed writer.new ≡ W.failed writer.old }
+    ensures output { Serves (A.replies responder.now) (A.may_want_memory responder.now) (DrainsIf M.next_gives (result ≡ Err ServeFault.NoMoment) moments)
+        (device_bytes (R.left reader.old) (K.left words_reader.old) (W.written writer.old))
+        (device_bytes (R.left reader.new) (K.left words_reader.new) (W.written writer.new)) result }
+    ensures read_failed { CountsReadFault result (R.failed reader.old) (R.failed reader.new) (K.failed words_reader.old) (K.failed words_reader.new) }
+    ensures write_failed { CountsWriteFault result (W.failed writer.old) (W.failed writer.new) }
+    ensures read_kept { KeepsReadCounts result (R.failed reader.old) (R.failed reader.new) (K.failed words_reader.old) (K.failed words_reader.new) }
+    ensures write_kept { KeepsWriteCount result (W.failed writer.old) (W.failed writer.new) }
+    ensures no_request { result ≡ Err ServeFault.NoRequest → MayRefuse (A.replies responder.now) }
+    ensures accounts { result ≡ Err ServeFault.Accounts → A.may_lack_accounts responder.now }
 {
     serve_frames(alloc, responder, reader, writer, &mut moments, words_reader)
 }
@@ -69,20 +63,15 @@ fn serve_frames<A: Responder, R: Source, W: Sink, M: Iterator<Item = Moment>, K:
 ) -> Result<u64, ServeFault>
     requires can { M.can_next moments.old }
     requires ends { IsFinite (M.remaining moments.old) }
-    ensures output { WhereKnown (R.left reader.old) (λ stream. WhereKnown (K.left words_reader.old) (λ words.
-        (taken written rest more : List ℕ) × Draws M.next_gives result moments.old taken moments.new
-        × Appends (W.written writer.old) (W.written writer.new) written
-        × (R.left reader.new ≡ Some rest) × (K.left words_reader.new ≡ Some more)
-        × ((later : List ℕ) → (result ≡ Err ServeFault.NoMoment → later ≡ [])
-        → IsServed (A.replies responder.now) (A.may_want_memory responder.now) (at (taken ++ later) stream words) written result (at later rest more)))) }
-    ensures read_failed { result ≡ Err ServeFault.Read
-        → (R.failed reader.new ≡ one_more (R.failed reader.old)) ⊎ (K.failed words_reader.new ≡ one_more (K.failed words_reader.old)) }
-    ensures write_failed { result ≡ Err ServeFault.Write → W.failed writer.new ≡ one_more (W.failed writer.old) }
-
-    // A call of a device that failed is reported.
-    ensures read_kept { result ≢ Err ServeFault.Read
-        → (R.failed reader.new ≡ R.failed reader.old) × (K.failed words_reader.new ≡ K.failed words_reader.old) }
-    ensures write_kept { result ≢ Err ServeFault.Write → W.failed writer.new ≡ W.failed writer.old }
+    ensures output { Serves (A.replies responder.now) (A.may_want_memory responder.now) (λ taken. Draws M.next_gives result moments.old taken moments.new)
+        (device_bytes (R.left reader.old) (K.left words_reader.old) (W.written writer.old))
+        (device_bytes (R.left reader.new) (K.left words_reader.new) (W.written writer.new)) result }
+    ensures read_failed { CountsReadFault result (R.failed reader.old) (R.failed reader.new) (K.failed words_reader.old) (K.failed words_reader.new) }
+    ensures write_failed { CountsWriteFault result (W.failed writer.old) (W.failed writer.new) }
+    ensures read_kept { KeepsReadCounts result (R.failed reader.old) (R.failed reader.new) (K.failed words_reader.old) (K.failed words_reader.new) }
+    ensures write_kept { KeepsWriteCount result (W.failed writer.old) (W.failed writer.new) }
+    ensures no_request { result ≡ Err ServeFault.NoRequest → MayRefuse (A.replies responder.now) }
+    ensures accounts { result ≡ Err ServeFault.Accounts → A.may_lack_accounts responder.now }
 {
     let mut answered = 0u64;
     'frames: while let Some(message) = read_frame(alloc, reader)? {
@@ -109,7 +98,8 @@ pub fn serve_bytes<A: Responder>(
         × IsServed (A.replies responder.now) (A.may_want_memory responder.now) (at moments.now stream.now words.now) written result left }
 
     // Bytes in memory never fail.
-    ensures devices { result ≢ Err ServeFault.Memory → IsFinal result }
+    ensures devices { result ≢ Err ServeFault.Memory → result ≢ Err ServeFault.Accounts → IsFinal result }
+    ensures accounts { result ≡ Err ServeFault.Accounts → A.may_lack_accounts responder.now }
 {
     let mut reader = stream;
     let mut words_reader = words;

@@ -9,7 +9,7 @@ use Rattle.krb_types.specs.RandomBytes.{Random}
 use Rattle.krb_constants.specs.declared.types.TheConstants.{APPLICATION, AS_REQ_MSG_TYPE, TGS_REQ_MSG_TYPE}
 use Rattle.key_functions.specs.KeyFunctions.{KeysRecord}
 use Rattle.krb_frames.specs.declared.fault.AnswerRefusal.{AnswerRefusal}
-use Rattle.krb_frames.specs.declared.fault.AnswerRefusal.TheVariants.{Unreadable, Memory}
+use Rattle.krb_frames.specs.declared.fault.AnswerRefusal.TheVariants.{Unreadable, Memory, Accounts}
 use Rattle.pkinit_requests.specs.PkinitRows.{pkinit_rows}
 use Rattle.krb_replies.specs.Replies.{Replies}
 use Rattle.krb_kdc.specs.Realm.{RealmState, call_to}
@@ -22,11 +22,12 @@ is_request_octet octet = octet == (APPLICATION + AS_REQ_MSG_TYPE) || octet == (A
 abbrev pub BeginsRequest : Bytes → Type 0
 BeginsRequest bytes = IsTrue (option_map_or is_request_octet (slice_get bytes 0) false)
 
--- the reply, none if the message is no request; or memory ran out
+-- the reply, none if the message is no request; or memory ran out. A realm has its accounts in memory, so they can always be read
 abbrev pub IsAnswer : (Option Bytes → Type 0) → Result (Vec ℕ Global) AnswerRefusal → Type 0
 IsAnswer replies (Ok reply) = replies (Some reply.items)
 IsAnswer replies (Err Unreadable) = replies None
 IsAnswer replies (Err Memory) = Unit {0}
+IsAnswer replies (Err Accounts) = ⊥
 
 -- the reply that a realm with these key functions may give to a message at a moment, with random bytes
 abbrev pub RealmReplies : RealmState → KeysRecord → Bytes → Micros → Random → Option Bytes → Type 0

@@ -1,15 +1,13 @@
 //! A realm as the responder of a frame loop.
-ghost use Rattle.std.specs.Prelude.{◌≡◌, ◌≢◌, ℕ, ◌++◌, List, [], Some, Err, ◌⊎◌};
+ghost use Rattle.std.specs.Prelude.{◌≡◌, ◌≢◌, ℕ, ◌++◌, List, Err};
 ghost use Rattle.std.specs.Iterator.{IsFinite, DrainsIf};
-ghost use Rattle.std.specs.Io.KnownBytes.{Appends};
-ghost use Rattle.byte_streams.specs.Counting.{one_more};
-ghost use Rattle.krb_frames.specs.Serving.{WhereKnown, Left, IsServed, IsFinal, at};
+ghost use Rattle.krb_frames.specs.Serving.{CountsReadFault, CountsWriteFault, IsFinal, IsServed, KeepsReadCounts, KeepsWriteCount, Left, Serves, at, device_bytes};
 ghost use Rattle.krb_kdc.specs.Answers.{BeginsRequest, RealmReplies};
 
 use crate::realm::Realm;
 use byte_streams::{Sink, Source};
 use key_functions::KeyFunctions;
-use krb_frames::{AnswerRefusal, Responder, ServeFault};
+use krb_frames::{AnswerRefusal, Responder, ServeFault, SoleResponder};
 use krb_time::Moment;
 use std::alloc::Global;
 
@@ -24,16 +22,12 @@ pub struct Answering<'a, K: KeyFunctions> {
 
 impl<'a, K: KeyFunctions> Responder for Answering<'a, K> {
     ghost use Rattle.krb_kdc.specs.Answers.{BeginsRequest, RealmReplies};
-    ghost use Rattle.krb_kdc.specs.Realm.{call_to};
-    ghost use Rattle.krb_replies.specs.Replies.{one_reply};
-    ghost use Rattle.pkinit_requests.specs.PkinitRows.{pkinit_rows};
 
     ghost replies = { λ own message moment words reply. RealmReplies own.realm.now (K.functions own.keys.now) message moment words reply };
 
     ghost may_want_memory = { λ _ message. BeginsRequest message };
 
-    ghost one_reply = { λ own message moment words.
-        one_reply (call_to own.realm.now moment words) (pkinit_rows own.realm.now.trust (K.functions own.keys.now)) message };
+    ghost may_lack_accounts = { λ _. ⊥ };
 
     fn answer(
         &self,
@@ -44,6 +38,15 @@ impl<'a, K: KeyFunctions> Responder for Answering<'a, K> {
     ) -> Result<Vec<u8>, AnswerRefusal> {
         self.realm.answer(alloc, message, moment, words, self.keys)
     }
+}
+
+impl<'a, K: KeyFunctions> SoleResponder for Answering<'a, K> {
+    ghost use Rattle.krb_kdc.specs.Realm.{call_to};
+    ghost use Rattle.krb_replies.specs.Replies.{one_reply};
+    ghost use Rattle.pkinit_requests.specs.PkinitRows.{pkinit_rows};
+
+    ghost one_reply = { λ own message moment words.
+        one_reply (call_to own.realm.now moment words) (pkinit_rows own.realm.now.trust (K.functions own.keys.now)) message };
 }
 
 /// Answers each frame of `reader` in a frame of `writer`, to the end of the stream, and gives how many were answered, held at the
@@ -66,22 +69,16 @@ pub fn serve<R: Source, W: Sink, M: Iterator<Item = Moment> + Drop, S: Source, K
     requires can { M.can_next moments }
     requires ends { IsFinite (M.remaining moments) }
 
-    // What was written, the answer and what is left are a run over the moments that were taken, and
-    // over any that may come after them.
-    ensures output { WhereKnown (R.left reader.old) (λ stream. WhereKnown (S.left words_reader.old) (λ words.
-        (taken written rest more : List ℕ) × DrainsIf M.next_gives (result ≡ Err ServeFault.NoMoment) moments taken
-        × Appends (W.written writer.old) (W.written writer.new) written
-        × (R.left reader.new ≡ Some rest) × (S.left words_reader.new ≡ Some more)
-        × ((later : List ℕ) → (result ≡ Err ServeFault.NoMoment → later ≡ [])
-        → IsServed (RealmReplies realm.now (K.functions keys.now)) BeginsRequest (at (taken ++ later) stream words) written result (at later rest more)))) }
-    ensures read_failed { result ≡ Err ServeFault.Read
-        → (R.failed reader.new ≡ one_more (R.failed reader.old)) ⊎ (S.failed words_reader.new ≡ one_more (S.failed words_reader.old)) }
-    ensures write_failed { result ≡ Err ServeFault.Write → W.failed writer.new ≡ one_more (W.failed writer.old) }
+    ensures output { Serves (RealmReplies realm.now (K.functions keys.now)) BeginsRequest (DrainsIf M.next_gives (result ≡ Err ServeFault.NoMoment) moments)
+        (device_bytes (R.left reader.old) (S.left words_reader.old) (W.written writer.old))
+        (device_bytes (R.left reader.new) (S.left words_reader.new) (W.written writer.new)) result }
+    ensures read_failed { CountsReadFault result (R.failed reader.old) (R.failed reader.new) (S.failed words_reader.old) (S.failed words_reader.new) }
+    ensures write_failed { CountsWriteFault result (W.failed writer.old) (W.failed writer.new) }
+    ensures read_kept { KeepsReadCounts result (R.failed reader.old) (R.failed reader.new) (S.failed words_reader.old) (S.failed words_reader.new) }
+    ensures write_kept { KeepsWriteCount result (W.failed writer.old) (W.failed writer.new) }
 
-    // No failed call is passed over.
-    ensures read_kept { result ≢ Err ServeFault.Read
-        → (R.failed reader.new ≡ R.failed reader.old) × (S.failed words_reader.new ≡ S.failed words_reader.old) }
-    ensures write_kept { result ≢ Err ServeFault.Write → W.failed writer.new ≡ W.failed writer.old }
+    // The accounts are in memory.
+    ensures accounts { result ≢ Err ServeFault.Accounts }
 {
     let answering = Answering { realm, keys };
     krb_frames::serve(alloc, &answering, reader, writer, moments, words_reader)
@@ -103,6 +100,9 @@ pub fn serve_bytes<K: KeyFunctions>(
 
     // Bytes in memory never fail.
     ensures devices { result ≢ Err ServeFault.Memory → IsFinal result }
+
+    // The accounts are in memory.
+    ensures accounts { result ≢ Err ServeFault.Accounts }
 {
     let answering = Answering { realm, keys };
     krb_frames::serve_bytes(alloc, &answering, stream, moments, words, replies)

@@ -115,6 +115,7 @@ answered_memory : (call : CallRecord) (rows : PkinitRows) (request : Bytes) (ref
 unfolding IsAnswered
 answered_memory call rows request answer_refusal.Memory replies x = refl
 answered_memory call rows request answer_refusal.Unreadable replies x = absurd (no_reply _ (replies None x).1)
+answered_memory call rows request answer_refusal.Accounts replies x = absurd x
 
 answered_reply : (call : CallRecord) (rows : PkinitRows) (request reply : Bytes) → IsAnswered call rows request (Ok reply) → Replies call rows request (Some reply)
 unfolding IsAnswered

@@ -172,6 +172,8 @@ one_answered call rows request (Err answer_refusal.Unreadable) (Ok reply) x y = 
 one_answered call rows request (Err answer_refusal.Unreadable) (Err answer_refusal.Unreadable) x y = inr (inr refl)
 one_answered call rows request result (Err answer_refusal.Memory) x y = inr (inl refl)
 one_answered call rows request (Err answer_refusal.Memory) other x y = inl refl
+one_answered call rows request result (Err answer_refusal.Accounts) x y = absurd y
+one_answered call rows request (Err answer_refusal.Accounts) other x y = absurd x
 
 -- what a table takes is one
 taken_by : {T : Type 0} (table : Table (Result T TakeRefusal)) (taken : Result T TakeRefusal) → IsTaken table taken → Wants TakeWants taken ⊎ table.gives taken

@@ -1,5 +1,5 @@
 -- How a run ends whose file is no realm's, or whose serving is refused.
-use Rattle.std.proofs.Common.{◌≡◌, ℕ, List, Result, Ok, Err, IsErrAnd, inl, inr, ap, subst, sym}
+use Rattle.std.proofs.Common.{◌≡◌, ℕ, List, Result, Ok, Err, IsErrAnd, inl, inr, ap, refl, subst, sym}
 use Rattle.krb_time.specs.Units.{Micros}
 use Rattle.krb_frames.specs.declared.fault.ServeFault.{ServeFault}
 use Rattle.krb_frames.specs.declared.fault.ServeFault.TheVariants as serve_fault
@@ -20,6 +20,10 @@ exit_of : (result : Result ℕ Stop) (fault : ServeFault) → IsErrAnd result (�
 exit_of (Ok count) fault is = absurd is
 exit_of (Err stop) fault is = ap Err is
 
+-- serving ended so
+abbrev Failed : ServeFault → Result ℕ ServeFault
+Failed fault = Err fault
+
 module _ (Untouched : Type 0) (text : List ℕ) (moment : Micros) (old new : Devices) where
   pub file_stopped : (fault : KdcFault) → Untouched → HasFault text fault → IsEnd Untouched text moment old new (Err (stop_of fault))
   file_stopped kdc_fault.Memory kept has = inl kept
@@ -28,21 +32,22 @@ module _ (Untouched : Type 0) (text : List ℕ) (moment : Micros) (old new : Dev
   file_stopped (kdc_fault.Account n e) kept has = (kept, λ realm. no_realm_with_fault text (kdc_fault.Account n e) realm has (λ is. (cc)))
 
   pub serving_stopped : (realm : RealmState) → IsRealmFile text realm → (fault : ServeFault)
-      → Serves (RealmReplies realm no_functions) BeginsRequest moment old new (Err fault)
+      → Serves (RealmReplies realm no_functions) BeginsRequest moment old new (Err fault) → (Failed fault ≡ Failed serve_fault.Accounts → ⊥)
       → IsEnd Untouched text moment old new (Err (Fault fault))
-  serving_stopped realm file serve_fault.Memory served = inr (realm, file, served)
-  serving_stopped realm file serve_fault.Truncated served = (realm, file, served)
-  serving_stopped realm file serve_fault.FrameTooLong served = (realm, file, served)
-  serving_stopped realm file serve_fault.NoRequest served = (realm, file, served)
-  serving_stopped realm file serve_fault.Read served = (realm, file, served)
-  serving_stopped realm file serve_fault.Write served = (realm, file, served)
-  serving_stopped realm file serve_fault.NoWords served = (realm, file, served)
-  serving_stopped realm file serve_fault.NoMoment served = (realm, file, served)
-  serving_stopped realm file serve_fault.ReplyTooLong served = (realm, file, served)
+  serving_stopped realm file serve_fault.Memory served read = inr (realm, file, served)
+  serving_stopped realm file serve_fault.Truncated served read = (realm, file, served)
+  serving_stopped realm file serve_fault.FrameTooLong served read = (realm, file, served)
+  serving_stopped realm file serve_fault.NoRequest served read = (realm, file, served)
+  serving_stopped realm file serve_fault.Read served read = (realm, file, served)
+  serving_stopped realm file serve_fault.Write served read = (realm, file, served)
+  serving_stopped realm file serve_fault.NoWords served read = (realm, file, served)
+  serving_stopped realm file serve_fault.NoMoment served read = (realm, file, served)
+  serving_stopped realm file serve_fault.ReplyTooLong served read = (realm, file, served)
+  serving_stopped realm file serve_fault.Accounts served read = absurd (read refl)
 
   pub exit_stopped : (realm : RealmState) → IsRealmFile text realm → (fault : ServeFault) (result : Result ℕ Stop)
       → IsErrAnd result (λ stop. stop ≡ Fault fault)
-      → Serves (RealmReplies realm no_functions) BeginsRequest moment old new (Err fault)
+      → Serves (RealmReplies realm no_functions) BeginsRequest moment old new (Err fault) → (Failed fault ≡ Failed serve_fault.Accounts → ⊥)
       → IsEnd Untouched text moment old new result
-  exit_stopped realm file fault result is served =
-      subst (IsEnd Untouched text moment old new) (sym (exit_of result fault is)) (serving_stopped realm file fault served)
+  exit_stopped realm file fault result is served read =
+      subst (IsEnd Untouched text moment old new) (sym (exit_of result fault is)) (serving_stopped realm file fault served read)

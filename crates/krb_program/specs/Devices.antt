@@ -1,11 +1,9 @@
 -- What serving does to its three devices.
-use Rattle.std.specs.Prelude.{◌≡◌, ◌≢◌, ◌⊎◌, ℕ, List, Option, Some, Result, Err}
+use Rattle.std.specs.Prelude.{◌≡◌, ℕ, List, Option, Some, Result}
 use Rattle.std.specs.Io.KnownBytes.{Appends}
-use Rattle.byte_streams.specs.Counting.{one_more}
 use Rattle.krb_time.specs.Units.{Micros}
-use Rattle.krb_frames.specs.Serving.{WhereKnown, Left, IsServed, at}
+use Rattle.krb_frames.specs.Serving.{CountsReadFault, CountsWriteFault, IsServed, KeepsReadCounts, KeepsWriteCount, Left, WhereKnown, at}
 use Rattle.krb_frames.specs.declared.fault.ServeFault.{ServeFault}
-use Rattle.krb_frames.specs.declared.fault.ServeFault.TheVariants.{Read, Write}
 use Rattle.krb_program.specs.Moments.{each_time}
 
 -- the bytes that a device has left to give, or holds, where they are known; and how many of its calls failed
@@ -37,10 +35,10 @@ IsOutput replies wants moment old new result = WhereKnown old.reader.bytes (λ s
 
 -- a fault of a device is answered where a call of it failed, and no failed call is passed over
 pub record AnswersFailures (old new : Devices) (result : Result ℕ ServeFault) : Type 0 where
-  pub read_failed : result ≡ Err Read → (new.reader.failed ≡ one_more old.reader.failed) ⊎ (new.words.failed ≡ one_more old.words.failed)
-  pub write_failed : result ≡ Err Write → new.writer.failed ≡ one_more old.writer.failed
-  pub read_kept : result ≢ Err Read → (new.reader.failed ≡ old.reader.failed) × (new.words.failed ≡ old.words.failed)
-  pub write_kept : result ≢ Err Write → new.writer.failed ≡ old.writer.failed
+  pub read_failed : CountsReadFault result old.reader.failed new.reader.failed old.words.failed new.words.failed
+  pub write_failed : CountsWriteFault result old.writer.failed new.writer.failed
+  pub read_kept : KeepsReadCounts result old.reader.failed new.reader.failed old.words.failed new.words.failed
+  pub write_kept : KeepsWriteCount result old.writer.failed new.writer.failed
 
 abbrev pub Serves : (List ℕ → Micros → List ℕ → Option (List ℕ) → Type 0) → (List ℕ → Type 0) → Micros → Devices → Devices → Result ℕ ServeFault → Type 0
 Serves replies wants moment old new result = IsOutput replies wants moment old new result × AnswersFailures old new result

@@ -1,7 +1,7 @@
 -- What a program says of its end: its status, and a line.
 use Rattle.std.specs.Prelude.{ℕ, List, [], codes, Result, Ok, Err}
 use Rattle.krb_frames.specs.declared.fault.ServeFault.{ServeFault}
-use Rattle.krb_frames.specs.declared.fault.ServeFault.TheVariants.{Truncated, FrameTooLong, NoRequest, Read, Write, NoWords, NoMoment, ReplyTooLong, Memory}
+use Rattle.krb_frames.specs.declared.fault.ServeFault.TheVariants.{Truncated, FrameTooLong, NoRequest, Read, Write, NoWords, NoMoment, ReplyTooLong, Memory, Accounts}
 use Rattle.krb_program.specs.declared.outcome.Stop.{Stop}
 use Rattle.krb_program.specs.declared.outcome.Stop.TheVariants.{BadArguments, BadSettings, Fault}
 
@@ -22,6 +22,7 @@ fault_line NoWords = codes "krb_realm: NoWords"
 fault_line NoMoment = codes "krb_realm: NoMoment"
 fault_line ReplyTooLong = codes "krb_realm: ReplyTooLong"
 fault_line Memory = codes "krb_realm: Memory"
+fault_line Accounts = codes "krb_realm: Accounts"
 
 -- none at the end of the stream
 abbrev pub line_of : Result ℕ Stop → List ℕ

@@ -24,10 +24,12 @@ abbrev pub ServesFile : List ℕ → Micros → Devices → Devices → Result �
 ServesFile text moment old new served = (realm : RealmState) × IsRealmFile text realm
     × Serves (RealmReplies realm no_functions) BeginsRequest moment old new served
 
--- `Untouched`: no device was read from or written to. This holds if a file writes no realm, and may hold if memory ran out
+-- `Untouched`: no device was read from or written to. This holds if a file writes no realm, and may hold if memory ran out. The accounts
+-- of a file's realm are in memory, so they can always be read
 abbrev pub IsEnd : Type 0 → List ℕ → Micros → Devices → Devices → Result ℕ Stop → Type 0
 IsEnd Untouched text moment old new (Ok count) = ServesFile text moment old new (Ok count)
 IsEnd Untouched text moment old new (Err BadArguments) = ⊥
 IsEnd Untouched text moment old new (Err BadSettings) = Untouched × ((realm : RealmState) → ¬ IsRealmFile text realm)
 IsEnd Untouched text moment old new (Err (Fault serve_fault.Memory)) = Untouched ⊎ ServesFile text moment old new (Err serve_fault.Memory)
+IsEnd Untouched text moment old new (Err (Fault serve_fault.Accounts)) = ⊥
 IsEnd Untouched text moment old new (Err (Fault fault)) = ServesFile text moment old new (Err fault)

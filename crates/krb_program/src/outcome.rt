@@ -74,5 +74,6 @@ fn fault_line(fault: ServeFault) -> &'static str
         ServeFault::NoMoment => "krb_realm: NoMoment",
         ServeFault::ReplyTooLong => "krb_realm: ReplyTooLong",
         ServeFault::Memory => "krb_realm: Memory",
+        ServeFault::Accounts => "krb_realm: Accounts",
     }
 }

@@ -1,4 +1,5 @@
 //! Serving at one moment.
+ghost use Rattle.std.specs.Prelude.{◌≡◌, Err};
 ghost use Rattle.krb_program.specs.Devices.{AnswersFailures, IsOutput, device, devices};
 
 use byte_streams::{Sink, Source};
@@ -24,6 +25,7 @@ pub fn serve_at<A: Responder, K: Source, R: Source, W: Sink>(
         (devices (device (K.left words_reader.old) (K.failed words_reader.old)) (device (R.left reader.old) (R.failed reader.old)) (device (W.written writer.old) (W.failed writer.old)))
         (devices (device (K.left words_reader.new) (K.failed words_reader.new)) (device (R.left reader.new) (R.failed reader.new)) (device (W.written writer.new) (W.failed writer.new)))
         result }
+    ensures accounts { result ≡ Err ServeFault.Accounts → A.may_lack_accounts responder.now }
 {
     let moments = iter::repeat_n(moment, usize::MAX);
     serve(alloc, responder, reader, writer, moments, words_reader)

@@ -29,7 +29,7 @@ pub use krb_accounts::RealmRefusal;
 pub use krb_ap_requests::AdmitRefusal;
 pub use krb_client::{ApAsked, AsAsked, AskRefusal, Credential, TakeRefusal, TgsAsked};
 pub use krb_crypto::{ChecksumSuite, CipherSuite, Key};
-pub use krb_frames::{AnswerRefusal, Responder, ServeFault};
+pub use krb_frames::{AnswerRefusal, Responder, ServeFault, SoleResponder};
 pub use krb_kdc::{Answering, Realm, Settings, serve, serve_bytes, words_needed};
 pub use krb_logins::{LoginInput, LoginMoments, LoginRefusal};
 pub use krb_service::{Admission, Service};

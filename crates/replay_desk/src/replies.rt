@@ -45,6 +45,7 @@ pub(crate) fn text_of(
         Ok(reply) => hex::encode(alloc, &reply)?,
         Err(AnswerRefusal::Unreadable) => format!(in alloc; "Unreadable")?,
         Err(AnswerRefusal::Memory) => bail!("out of memory"),
+        Err(AnswerRefusal::Accounts) => bail!("the accounts can't be read"),
     };
     Ok(text)
 }

@@ -79,6 +79,7 @@ fn count(
             Ok(())
         }
         Err(AnswerRefusal::Memory) => bail!("out of memory"),
+        Err(AnswerRefusal::Accounts) => bail!("the accounts can't be read"),
     }
 }
 

@@ -1,10 +1,11 @@
 //! Streams served over whole, slow and failing devices.
-ghost use Rattle.std.specs.Prelude.{◌≡◌, ◌<◌, ◌++◌, length, take, nat_lt, if◌then◌else◌, Some, None};
+ghost use Rattle.std.specs.Prelude.{◌≡◌, ◌<◌, ◌++◌, length, take, nat_lt, if◌then◌else◌, Some, None, ⊤};
 ghost use Rattle.std.proofs.Common.{sym, ◌∙◌};
 
 use byte_streams::{Sink, Source, Watched};
 use krb_frames::{
-    AnswerRefusal, FRAME_LIMIT, Responder, ServeFault, WORDS_NEEDED, serve, serve_bytes,
+    AnswerRefusal, FRAME_LIMIT, Responder, ServeFault, SoleResponder, Tolerant, WORDS_NEEDED,
+    serve, serve_bytes,
 };
 use krb_time::Moment;
 use std::alloc::{AllocError, Global};
@@ -19,6 +20,8 @@ impl Responder for Toy {
         answer ≡ (if nat_lt 0 (length message) then Some (take 1 words ++ message) else None) };
 
     ghost may_want_memory = { λ _ message. 0 < length message };
+
+    ghost may_lack_accounts = { λ _. ⊥ };
 
     fn answer(
         &self,
@@ -38,7 +41,9 @@ impl Responder for Toy {
             _ => Err(AnswerRefusal::Memory),
         }
     }
+}
 
+impl SoleResponder for Toy {
     ghost one_reply = { λ _ message moment words a b first second. first ∙ sym second };
 }
 
@@ -98,6 +103,58 @@ fn stops_at_the_first_fault(rt: HostRuntime) {
         };
         assert!(rt; is_served(rt.alloc(), &case), "at {stream:?}");
     }
+}
+
+// Its accounts can't be read.
+struct Unread;
+
+impl Responder for Unread {
+    ghost replies = { λ _ _ _ _ _. ⊥ };
+
+    ghost may_want_memory = { λ _ _. ⊥ };
+
+    ghost may_lack_accounts = { λ _. ⊤ };
+
+    fn answer(
+        &self,
+        _alloc: Global,
+        _message: &[u8],
+        _moment: Moment,
+        _words: &[u8],
+    ) -> Result<Vec<u8>, AnswerRefusal> {
+        Err(AnswerRefusal::Accounts)
+    }
+}
+
+fn end_without_accounts(alloc: Global) -> Option<(Result<u64, ServeFault>, usize)> {
+    let moments = [Moment::new(0)?; 2];
+    let words = words_of_two(alloc).ok()?;
+    let mut replies = Vec::new(alloc);
+    let end = serve_bytes(alloc, &Unread, STREAM, &moments, &words, &mut replies);
+    Some((end, replies.len()))
+}
+
+// The first message gets no reply.
+#[test]
+fn stops_without_accounts(rt: HostRuntime) {
+    let end = end_without_accounts(rt.alloc());
+    assert!(rt; end == Some((Err(ServeFault::Accounts), 0)));
+}
+
+fn is_tolerated(alloc: Global) -> Option<bool> {
+    let moments = [Moment::new(0)?; 2];
+    let words = words_of_two(alloc).ok()?;
+    let mut replies = Vec::new(alloc);
+    let tolerant = Tolerant { responder: &Toy };
+    let stream = b"\0\0\0\0\0\0\0\x01a";
+    let end = serve_bytes(alloc, &tolerant, stream, &moments, &words, &mut replies);
+    Some(end == Ok(2) && replies.as_slice() == b"\0\0\0\0\0\0\0\x02Ba".as_slice())
+}
+
+// A message that is no request gets an empty reply, and the next is answered.
+#[test]
+fn goes_on_by_empty_reply(rt: HostRuntime) {
+    assert!(rt; is_tolerated(rt.alloc()) == Some(true));
 }
 
 // A frame of as many bytes `x`.

@@ -1,7 +1,7 @@
 //! Numbers and texts of faults and refusals, and the laws of streams, which are called once.
 
 use crate::serving::Toy;
-use krb_frames::{AnswerRefusal, ServeFault, output_is_whole, runs_agree};
+use krb_frames::{AnswerRefusal, ServeFault, Tolerant, goes_on, output_is_whole, runs_agree};
 use std::alloc::Global;
 
 fn is_fault(alloc: Global, fault: ServeFault, text: &str) -> bool {
@@ -30,6 +30,7 @@ fn faults(rt: HostRuntime) {
         (ServeFault::NoMoment, 7, "NoMoment"),
         (ServeFault::ReplyTooLong, 8, "ReplyTooLong"),
         (ServeFault::Memory, 9, "Memory"),
+        (ServeFault::Accounts, 10, "Accounts"),
     ] {
         assert!(rt; fault.number() == number, "at {number}");
         assert!(rt; is_fault(rt.alloc(), fault, name), "at {number}");
@@ -41,6 +42,7 @@ fn refusals(rt: HostRuntime) {
     for (refusal, number, text) in [
         (AnswerRefusal::Unreadable, 1, "the message is no request"),
         (AnswerRefusal::Memory, 2, "out of memory"),
+        (AnswerRefusal::Accounts, 3, "the accounts can't be read"),
     ] {
         assert!(rt; refusal.number() == number, "at {number}");
         assert!(rt; is_refusal(rt.alloc(), refusal, text), "at {number}");
@@ -51,4 +53,6 @@ fn refusals(rt: HostRuntime) {
 fn laws(_rt: HostRuntime) {
     runs_agree::<Toy>();
     output_is_whole::<Toy>();
+    output_is_whole::<Tolerant<'_, Toy>>();
+    goes_on::<Toy>();
 }

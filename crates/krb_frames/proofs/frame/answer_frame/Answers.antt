@@ -1,5 +1,6 @@
 use Rattle.std.proofs.Common.{rules, Some, None, inl, take, sym, subst}
-use Rattle.krb_frames.proofs.Answering.{answered}
+use Rattle.std.proofs.lemmas.Result.{err_from_is_err_and}
+use Rattle.krb_frames.proofs.Answering.{answered, may_refuse, of_words, of_written}
 use Rattle.std.proofs.KnownBytes.{Keeps-refl}
 use Rattle.krb_frames.proofs.frame.answer_frame.Goals as goal
 
@@ -42,3 +43,25 @@ pub returns-in-Err-Memory-clause-step : goal.returns-in-Err-Memory-clause-step
 returns-in-Err-Memory-clause-step g c = λ words known.
     let w = c.in_ok-words.ensures.front words known in
     (w.1, inl (c.in-Err-Memory.ensures.memory c.in-Err-Memory.field-0-is), Keeps-refl _, w.2)
+
+pub returns-in-Err-Accounts-clause-step : goal.returns-in-Err-Accounts-clause-step
+returns-in-Err-Accounts-clause-step g c = λ words known.
+    let w = c.in_ok-words.ensures.front words known in
+    (w.1, Keeps-refl _, w.2)
+
+pub returns-in-Err-Unreadable-clause-refusals : goal.returns-in-Err-Unreadable-clause-refusals
+returns-in-Err-Unreadable-clause-refusals g c =
+    may_refuse (g.A.Responder.replies c.args.responder.now) c.args.message.now c.args.moment c.in_ok-words.words
+    (c.in-Err-Unreadable.ensures.reply c.in-Err-Unreadable.field-0-is)
+
+pub returns-in-Err-Accounts-clause-refusals : goal.returns-in-Err-Accounts-clause-refusals
+returns-in-Err-Accounts-clause-refusals g c = c.in-Err-Accounts.ensures.accounts c.in-Err-Accounts.field-0-is
+
+pub returns-clause-refusals : goal.returns-clause-refusals
+returns-clause-refusals g c =
+    of_written (g.A.Responder.replies c.args.responder.now) (g.A.Responder.may_lack_accounts c.args.responder.now) c.write_frame.result _ _ _ c.write_frame.ensures.written
+
+pub returns-in_err-words-clause-refusals : goal.returns-in_err-words-clause-refusals
+returns-in_err-words-clause-refusals g c =
+    let r = err_from_is_err_and c.from_residual.result c.from_residual.ensures.1 in
+    rw (r.1, r.2) (of_words (g.A.Responder.replies c.args.responder.now) (g.A.Responder.may_lack_accounts c.args.responder.now) c.in_err-words.field-0.0 c.in_err-words.ensures.faults)
