@@ -1,0 +1,4 @@
+mod Positions
+mod Probing
+mod Sound
+mod Answering
