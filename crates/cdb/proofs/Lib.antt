@@ -1,4 +1,5 @@
 mod Positions
 mod Probing
+mod Fronts
 mod Sound
 mod Answering

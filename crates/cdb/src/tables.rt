@@ -1,6 +1,6 @@
 //! Looking a key up.
-ghost use Rattle.std.specs.Prelude.{◌≡◌, ◌≤◌, ◌<◌, ◌/◌, ◌%◌, List, ℕ, Some, IfOk, IfSome, length};
-ghost use Rattle.cdb.specs.Reading.{Gives};
+ghost use Rattle.std.specs.Prelude.{◌≡◌, ◌≤◌, ◌<◌, ◌+◌, ◌/◌, ◌%◌, List, ℕ, Ok, Some, IfOk, IfSome, length};
+ghost use Rattle.cdb.specs.Reading.{Gives, IsFilled};
 ghost use Rattle.cdb.specs.Find.{GivesData, find_in, following, in_record, in_slot, looked_up, pair_at, probed, stands_at};
 
 use crate::fault::Fault;
@@ -8,6 +8,9 @@ use crate::file::ReadAt;
 use crate::format::{KEY_LIMIT, PAIR_SIZE, TABLES};
 use crate::hash::hash_of;
 use byte_layouts::u32_le;
+
+/// How many octets of a record's front are read at once: its two lengths and its key.
+const FRONT_LIMIT: usize = PAIR_SIZE as usize + KEY_LIMIT;
 
 /// Where the data of a key are.
 #[derive(Clone, Copy, Debug, PartialEq, Eq)]
@@ -78,6 +81,54 @@ fn in_slot<F: ReadAt>(file: &F, key: &[u8], hash: u32, position: u64) -> Result<
 
 /// Returns whether the record at a position has the key, and where its data are.
 fn in_record<F: ReadAt>(file: &F, key: &[u8], at: u32) -> Result<SlotOutcome, Fault>
+    requires { length key.now ≤ KEY_LIMIT }
+    ensures { (bytes : List ℕ) → F.content file.now ≡ Some bytes → Gives (F.fails file.now) result (in_record key.now at bytes) }
+{
+    let mut room = [0; FRONT_LIMIT];
+    in_front(file, key, at, &mut room[..PAIR_SIZE as usize + key.len()])
+}
+
+/// Returns the same, with a buffer for the record's two lengths and as many octets of its key as `key` has. One read fills it. If the
+/// file ends before, the record may still be whole, with a shorter key.
+fn in_front<F: ReadAt>(
+    file: &F,
+    key: &[u8],
+    at: u32,
+    buffer: &mut [u8],
+) -> Result<SlotOutcome, Fault>
+    requires limit { length key.now ≤ KEY_LIMIT }
+    requires size { length buffer.old ≡ PAIR_SIZE + length key.now }
+    ensures { (bytes : List ℕ) → F.content file.now ≡ Some bytes → Gives (F.fails file.now) result (in_record key.now at bytes) }
+{
+    match file.read_at(u64::from(at), buffer) {
+        Ok(()) => Ok(of_front(buffer, key, at)),
+        Err(Fault::Damaged) => in_parts(file, key, at),
+        Err(Fault::Failed(kind)) => Err(Fault::Failed(kind)),
+        Err(Fault::Long) => Err(Fault::Long),
+    }
+}
+
+/// Returns whether a record has the key, and where its data are, by its front of so many octets.
+fn of_front(front: &[u8], key: &[u8], at: u32) -> SlotOutcome
+    requires { length front.now ≡ PAIR_SIZE + length key.now }
+    ensures { (bytes : List ℕ) → IsFilled at bytes front.now → in_record key.now at bytes ≡ Ok result }
+{
+    let key_size = u32_le(front, 0);
+    if key_size as usize != key.len() {
+        return SlotOutcome::Other;
+    }
+    if &front[PAIR_SIZE as usize..] != key {
+        return SlotOutcome::Other;
+    }
+    let position = u64::from(at) + PAIR_SIZE + u64::from(key_size);
+    SlotOutcome::Found(Found {
+        position,
+        size: u32_le(front, 4),
+    })
+}
+
+/// Returns whether the record at a position has the key, and where its data are. It reads the record's two lengths first.
+fn in_parts<F: ReadAt>(file: &F, key: &[u8], at: u32) -> Result<SlotOutcome, Fault>
     requires { length key.now ≤ KEY_LIMIT }
     ensures { (bytes : List ℕ) → F.content file.now ≡ Some bytes → Gives (F.fails file.now) result (in_record key.now at bytes) }
 {

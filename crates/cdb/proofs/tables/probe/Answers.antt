@@ -1,4 +1,3 @@
-use Rattle.std.proofs.Common.{Ok, ap, ◌∙◌}
 use Rattle.std.proofs.lemmas.Result.{err_from_is_err_and}
 use Rattle.cdb.proofs.Probing.{probe_empty, probe_fails, probe_found, probe_other, probe_over}
 use Rattle.cdb.proofs.tables.probe.Goals as goal
@@ -13,14 +12,14 @@ returns-in_err-found g c = λ bytes known.
 pub returns-in-Found : goal.returns-in-Found
 returns-in-Found g c = λ bytes known.
     let at_slot = rw (c.from.ensures, c.from-in-loop.ensures) at c.in_ok-found.ensures bytes known in
-    let slot = at_slot ∙ ap (λ outcome. Ok outcome) c.in-Found.is in
+    let slot = rw c.in-Found.is at at_slot in
     probe_found c.args.key.now c.args.hash c.args.start c.args.slots bytes c.in-Found.found c.loop.slot c.args.slots c.loop.counter _
     c.loop-test.true slot (c.loop.invariant.same bytes known)
 
 pub returns-in-Empty : goal.returns-in-Empty
 returns-in-Empty g c = λ bytes known.
     let at_slot = rw (c.from.ensures, c.from-in-loop.ensures) at c.in_ok-found.ensures bytes known in
-    let slot = at_slot ∙ ap (λ outcome. Ok outcome) c.in-Empty.is in
+    let slot = rw c.in-Empty.is at at_slot in
     probe_empty c.args.key.now c.args.hash c.args.start c.args.slots bytes c.loop.slot c.args.slots c.loop.counter _
     c.loop-test.true slot (c.loop.invariant.same bytes known)
 
@@ -29,7 +28,7 @@ loop-preserved g c = record {
   within = c.following-slot.ensures.within;
   same = λ bytes known.
       let at_slot = rw (c.from.ensures, c.from-in-loop.ensures) at c.in_ok-found.ensures bytes known in
-      let slot = at_slot ∙ ap (λ outcome. Ok outcome) c.in-Other.is in
+      let slot = rw c.in-Other.is at at_slot in
       rw c.following-slot.ensures.value (probe_other c.args.key.now c.args.hash c.args.start c.args.slots bytes c.loop.slot c.args.slots c.loop.counter _
       c.loop-test.true slot (c.loop.invariant.same bytes known));
 }

@@ -1,7 +1,7 @@
 use Rattle.std.proofs.lemmas.Result.{err_from_is_err_and}
 use Rattle.std.proofs.Common.{Ok, ap, ◌∙◌}
 use Rattle.cdb.proofs.Probing.{record_fails, record_found, record_of_other_key, record_of_other_size, record_stands_fails}
-use Rattle.cdb.proofs.tables.in_record.Goals as goal
+use Rattle.cdb.proofs.tables.in_parts.Goals as goal
 
 pub returns-in_err-key_size : goal.returns-in_err-key_size
 returns-in_err-key_size g c = λ bytes known.
