@@ -2,4 +2,5 @@ mod Positions
 mod Probing
 mod Fronts
 mod Sound
+mod Holding
 mod Answering

@@ -1,9 +1,20 @@
 -- Files whose look-ups meet no damage, and find keys alone that the file may have.
-use Rattle.std.specs.Prelude.{◌≡◌, ◌⊎◌, ℕ, ◌+◌, ◌*◌, ◌<◌, List, Option, None, Some, Result, Ok, Err}
+use Rattle.std.specs.Prelude.{◌≡◌, ◌⊎◌, ℕ, ◌+◌, ◌*◌, ◌<◌, nat_eq, Bool, false, List, Option, None, Some, Result, Ok, Err}
+use Rattle.std.specs.Cmp.Lexicographic.{pointwise}
 use Rattle.cdb.specs.declared.fault.Fault.{Fault}
 use Rattle.cdb.specs.declared.format.TheConstants.{PAIR_SIZE}
 use Rattle.cdb.specs.declared.tables.Found.{Found}
-use Rattle.cdb.specs.Find.{pair_at, part_at}
+use Rattle.cdb.specs.Find.{looked_up, pair_at, part_at}
+use Rattle.cdb.specs.Reading.{◌>>=◌}
+
+-- Whether what a look-up found are these data.
+abbrev pub are_data : List ℕ → Option (List ℕ) → Bool
+are_data content None = false
+are_data content (Some found) = pointwise nat_eq found content
+
+-- Whether a look-up of a key, with so much room for its data, finds these.
+unfoldable pub has_data : ℕ → List ℕ → List ℕ → List ℕ → Result Bool Fault
+has_data room bytes key content = looked_up room bytes key >>= λ found. Ok (are_data content found)
 
 module _ (has : List ℕ → Type 0) where
   -- A look-up of this key met no damage, and found nothing or a key that the file may have.

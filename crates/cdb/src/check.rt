@@ -1,7 +1,8 @@
 //! Checking that a file has no other keys than the given ones, and no damage that a look-up could meet.
-ghost use Rattle.std.specs.Prelude.{◌≡◌, ◌<◌, ◌≤◌, ◌+◌, ◌*◌, List, ℕ, Ok, Some, IfOk, IsTrue, length};
-ghost use Rattle.cdb.specs.Check.{IsSound, IsSoundKey, IsSoundRecord, IsSoundSlot, IsSoundTable};
-ghost use Rattle.cdb.specs.Find.{find_in, looked_up};
+ghost use Rattle.std.specs.Prelude.{◌≡◌, ◌<◌, ◌≤◌, ◌+◌, ◌*◌, List, ℕ, Some, IfOk, IsTrue, length};
+ghost use Rattle.cdb.specs.Check.{has_data, IsSound, IsSoundKey, IsSoundRecord, IsSoundSlot, IsSoundTable};
+ghost use Rattle.cdb.specs.Find.{find_in};
+ghost use Rattle.cdb.specs.Reading.{Gives};
 
 use crate::fault::Fault;
 use crate::file::ReadAt;
@@ -130,7 +131,7 @@ fn is_sound_key<F: ReadAt, K: Keys>(
     Ok(keys.contains(room))
 }
 
-/// Returns true only if a look-up of a key, with `room` as its buffer, finds these data. The key has at most [`KEY_LIMIT`] octets.
+/// Returns whether a look-up of a key, with `room` as its buffer, finds these data. The key has at most [`KEY_LIMIT`] octets.
 ///
 /// It refuses as [`look_up`] does.
 pub fn has_record<F: ReadAt>(
@@ -141,7 +142,7 @@ pub fn has_record<F: ReadAt>(
 ) -> Result<bool, Fault>
     requires { length key.now ≤ KEY_LIMIT }
     ensures { (bytes : List ℕ) → F.content file.now ≡ Some bytes
-        → IfOk result (λ is. IsTrue is → looked_up (length room.new) bytes key.now ≡ Ok (Some content.now)) }
+        → Gives (F.fails file.now) result (has_data (length room.new) bytes key.now content.now) }
 {
     let Some(size) = look_up(file, key, room)? else {
         return Ok(false);

@@ -122,5 +122,14 @@ fn holds<F: ReadAt>(file: &F, one: &Record, room: &mut [u8]) -> Result<bool, Fau
     if one.key.len() > KEY_LIMIT {
         return Ok(false);
     }
-    has_record(file, &one.key, &one.content, room)
+    finds(file, &one.key, &one.content, room)
+}
+
+// Returns whether a look-up of the key finds these data.
+fn finds<F: ReadAt>(file: &F, key: &[u8], content: &[u8], room: &mut [u8]) -> Result<bool, Fault>
+    requires { length key.now ≤ KEY_LIMIT }
+    ensures { (bytes : List ℕ) → F.content file.now ≡ Some bytes
+        → IfOk result (λ is. IsTrue is → looked_up (length room.new) bytes key.now ≡ Ok (Some content.now)) }
+{
+    has_record(file, key, content, room)
 }
