@@ -1,4 +1,3 @@
-use Rattle.std.proofs.Common.{Ok, ap, ◌∙◌}
 use Rattle.std.proofs.lemmas.Result.{err_from_is_err_and}
 use Rattle.cdb.proofs.Holding.{has_data_fails, has_data_is}
 use Rattle.cdb.proofs.check.has_record.Goals as goal
