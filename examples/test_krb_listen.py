@@ -221,8 +221,8 @@ class Transport(Case):
 
 class Limits(Case):
     def test_limits_are_those_of_the_documents(self):
-        limits = krb_listen.FRAME_LIMIT, krb_listen.UDP_LIMIT, krb_listen.SILENT, krb_listen.PER_SOURCE, krb_listen.CONNECTIONS, krb_listen.TIMES
-        self.assertEqual(limits, (65536, 4096, 10, 16, 1024, 3))
+        names = "FRAME_LIMIT", "UDP_LIMIT", "SILENT", "PER_SOURCE", "CONNECTIONS", "TIMES"
+        self.assertEqual([getattr(krb_listen, it) for it in names], [65536, 4096, 10, 16, 1024, 3])
 
     def test_lengths(self):
         self.start()
@@ -283,19 +283,10 @@ class Limits(Case):
         self.assertEqual(answer(held[0]), REQUEST)
         self.wait_for(r"1 connections closed as the oldest beyond 20")
 
-    def test_datagrams_beyond_those_that_may_wait(self):
-        self.start("--workers", "1", limits="WAITING=5")
-        datagrams = self.udp()
-        datagrams.send(b"sleep 1")
-        time.sleep(0.5)
-        for _ in range(8):
-            datagrams.send(REQUEST)
-        self.assertEqual([datagrams.recv(65536) for _ in range(6)], [b"sleep 1"] + [REQUEST] * 5)
-        self.wait_for(r"3 datagrams dropped")
-
 
 class LongReplies(Case):
-    REALM, SNAME = der(0x1B, b"EXAMPLE.COM"), der(0x30, der(0xA0, b"\2\1\2"), der(0xA1, der(0x30, der(0x1B, b"krbtgt"), der(0x1B, b"EXAMPLE.COM"))))
+    REALM = der(0x1B, b"EXAMPLE.COM")
+    SNAME = der(0x30, der(0xA0, b"\2\1\2"), der(0xA1, der(0x30, der(0x1B, b"krbtgt"), der(0x1B, b"EXAMPLE.COM"))))
 
     def kdc_rep(self, first, kind):
         ticket = der(0x61, der(0x30, der(0xA0, b"\2\1\5"), der(0xA1, self.REALM), der(0xA2, self.SNAME), der(0xA3, der(0x30, bytes(2000)))))
