@@ -8,7 +8,7 @@ CRATES := $(sort $(notdir $(patsubst %/src,%,$(wildcard crates/*/src))))
 REALM := out/realm
 
 .DEFAULT_GOAL := help
-.PHONY: help try messages certificate test check gate faults settings run clients gss bench plant fmt docs budget crate-named bridge-there
+.PHONY: help try messages certificate test listener check gate faults settings run clients gss bench plant fmt docs budget crate-named bridge-there
 
 help: ## list the targets
 	@sed -n 's/^\([a-z]*\):[^#]*## /\1\t/p' Makefile | expand -t 14
@@ -22,8 +22,11 @@ messages: ## read, change and write messages through picky_krb, without proof: o
 certificate: ## read a certificate, without proof: one minute
 	cd crates/example_certificate && $(RT) try --data certificate.der=data/certificate.der </dev/null
 
-test: $(if $(CRATE),crate-named) ## run every test and program without proof, or those of one crate: make test CRATE=test_der
+test: $(if $(CRATE),crate-named,listener) ## run every test and program without proof, or those of one crate: make test CRATE=test_der
 	RT="$(RT)" tools/test $(CRATE)
+
+listener: ## test examples/krb_listen before workers that are a stub: a minute
+	python3 -B examples/test_krb_listen.py
 
 check: crate-named ## prove one crate and what it stands on: make check CRATE=krb_tgs
 	cd crates/$(CRATE) && $(RT) check

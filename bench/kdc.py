@@ -6,7 +6,6 @@ TICKET = 0x6B  # the first octet of an AS reply
 ASKED = 0x6A  # that of an AS request
 PASSWORD = b"correct horse battery staple"
 SUITE = "aes256-cts-hmac-sha1-96"
-COUNTS = [int(word) for word in sys.argv[2:]] or [10, 5_000]
 HELD = []
 
 
@@ -214,5 +213,6 @@ def measured(program, accounts):
                 held.wait()
 
 
-for count in COUNTS:
-    measured(sys.argv[1], count)
+if __name__ == "__main__":
+    for count in [int(word) for word in sys.argv[2:]] or [10, 5_000]:
+        measured(sys.argv[1], count)

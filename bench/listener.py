@@ -1,0 +1,305 @@
+"""Measures krb_listen, and plays hostile clients against it: see listener.sh.
+
+usage: listener.py cost|flood|all [COMMAND ARGUMENT..]     COMMAND answers frames; without it that is a stub in C, or in python3
+"""
+import collections, contextlib, itertools, multiprocessing, os, random, selectors, shutil, socket, statistics
+import subprocess, sys, tempfile, threading, time
+
+import kdc
+
+TOP = os.path.dirname(os.path.dirname(os.path.abspath(__file__)))
+HOST = "127.0.0.1"
+WORKERS = 4
+EXCHANGES = {"UDP": 20_000, "TCP": 10_000}
+# A request of an unknown client, as a stock kinit sends it. A realm of any name answers it by a KRB-ERROR.
+RECORDED = os.path.join(TOP, "crates/krb_realmd/stdin")
+REPLY = 600  # octets of the stub's replies, as those of an AS-REP
+STUB = r"""
+#include <stdio.h>
+#include <string.h>
+#include <unistd.h>
+static unsigned char in[4 + 65536], out[4 + %(reply)d];
+static int whole(unsigned char *at, int size) {
+    for (int got; size > 0; at += got, size -= got)
+        if ((got = read(0, at, size)) <= 0) return 0;
+    return 1;
+}
+int main(void) {
+    char line[99];
+    while (whole(in, 4)) {
+        int size = in[1] << 16 | in[2] << 8 | in[3];
+        if (size > 65536 || !whole(in + 4, size)) return 2;
+        int answered = in[4] == 0x6a || in[4] == 0x6c ? %(reply)d : 0;
+        out[2] = answered >> 8; out[3] = answered & 255; out[4] = 0x7e;
+        if (write(2, line, sprintf(line, "2000-01-01T00:00:00Z AS-REQ a@R krbtgt/R@R %%d octets\n", size)) < 0) return 2;
+        if (write(1, out, 4 + answered) < 0) return 2;
+    }
+    return 0;
+}
+"""
+SLOW_STUB = r"""
+import os, sys
+while len(head := sys.stdin.buffer.read(4)) == 4:
+    message = sys.stdin.buffer.read(int.from_bytes(head, "big"))
+    reply = b"\x7e".ljust(%(reply)d, b"\0") if message[:1] in (b"\x6a", b"\x6c") else b""
+    os.write(2, b"2000-01-01T00:00:00Z AS-REQ a@R krbtgt/R@R %%d octets\n" %% len(message))
+    os.write(1, len(reply).to_bytes(4, "big") + reply)
+"""
+
+
+def stub(folder):
+    """The command of a worker that answers at once."""
+    path = os.path.join(folder, "stub")
+    if not shutil.which("cc"):
+        print("cc is missing: the workers are a stub in python3, which costs some 30 microseconds more", flush=True)
+        return [sys.executable, "-c", SLOW_STUB % {"reply": REPLY}]
+    with open(path + ".c", "w") as source:
+        source.write(STUB % {"reply": REPLY})
+    kdc.run(["cc", "-O2", "-o", path, path + ".c"])
+    return [path]
+
+
+@contextlib.contextmanager
+def listening(folder, command):
+    """krb_listen before this command: its process and its port. Its log is in the folder."""
+    port, log = kdc.free_port(), os.path.join(folder, "log")
+    with open(log, "w") as errors:
+        words = [f"{TOP}/examples/krb_listen", "--listen", f"{HOST}:{port}", "--workers", str(WORKERS), "--", *command]
+        process = subprocess.Popen(words, stderr=errors)
+    try:
+        time.sleep(1)
+        yield process.pid, port
+    finally:
+        process.terminate()
+        status = process.wait()
+    assert status == 0, f"krb_listen ended with status {status}: {open(log).read()[-300:]}"
+
+
+def used(process):
+    """Seconds of processor of a process and of its children."""
+    with open(f"/proc/{process}/task/{process}/children") as it:
+        return sum(sum(kdc.processor_seconds(number)) for number in [process, *map(int, it.read().split())])
+
+
+def request():
+    with open(RECORDED, "rb") as it:
+        return it.read()[4:]
+
+
+def reply_of(stream):
+    """The next reply of a connection, or nothing where it is closed."""
+    got, end = b"", 4
+    while len(got) < end:
+        more = stream.recv(65536)
+        if not more:
+            return b""
+        got += more
+        end = 4 + int.from_bytes(got[:4], "big") if len(got) >= 4 else 4
+    return got[4:]
+
+
+def over_tcp(port, asked, source=HOST, seconds=10):
+    with socket.create_connection((HOST, port), seconds, (source, 0)) as stream:
+        stream.sendall(kdc.framed(asked))
+        return reply_of(stream)
+
+
+def asking_udp(port, seconds=10):
+    datagrams = socket.socket(socket.AF_INET, socket.SOCK_DGRAM)
+    datagrams.settimeout(seconds)
+    datagrams.connect((HOST, port))
+
+    def ask(asked):
+        datagrams.send(asked)
+        return datagrams.recv(65536)
+
+    return ask
+
+
+def measure(name, process, requests, ask):
+    """The microseconds of processor of an exchange, of all processes of the KDC: clients come one after another."""
+    before, began = used(process), time.monotonic()
+    answered = sum(bool(ask(it)) for it in requests)
+    seconds, each = time.monotonic() - began, (used(process) - before) / len(requests) * 1e6
+    assert answered == len(requests), f"{len(requests) - answered} requests had no reply"
+    tell(name, len(requests) / seconds, each)
+    return each
+
+
+def tell(name, pace, each):
+    print(f"{name}: {pace:.0f} exchanges a second, {each:.0f} microseconds of processor each, all processes counted", flush=True)
+
+
+def stock_costs(folder):
+    """MIT's krb5kdc on this machine: a preauthenticated AS exchange over UDP and TCP."""
+    port, keytab = kdc.free_port(), os.path.join(folder, "keytab")
+    kdc.write_keytab(keytab, kdc.configure(folder, 1))
+    process = kdc.start_stock(folder, port, 10)
+    requests = kdc.numbered(kdc.request_of_kinit(folder, port, keytab), sum(EXCHANGES.values()))
+    udp = measure("krb5kdc, UDP", process, requests[: EXCHANGES["UDP"]], asking_udp(port))
+    tcp = measure("krb5kdc, TCP", process, requests[EXCHANGES["UDP"] :], lambda it: over_tcp(port, it))
+    return udp, tcp
+
+
+def cost(folder, command):
+    asked = request()
+    with listening(folder, command) as (process, port):
+        udp = measure("krb_listen, UDP", process, [asked] * EXCHANGES["UDP"], asking_udp(port))
+        tcp = measure("krb_listen, TCP", process, [asked] * EXCHANGES["TCP"], lambda it: over_tcp(port, it))
+    if all(map(shutil.which, ("krb5kdc", "kdb5_util", "kadmin.local", "kinit", "ktutil", "socat"))):
+        stock = stock_costs(folder)
+        print(f"in parts of krb5kdc's: UDP {udp / stock[0]:.2f}, TCP {tcp / stock[1]:.2f}. A stub's reply takes no cryptography", flush=True)
+    many(folder, command, asked)
+
+
+def many(folder, command, asked):
+    """Exchanges a second of 16 clients at once, over UDP."""
+    count, clients, script = 3_000, 16, (
+        "import socket, sys\nit = socket.socket(socket.AF_INET, socket.SOCK_DGRAM)\n"
+        "it.settimeout(10)\nit.connect((sys.argv[1], int(sys.argv[2])))\n"
+        "for _ in range(int(sys.argv[3])):\n    it.send(bytes.fromhex(sys.argv[4]))\n    it.recv(65536)\n"
+    )
+    with listening(folder, command) as (process, port):
+        before, began = used(process), time.monotonic()
+        words = [sys.executable, "-c", script, HOST, str(port), str(count), asked.hex()]
+        statuses = [it.wait() for it in [subprocess.Popen(words) for _ in range(clients)]]
+        seconds, each = time.monotonic() - began, (used(process) - before) / count / clients * 1e6
+        assert not any(statuses), "a client had no reply"
+    tell(f"krb_listen, UDP, {clients} clients at once", count * clients / seconds, each)
+
+
+# Hostile clients
+
+CONNECTIONS, SECONDS, SILENT, GARBAGE = 10_000, 2, 500, 100
+PATIENCE = 3  # seconds of an honest client: a lost SYN is sent again after one
+BROKEN = (
+    lambda chance: kdc.framed(chance.randbytes(chance.randrange(1, 2000))),
+    lambda chance: kdc.framed(bytes(300))[: chance.randrange(1, 300)],
+    lambda chance: chance.randrange(65_537, 1 << 32).to_bytes(4, "big") + chance.randbytes(9),
+    lambda chance: bytes(4),
+)
+
+
+def sources(net, count):
+    return [f"127.{net}.{number // 250}.{number % 250 + 1}" for number in range(count)]
+
+
+def connecting(port, source):
+    it = socket.socket()
+    it.setblocking(False)
+    it.bind((source, 0))
+    it.connect_ex((HOST, port))
+    return it
+
+
+def flood(port, asked, net, count, told):
+    """So many connections at even pace, of 50 sources, with a request each: sends how many were answered, and in how long they began."""
+    watched, begin, own, answered = selectors.DefaultSelector(), time.monotonic(), sources(net, 50), 0
+    begun, took = 0, 0.0
+    while begun < count or watched.get_map() and time.monotonic() < begin + 15:
+        while begun < count and time.monotonic() >= begin + begun * SECONDS / count:
+            watched.register(connecting(port, own[begun % 50]), selectors.EVENT_WRITE)
+            begun, took = begun + 1, time.monotonic() - begin
+        for key, event in watched.select(0.001):
+            try:
+                if event == selectors.EVENT_WRITE:
+                    key.fileobj.send(kdc.framed(asked))
+                    watched.modify(key.fileobj, selectors.EVENT_READ)
+                    continue
+                answered += len(key.fileobj.recv(65536)) > 4
+            except OSError:
+                pass
+            watched.unregister(key.fileobj)
+            key.fileobj.close()
+    told.send((answered, took))
+
+
+def break_frames(port, over):
+    """Garbage in frames and as datagrams, a hundred a second, of 50 sources."""
+    chance, own, held, datagrams = random.Random(1), sources(9, 50), collections.deque(), socket.socket(socket.AF_INET, socket.SOCK_DGRAM)
+    for number in itertools.count():
+        if over.wait(1 / GARBAGE):
+            return
+        octets = BROKEN[number % len(BROKEN)](chance)
+        datagrams.sendto(octets, (HOST, port))
+        with contextlib.suppress(OSError):
+            held.append(socket.create_connection((HOST, port), 1, (own[number % 50], 0)))
+            held[-1].sendall(octets)
+        if len(held) > 200:
+            held.popleft().close()
+
+
+def ask_honestly(ask, asked, over, seconds):
+    """Asks each 20 milliseconds; keeps the seconds of each answer, or None where there was none in time."""
+    while not over.wait(0.02):
+        began = time.monotonic()
+        try:
+            seconds.append(time.monotonic() - began if ask(asked) else None)
+        except OSError:
+            seconds.append(None)
+
+
+def play_hostile(folder, command):
+    asked, over, honest = request(), threading.Event(), {"UDP": [], "TCP": []}
+    with listening(folder, command) as (process, port):
+        silent = [connecting(port, it) for it in sources(8, 40) * 13][:SILENT]
+        ways = {"UDP": asking_udp(port, PATIENCE), "TCP": lambda it: over_tcp(port, it, seconds=PATIENCE)}
+        threads = [threading.Thread(target=ask_honestly, args=(ways[it], asked, over, honest[it])) for it in ways]
+        threads.append(threading.Thread(target=break_frames, args=(port, over)))
+        for it in threads:
+            it.start()
+        time.sleep(1)
+        pipes, before = [multiprocessing.Pipe() for _ in range(4)], used(process)
+        each = CONNECTIONS // len(pipes)
+        floods = [multiprocessing.Process(target=flood, args=(port, asked, net, each, it[1])) for net, it in enumerate(pipes, 1)]
+        for it in floods:
+            it.start()
+        told = [it[0].recv() for it in pipes]
+        spent = used(process) - before
+        time.sleep(11 - SECONDS)  # the silent ones are closed in this time
+        over.set()
+        for it in threads + floods:
+            it.join()
+        left = sum(is_open(it) for it in silent)
+    say_hostile(told, spent, honest, left, os.path.join(folder, "log"))
+
+
+def is_open(stream):
+    try:
+        return stream.recv(1) != b""
+    except BlockingIOError:
+        return True
+    except OSError:
+        return False
+
+
+def say_hostile(told, spent, honest, left, log):
+    answered, took = sum(it[0] for it in told), max(it[1] for it in told)
+    print(f"{CONNECTIONS} connections in {took:.1f} seconds: {answered} answered; {spent:.1f} seconds of processor in all", flush=True)
+    print(f"{SILENT} silent ones: {left} open after 10 seconds. {GARBAGE} broken frames a second over TCP, and as many datagrams")
+    for name, seconds in honest.items():
+        good = [it for it in seconds if it is not None]
+        print(f"honest client over {name}: {len(good)} of {len(seconds)} answered at the first try, "
+              f"median {statistics.median(good) * 1e3:.1f} milliseconds, longest {max(good) * 1e3:.0f}")
+    with open(log) as it:
+        print("".join(line for line in it if line.startswith("krb_listen: ") and " closed " in line or "dropped" in line), end="")
+    assert all(None not in it for it in honest.values()), "an honest client wasn't answered"
+    assert not left, "a silent connection is open"
+
+
+def main(what, *command):
+    with tempfile.TemporaryDirectory() as folder:
+        try:
+            command = command or stub(folder)
+            if what in ("cost", "all"):
+                cost(folder, command)
+            if what in ("flood", "all"):
+                play_hostile(folder, command)
+        finally:
+            while kdc.HELD:
+                kdc.HELD[-1].terminate()
+                kdc.HELD.pop().wait()
+
+
+if __name__ == "__main__":
+    main(*(sys.argv[1:] or ["all"]))
