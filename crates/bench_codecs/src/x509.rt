@@ -9,14 +9,15 @@ pub(crate) fn run(alloc: Global, words: &[String]) -> anyhow::Result<String> {
     let [task, kind, text, times] = words else {
         bail!("usage: x509 read|write name|extensions HEXADECIMAL TIMES");
     };
-    let bytes = hex::decode(alloc, text.as_str())?;
     let times = times.parse::<u32>()?;
+    let bytes = hex::decode(alloc, text.as_str())?;
     let count = match kind.as_str() {
-        "name" => turn::<Name>(alloc, task.as_str(), &bytes, times)?,
-        "extensions" => turn::<Extensions>(alloc, task.as_str(), &bytes, times)?,
+        "name" => turn::<Name>(alloc, task.as_str(), &bytes, times),
+        "extensions" => turn::<Extensions>(alloc, task.as_str(), &bytes, times),
         _ => bail!("no such part: {kind}"),
     };
-    Ok(format!(in alloc; "{count}")?)
+    drop(bytes);
+    Ok(format!(in alloc; "{}", count?)?)
 }
 
 /// How many bytes each turn took.

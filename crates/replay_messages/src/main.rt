@@ -14,7 +14,7 @@ mod tokens;
 
 use anyhow::bail;
 use std::alloc::Global;
-use test_support::{Lines, Recorded, recorded_of, replay};
+use test_support::{Answer, Lines, Recorded, recorded_of, replay};
 
 /// Messages, and what they hold.
 struct Messages;
@@ -23,20 +23,51 @@ impl Lines for Messages {
     const NAME: &'static str = "messages";
 
     fn agrees(&self, alloc: Global, line: &str) -> anyhow::Result<bool> {
-        let recorded = recorded_of(alloc, line)?;
-        agrees(alloc, &recorded)
+        agrees(alloc, line)
+    }
+}
+
+/// Tokens and credentials.
+struct TokensAndCredentials;
+
+impl Lines for TokensAndCredentials {
+    const NAME: &'static str = "tokens";
+
+    fn agrees(&self, alloc: Global, line: &str) -> anyhow::Result<bool> {
+        agrees(alloc, line)
     }
 }
 
 fn main(rt: HostRuntime) -> anyhow::Result<()> {
-    replay(&rt, &Messages, "openssl.txt")?;
-    replay(&rt, &Messages, "clients.txt")?;
-    replay(&rt, &Messages, "odd.txt")?;
-    tokens::replay_tokens(&rt)
+    for file in &["openssl.txt", "clients.txt", "odd.txt"] {
+        replay(&rt, &Messages, file)?;
+    }
+    replay_tokens(&rt)?;
+    replay(&rt, &Messages, "pkinit.txt")?;
+    tokens::print_first(&rt, "pkinit.txt")
 }
 
-/// Whether a message is read as expected, and written back.
-fn agrees(alloc: Global, recorded: &Recorded<'_>) -> anyhow::Result<bool> {
+fn replay_tokens(rt: &HostRuntime) -> anyhow::Result<()> {
+    for file in &["tokens.txt", "published_tokens.txt", "odd_tokens.txt"] {
+        replay(rt, &TokensAndCredentials, file)?;
+    }
+    Ok(())
+}
+
+/// Whether what a line tells of is read as expected, and written back.
+fn agrees(alloc: Global, line: &str) -> anyhow::Result<bool> {
+    let recorded = recorded_of(alloc, line)?;
+    answered(recorded.type_name, answer_of(alloc, &recorded))
+}
+
+fn answered(type_name: &str, answer: Option<Answer>) -> anyhow::Result<bool> {
+    match answer {
+        Some(answer) => Ok(answer?),
+        None => bail!("no type {type_name}"),
+    }
+}
+
+fn answer_of(alloc: Global, recorded: &Recorded<'_>) -> Option<Answer> {
     let answers = [
         names::agrees(alloc, recorded),
         sealed::agrees(alloc, recorded),
@@ -46,9 +77,7 @@ fn agrees(alloc: Global, recorded: &Recorded<'_>) -> anyhow::Result<bool> {
         private::agrees(alloc, recorded),
         credentials::agrees(alloc, recorded),
         odd::agrees(alloc, recorded),
+        tokens::agrees(alloc, recorded),
     ];
-    let Some(answer) = answers.iter().flatten().next() else {
-        bail!("no type {}", recorded.type_name);
-    };
-    Ok((*answer)?)
+    answers.iter().flatten().next().copied()
 }

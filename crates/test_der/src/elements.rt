@@ -28,13 +28,16 @@ fn split(rt: HostRuntime) {
 // A length in more octets than it needs (X.690, section 10.1), a tag of several octets, and fronts of elements.
 #[test]
 fn not_split(rt: HostRuntime) {
-    let invalid = Some(Asn1DerError::InvalidData);
-    assert!(rt; split_fault(&[0x30, 0x81, 3, 2, 1, 7]) == invalid);
-    assert!(rt; split_fault(&[0x1F, 0x21, 0]) == invalid);
-    assert!(rt; split_fault(&[0x30, 0x80, 0, 0]) == invalid);
-    let truncated = Some(Asn1DerError::TruncatedData);
-    assert!(rt; split_fault(&[0x30, 3, 2, 1]) == truncated);
-    assert!(rt; split_fault(&[]) == truncated);
+    let rows: &[(&[u8], Asn1DerError)] = &[
+        (&[0x30, 0x81, 3, 2, 1, 7], Asn1DerError::InvalidData),
+        (&[0x1F, 0x21, 0], Asn1DerError::InvalidData),
+        (&[0x30, 0x80, 0, 0], Asn1DerError::InvalidData),
+        (&[0x30, 3, 2, 1], Asn1DerError::TruncatedData),
+        (&[], Asn1DerError::TruncatedData),
+    ];
+    for (bytes, fault) in rows {
+        assert!(rt; split_fault(bytes) == Some(*fault), "at {bytes:?}");
+    }
 }
 
 const RAW: &[u8] = &[0xA0, 3, 2, 1, 7];
@@ -71,8 +74,6 @@ fn raw(rt: HostRuntime) {
 #[test]
 fn tags(rt: HostRuntime) {
     let tag = Tag::from(0xA3);
-    assert!(rt; tag.class() == TagClass::ContextSpecific);
-    assert!(rt; tag.is_constructed());
-    assert!(rt; tag.number() == 3);
-    assert!(rt; u8::from(Tag::OID) == 6);
+    assert!(rt; tag.class() == TagClass::ContextSpecific && tag.is_constructed());
+    assert!(rt; tag.number() == 3 && u8::from(Tag::OID) == 6);
 }

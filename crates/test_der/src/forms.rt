@@ -12,7 +12,7 @@ use std::alloc::Global;
 
 #[test]
 fn integers(rt: HostRuntime) {
-    let cases: [(u32, &[u8]); 5] = [
+    let cases: &[(u32, &[u8])] = &[
         (0, &[2, 1, 0]),
         (127, &[2, 1, 0x7F]),
         (128, &[2, 2, 0, 0x80]),
@@ -20,13 +20,13 @@ fn integers(rt: HostRuntime) {
         (u32::MAX, &[2, 5, 0, 0xFF, 0xFF, 0xFF, 0xFF]),
     ];
     for (number, bytes) in cases {
-        assert!(rt; is_spelled(rt.alloc(), &number, bytes), "at {number}");
+        assert!(rt; is_spelled(rt.alloc(), number, bytes), "at {number}");
     }
 }
 
 #[test]
 fn refused_integers(rt: HostRuntime) {
-    let cases: [(&[u8], Asn1DerError); 5] = [
+    let cases: &[(&[u8], Asn1DerError)] = &[
         (&[2, 0], Asn1DerError::TruncatedData),
         (&[2, 1, 0x80], Asn1DerError::UnsupportedValue),
         (&[2, 2, 0, 0x7F], Asn1DerError::InvalidData),
@@ -35,7 +35,7 @@ fn refused_integers(rt: HostRuntime) {
     ];
     for (bytes, fault) in cases {
         let refused = front_fault_of::<u32>(rt.alloc(), bytes);
-        assert!(rt; refused == Some(fault), "at {bytes:?}");
+        assert!(rt; refused == Some(*fault), "at {bytes:?}");
     }
 }
 
@@ -113,11 +113,16 @@ fn chosen(alloc: Global, bytes: &[u8]) -> Option<u32> {
 
 #[test]
 fn choices(rt: HostRuntime) {
-    assert!(rt; chosen(rt.alloc(), &[2, 1, 7]) == Some(7));
-    assert!(rt; chosen(rt.alloc(), &[0xA0, 3, 2, 1, 8]) == Some(8));
-    assert!(rt; chosen(rt.alloc(), &SHORT_SAMPLE) == Some(1));
-    assert!(rt; chosen(rt.alloc(), &[4, 1, 7]).is_none());
-    assert!(rt; chosen(rt.alloc(), &[]).is_none());
+    let cases: &[(&[u8], Option<u32>)] = &[
+        (&[2, 1, 7], Some(7)),
+        (&[0xA0, 3, 2, 1, 8], Some(8)),
+        (&SHORT_SAMPLE, Some(1)),
+        (&[4, 1, 7], None),
+        (&[], None),
+    ];
+    for (bytes, number) in cases {
+        assert!(rt; chosen(rt.alloc(), bytes) == *number, "at {bytes:?}");
+    }
 }
 
 #[test]
@@ -177,7 +182,7 @@ fn lists(rt: HostRuntime) {
 // More length octets than the length needs (X.690, section 10.1), and an indefinite length.
 #[test]
 fn refused_lengths(rt: HostRuntime) {
-    let cases: [&[u8]; 4] = [
+    let cases: &[&[u8]] = &[
         &[2, 0x81, 1, 5],
         &[2, 0x82, 0, 1, 5],
         &[0xA3, 0x81, 3, 2, 1, 5],

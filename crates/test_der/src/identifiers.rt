@@ -1,5 +1,5 @@
 //! Object identifiers, strings and UTC times. The bytes are those of X.690, RFC 8017, and of `openssl asn1parse -genstr`.
-use crate::spelling::{fault_of, is_spelled, is_written};
+use crate::spelling::{fault_of, is_made, is_own_copy, is_spelled, is_written};
 use picky_asn1::LeafFault;
 use picky_asn1::date::{GeneralizedTime, UTCTime};
 use picky_asn1::oid::ObjectIdentifier;
@@ -34,7 +34,7 @@ fn is_text_read(alloc: Global, text: &str, bytes: &[u8]) -> bool {
 // rsaEncryption (RFC 8017, appendix C), and the example of X.690, section 8.19.5.
 #[test]
 fn object_identifiers(rt: HostRuntime) {
-    let cases: [(&str, &[u8]); 2] = [
+    let cases: &[(&str, &[u8])] = &[
         (
             "1.2.840.113549.1.1.1",
             b"\x06\x09\x2A\x86\x48\x86\xF7\x0D\x01\x01\x01",
@@ -62,12 +62,13 @@ fn is_no_oid(alloc: Global, bytes: &[u8]) -> bool {
 // section 8.19.2).
 #[test]
 fn no_object_identifiers(rt: HostRuntime) {
-    for text in ["", "1", "1.40", "3.1", "1.2.", "1.02", "1.+2"] {
+    for text in &["", "1", "1.40", "3.1", "1.2.", "1.02", "1.+2"] {
         assert!(rt; is_no_text(rt.alloc(), text), "at {text}");
     }
-    assert!(rt; is_no_oid(rt.alloc(), &[6, 0]));
-    assert!(rt; is_no_oid(rt.alloc(), &[6, 1, 0x81]));
-    assert!(rt; is_no_oid(rt.alloc(), &[6, 2, 0x80, 1]));
+    let alloc = rt.alloc();
+    assert!(rt; is_no_oid(alloc, &[6, 0]));
+    assert!(rt; is_no_oid(alloc, &[6, 1, 0x81]));
+    assert!(rt; is_no_oid(alloc, &[6, 2, 0x80, 1]));
 }
 
 fn is_utf8(alloc: Global, content: &[u8], text: &str, bytes: &[u8]) -> bool {
@@ -77,42 +78,23 @@ fn is_utf8(alloc: Global, content: &[u8], text: &str, bytes: &[u8]) -> bool {
     }
 }
 
-fn is_printable(alloc: Global, content: &[u8], bytes: &[u8]) -> bool {
-    match PrintableStringAsn1::new(alloc, content) {
-        Ok(made) => is_written(alloc, &made, bytes),
-        Err(_) => false,
-    }
-}
-
-fn is_ia5(alloc: Global, content: &[u8], bytes: &[u8]) -> bool {
-    match IA5StringAsn1::new(alloc, content) {
-        Ok(made) => is_written(alloc, &made, bytes),
-        Err(_) => false,
-    }
-}
-
-fn is_wide(alloc: Global, content: &[u8], bytes: &[u8]) -> bool {
-    match BmpStringAsn1::new(alloc, content) {
-        Ok(made) => is_written(alloc, &made, bytes),
-        Err(_) => false,
-    }
-}
-
 #[test]
 fn texts(rt: HostRuntime) {
-    assert!(rt; is_utf8(rt.alloc(), b"\xC3\xA9", "\u{e9}", b"\x0C\x02\xC3\xA9"));
-    assert!(rt; is_printable(rt.alloc(), b"US", b"\x13\x02US"));
-    assert!(rt; is_ia5(rt.alloc(), b"a@b", b"\x16\x03a@b"));
-    assert!(rt; is_wide(rt.alloc(), b"\0A", b"\x1E\x02\0A"));
+    let alloc = rt.alloc();
+    assert!(rt; is_utf8(alloc, b"\xC3\xA9", "\u{e9}", b"\x0C\x02\xC3\xA9"));
+    assert!(rt; is_made(alloc, PrintableStringAsn1::new(alloc, b"US"), b"\x13\x02US"));
+    assert!(rt; is_made(alloc, IA5StringAsn1::new(alloc, b"a@b"), b"\x16\x03a@b"));
+    assert!(rt; is_made(alloc, BmpStringAsn1::new(alloc, b"\0A"), b"\x1E\x02\0A"));
 }
 
 // An at sign is not printable, C3 alone is no UTF-8, and half a character no BMPString.
 #[test]
 fn no_texts(rt: HostRuntime) {
-    assert!(rt; PrintableStringAsn1::new(rt.alloc(), b"a@b").is_err());
-    assert!(rt; Utf8StringAsn1::new(rt.alloc(), &[0xC3]).is_err());
-    assert!(rt; IA5StringAsn1::new(rt.alloc(), &[0x80]).is_err());
-    assert!(rt; BmpStringAsn1::new(rt.alloc(), &[0]).is_err());
+    let alloc = rt.alloc();
+    assert!(rt; PrintableStringAsn1::new(alloc, b"a@b").is_err());
+    assert!(rt; Utf8StringAsn1::new(alloc, &[0xC3]).is_err());
+    assert!(rt; IA5StringAsn1::new(alloc, &[0x80]).is_err());
+    assert!(rt; BmpStringAsn1::new(alloc, &[0]).is_err());
 }
 
 fn is_utc_text(text: &[u8], year: u16) -> bool {
@@ -168,13 +150,6 @@ fn is_set(alloc: Global, bytes: &[u8], numbers: &[u32]) -> bool {
         Ok(read) => {
             read.as_slice() == numbers && is_written(alloc, &read, bytes) && is_own_copy(&read)
         }
-        Err(_) => false,
-    }
-}
-
-fn is_own_copy(numbers: &Asn1SetOf<u32>) -> bool {
-    match numbers.clone() {
-        Ok(copy) => copy == *numbers,
         Err(_) => false,
     }
 }

@@ -1,5 +1,6 @@
 //! Lengths, integers, bit strings, strings and times: the examples of X.690, and worked values.
 
+use crate::spelling::is_own_copy;
 use asn1_der::{LengthOctets, following, length_of};
 use picky_asn1::LeafFault;
 use picky_asn1::date::GeneralizedTime;
@@ -15,10 +16,8 @@ fn is_length(length: usize, octets: &[u8]) -> bool {
 // X.690, sections 8.1.3.4 and 8.1.3.5.
 #[test]
 fn lengths(rt: HostRuntime) {
-    assert!(rt; is_length(38, &[0x26]));
-    assert!(rt; is_length(201, &[0x81, 0xC9]));
-    assert!(rt; following(0x26) == Some(0));
-    assert!(rt; following(0x81) == Some(1));
+    assert!(rt; is_length(38, &[0x26]) && is_length(201, &[0x81, 0xC9]));
+    assert!(rt; [following(0x26), following(0x81)] == [Some(0), Some(1)]);
 }
 
 // One octet would do for 38, and 80 begins the indefinite form (X.690, sections 8.1.3.6 and 10.1).
@@ -42,13 +41,18 @@ fn is_integer(alloc: Global, octets: &[u8], value: Option<i64>) -> Option<bool> 
 // The last one has more than 64 bits with its sign.
 #[test]
 fn integers(rt: HostRuntime) {
-    let alloc = rt.alloc();
-    assert!(rt; is_integer(alloc, &[0x00, 0x80], Some(128)) == Some(true));
-    assert!(rt; is_integer(alloc, &[0xFF], Some(-1)) == Some(true));
-    let least = [0x80, 0, 0, 0, 0, 0, 0, 0];
-    assert!(rt; is_integer(alloc, &least, Some(i64::MIN)) == Some(true));
-    let large = [0, 0xFF, 0xFF, 0xFF, 0xFF, 0xFF, 0xFF, 0xFF, 0xFF];
-    assert!(rt; is_integer(alloc, &large, None) == Some(true));
+    let cases: &[(&[u8], Option<i64>)] = &[
+        (&[0x00, 0x80], Some(128)),
+        (&[0xFF], Some(-1)),
+        (&[0x80, 0, 0, 0, 0, 0, 0, 0], Some(i64::MIN)),
+        (b"\0\xFF\xFF\xFF\xFF\xFF\xFF\xFF\xFF", None),
+    ];
+    for (octets, value) in cases {
+        assert!(rt;
+            is_integer(rt.alloc(), octets, *value) == Some(true),
+            "at {octets:?}"
+        );
+    }
 }
 
 fn is_no_integer(alloc: Global, octets: &[u8]) -> bool {
@@ -61,34 +65,36 @@ fn is_no_integer(alloc: Global, octets: &[u8]) -> bool {
 // More octets than the number needs, or none (X.690, sections 8.3.1 and 8.3.2).
 #[test]
 fn no_integers(rt: HostRuntime) {
-    assert!(rt; is_no_integer(rt.alloc(), &[0x00, 0x7F]));
-    assert!(rt; is_no_integer(rt.alloc(), &[0xFF, 0x80]));
-    assert!(rt; is_no_integer(rt.alloc(), &[]));
-}
-
-fn is_signed(made: Option<IntegerAsn1>, octets: &[u8]) -> bool {
-    match made {
-        Some(integer) => integer.as_signed_bytes_be() == octets,
-        None => false,
+    let cases: &[&[u8]] = &[&[0x00, 0x7F], &[0xFF, 0x80], &[]];
+    for octets in cases {
+        assert!(rt; is_no_integer(rt.alloc(), octets), "at {octets:?}");
     }
 }
 
-fn is_copied(integer: Option<IntegerAsn1>) -> Option<bool> {
-    let integer = integer?;
-    let copy = integer.clone().ok()?;
-    Some(copy == integer)
+fn is_signed<E: Drop>(made: Result<IntegerAsn1, E>, octets: &[u8]) -> bool {
+    match made {
+        Ok(integer) => integer.as_signed_bytes_be() == octets && is_own_copy(&integer),
+        Err(_) => false,
+    }
 }
 
 #[test]
 fn made_integers(rt: HostRuntime) {
     let alloc = rt.alloc();
-    let signed = IntegerAsn1::from_bytes_be_signed(alloc, &[0x00, 0x00, 0x80]).ok();
-    assert!(rt; is_signed(signed, &[0x00, 0x80]));
-    let unsigned = IntegerAsn1::from_bytes_be_unsigned(alloc, &[0x80]).ok();
-    assert!(rt; is_signed(unsigned, &[0x00, 0x80]));
-    assert!(rt; is_copied(read(alloc, &[0x00, 0x80])) == Some(true));
-    assert!(rt; is_signed(IntegerAsn1::from_u64(alloc, 128).ok(), &[0x00, 0x80]));
-    assert!(rt; is_signed(IntegerAsn1::default(alloc).ok(), &[0]));
+    assert!(rt;
+        is_signed(
+            IntegerAsn1::from_bytes_be_signed(alloc, &[0x00, 0x00, 0x80]),
+            &[0x00, 0x80],
+        )
+    );
+    assert!(rt;
+        is_signed(
+            IntegerAsn1::from_bytes_be_unsigned(alloc, &[0x80]),
+            &[0x00, 0x80],
+        )
+    );
+    assert!(rt; is_signed(IntegerAsn1::from_u64(alloc, 128), &[0x00, 0x80]));
+    assert!(rt; is_signed(IntegerAsn1::default(alloc), &[0]));
 }
 
 // The flags 9 and 10 of 32.
@@ -106,16 +112,9 @@ fn is_set(flags: &mut BitStringAsn1) -> bool {
         && flags.as_bytes() == [0x40, 0x60, 0x00, 0x00].as_slice()
 }
 
-fn is_same(flags: &BitStringAsn1) -> bool {
-    match flags.clone() {
-        Ok(copy) => copy == *flags,
-        Err(_) => false,
-    }
-}
-
 fn are_flags(alloc: Global) -> Option<bool> {
     let mut flags = two_flags(alloc)?;
-    Some(are_bits(&flags) && is_set(&mut flags) && is_same(&flags))
+    Some(are_bits(&flags) && is_set(&mut flags) && is_own_copy(&flags))
 }
 
 // RFC 4120, section 5.2.8: bit 0 is the highest of the first octet.
@@ -136,8 +135,7 @@ fn unused_bits(rt: HostRuntime) {
 
 fn is_name(alloc: Global, bytes: &[u8]) -> Option<bool> {
     let name = GeneralStringAsn1::new(alloc, bytes).ok()?;
-    let copy = name.clone().ok()?;
-    Some(name.as_bytes() == bytes && copy == name)
+    Some(name.as_bytes() == bytes && is_own_copy(&name))
 }
 
 fn is_read(alloc: Global, content: &[u8]) -> Option<bool> {
@@ -153,8 +151,7 @@ fn strings(rt: HostRuntime) {
 
 fn are_octets(alloc: Global, bytes: &[u8]) -> Option<bool> {
     let octets = OctetStringAsn1::new(alloc, bytes).ok()?;
-    let copy = octets.clone().ok()?;
-    let is_copied = copy == octets;
+    let is_copied = is_own_copy(&octets);
     let given: Vec<u8> = octets.into();
     Some(is_copied && OctetStringAsn1::from(given).as_bytes() == bytes)
 }
@@ -180,20 +177,19 @@ fn is_told(time: GeneralizedTime, text: &[u8; 15], seconds: u64) -> bool {
 
 // A leap day of the calendar, and its seconds since the year 0.
 #[test]
-fn leap_day(rt: HostRuntime) -> Result<(), LeafFault> {
+fn leap_day(rt: HostRuntime) {
     let text = b"20000229235958Z";
-    let time = GeneralizedTime::new(2000, 2, 29, 23, 59, 58)?;
+    let time = GeneralizedTime::from_seconds(63_119_087_998);
     assert!(rt; is_date(time) && is_clock(time));
     assert!(rt; is_told(time, text, 63_119_087_998));
     assert!(rt; GeneralizedTime::from_text(text) == Some(time));
-    assert!(rt; GeneralizedTime::from_seconds(63_119_087_998) == time);
-    Ok(())
+    assert!(rt; GeneralizedTime::new(2000, 2, 29, 23, 59, 58) == Ok(time));
 }
 
 #[test]
 fn no_times(rt: HostRuntime) {
     let refused = GeneralizedTime::new(2001, 2, 29, 0, 0, 0);
     assert!(rt; refused == Err(LeafFault::Time));
-    assert!(rt; GeneralizedTime::from_text(b"20000230000000Z").is_none());
-    assert!(rt; GeneralizedTime::from_text(b"2000022923595:Z").is_none());
+    let day = GeneralizedTime::from_text(b"20000230000000Z");
+    assert!(rt; day.is_none() && GeneralizedTime::from_text(b"2000022923595:Z").is_none());
 }

@@ -9,8 +9,8 @@ fn written_lengths(rt: HostRuntime) {
     assert!(rt; Length::serialize(290, &mut space) == Ok(3));
     assert!(rt; space.write_one(9) == Ok(1));
     assert!(rt; space.write_one(9) == Err(Asn1DerError::InvalidSink));
-    assert!(rt; out.as_slice() == [0x82, 1, 0x22, 9].as_slice());
     assert!(rt; Length::encoded_len(127) == 1 && Length::encoded_len(290) == 3);
+    assert!(rt; out.as_slice() == [0x82, 1, 0x22, 9].as_slice());
 }
 
 fn length_fault(mut bytes: &[u8]) -> Option<Asn1DerError> {
@@ -20,22 +20,28 @@ fn length_fault(mut bytes: &[u8]) -> Option<Asn1DerError> {
 #[test]
 fn read_lengths(rt: HostRuntime) {
     let mut from: &[u8] = &[0x82, 1, 0x22, 7];
-    assert!(rt; Length::deserialized(&mut from) == Ok(290));
-    assert!(rt; from.read_one() == Ok(7));
-    assert!(rt; from.read_one() == Err(Asn1DerError::TruncatedData));
-    assert!(rt; length_fault(&[0x82, 1]) == Some(Asn1DerError::TruncatedData));
-    assert!(rt; length_fault(&[0x82, 0]) == Some(Asn1DerError::InvalidData));
-    assert!(rt; length_fault(&[0x80]) == Some(Asn1DerError::InvalidData));
+    let rows = [
+        Length::deserialized(&mut from) == Ok(290),
+        from.read_one() == Ok(7),
+        from.read_one() == Err(Asn1DerError::TruncatedData),
+        length_fault(&[0x82, 1]) == Some(Asn1DerError::TruncatedData),
+        length_fault(&[0x82, 0]) == Some(Asn1DerError::InvalidData),
+        length_fault(&[0x80]) == Some(Asn1DerError::InvalidData),
+    ];
+    assert!(rt; rows == [true; 6], "{rows:?}");
 }
 
 #[test]
 fn contents(rt: HostRuntime) {
-    assert!(rt; Boolean::deserialize(&[0xFF]) == Ok(true));
-    assert!(rt; Boolean::deserialize(&[]) == Err(Asn1DerError::TruncatedData));
-    assert!(rt; Boolean::deserialize(&[1]) == Err(Asn1DerError::InvalidData));
-    assert!(rt; Null::deserialize(&[]) == Ok(()));
-    assert!(rt; Utf8String::deserialize(&[0x41]) == Ok("A"));
-    assert!(rt; Utf8String::deserialize(&[0xFF]) == Err(Asn1DerError::InvalidData));
+    let rows = [
+        Boolean::deserialize(&[0xFF]) == Ok(true),
+        Boolean::deserialize(&[]) == Err(Asn1DerError::TruncatedData),
+        Boolean::deserialize(&[1]) == Err(Asn1DerError::InvalidData),
+        Null::deserialize(&[]) == Ok(()),
+        Utf8String::deserialize(&[0x41]) == Ok("A"),
+        Utf8String::deserialize(&[0xFF]) == Err(Asn1DerError::InvalidData),
+    ];
+    assert!(rt; rows == [true; 6], "{rows:?}");
 }
 
 fn number_of(content: &[u8]) -> Result<u16, Asn1DerError> {
@@ -65,12 +71,15 @@ fn written_in_turn(rt: HostRuntime) {
 #[test]
 fn read_in_turn(rt: HostRuntime) {
     let mut from = Deserializer::new_from_bytes(rt.alloc(), &[2, 2, 1, 0x2C, 0x0C, 1, 0x41, 5, 0]);
-    assert!(rt; from.deserialize_identifier() == Ok(2));
-    assert!(rt; from.deserialize_u16() == Ok(300));
-    assert!(rt; from.deserialize_ignored_any() == Ok(()));
-    assert!(rt; from.deserialize_unit() == Ok(()));
-    assert!(rt; from.deserialize_i8() == Err(Asn1DerError::UnsupportedType));
-    assert!(rt; from.deserialize_unit() == Err(Asn1DerError::InvalidData));
+    let rows = [
+        from.deserialize_identifier() == Ok(2),
+        from.deserialize_u16() == Ok(300),
+        from.deserialize_ignored_any() == Ok(()),
+        from.deserialize_unit() == Ok(()),
+        from.deserialize_i8() == Err(Asn1DerError::UnsupportedType),
+        from.deserialize_unit() == Err(Asn1DerError::InvalidData),
+    ];
+    assert!(rt; rows == [true; 6], "{rows:?}");
 }
 
 #[test]

@@ -46,3 +46,23 @@ pub(crate) fn front_fault_of<T: Deserialize + Drop>(
 ) -> Option<Asn1DerError> {
     from_bytes::<T>(alloc, bytes).err()
 }
+
+// Whether a value was made, and is written as these bytes.
+pub(crate) fn is_made<T: Serialize + Drop, E: Drop>(
+    alloc: Global,
+    made: Result<T, E>,
+    bytes: &[u8],
+) -> bool {
+    match made {
+        Ok(value) => is_written(alloc, &value, bytes),
+        Err(_) => false,
+    }
+}
+
+// Whether a copy of the value is equal to it.
+pub(crate) fn is_own_copy<T: Clone + PartialEq + Drop>(value: &T) -> bool {
+    match value.clone() {
+        Ok(copy) => copy == *value,
+        Err(_) => false,
+    }
+}

@@ -61,10 +61,11 @@ fn fits(alloc: Global, count: u16, limit: usize) -> Option<bool> {
 // An OCTET STRING of 300 bytes takes 304 (X.690, section 8.1.3.5), and one of 10,236 the 10,240 that a reader takes at most.
 #[test]
 fn limits(rt: HostRuntime) {
-    assert!(rt; fits(rt.alloc(), 300, 303) == Some(false));
-    assert!(rt; fits(rt.alloc(), 300, 304) == Some(true));
-    assert!(rt; fits(rt.alloc(), 10_236, 10_240) == Some(true));
-    assert!(rt; fits(rt.alloc(), 10_237, 10_240) == Some(false));
+    let alloc = rt.alloc();
+    assert!(rt; fits(alloc, 300, 303) == Some(false));
+    assert!(rt; fits(alloc, 300, 304) == Some(true));
+    assert!(rt; fits(alloc, 10_236, 10_240) == Some(true));
+    assert!(rt; fits(alloc, 10_237, 10_240) == Some(false));
 }
 
 fn is_dripped(alloc: Global, count: usize, sample: &Sample) -> bool {
@@ -159,13 +160,16 @@ fn failing_devices(rt: HostRuntime) {
 #[test]
 fn what_follows(rt: HostRuntime) {
     let bytes = [2, 1, 5, 2, 1, 7];
-    assert!(rt; from_bytes(rt.alloc(), &bytes) == Ok(5u32));
-    assert!(rt; fault_of::<u32>(rt.alloc(), &bytes) == Some(Asn1DerError::InvalidData));
     let mut from = Deserializer::new_from_bytes(rt.alloc(), &bytes);
-    assert!(rt; u32::deserialize(&mut from) == Ok(5));
-    assert!(rt; u32::deserialize(&mut from) == Ok(7));
-    assert!(rt; u32::deserialize(&mut from) == Err(Asn1DerError::TruncatedData));
-    assert!(rt; u32::deserialize(&mut from) == Err(Asn1DerError::InvalidData));
+    let rows = [
+        from_bytes(rt.alloc(), &bytes) == Ok(5u32),
+        fault_of::<u32>(rt.alloc(), &bytes) == Some(Asn1DerError::InvalidData),
+        u32::deserialize(&mut from) == Ok(5),
+        u32::deserialize(&mut from) == Ok(7),
+        u32::deserialize(&mut from) == Err(Asn1DerError::TruncatedData),
+        u32::deserialize(&mut from) == Err(Asn1DerError::InvalidData),
+    ];
+    assert!(rt; rows == [true; 6], "{rows:?}");
 }
 
 #[test]

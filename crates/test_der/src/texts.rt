@@ -5,7 +5,7 @@ use picky_asn1::LeafFault;
 use picky_asn1::date::{GeneralizedTime, UTCTime};
 use picky_asn1::wrapper::{Asn1SequenceOf, IA5StringAsn1, IntegerAsn1};
 use picky_asn1_der::ExplicitContextTag;
-use std::alloc::{AllocError, Global};
+use std::alloc::Global;
 use std::fmt;
 
 fn is_shown<T: fmt::Display>(alloc: Global, value: &T, text: &str) -> bool {
@@ -15,13 +15,20 @@ fn is_shown<T: fmt::Display>(alloc: Global, value: &T, text: &str) -> bool {
     }
 }
 
+// Whether a value was made, and is shown as this text.
+fn is_told<T: fmt::Display + Drop>(alloc: Global, made: Result<T, LeafFault>, text: &str) -> bool {
+    match made {
+        Ok(value) => is_shown(alloc, &value, text),
+        Err(_) => false,
+    }
+}
+
 #[test]
-fn times(rt: HostRuntime) -> Result<(), LeafFault> {
-    let time = GeneralizedTime::new(2000, 2, 29, 23, 59, 58)?;
-    assert!(rt; is_shown(rt.alloc(), &time, "2000-02-29 23:59:58Z"));
-    let time = UTCTime::new(1950, 1, 2, 3, 4, 5)?;
-    assert!(rt; is_shown(rt.alloc(), &time, "1950-01-02 03:04:05Z"));
-    Ok(())
+fn times(rt: HostRuntime) {
+    let time = GeneralizedTime::new(2000, 2, 29, 23, 59, 58);
+    assert!(rt; is_told(rt.alloc(), time, "2000-02-29 23:59:58Z"));
+    let time = UTCTime::new(1950, 1, 2, 3, 4, 5);
+    assert!(rt; is_told(rt.alloc(), time, "1950-01-02 03:04:05Z"));
 }
 
 fn is_integer(alloc: Global, octets: &[u8], text: &str, unsigned: &[u8]) -> bool {
@@ -35,14 +42,24 @@ fn is_integer(alloc: Global, octets: &[u8], text: &str, unsigned: &[u8]) -> bool
 // The last one needs more than 64 bits with its sign.
 #[test]
 fn integers(rt: HostRuntime) {
-    let alloc = rt.alloc();
-    assert!(rt; is_integer(alloc, &[0], "0", &[0]));
-    assert!(rt; is_integer(alloc, &[0x00, 0x80], "128", &[0x80]));
-    assert!(rt; is_integer(alloc, &[0xFF, 0x7F], "-129", &[0xFF, 0x7F]));
-    let least = [0x80, 0, 0, 0, 0, 0, 0, 0];
-    assert!(rt; is_integer(alloc, &least, "-9223372036854775808", &least));
-    let large = [0, 0xD3, 0, 0, 0, 0, 0, 0, 0x1F];
-    assert!(rt; is_integer(alloc, &large, "0x00D30000000000001F", &large[1..]));
+    let cases: &[(&[u8], &str, &[u8])] = &[
+        (&[0], "0", &[0]),
+        (&[0x00, 0x80], "128", &[0x80]),
+        (&[0xFF, 0x7F], "-129", &[0xFF, 0x7F]),
+        (
+            b"\x80\0\0\0\0\0\0\0",
+            "-9223372036854775808",
+            b"\x80\0\0\0\0\0\0\0",
+        ),
+        (
+            b"\0\xD3\0\0\0\0\0\0\x1F",
+            "0x00D30000000000001F",
+            b"\xD3\0\0\0\0\0\0\x1F",
+        ),
+    ];
+    for (octets, text, unsigned) in cases {
+        assert!(rt; is_integer(rt.alloc(), octets, text, unsigned), "at {text}");
+    }
 }
 
 fn is_ia5(alloc: Global, text: &str) -> bool {
@@ -65,10 +82,8 @@ fn strings(rt: HostRuntime) {
     assert!(rt; is_general(rt.alloc(), "EXAMPLE.COM"));
 }
 
-fn name_of(alloc: Global, first: &[u8], second: &[u8]) -> Result<PrincipalName, LeafFault> {
-    let first = KerberosStringAsn1::new(alloc, first)?;
-    let second = KerberosStringAsn1::new(alloc, second)?;
-    let components = components_of(alloc, first, second)?;
+fn name_of(alloc: Global, components: &[&[u8]]) -> Result<PrincipalName, LeafFault> {
+    let components = components_of(alloc, components)?;
     let name_type = IntegerAsn1::from_u64(alloc, 2)?;
     Ok(PrincipalName {
         name_type: ExplicitContextTag(name_type),
@@ -78,25 +93,34 @@ fn name_of(alloc: Global, first: &[u8], second: &[u8]) -> Result<PrincipalName, 
 
 fn components_of(
     alloc: Global,
-    first: KerberosStringAsn1,
-    second: KerberosStringAsn1,
-) -> Result<Asn1SequenceOf<KerberosStringAsn1>, AllocError> {
+    octets: &[&[u8]],
+) -> Result<Asn1SequenceOf<KerberosStringAsn1>, LeafFault> {
     let mut components = Vec::new(alloc);
-    components.push(first)?;
-    components.push(second)?;
+    for component in octets {
+        let component = KerberosStringAsn1::new(alloc, component)?;
+        if components.push(component).is_err() {
+            return Err(LeafFault::Memory);
+        }
+    }
     Ok(Asn1SequenceOf::from(components))
+}
+
+fn is_placed(alloc: Global) -> Option<bool> {
+    let realm = KerberosStringAsn1::new(alloc, b"EXAMPLE.COM").ok()?;
+    let name = name_of(alloc, &[b"host", b"www.example.com"]).ok()?;
+    Some(is_shown(
+        alloc,
+        &name.with_realm(&realm),
+        "host/www.example.com@EXAMPLE.COM",
+    ))
 }
 
 // RFC 1964, section 2.1.3: a backslash in front of the separators and of itself, and letters for control characters.
 #[test]
-fn names(rt: HostRuntime) -> Result<(), LeafFault> {
-    let alloc = rt.alloc();
-    let realm = KerberosStringAsn1::new(alloc, b"EXAMPLE.COM")?;
-    let plain = name_of(alloc, b"host", b"www.example.com")?;
-    assert!(rt; is_shown(alloc, &plain, "host/www.example.com"));
-    let placed = plain.with_realm(&realm);
-    assert!(rt; is_shown(alloc, &placed, "host/www.example.com@EXAMPLE.COM"));
-    let marked = name_of(alloc, b"a/b@c\\", b"\0\x08\t\n")?;
-    assert!(rt; is_shown(alloc, &marked, "a\\/b\\@c\\\\/\\0\\b\\t\\n"));
-    Ok(())
+fn names(rt: HostRuntime) {
+    let plain = name_of(rt.alloc(), &[b"host", b"www.example.com"]);
+    assert!(rt; is_told(rt.alloc(), plain, "host/www.example.com"));
+    assert!(rt; is_placed(rt.alloc()) == Some(true));
+    let marked = name_of(rt.alloc(), &[b"a/b@c\\", b"\0\x08\t\n"]);
+    assert!(rt; is_told(rt.alloc(), marked, "a\\/b\\@c\\\\/\\0\\b\\t\\n"));
 }

@@ -109,9 +109,9 @@ const TYPE_3: &[u8] = b"\x01\x00\x00\x00\x00\x00\x00\x00\x03\x00\x00\x00";
 // What is wrong in the bytes that came is answered before the device's fault.
 #[test]
 fn wrong_pacs(rt: HostRuntime) {
-    for (bytes, size) in [(VERSION_1, 8), (TYPE_3, 12)] {
+    for (bytes, size) in &[(VERSION_1, 8), (TYPE_3, 12)] {
         for count in 0..13 {
-            let wanted = if count < size {
+            let wanted = if count < *size {
                 ErrorKind::BrokenPipe
             } else {
                 ErrorKind::InvalidData
@@ -263,7 +263,7 @@ fn is_front(alloc: Global, form: Form, whole: &[u8], count: usize) -> bool {
 
 #[test]
 fn writers(rt: HostRuntime) {
-    for (form, whole) in [
+    for (form, whole) in &[
         (Form::Mic, MIC),
         (Form::Wrap, WRAP),
         (Form::Record, RECORD),
@@ -273,7 +273,7 @@ fn writers(rt: HostRuntime) {
     ] {
         for count in 0..=whole.len() {
             assert!(rt;
-                is_front(rt.alloc(), form, whole, count),
+                is_front(rt.alloc(), *form, whole, count),
                 "{form:?} behind {count}"
             );
         }

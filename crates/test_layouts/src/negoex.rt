@@ -305,7 +305,7 @@ fn changed<M: NegoexMessage + Drop>(
 // Signature, type, an offset one past the end with some bytes and without any, and more bytes than there are.
 #[test]
 fn refused_exchanges(rt: HostRuntime) {
-    for (place, with, fault) in [
+    for (place, with, fault) in &[
         (0, *b"NEGX", Some(ErrorKind::InvalidData)),
         (8, [8, 0, 0, 0], Some(ErrorKind::InvalidData)),
         (56, [239, 0, 0, 0], Some(ErrorKind::InvalidData)),
@@ -314,7 +314,7 @@ fn refused_exchanges(rt: HostRuntime) {
         (60, [255, 255, 255, 255], Some(ErrorKind::UnexpectedEof)),
     ] {
         assert!(rt;
-            changed::<Exchange>(rt.alloc(), EXCHANGE, place, with) == fault,
+            changed::<Exchange>(rt.alloc(), EXCHANGE, *place, *with) == *fault,
             "at {place}"
         );
     }
@@ -338,7 +338,7 @@ fn counted(alloc: Global, offset: u8, count: [u8; 4]) -> Option<Result<usize, Er
 // count makes room for nothing.
 #[test]
 fn offsets_at_the_end(rt: HostRuntime) {
-    for (offset, count, read) in [
+    for (offset, count, read) in &[
         (64, [0; 4], Ok(0)),
         (64, [1, 0, 0, 0], Err(ErrorKind::UnexpectedEof)),
         (64, [255; 4], Err(ErrorKind::UnexpectedEof)),
@@ -347,7 +347,7 @@ fn offsets_at_the_end(rt: HostRuntime) {
         (65, [255; 4], Err(ErrorKind::InvalidData)),
     ] {
         assert!(rt;
-            counted(rt.alloc(), offset, count) == Some(read),
+            counted(rt.alloc(), *offset, *count) == Some(*read),
             "{count:?} at {offset}"
         );
     }

@@ -37,7 +37,7 @@ fn guids(rt: HostRuntime) {
 
 #[test]
 fn message_types(rt: HostRuntime) {
-    for (number, message_type) in [
+    for (number, message_type) in &[
         (0, MessageType::InitiatorNego),
         (1, MessageType::AcceptorNego),
         (2, MessageType::InitiatorMetaData),
@@ -48,7 +48,7 @@ fn message_types(rt: HostRuntime) {
         (7, MessageType::Alert),
     ] {
         assert!(rt;
-            is_spelled(rt.alloc(), message_type, &[number, 0, 0, 0]),
+            is_spelled(rt.alloc(), *message_type, &[*number, 0, 0, 0]),
             "{number}"
         );
     }

@@ -3,21 +3,33 @@
 use picky_krb::pac::{Pac, PacBuffer, PacBufferType, PacError, PacInfoBuffer};
 use std::alloc::Global;
 use std::io::ErrorKind;
-use std::test::Fail;
 
 // One buffer, a client's name, whose eight bytes are the last.
 const CLIENT: &[u8] =
     b"\x01\x00\x00\x00\x00\x00\x00\x00\x0a\x00\x00\x00\x08\x00\x00\x00\x18\x00\x00\x00\x00\x00\x00\x00\x01\x02\x03\x04\x05\x06\x07\x08";
 
+fn is_written(alloc: Global, pac: &Pac, bytes: &[u8]) -> bool {
+    let mut written = Vec::new(alloc);
+    pac.serialize(alloc, &mut written).is_ok() && written.as_slice() == bytes
+}
+
+fn is_copied(alloc: Global, pac: &Pac, bytes: &[u8]) -> bool {
+    match pac.clone() {
+        Ok(copy) => is_written(alloc, &copy, bytes),
+        Err(_) => false,
+    }
+}
+
+fn is_client(alloc: Global) -> bool {
+    match Pac::deserialize(alloc, &mut &*CLIENT) {
+        Ok(pac) => pac.buffers().len() == 1 && is_copied(alloc, &pac, CLIENT),
+        Err(_) => false,
+    }
+}
+
 #[test]
-fn read_and_written(rt: HostRuntime) -> Result<(), Fail> {
-    let mut left = CLIENT;
-    let pac = Pac::deserialize(rt.alloc(), &mut left)?;
-    assert_eq!(rt; pac.buffers().len(), 1);
-    let mut written = Vec::new(rt.alloc());
-    pac.clone()?.serialize(rt.alloc(), &mut written)?;
-    assert_eq!(rt; written.as_slice(), CLIENT);
-    Ok(())
+fn read_and_written(rt: HostRuntime) {
+    assert!(rt; is_client(rt.alloc()));
 }
 
 // The rows' faults: 1 IoError at the end, 2 InvalidVersion, 3 InvalidRange, 4 PacBufferType; 0 where there is none.
@@ -35,8 +47,8 @@ fn refusal(alloc: Global, bytes: &[u8]) -> u8 {
 
 #[test]
 fn refusals(rt: HostRuntime) {
-    for (bytes, fault) in [
-        (b"".as_slice(), 1),
+    let cases: &[(&[u8], u8)] = &[
+        (b"", 1),
         (b"\x00\x00\x00\x00\x00\x00\x00", 1),
         (b"\x00\x00\x00\x00\x00\x00\x00\x00", 0),
         (b"\x00\x00\x00\x00\x00\x00\x00\x00and more", 0),
@@ -53,8 +65,9 @@ fn refusals(rt: HostRuntime) {
             b"\x01\x00\x00\x00\x00\x00\x00\x00\x0a\x00\x00\x00\x08\x00\x00\x00\xff\xff\xff\xff\xff\xff\xff\xff\x01\x02\x03\x04\x05\x06\x07\x08",
             3,
         ),
-    ] {
-        assert_eq!(rt; refusal(rt.alloc(), bytes), fault, "at {bytes:?}");
+    ];
+    for (bytes, fault) in cases {
+        assert!(rt; refusal(rt.alloc(), bytes) == *fault, "at {bytes:?}");
     }
 }
 
@@ -73,8 +86,9 @@ fn is_out_of_range(alloc: Global, size: u32, offset: u64) -> Option<bool> {
 // A size other than the content's, and an end past 32 bytes.
 #[test]
 fn ranges(rt: HostRuntime) {
-    for (size, offset, refused) in [(5, 24, false), (5, 27, false), (5, 28, true), (4, 24, true)] {
-        assert_eq!(rt; is_out_of_range(rt.alloc(), size, offset), Some(refused));
+    for (size, offset, refused) in &[(5, 24, false), (5, 27, false), (5, 28, true), (4, 24, true)] {
+        let told = is_out_of_range(rt.alloc(), *size, *offset);
+        assert!(rt; told == Some(*refused), "{size} at {offset}");
     }
 }
 
@@ -151,21 +165,28 @@ fn example_buffer(
 
 fn example(alloc: Global) -> Option<Pac> {
     let mut buffers = Vec::new(alloc);
-    for row in ROWS {
-        buffers.push(example_buffer(alloc, row)?).ok()?;
+    for row in &ROWS {
+        buffers.push(example_buffer(alloc, *row)?).ok()?;
     }
     Some(Pac::new(buffers))
 }
 
+fn is_read(alloc: Global, wanted: &Pac, bytes: &[u8]) -> bool {
+    let mut left = bytes;
+    match Pac::deserialize(alloc, &mut left) {
+        Ok(read) => read == *wanted,
+        Err(_) => false,
+    }
+}
+
+fn is_example(alloc: Global) -> bool {
+    match example(alloc) {
+        Some(made) => is_read(alloc, &made, EXAMPLE) && is_written(alloc, &made, EXAMPLE),
+        None => false,
+    }
+}
+
 #[test]
-fn structure_example(rt: HostRuntime) -> Result<(), Fail> {
-    let Some(wanted) = example(rt.alloc()) else {
-        panic!(rt; "the rows are within the example");
-    };
-    let mut left = EXAMPLE;
-    assert!(rt; Pac::deserialize(rt.alloc(), &mut left)? == wanted);
-    let mut written = Vec::new(rt.alloc());
-    wanted.serialize(rt.alloc(), &mut written)?;
-    assert_eq!(rt; written.as_slice(), EXAMPLE);
-    Ok(())
+fn structure_example(rt: HostRuntime) {
+    assert!(rt; is_example(rt.alloc()));
 }

@@ -54,15 +54,16 @@ fn fault_of(alloc: Global, bytes: &[u8]) -> Option<ErrorKind> {
 
 #[test]
 fn refused(rt: HostRuntime) {
-    for (bytes, fault) in [
-        (b"".as_slice(), ErrorKind::UnexpectedEof),
+    let cases: &[(&[u8], ErrorKind)] = &[
+        (b"", ErrorKind::UnexpectedEof),
         (b"\x00\x13\x00", ErrorKind::UnexpectedEof),
         (b"\x00\x13\x00\x02", ErrorKind::InvalidData),
         (b"\x00\x13\x00\x01\x00", ErrorKind::UnexpectedEof),
         (&FRAME[..6], ErrorKind::InvalidData),
         (&FRAME[..18], ErrorKind::InvalidData),
-    ] {
-        assert!(rt; fault_of(rt.alloc(), bytes) == Some(fault), "at {bytes:?}");
+    ];
+    for (bytes, fault) in cases {
+        assert!(rt; fault_of(rt.alloc(), bytes) == Some(*fault), "at {bytes:?}");
     }
 }
 

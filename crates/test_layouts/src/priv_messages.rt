@@ -93,12 +93,16 @@ fn is_private(message: KrbPriv) -> bool {
         && inner.enc_part.0.cipher.0.as_bytes() == b"seal".as_slice()
 }
 
+fn is_private_read(alloc: Global, bytes: &[u8]) -> bool {
+    match from_bytes::<KrbPriv>(alloc, bytes) {
+        Ok(message) => is_private(message),
+        Err(_) => false,
+    }
+}
+
 #[test]
 fn fields(rt: HostRuntime) {
-    let Ok(message) = from_bytes::<KrbPriv>(rt.alloc(), &REPLY[37..]) else {
-        panic!(rt; "the reply's second part is a KRB-PRIV");
-    };
-    assert!(rt; is_private(message));
+    assert!(rt; is_private_read(rt.alloc(), &REPLY[37..]));
 }
 
 fn fault_of<A: Deserialize + Drop, P: Deserialize + Drop>(
@@ -116,10 +120,13 @@ fn fault_of<A: Deserialize + Drop, P: Deserialize + Drop>(
 #[test]
 fn told_by_the_tag(rt: HostRuntime) {
     let wrong = Some(ErrorKind::InvalidData);
-    for (bytes, as_request, as_reply) in [(REQUEST, None, wrong), (REPLY, wrong, None)] {
-        assert!(rt; fault_of::<ApMessage, KrbPriv>(rt.alloc(), bytes).is_none());
-        assert!(rt; fault_of::<ApReq, KrbPriv>(rt.alloc(), bytes) == as_request);
-        assert!(rt; fault_of::<ApRep, KrbPriv>(rt.alloc(), bytes) == as_reply);
+    for (bytes, as_request, as_reply) in &[(REQUEST, None, wrong), (REPLY, wrong, None)] {
+        let faults = [
+            fault_of::<ApMessage, KrbPriv>(rt.alloc(), bytes),
+            fault_of::<ApReq, KrbPriv>(rt.alloc(), bytes),
+            fault_of::<ApRep, KrbPriv>(rt.alloc(), bytes),
+        ];
+        assert!(rt; faults == [None, *as_request, *as_reply]);
     }
 }
 
@@ -133,7 +140,7 @@ fn fault_at(alloc: Global, place: usize, octet: u8) -> Option<Option<ErrorKind>>
 #[test]
 fn refused(rt: HostRuntime) {
     let wrong = Some(ErrorKind::InvalidData);
-    for (place, octet, fault) in [
+    for (place, octet, fault) in &[
         // Of the lengths, which aren't judged, the whole one is too small, then too great, and the AP message's past the end.
         (1, 0, None),
         (0, 0xff, None),
@@ -146,7 +153,7 @@ fn refused(rt: HostRuntime) {
         (37, 0x7e, wrong),
     ] {
         assert!(rt;
-            fault_at(rt.alloc(), place, octet) == Some(fault),
+            fault_at(rt.alloc(), *place, *octet) == Some(*fault),
             "{octet} at {place}"
         );
     }
@@ -185,14 +192,15 @@ fn is_spelled<T: Deserialize + Drop>(alloc: Global, bytes: &[u8]) -> Option<bool
 
 #[test]
 fn parts(rt: HostRuntime) {
-    for (bytes, wanted) in [
+    let cases: &[(&[u8], bool)] = &[
         (PART, true),
         (LONG_PART, true),
         (&PART[..30], false),
         // Without the sender's address.
-        (b"\x7c\x0c\x30\x0a\xa0\x08\x04\x06secret".as_slice(), false),
-    ] {
-        assert!(rt; is_spelled::<EncKrbPrivPart>(rt.alloc(), bytes) == Some(wanted));
+        (b"\x7c\x0c\x30\x0a\xa0\x08\x04\x06secret", false),
+    ];
+    for (bytes, wanted) in cases {
+        assert!(rt; is_spelled::<EncKrbPrivPart>(rt.alloc(), bytes) == Some(*wanted));
     }
 }
 
@@ -225,8 +233,8 @@ fn is_nothing<T: Deserialize + Drop>(alloc: Global, usage: i32) -> Option<bool> 
 
 #[test]
 fn opened(rt: HostRuntime) {
-    assert!(rt; is_opened(rt.alloc(), 13));
-    assert!(rt; is_wrong_key(rt.alloc()));
-    assert!(rt; is_nothing::<EncKrbPrivPart>(rt.alloc(), 13) == Some(false));
-    assert!(rt; is_nothing::<EncKrbPrivPart>(rt.alloc(), 14) == Some(true));
+    let alloc = rt.alloc();
+    assert!(rt; is_opened(alloc, 13) && is_wrong_key(alloc));
+    assert!(rt; is_nothing::<EncKrbPrivPart>(alloc, 13) == Some(false));
+    assert!(rt; is_nothing::<EncKrbPrivPart>(alloc, 14) == Some(true));
 }
