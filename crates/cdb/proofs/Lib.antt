@@ -1,0 +1,6 @@
+mod Positions
+mod Probing
+mod Fronts
+mod Sound
+mod Holding
+mod Answering

@@ -1,0 +1,13 @@
+use Rattle.std.proofs.Common.{◌∙◌}
+use Rattle.std.proofs.lemmas.Result.{err_from_is_err_and}
+use Rattle.cdb.proofs.Positions.{stands_fails, stands_read}
+use Rattle.cdb.proofs.tables.stands_within.Goals as goal
+
+pub returns-in_err-read_at : goal.returns-in_err-read_at
+returns-in_err-read_at g c = λ bytes known.
+    let p = err_from_is_err_and c.from_residual.result c.from_residual.ensures.1 in
+    rw (p.1, p.2) (stands_fails (g.F.ReadAt.fails c.args.file.now) c.in_err-read_at.field-0.0 c.args.position c.args.key.now bytes c.read_at.new.buffer (c.read_at.auto.buffer ∙ c.requires) (c.in_err-read_at.ensures bytes known))
+
+pub returns : goal.returns
+returns g c = λ bytes known.
+    rw c.eq.ensures (stands_read c.args.position c.args.key.now bytes c.read_at.new.buffer (c.read_at.auto.buffer ∙ c.requires) (c.in_ok-read_at.ensures bytes known))
