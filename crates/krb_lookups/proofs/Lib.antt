@@ -1,0 +1,5 @@
+mod NoRequest
+mod Refused
+mod Fetched
+mod Opened
+mod Answered

@@ -1,0 +1,30 @@
+//! What holds of every realm whose accounts are looked up.
+ghost use Rattle.std.specs.Prelude.{◌≤◌, ◌<◌, ◌^◌, length};
+ghost use Rattle.aes_cts.specs.Bytes.{IsBytes};
+ghost use Rattle.decision_tables.specs.Some.{HasSome};
+ghost use Rattle.krb_accounts.specs.Accounts.{Look};
+ghost use Rattle.krb_kdc_requests.specs.Calls.{AreKeyed};
+ghost use Rattle.krb_replies.specs.Replies.{Replies};
+ghost use Rattle.krb_lookups.specs.Calls.{call_with};
+
+use crate::call::LookupCall;
+use pkinit_interface::Pkinit;
+
+/// There is a reply to each message, if each account's key has its suite's length. It does nothing when it runs: its contract is the law.
+pub fn has_reply<P: Pkinit>(call: &LookupCall<'_>, pkinit: &P, message: &[u8])
+    requires { 128 ≤ length call.now.words.now }
+    ensures { (all : Look) → AreKeyed all → HasSome (Replies (call_with call.now all) (P.rows pkinit.now) message.now) }
+{
+    krb_replies::laws::has_reply(pkinit);
+    let _micros = call.moment.micros();
+    is_slice(message);
+    is_slice(call.words);
+}
+
+// The octets of a slice are bytes, fewer than 2^64. It does nothing when it runs.
+fn is_slice(octets: &[u8])
+    ensures bytes { IsBytes octets.now }
+    ensures few { length octets.now < 2 ^ 64 }
+{
+    let _length = octets.len();
+}

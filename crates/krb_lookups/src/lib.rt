@@ -1,0 +1,26 @@
+//! Answers from accounts that are looked up one by one, in whatever holds them: a file, a table of a database, a directory.
+//!
+//! A request involves at most three accounts. `answer_by` looks these up and no others. `LookupRealm` is the responder of a frame loop
+//! that replies so.
+//!
+//! A reply of `answer_by` is that of the realm with all accounts that the `Lookup` holds. `Unreadable` is returned only for a message that
+//! is no request, and `Fault` only for bytes that begin one (`BeginsRequest`). An account that can't be read is a fault, and neither a
+//! missing account nor a KRB-ERROR. Each message has a reply (law `has_reply`), by `one_reply` of `krb_replies` exactly one.
+#![tactic(auto)]
+
+mod answer;
+mod begins;
+mod call;
+mod fault;
+mod few;
+pub mod laws;
+mod lookup;
+mod responder;
+mod ticket;
+
+pub use answer::answer_by;
+pub use begins::begins_request;
+pub use call::LookupCall;
+pub use fault::{LookupFault, LookupRefusal};
+pub use lookup::Lookup;
+pub use responder::{LookupRealm, refusal_of};
