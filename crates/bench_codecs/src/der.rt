@@ -10,28 +10,17 @@ pub(crate) fn run(alloc: Global, words: &[String]) -> anyhow::Result<String> {
     let [task, kind, text, times] = words else {
         bail!("usage: der read|write KIND HEXADECIMAL TIMES");
     };
-    let times = times.parse::<u32>()?;
     let bytes = hex::decode(alloc, text.as_str())?;
-    let count = count_of(alloc, task.as_str(), kind.as_str(), &bytes, times);
-    drop(bytes);
-    Ok(format!(in alloc; "{}", count?)?)
-}
-
-fn count_of(
-    alloc: Global,
-    task: &str,
-    kind: &str,
-    bytes: &[u8],
-    times: u32,
-) -> anyhow::Result<usize> {
-    match kind {
-        "as_req" => turn::<AsReq>(alloc, task, bytes, times),
-        "tgs_req" => turn::<TgsReq>(alloc, task, bytes, times),
-        "as_rep" => turn::<AsRep>(alloc, task, bytes, times),
-        "ap_req" => turn::<ApReq>(alloc, task, bytes, times),
-        "krb_error" => turn::<KrbError>(alloc, task, bytes, times),
+    let times = times.parse::<u32>()?;
+    let count = match kind.as_str() {
+        "as_req" => turn::<AsReq>(alloc, task.as_str(), &bytes, times)?,
+        "tgs_req" => turn::<TgsReq>(alloc, task.as_str(), &bytes, times)?,
+        "as_rep" => turn::<AsRep>(alloc, task.as_str(), &bytes, times)?,
+        "ap_req" => turn::<ApReq>(alloc, task.as_str(), &bytes, times)?,
+        "krb_error" => turn::<KrbError>(alloc, task.as_str(), &bytes, times)?,
         _ => bail!("no such kind of message: {kind}"),
-    }
+    };
+    Ok(format!(in alloc; "{count}")?)
 }
 
 /// How many bytes each turn took.

@@ -18,25 +18,18 @@ fn main(rt: HostRuntime) -> anyhow::Result<()> {
     let words = words_of(&rt)?;
     let mut refused = 0u64;
     for task in words.split(|word| word.as_str() == "+") {
-        if !is_done(&rt, task)? {
-            refused = refused.saturating_add(1);
+        match outcome_of(&rt, task) {
+            Ok(printed) => println!(rt; "{printed}")?,
+            Err(error) => {
+                refused = refused.saturating_add(1);
+                println!(rt; "refused: {error}")?;
+            }
         }
     }
     if refused > 0 {
         bail!("{refused} tasks are refused");
     }
     Ok(())
-}
-
-/// Does a task, and prints the rest of its line.
-fn is_done(rt: &HostRuntime, task: &[String]) -> anyhow::Result<bool> {
-    let outcome = outcome_of(rt, task);
-    let is_done = outcome.is_ok();
-    match outcome {
-        Ok(printed) => println!(rt; "{printed}")?,
-        Err(error) => println!(rt; "refused: {error}")?,
-    }
-    Ok(is_done)
 }
 
 /// The arguments behind the program's name.

@@ -20,23 +20,18 @@ pub(crate) fn run(alloc: Global, words: &[String]) -> anyhow::Result<String> {
     };
     let number = number.parse::<usize>()?;
     let bytes = bytes_of(alloc, bytes)?;
-    let made = made_by(alloc, call.as_str(), number, &bytes);
-    drop(bytes);
-    Ok(hex::encode(alloc, &made?)?)
-}
-
-fn made_by(alloc: Global, call: &str, number: usize, bytes: &[Vec<u8>]) -> anyhow::Result<Vec<u8>> {
-    match call {
-        "password" => password_key(alloc, number, bytes),
-        "encrypt" => encrypted(alloc, number, bytes),
-        "decrypt" => decrypted(alloc, number, bytes),
-        "spelling" => strict_spelling(alloc, number, bytes),
-        "pac" => pac(alloc, bytes),
-        "nego" => offer(alloc, bytes),
-        "mic" => mic_token(alloc, bytes),
-        "wrap" => wrap_token(alloc, bytes),
+    let made = match call.as_str() {
+        "password" => password_key(alloc, number, &bytes)?,
+        "encrypt" => encrypted(alloc, number, &bytes)?,
+        "decrypt" => decrypted(alloc, number, &bytes)?,
+        "spelling" => strict_spelling(alloc, number, &bytes)?,
+        "pac" => pac(alloc, &bytes)?,
+        "nego" => offer(alloc, &bytes)?,
+        "mic" => mic_token(alloc, &bytes)?,
+        "wrap" => wrap_token(alloc, &bytes)?,
         _ => bail!("no such call: {call}"),
-    }
+    };
+    Ok(hex::encode(alloc, &made)?)
 }
 
 fn bytes_of(alloc: Global, words: &[String]) -> anyhow::Result<Vec<Vec<u8>>> {
@@ -91,9 +86,7 @@ fn strict_spelling(alloc: Global, count: usize, bytes: &[Vec<u8>]) -> anyhow::Re
         bail!("another count of deviations");
     }
     let read = from_bytes::<AlgorithmIdentifier>(alloc, bytes)?;
-    let strict = to_vec(alloc, &read);
-    drop(read);
-    Ok(strict?)
+    Ok(to_vec(alloc, &read)?)
 }
 
 /// A PAC, read and written.
@@ -103,9 +96,7 @@ fn pac(alloc: Global, bytes: &[Vec<u8>]) -> anyhow::Result<Vec<u8>> {
     };
     let mut written = Vec::new(alloc);
     let pac = Pac::deserialize(alloc, &mut bytes.as_slice())?;
-    let ended = pac.serialize(alloc, &mut written);
-    drop(pac);
-    ended?;
+    pac.serialize(alloc, &mut written)?;
     Ok(written)
 }
 
@@ -115,22 +106,12 @@ fn offer(alloc: Global, bytes: &[Vec<u8>]) -> anyhow::Result<Vec<u8>> {
         bail!("row nego 0 VALUE");
     };
     let message = message_of(alloc, Vec::from_slice(alloc, value)?)?;
-    let written = written_of(alloc, &message);
-    drop(message);
-    written
-}
-
-fn written_of(alloc: Global, message: &Nego) -> anyhow::Result<Vec<u8>> {
     let written = message.to_bytes(alloc)?;
-    if !is_read(alloc, &written, message)? {
+    let read = Nego::decode(alloc, &written)?;
+    if read != message {
         bail!("another message is read");
     }
     Ok(written)
-}
-
-fn is_read(alloc: Global, bytes: &[u8], message: &Nego) -> anyhow::Result<bool> {
-    let read = Nego::decode(alloc, bytes)?;
-    Ok(read == *message)
 }
 
 fn message_of(alloc: Global, extension_value: Vec<u8>) -> anyhow::Result<Nego> {
@@ -152,8 +133,7 @@ fn mic_token(alloc: Global, bytes: &[Vec<u8>]) -> anyhow::Result<Vec<u8>> {
         bail!("row mic 0 BYTES");
     };
     let mut written = Vec::new(alloc);
-    let ended = MicToken::decode(alloc, &mut bytes.as_slice())?.encode(&mut written);
-    ended?;
+    MicToken::decode(alloc, &mut bytes.as_slice())?.encode(&mut written)?;
     Ok(written)
 }
 
@@ -162,7 +142,6 @@ fn wrap_token(alloc: Global, bytes: &[Vec<u8>]) -> anyhow::Result<Vec<u8>> {
         bail!("row wrap 0 BYTES");
     };
     let mut written = Vec::new(alloc);
-    let ended = WrapToken::decode(alloc, &mut bytes.as_slice())?.encode(&mut written);
-    ended?;
+    WrapToken::decode(alloc, &mut bytes.as_slice())?.encode(&mut written)?;
     Ok(written)
 }

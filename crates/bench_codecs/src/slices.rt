@@ -3,7 +3,6 @@
 use anyhow::bail;
 use krb_messages::messages::KrbError;
 use picky_asn1_der::{from_exact_bytes, to_bytes};
-use std::alloc::Global;
 
 /// The octets of the slice: more than an error of the rows has.
 const ROOM: usize = 128;
@@ -14,7 +13,8 @@ pub(crate) fn run(rt: &HostRuntime, words: &[String]) -> anyhow::Result<String> 
     let [text] = words else {
         bail!("usage: slice HEXADECIMAL");
     };
-    let error = error_of(rt.alloc(), text.as_str())?;
+    let bytes = hex::decode(rt.alloc(), text.as_str())?;
+    let error: KrbError = from_exact_bytes(rt.alloc(), &bytes)?;
     let mut space = [0u8; ROOM];
     print!(rt; "written: ")?;
     let written = to_bytes(&error, &mut space);
@@ -23,9 +23,4 @@ pub(crate) fn run(rt: &HostRuntime, words: &[String]) -> anyhow::Result<String> 
         print!(rt; "{octet:02x}")?;
     }
     Ok(String::new(rt.alloc()))
-}
-
-fn error_of(alloc: Global, text: &str) -> anyhow::Result<KrbError> {
-    let bytes = hex::decode(alloc, text)?;
-    Ok(from_exact_bytes(alloc, &bytes)?)
 }

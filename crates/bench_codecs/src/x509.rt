@@ -9,15 +9,14 @@ pub(crate) fn run(alloc: Global, words: &[String]) -> anyhow::Result<String> {
     let [task, kind, text, times] = words else {
         bail!("usage: x509 read|write name|extensions HEXADECIMAL TIMES");
     };
-    let times = times.parse::<u32>()?;
     let bytes = hex::decode(alloc, text.as_str())?;
+    let times = times.parse::<u32>()?;
     let count = match kind.as_str() {
-        "name" => turn::<Name>(alloc, task.as_str(), &bytes, times),
-        "extensions" => turn::<Extensions>(alloc, task.as_str(), &bytes, times),
+        "name" => turn::<Name>(alloc, task.as_str(), &bytes, times)?,
+        "extensions" => turn::<Extensions>(alloc, task.as_str(), &bytes, times)?,
         _ => bail!("no such part: {kind}"),
     };
-    drop(bytes);
-    Ok(format!(in alloc; "{}", count?)?)
+    Ok(format!(in alloc; "{count}")?)
 }
 
 /// How many bytes each turn took.

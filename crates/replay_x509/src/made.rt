@@ -2,9 +2,7 @@
 use crate::line::Recorded;
 use crate::told::{Answer, is_told};
 use picky_asn1::wrapper::IntegerAsn1;
-use picky_asn1_x509::{
-    AlgorithmIdentifier, KeyUsage, Spelled, SubjectPublicKeyInfo, X509Fault, to_vec,
-};
+use picky_asn1_x509::{AlgorithmIdentifier, KeyUsage, Spelled, SubjectPublicKeyInfo, to_vec};
 use std::alloc::Global;
 
 /// Whether a value that such a call makes is spelled as expected; none for any other call.
@@ -25,14 +23,9 @@ fn rsa_encryption(alloc: Global, recorded: &Recorded<'_>) -> Answer {
 /// Seven bits, with digitalSignature and keyEncipherment.
 fn key_usage(alloc: Global, recorded: &Recorded<'_>) -> Answer {
     let mut made = KeyUsage::new(alloc, 7)?;
-    set_two(alloc, &mut made)?;
-    is_made(alloc, &made, recorded)
-}
-
-fn set_two(alloc: Global, made: &mut KeyUsage) -> Result<(), X509Fault> {
     made.set_digital_signature(alloc, true)?;
     made.set_key_encipherment(alloc, true)?;
-    Ok(())
+    is_made(alloc, &made, recorded)
 }
 
 /// The modulus 5 and the exponent 3.

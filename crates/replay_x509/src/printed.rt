@@ -1,6 +1,6 @@
 //! Values as text.
-use crate::told::{Answer, answered, both_agree};
-use anyhow::Context;
+use crate::told::Answer;
+use anyhow::{Context, bail};
 use picky_asn1::wrapper::ObjectIdentifierAsn1;
 use picky_asn1_x509::{
     AlgorithmIdentifier, Certificate, DirectoryString, GeneralName, Name, NamePrettyFormatter,
@@ -14,41 +14,30 @@ pub fn agrees(alloc: Global, line: &str) -> anyhow::Result<bool> {
     let (type_name, rest) = line.split_once(" | ").context("a line of one column")?;
     let (digits, text) = rest.split_once(" | ").context("a line of two columns")?;
     let bytes = hex::decode(alloc, digits)?;
-    answered(type_name, answer_of(alloc, type_name, &bytes, text))
-}
-
-fn answer_of(alloc: Global, type_name: &str, bytes: &[u8], text: &str) -> Option<Answer> {
-    match type_name {
-        "AltNames" => Some(alt_names(alloc, bytes, text)),
-        "BasicConstraints" => Some(basic_constraints(alloc, bytes, text)),
-        "CommonName" => Some(common_name(alloc, bytes, text)),
-        "DirectoryString" => Some(directory_string(alloc, bytes, text)),
-        "GeneralName" => Some(general_name(alloc, bytes, text)),
-        "KeyUsage" => Some(key_usage(alloc, bytes, text)),
-        "Name" => Some(name(alloc, bytes, text)),
-        "Rfc4514" => Some(rfc4514(alloc, bytes, text)),
-        "UnsupportedAlgorithmError" => Some(unsupported(alloc, bytes, text)),
-        _ => None,
-    }
+    let answer = match type_name {
+        "AltNames" => alt_names(alloc, &bytes, text),
+        "BasicConstraints" => basic_constraints(alloc, &bytes, text),
+        "CommonName" => common_name(alloc, &bytes, text),
+        "DirectoryString" => directory_string(alloc, &bytes, text),
+        "GeneralName" => general_name(alloc, &bytes, text),
+        "KeyUsage" => key_usage(alloc, &bytes, text),
+        "Name" => name(alloc, &bytes, text),
+        "Rfc4514" => rfc4514(alloc, &bytes, text),
+        "UnsupportedAlgorithmError" => unsupported(alloc, &bytes, text),
+        other => bail!("no type {other}"),
+    };
+    Ok(answer?)
 }
 
 fn directory_string(alloc: Global, bytes: &[u8], text: &str) -> Answer {
     let string: DirectoryString = from_bytes(alloc, bytes)?;
-    both_agree(
-        is_lossy(alloc, &string, text),
-        is_printed(alloc, &string, text),
-    )
-}
-
-fn is_lossy(alloc: Global, string: &DirectoryString, text: &str) -> Answer {
     let lossy = string.to_utf8_lossy(alloc)?;
-    Ok(lossy.as_str() == text)
+    Ok(lossy.as_str() == text && is_printed(alloc, &string, text)?)
 }
 
 fn name(alloc: Global, bytes: &[u8], text: &str) -> Answer {
     let name: Name = from_bytes(alloc, bytes)?;
-    let pretty = is_printed(alloc, &NamePrettyFormatter(&name), text);
-    both_agree(is_printed(alloc, &name, text), pretty)
+    Ok(is_printed(alloc, &name, text)? && is_printed(alloc, &NamePrettyFormatter(&name), text)?)
 }
 
 /// A name in the notation of RFC 4514.
@@ -115,7 +104,7 @@ fn common_name(alloc: Global, bytes: &[u8], text: &str) -> Answer {
 fn unsupported(alloc: Global, bytes: &[u8], text: &str) -> Answer {
     let oid: ObjectIdentifierAsn1 = from_bytes(alloc, bytes)?;
     match refusal_of(alloc, oid)? {
-        Some(refusal) => is_printed(alloc, &refusal, text),
+        Some(refusal) => Ok(is_printed(alloc, &refusal, text)?),
         None => Ok(false),
     }
 }
@@ -132,7 +121,7 @@ fn refusal_of(
     Ok(made.err())
 }
 
-fn is_printed<T: fmt::Display>(alloc: Global, value: &T, text: &str) -> Answer {
+fn is_printed<T: fmt::Display>(alloc: Global, value: &T, text: &str) -> Result<bool, X509Fault> {
     match format!(in alloc; "{value}") {
         Ok(printed) => Ok(printed.as_str() == text),
         Err(_) => Err(X509Fault::Memory),

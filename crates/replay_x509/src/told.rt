@@ -1,25 +1,11 @@
 //! One spelling, read, counted and rewritten.
 use crate::line::{Recorded, Wanted};
-use anyhow::bail;
 use std::alloc::Global;
 use x509_codec::{deviations, encoded_len, from_bytes, to_vec};
 use x509_spelling::{Spelled, X509Fault};
 
 /// Whether a recorded spelling is read, counted and rewritten as expected, memory aside.
 pub type Answer = Result<bool, X509Fault>;
-
-/// The answer for a type of this name, if it is known.
-pub fn answered(type_name: &str, answer: Option<Answer>) -> anyhow::Result<bool> {
-    match answer {
-        Some(answer) => Ok(answer?),
-        None => bail!("no type {type_name}"),
-    }
-}
-
-/// Whether both are as expected.
-pub fn both_agree(first: Answer, second: Answer) -> Answer {
-    Ok(first? && second?)
-}
 
 /// Whether a recorded spelling of this type is read, counted and rewritten as expected.
 pub fn is_told<T: Spelled>(alloc: Global, recorded: &Recorded<'_>) -> Answer {
