@@ -21,7 +21,7 @@ abbrev pub MayRefuse : Type 0 → Bytes → LookupRefusal → Type 0
 MayRefuse may message Unreadable = IsNoRequest message
 MayRefuse may message (Fault fault) = BeginsRequest message × MayFail may fault
 
--- The refusal of a responder. An account that can't be read is neither a message that is no request nor want of memory.
+-- The refusal of a responder. An account that can't be read is refused by a refusal of its own.
 abbrev pub refusal_of : LookupRefusal → AnswerRefusal
 refusal_of Unreadable = responder.Unreadable
 refusal_of (Fault fault.Memory) = responder.Memory

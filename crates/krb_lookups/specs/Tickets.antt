@@ -5,6 +5,7 @@ use Rattle.krb_accounts.specs.Account.{AccountRecord}
 use Rattle.krb_accounts.specs.Accounts.{AccountMap, Look, look_in}
 use Rattle.krb_ap_requests.specs.ApTable.{enc_part_in}
 use Rattle.krb_ap_requests.specs.Messages.{IsTicketPart}
+use Rattle.krb_constants.specs.declared.padata_types.TheConstants.{PA_TGS_REQ}
 use Rattle.krb_messages.specs.Messages.{IsApReq}
 use Rattle.krb_messages.specs.declared.messages.ap_req.ApReqInner.{ApReqInner}
 use Rattle.krb_tickets.specs.Padata.{first_of}
@@ -18,7 +19,7 @@ pub record IsTicketOf (few : AccountMap) (granting : List Bytes) (padata : List 
   pub value : Bytes
   pub ap_req : ApReqInner
   pub account : AccountRecord
-  pub first : first_of 1 padata ≡ Some value
+  pub first : first_of PA_TGS_REQ padata ≡ Some value
   pub read : IsApReq value ap_req
   pub has : look_in few granting ≡ Some account
   pub opens : IsTicketPart account.suite account.key (enc_part_in ap_req) part

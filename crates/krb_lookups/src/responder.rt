@@ -59,8 +59,8 @@ impl<'a, L: Lookup, P: Pkinit> Responder for LookupRealm<'a, L, P> {
     }
 }
 
-/// Returns the refusal of a responder for a message that has no reply by this refusal: a look-up's fault is `Accounts`, but for want of
-/// memory.
+/// Returns the refusal of a responder for a message that has no reply by this refusal. If memory ran out in a look-up, it is `Memory`.
+/// Each other fault of a look-up is `Accounts`.
 pub fn refusal_of(refusal: LookupRefusal) -> AnswerRefusal
     ensures { result ≡ refusal_of refusal }
 {
