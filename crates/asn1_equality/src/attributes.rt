@@ -2,30 +2,23 @@
 ghost use Rattle.std.specs.Cmp.Lexicographic.{bytes_decides, pointwise_decides};
 ghost use Rattle.asn1_equality.specs.Equalities.{told_by, fields, both, last, variants, or_field};
 ghost use Rattle.asn1_equality.specs.contracts.leaves.RawElementEquality.TheImpl.Laws.{is_equality-law as raw};
-ghost use Rattle.asn1_equality.specs.contracts.extensions.ExtensionsEquality.TheImpl.Laws.{is_equality-law as extensions};
+ghost use Rattle.asn1_equality.specs.contracts.extensions.ExtensionEquality.TheImpl.Laws.{is_equality-law as extension};
 ghost use Rattle.asn1_equality.specs.contracts.leaves.ObjectIdentifierAsn1Equality.TheImpl.Laws.{is_equality-law as oid};
 ghost use Rattle.asn1_equality.specs.contracts.parts.TimeEquality.TheImpl.Laws.{is_equality-law as time};
 
 use crate::Equality;
-use x509_attributes::{
-    AnyValues, Attribute, AttributeValues, Attributes, OpenSslAttributes, RequestedExtensions,
-};
+use x509_attributes::{AnyValues, Attribute, AttributeValues, OpenSslAttributes};
 
 impl Equality for AnyValues {
     ghost is_equality = { told_by (λ v. v.0) (pointwise_decides raw) (λ v w e i. record { 0 = e i }) };
 }
 
-impl Equality for RequestedExtensions {
-    ghost is_equality = { pointwise_decides extensions };
-}
-
 impl Equality for AttributeValues {
-    ghost use Rattle.asn1_equality.specs.contracts.attributes.RequestedExtensionsEquality.TheImpl.Laws.{is_equality-law as requested_extensions};
     ghost use Rattle.asn1_equality.specs.contracts.attributes.AnyValuesEquality.TheImpl.Laws.{is_equality-law as any_values};
     ghost use Rattle.x509_attributes.specs.contracts.attribute_values.AttributeValues.{«enum»};
 
     ghost is_equality = { variants «enum»
-        (or_field requested_extensions (or_field (pointwise_decides oid)
+        (or_field (pointwise_decides (pointwise_decides extension)) (or_field (pointwise_decides oid)
         (or_field (pointwise_decides (pointwise_decides oid)) (or_field (pointwise_decides bytes_decides)
         (or_field (pointwise_decides time) (or_field any_values tt)))))) };
 }
@@ -37,14 +30,8 @@ impl Equality for Attribute {
     ghost is_equality = { fields the_type (both oid (last attribute_values)) };
 }
 
-impl Equality for Attributes {
+impl Equality for OpenSslAttributes {
     ghost use Rattle.asn1_equality.specs.contracts.attributes.AttributeEquality.TheImpl.Laws.{is_equality-law as attribute};
 
-    ghost is_equality = { pointwise_decides attribute };
-}
-
-impl Equality for OpenSslAttributes {
-    ghost use Rattle.asn1_equality.specs.contracts.attributes.AttributesEquality.TheImpl.Laws.{is_equality-law as attributes};
-
-    ghost is_equality = { told_by (λ v. v.0) attributes (λ v w e i. record { 0 = e i }) };
+    ghost is_equality = { told_by (λ v. v.0) (pointwise_decides attribute) (λ v w e i. record { 0 = e i }) };
 }

@@ -1,8 +1,9 @@
 //! Certificates (RFC 5280, section 4.1).
 ghost use Rattle.std.specs.Cmp.{signed_Decides};
+ghost use Rattle.std.specs.Cmp.Lexicographic.{pointwise_decides};
 ghost use Rattle.asn1_equality.specs.Equalities.{told_by, fields, both, last, options};
 ghost use Rattle.asn1_equality.specs.Wrapped.{optional, explicit};
-ghost use Rattle.asn1_equality.specs.contracts.extensions.ExtensionsEquality.TheImpl.Laws.{is_equality-law as extensions};
+ghost use Rattle.asn1_equality.specs.contracts.extensions.ExtensionEquality.TheImpl.Laws.{is_equality-law as extension};
 ghost use Rattle.asn1_equality.specs.contracts.parts.VersionEquality.TheImpl.Laws.{is_equality-law as version};
 ghost use Rattle.asn1_equality.specs.contracts.algorithms.AlgorithmIdentifierEquality.TheImpl.Laws.{is_equality-law as algorithm_identifier};
 ghost use Rattle.asn1_equality.specs.contracts.names.NameEquality.TheImpl.Laws.{is_equality-law as name};
@@ -16,7 +17,7 @@ use x509_certificates::{Certificate, CertificateExtensions, TbsCertificate};
 impl Equality for CertificateExtensions {
     ghost use Rattle.x509_certificates.specs.ExtensionsLaws.{same_parts};
 
-    ghost is_equality = { told_by (λ v. v.tagged) (optional (options (explicit extensions))) (λ v w e. same_parts v w e) };
+    ghost is_equality = { told_by (λ v. v.tagged) (optional (options (explicit (pointwise_decides extension)))) (λ v w e. same_parts v w e) };
 }
 
 impl Equality for TbsCertificate {

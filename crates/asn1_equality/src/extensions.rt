@@ -11,7 +11,7 @@ ghost use Rattle.asn1_equality.specs.contracts.leaves.ObjectIdentifierAsn1Equali
 ghost use Rattle.x509_extensions.specs.contracts.authority_key_identifier.AuthorityKeyIdentifier.{the_type as authority_key_identifier_type};
 
 use crate::Equality;
-use x509_extensions::{AuthorityKeyIdentifier, Extension, ExtensionValue, Extensions};
+use x509_extensions::{AuthorityKeyIdentifier, Extension, ExtensionValue};
 
 impl Equality for AuthorityKeyIdentifier {
     ghost is_equality = { fields authority_key_identifier_type
@@ -36,10 +36,4 @@ impl Equality for Extension {
     ghost use Rattle.x509_extensions.specs.contracts.extension.Extension.{the_type};
 
     ghost is_equality = { fields the_type (both oid (both (default_field default_false) (last extension_value))) };
-}
-
-impl Equality for Extensions {
-    ghost use Rattle.asn1_equality.specs.contracts.extensions.ExtensionEquality.TheImpl.Laws.{is_equality-law as extension};
-
-    ghost is_equality = { pointwise_decides extension };
 }

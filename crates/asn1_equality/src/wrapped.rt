@@ -9,6 +9,7 @@ use picky_asn1_der::{
     ApplicationTag, BitStringContainer, DefaultField, ExplicitContextTag, ImplicitContextTag,
     OctetPair, OctetStringContainer, Optional, Retagged,
 };
+use x509_extensions::SpelledList;
 use x509_open_types::Explicit;
 use x509_spelling::{DefaultFalse, FixedNumber, Strict};
 
@@ -61,6 +62,10 @@ impl<T: Equality> Equality for Asn1SequenceOf<T> {
 }
 
 impl<T: Equality> Equality for Asn1SetOf<T> {
+    ghost is_equality = { pointwise_decides T.is_equality };
+}
+
+impl<const OCTET: u8, T: Equality> Equality for SpelledList<OCTET, T> {
     ghost is_equality = { pointwise_decides T.is_equality };
 }
 

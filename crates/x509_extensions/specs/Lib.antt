@@ -6,3 +6,4 @@ pub mod ExtensionViews
 pub mod UseNames
 pub mod Uses
 pub mod Lent
+pub mod ListLaws

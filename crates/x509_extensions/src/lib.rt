@@ -16,6 +16,7 @@ mod extension_view;
 mod extensions;
 mod key_usage;
 mod key_usage_text;
+mod spelled_list;
 
 pub use authority_field::AuthorityField;
 pub use authority_key_identifier::AuthorityKeyIdentifier;
@@ -27,3 +28,4 @@ pub use extension_value::{
 pub use extension_view::ExtensionView;
 pub use extensions::Extensions;
 pub use key_usage::KeyUsage;
+pub use spelled_list::{ListElement, SpelledList};
