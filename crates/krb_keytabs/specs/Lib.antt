@@ -1,0 +1,5 @@
+pub mod Numbers
+pub mod Entries
+pub mod Layouts
+pub mod Reading
+pub mod Writing
