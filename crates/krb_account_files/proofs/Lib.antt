@@ -1,0 +1,7 @@
+mod Numbered
+mod Again
+mod RealmAgain
+mod Said
+mod Written
+mod Replied
+mod Keyed

@@ -1,0 +1,205 @@
+-- What is written of a line is read as that line.
+use Rattle.std.proofs.Common.{◌≡◌, ℕ, ◌/◌, ◌<◌, ◌≤◌, ◌^◌, ◌==◌, ◌&&◌, nat_eq, nat_le, not, Bool, true, false, List, [], ◌∷◌, ◌++◌, length, slice_index, codes, Option, None, Some, Ok, IsTrue, refl, ap, ◌∙◌, arith}
+use Rattle.std.specs.List.{list_all}
+use Rattle.std.specs.Fmt.{decimal}
+use Rattle.std.specs.Cmp.Lexicographic.{pointwise}
+use Rattle.std.proofs.lemmas.Bool.{and_parts}
+use Rattle.std.proofs.lemmas.Bool.Decides.{nat_tests}
+use Rattle.hex.specs.Hex.{IsBytes, encode_lower, encode_with, lower_digits}
+use Rattle.hex.proofs.HexLemmas.{decode_of-encode_lower}
+use Rattle.picky_asn1.specs.Bytes.{Bytes}
+use Rattle.krb_types.specs.NameText.{name_text}
+use Rattle.krb_types.specs.NameReading.{are_ascii, is_ascii}
+use Rattle.krb_types.proofs.PrintedNames.{name-read}
+use Rattle.krb_accounts.specs.Account.{AccountRecord}
+use Rattle.krb_accounts.specs.Names.{AreComponents, is_realm_name}
+use Rattle.krb_accounts.specs.Settings.{SettingsRecord}
+use Rattle.krb_crypto.specs.Suites.{cipher_key_size}
+use Rattle.krb_crypto.specs.declared.suite.CipherSuite.{CipherSuite}
+use Rattle.krb_crypto.specs.declared.suite.CipherSuite.TheVariants.{Aes128CtsHmacSha196, Aes256CtsHmacSha196, Des3CbcSha1Kd, Aes128CtsHmacSha256128, Aes256CtsHmacSha384192}
+use Rattle.krb_settings.specs.Fields.{suite_name}
+use Rattle.krb_account_texts.specs.Lines.{WrittenLine, comment, realm, account, account_text, line_text, realm_text, salt_text}
+use Rattle.krb_account_texts.specs.Reading.{account_in, fields, is_printed, judged_kvno, judged_name, key_in, kvno_in, line_in, line_of, name_in, realm_in, realm_name_in, salt_in, seconds_in, settings_of, suite_in}
+use Rattle.krb_account_texts.specs.Writable.{IsAccount, IsComment, IsRealm, IsWritable, AreSaltBytes}
+use Rattle.krb_account_texts.proofs.Numbers.{decimal-read}
+use Rattle.krb_account_texts.proofs.Plain.{all-both, is_all_plain, is_plain, no_feed, no_tab, plain-decimal, plain-hex, plain-name, plain-suite, split-last, split-part}
+
+-- names
+ascii-realm : (name : Bytes) → IsTrue (is_realm_name name) → IsTrue (is_ascii name)
+ascii-realm name is = (and_parts _ _ is).1
+
+ascii-all : (name : List Bytes) → IsTrue (list_all is_realm_name name) → IsTrue (are_ascii name)
+ascii-all [] are = refl
+ascii-all (component ∷ name) are =
+    let both = and_parts (is_realm_name component) (list_all is_realm_name name) are in
+    rw (ascii-realm component both.0, ascii-all name both.1) refl
+
+pub ascii-name : (name : List Bytes) → AreComponents name → IsTrue (are_ascii name)
+ascii-name name are = ascii-all name (and_parts _ _ are).1
+
+pub name-again : (name : List Bytes) → AreComponents name → name_in (name_text name) ≡ Ok name
+unfolding name_in
+name-again [] are = cc are
+name-again (first ∷ further) are =
+    let ascii = ascii-name (first ∷ further) are in
+    ap judged_name (name-read first further ascii) ∙ rw are refl
+
+-- suites
+pub suite-again : (suite : CipherSuite) → suite_in (suite_name suite) ≡ Ok suite
+unfolding suite_name suite_in
+suite-again Aes128CtsHmacSha196 = refl
+suite-again Aes256CtsHmacSha196 = refl
+suite-again Des3CbcSha1Kd = refl
+suite-again Aes128CtsHmacSha256128 = refl
+suite-again Aes256CtsHmacSha384192 = refl
+
+-- kvnos
+pub kvno-again : (kvno : ℕ) → 1 ≤ kvno → kvno < 2 ^ 32 → kvno_in (decimal kvno) ≡ Ok kvno
+kvno-again kvno from_one fits =
+    let some : (kvno == 0) ≡ false = grind (arith, nat_tests) in
+    ap judged_kvno (decimal-read kvno fits) ∙ rw some refl
+
+-- salts
+and-none : (b : Bool) → (b && false) ≡ false
+and-none true = refl
+and-none false = refl
+
+no-dash : (salt : Bytes) → pointwise nat_eq (encode_lower salt) (codes "-") ≡ false
+unfolding encode_with
+no-dash [] = refl
+no-dash (octet ∷ salt) = and-none (nat_eq (slice_index lower_digits (octet / 16)) 45)
+
+pub salt-again : (salt : Option Bytes) → AreSaltBytes salt → salt_in (salt_text salt) ≡ Ok salt
+unfolding salt_in
+salt-again None bytes = refl
+salt-again (Some salt) bytes = rw (no-dash salt, decode_of-encode_lower salt bytes) refl
+
+-- keys
+pub key-again : (suite : CipherSuite) (key : Bytes) → length key ≡ cipher_key_size suite → IsBytes key → key_in suite (encode_lower key) ≡ Ok key
+unfolding key_in
+key-again suite key size bytes =
+    let fits : (length key == cipher_key_size suite) ≡ true = grind (arith, nat_tests) in
+    rw (decode_of-encode_lower key bytes, fits) refl
+
+account-again : (name : List Bytes) (own : AccountRecord) → IsAccount name own
+    → account_in (name_text name) (suite_name own.suite) (decimal own.kvno) (salt_text own.salt) (encode_lower own.key) ≡ Ok (account name own)
+unfolding account_in
+account-again name own is =
+    rw (name-again name is.name_is, suite-again own.suite, kvno-again own.kvno is.from_one is.kvno_fits, salt-again own.salt is.salt_bytes, key-again own.suite own.key is.key_size is.key_bytes) refl
+
+-- the parts of an account's line
+abbrev is_tab : ℕ → Bool
+is_tab octet = octet == 9
+
+tab-part : (part rest : List ℕ) → is_all_plain part ≡ true → fields (part ++ 9 ∷ rest) ≡ part ∷ fields rest
+tab-part part rest plain = split-part is_tab is_plain no_tab part 9 rest plain refl
+
+tab-last : (part : List ℕ) → is_all_plain part ≡ true → fields part ≡ part ∷ []
+tab-last part plain = split-last is_tab is_plain no_tab part plain
+
+plain-salt : (salt : Option Bytes) → is_all_plain (salt_text salt) ≡ true
+plain-salt None = refl
+plain-salt (Some salt) = plain-hex salt
+
+account-fields : (name : List Bytes) (own : AccountRecord) → IsAccount name own
+    → fields (account_text name own) ≡ name_text name ∷ suite_name own.suite ∷ decimal own.kvno ∷ salt_text own.salt ∷ encode_lower own.key ∷ []
+account-fields name own is =
+    let salt : List ℕ = salt_text own.salt in
+    let key : List ℕ = encode_lower own.key in
+    let kvno : List ℕ = decimal own.kvno in
+    let suite : List ℕ = suite_name own.suite in
+    tab-part (name_text name) (suite ++ 9 ∷ (kvno ++ 9 ∷ (salt ++ 9 ∷ key))) (plain-name name (ascii-name name is.name_is))
+    ∙ ap (λ parts. name_text name ∷ parts)
+    (tab-part suite (kvno ++ 9 ∷ (salt ++ 9 ∷ key)) (plain-suite own.suite)
+    ∙ ap (λ parts. suite ∷ parts)
+    (tab-part kvno (salt ++ 9 ∷ key) (plain-decimal own.kvno (omega (arith, is.kvno_fits)))
+    ∙ ap (λ parts. kvno ∷ parts)
+    (tab-part salt key (plain-salt own.salt) ∙ ap (λ parts. salt ∷ parts) (tab-last key (plain-hex own.key)))))
+
+account-line : (name : List Bytes) (own : AccountRecord) → IsAccount name own → line_in (account_text name own) ≡ Ok (account name own)
+unfolding line_in
+account-line name own is = rw is.begins (ap line_of (account-fields name own is) ∙ account-again name own is)
+
+-- the realm's line
+printed-plain : (c : ℕ) → nat_le 32 c ≡ true → is_plain c ≡ true
+printed-plain c printed = grind (arith, nat_tests)
+
+name-printed : (name : Bytes) → IsTrue (is_printed name) → is_all_plain name ≡ true
+name-printed [] printed = refl
+name-printed (c ∷ name) printed =
+    let both = and_parts (nat_le 32 c) (is_printed name) printed in
+    rw (printed-plain c both.0, name-printed name both.1) refl
+
+seconds-again : (seconds : ℕ) → seconds < 4294967296 → seconds_in (decimal seconds) ≡ Ok seconds
+unfolding seconds_in
+seconds-again seconds fits = rw (decimal-read seconds fits) refl
+
+settings-again : (settings : SettingsRecord) → settings.skew ≤ 86400 → 1 ≤ settings.lifetime → settings.lifetime ≤ 31536000 → settings_of settings.skew settings.lifetime ≡ Ok settings
+unfolding settings_of
+settings-again settings skew from_one lifetime =
+    let first : nat_le settings.skew 86400 ≡ true = grind (arith, nat_tests) in
+    let second : nat_le 1 settings.lifetime ≡ true = grind (arith, nat_tests) in
+    let third : nat_le settings.lifetime 31536000 ≡ true = grind (arith, nat_tests) in
+    rw (first, second, third) refl
+
+realm-again : (name : Bytes) (settings : SettingsRecord) → IsRealm name settings → realm_in name (decimal settings.skew) (decimal settings.lifetime) ≡ Ok (realm name settings)
+unfolding realm_in realm_name_in
+realm-again name settings is =
+    let skew = is.settings_are.0 in
+    let from_one = is.settings_are.1.0 in
+    let lifetime = is.settings_are.1.1 in
+    rw (is.name_is, is.printed, seconds-again settings.skew (omega arith), seconds-again settings.lifetime (omega arith), settings-again settings skew from_one lifetime) refl
+
+realm-fields : (name : Bytes) (settings : SettingsRecord) → IsRealm name settings
+    → fields (realm_text name settings) ≡ codes "realm" ∷ name ∷ decimal settings.skew ∷ decimal settings.lifetime ∷ []
+realm-fields name settings is =
+    let skew : List ℕ = decimal settings.skew in
+    let lifetime : List ℕ = decimal settings.lifetime in
+    let skew_is = is.settings_are.0 in
+    let lifetime_is = is.settings_are.1.1 in
+    tab-part (codes "realm") (name ++ 9 ∷ (skew ++ 9 ∷ lifetime)) refl
+    ∙ ap (λ parts. codes "realm" ∷ parts)
+    (tab-part name (skew ++ 9 ∷ lifetime) (name-printed name is.printed)
+    ∙ ap (λ parts. name ∷ parts)
+    (tab-part skew lifetime (plain-decimal settings.skew (omega arith)) ∙ ap (λ parts. skew ∷ parts) (tab-last lifetime (plain-decimal settings.lifetime (omega arith)))))
+
+realm-line : (name : Bytes) (settings : SettingsRecord) → IsRealm name settings → line_in (realm_text name settings) ≡ Ok (realm name settings)
+unfolding line_in
+realm-line name settings is = ap line_of (realm-fields name settings is) ∙ realm-again name settings is
+
+comment-line : (text : Bytes) → IsComment text → line_in text ≡ Ok (comment text)
+unfolding line_in
+comment-line text is =
+    let begins : (slice_index text 0 == 35) ≡ true = rw is.begins refl in
+    rw begins refl
+
+pub line-again : (line : WrittenLine) → IsWritable line → line_in (line_text line) ≡ Ok line
+line-again (comment text) is = comment-line text is
+line-again (realm name settings) is = realm-line name settings is
+line-again (account name own) is = account-line name own is
+
+-- a plain text has no line feed
+fed-plain : (text : List ℕ) → is_all_plain text ≡ true → list_all (λ octet. not (octet == 10)) text ≡ true
+fed-plain [] plain = refl
+fed-plain (c ∷ text) plain =
+    let both = and_parts (is_plain c) (is_all_plain text) plain in
+    rw (no_feed c both.0, fed-plain text both.1) refl
+
+-- plain texts with tabs between them have none
+fed-part : (part rest : List ℕ) → is_all_plain part ≡ true → list_all (λ octet. not (octet == 10)) rest ≡ true
+    → list_all (λ octet. not (octet == 10)) (part ++ 9 ∷ rest) ≡ true
+fed-part part rest plain fed = all-both (λ octet. not (octet == 10)) part (9 ∷ rest) (fed-plain part plain) fed
+
+pub line-fed : (line : WrittenLine) → IsWritable line → list_all (λ octet. not (octet == 10)) (line_text line) ≡ true
+line-fed (comment text) is = is.line
+line-fed (realm name settings) is =
+    let skew = is.settings_are.0 in
+    let lifetime = is.settings_are.1.1 in
+    fed-part (codes "realm") (name ++ 9 ∷ (decimal settings.skew ++ 9 ∷ decimal settings.lifetime)) refl
+    (fed-part name (decimal settings.skew ++ 9 ∷ decimal settings.lifetime) (name-printed name is.printed)
+    (fed-part (decimal settings.skew) (decimal settings.lifetime) (plain-decimal settings.skew (omega arith)) (fed-plain (decimal settings.lifetime) (plain-decimal settings.lifetime (omega arith)))))
+line-fed (account name own) is =
+    fed-part (name_text name) (suite_name own.suite ++ 9 ∷ (decimal own.kvno ++ 9 ∷ (salt_text own.salt ++ 9 ∷ encode_lower own.key))) (plain-name name (ascii-name name is.name_is))
+    (fed-part (suite_name own.suite) (decimal own.kvno ++ 9 ∷ (salt_text own.salt ++ 9 ∷ encode_lower own.key)) (plain-suite own.suite)
+    (fed-part (decimal own.kvno) (salt_text own.salt ++ 9 ∷ encode_lower own.key) (plain-decimal own.kvno (omega (arith, is.kvno_fits)))
+    (fed-part (salt_text own.salt) (encode_lower own.key) (plain-salt own.salt) (fed-plain (encode_lower own.key) (plain-hex own.key)))))

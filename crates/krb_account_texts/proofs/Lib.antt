@@ -1,0 +1,7 @@
+pub mod Plain
+pub mod Numbers
+pub mod Again
+pub mod Texts
+pub mod Loops
+pub mod Places
+pub mod Ended

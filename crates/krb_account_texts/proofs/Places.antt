@@ -1,0 +1,72 @@
+-- A line at its place.
+use Rattle.std.proofs.Common.{◌≡◌, ℕ, zero, suc, ◌+◌, ◌<◌, Bool, true, false, cond, List, [], ◌∷◌, ◌++◌, length, get_or, set, take, drop, Some, Result, Ok, Err, refl, ap, sym, ◌∙◌, arith}
+use Rattle.std.specs.Prelude.{OnOk}
+use Rattle.std.specs.List.{insert, position_from, remove}
+use Rattle.std.proofs.lemmas.List.{take-append-drop}
+use Rattle.krb_account_texts.specs.Edits.{HasChanged, HasOneLess, HasOneMore, is_line_of, place_of}
+use Rattle.krb_account_texts.specs.declared.line.Line.{Line}
+use Rattle.picky_asn1.specs.Bytes.{Bytes}
+
+-- a list, and what it is after a write, by its parts
+parts-at : {X : Type 0} (xs : List X) (i : ℕ) (d : X) → i < length xs → xs ≡ take i xs ++ get_or xs i d ∷ drop (suc i) xs
+parts-at [] i d inside = absurd (omega arith)
+parts-at (x ∷ xs) zero d inside = refl
+parts-at (x ∷ xs) (suc i) d inside = ap (λ more. x ∷ more) (parts-at xs i d (omega arith))
+
+set-parts : {X : Type 0} (xs : List X) (i : ℕ) (y : X) → i < length xs → set xs i y ≡ take i xs ++ y ∷ drop (suc i) xs
+set-parts [] i y inside = absurd (omega arith)
+set-parts (x ∷ xs) zero y inside = refl
+set-parts (x ∷ xs) (suc i) y inside = ap (λ more. x ∷ more) (set-parts xs i y (omega arith))
+
+-- the first place at which a test passes
+record IsPlace {X : Type 0} (test : X → Bool) (from : ℕ) (xs : List X) (place : ℕ) (d : X) : Type 0 where
+  at : ℕ
+  same : place ≡ from + at
+  inside : at < length xs
+  passes : test (get_or xs at d) ≡ true
+
+place-next : {X : Type 0} (test : X → Bool) (from : ℕ) (x : X) (xs : List X) (place : ℕ) (d : X) → IsPlace test (from + 1) xs place d → IsPlace test from (x ∷ xs) place d
+place-next test from x xs place d is = record {
+  at = suc is.at;
+  same = let same = is.same in omega arith;
+  inside = let inside = is.inside in omega arith;
+  passes = is.passes;
+}
+
+some-place : (from place : ℕ) → Some from ≡ Some place → place ≡ from + 0
+some-place from place found = let same : from ≡ place = cc found in omega arith
+
+by-test : {X : Type 0} (test : X → Bool) (from : ℕ) (x : X) (xs : List X) (place : ℕ) (d : X) (passed : Bool) → test x ≡ passed
+    → cond passed (Some from) (position_from test (from + 1) xs) ≡ Some place
+    → (position_from test (from + 1) xs ≡ Some place → IsPlace test (from + 1) xs place d) → IsPlace test from (x ∷ xs) place d
+by-test test from x xs place d true passed found later = record { at = 0; same = some-place from place found; inside = omega arith; passes = passed }
+by-test test from x xs place d false passed found later = place-next test from x xs place d (later found)
+
+is-place : {X : Type 0} (test : X → Bool) (from : ℕ) (xs : List X) (place : ℕ) (d : X) → position_from test from xs ≡ Some place → IsPlace test from xs place d
+is-place test from [] place d found = cc found
+is-place test from (x ∷ xs) place d found = by-test test from x xs place d (test x) refl found (λ later. is-place test (from + 1) xs place d later)
+
+pub passes-at : (name : List Bytes) (lines : List Line) (place : ℕ) (d : Line) → place_of name lines ≡ Some place → is_line_of name (get_or lines place d) ≡ true
+passes-at name lines place d found =
+    let is = is-place (is_line_of name) 0 lines place d found in
+    let same : place ≡ is.at = omega (arith, is.same) in
+    ap (λ (i : ℕ). is_line_of name (get_or lines i d)) same ∙ is.passes
+
+-- the three changes
+pub one-more : (more : Line) (old new : List Line) (place : ℕ) → new ≡ insert old place more → HasOneMore more old new
+one-more more old new place is = (take place old, drop place old, sym (take-append-drop place old), is)
+
+pub changed-at : (name : List Bytes) (change : Line → Line) (old new : List Line) (place : ℕ) (d : Line) → place_of name old ≡ Some place → place < length old
+    → new ≡ set old place (change (get_or old place d)) → HasChanged name change old new
+changed-at name change old new place d found inside is =
+    (take place old, get_or old place d, drop (suc place) old, passes-at name old place d found, parts-at old place d inside, is ∙ set-parts old place (change (get_or old place d)) inside)
+
+pub one-less : (name : List Bytes) (old new : List Line) (place : ℕ) (d : Line) → place_of name old ≡ Some place → place < length old
+    → new ≡ remove old place → HasOneLess name old new
+one-less name old new place d found inside is =
+    (take place old, get_or old place d, drop (suc place) old, passes-at name old place d found, parts-at old place d inside, is)
+
+-- what holds on success, and what follows from it
+pub on-ok : {T E P Q : Type 0} (r : Result T E) → OnOk r P → (P → Q) → OnOk r Q
+on-ok (Ok x) holds follows = follows holds
+on-ok (Err e) holds follows = holds

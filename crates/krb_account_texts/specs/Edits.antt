@@ -1,0 +1,46 @@
+-- Changes of the line of one account.
+use Rattle.std.specs.Prelude.{◌≡◌, ℕ, ◌+◌, ◌==◌, Bool, true, false, List, ◌++◌, ◌∷◌, Option}
+use Rattle.std.specs.List.{position_from}
+use Rattle.picky_asn1.specs.Bytes.{Bytes}
+use Rattle.krb_types.specs.Names.{is_same_name}
+use Rattle.krb_accounts.specs.Account.{AccountRecord}
+use Rattle.krb_crypto.specs.declared.suite.CipherSuite.{CipherSuite}
+use Rattle.krb_account_texts.specs.declared.line.Line.{Line}
+use Rattle.krb_account_texts.specs.declared.line.Line.TheVariants as line
+
+-- The line is that of the account of this name.
+abbrev pub is_line_of : List Bytes → Line → Bool
+is_line_of name (line.Account own) = is_same_name own.name.name_string.0 name
+is_line_of name _ = false
+
+-- The place of the first line of an account of this name.
+abbrev pub place_of : List Bytes → List Line → Option ℕ
+place_of name = position_from (is_line_of name) 0
+
+-- The new lines are the old ones with one more at some place.
+abbrev pub HasOneMore : Line → List Line → List Line → Type 0
+HasOneMore more old new = (front : List Line) × (back : List Line) × (old ≡ front ++ back) × (new ≡ front ++ more ∷ back)
+
+-- The new lines are the old ones but for the line of an account of this name, which became another one.
+abbrev pub HasChanged : List Bytes → (Line → Line) → List Line → List Line → Type 0
+HasChanged name change old new =
+    (front : List Line) × (own : Line) × (back : List Line) × (is_line_of name own ≡ true) × (old ≡ front ++ own ∷ back) × (new ≡ front ++ change own ∷ back)
+
+-- The new lines are the old ones but for the line of an account of this name, which is no more there.
+abbrev pub HasOneLess : List Bytes → List Line → List Line → Type 0
+HasOneLess name old new =
+    (front : List Line) × (own : Line) × (back : List Line) × (is_line_of name own ≡ true) × (old ≡ front ++ own ∷ back) × (new ≡ front ++ back)
+
+-- The account with its next key: the kvno is higher by one.
+abbrev pub next_account : CipherSuite → Bytes → Option Bytes → AccountRecord → AccountRecord
+next_account suite key salt own = record { suite = suite; key = key; kvno = own.kvno + 1; salt = salt }
+
+-- The line of an account with its next key. The name stays.
+abbrev pub rekeyed : CipherSuite → Bytes → Option Bytes → Line → Line
+rekeyed suite key salt (line.Account own) = line.Account (record { name = own.name; account = next_account suite key salt own.account })
+rekeyed suite key salt other = other
+
+-- The kvno of the line's account is the greatest of 32 bits.
+abbrev pub is_spent : Line → Bool
+is_spent (line.Account own) = own.account.kvno == 4294967295
+is_spent other = false

@@ -1,0 +1,5 @@
+pub mod Steps
+pub mod Lines
+pub mod Reading
+pub mod Edits
+pub mod Writable

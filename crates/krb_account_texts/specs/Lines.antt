@@ -1,0 +1,49 @@
+-- The lines of a text of accounts, and what each is written as. A tab (9) is between each two fields, and a line feed (10) behind each
+-- line.
+use Rattle.std.specs.Prelude.{ℕ, List, [], ◌∷◌, ◌++◌, codes, string_bytes, Option, None, Some}
+use Rattle.std.specs.List.{flat_map}
+use Rattle.std.specs.Fmt.{decimal}
+use Rattle.hex.specs.Hex.{encode_lower}
+use Rattle.picky_asn1.specs.Bytes.{Bytes}
+use Rattle.krb_types.specs.NameText.{name_text}
+use Rattle.krb_accounts.specs.Account.{AccountRecord}
+use Rattle.krb_accounts.specs.Settings.{SettingsRecord}
+use Rattle.krb_settings.specs.Fields.{suite_name}
+use Rattle.krb_account_texts.specs.declared.line.Line.{Line}
+use Rattle.krb_account_texts.specs.declared.line.Line.TheVariants as line
+
+-- a comment, the realm's name and settings, or an account's name and what the realm knows of it
+pub data WrittenLine : Type 0 where
+  comment : Bytes → WrittenLine
+  realm : Bytes → SettingsRecord → WrittenLine
+  account : List Bytes → AccountRecord → WrittenLine
+
+-- What a line of the program says.
+abbrev pub written : Line → WrittenLine
+written (line.Comment text) = comment (string_bytes text)
+written (line.Realm own) = realm own.name own.settings
+written (line.Account own) = account own.name.name_string.0 own.account
+
+-- The salt in hexadecimal digits, or `-` if there is none.
+abbrev pub salt_text : Option Bytes → List ℕ
+salt_text None = codes "-"
+salt_text (Some salt) = encode_lower salt
+
+-- The realm's line: the word `realm`, the name, the clock skew and the greatest lifetime in seconds.
+abbrev pub realm_text : Bytes → SettingsRecord → List ℕ
+realm_text name settings =
+    codes "realm" ++ (codes "\t" ++ (name ++ (codes "\t" ++ (decimal settings.skew ++ (codes "\t" ++ decimal settings.lifetime)))))
+
+-- An account's line: the name as RFC 1964 writes it (section 2.1.3), the suite, the kvno, the salt and the key.
+abbrev pub account_text : List Bytes → AccountRecord → List ℕ
+account_text name own =
+    name_text name ++ (codes "\t" ++ (suite_name own.suite ++ (codes "\t" ++ (decimal own.kvno ++ (codes "\t" ++ (salt_text own.salt ++ (codes "\t" ++ encode_lower own.key)))))))
+
+abbrev pub line_text : WrittenLine → List ℕ
+line_text (comment text) = text
+line_text (realm name settings) = realm_text name settings
+line_text (account name own) = account_text name own
+
+-- Each line, and a line feed behind it.
+abbrev pub text_of : List WrittenLine → List ℕ
+text_of = flat_map (λ own. line_text own ++ 10 ∷ [])

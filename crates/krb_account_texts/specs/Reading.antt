@@ -1,0 +1,139 @@
+-- How a text of accounts is read.
+use Rattle.std.specs.Prelude.{ℕ, ◌+◌, ◌-◌, ◌*◌, ◌==◌, ◌&&◌, ◌||◌, nat_eq, nat_lt, nat_le, Bool, if◌then◌else◌, List, [], ◌∷◌, length, take, slice_index, slice_index_or, codes, Option, None, Some, option_and_then, ok_or, Result, Ok, Err}
+use Rattle.std.specs.List.{find, list_all, slice_split}
+use Rattle.std.specs.Cmp.Lexicographic.{pointwise}
+use Rattle.hex.specs.Hex.{decode_of}
+use Rattle.picky_asn1.specs.Bytes.{Bytes}
+use Rattle.krb_types.specs.NameReading.{components_in}
+use Rattle.krb_types.specs.declared.name_reading.NameTextFault.{NameTextFault}
+use Rattle.krb_accounts.specs.Names.{are_components, is_realm_name}
+use Rattle.krb_accounts.specs.Settings.{SettingsRecord}
+use Rattle.krb_accounts.specs.declared.settings.TheConstants.{LIFETIME_LIMIT, SKEW_LIMIT}
+use Rattle.krb_crypto.specs.declared.suite.CipherSuite.{CipherSuite}
+use Rattle.krb_crypto.specs.Suites.{cipher_key_size, cipher_suites}
+use Rattle.krb_settings.specs.Fields.{suite_name}
+use Rattle.krb_account_texts.specs.Lines.{WrittenLine, comment, realm, account}
+use Rattle.krb_account_texts.specs.Steps.{◌>>=◌, each_from}
+use Rattle.krb_account_texts.specs.declared.fields.TheConstants.{NUMBER_LIMIT}
+use Rattle.krb_account_texts.specs.declared.fault.LineFault.{LineFault}
+use Rattle.krb_account_texts.specs.declared.fault.LineFault.TheVariants as fault
+use Rattle.krb_account_texts.specs.declared.fault.TextFault.{TextFault}
+use Rattle.krb_account_texts.specs.declared.fault.TextFault.TheVariants as text_fault
+
+-- The parts between tabs.
+abbrev pub fields : List ℕ → List (List ℕ)
+fields = slice_split (λ octet. octet == 9)
+
+-- The components of a name, which are a principal's.
+abbrev pub judged_name : Result (List Bytes) NameTextFault → Result (List Bytes) LineFault
+judged_name (Ok name) = if are_components name then Ok name else Err fault.Name
+judged_name (Err _) = Err fault.Name
+
+unfoldable pub name_in : List ℕ → Result (List Bytes) LineFault
+name_in text = judged_name (components_in text)
+
+-- The suite of a name.
+unfoldable pub suite_in : List ℕ → Result CipherSuite LineFault
+suite_in word = ok_or (find (λ suite. pointwise nat_eq word (suite_name suite)) cipher_suites) fault.Suite
+
+-- The number with a further decimal digit, if it is below 2^32.
+abbrev pub next_number : ℕ → ℕ → Option ℕ
+next_number number digit =
+    if nat_lt digit 48 || nat_lt 57 digit then None
+    else (if nat_lt (10 * number + (digit - 48)) NUMBER_LIMIT then Some (10 * number + (digit - 48)) else None)
+
+-- A number in decimal digits, behind those that were read.
+abbrev pub digits_behind : ℕ → List ℕ → Option ℕ
+digits_behind number [] = Some number
+digits_behind number (digit ∷ digits) = option_and_then (λ (next : ℕ). digits_behind next digits) (next_number number digit)
+
+unfoldable pub number_in : List ℕ → Option ℕ
+number_in digits = if length digits == 0 then None else digits_behind 0 digits
+
+-- A kvno counts from 1.
+abbrev pub judged_kvno : Option ℕ → Result ℕ LineFault
+judged_kvno None = Err fault.Kvno
+judged_kvno (Some kvno) = if kvno == 0 then Err fault.Kvno else Ok kvno
+
+abbrev pub kvno_in : List ℕ → Result ℕ LineFault
+kvno_in digits = judged_kvno (number_in digits)
+
+-- The octets that hexadecimal digits write, two for an octet.
+abbrev pub octets_told : {E : Type 0} → LineFault → Result (List ℕ) E → Result (List ℕ) LineFault
+octets_told otherwise (Ok octets) = Ok octets
+octets_told otherwise (Err _) = Err otherwise
+
+-- A salt, or none for `-`.
+abbrev pub some_octets : List ℕ → Result (Option Bytes) LineFault
+some_octets octets = Ok (Some octets)
+
+unfoldable pub salt_in : List ℕ → Result (Option Bytes) LineFault
+salt_in text = if pointwise nat_eq text (codes "-") then Ok None else octets_told fault.Salt (decode_of text) >>= some_octets
+
+-- A key of its suite's length.
+abbrev pub sized_key : CipherSuite → List ℕ → Result Bytes LineFault
+sized_key suite octets = if length octets == cipher_key_size suite then Ok octets else Err fault.Key
+
+unfoldable pub key_in : CipherSuite → List ℕ → Result Bytes LineFault
+key_in suite text = octets_told fault.Key (decode_of text) >>= sized_key suite
+
+unfoldable pub account_in : List ℕ → List ℕ → List ℕ → List ℕ → List ℕ → Result WrittenLine LineFault
+account_in name suite kvno salt key = do
+  own_name ← name_in name
+  own_suite ← suite_in suite
+  own_kvno ← kvno_in kvno
+  own_salt ← salt_in salt
+  own_key ← key_in own_suite key
+  Ok (account own_name (record { suite = own_suite; key = own_key; kvno = own_kvno; salt = own_salt }))
+
+-- A realm's name, of which no character is a control character.
+abbrev pub is_printed : Bytes → Bool
+is_printed = list_all (λ character. nat_le 32 character)
+
+unfoldable pub realm_name_in : List ℕ → Result Bytes LineFault
+realm_name_in text = if is_realm_name text && is_printed text then Ok text else Err fault.RealmName
+
+unfoldable pub seconds_in : List ℕ → Result ℕ LineFault
+seconds_in digits = ok_or (number_in digits) fault.Seconds
+
+unfoldable pub settings_of : ℕ → ℕ → Result SettingsRecord LineFault
+settings_of skew lifetime =
+    if nat_le skew SKEW_LIMIT && (nat_le 1 lifetime && nat_le lifetime LIFETIME_LIMIT) then Ok (record { skew = skew; lifetime = lifetime }) else Err fault.Seconds
+
+unfoldable pub realm_in : List ℕ → List ℕ → List ℕ → Result WrittenLine LineFault
+realm_in name skew lifetime = do
+  own_name ← realm_name_in name
+  own_skew ← seconds_in skew
+  own_lifetime ← seconds_in lifetime
+  settings ← settings_of own_skew own_lifetime
+  Ok (realm own_name settings)
+
+-- The line of these fields: of four behind the word `realm`, or of five.
+abbrev pub line_of : List (List ℕ) → Result WrittenLine LineFault
+line_of (word ∷ name ∷ skew ∷ lifetime ∷ []) = if pointwise nat_eq word (codes "realm") then realm_in name skew lifetime else Err fault.Fields
+line_of (name ∷ suite ∷ kvno ∷ salt ∷ key ∷ []) = account_in name suite kvno salt key
+line_of _ = Err fault.Fields
+
+-- A line that begins with `#` (35) is a comment.
+unfoldable pub line_in : List ℕ → Result WrittenLine LineFault
+line_in text = if slice_index text 0 == 35 then Ok (comment text) else line_of (fields text)
+
+-- The line of this number.
+abbrev pub at_line : {A : Type 0} → ℕ → Result A LineFault → Result A TextFault
+at_line number (Ok x) = Ok x
+at_line number (Err fault.Memory) = Err text_fault.Memory
+at_line number (Err e) = Err (text_fault.Line number e)
+
+abbrev pub numbered : ℕ → List ℕ → Result WrittenLine TextFault
+numbered number text = at_line number (line_in text)
+
+-- Behind the last line feed nothing may be.
+abbrev pub is_ended : List (List ℕ) → Bool
+is_ended parts = length (slice_index_or parts (length parts - 1) []) == 0
+
+-- Each line in turn, the first of which has number 1.
+abbrev pub lines_of : List (List ℕ) → Result (List WrittenLine) TextFault
+lines_of parts = if is_ended parts then each_from numbered 1 (take (length parts - 1) parts) else Err (text_fault.NoEnd (length parts))
+
+unfoldable pub lines_in : List ℕ → Result (List WrittenLine) TextFault
+lines_in text = lines_of (slice_split (λ octet. octet == 10) text)

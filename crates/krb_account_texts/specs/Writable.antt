@@ -1,0 +1,45 @@
+-- The lines that a text can have: each is read as it was written.
+use Rattle.std.specs.Prelude.{◌≡◌, ◌==◌, ◌≤◌, ◌<◌, ◌^◌, false, not, IsTrue, List, length, slice_index, Option, None, Some}
+use Rattle.std.specs.List.{AllByRecursion, list_all}
+use Rattle.hex.specs.Hex.{IsBytes}
+use Rattle.picky_asn1.specs.Bytes.{Bytes}
+use Rattle.krb_crypto.specs.Suites.{cipher_key_size}
+use Rattle.krb_accounts.specs.Account.{AccountRecord}
+use Rattle.krb_accounts.specs.Names.{AreComponents, IsRealmName}
+use Rattle.krb_accounts.specs.Settings.{AreSettings, SettingsRecord}
+use Rattle.krb_account_texts.specs.Lines.{WrittenLine, comment, realm, account, account_text}
+use Rattle.krb_account_texts.specs.Reading.{is_printed}
+
+-- A comment begins with `#` and has no line feed.
+pub record IsComment (text : Bytes) : Type 0 where
+  pub begins : slice_index text 0 ≡ 35
+  pub line : IsTrue (list_all (λ octet. not (octet == 10)) text)
+
+-- A realm has a printable name and settings in their ranges.
+pub record IsRealm (name : Bytes) (settings : SettingsRecord) : Type 0 where
+  pub name_is : IsRealmName name
+  pub printed : IsTrue (is_printed name)
+  pub settings_are : AreSettings settings.skew settings.lifetime
+
+abbrev pub AreSaltBytes : Option Bytes → Type 0
+AreSaltBytes None = Unit {0}
+AreSaltBytes (Some salt) = IsBytes salt
+
+-- An account has a principal's name, a key of its suite's length and a kvno from 1 to 2^32 - 1. Its line doesn't begin with `#`, since it
+-- would be a comment.
+pub record IsAccount (name : List Bytes) (own : AccountRecord) : Type 0 where
+  pub name_is : AreComponents name
+  pub begins : (slice_index (account_text name own) 0 == 35) ≡ false
+  pub key_size : length own.key ≡ cipher_key_size own.suite
+  pub key_bytes : IsBytes own.key
+  pub salt_bytes : AreSaltBytes own.salt
+  pub from_one : 1 ≤ own.kvno
+  pub kvno_fits : own.kvno < 2 ^ 32
+
+abbrev pub IsWritable : WrittenLine → Type 0
+IsWritable (comment text) = IsComment text
+IsWritable (realm name settings) = IsRealm name settings
+IsWritable (account name own) = IsAccount name own
+
+abbrev pub AreWritable : List WrittenLine → Type 0
+AreWritable = AllByRecursion IsWritable

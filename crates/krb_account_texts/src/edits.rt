@@ -1,0 +1,134 @@
+//! Changes of the line of one account.
+ghost use Rattle.std.specs.Prelude.{◌≡◌, ◌<◌, ◌↔◌, ◌⊎◌, length, if◌then◌else◌, IfErr, IfSome, OnOk, OnErr, None, Ok, Err};
+ghost use Rattle.krb_account_texts.specs.Edits.{HasChanged, HasOneLess, HasOneMore, is_line_of, is_spent, place_of, rekeyed};
+
+use crate::line::{AccountLine, Line};
+use crate::order::place_for;
+use krb_accounts::Account;
+use krb_crypto::Key;
+use krb_types::is_same_name;
+use picky_asn1::wrapper::{GeneralStringAsn1, OctetStringAsn1};
+use std::alloc::{AllocError, AllocFailed};
+use thiserror::Error;
+
+/// Why the line of an account was not changed. A refused call changes nothing.
+#[derive(Clone, Copy, Debug, PartialEq, Eq, Error)]
+pub enum EditRefusal {
+    /// An account has that name already.
+    #[error("the account is there already")]
+    Exists,
+    /// No account has that name.
+    #[error("no such account")]
+    Unknown,
+    /// The kvno is the greatest, and none follows.
+    #[error("kvno 4294967295 is the greatest: expected a new name")]
+    NumberSpent,
+    /// Memory ran out.
+    #[error("out of memory")]
+    Memory,
+}
+
+impl From<AllocError> for EditRefusal {
+    ghost use Rattle.krb_account_texts.specs.declared.edits.EditRefusal.TheVariants.{Memory};
+
+    ghost from_gives = { λ _ refusal. refusal ≡ Memory };
+
+    fn from(_error: AllocError) -> EditRefusal {
+        EditRefusal::Memory
+    }
+}
+
+impl<T: Drop> From<AllocFailed<T>> for EditRefusal {
+    ghost use Rattle.krb_account_texts.specs.declared.edits.EditRefusal.TheVariants.{Memory};
+
+    ghost from_gives = { λ _ refusal. refusal ≡ Memory };
+
+    fn from(_error: AllocFailed<T>) -> EditRefusal {
+        EditRefusal::Memory
+    }
+}
+
+/// The place of the line of the account of this name, if there is one.
+pub fn place_of(lines: &[Line], name: &[GeneralStringAsn1]) -> Option<usize>
+    ensures first { result ≡ place_of name.now lines.now }
+    ensures within { IfSome result (λ place. place < length lines.now) }
+{
+    lines.iter().position(|line| is_line_of(line, name))
+}
+
+fn is_line_of(line: &Line, name: &[GeneralStringAsn1]) -> bool
+    ensures { result ≡ is_line_of name.now line.now }
+{
+    match line {
+        Line::Account(own) => is_same_name(own.name.name_string.0.as_slice(), name),
+        _ => false,
+    }
+}
+
+/// Adds the line of an account, at its place in the order of names. All other lines stay. It is refused as `Exists` if the name has an
+/// account.
+pub fn add(lines: &mut Vec<Line>, account: AccountLine) -> Result<(), EditRefusal>
+    ensures ok { OnOk result (HasOneMore (Line.Account account) lines.old.items lines.new.items) }
+    ensures new { OnOk result (place_of account.name.name_string.0 lines.old.items ≡ None) }
+    ensures refusal { IfErr result (λ e. (e ≡ EditRefusal.Exists) ⊎ (e ≡ EditRefusal.Memory)) }
+    ensures err { OnErr result (lines.new.items ≡ lines.old.items) }
+{
+    let name = account.name.name_string.0.as_slice();
+    if place_of(lines, name).is_some() {
+        return Err(EditRefusal::Exists);
+    }
+    let place = place_for(lines, name);
+    lines.insert(place, Line::Account(account))?;
+    Ok(())
+}
+
+/// Gives the account of a name its next key, with the next kvno and this salt. All other lines stay.
+///
+/// It is refused as `Unknown` if the name has no account, and as `NumberSpent` if its kvno is the greatest.
+pub fn change_key(
+    lines: &mut Vec<Line>,
+    name: &[GeneralStringAsn1],
+    key: Key,
+    salt: Option<OctetStringAsn1>,
+) -> Result<(), EditRefusal>
+    ensures ok { OnOk result (HasChanged name.now (rekeyed key.suite key.bytes salt) lines.old.items lines.new.items) }
+    ensures unknown { (result ≡ Err EditRefusal.Unknown) ↔ (place_of name.now lines.old.items ≡ None) }
+    ensures refusal { IfErr result (λ e. (e ≡ EditRefusal.Unknown) ⊎ (e ≡ EditRefusal.NumberSpent)) }
+    ensures err { OnErr result (lines.new.items ≡ lines.old.items) }
+{
+    let Some(place) = place_of(lines, name) else {
+        return Err(EditRefusal::Unknown);
+    };
+    rekey(&mut lines[place], key, salt)
+}
+
+// Gives the account of a line its next key.
+fn rekey(line: &mut Line, key: Key, salt: Option<OctetStringAsn1>) -> Result<(), EditRefusal>
+    ensures ok { OnOk result (line.new ≡ rekeyed key.suite key.bytes salt line.old) }
+    ensures spent { result ≡ (if is_spent line.old then Err EditRefusal.NumberSpent else Ok tt) }
+    ensures err { OnErr result (line.new ≡ line.old) }
+{
+    let Line::Account(own) = line else {
+        return Ok(());
+    };
+    let kvno = own.account.kvno();
+    if kvno == u32::MAX {
+        return Err(EditRefusal::NumberSpent);
+    }
+    own.account = Account::new(key, kvno + 1, salt);
+    Ok(())
+}
+
+/// Takes the line of the account of a name away. All other lines stay. It is refused as `Unknown` if the name has no account.
+pub fn remove(lines: &mut Vec<Line>, name: &[GeneralStringAsn1]) -> Result<(), EditRefusal>
+    ensures ok { OnOk result (HasOneLess name.now lines.old.items lines.new.items) }
+    ensures unknown { (result ≡ Err EditRefusal.Unknown) ↔ (place_of name.now lines.old.items ≡ None) }
+    ensures refusal { IfErr result (λ e. e ≡ EditRefusal.Unknown) }
+    ensures err { OnErr result (lines.new.items ≡ lines.old.items) }
+{
+    let Some(place) = place_of(lines, name) else {
+        return Err(EditRefusal::Unknown);
+    };
+    let _line = lines.remove(place);
+    Ok(())
+}

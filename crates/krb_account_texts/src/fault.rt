@@ -1,0 +1,94 @@
+//! Why a text of accounts was not read.
+ghost use Rattle.std.specs.Prelude.{◌≡◌};
+ghost use Rattle.krb_account_texts.specs.declared.fault.LineFault.TheVariants as line_fault;
+ghost use Rattle.krb_account_texts.specs.declared.fault.TextFault.TheVariants as text_fault;
+
+use std::alloc::{AllocError, AllocFailed};
+use thiserror::Error;
+
+/// Why a line is none of a text of accounts: what was expected. It shows nothing of the line.
+#[derive(Clone, Copy, Debug, PartialEq, Eq, Error)]
+pub enum LineFault {
+    /// The line has another number of fields, or four of which the first isn't `realm`.
+    #[error("expected name, suite, kvno, salt and key, or realm, name, skew and lifetime, with a tab between each two")]
+    Fields,
+    /// The name is none of a principal.
+    #[error("name: expected 1 to 16 components of 1 to 255 ASCII characters, with / between each two")]
+    Name,
+    /// The suite is none that is known.
+    #[error("suite: expected one of aes128-cts-hmac-sha1-96, aes256-cts-hmac-sha1-96, des3-cbc-sha1-kd, aes128-cts-hmac-sha256-128, aes256-cts-hmac-sha384-192")]
+    Suite,
+    /// The kvno is no number from 1 on that has 32 bits.
+    #[error("kvno: expected a whole number from 1 to 4294967295")]
+    Kvno,
+    /// The salt isn't pairs of hexadecimal digits.
+    #[error("salt: expected pairs of hexadecimal digits, or - for none")]
+    Salt,
+    /// The key isn't as many pairs of hexadecimal digits as its suite's keys have octets.
+    #[error("key: expected as many hexadecimal digits as a key of the suite has: 32, 48 or 64")]
+    Key,
+    /// The realm's name is none of a realm, or has a control character.
+    #[error("realm: expected 1 to 255 printable ASCII characters")]
+    RealmName,
+    /// The clock skew or the lifetime is out of its range.
+    #[error("realm: expected a skew from 0 to 86400 seconds and a lifetime from 1 to 31536000 seconds")]
+    Seconds,
+    /// An account or the end of the text is before the realm's line.
+    #[error("expected the line of the realm before all accounts: realm, name, skew and lifetime")]
+    NoRealm,
+    /// There is a second line of a realm.
+    #[error("expected one line of a realm alone")]
+    SecondRealm,
+    /// The account's name isn't behind that of the account before it.
+    #[error("name: expected accounts in the order of their names, each name once")]
+    Order,
+    /// Memory ran out.
+    #[error("out of memory")]
+    Memory,
+}
+
+impl From<AllocError> for LineFault {
+    ghost from_gives = { λ _ fault. fault ≡ line_fault.Memory };
+
+    fn from(_error: AllocError) -> LineFault {
+        LineFault::Memory
+    }
+}
+
+impl<T: Drop> From<AllocFailed<T>> for LineFault {
+    ghost from_gives = { λ _ fault. fault ≡ line_fault.Memory };
+
+    fn from(_error: AllocFailed<T>) -> LineFault {
+        LineFault::Memory
+    }
+}
+
+/// Why a text is none of accounts, and in which line. The first line has number 1.
+#[derive(Clone, Copy, Debug, PartialEq, Eq, Error)]
+pub enum TextFault {
+    /// The line of this number has this fault.
+    #[error("{0}: {1}")]
+    Line(usize, LineFault),
+    /// The line of this number, which is the last one, has no line feed behind it.
+    #[error("{0}: expected a line break at the end")]
+    NoEnd(usize),
+    /// Memory ran out.
+    #[error("out of memory")]
+    Memory,
+}
+
+impl From<AllocError> for TextFault {
+    ghost from_gives = { λ _ fault. fault ≡ text_fault.Memory };
+
+    fn from(_error: AllocError) -> TextFault {
+        TextFault::Memory
+    }
+}
+
+impl<T: Drop> From<AllocFailed<T>> for TextFault {
+    ghost from_gives = { λ _ fault. fault ≡ text_fault.Memory };
+
+    fn from(_error: AllocFailed<T>) -> TextFault {
+        TextFault::Memory
+    }
+}

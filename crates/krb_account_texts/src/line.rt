@@ -1,0 +1,52 @@
+//! Lines of a text of accounts.
+ghost use Rattle.std.specs.Prelude.{◌≡◌, IfOk};
+
+use krb_accounts::{Account, Settings};
+use krb_constants::types::NT_PRINCIPAL;
+use krb_types::data_types::PrincipalName;
+use picky_asn1::wrapper::{Asn1SequenceOf, GeneralStringAsn1, IntegerAsn1};
+use picky_asn1_der::ExplicitContextTag;
+use std::alloc::{AllocError, Global};
+
+/// The line of the realm.
+#[derive(Drop)]
+pub struct RealmLine {
+    /// The realm's name.
+    pub name: GeneralStringAsn1,
+    /// Its clock skew and the greatest lifetime of a ticket.
+    pub settings: Settings,
+}
+
+/// The line of an account.
+#[derive(Drop)]
+pub struct AccountLine {
+    /// The name. Its components count alone.
+    pub name: PrincipalName,
+    /// The account.
+    pub account: Account,
+}
+
+/// A line of a text of accounts.
+#[derive(Drop)]
+pub enum Line {
+    /// A comment, with the `#` that it begins with.
+    Comment(String),
+    /// The realm.
+    Realm(RealmLine),
+    /// An account.
+    Account(AccountLine),
+}
+
+/// A name of these components.
+pub fn principal_name(
+    alloc: Global,
+    components: Vec<GeneralStringAsn1>,
+) -> Result<PrincipalName, AllocError>
+    ensures { IfOk result (λ name. name.name_string.0 ≡ components.items) }
+{
+    let name_type = IntegerAsn1::from_u64(alloc, u64::from(NT_PRINCIPAL))?;
+    Ok(PrincipalName {
+        name_type: ExplicitContextTag(name_type),
+        name_string: ExplicitContextTag(Asn1SequenceOf::from(components)),
+    })
+}

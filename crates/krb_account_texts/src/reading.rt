@@ -1,0 +1,169 @@
+//! Reading a text of accounts.
+ghost use Rattle.std.specs.Prelude.{◌≡◌, ◌==◌, ◌-◌, nat_eq, length, map, slice_index, take, IfOk};
+ghost use Rattle.std.specs.List.{slice_split};
+ghost use Rattle.krb_account_texts.specs.Lines.{written};
+ghost use Rattle.krb_account_texts.specs.Reading.{account_in, fields, is_ended, line_in, line_of, lines_in, lines_of, name_in, numbered, realm_in};
+ghost use Rattle.krb_account_texts.specs.Steps.{IsAside, each_from};
+
+use crate::fault::{LineFault, TextFault};
+use crate::fields::{
+    kvno_of, name_of, read_key, realm_name_of_text, salt_of, seconds_of, settings_of, suite_of,
+};
+use crate::line::{AccountLine, Line, RealmLine, principal_name};
+use krb_accounts::Account;
+use krb_types::data_types::PrincipalName;
+use std::alloc::{AllocError, Global};
+
+/// The lines that a text writes. It is refused with the number of the first line that is none, and with what was expected there.
+///
+/// Whether the lines are in order says [`check_order`](crate::check_order).
+#[tactic(auto, unfolding(crate::specs::Reading::lines_in))]
+pub fn read_lines(alloc: Global, text: &str) -> Result<Vec<Line>, TextFault>
+    ensures { IsAside TextFault.Memory (λ v. map written v.items) (lines_in text.now) result }
+{
+    let parts = parts_of(alloc, text)?;
+    let split = parts.as_slice();
+    read_split(alloc, split)
+}
+
+// The lines of the parts between line feeds.
+fn read_split(alloc: Global, parts: &[&str]) -> Result<Vec<Line>, TextFault>
+    ensures { IsAside TextFault.Memory (λ v. map written v.items) (lines_of (map (λ part. part.now) parts.now)) result }
+{
+    if !is_ended(parts) {
+        return Err(TextFault::NoEnd(parts.len()));
+    }
+    read_parts(alloc, front_of(parts))
+}
+
+// The parts before the last one.
+fn front_of<'a, 'b>(parts: &'a [&'b str]) -> &'a [&'b str]
+    ensures { result.now ≡ take (length parts.now - 1) parts.now }
+{
+    let count = parts.len().saturating_sub(1);
+    &parts[..count]
+}
+
+// Whether the last part is empty.
+fn is_ended(parts: &[&str]) -> bool
+    ensures { result ≡ is_ended (map (λ part. part.now) parts.now) }
+{
+    match parts.last() {
+        Some(part) => part.is_empty(),
+        None => true,
+    }
+}
+
+fn read_parts(alloc: Global, parts: &[&str]) -> Result<Vec<Line>, TextFault>
+    ensures { IsAside TextFault.Memory (λ v. map written v.items) (each_from numbered 1 (map (λ part. part.now) parts.now)) result }
+{
+    let mut lines = Vec::new(alloc);
+    for (index, part) in parts.iter().enumerate() {
+        lines.push(numbered(alloc, index + 1, part)?)?;
+    }
+    Ok(lines)
+}
+
+// The line of this number.
+fn numbered(alloc: Global, number: usize, text: &str) -> Result<Line, TextFault>
+    ensures { IsAside TextFault.Memory written (numbered number text.now) result }
+{
+    match read_line(alloc, text) {
+        Ok(line) => Ok(line),
+        Err(LineFault::Memory) => Err(TextFault::Memory),
+        Err(fault) => Err(TextFault::Line(number, fault)),
+    }
+}
+
+// The line that a text writes.
+#[tactic(auto, unfolding(crate::specs::Reading::line_in))]
+fn read_line(alloc: Global, text: &str) -> Result<Line, LineFault>
+    ensures { IsAside LineFault.Memory written (line_in text.now) result }
+{
+    if is_comment(text.as_bytes()) {
+        let text = String::from_str(alloc, text)?;
+        return Ok(Line::Comment(text));
+    }
+    let fields = fields_of(alloc, text)?;
+    line_of(alloc, &fields)
+}
+
+fn is_comment(text: &[u8]) -> bool
+    ensures { result ≡ (slice_index text.now 0 == 35) }
+{
+    match text.first() {
+        Some(first) => *first == b'#',
+        None => false,
+    }
+}
+
+// The line of these fields.
+fn line_of(alloc: Global, fields: &[&str]) -> Result<Line, LineFault>
+    ensures { IsAside LineFault.Memory written (line_of (map (λ field. field.now) fields.now)) result }
+{
+    match fields {
+        [word, name, skew, lifetime] => {
+            if *word == "realm" {
+                realm_of(alloc, name, skew, lifetime)
+            } else {
+                Err(LineFault::Fields)
+            }
+        }
+        [name, suite, kvno, salt, key] => account_of(alloc, name, suite, kvno, salt, key),
+        _ => Err(LineFault::Fields),
+    }
+}
+
+#[tactic(auto, unfolding(crate::specs::Reading::realm_in))]
+fn realm_of(alloc: Global, name: &str, skew: &str, lifetime: &str) -> Result<Line, LineFault>
+    ensures { IsAside LineFault.Memory written (realm_in name.now skew.now lifetime.now) result }
+{
+    let name = realm_name_of_text(alloc, name)?;
+    let skew = seconds_of(skew)?;
+    let lifetime = seconds_of(lifetime)?;
+    let settings = settings_of(skew, lifetime)?;
+    Ok(Line::Realm(RealmLine { name, settings }))
+}
+
+#[tactic(auto, unfolding(crate::specs::Reading::account_in))]
+fn account_of(
+    alloc: Global,
+    name: &str,
+    suite: &str,
+    kvno: &str,
+    salt: &str,
+    key: &str,
+) -> Result<Line, LineFault>
+    ensures { IsAside LineFault.Memory written (account_in name.now suite.now kvno.now salt.now key.now) result }
+{
+    let name = read_name(alloc, name)?;
+    let suite = suite_of(suite)?;
+    let kvno = kvno_of(kvno)?;
+    let salt = salt_of(alloc, salt)?;
+    let key = read_key(alloc, suite, key)?;
+    let account = Account::new(key, kvno, salt);
+    Ok(Line::Account(AccountLine { name, account }))
+}
+
+/// The name that a text writes, as RFC 1964 has it (section 2.1.3), if it is one of a principal.
+pub fn read_name(alloc: Global, text: &str) -> Result<PrincipalName, LineFault>
+    ensures { IsAside LineFault.Memory (λ name. name.name_string.0) (name_in text.now) result }
+{
+    let components = name_of(alloc, text)?;
+    let name = principal_name(alloc, components)?;
+    Ok(name)
+}
+
+// The parts between line feeds.
+fn parts_of<'a>(alloc: Global, text: &'a str) -> Result<Vec<&'a str>, AllocError>
+    ensures { IfOk result (λ v. map (λ part. part.now) v.items ≡ slice_split (λ octet. octet == 10) text.now) }
+{
+    text.split('\n').collect(alloc)
+}
+
+// The parts between tabs.
+fn fields_of<'a>(alloc: Global, text: &'a str) -> Result<Vec<&'a str>, AllocError>
+    ensures { IfOk result (λ v. map (λ part. part.now) v.items ≡ fields text.now) }
+{
+    text.split('\t').collect(alloc)
+}

@@ -1,0 +1,68 @@
+//! Writing a text of accounts.
+ghost use Rattle.std.specs.Prelude.{◌≡◌, ◌∷◌, ◌++◌, [], map, string_bytes, IfOk, OnOk};
+ghost use Rattle.std.specs.Option.{option_map};
+ghost use Rattle.krb_account_texts.specs.Lines.{account_text, line_text, realm_text, salt_text, text_of, written};
+
+use crate::line::{AccountLine, Line, RealmLine};
+use krb_settings::suite_name;
+use picky_asn1::wrapper::OctetStringAsn1;
+use std::alloc::{AllocError, Global};
+
+/// Writes lines, with a line feed behind each.
+pub fn text_of(alloc: Global, lines: &[Line]) -> Result<String, AllocError>
+    ensures { IfOk result (λ text. string_bytes text ≡ text_of (map written lines.now)) }
+{
+    let mut text = String::new(alloc);
+    for line in lines {
+        put_line(alloc, &mut text, line)?;
+    }
+    Ok(text)
+}
+
+fn put_line(alloc: Global, text: &mut String, line: &Line) -> Result<(), AllocError>
+    ensures { OnOk result (string_bytes text.new ≡ string_bytes text.old ++ (line_text (written line.now) ++ 10 ∷ [])) }
+{
+    let own = line_text(alloc, line)?;
+    text.push_str(&own)?;
+    text.push('\n')
+}
+
+/// Writes a line, without a line feed.
+pub fn line_text(alloc: Global, line: &Line) -> Result<String, AllocError>
+    ensures { IfOk result (λ text. string_bytes text ≡ line_text (written line.now)) }
+{
+    match line {
+        Line::Comment(text) => String::from_str(alloc, text.as_str()),
+        Line::Realm(realm) => realm_text(alloc, realm),
+        Line::Account(account) => account_text(alloc, account),
+    }
+}
+
+fn realm_text(alloc: Global, line: &RealmLine) -> Result<String, AllocError>
+    ensures { IfOk result (λ text. string_bytes text ≡ realm_text line.now.name line.now.settings) }
+{
+    let name = &line.name;
+    let skew = line.settings.skew();
+    let lifetime = line.settings.lifetime();
+    format!(in alloc; "realm\t{name}\t{skew}\t{lifetime}")
+}
+
+fn account_text(alloc: Global, line: &AccountLine) -> Result<String, AllocError>
+    ensures { IfOk result (λ text. string_bytes text ≡ account_text line.now.name.name_string.0 line.now.account) }
+{
+    let name = &line.name;
+    let suite = suite_name(line.account.suite());
+    let kvno = line.account.kvno();
+    let salt = salt_text(alloc, line.account.salt())?;
+    let key = hex::encode(alloc, line.account.key().as_bytes())?;
+    format!(in alloc; "{name}\t{suite}\t{kvno}\t{salt}\t{key}")
+}
+
+fn salt_text(alloc: Global, salt: Option<&OctetStringAsn1>) -> Result<String, AllocError>
+    ensures { IfOk result (λ text. string_bytes text ≡ salt_text (option_map (λ salt. salt.now) salt.entry)) }
+{
+    match salt {
+        None => String::from_str(alloc, "-"),
+        Some(salt) => hex::encode(alloc, salt.as_bytes()),
+    }
+}
