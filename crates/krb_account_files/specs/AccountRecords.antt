@@ -5,7 +5,7 @@ use Rattle.byte_layouts.specs.Numbers.{le32, le32_at}
 use Rattle.krb_crypto.specs.declared.suite.CipherSuite.{CipherSuite}
 use Rattle.krb_crypto.specs.Suites.{cipher_key_size, cipher_number, cipher_suites}
 use Rattle.krb_accounts.specs.Account.{AccountRecord}
-use Rattle.krb_account_files.specs.declared.format.TheConstants.{ACCOUNT_HEAD, VERSION}
+use Rattle.krb_account_files.specs.declared.format.TheConstants.{ACCOUNT_HEAD, RECORD_VERSION}
 
 -- The suite of these that has a number, if one has it.
 abbrev suite_among : ℕ → List CipherSuite → Option CipherSuite
@@ -38,7 +38,7 @@ of_suite octets (Some suite) = account_behind suite octets
 -- The account whose record the octets are, if they are one.
 unfoldable pub account_in : List ℕ → Option AccountRecord
 account_in octets =
-    if nat_lt (length octets) ACCOUNT_HEAD || not (slice_index octets 0 == VERSION) then None else of_suite octets (suite_numbered (slice_index octets 1))
+    if nat_lt (length octets) ACCOUNT_HEAD || not (slice_index octets 0 == RECORD_VERSION) then None else of_suite octets (suite_numbered (slice_index octets 1))
 
 -- Octet 6, and the salt's octets.
 abbrev pub salt_flag : Option (List ℕ) → ℕ
@@ -51,4 +51,4 @@ salt_octets (Some salt) = salt
 
 -- The record of an account.
 unfoldable pub account_bytes : AccountRecord → List ℕ
-account_bytes account = VERSION ∷ cipher_number account.suite ∷ (le32 account.kvno ++ (salt_flag account.salt ∷ (account.key ++ salt_octets account.salt)))
+account_bytes account = RECORD_VERSION ∷ cipher_number account.suite ∷ (le32 account.kvno ++ (salt_flag account.salt ∷ (account.key ++ salt_octets account.salt)))

@@ -6,7 +6,7 @@ use Rattle.byte_layouts.specs.Numbers.{le32, le32_at}
 use Rattle.krb_accounts.specs.Names.{is_realm_name}
 use Rattle.krb_accounts.specs.Settings.{SettingsRecord}
 use Rattle.krb_accounts.specs.declared.settings.TheConstants.{LIFETIME_LIMIT, SKEW_LIMIT}
-use Rattle.krb_account_files.specs.declared.format.TheConstants.{REALM_HEAD, VERSION}
+use Rattle.krb_account_files.specs.declared.format.TheConstants.{REALM_HEAD, RECORD_VERSION}
 use Rattle.krb_account_files.specs.declared.realm_parameters.RealmParameters.{RealmParameters}
 
 -- The settings of this clock skew and greatest lifetime, if both are in their ranges.
@@ -22,10 +22,10 @@ named_realm name (Some settings) = if is_realm_name name then Some (record { nam
 -- The realm whose record the octets are, if they are one.
 unfoldable pub realm_in : List ℕ → Option RealmParameters
 realm_in octets =
-    if nat_lt (length octets) REALM_HEAD || not (slice_index octets 0 == VERSION) then None
+    if nat_lt (length octets) REALM_HEAD || not (slice_index octets 0 == RECORD_VERSION) then None
     else (if not (le32_at 9 octets == 0) || not (le32_at 13 octets == 0) then None
     else named_realm (drop REALM_HEAD octets) (settings_of (le32_at 1 octets) (le32_at 5 octets)))
 
 -- The record of a realm.
 unfoldable pub realm_bytes : RealmParameters → List ℕ
-realm_bytes realm = VERSION ∷ (le32 realm.settings.skew ++ (le32 realm.settings.lifetime ++ (le32 0 ++ (le32 0 ++ realm.name))))
+realm_bytes realm = RECORD_VERSION ∷ (le32 realm.settings.skew ++ (le32 realm.settings.lifetime ++ (le32 0 ++ (le32 0 ++ realm.name))))

@@ -5,7 +5,7 @@ ghost use Rattle.krb_account_files.specs.AccountRecords.{account_behind, account
 ghost use Rattle.krb_account_files.specs.Reading.{IsReadAs};
 
 use crate::fault::RecordFault;
-use crate::format::{ACCOUNT_HEAD, VERSION};
+use crate::format::{ACCOUNT_HEAD, RECORD_VERSION};
 use byte_layouts::u32_le;
 use krb_accounts::Account;
 use krb_crypto::{CipherSuite, Key};
@@ -18,7 +18,7 @@ use std::alloc::{AllocError, Global};
 pub fn read_account(alloc: Global, bytes: &[u8]) -> Result<Account, RecordFault>
     ensures { IsReadAs (account_in bytes.now) result }
 {
-    if bytes.len() < ACCOUNT_HEAD || bytes[0] != VERSION {
+    if bytes.len() < ACCOUNT_HEAD || bytes[0] != RECORD_VERSION {
         return Err(RecordFault::Damaged);
     }
     let Some(suite) = suite_numbered(bytes[1]) else {
@@ -58,7 +58,7 @@ pub fn account_bytes(alloc: Global, account: &Account) -> Result<Vec<u8>, AllocE
     ensures { IfOk result (λ bytes. bytes.items ≡ account_bytes account.now) }
 {
     let number = u8::from(account.suite());
-    let mut bytes = vec![in alloc; VERSION, number]?;
+    let mut bytes = vec![in alloc; RECORD_VERSION, number]?;
     bytes.extend_from_slice(&account.kvno().to_le_bytes())?;
     match account.salt() {
         None => {

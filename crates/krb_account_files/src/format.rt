@@ -1,7 +1,7 @@
 //! The numbers of the format.
 
 /// The version of both records, of an account and of the realm: their octet 0.
-pub const VERSION: u8 = 1;
+pub const RECORD_VERSION: u8 = 1;
 
 /// How many octets an account's record has before the key: the version, the suite's number, the kvno, and whether there is a salt.
 pub const ACCOUNT_HEAD: usize = 7;

@@ -24,7 +24,7 @@ pub use account_file::{AccountFile, realm_of};
 pub use account_record::{account_bytes, read_account};
 pub use answer::answer_from;
 pub use fault::RecordFault;
-pub use format::{ACCOUNT_HEAD, REALM_HEAD, REALM_KEY, RECORD_ROOM, VERSION};
+pub use format::{ACCOUNT_HEAD, REALM_HEAD, REALM_KEY, RECORD_ROOM, RECORD_VERSION};
 pub use realm_parameters::RealmParameters;
 pub use realm_record::{read_realm, realm_bytes};
 pub use writing::{NamedAccount, write_accounts};

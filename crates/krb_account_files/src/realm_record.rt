@@ -4,7 +4,7 @@ ghost use Rattle.krb_account_files.specs.RealmRecords.{named_realm, realm_bytes,
 ghost use Rattle.krb_account_files.specs.Reading.{IsReadAs};
 
 use crate::fault::RecordFault;
-use crate::format::{REALM_HEAD, VERSION};
+use crate::format::{REALM_HEAD, RECORD_VERSION};
 use crate::realm_parameters::RealmParameters;
 use byte_layouts::{u32_le, u32_le_bytes};
 use krb_accounts::{RealmRefusal, Settings, realm_name_of};
@@ -16,7 +16,7 @@ use std::alloc::{AllocError, Global};
 pub fn read_realm(alloc: Global, bytes: &[u8]) -> Result<RealmParameters, RecordFault>
     ensures { IsReadAs (realm_in bytes.now) result }
 {
-    if bytes.len() < REALM_HEAD || bytes[0] != VERSION {
+    if bytes.len() < REALM_HEAD || bytes[0] != RECORD_VERSION {
         return Err(RecordFault::Damaged);
     }
     if u32_le(bytes, 9) != 0 || u32_le(bytes, 13) != 0 {
@@ -60,7 +60,7 @@ fn named_realm(
 pub fn realm_bytes(alloc: Global, realm: &RealmParameters) -> Result<Vec<u8>, AllocError>
     ensures { IfOk result (λ bytes. bytes.items ≡ realm_bytes realm.now) }
 {
-    let mut bytes = vec![in alloc; VERSION]?;
+    let mut bytes = vec![in alloc; RECORD_VERSION]?;
     bytes.extend_from_slice(&u32_le_bytes(realm.settings.skew() as u32))?;
     bytes.extend_from_slice(&u32_le_bytes(realm.settings.lifetime() as u32))?;
     bytes.extend_from_slice(&u32_le_bytes(0))?;

@@ -2,7 +2,6 @@ pub mod Checks
 pub mod Files
 pub mod Realms
 pub mod Runs
-pub mod Clock
 pub mod Devices
 pub mod Moments
 pub mod Outcomes

@@ -1,15 +1,15 @@
 //! A run of the program with arguments.
 
-use crate::clock::after_epoch;
 use crate::outcome::{Outcome, Stop};
 use crate::run::run_settings;
 use byte_streams::{Sink, Source, Watched};
+use krb_clock::now;
 use krb_frames::ServeFault;
 use krb_settings::SETTINGS_LIMIT;
 use krb_time::Moment;
 use std::fs::{self, Files};
 use std::io::{self, ErrorKind, Read};
-use std::time::{Clock, SystemTime, UNIX_EPOCH};
+use std::time::Clock;
 
 /// A run of the program with these arguments: a settings file, a file of random bytes, and the moment of all messages: `now`,
 /// or `YYYYMMDDHHMMSSZ` (RFC 4120, section 5.2.3).
@@ -52,13 +52,6 @@ fn moment_of<C: Clock>(clock: &C, text: &str) -> Option<Moment> {
     } else {
         Moment::from_text(text.as_bytes())
     }
-}
-
-// The clock's moment, or none if it fails or is past the year 9999.
-fn now<C: Clock>(clock: &C) -> Option<Moment> {
-    let time = SystemTime::now(clock).ok()?;
-    let elapsed = time.duration_since(UNIX_EPOCH).ok()?;
-    after_epoch(elapsed.as_secs(), elapsed.subsec_micros())
 }
 
 /// The bytes of a settings file. Of one that is too long, one byte more than it may have.

@@ -10,7 +10,6 @@
 #![tactic(auto)]
 
 mod check;
-mod clock;
 mod console;
 mod fault;
 pub mod laws;
@@ -21,9 +20,9 @@ mod run;
 mod serving;
 
 pub use check::{FileCheck, check_file};
-pub use clock::after_epoch;
 pub use console::{read_file, run_with_arguments};
 pub use fault::KdcFault;
+pub use krb_clock::after_epoch;
 pub use outcome::{Outcome, Stop};
 pub use process::run_process;
 pub use realm::{realm_of_file, realm_of_settings};

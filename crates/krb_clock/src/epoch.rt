@@ -1,7 +1,7 @@
 //! The moment of a machine's clock.
 ghost use Rattle.std.specs.Prelude.{◌<◌, ◌≤◌, SomeIff};
 ghost use Rattle.krb_time.specs.Moment.{IsMoment};
-ghost use Rattle.krb_program.specs.Clock.{micros_after_epoch};
+ghost use Rattle.krb_clock.specs.Epoch.{micros_after_epoch};
 
 use krb_time::Moment;
 
