@@ -1,0 +1,200 @@
+//! The command `import`.
+
+use crate::accounts::{refusal_of, service_name, two_lines};
+use crate::arguments::expected;
+use crate::files::{is_there, octets_of};
+use crate::secrets::{SaltedKey, key_of_password};
+use crate::stop::{Stop, failed, refused};
+use crate::texts::begin_change;
+use krb_account_texts::{AccountLine, EditRefusal, Line, RealmLine, add, principal_name};
+use krb_accounts::{Account, RealmRefusal, Settings, components_of, realm_name_of};
+use krb_crypto::{CipherSuite, Key};
+use krb_settings::{AccountSettings, RealmSettings, Secret, SettingsFault, read_settings_file};
+use krb_settings_check::{Place, Rule, explain, explain_rule, warnings_of};
+use picky_asn1::wrapper::GeneralStringAsn1;
+use std::alloc::Global;
+
+/// `import SETTINGS TEXT`: makes a text of the realm of a settings file. Each account has kvno 1.
+pub(crate) fn import(rt: &HostRuntime, arguments: &[String]) -> Result<(), Stop> {
+    let [settings, path] = arguments else {
+        return Err(expected(rt.alloc(), "import SETTINGS TEXT"));
+    };
+    let path = path.as_str();
+    let change = begin_change(rt, path)?;
+    let lines = imported(rt, settings.as_str(), path);
+    change.finish(rt, lines)
+}
+
+fn imported(rt: &HostRuntime, settings: &str, path: &str) -> Result<Vec<Line>, Stop> {
+    let alloc = rt.alloc();
+    if is_there(rt, path) {
+        return Err(failed(
+            alloc,
+            format_args!("{path} is there: expected no such file"),
+        ));
+    }
+    let source = Source {
+        path: settings,
+        text: octets_of(rt, settings)?,
+    };
+    let written = settings_of(alloc, &source)?;
+    warn_of_settings(rt, &source, &written)?;
+    lines_of(rt, &source, &written)
+}
+
+// What the settings file says.
+fn settings_of(alloc: Global, source: &Source<'_>) -> Result<RealmSettings, Stop> {
+    match read_settings_file(alloc, &source.text) {
+        Ok(written) => Ok(written),
+        Err(SettingsFault::Memory) => Err(Stop::Memory),
+        Err(fault) => {
+            let path = source.path;
+            let remark = explain(alloc, &source.text, fault)?;
+            Err(refused(alloc, format_args!("{path}{remark}")))
+        }
+    }
+}
+
+fn warn_of_settings(
+    rt: &HostRuntime,
+    source: &Source<'_>,
+    written: &RealmSettings,
+) -> Result<(), Stop> {
+    let path = source.path;
+    for remark in &warnings_of(rt.alloc(), &source.text, written)? {
+        // A warning that can't be written is no fault.
+        let _ = eprintln!(rt; "krb_accounts: {path}{remark}");
+    }
+    Ok(())
+}
+
+/// A settings file.
+#[derive(Drop)]
+struct Source<'a> {
+    path: &'a str,
+    text: Vec<u8>,
+}
+
+impl<'a> Source<'a> {
+    // The stop of a rule that a table of the file breaks.
+    fn breaks(&self, rt: &HostRuntime, place: Place, rule: Rule) -> Stop {
+        let path = self.path;
+        match explain_rule(rt.alloc(), &self.text, place, rule) {
+            Ok(remark) => refused(rt.alloc(), format_args!("{path}{remark}")),
+            Err(_) => Stop::Memory,
+        }
+    }
+}
+
+// The lines of a realm.
+fn lines_of(
+    rt: &HostRuntime,
+    source: &Source<'_>,
+    written: &RealmSettings,
+) -> Result<Vec<Line>, Stop> {
+    let own = realm_of(rt, source, written)?;
+    let service = service_of(rt, source, written, &own.name)?;
+    let mut lines = two_lines(rt.alloc(), own, service)?;
+    for (index, account) in written.accounts.iter().enumerate() {
+        let place = Place::Account(index.saturating_add(1));
+        let line = account_of(rt, source, place, &written.name, account)?;
+        put_line(rt, source, place, &mut lines, line)?;
+    }
+    Ok(lines)
+}
+
+// The line of the realm's ticket-granting service.
+fn service_of(
+    rt: &HostRuntime,
+    source: &Source<'_>,
+    written: &RealmSettings,
+    realm: &GeneralStringAsn1,
+) -> Result<AccountLine, Stop> {
+    let name = service_name(rt.alloc(), realm)?;
+    let key = key_of(rt, source, Place::File, written.suite, &written.key)?;
+    let account = Account::new(key, 1, None);
+    Ok(AccountLine { name, account })
+}
+
+fn put_line(
+    rt: &HostRuntime,
+    source: &Source<'_>,
+    place: Place,
+    lines: &mut Vec<Line>,
+    line: AccountLine,
+) -> Result<(), Stop> {
+    match add(lines, line) {
+        Ok(()) => Ok(()),
+        Err(EditRefusal::Exists) => Err(source.breaks(rt, place, Rule::Exists)),
+        Err(refusal) => Err(refusal_of(rt.alloc(), refusal)),
+    }
+}
+
+fn realm_of(
+    rt: &HostRuntime,
+    source: &Source<'_>,
+    written: &RealmSettings,
+) -> Result<RealmLine, Stop> {
+    let name = match realm_name_of(rt.alloc(), &written.name) {
+        Ok(name) => name,
+        Err(RealmRefusal::Memory) => return Err(Stop::Memory),
+        Err(_) => return Err(source.breaks(rt, Place::File, Rule::Name)),
+    };
+    match Settings::new(written.skew, written.lifetime) {
+        Ok(settings) => Ok(RealmLine { name, settings }),
+        Err(_) => Err(source.breaks(rt, Place::File, Rule::Range)),
+    }
+}
+
+fn key_of(
+    rt: &HostRuntime,
+    source: &Source<'_>,
+    place: Place,
+    suite: CipherSuite,
+    octets: &[u8],
+) -> Result<Key, Stop> {
+    let Ok(key) = Key::new(suite, octets) else {
+        return Err(source.breaks(rt, place, Rule::KeyLength));
+    };
+    Ok(key)
+}
+
+// The line of an account.
+fn account_of(
+    rt: &HostRuntime,
+    source: &Source<'_>,
+    place: Place,
+    realm: &[u8],
+    account: &AccountSettings,
+) -> Result<AccountLine, Stop> {
+    let alloc = rt.alloc();
+    let components = match components_of(alloc, &account.name) {
+        Ok(components) => components,
+        Err(RealmRefusal::Memory) => return Err(Stop::Memory),
+        Err(_) => return Err(source.breaks(rt, place, Rule::Name)),
+    };
+    let salted = salted_key_of(rt, source, place, realm, &components, account)?;
+    let name = principal_name(alloc, components)?;
+    let account = Account::new(salted.key, 1, salted.salt);
+    Ok(AccountLine { name, account })
+}
+
+// The key of an account.
+fn salted_key_of(
+    rt: &HostRuntime,
+    source: &Source<'_>,
+    place: Place,
+    realm: &[u8],
+    name: &[GeneralStringAsn1],
+    account: &AccountSettings,
+) -> Result<SaltedKey, Stop> {
+    match &account.secret {
+        Secret::Password(password) => {
+            key_of_password(rt.alloc(), account.suite, password, realm, name)
+        }
+        Secret::Key(octets) => Ok(SaltedKey {
+            key: key_of(rt, source, place, account.suite, octets)?,
+            salt: None,
+        }),
+    }
+}

@@ -1,0 +1,95 @@
+//! The program `krb_accounts`: an administrator's tool for the accounts of a realm.
+//!
+//! A text file is the master: `krb_account_texts` has its lines. The database that a KDC reads is made of it. `krb_accounts --help`
+//! prints the commands. Passwords and keys come by standard input alone, and none is shown.
+//!
+//! A file is written whole or not at all. The new file is made beside the old one, under its name with `.new`, with mode 0600, and takes
+//! its place once it is on disk. While it is there no other run writes. If a run fails, it removes its new file, and the old file stands.
+//!
+//! The status is 0 if the command was done. It is 1 if a text, a name, a key or a password was refused, or if `check` found a
+//! difference. It is 2 if the arguments are none, another run writes, a file can't be read or written, or memory ran out. One line on
+//! standard error says what was expected.
+//!
+//! It is safe, returns, and meets what its calls require. No contract says what files and standard output hold.
+#![tactic(auto)]
+
+mod accounts;
+mod arguments;
+mod database;
+mod files;
+mod imports;
+mod keytabs;
+mod secrets;
+mod stop;
+mod texts;
+mod warnings;
+
+use crate::arguments::{arguments_of, is_word};
+use crate::stop::{Stop, failed};
+use std::process::ExitCode;
+
+/// The version of the program.
+const VERSION: &str = "krb_accounts 0.1.0";
+
+/// What `--help` prints, and what a run with other arguments expects.
+const USAGE: &str = "usage:
+  krb_accounts create TEXT REALM                      makes TEXT, with the realm's key from standard input
+  krb_accounts import SETTINGS TEXT                   makes TEXT of a settings file of krb_realm
+  krb_accounts list TEXT                              prints names, suites and kvnos
+  krb_accounts add [-e SUITE] [-k] TEXT NAME          adds an account, with kvno 1
+  krb_accounts key [-e SUITE] [-k] TEXT NAME          gives an account its next key, with the next kvno
+  krb_accounts remove TEXT NAME                       takes an account away
+  krb_accounts keytab TEXT KEYTAB NAME..              writes the accounts' keys to KEYTAB, and keeps the keys that it has
+  krb_accounts make TEXT DATABASE                     makes the database of TEXT
+  krb_accounts check TEXT DATABASE                    says whether the database answers as TEXT does
+  krb_accounts --help, krb_accounts --version
+Standard input is one line: the password, or with -k and for create the key in hexadecimal digits. NAME is as in host/server.example.com.
+SUITE is a name such as aes256-cts-hmac-sha1-96, which is also that of create and add if none is given. key keeps the account's suite.";
+
+fn main(rt: HostRuntime) -> ExitCode {
+    let stop = match run(&rt) {
+        Ok(()) => return ExitCode::SUCCESS,
+        Err(stop) => stop,
+    };
+    // Where standard error takes nothing, the status still tells.
+    let _ = eprintln!(rt; "krb_accounts: {stop}");
+    ExitCode::from(stop.status())
+}
+
+/// Runs the command of the arguments.
+fn run(rt: &HostRuntime) -> Result<(), Stop> {
+    let arguments = arguments_of(rt)?;
+    let [command, rest @ ..] = arguments.as_slice() else {
+        return Err(failed(rt.alloc(), "no command: expected one of --help"));
+    };
+    if is_word(command, "--help") {
+        return print_line(rt, USAGE);
+    }
+    if is_word(command, "--version") {
+        return print_line(rt, VERSION);
+    }
+    run_command(rt, command.as_str(), rest)
+}
+
+fn run_command(rt: &HostRuntime, command: &str, rest: &[String]) -> Result<(), Stop> {
+    match command {
+        "create" => accounts::create(rt, rest),
+        "import" => imports::import(rt, rest),
+        "list" => accounts::list(rt, rest),
+        "add" => accounts::add_account(rt, rest),
+        "key" => accounts::change_account(rt, rest),
+        "remove" => accounts::remove_account(rt, rest),
+        "keytab" => keytabs::keytab(rt, rest),
+        "make" => database::make(rt, rest),
+        "check" => database::check(rt, rest),
+        _ => Err(failed(rt.alloc(), "no such command: expected one of --help")),
+    }
+}
+
+/// Prints a line on standard output.
+fn print_line(rt: &HostRuntime, line: &str) -> Result<(), Stop> {
+    match println!(rt; "{line}") {
+        Ok(()) => Ok(()),
+        Err(_) => Err(failed(rt.alloc(), "standard output can't be written")),
+    }
+}

@@ -1,0 +1,101 @@
+//! Passwords and keys, which come by standard input.
+
+use crate::stop::{Stop, failed, refused};
+use krb_account_texts::{LineFault, read_key};
+use krb_accounts::password_salt;
+use krb_crypto::{CipherSuite, KerberosCryptoError, Key};
+use picky_asn1::wrapper::{GeneralStringAsn1, OctetStringAsn1};
+use std::alloc::{AllocError, Global};
+use std::io::{ErrorKind, Read};
+
+/// How many octets standard input may have.
+const SECRET_LIMIT: usize = 4_096;
+
+/// A key, and the salt with which it was made of a password, if it was.
+#[derive(Drop)]
+pub(crate) struct SaltedKey {
+    /// The key.
+    pub(crate) key: Key,
+    /// The salt.
+    pub(crate) salt: Option<OctetStringAsn1>,
+}
+
+/// The one line of standard input, without its end.
+pub(crate) fn read_secret(rt: &HostRuntime) -> Result<Vec<u8>, Stop> {
+    let mut octets = Vec::new(rt.alloc());
+    if let Err(fault) = rt
+        .stdin()
+        .take(SECRET_LIMIT as u64 + 1)
+        .read_to_end(&mut octets)
+    {
+        return match fault.kind() {
+            ErrorKind::OutOfMemory => Err(Stop::Memory),
+            _ => Err(failed(
+                rt.alloc(),
+                format_args!("standard input can't be read: {fault}"),
+            )),
+        };
+    }
+    if octets.last() == Some(&b'\n') {
+        let _end = octets.pop();
+    }
+    if octets.is_empty() || SECRET_LIMIT < octets.len() || octets.contains(&b'\n') {
+        return Err(refused(
+            rt.alloc(),
+            "standard input: expected one line of 1 to 4096 octets, the password or the key",
+        ));
+    }
+    Ok(octets)
+}
+
+/// The key of a suite that hexadecimal digits write.
+pub(crate) fn key_of_digits(
+    alloc: Global,
+    suite: CipherSuite,
+    digits: &[u8],
+) -> Result<SaltedKey, Stop> {
+    let digits = str::from_utf8(digits).unwrap_or("");
+    match read_key(alloc, suite, digits) {
+        Ok(key) => Ok(SaltedKey { key, salt: None }),
+        Err(LineFault::Memory) => Err(Stop::Memory),
+        Err(_) => Err(refused(
+            alloc,
+            format_args!(
+                "standard input: expected {} hexadecimal digits",
+                suite.key_size().saturating_mul(2)
+            ),
+        )),
+    }
+}
+
+/// The key of a password, with the salt that a realm and a name have (RFC 4120, section 4).
+pub(crate) fn key_of_password(
+    alloc: Global,
+    suite: CipherSuite,
+    password: &[u8],
+    realm: &[u8],
+    name: &[GeneralStringAsn1],
+) -> Result<SaltedKey, Stop> {
+    let components = octets_of(alloc, name)?;
+    let salt = password_salt(alloc, realm, &components)?;
+    match Key::of_password(alloc, suite, password, &salt) {
+        Ok(key) => Ok(SaltedKey {
+            key,
+            salt: Some(OctetStringAsn1::from(salt)),
+        }),
+        Err(KerberosCryptoError::Memory) => Err(Stop::Memory),
+        Err(_) => Err(refused(alloc, "standard input: expected a password")),
+    }
+}
+
+/// The octets of each component.
+pub(crate) fn octets_of(
+    alloc: Global,
+    name: &[GeneralStringAsn1],
+) -> Result<Vec<Vec<u8>>, AllocError> {
+    let mut components = Vec::new(alloc);
+    for component in name {
+        components.push(Vec::from_slice(alloc, component.as_bytes())?)?;
+    }
+    Ok(components)
+}

@@ -1,0 +1,62 @@
+//! Why a command was not done.
+
+use std::alloc::{AllocError, AllocFailed, Global};
+use std::fmt;
+
+/// Why a command was not done, in one line that shows no secret.
+#[derive(Debug, Drop)]
+pub(crate) enum Stop {
+    /// A text, a name, a key or a password was refused, or a database differs.
+    Refused(String),
+    /// The arguments are none, another run writes, or a file can't be read or written.
+    Failed(String),
+    /// Memory ran out.
+    Memory,
+}
+
+impl Stop {
+    /// The status of the program.
+    pub(crate) fn status(&self) -> u8 {
+        match self {
+            Stop::Refused(_) => 1,
+            Stop::Failed(_) | Stop::Memory => 2,
+        }
+    }
+}
+
+impl fmt::Display for Stop {
+    fn fmt<W: fmt::Write>(&self, f: &mut fmt::Formatter<W>) -> fmt::Result {
+        match self {
+            Stop::Refused(text) | Stop::Failed(text) => f.write_str(text.as_str()),
+            Stop::Memory => f.write_str("out of memory"),
+        }
+    }
+}
+
+impl From<AllocError> for Stop {
+    fn from(_error: AllocError) -> Stop {
+        Stop::Memory
+    }
+}
+
+impl<T: Drop> From<AllocFailed<T>> for Stop {
+    fn from(_error: AllocFailed<T>) -> Stop {
+        Stop::Memory
+    }
+}
+
+/// A refusal in these words.
+pub(crate) fn refused<D: fmt::Display + Drop>(alloc: Global, words: D) -> Stop {
+    match format!(in alloc; "{words}") {
+        Ok(text) => Stop::Refused(text),
+        Err(_) => Stop::Memory,
+    }
+}
+
+/// A failure in these words.
+pub(crate) fn failed<D: fmt::Display + Drop>(alloc: Global, words: D) -> Stop {
+    match format!(in alloc; "{words}") {
+        Ok(text) => Stop::Failed(text),
+        Err(_) => Stop::Memory,
+    }
+}

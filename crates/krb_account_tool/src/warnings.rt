@@ -1,0 +1,107 @@
+//! What is likely a slip in an account, by the rules for settings files.
+
+use crate::secrets::octets_of;
+use crate::stop::Stop;
+use krb_account_texts::{Line, RealmLine, place_of};
+use krb_crypto::CipherSuite;
+use krb_settings::{AccountSettings, RealmSettings, Secret};
+use krb_settings_check::warnings_of;
+use krb_types::data_types::PrincipalName;
+use krb_types::{krbtgt, krbtgt_of};
+use std::alloc::Global;
+
+/// What warnings of an account's own fields begin with, as those of a settings file of one account.
+const OF_ACCOUNT: &str = "warning: account 1: ";
+
+/// What warnings of the realm begin with.
+const OF_REALM: &str = "warning: ";
+
+/// The name of a realm, and the key of its ticket-granting service.
+#[derive(Drop)]
+pub(crate) struct RealmKey {
+    name: Vec<u8>,
+    suite: CipherSuite,
+    key: Vec<u8>,
+}
+
+impl RealmKey {
+    /// That of the realm of these lines. A realm that has no key yet has an empty one here.
+    pub(crate) fn among(
+        alloc: Global,
+        realm: &RealmLine,
+        lines: &[Line],
+    ) -> Result<RealmKey, Stop> {
+        let name = Vec::from_slice(alloc, realm.name.as_bytes())?;
+        let service = krbtgt_of(alloc, &realm.name)?;
+        let mut suite = CipherSuite::Aes256CtsHmacSha196;
+        let mut key = Vec::new(alloc);
+        if let Some(place) = place_of(lines, &service) {
+            if let Line::Account(own) = &lines[place] {
+                suite = own.account.suite();
+                key = Vec::from_slice(alloc, own.account.key().as_bytes())?;
+            }
+        }
+        Ok(RealmKey { name, suite, key })
+    }
+
+    /// Whether a name is that of the realm's ticket-granting service.
+    pub(crate) fn is_of(&self, name: &PrincipalName) -> bool {
+        let [first, second] = name.name_string.0.as_slice() else {
+            return false;
+        };
+        first.as_bytes() == krbtgt() && second.as_bytes() == self.name.as_slice()
+    }
+
+    // The settings of the realm, with these accounts.
+    fn settings(
+        &self,
+        alloc: Global,
+        accounts: Vec<AccountSettings>,
+    ) -> Result<RealmSettings, Stop> {
+        Ok(RealmSettings {
+            name: Vec::from_slice(alloc, &self.name)?,
+            suite: self.suite,
+            key: Vec::from_slice(alloc, &self.key)?,
+            skew: 0,
+            lifetime: 1,
+            accounts,
+        })
+    }
+}
+
+/// Warns of the realm's name and key.
+pub(crate) fn warn_of_realm(rt: &HostRuntime, realm: &RealmKey) -> Result<(), Stop> {
+    let settings = realm.settings(rt.alloc(), Vec::new(rt.alloc()))?;
+    for remark in &warnings_of(rt.alloc(), b"", &settings)? {
+        if let Some(words) = remark.text.as_str().strip_prefix(OF_REALM) {
+            // A warning that can't be written is no fault.
+            let _ = eprintln!(rt; "krb_accounts: warning: {words}");
+        }
+    }
+    Ok(())
+}
+
+/// Warns of an account's name, and of its password or key.
+pub(crate) fn warn_of_account(
+    rt: &HostRuntime,
+    realm: &RealmKey,
+    name: &PrincipalName,
+    suite: CipherSuite,
+    secret: Secret,
+) -> Result<(), Stop> {
+    let alloc = rt.alloc();
+    let components = octets_of(alloc, name.name_string.0.as_slice())?;
+    let account = AccountSettings {
+        name: components,
+        suite,
+        secret,
+    };
+    let settings = realm.settings(alloc, vec![in alloc; account]?)?;
+    for remark in &warnings_of(alloc, b"", &settings)? {
+        if let Some(words) = remark.text.as_str().strip_prefix(OF_ACCOUNT) {
+            // A warning that can't be written is no fault.
+            let _ = eprintln!(rt; "krb_accounts: warning: {name}: {words}");
+        }
+    }
+    Ok(())
+}

@@ -1,0 +1,124 @@
+//! Serving a database.
+
+use crate::arguments::Served;
+use crate::serving::serve_by_clock;
+use crate::stop::{Device, Stop};
+use byte_streams::{Sink, Source, Watched};
+use krb_account_files::realm_of;
+use krb_file_realms::{AtPath, FileFault, FileRealm, NoPkinit, Opens, Tells};
+use krb_frames::ServeFault;
+use krb_log::Logged;
+use std::alloc::Global;
+use std::fs::{self, File, Files};
+use std::io::ErrorKind;
+use std::time::Clock;
+
+// Says on standard error why a database can't be used.
+#[derive(Clone, Copy)]
+struct Reported<'a, F: Eprint> {
+    rt: &'a F,
+    path: &'a str,
+}
+
+impl<'a, F: Eprint> Tells for Reported<'a, F> {
+    fn tell(&self, fault: FileFault) {
+        let path = self.path;
+        // Where standard error takes nothing, the status still tells.
+        let _ = eprintln!(self.rt; "krb_kdcd: {path}: {fault}");
+    }
+}
+
+/// Answers the frames of `reader` on `writer` for the realm of a database, which is opened anew for each message, as the clock is read for
+/// each.
+///
+/// It stops before the first message if the database has no realm that can be read, or if the file of random octets can't be opened. If
+/// the database can't be used later on, it stops at that message. What was wrong has been said on standard error then.
+pub fn serve_database<'a, F: Files<File = File> + Clock + Eprint + AllocGlobal, R: Source, W: Sink>(
+    rt: &F,
+    served: Served<'a>,
+    reader: &mut R,
+    writer: &mut W,
+) -> Result<(), Stop<'a>> {
+    let accounts = AtPath {
+        files: rt,
+        path: served.database,
+    };
+    find_realm(rt.alloc(), &accounts)?;
+    let mut words = open_words(rt, served.words)?;
+    match serve_opened(rt, &accounts, served.is_logged, &mut words, reader, writer) {
+        Ok(_) => Ok(()),
+        Err(fault) => {
+            let device = device_of(served.words, fault, Source::failures(&words));
+            Err(Stop::Serving(device, fault))
+        }
+    }
+}
+
+// Serves the realm of a database, which has no logins by certificate.
+fn serve_opened<
+    F: Files<File = File> + Clock + Eprint + AllocGlobal,
+    K: Source,
+    R: Source,
+    W: Sink,
+>(
+    rt: &F,
+    accounts: &AtPath<'_, '_, F>,
+    is_logged: bool,
+    words: &mut K,
+    reader: &mut R,
+    writer: &mut W,
+) -> Result<u64, ServeFault> {
+    let faults = Reported {
+        rt,
+        path: accounts.path,
+    };
+    let realm = FileRealm {
+        accounts,
+        pkinit: &NoPkinit,
+        faults: &faults,
+    };
+    if is_logged {
+        let logged = Logged {
+            responder: &realm,
+            rt,
+        };
+        return serve_by_clock(rt.alloc(), rt, &logged, words, reader, writer);
+    }
+    serve_by_clock(rt.alloc(), rt, &realm, words, reader, writer)
+}
+
+// Whether the database has a realm that can be read.
+fn find_realm<'a, F: Files<File = File>>(
+    alloc: Global,
+    accounts: &AtPath<'_, 'a, F>,
+) -> Result<(), Stop<'a>> {
+    let file = match accounts.open() {
+        Ok(file) => file,
+        Err(kind) => return Err(Stop::Database(accounts.path, FileFault::Unopened(kind))),
+    };
+    match realm_of(alloc, &file) {
+        Ok(_) => Ok(()),
+        Err(fault) => match FileFault::of(fault) {
+            Some(fault) => Err(Stop::Database(accounts.path, fault)),
+            None => Err(Stop::Memory),
+        },
+    }
+}
+
+// The file of random octets. It isn't buffered: each message takes its own octets and no more.
+fn open_words<'a, F: Files>(files: &F, path: &'a str) -> Result<Watched<F::File>, Stop<'a>> {
+    match fs::open(files, path) {
+        Ok(file) => Ok(Watched::new(file)),
+        Err(fault) if fault.kind() == ErrorKind::OutOfMemory => Err(Stop::Memory),
+        Err(fault) => Err(Stop::Words(path, fault.kind())),
+    }
+}
+
+// The device at which serving stopped: the random octets where they ended, or where a read of them failed.
+fn device_of(words: &str, fault: ServeFault, failures: u64) -> Device<'_> {
+    match fault {
+        ServeFault::NoWords => Device::Words(words),
+        ServeFault::Read if failures > 0 => Device::Words(words),
+        _ => Device::Stream,
+    }
+}

@@ -1,0 +1,73 @@
+//! The responder over a file that is opened for each message.
+ghost use Rattle.std.specs.Prelude.{◌≡◌};
+ghost use Rattle.krb_lookups.specs.Answers.{refusal_of};
+
+use crate::fault::{FileFault, Tells};
+use crate::opens::Opens;
+use krb_account_files::{AccountFile, answer_from};
+use krb_frames::{AnswerRefusal, Responder};
+use krb_lookups::{LookupRefusal, begins_request, refusal_of};
+use krb_time::Moment;
+use pkinit_interface::Pkinit;
+use std::alloc::Global;
+
+/// The realm of a file, as the responder of a frame loop. The file is opened anew for each request: its realm, its settings and its
+/// accounts count for that one. For bytes that begin no request nothing is opened.
+#[derive(Clone, Copy)]
+pub struct FileRealm<'a, O: Opens, P: Pkinit, T: Tells> {
+    /// What opens the file.
+    pub accounts: &'a O,
+    /// What requests by certificate are judged by.
+    pub pkinit: &'a P,
+    /// What is told of a file that can't be used.
+    pub faults: &'a T,
+}
+
+impl<'a, O: Opens, P: Pkinit, T: Tells> Responder for FileRealm<'a, O, P, T> {
+    ghost use Rattle.krb_file_realms.specs.Replies.{MayLack, RepliesFrom};
+    ghost use Rattle.krb_lookups.specs.Begins.{BeginsRequest};
+
+    ghost replies = { λ own. RepliesFrom (O.opens own.accounts.now) O.File.content (P.rows own.pkinit.now) };
+
+    ghost may_want_memory = { λ _ message. BeginsRequest message };
+
+    ghost may_lack_accounts = { λ own. MayLack (O.opens own.accounts.now) (O.fails own.accounts.now) O.File.content O.File.fails };
+
+    fn answer(
+        &self,
+        alloc: Global,
+        message: &[u8],
+        moment: Moment,
+        words: &[u8],
+    ) -> Result<Vec<u8>, AnswerRefusal> {
+        if !begins_request(message) {
+            return Err(AnswerRefusal::Unreadable);
+        }
+        let file = match self.accounts.open() {
+            Ok(file) => file,
+            Err(kind) => {
+                self.faults.tell(FileFault::Unopened(kind));
+                return Err(AnswerRefusal::Accounts);
+            }
+        };
+        let accounts = AccountFile { file };
+        let answered = answer_from(alloc, &accounts, self.pkinit, message, moment, words);
+        drop(accounts);
+        match answered {
+            Ok(reply) => Ok(reply),
+            Err(refusal) => Err(told(self.faults, refusal)),
+        }
+    }
+}
+
+// Tells why the file can't be used, if that is why there is no reply, and returns the refusal of the responder.
+fn told<T: Tells>(faults: &T, refusal: LookupRefusal) -> AnswerRefusal
+    ensures { result ≡ refusal_of refusal }
+{
+    if let LookupRefusal::Fault(fault) = refusal {
+        if let Some(fault) = FileFault::of(fault) {
+            faults.tell(fault);
+        }
+    }
+    refusal_of(refusal)
+}

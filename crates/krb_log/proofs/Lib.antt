@@ -1,0 +1,2 @@
+mod Visible
+mod OneComponent

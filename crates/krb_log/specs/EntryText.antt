@@ -1,0 +1,68 @@
+-- The text of an entry: exchange, client, service and answer, with a blank between them.
+use Rattle.std.specs.Prelude.{◌≡◌, ℕ, List, ◌++◌, codes, Option, None, Some, string_bytes, String, refl}
+use Rattle.std.specs.Global.{Global}
+use Rattle.std.specs.Fmt.{decimal}
+use Rattle.picky_asn1.specs.IntegerText.{integer_text}
+use Rattle.krb_constants.specs.ErrorNames.{error_name}
+use Rattle.krb_frames.specs.declared.fault.AnswerRefusal.{AnswerRefusal}
+use Rattle.krb_frames.specs.declared.fault.AnswerRefusal.TheVariants.{Unreadable, Memory, Accounts}
+use Rattle.krb_log.specs.declared.answer.Answer.{Answer}
+use Rattle.krb_log.specs.declared.answer.Answer.TheVariants.{Ticket, Error, Other, Refused}
+use Rattle.krb_log.specs.declared.answer.Granted.{Granted}
+use Rattle.krb_log.specs.declared.asked.Asked.{Asked}
+use Rattle.krb_log.specs.declared.asked.Asked.TheVariants.{As, Tgs, Nothing}
+use Rattle.krb_log.specs.declared.entry.Entry.{Entry}
+
+-- a name, or a dash in its place
+abbrev pub shown_or_dash : Option (String Global) → List ℕ
+shown_or_dash None = codes "-"
+shown_or_dash (Some text) = string_bytes text
+
+abbrev pub exchange_text : Asked → List ℕ
+exchange_text (As names) = codes "AS"
+exchange_text (Tgs names) = codes "TGS"
+exchange_text Nothing = codes "-"
+
+abbrev pub asked_client : Asked → List ℕ
+asked_client (As names) = shown_or_dash names.client
+asked_client (Tgs names) = shown_or_dash names.client
+asked_client Nothing = codes "-"
+
+-- the client of a ticket, else the one that the request names
+abbrev pub client_text : Asked → Answer → List ℕ
+client_text asked (Ticket granted) = string_bytes granted.client
+client_text asked _ = asked_client asked
+
+abbrev pub service_text : Asked → List ℕ
+service_text (As names) = shown_or_dash names.service
+service_text (Tgs names) = shown_or_dash names.service
+service_text Nothing = codes "-"
+
+-- the encryption types of the ticket and of the reply's part
+abbrev pub granted_text : Granted → List ℕ
+granted_text granted = codes "ticket=" ++ integer_text granted.ticket_etype ++ codes " reply=" ++ integer_text granted.reply_etype
+
+abbrev pub name_or_number : ℕ → Option (List ℕ) → List ℕ
+name_or_number code None = decimal code
+name_or_number code (Some name) = name
+
+-- the name of an error, or its number
+abbrev pub code_text : ℕ → List ℕ
+code_text code = name_or_number code (error_name code)
+
+abbrev pub refusal_text : AnswerRefusal → List ℕ
+refusal_text Unreadable = codes "no-request"
+refusal_text Memory = codes "no-memory"
+refusal_text Accounts = codes "no-accounts"
+
+abbrev pub answer_text : Answer → List ℕ
+answer_text (Ticket granted) = granted_text granted
+answer_text (Error code) = codes "error=" ++ code_text code
+answer_text Other = codes "other"
+answer_text (Refused refusal) = refusal_text refusal
+
+-- An entry's text.
+abbrev pub entry_text : Entry → List ℕ
+entry_text entry =
+    exchange_text entry.asked ++ codes " " ++ client_text entry.asked entry.answer ++ codes " " ++ service_text entry.asked
+    ++ codes " " ++ answer_text entry.answer

@@ -1,0 +1,87 @@
+//! What a message asks for.
+ghost use Rattle.std.specs.Prelude.{◌≡◌, IfOk};
+ghost use Rattle.krb_log.specs.Asked.{IsAsked, IsFoundIn, IsNamed};
+ghost use Rattle.krb_messages.specs.Messages.{IsAsReq, IsTgsReq};
+
+use crate::name::shown_name;
+use krb_messages::messages::{AsReq, KdcReqBody, TgsReq};
+use krb_types::data_types::{PrincipalName, Realm};
+use picky_asn1_der::read_whole;
+use std::alloc::{AllocError, Global};
+
+/// What a message asks for.
+#[derive(Debug, Drop)]
+pub enum Asked {
+    /// It is an AS request, with these names.
+    As(Names),
+    /// It is a TGS request, with these names.
+    Tgs(Names),
+    /// It is no request.
+    Nothing,
+}
+
+/// The names of a request, as a line has them.
+#[derive(Debug, Drop)]
+pub struct Names {
+    /// The client, if the request names one: a TGS request doesn't.
+    pub client: Option<String>,
+    /// The service, if the request names one.
+    pub service: Option<String>,
+}
+
+impl Asked {
+    /// Returns what a message asks for (RFC 4120, section 5.4.1).
+    pub(crate) fn of(alloc: Global, message: &[u8]) -> Result<Asked, AllocError>
+        ensures { IfOk result (IsAsked message.now) }
+    {
+        if let Some(names) = names_of_as(alloc, message)? {
+            return Ok(Asked::As(names));
+        }
+        match names_of_tgs(alloc, message)? {
+            Some(names) => Ok(Asked::Tgs(names)),
+            None => Ok(Asked::Nothing),
+        }
+    }
+}
+
+// Returns the names of the AS request that the message is, or none.
+fn names_of_as(alloc: Global, message: &[u8]) -> Result<Option<Names>, AllocError>
+    ensures { IfOk result (IsFoundIn (IsAsReq message.now)) }
+{
+    let read: Option<AsReq> = read_whole(alloc, message)?;
+    let Some(request) = read else {
+        return Ok(None);
+    };
+    let names = names_in(alloc, &request.0.req_body.0);
+    drop(request);
+    Ok(Some(names?))
+}
+
+// Returns the names of the TGS request that the message is, or none.
+fn names_of_tgs(alloc: Global, message: &[u8]) -> Result<Option<Names>, AllocError>
+    ensures { IfOk result (IsFoundIn (IsTgsReq message.now)) }
+{
+    let read: Option<TgsReq> = read_whole(alloc, message)?;
+    let Some(request) = read else {
+        return Ok(None);
+    };
+    let names = names_in(alloc, &request.0.req_body.0);
+    drop(request);
+    Ok(Some(names?))
+}
+
+// Returns the names that a request's body has.
+fn names_in(alloc: Global, body: &KdcReqBody) -> Result<Names, AllocError>
+    ensures { IfOk result (IsNamed body.now) }
+{
+    let realm = &body.realm.0;
+    let client = match &body.cname.0 {
+        Some(name) => Some(shown_name(alloc, &name.0, realm)?),
+        None => None,
+    };
+    let service = match &body.sname.0 {
+        Some(name) => Some(shown_name(alloc, &name.0, realm)?),
+        None => None,
+    };
+    Ok(Names { client, service })
+}
