@@ -2,10 +2,12 @@
 many accounts as the other arguments say: see kdc.sh."""
 import os, resource, shutil, socket, subprocess, sys, tempfile, time
 
+import account_files
+
 TICKET = 0x6B  # the first octet of an AS reply
 ASKED = 0x6A  # that of an AS request
 PASSWORD = b"correct horse battery staple"
-SUITE = "aes256-cts-hmac-sha1-96"
+SUITE, SUITE_NUMBER = "aes256-cts-hmac-sha1-96", 18
 HELD = []
 
 
@@ -25,6 +27,17 @@ def start(words, **options):
     return HELD[-1].pid
 
 
+def wait_for(port):
+    """Waits until something listens on the port, at most for half a minute: on a busy machine a start takes seconds."""
+    until = time.monotonic() + 30
+    while time.monotonic() < until:
+        with open("/proc/net/tcp") as sockets:
+            if any(f":{port:04X} 00000000:0000 0A " in line for line in sockets):
+                return
+        time.sleep(0.02)
+    raise SystemExit(f"nothing listens on port {port}")
+
+
 def processor_seconds(process):
     """Of a process and of the children that it has waited for: user and system."""
     fields = [int(field) for field in open(f"/proc/{process}/stat").read().rsplit(")", 1)[1].split()[11:15]]
@@ -42,6 +55,18 @@ def write_settings(path, key, accounts):
         for name in [*other_names(accounts), "a"]:
             own = key if name == "a" else os.urandom(32).hex()
             settings.write(f'[[account]]\nname = ["{name}"]\nsuite = "{SUITE}"\nkey = "{own}"\n')
+
+
+def named_accounts(key, accounts):
+    """The name of a, of the realm's own service and of others, each with an account by key: so many without the realm's own."""
+    for name in [*other_names(accounts), "a", "krbtgt/R"]:
+        own = bytes.fromhex(key) if name == "a" else os.urandom(32)
+        yield tuple(name.encode().split(b"/")), account_files.Account(SUITE_NUMBER, own, 1, None)
+
+
+def write_database(path, key, accounts):
+    """The same as the settings, as a database."""
+    account_files.write_realm(path, account_files.Realm(b"R", 300, 36000), named_accounts(key, accounts))
 
 
 def write_keytab(path, environment):
@@ -68,6 +93,7 @@ def request_of_kinit(folder, to, keytab):
         script.write(f"#!/bin/sh\ntee -a {taken} | socat - TCP:127.0.0.1:{to}\n")
     os.chmod(tap, 0o755)
     start(["socat", f"TCP-LISTEN:{port},fork,reuseaddr,bind=127.0.0.1", "EXEC:" + tap])
+    wait_for(port)
     run(["kinit", "-k", "-t", keytab, "a"], env=configure(folder, port))
     stream, request = open(taken, "rb").read(), b""
     while stream:
@@ -113,7 +139,7 @@ def measure(name, process, requests, ask):
     return tell(name, len(requests), answered, seconds, used)
 
 
-def measure_pipe(words, requests):
+def measure_pipe(words, requests, name="krb_realm, one pipe"):
     """From a file into a file, as one stream of one process."""
     with tempfile.TemporaryFile() as asked, tempfile.TemporaryFile() as told:
         asked.write(b"".join(map(framed, requests)))
@@ -126,7 +152,7 @@ def measure_pipe(words, requests):
         while place < len(stream):
             tickets += stream[place + 4] == TICKET
             place += 4 + int.from_bytes(stream[place:place + 4], "big")
-    return tell("krb_realm, one pipe", len(requests), tickets, seconds, used_between(before, after))
+    return tell(name, len(requests), tickets, seconds, used_between(before, after))
 
 
 def used_between(before, after):
@@ -146,7 +172,9 @@ def measure_starts(words):
 def bridge_to(words):
     """The port of a bridge that starts this program for each connection, and the bridge's process."""
     port = free_port()
-    return port, start(["socat", f"TCP-LISTEN:{port},fork,reuseaddr,bind=127.0.0.1", "EXEC:" + " ".join(words)])
+    bridge = start(["socat", f"TCP-LISTEN:{port},fork,reuseaddr,bind=127.0.0.1", "EXEC:" + " ".join(words)])
+    wait_for(port)
+    return port, bridge
 
 
 def measure_program(folder, program, accounts):
@@ -166,7 +194,8 @@ def measure_program(folder, program, accounts):
     return keytab
 
 
-def start_stock(folder, port, accounts):
+def make_stock(folder, port, accounts):
+    """A database of krb5kdc with so many principals, of which one is a: the environment in which krb5kdc serves it at a port."""
     with open(os.path.join(folder, "kdc.conf"), "w") as configuration:
         configuration.write(
             f"[kdcdefaults]\n kdc_listen = 127.0.0.1:{port}\n kdc_tcp_listen = 127.0.0.1:{port}\n"
@@ -176,12 +205,31 @@ def start_stock(folder, port, accounts):
             "  disable_lockout = true\n }\n")
     environment = dict(configure(folder, port), KRB5_KDC_PROFILE=os.path.join(folder, "kdc.conf"))
     run(["kdb5_util", "create", "-r", "R", "-s", "-P", "master"], env=environment)
-    added = [f"addprinc +requires_preauth -randkey {name}\n" for name in other_names(accounts)]
-    added.append(f'addprinc +requires_preauth -pw "{PASSWORD.decode()}" a\n')
-    run(["kadmin.local", "-r", "R"], input="".join(added).encode(), env=environment)
-    listed = set(run(["kadmin.local", "-r", "R", "-q", "listprincs"], env=environment).stdout.decode().split())
-    assert {f"{name}@R" for name in [*other_names(accounts), "a"]} <= listed, "krb5kdc lacks accounts"
-    return start(["krb5kdc", "-n", "-r", "R"], env=environment)
+    added = f'addprinc +requires_preauth -pw "{PASSWORD.decode()}" a\naddprinc +requires_preauth -randkey user1\n'
+    run(["kadmin.local", "-r", "R"], input=added.encode(), env=environment)
+    add_stock(os.path.join(folder, "dump"), other_names(accounts) or ["user1"], environment)
+    return environment
+
+
+def start_stock(folder, port, accounts):
+    process = start(["krb5kdc", "-n", "-r", "R"], env=make_stock(folder, port, accounts))
+    wait_for(port)
+    return process
+
+
+def add_stock(dump, names, environment):
+    """Principals of these names, of which the first is there: the others are copies of it, through a dump. kadmin adds but few a second."""
+    run(["kdb5_util", "-r", "R", "dump", dump], env=environment)
+    with open(dump, "r+") as lines:
+        fields = next(line for line in lines if f"\t{names[0]}@R\t" in line).split("\t")
+        lines.seek(0, os.SEEK_END)
+        for name in names[1:]:
+            fields[2], fields[6] = str(len(name) + 2), f"{name}@R"
+            lines.write("\t".join(fields))
+    run(["kdb5_util", "-r", "R", "load", dump], env=environment)
+    os.remove(dump)
+    told = run(["kadmin.local", "-r", "R", "-q", f"getprinc {names[-1]}"], env=environment).stdout
+    assert f"Principal: {names[-1]}@R".encode() in told, "krb5kdc lacks accounts"
 
 
 def measure_stock(folder, keytab, accounts):

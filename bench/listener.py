@@ -1,6 +1,7 @@
 """Measures krb_listen, and plays hostile clients against it: see listener.sh.
 
 usage: listener.py cost|flood|all [COMMAND ARGUMENT..]     COMMAND answers frames; without it that is a stub in C, or in python3
+       listener.py kdcd [ACCOUNTS..]                       the same before krb_kdcd, which KRB_KDCD names
 """
 import collections, contextlib, itertools, multiprocessing, os, random, selectors, shutil, socket, statistics
 import subprocess, sys, tempfile, threading, time
@@ -11,6 +12,7 @@ TOP = os.path.dirname(os.path.dirname(os.path.abspath(__file__)))
 HOST = "127.0.0.1"
 WORKERS = 4
 EXCHANGES = {"UDP": 20_000, "TCP": 10_000}
+CLIENTS, OF_EACH = 16, 3_000  # at once, and how many exchanges each has
 # A request of an unknown client, as a stock kinit sends it. A realm of any name answers it by a KRB-ERROR.
 RECORDED = os.path.join(TOP, "crates/krb_realmd/stdin")
 REPLY = 600  # octets of the stub's replies, as those of an AS-REP
@@ -60,14 +62,14 @@ def stub(folder):
 
 
 @contextlib.contextmanager
-def listening(folder, command):
-    """krb_listen before this command: its process and its port. Its log is in the folder."""
+def listening(folder, command, workers=WORKERS):
+    """krb_listen before so many processes of this command: its process and its port. Its log is in the folder."""
     port, log = kdc.free_port(), os.path.join(folder, "log")
     with open(log, "w") as errors:
-        words = [f"{TOP}/examples/krb_listen", "--listen", f"{HOST}:{port}", "--workers", str(WORKERS), "--", *command]
+        words = [f"{TOP}/examples/krb_listen", "--listen", f"{HOST}:{port}", "--workers", str(workers), "--", *command]
         process = subprocess.Popen(words, stderr=errors)
     try:
-        time.sleep(1)
+        kdc.wait_for(port)
         yield process.pid, port
     finally:
         process.terminate()
@@ -146,26 +148,110 @@ def cost(folder, command):
     with listening(folder, command) as (process, port):
         udp = measure("krb_listen, UDP", process, [asked] * EXCHANGES["UDP"], asking_udp(port))
         tcp = measure("krb_listen, TCP", process, [asked] * EXCHANGES["TCP"], lambda it: over_tcp(port, it))
-    if all(map(shutil.which, ("krb5kdc", "kdb5_util", "kadmin.local", "kinit", "ktutil", "socat"))):
+    if has_stock():
         stock = stock_costs(folder)
         print(f"in parts of krb5kdc's: UDP {udp / stock[0]:.2f}, TCP {tcp / stock[1]:.2f}. A stub's reply takes no cryptography", flush=True)
-    many(folder, command, asked)
-
-
-def many(folder, command, asked):
-    """Exchanges a second of 16 clients at once, over UDP."""
-    count, clients, script = 3_000, 16, (
-        "import socket, sys\nit = socket.socket(socket.AF_INET, socket.SOCK_DGRAM)\n"
-        "it.settimeout(10)\nit.connect((sys.argv[1], int(sys.argv[2])))\n"
-        "for _ in range(int(sys.argv[3])):\n    it.send(bytes.fromhex(sys.argv[4]))\n    it.recv(65536)\n"
-    )
     with listening(folder, command) as (process, port):
-        before, began = used(process), time.monotonic()
-        words = [sys.executable, "-c", script, HOST, str(port), str(count), asked.hex()]
-        statuses = [it.wait() for it in [subprocess.Popen(words) for _ in range(clients)]]
-        seconds, each = time.monotonic() - began, (used(process) - before) / count / clients * 1e6
-        assert not any(statuses), "a client had no reply"
-    tell(f"krb_listen, UDP, {clients} clients at once", count * clients / seconds, each)
+        many("krb_listen", folder, process, port, [asked] * (CLIENTS * OF_EACH))
+
+
+def has_stock():
+    return all(map(shutil.which, ("krb5kdc", "kdb5_util", "kadmin.local", "kinit", "ktutil", "socat")))
+
+
+CLIENT = """
+import socket, sys
+it = socket.socket(socket.AF_INET, socket.SOCK_DGRAM)
+it.settimeout(10)
+it.connect((sys.argv[1], int(sys.argv[2])))
+octets, size = open(sys.argv[3], "rb").read(), int(sys.argv[4])
+for at in range(0, len(octets), size):
+    it.send(octets[at : at + size])
+    assert it.recv(65536)[0] == int(sys.argv[5])
+"""
+
+
+def many(name, folder, process, port, requests, kind=0x7E):
+    """Exchanges a second of clients at once, over UDP: each has its own requests, of one length, and takes replies of one kind."""
+    clients = []
+    for number in range(CLIENTS):
+        own = os.path.join(folder, f"requests{number}")
+        with open(own, "wb") as file:
+            file.write(b"".join(requests[number::CLIENTS]))
+        clients.append([sys.executable, "-c", CLIENT, HOST, str(port), own, str(len(requests[0])), str(kind)])
+    before, began = used(process), time.monotonic()
+    statuses = [it.wait() for it in [subprocess.Popen(words) for words in clients]]
+    seconds, each = time.monotonic() - began, (used(process) - before) / len(requests) * 1e6
+    assert not any(statuses), "a client had no reply"
+    tell(f"{name}, UDP, {CLIENTS} clients at once", len(requests) / seconds, each)
+    return each
+
+
+# krb_kdcd beside krb5kdc
+
+@contextlib.contextmanager
+def on_processors(count):
+    """What is started meanwhile has so many processors."""
+    whole = os.sched_getaffinity(0)
+    os.sched_setaffinity(0, sorted(whole)[:count])
+    try:
+        yield
+    finally:
+        os.sched_setaffinity(0, whole)
+
+
+@contextlib.contextmanager
+def kdcd_listening(folder, command, processors):
+    with contextlib.ExitStack() as stack:
+        with on_processors(processors):
+            listener = stack.enter_context(listening(folder, command, processors))
+        yield listener
+
+
+@contextlib.contextmanager
+def stock_listening(environment, port, processors):
+    """krb5kdc with as many processes: its process and its port."""
+    with on_processors(processors):
+        kdc.start(["krb5kdc", "-n", "-r", "R", *(["-w", str(processors)] if processors > 1 else [])], env=environment)
+    held = kdc.HELD.pop()
+    try:
+        kdc.wait_for(port)
+        yield held.pid, port
+    finally:
+        held.terminate()
+        held.wait()
+
+
+def exchange_costs(name, folder, process, port, keytab):
+    """The microseconds of an AS exchange over UDP, over TCP, and over UDP of clients at once."""
+    ask, ticket = asking_udp(port), bytes([kdc.TICKET])
+
+    def requests(count):  # of this moment: on a busy machine each measure takes minutes, and a KDC takes a time of 5 minutes before
+        return kdc.numbered(kdc.request_of_kinit(folder, port, keytab), count)
+
+    return (measure(f"{name}, UDP", process, requests(EXCHANGES["UDP"]), lambda it: ask(it)[:1] == ticket),
+            measure(f"{name}, TCP", process, requests(EXCHANGES["TCP"]), lambda it: over_tcp(port, it)[:1] == ticket),
+            many(name, folder, process, port, requests(CLIENTS * OF_EACH), kdc.TICKET))
+
+
+def beside_stock(folder, count):
+    """AS exchanges of krb_kdcd and of krb5kdc with so many accounts, with one and with four processors; then hostile clients."""
+    keytab, database, stock_port = os.path.join(folder, "keytab"), os.path.join(folder, "accounts.cdb"), kdc.free_port()
+    kdc.write_database(database, kdc.write_keytab(keytab, kdc.configure(folder, 1)), count)
+    command = [os.environ["KRB_KDCD"], database, "/dev/urandom", "--log"]
+    environment = kdc.make_stock(folder, stock_port, count) if has_stock() else None
+    for processors in (1, 4):
+        print(f"with {count} accounts and {processors} processors:", flush=True)
+        with kdcd_listening(folder, command, processors) as (process, port):
+            costs = exchange_costs("krb_kdcd behind krb_listen", folder, process, port, keytab)
+        if environment:
+            with stock_listening(environment, stock_port, processors) as (process, port):
+                stock = exchange_costs("krb5kdc", folder, process, port, keytab)
+            parts = ", ".join(f"{one / other:.2f}" for one, other in zip(costs, stock))
+            print(f"in parts of krb5kdc's: UDP, TCP, UDP at once: {parts}", flush=True)
+    with kdcd_listening(folder, command, 1) as (_, port):
+        asked = kdc.request_of_kinit(folder, port, keytab)
+    play_hostile(folder, command, asked)
 
 
 # Hostile clients
@@ -239,8 +325,8 @@ def ask_honestly(ask, asked, over, seconds):
             seconds.append(None)
 
 
-def play_hostile(folder, command):
-    asked, over, honest = request(), threading.Event(), {"UDP": [], "TCP": []}
+def play_hostile(folder, command, asked):
+    over, honest = threading.Event(), {"UDP": [], "TCP": []}
     with listening(folder, command) as (process, port):
         silent = [connecting(port, it) for it in sources(8, 40) * 13][:SILENT]
         ways = {"UDP": asking_udp(port, PATIENCE), "TCP": lambda it: over_tcp(port, it, seconds=PATIENCE)}
@@ -287,19 +373,27 @@ def say_hostile(told, spent, honest, left, log):
     assert not left, "a silent connection is open"
 
 
-def main(what, *command):
+def run(what, words):
     with tempfile.TemporaryDirectory() as folder:
         try:
-            command = command or stub(folder)
+            if what == "kdcd":
+                beside_stock(folder, int(words[0]))
+                return
+            command = words or stub(folder)
             if what in ("cost", "all"):
                 cost(folder, command)
             if what in ("flood", "all"):
-                play_hostile(folder, command)
+                play_hostile(folder, command, request())
         finally:
             while kdc.HELD:
                 kdc.HELD[-1].terminate()
                 kdc.HELD.pop().wait()
 
 
+def main(what="all", *words):
+    for each in [[it] for it in words or ("10", "1000000")] if what == "kdcd" else [words]:
+        run(what, each)
+
+
 if __name__ == "__main__":
-    main(*(sys.argv[1:] or ["all"]))
+    main(*sys.argv[1:])

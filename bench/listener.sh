@@ -5,6 +5,17 @@
 # isn't answered at its first try within 3 seconds, or a silent connection stays.
 #
 # Usage: bench/listener.sh [cost|flood|all [COMMAND ARGUMENT..]]. COMMAND is a program that answers frames. Without it the workers are a
-# stub that answers at once, so the figures are those of the listener. It needs python3, cc for the stub, and for krb5kdc what
-# bench/kdc.sh needs.
-exec python3 -B "$(dirname "$0")/listener.py" "$@"
+# stub that answers at once, so the figures are those of the listener.
+#
+# Or bench/listener.sh kdcd [ACCOUNTS..]: the workers are krb_kdcd, which logs, over a realm of 10 and then of 1,000,000 accounts, or of the
+# numbers given. Each exchange is a preauthenticated AS request, and krb5kdc has as many principals: with one processor and one process
+# of each KDC, and with four. Making krb5kdc's database of 1,000,000 takes a minute or two, and 0.8 GB of disk.
+#
+# It needs python3, cc for the stub, and for krb_kdcd and krb5kdc what bench/kdc.sh needs. KRB_KDCD may name a built program.
+set -e
+top=$(cd "$(dirname "$0")/.." && pwd)
+if [ "${1:-}" = kdcd ]; then
+    . "$top/bench/programs.sh"
+    program KRB_KDCD krb_kdcd
+fi
+exec python3 -B "$top/bench/listener.py" "$@"

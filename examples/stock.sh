@@ -97,16 +97,19 @@ make_settings() {
     host_key=$(sed -n 's/^key = "\(.*\)"/\1/p' "$work/settings.toml" | tail -n 1)
 }
 
-# The realm of the settings, whose replies are kept, too; sets port and bridge.
+# The realm of the settings behind socat, whose replies are kept, too; sets port and bridge. KRB_REALMD may name the built program.
 start_realm() {
-    "$top/krb_realm" </dev/null || exit 2
-    printf '#!/bin/sh\n%s %s/settings.toml /dev/urandom now | tee -a %s/replies\n' "$top/crates/krb_realmd/out/krb_realmd" "$work" "$work" >"$work/realm"
+    if [ -z "${KRB_REALMD:-}" ]; then
+        "$top/krb_realm" </dev/null || exit 2
+        KRB_REALMD=$top/crates/krb_realmd/out/krb_realmd
+    fi
+    printf '#!/bin/sh\n%s %s/settings.toml /dev/urandom now | tee -a %s/replies\n' "$KRB_REALMD" "$work" "$work" >"$work/realm"
     chmod +x "$work/realm"
     listen socat "TCP-LISTEN:PORT,bind=127.0.0.1,fork,reuseaddr" "EXEC:$work/realm"
     bridge=$started
 }
 
-# configuration KDC FURTHER
+# configuration KDC FURTHER [LIMIT]: MIT's clients ask over TCP where a message has more octets than the limit. Without one that is each.
 configuration() {
     cat <<CONF
 [libdefaults]
@@ -115,7 +118,7 @@ configuration() {
     dns_lookup_realm = false
     dns_canonicalize_hostname = false
     rdns = false
-    udp_preference_limit = 1
+    udp_preference_limit = ${3:-1}
     $2
 [realms]
     EXAMPLE.COM = {
