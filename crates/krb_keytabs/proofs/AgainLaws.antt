@@ -13,8 +13,8 @@ use Rattle.krb_keytabs.proofs.NumberLaws.{length-be32, be16-first, be32-first, b
 use Rattle.krb_keytabs.proofs.PlaceLaws.{IsFrom, behind, from-at, left, front, octet-first, passes, holds, not-below}
 
 -- one step of a reading
-pub step : {A B : Type 0} (r : Result A KeytabFault) (a : A) (next : A → Result B KeytabFault) → r ≡ Ok a → and_then r next ≡ next a
-step {A = A} r a next is = ap (λ (x : Result A KeytabFault). and_then x next) is
+pub step : {A B E : Type 0} (r : Result A E) (a : A) (next : A → Result B E) → r ≡ Ok a → and_then r next ≡ next a
+step {A = A} {E = E} r a next is = ap (λ (x : Result A E). and_then x next) is
 
 -- behind a number of 32 bits
 pub behind-four : (place n : ℕ) (more whole : List ℕ) → IsFrom place (be32 n ++ more) whole → IsFrom (place + 4) more whole

@@ -7,7 +7,6 @@ use Rattle.byte_layouts.proofs.NumberLaws.{AreBytes}
 use Rattle.krb_keytabs.specs.Numbers.{be32, be32_at}
 use Rattle.krb_keytabs.specs.Entries.{Entry, Fits, FitsText, TextsFit, counted, texts_bytes, texts_size, principal_bytes, record_body, kvno_of}
 use Rattle.krb_keytabs.specs.Reading.{NameAt, and_then, number_at, fitting, count_at, octets_at, text_at, texts_at, name_at, fixed_at, entry_at}
-use Rattle.krb_keytabs.specs.declared.fault.KeytabFault.{KeytabFault}
 use Rattle.krb_keytabs.specs.declared.reading.Fixed.{Fixed}
 use Rattle.krb_keytabs.proofs.NumberLaws.{be16-there, be32-there, be16-fits, be32-fits}
 use Rattle.krb_keytabs.proofs.PlaceLaws.{from-place, enough}
@@ -23,10 +22,10 @@ pub ahead-join : {a b c : ℕ} {f g : List ℕ → List ℕ} {P Q : Type 0} {who
     → IsAhead a c (λ m. f (g m)) (P × Q) whole
 ahead-join {f = f} one two = record { rest = one.rest ∙ ap f two.rest; inside = two.inside; fits = (one.fits, two.fits) }
 
-ahead-to : {a b : ℕ} {f : List ℕ → List ℕ} {P : Type 0} {whole : List ℕ} (c : ℕ) → b ≡ c → IsAhead a b f P whole → IsAhead a c f P whole
+pub ahead-to : {a b : ℕ} {f : List ℕ → List ℕ} {P : Type 0} {whole : List ℕ} (c : ℕ) → b ≡ c → IsAhead a b f P whole → IsAhead a c f P whole
 ahead-to {a = a} {f = f} {P = P} {whole = whole} c is = subst (λ (p : ℕ). IsAhead a p f P whole) is
 
-ahead-as : {a b : ℕ} {f : List ℕ → List ℕ} {P Q : Type 0} {whole : List ℕ} → (P → Q) → IsAhead a b f P whole → IsAhead a b f Q whole
+pub ahead-as : {a b : ℕ} {f : List ℕ → List ℕ} {P Q : Type 0} {whole : List ℕ} → (P → Q) → IsAhead a b f P whole → IsAhead a b f Q whole
 ahead-as holds one = record { rest = one.rest; inside = one.inside; fits = holds one.fits }
 
 -- so many octets, and what is behind them
@@ -34,19 +33,19 @@ ahead-cut : (place size : ℕ) (whole : List ℕ) → place + size ≤ length wh
 ahead-cut place size whole inside =
     sym (take-append-drop size (drop place whole)) ∙ ap (λ (l : List ℕ). take size (drop place whole) ++ l) (drop-drop size place whole)
 
-pub then-ok : {A B : Type 0} (r : Result A KeytabFault) (f : A → Result B KeytabFault) (b : B) → and_then r f ≡ Ok b → (a : A) × (r ≡ Ok a) × (f a ≡ Ok b)
+pub then-ok : {A B E : Type 0} (r : Result A E) (f : A → Result B E) (b : B) → and_then r f ≡ Ok b → (a : A) × (r ≡ Ok a) × (f a ≡ Ok b)
 then-ok (Ok a) f b is = (a, refl, is)
 then-ok (Err e) f b is = absurd (cc is)
 
 -- what is read, in place of what it is made of
-pub as-read : {A : Type 0} (P : A → Type 0) (x a : A) → ◌≡◌ {A = Result A KeytabFault} (Ok x) (Ok a) → P x → P a
+pub as-read : {A E : Type 0} (P : A → Type 0) (x a : A) → ◌≡◌ {A = Result A E} (Ok x) (Ok a) → P x → P a
 as-read P x a is = subst P (cc is)
 
-pub if-ok : {A : Type 0} (test : Bool) (e : KeytabFault) (r : Result A KeytabFault) (a : A) → (if test then Err e else r) ≡ Ok a → (test ≡ false) × (r ≡ Ok a)
+pub if-ok : {A E : Type 0} (test : Bool) (e : E) (r : Result A E) (a : A) → (if test then Err e else r) ≡ Ok a → (test ≡ false) × (r ≡ Ok a)
 if-ok true e r a is = absurd (cc is)
 if-ok false e r a is = (refl, is)
 
-pub if-not : {A : Type 0} (test : Bool) (e : KeytabFault) (x a : A) → (if test then Ok x else Err e) ≡ Ok a → (test ≡ true) × (x ≡ a)
+pub if-not : {A E : Type 0} (test : Bool) (e : E) (x a : A) → (if test then Ok x else Err e) ≡ Ok a → (test ≡ true) × (x ≡ a)
 if-not true e x a is = (refl, cc is)
 if-not false e x a is = absurd (cc is)
 

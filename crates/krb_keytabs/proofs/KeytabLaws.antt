@@ -31,7 +31,7 @@ record ArePieces (octets : List ℕ) (es : List Entry) : Type 0 where
 abbrev slot_there : ℕ → List ℕ → Slot
 slot_there place whole = record { is_hole = nat_lt 2147483647 (be32_at place whole); end = place + 4 + size_of (be32_at place whole) }
 
-either : {A : Type 0} (test : Bool) (r s : Result A KeytabFault) (a : A) → (if test then r else s) ≡ Ok a → ((test ≡ true) × (r ≡ Ok a)) ⊎ ((test ≡ false) × (s ≡ Ok a))
+pub either : {A E : Type 0} (test : Bool) (r s : Result A E) (a : A) → (if test then r else s) ≡ Ok a → ((test ≡ true) × (r ≡ Ok a)) ⊎ ((test ≡ false) × (s ≡ Ok a))
 either true r s a is = inl (refl, is)
 either false r s a is = inr (refl, is)
 

@@ -5,7 +5,7 @@ use Rattle.krb_keytabs.specs.Reading.{and_then, text_at, texts_at, slot_at, held
 use Rattle.krb_keytabs.specs.declared.fault.KeytabFault.{KeytabFault}
 use Rattle.krb_keytabs.specs.declared.reading.Slot.{Slot}
 
-pub followed-join : {A : Type 0} (xs ys : List A) (r : Result (List A) KeytabFault) → followed (xs ++ ys) r ≡ followed xs (followed ys r)
+pub followed-join : {A E : Type 0} (xs ys : List A) (r : Result (List A) E) → followed (xs ++ ys) r ≡ followed xs (followed ys r)
 followed-join xs ys (Ok zs) = ap (λ l. Ok l) (append_assoc xs ys zs)
 followed-join xs ys (Err e) = refl
 

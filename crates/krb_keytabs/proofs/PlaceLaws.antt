@@ -1,4 +1,4 @@
--- Octets behind one another, each from its place on.
+-- Octets one after the other, each from its place on.
 use Rattle.std.proofs.Common.{◌≡◌, ℕ, ◌+◌, ◌-◌, ◌<◌, ◌≤◌, Bool, true, false, List, ◌∷◌, ◌++◌, length, get_or, take, drop, nat_lt, nat_eq, if◌then◌else◌, refl, ap, sym, subst, ◌∙◌, arith}
 use Rattle.std.proofs.lemmas.Bool.Decides.{nat_tests, Decides-eqb}
 use Rattle.std.proofs.lemmas.List.{length-append, drop-take, length-drop, length-take, drop-drop, take_at, drop_at, get_or-drop}

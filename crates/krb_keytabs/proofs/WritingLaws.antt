@@ -5,11 +5,10 @@ use Rattle.asn1_leaves.specs.CharSets.{is_general_string}
 use Rattle.byte_layouts.specs.Numbers.{be16}
 use Rattle.krb_keytabs.specs.Numbers.{be32}
 use Rattle.krb_keytabs.specs.Entries.{Entry, Fits, TextsFit, counted, texts_bytes, principal_bytes, fixed_bytes}
-use Rattle.krb_keytabs.specs.Writing.{FitsName, AreWritable, IsWriteRefusal, Puts, written, record_bytes, records_bytes, keytab_bytes}
-use Rattle.krb_keytabs.specs.declared.fault.KeytabWriteFault.{KeytabWriteFault}
+use Rattle.krb_keytabs.specs.Writing.{FitsName, AreWritable, IsRefusal, Puts, written, record_bytes, records_bytes, keytab_bytes}
 
 -- what refuses a part refuses the whole
-pub refusal-of : {P Q : Type 0} (e : KeytabWriteFault) → (Q → P) → IsWriteRefusal P e → IsWriteRefusal Q e
+pub refusal-of : {E P Q : Type 0} {memory long : E} (e : E) → (Q → P) → IsRefusal memory long P e → IsRefusal memory long Q e
 refusal-of e part (inl memory) = inl memory
 refusal-of e part (inr (long, wrong)) = inr (long, λ q. wrong (part q))
 

@@ -14,7 +14,7 @@ pub record Entry : Type 0 where
   pub etype : ℕ
   pub key : List ℕ
 
--- octets behind their length of 16 bits, and then more
+-- octets after their length of 16 bits, and then more
 abbrev pub counted : List ℕ → List ℕ → List ℕ
 counted octets more = be16 (length octets) ++ (octets ++ more)
 
@@ -44,7 +44,7 @@ abbrev pub record_body : Entry → ℕ → List ℕ → List ℕ
 record_body e low left = name_bytes e (fixed_bytes e low (counted e.key left))
 
 -- The kvno of 32 bits is in the first four octets that are left. It counts if they are there and it isn't 0; else the kvno of 8 bits
--- does (MIT's file keytab format, "Key entry format"). Octets behind it count for nothing. Test: `kvno of 8 and of 32 bits` of `rows.txt`.
+-- does (MIT's file keytab format, "Key entry format"). Octets after it count for nothing. Test: `kvno of 8 and of 32 bits` of `rows.txt`.
 abbrev pub kvno_of : ℕ → List ℕ → ℕ
 kvno_of low left = if nat_lt (length left) 4 then low else if nat_eq (be32_at 0 left) 0 then low else be32_at 0 left
 

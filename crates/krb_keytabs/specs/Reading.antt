@@ -10,13 +10,16 @@ use Rattle.krb_keytabs.specs.declared.reading.Fixed.{Fixed}
 use Rattle.krb_keytabs.specs.declared.reading.Slot.{Slot}
 
 -- what the first gives, handed to the next
-abbrev pub and_then : {A B : Type 0} → Result A KeytabFault → (A → Result B KeytabFault) → Result B KeytabFault
+abbrev pub and_then : {A B E : Type 0} → Result A E → (A → Result B E) → Result B E
 and_then (Ok a) next = next a
 and_then (Err e) next = Err e
 
--- the call returns this value or fault, or memory ran out
+-- the call returns this value or fault, or memory ran out, which is the fault `memory`
+abbrev pub GivesOr : {A B E : Type 0} → E → (A → B) → Result A E → Result B E → Type 0
+GivesOr memory view result told = MatchResult result (λ a. told ≡ Ok (view a)) (λ e. (e ≡ memory) ⊎ (told ≡ Err e))
+
 abbrev pub Gives : {A B : Type 0} → (A → B) → Result A KeytabFault → Result B KeytabFault → Type 0
-Gives view result told = MatchResult result (λ a. told ≡ Ok (view a)) (λ e. (e ≡ Memory) ⊎ (told ≡ Err e))
+Gives = GivesOr Memory
 
 -- the number of 16 bits at this place, which is inside the record
 abbrev pub number_at : ℕ → List ℕ → Result ℕ KeytabFault
@@ -29,7 +32,7 @@ fitting place front n = if nat_lt (length front - (place + 2)) n then Err (PastR
 abbrev pub count_at : ℕ → List ℕ → Result ℕ KeytabFault
 count_at place front = and_then (number_at place front) (fitting place front)
 
--- the octets behind the length at this place
+-- the octets after the length at this place
 abbrev pub octets_at : ℕ → List ℕ → Result (List ℕ) KeytabFault
 octets_at place front = and_then (count_at place front) (λ n. Ok (take n (drop (place + 2) front)))
 
@@ -115,8 +118,8 @@ abbrev pub if_more : {A B : Type 0} → Option A → (A → Result (List B) Keyt
 if_more None next = Ok []
 if_more (Some a) next = next a
 
--- these entries, and then those
-abbrev pub followed : {A : Type 0} → List A → Result (List A) KeytabFault → Result (List A) KeytabFault
+-- these values, and then those
+abbrev pub followed : {A E : Type 0} → List A → Result (List A) E → Result (List A) E
 followed xs r = and_then r (λ ys. Ok (xs ++ ys))
 
 -- the entries from this place on, of at most so many records and holes

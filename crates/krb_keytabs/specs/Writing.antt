@@ -39,9 +39,13 @@ pub record FitsName (realm : List ℕ) (components : List (List ℕ)) : Type 0 w
   pub size : length realm < 2 ^ 16
   pub texts : TextsFit components
 
+-- memory ran out, which is the fault `memory`, or what doesn't fit is too long, which is the fault `long`
+abbrev pub IsRefusal : {E : Type 0} → E → E → Type 0 → E → Type 0
+IsRefusal memory long Fitting e = (e ≡ memory) ⊎ ((e ≡ long) × (Fitting → ⊥))
+
 -- memory ran out, or a record is too long
 abbrev pub IsWriteRefusal : Type 0 → KeytabWriteFault → Type 0
-IsWriteRefusal Fitting e = (e ≡ Memory) ⊎ ((e ≡ TooLong) × (Fitting → ⊥))
+IsWriteRefusal = IsRefusal Memory TooLong
 
 -- octets were put behind the old ones: those in front of more
 abbrev pub Puts : (List ℕ → List ℕ) → List ℕ → List ℕ → Type 0

@@ -37,7 +37,7 @@ impl Model for KeytabRecord {
 
 impl KeytabRecord {
     /// Makes the record of this principal and this key. The name type is RFC 4120's in 32 bits (section 6.2), the timestamp seconds
-    /// since the start of 1970, and the etype the key's number (RFC 3961, section 8).
+    /// since the start of 1970, and the etype that of the key (RFC 3961, section 8).
     pub fn new(
         realm: GeneralStringAsn1,
         components: Vec<GeneralStringAsn1>,

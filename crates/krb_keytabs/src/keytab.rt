@@ -77,6 +77,13 @@ impl Keytab {
         self.records.as_slice()
     }
 
+    /// The records, in their order. The keytab is consumed.
+    pub fn into_records(self) -> Vec<KeytabRecord>
+        ensures { result.items ≡ self }
+    {
+        self.records
+    }
+
     /// Reads the octets of a whole file. Holes are passed over. So is what a record has behind its key, but for the kvno of 32 bits,
     /// and what is behind a size of 0.
     ///

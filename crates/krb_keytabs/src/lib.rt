@@ -20,3 +20,4 @@ mod writing;
 pub use fault::{KeytabFault, KeytabWriteFault};
 pub use key_record::KeytabRecord;
 pub use keytab::{Keytab, one_reading, written_is_read};
+pub use numbers::{u32_be, u32_be_bytes};

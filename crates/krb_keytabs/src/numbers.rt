@@ -4,18 +4,18 @@ ghost use Rattle.krb_keytabs.specs.Numbers.{be32, be32_at};
 
 use byteorder::{BigEndian, ByteOrder};
 
-// Returns the number of the four octets at `place`, the highest first.
+/// Returns the number of the four octets at `place`, the highest first.
 #[tactic(auto, unfolding(crate::specs::Numbers::be32_at))]
-pub(crate) fn u32_be(bytes: &[u8], place: usize) -> u32
+pub fn u32_be(bytes: &[u8], place: usize) -> u32
     requires { place + 4 ≤ length bytes.now }
     ensures { result ≡ be32_at place bytes.now }
 {
     BigEndian::read_u32(&bytes[place..])
 }
 
-// Returns a number's four octets, the highest first.
+/// Returns a number's four octets, the highest first.
 #[tactic(auto, unfolding(crate::specs::Numbers::be32))]
-pub(crate) fn u32_be_bytes(number: u32) -> [u8; 4]
+pub fn u32_be_bytes(number: u32) -> [u8; 4]
     ensures { result ≡ be32 number }
 {
     let mut bytes = [0; 4];

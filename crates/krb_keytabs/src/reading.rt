@@ -80,7 +80,7 @@ fn copied(alloc: Global, octets: &[u8]) -> Result<Vec<u8>, AllocError>
     Ok(copy)
 }
 
-// Reads the octets behind the length at `place`.
+// Reads the octets after the length at `place`.
 fn read_octets(alloc: Global, front: &[u8], place: usize) -> Result<Vec<u8>, KeytabFault>
     ensures exact { Gives (λ v. v.items) result (octets_at place front.now) }
     ensures room { IfOk result (λ v. place + 2 + length v.items ≤ length front.now) }
@@ -90,7 +90,7 @@ fn read_octets(alloc: Global, front: &[u8], place: usize) -> Result<Vec<u8>, Key
     Ok(copy)
 }
 
-// Makes a text of the octets behind the length at `place`.
+// Makes a text of the octets after the length at `place`.
 fn text_of(alloc: Global, octets: &[u8], place: usize) -> Result<GeneralStringAsn1, KeytabFault>
     ensures { Gives (λ s. s) result (text_judged place octets.now) }
 {

@@ -19,7 +19,7 @@ const MOST: usize = 65_535;
 // The greatest size of a record.
 const MOST_SIZE: usize = 2_147_483_647;
 
-// Appends octets behind their length.
+// Appends octets after their length.
 fn put_counted(to: &mut Vec<u8>, octets: &[u8]) -> Result<(), KeytabWriteFault>
     ensures { MatchResult result
         (λ _. Puts (counted octets.now) to.old.items to.new.items × (length octets.now < 2 ^ 16))

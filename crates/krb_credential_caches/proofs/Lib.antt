@@ -1,0 +1,4 @@
+pub mod FormatLaws
+pub mod ListLaws
+pub mod CacheLaws
+pub mod WritingLaws
