@@ -1,0 +1,16 @@
+//! RSA signatures: RSASSA-PKCS1-v1_5 (RFC 8017, section 8.2) with SHA-256, SHA-384 and SHA-512.
+//!
+//! [`PublicKey::verifies`] is true exactly where the RFC's definition says so: a signature is one row of octets, as long as the modulus.
+//! [`PrivateKey::sign`] returns the RFC's signature if that verifies under the public key, and `None` else. So whatever it returns
+//! verifies, for every pair of keys. [`PublicKey::new`] refuses a weak, even or malformed key, each by its name, and takes every other.
+//! Signing has no branch on the private exponent's bits. SHA-1 and MD5 have no name here.
+#![tactic(auto)]
+
+mod encoding;
+mod hash;
+mod private_key;
+mod public_key;
+
+pub use hash::HashFunction;
+pub use private_key::PrivateKey;
+pub use public_key::{KeyRefusal, PublicKey, PublicNumbers};
