@@ -46,7 +46,7 @@ name_apart : (name : List (List ℕ)) → pointwise nat_eq (packed name) realm_k
 name_apart name = unequal (pointwise nat_eq (packed name) realm_key) (λ e. no_block name (same_list (packed name) realm_key e))
 
 -- one more record
-pub one_more : (accounts : List NamedAccount) (records : List Record) (one : NamedAccount) (r : Record) → AreRecords accounts records → IsRecordOf one r
+pub one_more : (accounts : List NamedAccount) (records : List Record) (one : NamedAccount) (r : Record) → AreRecords accounts records → IsRecordOf one.name.items one.account r
     → AreRecords (accounts ++ one ∷ []) (records ++ r ∷ [])
 one_more [] [] one r are is = (is, tt)
 one_more [] (s ∷ records) one r are is = absurd are

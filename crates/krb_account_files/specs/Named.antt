@@ -1,6 +1,8 @@
 -- Accounts with their names, and their records.
 use Rattle.std.specs.Prelude.{◌≡◌, true, nat_eq, List, [], ◌∷◌, None, Some, if◌then◌else◌}
 use Rattle.std.specs.Cmp.Lexicographic.{pointwise}
+use Rattle.picky_asn1.specs.Bytes.{Bytes}
+use Rattle.krb_accounts.specs.Account.{AccountRecord}
 use Rattle.krb_accounts.specs.Accounts.{Look}
 use Rattle.krb_accounts.specs.Names.{AreComponents}
 use Rattle.krb_accounts.specs.Packed.{fit, packed}
@@ -21,18 +23,18 @@ abbrev pub AreNamed : List NamedAccount → Type 0
 AreNamed [] = Unit {0}
 AreNamed (one ∷ accounts) = AreComponents one.name.items × AreNamed accounts
 
--- The record of an account: the name is one of a principal, its block is the key, and the data are read as the account.
-pub record IsRecordOf (one : NamedAccount) (r : Record) : Type 0 where
-  pub named : AreComponents one.name.items
-  pub fits : fit one.name.items ≡ true
-  pub key : r.key.items ≡ packed one.name.items
-  pub content : r.content.items ≡ account_bytes one.account
-  pub again : account_in (account_bytes one.account) ≡ Some one.account
+-- The record of an account of a name: the name is one of a principal, its block is the key, and the data are read as the account.
+pub record IsRecordOf (name : List Bytes) (account : AccountRecord) (r : Record) : Type 0 where
+  pub named : AreComponents name
+  pub fits : fit name ≡ true
+  pub key : r.key.items ≡ packed name
+  pub content : r.content.items ≡ account_bytes account
+  pub again : account_in (account_bytes account) ≡ Some account
 
 -- One record for each account, and then those that follow.
 abbrev pub AreRecords : List NamedAccount → List Record → Type 0
 AreRecords [] [] = Unit {0}
-AreRecords (one ∷ accounts) (r ∷ records) = IsRecordOf one r × AreRecords accounts records
+AreRecords (one ∷ accounts) (r ∷ records) = IsRecordOf one.name.items one.account r × AreRecords accounts records
 AreRecords [] (r ∷ records) = ⊥
 AreRecords (one ∷ accounts) [] = ⊥
 

@@ -6,7 +6,7 @@
 //! `AccountFile` is a `Lookup`: an account that it returns is what the file's octets say of its name. `realm_of` returns the realm that
 //! they say. Of octets in memory both refuse as damaged only if the octets are, and a damaged record is never a missing one. `answer_from`
 //! returns the reply of that realm with all accounts of this one file. `write_accounts` returns only files whose octets say these accounts,
-//! no other account, and this realm. Each record is read as it was written (laws `account_as_written`, `realm_as_written`). The promises
+//! no other account, and this realm. `write_records` does so of the accounts' records. Each record is read as it was written (laws `account_as_written`, `realm_as_written`). The promises
 //! are of files whose octets stay as they are while they are open.
 #![tactic(auto)]
 
@@ -27,4 +27,6 @@ pub use fault::RecordFault;
 pub use format::{ACCOUNT_HEAD, REALM_HEAD, REALM_KEY, RECORD_ROOM, RECORD_VERSION};
 pub use realm_parameters::RealmParameters;
 pub use realm_record::{read_realm, realm_bytes};
-pub use writing::{NamedAccount, write_accounts};
+pub use writing::{
+    NamedAccount, record_of_account, record_of_realm, write_accounts, write_records,
+};

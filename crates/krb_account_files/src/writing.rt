@@ -46,24 +46,41 @@ pub fn write_accounts(
     ensures accounts { IfOk result (λ bytes. (name : List Bytes) → account_said bytes.items name ≡ Ok (look_among accounts.now name)) }
     ensures realm { IfOk result (λ bytes. realm_said bytes.items ≡ Ok realm.now) }
 {
+    let records = records_of(alloc, accounts)?;
+    let bytes = write_records(alloc, realm, records)?;
+    Ok(bytes)
+}
+
+/// Returns the same file as [`write_accounts`] does, of the records of its accounts. So a record can be made of each account before the
+/// next account is read ([`record_of_account`]), and many accounts take less memory.
+///
+/// It refuses as [`write_accounts`] does.
+pub fn write_records(
+    alloc: Global,
+    realm: &RealmParameters,
+    records: Vec<Record>,
+) -> Result<Vec<u8>, WriteFault>
+    ensures accounts { IfOk result (λ bytes. (accounts : List NamedAccount) → AreRecords accounts records.items
+        → (name : List Bytes) → account_said bytes.items name ≡ Ok (look_among accounts name)) }
+    ensures realm { IfOk result (λ bytes. (accounts : List NamedAccount) → AreRecords accounts records.items → realm_said bytes.items ≡ Ok realm.now) }
+{
     let mut room = [0; RECORD_ROOM];
-    write_within(alloc, realm, accounts, &mut room)
+    write_within(alloc, realm, records, &mut room)
 }
 
 // Returns the same, with room for a record.
 fn write_within(
     alloc: Global,
     realm: &RealmParameters,
-    accounts: &[NamedAccount],
+    mut records: Vec<Record>,
     room: &mut [u8],
 ) -> Result<Vec<u8>, WriteFault>
     requires { length room.old ≡ RECORD_ROOM }
-    ensures names { IfOk result (λ _. AreNamed accounts.now) }
-    ensures accounts { IfOk result (λ bytes. (name : List Bytes) → account_said bytes.items name ≡ Ok (look_among accounts.now name)) }
-    ensures realm { IfOk result (λ bytes. realm_said bytes.items ≡ Ok realm.now) }
+    ensures accounts { IfOk result (λ bytes. (accounts : List NamedAccount) → AreRecords accounts records.items
+        → (name : List Bytes) → account_said bytes.items name ≡ Ok (look_among accounts name)) }
+    ensures realm { IfOk result (λ bytes. (accounts : List NamedAccount) → AreRecords accounts records.items → realm_said bytes.items ≡ Ok realm.now) }
 {
-    let mut records = records_of(alloc, accounts)?;
-    let own = realm_record(alloc, realm)?;
+    let own = record_of_realm(alloc, realm)?;
     records.push(own)?;
     let bytes = write(alloc, &records, room)?;
     Ok(bytes)
@@ -75,26 +92,31 @@ fn records_of(alloc: Global, accounts: &[NamedAccount]) -> Result<Vec<Record>, W
 {
     let mut records = Vec::new(alloc);
     for one in accounts {
-        let own = record_of(alloc, one)?;
+        let own = record_of_account(alloc, &one.name, &one.account)?;
         records.push(own)?;
     }
     Ok(records)
 }
 
-// Returns the record of an account.
-fn record_of(alloc: Global, one: &NamedAccount) -> Result<Record, WriteFault>
-    ensures { IfOk result (λ r. IsRecordOf one.now r) }
+/// Returns the record of an account of this name. It refuses as `Unsound` if the name is none of a principal, and as `Memory` if memory
+/// runs out.
+pub fn record_of_account(
+    alloc: Global,
+    name: &[GeneralStringAsn1],
+    account: &Account,
+) -> Result<Record, WriteFault>
+    ensures { IfOk result (λ r. IsRecordOf name.now account.now r) }
 {
-    if !is_principal_name(&one.name) {
+    if !is_principal_name(name) {
         return Err(WriteFault::Unsound);
     }
     let mut block = ArrayVec::<u8, BLOCK_ROOM>::new();
-    if !pack(&mut block, &one.name) {
+    if !pack(&mut block, name) {
         return Err(WriteFault::Unsound);
     }
-    account_reads_again(&one.account);
+    account_reads_again(account);
     let key = Vec::from_slice(alloc, block.as_slice())?;
-    let content = account_bytes(alloc, &one.account)?;
+    let content = account_bytes(alloc, account)?;
     Ok(Record { key, content })
 }
 
@@ -125,8 +147,9 @@ fn account_reads_again(account: &Account)
     let _kvno = account.kvno();
 }
 
-// Returns the record of the realm. It comes after those of the accounts, since its key does.
-fn realm_record(alloc: Global, realm: &RealmParameters) -> Result<Record, WriteFault>
+/// Returns the record of the realm. It comes after those of the accounts, since its key does. It refuses as `Unsound` if the realm's name
+/// is none of a realm, and as `Memory` if memory runs out.
+pub fn record_of_realm(alloc: Global, realm: &RealmParameters) -> Result<Record, WriteFault>
     ensures { IfOk result (λ r. IsRealmRecord realm.now r) }
 {
     if !is_realm_name(realm.name.as_bytes()) {

@@ -5,3 +5,4 @@ pub mod Texts
 pub mod Loops
 pub mod Places
 pub mod Ended
+pub mod Orders

@@ -1,9 +1,11 @@
 -- A line at its place.
-use Rattle.std.proofs.Common.{◌≡◌, ℕ, zero, suc, ◌+◌, ◌<◌, Bool, true, false, cond, List, [], ◌∷◌, ◌++◌, length, get_or, set, take, drop, Some, Result, Ok, Err, refl, ap, sym, ◌∙◌, arith}
+use Rattle.std.proofs.Common.{◌≡◌, ℕ, zero, suc, ◌+◌, ◌<◌, Bool, true, false, cond, List, [], ◌∷◌, ◌++◌, length, get_or, set, take, drop, ◌↔◌, Option, None, Some, IsSome, Result, Ok, Err, refl, ap, sym, ◌∙◌, arith}
 use Rattle.std.specs.Prelude.{OnOk}
 use Rattle.std.specs.List.{insert, position_from, remove}
 use Rattle.std.proofs.lemmas.List.{take-append-drop}
 use Rattle.krb_account_texts.specs.Edits.{HasChanged, HasOneLess, HasOneMore, is_line_of, place_of}
+use Rattle.krb_account_texts.specs.declared.edits.EditRefusal.{EditRefusal}
+use Rattle.krb_account_texts.specs.declared.edits.EditRefusal.TheVariants.{Exists, Memory}
 use Rattle.krb_account_texts.specs.declared.line.Line.{Line}
 use Rattle.picky_asn1.specs.Bytes.{Bytes}
 
@@ -65,6 +67,14 @@ pub one-less : (name : List Bytes) (old new : List Line) (place : ℕ) (d : Line
     → new ≡ remove old place → HasOneLess name old new
 one-less name old new place d found inside is =
     (take place old, get_or old place d, drop (suc place) old, passes-at name old place d found, parts-at old place d inside, is)
+
+-- a name that has no account is not refused as one that has
+pub not_there : (r : Result (Unit {0}) EditRefusal) (found : Option ℕ) → found ≡ None → (r ≡ Err Exists → ⊥) → (r ≡ Err Exists) ↔ IsSome found
+not_there r None none other = (λ e. absurd (other e), λ some. cc some)
+not_there r (Some place) none other = absurd (cc (none))
+
+pub out_of_memory : (r : Result (Unit {0}) EditRefusal) (e : EditRefusal) → r ≡ Err e → e ≡ Memory → r ≡ Err Exists → ⊥
+out_of_memory r e is memory exists = let both : Err Memory ≡ Err Exists = ap Err (sym memory) ∙ sym is ∙ exists in absurd (cc (both))
 
 -- what holds on success, and what follows from it
 pub on-ok : {T E P Q : Type 0} (r : Result T E) → OnOk r P → (P → Q) → OnOk r Q

@@ -2,4 +2,5 @@ pub mod Steps
 pub mod Lines
 pub mod Reading
 pub mod Edits
+pub mod Order
 pub mod Writable

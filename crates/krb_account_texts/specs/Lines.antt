@@ -1,4 +1,4 @@
--- The lines of a text of accounts, and what each is written as. A tab (9) is between each two fields, and a line feed (10) behind each
+-- The lines of a text of accounts, and what each is written as. A tab (9) is between each two fields, and a line feed (10) after each
 -- line.
 use Rattle.std.specs.Prelude.{ℕ, List, [], ◌∷◌, ◌++◌, codes, string_bytes, Option, None, Some}
 use Rattle.std.specs.List.{flat_map}
@@ -44,6 +44,6 @@ line_text (comment text) = text
 line_text (realm name settings) = realm_text name settings
 line_text (account name own) = account_text name own
 
--- Each line, and a line feed behind it.
+-- Each line, and a line feed after it.
 abbrev pub text_of : List WrittenLine → List ℕ
 text_of = flat_map (λ own. line_text own ++ 10 ∷ [])

@@ -42,7 +42,7 @@ next_number number digit =
     if nat_lt digit 48 || nat_lt 57 digit then None
     else (if nat_lt (10 * number + (digit - 48)) NUMBER_LIMIT then Some (10 * number + (digit - 48)) else None)
 
--- A number in decimal digits, behind those that were read.
+-- A number in decimal digits, after those that were read.
 abbrev pub digits_behind : ℕ → List ℕ → Option ℕ
 digits_behind number [] = Some number
 digits_behind number (digit ∷ digits) = option_and_then (λ (next : ℕ). digits_behind next digits) (next_number number digit)
@@ -108,7 +108,7 @@ realm_in name skew lifetime = do
   settings ← settings_of own_skew own_lifetime
   Ok (realm own_name settings)
 
--- The line of these fields: of four behind the word `realm`, or of five.
+-- The line of these fields: of four, the first of which is the word `realm`, or of five.
 abbrev pub line_of : List (List ℕ) → Result WrittenLine LineFault
 line_of (word ∷ name ∷ skew ∷ lifetime ∷ []) = if pointwise nat_eq word (codes "realm") then realm_in name skew lifetime else Err fault.Fields
 line_of (name ∷ suite ∷ kvno ∷ salt ∷ key ∷ []) = account_in name suite kvno salt key
@@ -127,7 +127,7 @@ at_line number (Err e) = Err (text_fault.Line number e)
 abbrev pub numbered : ℕ → List ℕ → Result WrittenLine TextFault
 numbered number text = at_line number (line_in text)
 
--- Behind the last line feed nothing may be.
+-- Nothing may follow the last line feed.
 abbrev pub is_ended : List (List ℕ) → Bool
 is_ended parts = length (slice_index_or parts (length parts - 1) []) == 0
 

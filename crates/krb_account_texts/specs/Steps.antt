@@ -12,6 +12,6 @@ each_from gives number [] = Ok []
 each_from gives number (text ∷ texts) =
     gives number text >>= (λ x. each_from gives (number + 1) texts >>= (λ xs. Ok (x ∷ xs)))
 
--- What was returned is what is wanted, seen by `shown`, or memory ran out.
+-- What was returned is the expected outcome, with its value seen by `shown`, or memory ran out.
 abbrev pub IsAside : {A B E : Type 0} → E → (A → B) → Result B E → Result A E → Type 0
-IsAside memory shown wanted answer = MatchResult answer (λ x. wanted ≡ Ok (shown x)) (λ e. (e ≡ memory) ⊎ (wanted ≡ Err e))
+IsAside memory shown expected answer = MatchResult answer (λ x. expected ≡ Ok (shown x)) (λ e. (e ≡ memory) ⊎ (expected ≡ Err e))

@@ -1,6 +1,8 @@
 //! Changes of the line of one account.
-ghost use Rattle.std.specs.Prelude.{◌≡◌, ◌<◌, ◌↔◌, ◌⊎◌, length, if◌then◌else◌, IfErr, IfSome, OnOk, OnErr, None, Ok, Err};
+ghost use Rattle.std.specs.Prelude.{◌≡◌, ◌<◌, ◌↔◌, ◌⊎◌, length, if◌then◌else◌, IfErr, IfSome, IsSome, OnOk, OnErr, None, Ok, Err};
+ghost use Rattle.std.specs.List.{insert};
 ghost use Rattle.krb_account_texts.specs.Edits.{HasChanged, HasOneLess, HasOneMore, is_line_of, is_spent, place_of, rekeyed};
+ghost use Rattle.krb_account_texts.specs.Order.{place_for};
 
 use crate::line::{AccountLine, Line};
 use crate::order::place_for;
@@ -65,10 +67,12 @@ fn is_line_of(line: &Line, name: &[GeneralStringAsn1]) -> bool
     }
 }
 
-/// Adds the line of an account, at its place in the order of names. All other lines stay. It is refused as `Exists` if the name has an
-/// account.
+/// Adds the line of an account, at its place in the order of names. All other lines stay. It is refused as `Exists` if and only if the name
+/// has an account.
 pub fn add(lines: &mut Vec<Line>, account: AccountLine) -> Result<(), EditRefusal>
     ensures ok { OnOk result (HasOneMore (Line.Account account) lines.old.items lines.new.items) }
+    ensures place { OnOk result (lines.new.items ≡ insert lines.old.items (place_for account.name.name_string.0 lines.old.items) (Line.Account account)) }
+    ensures exists { (result ≡ Err EditRefusal.Exists) ↔ IsSome (place_of account.name.name_string.0 lines.old.items) }
     ensures new { OnOk result (place_of account.name.name_string.0 lines.old.items ≡ None) }
     ensures refusal { IfErr result (λ e. (e ≡ EditRefusal.Exists) ⊎ (e ≡ EditRefusal.Memory)) }
     ensures err { OnErr result (lines.new.items ≡ lines.old.items) }

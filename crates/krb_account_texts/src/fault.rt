@@ -39,7 +39,7 @@ pub enum LineFault {
     /// There is a second line of a realm.
     #[error("expected one line of a realm alone")]
     SecondRealm,
-    /// The account's name isn't behind that of the account before it.
+    /// The account's name isn't after that of the account before it.
     #[error("name: expected accounts in the order of their names, each name once")]
     Order,
     /// Memory ran out.
@@ -69,7 +69,7 @@ pub enum TextFault {
     /// The line of this number has this fault.
     #[error("{0}: {1}")]
     Line(usize, LineFault),
-    /// The line of this number, which is the last one, has no line feed behind it.
+    /// The line of this number, which is the last one, has no line feed after it.
     #[error("{0}: expected a line break at the end")]
     NoEnd(usize),
     /// Memory ran out.

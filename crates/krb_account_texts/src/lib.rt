@@ -29,6 +29,6 @@ pub use edits::{EditRefusal, add, change_key, place_of, remove};
 pub use fault::{LineFault, TextFault};
 pub use fields::{read_key, suite_named};
 pub use line::{AccountLine, Line, RealmLine, principal_name};
-pub use order::{check_order, realm_among};
-pub use reading::{read_lines, read_name};
+pub use order::{check_next, check_order, realm_among};
+pub use reading::{read_line, read_lines, read_name};
 pub use showing::{line_text, text_of};

@@ -75,9 +75,9 @@ fn numbered(alloc: Global, number: usize, text: &str) -> Result<Line, TextFault>
     }
 }
 
-// The line that a text writes.
+/// The line that a text without a line feed writes. A text is read line by line so where its lines aren't kept: as [`read_lines`] reads it.
 #[tactic(auto, unfolding(crate::specs::Reading::line_in))]
-fn read_line(alloc: Global, text: &str) -> Result<Line, LineFault>
+pub fn read_line(alloc: Global, text: &str) -> Result<Line, LineFault>
     ensures { IsAside LineFault.Memory written (line_in text.now) result }
 {
     if is_comment(text.as_bytes()) {

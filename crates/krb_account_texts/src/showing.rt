@@ -8,7 +8,7 @@ use krb_settings::suite_name;
 use picky_asn1::wrapper::OctetStringAsn1;
 use std::alloc::{AllocError, Global};
 
-/// Writes lines, with a line feed behind each.
+/// Writes lines, with a line feed after each.
 pub fn text_of(alloc: Global, lines: &[Line]) -> Result<String, AllocError>
     ensures { IfOk result (λ text. string_bytes text ≡ text_of (map written lines.now)) }
 {

@@ -1,9 +1,7 @@
 //! The commands that read or change accounts in a text.
 
 use crate::arguments::{Options, expected, name_of, options_of};
-use crate::files::is_there;
 use crate::secrets::{SaltedKey, key_of_digits, key_of_password, read_secret};
-use crate::stop::{Stop, failed, refused};
 use crate::texts::{begin_change, lines_of, realm_of};
 use crate::warnings::{RealmKey, warn_of_account, warn_of_realm};
 use krb_account_texts::{
@@ -11,6 +9,7 @@ use krb_account_texts::{
     realm_among, remove,
 };
 use krb_accounts::{Account, Settings, realm_name_of};
+use krb_commands::{Stop, failed, is_there, refused};
 use krb_crypto::{CipherSuite, Key};
 use krb_settings::{Secret, suite_name};
 use krb_types::data_types::PrincipalName;

@@ -1,13 +1,12 @@
 //! The arguments of the program.
 
-use crate::stop::{Stop, failed, refused};
 use krb_account_texts::{LineFault, read_name, suite_named};
+use krb_commands::{Stop, failed, refused};
 use krb_crypto::CipherSuite;
 use krb_types::data_types::PrincipalName;
 use std::alloc::Global;
-use std::env;
 
-/// What `add` and `key` are told.
+/// The options of `add` and `key`.
 #[derive(Clone, Copy)]
 pub(crate) struct Options {
     /// The suite of the key, if one was given.
@@ -16,24 +15,7 @@ pub(crate) struct Options {
     pub(crate) is_key: bool,
 }
 
-/// The arguments behind the program's name.
-pub(crate) fn arguments_of(rt: &HostRuntime) -> Result<Vec<String>, Stop> {
-    let Ok(given) = env::args(rt) else {
-        return Err(failed(rt.alloc(), "the arguments can't be read: expected text"));
-    };
-    let mut arguments = Vec::new(rt.alloc());
-    for argument in given.skip(1) {
-        arguments.push(argument)?;
-    }
-    Ok(arguments)
-}
-
-/// Whether an argument is this word.
-pub(crate) fn is_word(argument: &String, word: &str) -> bool {
-    argument.as_str() == word
-}
-
-/// The options in front, and the arguments behind them.
+/// The options, and the arguments after them.
 pub(crate) fn options_of(alloc: Global, words: &[String]) -> Result<(Options, &[String]), Stop> {
     let mut options = Options {
         suite: None,

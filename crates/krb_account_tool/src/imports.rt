@@ -2,12 +2,11 @@
 
 use crate::accounts::{refusal_of, service_name, two_lines};
 use crate::arguments::expected;
-use crate::files::{is_there, octets_of};
 use crate::secrets::{SaltedKey, key_of_password};
-use crate::stop::{Stop, failed, refused};
 use crate::texts::begin_change;
 use krb_account_texts::{AccountLine, EditRefusal, Line, RealmLine, add, principal_name};
 use krb_accounts::{Account, RealmRefusal, Settings, components_of, realm_name_of};
+use krb_commands::{Stop, failed, is_there, octets_of, refused};
 use krb_crypto::{CipherSuite, Key};
 use krb_settings::{AccountSettings, RealmSettings, Secret, SettingsFault, read_settings_file};
 use krb_settings_check::{Place, Rule, explain, explain_rule, warnings_of};

@@ -1,11 +1,9 @@
 //! The command `keytab`.
 
 use crate::arguments::{expected, name_of};
-use crate::database::copy_of;
-use crate::files::{begin, is_there, octets_of};
-use crate::stop::{Stop, refused};
 use crate::texts::{lines_of, realm_of};
 use krb_account_texts::{AccountLine, Line, place_of};
+use krb_commands::{Stop, begin, is_there, octets_of, refused};
 use krb_constants::types::NT_PRINCIPAL;
 use krb_keytabs::{Keytab, KeytabFault, KeytabRecord, KeytabWriteFault};
 use krb_types::is_same_name;
@@ -146,4 +144,16 @@ fn seconds_now(rt: &HostRuntime) -> u32 {
         return 0;
     };
     u32::try_from(elapsed.as_secs()).unwrap_or(0)
+}
+
+// A copy of the components of a name.
+fn copy_of(
+    alloc: Global,
+    name: &[GeneralStringAsn1],
+) -> Result<Vec<GeneralStringAsn1>, AllocError> {
+    let mut components = Vec::new(alloc);
+    for component in name {
+        components.push(component.clone()?)?;
+    }
+    Ok(components)
 }

@@ -16,20 +16,17 @@
 mod accounts;
 mod arguments;
 mod database;
-mod files;
 mod imports;
 mod keytabs;
+mod records;
 mod secrets;
-mod stop;
 mod texts;
+mod warner;
 mod warnings;
 
-use crate::arguments::{arguments_of, is_word};
-use crate::stop::{Stop, failed};
+use krb_commands::{Stop, arguments_of, failed, is_word, print_line};
+use krb_version::VERSION;
 use std::process::ExitCode;
-
-/// The version of the program.
-const VERSION: &str = "krb_accounts 0.1.0";
 
 /// What `--help` prints, and what a run with other arguments expects.
 const USAGE: &str = "usage:
@@ -66,7 +63,7 @@ fn run(rt: &HostRuntime) -> Result<(), Stop> {
         return print_line(rt, USAGE);
     }
     if is_word(command, "--version") {
-        return print_line(rt, VERSION);
+        return print_line(rt, format_args!("krb_accounts {VERSION}"));
     }
     run_command(rt, command.as_str(), rest)
 }
@@ -83,13 +80,5 @@ fn run_command(rt: &HostRuntime, command: &str, rest: &[String]) -> Result<(), S
         "make" => database::make(rt, rest),
         "check" => database::check(rt, rest),
         _ => Err(failed(rt.alloc(), "no such command: expected one of --help")),
-    }
-}
-
-/// Prints a line on standard output.
-fn print_line(rt: &HostRuntime, line: &str) -> Result<(), Stop> {
-    match println!(rt; "{line}") {
-        Ok(()) => Ok(()),
-        Err(_) => Err(failed(rt.alloc(), "standard output can't be written")),
     }
 }

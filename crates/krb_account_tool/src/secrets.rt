@@ -1,8 +1,8 @@
 //! Passwords and keys, which come by standard input.
 
-use crate::stop::{Stop, failed, refused};
 use krb_account_texts::{LineFault, read_key};
 use krb_accounts::password_salt;
+use krb_commands::{Stop, failed, refused};
 use krb_crypto::{CipherSuite, KerberosCryptoError, Key};
 use picky_asn1::wrapper::{GeneralStringAsn1, OctetStringAsn1};
 use std::alloc::{AllocError, Global};

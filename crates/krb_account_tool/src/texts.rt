@@ -1,20 +1,14 @@
 //! Texts of accounts in files.
 
-use crate::files::{NewFile, begin, octets_of};
-use crate::stop::{Stop, refused};
 use krb_account_texts::{
     Line, RealmLine, TextFault, check_order, read_lines, realm_among, text_of,
 };
+use krb_commands::{NewFile, Stop, begin, octets_of, refused};
 
 /// The lines of the text in a file.
 pub(crate) fn lines_of(rt: &HostRuntime, path: &str) -> Result<Vec<Line>, Stop> {
     let octets = octets_of(rt, path)?;
-    let Ok(text) = str::from_utf8(&octets) else {
-        return Err(refused(
-            rt.alloc(),
-            format_args!("{path}: expected a text of accounts, in UTF-8"),
-        ));
-    };
+    let text = text_in(rt, path, &octets)?;
     let lines = match read_lines(rt.alloc(), text) {
         Ok(lines) => lines,
         Err(fault) => return Err(stop_of(rt, path, fault)),
@@ -25,7 +19,19 @@ pub(crate) fn lines_of(rt: &HostRuntime, path: &str) -> Result<Vec<Line>, Stop> 
     }
 }
 
-fn stop_of(rt: &HostRuntime, path: &str, fault: TextFault) -> Stop {
+/// The text of a file's octets.
+pub(crate) fn text_in<'a>(rt: &HostRuntime, path: &str, octets: &'a [u8]) -> Result<&'a str, Stop> {
+    match str::from_utf8(octets) {
+        Ok(text) => Ok(text),
+        Err(_) => Err(refused(
+            rt.alloc(),
+            format_args!("{path}: expected a text of accounts, in UTF-8"),
+        )),
+    }
+}
+
+/// The stop of a fault in the text of this path.
+pub(crate) fn stop_of(rt: &HostRuntime, path: &str, fault: TextFault) -> Stop {
     match fault {
         TextFault::Memory => Stop::Memory,
         TextFault::Line(_, _) | TextFault::NoEnd(_) => {

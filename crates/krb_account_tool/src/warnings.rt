@@ -1,8 +1,8 @@
 //! What is likely a slip in an account, by the rules for settings files.
 
 use crate::secrets::octets_of;
-use crate::stop::Stop;
 use krb_account_texts::{Line, RealmLine, place_of};
+use krb_commands::Stop;
 use krb_crypto::CipherSuite;
 use krb_settings::{AccountSettings, RealmSettings, Secret};
 use krb_settings_check::warnings_of;

@@ -5,6 +5,7 @@ use crate::database::serve_database;
 use crate::stop::Stop;
 use byte_streams::Watched;
 use krb_frames::ServeFault;
+use krb_version::VERSION;
 use std::env;
 use std::io::{self, BufReader, ErrorKind};
 use std::process::ExitCode;
@@ -17,9 +18,6 @@ four octets, the highest first, is answered by a frame on standard output: of le
 anew for each message. WORDS is a file of random octets, as /dev/urandom. With --log each message has a line on standard error.
 Status 0: the input ended. Status 1: nothing was served. Status 2: it stopped early.";
 
-/// The program's version.
-const VERSION: &str = "krb_kdcd unreleased, after 0.9.0";
-
 /// The whole program over its process, as its usage says. It says on standard error in one line why it stopped, and returns its status.
 pub fn run_process(rt: &HostRuntime) -> ExitCode {
     let arguments = match arguments_of(rt) {
@@ -28,7 +26,7 @@ pub fn run_process(rt: &HostRuntime) -> ExitCode {
     };
     match command_of(&arguments) {
         Some(Command::Help) => told(println!(rt; "{USAGE}")),
-        Some(Command::Version) => told(println!(rt; "{VERSION}")),
+        Some(Command::Version) => told(println!(rt; "krb_kdcd {VERSION}")),
         Some(Command::Serve(served)) => match serve_streams(rt, served) {
             Ok(()) => ExitCode::SUCCESS,
             Err(stop) => ended(rt, stop),
@@ -64,7 +62,7 @@ fn is_said(stop: Stop<'_>) -> bool {
     }
 }
 
-// The status behind a text on standard output.
+// The status after a text on standard output.
 fn told(written: io::Result<()>) -> ExitCode {
     match written {
         Ok(()) => ExitCode::SUCCESS,
@@ -72,7 +70,7 @@ fn told(written: io::Result<()>) -> ExitCode {
     }
 }
 
-// The arguments behind the program's name. One that is no text is refused.
+// The arguments after the program's name. One that is no text is refused.
 fn arguments_of(rt: &HostRuntime) -> Result<Vec<String>, Stop<'static>> {
     let given = match env::args(rt) {
         Ok(given) => given,

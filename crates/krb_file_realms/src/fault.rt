@@ -22,7 +22,7 @@ impl FileFault {
     ghost use Rattle.std.specs.Prelude.{◌≡◌};
     ghost use Rattle.krb_file_realms.specs.Faults.{file_fault_of};
 
-    /// Returns why the file can't be used, where a look-up in it failed. Want of memory is no fault of the file.
+    /// Returns why the file can't be used, where a look-up in it failed. That memory ran out is no fault of the file.
     pub fn of(fault: LookupFault) -> Option<FileFault>
         ensures { result ≡ file_fault_of fault }
     {
@@ -34,7 +34,7 @@ impl FileFault {
     }
 }
 
-/// What is told of a realm's file that can't be used, before the message is refused.
+/// What takes notice of a realm's file that can't be used, before the message is refused.
 pub trait Tells {
     /// Takes notice of the fault.
     fn tell(&self, fault: FileFault);

@@ -5,7 +5,7 @@
 //! file (`RepliesFrom`). So a file that is replaced while a message is answered gives no mixture of two realms.
 //!
 //! A message is refused as `Unreadable` only if it is no request, and as `Accounts` only if the file may not be opened or read, or is
-//! damaged. The fault is told ([`Tells`]) before the refusal is returned.
+//! damaged. The fault is given to [`Tells`] before the refusal is returned.
 #![tactic(auto)]
 
 mod fault;

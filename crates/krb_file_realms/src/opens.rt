@@ -1,4 +1,4 @@
-//! What a realm's file is opened by.
+//! What opens a realm's file.
 ghost use Rattle.std.specs.Prelude.{◌≡◌, MatchResult};
 ghost use Rattle.std.specs.declared.io.ErrorKind.{ErrorKind};
 

@@ -19,7 +19,7 @@ pub struct FileRealm<'a, O: Opens, P: Pkinit, T: Tells> {
     pub accounts: &'a O,
     /// What requests by certificate are judged by.
     pub pkinit: &'a P,
-    /// What is told of a file that can't be used.
+    /// What takes notice of a file that can't be used.
     pub faults: &'a T,
 }
 
@@ -60,7 +60,7 @@ impl<'a, O: Opens, P: Pkinit, T: Tells> Responder for FileRealm<'a, O, P, T> {
     }
 }
 
-// Tells why the file can't be used, if that is why there is no reply, and returns the refusal of the responder.
+// Gives notice of why the file can't be used, if there is no reply for that, and returns the refusal of the responder.
 fn told<T: Tells>(faults: &T, refusal: LookupRefusal) -> AnswerRefusal
     ensures { result ≡ refusal_of refusal }
 {

@@ -3,7 +3,6 @@
 //! replies with those of an independent implementation of RFC 4120's rules.
 #![tactic(auto)]
 
-mod passwords_alone;
 mod rows;
 mod words;
 mod written;

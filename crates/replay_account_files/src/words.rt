@@ -1,10 +1,10 @@
 //! What is read in a file and what is replied, as the words that rows have for it.
 
-use crate::passwords_alone::PasswordsAlone;
 use anyhow::Context;
 use cdb::ReadAt;
 use krb_account_files::{AccountFile, RealmParameters, answer_from, realm_of};
 use krb_accounts::Account;
+use krb_file_realms::NoPkinit;
 use krb_lookups::{Lookup, LookupFault, LookupRefusal};
 use krb_time::Moment;
 use picky_asn1::wrapper::{GeneralStringAsn1, OctetStringAsn1};
@@ -105,14 +105,7 @@ pub(crate) fn reply_words<F: ReadAt>(
     let moment = Moment::from_text(b"20000101000000Z").context("no moment")?;
     words_of_reply(
         alloc,
-        answer_from(
-            alloc,
-            accounts,
-            &PasswordsAlone,
-            message,
-            moment,
-            &random_words(),
-        ),
+        answer_from(alloc, accounts, &NoPkinit, message, moment, &random_words()),
     )
 }
 

@@ -1,6 +1,7 @@
 //! Files that are written whole or not at all.
 
-use crate::stop::{Stop, failed};
+use crate::stop::{Stop, failed, refused};
+use krb_keytabs::{Keytab, KeytabFault};
 use std::fs::{self, File, OpenOptions};
 use std::io::{self, ErrorKind, Read, Write};
 use std::os::unix::fs::OpenOptionsExt;
@@ -13,14 +14,14 @@ const FILE_LIMIT: u64 = 4_294_967_296;
 
 /// A new file beside the one whose place it is to take. While it is there no other run writes that file.
 #[derive(Drop)]
-pub(crate) struct NewFile {
+pub struct NewFile {
     path: String,
     new_path: String,
     file: File,
 }
 
 /// Makes a new file beside the one of this path.
-pub(crate) fn begin(rt: &HostRuntime, path: &str) -> Result<NewFile, Stop> {
+pub fn begin(rt: &HostRuntime, path: &str) -> Result<NewFile, Stop> {
     let alloc = rt.alloc();
     let new_path = format!(in alloc; "{path}.new")?;
     let path = String::from_str(alloc, path)?;
@@ -50,7 +51,7 @@ fn create(rt: &HostRuntime, path: &str) -> io::Result<File> {
 
 impl NewFile {
     /// Writes the octets, and puts the file into its place. If that fails, the new file is removed, and the old file stands.
-    pub(crate) fn finish(mut self, rt: &HostRuntime, octets: &[u8]) -> Result<(), Stop> {
+    pub fn finish(mut self, rt: &HostRuntime, octets: &[u8]) -> Result<(), Stop> {
         if let Err(fault) = write_through(&mut self.file, octets) {
             let stop = failed(
                 rt.alloc(),
@@ -80,8 +81,8 @@ impl NewFile {
     }
 
     /// Removes the new file.
-    pub(crate) fn discard(self, rt: &HostRuntime) {
-        // A file that can't be removed is told by the next run.
+    pub fn discard(self, rt: &HostRuntime) {
+        // The next run says that the file is there, if it can't be removed.
         let _ = fs::remove_file(rt, self.new_path.as_str());
     }
 }
@@ -103,7 +104,7 @@ fn sync_folder(rt: &HostRuntime, path: &str) -> io::Result<()> {
 }
 
 /// The octets of a file.
-pub(crate) fn octets_of(rt: &HostRuntime, path: &str) -> Result<Vec<u8>, Stop> {
+pub fn octets_of(rt: &HostRuntime, path: &str) -> Result<Vec<u8>, Stop> {
     match read_all(rt, path) {
         Ok(octets) => Ok(octets),
         Err(fault) if fault.kind() == ErrorKind::OutOfMemory => Err(Stop::Memory),
@@ -119,6 +120,22 @@ fn read_all(rt: &HostRuntime, path: &str) -> io::Result<Vec<u8>> {
 }
 
 /// Whether there is a file of this path.
-pub(crate) fn is_there(rt: &HostRuntime, path: &str) -> bool {
+pub fn is_there(rt: &HostRuntime, path: &str) -> bool {
     fs::metadata(rt, path).is_ok()
+}
+
+/// Writes a file of these octets in the place of the one of this path.
+pub fn write_file(rt: &HostRuntime, path: &str, octets: &[u8]) -> Result<(), Stop> {
+    let new_file = begin(rt, path)?;
+    new_file.finish(rt, octets)
+}
+
+/// The keytab in a file.
+pub fn keytab_in(rt: &HostRuntime, path: &str) -> Result<Keytab, Stop> {
+    let octets = octets_of(rt, path)?;
+    match Keytab::from_bytes(rt.alloc(), &octets) {
+        Ok(keytab) => Ok(keytab),
+        Err(KeytabFault::Memory) => Err(Stop::Memory),
+        Err(fault) => Err(refused(rt.alloc(), format_args!("{path}: {fault}"))),
+    }
 }

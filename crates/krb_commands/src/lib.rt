@@ -1,0 +1,19 @@
+//! What the programs for administrators have in common: their arguments, why one of them stopped, and files that are written whole or not
+//! at all.
+//!
+//! [`Stop`] is one line for standard error, which shows no secret, and the status of the program. [`begin`] makes a new file beside the
+//! one whose place it is to take, under its name with `.new`, and `NewFile::finish` puts it there once it is on disk. So the path has the
+//! old file or the new one at each moment. While the new file is there no other run writes.
+//!
+//! Each call is safe and returns. No contract says what files and standard output hold.
+#![tactic(auto)]
+
+mod arguments;
+mod files;
+mod output;
+mod stop;
+
+pub use arguments::{Given, arguments_of, given_of, is_word, principal_in};
+pub use files::{NewFile, begin, is_there, keytab_in, octets_of, write_file};
+pub use output::print_line;
+pub use stop::{Stop, failed, refused, usage};
