@@ -3,6 +3,8 @@ import collections, os, re, resource, subprocess, sys, tempfile, threading, time
 
 BUDGET = re.compile(r"^- Budget of the gate: (\d+) minutes of wall time on two processors", re.M)
 CLOCK = os.sysconf("SC_CLK_TCK")
+# Seconds between two looks at the processes: each look takes some 20 milliseconds, which count as the gate's.
+LOOKS_APART = 1
 COLUMNS = ("proof", "tests", "first edit", "further edits")
 # The budget is wall time on two processors: with four, a large check takes up to four jobs, which do much of their work twice.
 BUDGET_PROCESSORS = 2
@@ -55,7 +57,7 @@ def watch(clone, seen, is_over):
                     seen[key].seconds = (int(fields[11]) + int(fields[12])) / CLOCK
             except (OSError, ValueError, IndexError):
                 pass
-        is_over.wait(0.2)
+        is_over.wait(LOOKS_APART)
 
 
 def by_crate(checks):
