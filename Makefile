@@ -8,7 +8,7 @@ CRATES := $(sort $(notdir $(patsubst %/src,%,$(wildcard crates/*/src))))
 REALM := out/realm
 
 .DEFAULT_GOAL := help
-.PHONY: help try messages certificate test listener check gate faults settings run clients gss bench plant fmt docs budget crate-named bridge-there
+.PHONY: help try messages certificate test listener check gate faults settings run clients logins gss bench plant fmt docs budget crate-named bridge-there
 
 help: ## list the targets
 	@sed -n 's/^\([a-z]*\):[^#]*## /\1\t/p' Makefile | expand -t 14
@@ -34,9 +34,10 @@ check: crate-named ## prove one crate and what it stands on: make check CRATE=kr
 gate: ## prove everything from nothing, try the wrong bodies, run each test and program
 	$(RT) ci
 
-faults: ## refuse memory to the built programs, request by request, and send the program damaged requests
+faults: ## refuse memory to the built programs, request by request, send the program damaged requests, and fail krb_login at each system call
 	bench/refused_growths.sh
 	bench/hostile.sh
+	bench/login_faults.sh
 
 settings: ## say what is wrong with a settings file, without proof: make settings FILE=examples/settings.toml
 	@test -f "$(FILE)" || { echo "make: name a file, as in make settings FILE=examples/settings.toml" >&2; exit 2; }
@@ -52,6 +53,9 @@ run: bridge-there $(REALM)/settings.toml ## serve a realm to stock clients on 12
 
 clients: ## log in to the realm with stock clients of MIT and Heimdal, step by step
 	examples/real_clients.sh
+
+logins: ## log in with krb_login at MIT's krb5kdc and Heimdal's kdc, step by step
+	examples/stock_kdcs.sh
 
 gss: ## log in to the example acceptor with MIT's gss-client, step by step
 	examples/gss_clients.sh

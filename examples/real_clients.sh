@@ -47,15 +47,6 @@ heimdal_told() {
     fi
 }
 
-# One line at a time, as from a terminal: ktutil takes what it is given at once for one answer.
-ktutil_lines() {
-    for line in "$@"; do
-        echo "$line"
-        sleep 0.5
-    done | mit ktutil
-    echo
-}
-
 # What a client sends to the service and gets back, by the tickets of KRB5CCNAME. The service has the keytab alone.
 gss() {
     listen gss-server -port PORT -once -verbose -keytab "$work/host.keytab" "host@$host"
@@ -80,22 +71,7 @@ if [ -z "$heimdal_folder" ] && ! command -v kinit.heimdal >/dev/null; then
 fi
 [ "$missing" -eq 0 ] || exit 2
 
-# Heimdal's clients, and the libraries that are its own.
-if [ -z "$heimdal_folder" ] && ! command -v kinit.heimdal >/dev/null; then
-    heimdal_folder=$work/heimdal
-    mkdir "$heimdal_folder"
-    packages=$(apt-cache depends --recurse --no-recommends --no-suggests --no-conflicts --no-breaks --no-replaces --no-enhances heimdal-clients | grep -E '^lib[a-z0-9-]*-heimdal$')
-    (cd "$heimdal_folder" && apt-get download heimdal-clients $packages) >"$work/log" 2>&1
-    for package in "$heimdal_folder"/*.deb; do
-        dpkg -x "$package" "$heimdal_folder" || exit 2
-    done
-    if [ ! -x "$heimdal_folder/usr/bin/kinit.heimdal" ]; then
-        echo "real_clients: heimdal-clients is missing, and apt-get can't download it (apt-get update, or set HEIMDAL)" >&2
-        exit 2
-    fi
-fi
-libraries=$(dirname "$(find "$heimdal_folder/usr/lib" -name 'libkrb5.so.26' 2>/dev/null | head -n 1)")
-PATH=$PATH:$heimdal_folder/usr/bin
+fetch_heimdal kinit.heimdal heimdal-clients
 
 # The realm of the settings, in the way that is named; sets port, limit (of messages over UDP, for MIT) and kdc (for Heimdal).
 serve() {

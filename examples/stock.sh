@@ -71,6 +71,15 @@ typed() {
     echo "$told" | "$@"
 }
 
+# One line at a time, as from a terminal: ktutil takes what it is given at once for one answer.
+ktutil_lines() {
+    for line in "$@"; do
+        echo "$line"
+        sleep 0.5
+    done | mit ktutil
+    echo
+}
+
 # make_settings REALM USER SERVICE: the settings with keys made anew, of these suites; sets host_key.
 make_settings() {
     awk -v suites="$1 $2 $2 $3" '
@@ -127,4 +136,26 @@ configuration() {
 [domain_realm]
     .example.com = EXAMPLE.COM
 CONF
+}
+
+# fetch_heimdal COMMAND PACKAGE..: Heimdal's programs are those on the path, if COMMAND is among them, or those unpacked in the folder
+# HEIMDAL, or else the packages are downloaded by apt-get and unpacked in the temporary folder; sets heimdal_folder, libraries and PATH.
+fetch_heimdal() {
+    heimdal_folder=${HEIMDAL:-} wanted=$1
+    shift
+    if [ -z "$heimdal_folder" ] && ! command -v "$wanted" >/dev/null; then
+        heimdal_folder=$work/heimdal
+        mkdir "$heimdal_folder"
+        packages=$(apt-cache depends --recurse --no-recommends --no-suggests --no-conflicts --no-breaks --no-replaces --no-enhances "$@" | grep -E '^lib[a-z0-9-]*-heimdal$' | sort -u)
+        (cd "$heimdal_folder" && apt-get download "$@" $packages) >"$work/log" 2>&1
+        for package in "$heimdal_folder"/*.deb; do
+            dpkg -x "$package" "$heimdal_folder" || exit 2
+        done
+        if [ ! -x "$heimdal_folder/usr/bin/$wanted" ]; then
+            echo "$script: Heimdal is missing, and apt-get can't download it (apt-get update, or set HEIMDAL)" >&2
+            exit 2
+        fi
+    fi
+    libraries=$(dirname "$(find "$heimdal_folder/usr/lib" -name 'libkrb5.so.26' 2>/dev/null | head -n 1)")
+    PATH=$PATH:$heimdal_folder/usr/bin
 }

@@ -13,6 +13,17 @@ use result_pairs::both;
 use std::alloc::AllocError;
 use std::marker::Model;
 
+/// The times of a ticket (RFC 4120, section 5.3).
+#[derive(Clone, Copy, Debug, PartialEq, Eq)]
+pub struct TicketTimes {
+    /// When the client authenticated itself for its first ticket.
+    pub authtime: GeneralizedTime,
+    /// When the ticket starts: its authtime, where it has no starttime of its own.
+    pub starttime: GeneralizedTime,
+    /// When the ticket ends.
+    pub endtime: GeneralizedTime,
+}
+
 /// What a realm granted a client: a ticket, the session's key, which client and service share, the service's realm
 /// and name, and the ticket's times and flags. A contract sees these, the key as its suite and its bytes.
 #[derive(Drop)]
@@ -46,6 +57,40 @@ impl Model for Credential {
 }
 
 impl Credential {
+    /// The credential of these parts, as a credential cache holds them. Nothing is compared: it is for the caller to know that they were
+    /// granted together.
+    pub fn new(
+        ticket: Ticket,
+        key: Key,
+        realm: GeneralStringAsn1,
+        service: PrincipalName,
+        times: TicketTimes,
+        flags: KerberosFlags,
+    ) -> Credential
+        ensures { result ≡ record {
+          ticket = ticket.0;
+          suite = key.suite;
+          key = key.bytes;
+          realm = realm;
+          service = service;
+          authtime = times.authtime;
+          starttime = times.starttime;
+          endtime = times.endtime;
+          flags = flags;
+        } }
+    {
+        Credential {
+            ticket,
+            key,
+            realm,
+            service,
+            authtime: times.authtime,
+            starttime: times.starttime,
+            endtime: times.endtime,
+            flags,
+        }
+    }
+
     /// The credential of a reply and its opened part, in which this key is.
     pub(crate) fn of_reply(
         reply: &KdcRep,

@@ -22,8 +22,10 @@ use std::alloc::{AllocError, Global};
 const NONCES: u32 = 0x8000_0000;
 
 impl Client {
-    /// The body of the request, in which the client may be named.
-    pub(crate) fn request_body(
+    /// The body of a request for a ticket for a service of the client's realm till a time, with this nonce (RFC 4120, section 5.4.1). Its
+    /// only etype is the client's suite, and it has no option and no address. `named`: whether it has the client's name, as an AS
+    /// request's body does. Fails only if memory runs out.
+    pub fn request_body(
         &self,
         alloc: Global,
         named: bool,
@@ -104,8 +106,9 @@ pub(crate) fn kdc_request_of(
     })
 }
 
-/// Four of the random bytes, big-endian, of which 31 bits count.
-pub(crate) fn nonce_of(words: &[u8]) -> u32
+/// The nonce of a request: four of its random bytes, big-endian, of which 31 bits count. `words`: random bytes, 96 or more, of which the
+/// nonce is 16 to 19.
+pub fn nonce_of(words: &[u8]) -> u32
     requires { 96 ≤ length words.now }
     ensures { result ≡ nonce_of words.now }
 {

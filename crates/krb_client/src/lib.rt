@@ -5,7 +5,7 @@
 //! `Client::as_request`, `Client::tgs_request` and `Client::ap_request` write the one encoding of what the client asks, with what is sealed
 //! in it (`AsksAs`, `AsksTgs`, `AsksAp`). `Client::take_as_reply`, `Client::take_tgs_reply` and `Client::take_ap_reply` accept a reply if
 //! and only if it answers the request. The first reason against a reply decides the refusal (`IsTaken`). The key of `Client::by_password`
-//! is the password's.
+//! is the password's. `Credential::new` makes a credential of exactly its parts.
 #![tactic(auto)]
 
 mod agreement;
@@ -32,6 +32,7 @@ pub use agreement::agreement_part;
 pub use asked::{ApAsked, AsAsked, TgsAsked};
 pub use by_key::ByKey;
 pub use client::Client;
-pub use credential::Credential;
+pub use credential::{Credential, TicketTimes};
+pub use kdc_request::nonce_of;
 pub use means::Means;
 pub use refusal::{AskRefusal, TakeRefusal};

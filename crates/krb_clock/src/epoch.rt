@@ -1,9 +1,11 @@
 //! The moment of a machine's clock.
-ghost use Rattle.std.specs.Prelude.{◌<◌, ◌≤◌, SomeIff};
+ghost use Rattle.std.specs.Prelude.{◌≡◌, ◌<◌, ◌≤◌, SomeIff};
+ghost use Rattle.asn1_leaves.specs.GeneralizedTime.{seconds_of};
 ghost use Rattle.krb_time.specs.Moment.{IsMoment};
-ghost use Rattle.krb_clock.specs.Epoch.{micros_after_epoch};
+ghost use Rattle.krb_clock.specs.Epoch.{micros_after_epoch, since_epoch};
 
 use krb_time::Moment;
+use picky_asn1::date::GeneralizedTime;
 
 /// The seconds from 0000-01-01 00:00:00 UTC to 1970-01-01 00:00:00 UTC.
 const EPOCH: u64 = 62_167_219_200;
@@ -20,4 +22,14 @@ pub fn after_epoch(seconds: u64, micros: u32) -> Option<Moment>
         return None;
     }
     Moment::new((EPOCH + seconds) * 1_000_000 + u64::from(micros))
+}
+
+/// The seconds from 1970-01-01 00:00:00 UTC to a time, in 32 bits: 0 for an earlier time, and the greatest number for one that is later than
+/// that.
+pub fn seconds_since_epoch(time: GeneralizedTime) -> u32
+    ensures { result ≡ since_epoch (seconds_of time) }
+{
+    time.seconds()
+        .saturating_sub(EPOCH)
+        .min(u64::from(u32::MAX)) as u32
 }

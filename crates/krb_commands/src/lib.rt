@@ -1,9 +1,10 @@
-//! What the programs for administrators have in common: their arguments, why one of them stopped, and files that are written whole or not
-//! at all.
+//! What the programs for administrators and users have in common: their arguments, why one of them stopped, and files that are written
+//! whole or not at all.
 //!
-//! [`Stop`] is one line for standard error, which shows no secret, and the status of the program. [`begin`] makes a new file beside the
-//! one whose place it is to take, under its name with `.new`, and `NewFile::finish` puts it there once it is on disk. So the path has the
-//! old file or the new one at each moment. While the new file is there no other run writes.
+//! [`given_of`] takes options, their values and the other words apart. [`Stop`] is one line for standard error, which shows no secret, and
+//! the status of the program. [`begin`] makes a new file beside the one whose place it is to take, under its name with `.new`, and
+//! `NewFile::finish` puts it there once it is on disk. So the path has the old file or the new one at each moment. While the new file is
+//! there no other run writes.
 //!
 //! Each call is safe and returns. No contract says what files and standard output hold.
 #![tactic(auto)]

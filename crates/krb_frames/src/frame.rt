@@ -55,11 +55,8 @@ fn read_message<R: Source>(
     Ok(message)
 }
 
-// Reads the next frame: its message, or none at the end of the stream.
-pub(crate) fn read_frame<R: Source>(
-    alloc: Global,
-    reader: &mut R,
-) -> Result<Option<Vec<u8>>, ServeFault>
+/// Reads the next frame: its message, or none at the end of the stream. The faults are `Truncated`, `FrameTooLong`, `Read` and `Memory`.
+pub fn read_frame<R: Source>(alloc: Global, reader: &mut R) -> Result<Option<Vec<u8>>, ServeFault>
     ensures front { WhereKnown (R.left reader.old) (λ stream. MatchResult result
         (λ read. MatchOption read ((front_of stream ≡ Ended) × (R.left reader.new ≡ Some stream))
         (λ message. (rest : List ℕ) × (R.left reader.new ≡ Some rest) × (front_of stream ≡ Whole message.items rest)))
@@ -115,8 +112,8 @@ fn frame_of(alloc: Global, reply: &[u8]) -> Result<Vec<u8>, AllocError>
     Ok(frame)
 }
 
-// Writes the frame of a reply, in one call where the writer takes all.
-fn write_frame<W: Sink>(alloc: Global, writer: &mut W, reply: &[u8]) -> Result<(), ServeFault>
+/// Writes the frame of a message, in one call where the writer takes all. The faults are `Write` and `Memory`.
+pub fn write_frame<W: Sink>(alloc: Global, writer: &mut W, reply: &[u8]) -> Result<(), ServeFault>
     requires { length reply.now ≤ 65536 }
     ensures written { MatchResult result (λ _. Appends (W.written writer.old) (W.written writer.new) (framed reply.now))
         (IsWrittenPart (framed reply.now) (W.written writer.old) (W.written writer.new)) }

@@ -3,7 +3,8 @@
 //! A frame is a message after its length in four bytes, the highest first (RFC 4120, section 7.2.2).
 //! [`serve`] reads frames to the end of a stream and writes each reply in a frame of its own. A
 //! [`Responder`] replies. Each message is answered at the next moment and with the next 128
-//! random bytes. By a [`Tolerant`] responder a message that is no request doesn't stop serving.
+//! random bytes. By a [`Tolerant`] responder a message that is no request doesn't stop serving. [`read_frame`] and [`write_frame`] are for
+//! the other side, which asks.
 //!
 //! `serve` writes the frames of the replies to the messages of the stream, however the reader cuts the bytes (`IsServed`). Two runs over
 //! the same moments, stream and random bytes write the same as far as both go, where each message has at most one reply
@@ -19,7 +20,7 @@ mod stream;
 mod tolerant;
 
 pub use fault::{AnswerRefusal, ServeFault};
-pub use frame::{FRAME_LIMIT, WORDS_NEEDED};
+pub use frame::{FRAME_LIMIT, WORDS_NEEDED, read_frame, write_frame};
 pub use laws::{goes_on, output_is_whole, runs_agree};
 pub use responder::{Responder, SoleResponder};
 pub use stream::{serve, serve_bytes};

@@ -1,0 +1,3 @@
+pub mod Outcomes
+pub mod MethodDataLemmas
+pub mod NamedClients

@@ -1,0 +1,34 @@
+-- An AS request without padata (RFC 4120, sections 3.1.1, 5.4.1): its KDC replies at once, or says how the client authenticates itself.
+use Rattle.std.specs.Prelude.{ℤ, List, None, map, pos}
+use Rattle.picky_asn1.specs.Bytes.{Bytes}
+use Rattle.asn1_leaves.specs.declared.date.GeneralizedTime.{GeneralizedTime}
+use Rattle.krb_constants.specs.declared.types.TheConstants.{AS_REQ_MSG_TYPE, KERBEROS_VERSION}
+use Rattle.krb_crypto.specs.Suites.{cipher_number}
+use Rattle.krb_crypto.specs.declared.suite.CipherSuite.{CipherSuite}
+use Rattle.krb_types.specs.RandomBytes.{Random}
+use Rattle.krb_messages.specs.declared.messages.kdc_req.KdcReq.{KdcReq}
+use Rattle.krb_messages.specs.declared.messages.kdc_req_body.KdcReqBody.{KdcReqBody}
+use Rattle.krb_client.specs.AsRequest.{as_body}
+use Rattle.krb_client.specs.Client.{ClientRecord}
+use Rattle.krb_client.specs.Messages.{as_request_bytes}
+
+-- The etypes of suites, in their order.
+abbrev pub etypes : List CipherSuite → List ℤ
+etypes suites = map (λ suite. pos (cipher_number suite)) suites
+
+-- The body is that of the client's AS request, and its etypes are those of the suites.
+abbrev pub first_body : ClientRecord → List CipherSuite → List Bytes → GeneralizedTime → Random → KdcReqBody
+first_body client suites service till words = record (as_body client service till words) { etype = record { 0 = etypes suites } }
+
+-- An AS request with this body, and without padata.
+abbrev pub bare_request : KdcReqBody → KdcReq
+bare_request body = record {
+  pvno = record { 0 = pos KERBEROS_VERSION };
+  msg_type = record { 0 = pos AS_REQ_MSG_TYPE };
+  padata = record { 0 = None };
+  req_body = record { 0 = body };
+}
+
+-- The encoding of the client's first request.
+abbrev pub first_request_bytes : ClientRecord → List CipherSuite → List Bytes → GeneralizedTime → Random → Bytes
+first_request_bytes client suites service till words = as_request_bytes (bare_request (first_body client suites service till words))

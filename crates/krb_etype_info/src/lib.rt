@@ -1,0 +1,23 @@
+//! What a KDC says of a client's key (RFC 4120, sections 3.1.3, 5.2.7.5, 5.9.1): a first request without padata, the suite and the salt in
+//! the KDC's answer, and the client that is made by them.
+//!
+//! `first_request` writes the one encoding of an AS request without padata, which lists the given suites in their order. `key_hint` and
+//! `key_hint_of_reply` return what the tables `error_hint` and `reply_hint` give for the bytes of an error or a reply: the suite and the salt
+//! of the first entry whose suite is a given one. No peer chooses the number of rounds: `s2kparams` other than the suite's own are refused. The
+//! key of `client_by_hint` is that of the password and this salt, or of the default salt where the KDC names none. What our realm writes
+//! of an account is read as the account's suite and salt (law `hint_of_method_data`).
+#![tactic(auto)]
+
+mod asking;
+mod by_hint;
+mod entries;
+mod hint;
+pub mod laws;
+mod parameters;
+mod reading;
+mod refusal;
+
+pub use asking::first_request;
+pub use by_hint::client_by_hint;
+pub use hint::{KeyHint, key_hint, key_hint_of_reply};
+pub use refusal::{HintRefusal, HintedClientRefusal};

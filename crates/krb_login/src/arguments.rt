@@ -1,0 +1,180 @@
+//! The arguments of a login.
+
+use krb_accounts::{LIFETIME_LIMIT, are_components};
+use krb_client::{AskRefusal, Client};
+use krb_commands::{Given, Stop, given_of, principal_in, usage};
+use krb_crypto::CipherSuite;
+use krb_time::Moment;
+use krb_types::PrincipalText;
+use std::alloc::Global;
+
+/// The options.
+const OPTIONS: [&str; 7] = ["-k", "-p", "-c", "-s", "-l", "-r", "-t"];
+
+/// For how many seconds tickets are asked for, if it isn't given: ten hours.
+const USUAL_LIFETIME: u64 = 36_000;
+
+/// The random octets, if no file is given.
+const WORDS: &str = "/dev/urandom";
+
+/// What the client has its key of: a keytab, or the password in a file.
+#[derive(Clone, Copy)]
+pub(crate) enum Means<'a> {
+    Keytab(&'a str),
+    Password(&'a str),
+}
+
+/// A login, as the arguments say it.
+#[derive(Drop)]
+pub(crate) struct Login<'a> {
+    pub(crate) user: User<'a>,
+    /// The services, in their order.
+    pub(crate) services: Vec<Service<'a>>,
+    pub(crate) settings: Settings<'a>,
+}
+
+/// The client, with the argument that names it, and the components of its name. Its suite doesn't count.
+#[derive(Drop)]
+pub(crate) struct User<'a> {
+    pub(crate) argument: &'a str,
+    pub(crate) client: Client,
+    pub(crate) components: Vec<Vec<u8>>,
+}
+
+/// A service, with the argument that names it, and the components of its name.
+#[derive(Drop)]
+pub(crate) struct Service<'a> {
+    pub(crate) argument: &'a str,
+    pub(crate) components: Vec<Vec<u8>>,
+}
+
+/// The values of the options but `-s`.
+#[derive(Clone, Copy)]
+pub(crate) struct Settings<'a> {
+    /// What the client has its key of.
+    pub(crate) means: Means<'a>,
+    /// The path of the cache.
+    pub(crate) cache: &'a str,
+    /// For how many seconds tickets are asked for.
+    pub(crate) lifetime: u64,
+    /// The path of the random octets.
+    pub(crate) words: &'a str,
+    /// The moment of each request, if it isn't the clock's.
+    pub(crate) moment: Option<Moment>,
+}
+
+/// The login of these arguments.
+pub(crate) fn login_of<'a>(alloc: Global, arguments: &'a [String]) -> Result<Login<'a>, Stop> {
+    let given = given_of(alloc, &OPTIONS, arguments)?;
+    let settings = settings_of(alloc, &given)?;
+    let user = user_of(alloc, &given)?;
+    let services = services_of(alloc, &user.client, &given)?;
+    Ok(Login {
+        user,
+        services,
+        settings,
+    })
+}
+
+fn settings_of<'a>(alloc: Global, given: &Given<'a>) -> Result<Settings<'a>, Stop> {
+    let Some(cache) = given.value(alloc, "-c")? else {
+        return Err(usage(alloc, "expected: -c CACHE"));
+    };
+    Ok(Settings {
+        means: means_of(alloc, given)?,
+        cache: path_of(cache),
+        lifetime: lifetime_of(alloc, given.value(alloc, "-l")?)?,
+        words: given.value(alloc, "-r")?.unwrap_or(WORDS),
+        moment: moment_of(alloc, given.value(alloc, "-t")?)?,
+    })
+}
+
+fn means_of<'a>(alloc: Global, given: &Given<'a>) -> Result<Means<'a>, Stop> {
+    match (given.value(alloc, "-k")?, given.value(alloc, "-p")?) {
+        (Some(path), None) => Ok(Means::Keytab(path_of(path))),
+        (None, Some("-")) => Err(usage(
+            alloc,
+            "-p: standard input is the KDC's: expected a file, as /dev/fd/3",
+        )),
+        (None, Some(path)) => Ok(Means::Password(path)),
+        _ => Err(usage(alloc, "expected: -k KEYTAB or -p FILE, and not both")),
+    }
+}
+
+// The path of a keytab or a cache, which may have its type in front.
+fn path_of(word: &str) -> &str {
+    word.strip_prefix("FILE:").unwrap_or(word)
+}
+
+fn lifetime_of(alloc: Global, given: Option<&str>) -> Result<u64, Stop> {
+    let Some(word) = given else {
+        return Ok(USUAL_LIFETIME);
+    };
+    match word.parse::<u64>() {
+        Ok(seconds) if 0 < seconds && seconds <= LIFETIME_LIMIT => Ok(seconds),
+        _ => Err(usage(
+            alloc,
+            "-l: expected a whole number of seconds from 1 to 31536000",
+        )),
+    }
+}
+
+fn moment_of(alloc: Global, given: Option<&str>) -> Result<Option<Moment>, Stop> {
+    let Some(word) = given else {
+        return Ok(None);
+    };
+    match Moment::from_text(word.as_bytes()) {
+        Some(moment) => Ok(Some(moment)),
+        None => Err(usage(alloc, "-t: expected a time (UTC), as 20261128040000Z")),
+    }
+}
+
+fn user_of<'a>(alloc: Global, given: &Given<'a>) -> Result<User<'a>, Stop> {
+    let [argument] = given.words() else {
+        return Err(usage(alloc, "expected: one USER@REALM"));
+    };
+    let PrincipalText { components, realm } = principal_in(alloc, *argument)?;
+    let realm = realm.unwrap_or(Vec::new(alloc));
+    match Client::new(alloc, &realm, &components, CipherSuite::Aes256CtsHmacSha196) {
+        Ok(client) => Ok(User {
+            argument: *argument,
+            client,
+            components,
+        }),
+        Err(AskRefusal::Memory) => Err(Stop::Memory),
+        Err(_) => Err(usage(alloc, format_args!("{argument}: expected USER@REALM"))),
+    }
+}
+
+fn services_of<'a>(
+    alloc: Global,
+    client: &Client,
+    given: &Given<'a>,
+) -> Result<Vec<Service<'a>>, Stop> {
+    let mut services = Vec::new(alloc);
+    for argument in given.values(alloc, "-s")? {
+        services.push(service_of(alloc, client, argument)?)?;
+    }
+    Ok(services)
+}
+
+// A service of the client's realm.
+fn service_of<'a>(alloc: Global, client: &Client, argument: &'a str) -> Result<Service<'a>, Stop> {
+    let PrincipalText { components, realm } = principal_in(alloc, argument)?;
+    let has_realm = match &realm {
+        Some(realm) => realm.as_slice() == client.realm().as_bytes(),
+        None => true,
+    };
+    if !has_realm || !are_components(&components) {
+        return Err(usage(
+            alloc,
+            format_args!(
+                "{argument}: expected a service of the user's realm, as HTTP/server.example.com"
+            ),
+        ));
+    }
+    Ok(Service {
+        argument,
+        components,
+    })
+}

@@ -1,0 +1,191 @@
+//! What the client has its key of: a password, or the keys of a keytab.
+
+use crate::arguments::{Login, Means};
+use krb_client::{ByKey, Client};
+use krb_commands::{Stop, failed, keytab_in, refused};
+use krb_crypto::{CipherSuite, Key};
+use krb_etype_info::{HintedClientRefusal, KeyHint, client_by_hint};
+use krb_keytabs::KeytabRecord;
+use krb_types::{is_same_name, is_same_realm};
+use std::alloc::{AllocError, Global};
+use std::fs;
+use std::io::{self, ErrorKind, Read};
+
+/// How many octets a password may have.
+const PASSWORD_LIMIT: usize = 4_096;
+
+/// The suites that the client takes, in the order in which it lists them.
+pub(crate) const SUITES: [CipherSuite; 5] = [
+    CipherSuite::Aes256CtsHmacSha196,
+    CipherSuite::Aes128CtsHmacSha196,
+    CipherSuite::Aes256CtsHmacSha384192,
+    CipherSuite::Aes128CtsHmacSha256128,
+    CipherSuite::Des3CbcSha1Kd,
+];
+
+/// A password, or the client's records of a keytab.
+#[derive(Drop)]
+pub(crate) enum Secret {
+    Password(Vec<u8>),
+    Records(Vec<KeytabRecord>),
+}
+
+/// The secret of a login.
+pub(crate) fn secret_of(rt: &HostRuntime, login: &Login<'_>) -> Result<Secret, Stop> {
+    match login.settings.means {
+        Means::Password(path) => Ok(Secret::Password(password_in(rt, path)?)),
+        Means::Keytab(path) => Ok(Secret::Records(records_in(rt, path, login)?)),
+    }
+}
+
+// The first line of a file.
+fn password_in(rt: &HostRuntime, path: &str) -> Result<Vec<u8>, Stop> {
+    let octets = match read_front(rt, path) {
+        Ok(octets) => octets,
+        Err(fault) if fault.kind() == ErrorKind::OutOfMemory => return Err(Stop::Memory),
+        Err(fault) => {
+            return Err(failed(rt.alloc(), format_args!("{path} can't be read: {fault}")));
+        }
+    };
+    let line = first_line(&octets);
+    if line.is_empty() || PASSWORD_LIMIT < line.len() {
+        return Err(refused(
+            rt.alloc(),
+            format_args!("{path}: expected a password of 1 to 4096 octets in its first line"),
+        ));
+    }
+    Ok(Vec::from_slice(rt.alloc(), line)?)
+}
+
+fn read_front(rt: &HostRuntime, path: &str) -> io::Result<Vec<u8>> {
+    let mut octets = Vec::new(rt.alloc());
+    let file = fs::open(rt, path)?;
+    file.take(PASSWORD_LIMIT as u64 + 1)
+        .read_to_end(&mut octets)?;
+    Ok(octets)
+}
+
+// What precedes the first line feed.
+fn first_line(octets: &[u8]) -> &[u8] {
+    match octets.iter().position(|octet| *octet == b'\n') {
+        Some(end) => &octets[..end],
+        None => octets,
+    }
+}
+
+// The client's records of a keytab.
+fn records_in(rt: &HostRuntime, path: &str, login: &Login<'_>) -> Result<Vec<KeytabRecord>, Stop> {
+    let mut records = keytab_in(rt, path)?.into_records();
+    records.retain(|record| is_of(&login.user.client, record));
+    if records.is_empty() {
+        return Err(refused(
+            rt.alloc(),
+            format_args!(
+                "{path}: expected a key of {} of a known etype",
+                login.user.argument
+            ),
+        ));
+    }
+    Ok(records)
+}
+
+// Whether a record is of the client, and its key of a known suite.
+fn is_of(client: &Client, record: &KeytabRecord) -> bool {
+    is_same_realm(record.realm(), client.realm())
+        && is_same_name(record.components(), client.components())
+        && record.cipher_key().is_some()
+}
+
+impl Secret {
+    /// The suites that the client takes: all by password, and those of its keys by keytab.
+    pub(crate) fn suites(&self, alloc: Global) -> Result<Vec<CipherSuite>, AllocError> {
+        let mut suites = Vec::new(alloc);
+        for suite in SUITES {
+            if self.has_suite(suite) {
+                suites.push(suite)?;
+            }
+        }
+        Ok(suites)
+    }
+
+    fn has_suite(&self, suite: CipherSuite) -> bool {
+        match self {
+            Secret::Password(_) => true,
+            Secret::Records(records) => newest_key(records.as_slice(), suite).is_some(),
+        }
+    }
+
+    /// The client whose key is made as the KDC says, and its means.
+    pub(crate) fn client(
+        &self,
+        alloc: Global,
+        login: &Login<'_>,
+        hint: &KeyHint,
+    ) -> Result<(Client, ByKey), Stop> {
+        match self {
+            Secret::Password(password) => by_password(alloc, login, password.as_slice(), hint),
+            Secret::Records(records) => by_records(alloc, login, records.as_slice(), hint.suite),
+        }
+    }
+}
+
+fn by_password(
+    alloc: Global,
+    login: &Login<'_>,
+    password: &[u8],
+    hint: &KeyHint,
+) -> Result<(Client, ByKey), Stop> {
+    let realm = login.user.client.realm().as_bytes();
+    match client_by_hint(alloc, realm, &login.user.components, password, hint) {
+        Ok(made) => Ok(made),
+        Err(HintedClientRefusal::Memory) => Err(Stop::Memory),
+        Err(refusal) => Err(refused(alloc, format_args!("{}: {refusal}", login.user.argument))),
+    }
+}
+
+fn by_records(
+    alloc: Global,
+    login: &Login<'_>,
+    records: &[KeytabRecord],
+    suite: CipherSuite,
+) -> Result<(Client, ByKey), Stop> {
+    let Some(key) = newest_key(records, suite) else {
+        return Err(refused(
+            alloc,
+            format_args!(
+                "{}: the keytab has no key of the KDC's suite",
+                login.user.argument
+            ),
+        ));
+    };
+    let client = client_with(alloc, login, suite)?;
+    Ok((client, ByKey { key }))
+}
+
+/// The client of a login, which asks for this suite. It is named as the one of the arguments, so memory is the only refusal.
+pub(crate) fn client_with(
+    alloc: Global,
+    login: &Login<'_>,
+    suite: CipherSuite,
+) -> Result<Client, Stop> {
+    let realm = login.user.client.realm().as_bytes();
+    match Client::new(alloc, realm, &login.user.components, suite) {
+        Ok(client) => Ok(client),
+        Err(_) => Err(Stop::Memory),
+    }
+}
+
+// The key of this suite with the greatest kvno: of two with one kvno the later one.
+fn newest_key(records: &[KeytabRecord], suite: CipherSuite) -> Option<Key> {
+    let mut kvno = 0;
+    let mut newest = None;
+    for record in records {
+        if let Some(key) = record.cipher_key() {
+            if key.suite() == suite && kvno <= record.kvno() {
+                kvno = record.kvno();
+                newest = Some(key);
+            }
+        }
+    }
+    newest
+}
