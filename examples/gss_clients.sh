@@ -1,6 +1,6 @@
 #!/bin/sh
-# MIT's gss-client logs in to the program example_acceptor and sends it messages, by tickets of the realm of examples/settings.toml, with
-# keys made anew, behind socat on 127.0.0.1: with each suite of AES, with and without mutual authentication, with messages that are
+# MIT's gss-client logs in to the program example_acceptor, which has a keytab of MIT's ktutil, and sends it messages, by tickets of the
+# realm of examples/settings.toml, with keys made anew, behind socat on 127.0.0.1: with each suite of AES, with and without mutual authentication, with messages that are
 # encrypted, only protected by a checksum, and neither, and through SPNEGO. ntlm_first.py, over the same library, offers NTLM before
 # Kerberos, so that both sides' MICs of the list are due. It is refused as it should be with triple DES, for another
 # service, by a clock that is 10 minutes off, and where its frames come again or have one octet changed. Prints what each gave; the
@@ -17,6 +17,7 @@ trap 'exit 1' INT TERM
 
 need socat socat
 need kinit krb5-user
+need ktutil krb5-user
 need gss-client krb5-gss-samples
 need faketime faketime
 need openssl openssl
@@ -34,7 +35,7 @@ if [ ! -x "$program" ] || [ -n "$(find "$top/crates" -name out -prune -o -path '
 fi
 cat >"$work/acceptor" <<ACCEPTOR
 #!/bin/sh
-\${CLOCK:-} $program $work/settings.toml /dev/urandom now host/\${SERVICE:-$host} 2>>$work/told
+\${CLOCK:-} $program $work/host.keytab /dev/urandom now host/\${SERVICE:-$host}@EXAMPLE.COM 2>>$work/told
 echo "acceptor: status \$?" >>$work/told
 ACCEPTOR
 chmod +x "$work/acceptor"
@@ -111,12 +112,15 @@ one_for_all() {
     [ "$(grep -c 'logged in' "$work/told")" -eq 2 ]
 }
 
-# by_suite SUITE: keys made anew, of this suite, also for a further service, and the user's first ticket.
+# by_suite SUITE: keys made anew, of this suite, also for a further service, with their keytab, and the user's first ticket.
 by_suite() {
     echo "== $1"
     make_settings "$1" "$1" "$1"
     printf '\n[[account]]\nname = ["host", "other.example.com"]\nsuite = "%s"\nkey = "%s"\n' "$1" "$host_key" >>"$work/settings.toml"
-    rm -f "$work/mit.tickets"
+    rm -f "$work/mit.tickets" "$work/host.keytab"
+    ktutil_lines "addent -key -p host/$host@EXAMPLE.COM -k 1 -e ${1%-kd}" "$host_key" \
+        "addent -key -p host/other.example.com@EXAMPLE.COM -k 1 -e ${1%-kd}" "$host_key" "wkt $work/host.keytab" >"$work/log" 2>&1
+    try "the keytab of the services" yes "$host_key" mit klist -k -e -K "$work/host.keytab"
     try "kinit" yes "" typed "$password" mit kinit user
 }
 

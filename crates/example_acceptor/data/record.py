@@ -4,9 +4,9 @@ gss-ntlmssp, socat and faketime.
 
 MIT's kinit gets a ticket from the realm of settings.toml, and MIT's gss-client logs in twice, by Kerberos itself and through SPNEGO. Then
 examples/ntlm_first.py logs in through SPNEGO, where Kerberos isn't first. All clocks stand. The acceptor is written here, over the writer
-in crates/replay_contexts/data, and shares no code with the program. `stdin` is what the clients sent, and `stdout` what they were given: it ends well only if it verified each of those tokens.
+in crates/replay_contexts/data, and shares no code with the program. `host.keytab` has the service's key. `stdin` is what the clients sent, and `stdout` what they were given: it ends well only if it verified each of those tokens.
 """
-import os, socket, subprocess, sys, tempfile, time
+import os, socket, struct, subprocess, sys, tempfile, time
 
 HERE = os.path.dirname(os.path.abspath(__file__))
 sys.path.insert(0, f"{HERE}/../../replay_contexts/data")
@@ -99,6 +99,16 @@ class Negotiation:
         return b"", self.end
 
 
+def keytab():
+    """A keytab of the service's key, with kvno 1 (MIT's file keytab format, version 0x0502)."""
+    def counted(octets):
+        return len(octets).to_bytes(2, "big") + octets
+
+    body = (2).to_bytes(2, "big") + b"".join(map(counted, (b"EXAMPLE.COM", b"host", b"server.example.com")))
+    body += struct.pack(">IIBH", 1, 1_795_780_800, 1, 18) + counted(SERVICE_KEY) + struct.pack(">I", 1)
+    return b"\5\2" + struct.pack(">i", len(body)) + body
+
+
 def frame(flags, token=b""):
     return bytes([flags]) + len(token).to_bytes(4, "big") + token
 
@@ -151,7 +161,7 @@ def main():
         assert client.wait() == 0
     finally:
         bridge.terminate()
-    for name, octets in ("stdin", sent), ("stdout", given):
+    for name, octets in ("stdin", sent), ("stdout", given), ("data/host.keytab", keytab()):
         with open(f"{HERE}/../{name}", "wb") as it:
             it.write(octets)
 

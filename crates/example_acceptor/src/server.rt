@@ -6,7 +6,7 @@ use anyhow::{Context as _, bail};
 use byte_streams::{Sink, Source, read_full};
 use gss_acceptor::{Accepted, Acceptor, Continuation, Established, Negotiation};
 use gss_contexts::Context;
-use krb_program::after_epoch;
+use krb_clock::after_epoch;
 use krb_time::Moment;
 use std::alloc::Global;
 use std::time::{Clock, SystemTime, UNIX_EPOCH};

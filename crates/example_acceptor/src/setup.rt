@@ -4,34 +4,37 @@ use crate::server::{Server, Time};
 use anyhow::{Context, bail};
 use byte_streams::Watched;
 use gss_acceptor::Acceptor;
+use krb_accounts::{components_of, realm_name_of};
+use krb_commands::keytab_in;
+use krb_crypto::Key;
+use krb_keytabs::{Keytab, KeytabRecord};
 use krb_service::Service;
-use krb_settings::{RealmSettings, SETTINGS_LIMIT, Secret, read_settings_file};
-use krb_settings_check::explain;
 use krb_time::Moment;
-use krb_types::components_of_text;
+use krb_types::{PrincipalText, is_same_name, is_same_realm, principal_of_text};
+use picky_asn1::wrapper::GeneralStringAsn1;
+use std::alloc::Global;
 use std::env;
 use std::fs::{self, Files};
-use std::io::{self, Read};
 
-/// The number of the service's key.
-const KEY_NUMBER: u32 = 1;
+/// By how many seconds clocks may differ.
+const SKEW: u64 = 300;
 
-/// The server of the program's arguments: a settings file, a file of random octets, a moment and a service's name.
+/// The server of the program's arguments: a keytab, a file of random octets, a moment and a service's name with its realm.
 pub(crate) fn server_of(
     rt: &HostRuntime,
 ) -> anyhow::Result<Server<Watched<<HostRuntime as Files>::File>>> {
     let mut arguments = env::args(rt)?.skip(1);
-    let (Some(settings), Some(words), Some(moment), Some(service), None) = (
+    let (Some(keytab), Some(words), Some(moment), Some(service), None) = (
         arguments.next(),
         arguments.next(),
         arguments.next(),
         arguments.next(),
         arguments.next(),
     ) else {
-        bail!("expected: a settings file, a file of random octets, a moment and a service");
+        bail!("expected: a keytab, a file of random octets, a moment and a service with its realm");
     };
     let time = time_of(moment.as_str()).context("no moment: expected now or YYYYMMDDHHMMSSZ")?;
-    let service = service_in(rt, settings.as_str(), service.as_str())?;
+    let service = service_in(rt, keytab.as_str(), service.as_str())?;
     let words = fs::open(rt, words.as_str())?;
     Ok(Server {
         acceptor: Acceptor::new(service),
@@ -49,52 +52,68 @@ fn time_of(text: &str) -> Option<Time> {
     Some(Time::Fixed(moment))
 }
 
-// The service of this name in a settings file.
+// The service of this name, with its newest key in a keytab.
 fn service_in(rt: &HostRuntime, path: &str, name: &str) -> anyhow::Result<Service> {
-    let text = read_file(rt, path)?;
-    let settings = match read_settings_file(rt.alloc(), &text) {
-        Ok(settings) => settings,
-        Err(fault) => {
-            let fault = explain(rt.alloc(), &text, fault)?;
-            bail!("{path}{fault}");
-        }
+    let keytab = match keytab_in(rt, path) {
+        Ok(keytab) => keytab,
+        Err(stop) => bail!("{stop}"),
     };
-    let service = service_of(rt, &settings, name);
-    drop(settings);
-    service
+    let service = service_of(rt.alloc(), &keytab, name);
+    drop(keytab);
+    match service {
+        Ok(service) => Ok(service),
+        Err(fault) => bail!("{path}: {name}: {fault}"),
+    }
 }
 
-// The octets of a file. Of a long one, one octet more than settings may have.
-fn read_file(rt: &HostRuntime, path: &str) -> io::Result<Vec<u8>> {
-    let mut octets = Vec::new(rt.alloc());
-    let file = fs::open(rt, path)?;
-    file.take(SETTINGS_LIMIT as u64 + 1)
-        .read_to_end(&mut octets)?;
-    Ok(octets)
-}
-
-// The service of this name, which has to have a key.
-fn service_of(rt: &HostRuntime, settings: &RealmSettings, name: &str) -> anyhow::Result<Service> {
-    let components = components_of_text(rt.alloc(), name)?;
-    let found = settings
-        .accounts
-        .iter()
-        .find(|account| account.name == components);
-    drop(components);
-    let Some(account) = found else {
-        bail!("no account {name}");
-    };
-    let Secret::Key(key) = &account.secret else {
-        bail!("the account {name} has no key");
-    };
+fn service_of(alloc: Global, keytab: &Keytab, name: &str) -> anyhow::Result<Service> {
+    let PrincipalText { components, realm } = principal_of_text(alloc, name)?;
+    let realm = realm.context("expected its realm after a @")?;
+    let own_realm = realm_name_of(alloc, &realm)?;
+    let own_name = components_of(alloc, &components)?;
+    let (kvno, key) = newest_key(keytab, &own_realm, &own_name).context(
+        "expected a key of it, of a known etype, in the keytab",
+    )?;
     let made = Service::new(
-        rt.alloc(),
-        &settings.name,
-        &account.name,
-        account.suite,
-        key,
-        KEY_NUMBER,
-        settings.skew,
+        alloc,
+        &realm,
+        &components,
+        key.suite(),
+        key.as_bytes(),
+        kvno,
+        SKEW,
     );
     Ok(made?)
+}
+
+// The key of this realm and name with the greatest kvno: of two with one kvno the later one.
+fn newest_key(
+    keytab: &Keytab,
+    realm: &GeneralStringAsn1,
+    name: &[GeneralStringAsn1],
+) -> Option<(u32, Key)> {
+    let mut kvno = 0;
+    let mut newest = None;
+    for entry in keytab.records() {
+        if let Some(key) = key_in(entry, realm, name) {
+            if kvno <= entry.kvno() {
+                kvno = entry.kvno();
+                newest = Some(key);
+            }
+        }
+    }
+    let key = newest?;
+    Some((kvno, key))
+}
+
+// The key of an entry, if it is one of this realm and name, and of a known etype.
+fn key_in(
+    entry: &KeytabRecord,
+    realm: &GeneralStringAsn1,
+    name: &[GeneralStringAsn1],
+) -> Option<Key> {
+    if is_same_realm(entry.realm(), realm) && is_same_name(entry.components(), name) {
+        return entry.cipher_key();
+    }
+    None
 }

@@ -108,8 +108,9 @@ impl KeytabEntry {
         Ok(judged?)
     }
 
-    // Judges a request at a moment.
-    fn judge(
+    /// What a request presents to this service at a moment, up to the time that it tells (RFC 4120, section 3.2.3). The skew is
+    /// in microseconds, a day at most.
+    pub fn judge(
         &self,
         alloc: Global,
         skew: u64,

@@ -1,10 +1,13 @@
-//! Lists of calls of one service. A line `sequence N skew S` begins a fresh service, with `des3` behind it one of triple DES. A
-//! further line is a call: the moment in microseconds after 2000-01-01 | AP-REQ | answer | how many pairs are kept after the
-//! call | the greatest moment after it. A moment before 2000-01-01 has a minus sign.
+//! Lists of calls of one service. A line `sequence N skew S` begins a fresh service, with `des3` behind it one of triple DES, and with
+//! `keytab K` one whose keys are those of the keytab K. A line `keytab K | ANSWER` replaces them. A further line is a call: the moment in
+//! microseconds after 2000-01-01 | AP-REQ | answer | how many pairs are kept after the call | the greatest moment after it. A moment
+//! before 2000-01-01 has a minus sign.
 
 use anyhow::{Context, bail};
 use krb_ap_requests::AdmitRefusal;
 use krb_crypto::CipherSuite;
+use krb_keytab_services::KeytabService;
+use krb_keytabs::Keytab;
 use krb_service::{Admission, Service};
 use krb_time::Moment;
 use std::alloc::Global;
@@ -24,10 +27,17 @@ struct Call<'a> {
     greatest: Moment,
 }
 
+/// A service of one key, or of a keytab.
+#[derive(Drop)]
+enum Served {
+    OneKey(Service),
+    ByKeytab(KeytabService),
+}
+
 /// A service that is called, and the greatest moment that it was handed.
 #[derive(Drop)]
 struct Run {
-    service: Service,
+    service: Served,
     greatest: Moment,
 }
 
@@ -68,7 +78,7 @@ fn replay_lines(rt: &HostRuntime, text: &str, run: &mut Run) -> anyhow::Result<C
     Ok(counts)
 }
 
-/// Begins a fresh service, or replays a call.
+/// Begins a fresh service, replaces its keys, or replays a call.
 fn replay_line(
     rt: &HostRuntime,
     line: &str,
@@ -81,10 +91,13 @@ fn replay_line(
         drop(replace(run, fresh));
         return Ok(());
     }
+    if let Some(replacement) = line.strip_prefix("keytab ") {
+        return replay_replacement(rt, replacement, run, counts);
+    }
     counts.calls = counts.calls.saturating_add(1);
     let call = call_of(rt.alloc(), line)?;
     let answer = answer_of(rt.alloc(), run, &call)?;
-    let kept = run.service.kept();
+    let kept = kept_by(&run.service);
     let greatest = run.greatest;
     if answer.as_str() != call.answer || kept != call.kept || greatest != call.greatest {
         counts.differing = counts.differing.saturating_add(1);
@@ -96,6 +109,54 @@ fn replay_line(
         )?;
     }
     Ok(())
+}
+
+/// Replaces the keys of a service by those of another keytab.
+fn replay_replacement(
+    rt: &HostRuntime,
+    line: &str,
+    run: &mut Run,
+    counts: &mut Counts,
+) -> anyhow::Result<()> {
+    let Some((octets, expected)) = line.split_once('|') else {
+        bail!("a keytab without an answer");
+    };
+    let keytab = keytab_of(rt.alloc(), octets)?;
+    let answer = replaced(rt.alloc(), run, &keytab);
+    drop(keytab);
+    let answer = answer?;
+    if answer.as_str() != expected.trim() {
+        counts.differing = counts.differing.saturating_add(1);
+        let number = counts.calls;
+        println!(rt; "keytab behind call {number}: {}", answer.as_str())?;
+    }
+    Ok(())
+}
+
+/// The answer to a keytab that is to replace the keys of a service.
+fn replaced(alloc: Global, run: &mut Run, keytab: &Keytab) -> anyhow::Result<String> {
+    let Served::ByKeytab(service) = &mut run.service else {
+        bail!("a keytab for a service of one key");
+    };
+    let text = match service.replace_keys(alloc, keytab) {
+        Ok(()) => format!(in alloc; "Ok")?,
+        Err(refusal) => format!(in alloc; "{refusal}")?,
+    };
+    Ok(text)
+}
+
+/// The keytab of these octets.
+fn keytab_of(alloc: Global, octets: &str) -> anyhow::Result<Keytab> {
+    let octets = hex::decode(alloc, octets.trim())?;
+    Ok(Keytab::from_bytes(alloc, &octets)?)
+}
+
+/// How many pairs a service keeps.
+fn kept_by(service: &Served) -> usize {
+    match service {
+        Served::OneKey(service) => service.kept(),
+        Served::ByKeytab(service) => service.kept(),
+    }
 }
 
 /// The suite of a line `sequence N skew S`, where `des3` may be behind, and the skew in seconds.
@@ -117,18 +178,38 @@ fn settings_of(line: &str) -> anyhow::Result<(CipherSuite, u64)> {
     Ok((suite, skew.parse::<u64>()?))
 }
 
-/// The service `h` of realm R that a line begins, with a key of bytes 01 and number 1, which has seen nothing.
+/// The service `h` of realm R that a line begins, which has seen nothing.
 fn fresh_run(alloc: Global, line: &str) -> anyhow::Result<Run> {
+    let service = match line.split_once(" keytab ") {
+        Some((settings, octets)) => Served::ByKeytab(service_of_keytab(alloc, settings, octets)?),
+        None => Served::OneKey(service_of_one_key(alloc, line)?),
+    };
+    let greatest = Moment::new(0).context("no moment")?;
+    Ok(Run { service, greatest })
+}
+
+/// The service with a key of bytes 01 and number 1.
+fn service_of_one_key(alloc: Global, line: &str) -> anyhow::Result<Service> {
     let (suite, skew) = settings_of(line)?;
     let key: &[u8] = match suite {
         CipherSuite::Des3CbcSha1Kd => &[1; 24],
         _ => &[1; 32],
     };
+    let name = name_of_service(alloc)?;
+    Ok(Service::new(alloc, b"R", &name, suite, key, 1, skew)?)
+}
+
+/// The service with the keys of a keytab.
+fn service_of_keytab(alloc: Global, line: &str, octets: &str) -> anyhow::Result<KeytabService> {
+    let (_suite, skew) = settings_of(line)?;
+    let keytab = keytab_of(alloc, octets)?;
+    let name = name_of_service(alloc)?;
+    Ok(KeytabService::new(alloc, b"R", &name, &keytab, skew)?)
+}
+
+fn name_of_service(alloc: Global) -> anyhow::Result<Vec<Vec<u8>>> {
     let component = Vec::from_slice(alloc, b"h")?;
-    let name = vec![in alloc; component]?;
-    let service = Service::new(alloc, b"R", &name, suite, key, 1, skew)?;
-    let greatest = Moment::new(0).context("no moment")?;
-    Ok(Run { service, greatest })
+    Ok(vec![in alloc; component]?)
 }
 
 /// Reads a call.
@@ -167,7 +248,11 @@ fn moment_of(text: &str) -> anyhow::Result<Moment> {
 /// What the service answers, as text.
 fn answer_of(alloc: Global, run: &mut Run, call: &Call) -> anyhow::Result<String> {
     run.greatest = run.greatest.max(call.moment);
-    match run.service.admit(alloc, &call.request, call.moment, &WORDS) {
+    let answer = match &mut run.service {
+        Served::OneKey(service) => service.admit(alloc, &call.request, call.moment, &WORDS),
+        Served::ByKeytab(service) => service.admit(alloc, &call.request, call.moment, &WORDS),
+    };
+    match answer {
         Ok(admission) => {
             let text = admission_text(alloc, &admission);
             drop(admission);

@@ -1,0 +1,4 @@
+pub mod ChosenEntry
+pub mod KeytabEntries
+pub mod KeytabService
+pub mod KeytabRuns
