@@ -3,7 +3,7 @@
 use crate::arguments::{Options, expected, name_of, options_of};
 use crate::secrets::{SaltedKey, key_of_digits, key_of_password, read_secret};
 use crate::texts::{begin_change, lines_of, realm_of};
-use crate::warnings::{RealmKey, warn_of_account, warn_of_realm};
+use crate::warnings::{RealmKey, Stream, warn_of_account, warn_of_realm};
 use krb_account_texts::{
     AccountLine, EditRefusal, Line, RealmLine, add, change_key, place_of, principal_name,
     realm_among, remove,
@@ -95,7 +95,7 @@ fn warn_of_created(rt: &HostRuntime, lines: &[Line]) -> Result<(), Stop> {
         return Ok(());
     };
     let own = RealmKey::among(rt.alloc(), realm, lines)?;
-    warn_of_realm(rt, &own)
+    warn_of_realm(rt, Stream::Error, &own)
 }
 
 // The line of a realm of this name, with the settings of a new realm.
@@ -206,7 +206,7 @@ fn salted_key(
     };
     let told = told_secret(alloc, &salted.key, is_key, secret)?;
     let own = key_beside(alloc, realm, lines, name)?;
-    warn_of_account(rt, &own, name, suite, told)?;
+    warn_of_account(rt, Stream::Error, &own, name, suite, told)?;
     Ok(salted)
 }
 

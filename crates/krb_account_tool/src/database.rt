@@ -1,8 +1,9 @@
-//! The commands `make` and `check`.
+//! The commands `make`, `warnings` and `check`.
 
 use crate::arguments::expected;
 use crate::records::{RealmRecords, records_in, unwritten};
 use crate::warner::Warner;
+use crate::warnings::Stream;
 use cdb::{Record, answers_as};
 use krb_account_files::{RECORD_ROOM, RealmParameters, record_of_realm, write_records};
 use krb_commands::{Stop, begin, octets_of, refused};
@@ -25,7 +26,17 @@ pub(crate) fn make(rt: &HostRuntime, arguments: &[String]) -> Result<(), Stop> {
 
 // The octets of the database of a text.
 fn made(rt: &HostRuntime, path: &str) -> Result<Vec<u8>, Stop> {
-    let warner = Warner::new(rt.alloc());
+    let (realm, records) = warned_records(rt, path, Stream::Error)?;
+    database_of(rt.alloc(), path, &realm, records)
+}
+
+// The realm of a text and the records of its accounts, of which it warns.
+fn warned_records(
+    rt: &HostRuntime,
+    path: &str,
+    stream: Stream,
+) -> Result<(RealmParameters, Vec<Record>), Stop> {
+    let warner = Warner::new(rt.alloc(), stream);
     let RealmRecords {
         realm,
         records,
@@ -34,7 +45,7 @@ fn made(rt: &HostRuntime, path: &str) -> Result<Vec<u8>, Stop> {
     if let Some(warner) = warner {
         warner.warn_of_shared(rt, path, &records)?;
     }
-    database_of(rt.alloc(), path, &realm, records)
+    Ok((realm, records))
 }
 
 // The octets of the database of these records.
@@ -48,6 +59,15 @@ fn database_of(
         Ok(octets) => Ok(octets),
         Err(fault) => Err(unwritten(alloc, path, fault)),
     }
+}
+
+/// `warnings TEXT`: prints what `make` warns of.
+pub(crate) fn warnings(rt: &HostRuntime, arguments: &[String]) -> Result<(), Stop> {
+    let [path] = arguments else {
+        return Err(expected(rt.alloc(), "warnings TEXT"));
+    };
+    let _ = warned_records(rt, path.as_str(), Stream::Output)?;
+    Ok(())
 }
 
 /// `check TEXT DATABASE`: says whether the database answers each name as the text does, and whether its realm is the text's.

@@ -38,6 +38,7 @@ const USAGE: &str = "usage:
   krb_accounts remove TEXT NAME                       takes an account away
   krb_accounts keytab TEXT KEYTAB NAME..              writes the accounts' keys to KEYTAB, and keeps the keys that it has
   krb_accounts make TEXT DATABASE                     makes the database of TEXT
+  krb_accounts warnings TEXT                          prints what make warns of
   krb_accounts check TEXT DATABASE                    says whether the database answers as TEXT does
   krb_accounts --help, krb_accounts --version
 Standard input is one line: the password, or with -k and for create the key in hexadecimal digits. NAME is as in host/server.example.com.
@@ -78,6 +79,7 @@ fn run_command(rt: &HostRuntime, command: &str, rest: &[String]) -> Result<(), S
         "remove" => accounts::remove_account(rt, rest),
         "keytab" => keytabs::keytab(rt, rest),
         "make" => database::make(rt, rest),
+        "warnings" => database::warnings(rt, rest),
         "check" => database::check(rt, rest),
         _ => Err(failed(rt.alloc(), "no such command: expected one of --help")),
     }

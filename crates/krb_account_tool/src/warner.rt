@@ -1,6 +1,6 @@
-//! What `make` warns of: likely slips in each account, and keys that two accounts share.
+//! What `make` and `warnings` warn of: likely slips in each account, and keys that two accounts share.
 
-use crate::warnings::{RealmKey, warn_of_account, warn_of_realm};
+use crate::warnings::{RealmKey, Stream, say, warn_of_account, warn_of_realm};
 use cdb::Record;
 use krb_account_files::ACCOUNT_HEAD;
 use krb_account_texts::{AccountLine, RealmLine, principal_name};
@@ -16,6 +16,7 @@ use std::cmp::Ordering;
 /// What warns of a text's lines as they are read, and of shared keys once all are.
 #[derive(Drop)]
 pub(crate) struct Warner {
+    stream: Stream,
     // The realm, without its key.
     realm: Option<RealmKey>,
     // The index of the record of the realm's own account, its ticket-granting service.
@@ -41,8 +42,9 @@ struct Shared {
 
 impl Warner {
     /// One that has seen no line.
-    pub(crate) fn new(alloc: Global) -> Warner {
+    pub(crate) fn new(alloc: Global, stream: Stream) -> Warner {
         Warner {
+            stream,
             realm: None,
             service: None,
             keys: Vec::new(alloc),
@@ -52,7 +54,7 @@ impl Warner {
     /// Warns of the realm's name.
     pub(crate) fn see_realm(&mut self, rt: &HostRuntime, realm: &RealmLine) -> Result<(), Stop> {
         let own = RealmKey::among(rt.alloc(), realm, &[])?;
-        warn_of_realm(rt, &own)?;
+        warn_of_realm(rt, self.stream, &own)?;
         self.realm = Some(own);
         Ok(())
     }
@@ -69,7 +71,14 @@ impl Warner {
         let index = short(index);
         if let Some(realm) = &self.realm {
             let secret = Secret::Key(Vec::from_slice(rt.alloc(), octets)?);
-            warn_of_account(rt, realm, &own.name, own.account.suite(), secret)?;
+            warn_of_account(
+                rt,
+                self.stream,
+                realm,
+                &own.name,
+                own.account.suite(),
+                secret,
+            )?;
             if realm.is_of(&own.name) {
                 self.service = Some(index);
             }
@@ -110,19 +119,22 @@ impl Warner {
         let alloc = rt.alloc();
         let line = one.line;
         let name = name_of(alloc, records, one.index)?;
-        // A warning that can't be written is no fault.
-        let _ = if self.service == Some(one.other) {
-            eprintln!(rt;
-                "krb_accounts: {path}:{line}: warning: {name}: {}",
-                Warning::KeyOfRealm
-            )
-        } else {
-            let other = name_of(alloc, records, one.other)?;
-            eprintln!(rt;
-                "krb_accounts: {path}:{line}: warning: {name}: key is that of {other} too: expected a key of its own"
-            )
-        };
-        Ok(())
+        if self.service == Some(one.other) {
+            let words = Warning::KeyOfRealm;
+            return say(
+                rt,
+                self.stream,
+                format_args!("{path}:{line}: warning: {name}: {words}"),
+            );
+        }
+        let other = name_of(alloc, records, one.other)?;
+        say(
+            rt,
+            self.stream,
+            format_args!(
+                "{path}:{line}: warning: {name}: key is that of {other} too: expected a key of its own"
+            ),
+        )
     }
 }
 

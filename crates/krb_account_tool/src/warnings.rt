@@ -2,13 +2,23 @@
 
 use crate::secrets::octets_of;
 use krb_account_texts::{Line, RealmLine, place_of};
-use krb_commands::Stop;
+use krb_commands::{Stop, print_line};
 use krb_crypto::CipherSuite;
 use krb_settings::{AccountSettings, RealmSettings, Secret};
 use krb_settings_check::warnings_of;
 use krb_types::data_types::PrincipalName;
 use krb_types::{krbtgt, krbtgt_of};
 use std::alloc::Global;
+use std::fmt::Display;
+
+/// Where warnings are written.
+#[derive(Clone, Copy)]
+pub(crate) enum Stream {
+    /// Standard error, beside what a command does.
+    Error,
+    /// Standard output: they are all that the command does.
+    Output,
+}
 
 /// What warnings of an account's own fields begin with, as those of a settings file of one account.
 const OF_ACCOUNT: &str = "warning: account 1: ";
@@ -69,13 +79,31 @@ impl RealmKey {
     }
 }
 
+/// Writes a warning as a line of its own. Where standard error takes none, that is no fault.
+pub(crate) fn say<D: Display + Drop>(
+    rt: &HostRuntime,
+    stream: Stream,
+    warning: D,
+) -> Result<(), Stop> {
+    match stream {
+        Stream::Error => {
+            let _ = eprintln!(rt; "krb_accounts: {warning}");
+            Ok(())
+        }
+        Stream::Output => print_line(rt, format_args!("krb_accounts: {warning}")),
+    }
+}
+
 /// Warns of the realm's name and key.
-pub(crate) fn warn_of_realm(rt: &HostRuntime, realm: &RealmKey) -> Result<(), Stop> {
+pub(crate) fn warn_of_realm(
+    rt: &HostRuntime,
+    stream: Stream,
+    realm: &RealmKey,
+) -> Result<(), Stop> {
     let settings = realm.settings(rt.alloc(), Vec::new(rt.alloc()))?;
     for remark in &warnings_of(rt.alloc(), b"", &settings)? {
         if let Some(words) = remark.text.as_str().strip_prefix(OF_REALM) {
-            // A warning that can't be written is no fault.
-            let _ = eprintln!(rt; "krb_accounts: warning: {words}");
+            say(rt, stream, format_args!("warning: {words}"))?;
         }
     }
     Ok(())
@@ -84,6 +112,7 @@ pub(crate) fn warn_of_realm(rt: &HostRuntime, realm: &RealmKey) -> Result<(), St
 /// Warns of an account's name, and of its password or key.
 pub(crate) fn warn_of_account(
     rt: &HostRuntime,
+    stream: Stream,
     realm: &RealmKey,
     name: &PrincipalName,
     suite: CipherSuite,
@@ -99,8 +128,7 @@ pub(crate) fn warn_of_account(
     let settings = realm.settings(alloc, vec![in alloc; account]?)?;
     for remark in &warnings_of(alloc, b"", &settings)? {
         if let Some(words) = remark.text.as_str().strip_prefix(OF_ACCOUNT) {
-            // A warning that can't be written is no fault.
-            let _ = eprintln!(rt; "krb_accounts: warning: {name}: {words}");
+            say(rt, stream, format_args!("warning: {name}: {words}"))?;
         }
     }
     Ok(())

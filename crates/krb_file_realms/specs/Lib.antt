@@ -1,3 +1,4 @@
 pub mod Faults
+pub mod Headers
 pub mod NoRows
 pub mod Replies

@@ -2,6 +2,7 @@
 ghost use Rattle.std.specs.Prelude.{◌≡◌, MatchResult};
 ghost use Rattle.std.specs.declared.io.ErrorKind.{ErrorKind};
 
+use crate::headed::Headed;
 use cdb::{FileAt, ReadAt};
 use std::fs::{self, File, Files};
 use std::io::ErrorKind;
@@ -35,7 +36,7 @@ impl<'a> Opens for &'a [u8] {
     }
 }
 
-/// The file of the system that has a path when it is opened. No clause says which file that is.
+/// The file of the system that has a path when it is opened, with its header read. No clause says which file that is.
 #[derive(Clone, Copy)]
 pub struct AtPath<'f, 'p, R: Files<File = File>> {
     /// What has the files.
@@ -45,15 +46,15 @@ pub struct AtPath<'f, 'p, R: Files<File = File>> {
 }
 
 impl<'f, 'p, R: Files<File = File>> Opens for AtPath<'f, 'p, R> {
-    type File = FileAt<File>;
+    type File = Headed<FileAt<File>>;
 
     ghost opens = { λ _ _. Unit {0} };
 
     ghost fails = { λ _ _. Unit {0} };
 
-    fn open(&self) -> Result<FileAt<File>, ErrorKind> {
+    fn open(&self) -> Result<Headed<FileAt<File>>, ErrorKind> {
         match fs::open(self.files, self.path) {
-            Ok(file) => Ok(FileAt { file }),
+            Ok(file) => Ok(Headed::new(FileAt { file })),
             Err(fault) => Err(fault.kind()),
         }
     }
