@@ -1,6 +1,6 @@
 """Measures AS exchanges of the program that is the first argument, behind a bridge and in one pipe, and of MIT's krb5kdc, with as
 many accounts as the other arguments say: see kdc.sh."""
-import os, resource, shutil, socket, subprocess, sys, tempfile, time
+import os, random, resource, shutil, socket, subprocess, sys, tempfile, time
 
 import account_files
 
@@ -12,30 +12,53 @@ HELD = []
 
 
 def free_port():
-    with socket.socket() as probe:
-        probe.bind(("127.0.0.1", 0))
-        return probe.getsockname()[1]
+    """A port that is free for TCP and UDP, and none that the system may give to a client. After a client had it, no server gets it for a
+    minute, even with SO_REUSEADDR."""
+    with open("/proc/sys/net/ipv4/ip_local_port_range") as given:
+        first, last = map(int, given.read().split())
+    ports = [port for port in range(1_024, 65_536) if not first <= port <= last]
+    for port in random.sample(ports, min(len(ports), 100)):
+        if is_free(port):
+            return port
+    raise SystemExit(f"no port is free beside those of clients, {first} to {last}: expected one of 1024 to 65535")
+
+
+def is_free(port):
+    with socket.socket() as stream, socket.socket(type=socket.SOCK_DGRAM) as datagrams:
+        try:
+            stream.bind(("127.0.0.1", port)), datagrams.bind(("127.0.0.1", port))
+        except OSError:
+            return False
+    return True
 
 
 def run(words, **options):
     return subprocess.run(words, check=True, capture_output=True, **options)
 
 
-def start(words, **options):
-    HELD.append(subprocess.Popen(words, stdout=subprocess.DEVNULL, stderr=subprocess.DEVNULL, **options))
-    time.sleep(1)
+def start(words, port, **options):
+    """Starts a program that listens on a port, waits until it does, and gives its process."""
+    with tempfile.TemporaryFile("w+", errors="replace") as said:
+        HELD.append(subprocess.Popen(words, stdin=subprocess.DEVNULL, stdout=subprocess.DEVNULL, stderr=said, **options))
+        wait_for(port, HELD[-1], said)
     return HELD[-1].pid
 
 
-def wait_for(port):
-    """Waits until something listens on the port, at most for half a minute: on a busy machine a start takes seconds."""
+def wait_for(port, process, said):
+    """Waits until it listens on the port, at most for half a minute: on a busy machine a start takes seconds."""
     until = time.monotonic() + 30
-    while time.monotonic() < until:
-        with open("/proc/net/tcp") as sockets:
-            if any(f":{port:04X} 00000000:0000 0A " in line for line in sockets):
-                return
+    while process.poll() is None and time.monotonic() < until:
+        if is_listened_to(port):
+            return
         time.sleep(0.02)
-    raise SystemExit(f"nothing listens on port {port}")
+    said.seek(0)
+    ended = "hasn't ended" if process.returncode is None else f"ended with status {process.returncode}"
+    raise SystemExit(f"{process.args[0]} doesn't listen on port {port}: it {ended}, and said: {said.read()[-500:].strip() or 'nothing'}")
+
+
+def is_listened_to(port):
+    with open("/proc/net/tcp") as sockets:
+        return any(f":{port:04X} 00000000:0000 0A " in line for line in sockets)
 
 
 def processor_seconds(process):
@@ -92,8 +115,7 @@ def request_of_kinit(folder, to, keytab):
     with open(tap, "w") as script:
         script.write(f"#!/bin/sh\ntee -a {taken} | socat - TCP:127.0.0.1:{to}\n")
     os.chmod(tap, 0o755)
-    start(["socat", f"TCP-LISTEN:{port},fork,reuseaddr,bind=127.0.0.1", "EXEC:" + tap])
-    wait_for(port)
+    start(["socat", f"TCP-LISTEN:{port},fork,reuseaddr,bind=127.0.0.1", "EXEC:" + tap], port)
     run(["kinit", "-k", "-t", keytab, "a"], env=configure(folder, port))
     stream, request = open(taken, "rb").read(), b""
     while stream:
@@ -172,9 +194,7 @@ def measure_starts(words):
 def bridge_to(words):
     """The port of a bridge that starts this program for each connection, and the bridge's process."""
     port = free_port()
-    bridge = start(["socat", f"TCP-LISTEN:{port},fork,reuseaddr,bind=127.0.0.1", "EXEC:" + " ".join(words)])
-    wait_for(port)
-    return port, bridge
+    return port, start(["socat", f"TCP-LISTEN:{port},fork,reuseaddr,bind=127.0.0.1", "EXEC:" + " ".join(words)], port)
 
 
 def measure_program(folder, program, accounts):
@@ -195,14 +215,15 @@ def measure_program(folder, program, accounts):
 
 
 def make_stock(folder, port, accounts):
-    """A database of krb5kdc with so many principals, of which one is a: the environment in which krb5kdc serves it at a port."""
+    """A database of krb5kdc with so many principals, of which one is a: the environment in which krb5kdc serves it at a port. It logs to
+    standard error."""
     with open(os.path.join(folder, "kdc.conf"), "w") as configuration:
         configuration.write(
             f"[kdcdefaults]\n kdc_listen = 127.0.0.1:{port}\n kdc_tcp_listen = 127.0.0.1:{port}\n"
             f"[realms]\n R = {{\n  key_stash_file = {folder}/stash\n  supported_enctypes = {SUITE}:normal\n"
             f"  master_key_type = {SUITE}\n }}\n"
             f"[dbmodules]\n R = {{\n  db_library = db2\n  database_name = {folder}/principal\n  disable_last_success = true\n"
-            "  disable_lockout = true\n }\n")
+            "  disable_lockout = true\n }\n[logging]\n kdc = STDERR\n")
     environment = dict(configure(folder, port), KRB5_KDC_PROFILE=os.path.join(folder, "kdc.conf"))
     run(["kdb5_util", "create", "-r", "R", "-s", "-P", "master"], env=environment)
     added = f'addprinc +requires_preauth -pw "{PASSWORD.decode()}" a\naddprinc +requires_preauth -randkey user1\n'
@@ -212,9 +233,7 @@ def make_stock(folder, port, accounts):
 
 
 def start_stock(folder, port, accounts):
-    process = start(["krb5kdc", "-n", "-r", "R"], env=make_stock(folder, port, accounts))
-    wait_for(port)
-    return process
+    return start(["krb5kdc", "-n", "-r", "R"], port, env=make_stock(folder, port, accounts))
 
 
 def add_stock(dump, names, environment):

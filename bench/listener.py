@@ -65,15 +65,15 @@ def stub(folder):
 def listening(folder, command, workers=WORKERS):
     """krb_listen before so many processes of this command: its process and its port. Its log is in the folder."""
     port, log = kdc.free_port(), os.path.join(folder, "log")
-    with open(log, "w") as errors:
-        words = [f"{TOP}/examples/krb_listen", "--listen", f"{HOST}:{port}", "--workers", str(workers), "--", *command]
-        process = subprocess.Popen(words, stderr=errors)
-    try:
-        kdc.wait_for(port)
-        yield process.pid, port
-    finally:
-        process.terminate()
-        status = process.wait()
+    words = [f"{TOP}/examples/krb_listen", "--listen", f"{HOST}:{port}", "--workers", str(workers), "--", *command]
+    with open(log, "w+") as said:
+        process = subprocess.Popen(words, stderr=said)
+        try:
+            kdc.wait_for(port, process, said)
+            yield process.pid, port
+        finally:
+            process.terminate()
+            status = process.wait()
     assert status == 0, f"krb_listen ended with status {status}: {open(log).read()[-300:]}"
 
 
@@ -118,18 +118,25 @@ def asking_udp(port, seconds=10):
     return ask
 
 
+Measured = collections.namedtuple("Measured", "pace cost")  # exchanges a second; microseconds of processor of each, of all processes
+
+
 def measure(name, process, requests, ask):
-    """The microseconds of processor of an exchange, of all processes of the KDC: clients come one after another."""
+    """Exchanges of clients that come one after another."""
     before, began = used(process), time.monotonic()
     answered = sum(bool(ask(it)) for it in requests)
-    seconds, each = time.monotonic() - began, (used(process) - before) / len(requests) * 1e6
+    measured = measured_since(began, before, process, requests)
     assert answered == len(requests), f"{len(requests) - answered} requests had no reply"
-    tell(name, len(requests) / seconds, each)
-    return each
+    return told(name, measured)
 
 
-def tell(name, pace, each):
-    print(f"{name}: {pace:.0f} exchanges a second, {each:.0f} microseconds of processor each, all processes counted", flush=True)
+def measured_since(began, before, process, requests):
+    return Measured(len(requests) / (time.monotonic() - began), (used(process) - before) / len(requests) * 1e6)
+
+
+def told(name, measured):
+    print(f"{name}: {measured.pace:.0f} exchanges a second, {measured.cost:.0f} microseconds of processor each, all processes counted", flush=True)
+    return measured
 
 
 def stock_costs(folder):
@@ -150,7 +157,8 @@ def cost(folder, command):
         tcp = measure("krb_listen, TCP", process, [asked] * EXCHANGES["TCP"], lambda it: over_tcp(port, it))
     if has_stock():
         stock = stock_costs(folder)
-        print(f"in parts of krb5kdc's: UDP {udp / stock[0]:.2f}, TCP {tcp / stock[1]:.2f}. A stub's reply takes no cryptography", flush=True)
+        parts = f"UDP {udp.cost / stock[0].cost:.2f}, TCP {tcp.cost / stock[1].cost:.2f}"
+        print(f"in parts of krb5kdc's: {parts}. A stub's reply takes no cryptography", flush=True)
     with listening(folder, command) as (process, port):
         many("krb_listen", folder, process, port, [asked] * (CLIENTS * OF_EACH))
 
@@ -181,10 +189,9 @@ def many(name, folder, process, port, requests, kind=0x7E):
         clients.append([sys.executable, "-c", CLIENT, HOST, str(port), own, str(len(requests[0])), str(kind)])
     before, began = used(process), time.monotonic()
     statuses = [it.wait() for it in [subprocess.Popen(words) for words in clients]]
-    seconds, each = time.monotonic() - began, (used(process) - before) / len(requests) * 1e6
+    measured = measured_since(began, before, process, requests)
     assert not any(statuses), "a client had no reply"
-    tell(f"{name}, UDP, {CLIENTS} clients at once", len(requests) / seconds, each)
-    return each
+    return told(f"{name}, UDP, {CLIENTS} clients at once", measured)
 
 
 # krb_kdcd beside krb5kdc
@@ -209,49 +216,65 @@ def kdcd_listening(folder, command, processors):
 
 
 @contextlib.contextmanager
-def stock_listening(environment, port, processors):
-    """krb5kdc with as many processes: its process and its port."""
+def stock_listening(environment, port, processors, processes):
+    """krb5kdc: its process, or that of those that answer, and its port."""
     with on_processors(processors):
-        kdc.start(["krb5kdc", "-n", "-r", "R", *(["-w", str(processors)] if processors > 1 else [])], env=environment)
+        kdc.start(["krb5kdc", "-n", "-r", "R", *(["-w", str(processes)] if processes > 1 else [])], port, env=environment)
     held = kdc.HELD.pop()
     try:
-        kdc.wait_for(port)
         yield held.pid, port
     finally:
         held.terminate()
         held.wait()
 
 
-def exchange_costs(name, folder, process, port, keytab):
-    """The microseconds of an AS exchange over UDP, over TCP, and over UDP of clients at once."""
+LIMITS = {"UDP": 1.5, "TCP": 1.7}  # of the processor time of an exchange, in parts of krb5kdc's
+AT_ONCE = "UDP at once"
+
+
+def exchanges(name, folder, process, port, keytab):
+    """AS exchanges over UDP, over TCP, and over UDP of clients at once."""
     ask, ticket = asking_udp(port), bytes([kdc.TICKET])
 
     def requests(count):  # of this moment: on a busy machine each measure takes minutes, and a KDC takes a time of 5 minutes before
         return kdc.numbered(kdc.request_of_kinit(folder, port, keytab), count)
 
-    return (measure(f"{name}, UDP", process, requests(EXCHANGES["UDP"]), lambda it: ask(it)[:1] == ticket),
-            measure(f"{name}, TCP", process, requests(EXCHANGES["TCP"]), lambda it: over_tcp(port, it)[:1] == ticket),
-            many(name, folder, process, port, requests(CLIENTS * OF_EACH), kdc.TICKET))
+    return {"UDP": measure(f"{name}, UDP", process, requests(EXCHANGES["UDP"]), lambda it: ask(it)[:1] == ticket),
+            "TCP": measure(f"{name}, TCP", process, requests(EXCHANGES["TCP"]), lambda it: over_tcp(port, it)[:1] == ticket),
+            AT_ONCE: many(name, folder, process, port, requests(CLIENTS * OF_EACH), kdc.TICKET)}
+
+
+def compare(own, stock, processors, processes):
+    """Prints how krb_kdcd compares to krb5kdc, and gives what it should keep to and doesn't."""
+    costs = {way: own[way].cost / stock[way].cost for way in own}
+    paces = {way: own[way].pace / stock[way].pace for way in own}
+    for what, parts in ("processor time", costs), ("exchanges a second", paces):
+        print(f"in parts of krb5kdc's {what}: " + ", ".join(f"{way} {part:.2f}" for way, part in parts.items()), flush=True)
+    over = [f"{way} costs {costs[way]:.2f} times krb5kdc's, with {processors} processors: expected {limit} at most"
+            for way, limit in LIMITS.items() if costs[way] > limit]
+    if processors > 1 and processes == 1 and paces[AT_ONCE] <= 1:
+        over.append(f"{paces[AT_ONCE]:.2f} times krb5kdc's exchanges a second, with {processors} processors: expected more than 1")
+    return over
 
 
 def beside_stock(folder, count):
-    """AS exchanges of krb_kdcd and of krb5kdc with so many accounts, with one and with four processors; then hostile clients."""
-    keytab, database, stock_port = os.path.join(folder, "keytab"), os.path.join(folder, "accounts.cdb"), kdc.free_port()
+    """AS exchanges of krb_kdcd and of krb5kdc with so many accounts, and hostile clients: what krb_kdcd should keep to and doesn't."""
+    keytab, database, stock_port, over = os.path.join(folder, "keytab"), os.path.join(folder, "accounts.cdb"), kdc.free_port(), []
     kdc.write_database(database, kdc.write_keytab(keytab, kdc.configure(folder, 1)), count)
     command = [os.environ["KRB_KDCD"], database, "/dev/urandom", "--log"]
     environment = kdc.make_stock(folder, stock_port, count) if has_stock() else None
-    for processors in (1, 4):
+    for processors in (1, 4) if len(os.sched_getaffinity(0)) >= 4 else (1,):
         print(f"with {count} accounts and {processors} processors:", flush=True)
         with kdcd_listening(folder, command, processors) as (process, port):
-            costs = exchange_costs("krb_kdcd behind krb_listen", folder, process, port, keytab)
-        if environment:
-            with stock_listening(environment, stock_port, processors) as (process, port):
-                stock = exchange_costs("krb5kdc", folder, process, port, keytab)
-            parts = ", ".join(f"{one / other:.2f}" for one, other in zip(costs, stock))
-            print(f"in parts of krb5kdc's: UDP, TCP, UDP at once: {parts}", flush=True)
+            own = exchanges("krb_kdcd behind krb_listen", folder, process, port, keytab)
+        for processes in sorted({1, processors}) if environment else ():
+            with stock_listening(environment, stock_port, processors, processes) as (process, port):
+                stock = exchanges(f"krb5kdc, processes: {processes}", folder, process, port, keytab)
+            over += compare(own, stock, processors, processes)
     with kdcd_listening(folder, command, 1) as (_, port):
         asked = kdc.request_of_kinit(folder, port, keytab)
     play_hostile(folder, command, asked)
+    return over
 
 
 # Hostile clients
@@ -377,13 +400,13 @@ def run(what, words):
     with tempfile.TemporaryDirectory() as folder:
         try:
             if what == "kdcd":
-                beside_stock(folder, int(words[0]))
-                return
+                return beside_stock(folder, int(words[0]))
             command = words or stub(folder)
             if what in ("cost", "all"):
                 cost(folder, command)
             if what in ("flood", "all"):
                 play_hostile(folder, command, request())
+            return []
         finally:
             while kdc.HELD:
                 kdc.HELD[-1].terminate()
@@ -391,8 +414,11 @@ def run(what, words):
 
 
 def main(what="all", *words):
+    over = []
     for each in [[it] for it in words or ("10", "1000000")] if what == "kdcd" else [words]:
-        run(what, each)
+        over += run(what, each)
+    if over:
+        sys.exit("\n".join(over))
 
 
 if __name__ == "__main__":

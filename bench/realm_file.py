@@ -4,11 +4,12 @@ import collections, os, random, resource, statistics, subprocess, sys, tempfile,
 import account_files, kdc, listener, replies
 from account_files import Account, Damaged, Realm
 
-KDCD, ACCOUNTS, REALMD = (os.environ[name] for name in ("KRB_KDCD", "KRB_ACCOUNTS", "KRB_REALMD"))
+KDCD, ACCOUNTS, REALMD = (os.environ.get(name, name) for name in ("KRB_KDCD", "KRB_ACCOUNTS", "KRB_REALMD"))
 WORDS = "/dev/urandom"
 EXCHANGES, TURNS, STARTS, HELD_EXCHANGES = 50_000, 3, 100, 1_000
 REQUESTS, FILES = 100_000, 100
 SKEW = 86_400  # seconds: all requests have the time of one
+MADE, MAKE_SECONDS, MAKE_OCTETS = 1_000_000, 6, 300e6  # making so many accounts takes less of the processor, and of resident memory
 
 
 def request_of_kinit(folder, database, keytab):
@@ -92,6 +93,14 @@ def measure_make(folder, key, count):
     assert file.realm() == realm and all(file.account(name) == own for name, own in random.sample(accounts, min(1_000, count)))
     print(f"krb_accounts make of {count} accounts: {used:.2f} seconds of processor, {seconds:.2f} in all, at most {most / 1e6:.0f} MB "
           f"resident; the octets are {'those' if same else 'OTHERS than those'} of account_files.py", flush=True)
+    assert same, "expected the same octets"
+    if count == MADE:
+        assert used < MAKE_SECONDS and most < MAKE_OCTETS, f"expected less than {MAKE_SECONDS} seconds and {MAKE_OCTETS / 1e6:.0f} MB"
+
+
+def make(count=MADE):
+    with tempfile.TemporaryDirectory() as folder:
+        measure_make(folder, os.urandom(32).hex(), count)
 
 
 def cost(count):
@@ -325,6 +334,8 @@ def main(what="all", *words):
             replace()
         if what in ("damage", "all"):
             damage(*numbers)
+        if what == "make":
+            make(*numbers)
     finally:
         while kdc.HELD:
             kdc.HELD[-1].terminate()
@@ -332,6 +343,6 @@ def main(what="all", *words):
 
 
 if __name__ == "__main__":
-    if sys.argv[1:2] not in ([], ["all"], ["cost"], ["replace"], ["damage"]) or sys.argv[1:2] == ["all"] and sys.argv[2:]:
-        sys.exit("realm_file.py: expected cost [ACCOUNTS..], replace, damage [COUNT [SEED]] or all")
+    if sys.argv[1:2] not in ([], ["all"], ["cost"], ["make"], ["replace"], ["damage"]) or sys.argv[1:2] == ["all"] and sys.argv[2:]:
+        sys.exit("realm_file.py: expected cost [ACCOUNTS..], make [ACCOUNTS], replace, damage [COUNT [SEED]] or all")
     main(*sys.argv[1:])
