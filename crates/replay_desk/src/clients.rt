@@ -1,16 +1,18 @@
 //! Clients by certificate: what they ask, and what they take.
 
-use crate::columns::{bytes_of, components_of, moment_of, parts_of, second_of, suite_of};
+use crate::columns::{moment_of, octets_of, second_of, suite_of};
 use crate::keys::{RowKeys, keys_of, replier_of};
 use crate::parties::{Party, party_of};
 use crate::replies::words_by;
 use crate::rows::Rows;
+use crate::telling::tell_name;
 use anyhow::bail;
 use krb_realm::{
-    Anchor, AsAsked, AskRefusal, Client, Credential, GeneralizedTime, KeyFunctions, Moment,
-    PrincipalName, TakeRefusal,
+    Anchor, AsAsked, AskRefusal, CipherSuite, Client, Credential, GeneralizedTime, Moment,
+    TakeRefusal,
 };
 use picky_asn1_der::to_vec;
+use replay_rows::{Row, Told, components_of};
 use result_pairs::both;
 use std::alloc::Global;
 use std::fs;
@@ -30,15 +32,6 @@ struct PkinitClient {
     asked: AsAsked,
 }
 
-/// What a client does, and the outcome.
-#[derive(Drop)]
-struct Step<'a> {
-    step: &'a str,
-    label: &'a str,
-    wanted: &'a str,
-    words: Vec<&'a str>,
-}
-
 /// What a request is made by, beside client and service.
 #[derive(Clone, Copy)]
 struct Asking {
@@ -48,51 +41,22 @@ struct Asking {
 }
 
 impl Rows for PkinitClients {
-    const SEPARATOR: &'static str = "\n";
+    const COLUMNS: &'static str = "\t";
 
     const NAME: &'static str = "steps";
 
     const WRONG: &'static str = "differing outcomes";
 
-    fn differing(&self, rt: &HostRuntime, row: &str) -> anyhow::Result<Option<String>> {
-        let step = step_of(rt.alloc(), row)?;
-        let outcome = outcome_of(rt.alloc(), &self.clients, step.step, &step.words)?;
-        if outcome.as_str() == step.wanted {
-            return Ok(None);
+    fn tell(&self, rt: &HostRuntime, row: &mut Row<'_>, told: &mut Told) -> anyhow::Result<()> {
+        let step = row.word();
+        let _label = row.word();
+        row.want();
+        match step {
+            "as_request" => tell_request(rt.alloc(), &self.clients, row, told),
+            "by_certificate" => tell_made(rt.alloc(), row, told),
+            "take_as_reply" => tell_taken(rt.alloc(), &self.clients, row, told),
+            _ => bail!("no step {step}"),
         }
-        let told = format!(in rt.alloc(); "{} {}: {}", step.step, step.label, outcome.as_str())?;
-        Ok(Some(told))
-    }
-}
-
-fn step_of(alloc: Global, row: &str) -> anyhow::Result<Step<'_>> {
-    let mut columns = row.split('\t');
-    let step = columns.next().unwrap_or_default();
-    let label = columns.next().unwrap_or_default();
-    let wanted = columns.next().unwrap_or_default();
-    let mut words = Vec::new(alloc);
-    for column in columns {
-        words.push(column)?;
-    }
-    Ok(Step {
-        step,
-        label,
-        wanted,
-        words,
-    })
-}
-
-fn outcome_of(
-    alloc: Global,
-    clients: &[PkinitClient],
-    step: &str,
-    words: &[&str],
-) -> anyhow::Result<String> {
-    match step {
-        "as_request" => asked_by(alloc, clients, words),
-        "by_certificate" => made_by(alloc, words),
-        "take_as_reply" => taken_by(alloc, clients, words),
-        _ => bail!("no step {step}"),
     }
 }
 
@@ -105,91 +69,79 @@ fn client_named<'a>(clients: &'a [PkinitClient], name: &str) -> anyhow::Result<&
     bail!("no client {name}")
 }
 
-/// A client's request for a ticket for a service.
-fn asked_by(alloc: Global, clients: &[PkinitClient], words: &[&str]) -> anyhow::Result<String> {
-    let [name, service, till, moment, first, more, keys] = words else {
-        bail!("as_request of other than seven words");
-    };
-    let asking = asking_of(*till, *moment, *first, *more)?;
-    let client = client_named(clients, *name)?;
-    let keys = keys_of(alloc, *keys)?;
-    request_by(alloc, client, *service, asking, &keys)
+/// Tells a client's request for a ticket for a service: client, service, till, moment, random bytes and keys.
+fn tell_request(
+    alloc: Global,
+    clients: &[PkinitClient],
+    row: &mut Row<'_>,
+    told: &mut Told,
+) -> anyhow::Result<()> {
+    let client = client_named(clients, row.word())?;
+    let service = row.word();
+    let asking = asking_of(row)?;
+    let (maker, party) = (&client.client, &client.party);
+    match ask(alloc, maker, party, service, asking, row.word())? {
+        Ok((request, asked)) => {
+            drop(asked);
+            told.octets(&request);
+        }
+        Err(refusal) => told.debug(&refusal),
+    }
+    Ok(())
 }
 
-fn asking_of(till: &str, moment: &str, first: &str, more: &str) -> anyhow::Result<Asking> {
+fn asking_of(row: &mut Row<'_>) -> anyhow::Result<Asking> {
     Ok(Asking {
-        till: second_of(till)?,
-        moment: moment_of(moment)?,
-        random: words_by(first.parse()?, more.parse()?),
+        till: second_of(row.word())?,
+        moment: moment_of(row.word())?,
+        random: words_by(row.number::<u8>(), row.number::<u8>()),
     })
 }
 
-fn request_by(
-    alloc: Global,
-    client: &PkinitClient,
-    service: &str,
-    asking: Asking,
-    keys: &RowKeys,
-) -> anyhow::Result<String> {
-    let service = components_of(alloc, service)?;
-    let functions = client.party.functions(keys, &[]);
-    let asked = ask(alloc, &client.client, &service, asking, &functions);
-    request_text(alloc, asked)
-}
-
-fn ask<K: KeyFunctions>(
+fn ask(
     alloc: Global,
     client: &Client,
-    service: &[Vec<u8>],
+    party: &Party,
+    service: &str,
     asking: Asking,
-    keys: &K,
-) -> Result<(Vec<u8>, AsAsked), AskRefusal> {
+    keys: &str,
+) -> anyhow::Result<Result<(Vec<u8>, AsAsked), AskRefusal>> {
+    let keys = keys_of(alloc, keys)?;
+    let service = components_of(alloc, service)?;
+    let functions = party.functions(&keys, &[]);
     let random = asking.random;
-    client.as_request(alloc, service, asking.till, asking.moment, &random, keys)
+    Ok(client.as_request(
+        alloc,
+        &service,
+        asking.till,
+        asking.moment,
+        &random,
+        &functions,
+    ))
 }
 
-/// A request in hexadecimal, or the name of the refusal.
-fn request_text(
-    alloc: Global,
-    asked: Result<(Vec<u8>, AsAsked), AskRefusal>,
-) -> anyhow::Result<String> {
-    match asked {
-        Ok((request, asked)) => {
-            drop(asked);
-            Ok(hex::encode(alloc, &request)?)
+/// Tells whether a client is made of these words: suite, realm, name, and the certificates of its own and of its anchor. The name's
+/// components are in hexadecimal and divided by commas.
+fn tell_made(alloc: Global, row: &mut Row<'_>, told: &mut Told) -> anyhow::Result<()> {
+    let suite = suite_of(row);
+    let realm = row.octets(alloc);
+    let name = row.word();
+    let own = row.octets(alloc);
+    let (name, anchor) = both(digits_name(alloc, name), issuer_of(alloc, row.word()))?;
+    match Client::by_certificate(alloc, &realm, &name, suite, &own, anchor) {
+        Ok(client) => {
+            drop(client);
+            told.put("Ok");
         }
-        Err(refusal) => Ok(format!(in alloc; "{refusal:?}")?),
+        Err(refusal) => told.debug(&refusal),
     }
-}
-
-/// Whether a client is made of these words.
-fn made_by(alloc: Global, words: &[&str]) -> anyhow::Result<String> {
-    let [suite, realm, name, certificate, anchor] = words else {
-        bail!("by_certificate of other than five words");
-    };
-    let suite = suite_of(*suite)?;
-    let named = both(bytes_of(alloc, *realm), digits_name(alloc, *name));
-    let certificates = both(bytes_of(alloc, *certificate), issuer_of(alloc, *anchor));
-    let ((realm, name), (own, anchor)) = both(named, certificates)?;
-    let made = Client::by_certificate(alloc, &realm, &name, suite, &own, anchor);
-    made_text(alloc, made)
+    Ok(())
 }
 
 /// The holder of a certificate, who issues others.
 fn issuer_of(alloc: Global, certificate: &str) -> anyhow::Result<Anchor> {
-    let certificate = bytes_of(alloc, certificate)?;
+    let certificate = octets_of(alloc, certificate)?;
     Ok(Anchor::from_certificate(alloc, &certificate)?)
-}
-
-/// Whether a client was made, or the name of the refusal.
-fn made_text(alloc: Global, made: Result<Client, AskRefusal>) -> anyhow::Result<String> {
-    match made {
-        Ok(client) => {
-            drop(client);
-            Ok(format!(in alloc; "Ok")?)
-        }
-        Err(refusal) => Ok(format!(in alloc; "{refusal:?}")?),
-    }
 }
 
 /// The components of a name in hexadecimal, which stand between commas. `none` represents no component.
@@ -204,80 +156,67 @@ fn digits_name(alloc: Global, column: &str) -> anyhow::Result<Vec<Vec<u8>>> {
     Ok(name)
 }
 
-/// What a client takes of a reply.
-fn taken_by(alloc: Global, clients: &[PkinitClient], words: &[&str]) -> anyhow::Result<String> {
-    let [name, keys, reply] = words else {
-        bail!("take_as_reply of other than three words");
-    };
-    let client = client_named(clients, *name)?;
-    let reply = bytes_of(alloc, *reply)?;
-    let keys = keys_of(alloc, *keys)?;
+/// Tells what a client takes of a reply: client, keys and reply.
+fn tell_taken(
+    alloc: Global,
+    clients: &[PkinitClient],
+    row: &mut Row<'_>,
+    told: &mut Told,
+) -> anyhow::Result<()> {
+    let client = client_named(clients, row.word())?;
+    let keys = keys_of(alloc, row.word())?;
+    let reply = row.octets(alloc);
     let holder = replier_of(alloc, &reply);
-    let taken = taken_from(alloc, client, &reply, &keys, holder.as_ref());
+    let outcome = tell_taken_by(alloc, client, &reply, &keys, holder.as_ref(), told);
     drop(holder);
-    taken
+    outcome
 }
 
 /// The same, by key functions that know the keys of the anchor and of the holder of the reply's certificate.
-fn taken_from<'a>(
+fn tell_taken_by<'a>(
     alloc: Global,
     client: &'a PkinitClient,
     reply: &[u8],
     keys: &'a RowKeys,
     holder: Option<&'a Anchor>,
-) -> anyhow::Result<String> {
+    told: &mut Told,
+) -> anyhow::Result<()> {
     let known = client.party.known(alloc, keys, holder)?;
     let functions = client.party.functions(keys, &known);
     let taken = client
         .client
         .take_as_reply(alloc, &client.asked, reply, &functions);
-    taken_text(alloc, taken)
+    tell_credential(alloc, told, taken)
 }
 
-/// What a reply grants, or the name of the refusal.
-fn taken_text(alloc: Global, taken: Result<Credential, TakeRefusal>) -> anyhow::Result<String> {
+/// Tells what a reply grants, or the name of the refusal: the key, its suite, the realm, the service, and the ticket.
+fn tell_credential(
+    alloc: Global,
+    told: &mut Told,
+    taken: Result<Credential, TakeRefusal>,
+) -> anyhow::Result<()> {
     match taken {
         Ok(credential) => {
-            let text = credential_text(alloc, &credential);
+            tell_granted(told, &credential);
+            let ticket = to_vec(alloc, credential.ticket());
             drop(credential);
-            text
+            told.octets(&ticket?);
         }
-        Err(refusal) => Ok(format!(in alloc; "{refusal:?}")?),
+        Err(refusal) => told.debug(&refusal),
     }
+    Ok(())
 }
 
-fn credential_text(alloc: Global, credential: &Credential) -> anyhow::Result<String> {
-    let key = hex::encode(alloc, credential.key().as_bytes())?;
-    let granted = granted_text(alloc, credential)?;
-    let ticket = hex::encode(alloc, &to_vec(alloc, credential.ticket())?)?;
-    let text = format!(in alloc;
-        "Ok {} {} {}",
-        key.as_str(),
-        granted.as_str(),
-        ticket.as_str()
-    )?;
-    Ok(text)
-}
-
-/// The key's suite, the realm and the service.
-fn granted_text(alloc: Global, credential: &Credential) -> anyhow::Result<String> {
-    let suite = usize::from(credential.suite());
-    let realm = str::from_utf8(credential.realm().as_bytes())?;
-    let service = name_text(alloc, credential.service())?;
-    let text = format!(in alloc; "{suite} {realm} {}", service.as_str())?;
-    Ok(text)
-}
-
-/// A name's components between slashes.
-fn name_text(alloc: Global, name: &PrincipalName) -> anyhow::Result<String> {
-    let mut text = String::new(alloc);
-    let mut separator = "";
-    for component in name.name_string.0.as_slice() {
-        text.push_str(separator)?;
-        text.push_str(str::from_utf8(component.as_bytes())?)?;
-        separator = "/";
-    }
-    Ok(text)
+fn tell_granted(told: &mut Told, credential: &Credential) {
+    told.put("Ok ");
+    told.octets(credential.key().as_bytes());
+    told.put(" ");
+    told.show(&usize::from(credential.suite()));
+    told.put(" ");
+    told.utf8(credential.realm().as_bytes());
+    told.put(" ");
+    tell_name(told, credential.service());
+    told.put(" ");
 }
 
 /// The clients of a file. A line has a client's name, its realm, its components, its suite, and the certificates of its anchor and
@@ -294,14 +233,15 @@ pub(crate) fn clients_of(rt: &HostRuntime, file: &str) -> anyhow::Result<PkinitC
 }
 
 fn client_of(alloc: Global, line: &str) -> anyhow::Result<PkinitClient> {
-    let columns = parts_of(alloc, line, '\t')?;
-    let [called, realm, name, suite, anchor, own] = columns.as_slice() else {
-        bail!("a client of other than six columns");
-    };
-    let client = made_client(alloc, (*realm, *name), *suite, *anchor, *own);
-    let (client, party) = both(client, party_of(alloc, *anchor, *own))?;
-    let asked = first_asked(alloc, &client, &party, *realm);
-    let called = called_of(alloc, *called);
+    let mut row = Row::new(line, "\t");
+    let (called, realm, name) = (row.word(), row.word(), row.word());
+    let suite = suite_of(&mut row);
+    let (anchor, own) = (row.word(), row.word());
+    row.ended()?;
+    let client = made_client(alloc, (realm, name), suite, anchor, own);
+    let (client, party) = both(client, party_of(alloc, anchor, own))?;
+    let asked = first_asked(alloc, &client, &party, realm);
+    let called = called_of(alloc, called);
     let ((name, asked), (client, party)) = both(both(called, asked), Ok((client, party)))?;
     Ok(PkinitClient {
         name,
@@ -318,13 +258,12 @@ fn called_of(alloc: Global, called: &str) -> anyhow::Result<String> {
 pub(crate) fn made_client(
     alloc: Global,
     (realm, name): (&str, &str),
-    suite: &str,
+    suite: CipherSuite,
     anchor: &str,
     own: &str,
 ) -> anyhow::Result<Client> {
-    let suite = suite_of(suite)?;
-    let certificates = both(bytes_of(alloc, own), issuer_of(alloc, anchor));
-    let (name, (own, anchor)) = both(components_of(alloc, name), certificates)?;
+    let (own, anchor) = both(octets_of(alloc, own), issuer_of(alloc, anchor))?;
+    let name = components_of(alloc, name)?;
     let client = Client::by_certificate(alloc, realm.as_bytes(), &name, suite, &own, anchor);
     drop(name);
     drop(own);
@@ -338,21 +277,13 @@ fn first_asked(
     party: &Party,
     realm: &str,
 ) -> anyhow::Result<AsAsked> {
-    let asking = asking_of("20000102000000Z", "7", "0", "1")?;
-    let (service, keys) = both(granting_service(alloc, realm), keys_of(alloc, "test"))?;
-    let functions = party.functions(&keys, &[]);
-    remembered(ask(alloc, client, &service, asking, &functions))
-}
-
-/// The components of a realm's ticket-granting service.
-fn granting_service(alloc: Global, realm: &str) -> anyhow::Result<Vec<Vec<u8>>> {
     let service = format!(in alloc; "krbtgt/{realm}")?;
-    components_of(alloc, service.as_str())
-}
-
-/// What the client remembers of a request that it made.
-fn remembered(asked: Result<(Vec<u8>, AsAsked), AskRefusal>) -> anyhow::Result<AsAsked> {
-    let (request, asked) = asked?;
+    let asking = Asking {
+        till: second_of("20000102000000Z")?,
+        moment: moment_of("7")?,
+        random: words_by(0, 1),
+    };
+    let (request, asked) = ask(alloc, client, party, &service, asking, "test")??;
     drop(request);
     Ok(asked)
 }

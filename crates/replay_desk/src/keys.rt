@@ -4,6 +4,7 @@ use anyhow::bail;
 use asn1_elements::part_at;
 use krb_realm::{Anchor, SignatureAlgorithm};
 use picky_asn1_der::Asn1RawDer;
+use result_pairs::both;
 use std::alloc::Global;
 use test_support::{DigestKeys, KnownKey};
 use x509_algorithms::AlgorithmIdentifier;
@@ -61,9 +62,9 @@ impl RowKeys {
 /// of the other pairs.
 pub(crate) fn keys_of(alloc: Global, column: &str) -> anyhow::Result<RowKeys> {
     let texts = texts_of(column)?;
-    let algorithm = algorithm_of(alloc, texts.algorithm)?;
-    let public_value = public_value_of(alloc, texts.public_value)?;
-    let secret = secret_of(alloc, texts.secret)?;
+    let public_value = public_value_of(alloc, texts.public_value);
+    let agreed = both(public_value, secret_of(alloc, texts.secret));
+    let (algorithm, (public_value, secret)) = both(algorithm_of(alloc, texts.algorithm), agreed)?;
     Ok(RowKeys {
         verifies: texts.verifies,
         algorithm,

@@ -1,17 +1,18 @@
 //! Whole logins by certificate, each of a client, a realm and a service of its own.
 
 use crate::clients::made_client;
-use crate::columns::{bytes_of, components_of, moment_of, parts_of, second_of, suite_of};
+use crate::columns::{moment_of, octets_of, second_of, suite_of};
 use crate::keys::{RowKeys, keys_of};
 use crate::parties::{Party, party_of};
 use crate::pkinit::settings_of;
-use crate::replies::{name_of, realm_by, words_by};
+use crate::replies::{realm_with, words_by};
 use crate::rows::Rows;
-use anyhow::{Context, bail};
+use crate::telling::tell_login;
 use krb_realm::{
     Admission, CipherSuite, Client, EncryptionKey, GeneralizedTime, KeyFunctions, LoginInput,
-    LoginMoments, LoginRefusal, Realm, Service, Settings, login_by_certificate,
+    LoginMoments, LoginRefusal, Realm, Service, login_by_certificate,
 };
+use replay_rows::{Row, Told, components_of};
 use result_pairs::{both, if_passed};
 use std::alloc::Global;
 
@@ -24,9 +25,18 @@ pub(crate) struct PkinitLogins;
 struct Parties<'a> {
     client: &'a str,
     realm: &'a str,
-    service: &'a str,
+    service: ServiceWords<'a>,
     /// What changes in the realm before the login.
     change: &'a str,
+}
+
+/// A service: its suite, its key in hexadecimal, the key's number, and the skew.
+#[derive(Clone, Copy)]
+struct ServiceWords<'a> {
+    suite: CipherSuite,
+    key: &'a str,
+    kvno: u32,
+    skew: u64,
 }
 
 /// A client or a realm: the party itself, and how it signs and agrees.
@@ -37,150 +47,103 @@ struct Keyed<T: Drop> {
     keys: RowKeys,
 }
 
-/// When the login is, and the random bytes of each of its calls.
+/// How many logins there are, when they are, and the random bytes of each of their calls.
 #[derive(Clone, Copy)]
 struct Times {
+    count: u64,
     moments: LoginMoments,
     till: GeneralizedTime,
     random: [u8; 128],
 }
 
 impl Rows for PkinitLogins {
-    const SEPARATOR: &'static str = "\n";
+    const COLUMNS: &'static str = "\t";
 
     const NAME: &'static str = "logins";
 
     const WRONG: &'static str = "differing outcomes";
 
-    fn differing(&self, rt: &HostRuntime, row: &str) -> anyhow::Result<Option<String>> {
-        let columns = parts_of(rt.alloc(), row, '\t')?;
-        let [label, wanted, count, client, realm, service, times, change] = columns.as_slice()
-        else {
-            bail!("a login of other than eight columns");
-        };
+    fn tell(&self, rt: &HostRuntime, row: &mut Row<'_>, told: &mut Told) -> anyhow::Result<()> {
+        let _label = row.word();
+        row.want();
+        let count = row.number::<u64>();
+        let (client, realm) = (row.word(), row.word());
+        let service = service_words(row.word())?;
+        let times = times_of(count, row.word())?;
         let parties = Parties {
-            client: *client,
-            realm: *realm,
-            service: *service,
-            change: *change,
+            client,
+            realm,
+            service,
+            change: row.word(),
         };
-        let outcome = outcome_of(rt.alloc(), parties, *times, count.parse()?)?;
-        if outcome.as_str() == *wanted {
-            return Ok(None);
-        }
-        Ok(Some(format!(in rt.alloc(); "{label}: {}", outcome.as_str())?))
+        tell_logins(rt.alloc(), parties, &times, told)
     }
 }
 
-/// The outcome of so many logins of these parties.
-fn outcome_of(
+/// Tells the outcome of the last of the logins of these parties, or of the first that fails.
+fn tell_logins(
     alloc: Global,
     parties: Parties<'_>,
-    times: &str,
-    count: u64,
-) -> anyhow::Result<String> {
-    let times = times_of(alloc, times)?;
+    times: &Times,
+    told: &mut Told,
+) -> anyhow::Result<()> {
     let sides = both(
         client_of(alloc, parties.client),
         realm_of_parties(alloc, parties),
     );
     let ((client, realm), mut service) = both(sides, service_of(alloc, parties.service))?;
-    let outcome = outcome_by(alloc, &client, &realm, &mut service, &times, count);
+    let outcome = tell_logins_by(alloc, &client, &realm, &mut service, times, told);
     drop(client);
     drop(realm);
     drop(service);
     outcome
 }
 
-/// The same, by key functions of the client that know the keys of its anchor and of the realm.
-fn outcome_by<'a>(
+/// The same, by key functions that know the keys of the own anchor and of the other party.
+fn tell_logins_by<'a>(
     alloc: Global,
     client: &'a Keyed<Client>,
     realm: &'a Keyed<Realm>,
     service: &mut Service,
     times: &Times,
-    count: u64,
-) -> anyhow::Result<String> {
-    let known = client
+    told: &mut Told,
+) -> anyhow::Result<()> {
+    let known_realm = client
         .party
-        .known(alloc, &client.keys, realm.party.holder())?;
-    let functions = client.party.functions(&client.keys, &known);
-    outcome_with(alloc, client, realm, service, times, count, &functions)
-}
-
-/// The same, by key functions of the realm that know the keys of its anchor and of the client.
-fn outcome_with<'a, C: KeyFunctions>(
-    alloc: Global,
-    client: &'a Keyed<Client>,
-    realm: &'a Keyed<Realm>,
-    service: &mut Service,
-    times: &Times,
-    count: u64,
-    client_keys: &C,
-) -> anyhow::Result<String> {
-    let known = realm
-        .party
-        .known(alloc, &realm.keys, client.party.holder())?;
-    let functions = realm.party.functions(&realm.keys, &known);
-    last_outcome(
-        alloc,
-        client,
-        realm,
-        service,
-        times,
-        count,
-        client_keys,
-        &functions,
-    )
-}
-
-/// The outcome of the last of so many logins, or of the first that fails.
-fn last_outcome<C: KeyFunctions, R: KeyFunctions>(
-    alloc: Global,
-    client: &Keyed<Client>,
-    realm: &Keyed<Realm>,
-    service: &mut Service,
-    times: &Times,
-    count: u64,
-    client_keys: &C,
-    realm_keys: &R,
-) -> anyhow::Result<String> {
-    let mut outcome = log_in(
-        alloc,
-        client,
-        realm,
-        service,
-        times,
-        client_keys,
-        realm_keys,
-    )?;
-    for _ in 1..count {
-        if !outcome.starts_with("Ok") {
-            return Ok(outcome);
-        }
-        outcome = log_in(
+        .known(alloc, &client.keys, realm.party.holder());
+    let known_client = realm.party.known(alloc, &realm.keys, client.party.holder());
+    let (known_realm, known_client) = both(known_realm, known_client)?;
+    let client_keys = client.party.functions(&client.keys, &known_realm);
+    let realm_keys = realm.party.functions(&realm.keys, &known_client);
+    for _ in 0..times.count {
+        told.clear();
+        let (client, realm) = (&client.value, &realm.value);
+        let login = log_in(
             alloc,
             client,
             realm,
             service,
             times,
-            client_keys,
-            realm_keys,
+            &client_keys,
+            &realm_keys,
         )?;
+        if !tell_outcome(told, login) {
+            break;
+        }
     }
-    Ok(outcome)
+    Ok(())
 }
 
 fn log_in<C: KeyFunctions, R: KeyFunctions>(
     alloc: Global,
-    client: &Keyed<Client>,
-    realm: &Keyed<Realm>,
+    client: &Client,
+    realm: &Realm,
     service: &mut Service,
     times: &Times,
     client_keys: &C,
     realm_keys: &R,
-) -> anyhow::Result<String> {
-    let name = name_of(alloc, b"h")?;
+) -> anyhow::Result<Result<(EncryptionKey, Admission), LoginRefusal>> {
+    let name = components_of(alloc, "h")?;
     let random = times.random;
     let input = LoginInput {
         service: &name,
@@ -193,8 +156,7 @@ fn log_in<C: KeyFunctions, R: KeyFunctions>(
         realm_words_tgs: &random,
         service_words: &random,
     };
-    let (client, realm) = (&client.value, &realm.value);
-    let login = login_by_certificate(
+    Ok(login_by_certificate(
         alloc,
         client,
         realm,
@@ -202,76 +164,43 @@ fn log_in<C: KeyFunctions, R: KeyFunctions>(
         &input,
         client_keys,
         realm_keys,
-    );
-    login_text(alloc, login)
+    ))
 }
 
-fn login_text(
-    alloc: Global,
-    login: Result<(EncryptionKey, Admission), LoginRefusal>,
-) -> anyhow::Result<String> {
+/// Tells what a login gives, and answers whether it is granted.
+fn tell_outcome(told: &mut Told, login: Result<(EncryptionKey, Admission), LoginRefusal>) -> bool {
     match login {
         Ok((key, admission)) => {
-            let text = admitted_text(alloc, &key, &admission);
+            tell_login(told, &key, &admission);
             drop(key);
             drop(admission);
-            text
+            true
         }
-        Err(refusal) => Ok(format!(in alloc; "{refusal:?}")?),
-    }
-}
-
-/// The client's key, and the client's name and realm as the service was told them.
-fn admitted_text(
-    alloc: Global,
-    key: &EncryptionKey,
-    admission: &Admission,
-) -> anyhow::Result<String> {
-    let kind = key
-        .key_type
-        .0
-        .to_i64()
-        .context("a key type of more than 64 bits")?;
-    let value = hex::encode(alloc, key.key_value.0.as_bytes())?;
-    let client = client_text(admission)?;
-    let realm = str::from_utf8(admission.realm.as_bytes())?;
-    let text = format!(in alloc; "Ok {} {kind} {client} {realm}", value.as_str())?;
-    Ok(text)
-}
-
-/// The client's name, which is of one component in each row.
-fn client_text(admission: &Admission) -> anyhow::Result<&str> {
-    match admission.client.name_string.0.as_slice() {
-        [component] => Ok(str::from_utf8(component.as_bytes())?),
-        _ => bail!("a client of several components"),
+        Err(refusal) => {
+            told.debug(&refusal);
+            false
+        }
     }
 }
 
 /// The client `a` of these words: suite, keys, and the certificates of its anchor and its own.
 fn client_of(alloc: Global, words: &str) -> anyhow::Result<Keyed<Client>> {
-    let words = parts_of(alloc, words, ' ')?;
-    let [suite, keys, anchor, own] = words.as_slice() else {
-        bail!("a client of other than four words");
-    };
-    let client = made_client(alloc, ("R", "a"), *suite, *anchor, *own);
-    with_keys(alloc, client, *keys, *anchor, *own)
+    let mut words = Row::new(words, " ");
+    let suite = suite_of(&mut words);
+    let (keys, anchor, own) = (words.word(), words.word(), words.word());
+    words.ended()?;
+    let client = made_client(alloc, ("R", "a"), suite, anchor, own);
+    with_keys(alloc, client, keys, anchor, own)
 }
 
 /// The realm, with its key functions' words: skew, lifetime, keys, and the certificates of its anchor and its own.
 fn realm_of_parties(alloc: Global, parties: Parties<'_>) -> anyhow::Result<Keyed<Realm>> {
-    let words = parts_of(alloc, parties.realm, ' ')?;
-    let [skew, lifetime, keys, anchor, own] = words.as_slice() else {
-        bail!("a realm of other than five words");
-    };
-    let limits = (skew.parse()?, lifetime.parse()?);
-    let settings = settings_of(alloc, limits, *anchor, *own)?;
-    with_keys(
-        alloc,
-        changed_realm(alloc, parties, settings),
-        *keys,
-        *anchor,
-        *own,
-    )
+    let mut words = Row::new(parties.realm, " ");
+    let limits = (words.number::<u64>(), words.number::<u64>());
+    let (keys, anchor, own) = (words.word(), words.word(), words.word());
+    words.ended()?;
+    let realm = realm_by(alloc, parties, limits, anchor, own);
+    with_keys(alloc, realm, keys, anchor, own)
 }
 
 fn with_keys<T: Drop>(
@@ -286,9 +215,16 @@ fn with_keys<T: Drop>(
     Ok(Keyed { value, party, keys })
 }
 
-/// The realm R with these settings and the accounts of client and service, as it is after the change.
-fn changed_realm(alloc: Global, parties: Parties<'_>, settings: Settings) -> anyhow::Result<Realm> {
-    let mut realm = realm_by(alloc, settings)?;
+/// The realm R with this skew and lifetime, these certificates, and the accounts of client and service, as it is after the change.
+fn realm_by(
+    alloc: Global,
+    parties: Parties<'_>,
+    limits: (u64, u64),
+    anchor: &str,
+    own: &str,
+) -> anyhow::Result<Realm> {
+    let settings = settings_of(alloc, limits, anchor, own)?;
+    let mut realm = realm_with(alloc, settings, 0)?;
     let changed = add_and_change(alloc, &mut realm, parties);
     if_passed(realm, changed)
 }
@@ -299,117 +235,102 @@ fn add_and_change(alloc: Global, realm: &mut Realm, parties: Parties<'_>) -> any
     change(alloc, realm, parties.change)
 }
 
+/// Adds the client's account, of the suite that its words begin with.
 fn add_client(alloc: Global, realm: &mut Realm, words: &str) -> anyhow::Result<()> {
-    let suite = suite_of(words.split(' ').next().unwrap_or_default())?;
-    realm.add_account_by_password(alloc, &name_of(alloc, b"a")?, suite, b"pw")?;
-    Ok(())
-}
-
-fn add_service(alloc: Global, realm: &mut Realm, words: &str) -> anyhow::Result<()> {
-    let words = parts_of(alloc, words, ' ')?;
-    let [suite, key, _, _] = words.as_slice() else {
-        bail!("a service of other than four words");
-    };
-    let suite = suite_of(*suite)?;
-    let (name, key) = both(name_of(alloc, b"h"), bytes_of(alloc, *key))?;
-    let added = realm.add_account_by_key(alloc, &name, suite, &key);
-    drop(name);
-    drop(key);
+    let mut words = Row::new(words, " ");
+    let suite = suite_of(&mut words);
+    let name = components_of(alloc, "a")?;
+    let added = realm.add_account_by_password(alloc, &name, suite, b"pw");
     Ok(added?)
 }
 
-/// Removes an account, or changes its key.
+fn add_service(alloc: Global, realm: &mut Realm, words: ServiceWords<'_>) -> anyhow::Result<()> {
+    let key = octets_of(alloc, words.key)?;
+    let name = components_of(alloc, "h")?;
+    let added = realm.add_account_by_key(alloc, &name, words.suite, &key);
+    Ok(added?)
+}
+
+/// Removes an account, or changes its key: `-` for neither, a name, or name, suite and key.
 fn change(alloc: Global, realm: &mut Realm, words: &str) -> anyhow::Result<()> {
     if words == "-" {
         return Ok(());
     }
-    let words = parts_of(alloc, words, ' ')?;
-    match words.as_slice() {
-        [name] => remove(alloc, realm, *name),
-        [name, suite, key] => rekey(alloc, realm, *name, *suite, *key),
-        _ => bail!("a change of other than one or three words"),
+    match words.split_once(' ') {
+        Some((name, words)) => rekey(alloc, realm, name, words),
+        None => remove(alloc, realm, words),
     }
 }
 
 fn remove(alloc: Global, realm: &mut Realm, name: &str) -> anyhow::Result<()> {
     let name = components_of(alloc, name)?;
     let removed = realm.remove_account(&name);
-    drop(name);
     Ok(removed?)
 }
 
-fn rekey(
-    alloc: Global,
-    realm: &mut Realm,
-    name: &str,
-    suite: &str,
-    key: &str,
-) -> anyhow::Result<()> {
-    let suite = suite_of(suite)?;
-    let (name, key) = both(components_of(alloc, name), bytes_of(alloc, key))?;
+fn rekey(alloc: Global, realm: &mut Realm, name: &str, words: &str) -> anyhow::Result<()> {
+    let mut words = Row::new(words, " ");
+    let suite = suite_of(&mut words);
+    let key = words.octets(alloc);
+    words.ended()?;
+    let name = components_of(alloc, name)?;
     let changed = realm.change_key(&name, suite, &key);
-    drop(name);
-    drop(key);
     Ok(changed?)
 }
 
-/// The service `h` of these words: suite, key, its kvno and the skew.
-fn service_of(alloc: Global, words: &str) -> anyhow::Result<Service> {
-    let words = parts_of(alloc, words, ' ')?;
-    let [suite, key, kvno, skew] = words.as_slice() else {
-        bail!("a service of other than four words");
+/// The service of these words: suite, key, its kvno and the skew.
+fn service_words(words: &str) -> anyhow::Result<ServiceWords<'_>> {
+    let mut words = Row::new(words, " ");
+    let service = ServiceWords {
+        suite: suite_of(&mut words),
+        key: words.word(),
+        kvno: words.number::<u32>(),
+        skew: words.number::<u64>(),
     };
-    let numbers = (suite_of(*suite)?, kvno.parse()?, skew.parse()?);
-    service_by(alloc, numbers, *key)
+    words.ended()?;
+    Ok(service)
 }
 
-fn service_by(
-    alloc: Global,
-    (suite, kvno, skew): (CipherSuite, u32, u64),
-    key: &str,
-) -> anyhow::Result<Service> {
-    let (name, key) = both(name_of(alloc, b"h"), bytes_of(alloc, key))?;
-    let service = Service::new(alloc, b"R", &name, suite, &key, kvno, skew);
-    drop(name);
-    drop(key);
+/// The service `h` of these words.
+fn service_of(alloc: Global, words: ServiceWords<'_>) -> anyhow::Result<Service> {
+    let key = octets_of(alloc, words.key)?;
+    let name = components_of(alloc, "h")?;
+    let service = Service::new(
+        alloc,
+        b"R",
+        &name,
+        words.suite,
+        &key,
+        words.kvno,
+        words.skew,
+    );
     Ok(service?)
 }
 
 /// The times of these words: six moments between commas, till, and by how much each random byte is more than the one before it.
-fn times_of(alloc: Global, words: &str) -> anyhow::Result<Times> {
-    let words = parts_of(alloc, words, ' ')?;
-    let [moments, till, factor] = words.as_slice() else {
-        bail!("times of other than three words");
-    };
+fn times_of(count: u64, words: &str) -> anyhow::Result<Times> {
+    let mut words = Row::new(words, " ");
+    let (moments, till) = (words.word(), words.word());
+    let random = words_by(0, words.number::<u8>());
+    words.ended()?;
     Ok(Times {
-        moments: moments_of(alloc, *moments)?,
-        till: second_of(*till)?,
-        random: words_by(0, factor.parse()?),
+        count,
+        moments: moments_of(moments)?,
+        till: second_of(till)?,
+        random,
     })
 }
 
-fn moments_of(alloc: Global, words: &str) -> anyhow::Result<LoginMoments> {
-    let mut moments = Vec::new(alloc);
-    for word in words.split(',') {
-        moments.push(moment_of(word)?)?;
-    }
-    let [
-        client_as,
-        realm_as,
-        client_tgs,
-        realm_tgs,
-        client_ap,
-        service_ap,
-    ] = moments.as_slice()
-    else {
-        bail!("other than six moments");
+fn moments_of(words: &str) -> anyhow::Result<LoginMoments> {
+    let mut words = Row::new(words, ",");
+    let moments = LoginMoments {
+        client_as: moment_of(words.word())?,
+        realm_as: moment_of(words.word())?,
+        client_tgs: moment_of(words.word())?,
+        realm_tgs: moment_of(words.word())?,
+        client_ap: moment_of(words.word())?,
+        service_ap: moment_of(words.word())?,
     };
-    Ok(LoginMoments {
-        client_as: *client_as,
-        realm_as: *realm_as,
-        client_tgs: *client_tgs,
-        realm_tgs: *realm_tgs,
-        client_ap: *client_ap,
-        service_ap: *service_ap,
-    })
+    words.ended()?;
+    Ok(moments)
 }

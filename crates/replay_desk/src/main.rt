@@ -18,6 +18,7 @@ mod pkinit;
 mod replies;
 mod rows;
 mod runs;
+mod telling;
 
 use admissions::{Admissions, Repetitions};
 use arguments::Arguments;
@@ -26,7 +27,7 @@ use files::{NamedFiles, SettingsFiles};
 use krb_program::run_process;
 use logins::PkinitLogins;
 use pkinit::realms_of;
-use replies::{bare_realm, realm_of_four, realm_of_six};
+use replies::realm_of;
 use rows::replay;
 use runs::Runs;
 use std::process::ExitCode;
@@ -43,9 +44,9 @@ fn main(rt: HostRuntime) -> ExitCode {
 
 /// Replays each file of rows.
 fn replay_all(rt: &HostRuntime) -> anyhow::Result<()> {
-    replay(rt, bare_realm(rt.alloc())?, "real_clients.txt")?;
-    replay(rt, realm_of_four(rt.alloc())?, "kdc_exchanges.txt")?;
-    replay(rt, realm_of_six(rt.alloc())?, "five_suites.txt")?;
+    replay(rt, realm_of(rt.alloc(), 0)?, "real_clients.txt")?;
+    replay(rt, realm_of(rt.alloc(), 4)?, "kdc_exchanges.txt")?;
+    replay(rt, realm_of(rt.alloc(), 6)?, "five_suites.txt")?;
     replay(
         rt,
         realms_of(rt, "pkinit_realms.txt")?,

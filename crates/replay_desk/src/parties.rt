@@ -1,6 +1,6 @@
 //! Parties that have certificates: clients and realms.
 
-use crate::columns::bytes_of;
+use crate::columns::octets_of;
 use crate::keys::RowKeys;
 use krb_realm::Anchor;
 use result_pairs::both;
@@ -75,7 +75,7 @@ pub(crate) fn party_of(alloc: Global, anchor: &str, certificate: &str) -> anyhow
 
 /// The holder of a certificate. `-` represents none.
 pub(crate) fn anchor_of(alloc: Global, certificate: &str) -> anyhow::Result<Option<Anchor>> {
-    let certificate = bytes_of(alloc, certificate)?;
+    let certificate = octets_of(alloc, certificate)?;
     if certificate.is_empty() {
         return Ok(None);
     }

@@ -1,12 +1,13 @@
 //! AS requests by certificate to realms that differ in anchor and own certificate.
 
-use crate::columns::{bytes_of, moment_of, parts_of};
+use crate::columns::{moment_of, octets_of};
 use crate::keys::{RowKeys, holder_of, keys_of};
 use crate::parties::{Party, anchor_of, party_of};
-use crate::replies::{text_of, with_four, with_seven, words};
+use crate::replies::{realm_with, tell_reply, words};
 use crate::rows::Rows;
 use anyhow::bail;
-use krb_realm::{Anchor, KeyFunctions, Realm, Settings};
+use krb_realm::{Anchor, Moment, Realm, Settings};
+use replay_rows::{Row, Told};
 use result_pairs::both;
 use std::alloc::Global;
 use std::fs;
@@ -24,48 +25,23 @@ struct PkinitRealm {
     party: Party,
 }
 
-/// A request to a realm with these keys at a moment, and the reply.
-#[derive(Clone, Copy)]
-struct Row<'a> {
-    label: &'a str,
-    realm: &'a str,
-    keys: &'a str,
-    moment: &'a str,
-    request: &'a str,
-    wanted: &'a str,
-}
-
 impl Rows for PkinitRealms {
-    const SEPARATOR: &'static str = "\n";
+    const COLUMNS: &'static str = "\t";
 
     const NAME: &'static str = "requests";
 
     const WRONG: &'static str = "differing replies";
 
-    fn differing(&self, rt: &HostRuntime, row: &str) -> anyhow::Result<Option<String>> {
-        let row = row_of(rt.alloc(), row)?;
-        let realm = realm_named(&self.realms, row.realm)?;
-        let reply = reply_to(rt.alloc(), realm, row)?;
-        if reply.as_str() == row.wanted {
-            return Ok(None);
-        }
-        Ok(Some(format!(in rt.alloc(); "another reply to {}", row.label)?))
+    fn tell(&self, rt: &HostRuntime, row: &mut Row<'_>, told: &mut Told) -> anyhow::Result<()> {
+        let _label = row.word();
+        let realm = realm_named(&self.realms, row.word())?;
+        let keys = row.word();
+        let moment = moment_of(row.word())?;
+        let request = row.octets(rt.alloc());
+        row.want();
+        let _rule = row.word();
+        tell_reply_to(rt.alloc(), realm, keys, moment, &request, told)
     }
-}
-
-fn row_of(alloc: Global, row: &str) -> anyhow::Result<Row<'_>> {
-    let columns = parts_of(alloc, row, '\t')?;
-    let [label, realm, keys, moment, request, wanted, _] = columns.as_slice() else {
-        bail!("a row of other than seven columns");
-    };
-    Ok(Row {
-        label: *label,
-        realm: *realm,
-        keys: *keys,
-        moment: *moment,
-        request: *request,
-        wanted: *wanted,
-    })
 }
 
 fn realm_named<'a>(realms: &'a [PkinitRealm], name: &str) -> anyhow::Result<&'a PkinitRealm> {
@@ -77,40 +53,40 @@ fn realm_named<'a>(realms: &'a [PkinitRealm], name: &str) -> anyhow::Result<&'a 
     bail!("no realm {name}")
 }
 
-/// What the realm answers, in hexadecimal or as the name of its refusal.
-fn reply_to(alloc: Global, realm: &PkinitRealm, row: Row<'_>) -> anyhow::Result<String> {
-    let request = hex::decode(alloc, row.request)?;
-    let keys = keys_of(alloc, row.keys)?;
-    let holder = holder_of(alloc, &request);
-    let reply = reply_by(alloc, realm, row.moment, &request, &keys, holder.as_ref());
+/// Tells what the realm answers, in hexadecimal or as the name of its refusal.
+fn tell_reply_to(
+    alloc: Global,
+    realm: &PkinitRealm,
+    keys: &str,
+    moment: Moment,
+    request: &[u8],
+    told: &mut Told,
+) -> anyhow::Result<()> {
+    let keys = keys_of(alloc, keys)?;
+    let holder = holder_of(alloc, request);
+    let outcome = tell_reply_by(alloc, realm, moment, request, &keys, holder.as_ref(), told);
     drop(keys);
     drop(holder);
-    reply
+    outcome
 }
 
 /// The same, by key functions that know the keys of the anchor and of the holder of the request's certificate.
-fn reply_by<'a>(
+fn tell_reply_by<'a>(
     alloc: Global,
     realm: &'a PkinitRealm,
-    moment: &str,
+    moment: Moment,
     request: &[u8],
     keys: &'a RowKeys,
     holder: Option<&'a Anchor>,
-) -> anyhow::Result<String> {
+    told: &mut Told,
+) -> anyhow::Result<()> {
     let known = realm.party.known(alloc, keys, holder)?;
     let functions = realm.party.functions(keys, &known);
-    reply_at(alloc, &realm.realm, moment, request, &functions)
-}
-
-fn reply_at<K: KeyFunctions>(
-    alloc: Global,
-    realm: &Realm,
-    moment: &str,
-    request: &[u8],
-    keys: &K,
-) -> anyhow::Result<String> {
-    let moment = moment_of(moment)?;
-    text_of(alloc, realm.answer(alloc, request, moment, &words(), keys))
+    let reply = realm
+        .realm
+        .answer(alloc, request, moment, &words(), &functions);
+    tell_reply(told, reply);
+    Ok(())
 }
 
 /// The realms of a file. A line has a realm's name, the certificate of its anchor, and its own certificate. `-` represents none.
@@ -126,12 +102,11 @@ pub(crate) fn realms_of(rt: &HostRuntime, file: &str) -> anyhow::Result<PkinitRe
 }
 
 fn realm_of_line(alloc: Global, line: &str) -> anyhow::Result<PkinitRealm> {
-    let columns = parts_of(alloc, line, '\t')?;
-    let [name, anchor, own] = columns.as_slice() else {
-        bail!("a realm of other than three columns");
-    };
-    let held = both(name_of(alloc, *name), party_of(alloc, *anchor, *own));
-    let ((name, party), realm) = both(held, made_realm(alloc, *anchor, *own))?;
+    let mut row = Row::new(line, "\t");
+    let (name, anchor, own) = (row.word(), row.word(), row.word());
+    row.ended()?;
+    let held = both(name_of(alloc, name), party_of(alloc, anchor, own));
+    let ((name, party), realm) = both(held, made_realm(alloc, anchor, own))?;
     Ok(PkinitRealm { name, realm, party })
 }
 
@@ -142,10 +117,7 @@ fn name_of(alloc: Global, name: &str) -> anyhow::Result<String> {
 /// A realm without an own certificate grants to no client by certificate, and has four accounts alone.
 fn made_realm(alloc: Global, anchor: &str, own: &str) -> anyhow::Result<Realm> {
     let settings = settings_of(alloc, (300, 36_000), anchor, own)?;
-    if own == "-" {
-        return with_four(alloc, settings);
-    }
-    with_seven(alloc, settings)
+    realm_with(alloc, settings, if own == "-" { 4 } else { 7 })
 }
 
 /// Settings of this skew and lifetime, with these certificates.
@@ -155,8 +127,7 @@ pub(crate) fn settings_of(
     anchor: &str,
     own: &str,
 ) -> anyhow::Result<Settings> {
-    let own = bytes_of(alloc, own)?;
-    let anchor = anchor_of(alloc, anchor)?;
+    let (own, anchor) = both(octets_of(alloc, own), anchor_of(alloc, anchor))?;
     let own = if own.is_empty() {
         None
     } else {

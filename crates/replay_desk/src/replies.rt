@@ -1,53 +1,34 @@
 //! Requests to a realm, and its replies.
 
-use crate::rows::{Rows, columns_of};
-use anyhow::{Context, bail};
-use krb_realm::{AnswerRefusal, CipherSuite, Moment, NoKeys, Realm, Settings};
+use crate::columns::start;
+use crate::rows::Rows;
+use krb_realm::{AnswerRefusal, CipherSuite, NoKeys, Realm, Settings};
+use replay_rows::{Row, Told, components_of};
 use result_pairs::if_passed;
 use std::alloc::Global;
 
 impl Rows for Realm {
-    const SEPARATOR: &'static str = "\n";
-
     const NAME: &'static str = "requests";
 
     const WRONG: &'static str = "differing replies";
 
-    fn differing(&self, rt: &HostRuntime, row: &str) -> anyhow::Result<Option<String>> {
-        let columns = columns_of(rt.alloc(), row)?;
-        let [label, request, wanted, _] = columns.as_slice() else {
-            bail!("a row of other than four columns");
-        };
-        let reply = reply_of(rt.alloc(), self, *request)?;
-        if reply.as_str() == *wanted {
-            return Ok(None);
-        }
-        Ok(Some(format!(in rt.alloc(); "another reply to {label}")?))
+    fn tell(&self, rt: &HostRuntime, row: &mut Row<'_>, told: &mut Told) -> anyhow::Result<()> {
+        let _label = row.word();
+        let request = row.octets(rt.alloc());
+        row.want();
+        let _rule = row.word();
+        let reply = self.answer(rt.alloc(), &request, start()?, &words(), &NoKeys);
+        tell_reply(told, reply);
+        Ok(())
     }
 }
 
-/// What the realm answers to a request at the first second of 2000, in hexadecimal or as the name of its refusal.
-fn reply_of(alloc: Global, realm: &Realm, request: &str) -> anyhow::Result<String> {
-    let request = hex::decode(alloc, request)?;
-    let moment = Moment::from_text(b"20000101000000Z").context("no moment")?;
-    text_of(
-        alloc,
-        realm.answer(alloc, &request, moment, &words(), &NoKeys),
-    )
-}
-
-/// A reply in hexadecimal, or the name of its refusal.
-pub(crate) fn text_of(
-    alloc: Global,
-    reply: Result<Vec<u8>, AnswerRefusal>,
-) -> anyhow::Result<String> {
-    let text = match reply {
-        Ok(reply) => hex::encode(alloc, &reply)?,
-        Err(AnswerRefusal::Unreadable) => format!(in alloc; "Unreadable")?,
-        Err(AnswerRefusal::Memory) => bail!("out of memory"),
-        Err(AnswerRefusal::Accounts) => bail!("the accounts can't be read"),
-    };
-    Ok(text)
+/// Tells a reply in hexadecimal, or the name of its refusal.
+pub(crate) fn tell_reply(told: &mut Told, reply: Result<Vec<u8>, AnswerRefusal>) {
+    match reply {
+        Ok(reply) => told.octets(&reply),
+        Err(refusal) => told.debug(&refusal),
+    }
 }
 
 /// The random bytes of each reply: 0 to 127.
@@ -66,81 +47,57 @@ pub(crate) fn words_by(first: u8, step: u8) -> [u8; 128] {
     words
 }
 
-/// The realm R with no account beside its own service.
-pub(crate) fn bare_realm(alloc: Global) -> anyhow::Result<Realm> {
-    realm_by(alloc, by_password(alloc)?)
+/// What an account's key is made of.
+#[derive(Clone, Copy)]
+enum Secret {
+    /// The password `pw`.
+    Password,
+    /// 32 octets of this value.
+    Key(u8),
 }
 
-/// Settings of a realm without an anchor.
-fn by_password(alloc: Global) -> anyhow::Result<Settings> {
+/// The realm R with so many accounts beside its own service, and with no anchor.
+pub(crate) fn realm_of(alloc: Global, count: usize) -> anyhow::Result<Realm> {
     let settings = Settings::new(alloc, 300, 36_000, None, None)?;
-    Ok(settings)
+    realm_with(alloc, settings, count)
 }
 
-/// The realm R with these settings and no account beside its own service.
-pub(crate) fn realm_by(alloc: Global, settings: Settings) -> anyhow::Result<Realm> {
+/// The realm R with these settings and so many accounts beside its own service: the first of `a`, `h`, `b`, `d`, `e`, `f` and
+/// `a/b`.
+pub(crate) fn realm_with(alloc: Global, settings: Settings, count: usize) -> anyhow::Result<Realm> {
     let suite = CipherSuite::Aes256CtsHmacSha196;
-    let realm = Realm::new(alloc, b"R", suite, &[0; 32], settings)?;
-    Ok(realm)
-}
-
-/// The realm R with the accounts `a`, `h`, `b` and `d`.
-pub(crate) fn realm_of_four(alloc: Global) -> anyhow::Result<Realm> {
-    with_four(alloc, by_password(alloc)?)
-}
-
-/// The same with these settings.
-pub(crate) fn with_four(alloc: Global, settings: Settings) -> anyhow::Result<Realm> {
-    let mut realm = realm_by(alloc, settings)?;
-    let added = add_four(alloc, &mut realm);
+    let mut realm = Realm::new(alloc, b"R", suite, &[0; 32], settings)?;
+    let added = add_accounts(alloc, &mut realm, count);
     if_passed(realm, added)
 }
 
-fn add_four(alloc: Global, realm: &mut Realm) -> anyhow::Result<()> {
-    let aes256 = CipherSuite::Aes256CtsHmacSha196;
-    let aes128 = CipherSuite::Aes128CtsHmacSha196;
-    let des3 = CipherSuite::Des3CbcSha1Kd;
-    realm.add_account_by_password(alloc, &name_of(alloc, b"a")?, aes256, b"pw")?;
-    realm.add_account_by_key(alloc, &name_of(alloc, b"h")?, aes256, &[1; 32])?;
-    realm.add_account_by_password(alloc, &name_of(alloc, b"b")?, aes128, b"pw")?;
-    realm.add_account_by_password(alloc, &name_of(alloc, b"d")?, des3, b"pw")?;
+fn add_accounts(alloc: Global, realm: &mut Realm, count: usize) -> anyhow::Result<()> {
+    let accounts: &[(&str, CipherSuite, Secret)] = &[
+        ("a", CipherSuite::Aes256CtsHmacSha196, Secret::Password),
+        ("h", CipherSuite::Aes256CtsHmacSha196, Secret::Key(1)),
+        ("b", CipherSuite::Aes128CtsHmacSha196, Secret::Password),
+        ("d", CipherSuite::Des3CbcSha1Kd, Secret::Password),
+        ("e", CipherSuite::Aes128CtsHmacSha256128, Secret::Password),
+        ("f", CipherSuite::Aes256CtsHmacSha384192, Secret::Password),
+        ("a/b", CipherSuite::Aes256CtsHmacSha196, Secret::Key(2)),
+    ];
+    for (name, suite, secret) in accounts.iter().take(count) {
+        add_account(alloc, realm, name, *suite, *secret)?;
+    }
     Ok(())
 }
 
-/// The same realm with the accounts `e` and `f`, of AES with SHA-2.
-pub(crate) fn realm_of_six(alloc: Global) -> anyhow::Result<Realm> {
-    let mut realm = realm_of_four(alloc)?;
-    let added = add_two(alloc, &mut realm);
-    if_passed(realm, added)
-}
-
-fn add_two(alloc: Global, realm: &mut Realm) -> anyhow::Result<()> {
-    let aes128 = CipherSuite::Aes128CtsHmacSha256128;
-    let aes256 = CipherSuite::Aes256CtsHmacSha384192;
-    realm.add_account_by_password(alloc, &name_of(alloc, b"e")?, aes128, b"pw")?;
-    realm.add_account_by_password(alloc, &name_of(alloc, b"f")?, aes256, b"pw")?;
-    Ok(())
-}
-
-/// The realm R with these settings, those six accounts and `a/b`.
-pub(crate) fn with_seven(alloc: Global, settings: Settings) -> anyhow::Result<Realm> {
-    let mut realm = realm_by(alloc, settings)?;
-    let added = add_seven(alloc, &mut realm);
-    if_passed(realm, added)
-}
-
-fn add_seven(alloc: Global, realm: &mut Realm) -> anyhow::Result<()> {
-    add_four(alloc, realm)?;
-    add_two(alloc, realm)?;
-    let mut name = name_of(alloc, b"a")?;
-    name.push(Vec::from_slice(alloc, b"b")?)?;
-    realm.add_account_by_key(alloc, &name, CipherSuite::Aes256CtsHmacSha196, &[2; 32])?;
-    Ok(())
-}
-
-/// The name of one component.
-pub(crate) fn name_of(alloc: Global, component: &[u8]) -> anyhow::Result<Vec<Vec<u8>>> {
-    let component = Vec::from_slice(alloc, component)?;
-    let name = vec![in alloc; component]?;
-    Ok(name)
+fn add_account(
+    alloc: Global,
+    realm: &mut Realm,
+    name: &str,
+    suite: CipherSuite,
+    secret: Secret,
+) -> anyhow::Result<()> {
+    let name = components_of(alloc, name)?;
+    let added = match secret {
+        Secret::Password => realm.add_account_by_password(alloc, &name, suite, b"pw"),
+        Secret::Key(octet) => realm.add_account_by_key(alloc, &name, suite, &[octet; 32]),
+    };
+    Ok(added?)
 }

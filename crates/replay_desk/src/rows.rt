@@ -1,12 +1,16 @@
 //! Going over the rows of a file.
 
-use std::alloc::Global;
+use replay_rows::{Row, Told};
+use result_pairs::both;
 use std::fs;
 
 /// What the rows of a file say.
 pub(crate) trait Rows {
     /// The text between two rows.
-    const SEPARATOR: &'static str;
+    const SEPARATOR: &'static str = "\n";
+
+    /// The text between two columns.
+    const COLUMNS: &'static str = " | ";
 
     /// What the rows are, as it is printed.
     const NAME: &'static str;
@@ -14,8 +18,8 @@ pub(crate) trait Rows {
     /// What is printed after the count of rows that differ.
     const WRONG: &'static str;
 
-    /// What comes out, where it differs from what the row says. `None` where it is the same.
-    fn differing(&self, rt: &HostRuntime, row: &str) -> anyhow::Result<Option<String>>;
+    /// Reads a row, and tells what comes out.
+    fn tell(&self, rt: &HostRuntime, row: &mut Row<'_>, told: &mut Told) -> anyhow::Result<()>;
 }
 
 /// Replays the rows of a file. It prints each that differs, and how many there are. Empty rows and those that begin with `#` are
@@ -29,20 +33,25 @@ pub(crate) fn replay<R: Rows + Drop>(rt: &HostRuntime, rows: R, file: &str) -> a
             continue;
         }
         replayed = replayed.saturating_add(1);
-        if let Some(other) = rows.differing(rt, row)? {
+        if differs(rt, &rows, row)? {
             differing = differing.saturating_add(1);
-            println!(rt; "{file}, row {replayed}: {other}")?;
+            println!(rt; "{file}: row {replayed} differs")?;
         }
     }
     println!(rt; "{file}: {replayed} {}, {differing} {}", R::NAME, R::WRONG)?;
     Ok(())
 }
 
-/// The columns of a row.
-pub(crate) fn columns_of(alloc: Global, row: &str) -> anyhow::Result<Vec<&str>> {
-    let mut columns = Vec::new(alloc);
-    for column in row.split(" | ") {
-        columns.push(column)?;
+/// Whether something else comes out than the row wants. It is printed then.
+fn differs<R: Rows>(rt: &HostRuntime, rows: &R, text: &str) -> anyhow::Result<bool> {
+    let mut told = Told::new(rt.alloc());
+    let mut row = Row::new(text, R::COLUMNS);
+    let outcome = rows.tell(rt, &mut row, &mut told);
+    both(row.ended(), outcome)?;
+    let told = told.text()?;
+    let is_other = told != row.wanted();
+    if is_other {
+        println!(rt; "{told} in place of {}", row.wanted())?;
     }
-    Ok(columns)
+    Ok(is_other)
 }

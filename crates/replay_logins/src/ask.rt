@@ -1,116 +1,91 @@
 //! A client's requests.
 
 use crate::stage::Stage;
-use crate::told::{digits_of, none, refused, suite_key_text};
-use crate::words::name_of;
-use anyhow::bail;
-use krb_realm::{ApAsked, KeyFunctions};
+use crate::told::{refused, suite_key_text};
+use krb_realm::KeyFunctions;
+use replay_rows::{Row, Told};
 use std::alloc::Global;
 
+/// Asks for a service.
 pub(crate) fn as_request<K: KeyFunctions>(
     stage: &mut Stage,
     alloc: Global,
-    words: &[&str],
+    words: &mut Row<'_>,
     keys: &K,
-) -> anyhow::Result<String> {
-    let [service] = words else {
-        bail!("as_request SERVICE");
-    };
-    ask_first(stage, alloc, &name_of(alloc, service)?, keys)
-}
-
-fn ask_first<K: KeyFunctions>(
-    stage: &mut Stage,
-    alloc: Global,
-    service: &[Vec<u8>],
-    keys: &K,
-) -> anyhow::Result<String> {
+    told: &mut Told,
+) -> anyhow::Result<()> {
     let at = stage.conditions;
     let client = stage.client()?;
+    let service = words.name(alloc);
     let random = at.random.bytes();
-    match client.as_request(alloc, service, at.till, at.moment, &random, keys) {
+    match client.as_request(alloc, &service, at.till, at.moment, &random, keys) {
         Ok((request, asked)) => {
             drop(stage.asked.as_asked.replace(asked));
-            sent(stage, alloc, request)
+            sent(stage, request, told);
         }
-        Err(refusal) => refused(alloc, &refusal),
+        Err(refusal) => refused(told, &refusal),
     }
+    Ok(())
 }
 
+/// Asks for a service by the credential.
 pub(crate) fn tgs_request(
     stage: &mut Stage,
     alloc: Global,
-    words: &[&str],
-) -> anyhow::Result<String> {
-    let [service] = words else {
-        bail!("tgs_request SERVICE");
-    };
-    ask_further(stage, alloc, &name_of(alloc, service)?)
-}
-
-fn ask_further(stage: &mut Stage, alloc: Global, service: &[Vec<u8>]) -> anyhow::Result<String> {
+    words: &mut Row<'_>,
+    told: &mut Told,
+) -> anyhow::Result<()> {
     let at = stage.conditions;
     let (client, by) = (stage.client()?, stage.credential()?);
-    match client.tgs_request(alloc, by, service, at.till, at.moment, &at.random.bytes()) {
+    let service = words.name(alloc);
+    match client.tgs_request(alloc, by, &service, at.till, at.moment, &at.random.bytes()) {
         Ok((request, asked)) => {
             drop(stage.asked.tgs_asked.replace(asked));
-            sent(stage, alloc, request)
+            sent(stage, request, told);
         }
-        Err(refusal) => refused(alloc, &refusal),
+        Err(refusal) => refused(told, &refusal),
     }
+    Ok(())
 }
 
 /// With or without a wish for a reply, and a subkey, each distinguished by 1 or 0.
 pub(crate) fn ap_request(
     stage: &mut Stage,
     alloc: Global,
-    words: &[&str],
-) -> anyhow::Result<String> {
-    let [mutual, subkey] = words else {
-        bail!("ap_request MUTUAL SUBKEY");
-    };
-    ask_service(stage, alloc, *mutual == "1", *subkey == "1")
-}
-
-fn ask_service(
-    stage: &mut Stage,
-    alloc: Global,
-    mutual: bool,
-    subkey: bool,
-) -> anyhow::Result<String> {
+    words: &mut Row<'_>,
+    told: &mut Told,
+) -> anyhow::Result<()> {
     let at = stage.conditions;
     let (client, by) = (stage.client()?, stage.credential()?);
+    let mutual = words.word() == "1";
+    let subkey = words.word() == "1";
     match client.ap_request(alloc, by, mutual, subkey, at.moment, &at.random.bytes()) {
         Ok((request, asked)) => {
             drop(stage.asked.ap_asked.replace(asked));
-            sent(stage, alloc, request)
+            sent(stage, request, told);
         }
-        Err(refusal) => refused(alloc, &refusal),
+        Err(refusal) => refused(told, &refusal),
     }
+    Ok(())
 }
 
 /// Keeps a request as the message that was sent last.
-fn sent(stage: &mut Stage, alloc: Global, request: Vec<u8>) -> anyhow::Result<String> {
+fn sent(stage: &mut Stage, request: Vec<u8>, told: &mut Told) {
+    told.octets(&request);
     stage.request = request;
-    digits_of(alloc, &stage.request)
 }
 
 /// What the client remembers of its last AP request: the key, the time, and the subkey.
-pub(crate) fn asked(stage: &Stage, alloc: Global) -> anyhow::Result<String> {
-    asked_text(alloc, stage.ap_asked()?)
-}
-
-fn asked_text(alloc: Global, asked: &ApAsked) -> anyhow::Result<String> {
-    let key = suite_key_text(alloc, asked.suite(), asked.key().as_bytes())?;
-    let subkey = subkey_text(alloc, asked)?;
-    let micros = asked.time().micros();
-    let text = format!(in alloc; "key {key} time {micros} subkey {subkey}")?;
-    Ok(text)
-}
-
-fn subkey_text(alloc: Global, asked: &ApAsked) -> anyhow::Result<String> {
+pub(crate) fn asked(stage: &Stage, told: &mut Told) -> anyhow::Result<()> {
+    let asked = stage.ap_asked()?;
+    told.put("key ");
+    suite_key_text(told, asked.suite(), asked.key().as_bytes());
+    told.put(" time ");
+    told.show(&asked.time().micros());
+    told.put(" subkey ");
     match asked.subkey() {
-        Some(subkey) => digits_of(alloc, subkey.as_bytes()),
-        None => none(alloc),
+        Some(subkey) => told.octets(subkey.as_bytes()),
+        None => told.put("none"),
     }
+    Ok(())
 }

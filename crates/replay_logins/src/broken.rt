@@ -1,8 +1,8 @@
 //! A stream that is served over devices of which each byte fails in turn.
 
 use crate::stage::Stage;
-use crate::told::digits_of;
 use krb_realm::{Moment, NoKeys, Realm, ServeFault, Sink, Source, serve, words_needed};
+use replay_rows::Told;
 use std::alloc::Global;
 use std::iter;
 use test_support::{Drip, Trickle};
@@ -19,7 +19,7 @@ struct Served<'a> {
 /// Serves the last request as a stream of one frame, and then over a writer that fails at each byte, over a reader that fails at each
 /// call, and over random bytes that fail at each call. Prints what is written, and how many of each end by that fault with the front
 /// of it that they have to write.
-pub(crate) fn serve_broken(stage: &Stage, alloc: Global) -> anyhow::Result<String> {
+pub(crate) fn serve_broken(stage: &Stage, alloc: Global, told: &mut Told) -> anyhow::Result<()> {
     let random = stage.conditions.random.bytes();
     let served = Served {
         realm: stage.realm()?,
@@ -30,11 +30,16 @@ pub(crate) fn serve_broken(stage: &Stage, alloc: Global) -> anyhow::Result<Strin
     let mut output = Vec::new(alloc);
     let (mut reader, mut words) = (served.stream, served.words);
     let end = end_of(alloc, &served, &mut reader, &mut output, &mut words);
-    let written = broken_writers(alloc, &served, &output);
-    let read = broken_readers(alloc, &served, &output);
-    let drawn = broken_words(alloc, &served);
-    let output = digits_of(alloc, &output)?;
-    Ok(format!(in alloc; "{end:?} {output} writers {written} readers {read} words {drawn}")?)
+    told.debug(&end);
+    told.put(" ");
+    told.octets(&output);
+    told.put(" writers ");
+    told.show(&broken_writers(alloc, &served, &output));
+    told.put(" readers ");
+    told.show(&broken_readers(alloc, &served, &output));
+    told.put(" words ");
+    told.show(&broken_words(alloc, &served));
+    Ok(())
 }
 
 fn end_of<R: Source, W: Sink, K: Source>(

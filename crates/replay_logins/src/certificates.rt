@@ -5,11 +5,12 @@ use crate::login::{honest, login};
 use crate::short_keys::{ShortKeys, Taker, taker_of};
 use crate::stage::Stage;
 use crate::take::keep_client;
-use crate::words::{bytes_of, name_of, suite_of, text_of};
+use crate::words::suite_of;
 use crate::{ask, realms, take};
 use anyhow::{Context, bail};
 use krb_realm::{Anchor, Client, SignatureAlgorithm};
 use picky_asn1_der::Asn1RawDer;
+use replay_rows::{Row, Told};
 use std::alloc::Global;
 use test_support::{DigestKeys, KnownKey};
 use x509_algorithms::AlgorithmIdentifier;
@@ -41,50 +42,53 @@ pub(crate) struct BothKeys<'a> {
     pub(crate) realm: ShortKeys<'a>,
 }
 
-pub(crate) fn told_by_words(
+pub(crate) fn tell_step(
     stage: &mut Stage,
     alloc: Global,
     step: &str,
-    words: &[&str],
-) -> anyhow::Result<String> {
+    words: &mut Row<'_>,
+    told: &mut Told,
+) -> anyhow::Result<()> {
     match step {
         "certificates" => certificates(stage, alloc, words),
-        "short_of_memory" => short_of_memory(stage, alloc, words),
-        "client_by_certificate" => client(stage, alloc, words),
-        _ => told_by_certified(stage, alloc, step, words),
+        "short_of_memory" => short_of_memory(stage, words),
+        "client_by_certificate" => client(stage, alloc, words, told),
+        _ => tell_certified(stage, alloc, step, words, told),
     }
 }
 
 /// A step by the key functions.
-fn told_by_certified(
+fn tell_certified(
     stage: &mut Stage,
     alloc: Global,
     step: &str,
-    words: &[&str],
-) -> anyhow::Result<String> {
+    words: &mut Row<'_>,
+    told: &mut Told,
+) -> anyhow::Result<()> {
     let Some(certified) = stage.certified.take() else {
         bail!("no such step, or no certificates");
     };
-    let told = told_by_holders(stage, alloc, &certified, step, words);
+    let outcome = tell_by_keys(stage, alloc, &certified, step, words, told);
     drop(stage.certified.replace(certified));
-    told
+    outcome
 }
 
-fn told_by_holders(
+fn tell_by_keys(
     stage: &mut Stage,
     alloc: Global,
     certified: &Certified,
     step: &str,
-    words: &[&str],
-) -> anyhow::Result<String> {
+    words: &mut Row<'_>,
+    told: &mut Told,
+) -> anyhow::Result<()> {
     let known = known_of(alloc, &certified.holders)?;
     let keys = keys_of(certified, &known)?;
     match step {
-        "ask_by_certificate" => ask::as_request(stage, alloc, words, &keys.client),
-        "answer_by_certificate" => realms::answer(stage, alloc, &keys.realm),
-        "take_by_certificate" => take::as_reply(stage, alloc, &keys.client),
-        "honest_by_certificate" => honest(stage, alloc, words, Some(&keys)),
-        "login_by_certificate" => login(stage, alloc, words, Some(&keys)),
+        "ask_by_certificate" => ask::as_request(stage, alloc, words, &keys.client, told),
+        "answer_by_certificate" => realms::answer(stage, alloc, &keys.realm, told),
+        "take_by_certificate" => take::as_reply(stage, alloc, &keys.client, told),
+        "honest_by_certificate" => honest(stage, alloc, words, Some(&keys), told),
+        "login_by_certificate" => login(stage, alloc, words, Some(&keys), told),
         _ => bail!("no such step"),
     }
 }
@@ -137,7 +141,7 @@ fn party_keys<'a>(
 }
 
 /// Takes the certificates of the anchor, the client and the realm.
-fn certificates(stage: &mut Stage, alloc: Global, words: &[&str]) -> anyhow::Result<String> {
+fn certificates(stage: &mut Stage, alloc: Global, words: &mut Row<'_>) -> anyhow::Result<()> {
     let public_value = Asn1RawDer::new(hex::decode(alloc, PUBLIC_VALUE)?)?;
     let algorithm = AlgorithmIdentifier::new_sha256_with_rsa_encryption(alloc)?;
     let holders = holders_of(alloc, words)?;
@@ -150,38 +154,43 @@ fn certificates(stage: &mut Stage, alloc: Global, words: &[&str]) -> anyhow::Res
             realm_short: None,
         }),
     );
-    Ok(String::new(alloc))
+    Ok(())
 }
 
-fn holders_of(alloc: Global, words: &[&str]) -> anyhow::Result<Vec<Anchor>> {
+fn holders_of(alloc: Global, words: &mut Row<'_>) -> anyhow::Result<Vec<Anchor>> {
     let mut holders = Vec::new(alloc);
-    for word in words {
-        let certificate = bytes_of(alloc, word)?;
-        holders.push(Anchor::from_certificate(alloc, &certificate)?)?;
+    for _ in 0..3u8 {
+        holders.push(holder_of(alloc, words)?)?;
     }
     Ok(holders)
 }
 
-/// Has a key function of the client and one of the realm run out of memory.
-fn short_of_memory(stage: &mut Stage, alloc: Global, words: &[&str]) -> anyhow::Result<String> {
-    let [client, realm] = words else {
-        bail!("short_of_memory CLIENT REALM");
-    };
-    let certified = stage.certified.as_mut().context("no certificates")?;
-    certified.client_short = taker_of(client)?;
-    certified.realm_short = taker_of(realm)?;
-    Ok(String::new(alloc))
+fn holder_of(alloc: Global, words: &mut Row<'_>) -> anyhow::Result<Anchor> {
+    let certificate = words.octets(alloc);
+    Ok(Anchor::from_certificate(alloc, &certificate)?)
 }
 
-fn client(stage: &mut Stage, alloc: Global, words: &[&str]) -> anyhow::Result<String> {
-    let [realm, name, suite, anchor, own] = words else {
-        bail!("client_by_certificate REALM NAME SUITE ANCHOR OWN");
-    };
-    let suite = suite_of(suite)?;
-    let name = name_of(alloc, name)?;
-    let own = bytes_of(alloc, own)?;
-    let anchor = Anchor::from_certificate(alloc, &bytes_of(alloc, anchor)?)?;
-    let realm = text_of(realm).as_bytes();
+/// Has a key function of the client and one of the realm run out of memory.
+fn short_of_memory(stage: &mut Stage, words: &mut Row<'_>) -> anyhow::Result<()> {
+    let certified = stage.certified.as_mut().context("no certificates")?;
+    certified.client_short = taker_of(words);
+    certified.realm_short = taker_of(words);
+    Ok(())
+}
+
+/// Makes a client of this realm, name and suite, and with the certificates of its anchor and its own.
+fn client(
+    stage: &mut Stage,
+    alloc: Global,
+    words: &mut Row<'_>,
+    told: &mut Told,
+) -> anyhow::Result<()> {
+    let realm = words.text().as_bytes();
+    let name = words.name(alloc);
+    let suite = suite_of(words);
+    let anchor = holder_of(alloc, words)?;
+    let own = words.octets(alloc);
     let made = Client::by_certificate(alloc, realm, &name, suite, &own, anchor);
-    keep_client(stage, alloc, made)
+    keep_client(stage, made, told);
+    Ok(())
 }

@@ -5,35 +5,25 @@ ghost use Rattle.krb_logins.specs.Input.{login_of};
 use crate::certificates::BothKeys;
 use crate::stage::{Conditions, Stage};
 use crate::told::{login_text, refused};
-use crate::words::name_of;
-use anyhow::{Context, bail};
+use anyhow::Context;
 use krb_realm::{
     Admission, EncryptionKey, LoginInput, LoginMoments, LoginRefusal, Moment,
     is_honest_by_certificate, is_honest_by_password, login_by_certificate, login_by_password,
 };
+use replay_rows::{Row, Told};
 use std::alloc::Global;
 
 /// A login by password, or by certificate with these key functions.
 pub(crate) fn login(
     stage: &mut Stage,
     alloc: Global,
-    words: &[&str],
+    words: &mut Row<'_>,
     keys: Option<&BothKeys<'_>>,
-) -> anyhow::Result<String> {
-    let [service] = words else {
-        bail!("login SERVICE");
-    };
-    log_in(stage, alloc, &name_of(alloc, service)?, keys)
-}
-
-fn log_in(
-    stage: &mut Stage,
-    alloc: Global,
-    name: &[Vec<u8>],
-    keys: Option<&BothKeys<'_>>,
-) -> anyhow::Result<String> {
+    told: &mut Told,
+) -> anyhow::Result<()> {
+    let name = words.name(alloc);
     let random = stage.conditions.random.bytes();
-    let input = input_of(stage.conditions, name, &random);
+    let input = input_of(stage.conditions, &name, &random);
     let client = stage.client.as_ref().context("no client")?;
     let realm = stage.realm.as_ref().context("no realm")?;
     let service = stage.service.as_mut().context("no service")?;
@@ -44,42 +34,33 @@ fn log_in(
             login_by_certificate(alloc, client, realm, service, &input, mine, theirs)
         }
     };
-    told(alloc, login)
+    tell_login(login, told);
+    Ok(())
 }
 
-/// Whether the login by password, or by certificate with these key functions, would be honest.
+/// Tells whether the login by password, or by certificate with these key functions, would be honest.
 pub(crate) fn honest(
     stage: &Stage,
     alloc: Global,
-    words: &[&str],
+    words: &mut Row<'_>,
     keys: Option<&BothKeys<'_>>,
-) -> anyhow::Result<String> {
-    let [service] = words else {
-        bail!("honest SERVICE");
-    };
-    let name = name_of(alloc, service)?;
-    let honest = is_honest(stage, alloc, &name, keys)?;
-    Ok(format!(in alloc; "{honest}")?)
-}
-
-fn is_honest(
-    stage: &Stage,
-    alloc: Global,
-    name: &[Vec<u8>],
-    keys: Option<&BothKeys<'_>>,
-) -> anyhow::Result<bool> {
+    told: &mut Told,
+) -> anyhow::Result<()> {
+    let name = words.name(alloc);
     let random = stage.conditions.random.bytes();
-    let input = input_of(stage.conditions, name, &random);
+    let input = input_of(stage.conditions, &name, &random);
     let client = stage.client()?;
     let realm = stage.realm()?;
     let service = stage.service.as_ref().context("no service")?;
-    Ok(match keys {
+    let is_honest = match keys {
         None => is_honest_by_password(alloc, client, realm, service, &input),
         Some(keys) => {
             let (mine, theirs) = (&keys.client, &keys.realm);
             is_honest_by_certificate(alloc, client, realm, service, &input, mine, theirs)
         }
-    })
+    };
+    told.show(&is_honest);
+    Ok(())
 }
 
 /// All steps have one moment and the same random bytes.
@@ -99,17 +80,13 @@ fn input_of<'a>(at: Conditions, service: &'a [Vec<u8>], random: &'a [u8; 128]) -
     }
 }
 
-fn told(
-    alloc: Global,
-    login: Result<(EncryptionKey, Admission), LoginRefusal>,
-) -> anyhow::Result<String> {
+fn tell_login(login: Result<(EncryptionKey, Admission), LoginRefusal>, told: &mut Told) {
     match login {
         Ok(login) => {
-            let text = login_text(alloc, &login.0, &login.1);
+            login_text(told, &login.0, &login.1);
             drop(login);
-            text
         }
-        Err(refusal) => refused(alloc, &refusal),
+        Err(refusal) => refused(told, &refusal),
     }
 }
 

@@ -19,6 +19,7 @@ mod words;
 
 use krb_realm::{AdmitRefusal, AskRefusal, TakeRefusal};
 use line::line_of;
+use replay_rows::Told;
 use stage::Stage;
 use std::fs;
 
@@ -55,63 +56,57 @@ fn play_lines(rt: &HostRuntime, file: &str, text: &str, stage: &mut Stage) -> an
     Ok(())
 }
 
-/// Whether a line gives what is expected.
+/// Whether a line gives what is expected. Another text is printed.
 fn agrees(rt: &HostRuntime, text: &str, stage: &mut Stage) -> anyhow::Result<bool> {
-    let line = line_of(rt.alloc(), text)?;
-    let told = stage::told_by(stage, rt.alloc(), &line)?;
-    report(rt, text, line.wanted, &told)
+    let line = line_of(text);
+    let mut told = Told::new(rt.alloc());
+    stage::tell(stage, rt.alloc(), &line, &mut told)?;
+    let told = told.text()?;
+    let is_same = is_wanted(line.wanted, told);
+    if !is_same {
+        println!(rt; "{text}: {told}")?;
+    }
+    Ok(is_same)
 }
 
-/// Whether this text is the expected one: `ok` is each text but a refusal. Another text is printed.
-fn report(rt: &HostRuntime, line: &str, wanted: &str, told: &str) -> anyhow::Result<bool> {
-    let is_wanted = if wanted == "ok" {
+/// Whether this text is the expected one: `ok` is each text but a refusal.
+fn is_wanted(wanted: &str, told: &str) -> bool {
+    if wanted == "ok" {
         !told.starts_with("refused")
     } else {
         told.trim() == wanted
-    };
-    if !is_wanted {
-        println!(rt; "{line}: {told}")?;
     }
-    Ok(is_wanted)
 }
 
 fn print_numbers(rt: &HostRuntime) -> anyhow::Result<()> {
-    print_asks(rt)?;
-    print_takes(rt)?;
-    let krb = AdmitRefusal::Krb(34).number();
-    println!(rt;
-        "admits: {} {krb} {}",
-        AdmitRefusal::Unreadable.number(),
-        AdmitRefusal::Memory.number()
-    )?;
-    Ok(())
+    let asks = [
+        AskRefusal::BadName.number(),
+        AskRefusal::BadCertificate.number(),
+        AskRefusal::NoKeyFunction.number(),
+        AskRefusal::Memory.number(),
+    ];
+    print_row(rt, "asks", &asks)?;
+    let takes = [
+        TakeRefusal::Unreadable.number(),
+        TakeRefusal::Refused(24).number(),
+        TakeRefusal::NotTrusted.number(),
+        TakeRefusal::NotSealed.number(),
+        TakeRefusal::NotAsked.number(),
+        TakeRefusal::Memory.number(),
+    ];
+    print_row(rt, "takes", &takes)?;
+    let admits = [
+        u32::from(AdmitRefusal::Unreadable.number()),
+        u32::from(AdmitRefusal::Krb(34).number()),
+        u32::from(AdmitRefusal::Memory.number()),
+    ];
+    print_row(rt, "admits", &admits)
 }
 
-fn print_asks(rt: &HostRuntime) -> anyhow::Result<()> {
-    print!(rt; "asks:")?;
-    for refusal in [
-        AskRefusal::BadName,
-        AskRefusal::BadCertificate,
-        AskRefusal::NoKeyFunction,
-        AskRefusal::Memory,
-    ] {
-        print!(rt; " {}", refusal.number())?;
-    }
-    println!(rt; "")?;
-    Ok(())
-}
-
-fn print_takes(rt: &HostRuntime) -> anyhow::Result<()> {
-    print!(rt; "takes:")?;
-    for refusal in [
-        TakeRefusal::Unreadable,
-        TakeRefusal::Refused(24),
-        TakeRefusal::NotTrusted,
-        TakeRefusal::NotSealed,
-        TakeRefusal::NotAsked,
-        TakeRefusal::Memory,
-    ] {
-        print!(rt; " {}", refusal.number())?;
+fn print_row(rt: &HostRuntime, name: &str, numbers: &[u32]) -> anyhow::Result<()> {
+    print!(rt; "{name}:")?;
+    for number in numbers {
+        print!(rt; " {number}")?;
     }
     println!(rt; "")?;
     Ok(())

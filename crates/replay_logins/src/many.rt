@@ -4,6 +4,7 @@ use crate::stage::Stage;
 use anyhow::bail;
 use krb_messages::messages::KrbError;
 use krb_realm::{AnswerRefusal, NoKeys};
+use replay_rows::Told;
 use std::alloc::Global;
 
 /// How many requests were unreadable, and how many got each error code.
@@ -14,23 +15,25 @@ struct Answers {
 }
 
 /// Each proper front of the request.
-pub(crate) fn answer_fronts(stage: &Stage, alloc: Global) -> anyhow::Result<String> {
+pub(crate) fn answer_fronts(stage: &Stage, alloc: Global, told: &mut Told) -> anyhow::Result<()> {
     let mut answers = no_answers();
     for size in 0..stage.request.len() {
         let (front, _) = stage.request.split_at(size);
         count(stage, alloc, front, &mut answers)?;
     }
-    told(alloc, &answers)
+    tell(&answers, told);
+    Ok(())
 }
 
 /// The request with each of its bytes replaced by each other value.
-pub(crate) fn answer_replaced(stage: &Stage, alloc: Global) -> anyhow::Result<String> {
+pub(crate) fn answer_replaced(stage: &Stage, alloc: Global, told: &mut Told) -> anyhow::Result<()> {
     let mut answers = no_answers();
     let mut request = Vec::from_slice(alloc, &stage.request)?;
     for place in 0..stage.request.len() {
         replace(stage, alloc, &mut request, place, &mut answers)?;
     }
-    told(alloc, &answers)
+    tell(&answers, told);
+    Ok(())
 }
 
 fn no_answers() -> Answers {
@@ -100,13 +103,15 @@ fn count_code(code: u32, answers: &mut Answers) -> anyhow::Result<()> {
 }
 
 /// `unreadable COUNT`, and `CODE: COUNT` for each code that came.
-fn told(alloc: Global, answers: &Answers) -> anyhow::Result<String> {
-    let mut text = format!(in alloc; "unreadable {}", answers.unreadable)?;
+fn tell(answers: &Answers, told: &mut Told) {
+    told.put("unreadable ");
+    told.show(&answers.unreadable);
     for (code, count) in answers.coded.iter().enumerate() {
         if *count > 0 {
-            let part = format!(in alloc; ", {code}: {count}")?;
-            text.push_str(part.as_str())?;
+            told.put(", ");
+            told.show(&code);
+            told.put(": ");
+            told.show(count);
         }
     }
-    Ok(text)
 }

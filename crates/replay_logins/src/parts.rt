@@ -5,8 +5,8 @@ use anyhow::{Context, bail};
 use krb_crypto::{Cipher, CipherSuite};
 use krb_messages::messages::KrbError;
 use picky_asn1_der::{Serialize, to_bytes};
+use replay_rows::{Row, Told};
 use std::alloc::Global;
-use std::fmt::Display;
 
 const AES256: CipherSuite = CipherSuite::Aes256CtsHmacSha196;
 
@@ -15,17 +15,14 @@ const AES256: CipherSuite = CipherSuite::Aes256CtsHmacSha196;
 pub(crate) fn exchange_tag(
     stage: &mut Stage,
     alloc: Global,
-    words: &[&str],
-) -> anyhow::Result<String> {
-    let [first, len] = words else {
-        bail!("exchange_tag BYTE LENGTH");
-    };
-    let first = first.parse::<u8>()?;
-    let len = len.parse::<usize>()?;
+    words: &mut Row<'_>,
+) -> anyhow::Result<()> {
+    let first = words.number::<u8>();
+    let len = words.number::<usize>();
     let (front, sealed) = parts_of(&stage.reply, len)?;
     let sealed = sealed_anew(alloc, sealed, first)?;
     stage.reply = joined(alloc, front, &sealed)?;
-    Ok(String::new(alloc))
+    Ok(())
 }
 
 /// The bytes before the last so many, and these.
@@ -58,28 +55,31 @@ fn joined(alloc: Global, front: &[u8], back: &[u8]) -> anyhow::Result<Vec<u8>> {
     Ok(whole)
 }
 
-/// Reads an error, and returns how it prints.
-pub(crate) fn print_error(stage: &Stage, alloc: Global) -> anyhow::Result<String> {
+/// Reads an error, and tells how it prints.
+pub(crate) fn print_error(stage: &Stage, alloc: Global, told: &mut Told) -> anyhow::Result<()> {
     let error = krb_messages::from_bytes::<KrbError>(alloc, &stage.request)?;
-    printed(alloc, error.0)
+    told.show(&error.0);
+    drop(error);
+    Ok(())
 }
 
-fn printed<T: Display + Drop>(alloc: Global, value: T) -> anyhow::Result<String> {
-    Ok(format!(in alloc; "{value}")?)
-}
-
-/// Reads an error. Returns its length, and whether it is written into 72 and into 71 bytes. It is to be the same bytes.
-pub(crate) fn write_error(stage: &Stage, alloc: Global) -> anyhow::Result<String> {
+/// Reads an error. Tells its length, and whether it is written into 72 and into 71 bytes. It is to be the same bytes.
+pub(crate) fn write_error(stage: &Stage, alloc: Global, told: &mut Told) -> anyhow::Result<()> {
     let error = krb_messages::from_bytes::<KrbError>(alloc, &stage.request)?;
-    written(alloc, error, &stage.request)
+    tell_written(error, &stage.request, told);
+    Ok(())
 }
 
-fn written<T: Serialize + Drop>(alloc: Global, value: T, wanted: &[u8]) -> anyhow::Result<String> {
+fn tell_written<T: Serialize + Drop>(value: T, wanted: &[u8], told: &mut Told) {
     let mut room = [0; 72];
     let mut short = [0; 71];
-    let len = value.encoded_len();
-    let whole = to_bytes(&value, &mut room);
-    let cut = to_bytes(&value, &mut short);
-    let is_same = room.as_slice() == wanted;
-    Ok(format!(in alloc; "{len:?} {whole:?} {is_same} {cut:?}")?)
+    told.debug(&value.encoded_len());
+    told.put(" ");
+    told.debug(&to_bytes(&value, &mut room));
+    told.put(if room.as_slice() == wanted {
+        " true "
+    } else {
+        " false "
+    });
+    told.debug(&to_bytes(&value, &mut short));
 }

@@ -2,51 +2,53 @@
 
 use crate::certificates;
 use crate::stage::Stage;
-use crate::told::{digits_of, done, ok, refused};
-use crate::words::{bytes_of, name_of, suite_of};
-use anyhow::bail;
-use krb_accounts::{Account, Accounts, components_of};
+use crate::told::{done, refused};
+use crate::words::suite_of;
+use anyhow::{Context, bail};
+use krb_accounts::{Account, Accounts};
 use krb_crypto::Key;
 use krb_realm::{
-    Anchor, CipherSuite, KeyFunctions, NoKeys, Realm, RealmRefusal, ServeFault, Settings,
-    serve_bytes, words_needed,
+    Anchor, CipherSuite, KeyFunctions, NoKeys, Realm, RealmRefusal, Settings, serve_bytes,
+    words_needed,
 };
+use replay_rows::{Row, Told, components_of};
 use std::alloc::Global;
 
 const AES256: CipherSuite = CipherSuite::Aes256CtsHmacSha196;
 
-pub(crate) fn told_by_words(
+pub(crate) fn tell_step(
     stage: &mut Stage,
     alloc: Global,
     step: &str,
-    words: &[&str],
-) -> anyhow::Result<String> {
+    words: &mut Row<'_>,
+    told: &mut Told,
+) -> anyhow::Result<()> {
     match step {
-        "settings" => settings(alloc, words),
-        "realm" => realm(stage, alloc, words),
-        "add_by_key" => add_by_key(stage, alloc, words),
-        "add_by_password" => add_by_password(stage, alloc, words),
-        "remove" => remove(stage, alloc, words),
-        "change_key" => change_key(stage, alloc, words),
-        "answer" => answer(stage, alloc, &NoKeys),
-        "reply" => digits_of(alloc, &stage.reply),
-        "serve" => serve(stage, alloc),
-        "cut_reply" => cut_reply(stage, alloc),
-        "spend_number" => spend_number(alloc, words),
-        "words_needed" => Ok(format!(in alloc; "{}", words_needed())?),
-        _ => certificates::told_by_words(stage, alloc, step, words),
+        "settings" => settings(alloc, words, told),
+        "reply" => told.octets(&stage.reply),
+        "words_needed" => told.show(&words_needed()),
+        "realm" => return realm(stage, alloc, words, told),
+        "add_by_key" => return add_by_key(stage, alloc, words, told),
+        "add_by_password" => return add_by_password(stage, alloc, words, told),
+        "remove" => return remove(stage, alloc, words, told),
+        "change_key" => return change_key(stage, alloc, words, told),
+        "answer" => return answer(stage, alloc, &NoKeys, told),
+        "serve" => return serve(stage, alloc, told),
+        "cut_reply" => return cut_reply(stage, alloc),
+        "spend_number" => return spend_number(alloc, words, told),
+        _ => return certificates::tell_step(stage, alloc, step, words, told),
     }
+    Ok(())
 }
 
-fn settings(alloc: Global, words: &[&str]) -> anyhow::Result<String> {
-    let [skew, lifetime, certificate] = words else {
-        bail!("settings SKEW LIFETIME CERTIFICATE");
-    };
-    let certificate = bytes_of(alloc, certificate)?;
-    let certificate = given(&certificate);
-    match Settings::new(alloc, skew.parse()?, lifetime.parse()?, None, certificate) {
-        Ok(_) => ok(alloc),
-        Err(refusal) => refused(alloc, &refusal),
+/// Makes settings of this skew, lifetime and certificate.
+fn settings(alloc: Global, words: &mut Row<'_>, told: &mut Told) {
+    let skew = words.number::<u64>();
+    let lifetime = words.number::<u64>();
+    let certificate = words.octets(alloc);
+    match Settings::new(alloc, skew, lifetime, None, given(&certificate)) {
+        Ok(_) => told.put("ok"),
+        Err(refusal) => refused(told, &refusal),
     }
 }
 
@@ -56,125 +58,111 @@ fn given(bytes: &[u8]) -> Option<&[u8]> {
 }
 
 /// Makes a realm without accounts beside its own, with 300 seconds of skew and 36,000 of lifetime. Its name is given in
-/// hexadecimal, and so are the certificates of its anchor and its own.
-fn realm(stage: &mut Stage, alloc: Global, words: &[&str]) -> anyhow::Result<String> {
-    let made = match words {
-        [name, key] => make_realm(alloc, name, key, None, None)?,
-        [name, key, anchor] => certified_realm(alloc, name, key, anchor, None)?,
-        [name, key, anchor, own] => {
-            let own = bytes_of(alloc, own)?;
-            certified_realm(alloc, name, key, anchor, Some(&own))?
+/// hexadecimal, and so are its key and the certificates of its anchor and its own, if it has them.
+fn realm(
+    stage: &mut Stage,
+    alloc: Global,
+    words: &mut Row<'_>,
+    told: &mut Told,
+) -> anyhow::Result<()> {
+    let name = words.octets(alloc);
+    let key = words.octets(alloc);
+    let anchor = words.further_octets(alloc);
+    let own = words.further_octets(alloc);
+    let anchor = anchor_of(alloc, given(&anchor))?;
+    match make_realm(alloc, &name, &key, anchor, given(&own)) {
+        Ok(realm) => {
+            drop(stage.realm.replace(realm));
+            told.put("ok");
         }
-        _ => bail!("realm NAME KEY ANCHOR OWN"),
-    };
-    keep_realm(stage, alloc, made)
+        Err(refusal) => refused(told, &refusal),
+    }
+    Ok(())
 }
 
-fn certified_realm(
-    alloc: Global,
-    name: &str,
-    key: &str,
-    anchor: &str,
-    own: Option<&[u8]>,
-) -> anyhow::Result<Result<Realm, RealmRefusal>> {
-    let certificate = bytes_of(alloc, anchor)?;
-    let anchor = Anchor::from_certificate(alloc, &certificate)?;
-    make_realm(alloc, name, key, Some(anchor), own)
+fn anchor_of(alloc: Global, certificate: Option<&[u8]>) -> anyhow::Result<Option<Anchor>> {
+    match certificate {
+        Some(certificate) => Ok(Some(Anchor::from_certificate(alloc, certificate)?)),
+        None => Ok(None),
+    }
 }
 
 fn make_realm(
     alloc: Global,
-    name: &str,
-    key: &str,
+    name: &[u8],
+    key: &[u8],
     anchor: Option<Anchor>,
     own: Option<&[u8]>,
-) -> anyhow::Result<Result<Realm, RealmRefusal>> {
-    match Settings::new(alloc, 300, 36_000, anchor, own) {
-        Ok(settings) => with_settings(alloc, name, key, settings),
-        Err(refusal) => Ok(Err(refusal)),
-    }
+) -> Result<Realm, RealmRefusal> {
+    let settings = Settings::new(alloc, 300, 36_000, anchor, own)?;
+    Realm::new(alloc, name, AES256, key, settings)
 }
 
-fn with_settings(
-    alloc: Global,
-    name: &str,
-    key: &str,
-    settings: Settings,
-) -> anyhow::Result<Result<Realm, RealmRefusal>> {
-    let name = bytes_of(alloc, name)?;
-    let key = bytes_of(alloc, key)?;
-    Ok(Realm::new(alloc, &name, AES256, &key, settings))
-}
-
-fn keep_realm(
+fn add_by_key(
     stage: &mut Stage,
     alloc: Global,
-    made: Result<Realm, RealmRefusal>,
-) -> anyhow::Result<String> {
-    match made {
-        Ok(realm) => {
-            drop(stage.realm.replace(realm));
-            ok(alloc)
-        }
-        Err(refusal) => refused(alloc, &refusal),
-    }
+    words: &mut Row<'_>,
+    told: &mut Told,
+) -> anyhow::Result<()> {
+    let realm = stage.realm_mut()?;
+    let name = words.name(alloc);
+    let suite = suite_of(words);
+    let key = words.octets(alloc);
+    done(told, realm.add_account_by_key(alloc, &name, suite, &key));
+    Ok(())
 }
 
-fn add_by_key(stage: &mut Stage, alloc: Global, words: &[&str]) -> anyhow::Result<String> {
-    let [name, suite, key] = words else {
-        bail!("add_by_key NAME SUITE KEY");
-    };
-    let suite = suite_of(suite)?;
-    let name = name_of(alloc, name)?;
-    let key = bytes_of(alloc, key)?;
-    let added = stage
-        .realm_mut()?
-        .add_account_by_key(alloc, &name, suite, &key);
-    done(alloc, added)
+fn add_by_password(
+    stage: &mut Stage,
+    alloc: Global,
+    words: &mut Row<'_>,
+    told: &mut Told,
+) -> anyhow::Result<()> {
+    let realm = stage.realm_mut()?;
+    let name = words.name(alloc);
+    let suite = suite_of(words);
+    let password = words.word().as_bytes();
+    done(
+        told,
+        realm.add_account_by_password(alloc, &name, suite, password),
+    );
+    Ok(())
 }
 
-fn add_by_password(stage: &mut Stage, alloc: Global, words: &[&str]) -> anyhow::Result<String> {
-    let [name, suite, password] = words else {
-        bail!("add_by_password NAME SUITE PASSWORD");
-    };
-    let suite = suite_of(suite)?;
-    let name = name_of(alloc, name)?;
-    let added = stage
-        .realm_mut()?
-        .add_account_by_password(alloc, &name, suite, password.as_bytes());
-    done(alloc, added)
+fn remove(
+    stage: &mut Stage,
+    alloc: Global,
+    words: &mut Row<'_>,
+    told: &mut Told,
+) -> anyhow::Result<()> {
+    let realm = stage.realm_mut()?;
+    let name = words.name(alloc);
+    done(told, realm.remove_account(&name));
+    Ok(())
 }
 
-fn remove(stage: &mut Stage, alloc: Global, words: &[&str]) -> anyhow::Result<String> {
-    let [name] = words else {
-        bail!("remove NAME");
-    };
-    let name = name_of(alloc, name)?;
-    let removed = stage.realm_mut()?.remove_account(&name);
-    done(alloc, removed)
-}
-
-fn change_key(stage: &mut Stage, alloc: Global, words: &[&str]) -> anyhow::Result<String> {
-    let [name, suite, key] = words else {
-        bail!("change_key NAME SUITE KEY");
-    };
-    let suite = suite_of(suite)?;
-    let name = name_of(alloc, name)?;
-    let key = bytes_of(alloc, key)?;
-    let changed = stage.realm_mut()?.change_key(&name, suite, &key);
-    done(alloc, changed)
+fn change_key(
+    stage: &mut Stage,
+    alloc: Global,
+    words: &mut Row<'_>,
+    told: &mut Told,
+) -> anyhow::Result<()> {
+    let realm = stage.realm_mut()?;
+    let name = words.name(alloc);
+    let suite = suite_of(words);
+    let key = words.octets(alloc);
+    done(told, realm.change_key(&name, suite, &key));
+    Ok(())
 }
 
 /// Changes the key of an account whose key has this number.
-fn spend_number(alloc: Global, words: &[&str]) -> anyhow::Result<String> {
-    let [number] = words else {
-        bail!("spend_number NUMBER");
-    };
-    let number = number.parse::<u32>()?;
-    let name = name_of(alloc, "x")?;
+fn spend_number(alloc: Global, words: &mut Row<'_>, told: &mut Told) -> anyhow::Result<()> {
+    let number = words.number::<u32>();
+    let name = components_of(alloc, "x")?;
     let mut accounts = Accounts::new(alloc);
     add_of_number(alloc, &mut accounts, &name, number)?;
-    done(alloc, accounts.change_key(&name, AES256, &[2; 32]))
+    done(told, accounts.change_key(&name, AES256, &[2; 32]));
+    Ok(())
 }
 
 fn add_of_number(
@@ -186,7 +174,7 @@ fn add_of_number(
     if number == 0 {
         bail!("numbers count from 1");
     }
-    let name = components_of(alloc, name)?;
+    let name = krb_accounts::components_of(alloc, name)?;
     let key = Key::new(AES256, &[1; 32])?;
     accounts.insert_new(name, Account::new(key, number, None))?;
     Ok(())
@@ -197,22 +185,24 @@ pub(crate) fn answer<K: KeyFunctions>(
     stage: &mut Stage,
     alloc: Global,
     keys: &K,
-) -> anyhow::Result<String> {
+    told: &mut Told,
+) -> anyhow::Result<()> {
     let at = stage.conditions;
     match stage
         .realm()?
         .answer(alloc, &stage.request, at.moment, &at.random.bytes(), keys)
     {
         Ok(reply) => {
+            told.octets(&reply);
             stage.reply = reply;
-            digits_of(alloc, &stage.reply)
         }
-        Err(refusal) => refused(alloc, &refusal),
+        Err(refusal) => refused(told, &refusal),
     }
+    Ok(())
 }
 
-/// Serves the stream at the moment, and returns how it ends and what is written.
-fn serve(stage: &Stage, alloc: Global) -> anyhow::Result<String> {
+/// Serves the stream at the moment, and tells how it ends and what is written.
+fn serve(stage: &Stage, alloc: Global, told: &mut Told) -> anyhow::Result<()> {
     let at = stage.conditions;
     let words = at.random.bytes();
     let realm = stage.realm()?;
@@ -226,25 +216,15 @@ fn serve(stage: &Stage, alloc: Global) -> anyhow::Result<String> {
         &mut written,
         &NoKeys,
     );
-    served_text(alloc, end, &written)
-}
-
-fn served_text(
-    alloc: Global,
-    end: Result<u64, ServeFault>,
-    written: &[u8],
-) -> anyhow::Result<String> {
-    let written = digits_of(alloc, written)?;
-    let text = format!(in alloc; "{end:?} {written}")?;
-    Ok(text)
+    told.debug(&end);
+    told.put(" ");
+    told.octets(&written);
+    Ok(())
 }
 
 /// Takes the first byte of the reply away.
-fn cut_reply(stage: &mut Stage, alloc: Global) -> anyhow::Result<String> {
-    let cut = match stage.reply.split_first() {
-        Some((_, rest)) => Vec::from_slice(alloc, rest)?,
-        None => bail!("no reply"),
-    };
-    stage.reply = cut;
-    Ok(String::new(alloc))
+fn cut_reply(stage: &mut Stage, alloc: Global) -> anyhow::Result<()> {
+    let (_, rest) = stage.reply.split_first().context("no reply")?;
+    stage.reply = Vec::from_slice(alloc, rest)?;
+    Ok(())
 }

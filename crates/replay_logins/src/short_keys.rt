@@ -1,8 +1,8 @@
 //! Key functions that run out of memory.
 
-use anyhow::bail;
 use krb_realm::{KeyFunctions, Signed, Theirs};
 use picky_asn1_der::Asn1RawDer;
+use replay_rows::Row;
 use std::alloc::{AllocError, Global};
 use test_support::DigestKeys;
 use x509_algorithms::AlgorithmIdentifier;
@@ -16,14 +16,17 @@ pub(crate) enum Taker {
     Agree,
 }
 
-/// The key function of this name, `-` for none.
-pub(crate) fn taker_of(word: &str) -> anyhow::Result<Option<Taker>> {
-    match word {
-        "sign" => Ok(Some(Taker::Sign)),
-        "public_value" => Ok(Some(Taker::PublicValue)),
-        "agree" => Ok(Some(Taker::Agree)),
-        "-" => Ok(None),
-        _ => bail!("no key function {word} takes memory"),
+/// The key function that the next word names, `-` for none.
+pub(crate) fn taker_of(words: &mut Row<'_>) -> Option<Taker> {
+    match words.text() {
+        "sign" => Some(Taker::Sign),
+        "public_value" => Some(Taker::PublicValue),
+        "agree" => Some(Taker::Agree),
+        "" => None,
+        _ => {
+            words.refuse("no key function that takes memory");
+            None
+        }
     }
 }
 

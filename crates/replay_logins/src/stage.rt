@@ -2,12 +2,14 @@
 
 use crate::certificates::Certified;
 use crate::line::Line;
-use crate::words::bytes_of;
+use crate::words::second_of;
 use crate::{ask, broken, login, many, parts, realms, services, take};
-use anyhow::{Context, bail};
+use anyhow::Context;
 use krb_realm::{
     ApAsked, AsAsked, Client, Credential, GeneralizedTime, Moment, NoKeys, Realm, Service, TgsAsked,
 };
+use replay_rows::{Row, Told};
+use result_pairs::both;
 use std::alloc::Global;
 
 /// What a step goes by: the moment, the end that is asked for, and the random bytes.
@@ -109,84 +111,109 @@ fn empty_stage(alloc: Global, conditions: Conditions) -> Stage {
     }
 }
 
-/// What the step of a line gives, as text.
-pub(crate) fn told_by(stage: &mut Stage, alloc: Global, line: &Line<'_>) -> anyhow::Result<String> {
+/// Tells what the step of a line gives.
+pub(crate) fn tell(
+    stage: &mut Stage,
+    alloc: Global,
+    line: &Line<'_>,
+    told: &mut Told,
+) -> anyhow::Result<()> {
+    let mut words = line.words;
+    let step = words.word();
     if let Some(digits) = line.message {
-        let message = bytes_of(alloc, digits)?;
-        if line.step.starts_with("take") {
-            stage.reply = message;
-        } else {
-            stage.request = message;
-        }
+        keep_message(stage, step, hex::decode(alloc, digits)?);
     }
-    told_by_words(stage, alloc, line.step, &line.words)
+    let outcome = tell_step(stage, alloc, step, &mut words, told);
+    both(words.ended(), outcome)?;
+    Ok(())
 }
 
-fn told_by_words(
+/// Keeps the bytes that a step is given.
+fn keep_message(stage: &mut Stage, step: &str, message: Vec<u8>) {
+    if step.starts_with("take") {
+        stage.reply = message;
+    } else {
+        stage.request = message;
+    }
+}
+
+fn tell_step(
     stage: &mut Stage,
     alloc: Global,
     step: &str,
-    words: &[&str],
-) -> anyhow::Result<String> {
+    words: &mut Row<'_>,
+    told: &mut Told,
+) -> anyhow::Result<()> {
     match step {
-        "moment" => set_moment(stage, alloc, words),
-        "till" => set_till(stage, alloc, words),
-        "random" => set_random(stage, alloc, words),
-        "as_request" => ask::as_request(stage, alloc, words, &NoKeys),
-        "tgs_request" => ask::tgs_request(stage, alloc, words),
-        "ap_request" => ask::ap_request(stage, alloc, words),
-        "asked" => ask::asked(stage, alloc),
-        "client" => take::client(stage, alloc, words),
-        "take_as_reply" => take::as_reply(stage, alloc, &NoKeys),
-        "take_tgs_reply" => take::tgs_reply(stage, alloc),
-        "take_ap_reply" => take::ap_reply(stage, alloc),
-        "credential" => take::credential(stage, alloc),
-        "credential_times" => take::credential_times(stage, alloc),
-        "service" => services::service(stage, alloc, words),
-        "admit" => services::admit(stage, alloc),
-        "admit_times" => services::admit_times(stage, alloc),
-        "admit_nothing" => services::admit_nothing(stage, alloc),
-        "admit_twice" => services::admit_twice(stage, alloc),
-        "login" => login::login(stage, alloc, words, None),
-        "honest" => login::honest(stage, alloc, words, None),
-        "exchange_tag" => parts::exchange_tag(stage, alloc, words),
-        "print_error" => parts::print_error(stage, alloc),
-        "write_error" => parts::write_error(stage, alloc),
-        "answer_fronts" => many::answer_fronts(stage, alloc),
-        "answer_replaced" => many::answer_replaced(stage, alloc),
-        "serve_broken" => broken::serve_broken(stage, alloc),
-        _ => realms::told_by_words(stage, alloc, step, words),
+        "moment" => set_moment(stage, words),
+        "till" => set_till(stage, words),
+        "random" => set_random(stage, words),
+        "client" => take::client(stage, alloc, words, told),
+        "answer_fronts" => return many::answer_fronts(stage, alloc, told),
+        "answer_replaced" => return many::answer_replaced(stage, alloc, told),
+        "serve_broken" => return broken::serve_broken(stage, alloc, told),
+        "exchange_tag" => return parts::exchange_tag(stage, alloc, words),
+        "print_error" => return parts::print_error(stage, alloc, told),
+        "write_error" => return parts::write_error(stage, alloc, told),
+        _ => return tell_message(stage, alloc, step, words, told),
+    }
+    Ok(())
+}
+
+/// The same of a step that makes or takes a message.
+fn tell_message(
+    stage: &mut Stage,
+    alloc: Global,
+    step: &str,
+    words: &mut Row<'_>,
+    told: &mut Told,
+) -> anyhow::Result<()> {
+    match step {
+        "as_request" => ask::as_request(stage, alloc, words, &NoKeys, told),
+        "tgs_request" => ask::tgs_request(stage, alloc, words, told),
+        "ap_request" => ask::ap_request(stage, alloc, words, told),
+        "asked" => ask::asked(stage, told),
+        "take_as_reply" => {
+            // A label may follow.
+            words.pass_rest();
+            take::as_reply(stage, alloc, &NoKeys, told)
+        }
+        "take_tgs_reply" => take::tgs_reply(stage, alloc, told),
+        "take_ap_reply" => take::ap_reply(stage, alloc, told),
+        "credential" => take::credential(stage, told),
+        "credential_times" => take::credential_times(stage, told),
+        "service" => services::service(stage, alloc, words, told),
+        "admit" => services::admit(stage, alloc, told),
+        "admit_times" => services::admit_times(stage, alloc, told),
+        "admit_nothing" => services::admit_nothing(stage, alloc, told),
+        "admit_twice" => services::admit_twice(stage, alloc, told),
+        "login" => login::login(stage, alloc, words, None, told),
+        "honest" => login::honest(stage, alloc, words, None, told),
+        _ => realms::tell_step(stage, alloc, step, words, told),
     }
 }
 
-fn set_moment(stage: &mut Stage, alloc: Global, words: &[&str]) -> anyhow::Result<String> {
-    let [second, micros] = words else {
-        bail!("moment SECOND MICROSECONDS");
-    };
-    let time = GeneralizedTime::from_text(second.as_bytes()).context("no time")?;
-    let micros = micros.parse::<u32>()?;
+fn set_moment(stage: &mut Stage, words: &mut Row<'_>) {
+    let second = second_of(words);
+    let micros = words.number::<u32>();
     if micros >= 1_000_000 {
-        bail!("more than a second");
+        words.refuse("more than a second");
+        return;
     }
-    stage.conditions.moment = Moment::at(time, micros);
-    Ok(String::new(alloc))
+    if let Some(second) = second {
+        stage.conditions.moment = Moment::at(second, micros);
+    }
 }
 
-fn set_till(stage: &mut Stage, alloc: Global, words: &[&str]) -> anyhow::Result<String> {
-    let [till] = words else {
-        bail!("till SECOND");
-    };
-    stage.conditions.till = GeneralizedTime::from_text(till.as_bytes()).context("no time")?;
-    Ok(String::new(alloc))
+fn set_till(stage: &mut Stage, words: &mut Row<'_>) {
+    if let Some(till) = second_of(words) {
+        stage.conditions.till = till;
+    }
 }
 
-fn set_random(stage: &mut Stage, alloc: Global, words: &[&str]) -> anyhow::Result<String> {
-    let [first, step] = words else {
-        bail!("random FIRST STEP");
-    };
+fn set_random(stage: &mut Stage, words: &mut Row<'_>) {
     stage.conditions.random = Random {
-        first: first.parse::<u8>()?,
-        step: step.parse::<u8>()?,
+        first: words.number::<u8>(),
+        step: words.number::<u8>(),
     };
-    Ok(String::new(alloc))
 }

@@ -1,44 +1,30 @@
 //! A client, and the replies that it takes.
 
 use crate::stage::Stage;
-use crate::told::{digits_of, done, ok, refused, sole_component, suite_key_text, times_text};
-use crate::words::{name_of, suite_of, text_of};
-use anyhow::{Context, bail};
-use krb_realm::{AskRefusal, CipherSuite, Client, Credential, KeyFunctions, TakeRefusal};
+use crate::told::{done, refused, sole_component, suite_key_text, times_text};
+use crate::words::suite_of;
+use anyhow::Context;
+use krb_realm::{AskRefusal, Client, Credential, KeyFunctions, TakeRefusal};
+use replay_rows::{Row, Told};
 use std::alloc::Global;
 
-pub(crate) fn client(stage: &mut Stage, alloc: Global, words: &[&str]) -> anyhow::Result<String> {
-    let [realm, name, suite, password] = words else {
-        bail!("client REALM NAME SUITE PASSWORD");
-    };
-    let suite = suite_of(suite)?;
-    let name = name_of(alloc, name)?;
-    make_client(stage, alloc, text_of(realm), &name, suite, password)
+/// Makes a client of this realm, name, suite and password.
+pub(crate) fn client(stage: &mut Stage, alloc: Global, words: &mut Row<'_>, told: &mut Told) {
+    let realm = words.text().as_bytes();
+    let name = words.name(alloc);
+    let suite = suite_of(words);
+    let password = words.word().as_bytes();
+    let made = Client::by_password(alloc, realm, &name, suite, password);
+    keep_client(stage, made, told);
 }
 
-fn make_client(
-    stage: &mut Stage,
-    alloc: Global,
-    realm: &str,
-    name: &[Vec<u8>],
-    suite: CipherSuite,
-    password: &str,
-) -> anyhow::Result<String> {
-    let made = Client::by_password(alloc, realm.as_bytes(), name, suite, password.as_bytes());
-    keep_client(stage, alloc, made)
-}
-
-pub(crate) fn keep_client(
-    stage: &mut Stage,
-    alloc: Global,
-    made: Result<Client, AskRefusal>,
-) -> anyhow::Result<String> {
+pub(crate) fn keep_client(stage: &mut Stage, made: Result<Client, AskRefusal>, told: &mut Told) {
     match made {
         Ok(client) => {
             drop(stage.client.replace(client));
-            ok(alloc)
+            told.put("ok");
         }
-        Err(refusal) => refused(alloc, &refusal),
+        Err(refusal) => refused(told, &refusal),
     }
 }
 
@@ -46,90 +32,77 @@ pub(crate) fn as_reply<K: KeyFunctions>(
     stage: &mut Stage,
     alloc: Global,
     keys: &K,
-) -> anyhow::Result<String> {
+    told: &mut Told,
+) -> anyhow::Result<()> {
     let asked = stage.asked.as_asked.as_ref().context("no AS request")?;
     let taken = stage
         .client()?
         .take_as_reply(alloc, asked, &stage.reply, keys);
-    keep(stage, alloc, taken)
+    keep(stage, taken, told);
+    Ok(())
 }
 
-pub(crate) fn tgs_reply(stage: &mut Stage, alloc: Global) -> anyhow::Result<String> {
+pub(crate) fn tgs_reply(stage: &mut Stage, alloc: Global, told: &mut Told) -> anyhow::Result<()> {
     let asked = stage.asked.tgs_asked.as_ref().context("no TGS request")?;
     let taken = stage.client()?.take_tgs_reply(alloc, asked, &stage.reply);
-    keep(stage, alloc, taken)
+    keep(stage, taken, told);
+    Ok(())
 }
 
-/// Keeps the credential that was taken, and returns its key.
-fn keep(
-    stage: &mut Stage,
-    alloc: Global,
-    taken: Result<Credential, TakeRefusal>,
-) -> anyhow::Result<String> {
+/// Keeps the credential that was taken, and tells its key.
+fn keep(stage: &mut Stage, taken: Result<Credential, TakeRefusal>, told: &mut Told) {
     match taken {
         Ok(credential) => {
+            told.octets(credential.key().as_bytes());
             drop(stage.credential.replace(credential));
-            key(stage, alloc)
         }
-        Err(refusal) => refused(alloc, &refusal),
+        Err(refusal) => refused(told, &refusal),
     }
 }
 
-fn key(stage: &Stage, alloc: Global) -> anyhow::Result<String> {
-    digits_of(alloc, stage.credential()?.key().as_bytes())
-}
-
-pub(crate) fn ap_reply(stage: &mut Stage, alloc: Global) -> anyhow::Result<String> {
+pub(crate) fn ap_reply(stage: &mut Stage, alloc: Global, told: &mut Told) -> anyhow::Result<()> {
     let taken = stage
         .client()?
         .take_ap_reply(alloc, stage.ap_asked()?, &stage.reply);
-    done(alloc, taken)
-}
-
-/// What the credential is, and its ticket.
-pub(crate) fn credential(stage: &Stage, alloc: Global) -> anyhow::Result<String> {
-    credential_text(alloc, stage.credential()?)
+    done(told, taken);
+    Ok(())
 }
 
 /// The times and flags of the credential's ticket.
-pub(crate) fn credential_times(stage: &Stage, alloc: Global) -> anyhow::Result<String> {
+pub(crate) fn credential_times(stage: &Stage, told: &mut Told) -> anyhow::Result<()> {
     let held = stage.credential()?;
     let (authtime, starttime) = (held.authtime(), held.starttime());
     times_text(
-        alloc,
+        told,
         authtime,
         starttime,
         held.endtime(),
         held.flags().as_bytes(),
-    )
+    );
+    Ok(())
 }
 
-fn credential_text(alloc: Global, credential: &Credential) -> anyhow::Result<String> {
-    let granted = granted_text(alloc, credential)?;
-    let ticket = ticket_text(alloc, credential)?;
-    let text = format!(in alloc; "{granted} {ticket}")?;
-    Ok(text)
+/// What the credential is, and its ticket.
+pub(crate) fn credential(stage: &Stage, told: &mut Told) -> anyhow::Result<()> {
+    let held = stage.credential()?;
+    sole_component(told, held.service());
+    told.put(" in ");
+    told.utf8(held.realm().as_bytes());
+    told.put(" key ");
+    suite_key_text(told, held.suite(), held.key().as_bytes());
+    ticket_text(told, held);
+    Ok(())
 }
 
-fn granted_text(alloc: Global, credential: &Credential) -> anyhow::Result<String> {
-    let realm = str::from_utf8(credential.realm().as_bytes())?;
-    let service = sole_component(credential.service())?;
-    let key = suite_key_text(alloc, credential.suite(), credential.key().as_bytes())?;
-    let text = format!(in alloc; "{service} in {realm} key {key}")?;
-    Ok(text)
-}
-
-fn ticket_text(alloc: Global, credential: &Credential) -> anyhow::Result<String> {
+fn ticket_text(told: &mut Told, credential: &Credential) {
     let ticket = &credential.ticket().0;
-    let realm = str::from_utf8(ticket.realm.0.as_bytes())?;
-    let service = sole_component(&ticket.sname.0)?;
-    let kind = ticket
-        .enc_part
-        .0
-        .etype
-        .0
-        .to_i64()
-        .context("a suite of more than 64 bits")?;
-    let text = format!(in alloc; "ticket for {service} in {realm} sealed by {kind}")?;
-    Ok(text)
+    told.put(" ticket for ");
+    sole_component(told, &ticket.sname.0);
+    told.put(" in ");
+    told.utf8(ticket.realm.0.as_bytes());
+    told.put(" sealed by ");
+    match ticket.enc_part.0.etype.0.to_i64() {
+        Some(kind) => told.show(&kind),
+        None => told.put("a suite of more than 64 bits"),
+    }
 }

@@ -1,33 +1,24 @@
 //! What words of a line represent.
 
-use anyhow::Context;
-use krb_realm::CipherSuite;
-use std::alloc::Global;
+use krb_realm::{CipherSuite, GeneralizedTime};
+use replay_rows::Row;
 
-/// The text of a word, `-` for none.
-pub(crate) fn text_of(word: &str) -> &str {
-    if word == "-" { "" } else { word }
-}
-
-/// The bytes of these digits, `-` for none.
-pub(crate) fn bytes_of(alloc: Global, word: &str) -> anyhow::Result<Vec<u8>> {
-    Ok(hex::decode(alloc, text_of(word))?)
-}
-
-/// The components between slashes, `-` for none.
-pub(crate) fn name_of(alloc: Global, word: &str) -> anyhow::Result<Vec<Vec<u8>>> {
-    let mut name = Vec::new(alloc);
-    if word == "-" {
-        return Ok(name);
+/// The suite of the next word's number.
+pub(crate) fn suite_of(words: &mut Row<'_>) -> CipherSuite {
+    match CipherSuite::try_from(words.number::<usize>()) {
+        Ok(suite) => suite,
+        Err(_) => {
+            words.refuse("no suite");
+            CipherSuite::Aes256CtsHmacSha196
+        }
     }
-    for component in word.split('/') {
-        name.push(Vec::from_slice(alloc, component.as_bytes())?)?;
-    }
-    Ok(name)
 }
 
-/// The suite of this number.
-pub(crate) fn suite_of(word: &str) -> anyhow::Result<CipherSuite> {
-    let number = word.parse::<usize>()?;
-    CipherSuite::try_from(number).ok().context("no suite")
+/// The second of the next word.
+pub(crate) fn second_of(words: &mut Row<'_>) -> Option<GeneralizedTime> {
+    let second = GeneralizedTime::from_text(words.word().as_bytes());
+    if second.is_none() {
+        words.refuse("no second");
+    }
+    second
 }
