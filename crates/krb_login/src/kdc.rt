@@ -20,7 +20,10 @@ pub(crate) struct Kdc<'a> {
     reader: Watched<BufReader<Stdin>>,
     writer: Watched<Stdout>,
     words: File,
-    settings: Settings<'a>,
+    /// The path of the random octets.
+    words_path: &'a str,
+    /// The moment of each request, if it isn't the clock's.
+    set_moment: Option<Moment>,
 }
 
 /// The moment of a request, and its random octets.
@@ -42,7 +45,8 @@ impl<'a> Kdc<'a> {
             reader: Watched::new(input),
             writer: Watched::new(rt.stdout()),
             words,
-            settings: *settings,
+            words_path: settings.words,
+            set_moment: settings.moment,
         })
     }
 
@@ -58,7 +62,7 @@ impl<'a> Kdc<'a> {
                 alloc,
                 format_args!(
                     "{}: expected 96 random octets for each request",
-                    self.settings.words
+                    self.words_path
                 ),
             ));
         }
@@ -66,7 +70,7 @@ impl<'a> Kdc<'a> {
     }
 
     fn moment(&self) -> Result<Moment, Stop> {
-        let moment = match self.settings.moment {
+        let moment = match self.set_moment {
             Some(moment) => Some(moment),
             None => now(self.rt),
         };
