@@ -100,8 +100,12 @@ def reply_of(stream):
     return got[4:]
 
 
-def over_tcp(port, asked, source=HOST, seconds=10):
-    with socket.create_connection((HOST, port), seconds, (source, 0)) as stream:
+# A connection keeps its port of the client's address for a minute after its end, so clients come from many addresses in turn.
+SOURCES = itertools.cycle(f"127.0.0.{number}" for number in range(2, 250))
+
+
+def over_tcp(port, asked, source=None, seconds=10):
+    with socket.create_connection((HOST, port), seconds, (source or next(SOURCES), 0)) as stream:
         stream.sendall(kdc.framed(asked))
         return reply_of(stream)
 
