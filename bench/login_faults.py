@@ -14,6 +14,8 @@ CRATE = os.path.join(TOP, "crates", "krb_login")
 OLD = b"the old cache"
 # What is on disk although the status isn't 0.
 WRITTEN = re.compile(r"krb_login: cache is written, but a crash may undo it: ")
+# What the system's loader says before the program begins, with status 127.
+OF_LOADER = re.compile(r".*: error while loading shared libraries: ")
 OF_MEMORY = re.compile(r"krb_login: .*[Oo]ut of memory|krb_login: .*Cannot allocate memory")
 # What a program of the C library calls before and behind its own code: a fault there isn't the program's.
 NOT_OURS = {"execve", "brk", "mmap", "munmap", "mprotect", "arch_prctl", "set_tid_address", "set_robust_list", "rseq", "prlimit64", "exit_group"}
@@ -62,7 +64,7 @@ class Ended:
             return "cache.new was left"
         if self.status == 0 and self.cache != new:
             return "status 0 with the old cache"
-        if may_be_left:
+        if may_be_left or self.status == 127 and self.lines and OF_LOADER.match(self.lines[0]):
             return None
         if self.status not in (0, 1, 2) or len(self.lines) > (self.status != 0):
             return f"status {self.status} with the lines {self.lines}"
