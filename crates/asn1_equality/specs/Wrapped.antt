@@ -16,7 +16,7 @@ use Rattle.picky_asn1_der.specs.declared.default.DefaultField.{DefaultField}
 use Rattle.picky_asn1_der.specs.declared.implicit_tag.ImplicitContextTag.{ImplicitContextTag}
 use Rattle.picky_asn1_der.specs.declared.wrapper.ExplicitContextTag.{ExplicitContextTag}
 use Rattle.picky_asn1_der.specs.declared.retagged.Retagged.{Retagged}
-use Rattle.x509_open_types.specs.declared.enclosed.Explicit.{Explicit}
+use Rattle.x509_spelling.specs.declared.enclosed.Explicit.{Explicit}
 use Rattle.x509_spelling.specs.declared.default_false.DefaultFalse.{DefaultFalse}
 use Rattle.x509_spelling.specs.declared.fixed_number.FixedNumber.{FixedNumber}
 use Rattle.x509_spelling.specs.declared.strict.Strict.{Strict}

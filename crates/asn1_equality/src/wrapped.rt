@@ -10,8 +10,7 @@ use picky_asn1_der::{
     OctetPair, OctetStringContainer, Optional, Retagged,
 };
 use x509_extensions::SpelledList;
-use x509_open_types::Explicit;
-use x509_spelling::{DefaultFalse, FixedNumber, Strict};
+use x509_spelling::{DefaultFalse, Explicit, FixedNumber, Strict};
 
 impl<T: Equality> Equality for Option<T> {
     ghost is_equality = { options T.is_equality };

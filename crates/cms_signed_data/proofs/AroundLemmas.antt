@@ -7,16 +7,16 @@ use Rattle.asn1_der.proofs.Leaf.{der-leaf}
 use Rattle.asn1_elements.specs.PathLaws.{IsElement, AreSome, LeadsTo, LeadsIn, in_element, some_more, at_front, behind_front, go_on, part_there, held_at, second_at}
 use Rattle.x509_certificates.specs.declared.certificate.Certificate.{Certificate}
 use Rattle.key_functions.specs.declared.functions.Signed.{Signed}
-use Rattle.cms_types.specs.PartSpellings.{PartSpellings}
-use Rattle.cms_types.specs.Parts.{certificate_place, AreDigests, AreCertificates, AreSigners, IsSignedData, IsTagged, digests_are, certificates_are, signers_are, tagged_are, signed_are}
-use Rattle.cms_types.specs.SignedRows.{signer_row, signed_row, content_row}
-use Rattle.cms_types.specs.SpelledElements.{Ends, Row, in_front}
-use Rattle.cms_types.specs.contracts.content_info.ContentInfoSpelled.TheImpl as content_info
-use Rattle.cms_types.specs.contracts.form.ContentInfoOfForm.TheImpl as of_form
-use Rattle.cms_types.specs.contracts.signer_info.SignerInfoSpelled.TheImpl as signer_info
-use Rattle.cms_types.specs.declared.signed_attributes.SignedAttributes.{SignedAttributes}
-use Rattle.cms_types.specs.declared.signer_info.IssuerAndSerialNumber.{IssuerAndSerialNumber}
-use Rattle.cms_types.specs.declared.signer_info.SignerInfo.{SignerInfo}
+use Rattle.cms_signed_data.specs.PartSpellings.{PartSpellings}
+use Rattle.cms_signed_data.specs.Parts.{certificate_place, AreDigests, AreCertificates, AreSigners, IsSignedData, IsTagged, digests_are, certificates_are, signers_are, tagged_are, signed_are}
+use Rattle.cms_signed_data.specs.SignedRows.{signer_row, signed_row, content_row}
+use Rattle.cms_signed_data.specs.SpelledElements.{Ends, Row, in_front}
+use Rattle.cms_signed_data.specs.contracts.content_info.ContentInfoSpelled.TheImpl as content_info
+use Rattle.cms_signed_data.specs.contracts.form.ContentInfoOfForm.TheImpl as of_form
+use Rattle.cms_signed_data.specs.contracts.signer_info.SignerInfoSpelled.TheImpl as signer_info
+use Rattle.cms_signed_data.specs.declared.signed_attributes.SignedAttributes.{SignedAttributes}
+use Rattle.cms_signed_data.specs.declared.signer_info.IssuerAndSerialNumber.{IssuerAndSerialNumber}
+use Rattle.cms_signed_data.specs.declared.signer_info.SignerInfo.{SignerInfo}
 use Rattle.cms_signed_data.specs.Around.{IsDataAround, IsInfoAround}
 use Rattle.cms_signed_data.specs.Assembled.{assembled_signer, assembled_data, assembled}
 use Rattle.cms_signed_data.specs.Written.{sha256_algorithm, signer_of, encapsulated_of, data_with, info_with}

@@ -8,9 +8,9 @@ use Rattle.asn1_elements.specs.PartLaws.{part-one}
 use Rattle.x509_codec.specs.Answers.{ReadsSpelling}
 use Rattle.x509_spelling.specs.declared.fault.X509Fault.{X509Fault}
 use Rattle.x509_spelling.specs.declared.fault.X509Fault.TheVariants as x509
-use Rattle.cms_types.specs.Parts.{certificate_place, attributes_place}
-use Rattle.cms_types.specs.contracts.content_info.ContentInfoSpelled.TheImpl as content_info
-use Rattle.cms_types.specs.declared.content_info.ContentInfo.{ContentInfo}
+use Rattle.cms_signed_data.specs.Parts.{certificate_place, attributes_place}
+use Rattle.cms_signed_data.specs.contracts.content_info.ContentInfoSpelled.TheImpl as content_info
+use Rattle.cms_signed_data.specs.declared.content_info.ContentInfo.{ContentInfo}
 use Rattle.cms_signed_data.specs.Faults.{fault_of}
 use Rattle.cms_signed_data.specs.SignedContents.{IsOfForm, IsSignedContent, Reads}
 use Rattle.cms_signed_data.specs.SignedLaws.{read_is}

@@ -12,8 +12,8 @@ use Rattle.x509_parts.specs.contracts.raw_algorithm_identifier.RawAlgorithmIdent
 use Rattle.x509_parts.specs.contracts.raw_algorithm_identifier.RawAlgorithmIdentifierSpelled.TheImpl as raw_spelled
 use Rattle.x509_parts.specs.declared.raw_algorithm_identifier.RawAlgorithmIdentifier.{RawAlgorithmIdentifier}
 use Rattle.x509_spelling.specs.Spellings.{IsExact}
-use Rattle.cms_types.specs.contracts.encapsulated_content_info.EncapsulatedContentInfoTagged.TheImpl as encapsulated_impl
-use Rattle.cms_types.specs.declared.encapsulated_content_info.EncapsulatedContentInfo.{EncapsulatedContentInfo}
+use Rattle.cms_signed_data.specs.contracts.encapsulated_content_info.EncapsulatedContentInfoTagged.TheImpl as encapsulated_impl
+use Rattle.cms_signed_data.specs.declared.encapsulated_content_info.EncapsulatedContentInfo.{EncapsulatedContentInfo}
 use Rattle.cms_signed_data.proofs.WholeLemmas.{oid_whole, id_whole}
 use Rattle.x509_certificates.specs.contracts.certificate.CertificateSpelled.TheImpl as certificate
 use Rattle.x509_codec.specs.Answers.{ReadsSpelling}
@@ -26,10 +26,10 @@ use Rattle.cms_signed_attributes.specs.Covered.{as_set}
 use Rattle.cms_signed_data.specs.SignedParts.{attributes_tree}
 use Rattle.cms_signed_data.specs.Written.{sha256_algorithm, encapsulated_of, attributes_of, signed_bytes, id_of, id_tree, signer_of, IsWritten, IsUnsigned, IsNoCertificate}
 use Rattle.key_functions.specs.declared.functions.Signed.{Signed}
-use Rattle.cms_types.specs.contracts.signer_info.SignerInfoSpelled.TheImpl as signer_info
-use Rattle.cms_types.specs.declared.signed_attributes.SignedAttributes.{SignedAttributes}
-use Rattle.cms_types.specs.declared.signer_info.IssuerAndSerialNumber.{IssuerAndSerialNumber}
-use Rattle.cms_types.specs.declared.signer_info.SignerInfo.{SignerInfo}
+use Rattle.cms_signed_data.specs.contracts.signer_info.SignerInfoSpelled.TheImpl as signer_info
+use Rattle.cms_signed_data.specs.declared.signed_attributes.SignedAttributes.{SignedAttributes}
+use Rattle.cms_signed_data.specs.declared.signer_info.IssuerAndSerialNumber.{IssuerAndSerialNumber}
+use Rattle.cms_signed_data.specs.declared.signer_info.SignerInfo.{SignerInfo}
 use Rattle.cms_signed_data.specs.declared.fault.SignedFault.TheVariants.{Unreadable, Memory}
 
 fault_cases : (fault : X509Fault) → (fault_of fault ≡ Memory) ⊎ (fault_of fault ≡ Unreadable)

@@ -3,10 +3,10 @@ use Rattle.std.specs.Prelude.{ℕ, List, [], ◌∷◌}
 use Rattle.asn1_elements.specs.Parts.{IsPart}
 use Rattle.asn1_elements.specs.PathLaws.{LeadsTo}
 use Rattle.x509_certificates.specs.declared.certificate.Certificate.{Certificate}
-use Rattle.cms_types.specs.contracts.content_info.ContentInfoSpelled.TheImpl as content_info
-use Rattle.cms_types.specs.contracts.signed_data.SignedDataSpelled.TheImpl as signed_data
-use Rattle.cms_types.specs.declared.signer_info.SignerInfo.{SignerInfo}
-use Rattle.cms_types.specs.Parts.{certificate_place}
+use Rattle.cms_signed_data.specs.contracts.content_info.ContentInfoSpelled.TheImpl as content_info
+use Rattle.cms_signed_data.specs.contracts.signed_data.SignedDataSpelled.TheImpl as signed_data
+use Rattle.cms_signed_data.specs.declared.signer_info.SignerInfo.{SignerInfo}
+use Rattle.cms_signed_data.specs.Parts.{certificate_place}
 use Rattle.cms_signed_data.specs.Written.{data_with, info_with}
 
 pub record IsDataAround (content_type content : List ℕ) (value : Certificate) (n : ℕ) (signer : SignerInfo) (given bytes : List ℕ) : Type 0 where

@@ -7,3 +7,8 @@ pub mod SignedLaws
 pub mod SignedParts
 pub mod Written
 pub mod WrittenLaws
+pub mod Form
+pub mod Parts
+pub mod PartSpellings
+pub mod SignedRows
+pub mod SpelledElements

@@ -1,8 +1,8 @@
 -- Slices that are parts of signed data.
 use Rattle.std.specs.Prelude.{◌≡◌, ℕ, List}
 use Rattle.asn1_elements.specs.Parts.{IsPart}
-use Rattle.cms_types.specs.Parts.{certificate_place, attributes_place}
-use Rattle.cms_types.specs.declared.content_info.ContentInfo.{ContentInfo}
+use Rattle.cms_signed_data.specs.Parts.{certificate_place, attributes_place}
+use Rattle.cms_signed_data.specs.declared.content_info.ContentInfo.{ContentInfo}
 use Rattle.cms_signed_data.specs.declared.slices.Slices.{Slices}
 use Rattle.cms_signed_data.specs.SignedParts.{content_of, digest_of, signature_of}
 

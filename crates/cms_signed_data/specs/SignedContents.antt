@@ -1,10 +1,10 @@
 -- Signed content, and what is borrowed of it (RFC 5652, section 5).
 use Rattle.std.specs.Prelude.{◌≡◌, ◌↔◌, ◌⊎◌, ℕ, List, Result, Ok, Err, IsTrue}
 use Rattle.asn1_elements.specs.Parts.{IsPart}
-use Rattle.cms_types.specs.contracts.content_info.ContentInfoSpelled.TheImpl as content_info
-use Rattle.cms_types.specs.declared.content_info.ContentInfo.{ContentInfo}
-use Rattle.cms_types.specs.Form.{has_form}
-use Rattle.cms_types.specs.Parts.{certificate_place, attributes_place}
+use Rattle.cms_signed_data.specs.contracts.content_info.ContentInfoSpelled.TheImpl as content_info
+use Rattle.cms_signed_data.specs.declared.content_info.ContentInfo.{ContentInfo}
+use Rattle.cms_signed_data.specs.Form.{has_form}
+use Rattle.cms_signed_data.specs.Parts.{certificate_place, attributes_place}
 use Rattle.cms_signed_data.specs.declared.fault.SignedFault.{SignedFault}
 use Rattle.cms_signed_data.specs.declared.fault.SignedFault.TheVariants.{Memory}
 use Rattle.cms_signed_data.specs.SignedParts.{SignedParts}

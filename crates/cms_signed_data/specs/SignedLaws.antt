@@ -7,8 +7,8 @@ use Rattle.asn1_elements.specs.Parts.{IsPart}
 use Rattle.asn1_elements.specs.PartLaws.{part-one}
 use Rattle.asn1_elements.specs.PathLaws.{part_there}
 use Rattle.x509_certificates.specs.contracts.certificate.CertificateSpelled.TheImpl as certificate
-use Rattle.cms_types.specs.contracts.content_info.ContentInfoSpelled.TheImpl as content_info
-use Rattle.cms_types.specs.Parts.{content_place, certificate_place, attributes_place, digest_place, signature_place, parts_held}
+use Rattle.cms_signed_data.specs.contracts.content_info.ContentInfoSpelled.TheImpl as content_info
+use Rattle.cms_signed_data.specs.Parts.{content_place, certificate_place, attributes_place, digest_place, signature_place, parts_held}
 use Rattle.cms_signed_data.specs.declared.fault.SignedFault.{SignedFault}
 use Rattle.cms_signed_data.specs.declared.fault.SignedFault.TheVariants.{Memory}
 use Rattle.cms_signed_data.specs.SignedParts.{SignedParts, content_of, digest_of, signature_of, attributes_tree}

@@ -2,9 +2,9 @@
 use Rattle.std.specs.Prelude.{ℕ, List}
 use Rattle.asn1_der.specs.Tree.{Tree}
 use Rattle.asn1_der.specs.Tagged.{tagged_tree}
-use Rattle.cms_types.specs.contracts.signed_attributes.SignedAttributesTagged.TheImpl as attributes_impl
-use Rattle.cms_types.specs.declared.content_info.ContentInfo.{ContentInfo}
-use Rattle.cms_types.specs.declared.signed_attributes.SignedAttributes.{SignedAttributes}
+use Rattle.cms_signed_data.specs.contracts.signed_attributes.SignedAttributesTagged.TheImpl as attributes_impl
+use Rattle.cms_signed_data.specs.declared.content_info.ContentInfo.{ContentInfo}
+use Rattle.cms_signed_data.specs.declared.signed_attributes.SignedAttributes.{SignedAttributes}
 
 -- Signed data, with the octets of its certificate and of its signed attributes as they are in the input (RFC 5652, section 5).
 pub record SignedParts : Type 0 where

@@ -10,15 +10,15 @@ use Rattle.x509_oids.specs.Identifiers as oids
 use Rattle.x509_parts.specs.RawParameters.{null}
 use Rattle.x509_parts.specs.declared.raw_algorithm_identifier.RawAlgorithmIdentifier.{RawAlgorithmIdentifier}
 use Rattle.key_functions.specs.declared.functions.Signed.{Signed}
-use Rattle.cms_types.specs.contracts.content_info.ContentInfoSpelled.TheImpl as content_info
-use Rattle.cms_types.specs.contracts.signer_info.IssuerAndSerialNumberTagged.TheImpl as id_impl
-use Rattle.cms_types.specs.declared.content_info.ContentInfo.{ContentInfo}
-use Rattle.cms_types.specs.declared.encapsulated_content_info.EncapsulatedContentInfo.{EncapsulatedContentInfo}
-use Rattle.cms_types.specs.declared.signed_attributes.SignedAttributes.{SignedAttributes}
-use Rattle.cms_types.specs.declared.signed_data.SignedData.{SignedData}
-use Rattle.cms_types.specs.declared.signer_info.IssuerAndSerialNumber.{IssuerAndSerialNumber}
-use Rattle.cms_types.specs.declared.signer_info.SignerInfo.{SignerInfo}
-use Rattle.cms_types.specs.Parts.{certificate_place}
+use Rattle.cms_signed_data.specs.contracts.content_info.ContentInfoSpelled.TheImpl as content_info
+use Rattle.cms_signed_data.specs.contracts.signer_info.IssuerAndSerialNumberTagged.TheImpl as id_impl
+use Rattle.cms_signed_data.specs.declared.content_info.ContentInfo.{ContentInfo}
+use Rattle.cms_signed_data.specs.declared.encapsulated_content_info.EncapsulatedContentInfo.{EncapsulatedContentInfo}
+use Rattle.cms_signed_data.specs.declared.signed_attributes.SignedAttributes.{SignedAttributes}
+use Rattle.cms_signed_data.specs.declared.signed_data.SignedData.{SignedData}
+use Rattle.cms_signed_data.specs.declared.signer_info.IssuerAndSerialNumber.{IssuerAndSerialNumber}
+use Rattle.cms_signed_data.specs.declared.signer_info.SignerInfo.{SignerInfo}
+use Rattle.cms_signed_data.specs.Parts.{certificate_place}
 use Rattle.cms_signed_attributes.specs.Covered.{as_set}
 use Rattle.cms_signed_data.specs.SignedParts.{attributes_tree}
 use Rattle.asn1_der.specs.Octets.{sequence_octet}

@@ -8,8 +8,8 @@ use Rattle.asn1_der.specs.Tree.{der}
 use Rattle.asn1_elements.specs.Parts.{IsPart}
 use Rattle.asn1_elements.specs.PathLaws.{part_there}
 use Rattle.key_functions.specs.declared.functions.Signed.{Signed}
-use Rattle.cms_types.specs.Form.{has_form, is_signed, is_signer, is_sha256, are_attributes}
-use Rattle.cms_types.specs.Parts.{attributes_place, parts_held}
+use Rattle.cms_signed_data.specs.Form.{has_form, is_signed, is_signer, is_sha256, are_attributes}
+use Rattle.cms_signed_data.specs.Parts.{attributes_place, parts_held}
 use Rattle.cms_signed_data.specs.declared.fault.SignedFault.{SignedFault}
 use Rattle.cms_signed_data.specs.declared.fault.SignedFault.TheVariants.{Memory}
 use Rattle.cms_signed_data.specs.SignedParts.{SignedParts, attributes_tree}

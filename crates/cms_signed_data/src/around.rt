@@ -1,13 +1,13 @@
 //! Signed data around a certificate's bytes.
 ghost use Rattle.std.specs.Prelude.{◌≡◌, ℕ, IfOk};
 ghost use Rattle.x509_certificates.specs.declared.certificate.Certificate.{Certificate};
-ghost use Rattle.cms_types.specs.declared.signer_info.SignerInfo.{SignerInfo};
+ghost use Rattle.cms_signed_data.specs.declared.signer_info.SignerInfo.{SignerInfo};
 ghost use Rattle.cms_signed_data.specs.Around.{IsDataAround, IsInfoAround};
 
+use crate::SignerInfo;
 use crate::assembling::{element_of, sequence_of, spelled};
 use crate::written_parts::{encapsulated_bytes, sha256_bytes, signed_data_oid};
 use asn1_der::octets::SET;
-use cms_types::SignerInfo;
 use picky_asn1::oid::ObjectIdentifier;
 use std::alloc::{AllocError, Global};
 use x509_certificates::Certificate;

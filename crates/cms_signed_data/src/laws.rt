@@ -4,7 +4,7 @@ ghost use Rattle.asn1_der.specs.Length.{element};
 ghost use Rattle.asn1_der.specs.Tree.{der};
 ghost use Rattle.asn1_elements.specs.Parts.{IsPart};
 ghost use Rattle.key_functions.specs.declared.functions.Signed.{Signed};
-ghost use Rattle.cms_types.specs.Parts.{content_place, digest_place, signature_place};
+ghost use Rattle.cms_signed_data.specs.Parts.{content_place, digest_place, signature_place};
 ghost use Rattle.cms_signed_data.specs.SignedContents.{IsSignedContent, Reads};
 ghost use Rattle.cms_signed_data.specs.WrittenLaws.{written_parts};
 ghost use Rattle.cms_signed_data.specs.SignedParts.{SignedParts, content_of, digest_of, signature_of, attributes_tree};

@@ -1,10 +1,15 @@
-//! Signed content (RFC 5652): read from bytes with the slices that a signature covers, and written around a certificate.
+//! Signed data of the Cryptographic Message Syntax (RFC 5652, section 5), of the one form that PKINIT needs: one content, one
+//! certificate, one signer, SHA-256, and the signed attributes content-type and message-digest.
 //!
-//! [`SignedContent::read`] takes the one form of signed data that PKINIT needs (`cms_types`). It borrows content,
-//! certificate, signed attributes, digest and signature from the bytes. Whether the signature verifies, and whether the digest
-//! is the content's, is for the caller to judge.
+//! The types are read like those of X.509: the certificate and the algorithms may deviate from DER, and the deviations are
+//! counted. [`OfForm`] judges what the types leave open: versions, identifiers and algorithms.
 //!
-//! The parts are returned exactly where the bytes are signed content of the one form (`SignedContent::read`). Each slice is the part of the
+//! [`SignedContent::read`] takes signed data of that form. It borrows content, certificate, signed attributes, digest and signature
+//! from the bytes. Whether the signature verifies, and whether the digest is the content's, is for the caller to judge.
+//!
+//! Each type is read from each accepted spelling, its deviations are counted, and it is written in DER (`Spelled`). `OfForm::is_of_form`
+//! is true exactly of the values of the one form (`has_form`). The places of certificate, content, signed attributes, digest and signature
+//! in the bytes follow from the spelling (law `parts_held` in `specs/`). The parts are returned exactly where the bytes are signed content of the one form (`SignedContent::read`). Each slice is the part of the
 //! input at its path, and `judged` is the part of the signed attributes with the first octet 31. `SignedContent::write` writes that form
 //! around the given certificate's own bytes, and it is read back (law `written_is_read`). Its `None` says that the party doesn't sign, and
 //! `Unreadable` that the bytes are no certificate.
@@ -12,11 +17,25 @@
 
 mod around;
 mod assembling;
+mod content_info;
+mod encapsulated_content_info;
 mod fault;
+mod form;
 pub mod laws;
+mod set_of_one;
+mod signed_attributes;
 mod signed_content;
+mod signed_data;
+mod signer_info;
 mod slices;
 mod written_parts;
 
+pub use content_info::ContentInfo;
+pub use encapsulated_content_info::EncapsulatedContentInfo;
 pub use fault::SignedFault;
+pub use form::OfForm;
+pub use set_of_one::SetOfOne;
+pub use signed_attributes::{ContentTypeAttribute, MessageDigestAttribute, SignedAttributes};
 pub use signed_content::SignedContent;
+pub use signed_data::SignedData;
+pub use signer_info::{IssuerAndSerialNumber, SignerInfo};

@@ -2,11 +2,11 @@
 ghost use Rattle.std.specs.Prelude.{◌≡◌, ℕ, List, IsSomeAnd, MatchOption};
 ghost use Rattle.asn1_der.specs.Length.{element};
 ghost use Rattle.asn1_elements.specs.Parts.{IsPart};
-ghost use Rattle.cms_types.specs.declared.content_info.ContentInfo.{ContentInfo};
+ghost use Rattle.cms_signed_data.specs.declared.content_info.ContentInfo.{ContentInfo};
 ghost use Rattle.asn1_der.specs.Octets.{octet_string_octet};
 
+use crate::ContentInfo;
 use asn1_elements::part_at;
-use cms_types::ContentInfo;
 use x509_spelling::{Spelled, content_of};
 
 /// Parts of signed data, borrowed from its bytes.

@@ -3,15 +3,15 @@ ghost use Rattle.std.specs.Prelude.{◌≡◌, ◌⊎◌, ℕ, IfOk, MatchResult
 ghost use Rattle.sha2.specs.Sha256.{sha256};
 ghost use Rattle.asn1_der.specs.Tree.{IsWhole, der};
 ghost use Rattle.x509_certificates.specs.declared.certificate.Certificate.{Certificate};
-ghost use Rattle.cms_types.specs.declared.signed_attributes.SignedAttributes.{SignedAttributes};
-ghost use Rattle.cms_types.specs.declared.signer_info.IssuerAndSerialNumber.{IssuerAndSerialNumber};
+ghost use Rattle.cms_signed_data.specs.declared.signed_attributes.SignedAttributes.{SignedAttributes};
+ghost use Rattle.cms_signed_data.specs.declared.signer_info.IssuerAndSerialNumber.{IssuerAndSerialNumber};
 ghost use Rattle.cms_signed_data.specs.SignedParts.{attributes_tree};
 ghost use Rattle.cms_signed_data.specs.Written.{sha256_algorithm, attributes_of, id_of, id_tree, encapsulated_of, signer_of, IsNoCertificate};
 ghost use Rattle.x509_oids.specs.Identifiers as oids;
 
 use crate::assembling::{der_of, sequence_of, spelled};
 use crate::fault::SignedFault;
-use cms_types::{
+use crate::{
     ContentTypeAttribute, EncapsulatedContentInfo, IssuerAndSerialNumber, MessageDigestAttribute,
     SetOfOne, SignedAttributes, SignerInfo,
 };

@@ -3,7 +3,7 @@ ghost use Rattle.std.specs.Prelude.{◌≡◌, ◌<◌, ◌^◌, ℕ, List, [], 
 ghost use Rattle.asn1_elements.specs.Parts.{IsPart};
 ghost use Rattle.cms_signed_data.specs.SignedContents.{IsSignedContent};
 ghost use Rattle.cms_signed_data.specs.SignedParts.{SignedParts};
-ghost use Rattle.cms_types.specs.Parts.{attributes_place, certificate_place};
+ghost use Rattle.cms_signed_data.specs.Parts.{attributes_place, certificate_place};
 ghost use Rattle.aes_cts.specs.Bytes.{IsBytes};
 ghost use Rattle.decision_tables.specs.Some.{HasSome};
 ghost use Rattle.key_functions.specs.KeyFunctions.{KeysRecord};

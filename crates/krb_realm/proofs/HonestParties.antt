@@ -5,7 +5,7 @@ use Rattle.key_functions.specs.KeyFunctions.{KeysRecord}
 use Rattle.krb_client.specs.Client.{ClientRecord}
 use Rattle.krb_service.specs.Service.{ServiceRecord}
 use Rattle.krb_logins.specs.Parties.{LoginRecord, RealmRecord, RememberedRecord}
-use Rattle.pkinit_logins.specs.HonestByCertificate.{IsHonestByCertificate}
+use Rattle.krb_realm.specs.HonestByCertificate.{IsHonestByCertificate}
 use Rattle.pkinit_trust.specs.Anchors.{AnchorRecord}
 use Rattle.pkinit_requests.specs.Trust.{TrustRecord}
 

@@ -7,3 +7,12 @@ mod ClientMeans
 mod Asking
 mod LoginMeans
 mod MadeClients
+mod Rows
+mod Honesty
+pub mod Shown
+mod Wholeness
+pub mod Writable
+pub mod Trusting
+pub mod Granted
+pub mod Taken
+pub mod ByCertificate

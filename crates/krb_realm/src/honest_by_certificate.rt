@@ -5,9 +5,10 @@ ghost use Rattle.krb_logins.specs.Input.{login_of};
 ghost use Rattle.krb_realm.specs.Clients.{ByCertificate};
 ghost use Rattle.krb_ap_exchange.specs.ApExchanges.{remembered};
 ghost use Rattle.krb_realm.specs.Logins.{realm_record};
-ghost use Rattle.pkinit_logins.specs.HonestByCertificate.{IsHonestByCertificate};
+ghost use Rattle.krb_realm.specs.HonestByCertificate.{IsHonestByCertificate};
 ghost use Rattle.pkinit_trust.specs.Anchors.{AnchorRecord};
 
+use crate::certified_honesty::is_certified_login_honest;
 use crate::client::Client;
 use crate::client_means::{Held, by_certificate};
 use key_functions::KeyFunctions;
@@ -41,9 +42,7 @@ pub fn is_honest_by_certificate<C: KeyFunctions, R: KeyFunctions>(
         Held::Key(_) => false,
         Held::Certificate(certificate, anchor) => {
             let means = by_certificate(certificate, anchor, client_keys);
-            pkinit_logins::is_honest_by_certificate(
-                alloc, asking, &means, &call, &own, service, input,
-            )
+            is_certified_login_honest(alloc, asking, &means, &call, &own, service, input)
         }
     }
 }

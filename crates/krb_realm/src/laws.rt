@@ -9,6 +9,7 @@ ghost use Rattle.krb_realm.specs.Clients.{means_of};
 ghost use Rattle.krb_service.specs.Service.{ServiceRecord};
 ghost use Rattle.pkinit_requests.specs.PkinitRows.{pkinit_rows};
 
+pub use crate::certified_laws::{agreement_granted, agreement_taken, one_key_by_certificate};
 use crate::client::Client;
 use key_functions::KeyFunctions;
 pub use krb_crypto::laws::has_sealed;
@@ -26,7 +27,6 @@ pub use krb_service::laws::{
     once_for_ever, one_outcome, refused_by_moment_alone,
 };
 pub use pkinit_clients::laws::reply_verified_is_part;
-pub use pkinit_logins::laws::{agreement_granted, agreement_taken, one_key_by_certificate};
 
 /// A login of this client at a realm with these settings, with their key functions, has one outcome: what it answers, and what the
 /// service remembers after it. The only exception is running out of memory. It does nothing when it runs: its contract is the law.

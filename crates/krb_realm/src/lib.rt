@@ -10,11 +10,18 @@
 //! A client requests and takes replies as its means say, those of its password or of its certificate (`means_of`). A whole login is a
 //! run of client, realm and service on every input, and the first refusal ends it (`LoginRun`). Every login has one outcome (law
 //! `one_login`). An honest login ends with one session key at client and service, under the client's name (`IsOneKey`). A login that is
-//! told to be honest is honest (`is_honest_by_password`, `is_honest_by_certificate`).
+//! told to be honest is honest (`is_honest_by_password`, `is_honest_by_certificate`). In an honest AS exchange by certificate the
+//! client has a request, the realm grants it (law `agreement_granted`), and the client takes the reply's secret (law
+//! `agreement_taken`). An honest login by certificate ends with one session key, or memory runs out (law `one_key_by_certificate`).
+//! `IsHonestByCertificate` requires of the key functions that, in this login, each party accepts the other's certificate and
+//! signature, and both come to one secret.
 #![tactic(auto)]
 
+mod certified_honesty;
+mod certified_laws;
 mod client;
 mod client_means;
+mod exchange;
 mod honest;
 mod honest_by_certificate;
 pub mod laws;

@@ -12,9 +12,10 @@ ghost use Rattle.krb_realm.specs.Logins.{Answer, AsAsk, AsTake, TgsAsk, TgsTake,
 ghost use Rattle.krb_realm.specs.Clients.{ByCertificate, ByKey, means_of};
 ghost use Rattle.key_functions.specs.KeyFunctions.{no_functions};
 ghost use Rattle.krb_crypto.specs.Keys.{KeyRecord};
-ghost use Rattle.pkinit_logins.specs.HonestByCertificate.{IsHonestByCertificate};
+ghost use Rattle.krb_realm.specs.HonestByCertificate.{IsHonestByCertificate};
 ghost use Rattle.pkinit_trust.specs.Anchors.{AnchorRecord};
 
+use crate::certified_laws::one_key_by_certificate;
 use crate::client::Client;
 use key_functions::{KeyFunctions, NoKeys};
 use krb_ap_exchange::ap_exchange;
@@ -25,7 +26,6 @@ use krb_logins::{LoginInput, LoginRefusal, granting_service};
 use krb_service::{Admission, Service};
 use krb_time::Moment;
 use krb_types::data_types::EncryptionKey;
-use pkinit_logins::laws::one_key_by_certificate;
 use std::alloc::Global;
 
 /// Logs a client in at a service by its password (RFC 4120, sections 3.1, 3.3, 3.2). The realm has no key functions.

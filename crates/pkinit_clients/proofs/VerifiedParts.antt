@@ -22,7 +22,7 @@ use Rattle.krb_messages.specs.Trees.{kdc_rep_inner_tree}
 use Rattle.krb_messages.specs.declared.messages.kdc_rep.KdcRep.{KdcRep}
 use Rattle.krb_tickets.specs.Padata.{first_of, first_padata}
 use Rattle.krb_kdc_requests.proofs.RequestParts.{within}
-use Rattle.cms_types.specs.Parts.{attributes_place, certificate_place}
+use Rattle.cms_signed_data.specs.Parts.{attributes_place, certificate_place}
 use Rattle.cms_signed_data.specs.SignedContents.{IsSignedContent}
 use Rattle.cms_signed_data.specs.SignedParts.{SignedParts}
 use Rattle.pkinit_messages.specs.declared.pa_pk_as_rep.PaPkAsRep.{PaPkAsRep}

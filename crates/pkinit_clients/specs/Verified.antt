@@ -2,7 +2,7 @@
 use Rattle.std.specs.Prelude.{ℕ, List, [], ◌∷◌, ◌++◌}
 use Rattle.asn1_elements.specs.Parts.{IsPart}
 use Rattle.picky_asn1.specs.Bytes.{Bytes}
-use Rattle.cms_types.specs.Parts.{attributes_place, certificate_place}
+use Rattle.cms_signed_data.specs.Parts.{attributes_place, certificate_place}
 use Rattle.cms_signed_data.specs.SignedParts.{SignedParts}
 use Rattle.pkinit_trust.specs.Certificates.{IsCertificate, ReadRecord}
 

@@ -8,7 +8,7 @@ use Rattle.asn1_elements.specs.Parts.{IsPart}
 use Rattle.asn1_elements.specs.PathLaws.{AreSome, IsElement, LeadsTo, at_front, go_on, held_at, in_element, some_more}
 use Rattle.picky_asn1.specs.Bytes.{Bytes}
 use Rattle.krb_kdc_requests.proofs.RequestParts.{within}
-use Rattle.cms_types.specs.Parts.{attributes_place, certificate_place}
+use Rattle.cms_signed_data.specs.Parts.{attributes_place, certificate_place}
 use Rattle.cms_signed_data.specs.SignedContents.{IsSignedContent}
 use Rattle.cms_signed_data.specs.SignedParts.{SignedParts}
 use Rattle.pkinit_messages.specs.declared.external_principal_identifier.ExternalPrincipalIdentifier.{ExternalPrincipalIdentifier}

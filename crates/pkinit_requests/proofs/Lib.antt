@@ -1,3 +1,4 @@
 mod Judged
 mod JudgedParts
 mod SignerLemmas
+mod SignedLemmas

@@ -32,9 +32,9 @@ use Rattle.pkinit_trust.specs.Trusted.{trusted, trusted_by}
 use Rattle.pkinit_trust.specs.declared.principal_name.Krb5PrincipalName.{Krb5PrincipalName}
 use Rattle.pkinit_trust.specs.declared.refusal.TrustRefusal.{TrustRefusal}
 use Rattle.pkinit_trust.specs.declared.refusal.TrustRefusal.TheVariants.{CantVerifyCertificate, InvalidCertificate, InvalidSignature, NameMismatch}
-use Rattle.pkinit_replies.specs.AgreementBytes.{agreement_bytes}
-use Rattle.pkinit_replies.specs.Replies.{pk_as_rep}
-use Rattle.pkinit_replies.proofs.ReplyOutcome.{has_reply}
+use Rattle.pkinit_requests.specs.AgreementBytes.{agreement_bytes}
+use Rattle.pkinit_requests.specs.Replies.{pk_as_rep}
+use Rattle.pkinit_requests.specs.ReplyOutcome.{has_reply}
 use Rattle.pkinit_requests.specs.AuthPackFields.{AuthPackFieldsRecord}
 use Rattle.pkinit_requests.specs.AuthPacks.{IsAuthPack, IsPaPkAsReq, covers, sole_auth_pack, sole_pa_pk_as_req, time_in, value_in}
 use Rattle.pkinit_requests.specs.Judging.{JudgingRecord, judging_by}

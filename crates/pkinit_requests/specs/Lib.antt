@@ -5,3 +5,9 @@ pub mod Judging
 pub mod PkinitRows
 pub mod PkinitTable
 pub mod Trust
+pub mod AgreementBytes
+pub mod PublicKeys
+pub mod SignedRowLaws
+pub mod WrittenOnce
+pub mod Replies
+pub mod ReplyOutcome

@@ -23,8 +23,8 @@ use Rattle.pkinit_trust.specs.Expected.{ExpectedRecord}
 use Rattle.pkinit_trust.specs.Refusals.{code_of}
 use Rattle.pkinit_trust.specs.SignedContents.{judged_in}
 use Rattle.pkinit_trust.specs.Trusted.{trusted}
-use Rattle.pkinit_replies.specs.AgreementBytes.{agreement_bytes}
-use Rattle.pkinit_replies.specs.Replies.{pk_as_rep}
+use Rattle.pkinit_requests.specs.AgreementBytes.{agreement_bytes}
+use Rattle.pkinit_requests.specs.Replies.{pk_as_rep}
 use Rattle.pkinit_requests.specs.AuthPackFields.{AuthPackFieldsRecord}
 use Rattle.pkinit_requests.specs.AuthPacks.{IsAuthPack, IsPaPkAsReq, covers, sole_auth_pack, sole_pa_pk_as_req, time_in, value_in}
 use Rattle.pkinit_requests.specs.Judging.{JudgingRecord, judging_by}

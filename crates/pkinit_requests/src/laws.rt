@@ -2,7 +2,7 @@
 ghost use Rattle.std.specs.Prelude.{[], ◌∷◌, ◌++◌};
 ghost use Rattle.asn1_elements.specs.Parts.{IsPart};
 ghost use Rattle.picky_asn1.specs.Bytes.{Bytes};
-ghost use Rattle.cms_types.specs.Parts.{attributes_place, certificate_place};
+ghost use Rattle.cms_signed_data.specs.Parts.{attributes_place, certificate_place};
 ghost use Rattle.cms_signed_data.specs.SignedContents.{IsSignedContent};
 ghost use Rattle.cms_signed_data.specs.SignedParts.{SignedParts};
 ghost use Rattle.pkinit_messages.specs.declared.pa_pk_as_req.PaPkAsReq.{PaPkAsReq};

@@ -8,6 +8,7 @@ ghost use Rattle.pkinit_requests.specs.PkinitTable.{agreed_on, is_auth_data, of_
 use crate::fields::auth_pack_fields;
 use crate::judging::Judging;
 use crate::parts::AuthPackFields;
+use crate::pk_as_rep;
 use crate::reading::{read_auth_pack, read_pa_pk_as_req};
 use crate::signer::check_signed;
 use cms_signed_data::{SignedContent, SignedFault};
@@ -19,7 +20,6 @@ use krb_types::random_bytes::{AGREEMENT_SIZE, REALM_AGREEMENT};
 use picky_asn1_der::Asn1RawDer;
 use pkinit_interface::Agreed;
 use pkinit_messages::AuthPack;
-use pkinit_replies::pk_as_rep;
 use std::alloc::Global;
 
 /// The content octets of id-pkinit-authData, 1.3.6.1.5.2.3.1.

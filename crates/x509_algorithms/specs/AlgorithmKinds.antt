@@ -6,10 +6,10 @@ use Rattle.asn1_leaves.specs.ObjectIdentifier.{oid_content}
 use Rattle.asn1_der.specs.Tree.{Trees}
 use Rattle.x509_spelling.specs.declared.implied.Implied.{Implied}
 use Rattle.picky_asn1_der.specs.declared.default.DefaultField.{DefaultField}
-use Rattle.x509_open_types.specs.declared.kinds.KindOf.{KindOf}
-use Rattle.x509_open_types.specs.declared.kinds.KindOf.TheVariants.{This, Other}
-use Rattle.x509_open_types.specs.declared.kinds.LastKind.{LastKind}
-use Rattle.x509_open_types.specs.Kinds.{case_belongs}
+use Rattle.x509_spelling.specs.declared.kinds.KindOf.{KindOf}
+use Rattle.x509_spelling.specs.declared.kinds.KindOf.TheVariants.{This, Other}
+use Rattle.x509_spelling.specs.declared.kinds.LastKind.{LastKind}
+use Rattle.x509_spelling.specs.Kinds.{case_belongs}
 use Rattle.x509_parameters.specs.declared.aes_parameters.AesParameters.{AesParameters}
 use Rattle.x509_parameters.specs.declared.ec_parameters.EcParameters.{EcParameters}
 use Rattle.x509_parameters.specs.declared.rsassa_pss_params.RsassaPssParams.{RsassaPssParams}

@@ -7,7 +7,7 @@ use mathlib.Core.HLevel.{is_prop→PathP}
 use Rattle.asn1_leaves.specs.ObjectIdentifier.{oid_content}
 use Rattle.picky_asn1.specs.declared.wrapper.ObjectIdentifierAsn1.{ObjectIdentifierAsn1}
 use Rattle.x509_spelling.specs.declared.implied.Implied.{Implied}
-use Rattle.x509_open_types.specs.declared.kinds.LastKind.{LastKind}
+use Rattle.x509_spelling.specs.declared.kinds.LastKind.{LastKind}
 use Rattle.x509_algorithms.specs.declared.hash_identifier.HashIdentifier.{HashIdentifier}
 use Rattle.x509_algorithms.specs.declared.algorithm_kinds.AlgorithmIdentifierParameters.{AlgorithmIdentifierParameters}
 use Rattle.x509_algorithms.specs.declared.algorithm_kinds.AlgorithmIdentifierParameters.TheVariants as kind

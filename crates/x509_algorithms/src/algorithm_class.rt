@@ -4,8 +4,8 @@ ghost use Rattle.x509_parameters.specs.Arcs.{octet_behind, is_among};
 ghost use Rattle.x509_parameters.specs.Arcs as arcs;
 ghost use Rattle.x509_algorithms.specs.AlgorithmClasses as classes;
 
-use x509_open_types::Identifiers;
 use x509_parameters::octet_behind;
+use x509_spelling::Identifiers;
 
 /// RSA keys and signatures of PKCS #1 (RFC 4055, sections 1.2 and 5).
 pub struct RsaAlgorithms;

@@ -13,8 +13,9 @@ use picky_asn1::oid::ObjectIdentifier;
 use picky_asn1::wrapper::ObjectIdentifierAsn1;
 use picky_asn1_der::{Asn1DerError, Deserialize, Deserializer, Serialize, Serializer};
 use std::alloc::{AllocError, Global};
-use x509_open_types::{Kinds, read_identified};
-use x509_spelling::{Counted, Spelled, SpelledItem, X509Fault, read_strict};
+use x509_spelling::{
+    Counted, Kinds, Spelled, SpelledItem, X509Fault, read_identified, read_strict,
+};
 
 /// An algorithm, and parameters of the kind that its identifier decides.
 ///
@@ -105,8 +106,8 @@ impl Serialize for AlgorithmIdentifier {
     ghost use Rattle.asn1_der.specs.Tagged.{sequence};
     ghost use Rattle.asn1_der.specs.Firsts.{only};
     ghost use Rattle.asn1_der.proofs.Spelling.{may_begin-only};
-    ghost use Rattle.x509_open_types.specs.HeldLaws.{laws_injective};
-    ghost use Rattle.x509_open_types.specs.KindLaws.{identified_laws};
+    ghost use Rattle.x509_spelling.specs.HeldLaws.{laws_injective};
+    ghost use Rattle.x509_spelling.specs.KindLaws.{identified_laws};
     ghost use Rattle.x509_spelling.specs.Spellings.{Holds, Joins};
     ghost use Rattle.x509_algorithms.specs.AlgorithmClasses.{is_rsa, is_signature};
     ghost use Rattle.asn1_leaves.specs.ObjectIdentifier.{oid_content};
@@ -158,7 +159,7 @@ impl Spelled for AlgorithmIdentifier {
     ghost use Rattle.asn1_der.specs.Tree.{constructed};
     ghost use Rattle.asn1_der.specs.Tagged.{sequence};
     ghost use Rattle.asn1_der.specs.Firsts.{only};
-    ghost use Rattle.x509_open_types.specs.KindLaws.{identified_laws};
+    ghost use Rattle.x509_spelling.specs.KindLaws.{identified_laws};
     ghost use Rattle.x509_spelling.specs.Spellings.{Holds, Joins};
     ghost use Rattle.x509_algorithms.specs.AlgorithmClasses.{is_rsa, is_signature};
     ghost use Rattle.asn1_leaves.specs.ObjectIdentifier.{oid_content};

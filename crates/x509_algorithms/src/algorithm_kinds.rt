@@ -1,6 +1,6 @@
 //! Parameters of algorithms (RFC 5280, section 4.1.1.2), and the kinds that an identifier decides.
 ghost use Rattle.std.specs.Prelude.{◌≡◌, IsTrue};
-ghost use Rattle.x509_open_types.specs.declared.kinds.KindOf.TheVariants as kind;
+ghost use Rattle.x509_spelling.specs.declared.kinds.KindOf.TheVariants as kind;
 ghost use Rattle.x509_algorithms.specs.AlgorithmKinds.{kinds_of, belongs};
 
 use crate::algorithm_class::{
@@ -9,9 +9,8 @@ use crate::algorithm_class::{
 use picky_asn1::oid::ObjectIdentifier;
 use picky_asn1_der::DefaultField;
 use std::alloc::AllocError;
-use x509_open_types::{KindOf, LastKind, ToldBy};
 use x509_parameters::{AesParameters, EcParameters, NoNull, Null, RsaNull, RsassaPssParams};
-use x509_spelling::Implied;
+use x509_spelling::{Implied, KindOf, LastKind, ToldBy};
 
 /// The parameters of an algorithm. The algorithm's identifier decides their kind.
 #[derive(Debug, Drop, PartialEq, Eq)]

@@ -12,8 +12,7 @@ use byte_streams::Sink;
 use picky_asn1::wrapper::{ObjectIdentifierAsn1, OctetStringAsn1};
 use picky_asn1_der::{Asn1DerError, Row2, Serialize, Serializer, fields_of};
 use std::alloc::{AllocError, Global};
-use x509_open_types::Kinds;
-use x509_spelling::{Counted, Spelled, SpelledFields, SpelledItem, X509Fault, read_fields};
+use x509_spelling::{Counted, Kinds, Spelled, SpelledFields, SpelledItem, X509Fault, read_fields};
 
 /// A digest, and the hash that made it.
 ///
@@ -62,7 +61,7 @@ impl Serialize for DigestInfo {
     ghost use Rattle.asn1_der.proofs.Spelling.{may_begin-only};
     ghost use Rattle.x509_spelling.specs.Spellings.{Holds};
     ghost use Rattle.x509_spelling.specs.RowLaws.{struct_laws};
-    ghost use Rattle.x509_open_types.specs.HeldLaws.{laws_injective};
+    ghost use Rattle.x509_spelling.specs.HeldLaws.{laws_injective};
     ghost use Rattle.x509_algorithms.specs.AlgorithmKinds.{kinds_by};
     ghost use Rattle.x509_algorithms.specs.AlgorithmLaws.{injective_by};
     ghost use Rattle.x509_algorithms.specs.DigestRows.{digest_row, one_digest, has_null};

@@ -10,9 +10,10 @@ use byte_streams::Sink;
 use picky_asn1::wrapper::ObjectIdentifierAsn1;
 use picky_asn1_der::{Asn1DerError, Serialize, Serializer};
 use std::alloc::Global;
-use x509_open_types::{Kinds, LastKind, ToldBy, read_identified};
 use x509_parameters::{HashNull, Null};
-use x509_spelling::{Counted, Implied, Spelled, SpelledItem, X509Fault};
+use x509_spelling::{
+    Counted, Implied, Kinds, LastKind, Spelled, SpelledItem, ToldBy, X509Fault, read_identified,
+};
 
 /// A hash by its identifier, with NULL. Where NULL is missing that deviates.
 #[derive(Drop)]
@@ -39,8 +40,8 @@ impl Serialize for HashIdentifier {
     ghost use Rattle.asn1_der.specs.Tagged.{sequence};
     ghost use Rattle.asn1_der.specs.Firsts.{only};
     ghost use Rattle.asn1_der.proofs.Spelling.{may_begin-only};
-    ghost use Rattle.x509_open_types.specs.HeldLaws.{laws_injective};
-    ghost use Rattle.x509_open_types.specs.KindLaws.{identified_laws};
+    ghost use Rattle.x509_spelling.specs.HeldLaws.{laws_injective};
+    ghost use Rattle.x509_spelling.specs.KindLaws.{identified_laws};
     ghost use Rattle.x509_spelling.specs.Spellings.{Holds, Joins};
     ghost use Rattle.x509_algorithms.specs.HashIdentifiers.{hash_row, same_hash_row};
 
@@ -65,7 +66,7 @@ impl Spelled for HashIdentifier {
     ghost use Rattle.std.proofs.Common.{refl, true};
     ghost use Rattle.asn1_der.specs.Tagged.{sequence};
     ghost use Rattle.asn1_der.specs.Firsts.{only};
-    ghost use Rattle.x509_open_types.specs.KindLaws.{identified_laws};
+    ghost use Rattle.x509_spelling.specs.KindLaws.{identified_laws};
     ghost use Rattle.x509_spelling.specs.Spellings.{Holds, Joins};
     ghost use Rattle.x509_algorithms.specs.HashIdentifiers.{hash_row, same_hash_row};
 

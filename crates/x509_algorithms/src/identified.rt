@@ -3,7 +3,7 @@ ghost use Rattle.std.specs.Prelude.{◌≡◌};
 
 use crate::algorithm_identifier::AlgorithmIdentifier;
 use picky_asn1::oid::ObjectIdentifier;
-use x509_open_types::Identified;
+use x509_spelling::Identified;
 
 impl Identified for AlgorithmIdentifier {
     ghost arcs_of = { λ v. v.algorithm.0 };

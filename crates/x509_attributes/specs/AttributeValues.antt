@@ -6,10 +6,10 @@ use Rattle.asn1_leaves.specs.ObjectIdentifier.{oid_content, subidentifier}
 use Rattle.picky_asn1.specs.declared.wrapper.ObjectIdentifierAsn1.{ObjectIdentifierAsn1}
 use Rattle.x509_oids.specs.Identifiers as oids
 use Rattle.x509_parts.specs.declared.time.Time.{Time}
-use Rattle.x509_open_types.specs.declared.kinds.KindOf.{KindOf}
-use Rattle.x509_open_types.specs.declared.kinds.KindOf.TheVariants.{This, Other}
-use Rattle.x509_open_types.specs.declared.kinds.LastKind.{LastKind}
-use Rattle.x509_open_types.specs.Kinds.{case_belongs}
+use Rattle.x509_spelling.specs.declared.kinds.KindOf.{KindOf}
+use Rattle.x509_spelling.specs.declared.kinds.KindOf.TheVariants.{This, Other}
+use Rattle.x509_spelling.specs.declared.kinds.LastKind.{LastKind}
+use Rattle.x509_spelling.specs.Kinds.{case_belongs}
 use Rattle.x509_extensions.specs.declared.extension.Extension.{Extension}
 use Rattle.x509_attributes.specs.declared.any_values.AnyValues.{AnyValues}
 use Rattle.x509_attributes.specs.declared.attribute_values.AttributeValues.{AttributeValues}

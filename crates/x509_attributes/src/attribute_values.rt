@@ -8,8 +8,8 @@ use crate::any_values::AnyValues;
 use crate::requested_extensions::RequestedExtensions;
 use picky_asn1::wrapper::{Asn1SequenceOf, Asn1SetOf, ObjectIdentifierAsn1, OctetStringAsn1};
 use std::alloc::AllocError;
-use x509_open_types::{Identifiers, KindOf, LastKind, ToldBy};
 use x509_parts::Time;
+use x509_spelling::{Identifiers, KindOf, LastKind, ToldBy};
 
 /// The values of an attribute. The attribute's identifier decides of which type they are.
 #[derive(Debug, Drop, PartialEq, Eq)]

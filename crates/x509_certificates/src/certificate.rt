@@ -123,7 +123,7 @@ impl Serialize for Certificate {
     ghost use Rattle.asn1_der.proofs.Spelling.{may_begin-only};
     ghost use Rattle.x509_spelling.specs.Spellings.{Holds};
     ghost use Rattle.x509_spelling.specs.RowLaws.{struct_laws};
-    ghost use Rattle.x509_open_types.specs.HeldLaws.{laws_injective};
+    ghost use Rattle.x509_spelling.specs.HeldLaws.{laws_injective};
     ghost use Rattle.x509_certificates.specs.Certificates.{certificate_row, one_certificate};
 
     ghost tree = { λ v. sequence ⟦<CertificateRow as SpelledFields>⟧.row_trees sequence_octet (certificate_row v) };

@@ -6,8 +6,7 @@ ghost use Rattle.x509_certificates.specs.ExtensionsFields.{is_written, extension
 use picky_asn1_der::{Optional, Row1};
 use std::alloc::{AllocError, Global};
 use x509_extensions::{Extension, Extensions};
-use x509_open_types::Explicit;
-use x509_spelling::{Counted, SpelledFields, X509Fault};
+use x509_spelling::{Counted, Explicit, SpelledFields, X509Fault};
 
 /// The extensions of a certificate, which are written where there are any.
 ///

@@ -70,7 +70,7 @@ impl Serialize for CertificationRequest {
     ghost use Rattle.asn1_der.proofs.Spelling.{may_begin-only};
     ghost use Rattle.x509_spelling.specs.Spellings.{Holds};
     ghost use Rattle.x509_spelling.specs.RowLaws.{struct_laws};
-    ghost use Rattle.x509_open_types.specs.HeldLaws.{laws_injective};
+    ghost use Rattle.x509_spelling.specs.HeldLaws.{laws_injective};
     ghost use Rattle.x509_certificates.specs.Requests.{request_row, one_request};
 
     ghost tree = { λ v. sequence ⟦<RequestRow as SpelledFields>⟧.row_trees sequence_octet (request_row v) };

@@ -107,7 +107,7 @@ impl Serialize for CertificationRequestInfo {
     ghost use Rattle.asn1_der.proofs.Spelling.{may_begin-only};
     ghost use Rattle.x509_spelling.specs.Spellings.{Holds};
     ghost use Rattle.x509_spelling.specs.RowLaws.{struct_laws};
-    ghost use Rattle.x509_open_types.specs.HeldLaws.{laws_injective};
+    ghost use Rattle.x509_spelling.specs.HeldLaws.{laws_injective};
     ghost use Rattle.x509_certificates.specs.Requests.{info_row, one_info};
 
     ghost tree = { λ v. sequence ⟦<InfoRow as SpelledFields>⟧.row_trees sequence_octet (info_row v) };

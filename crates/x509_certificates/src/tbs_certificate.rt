@@ -100,7 +100,7 @@ impl Serialize for TbsCertificate {
     ghost use Rattle.asn1_der.proofs.Spelling.{may_begin-only};
     ghost use Rattle.x509_spelling.specs.Spellings.{Holds};
     ghost use Rattle.x509_spelling.specs.RowLaws.{struct_laws};
-    ghost use Rattle.x509_open_types.specs.HeldLaws.{laws_injective};
+    ghost use Rattle.x509_spelling.specs.HeldLaws.{laws_injective};
     ghost use Rattle.x509_certificates.specs.Certificates.{tbs_row, one_tbs};
 
     ghost tree = { λ v. sequence ⟦<TbsRow as SpelledFields>⟧.row_trees sequence_octet (tbs_row v) };

@@ -6,11 +6,11 @@ use Rattle.x509_oids.specs.Identifiers as oids
 use Rattle.x509_names.specs.declared.general_name.GeneralName.{GeneralName}
 use Rattle.x509_parts.specs.declared.basic_constraints.BasicConstraints.{BasicConstraints}
 use Rattle.x509_extensions.specs.declared.key_usage.KeyUsage.{KeyUsage}
-use Rattle.x509_open_types.specs.declared.enclosed.Enclosed.{Enclosed}
-use Rattle.x509_open_types.specs.declared.kinds.KindOf.{KindOf}
-use Rattle.x509_open_types.specs.declared.kinds.KindOf.TheVariants.{This, Other}
-use Rattle.x509_open_types.specs.declared.kinds.LastKind.{LastKind}
-use Rattle.x509_open_types.specs.Kinds.{case_belongs}
+use Rattle.x509_spelling.specs.declared.enclosed.Enclosed.{Enclosed}
+use Rattle.x509_spelling.specs.declared.kinds.KindOf.{KindOf}
+use Rattle.x509_spelling.specs.declared.kinds.KindOf.TheVariants.{This, Other}
+use Rattle.x509_spelling.specs.declared.kinds.LastKind.{LastKind}
+use Rattle.x509_spelling.specs.Kinds.{case_belongs}
 use Rattle.picky_asn1_der.specs.declared.container.OctetStringContainer.{OctetStringContainer}
 use Rattle.x509_extensions.specs.declared.authority_key_identifier.AuthorityKeyIdentifier.{AuthorityKeyIdentifier}
 use Rattle.x509_extensions.specs.declared.extension_value.ExtensionValue.{ExtensionValue}

@@ -162,8 +162,8 @@ impl Spelled for AuthorityKeyIdentifier {
     ghost use Rattle.asn1_der.specs.Firsts.{only};
     ghost use Rattle.x509_spelling.specs.Spellings.{Holds};
     ghost use Rattle.x509_spelling.specs.RowLaws.{sequence_laws};
-    ghost use Rattle.x509_open_types.specs.Kinds.{MadeOf};
-    ghost use Rattle.x509_open_types.specs.HeldLaws.{made_laws};
+    ghost use Rattle.x509_spelling.specs.Kinds.{MadeOf};
+    ghost use Rattle.x509_spelling.specs.HeldLaws.{made_laws};
     ghost use Rattle.x509_extensions.specs.AuthorityFields.{fields_of, authority_of, authority_count};
     ghost use Rattle.x509_extensions.specs.AuthorityLaws.{authority_back, authority_uncounted, authority_only, authority_whole, authority_trees};
 

@@ -17,9 +17,10 @@ use byte_streams::Sink;
 use picky_asn1::wrapper::{IntegerAsn1, ObjectIdentifierAsn1, OctetStringAsn1Container};
 use picky_asn1_der::{Asn1DerError, DefaultField, Serialize, Serializer};
 use std::alloc::{AllocError, Global};
-use x509_open_types::{Kinds, read_identified};
 use x509_parts::BasicConstraints;
-use x509_spelling::{Counted, Critical, DefaultFalse, Spelled, SpelledItem, X509Fault};
+use x509_spelling::{
+    Counted, Critical, DefaultFalse, Kinds, Spelled, SpelledItem, X509Fault, read_identified,
+};
 
 /// An extension: an identifier, and a value of the kind that it decides.
 ///
@@ -231,8 +232,8 @@ impl Serialize for Extension {
     ghost use Rattle.asn1_der.specs.Tagged.{sequence};
     ghost use Rattle.asn1_der.specs.Firsts.{only};
     ghost use Rattle.asn1_der.proofs.Spelling.{may_begin-only};
-    ghost use Rattle.x509_open_types.specs.HeldLaws.{laws_injective};
-    ghost use Rattle.x509_open_types.specs.KindLaws.{identified_laws};
+    ghost use Rattle.x509_spelling.specs.HeldLaws.{laws_injective};
+    ghost use Rattle.x509_spelling.specs.KindLaws.{identified_laws};
     ghost use Rattle.x509_spelling.specs.Spellings.{Holds, Joins};
     ghost use Rattle.x509_extensions.specs.ExtensionLaws.{row_of, same_extension};
 
@@ -288,7 +289,7 @@ impl Spelled for Extension {
     ghost use Rattle.std.proofs.Common.{refl, true};
     ghost use Rattle.asn1_der.specs.Tagged.{sequence};
     ghost use Rattle.asn1_der.specs.Firsts.{only};
-    ghost use Rattle.x509_open_types.specs.KindLaws.{identified_laws};
+    ghost use Rattle.x509_spelling.specs.KindLaws.{identified_laws};
     ghost use Rattle.x509_spelling.specs.Spellings.{Holds, Joins};
     ghost use Rattle.x509_extensions.specs.ExtensionLaws.{row_of, same_extension};
 

@@ -1,6 +1,6 @@
 //! Values of extensions (RFC 5280, section 4.2.1).
 ghost use Rattle.std.specs.Prelude.{◌≡◌, ◌==◌, ℕ, List};
-ghost use Rattle.x509_open_types.specs.declared.kinds.KindOf.TheVariants as kind;
+ghost use Rattle.x509_spelling.specs.declared.kinds.KindOf.TheVariants as kind;
 ghost use Rattle.x509_extensions.specs.ExtensionValues.{extension_number, kinds_of};
 
 use crate::authority_key_identifier::AuthorityKeyIdentifier;
@@ -9,8 +9,8 @@ use crate::key_usage::KeyUsage;
 use picky_asn1::wrapper::{IntegerAsn1, OctetStringAsn1, OctetStringAsn1Container};
 use std::alloc::AllocError;
 use x509_names::GeneralNames;
-use x509_open_types::{Enclosed, Identifiers, KindOf, LastKind, ToldBy};
 use x509_parts::BasicConstraints;
+use x509_spelling::{Enclosed, Identifiers, KindOf, LastKind, ToldBy};
 
 /// Identifies a key (RFC 5280, section 4.2.1.1).
 pub type KeyIdentifier = OctetStringAsn1;

@@ -2,7 +2,7 @@
 use Rattle.std.proofs.Common.{◌≡◌, ap, sym, ◌∙◌}
 use Rattle.std.specs.Prelude.{IsTrue}
 use mathlib.Core.HLevel.{is_prop→PathP}
-use Rattle.x509_open_types.specs.ChosenLaws.{one_truth}
+use Rattle.x509_spelling.specs.ChosenLaws.{one_truth}
 use Rattle.x509_algorithms.specs.declared.algorithm_identifier.AlgorithmIdentifier.{AlgorithmIdentifier}
 use Rattle.x509_keys.specs.declared.public_key.PublicKey.{PublicKey}
 use Rattle.x509_keys.specs.PublicKeys.{PublicKinds, kinds_of, key_made, key_back, is_key_of}

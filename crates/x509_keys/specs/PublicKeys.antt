@@ -3,10 +3,10 @@ use Rattle.std.specs.Prelude.{◌≡◌, ℕ, Bool, List, ⊤, refl, IsTrue}
 use Rattle.asn1_leaves.specs.ObjectIdentifier.{oid_content, subidentifier}
 use Rattle.picky_asn1.specs.BitString.{Bits}
 use Rattle.picky_asn1_der.specs.declared.bit_container.BitStringContainer.{BitStringContainer}
-use Rattle.x509_open_types.specs.declared.kinds.KindOf.{KindOf}
-use Rattle.x509_open_types.specs.declared.kinds.KindOf.TheVariants.{This, Other}
-use Rattle.x509_open_types.specs.declared.kinds.LastKind.{LastKind}
-use Rattle.x509_open_types.specs.Kinds.{case_belongs}
+use Rattle.x509_spelling.specs.declared.kinds.KindOf.{KindOf}
+use Rattle.x509_spelling.specs.declared.kinds.KindOf.TheVariants.{This, Other}
+use Rattle.x509_spelling.specs.declared.kinds.LastKind.{LastKind}
+use Rattle.x509_spelling.specs.Kinds.{case_belongs}
 use Rattle.x509_oids.specs.Identifiers as oids
 use Rattle.x509_keys.specs.KeyIdentifiers.{is_rsa, is_elliptic, is_named_curve, is_mldsa}
 use Rattle.x509_keys.specs.declared.rsa_public_key.RsaPublicKey.{RsaPublicKey}

@@ -2,7 +2,7 @@
 ghost use Rattle.std.specs.Prelude.{◌≡◌};
 ghost use Rattle.x509_keys.specs.KeyIdentifiers.{is_rsa, is_elliptic, is_named_curve, is_mldsa};
 
-use x509_open_types::Identifiers;
+use x509_spelling::Identifiers;
 
 /// The identifier of RSA keys (RFC 3279, section 2.3.1).
 pub struct RsaIdentifiers;

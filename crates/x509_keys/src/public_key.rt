@@ -7,8 +7,7 @@ use crate::rsa_public_key::EncapsulatedRsaPublicKey;
 use picky_asn1::oid::ObjectIdentifier;
 use picky_asn1::wrapper::{BitStringAsn1, BitStringAsn1Container, OctetStringAsn1};
 use std::alloc::AllocError;
-use x509_open_types::{Identifiers, KindOf, LastKind, ToldBy};
-use x509_spelling::Strict;
+use x509_spelling::{Identifiers, KindOf, LastKind, Strict, ToldBy};
 
 /// A point of an elliptic curve, as octets (RFC 5480, section 2.2).
 pub type EcPoint = OctetStringAsn1;

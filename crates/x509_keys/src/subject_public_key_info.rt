@@ -13,9 +13,10 @@ use picky_asn1::wrapper::{BitStringAsn1Container, IntegerAsn1};
 use picky_asn1_der::{Asn1DerError, Deserialize, Deserializer, Serialize, Serializer};
 use std::alloc::{AllocError, Global};
 use x509_algorithms::AlgorithmIdentifier;
-use x509_open_types::{Identified, Kinds, read_chosen_in};
 use x509_parameters::EcParameters;
-use x509_spelling::{Ahead, Counted, Spelled, SpelledItem, X509Fault, read_strict};
+use x509_spelling::{
+    Ahead, Counted, Identified, Kinds, Spelled, SpelledItem, X509Fault, read_chosen_in, read_strict,
+};
 
 /// A public key, and the algorithm that it is for. Inside a message of another kind, as one of Kerberos, the strict spelling alone is
 /// read.
@@ -137,9 +138,9 @@ impl Serialize for SubjectPublicKeyInfo {
     ghost use Rattle.asn1_der.specs.Tagged.{sequence};
     ghost use Rattle.asn1_der.specs.Firsts.{only};
     ghost use Rattle.asn1_der.proofs.Spelling.{may_begin-only};
-    ghost use Rattle.x509_open_types.specs.HeldLaws.{laws_injective};
+    ghost use Rattle.x509_spelling.specs.HeldLaws.{laws_injective};
     ghost use Rattle.x509_spelling.specs.Spellings.{Holds, Joins};
-    ghost use Rattle.x509_open_types.specs.ChosenLaws.{chosen_info_laws};
+    ghost use Rattle.x509_spelling.specs.ChosenLaws.{chosen_info_laws};
     ghost use Rattle.x509_keys.specs.KeyInfoLaws.{public_row, same_public};
 
     ghost tree = { λ v. sequence (λ f. ⟦<AlgorithmIdentifier as SpelledItem>⟧.place f.0 (⟦<PublicKinds as Kinds>⟧.row_trees f.1)) sequence_octet (public_row v) };
@@ -181,7 +182,7 @@ impl Spelled for SubjectPublicKeyInfo {
     ghost use Rattle.asn1_der.specs.Tagged.{sequence};
     ghost use Rattle.asn1_der.specs.Firsts.{only};
     ghost use Rattle.x509_spelling.specs.Spellings.{Holds, Joins};
-    ghost use Rattle.x509_open_types.specs.ChosenLaws.{chosen_info_laws};
+    ghost use Rattle.x509_spelling.specs.ChosenLaws.{chosen_info_laws};
     ghost use Rattle.x509_keys.specs.KeyInfoLaws.{public_row, same_public};
 
     ghost spells = { λ v. Holds sequence_octet (λ f. Joins ⟦<AlgorithmIdentifier as SpelledItem>⟧.leads ⟦<PublicKinds as Kinds>⟧.spells f.0 f.1) (public_row v) };

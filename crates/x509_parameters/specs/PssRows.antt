@@ -1,7 +1,7 @@
 -- Parameters of RSASSA-PSS as a row of fields.
 use Rattle.std.proofs.Common.{◌≡◌, ap}
 use Rattle.std.specs.Prelude.{ℤ, ⊤}
-use Rattle.x509_open_types.specs.declared.enclosed.Explicit.{Explicit}
+use Rattle.x509_spelling.specs.declared.enclosed.Explicit.{Explicit}
 use Rattle.x509_parameters.specs.declared.hash_algorithm.HashAlgorithm.{HashAlgorithm}
 use Rattle.x509_parameters.specs.declared.mask_gen_algorithm.MaskGenAlgorithm.{MaskGenAlgorithm}
 use Rattle.x509_parameters.specs.declared.rsassa_pss_params.RsassaPssParams.{RsassaPssParams}

@@ -24,7 +24,7 @@ impl Serialize for HashAlgorithm {
     ghost use Rattle.asn1_der.proofs.Spelling.{may_begin-only};
     ghost use Rattle.x509_spelling.specs.Spellings.{Holds};
     ghost use Rattle.x509_spelling.specs.RowLaws.{struct_laws};
-    ghost use Rattle.x509_open_types.specs.HeldLaws.{laws_injective};
+    ghost use Rattle.x509_spelling.specs.HeldLaws.{laws_injective};
     ghost use Rattle.x509_parameters.specs.HashRows.{one_hash};
 
     ghost tree = { λ v. sequence ⟦<HashRow as SpelledFields>⟧.row_trees sequence_octet (hash_row v) };

@@ -10,8 +10,7 @@ use byte_streams::Sink;
 use picky_asn1::wrapper::IntegerAsn1;
 use picky_asn1_der::{Asn1DerError, Row3, Serialize, Serializer, fields_of};
 use std::alloc::{AllocError, Global};
-use x509_open_types::Explicit;
-use x509_spelling::{Counted, Spelled, SpelledFields, X509Fault, read_fields};
+use x509_spelling::{Counted, Explicit, Spelled, SpelledFields, X509Fault, read_fields};
 
 /// The hashes and the salt's length of an RSASSA-PSS signature.
 ///
@@ -76,7 +75,7 @@ impl Serialize for RsassaPssParams {
     ghost use Rattle.asn1_der.proofs.Spelling.{may_begin-only};
     ghost use Rattle.x509_spelling.specs.Spellings.{Holds};
     ghost use Rattle.x509_spelling.specs.RowLaws.{struct_laws};
-    ghost use Rattle.x509_open_types.specs.HeldLaws.{laws_injective};
+    ghost use Rattle.x509_spelling.specs.HeldLaws.{laws_injective};
     ghost use Rattle.x509_parameters.specs.PssRows.{pss_row, one_pss};
 
     ghost tree = { λ v. sequence ⟦<PssRow as SpelledFields>⟧.row_trees sequence_octet (pss_row v) };

@@ -2,7 +2,7 @@
 use Rattle.std.proofs.Common.{◌≡◌}
 use Rattle.std.specs.Prelude.{◌==◌, IsTrue}
 use mathlib.Core.HLevel.{is_prop→PathP}
-use Rattle.x509_open_types.specs.ChosenLaws.{one_truth}
+use Rattle.x509_spelling.specs.ChosenLaws.{one_truth}
 use Rattle.x509_private_keys.specs.PrivateKeys.{version_with}
 use Rattle.x509_private_keys.specs.declared.private_key_info.PrivateKeyInfo.{PrivateKeyInfo}
 

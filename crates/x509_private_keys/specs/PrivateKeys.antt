@@ -2,11 +2,11 @@
 use Rattle.std.specs.Prelude.{◌≡◌, ℕ, Bool, List, Option, None, Some, ⊤, refl}
 use Rattle.asn1_leaves.specs.ObjectIdentifier.{oid_content}
 use Rattle.picky_asn1_der.specs.declared.container.OctetStringContainer.{OctetStringContainer}
-use Rattle.x509_open_types.specs.declared.enclosed.Enclosed.{Enclosed}
-use Rattle.x509_open_types.specs.declared.kinds.KindOf.{KindOf}
-use Rattle.x509_open_types.specs.declared.kinds.KindOf.TheVariants.{This, Other}
-use Rattle.x509_open_types.specs.declared.kinds.LastKind.{LastKind}
-use Rattle.x509_open_types.specs.Kinds.{case_belongs}
+use Rattle.x509_spelling.specs.declared.enclosed.Enclosed.{Enclosed}
+use Rattle.x509_spelling.specs.declared.kinds.KindOf.{KindOf}
+use Rattle.x509_spelling.specs.declared.kinds.KindOf.TheVariants.{This, Other}
+use Rattle.x509_spelling.specs.declared.kinds.LastKind.{LastKind}
+use Rattle.x509_spelling.specs.Kinds.{case_belongs}
 use Rattle.x509_keys.specs.KeyIdentifiers.{is_rsa, is_elliptic, is_named_curve}
 use Rattle.x509_private_keys.specs.declared.rsa_private_key.RsaPrivateKey.{RsaPrivateKey}
 use Rattle.x509_private_keys.specs.declared.ec_private_key.ECPrivateKey.{ECPrivateKey}

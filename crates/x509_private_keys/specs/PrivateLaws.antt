@@ -3,7 +3,7 @@ use Rattle.std.proofs.Common.{◌≡◌, ℕ, ap, sym, ◌∙◌}
 use Rattle.std.specs.Prelude.{IsTrue}
 use mathlib.Core.HLevel.{is_prop→PathP}
 use Rattle.x509_algorithms.specs.declared.algorithm_identifier.AlgorithmIdentifier.{AlgorithmIdentifier}
-use Rattle.x509_open_types.specs.ChosenLaws.{one_truth}
+use Rattle.x509_spelling.specs.ChosenLaws.{one_truth}
 use Rattle.x509_private_keys.specs.PrivateKeys.{PrivateKinds, private_kinds, private_made, behind_made, private_back, behind_back, is_private_of}
 use Rattle.x509_private_keys.specs.PublicKeyFields.{PublicKeyField}
 use Rattle.x509_private_keys.specs.declared.private_key_fields.PrivateKeyFields.{PrivateKeyFields}

@@ -15,9 +15,8 @@ use picky_asn1::wrapper::{BitStringAsn1, IntegerAsn1, OctetStringAsn1Container};
 use std::alloc::{AllocError, Global};
 use x509_algorithms::AlgorithmIdentifier;
 use x509_keys::{EcIdentifiers, EdIdentifiers, RsaIdentifiers};
-use x509_open_types::Identifiers;
 use x509_parameters::EcParameters;
-use x509_spelling::{FixedNumber, X509Fault};
+use x509_spelling::{FixedNumber, Identifiers, X509Fault};
 
 impl PrivateKeyInfo {
     /// A key of RSA with two primes p and q: `primes` are p and q, `exponents` d mod (p - 1) and d mod (q - 1), and

@@ -11,8 +11,10 @@ use byte_streams::Sink;
 use picky_asn1_der::{Asn1DerError, Serialize, Serializer, TagNumber};
 use std::alloc::{AllocError, Global};
 use x509_algorithms::AlgorithmIdentifier;
-use x509_open_types::{Identified, Kinds, read_chosen_behind};
-use x509_spelling::{Agreeing, Ahead, Counted, Spelled, SpelledItem, X509Fault};
+use x509_spelling::{
+    Agreeing, Ahead, Counted, Identified, Kinds, Spelled, SpelledItem, X509Fault,
+    read_chosen_behind,
+};
 
 /// The fields of a private key with its algorithm, of any version.
 #[derive(Debug, Drop, PartialEq, Eq)]
@@ -60,9 +62,9 @@ impl Serialize for PrivateKeyFields {
     ghost use Rattle.asn1_der.specs.Tagged.{sequence};
     ghost use Rattle.asn1_der.specs.Firsts.{only};
     ghost use Rattle.asn1_der.proofs.Spelling.{may_begin-only};
-    ghost use Rattle.x509_open_types.specs.HeldLaws.{laws_injective};
+    ghost use Rattle.x509_spelling.specs.HeldLaws.{laws_injective};
     ghost use Rattle.x509_spelling.specs.Spellings.{Holds, Joins, Leads};
-    ghost use Rattle.x509_open_types.specs.BehindLaws.{behind_laws};
+    ghost use Rattle.x509_spelling.specs.BehindLaws.{behind_laws};
     ghost use Rattle.x509_private_keys.specs.PrivateLaws.{private_row, same_private};
 
     ghost tree = { λ v. sequence (λ f. more (⟦<u8 as Spelled>⟧.written f.0) (⟦<AlgorithmIdentifier as SpelledItem>⟧.place f.1.0 (⟦<PrivateKinds as Kinds>⟧.row_trees f.1.1))) sequence_octet (private_row v) };
@@ -105,7 +107,7 @@ impl Spelled for PrivateKeyFields {
     ghost use Rattle.asn1_der.specs.Tagged.{sequence};
     ghost use Rattle.asn1_der.specs.Firsts.{only};
     ghost use Rattle.x509_spelling.specs.Spellings.{Holds, Joins, Leads};
-    ghost use Rattle.x509_open_types.specs.BehindLaws.{behind_laws};
+    ghost use Rattle.x509_spelling.specs.BehindLaws.{behind_laws};
     ghost use Rattle.x509_private_keys.specs.PrivateLaws.{private_row, same_private};
 
     ghost spells = { λ v. Holds sequence_octet (λ f. Joins (Leads ⟦<u8 as Spelled>⟧.spells) (λ g. Joins ⟦<AlgorithmIdentifier as SpelledItem>⟧.leads ⟦<PrivateKinds as Kinds>⟧.spells g.0 g.1) f.0 f.1) (private_row v) };

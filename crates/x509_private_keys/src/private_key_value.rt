@@ -13,8 +13,7 @@ use picky_asn1::wrapper::{
 use picky_asn1_der::{Asn1DerError, Serialize, Serializer};
 use std::alloc::AllocError;
 use x509_keys::{EcIdentifiers, EdIdentifiers, RsaIdentifiers};
-use x509_open_types::{Enclosed, KindOf, LastKind, ToldBy};
-use x509_spelling::Strict;
+use x509_spelling::{Enclosed, KindOf, LastKind, Strict, ToldBy};
 
 /// A private key. The identifier of its algorithm decides its kind.
 ///

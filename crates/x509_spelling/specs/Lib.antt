@@ -7,3 +7,9 @@ pub mod FieldLaws
 pub mod RowLaws
 pub mod StrictReading
 pub mod Defaults
+pub mod HeldLaws
+pub mod KindLaws
+pub mod Kinds
+pub mod OidLaws
+pub mod BehindLaws
+pub mod ChosenLaws

@@ -1,6 +1,6 @@
 use Rattle.std.proofs.Common.{ap, ◌∙◌}
 use Rattle.asn1_der.specs.Tree.{der}
-use Rattle.cms_types.specs.declared.signed_attributes.SignedAttributes.{SignedAttributes}
+use Rattle.cms_signed_data.specs.declared.signed_attributes.SignedAttributes.{SignedAttributes}
 use Rattle.cms_signed_data.specs.SignedParts.{attributes_tree}
 use Rattle.cms_signed_data.proofs.WholeLemmas.{attributes_whole}
 use Rattle.cms_signed_data.proofs.written_parts.attribute_bytes.Goals as goal

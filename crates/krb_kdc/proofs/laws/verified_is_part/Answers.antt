@@ -1,6 +1,6 @@
 use Rattle.std.proofs.Common.{[], ◌∷◌, ◌++◌}
 use Rattle.krb_constants.specs.declared.padata_types.TheConstants.{PA_PK_AS_REQ}
-use Rattle.cms_types.specs.Parts.{attributes_place, certificate_place}
+use Rattle.cms_signed_data.specs.Parts.{attributes_place, certificate_place}
 use Rattle.krb_kdc.proofs.laws.verified_is_part.Goals as goal
 
 pub returns-clause-attributes : goal.returns-clause-attributes

@@ -1,6 +1,4 @@
 use Rattle.std.proofs.Common.{subst}
-use Rattle.key_functions.specs.KeyFunctions.{KeysRecord}
-use Rattle.krb_client.specs.Means.{MeansRecord}
 use Rattle.krb_logins.specs.Input.{login_of}
 use Rattle.krb_logins.specs.LoginRun.{LoginRun}
 use Rattle.krb_realm.specs.Clients.{ClientBy, means_by}

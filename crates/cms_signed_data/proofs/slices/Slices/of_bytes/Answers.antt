@@ -1,5 +1,5 @@
 use Rattle.asn1_elements.specs.PathLaws.{part_there}
-use Rattle.cms_types.specs.Parts.{content_place, certificate_place, attributes_place, digest_place, signature_place, parts_held}
+use Rattle.cms_signed_data.specs.Parts.{content_place, certificate_place, attributes_place, digest_place, signature_place, parts_held}
 use Rattle.cms_signed_data.specs.SignedParts.{content_of, digest_of, signature_of}
 use Rattle.cms_signed_data.proofs.ReadLemmas.{same_octets}
 use Rattle.cms_signed_data.proofs.slices.Slices.of_bytes.Goals as goal

@@ -1,5 +1,0 @@
-pub mod Form
-pub mod Parts
-pub mod PartSpellings
-pub mod SignedRows
-pub mod SpelledElements

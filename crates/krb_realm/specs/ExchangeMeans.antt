@@ -1,0 +1,35 @@
+-- A client's means that have padata for honest exchanges alone.
+use Rattle.std.specs.Prelude.{ℕ}
+use Rattle.picky_asn1.specs.Bytes.{Bytes}
+use Rattle.krb_time.specs.Units.{Micros}
+use Rattle.krb_types.specs.RandomBytes.{Random}
+use Rattle.krb_kdc_requests.specs.Call.{CallRecord, pkinit_call}
+use Rattle.krb_client.specs.Client.{ClientRecord}
+use Rattle.krb_client.specs.Means.{MeansRecord}
+use Rattle.key_functions.specs.KeyFunctions.{KeysRecord}
+use Rattle.pkinit_trust.specs.Anchors.{AnchorRecord}
+use Rattle.pkinit_requests.specs.Trust.{TrustRecord}
+use Rattle.krb_client.specs.Asked.{agreement_part}
+use Rattle.pkinit_clients.specs.Asked.{PkinitAskedRecord}
+use Rattle.pkinit_clients.specs.Means.{IsPkinitPadata, reply_key, sole_pkinit_padata}
+use Rattle.krb_realm.specs.Exchange.{IsHonestExchange}
+
+-- what a client remembers of a request with this nonce, at the moment
+abbrev pub asked_at : ClientRecord → AnchorRecord → ℕ → Micros → Random → PkinitAskedRecord
+asked_at client anchor nonce moment words = record {
+  realm = client.realm;
+  anchor = anchor;
+  moment = moment;
+  nonce = nonce;
+  words = agreement_part words;
+}
+
+-- the padata PA-PK-AS-REQ, where the exchange with this realm is honest
+abbrev pub exchange_means : ClientRecord → Bytes → AnchorRecord → KeysRecord → CallRecord → TrustRecord → KeysRecord → ℕ → MeansRecord
+exchange_means client certificate anchor keys call trust realm_keys nonce = record {
+  asks = λ body moment words padata. IsPkinitPadata keys certificate body moment words padata
+      × IsHonestExchange keys certificate trust realm_keys (pkinit_call call client.components body) (asked_at client anchor nonce moment words);
+  sole_asks = λ body moment words a b x y. sole_pkinit_padata keys certificate body moment words a b x.0 y.0;
+  refuses = λ body moment words. Unit {0};
+  reply_key = reply_key keys anchor;
+}

@@ -1,9 +1,0 @@
-mod Rows
-mod Honesty
-pub mod Shown
-mod Wholeness
-pub mod Writable
-pub mod Trusting
-pub mod Granted
-pub mod Taken
-pub mod ByCertificate

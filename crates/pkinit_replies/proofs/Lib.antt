@@ -1,2 +1,0 @@
-pub mod ReplyOutcome
-mod SignedLemmas

@@ -1,5 +1,0 @@
-pub mod AgreementBytes
-pub mod PublicKeys
-pub mod SignedRowLaws
-pub mod WrittenOnce
-pub mod Replies
