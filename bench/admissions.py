@@ -1,5 +1,5 @@
 """Measures admissions by the program that is the first argument, with the ticket of the file of rows that is the second: see
-admissions.sh. It writes lists of calls in the form that crates/replay_sequences reads. Each call has a request of its own."""
+admissions.sh. It writes lists of calls in the form that crates/replay_services reads. Each call has a request of its own."""
 import heapq, hmac, os, struct, subprocess, sys, tempfile
 from cryptography.hazmat.primitives.ciphers import Cipher, algorithms, modes
 

@@ -21,7 +21,7 @@ impl Rows for Arguments {
     }
 }
 
-/// Tells the status and the line of a run with these arguments and one frame as its input, and whether there was output.
+/// Writes the status and the line of a run with these arguments and one frame as its input, and whether there was output.
 fn tell_end(rt: &HostRuntime, arguments: &[String], told: &mut Told) -> anyhow::Result<()> {
     let frame = read_file(rt, "frame")?;
     let mut input = frame.as_slice();

@@ -69,7 +69,7 @@ fn client_named<'a>(clients: &'a [PkinitClient], name: &str) -> anyhow::Result<&
     bail!("no client {name}")
 }
 
-/// Tells a client's request for a ticket for a service: client, service, till, moment, random bytes and keys.
+/// Writes a client's request for a ticket for a service: client, service, till, moment, random bytes and keys.
 fn tell_request(
     alloc: Global,
     clients: &[PkinitClient],
@@ -120,7 +120,7 @@ fn ask(
     ))
 }
 
-/// Tells whether a client is made of these words: suite, realm, name, and the certificates of its own and of its anchor. The name's
+/// Writes whether a client is made of these words: suite, realm, name, and the certificates of its own and of its anchor. The name's
 /// components are in hexadecimal and divided by commas.
 fn tell_made(alloc: Global, row: &mut Row<'_>, told: &mut Told) -> anyhow::Result<()> {
     let suite = suite_of(row);
@@ -144,7 +144,7 @@ fn issuer_of(alloc: Global, certificate: &str) -> anyhow::Result<Anchor> {
     Ok(Anchor::from_certificate(alloc, &certificate)?)
 }
 
-/// The components of a name in hexadecimal, which stand between commas. `none` represents no component.
+/// The components of a name in hexadecimal, which are divided by commas. `none` represents no component.
 fn digits_name(alloc: Global, column: &str) -> anyhow::Result<Vec<Vec<u8>>> {
     let mut name = Vec::new(alloc);
     if column == "none" {
@@ -156,7 +156,7 @@ fn digits_name(alloc: Global, column: &str) -> anyhow::Result<Vec<Vec<u8>>> {
     Ok(name)
 }
 
-/// Tells what a client takes of a reply: client, keys and reply.
+/// Writes what a client takes of a reply: client, keys and reply.
 fn tell_taken(
     alloc: Global,
     clients: &[PkinitClient],
@@ -189,7 +189,7 @@ fn tell_taken_by<'a>(
     tell_credential(alloc, told, taken)
 }
 
-/// Tells what a reply grants, or the name of the refusal: the key, its suite, the realm, the service, and the ticket.
+/// Writes what a reply grants, or the name of the refusal: the key, its suite, the realm, the service, and the ticket.
 fn tell_credential(
     alloc: Global,
     told: &mut Told,
@@ -278,12 +278,16 @@ fn first_asked(
     realm: &str,
 ) -> anyhow::Result<AsAsked> {
     let service = format!(in alloc; "krbtgt/{realm}")?;
-    let asking = Asking {
+    let (request, asked) = ask(alloc, client, party, &service, first_asking()?, "test")??;
+    drop(request);
+    Ok(asked)
+}
+
+/// What that request is made by.
+fn first_asking() -> anyhow::Result<Asking> {
+    Ok(Asking {
         till: second_of("20000102000000Z")?,
         moment: moment_of("7")?,
         random: words_by(0, 1),
-    };
-    let (request, asked) = ask(alloc, client, party, &service, asking, "test")??;
-    drop(request);
-    Ok(asked)
+    })
 }

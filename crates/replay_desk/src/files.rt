@@ -5,7 +5,7 @@ use krb_program::{FileCheck, check_file, read_file};
 use replay_rows::{Row, Told};
 use std::alloc::Global;
 
-/// Settings files, each behind a line with what is to be said of it: `FILE: ok` and the warnings, or `FILE:LINE:` and the fault.
+/// Settings files, each after a line with what is to be said of it: `FILE: ok` and the warnings, or `FILE:LINE:` and the fault.
 #[derive(Clone, Copy)]
 pub(crate) struct SettingsFiles;
 
@@ -44,7 +44,7 @@ impl Rows for NamedFiles {
     }
 }
 
-/// Tells what is said of a settings file.
+/// Writes what is said of a settings file.
 fn tell_check(alloc: Global, settings: &[u8], told: &mut Told) -> anyhow::Result<()> {
     match check_file(alloc, settings)? {
         FileCheck::Fault(fault) => {

@@ -1,7 +1,7 @@
 //! Whole logins by certificate, each of a client, a realm and a service of its own.
 
 use crate::clients::made_client;
-use crate::columns::{moment_of, octets_of, second_of, suite_of};
+use crate::columns::{moment_of, octets_of, second_of, start, suite_of};
 use crate::keys::{RowKeys, keys_of};
 use crate::parties::{Party, party_of};
 use crate::pkinit::settings_of;
@@ -30,7 +30,7 @@ struct Parties<'a> {
     change: &'a str,
 }
 
-/// A service: its suite, its key in hexadecimal, the key's number, and the skew.
+/// A service: its suite, its key in hexadecimal, the key's kvno, and the skew.
 #[derive(Clone, Copy)]
 struct ServiceWords<'a> {
     suite: CipherSuite,
@@ -80,7 +80,7 @@ impl Rows for PkinitLogins {
     }
 }
 
-/// Tells the outcome of the last of the logins of these parties, or of the first that fails.
+/// Writes the outcome of the last of the logins of these parties, or of the first that fails.
 fn tell_logins(
     alloc: Global,
     parties: Parties<'_>,
@@ -167,7 +167,7 @@ fn log_in<C: KeyFunctions, R: KeyFunctions>(
     ))
 }
 
-/// Tells what a login gives, and answers whether it is granted.
+/// Writes what a login gives, and returns whether it is granted.
 fn tell_outcome(told: &mut Told, login: Result<(EncryptionKey, Admission), LoginRefusal>) -> bool {
     match login {
         Ok((key, admission)) => {
@@ -323,14 +323,25 @@ fn times_of(count: u64, words: &str) -> anyhow::Result<Times> {
 
 fn moments_of(words: &str) -> anyhow::Result<LoginMoments> {
     let mut words = Row::new(words, ",");
-    let moments = LoginMoments {
-        client_as: moment_of(words.word())?,
-        realm_as: moment_of(words.word())?,
-        client_tgs: moment_of(words.word())?,
-        realm_tgs: moment_of(words.word())?,
-        client_ap: moment_of(words.word())?,
-        service_ap: moment_of(words.word())?,
-    };
+    let mut moments = [start()?; 6];
+    for moment in &mut moments {
+        *moment = moment_of(words.word())?;
+    }
     words.ended()?;
-    Ok(moments)
+    let [
+        client_as,
+        realm_as,
+        client_tgs,
+        realm_tgs,
+        client_ap,
+        service_ap,
+    ] = moments;
+    Ok(LoginMoments {
+        client_as,
+        realm_as,
+        client_tgs,
+        realm_tgs,
+        client_ap,
+        service_ap,
+    })
 }

@@ -32,6 +32,40 @@ use rows::replay;
 use runs::Runs;
 use std::process::ExitCode;
 
+/// What the rows of a file are of.
+#[derive(Clone, Copy)]
+enum Recorded {
+    /// Requests to a realm with so many accounts beside its own service.
+    Replies(usize),
+    /// Requests by certificate to realms.
+    PkinitReplies,
+    /// What clients by certificate send and take.
+    PkinitSteps,
+    PkinitLogins,
+    Admissions,
+    Repetitions,
+    Runs,
+    SettingsFiles,
+    NamedFiles,
+    Arguments,
+}
+
+const FILES: [(Recorded, &str); 13] = [
+    (Recorded::Replies(0), "real_clients.txt"),
+    (Recorded::Replies(4), "kdc_exchanges.txt"),
+    (Recorded::Replies(6), "five_suites.txt"),
+    (Recorded::PkinitReplies, "pkinit_exchanges.txt"),
+    (Recorded::PkinitSteps, "pkinit_steps.txt"),
+    (Recorded::PkinitLogins, "pkinit_logins.txt"),
+    (Recorded::Admissions, "admissions.txt"),
+    (Recorded::Repetitions, "admissions.txt"),
+    (Recorded::Runs, "rows.txt"),
+    (Recorded::Runs, "settings.txt"),
+    (Recorded::SettingsFiles, "files.txt"),
+    (Recorded::NamedFiles, "named_files.txt"),
+    (Recorded::Arguments, "arguments.txt"),
+];
+
 fn main(rt: HostRuntime) -> ExitCode {
     match replay_all(&rt) {
         Ok(()) => run_process(&rt),
@@ -44,25 +78,23 @@ fn main(rt: HostRuntime) -> ExitCode {
 
 /// Replays each file of rows.
 fn replay_all(rt: &HostRuntime) -> anyhow::Result<()> {
-    replay(rt, realm_of(rt.alloc(), 0)?, "real_clients.txt")?;
-    replay(rt, realm_of(rt.alloc(), 4)?, "kdc_exchanges.txt")?;
-    replay(rt, realm_of(rt.alloc(), 6)?, "five_suites.txt")?;
-    replay(
-        rt,
-        realms_of(rt, "pkinit_realms.txt")?,
-        "pkinit_exchanges.txt",
-    )?;
-    replay(
-        rt,
-        clients_of(rt, "pkinit_clients.txt")?,
-        "pkinit_steps.txt",
-    )?;
-    replay(rt, PkinitLogins, "pkinit_logins.txt")?;
-    replay(rt, Admissions, "admissions.txt")?;
-    replay(rt, Repetitions, "admissions.txt")?;
-    replay(rt, Runs, "rows.txt")?;
-    replay(rt, Runs, "settings.txt")?;
-    replay(rt, SettingsFiles, "files.txt")?;
-    replay(rt, NamedFiles, "named_files.txt")?;
-    replay(rt, Arguments, "arguments.txt")
+    for (rows, file) in FILES {
+        replay_file(rt, rows, file)?;
+    }
+    Ok(())
+}
+
+fn replay_file(rt: &HostRuntime, rows: Recorded, file: &str) -> anyhow::Result<()> {
+    match rows {
+        Recorded::Replies(count) => replay(rt, realm_of(rt.alloc(), count)?, file),
+        Recorded::PkinitReplies => replay(rt, realms_of(rt, "pkinit_realms.txt")?, file),
+        Recorded::PkinitSteps => replay(rt, clients_of(rt, "pkinit_clients.txt")?, file),
+        Recorded::PkinitLogins => replay(rt, PkinitLogins, file),
+        Recorded::Admissions => replay(rt, Admissions, file),
+        Recorded::Repetitions => replay(rt, Repetitions, file),
+        Recorded::Runs => replay(rt, Runs, file),
+        Recorded::SettingsFiles => replay(rt, SettingsFiles, file),
+        Recorded::NamedFiles => replay(rt, NamedFiles, file),
+        Recorded::Arguments => replay(rt, Arguments, file),
+    }
 }

@@ -53,7 +53,7 @@ fn realm_named<'a>(realms: &'a [PkinitRealm], name: &str) -> anyhow::Result<&'a 
     bail!("no realm {name}")
 }
 
-/// Tells what the realm answers, in hexadecimal or as the name of its refusal.
+/// Writes what the realm answers, in hexadecimal or as the name of its refusal.
 fn tell_reply_to(
     alloc: Global,
     realm: &PkinitRealm,

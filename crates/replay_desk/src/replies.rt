@@ -23,7 +23,7 @@ impl Rows for Realm {
     }
 }
 
-/// Tells a reply in hexadecimal, or the name of its refusal.
+/// Writes a reply in hexadecimal, or the name of its refusal.
 pub(crate) fn tell_reply(told: &mut Told, reply: Result<Vec<u8>, AnswerRefusal>) {
     match reply {
         Ok(reply) => told.octets(&reply),

@@ -18,7 +18,7 @@ pub(crate) trait Rows {
     /// What is printed after the count of rows that differ.
     const WRONG: &'static str;
 
-    /// Reads a row, and tells what comes out.
+    /// Reads a row, and writes what comes out.
     fn tell(&self, rt: &HostRuntime, row: &mut Row<'_>, told: &mut Told) -> anyhow::Result<()>;
 }
 

@@ -3,7 +3,7 @@
 use krb_realm::{Admission, EncryptionKey, PrincipalName};
 use replay_rows::Told;
 
-/// Tells a name's components between slashes.
+/// Writes a name's components, which slashes divide.
 pub(crate) fn tell_name(told: &mut Told, name: &PrincipalName) {
     let mut separator = "";
     for component in name.name_string.0.as_slice() {
@@ -13,7 +13,7 @@ pub(crate) fn tell_name(told: &mut Told, name: &PrincipalName) {
     }
 }
 
-/// Tells a key's type.
+/// Writes a key's type.
 pub(crate) fn tell_key_type(told: &mut Told, key: &EncryptionKey) {
     match key.key_type.0.to_i64() {
         Some(key_type) => told.show(&key_type),
@@ -21,7 +21,7 @@ pub(crate) fn tell_key_type(told: &mut Told, key: &EncryptionKey) {
     }
 }
 
-/// Tells the client, the session key, the subkey and the reply of an admission.
+/// Writes the client, the session key, the subkey and the reply of an admission.
 pub(crate) fn tell_admission(told: &mut Told, admission: &Admission) {
     told.put("Ok client ");
     tell_name(told, &admission.client);
@@ -48,7 +48,7 @@ fn tell_subkey(told: &mut Told, subkey: &Option<EncryptionKey>) {
     told.octets(key.key_value.0.as_bytes());
 }
 
-/// Tells the client's key and its type, and the client's name and realm as the service was told them.
+/// Writes the client's key and its type, and the client's name and realm as the service has them.
 pub(crate) fn tell_login(told: &mut Told, key: &EncryptionKey, admission: &Admission) {
     told.put("Ok ");
     told.octets(key.key_value.0.as_bytes());

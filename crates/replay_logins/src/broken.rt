@@ -53,7 +53,7 @@ fn end_of<R: Source, W: Sink, K: Source>(
     serve(alloc, served.realm, reader, writer, moments, words, &NoKeys)
 }
 
-/// Whether a writer that fails behind so many bytes takes these, and no other fault is told.
+/// Whether a writer that fails after so many bytes takes these, and the run ends by that fault.
 fn is_written(alloc: Global, served: &Served<'_>, front: &[u8]) -> bool {
     let mut writer = Trickle::new(alloc, front.len(), true);
     let (mut reader, mut words) = (served.stream, served.words);
@@ -72,7 +72,7 @@ fn broken_writers(alloc: Global, served: &Served<'_>, output: &[u8]) -> u64 {
     broken
 }
 
-/// Whether a reader and random bytes that fail behind so many calls end the run by that fault, with this front written.
+/// Whether a reader and random bytes that fail after so many calls end the run by that fault, with this front written.
 fn is_read(alloc: Global, served: &Served<'_>, calls: usize, draws: usize, front: &[u8]) -> bool {
     let mut reader = Drip::new(served.stream, calls);
     let mut words = Drip::new(served.words, draws);
@@ -81,7 +81,7 @@ fn is_read(alloc: Global, served: &Served<'_>, calls: usize, draws: usize, front
     end == Err(ServeFault::Read) && written.as_slice() == front
 }
 
-/// The call behind the last byte, which finds the stream's end, comes once the reply is written.
+/// The call after the last byte, which finds the stream's end, comes once the reply is written.
 fn broken_readers(alloc: Global, served: &Served<'_>, output: &[u8]) -> u64 {
     let size = served.stream.len();
     let mut broken = u64::from(is_read(alloc, served, size, usize::MAX, output));

@@ -8,7 +8,7 @@ pub(crate) struct Line<'a> {
     pub(crate) words: Row<'a>,
     /// The bytes that the step is given in place of those that were sent last, in hexadecimal.
     pub(crate) message: Option<&'a str>,
-    /// What the step is to tell.
+    /// What the step is to write.
     pub(crate) wanted: &'a str,
 }
 

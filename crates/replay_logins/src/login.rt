@@ -38,7 +38,7 @@ pub(crate) fn login(
     Ok(())
 }
 
-/// Tells whether the login by password, or by certificate with these key functions, would be honest.
+/// Writes whether the login by password, or by certificate with these key functions, would be honest.
 pub(crate) fn honest(
     stage: &Stage,
     alloc: Global,

@@ -55,7 +55,7 @@ fn joined(alloc: Global, front: &[u8], back: &[u8]) -> anyhow::Result<Vec<u8>> {
     Ok(whole)
 }
 
-/// Reads an error, and tells how it prints.
+/// Reads an error, and writes how it prints.
 pub(crate) fn print_error(stage: &Stage, alloc: Global, told: &mut Told) -> anyhow::Result<()> {
     let error = krb_messages::from_bytes::<KrbError>(alloc, &stage.request)?;
     told.show(&error.0);
@@ -63,7 +63,7 @@ pub(crate) fn print_error(stage: &Stage, alloc: Global, told: &mut Told) -> anyh
     Ok(())
 }
 
-/// Reads an error. Tells its length, and whether it is written into 72 and into 71 bytes. It is to be the same bytes.
+/// Reads an error. Writes its length, and whether it is written into 72 and into 71 bytes. It is to be the same bytes.
 pub(crate) fn write_error(stage: &Stage, alloc: Global, told: &mut Told) -> anyhow::Result<()> {
     let error = krb_messages::from_bytes::<KrbError>(alloc, &stage.request)?;
     tell_written(error, &stage.request, told);

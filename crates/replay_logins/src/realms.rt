@@ -155,7 +155,7 @@ fn change_key(
     Ok(())
 }
 
-/// Changes the key of an account whose key has this number.
+/// Changes the key of an account whose key has this kvno.
 fn spend_number(alloc: Global, words: &mut Row<'_>, told: &mut Told) -> anyhow::Result<()> {
     let number = words.number::<u32>();
     let name = components_of(alloc, "x")?;
@@ -201,7 +201,7 @@ pub(crate) fn answer<K: KeyFunctions>(
     Ok(())
 }
 
-/// Serves the stream at the moment, and tells how it ends and what is written.
+/// Serves the stream at the moment. Writes how it ends, and what is written to the stream.
 fn serve(stage: &Stage, alloc: Global, told: &mut Told) -> anyhow::Result<()> {
     let at = stage.conditions;
     let words = at.random.bytes();

@@ -8,7 +8,7 @@ use krb_realm::{Admission, AdmitRefusal, Moment, Service};
 use replay_rows::{Row, Told, components_of};
 use std::alloc::Global;
 
-/// Makes the service `h`, of this realm, suite, key, number of the key, and skew.
+/// Makes the service `h`, of this realm, suite, key, kvno and skew.
 pub(crate) fn service(
     stage: &mut Stage,
     alloc: Global,

@@ -111,7 +111,7 @@ fn empty_stage(alloc: Global, conditions: Conditions) -> Stage {
     }
 }
 
-/// Tells what the step of a line gives.
+/// Writes what the step of a line gives.
 pub(crate) fn tell(
     stage: &mut Stage,
     alloc: Global,

@@ -49,7 +49,7 @@ pub(crate) fn tgs_reply(stage: &mut Stage, alloc: Global, told: &mut Told) -> an
     Ok(())
 }
 
-/// Keeps the credential that was taken, and tells its key.
+/// Keeps the credential that was taken, and writes its key.
 fn keep(stage: &mut Stage, taken: Result<Credential, TakeRefusal>, told: &mut Told) {
     match taken {
         Ok(credential) => {

@@ -45,7 +45,7 @@ pub(crate) fn admission_text(told: &mut Told, admission: &Admission) {
     });
 }
 
-/// The client's key, and what the service was told.
+/// The client's key, and what the service admitted.
 pub(crate) fn login_text(told: &mut Told, key: &EncryptionKey, admission: &Admission) {
     told.put("key ");
     key_text(told, key);

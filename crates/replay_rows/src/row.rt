@@ -6,7 +6,7 @@ use std::str::FromStr;
 
 /// The words of a row that are still to be read.
 ///
-/// A word that is not as expected is a fault. The reader keeps the first fault, and answers a value in the word's place. So a row is
+/// A word that is not as expected is a fault. The reader keeps the first fault, and returns a value in place of the word. So a row is
 /// read whole, and [`Row::ended`] refuses it at its end.
 #[derive(Clone, Copy)]
 pub struct Row<'a> {
@@ -81,7 +81,7 @@ impl<'a> Row<'a> {
         self.rest = None;
     }
 
-    /// The next word as text: `-` stands for none.
+    /// The next word as text, which is empty for `-`.
     pub fn text(&mut self) -> &'a str {
         let word = self.word();
         if word == "-" { "" } else { word }
@@ -102,7 +102,7 @@ impl<'a> Row<'a> {
         }
     }
 
-    /// The next word as octets, in hexadecimal: `-` stands for none.
+    /// The next word as octets, in hexadecimal. `-` is no octet.
     pub fn octets(&mut self, alloc: Global) -> Vec<u8> {
         let word = self.text();
         match hex::decode(alloc, word) {
@@ -145,7 +145,7 @@ impl<'a> Row<'a> {
     }
 }
 
-/// The components of a name, which stand between slashes. `-` and `none` stand for no component.
+/// The components of a name, which are divided by slashes. `-` and `none` have no component.
 pub fn components_of(alloc: Global, name: &str) -> Result<Vec<Vec<u8>>, AllocError> {
     let mut components = Vec::new(alloc);
     if name == "-" || name == "none" {

@@ -6,6 +6,7 @@ use std::fmt::{Debug, Display, Write};
 /// Text that is written piece by piece. Where memory runs out for a piece, [`Told::text`] refuses the text at its end.
 #[derive(Drop)]
 pub struct Told {
+    alloc: Global,
     text: String,
     /// Whether each piece was written.
     is_whole: bool,
@@ -15,6 +16,7 @@ impl Told {
     /// No text yet.
     pub fn new(alloc: Global) -> Told {
         Told {
+            alloc,
             text: String::new(alloc),
             is_whole: true,
         }
@@ -45,9 +47,9 @@ impl Told {
 
     /// Writes octets in hexadecimal.
     pub fn octets(&mut self, octets: &[u8]) {
-        for octet in octets {
-            let written = write!(self.text, "{octet:02x}").is_ok();
-            self.is_whole = self.is_whole && written;
+        match hex::encode(self.alloc, octets) {
+            Ok(digits) => self.put(&digits),
+            Err(_) => self.is_whole = false,
         }
     }
 

@@ -122,8 +122,12 @@ fn put_counts(
 ) -> anyhow::Result<()> {
     let of_certificate = deviations::<Certificate>(alloc, certificate)?;
     let of_all = deviations::<ContentInfo>(alloc, input)?;
-    parts.push(format!(in alloc; "{of_certificate}")?)?;
-    parts.push(format!(in alloc; "{}", of_all.saturating_sub(of_certificate))?)?;
+    put_number(alloc, parts, of_certificate)?;
+    put_number(alloc, parts, of_all.saturating_sub(of_certificate))
+}
+
+fn put_number(alloc: Global, parts: &mut Vec<String>, number: usize) -> anyhow::Result<()> {
+    parts.push(format!(in alloc; "{number}")?)?;
     Ok(())
 }
 
@@ -150,8 +154,12 @@ fn put_judged(
     drop(certificate);
     let signer = if signer? { "signer" } else { "other" };
     let digest = if digest? { "digest" } else { "differs" };
-    parts.push(String::from_str(alloc, signer)?)?;
-    parts.push(String::from_str(alloc, digest)?)?;
+    put_word(alloc, parts, signer)?;
+    put_word(alloc, parts, digest)
+}
+
+fn put_word(alloc: Global, parts: &mut Vec<String>, word: &str) -> anyhow::Result<()> {
+    parts.push(String::from_str(alloc, word)?)?;
     Ok(())
 }
 

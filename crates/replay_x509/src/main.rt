@@ -16,16 +16,24 @@ use anyhow::bail;
 use line::{Recorded, recorded_of};
 use std::alloc::Global;
 use test_support::{Lines, replay};
+use told::Answer;
+
+const FILES: [&str; 8] = [
+    "standards.txt",
+    "published.txt",
+    "deviations.txt",
+    "spellings.txt",
+    "printed.txt",
+    "rfc5280.txt",
+    "certificates.txt",
+    "openssl.txt",
+];
 
 fn main(rt: HostRuntime) -> anyhow::Result<()> {
-    replay(&rt, &Spellings, "standards.txt")?;
-    replay(&rt, &Spellings, "published.txt")?;
-    replay(&rt, &Spellings, "deviations.txt")?;
-    replay(&rt, &Spellings, "spellings.txt")?;
-    replay(&rt, &Spellings, "printed.txt")?;
-    replay(&rt, &Spellings, "rfc5280.txt")?;
-    replay(&rt, &Spellings, "certificates.txt")?;
-    replay(&rt, &Spellings, "openssl.txt")
+    for file in FILES {
+        replay(&rt, &Spellings, file)?;
+    }
+    Ok(())
 }
 
 /// Spellings, and printed texts.
@@ -34,7 +42,7 @@ struct Spellings;
 impl Lines for Spellings {
     const NAME: &'static str = "lines";
 
-    /// The word `text` in front tells of printed text.
+    /// A line of printed text begins with the word `text`.
     fn agrees(&self, alloc: Global, line: &str) -> anyhow::Result<bool> {
         if let Some(rest) = line.strip_prefix("text ") {
             return printed::agrees(alloc, rest);
@@ -46,23 +54,28 @@ impl Lines for Spellings {
 
 /// Whether a spelling is read, counted and rewritten as expected.
 fn is_spelled(alloc: Global, recorded: &Recorded<'_>) -> anyhow::Result<bool> {
+    match answer_of(alloc, recorded) {
+        Some(answer) => Ok(answer?),
+        None => bail!("no type {}", recorded.type_name),
+    }
+}
+
+/// The same of a type that a module knows.
+fn answer_of(alloc: Global, recorded: &Recorded<'_>) -> Option<Answer> {
     if let Some(answer) = algorithms::agrees(alloc, recorded) {
-        return Ok(answer?);
+        return Some(answer);
     }
     if let Some(answer) = names::agrees(alloc, recorded) {
-        return Ok(answer?);
+        return Some(answer);
     }
     if let Some(answer) = extensions::agrees(alloc, recorded) {
-        return Ok(answer?);
+        return Some(answer);
     }
     if let Some(answer) = keys::agrees(alloc, recorded) {
-        return Ok(answer?);
+        return Some(answer);
     }
     if let Some(answer) = certificates::agrees(alloc, recorded) {
-        return Ok(answer?);
+        return Some(answer);
     }
-    if let Some(answer) = made::agrees(alloc, recorded) {
-        return Ok(answer?);
-    }
-    bail!("no type {}", recorded.type_name)
+    made::agrees(alloc, recorded)
 }

@@ -1,4 +1,4 @@
-//! A message through the suite of triple DES, by its type, as any suite. The values are lines of `replay_sealing` too.
+//! A message through the suite of triple DES, by its type, as any suite. The values are lines of `replay_crypto` too.
 
 use crate::sealing::is;
 use krb_crypto::des::{Des3CbcSha1Kd, HmacSha1Des3Kd};

@@ -1,4 +1,4 @@
-//! Worked values of encryption, at the calls that no line of `replay_sealing` makes, and worked keys of X.509.
+//! Worked values of encryption, at the calls that no line of `replay_crypto` makes, and worked keys of X.509.
 #![tactic(auto)]
 
 #[cfg(test)]

@@ -1,0 +1,105 @@
+"""Writes account_texts.txt: texts of accounts by a writer of its own, and what is said of damaged ones, written by hand."""
+import random
+
+random.seed(51)
+SUITES = {"aes128-cts-hmac-sha1-96": 16, "aes256-cts-hmac-sha1-96": 32, "des3-cbc-sha1-kd": 24,
+          "aes128-cts-hmac-sha256-128": 16, "aes256-cts-hmac-sha384-192": 32}
+MARKS = {0: "\\0", 8: "\\b", 9: "\\t", 10: "\\n", 47: "\\/", 64: "\\@", 92: "\\\\"}
+rows = []
+
+def fold(text):
+    return text.replace("^", "^^").replace("\n", "^n").replace("\t", "^t")
+
+def row(*fields):
+    assert all("|" not in field and "\n" not in field for field in fields)
+    rows.append("|".join(fields))
+
+def name_text(name):
+    return "/".join("".join(MARKS.get(c, chr(c)) for c in component) for component in name)
+
+def line(name, suite, kvno, salt, key):
+    return "\t".join([name_text(name), suite, str(kvno), "-" if salt is None else salt.hex(), key.hex()]) + "\n"
+
+def octets(count):
+    return bytes(random.randrange(256) for _ in range(count))
+
+def some_name():
+    return tuple(bytes(random.choice(b"abz-._ \t\n\\/@\x00\x08019") for _ in range(random.choice([1, 3, 9])))
+                 for _ in range(random.choice([1, 1, 2, 3])))
+
+def some_account(name):
+    suite = random.choice(list(SUITES))
+    return (name, suite, random.choice([1, 2, 9, 10, 4294967295, random.randrange(1, 2 ** 32)]),
+            random.choice([None, b"", octets(5)]), octets(SUITES[suite]))
+
+HEAD = "realm\tEXAMPLE.COM\t300\t36000\n"
+
+def text_of(accounts, head=HEAD):
+    return head + "".join(line(*accounts[name]) for name in sorted(accounts))
+
+for _ in range(60):
+    accounts = {name: some_account(name) for name in {some_name() for _ in range(random.randrange(6))}}
+    text = text_of(accounts)
+    row("read", fold(text), fold(text))
+    names = sorted(accounts)
+    other = some_name()
+    suite = random.choice(list(SUITES))
+    key = octets(SUITES[suite])
+    field = fold(name_text(other))
+    if "^" in field:
+        continue
+    more = dict(accounts)
+    more[other] = (other, suite, 1, None, key)
+    row("add", fold(text), name_text(other), suite, key.hex(), "the account is there already" if other in accounts else fold(text_of(more)))
+    row("remove", fold(text_of(more)), name_text(other), fold(text_of({n: a for n, a in more.items() if n != other})))
+    for name in names:
+        rekeyed = dict(accounts)
+        rekeyed[name] = (name, suite, accounts[name][2] + 1, None, key)
+        spent = accounts[name][2] == 4294967295
+        row("key", fold(text), name_text(name), suite, key.hex(),
+            "kvno 4294967295 is the greatest: expected a new name" if spent else fold(text_of(rekeyed)))
+    if other not in accounts:
+        row("key", fold(text), name_text(other), suite, key.hex(), "no such account")
+        row("remove", fold(text), name_text(other), "no such account")
+
+KEY = "00" * 16
+ONE = "a\taes128-cts-hmac-sha1-96\t1\t-\t" + KEY + "\n"
+FIELDS = "expected name, suite, kvno, salt and key, or realm, name, skew and lifetime, with a tab between each two"
+NAME = "name: expected 1 to 16 components of 1 to 255 ASCII characters, with / between each two"
+SUITE = "suite: expected one of " + ", ".join(SUITES)
+KVNO = "kvno: expected a whole number from 1 to 4294967295"
+SALT = "salt: expected pairs of hexadecimal digits, or - for none"
+KEYS = "key: expected as many hexadecimal digits as a key of the suite has: 32, 48 or 64"
+REALM = "realm: expected 1 to 255 printable ASCII characters"
+SECONDS = "realm: expected a skew from 0 to 86400 seconds and a lifetime from 1 to 31536000 seconds"
+NO_REALM = "expected the line of the realm before all accounts: realm, name, skew and lifetime"
+ORDER = "name: expected accounts in the order of their names, each name once"
+COMMENTED = "# first\n#\tsecond\n" + HEAD + "# third\n" + ONE + "#\n"
+row("read", fold(COMMENTED), fold(COMMENTED))
+row("remove", fold(COMMENTED), "a", fold("# first\n#\tsecond\n" + HEAD + "# third\n#\n"))
+row("read", fold(HEAD + ONE.upper().replace("AES128-CTS-HMAC-SHA1-96", "aes128-cts-hmac-sha1-96").replace("A\t", "a\t", 1).replace("\t1\t", "\t01\t")), fold(HEAD + ONE))
+for text, fault in [
+    ("", "1: " + NO_REALM), ("#\n", "2: " + NO_REALM), (ONE, "1: " + NO_REALM), (HEAD + HEAD, "2: expected one line of a realm alone"),
+    (HEAD + "\n", "2: " + FIELDS), (HEAD + "a\tb\tc\td\n", "2: " + FIELDS), (HEAD + ONE.replace("\n", "\t\n"), "2: " + FIELDS),
+    (HEAD + ONE[:-1], "2: expected a line break at the end"), (HEAD + ONE + "b", "3: expected a line break at the end"),
+    (HEAD + ONE.replace("a\t", "\t", 1), "2: " + NAME), (HEAD + ONE.replace("a\t", "a/\t", 1), "2: " + NAME),
+    (HEAD + ONE.replace("a\t", "a@R\t", 1), "2: " + NAME), (HEAD + ONE.replace("a\t", "a\\\t", 1), "2: " + NAME),
+    (HEAD + ONE.replace("a\t", "ä\t", 1), "2: " + NAME), (HEAD + ONE.replace("a\t", "a" * 256 + "\t", 1), "2: " + NAME),
+    (HEAD + ONE.replace("a\t", "/".join("a" * 17) + "\t", 1), "2: " + NAME),
+    (HEAD + ONE.replace("sha1-96", "sha1"), "2: " + SUITE), (HEAD + ONE.replace("aes128", "AES128"), "2: " + SUITE),
+    (HEAD + ONE.replace("\t1\t", "\t0\t"), "2: " + KVNO), (HEAD + ONE.replace("\t1\t", "\t4294967296\t"), "2: " + KVNO),
+    (HEAD + ONE.replace("\t1\t", "\t\t"), "2: " + KVNO), (HEAD + ONE.replace("\t1\t", "\t-1\t"), "2: " + KVNO),
+    (HEAD + ONE.replace("\t1\t", "\t1 \t"), "2: " + KVNO), (HEAD + ONE.replace("\t1\t", "\t99999999999999999999999\t"), "2: " + KVNO),
+    (HEAD + ONE.replace("\t-\t", "\t0\t"), "2: " + SALT), (HEAD + ONE.replace("\t-\t", "\t--\t"), "2: " + SALT),
+    (HEAD + ONE.replace(KEY, KEY[2:]), "2: " + KEYS), (HEAD + ONE.replace(KEY, KEY + "00"), "2: " + KEYS),
+    (HEAD + ONE.replace(KEY, "g" + KEY[1:]), "2: " + KEYS), (HEAD + ONE.replace(KEY, KEY[1:]), "2: " + KEYS),
+    (HEAD + ONE + ONE, "3: " + ORDER), (HEAD + ONE.replace("a\t", "b\t", 1) + "#\n" + ONE, "4: " + ORDER),
+    (HEAD + ONE.replace("a\t", "a/b\t", 1) + ONE, "3: " + ORDER),
+    (HEAD.replace("EXAMPLE.COM", ""), "1: " + REALM), (HEAD.replace("EXAMPLE.COM", "A\x01"), "1: " + REALM), (HEAD.replace("EXAMPLE.COM", "A" * 256), "1: " + REALM),
+    (HEAD.replace("300", "86401"), "1: " + SECONDS), (HEAD.replace("36000", "0"), "1: " + SECONDS), (HEAD.replace("36000", "31536001"), "1: " + SECONDS),
+    (HEAD.replace("300", "x"), "1: " + SECONDS),
+]:
+    row("read", fold(text), fault)
+
+with open("account_texts.txt", "w", encoding="utf-8") as out:
+    out.write("".join(row + "\n" for row in rows))

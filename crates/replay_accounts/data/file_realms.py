@@ -1,0 +1,224 @@
+#!/usr/bin/env python3
+"""Writes four_accounts.cdb, the database of a realm of four accounts, copies of it that are damaged, and file_realms.txt: requests with the reply of that
+realm, and with the entry of the log.
+
+The replies are those that an independent implementation of RFC 4120's rules gave (replay_desk/data/kdc_exchanges.txt): of each reason the
+first rows. Keys of passwords are derived here by RFC 3962 and RFC 3961 over Python's cryptography. Entries are read here off the messages'
+DER. The databases are made by the independent writer databases.py.
+
+usage: python3 file_realms.py        in this folder
+"""
+import hashlib
+import os
+import sys
+
+from cryptography.hazmat.decrepit.ciphers.algorithms import TripleDES
+from cryptography.hazmat.primitives.ciphers import Cipher, algorithms, modes
+
+sys.dont_write_bytecode = True
+import databases
+
+HERE = os.path.dirname(os.path.abspath(__file__))
+CRATES = os.path.join(HERE, "..", "..")
+
+
+# ---- Keys of passwords ------------------------------------------------------------------------------------------------------
+
+def folded(octets, size):
+    """n-fold (RFC 3961, section 5.1): copies of the text, each rotated by 13 bits more, are added in one's complement."""
+    bits = "".join(f"{octet:08b}" for octet in octets)
+    whole, copies = "", 0
+    while not whole or len(whole) % (8 * size):
+        turn = 13 * copies % len(bits)
+        whole += bits[-turn:] + bits[:-turn] if turn else bits
+        copies += 1
+    total = sum(int(whole[at : at + 8 * size], 2) for at in range(0, len(whole), 8 * size))
+    while total >> 8 * size:
+        total = (total >> 8 * size) + (total & (1 << 8 * size) - 1)
+    return total.to_bytes(size, "big")
+
+
+def block(algorithm, octets):
+    encryptor = Cipher(algorithm, modes.ECB()).encryptor()
+    return encryptor.update(octets) + encryptor.finalize()
+
+
+def derived(algorithm, first, size):
+    octets = b""
+    while len(octets) < size:
+        first = block(algorithm, first)
+        octets += first
+    return octets[:size]
+
+
+def aes_key(password, salt, size):
+    """RFC 3962, section 4: 4,096 rounds, then DK with `kerberos`."""
+    key = hashlib.pbkdf2_hmac("sha1", password, salt, 4096, size)
+    return derived(algorithms.AES(key), folded(b"kerberos", 16), size)
+
+
+def des3_key_of(octets):
+    """Random-to-key (RFC 3961, section 6.3.1): of each 7 octets the low bits make an eighth, and each octet gets odd parity."""
+    key = b""
+    for part in (octets[at : at + 7] for at in range(0, 21, 7)):
+        eighth = sum((octet & 1) << place + 1 for place, octet in enumerate(part))
+        key += bytes(octet & 254 | (bin(octet >> 1).count("1") + 1) % 2 for octet in (*part, eighth))
+    return key
+
+
+def des3_key(password, salt):
+    """RFC 3961, section 6.3.1."""
+    key = des3_key_of(folded(password + salt, 21))
+    return des3_key_of(derived(TripleDES(key), b"kerberos", 21))
+
+
+# ---- The database -----------------------------------------------------------------------------------------------------------
+
+def account(suite, key, salt=None, kvno=1):
+    return bytes([1, suite]) + kvno.to_bytes(4, "little") + bytes([salt is not None]) + key + (salt or b"")
+
+
+def realm_record(name, skew, lifetime):
+    return b"\1" + skew.to_bytes(4, "little") + lifetime.to_bytes(4, "little") + bytes(8) + name
+
+
+def key_of(*components):
+    return b"".join(bytes(octet + 1 for octet in component) + b"\0" for component in components)
+
+
+REALM = [(b"\xff", realm_record(b"R", 300, 36000))]
+ACCOUNTS = [
+    (key_of(b"a"), account(18, aes_key(b"pw", b"Ra", 32), b"Ra")),
+    (key_of(b"b"), account(17, aes_key(b"pw", b"Rb", 16), b"Rb")),
+    (key_of(b"d"), account(16, des3_key(b"pw", b"Rd"), b"Rd")),
+    (key_of(b"h"), account(18, bytes([1]) * 32)),
+    (key_of(b"krbtgt", b"R"), account(18, bytes(32))),
+]
+
+
+# ---- Entries of the log -----------------------------------------------------------------------------------------------------
+
+def elements(octets):
+    """The DER elements, in their order: the first octet of each, and its content."""
+    found = []
+    while octets:
+        begin = 2 + (octets[1] & 127 if octets[1] > 127 else 0)
+        end = begin + int.from_bytes(octets[2:begin] or octets[1:2], "big")
+        found.append((octets[0], octets[begin:end]))
+        octets = octets[end:]
+    return found
+
+
+def fields(octets):
+    """The fields of a SEQUENCE by the numbers of their tags."""
+    ((_, content),) = elements(octets)
+    return {tag - 0xA0: field for tag, field in elements(content)}
+
+
+def content(octets):
+    return elements(octets)[0][1]
+
+
+def text(octets):
+    marks = {ord(c): "\\" + c for c in "/@\\"}
+    return "".join(marks.get(o) or (chr(o) if 33 <= o <= 126 else f"\\x{o:02x}") for o in octets)
+
+
+def name(field, realm):
+    components = elements(content(fields(field)[1]))
+    shown = "/".join(text(component) for _, component in components) + "@" + text(content(realm))
+    return shown if len(shown) <= 512 else "(long)"
+
+
+def number(field):
+    return int.from_bytes(content(field), "big", signed=True)
+
+
+ERRORS = {
+    3: "KDC_ERR_BAD_PVNO", 6: "KDC_ERR_C_PRINCIPAL_UNKNOWN", 7: "KDC_ERR_S_PRINCIPAL_UNKNOWN", 10: "KDC_ERR_CANNOT_POSTDATE",
+    11: "KDC_ERR_NEVER_VALID", 12: "KDC_ERR_POLICY", 13: "KDC_ERR_BADOPTION", 14: "KDC_ERR_ETYPE_NOSUPP", 15: "KDC_ERR_SUMTYPE_NOSUPP",
+    16: "KDC_ERR_PADATA_TYPE_NOSUPP", 24: "KDC_ERR_PREAUTH_FAILED", 25: "KDC_ERR_PREAUTH_REQUIRED", 31: "KRB_AP_ERR_BAD_INTEGRITY",
+    33: "KRB_AP_ERR_TKT_NYV", 35: "KRB_AP_ERR_NOT_US", 36: "KRB_AP_ERR_BADMATCH", 37: "KRB_AP_ERR_SKEW", 39: "KRB_AP_ERR_BADVERSION",
+    40: "KRB_AP_ERR_MSG_TYPE", 41: "KRB_AP_ERR_MODIFIED", 44: "KRB_AP_ERR_BADKEYVER", 50: "KRB_AP_ERR_INAPP_CKSUM",
+    68: "KDC_ERR_WRONG_REALM",
+}
+
+
+def entry(request, reply, is_request=True):
+    if reply == "Unreadable":
+        return "- - - no-request"
+    if not is_request:
+        return "- - - no-accounts"
+    exchange = {0x6A: "AS", 0x6C: "TGS"}[request[0]]
+    body = fields(fields(content(request))[4])
+    client = name(body[1], body[2]) if 1 in body else "-"
+    service = name(body[3], body[2]) if 3 in body else "-"
+    if reply == "Accounts":
+        return f"{exchange} {client} {service} no-accounts"
+    told = fields(content(reply))
+    if reply[0] == 0x7E:
+        return f"{exchange} {client} {service} error={ERRORS[number(told[6])]}"
+    ticket = number(fields(fields(content(told[5]))[3])[0])
+    return f"{exchange} {name(told[4], told[3])} {service} ticket={ticket} reply={number(fields(told[6])[0])}"
+
+
+# ---- The rows ---------------------------------------------------------------------------------------------------------------
+
+def recorded():
+    """Of each reason the first three rows."""
+    counts = {}
+    with open(os.path.join(CRATES, "replay_desk", "data", "kdc_exchanges.txt"), encoding="ascii") as rows:
+        for line in rows:
+            if line.startswith("#"):
+                continue
+            label, request, reply, reason = line.rstrip("\n").split(" | ")
+            counts[reason] = counts.get(reason, 0) + 1
+            if counts[reason] <= (3 if reason.endswith("granted") else 1) or label == "message random!":
+                yield label, request, reply
+
+
+def row(label, request, reply, is_request=True):
+    octets = bytes.fromhex(request)
+    told = reply if reply in ("Unreadable", "Accounts") else bytes.fromhex(reply)
+    return f"ask | {label} | {request} | {reply} | {entry(octets, told, is_request)}\n"
+
+
+def write(path, octets):
+    with open(os.path.join(HERE, path), "wb") as file:
+        file.write(octets)
+
+
+def main():
+    write("four_accounts.cdb", databases.database(ACCOUNTS + REALM))
+    # The realm's record has another version, there is none, and the account of h has the kvno 0.
+    write("other_version.cdb", databases.database(ACCOUNTS + [(b"\xff", b"\2" + REALM[0][1][1:])]))
+    write("no_realm.cdb", databases.database(ACCOUNTS))
+    damaged = [(key, account(18, bytes([1]) * 32, kvno=0) if key == key_of(b"h") else record) for key, record in ACCOUNTS]
+    write("damaged_h.cdb", databases.database(damaged + REALM))
+    rows = list(recorded())
+    granted = next(it for it in rows if it[2].startswith("6b"))
+    # What begins as a request is judged by the file, and what doesn't is answered without it.
+    begun = next(it for it in rows if it[2] == "Unreadable" and it[1].startswith("6a"))
+    other = next(it for it in rows if it[2] == "Unreadable" and not it[1].startswith(("6a", "6c")))
+    of_h = next(it for it in rows if asks_h(*it[1:]))
+    with open(os.path.join(HERE, "file_realms.txt"), "w", encoding="ascii") as out:
+        out.write(HEAD + "open four_accounts.cdb\n" + "".join(row(*it) for it in rows))
+        for path in "absent.cdb", "other_version.cdb", "no_realm.cdb":
+            out.write(f"open {path}\n" + row(*granted[:2], "Accounts") + row(*begun[:2], "Accounts", False) + row(*other))
+        out.write("open damaged_h.cdb\n" + row(*of_h[:2], "Accounts") + row(*granted))
+        out.write("open four_accounts.cdb\n" + row(*of_h))
+
+
+def asks_h(request, reply):
+    return reply.startswith("6d") and " h@R " in entry(bytes.fromhex(request), bytes.fromhex(reply)) + " "
+
+
+HEAD = """\
+# Written by file_realms.py.
+# open PATH: the realm is that of the file with this path from now on. It is opened anew for each message.
+# ask | label | request | reply | entry: what the realm replies at 2000-01-01 00:00:00 with the random octets 00 to 7F, and the entry of the
+# log. A reply is a message in hexadecimal, Unreadable if the octets are no request, or Accounts if the file can't be used.
+"""
+
+if __name__ == "__main__":
+    main()

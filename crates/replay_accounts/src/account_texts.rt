@@ -1,0 +1,154 @@
+//! Texts of accounts: how a text is read, and what it is after a change. The rows come from an independent writer of texts, and their
+//! faults were written by hand (`data/account_texts.py`).
+//!
+//! A row has fields with `|` between: what is done, the text, arguments, and the outcome. In a field `^n` is a line feed and `^t` a tab.
+
+use anyhow::bail;
+use krb_account_texts::{
+    AccountLine, EditRefusal, Line, LineFault, TextFault, add, change_key, check_order, read_key,
+    read_lines, read_name, remove, suite_named, text_of,
+};
+use krb_accounts::Account;
+use krb_crypto::Key;
+use replay_rows::{Row, Rows, replay};
+use std::alloc::Global;
+
+/// Replays the rows on texts of accounts.
+pub(crate) fn replay_account_texts(rt: &HostRuntime) -> anyhow::Result<()> {
+    replay(rt, &mut AccountTexts, "account_texts.txt")
+}
+
+#[derive(Clone, Copy)]
+struct AccountTexts;
+
+/// What is done with a text, and its arguments, which are empty where there are none.
+#[derive(Clone, Copy)]
+struct Edit<'a> {
+    what: &'a str,
+    name: &'a str,
+    suite: &'a str,
+    key: &'a str,
+}
+
+impl Rows for AccountTexts {
+    const COLUMNS: &'static str = "|";
+
+    fn agrees(&mut self, rt: &HostRuntime, row: &mut Row<'_>) -> anyhow::Result<bool> {
+        let what = row.word();
+        let text = row.word();
+        let edit = edit_of(what, row);
+        let expected = row.word();
+        let found = outcome(rt.alloc(), text, &edit)?;
+        Ok(found.as_str() == expected)
+    }
+}
+
+/// Reads the arguments of what is done with a text.
+fn edit_of<'a>(what: &'a str, row: &mut Row<'a>) -> Edit<'a> {
+    let has_name = what != "read";
+    let has_key = what == "key" || what == "add";
+    Edit {
+        what,
+        name: if has_name { row.word() } else { "" },
+        suite: if has_key { row.word() } else { "" },
+        key: if has_key { row.word() } else { "" },
+    }
+}
+
+/// The outcome: the text, or the fault.
+fn outcome(alloc: Global, text: &str, edit: &Edit<'_>) -> anyhow::Result<String> {
+    let text = unfolded(alloc, text)?;
+    let mut lines = match read_lines(alloc, text.as_str()) {
+        Ok(lines) => lines,
+        Err(fault) => return fault_text(alloc, fault),
+    };
+    if let Err(fault) = check_order(&lines) {
+        return fault_text(alloc, fault);
+    }
+    match edited(alloc, &mut lines, edit)? {
+        None => lines_text(alloc, &lines),
+        Some(refusal) => Ok(format!(in alloc; "{refusal}")?),
+    }
+}
+
+fn fault_text(alloc: Global, fault: TextFault) -> anyhow::Result<String> {
+    Ok(format!(in alloc; "{fault}")?)
+}
+
+fn lines_text(alloc: Global, lines: &[Line]) -> anyhow::Result<String> {
+    let text = text_of(alloc, lines)?;
+    folded(alloc, text.as_str())
+}
+
+/// Changes the lines, and returns the refusal if there is one.
+fn edited(
+    alloc: Global,
+    lines: &mut Vec<Line>,
+    edit: &Edit<'_>,
+) -> anyhow::Result<Option<EditRefusal>> {
+    if edit.what == "read" {
+        return Ok(None);
+    }
+    let Ok(name) = read_name(alloc, edit.name) else {
+        bail!("no name");
+    };
+    if edit.what == "remove" {
+        return Ok(remove(lines, name.name_string.0.as_slice()).err());
+    }
+    let key = key_of(alloc, edit)?;
+    if edit.what == "key" {
+        return Ok(change_key(lines, name.name_string.0.as_slice(), key, None).err());
+    }
+    let account = Account::new(key, 1, None);
+    Ok(add(lines, AccountLine { name, account }).err())
+}
+
+fn key_of(alloc: Global, edit: &Edit<'_>) -> anyhow::Result<Key> {
+    let Some(suite) = suite_named(edit.suite) else {
+        bail!("no suite");
+    };
+    match read_key(alloc, suite, edit.key) {
+        Ok(key) => Ok(key),
+        Err(LineFault::Memory) => bail!("out of memory"),
+        Err(_) => bail!("no key"),
+    }
+}
+
+/// The text of a field.
+fn unfolded(alloc: Global, field: &str) -> anyhow::Result<String> {
+    let mut text = String::new(alloc);
+    let mut is_quoted = false;
+    for character in field.chars() {
+        if is_quoted {
+            text.push(quoted(character))?;
+            is_quoted = false;
+        } else if character == '^' {
+            is_quoted = true;
+        } else {
+            text.push(character)?;
+        }
+    }
+    Ok(text)
+}
+
+fn quoted(character: char) -> char {
+    match character {
+        'n' => '\n',
+        't' => '\t',
+        _ => character,
+    }
+}
+
+/// The field of a text.
+fn folded(alloc: Global, text: &str) -> anyhow::Result<String> {
+    let mut field = String::new(alloc);
+    for character in text.chars() {
+        match character {
+            '\n' => field.push_str("^n")?,
+            '\t' => field.push_str("^t")?,
+            '^' => field.push_str("^^")?,
+            _ => field.push(character)?,
+        }
+    }
+    Ok(field)
+}

@@ -1,0 +1,80 @@
+//! Calls of acceptors and contexts. Each token, message and refusal is compared with that of an independent writer or of MIT's library.
+
+mod accept;
+mod begin;
+mod call;
+mod calls;
+
+use call::{Call, call_of};
+use gss_acceptor::{Acceptor, Negotiation};
+use gss_contexts::{Context, Protection};
+use replay_rows::{Row, Rows, replay};
+use std::alloc::Global;
+use std::fmt::Debug;
+
+/// What tokens.py and first_tokens.py write, and what MIT's library wraps and signs.
+const FILES: [&str; 3] = ["tokens.txt", "stock.txt", "first_tokens.txt"];
+
+/// What a line's call is one of.
+#[derive(Drop)]
+pub(crate) struct Ends {
+    pub(crate) acceptor: Option<Acceptor>,
+    pub(crate) negotiation: Option<Negotiation>,
+    pub(crate) context: Option<Context>,
+}
+
+/// Replays the files of calls.
+pub(crate) fn replay_contexts(rt: &HostRuntime) -> anyhow::Result<()> {
+    for file in FILES {
+        let mut ends = Ends {
+            acceptor: None,
+            negotiation: None,
+            context: None,
+        };
+        let replayed = replay(rt, &mut ends, file);
+        drop(ends);
+        replayed?;
+    }
+    Ok(())
+}
+
+impl Rows for Ends {
+    const COLUMNS: &'static str = " | ";
+
+    const NAME: &'static str = "lines";
+
+    /// A line `new`, `accept` or `resume` begins another context.
+    fn agrees(&mut self, rt: &HostRuntime, row: &mut Row<'_>) -> anyhow::Result<bool> {
+        let alloc = rt.alloc();
+        let call = call_of(alloc, row)?;
+        match call.name {
+            "new" => begin::begins(alloc, &mut self.context, &call),
+            "acceptor" => accept::begins(alloc, &mut self.acceptor, &call),
+            "accept" | "resume" => accept::accepts(alloc, self, &call),
+            _ => match &mut self.context {
+                Some(context) => Ok(calls_as_expected(alloc, context, &call)),
+                None => Ok(false),
+            },
+        }
+    }
+}
+
+/// Whether a call of the context gives what is expected. A line of another shape differs.
+fn calls_as_expected(alloc: Global, context: &mut Context, row: &Call<'_>) -> bool {
+    match row.name {
+        "get_mic" => calls::gets_mic(alloc, context, row),
+        "verify_mic" => calls::verifies_mic(alloc, context, row),
+        "wrap_sealed" => calls::wraps(alloc, context, Protection::Sealed, row),
+        "wrap_checksum" => calls::wraps(alloc, context, Protection::Checksum, row),
+        "unwrap" => calls::unwraps(alloc, context, row),
+        _ => false,
+    }
+}
+
+/// Whether a value has this name.
+pub(crate) fn is_named<T: Debug>(alloc: Global, value: &T, name: &str) -> bool {
+    match format!(in alloc; "{value:?}") {
+        Ok(text) => text.as_str() == name,
+        Err(_) => false,
+    }
+}
