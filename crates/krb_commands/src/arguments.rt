@@ -1,14 +1,22 @@
 //! The arguments of a program.
+ghost use Rattle.std.specs.Prelude.{◌≡◌, ◌∷◌, List, Some, Ok, IfOk, IfErr, codes, map, nat_eq, string_bytes};
+ghost use Rattle.std.specs.Option.{option_copied};
+ghost use Rattle.std.specs.Cmp.Lexicographic.{pointwise};
+ghost use Rattle.krb_commands.specs.Arguments.{IsStopOf, Text, is_among, only_value, parts_after, parts_of, texts, values_of};
+ghost use Rattle.krb_commands.specs.Given.{parts};
+ghost use Rattle.krb_commands.specs.Stops.{IsUsage};
 
 use crate::stop::{Stop, usage};
 use krb_types::{NameTextFault, PrincipalText, principal_of_text};
 use std::alloc::{AllocError, Global};
 use std::env;
+use std::io::ErrorKind;
 
-/// The arguments after the program's name.
+/// The arguments after the program's name. One that is no text is refused.
 pub fn arguments_of(rt: &HostRuntime) -> Result<Vec<String>, Stop> {
-    let Ok(given) = env::args(rt) else {
-        return Err(usage(rt.alloc(), "the arguments can't be read: expected text"));
+    let given = match env::args(rt) {
+        Ok(given) => given,
+        Err(fault) => return Err(unread(rt.alloc(), fault.kind())),
     };
     let mut arguments = Vec::new(rt.alloc());
     for argument in given.skip(1) {
@@ -17,8 +25,21 @@ pub fn arguments_of(rt: &HostRuntime) -> Result<Vec<String>, Stop> {
     Ok(arguments)
 }
 
+// Why the arguments weren't read: memory ran out, or one of them is no text.
+fn unread(alloc: Global, kind: ErrorKind) -> Stop
+    ensures memory { kind ≡ ErrorKind.OutOfMemory → result ≡ Stop.Memory }
+    ensures text { IsUsage (Some (codes "the arguments can't be read: expected text")) result }
+{
+    match kind {
+        ErrorKind::OutOfMemory => Stop::Memory,
+        _ => usage(alloc, "the arguments can't be read: expected text"),
+    }
+}
+
 /// Whether an argument is this word.
-pub fn is_word(argument: &String, word: &str) -> bool {
+pub fn is_word(argument: &String, word: &str) -> bool
+    ensures { result ≡ pointwise nat_eq (string_bytes argument.now) word.now }
+{
     argument.as_str() == word
 }
 
@@ -29,12 +50,16 @@ pub struct Given<'a> {
     words: Vec<&'a str>,
 }
 
-/// Takes arguments apart. Each of the options has the argument after it as its value. Another argument that begins with `-` is refused.
+/// Takes arguments apart. Each of the options has the argument after it as its value. Another argument that begins with `-` is refused, and
+/// so is an option at the end.
 pub fn given_of<'a>(
     alloc: Global,
     options: &[&str],
     arguments: &'a [String],
-) -> Result<Given<'a>, Stop> {
+) -> Result<Given<'a>, Stop>
+    ensures ok { IfOk result (λ given. parts_of (texts options.now) (map string_bytes arguments.now) ≡ Ok (parts given)) }
+    ensures err { IfErr result (IsStopOf (parts_of (texts options.now) (map string_bytes arguments.now))) }
+{
     let mut given = Given {
         options: Vec::new(alloc),
         words: Vec::new(alloc),
@@ -56,15 +81,20 @@ fn put_argument<'a>(
     given: &mut Given<'a>,
     option: Option<&'a str>,
     argument: &'a str,
-) -> Result<Option<&'a str>, Stop> {
+) -> Result<Option<&'a str>, Stop>
+    ensures ok { IfOk result (λ next. (arguments : List Text) → parts_after (texts options.now) (parts given.old) (option_copied option.entry) (argument.now ∷ arguments)
+        ≡ parts_after (texts options.now) (parts given.new) (option_copied next) arguments) }
+    ensures err { IfErr result (λ stop. (arguments : List Text)
+        → IsStopOf (parts_after (texts options.now) (parts given.old) (option_copied option.entry) (argument.now ∷ arguments)) stop) }
+{
     if let Some(name) = option {
         given.options.push((name, argument))?;
         return Ok(None);
     }
-    if options.iter().any(|name| *name == argument) {
+    if is_among(options, argument) {
         return Ok(Some(argument));
     }
-    if argument.starts_with("-") {
+    if argument.as_bytes().first() == Some(&b'-') {
         return Err(usage(
             alloc,
             format_args!("{argument}: no such option: expected one of --help"),
@@ -74,14 +104,26 @@ fn put_argument<'a>(
     Ok(None)
 }
 
+// Whether an argument is one of the options.
+fn is_among(options: &[&str], argument: &str) -> bool
+    ensures { result ≡ is_among (texts options.now) argument.now }
+{
+    options.iter().any(|name| *name == argument)
+}
+
 impl<'a> Given<'a> {
     /// The words that are no option and no value, in their order.
-    pub fn words(&self) -> &[&'a str] {
+    pub fn words(&self) -> &[&'a str]
+        ensures { texts result.now ≡ (parts self.now).words }
+    {
         self.words.as_slice()
     }
 
     /// The value of an option, if it is given. One that is given twice is refused.
-    pub fn value(&self, alloc: Global, option: &str) -> Result<Option<&'a str>, Stop> {
+    pub fn value(&self, alloc: Global, option: &str) -> Result<Option<&'a str>, Stop>
+        ensures ok { IfOk result (λ value. only_value option.now (values_of (parts self.now).options option.now) ≡ Ok (option_copied value)) }
+        ensures err { IfErr result (IsStopOf (only_value option.now (values_of (parts self.now).options option.now))) }
+    {
         let values = self.values(alloc, option)?;
         match values.as_slice() {
             [] => Ok(None),
@@ -91,7 +133,9 @@ impl<'a> Given<'a> {
     }
 
     /// The values of an option, in their order.
-    pub fn values(&self, alloc: Global, option: &str) -> Result<Vec<&'a str>, AllocError> {
+    pub fn values(&self, alloc: Global, option: &str) -> Result<Vec<&'a str>, AllocError>
+        ensures { IfOk result (λ values. texts values.items ≡ values_of (parts self.now).options option.now) }
+    {
         let mut values = Vec::new(alloc);
         for (name, value) in &self.options {
             if *name == option {

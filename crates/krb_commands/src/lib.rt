@@ -6,7 +6,9 @@
 //! `NewFile::finish` puts it there once it is on disk. So the path has the old file or the new one at each moment. While the new file is
 //! there no other run writes.
 //!
-//! Each call is safe and returns. No contract says what files and standard output hold.
+//! Each call is safe and returns. `given_of` takes arguments apart, or refuses them in a text, both as `parts_of` says. `Given` has the
+//! words and values of those parts. A `Stop` has the text of `stop_text` and the status of `status_of`. No contract says what files, the
+//! program's arguments and standard output hold.
 #![tactic(auto)]
 
 mod arguments;

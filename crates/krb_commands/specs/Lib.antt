@@ -1,0 +1,3 @@
+pub mod Stops
+pub mod Arguments
+pub mod Given
