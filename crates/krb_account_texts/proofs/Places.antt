@@ -1,11 +1,11 @@
 -- A line at its place.
-use Rattle.std.proofs.Common.{◌≡◌, ℕ, zero, suc, ◌+◌, ◌<◌, Bool, true, false, cond, List, [], ◌∷◌, ◌++◌, length, get_or, set, take, drop, ◌↔◌, Option, None, Some, IsSome, Result, Ok, Err, refl, ap, sym, ◌∙◌, arith}
+use Rattle.std.proofs.Common.{◌≡◌, ℕ, zero, suc, ◌+◌, ◌<◌, Bool, true, false, cond, if◌then◌else◌, List, [], ◌∷◌, ◌++◌, length, get_or, set, take, drop, ◌↔◌, Option, None, Some, IsSome, Result, Ok, Err, refl, ap, sym, ◌∙◌, arith}
 use Rattle.std.specs.Prelude.{OnOk}
 use Rattle.std.specs.List.{insert, position_from, remove}
 use Rattle.std.proofs.lemmas.List.{take-append-drop}
-use Rattle.krb_account_texts.specs.Edits.{HasChanged, HasOneLess, HasOneMore, is_line_of, place_of}
+use Rattle.krb_account_texts.specs.Edits.{HasChanged, HasOneLess, HasOneMore, is_line_of, is_name_spent, is_spent, place_of}
 use Rattle.krb_account_texts.specs.declared.edits.EditRefusal.{EditRefusal}
-use Rattle.krb_account_texts.specs.declared.edits.EditRefusal.TheVariants.{Exists, Memory}
+use Rattle.krb_account_texts.specs.declared.edits.EditRefusal.TheVariants.{Exists, Memory, NumberSpent, Unknown}
 use Rattle.krb_account_texts.specs.declared.line.Line.{Line}
 use Rattle.picky_asn1.specs.Bytes.{Bytes}
 
@@ -80,3 +80,44 @@ out_of_memory r e is memory exists = let both : Err Memory ≡ Err Exists = ap E
 pub on-ok : {T E P Q : Type 0} (r : Result T E) → OnOk r P → (P → Q) → OnOk r Q
 on-ok (Ok x) holds follows = follows holds
 on-ok (Err e) holds follows = holds
+
+-- whether the kvno of the first account of a name is the greatest, by that account's place
+unspent-by : (name : List Bytes) (from : ℕ) (own : Line) (lines : List Line) (passed : Bool) → cond passed (Some from) (position_from (is_line_of name) (from + 1) lines) ≡ None
+    → (position_from (is_line_of name) (from + 1) lines ≡ None → is_name_spent name lines ≡ false) → (if passed then is_spent own else is_name_spent name lines) ≡ false
+unspent-by name from own lines true none later = cc none
+unspent-by name from own lines false none later = later none
+
+unspent-from : (name : List Bytes) (from : ℕ) (lines : List Line) → position_from (is_line_of name) from lines ≡ None → is_name_spent name lines ≡ false
+unspent-from name from [] none = refl
+unspent-from name from (own ∷ lines) none = unspent-by name from own lines (is_line_of name own) none (λ later. unspent-from name (from + 1) lines later)
+
+pub unspent : (name : List Bytes) (lines : List Line) → place_of name lines ≡ None → is_name_spent name lines ≡ false
+unspent name lines none = unspent-from name 0 lines none
+
+spent-by : (name : List Bytes) (from : ℕ) (own : Line) (lines : List Line) (place at : ℕ) (d : Line) (passed : Bool)
+    → cond passed (Some from) (position_from (is_line_of name) (from + 1) lines) ≡ Some place → place ≡ from + at
+    → ((at : ℕ) → position_from (is_line_of name) (from + 1) lines ≡ Some place → place ≡ (from + 1) + at → is_name_spent name lines ≡ is_spent (get_or lines at d))
+    → (if passed then is_spent own else is_name_spent name lines) ≡ is_spent (get_or (own ∷ lines) at d)
+spent-by name from own lines place zero d true found same later = refl
+spent-by name from own lines place (suc at) d true found same later = let first : from ≡ place = cc found in absurd (omega arith)
+spent-by name from own lines place zero d false found same later =
+    let is = is-place (is_line_of name) (from + 1) lines place d found in
+    let other = is.same in
+    absurd (omega arith)
+spent-by name from own lines place (suc at) d false found same later = later at found (omega arith)
+
+spent-from : (name : List Bytes) (from : ℕ) (lines : List Line) (place at : ℕ) (d : Line) → position_from (is_line_of name) from lines ≡ Some place → place ≡ from + at
+    → is_name_spent name lines ≡ is_spent (get_or lines at d)
+spent-from name from [] place at d found same = cc found
+spent-from name from (own ∷ lines) place at d found same =
+    spent-by name from own lines place at d (is_line_of name own) found same (λ at found same. spent-from name (from + 1) lines place at d found same)
+
+pub spent-at : (name : List Bytes) (lines : List Line) (place : ℕ) (d : Line) → place_of name lines ≡ Some place → is_name_spent name lines ≡ is_spent (get_or lines place d)
+spent-at name lines place d found = spent-from name 0 lines place place d found (omega arith)
+
+pub spent-there : (r : Result (Unit {0}) EditRefusal) (spent found : Bool) → found ≡ spent → r ≡ (if spent then Err NumberSpent else Ok tt) → (r ≡ Err NumberSpent) ↔ (found ≡ true)
+spent-there r true found same is = (λ _. same, λ _. is)
+spent-there r false found same is = (λ e. let both : Ok tt ≡ Err NumberSpent = sym is ∙ e in absurd (cc (both)), λ e. absurd (cc (same, e)))
+
+pub unknown-there : (r : Result (Unit {0}) EditRefusal) (found : Bool) → r ≡ Err Unknown → found ≡ false → (r ≡ Err NumberSpent) ↔ (found ≡ true)
+unknown-there r found is none = (λ e. let both : Err Unknown ≡ Err NumberSpent = sym is ∙ e in absurd (cc (both)), λ e. absurd (cc (none, e)))

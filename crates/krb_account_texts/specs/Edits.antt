@@ -1,5 +1,5 @@
 -- Changes of the line of one account.
-use Rattle.std.specs.Prelude.{◌≡◌, ℕ, ◌+◌, ◌==◌, Bool, true, false, List, ◌++◌, ◌∷◌, Option}
+use Rattle.std.specs.Prelude.{◌≡◌, ℕ, ◌+◌, ◌==◌, Bool, true, false, if◌then◌else◌, List, [], ◌++◌, ◌∷◌, Option}
 use Rattle.std.specs.List.{position_from}
 use Rattle.picky_asn1.specs.Bytes.{Bytes}
 use Rattle.krb_types.specs.Names.{is_same_name}
@@ -44,3 +44,8 @@ rekeyed suite key salt other = other
 abbrev pub is_spent : Line → Bool
 is_spent (line.Account own) = own.account.kvno == 4294967295
 is_spent other = false
+
+-- The first account of this name, if there is one, has the greatest kvno.
+abbrev pub is_name_spent : List Bytes → List Line → Bool
+is_name_spent name [] = false
+is_name_spent name (own ∷ lines) = if is_line_of name own then is_spent own else is_name_spent name lines

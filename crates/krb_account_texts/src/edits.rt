@@ -1,7 +1,7 @@
 //! Changes of the line of one account.
-ghost use Rattle.std.specs.Prelude.{◌≡◌, ◌<◌, ◌↔◌, ◌⊎◌, length, if◌then◌else◌, IfErr, IfSome, IsSome, OnOk, OnErr, None, Ok, Err};
+ghost use Rattle.std.specs.Prelude.{◌≡◌, ◌<◌, ◌↔◌, ◌⊎◌, true, length, if◌then◌else◌, IfErr, IfSome, IsSome, OnOk, OnErr, None, Ok, Err};
 ghost use Rattle.std.specs.List.{insert};
-ghost use Rattle.krb_account_texts.specs.Edits.{HasChanged, HasOneLess, HasOneMore, is_line_of, is_spent, place_of, rekeyed};
+ghost use Rattle.krb_account_texts.specs.Edits.{HasChanged, HasOneLess, HasOneMore, is_line_of, is_name_spent, is_spent, place_of, rekeyed};
 ghost use Rattle.krb_account_texts.specs.Order.{place_for};
 
 use crate::line::{AccountLine, Line};
@@ -88,7 +88,7 @@ pub fn add(lines: &mut Vec<Line>, account: AccountLine) -> Result<(), EditRefusa
 
 /// Gives the account of a name its next key, with the next kvno and this salt. All other lines stay.
 ///
-/// It is refused as `Unknown` if the name has no account, and as `NumberSpent` if its kvno is the greatest.
+/// It is refused as `Unknown` if and only if the name has no account, and as `NumberSpent` if and only if its kvno is the greatest.
 pub fn change_key(
     lines: &mut Vec<Line>,
     name: &[GeneralStringAsn1],
@@ -97,6 +97,7 @@ pub fn change_key(
 ) -> Result<(), EditRefusal>
     ensures ok { OnOk result (HasChanged name.now (rekeyed key.suite key.bytes salt) lines.old.items lines.new.items) }
     ensures unknown { (result ≡ Err EditRefusal.Unknown) ↔ (place_of name.now lines.old.items ≡ None) }
+    ensures spent { (result ≡ Err EditRefusal.NumberSpent) ↔ (is_name_spent name.now lines.old.items ≡ true) }
     ensures refusal { IfErr result (λ e. (e ≡ EditRefusal.Unknown) ⊎ (e ≡ EditRefusal.NumberSpent)) }
     ensures err { OnErr result (lines.new.items ≡ lines.old.items) }
 {

@@ -1,5 +1,5 @@
 //! Lines of a text of accounts.
-ghost use Rattle.std.specs.Prelude.{◌≡◌, IfOk};
+ghost use Rattle.std.specs.Prelude.{◌≡◌, IfOk, pos};
 
 use krb_accounts::{Account, Settings};
 use krb_constants::types::NT_PRINCIPAL;
@@ -37,12 +37,13 @@ pub enum Line {
     Account(AccountLine),
 }
 
-/// A name of these components.
+/// A name of these components, of the type NT-PRINCIPAL (RFC 4120, section 6.2).
 pub fn principal_name(
     alloc: Global,
     components: Vec<GeneralStringAsn1>,
 ) -> Result<PrincipalName, AllocError>
-    ensures { IfOk result (λ name. name.name_string.0 ≡ components.items) }
+    ensures components { IfOk result (λ name. name.name_string.0 ≡ components.items) }
+    ensures kind { IfOk result (λ name. name.name_type.0 ≡ pos NT_PRINCIPAL) }
 {
     let name_type = IntegerAsn1::from_u64(alloc, u64::from(NT_PRINCIPAL))?;
     Ok(PrincipalName {

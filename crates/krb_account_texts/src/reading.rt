@@ -1,6 +1,7 @@
 //! Reading a text of accounts.
-ghost use Rattle.std.specs.Prelude.{◌≡◌, ◌==◌, ◌-◌, nat_eq, length, map, slice_index, take, IfOk};
+ghost use Rattle.std.specs.Prelude.{◌≡◌, ◌==◌, ◌-◌, nat_eq, length, map, slice_index, take, pos, IfOk};
 ghost use Rattle.std.specs.List.{slice_split};
+ghost use Rattle.krb_constants.specs.declared.types.TheConstants.{NT_PRINCIPAL};
 ghost use Rattle.krb_account_texts.specs.Lines.{written};
 ghost use Rattle.krb_account_texts.specs.Reading.{account_in, fields, is_ended, line_in, line_of, lines_in, lines_of, name_in, numbered, realm_in};
 ghost use Rattle.krb_account_texts.specs.Steps.{IsAside, each_from};
@@ -145,9 +146,10 @@ fn account_of(
     Ok(Line::Account(AccountLine { name, account }))
 }
 
-/// The name that a text writes, as RFC 1964 has it (section 2.1.3), if it is one of a principal.
+/// The name that a text writes, as RFC 1964 has it (section 2.1.3), if it is one of a principal. Its type is NT-PRINCIPAL.
 pub fn read_name(alloc: Global, text: &str) -> Result<PrincipalName, LineFault>
-    ensures { IsAside LineFault.Memory (λ name. name.name_string.0) (name_in text.now) result }
+    ensures components { IsAside LineFault.Memory (λ name. name.name_string.0) (name_in text.now) result }
+    ensures kind { IfOk result (λ name. name.name_type.0 ≡ pos NT_PRINCIPAL) }
 {
     let components = name_of(alloc, text)?;
     let name = principal_name(alloc, components)?;
