@@ -5,7 +5,7 @@ use Rattle.asn1_der.specs.Tree.{Tree, der, ders, trees_of}
 use Rattle.asn1_der.specs.declared.error.Asn1DerError.{Asn1DerError}
 use Rattle.asn1_der.specs.declared.error.Asn1DerError.TheVariants.{Memory}
 use Rattle.asn1_der.specs.declared.error.Unsupported.{Unsupported}
-use Rattle.asn1_codec.specs.Refusals.{refusal_of, refusal_of_list, first_refusal}
+use Rattle.asn1_der.specs.Refusals.{refusal_of, refusal_of_list, first_refusal}
 use Rattle.asn1_codec.specs.Writing.{Writing, Wrote, NotWroteValue, NotWroteFields, halted}
 use Rattle.std.proofs.Common.{inr}
 use Rattle.std.proofs.Math.Seq.{take-append_seam}

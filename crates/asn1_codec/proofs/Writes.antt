@@ -19,7 +19,7 @@ use Rattle.asn1_der.specs.declared.error.Asn1DerError.{Asn1DerError}
 use Rattle.asn1_der.specs.declared.error.Asn1DerError.TheVariants.{InvalidSink, Memory, Other, TruncatedData, InvalidData, UnsupportedValue, UnsupportedType, Message}
 use Rattle.asn1_der.specs.declared.error.Unsupported.{Unsupported}
 use Rattle.asn1_der.specs.declared.error.Unsupported.TheVariants.{OneValue, WholeType}
-use Rattle.asn1_codec.specs.Refusals.{RefusedAs, first_refusal, refusal_of, refusal_of_list, refusal_in, part_refusal, list_refusal, refusal_of_option}
+use Rattle.asn1_der.specs.Refusals.{RefusedAs, first_refusal, refusal_of, refusal_of_list, refusal_in, part_refusal, list_refusal, refusal_of_option}
 use Rattle.asn1_codec.specs.Sinks.{sink_fault, as_too_long}
 use Rattle.asn1_codec.specs.Writing.{Writing, Wrote, NotWrote, WroteValue, NotWroteValue, NotWroteFields, Measured, NotMeasured, IsSinkFault, IsTooLong, halted, left_by}
 

@@ -14,7 +14,6 @@ pub mod PairLaws
 pub mod Pairs
 pub mod Reading
 pub mod Reads
-pub mod Refusals
 pub mod Sequences
 pub mod Sinks
 pub mod Tails

@@ -8,7 +8,7 @@ use Rattle.byte_streams.specs.Room.{TakenRoom, IsPast, IsUnbounded}
 use Rattle.asn1_der.specs.declared.error.Asn1DerError.{Asn1DerError}
 use Rattle.asn1_der.specs.declared.error.Asn1DerError.TheVariants.{InvalidSink, Memory, Other}
 use Rattle.asn1_der.specs.declared.error.Unsupported.{Unsupported}
-use Rattle.asn1_codec.specs.Refusals.{RefusedAs}
+use Rattle.asn1_der.specs.Refusals.{RefusedAs}
 
 -- the bytes that the sink holds, and how many more it takes, where they are known; whether a call failed; how many
 -- calls of the sink failed, and why the last of them did; whether the bytes are in memory that grows; the

@@ -17,7 +17,7 @@ impl<const N: usize, T: Deserialize + Drop> Tagged for [T; N] {
     ghost use Rattle.asn1_der.specs.Seen.{Alike, seen_list};
     ghost use Rattle.asn1_codec.specs.Arrays.{array_trees};
     ghost use Rattle.asn1_codec.specs.ArrayLaws.{array_trees-injective_as};
-    ghost use Rattle.asn1_codec.specs.Refusals.{list_refusal};
+    ghost use Rattle.asn1_der.specs.Refusals.{list_refusal};
 
     type Row = [T; N];
 

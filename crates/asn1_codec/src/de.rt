@@ -13,8 +13,8 @@ ghost use Rattle.asn1_codec.specs.Reading.{TookValue, TookBy, Refused, IsOwn, Is
 use crate::fields::Fields;
 use crate::row::Row1;
 use crate::ser::Serialize;
-use asn1_der::{Asn1DerError, Content, MOST_IN_PLACE, PeekableReader, following, length_of};
-use byte_streams::Source;
+use asn1_der::{Asn1DerError, Content, MOST_IN_PLACE, following, length_of};
+use byte_streams::{PeekableReader, Source};
 use std::alloc::Global;
 use std::marker::Model;
 
@@ -92,7 +92,7 @@ pub struct Deserializer<R: Source> {
 impl<R: Source> Model for Deserializer<R> {
     ghost use Rattle.std.specs.Prelude.{◌≡◌, ◌<◌, ◌^◌, false};
     ghost use Rattle.asn1_codec.specs.Reading.{Reading};
-    ghost use Rattle.asn1_der.specs.Peeking.{left_of, failed_of, looked_of, kind_of, names_of};
+    ghost use Rattle.byte_streams.specs.Peeking.{left_of, failed_of, looked_of, kind_of, names_of};
 
     ghost Value = { Reading };
 

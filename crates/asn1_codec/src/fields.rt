@@ -3,7 +3,7 @@
 //! `sound` computes whether each field that may be missing is told from what may follow it by its first octet.
 ghost use Rattle.std.specs.Prelude.{◌≡◌, ℕ, Bool, true, false, ◌&&◌, List, [], ◌∷◌, ◌++◌, length, Option, None, MatchResult, IsTrue};
 ghost use Rattle.asn1_der.specs.Tree.{Tree, Trees, none, more, der, ders, IsWhole, AreWhole, put, trees_of};
-ghost use Rattle.asn1_codec.specs.Refusals.{refusal_of, first_refusal, refusal_of_option, part_refusal};
+ghost use Rattle.asn1_der.specs.Refusals.{refusal_of, first_refusal, refusal_of_option, part_refusal};
 ghost use Rattle.asn1_codec.specs.Writing.{WroteValue, NotWroteFields};
 ghost use Rattle.asn1_der.specs.Firsts.{Firsts, one_of, may_begin, either, apart};
 

@@ -1,7 +1,7 @@
 //! Lengths of spellings, without writing them.
 ghost use Rattle.std.specs.Prelude.{◌≡◌, ℕ, List, [], length, false, None, Some, MatchResult};
 ghost use Rattle.asn1_der.specs.Tree.{der, ders};
-ghost use Rattle.asn1_codec.specs.Refusals.{refusal_of};
+ghost use Rattle.asn1_der.specs.Refusals.{refusal_of};
 ghost use Rattle.asn1_codec.specs.Sinks.{as_too_long};
 ghost use Rattle.asn1_codec.specs.Writing.{Measured, NotMeasured};
 

@@ -6,7 +6,7 @@ use asn1_der::Asn1DerError;
 use byte_streams::Sink;
 
 /// A value is written as it stands, and `None` as nothing. It isn't read: a field that may be missing is an
-/// [`Optional`](crate::Optional).
+/// [`Optional`](crate::optional::Optional).
 impl<T: Serialize> Serialize for Option<T> {
     ghost use Rattle.asn1_codec.specs.Options.{option_tree, option_refusal};
     ghost use Rattle.asn1_codec.specs.OptionLaws.{option_tree-begins, option_tree-injective_as};

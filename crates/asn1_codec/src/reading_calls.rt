@@ -138,7 +138,7 @@ impl<R: Source> Deserializer<R> {
     }
 
     /// Takes a value, which is always there: whether one is missing, the fields after it tell
-    /// (see [`Optional`](crate::Optional)).
+    /// (see [`Optional`](crate::optional::Optional)).
     pub fn deserialize_option<T: Deserialize>(&mut self) -> Result<Option<T>, Asn1DerError>
         ensures { MatchResult result
             (λ option. MatchOption option ⊥ (λ value. TookValue T.tree value self.old self.new))

@@ -18,7 +18,7 @@ use byte_streams::{Sink, Source};
 /// A field that is written, in front of others.
 pub trait WriteItem {
     ghost use Rattle.asn1_der.specs.declared.error.Unsupported.{Unsupported};
-    ghost use Rattle.asn1_codec.specs.Refusals.{first_refusal};
+    ghost use Rattle.asn1_der.specs.Refusals.{first_refusal};
     ghost use Rattle.asn1_codec.specs.Writing.{Writing, WroteValue, NotWroteFields};
 
     ghost put_before: { Self → Trees → Trees };
@@ -84,7 +84,7 @@ impl WriteFields for () {
 }
 
 impl<'a, H: WriteItem, T: WriteFields> WriteFields for (&'a H, T) {
-    ghost use Rattle.asn1_codec.specs.Refusals.{first_refusal};
+    ghost use Rattle.asn1_der.specs.Refusals.{first_refusal};
 
     ghost trees = { λ fields. H.put_before fields.0.now (T.trees fields.1) };
 
@@ -96,7 +96,7 @@ impl<'a, H: WriteItem, T: WriteFields> WriteFields for (&'a H, T) {
 }
 
 impl<H: Serialize> WriteItem for H {
-    ghost use Rattle.asn1_codec.specs.Refusals.{refusal_of};
+    ghost use Rattle.asn1_der.specs.Refusals.{refusal_of};
 
     ghost put_before = { λ item trees. more (H.tree item) trees };
 
@@ -112,7 +112,7 @@ impl<H: Serialize> WriteItem for H {
 }
 
 impl<H: Serialize> WriteItem for Optional<Option<H>> {
-    ghost use Rattle.asn1_codec.specs.Refusals.{refusal_of_option};
+    ghost use Rattle.asn1_der.specs.Refusals.{refusal_of_option};
 
     ghost put_before = { λ item trees. put H.tree item.0 trees };
 

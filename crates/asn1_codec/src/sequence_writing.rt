@@ -2,7 +2,7 @@
 ghost use Rattle.std.specs.Prelude.{◌≡◌, ◌+◌, ◌≤◌, ℕ, List, ◌∷◌, length, None, ◌⊎◌, MatchResult};
 ghost use Rattle.asn1_der.specs.Length.{element, length_octets};
 ghost use Rattle.asn1_der.specs.Tree.{der};
-ghost use Rattle.asn1_codec.specs.Refusals.{refusal_of};
+ghost use Rattle.asn1_der.specs.Refusals.{refusal_of};
 ghost use Rattle.asn1_codec.specs.Sequences.{IsPastContent};
 ghost use Rattle.asn1_codec.specs.Writing.{Wrote, NotWrote, WroteValue, NotWroteValue};
 

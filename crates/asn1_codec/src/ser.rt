@@ -3,7 +3,7 @@ ghost use Rattle.std.specs.Prelude.{◌≡◌, ℕ, ◌+◌, ◌^◌, ◌≤◌,
 ghost use Rattle.asn1_der.specs.Tree.{Tree, Trees, der, ders, IsWhole, AreWhole};
 ghost use Rattle.asn1_der.specs.Length.{element, length_octets};
 ghost use Rattle.asn1_der.specs.Firsts.{Firsts, BeginsAmong};
-ghost use Rattle.asn1_codec.specs.Refusals.{refusal_of, RefusedAs};
+ghost use Rattle.asn1_der.specs.Refusals.{refusal_of, RefusedAs};
 ghost use Rattle.asn1_codec.specs.Sinks.{sink_fault};
 ghost use Rattle.asn1_codec.specs.Writing.{WroteValue, NotWroteValue, NotWroteTo, Measured, NotMeasured, at_sink};
 ghost use Rattle.asn1_codec.specs.Sinks.{as_full};
@@ -24,7 +24,7 @@ use std::marker::Model;
 pub trait Serialize {
     ghost use Rattle.asn1_der.specs.Seen.{Seen, as_is, Alike};
     ghost use Rattle.asn1_der.specs.declared.error.Unsupported.{Unsupported};
-    ghost use Rattle.asn1_codec.specs.Refusals.{refusal_of};
+    ghost use Rattle.asn1_der.specs.Refusals.{refusal_of};
     ghost use Rattle.asn1_codec.specs.Writing.{Writing, WroteValue, NotWroteValue, Measured, NotMeasured};
 
     ghost tree: { Self → Tree };

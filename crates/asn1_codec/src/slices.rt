@@ -2,7 +2,7 @@
 ghost use Rattle.std.specs.Prelude.{MatchResult};
 ghost use Rattle.asn1_der.specs.Tree.{ders, trees_of};
 ghost use Rattle.asn1_codec.specs.Writing.{WroteValue, NotWroteFields};
-ghost use Rattle.asn1_codec.specs.Refusals.{refusal_of_list};
+ghost use Rattle.asn1_der.specs.Refusals.{refusal_of_list};
 
 use crate::fields::WriteFields;
 use crate::ser::{Serialize, Serializer};

@@ -21,7 +21,7 @@ pub trait Tagged: Sized {
     ghost use Rattle.asn1_der.specs.Seen.{Seen, as_is, Alike};
     ghost use Rattle.asn1_codec.specs.Reading.{Reading, TookValue, IsSpelling, Refused};
     ghost use Rattle.asn1_der.specs.declared.error.Unsupported.{Unsupported};
-    ghost use Rattle.asn1_codec.specs.Refusals.{refusal_of};
+    ghost use Rattle.asn1_der.specs.Refusals.{refusal_of};
     ghost use Rattle.asn1_codec.specs.Writing.{Writing, WroteValue, NotWroteValue};
 
     /// What a value holds.

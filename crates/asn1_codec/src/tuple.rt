@@ -19,7 +19,7 @@ impl<A: Deserialize + Drop> Tagged for (A,) {
     ghost use Rattle.asn1_der.proofs.Tagged.{sequence_laws_as};
     ghost use Rattle.asn1_der.specs.Seen.{Alike, seen_part};
     ghost use Rattle.asn1_der.proofs.Alike.{alike-part};
-    ghost use Rattle.asn1_codec.specs.Refusals.{refusal_of, first_refusal};
+    ghost use Rattle.asn1_der.specs.Refusals.{refusal_of, first_refusal};
 
     type Row = Row1<A>;
 
@@ -61,7 +61,7 @@ impl<A: Deserialize + Drop, B: Deserialize + Drop> Tagged for (A, B) {
     ghost use Rattle.asn1_der.proofs.Tagged.{sequence_laws_as};
     ghost use Rattle.asn1_der.specs.Seen.{Alike, seen_part};
     ghost use Rattle.asn1_der.proofs.Alike.{alike-part};
-    ghost use Rattle.asn1_codec.specs.Refusals.{refusal_of, first_refusal};
+    ghost use Rattle.asn1_der.specs.Refusals.{refusal_of, first_refusal};
 
     type Row = Row2<A, B>;
 
@@ -103,7 +103,7 @@ impl<A: Deserialize + Drop, B: Deserialize + Drop, C: Deserialize + Drop> Tagged
     ghost use Rattle.asn1_der.proofs.Tagged.{sequence_laws_as};
     ghost use Rattle.asn1_der.specs.Seen.{Alike, seen_part};
     ghost use Rattle.asn1_der.proofs.Alike.{alike-part};
-    ghost use Rattle.asn1_codec.specs.Refusals.{refusal_of, first_refusal};
+    ghost use Rattle.asn1_der.specs.Refusals.{refusal_of, first_refusal};
 
     type Row = Row3<A, B, C>;
 
@@ -150,7 +150,7 @@ impl<
     ghost use Rattle.asn1_der.proofs.Tagged.{sequence_laws_as};
     ghost use Rattle.asn1_der.specs.Seen.{Alike, seen_part};
     ghost use Rattle.asn1_der.proofs.Alike.{alike-part};
-    ghost use Rattle.asn1_codec.specs.Refusals.{refusal_of, first_refusal};
+    ghost use Rattle.asn1_der.specs.Refusals.{refusal_of, first_refusal};
 
     type Row = Row4<A, B, C, D>;
 

@@ -18,7 +18,7 @@ impl<T: Deserialize + Drop> Tagged for Vec<T> {
     ghost use Rattle.asn1_der.proofs.Alike.{alike-items};
     ghost use Rattle.asn1_der.proofs.Rows.{many-injective_as};
     ghost use Rattle.asn1_der.proofs.Tagged.{sequence_laws_as};
-    ghost use Rattle.asn1_codec.specs.Refusals.{list_refusal, part_refusal};
+    ghost use Rattle.asn1_der.specs.Refusals.{list_refusal, part_refusal};
 
     type Row = Elements<T>;
 

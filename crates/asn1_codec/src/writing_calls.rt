@@ -4,7 +4,7 @@ ghost use Rattle.asn1_der.specs.Tree.{der, ders, trees_of};
 ghost use Rattle.asn1_der.specs.Length.{element};
 ghost use Rattle.asn1_codec.specs.Booleans.{bool_content};
 ghost use Rattle.asn1_codec.specs.Characters.{character_content};
-ghost use Rattle.asn1_codec.specs.Refusals.{refusal_of, refusal_of_list};
+ghost use Rattle.asn1_der.specs.Refusals.{refusal_of, refusal_of_list};
 ghost use Rattle.asn1_codec.specs.Unsigned.{unsigned_content};
 ghost use Rattle.asn1_codec.specs.Writing.{WroteValue, NotWroteValue};
 ghost use Rattle.asn1_der.specs.Octets.{boolean_octet, integer_octet, null_octet, octet_string_octet, sequence_octet, utf8_string_octet};

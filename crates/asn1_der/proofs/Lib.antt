@@ -5,5 +5,4 @@ pub mod Rows
 pub mod Leaf
 pub mod Tagged
 pub mod Choices
-pub mod Peeks
 pub mod Alike

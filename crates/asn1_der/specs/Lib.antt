@@ -6,5 +6,5 @@ pub mod Tagged
 pub mod Octets
 pub mod Contents
 pub mod Numbers
-pub mod Peeking
 pub mod Seen
+pub mod Refusals

@@ -1,8 +1,8 @@
-//! The base of DER (X.690): trees of elements, lengths, contents, what is read from, and what is refused.
+//! The base of DER (X.690): trees of elements, lengths, contents, and what is refused.
 //!
 //! `LengthOctets::of` answers the one minimal spelling of a length. [`length_of`] reads that spelling alone, and [`following`] says how
-//! many octets follow the first one. A [`PeekableReader`] gives the octet that was peeked at, and then the rest in order. A [`Content`]
-//! holds the octets that it was made of. `Asn1DerError::number` gives each variant a number of its own.
+//! many octets follow the first one. A [`Content`] holds the octets that it was made of. `Asn1DerError::number` gives each variant a
+//! number of its own.
 #![tactic(auto)]
 
 ghost use Rattle.std.specs.Prelude.{◌≡◌};
@@ -11,9 +11,7 @@ mod content;
 mod error;
 mod length;
 pub mod octets;
-mod peek;
 
 pub use content::{Content, MOST_IN_PLACE};
 pub use error::{Asn1DerError, Rule, Unsupported};
 pub use length::{LengthOctets, following, length_of};
-pub use peek::PeekableReader;

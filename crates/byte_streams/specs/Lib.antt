@@ -3,3 +3,4 @@ pub mod Faults
 pub mod Room
 pub mod Watched
 pub mod Whole
+pub mod Peeking

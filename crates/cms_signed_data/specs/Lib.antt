@@ -12,3 +12,5 @@ pub mod Parts
 pub mod PartSpellings
 pub mod SignedRows
 pub mod SpelledElements
+pub mod SignedRowLaws
+pub mod WrittenOnce

@@ -4,8 +4,8 @@ ghost use Rattle.x509_certificates.specs.declared.certificate.Certificate.{Certi
 ghost use Rattle.cms_signed_data.specs.declared.signer_info.SignerInfo.{SignerInfo};
 ghost use Rattle.cms_signed_data.specs.Around.{IsDataAround, IsInfoAround};
 
-use crate::SignerInfo;
 use crate::assembling::{element_of, sequence_of, spelled};
+use crate::signer_info::SignerInfo;
 use crate::written_parts::{encapsulated_bytes, sha256_bytes, signed_data_oid};
 use asn1_der::octets::SET;
 use picky_asn1::oid::ObjectIdentifier;

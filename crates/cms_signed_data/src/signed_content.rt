@@ -6,10 +6,11 @@ ghost use Rattle.cms_signed_data.specs.SignedParts.{content_of, digest_of, signa
 ghost use Rattle.cms_signed_data.specs.Written.{IsWritten, IsUnsigned, IsNoCertificate};
 
 use crate::around::info_around;
+use crate::content_info::ContentInfo;
 use crate::fault::SignedFault;
+use crate::form::OfForm;
 use crate::slices::Slices;
 use crate::written_parts::{attribute_bytes, signer_bytes, signer_id};
-use crate::{ContentInfo, OfForm};
 use cms_signed_attributes::as_set;
 use key_functions::KeyFunctions;
 use picky_asn1::oid::ObjectIdentifier;

@@ -5,7 +5,7 @@ ghost use Rattle.asn1_elements.specs.Parts.{IsPart};
 ghost use Rattle.cms_signed_data.specs.declared.content_info.ContentInfo.{ContentInfo};
 ghost use Rattle.asn1_der.specs.Octets.{octet_string_octet};
 
-use crate::ContentInfo;
+use crate::content_info::ContentInfo;
 use asn1_elements::part_at;
 use x509_spelling::{Spelled, content_of};
 

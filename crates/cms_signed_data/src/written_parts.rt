@@ -10,11 +10,11 @@ ghost use Rattle.cms_signed_data.specs.Written.{sha256_algorithm, attributes_of,
 ghost use Rattle.x509_oids.specs.Identifiers as oids;
 
 use crate::assembling::{der_of, sequence_of, spelled};
+use crate::encapsulated_content_info::EncapsulatedContentInfo;
 use crate::fault::SignedFault;
-use crate::{
-    ContentTypeAttribute, EncapsulatedContentInfo, IssuerAndSerialNumber, MessageDigestAttribute,
-    SetOfOne, SignedAttributes, SignerInfo,
-};
+use crate::set_of_one::SetOfOne;
+use crate::signed_attributes::{ContentTypeAttribute, MessageDigestAttribute, SignedAttributes};
+use crate::signer_info::{IssuerAndSerialNumber, SignerInfo};
 use key_functions::{Signed, has_encoding};
 use picky_asn1::oid::ObjectIdentifier;
 use picky_asn1::wrapper::{

@@ -95,6 +95,16 @@ impl Group {
         Modulus::of(self.prime())
     }
 
+    /// Whether a value, in no more octets than the prime has, is one of 2 to the prime less 2.
+    pub fn is_in_range(self, value: &[u8]) -> bool
+        ensures { result ≡ in_range self value.now }
+    {
+        if value.len() > self.size() {
+            return false;
+        }
+        self.modulus().has_inside(value)
+    }
+
     /// The public value of a secret number, in as many octets as the prime has.
     pub fn public_value(self, alloc: Global, secret: &[u8]) -> Result<Vec<u8>, AllocError>
         ensures { IfOk result (λ value. value.items ≡ public_of self secret.now) }

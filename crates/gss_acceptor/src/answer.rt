@@ -10,7 +10,7 @@ use std::alloc::{AllocError, Global};
 
 /// Where a negotiation stands (RFC 4178, section 4.2.2).
 #[derive(Clone, Copy, Debug, PartialEq, Eq)]
-pub(crate) enum NegState {
+pub enum NegState {
     /// The context is established, and no further token is due.
     AcceptCompleted,
     /// A further token of the initiator is due.
@@ -47,7 +47,7 @@ pub(crate) fn ap_rep_in(
 }
 
 /// An answer of SPNEGO: the state, and what there is of the mechanism's identifier, its token and a MIC of the list of mechanisms.
-pub(crate) fn neg_token_resp(
+pub fn neg_token_resp(
     alloc: Global,
     state: NegState,
     supported: Option<Mechanism>,

@@ -93,8 +93,8 @@ fn exchange_mics(
     }
 }
 
-// Takes the initiator's MIC of the list, and makes the acceptor's.
-fn mic_for_mic(
+/// Takes the peer's MIC of the list of mechanisms, and makes this end's (RFC 4178, section 5).
+pub fn mic_for_mic(
     alloc: Global,
     context: &mut Context,
     list: &[u8],

@@ -22,8 +22,8 @@ pub(crate) fn first_number(number: &Option<IntegerAsn1>) -> Result<u64, AcceptRe
     }
 }
 
-// The number of 32 bits, also where it was written as a negative one.
-fn number_of(number: &IntegerAsn1) -> Option<u32>
+/// The number of 32 bits, also where it was written as a negative one.
+pub fn number_of(number: &IntegerAsn1) -> Option<u32>
     ensures { result ≡ number_of number.now }
 {
     let value = number.to_i64()?;

@@ -8,10 +8,7 @@ use picky_asn1_der::{ExplicitContextTag, Retagged, encoding_of};
 use std::alloc::{AllocError, Global};
 
 /// The element with this identifier octet and this content.
-pub(crate) fn element_of<const TAG: u8>(
-    alloc: Global,
-    content: Vec<u8>,
-) -> Result<Vec<u8>, AllocError>
+pub fn element_of<const TAG: u8>(alloc: Global, content: Vec<u8>) -> Result<Vec<u8>, AllocError>
     ensures { IfOk result (λ bytes. bytes.items ≡ element TAG content.items) }
 {
     let octets: Retagged<TAG, OctetStringAsn1> = Retagged(OctetStringAsn1::from(content));
@@ -19,7 +16,7 @@ pub(crate) fn element_of<const TAG: u8>(
 }
 
 /// The octets, one after the other.
-pub(crate) fn joined(alloc: Global, front: &[u8], behind: &[u8]) -> Result<Vec<u8>, AllocError>
+pub fn joined(alloc: Global, front: &[u8], behind: &[u8]) -> Result<Vec<u8>, AllocError>
     ensures { IfOk result (λ bytes. bytes.items ≡ front.now ++ behind.now) }
 {
     let mut bytes = Vec::from_slice(alloc, front)?;
@@ -28,7 +25,7 @@ pub(crate) fn joined(alloc: Global, front: &[u8], behind: &[u8]) -> Result<Vec<u
 }
 
 /// The octets under a tag, if there are any.
-pub(crate) fn octets_in<const N: u8>(
+pub fn octets_in<const N: u8>(
     field: Option<ExplicitContextTag<N, OctetStringAsn1>>,
 ) -> Option<OctetStringAsn1>
     ensures { result ≡ option_map (λ tagged. tagged.0) field.entry }

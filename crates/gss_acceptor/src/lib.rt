@@ -27,6 +27,12 @@ mod token;
 
 pub use accepted::{Accepted, Continuation, Negotiation};
 pub use acceptor::Acceptor;
+pub use answer::{NegState, neg_token_resp};
 pub use checksum::{ContextFlags, InitialChecksum};
+pub use conclude::mic_for_mic;
+pub use context::number_of;
+pub use elements::{element_of, joined, octets_in};
 pub use established::Established;
+pub use mechanism::{Mechanism, kerberos_in};
 pub use refusal::AcceptRefusal;
+pub use token::content_of;

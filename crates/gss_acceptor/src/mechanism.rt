@@ -33,7 +33,7 @@ impl Mechanism {
 }
 
 /// Kerberos, where the identifier is its.
-pub(crate) fn kerberos_in(identifier: &ObjectIdentifierAsn1) -> Option<Mechanism>
+pub fn kerberos_in(identifier: &ObjectIdentifierAsn1) -> Option<Mechanism>
     ensures { result ≡ kerberos_in identifier.now }
 {
     let octets = identifier.0.as_bytes();

@@ -26,8 +26,8 @@ pub(crate) fn ap_req_in(token: &[u8]) -> Option<&[u8]>
     request_in(content)
 }
 
-// Returns the content of a first token, if the octets are one.
-fn content_of(token: &[u8]) -> Option<&[u8]>
+/// Returns the content of a token that establishes a context, if the octets are one (RFC 2743, section 3.1).
+pub fn content_of(token: &[u8]) -> Option<&[u8]>
     ensures { MatchOption result ((content : List ℕ) → token.now ≡ element 96 content → ⊥) (λ content. token.now ≡ element 96 content.now) }
 {
     let (element, rest) = match split_element(token) {

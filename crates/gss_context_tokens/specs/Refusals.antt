@@ -5,7 +5,7 @@ use Rattle.std.specs.Io.KnownBytes.{Appends}
 use Rattle.std.specs.declared.io.ErrorKind.{ErrorKind}
 use Rattle.std.specs.declared.io.ErrorKind.TheVariants.{OutOfMemory, UnexpectedEof}
 use Rattle.asn1_der.specs.declared.error.Unsupported.{Unsupported}
-use Rattle.asn1_codec.specs.Refusals.{RefusedAs}
+use Rattle.asn1_der.specs.Refusals.{RefusedAs}
 use Rattle.asn1_leaves.specs.ObjectIdentifier.{dotted_text}
 use Rattle.byte_layouts.specs.Stops.{IsWriteStop}
 use Rattle.gss_message_tokens.specs.declared.error.GssApiMessageError.{GssApiMessageError}

@@ -30,7 +30,7 @@ impl<T: Tagged> Tagged for ApplicationTag0<T> {
 
     ghost row_of = { λ value. T.row_of value.0 };
 
-    ghost use Rattle.asn1_codec.specs.Refusals.{part_refusal};
+    ghost use Rattle.asn1_der.specs.Refusals.{part_refusal};
 
     ghost refuses = { part_refusal (λ value. value.0) T.refuses };
 

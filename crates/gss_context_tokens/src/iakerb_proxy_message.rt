@@ -2,7 +2,7 @@
 ghost use Rattle.std.specs.Prelude.{◌≡◌, MatchResult};
 ghost use Rattle.asn1_der.specs.Tree.{der};
 ghost use Rattle.asn1_der.specs.Length.{element};
-ghost use Rattle.asn1_codec.specs.Refusals.{refusal_of};
+ghost use Rattle.asn1_der.specs.Refusals.{refusal_of};
 ghost use Rattle.gss_context_tokens.specs.Tokens.{IsProxied, iakerb, proxy_id};
 ghost use Rattle.gss_context_tokens.specs.Refusals.{IsOtherMechanism, IsProxyRefusal};
 ghost use Rattle.asn1_der.specs.Octets.{sequence_octet};

@@ -2,7 +2,7 @@
 ghost use Rattle.std.specs.Prelude.{◌≡◌, MatchResult};
 ghost use Rattle.asn1_der.specs.Tree.{der};
 ghost use Rattle.asn1_der.specs.Length.{element};
-ghost use Rattle.asn1_codec.specs.Refusals.{refusal_of};
+ghost use Rattle.asn1_der.specs.Refusals.{refusal_of};
 ghost use Rattle.asn1_der.specs.Octets.{sequence_octet};
 
 use crate::application_tag0::ApplicationTag0;
@@ -136,7 +136,7 @@ impl<T: Deserialize + Drop> Tagged for KrbMessage<T> {
     ghost use Rattle.asn1_der.specs.Tagged.{sequence};
     ghost use Rattle.asn1_der.proofs.Alike.{alike-part};
     ghost use Rattle.asn1_der.proofs.Tagged.{sequence_laws_as};
-    ghost use Rattle.asn1_codec.specs.Refusals.{first_refusal};
+    ghost use Rattle.asn1_der.specs.Refusals.{first_refusal};
 
     type Row = KrbMessageRow<T>;
 

@@ -1,7 +1,7 @@
 //! A forwarded message as a value of DER.
 ghost use Rattle.std.specs.Prelude.{◌≡◌, MatchResult};
 ghost use Rattle.asn1_der.specs.Octets.{object_identifier_octet, sequence_octet};
-ghost use Rattle.asn1_codec.specs.Refusals.{refusal_of};
+ghost use Rattle.asn1_der.specs.Refusals.{refusal_of};
 
 use crate::iakerb_header::{IAKerbHeader, IAKerbHeaderRow};
 use crate::iakerb_proxy_message::{IAKerbProxyMessage, check_id};
@@ -96,7 +96,7 @@ type ProxyRow<T> = Row4<IAKerbMechanism, OctetPair, StrictHeader, T>;
 impl<T: Deserialize + Drop> Tagged for IAKerbProxyMessage<T> {
     ghost use Rattle.std.proofs.Common.{refl, true, None, Some};
     ghost use Rattle.asn1_der.specs.Tagged.{sequence};
-    ghost use Rattle.asn1_codec.specs.Refusals.{first_refusal};
+    ghost use Rattle.asn1_der.specs.Refusals.{first_refusal};
     ghost use Rattle.gss_context_tokens.specs.KrbMessages.{seen_proxy_message};
     ghost use Rattle.gss_context_tokens.specs.ProxyValues.{proxy_row, proxy_laws};
 

@@ -2,7 +2,7 @@
 ghost use Rattle.std.specs.Prelude.{◌≡◌, ◌++◌, MatchResult};
 ghost use Rattle.std.specs.Io.KnownBytes.{Appends};
 ghost use Rattle.asn1_der.specs.Tree.{der};
-ghost use Rattle.asn1_codec.specs.Refusals.{refusal_of};
+ghost use Rattle.asn1_der.specs.Refusals.{refusal_of};
 ghost use Rattle.gss_context_tokens.specs.Tokens.{mechanism_tree, token_bytes};
 ghost use Rattle.gss_context_tokens.specs.Refusals.{IsUnwritten, IsStopped};
 ghost use Rattle.gss_context_tokens.specs.Refusals as faults;

@@ -7,7 +7,7 @@ ghost use Rattle.kpasswd_messages.specs.Frames.{framed, frame_bytes, IsFrame};
 ghost use Rattle.asn1_der.specs.Seen.{Alike};
 ghost use Rattle.kpasswd_messages.specs.Reading.{IsFramedAs, BeginsFramed, IsExcuse, IsRefusal, TellsRead, seen_frame};
 ghost use Rattle.kpasswd_messages.specs.Writing.{IsTooLong, IsUnframable};
-ghost use Rattle.asn1_codec.specs.Refusals.{refusal_of};
+ghost use Rattle.asn1_der.specs.Refusals.{refusal_of};
 
 use crate::error::KrbPrivFrameError;
 use crate::header::{HEADER_LEN, VERSION, read_header};

@@ -3,7 +3,7 @@ ghost use Rattle.std.specs.Prelude.{◌≡◌, ◌⊎◌, IfOk, IfErr, MatchResu
 ghost use Rattle.std.specs.declared.io.ErrorKind.{ErrorKind};
 ghost use Rattle.asn1_der.specs.Tree.{der};
 ghost use Rattle.asn1_codec.specs.Cuts.{TakesNext};
-ghost use Rattle.asn1_codec.specs.Refusals.{refusal_of};
+ghost use Rattle.asn1_der.specs.Refusals.{refusal_of};
 ghost use Rattle.asn1_codec.specs.Reading.{IsNotNext, IsReadBy};
 ghost use Rattle.kpasswd_messages.specs.Reading.{der_kind, IsExcuse, TellsRead};
 ghost use Rattle.kpasswd_messages.specs.Writing.{IsUnwritten, write_kind};

@@ -66,8 +66,8 @@ fn take_time(asked: &ApAsked, part: &EncApRepPartInner) -> Result<(), TakeRefusa
     Ok(())
 }
 
-// Whether the part has the second of the moment, and its microseconds.
-fn tells(moment: Moment, part: &EncApRepPartInner) -> bool
+/// Whether the part has the second of the moment, and its microseconds (RFC 4120, section 3.2.5).
+pub fn tells(moment: Moment, part: &EncApRepPartInner) -> bool
     ensures { result ≡ tells moment part.now }
 {
     part.ctime.0.0.seconds() == moment.second().seconds()

@@ -34,8 +34,9 @@ struct AuthenticatorParts {
 }
 
 impl Client {
-    /// The client's authenticator of the moment, with a checksum and a subkey, where they are given.
-    pub(crate) fn authenticator(
+    /// The client's authenticator of the moment, with a checksum and a subkey, where they are given (RFC 4120, section 5.5.1). Fails only
+    /// if memory runs out.
+    pub fn authenticator(
         &self,
         alloc: Global,
         moment: Moment,
@@ -94,7 +95,7 @@ fn authenticator_with(
 
 /// The AP request with the credential's ticket and the authenticator, which is sealed under the session key for the usage
 /// (RFC 4120, section 5.5.1). Fails only if memory runs out.
-pub(crate) fn ap_request(
+pub fn ap_request(
     alloc: Global,
     credential: &Credential,
     usage: i32,

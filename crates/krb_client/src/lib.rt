@@ -29,10 +29,14 @@ mod tgs_reply;
 mod tgs_request;
 
 pub use agreement::agreement_part;
+pub use ap_reply::tells;
 pub use asked::{ApAsked, AsAsked, TgsAsked};
+pub use authenticator::ap_request as ap_request_with;
 pub use by_key::ByKey;
 pub use client::Client;
 pub use credential::{Credential, TicketTimes};
 pub use kdc_request::nonce_of;
 pub use means::Means;
+pub use read::{open_ap_part, read_ap_reply, read_error_code};
 pub use refusal::{AskRefusal, TakeRefusal};
+pub use taking::is_of_type;

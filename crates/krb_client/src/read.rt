@@ -20,7 +20,7 @@ use picky_asn1_der::read_whole;
 use std::alloc::{AllocError, Global};
 
 /// The code of the error whose one encoding the bytes are, or none (RFC 4120, section 5.9.1).
-pub(crate) fn read_error_code(alloc: Global, bytes: &[u8]) -> Result<Option<u32>, AllocError>
+pub fn read_error_code(alloc: Global, bytes: &[u8]) -> Result<Option<u32>, AllocError>
     ensures { IfOk result (IsFound (IsErrorCode bytes.now)) }
 {
     let read: Option<KrbError> = read_whole(alloc, bytes)?;
@@ -57,7 +57,7 @@ pub(crate) fn read_tgs_reply(alloc: Global, bytes: &[u8]) -> Result<Option<KdcRe
 }
 
 /// The AP reply whose one encoding the bytes are, or none (RFC 4120, section 5.5.2).
-pub(crate) fn read_ap_reply(alloc: Global, bytes: &[u8]) -> Result<Option<ApRepInner>, AllocError>
+pub fn read_ap_reply(alloc: Global, bytes: &[u8]) -> Result<Option<ApRepInner>, AllocError>
     ensures { IfOk result (IsFound (IsApRep bytes.now)) }
 {
     let read: Option<ApRep> = read_whole(alloc, bytes)?;
@@ -103,7 +103,7 @@ pub(crate) fn open_tgs_part(
 
 /// The part of a service's reply that is sealed here under the session's key, or none.
 #[tactic(auto, unfolding(crate::specs::ApReply::IsApPart))]
-pub(crate) fn open_ap_part(
+pub fn open_ap_part(
     alloc: Global,
     asked: &ApAsked,
     sealed: &EncryptedData,

@@ -15,7 +15,7 @@ use picky_asn1::is_number;
 use picky_asn1::wrapper::{GeneralStringAsn1, IntegerAsn1};
 
 /// Whether a message says that it is of version 5, and of this type.
-pub(crate) fn is_of_type(number: u8, version: &IntegerAsn1, kind: &IntegerAsn1) -> bool
+pub fn is_of_type(number: u8, version: &IntegerAsn1, kind: &IntegerAsn1) -> bool
     ensures { result ≡ is_of_type number version.now kind.now }
 {
     is_number(version, KERBEROS_VERSION) && is_number(kind, u32::from(number))

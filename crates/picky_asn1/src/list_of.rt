@@ -75,7 +75,7 @@ impl<const OCTET: u8, T: Deserialize + Drop> Tagged for ListOf<OCTET, T> {
     ghost use Rattle.asn1_der.specs.Seen.{Alike, seen_list};
     ghost use Rattle.asn1_der.specs.Tagged.{sequence};
     ghost use Rattle.asn1_der.proofs.Tagged.{sequence_laws_as};
-    ghost use Rattle.asn1_codec.specs.Refusals.{list_refusal};
+    ghost use Rattle.asn1_der.specs.Refusals.{list_refusal};
 
     type Row = Elements<T>;
 

@@ -17,6 +17,6 @@ pub use Rattle.asn1_der.specs.Tagged
 pub use Rattle.asn1_der.specs.Tags
 pub use Rattle.asn1_der.specs.Tree
 pub use Rattle.asn1_codec.specs.Reads
-pub use Rattle.asn1_codec.specs.Refusals
+pub use Rattle.asn1_der.specs.Refusals
 pub use Rattle.asn1_codec.specs.Writing
 pub use Rattle.asn1_codec.specs.declared.optional.Optional

@@ -2,7 +2,7 @@
 ghost use Rattle.std.specs.Prelude.{◌≡◌, ℕ, ◌+◌, ◌%◌, MatchResult};
 ghost use Rattle.asn1_der.specs.Tree.{Tree, wrapped};
 ghost use Rattle.asn1_der.specs.Firsts.{only};
-ghost use Rattle.asn1_codec.specs.Refusals.{part_refusal};
+ghost use Rattle.asn1_der.specs.Refusals.{part_refusal};
 
 use asn1_codec::{Deserialize, Deserializer, IsTagNumber, Serialize, Serializer, TagNumber};
 use asn1_der::Asn1DerError;

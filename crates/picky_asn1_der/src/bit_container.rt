@@ -42,7 +42,7 @@ impl<T: Deserialize + Drop> Tagged for BitStringContainer<T> {
 
     ghost row_laws = { behind_laws_as (Alike T.seen) 0 (λ octet value. wrapped octet (T.tree value)) (wrapped_laws_as (Alike T.seen) T.tree T.injective) };
 
-    ghost use Rattle.asn1_codec.specs.Refusals.{part_refusal};
+    ghost use Rattle.asn1_der.specs.Refusals.{part_refusal};
 
     ghost refuses = { part_refusal (λ value. value.0) T.refusal };
 

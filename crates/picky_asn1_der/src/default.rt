@@ -70,7 +70,7 @@ impl<T> From<T> for DefaultField<T> {
 }
 
 impl<H: HasDefault + Deserialize> WriteItem for DefaultField<H> {
-    ghost use Rattle.asn1_codec.specs.Refusals.{refusal_of_option};
+    ghost use Rattle.asn1_der.specs.Refusals.{refusal_of_option};
     ghost use Rattle.picky_asn1_der.specs.Defaults.{told_value};
 
     ghost put_before = { λ item trees. put H.tree (told_value H.is_default_value item.0) trees };

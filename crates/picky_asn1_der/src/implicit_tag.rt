@@ -42,7 +42,7 @@ where
 
     ghost begins = { λ value. T.row_laws.begins (implicit_octet T.FIRST N) (T.row_of value.0) };
 
-    ghost use Rattle.asn1_codec.specs.Refusals.{part_refusal};
+    ghost use Rattle.asn1_der.specs.Refusals.{part_refusal};
 
     ghost refusal = { part_refusal (λ value. value.0) T.refuses };
 

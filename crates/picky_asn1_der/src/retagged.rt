@@ -39,7 +39,7 @@ impl<const OCTET: u8, T: Tagged> Tagged for Retagged<OCTET, T> {
 
     ghost row_of = { λ value. T.row_of value.0 };
 
-    ghost use Rattle.asn1_codec.specs.Refusals.{part_refusal};
+    ghost use Rattle.asn1_der.specs.Refusals.{part_refusal};
 
     ghost refuses = { part_refusal (λ value. value.0) T.refuses };
 

@@ -13,7 +13,7 @@ use Rattle.key_functions.specs.KeyFunctions.{KeysRecord}
 use Rattle.cms_signed_data.specs.Written.{IsNoCertificate, IsWritten, signed_bytes}
 use Rattle.pkinit_messages.specs.declared.pa_pk_as_req.PaPkAsReq.{PaPkAsReq}
 use Rattle.pkinit_messages.specs.contracts.pa_pk_as_req.PaPkAsReqTagged.TheImpl as request_impl
-use Rattle.pkinit_requests.specs.WrittenOnce.{one_written}
+use Rattle.cms_signed_data.specs.WrittenOnce.{one_written}
 use Rattle.pkinit_clients.specs.AuthPacks.{auth_data, auth_pack_bytes, auth_pack_of, authenticator_of}
 use Rattle.asn1_der.specs.Octets.{sequence_octet}
 

@@ -76,7 +76,7 @@ impl<V: Deserialize + ClientPublicValue + Drop> Tagged for AuthPack<V> {
     ghost use Rattle.asn1_der.specs.Tagged.{sequence};
     ghost use Rattle.asn1_der.proofs.Alike.{alike-part};
     ghost use Rattle.asn1_der.proofs.Tagged.{sequence_laws_as};
-    ghost use Rattle.asn1_codec.specs.Refusals.{first_refusal, refusal_of_option, part_refusal};
+    ghost use Rattle.asn1_der.specs.Refusals.{first_refusal, refusal_of_option, part_refusal};
 
     type Row = AuthPackRow<V>;
 

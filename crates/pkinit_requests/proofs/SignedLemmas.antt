@@ -6,7 +6,7 @@ use Rattle.key_functions.specs.declared.functions.Signed.{Signed}
 use Rattle.cms_signed_data.specs.Written.{IsNoCertificate, IsUnsigned, IsWritten}
 use Rattle.cms_signed_data.specs.declared.fault.SignedFault.{SignedFault}
 use Rattle.cms_signed_data.specs.declared.fault.SignedFault.TheVariants.{Unreadable, Memory}
-use Rattle.pkinit_requests.specs.WrittenOnce.{unsigned_none}
+use Rattle.cms_signed_data.specs.WrittenOnce.{unsigned_none}
 
 module _ (sign : List ℕ → Option Signed) (content given : List ℕ) where
   -- the bytes that were written, or there are none

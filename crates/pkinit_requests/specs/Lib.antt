@@ -7,7 +7,5 @@ pub mod PkinitTable
 pub mod Trust
 pub mod AgreementBytes
 pub mod PublicKeys
-pub mod SignedRowLaws
-pub mod WrittenOnce
 pub mod Replies
 pub mod ReplyOutcome

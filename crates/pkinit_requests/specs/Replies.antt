@@ -20,7 +20,7 @@ use Rattle.pkinit_messages.specs.contracts.pa_pk_as_rep.PaPkAsRepSerialize.TheIm
 use Rattle.cms_signed_data.specs.Written.{IsWritten}
 use Rattle.pkinit_requests.specs.AgreementBytes.{agreement_bytes}
 use Rattle.pkinit_requests.specs.PublicKeys.{IsPublicKey, sole_public_key}
-use Rattle.pkinit_requests.specs.WrittenOnce.{one_written}
+use Rattle.cms_signed_data.specs.WrittenOnce.{one_written}
 use Rattle.asn1_der.specs.Octets.{sequence_octet}
 
 -- id-pkinit-DHKeyData, the type of a KDCDHKeyInfo as signed content

@@ -12,7 +12,7 @@ use Rattle.pkinit_requests.specs.AgreementBytes.{agreement_bytes}
 use Rattle.pkinit_requests.specs.declared.public_key.AgreementPublicKey.{AgreementPublicKey}
 use Rattle.pkinit_requests.specs.PublicKeys.{IsPublicKey, sole_public_key}
 use Rattle.pkinit_requests.specs.Replies.{dh_key_data, dh_reply_bytes, dh_reply_of, key_info_bytes, key_info_of, pk_as_rep}
-use Rattle.pkinit_requests.specs.WrittenOnce.{one_written}
+use Rattle.cms_signed_data.specs.WrittenOnce.{one_written}
 
 module _ (keys : KeysRecord) (certificate : Bytes) (nonce : ℤ) (words : Random) where
   -- the octets of KDCDHKeyInfo with this key

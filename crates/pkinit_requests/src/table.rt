@@ -8,8 +8,8 @@ ghost use Rattle.pkinit_requests.specs.PkinitTable.{agreed_on, is_auth_data, of_
 use crate::fields::auth_pack_fields;
 use crate::judging::Judging;
 use crate::parts::AuthPackFields;
-use crate::pk_as_rep;
 use crate::reading::{read_auth_pack, read_pa_pk_as_req};
+use crate::reply::pk_as_rep;
 use crate::signer::check_signed;
 use cms_signed_data::{SignedContent, SignedFault};
 use key_functions::{KeyFunctions, Theirs};

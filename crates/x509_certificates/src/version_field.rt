@@ -35,7 +35,7 @@ impl VersionField {
 }
 
 impl Serialize for VersionField {
-    ghost use Rattle.asn1_codec.specs.Refusals.{part_refusal};
+    ghost use Rattle.asn1_der.specs.Refusals.{part_refusal};
 
     ghost tree = { λ field. ⟦<ExplicitContextTag0<Version> as Serialize>⟧.tree field.0 };
 

@@ -1,7 +1,7 @@
 //! The calls that a user makes.
 ghost use Rattle.std.specs.Prelude.{◌≡◌, ◌↔◌, ℕ, None, length, IfOk, IfErr, MatchResult};
 ghost use Rattle.asn1_der.specs.Tree.{IsWhole, der};
-ghost use Rattle.asn1_codec.specs.Refusals.{refusal_of};
+ghost use Rattle.asn1_der.specs.Refusals.{refusal_of};
 ghost use Rattle.asn1_codec.specs.Writing.{IsTooLong};
 ghost use Rattle.x509_codec.specs.Answers.{ReadsSpelling, CountsSpelling};
 

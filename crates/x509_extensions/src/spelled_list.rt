@@ -89,7 +89,7 @@ impl<const OCTET: u8, T> From<Vec<T>> for SpelledList<OCTET, T> {
 }
 
 impl<const OCTET: u8, T: Serialize> Serialize for SpelledList<OCTET, T> {
-    ghost use Rattle.asn1_codec.specs.Refusals.{list_refusal};
+    ghost use Rattle.asn1_der.specs.Refusals.{list_refusal};
     ghost use Rattle.asn1_der.specs.Seen.{Alike, seen_list};
     ghost use Rattle.asn1_der.proofs.Spelling.{may_begin-only};
     ghost use Rattle.asn1_der.proofs.Rows.{many-injective_as};

@@ -11,7 +11,7 @@ use picky_asn1_der::{Asn1DerError, Serializer, WriteFields};
 pub struct Ahead<'a, A, F>(pub &'a A, pub F);
 
 impl<'a, A: Spelled, F: WriteFields> WriteFields for Ahead<'a, A, F> {
-    ghost use Rattle.asn1_codec.specs.Refusals.{first_refusal, refusal_of};
+    ghost use Rattle.asn1_der.specs.Refusals.{first_refusal, refusal_of};
 
     ghost trees = { λ ahead. more (A.written ahead.0.now) (F.trees ahead.1) };
 

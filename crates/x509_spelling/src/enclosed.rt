@@ -2,7 +2,7 @@
 ghost use Rattle.std.specs.Prelude.{◌≡◌, ◌+◌, ◌%◌, true, MatchResult};
 ghost use Rattle.asn1_der.specs.Tree.{wrapped};
 ghost use Rattle.asn1_der.specs.Firsts.{only};
-ghost use Rattle.asn1_codec.specs.Refusals.{part_refusal};
+ghost use Rattle.asn1_der.specs.Refusals.{part_refusal};
 ghost use Rattle.asn1_elements.specs.Raw.{has_low_number};
 ghost use Rattle.x509_spelling.specs.Spellings.{Holds};
 ghost use Rattle.x509_spelling.specs.Answers.{Tells};

@@ -13,7 +13,7 @@ impl<T: Serialize> Serialize for Strict<T> {
     ghost use Rattle.std.specs.Prelude.{refl};
     ghost use Rattle.asn1_der.specs.Seen.{seen_part};
     ghost use Rattle.asn1_der.proofs.Alike.{alike-part};
-    ghost use Rattle.asn1_codec.specs.Refusals.{part_refusal};
+    ghost use Rattle.asn1_der.specs.Refusals.{part_refusal};
 
     ghost tree = { λ value. T.tree value.0 };
 

@@ -1,6 +1,6 @@
 use Rattle.std.proofs.Common.{◌≡◌, take, length, None}
 use Rattle.asn1_der.specs.Tree.{ders, trees_of}
-use Rattle.asn1_codec.specs.Refusals.{refusal_of_list}
+use Rattle.asn1_der.specs.Refusals.{refusal_of_list}
 use Rattle.asn1_codec.specs.Writing.{Wrote}
 use Rattle.asn1_codec.proofs.slices.write_elements.Given as goal
 

@@ -1,6 +1,6 @@
 use Rattle.std.proofs.Common.{◌≡◌, length, inr, sym, ap, ◌∙◌, arith, take, ◌<◌, length-take}
 use Rattle.asn1_codec.specs.Reading.{IsCount}
-use Rattle.asn1_der.specs.Peeking.{left_of}
+use Rattle.byte_streams.specs.Peeking.{left_of}
 use Rattle.asn1_codec.proofs.Chain.{refused-own, missing-short, left-consumed}
 use Rattle.asn1_codec.proofs.de.Deserializer.fill.Goals as goal
 

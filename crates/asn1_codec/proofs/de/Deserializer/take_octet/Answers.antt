@@ -1,6 +1,6 @@
 use Rattle.std.proofs.Common.{[], inr, sym, ap, ◌∙◌, arith}
 use Rattle.asn1_codec.specs.Reading.{IsOctet}
-use Rattle.asn1_der.specs.Peeking.{left_of}
+use Rattle.byte_streams.specs.Peeking.{left_of}
 use Rattle.asn1_codec.proofs.Chain.{refused-own, missing-short, left-consumed}
 use Rattle.asn1_codec.proofs.de.Deserializer.take_octet.Goals as goal
 

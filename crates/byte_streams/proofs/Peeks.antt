@@ -1,7 +1,7 @@
 -- What a peekable reader gives first is the octet that was looked at.
 use Rattle.std.proofs.Common.{◌≡◌, ℕ, ◌<◌, List, [], ◌∷◌, ◌++◌, length, Option, None, Some, refl, ap, ◌∙◌, arith, take, slice_set}
 use Rattle.std.specs.Io.KnownBytes.{Consumes}
-use Rattle.asn1_der.specs.Peeking.{seen}
+use Rattle.byte_streams.specs.Peeking.{seen}
 
 front : (buffer : List ℕ) (octet : ℕ) → 0 < length buffer → octet ∷ [] ≡ take 1 (slice_set buffer 0 octet)
 front [] octet some = absurd (omega arith)

@@ -3,7 +3,7 @@ use Rattle.std.specs.Prelude.{ℕ, List, [], ◌∷◌, Bool, is_some, Option, N
 use Rattle.std.specs.Borrow.{GName}
 use Rattle.std.specs.declared.io.ErrorKind.{ErrorKind}
 use Rattle.std.specs.Io.KnownBytes.{prepend_known}
-use Rattle.asn1_der.specs.declared.peek.PeekableReader.{PeekableReader}
+use Rattle.byte_streams.specs.declared.peek.PeekableReader.{PeekableReader}
 
 -- what is left: the octet that was looked at, and what the source gives
 abbrev pub seen : Option ℕ → Option (List ℕ) → Option (List ℕ)

@@ -1,7 +1,7 @@
 use Rattle.std.proofs.Common.{◌<◌, length, arith, ◌==◌, false, ◌≡◌, sym, ◌∙◌}
 use Rattle.std.proofs.lemmas.Grind.{common_steps}
-use Rattle.asn1_der.proofs.Peeks.{seen-consumed}
-use Rattle.asn1_der.proofs.peek.PeekableReaderSource.read_some.Goals as goal
+use Rattle.byte_streams.proofs.Peeks.{seen-consumed}
+use Rattle.byte_streams.proofs.peek.PeekableReaderSource.read_some.Goals as goal
 
 pub returns-in-Some-clause-bytes : goal.returns-in-Some-clause-bytes
 returns-in-Some-clause-bytes g c =

@@ -18,7 +18,7 @@ use Rattle.cms_signed_data.specs.declared.set_of_one.SetOfOne.{SetOfOne}
 use Rattle.cms_signed_data.specs.declared.signer_info.SignerInfo.{SignerInfo}
 use Rattle.x509_parts.specs.declared.raw_algorithm_identifier.RawAlgorithmIdentifier.{RawAlgorithmIdentifier}
 use Rattle.cms_signed_data.specs.Written.{IsUnsigned, IsWritten, info_of}
-use Rattle.pkinit_requests.specs.SignedRowLaws.{HasOneStrict, held_strict, fourth_leads, five_same, second_leads, two_same, none_before, whole_count}
+use Rattle.cms_signed_data.specs.SignedRowLaws.{HasOneStrict, held_strict, fourth_leads, five_same, second_leads, two_same, none_before, whole_count}
 
 abbrev p : PartSpellings
 p = of_form.ghosts.spellings

@@ -3,7 +3,8 @@ ghost use Rattle.std.specs.Prelude.{◌≡◌, ℕ, ◌<◌, ◌≤◌, List, []
 ghost use Rattle.std.specs.Io.KnownBytes.{Keeps, Consumes, IsAtEnd};
 ghost use Rattle.byte_streams.specs.Counting.{one_more, CountsRead};
 
-use byte_streams::{Source, read_full};
+use crate::exact::read_full;
+use crate::source::Source;
 use std::io::ErrorKind;
 
 /// A source whose next octet can be looked at before it is read.
@@ -14,7 +15,7 @@ pub struct PeekableReader<R: Source> {
 }
 
 impl<R: Source> Source for PeekableReader<R> {
-    ghost use Rattle.asn1_der.specs.Peeking.{seen};
+    ghost use Rattle.byte_streams.specs.Peeking.{seen};
 
     ghost left = { λ p. seen p.looked (R.left p.reader) };
 
@@ -42,7 +43,7 @@ impl<R: Source> Source for PeekableReader<R> {
 }
 
 impl<R: Source> PeekableReader<R> {
-    ghost use Rattle.asn1_der.specs.Peeking.{left_of, failed_of, looked_of, kind_of, names_of};
+    ghost use Rattle.byte_streams.specs.Peeking.{left_of, failed_of, looked_of, kind_of, names_of};
 
     /// A source that gives what `reader` does.
     pub fn new(reader: R) -> Self
