@@ -1,14 +1,13 @@
 -- Two sides come to one secret.
-use Rattle.std.proofs.Common.{◌≡◌, ℕ, suc, ◌+◌, ◌*◌, ◌/◌, ◌^◌, ◌%◌, ◌<◌, Bool, true, cond, ltb, leb, ◌&&◌, List, length, get_or, Some, None, refl, sym, ap, ◌∙◌, arith}
-use Prim.Native.Nat.{zero}
-use Rattle.std.proofs.Math.Nat.{div-add-mod, mod-lt, mul_comm, pow-suc, pow-zero}
+use Rattle.std.proofs.Common.{◌≡◌, ℕ, ◌+◌, ◌*◌, ◌^◌, ◌%◌, ◌<◌, Bool, true, cond, ltb, leb, ◌&&◌, List, length, get_or, Some, None, refl, sym, ap, ◌∙◌, arith}
+use Rattle.std.proofs.Math.Nat.{mod-lt, mul_comm}
 use Rattle.std.proofs.lemmas.Bool.Decides.{nat_tests}
 use Rattle.std.proofs.lemmas.Int.Digits as digits
-use Rattle.std.proofs.lemmas.Nat.{div_below, pow-mod}
+use Rattle.std.proofs.lemmas.Nat.{pow-mod}
 use Rattle.modular_arithmetic.specs.Naturals.{i2osp, os2ip}
 use Rattle.modular_arithmetic.specs.Refusals.{refusal_of}
 use Rattle.modular_arithmetic.proofs.Forms.{power-mul}
-use Rattle.modular_arithmetic.proofs.OctetSteps.{all-below}
+use Rattle.modular_arithmetic.proofs.OctetSteps.{all-below, os2ip-i2osp}
 use Rattle.diffie_hellman.specs.declared.group.Group.{Group}
 use Rattle.diffie_hellman.specs.declared.group.Group.TheVariants.{Modp1024, Modp2048, Modp4096}
 use Rattle.diffie_hellman.specs.Agreements.{in_range, octets_of, prime_of, public_of, shared_of, size_of}
@@ -23,16 +22,6 @@ pub sized : (group : Group) → length (octets_of group) ≡ size_of group
 sized Modp1024 = refl
 sized Modp2048 = refl
 sized Modp4096 = refl
-
--- a number that fits is that of its octets
-pub os2ip-i2osp : (len n : ℕ) → n < 256 ^ len → os2ip (i2osp len n) ≡ n
-unfolding i2osp
-os2ip-i2osp zero n small = omega (arith, small, pow-zero 256)
-os2ip-i2osp (suc len) n small =
-    let less : n / 256 < 256 ^ len = div_below n 256 (256 ^ len) (omega arith) (omega (arith, small, pow-suc 256 len)) in
-    digits.number_push 256 (i2osp len (n / 256)) (n % 256)
-    ∙ ap (λ k. k * 256 + n % 256) (os2ip-i2osp len (n / 256) less)
-    ∙ (let e : n / 256 * 256 + n % 256 ≡ n = omega (arith, div-add-mod n 256) in e)
 
 -- a power of a power
 power-twice : (p a b : ℕ) → (2 ^ a % p) ^ b % p ≡ 2 ^ (a * b) % p

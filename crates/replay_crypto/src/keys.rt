@@ -1,7 +1,7 @@
-//! Powers, keys, signatures and Diffie-Hellman agreements. `data/keys.py` writes the rows.
+//! Powers, keys, signatures and Diffie-Hellman agreements. `data/keys.py` and `data/primes.py` write the rows.
 
 use crate::row::{Vector, vector_of};
-use crate::{agreements, numbers, signatures};
+use crate::{agreements, numbers, primes, signatures};
 use replay_rows::{Row, Rows, replay};
 use std::alloc::Global;
 
@@ -10,7 +10,8 @@ struct Keys;
 
 /// Replays the lines on keys.
 pub(crate) fn replay_keys(rt: &HostRuntime) -> anyhow::Result<()> {
-    replay(rt, &mut Keys, "keys.txt")
+    replay(rt, &mut Keys, "keys.txt")?;
+    replay(rt, &mut Keys, "primes.txt")
 }
 
 impl Rows for Keys {
@@ -31,6 +32,8 @@ fn is_made(alloc: Global, row: &Vector<'_>) -> bool {
         "modulus" => numbers::is_refused(row),
         "key" => signatures::is_refused(row),
         "sign" => signatures::is_signed(alloc, row),
+        "primes" => primes::are_refused(alloc, row),
+        "sign_by_primes" => primes::is_signed(alloc, row),
         "verify" => signatures::is_verified(row),
         "group" => agreements::is_group(row),
         "public" => agreements::is_public(alloc, row),

@@ -12,6 +12,7 @@ mod digests;
 mod keys;
 mod numbers;
 mod plain;
+mod primes;
 mod row;
 mod sealing;
 mod signatures;

@@ -5,7 +5,7 @@ use crate::row::Vector;
 use rsa_pkcs1::{HashFunction, KeyRefusal, PrivateKey, PublicKey, PublicNumbers};
 use std::alloc::Global;
 
-fn key_of(modulus: &[u8], exponent: &[u8]) -> Result<PublicKey, KeyRefusal> {
+pub(crate) fn key_of(modulus: &[u8], exponent: &[u8]) -> Result<PublicKey, KeyRefusal> {
     PublicKey::new(&PublicNumbers { modulus, exponent })
 }
 
@@ -30,7 +30,7 @@ fn name_of(refusal: KeyRefusal) -> &'static str {
     }
 }
 
-fn hash_of(name: &str) -> Option<HashFunction> {
+pub(crate) fn hash_of(name: &str) -> Option<HashFunction> {
     match name {
         "sha256" => Some(HashFunction::Sha256),
         "sha384" => Some(HashFunction::Sha384),

@@ -1,2 +1,4 @@
 pub mod Pieces
 pub mod Refusals
+pub mod PrimeRefusals
+pub mod Roots

@@ -1,2 +1,3 @@
 pub mod Keys
 pub mod Pkcs1
+pub mod Primes

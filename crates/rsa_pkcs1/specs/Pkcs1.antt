@@ -6,6 +6,7 @@ use Rattle.modular_arithmetic.specs.Naturals.{i2osp, os2ip}
 use Rattle.sha2.specs.Sha256.{sha256}
 use Rattle.sha2.specs.Sha512.{sha384, sha512}
 use Rattle.rsa_pkcs1.specs.Keys.{refusal_of}
+use Rattle.rsa_pkcs1.specs.Primes.{root_of}
 use Rattle.rsa_pkcs1.specs.declared.hash.HashFunction.{HashFunction}
 use Rattle.rsa_pkcs1.specs.declared.hash.HashFunction.TheVariants.{Sha256, Sha384, Sha512}
 use Rattle.rsa_pkcs1.specs.declared.public_key.PublicKey.{PublicKey}
@@ -40,10 +41,13 @@ unfoldable pub verifies : PublicKey → HashFunction → List ℕ → List ℕ �
 verifies key hash message signature =
     nat_eq (length signature) key.len && nat_lt (os2ip signature) (value_of key.modulus.reducer) && bytes_eq (recovered key signature) (encoded key.len hash message)
 
--- RSASSA-PKCS1-v1_5-SIGN by the first form of a private key (8.2.1, 5.2.1)
+-- RSASP1: a number to the private exponent, by the second form of a private key where the key has its primes, and by the first where not (5.2.1)
+abbrev pub private_root : PrivateKey → ℕ → ℕ
+private_root key m = root_of key.primes (value_of key.public.modulus.reducer) (os2ip key.exponent.items) m
+
+-- RSASSA-PKCS1-v1_5-SIGN (8.2.1)
 abbrev pub signature_of : PrivateKey → HashFunction → List ℕ → List ℕ
-signature_of key hash message =
-    i2osp key.public.len (os2ip (encoded key.public.len hash message) ^ os2ip key.exponent.items % value_of key.public.modulus.reducer)
+signature_of key hash message = i2osp key.public.len (private_root key (os2ip (encoded key.public.len hash message)))
 
 -- the signature, unless it doesn't verify under the public key
 abbrev pub signed : PrivateKey → HashFunction → List ℕ → Option (List ℕ)

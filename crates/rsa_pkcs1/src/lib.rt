@@ -8,9 +8,11 @@
 
 mod encoding;
 mod hash;
+mod primes;
 mod private_key;
 mod public_key;
 
 pub use hash::HashFunction;
+pub use primes::{PrimeNumbers, Primes, PrimesRefusal};
 pub use private_key::PrivateKey;
 pub use public_key::{KeyRefusal, PublicKey, PublicNumbers};
