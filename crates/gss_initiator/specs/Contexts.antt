@@ -1,0 +1,69 @@
+-- The initiator's end of a context (RFC 4121, sections 2 and 4.2).
+use Rattle.std.specs.Prelude.{ℕ, ℤ, true, false, Option, None, Some, Result, Ok, Err, if◌then◌else◌}
+use Rattle.std.specs.Option.{option_map}
+use Rattle.krb_crypto.specs.Keys.{KeyRecord}
+use Rattle.krb_encrypted_data.specs.Keys.{key_in}
+use Rattle.krb_types.specs.declared.data_types.enc_ap_rep_part.EncApRepPartInner.{EncApRepPartInner}
+use Rattle.krb_types.specs.declared.data_types.encryption_key.EncryptionKey.{EncryptionKey}
+use Rattle.gss_contexts.specs.Contexts.{ContextRecord, is_newer}
+use Rattle.gss_contexts.specs.declared.context.SequenceNumbers.{SequenceNumbers}
+use Rattle.gss_contexts.specs.declared.side.Side.TheVariants.{Initiator}
+use Rattle.gss_acceptor.specs.Contexts.{number_of}
+use Rattle.gss_initiator.specs.declared.initiated.Pending.{Pending}
+use Rattle.gss_initiator.specs.declared.context.ContextKey.{ContextKey}
+use Rattle.gss_initiator.specs.declared.refusal.InitiateRefusal.{InitiateRefusal}
+use Rattle.gss_initiator.specs.declared.refusal.InitiateRefusal.TheVariants.{BadSequenceNumber, UnknownKey, OldSuite}
+
+-- what follows a value, or its refusal
+abbrev pub then_judged : {A B : Type 0} → Result A InitiateRefusal → (A → Result B InitiateRefusal) → Result B InitiateRefusal
+then_judged (Ok a) rest = rest a
+then_judged (Err refusal) rest = Err refusal
+
+-- a value, or the refusal
+abbrev pub or_refused : {A : Type 0} → Option A → InitiateRefusal → Result A InitiateRefusal
+or_refused (Some a) refusal = Ok a
+or_refused None refusal = Err refusal
+
+-- an end with this key
+abbrev pub context_in : ContextKey → SequenceNumbers → Result ContextRecord InitiateRefusal
+context_in it numbers =
+    if is_newer it.key.suite then Ok (record {
+      key = it.key;
+      side = Initiator;
+      acceptor_subkey = it.is_acceptors;
+      sending = numbers.sending;
+      taking = numbers.taking;
+    })
+    -- The key is of a suite of AES: triple DES has the tokens of RFC 1964. Test: `initiate OldSuite`.
+    else Err OldSuite
+
+-- the end under the initiator's subkey; without an AP-REP the acceptor's numbers begin where the initiator's do. Test: `initiate Established`.
+abbrev pub own_context : Pending → Result ContextRecord InitiateRefusal
+own_context pending =
+    context_in (record { key = pending.key; is_acceptors = false }) (record { sending = pending.number; taking = pending.number })
+
+-- the acceptor's first sequence number
+abbrev pub acceptor_number : Option ℤ → Result ℕ InitiateRefusal
+acceptor_number None = Ok 0
+-- The acceptor's first sequence number has 32 bits, also where it is written as the negative number of these bits. It is 0 where the
+-- AP-REP has none (RFC 4120, section 5.5.2). Test: `take BadSequenceNumber`, `take ok`.
+acceptor_number (Some number) = or_refused (number_of number) BadSequenceNumber
+
+-- the acceptor's key, of an AP-REP that has one
+abbrev pub acceptor_key : Option KeyRecord → Result ContextKey InitiateRefusal
+acceptor_key None = Err UnknownKey
+acceptor_key (Some key) = Ok (record { key = key; is_acceptors = true })
+
+-- the context's key
+abbrev pub context_key : KeyRecord → Option EncryptionKey → Result ContextKey InitiateRefusal
+context_key own None = Ok (record { key = own; is_acceptors = false })
+-- The context's key is the acceptor's subkey where the AP-REP has one, and else the initiator's (RFC 4121, section 2). It is a key of a
+-- known suite. Test: `take ok`, `take UnknownKey`.
+context_key own (Some subkey) = acceptor_key (key_in subkey)
+
+-- the end that the AP-REP's part makes of a pending one
+abbrev pub context_by : Pending → EncApRepPartInner → Result ContextRecord InitiateRefusal
+context_by pending part =
+    then_judged (acceptor_number (option_map (λ tagged. tagged.0) part.seq_number.0)) (λ number.
+    then_judged (context_key pending.key (option_map (λ tagged. tagged.0) part.subkey.0)) (λ key.
+    context_in key (record { sending = pending.number; taking = number })))

@@ -1,0 +1,82 @@
+-- What an initiator takes as the acceptor's answer of SPNEGO (RFC 4178, section 4.2.2).
+use Rattle.std.specs.Prelude.{[], ◌∷◌, not, is_some, Bool, true, false, Option, None, Some, Result, Ok, Err, if◌then◌else◌}
+use Rattle.std.specs.Bool.{nat_eq}
+use Rattle.std.specs.Cmp.Lexicographic.{pointwise}
+use Rattle.std.specs.Option.{option_map}
+use Rattle.picky_asn1.specs.Bytes.{Bytes}
+use Rattle.asn1_der.specs.Length.{element}
+use Rattle.asn1_elements.specs.Raw.{Raw}
+use Rattle.picky_asn1_der.specs.declared.wrapper.ExplicitContextTag.{ExplicitContextTag}
+use Rattle.picky_asn1.specs.declared.wrapper.ObjectIdentifierAsn1.{ObjectIdentifierAsn1}
+use Rattle.decision_tables.specs.Tables.{Table, and_then, ask, done, refuse}
+use Rattle.gss_contexts.specs.Contexts.{ContextRecord}
+use Rattle.gss_context_tokens.specs.declared.neg_token_targ.NegTokenTarg.{NegTokenTarg}
+use Rattle.gss_acceptor.specs.Mechanisms.{kerberos_in}
+use Rattle.gss_acceptor.specs.Responses.{IsNegResp, sole_neg_resp}
+use Rattle.gss_initiator.specs.Contexts.{own_context, then_judged}
+use Rattle.gss_initiator.specs.Replies.{ended}
+use Rattle.gss_initiator.specs.declared.initiated.Pending.{Pending}
+use Rattle.gss_initiator.specs.declared.refusal.InitiateRefusal.{InitiateRefusal}
+use Rattle.gss_initiator.specs.declared.refusal.InitiateRefusal.TheVariants.{NotAToken, OtherMechanism, Rejected}
+use Rattle.gss_initiator.specs.declared.response.Answer.{Answer}
+use Rattle.gss_initiator.specs.declared.heard.Heard.{Heard}
+
+-- the octets are these
+abbrev pub is_as : Bytes → Bytes → Bool
+is_as octets expected = pointwise nat_eq octets expected
+
+-- Whether a further token of the initiator is due, by the element of the state: accept-completed (0), accept-incomplete (1), reject (2) or
+-- request-mic (3). A rejection is refused as one (RFC 4178, section 4.2.2). Test: `take Rejected`, `take NotAToken`.
+abbrev pub due_by : Bytes → Result Bool InitiateRefusal
+due_by octets =
+    if is_as octets (10 ∷ 1 ∷ 0 ∷ []) then Ok false
+    else if is_as octets (10 ∷ 1 ∷ 1 ∷ []) then Ok true
+    else if is_as octets (10 ∷ 1 ∷ 3 ∷ []) then Ok true
+    else if is_as octets (10 ∷ 1 ∷ 2 ∷ []) then Err Rejected
+    else Err NotAToken
+
+abbrev pub due_in : Option (ExplicitContextTag 0 Raw) → Result Bool InitiateRefusal
+-- The acceptor's first answer has a state (RFC 4178, section 4.2.2). Test: `take NotAToken`.
+due_in None = Err NotAToken
+due_in (Some state) = due_by (element state.0.first state.0.content)
+
+-- a mechanism is named, and it isn't Kerberos
+abbrev pub names_other : Option (ExplicitContextTag 1 ObjectIdentifierAsn1) → Bool
+names_other None = false
+names_other (Some mechanism) = not (is_some (kerberos_in mechanism.0))
+
+-- The mechanism that the acceptor names is Kerberos, by either identifier (RFC 4178, section 4.2.2). Test: `take OtherMechanism`.
+abbrev pub judged_answer : NegTokenTarg → Result Bool InitiateRefusal
+judged_answer message = then_judged (due_in message.neg_result.0) (λ due. if names_other message.supported_mech.0 then Err OtherMechanism else Ok due)
+
+-- what the message says, with its tokens
+abbrev pub answer_in : NegTokenTarg → Result Answer InitiateRefusal
+answer_in message = then_judged (judged_answer message) (λ due. Ok (record {
+  is_due = due;
+  token = option_map (λ token. token.0) message.response_token.0;
+  mic = option_map (λ mic. mic.0) message.mech_list_mic.0;
+}))
+
+unfoldable pub responded : Bytes → Table (Result Answer InitiateRefusal)
+responded token =
+    -- The answer is the DER encoding of a NegTokenResp (RFC 4178, section 4.2.2). Test: `take NotAToken`.
+    ask (IsNegResp token) (sole_neg_resp token) (done (Err NotAToken)) (λ message. done (answer_in message))
+
+-- the context that the answer's token makes, and the one without a token
+-- The answer has Kerberos' token where mutual authentication was asked for, and else none (RFC 4121, section 4.1). Test: `take
+-- NotAToken`.
+abbrev pub settled_with : Pending → Bytes → Table (Result ContextRecord InitiateRefusal)
+settled_with pending token = refuse (not pending.is_mutual) NotAToken (ended pending token)
+
+abbrev pub settled_without : Pending → Table (Result ContextRecord InitiateRefusal)
+settled_without pending = refuse pending.is_mutual NotAToken (done (own_context pending))
+
+abbrev pub settled : Pending → Option Bytes → Table (Result ContextRecord InitiateRefusal)
+settled pending None = settled_without pending
+settled pending (Some token) = settled_with pending token
+
+abbrev pub settled_by : Pending → Answer → Table (Result Heard InitiateRefusal)
+settled_by pending answer = and_then (settled pending answer.token) (λ context. done (Ok (record { context = context; is_due = answer.is_due; mic = answer.mic })))
+
+abbrev pub negotiated : Pending → Bytes → Table (Result Heard InitiateRefusal)
+negotiated pending token = and_then (responded token) (settled_by pending)

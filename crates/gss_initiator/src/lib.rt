@@ -1,0 +1,25 @@
+//! An initiator of the GSS-API (RFC 2743) for the mechanism Kerberos (RFC 4121), bare or in SPNEGO (RFC 4178), by a client's credential for
+//! the service. Delegation and DCE style aren't offered.
+//!
+//! `initiate` makes the one first token of what is chosen (`Initiates`, law `one_first_token`), or names the first refusal that there is.
+//! `Pending::take` takes an answer if and only if it answers that token (`Takes`): an AP-REP with the authenticator's time, and of SPNEGO
+//! an answer whose MIC is right where there is one, and is there where it is due. A refused answer changes nothing.
+#![tactic(auto)]
+
+mod asking;
+mod checksum;
+mod context;
+mod heard;
+mod initiated;
+pub mod laws;
+mod refusal;
+mod reply;
+mod request;
+mod response;
+mod take;
+
+pub use asking::initiate;
+pub use checksum::{NO_BINDINGS, bindings_of};
+pub use initiated::{Initiated, Pending, Progress, TokenForm};
+pub use refusal::InitiateRefusal;
+pub use take::Taken;
