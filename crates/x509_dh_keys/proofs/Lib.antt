@@ -1,0 +1,4 @@
+pub mod Elements
+pub mod Found
+pub mod Groups
+mod Signs

@@ -1,0 +1,5 @@
+pub mod Algorithms
+pub mod Faults
+pub mod Numbers
+pub mod Reading
+pub mod Values
