@@ -1,0 +1,4 @@
+pub mod Shared
+mod Usable
+mod Values
+pub mod Verified

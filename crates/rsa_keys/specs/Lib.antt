@@ -1,0 +1,4 @@
+pub mod Agreements
+pub mod Functions
+pub mod OwnKeys
+pub mod Signatures

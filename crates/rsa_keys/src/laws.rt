@@ -1,0 +1,29 @@
+//! What holds of all keys. Each is a function that does nothing when it runs: its contract is the law.
+ghost use Rattle.std.specs.Prelude.{◌≡◌, Ok, Some};
+ghost use Rattle.asn1_elements.specs.Raw.{Raw};
+ghost use Rattle.picky_asn1.specs.Bytes.{Bytes};
+ghost use Rattle.key_functions.specs.declared.functions.Signed.{Signed};
+ghost use Rattle.x509_keys.specs.declared.subject_public_key_info.SubjectPublicKeyInfo.{SubjectPublicKeyInfo};
+ghost use Rattle.rsa_keys.specs.Agreements.{IsAgreed, own_value};
+ghost use Rattle.rsa_keys.specs.Functions.{IsPublicPart, signed_by_own};
+ghost use Rattle.rsa_keys.specs.Signatures.{checked};
+
+use crate::own_key::OwnKey;
+use diffie_hellman::Group;
+
+/// Each signature that a key makes is valid under its public key, whether the key is a pair or not.
+pub fn signed_is_verified(own: &OwnKey)
+    ensures { (key : SubjectPublicKeyInfo) (text : Bytes) (made : Signed)
+        → IsPublicPart own.now key → signed_by_own own.now text ≡ Some made → checked key made.algorithm text made.signature ≡ Ok tt }
+{
+    let _public = own.public();
+}
+
+/// Two parties of one group come to one secret, each by the other's value. One has the whole of it, and the other its bits, as a KDC
+/// and a client do (RFC 4556, sections 3.2.1 and 3.2.3.1).
+pub fn one_secret(group: Group)
+    ensures { (ours theirs : Bytes) (our_value their_value : Raw)
+        → own_value group ours ≡ Some our_value → own_value group theirs ≡ Some their_value → IsAgreed group ours theirs their_value }
+{
+    diffie_hellman::agree(group);
+}

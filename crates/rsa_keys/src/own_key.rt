@@ -1,0 +1,106 @@
+//! Private keys by which a party signs.
+ghost use Rattle.std.specs.Prelude.{◌≡◌, length, IfOk, IsTrue, MatchResult, Some};
+ghost use Rattle.std.specs.Option.{option_map};
+ghost use Rattle.picky_asn1.specs.Integer.{unsigned_octets};
+ghost use Rattle.modular_arithmetic.specs.Moduli.{value_of};
+ghost use Rattle.modular_arithmetic.specs.Naturals.{os2ip};
+ghost use Rattle.rsa_pkcs1.specs.Keys.{refusal_of};
+ghost use Rattle.rsa_pkcs1.specs.Pkcs1.{IsKeyOf};
+ghost use Rattle.rsa_keys.specs.OwnKeys.{IsUsable, has_naturals, is_sha256, is_taken, key_refusal};
+ghost use Rattle.rsa_keys.specs.Signatures.{refusal_named};
+
+use crate::refusal::RsaKeyRefusal;
+use crate::signature::{numbers_of, refusal_named};
+use key_functions::SignatureAlgorithm;
+use rsa_pkcs1::{PrivateKey, PublicKey, PublicNumbers};
+use std::alloc::{AllocError, Global};
+use x509_algorithms::AlgorithmIdentifier;
+use x509_keys::RsaPublicKey;
+
+/// A private key of RSA with its public key, and the algorithm that its signatures name: sha256WithRSAEncryption.
+#[derive(Drop)]
+pub struct OwnKey {
+    public: RsaPublicKey,
+    private: PrivateKey,
+    algorithm: SignatureAlgorithm,
+    pub ghost naturals: { IsTrue (has_naturals public) },
+    pub ghost taken: { IsTrue (is_taken public) },
+    pub ghost len: { private.public.len ≡ length (unsigned_octets public.modulus) },
+    pub ghost exponent: { private.public.exponent ≡ os2ip (unsigned_octets public.public_exponent) },
+    pub ghost value: { value_of private.public.modulus.reducer ≡ os2ip (unsigned_octets public.modulus) },
+    pub ghost sha256: { IsTrue (is_sha256 algorithm) },
+}
+
+impl OwnKey {
+    /// The key of a public key and the private exponent, as octets, the most significant first. Whether they are a pair isn't tested:
+    /// where they aren't, the key doesn't sign.
+    pub fn new(
+        alloc: Global,
+        public: RsaPublicKey,
+        exponent: Vec<u8>,
+    ) -> Result<Result<OwnKey, RsaKeyRefusal>, AllocError>
+        ensures { IfOk result (λ made. MatchResult made (λ own. (own.public ≡ public) × (own.private.exponent ≡ exponent)) (λ refusal. key_refusal public ≡ Some refusal)) }
+    {
+        let algorithm = AlgorithmIdentifier::new_sha256_with_rsa_encryption(alloc)?;
+        Ok(OwnKey::of(SignatureAlgorithm::new(algorithm), public, exponent))
+    }
+
+    fn of(
+        algorithm: SignatureAlgorithm,
+        public: RsaPublicKey,
+        exponent: Vec<u8>,
+    ) -> Result<OwnKey, RsaKeyRefusal>
+        requires { IsTrue (is_sha256 algorithm) }
+        ensures { MatchResult result (λ own. (own.public ≡ public) × (own.private.exponent ≡ exponent)) (λ refusal. key_refusal public ≡ Some refusal) }
+    {
+        match public_key_of(&public) {
+            Ok(key) => Ok(OwnKey {
+                public,
+                private: PrivateKey::new(key, exponent),
+                algorithm,
+            }),
+            Err(refusal) => Err(refusal),
+        }
+    }
+
+    /// The public key.
+    pub fn public(&self) -> &RsaPublicKey
+        ensures { result.now ≡ self.now.public }
+    {
+        &self.public
+    }
+
+    /// The private key.
+    pub(crate) fn private(&self) -> &PrivateKey
+        ensures { result.now ≡ self.now.private }
+    {
+        &self.private
+    }
+
+    /// The algorithm that signatures name.
+    pub(crate) fn algorithm(&self) -> &AlgorithmIdentifier
+        ensures { result.now ≡ self.now.algorithm.algorithm }
+    {
+        self.algorithm.identifier()
+    }
+}
+
+/// The key of RSA's arithmetic.
+fn public_key_of(key: &RsaPublicKey) -> Result<PublicKey, RsaKeyRefusal>
+    ensures { MatchResult result (λ made. IsUsable made key.now) (λ refusal. key_refusal key.now ≡ Some refusal) }
+{
+    match numbers_of(key) {
+        Ok(numbers) => key_of_numbers(&numbers),
+        Err(refusal) => Err(refusal),
+    }
+}
+
+fn key_of_numbers(numbers: &PublicNumbers<'_>) -> Result<PublicKey, RsaKeyRefusal>
+    ensures { MatchResult result (λ made. IsKeyOf made numbers.now.modulus.now numbers.now.exponent.now)
+        (λ refusal. option_map refusal_named (refusal_of numbers.now.modulus.now numbers.now.exponent.now) ≡ Some refusal) }
+{
+    match PublicKey::new(numbers) {
+        Ok(made) => Ok(made),
+        Err(refusal) => Err(refusal_named(refusal)),
+    }
+}
