@@ -18,10 +18,10 @@ pub if-exit : {T : Type 0} (r : Result T Stop) (stop : Stop) (Q : Stop → Type 
 if-exit (Ok x) stop Q is q = tt
 if-exit (Err own) stop Q is q = subst Q (sym is) q
 
--- an argument is looked for among texts that are lent
-pub any-texts : (argument : Text) (lent : List (Bor Text)) → list_any (λ (name : Bor Text). pointwise nat_eq name.now argument) lent ≡ is_among (texts lent) argument
+-- an argument is looked for among borrowed texts
+pub any-texts : (argument : Text) (borrowed : List (Bor Text)) → list_any (λ (name : Bor Text). pointwise nat_eq name.now argument) borrowed ≡ is_among (texts borrowed) argument
 any-texts argument [] = refl
-any-texts argument (name ∷ lent) = ap (λ others. pointwise nat_eq name.now argument || others) (any-texts argument lent)
+any-texts argument (name ∷ borrowed) = ap (λ others. pointwise nat_eq name.now argument || others) (any-texts argument borrowed)
 
 -- the next argument is the one at this place
 pub at_next : {S : Type 0} (says : S → Text) (options : List Text) (before : Parts) (pending : Option Text) (arguments : List S) (place : ℕ) (d : S) (text : Text)

@@ -10,9 +10,9 @@ use Rattle.krb_commands.specs.Stops.{IsUsage}
 abbrev pub Text : Type 0
 Text = List ℕ
 
--- What texts that are lent say.
+-- What borrowed texts are.
 abbrev pub texts : List (Bor Text) → List Text
-texts lent = map (λ text. text.now) lent
+texts borrowed = map (λ text. text.now) borrowed
 
 abbrev pub text_pairs : List (Bor Text × Bor Text) → List (Text × Text)
 text_pairs lent = map (λ pair. (pair.0.now, pair.1.now)) lent

@@ -28,7 +28,7 @@ use std::alloc::AllocError;
 /// ```
 #[derive(Debug, Drop, PartialEq, Eq)]
 pub struct EncKrbCredPartInner {
-    /// What is told of each ticket, in the tickets' order.
+    /// The information on each ticket, in the order of the tickets.
     pub ticket_info: ExplicitContextTag0<Asn1SequenceOf<KrbCredInfo>>,
     /// A number of the receiver.
     pub nonce: Optional<Option<ExplicitContextTag1<IntegerAsn1>>>,

@@ -1,4 +1,4 @@
-//! What is told of a ticket that is handed on.
+//! The information on a ticket that is handed on.
 ghost use Rattle.asn1_der.specs.Octets.{sequence_octet};
 
 use asn1_der::octets::SEQUENCE;
@@ -15,7 +15,7 @@ use picky_asn1_der::{
 };
 use std::alloc::AllocError;
 
-/// What is told of a ticket that is handed on (RFC 4120, section 5.8.1).
+/// The information on a ticket that is handed on (RFC 4120, section 5.8.1).
 ///
 /// ```text
 /// KrbCredInfo ::= SEQUENCE {

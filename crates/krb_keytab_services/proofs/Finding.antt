@@ -25,7 +25,7 @@ pub none_of : {X : Type 0} (p : X → Bool) (xs : List X) → ((x : X) → p x �
 none_of p [] each = refl
 none_of p (y ∷ ys) each = rw (each y) (none_of p ys each)
 
--- an element behind the first that passes changes nothing, nor does one that doesn't pass
+-- an element after the first that passes changes nothing, nor does one that doesn't pass
 pub found_earlier : {X : Type 0} (p : X → Bool) (before behind : List X) (x : X) → find p before ≡ Some x → find p (before ++ behind) ≡ Some x
 found_earlier p before behind x is = find-append p before behind ∙ ap (λ o. option_or o (find p behind)) is
 

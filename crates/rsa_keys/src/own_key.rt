@@ -12,7 +12,7 @@ ghost use Rattle.rsa_keys.specs.Signatures.{refusal_named};
 use crate::refusal::RsaKeyRefusal;
 use crate::signature::{numbers_of, refusal_named};
 use key_functions::SignatureAlgorithm;
-use rsa_pkcs1::{PrivateKey, PublicKey, PublicNumbers};
+use rsa_pkcs1::{Primes, PrivateKey, PublicKey, PublicNumbers};
 use std::alloc::{AllocError, Global};
 use x509_algorithms::AlgorithmIdentifier;
 use x509_keys::RsaPublicKey;
@@ -60,6 +60,25 @@ impl OwnKey {
                 algorithm,
             }),
             Err(refusal) => Err(refusal),
+        }
+    }
+
+    /// The same key, which signs by its two primes, in a third of the time (RFC 8017, section 5.2.1). Where their length doesn't fit the
+    /// modulus's, it signs by the exponent.
+    pub fn with_primes(self, primes: Primes) -> OwnKey
+        ensures public { result.public ≡ self.public }
+        ensures exponent { result.private.exponent ≡ self.private.exponent }
+        ensures algorithm { result.algorithm ≡ self.algorithm }
+    {
+        let OwnKey {
+            public,
+            private,
+            algorithm,
+        } = self;
+        OwnKey {
+            public,
+            private: private.with_primes(primes),
+            algorithm,
         }
     }
 
