@@ -66,7 +66,7 @@ fn by_error(alloc: Global, token: &[u8]) -> Result<EncApRepPartInner, InitiateRe
     }
 }
 
-// The message behind these octets in a token.
+// The message after these octets in a token.
 fn message_in<'a>(token: &'a [u8], front: &[u8]) -> Option<&'a [u8]>
     ensures { MatchOption result ((message : List ℕ) → IsTokenOf front.now token.now message → ⊥) (λ message. IsTokenOf front.now token.now message.now) }
 {
@@ -74,7 +74,7 @@ fn message_in<'a>(token: &'a [u8], front: &[u8]) -> Option<&'a [u8]>
     message_behind(content, front)
 }
 
-// The message behind these octets in a token's content.
+// The message after these octets in a token's content.
 fn message_behind<'a>(content: &'a [u8], front: &[u8]) -> Option<&'a [u8]>
     ensures { MatchOption result ((message : List ℕ) → content.now ≡ front.now ++ message → ⊥) (λ message. content.now ≡ front.now ++ message.now) }
 {

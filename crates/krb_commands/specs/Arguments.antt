@@ -15,7 +15,7 @@ abbrev pub texts : List (Bor Text) → List Text
 texts borrowed = map (λ text. text.now) borrowed
 
 abbrev pub text_pairs : List (Bor Text × Bor Text) → List (Text × Text)
-text_pairs lent = map (λ pair. (pair.0.now, pair.1.now)) lent
+text_pairs borrowed = map (λ pair. (pair.0.now, pair.1.now)) borrowed
 
 -- The options that are given, each with its value, and the other words. Both are in the order of the arguments.
 pub record Parts : Type 0 where

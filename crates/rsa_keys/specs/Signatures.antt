@@ -25,7 +25,7 @@ use Rattle.rsa_keys.specs.declared.refusal.RsaKeyRefusal.TheVariants.{NotRsa, Ke
 use Rattle.rsa_keys.specs.declared.refusal.SignatureRefusal.{SignatureRefusal}
 use Rattle.rsa_keys.specs.declared.refusal.SignatureRefusal.TheVariants.{Md5, Sha1, OtherAlgorithm, Key, NotValid}
 
--- The hash function of 1.2.840.113549.1.1.ARC (RFC 8017, appendix C). In CMS rsaEncryption stands beside the digest algorithm (RFC
+-- The hash function of 1.2.840.113549.1.1.ARC (RFC 8017, appendix C). In CMS rsaEncryption is next to the digest algorithm (RFC
 -- 3370, section 3.2), and the one form of signed data that is read has SHA-256 there.
 abbrev pub hash_named : ℕ → Result HashFunction SignatureRefusal
 hash_named arc =

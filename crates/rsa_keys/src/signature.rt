@@ -12,7 +12,7 @@ use x509_parameters::octet_behind;
 /// Whether a signature by this algorithm is valid for the bytes under the key (RFC 8017, section 8.2.2), and if not, why. The first
 /// refusal that holds counts, in the order of [`SignatureRefusal`].
 ///
-/// `rsaEncryption` names no hash. In CMS it stands beside the digest algorithm (RFC 3370, section 3.2), which is SHA-256 here.
+/// `rsaEncryption` names no hash. In CMS it is next to the digest algorithm (RFC 3370, section 3.2), which is SHA-256 here.
 #[tactic(auto, unfolding(crate::specs::Signatures::checked))]
 pub fn check_signature(
     key: &SubjectPublicKeyInfo,

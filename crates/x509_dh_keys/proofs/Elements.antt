@@ -4,7 +4,7 @@ use Rattle.asn1_der.proofs.Elements.{element-one}
 use Rattle.asn1_elements.specs.Raw.{Raw}
 use Rattle.asn1_elements.specs.Splits.{raw_bytes}
 
--- an element is told by its bytes
+-- an element is determined by its bytes
 pub same_raw : (raw other : Raw) → raw_bytes raw ≡ raw_bytes other → raw ≡ other
 same_raw raw other e =
     let parts = element-one raw.first other.first raw.content other.content [] [] (ap (λ bytes. bytes ++ []) e) in
