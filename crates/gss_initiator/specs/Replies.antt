@@ -80,13 +80,14 @@ failed message =
 
 -- a token that has no AP-REP
 unfoldable pub by_error : Bytes → Table Part
-by_error token = ask (IsTokenOf error_front token) (sole_error token) (done (Err NotAToken)) failed
+by_error token =
+    -- A token without an AP-REP is that of a KRB-ERROR, with the token id 03 00 (RFC 4121, section 4.1). Test: `take NotAToken`.
+    ask (IsTokenOf error_front token) (sole_error token) (done (Err NotAToken)) failed
 
 -- the part of the AP-REP in a token
 unfoldable pub answered : ApAskedRecord → Bytes → Table Part
 answered asked token =
-    -- The acceptor's token is that of an AP-REP, with the token id 02 00, or of a KRB-ERROR, with 03 00 (RFC 4121, section 4.1). Test:
-    -- `take NotAToken`.
+    -- The acceptor's token is that of an AP-REP, with the token id 02 00, or of a KRB-ERROR (RFC 4121, section 4.1). Test: `take ok`.
     ask (IsTokenOf ap_rep_front token) (sole_reply token) (by_error token) (replied asked)
 
 -- the context that the token makes of a pending one

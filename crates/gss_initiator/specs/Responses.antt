@@ -62,15 +62,19 @@ responded token =
     -- The answer is the DER encoding of a NegTokenResp (RFC 4178, section 4.2.2). Test: `take NotAToken`.
     ask (IsNegResp token) (sole_neg_resp token) (done (Err NotAToken)) (λ message. done (answer_in message))
 
--- the context that the answer's token makes, and the one without a token
--- The answer has Kerberos' token where mutual authentication was asked for, and else none (RFC 4121, section 4.1). Test: `take
--- NotAToken`.
+-- the context that the answer's token makes
 abbrev pub settled_with : Pending → Bytes → Table (Result ContextRecord InitiateRefusal)
-settled_with pending token = refuse (not pending.is_mutual) NotAToken (ended pending token)
+settled_with pending token =
+    -- The answer has Kerberos' token only where mutual authentication was asked for (RFC 4121, section 4.1). Test: `take NotAToken`.
+    refuse (not pending.is_mutual) NotAToken (ended pending token)
 
+-- the context of an answer without such a token
 abbrev pub settled_without : Pending → Table (Result ContextRecord InitiateRefusal)
-settled_without pending = refuse pending.is_mutual NotAToken (done (own_context pending))
+settled_without pending =
+    -- Where mutual authentication was asked for, the answer has Kerberos' token (RFC 4121, section 4.1). Test: `take NotAToken`.
+    refuse pending.is_mutual NotAToken (done (own_context pending))
 
+-- the context, by the answer's token if there is one
 abbrev pub settled : Pending → Option Bytes → Table (Result ContextRecord InitiateRefusal)
 settled pending None = settled_without pending
 settled pending (Some token) = settled_with pending token
