@@ -1,0 +1,3 @@
+pub mod GssLogins
+pub mod Honest
+pub mod OneContext
