@@ -11,16 +11,26 @@ pub(crate) fn run(alloc: Global, words: &[String]) -> anyhow::Result<String> {
         bail!("usage: der read|write KIND HEXADECIMAL TIMES");
     };
     let bytes = hex::decode(alloc, text.as_str())?;
-    let times = times.parse::<u32>()?;
-    let count = match kind.as_str() {
-        "as_req" => turn::<AsReq>(alloc, task.as_str(), &bytes, times)?,
-        "tgs_req" => turn::<TgsReq>(alloc, task.as_str(), &bytes, times)?,
-        "as_rep" => turn::<AsRep>(alloc, task.as_str(), &bytes, times)?,
-        "ap_req" => turn::<ApReq>(alloc, task.as_str(), &bytes, times)?,
-        "krb_error" => turn::<KrbError>(alloc, task.as_str(), &bytes, times)?,
-        _ => bail!("no such kind of message: {kind}"),
-    };
+    let count = count_of(alloc, task.as_str(), kind.as_str(), &bytes, times.as_str())?;
     Ok(format!(in alloc; "{count}")?)
+}
+
+fn count_of(
+    alloc: Global,
+    task: &str,
+    kind: &str,
+    bytes: &[u8],
+    times: &str,
+) -> anyhow::Result<usize> {
+    let times = times.parse::<u32>()?;
+    match kind {
+        "as_req" => turn::<AsReq>(alloc, task, bytes, times),
+        "tgs_req" => turn::<TgsReq>(alloc, task, bytes, times),
+        "as_rep" => turn::<AsRep>(alloc, task, bytes, times),
+        "ap_req" => turn::<ApReq>(alloc, task, bytes, times),
+        "krb_error" => turn::<KrbError>(alloc, task, bytes, times),
+        _ => bail!("no such kind of message: {kind}"),
+    }
 }
 
 /// How many bytes each turn took.

@@ -32,7 +32,7 @@ fn main(rt: HostRuntime) -> anyhow::Result<()> {
     Ok(())
 }
 
-/// The arguments behind the program's name.
+/// The arguments after the program's name.
 fn words_of(rt: &HostRuntime) -> anyhow::Result<Vec<String>> {
     let mut words = Vec::new(rt.alloc());
     for word in env::args(rt)?.skip(1) {

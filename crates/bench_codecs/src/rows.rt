@@ -18,20 +18,24 @@ pub(crate) fn run(alloc: Global, words: &[String]) -> anyhow::Result<String> {
     let [call, number, bytes @ ..] = words else {
         bail!("usage: row CALL NUMBER HEXADECIMAL ..");
     };
-    let number = number.parse::<usize>()?;
     let bytes = bytes_of(alloc, bytes)?;
-    let made = match call.as_str() {
-        "password" => password_key(alloc, number, &bytes)?,
-        "encrypt" => encrypted(alloc, number, &bytes)?,
-        "decrypt" => decrypted(alloc, number, &bytes)?,
-        "spelling" => strict_spelling(alloc, number, &bytes)?,
-        "pac" => pac(alloc, &bytes)?,
-        "nego" => offer(alloc, &bytes)?,
-        "mic" => mic_token(alloc, &bytes)?,
-        "wrap" => wrap_token(alloc, &bytes)?,
-        _ => bail!("no such call: {call}"),
-    };
+    let made = made_by(alloc, call.as_str(), number.parse::<usize>()?, &bytes)?;
     Ok(hex::encode(alloc, &made)?)
+}
+
+/// What a call makes of a suite's number or a count, and of bytes.
+fn made_by(alloc: Global, call: &str, number: usize, bytes: &[Vec<u8>]) -> anyhow::Result<Vec<u8>> {
+    match call {
+        "password" => password_key(alloc, number, bytes),
+        "encrypt" => encrypted(alloc, number, bytes),
+        "decrypt" => decrypted(alloc, number, bytes),
+        "spelling" => strict_spelling(alloc, number, bytes),
+        "pac" => pac(alloc, bytes),
+        "nego" => offer(alloc, bytes),
+        "mic" => mic_token(alloc, bytes),
+        "wrap" => wrap_token(alloc, bytes),
+        _ => bail!("no such call: {call}"),
+    }
 }
 
 fn bytes_of(alloc: Global, words: &[String]) -> anyhow::Result<Vec<Vec<u8>>> {

@@ -16,19 +16,23 @@ pub(crate) fn run(alloc: Global, words: &[String]) -> anyhow::Result<String> {
     let [task, times] = words else {
         bail!("usage: sealing key|key19|key20|cts|open|des3|des3-open TIMES");
     };
-    let times = times.parse::<u32>()?;
-    let last = match task.as_str() {
-        "key" => derived(alloc, times)?,
-        "key19" => derived_by_sha256(alloc, times)?,
-        "key20" => derived_by_sha384(alloc, times)?,
-        "cts" => sealed(alloc, times)?,
-        "open" => opened(alloc, times)?,
-        "des3" => sealed_by_des(alloc, times)?,
-        "des3-open" => opened_by_des(alloc, times)?,
-        _ => bail!("no task: {task}"),
-    };
+    let last = last_of(alloc, task.as_str(), times.parse::<u32>()?)?;
     let end = &last[last.len().saturating_sub(32)..];
     Ok(hex::encode(alloc, end)?)
+}
+
+/// What the last turn gave.
+fn last_of(alloc: Global, task: &str, times: u32) -> anyhow::Result<Vec<u8>> {
+    match task {
+        "key" => derived(alloc, times),
+        "key19" => derived_by_sha256(alloc, times),
+        "key20" => derived_by_sha384(alloc, times),
+        "cts" => sealed(alloc, times),
+        "open" => opened(alloc, times),
+        "des3" => sealed_by_des(alloc, times),
+        "des3-open" => opened_by_des(alloc, times),
+        _ => bail!("no task: {task}"),
+    }
 }
 
 /// A key of 32 bytes after 4,096 rounds, then one with that key as its password, and so on.

@@ -10,13 +10,23 @@ pub(crate) fn run(alloc: Global, words: &[String]) -> anyhow::Result<String> {
         bail!("usage: x509 read|write name|extensions HEXADECIMAL TIMES");
     };
     let bytes = hex::decode(alloc, text.as_str())?;
-    let times = times.parse::<u32>()?;
-    let count = match kind.as_str() {
-        "name" => turn::<Name>(alloc, task.as_str(), &bytes, times)?,
-        "extensions" => turn::<Extensions>(alloc, task.as_str(), &bytes, times)?,
-        _ => bail!("no such part: {kind}"),
-    };
+    let count = count_of(alloc, task.as_str(), kind.as_str(), &bytes, times.as_str())?;
     Ok(format!(in alloc; "{count}")?)
+}
+
+fn count_of(
+    alloc: Global,
+    task: &str,
+    kind: &str,
+    bytes: &[u8],
+    times: &str,
+) -> anyhow::Result<usize> {
+    let times = times.parse::<u32>()?;
+    match kind {
+        "name" => turn::<Name>(alloc, task, bytes, times),
+        "extensions" => turn::<Extensions>(alloc, task, bytes, times),
+        _ => bail!("no such part: {kind}"),
+    }
 }
 
 /// How many bytes each turn took.
