@@ -1,0 +1,3 @@
+mod Boundaries
+mod Holding
+mod Keys
