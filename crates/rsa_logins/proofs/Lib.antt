@@ -1,0 +1,2 @@
+mod ByRsa
+mod PublicKeys
