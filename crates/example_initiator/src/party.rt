@@ -1,0 +1,140 @@
+//! The client of a credential cache, with its credential for the service.
+
+use crate::arguments::Asked;
+use krb_client::{Client, Credential, TicketTimes};
+use krb_clock::after_epoch;
+use krb_commands::{Stop, octets_of, refused};
+use krb_credential_caches::{
+    CacheFault, CachePrincipal, CachedCredential, CredentialCache, CredentialTimes,
+};
+use krb_crypto::{CipherSuite, Key};
+use krb_types::data_types::{KerberosFlags, PrincipalName, Ticket};
+use picky_asn1::date::GeneralizedTime;
+use picky_asn1::wrapper::GeneralStringAsn1;
+use picky_asn1_der::read_whole;
+use result_pairs::both;
+use std::alloc::{AllocError, Global};
+
+/// A client, with its credential for a service.
+#[derive(Drop)]
+pub(crate) struct Party {
+    pub(crate) client: Client,
+    pub(crate) credential: Credential,
+}
+
+/// The client of the cache, with its first credential for the service.
+pub(crate) fn party_in(rt: &HostRuntime, asked: &Asked<'_>) -> Result<Party, Stop> {
+    let cache = cache_in(rt, asked.settings.cache)?;
+    let party = party_of(rt.alloc(), &cache, asked);
+    drop(cache);
+    party
+}
+
+fn cache_in(rt: &HostRuntime, path: &str) -> Result<CredentialCache, Stop> {
+    let octets = octets_of(rt, path)?;
+    match CredentialCache::from_bytes(rt.alloc(), &octets) {
+        Ok(cache) => Ok(cache),
+        Err(CacheFault::Memory) => Err(Stop::Memory),
+        Err(fault) => Err(refused(rt.alloc(), format_args!("{path}: {fault}"))),
+    }
+}
+
+fn party_of(alloc: Global, cache: &CredentialCache, asked: &Asked<'_>) -> Result<Party, Stop> {
+    let client = client_of(alloc, &cache.default_principal);
+    let credential = credential_in(alloc, cache, asked);
+    let (client, credential) = both(client, credential)?;
+    match (client, credential) {
+        (Some(client), Some(credential)) => Ok(Party { client, credential }),
+        _ => Err(refused(
+            alloc,
+            format_args!(
+                "{}: expected a user with a ticket for {} and a key of a known etype",
+                asked.settings.cache, asked.service.argument
+            ),
+        )),
+    }
+}
+
+// The client of this name. Its suite doesn't count.
+fn client_of(alloc: Global, principal: &CachePrincipal) -> Result<Option<Client>, AllocError> {
+    let name = octets_of_all(alloc, &principal.components)?;
+    let suite = CipherSuite::Aes256CtsHmacSha196;
+    Ok(Client::new(alloc, principal.realm.as_bytes(), &name, suite).ok())
+}
+
+fn octets_of_all(
+    alloc: Global,
+    components: &[GeneralStringAsn1],
+) -> Result<Vec<Vec<u8>>, AllocError> {
+    let mut octets = Vec::with_capacity(alloc, components.len())?;
+    for component in components {
+        octets.push(Vec::from_slice(alloc, component.as_bytes())?)?;
+    }
+    Ok(octets)
+}
+
+// The first credential for the service, if it is one that can be used.
+fn credential_in(
+    alloc: Global,
+    cache: &CredentialCache,
+    asked: &Asked<'_>,
+) -> Result<Option<Credential>, AllocError> {
+    for credential in &cache.credentials {
+        if asked.service.is_of(&credential.server) {
+            return credential_of(alloc, credential);
+        }
+    }
+    Ok(None)
+}
+
+// The credential of a cache's one, if its key is of a known etype and its ticket is one.
+fn credential_of(
+    alloc: Global,
+    cached: &CachedCredential,
+) -> Result<Option<Credential>, AllocError> {
+    let ticket: Option<Ticket> = read_whole(alloc, &cached.ticket)?;
+    match (ticket, key_of(cached), times_of(&cached.times)) {
+        (Some(ticket), Some(key), Some(times)) => with_ticket(alloc, cached, ticket, key, times),
+        _ => Ok(None),
+    }
+}
+
+fn with_ticket(
+    alloc: Global,
+    cached: &CachedCredential,
+    ticket: Ticket,
+    key: Key,
+    times: TicketTimes,
+) -> Result<Option<Credential>, AllocError> {
+    let realm: Result<_, AllocError> = ticket.0.realm.0.clone();
+    let service: Result<_, AllocError> = ticket.0.sname.0.clone();
+    let flags = flags_of(alloc, cached.flags);
+    let (ticket, (realm, (service, flags))) = both(Ok(ticket), both(realm, both(service, flags)))?;
+    Ok(Some(Credential::new(ticket, key, realm, service, times, flags)))
+}
+
+// The session key, if it is one of its etype.
+fn key_of(cached: &CachedCredential) -> Option<Key> {
+    let suite = CipherSuite::try_from(usize::from(cached.key.kind)).ok()?;
+    Key::new(suite, &cached.key.octets).ok()
+}
+
+fn times_of(times: &CredentialTimes) -> Option<TicketTimes> {
+    Some(TicketTimes {
+        authtime: time_of(times.authtime)?,
+        starttime: time_of(times.starttime)?,
+        endtime: time_of(times.endtime)?,
+    })
+}
+
+fn time_of(seconds: u32) -> Option<GeneralizedTime> {
+    let moment = after_epoch(u64::from(seconds), 0)?;
+    Some(moment.second())
+}
+
+fn flags_of(alloc: Global, flags: u32) -> Result<KerberosFlags, AllocError> {
+    match KerberosFlags::new(alloc, &flags.to_be_bytes(), 0) {
+        Ok(flags) => Ok(flags),
+        Err(_) => Err(AllocError),
+    }
+}

@@ -1,0 +1,118 @@
+//! The tokens of a context.
+
+use crate::arguments::{Asked, Choice};
+use crate::occasion::{Occasions, moment_by};
+use crate::party::Party;
+use gss_acceptor::context_flags::{CONFIDENTIALITY, INTEGRITY, MUTUAL, REPLAY, SEQUENCE};
+use gss_acceptor::{ContextFlags, InitialChecksum};
+use gss_contexts::{Context, TokenRefusal};
+use gss_initiator::{InitiateRefusal, Initiated, Pending, Taken, initiate};
+use krb_commands::{Stop, refused};
+use std::alloc::Global;
+
+/// The first token of a context with the service.
+pub(crate) fn first_token(
+    rt: &HostRuntime,
+    asked: &Asked<'_>,
+    party: &Party,
+    occasions: &mut Occasions<'_>,
+) -> Result<Initiated, Stop> {
+    let moment = moment_by(rt, &asked.settings)?;
+    let words = occasions.words(rt.alloc())?;
+    let initiated = initiate(
+        rt.alloc(),
+        &party.client,
+        &party.credential,
+        initial_of(&asked.settings.choice),
+        asked.settings.choice.form,
+        moment,
+        &words,
+    );
+    match initiated {
+        Ok(initiated) => Ok(initiated),
+        Err(refusal) => Err(stop_of_login(rt.alloc(), asked.service.argument, refusal)),
+    }
+}
+
+// The channel bindings and flags of a context.
+fn initial_of(choice: &Choice) -> InitialChecksum {
+    let always = REPLAY | SEQUENCE | CONFIDENTIALITY | INTEGRITY;
+    let flags = if choice.is_mutual {
+        always | MUTUAL
+    } else {
+        always
+    };
+    InitialChecksum {
+        bindings: choice.bindings,
+        flags: ContextFlags(flags),
+    }
+}
+
+/// The context that the service's answer establishes.
+pub(crate) fn take_answer(
+    alloc: Global,
+    asked: &Asked<'_>,
+    pending: &Pending,
+    answer: &[u8],
+) -> Result<Taken, Stop> {
+    match pending.take(alloc, answer) {
+        Ok(taken) => Ok(taken),
+        Err(refusal) => Err(stop_of_login(alloc, asked.service.argument, refusal)),
+    }
+}
+
+/// Says on standard error that the context is established.
+pub(crate) fn say_established(rt: &HostRuntime, asked: &Asked<'_>) {
+    let service = asked.service.argument;
+    // The context stands where standard error takes nothing.
+    let _ = if asked.settings.choice.is_mutual {
+        eprintln!(rt; "context established: {service} has authenticated itself")
+    } else {
+        eprintln!(rt; "context established: {service} has not authenticated itself yet")
+    };
+}
+
+/// The token of a message: wrapped as the settings say, or the message itself.
+pub(crate) fn message_token(
+    alloc: Global,
+    asked: &Asked<'_>,
+    occasions: &mut Occasions<'_>,
+    context: &mut Context,
+    message: &str,
+) -> Result<Vec<u8>, Stop> {
+    let Some(protection) = asked.settings.choice.protection else {
+        return Ok(Vec::from_slice(alloc, message.as_bytes())?);
+    };
+    let words = occasions.words(alloc)?;
+    match context.wrap(alloc, message.as_bytes(), protection, &words) {
+        Ok(token) => Ok(token),
+        Err(refusal) => Err(stop_of_message(alloc, "a message can't be wrapped", refusal)),
+    }
+}
+
+/// Verifies the service's MIC of a message.
+pub(crate) fn verify(
+    alloc: Global,
+    context: &mut Context,
+    message: &str,
+    mic: &[u8],
+) -> Result<(), Stop> {
+    match context.verify_mic(alloc, message.as_bytes(), mic) {
+        Ok(()) => Ok(()),
+        Err(refusal) => Err(stop_of_message(alloc, "the service's MIC of a message", refusal)),
+    }
+}
+
+fn stop_of_login(alloc: Global, service: &str, refusal: InitiateRefusal) -> Stop {
+    match refusal {
+        InitiateRefusal::Memory => Stop::Memory,
+        refusal => refused(alloc, format_args!("{service}: {refusal}")),
+    }
+}
+
+fn stop_of_message(alloc: Global, subject: &str, refusal: TokenRefusal) -> Stop {
+    match refusal {
+        TokenRefusal::Memory => Stop::Memory,
+        refusal => refused(alloc, format_args!("{subject}: {refusal}")),
+    }
+}
