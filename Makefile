@@ -8,7 +8,7 @@ CRATES := $(sort $(notdir $(patsubst %/src,%,$(wildcard crates/*/src))))
 REALM := out/realm
 
 .DEFAULT_GOAL := help
-.PHONY: help try messages certificate test listener check gate faults settings run clients logins gss bench plant fmt docs budget crate-named bridge-there
+.PHONY: help try messages certificate test listener check gate faults settings run clients logins gss initiator bench plant fmt docs budget crate-named bridge-there
 
 help: ## list the targets
 	@sed -n 's/^\([a-z]*\):[^#]*## /\1\t/p' Makefile | expand -t 14
@@ -59,6 +59,9 @@ logins: ## log in with krb_login at MIT's krb5kdc and Heimdal's kdc, step by ste
 
 gss: ## log in to the example acceptor with MIT's gss-client, step by step
 	examples/gss_clients.sh
+
+initiator: ## log in with the example initiator at stock acceptors of MIT and Heimdal, and at Apache, step by step
+	examples/gss_servers.sh
 
 bench: ## time the program: make bench BENCH=as_exchange (a script of bench/)
 	bench/$(BENCH).sh

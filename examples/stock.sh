@@ -80,6 +80,11 @@ ktutil_lines() {
     echo
 }
 
+# later MINUTES: the time that it is then.
+later() {
+    date -u -d "$1 minutes" +%Y%m%d%H%M%SZ
+}
+
 # make_settings REALM USER SERVICE: the settings with keys made anew, of these suites; sets host_key.
 make_settings() {
     awk -v suites="$1 $2 $2 $3" '
@@ -136,6 +141,36 @@ configuration() {
 [domain_realm]
     .example.com = EXAMPLE.COM
 CONF
+}
+
+# MIT's krb5kdc, with a database that is made anew; sets port and bridge.
+start_mit() {
+    configuration 127.0.0.1:PORT "allow_weak_crypto = true" >"$work/mit.in"
+    cat >"$work/kdc.in" <<CONF
+[kdcdefaults]
+    kdc_listen = ""
+    kdc_tcp_listen = 127.0.0.1:PORT
+[realms]
+    EXAMPLE.COM = {
+        database_name = $work/principal
+        key_stash_file = $work/stash
+        acl_file = $work/acl
+        supported_enctypes = aes256-cts-hmac-sha1-96:normal aes128-cts-hmac-sha1-96:normal aes256-cts-hmac-sha384-192:normal aes128-cts-hmac-sha256-128:normal des3-cbc-sha1:normal
+    }
+CONF
+    export KRB5_KDC_PROFILE="$work/kdc.conf"
+    cp "$work/mit.in" "$work/mit.conf"
+    cp "$work/kdc.in" "$work/kdc.conf"
+    mit kdb5_util create -s -r EXAMPLE.COM -P "$(openssl rand -hex 16)" >"$work/log" 2>&1
+    cat >"$work/start" <<START
+#!/bin/sh
+sed "s/PORT/\$1/" $work/mit.in >$work/mit.conf
+sed "s/PORT/\$1/" $work/kdc.in >$work/kdc.conf
+KRB5_CONFIG=$work/mit.conf exec krb5kdc -n
+START
+    chmod +x "$work/start"
+    listen "$work/start" PORT
+    bridge=$started
 }
 
 # fetch_heimdal COMMAND PACKAGE..: Heimdal's programs are those on the path, if COMMAND is among them, or those unpacked in the folder

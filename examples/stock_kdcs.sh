@@ -41,11 +41,6 @@ login() {
     "$top/examples/krb_connect" "127.0.0.1:$port" -- "$KRB_LOGIN" -c "$work/cache" "$@"
 }
 
-# later MINUTES: the time that it is then.
-later() {
-    date -u -d "$1 minutes" +%Y%m%d%H%M%SZ
-}
-
 late() {
     login -t "$(later 10)" "$@"
 }
@@ -92,35 +87,6 @@ copies() {
     "$KRB_KEYTAB" copy "$work/user.keytab" "$work/copy" --etype "$suite" user@EXAMPLE.COM &&
         mit klist -k -e "$work/copy" && [ "$(stat -c %a "$work/copy")" = 600 ] && login -k "$work/copy" user@EXAMPLE.COM &&
         ! "$KRB_KEYTAB" copy "$work/user.keytab" "$work/copy"
-}
-
-start_mit() {
-    configuration 127.0.0.1:PORT "allow_weak_crypto = true" >"$work/mit.in"
-    cat >"$work/kdc.in" <<CONF
-[kdcdefaults]
-    kdc_listen = ""
-    kdc_tcp_listen = 127.0.0.1:PORT
-[realms]
-    EXAMPLE.COM = {
-        database_name = $work/principal
-        key_stash_file = $work/stash
-        acl_file = $work/acl
-        supported_enctypes = aes256-cts-hmac-sha1-96:normal aes128-cts-hmac-sha1-96:normal aes256-cts-hmac-sha384-192:normal aes128-cts-hmac-sha256-128:normal des3-cbc-sha1:normal
-    }
-CONF
-    export KRB5_KDC_PROFILE="$work/kdc.conf"
-    cp "$work/mit.in" "$work/mit.conf"
-    cp "$work/kdc.in" "$work/kdc.conf"
-    mit kdb5_util create -s -r EXAMPLE.COM -P "$(openssl rand -hex 16)" >"$work/log" 2>&1
-    cat >"$work/start" <<START
-#!/bin/sh
-sed "s/PORT/\$1/" $work/mit.in >$work/mit.conf
-sed "s/PORT/\$1/" $work/kdc.in >$work/kdc.conf
-KRB5_CONFIG=$work/mit.conf exec krb5kdc -n
-START
-    chmod +x "$work/start"
-    listen "$work/start" PORT
-    bridge=$started
 }
 
 mit_add() {

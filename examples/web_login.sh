@@ -15,20 +15,14 @@ trap 'kill $web $bridge 2>/dev/null; wait; rm -rf "$work"' EXIT
 trap 'exit 1' INT TERM
 . "$top/examples/stock.sh"
 . "$top/bench/programs.sh"
-PATH=$PATH:/usr/sbin
+. "$top/examples/stock_web.sh"
 service=HTTP/$host
 
-apache=$(command -v apache2 || command -v httpd || echo apache2)
-modules=$(dirname "$(find /usr/lib /usr/lib64 -name mod_auth_gssapi.so 2>/dev/null | head -n 1)")
-need "$apache" apache2
-need curl curl
+need_web
 need klist krb5-user
 need python3 python3
 need openssl openssl
-if [ ! -e "$modules/mod_auth_gssapi.so" ]; then
-    echo "$script: mod_auth_gssapi is missing (Debian: libapache2-mod-auth-gssapi)" >&2
-    missing=1
-elif ! curl --version | grep -q GSS-API; then
+if ! curl --version 2>/dev/null | grep -q GSS-API; then
     echo "$script: this curl has no GSS-API" >&2
     missing=1
 fi
@@ -90,55 +84,6 @@ get() {
     head -n 1 "$work/head" | grep -q " 200 "
 }
 
-# Started by root, Apache serves as nobody.
-web_user=$(id -un) own_user=
-if [ "$(id -u)" -eq 0 ]; then
-    web_user=nobody own_user="User nobody
-Group #$(id -g nobody)"
-fi
-
-# The web server, which opens its keytab for each login.
-start_web() {
-    mkdir "$work/pages" "$work/replays"
-    chmod 711 "$work"
-    chmod 755 "$work/pages"
-    chown "$web_user" "$work/replays"
-    echo "a page for users" >"$work/pages/index.html"
-    chmod 644 "$work/pages/index.html"
-    {
-        for module in mpm_prefork unixd log_config authn_core authz_core authz_user dir auth_gssapi; do
-            echo "<IfModule !${module}_module>"
-            echo "LoadModule ${module}_module $modules/mod_$module.so"
-            echo "</IfModule>"
-        done
-        cat <<CONF
-$own_user
-StartServers 1
-ServerName $host
-PidFile $work/pid
-DefaultRuntimeDir $work
-Mutex file:$work
-ErrorLog $work/errors
-LogFormat "%u %>s" short
-CustomLog $work/requests short
-DocumentRoot $work/pages
-DirectoryIndex index.html
-<Directory $work/pages>
-    AuthType GSSAPI
-    AuthName "the realm"
-    GssapiCredStore keytab:$work/web.keytab
-    GssapiAllowedMech krb5
-    Require valid-user
-</Directory>
-CONF
-    } >"$work/web.conf"
-    by_cache none env "KRB5RCACHEDIR=$work/replays" "$apache" -t -f "$work/web.conf" -c "Listen 127.0.0.1:8799" >"$work/said" 2>&1 ||
-        { cat "$work/said" >&2 && exit 2; }
-    export KRB5RCACHEDIR="$work/replays" KRB5_CONFIG="$work/krb5.conf"
-    listen "$apache" -DFOREGROUND -f "$work/web.conf" -c "Listen 127.0.0.1:PORT"
-    web=$started web_port=$port
-}
-
 echo "$password" >"$work/password"
 try "the realm's accounts" yes "" make_accounts
 try "a keytab of all services, by krb_accounts" yes "" keytab
@@ -146,7 +91,7 @@ try "the web server's own, by krb_keytab" yes "   1 .* $service@EXAMPLE.COM" web
 listen "$top/examples/krb_listen" --listen 127.0.0.1:PORT --workers 2 -- "$KRB_KDCD" "$work/accounts.cdb" /dev/urandom --log
 bridge=$started kdc_port=$port
 configuration "127.0.0.1:$kdc_port" "" >"$work/krb5.conf"
-start_web
+start_web "$work/krb5.conf"
 
 try "without tickets" no " 401 " get none
 try "the server asks for them" no "WWW-Authenticate: Negotiate" get none
