@@ -1,5 +1,6 @@
-//! Lines of three kinds: what is read, what is written, and who is trusted. Columns are divided by tabs.
+//! Lines of four kinds: what is read, what is written, who is trusted, and keys. Columns are divided by tabs, but those of keys.
 
+use crate::keys::is_made;
 use crate::read::{is_read, is_refused};
 use crate::trusted::{TrustRow, is_judged};
 use crate::written::{WrittenRow, is_written};
@@ -15,6 +16,7 @@ impl Lines for SignedLines {
     fn agrees(&self, alloc: Global, line: &str) -> anyhow::Result<bool> {
         let columns = columns_of(alloc, line)?;
         match columns.as_slice() {
+            [line] => is_made(alloc, line),
             [_, input, word] => Ok(*word == "Unreadable" && is_refused(alloc, *input)?),
             [_, content_type, content, certificate, keys, own, wanted] => is_written(
                 alloc,

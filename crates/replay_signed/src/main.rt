@@ -1,9 +1,14 @@
-//! Replays signed data (RFC 5652) that others made, and compares what is read, written and trusted with the expected values:
+//! Replays signed data (RFC 5652) and keys that others made, and compares what is read, written and trusted with the expected values:
 //! `replay_signed FILE ..`, or the recorded files where none is named. How many columns a line has says what it is of.
 #![tactic(auto)]
 
+mod agreements;
+mod files;
+mod key_rows;
+mod keys;
 mod lines;
 mod read;
+mod signatures;
 mod trusted;
 mod written;
 
@@ -12,12 +17,14 @@ use std::env;
 use test_support::replay;
 
 /// The files that are replayed where no argument names one.
-const RECORDED: [&str; 5] = [
+const RECORDED: [&str; 7] = [
     "read.txt",
     "stock_clients.txt",
     "written.txt",
     "openssl.txt",
     "trusted.txt",
+    "rsa_keys.txt",
+    "key_files.txt",
 ];
 
 fn main(rt: HostRuntime) -> anyhow::Result<()> {
