@@ -1,25 +1,33 @@
-//! Calls of acceptors and contexts. Each token, message and refusal is compared with that of an independent writer or of MIT's library.
+//! Calls of initiators, acceptors and contexts. Each token, message and refusal is compared with that of an independent writer or of MIT's library.
 
 mod accept;
 mod begin;
 mod call;
 mod calls;
+mod initiate;
 
 use call::{Call, call_of};
 use gss_acceptor::{Acceptor, Negotiation};
 use gss_contexts::{Context, Protection};
+use gss_initiator::Pending;
 use replay_rows::{Row, Rows, replay};
 use std::alloc::Global;
 use std::fmt::Debug;
 
-/// What tokens.py and first_tokens.py write, and what MIT's library wraps and signs.
-const FILES: [&str; 3] = ["tokens.txt", "stock.txt", "first_tokens.txt"];
+/// What tokens.py, first_tokens.py and initiators.py write, and what MIT's library wraps and signs.
+const FILES: [&str; 4] = [
+    "tokens.txt",
+    "stock.txt",
+    "first_tokens.txt",
+    "initiators.txt",
+];
 
 /// What a line's call is one of.
 #[derive(Drop)]
 pub(crate) struct Ends {
     pub(crate) acceptor: Option<Acceptor>,
     pub(crate) negotiation: Option<Negotiation>,
+    pub(crate) pending: Option<Pending>,
     pub(crate) context: Option<Context>,
 }
 
@@ -29,6 +37,7 @@ pub(crate) fn replay_contexts(rt: &HostRuntime) -> anyhow::Result<()> {
         let mut ends = Ends {
             acceptor: None,
             negotiation: None,
+            pending: None,
             context: None,
         };
         let replayed = replay(rt, &mut ends, file);
@@ -43,7 +52,7 @@ impl Rows for Ends {
 
     const NAME: &'static str = "lines";
 
-    /// A line `new`, `accept` or `resume` begins another context.
+    /// A line `new`, `accept`, `resume`, `initiate` or `take` begins another context.
     fn agrees(&mut self, rt: &HostRuntime, row: &mut Row<'_>) -> anyhow::Result<bool> {
         let alloc = rt.alloc();
         let call = call_of(alloc, row)?;
@@ -51,6 +60,8 @@ impl Rows for Ends {
             "new" => begin::begins(alloc, &mut self.context, &call),
             "acceptor" => accept::begins(alloc, &mut self.acceptor, &call),
             "accept" | "resume" => accept::accepts(alloc, self, &call),
+            "initiate" => initiate::initiates(alloc, self, &call),
+            "take" => initiate::takes(alloc, self, &call),
             _ => match &mut self.context {
                 Some(context) => Ok(calls_as_expected(alloc, context, &call)),
                 None => Ok(false),

@@ -1,4 +1,4 @@
-//! Replays calls of services, acceptors and contexts, and compares each answer with that of an independent writer, of an independent
+//! Replays calls of services, initiators, acceptors and contexts, and compares each answer with that of an independent writer, of an independent
 //! implementation or of MIT's library: `replay_services FILE ..` replays lists of calls of one service in these files, and with no
 //! argument all that is recorded.
 #![tactic(auto)]
