@@ -23,7 +23,7 @@ pub(crate) fn login(
 ) -> anyhow::Result<()> {
     let name = words.name(alloc);
     let random = stage.conditions.random.bytes();
-    let input = input_of(stage.conditions, &name, &random);
+    let input = input_of(stage.conditions, &name, &random, &random);
     let client = stage.client.as_ref().context("no client")?;
     let realm = stage.realm.as_ref().context("no realm")?;
     let service = stage.service.as_mut().context("no service")?;
@@ -48,7 +48,7 @@ pub(crate) fn honest(
 ) -> anyhow::Result<()> {
     let name = words.name(alloc);
     let random = stage.conditions.random.bytes();
-    let input = input_of(stage.conditions, &name, &random);
+    let input = input_of(stage.conditions, &name, &random, &random);
     let client = stage.client()?;
     let realm = stage.realm()?;
     let service = stage.service.as_ref().context("no service")?;
@@ -63,8 +63,13 @@ pub(crate) fn honest(
     Ok(())
 }
 
-/// All steps have one moment and the same random bytes.
-fn input_of<'a>(at: Conditions, service: &'a [Vec<u8>], random: &'a [u8; 128]) -> LoginInput<'a>
+/// All steps have one moment. Those of the client have the same random bytes, and so have the others.
+pub(crate) fn input_of<'a>(
+    at: Conditions,
+    service: &'a [Vec<u8>],
+    random: &'a [u8; 128],
+    realm_random: &'a [u8; 128],
+) -> LoginInput<'a>
     ensures { AreEnough (login_of result) }
 {
     LoginInput {
@@ -74,9 +79,9 @@ fn input_of<'a>(at: Conditions, service: &'a [Vec<u8>], random: &'a [u8; 128]) -
         words_as: random,
         words_tgs: random,
         words_ap: random,
-        realm_words_as: random,
-        realm_words_tgs: random,
-        service_words: random,
+        realm_words_as: realm_random,
+        realm_words_tgs: realm_random,
+        service_words: realm_random,
     }
 }
 

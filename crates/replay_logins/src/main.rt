@@ -1,10 +1,12 @@
 //! Plays scripts of logins: runs of clients as another implementation recorded them, and worked rows of realms, clients
-//! and services.
+//! and services. It replays logins by certificates and RSA keys of openssl.
 #![tactic(auto)]
 
 mod ask;
 mod broken;
 mod certificates;
+mod certified_logins;
+mod certified_parties;
 mod line;
 mod login;
 mod many;
@@ -27,6 +29,7 @@ fn main(rt: HostRuntime) -> anyhow::Result<()> {
     play(&rt, "clients.txt")?;
     play(&rt, "realms.txt")?;
     play(&rt, "logins.txt")?;
+    certified_logins::replay_rsa_logins(&rt)?;
     print_numbers(&rt)?;
     print_texts(&rt)
 }
