@@ -9,8 +9,8 @@ use krb_constants::cksum_types::GSS_API;
 use krb_types::data_types::Checksum;
 use picky_asn1::is_number;
 
-/// The length of the channel bindings.
-const BINDINGS: u32 = 16;
+/// The length of the hash of the channel bindings: 16 octets (RFC 4121, section 4.1.1).
+pub const BINDINGS: u32 = 16;
 
 /// The length of the checksum without the octets of delegation: 24 octets.
 const SIZE: usize = 24;

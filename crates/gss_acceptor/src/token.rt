@@ -9,12 +9,12 @@ use picky_asn1_der::split_element;
 use std::alloc::{AllocError, Global};
 
 /// The octets before an AP-REQ in its token: the mechanism's identifier, and the token id (RFC 4121, section 4.1).
-const AP_REQ_FRONT: [u8; 13] = [
+pub const AP_REQ_FRONT: [u8; 13] = [
     0x06, 0x09, 0x2a, 0x86, 0x48, 0x86, 0xf7, 0x12, 0x01, 0x02, 0x02, 0x01, 0x00,
 ];
 
 /// The octets before an AP-REP in its token (RFC 4121, section 4.1).
-const AP_REP_FRONT: [u8; 13] = [
+pub const AP_REP_FRONT: [u8; 13] = [
     0x06, 0x09, 0x2a, 0x86, 0x48, 0x86, 0xf7, 0x12, 0x01, 0x02, 0x02, 0x02, 0x00,
 ];
 

@@ -10,7 +10,7 @@ use crate::initiated::{Initiated, Pending, Progress, TokenForm};
 use crate::refusal::InitiateRefusal;
 use crate::request::context_request;
 use gss_acceptor::context_flags::MUTUAL;
-use gss_acceptor::{ContextFlags, InitialChecksum, element_of, joined};
+use gss_acceptor::{AP_REQ_FRONT, ContextFlags, InitialChecksum, element_of, joined};
 use gss_context_tokens::{ApplicationTag0, GssApiNegInit, MechTypeList, NegTokenInit};
 use krb_client::{ApAsked, Client, Credential, nonce_of};
 use krb_constants::gss_api::INITIAL_TOKEN;
@@ -22,11 +22,6 @@ use picky_asn1::wrapper::{ObjectIdentifierAsn1, OctetStringAsn1};
 use picky_asn1_der::{ExplicitContextTag, Optional, encoding_of};
 use result_pairs::both;
 use std::alloc::{AllocError, Global};
-
-/// The octets before an AP-REQ in its token: the mechanism's identifier, and the token id (RFC 4121, section 4.1).
-const AP_REQ_FRONT: [u8; 13] = [
-    0x06, 0x09, 0x2a, 0x86, 0x48, 0x86, 0xf7, 0x12, 0x01, 0x02, 0x02, 0x01, 0x00,
-];
 
 /// Asks the credential's service for a context, at a moment: makes the first token (RFC 4121, section 4.1). `initial` has the hash of the
 /// channel bindings, as [`bindings_of`](crate::bindings_of) makes it or [`NO_BINDINGS`](crate::NO_BINDINGS), and the flags, by the constants

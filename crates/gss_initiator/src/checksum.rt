@@ -4,7 +4,7 @@ ghost use Rattle.gss_initiator.specs.Checksums.{bindings_of, initial_checksum, i
 
 use byte_layouts::u32_le_bytes;
 use gss_acceptor::context_flags::DELEGATION;
-use gss_acceptor::{ContextFlags, InitialChecksum};
+use gss_acceptor::{BINDINGS, ContextFlags, InitialChecksum};
 use krb_constants::cksum_types::GSS_API;
 use krb_types::data_types::Checksum;
 use md5::{Digest, Md5};
@@ -17,9 +17,6 @@ pub const NO_BINDINGS: [u8; 16] = [0; 16];
 
 /// The type and the length of each of two addresses that there aren't.
 const NO_ADDRESSES: [u8; 16] = [0; 16];
-
-/// The length of the hash of the channel bindings.
-const BINDINGS: u32 = 16;
 
 /// The least flag that isn't offered, but for delegation.
 const BEYOND: u32 = 64;

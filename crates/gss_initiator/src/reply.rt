@@ -5,7 +5,7 @@ ghost use Rattle.gss_initiator.specs.Replies.{IsRead, IsTokenOf, answered, by_er
 
 use crate::initiated::Pending;
 use crate::refusal::InitiateRefusal;
-use gss_acceptor::content_of;
+use gss_acceptor::{AP_REP_FRONT, content_of};
 use gss_contexts::Context;
 use krb_client::{ApAsked, is_of_type, open_ap_part, read_ap_reply, read_error_code, tells};
 use krb_constants::types::AP_REP_MSG_TYPE;
@@ -15,11 +15,6 @@ use std::alloc::Global;
 
 /// The length of the octets before a message in its token.
 const FRONT: usize = 13;
-
-/// The octets before an AP-REP in its token: the mechanism's identifier, and the token id (RFC 4121, section 4.1).
-const AP_REP_FRONT: [u8; FRONT] = [
-    0x06, 0x09, 0x2a, 0x86, 0x48, 0x86, 0xf7, 0x12, 0x01, 0x02, 0x02, 0x02, 0x00,
-];
 
 /// The octets before a KRB-ERROR in its token (RFC 4121, section 4.1).
 const ERROR_FRONT: [u8; FRONT] = [

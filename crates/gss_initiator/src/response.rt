@@ -10,14 +10,13 @@ use crate::refusal::InitiateRefusal;
 use gss_acceptor::{kerberos_in, octets_in};
 use gss_context_tokens::{MechType, NegTokenTarg, NegTokenTarg1};
 use gss_contexts::Context;
+use krb_constants::gss_api::ACCEPT_INCOMPLETE;
 use picky_asn1::wrapper::OctetStringAsn1;
 use picky_asn1_der::{Asn1RawDer, ExplicitContextTag, read_whole};
 use std::alloc::Global;
 
 /// The elements of the states (RFC 4178, section 4.2.2).
 const ACCEPT_COMPLETED: [u8; 3] = [0x0a, 0x01, 0x00];
-
-const ACCEPT_INCOMPLETE: [u8; 3] = [0x0a, 0x01, 0x01];
 
 const REJECT: [u8; 3] = [0x0a, 0x01, 0x02];
 
