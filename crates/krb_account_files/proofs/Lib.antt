@@ -5,3 +5,4 @@ mod Said
 mod Written
 mod Replied
 mod Keyed
+mod Fitting

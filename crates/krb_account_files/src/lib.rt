@@ -6,8 +6,9 @@
 //! `AccountFile` is a `Lookup`: an account that it returns is what the file's octets say of its name. `realm_of` returns the realm that
 //! they say. Of octets in memory both refuse as damaged only if the octets are, and a damaged record is never a missing one. `answer_from`
 //! returns the reply of that realm with all accounts of this one file. `write_accounts` returns only files whose octets say these accounts,
-//! no other account, and this realm. `write_records` does so of the accounts' records. Each record is read as it was written (laws `account_as_written`, `realm_as_written`). The promises
-//! are of files whose octets stay as they are while they are open.
+//! no other account, and this realm. `write_records` does so of the accounts' records. `record_of_account` and `record_of_realm` refuse only a
+//! name that is none of a principal or a realm, unless memory runs out. Each record is read as it was written (laws `account_as_written`,
+//! `realm_as_written`). The promises are of files whose octets stay as they are while they are open.
 #![tactic(auto)]
 
 mod account_file;

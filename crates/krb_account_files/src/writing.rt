@@ -1,5 +1,5 @@
 //! Writing a file of accounts.
-ghost use Rattle.std.specs.Prelude.{◌≡◌, List, Some, Ok, IfOk, length};
+ghost use Rattle.std.specs.Prelude.{◌≡◌, ◌⊎◌, false, List, Some, Ok, IfErr, IfOk, length};
 ghost use Rattle.picky_asn1.specs.Bytes.{Bytes};
 ghost use Rattle.std.specs.List.{list_all};
 ghost use Rattle.krb_accounts.specs.Names.{IsRealmName, are_components, is_realm_name};
@@ -98,14 +98,15 @@ fn records_of(alloc: Global, accounts: &[NamedAccount]) -> Result<Vec<Record>, W
     Ok(records)
 }
 
-/// Returns the record of an account of this name. It refuses as `Unsound` if the name is none of a principal, and as `Memory` if memory
-/// runs out.
+/// Returns the record of an account of this name. It refuses as `Unsound` only if the name is none of a principal, and as `Memory` if
+/// memory runs out.
 pub fn record_of_account(
     alloc: Global,
     name: &[GeneralStringAsn1],
     account: &Account,
 ) -> Result<Record, WriteFault>
-    ensures { IfOk result (λ r. IsRecordOf name.now account.now r) }
+    ensures made { IfOk result (λ r. IsRecordOf name.now account.now r) }
+    ensures refusal { IfErr result (λ e. (e ≡ WriteFault.Memory) ⊎ ((e ≡ WriteFault.Unsound) × (are_components name.now ≡ false))) }
 {
     if !is_principal_name(name) {
         return Err(WriteFault::Unsound);
@@ -147,10 +148,11 @@ fn account_reads_again(account: &Account)
     let _kvno = account.kvno();
 }
 
-/// Returns the record of the realm. It comes after those of the accounts, since its key does. It refuses as `Unsound` if the realm's name
-/// is none of a realm, and as `Memory` if memory runs out.
+/// Returns the record of the realm. It comes after those of the accounts, since its key does. It refuses as `Unsound` only if the
+/// realm's name is none of a realm, and as `Memory` if memory runs out.
 pub fn record_of_realm(alloc: Global, realm: &RealmParameters) -> Result<Record, WriteFault>
-    ensures { IfOk result (λ r. IsRealmRecord realm.now r) }
+    ensures made { IfOk result (λ r. IsRealmRecord realm.now r) }
+    ensures refusal { IfErr result (λ e. (e ≡ WriteFault.Memory) ⊎ ((e ≡ WriteFault.Unsound) × (is_realm_name realm.now.name ≡ false))) }
 {
     if !is_realm_name(realm.name.as_bytes()) {
         return Err(WriteFault::Unsound);

@@ -8,13 +8,13 @@ use Rattle.krb_account_files.proofs.writing.write_within.Goals as goal
 pub returns-clause-accounts : goal.returns-clause-accounts
 returns-clause-accounts c = λ accounts are.
     let sized = c.write.auto.room ∙ c.requires in
-    says_accounts c.args.realm.now c.in_ok-own.own c.in_ok-own.ensures accounts c.args.records.items c.in_ok-bytes.bytes.items are
+    says_accounts c.args.realm.now c.in_ok-own.own c.in_ok-own.ensures.made accounts c.args.records.items c.in_ok-bytes.bytes.items are
     (λ key. ap (λ n. looked_up n c.in_ok-bytes.bytes.items key) (sym sized) ∙ c.in_ok-bytes.ensures key
     ∙ ap (λ (r : List Record). Ok (answer r key)) (c.deref.ensures.value ∙ c.in_ok-push.ensures.items))
 
 pub returns-clause-realm : goal.returns-clause-realm
 returns-clause-realm c = λ accounts are.
     let sized = c.write.auto.room ∙ c.requires in
-    says_realm c.args.realm.now c.in_ok-own.own c.in_ok-own.ensures accounts c.args.records.items c.in_ok-bytes.bytes.items are
+    says_realm c.args.realm.now c.in_ok-own.own c.in_ok-own.ensures.made accounts c.args.records.items c.in_ok-bytes.bytes.items are
     (λ key. ap (λ n. looked_up n c.in_ok-bytes.bytes.items key) (sym sized) ∙ c.in_ok-bytes.ensures key
     ∙ ap (λ (r : List Record). Ok (answer r key)) (c.deref.ensures.value ∙ c.in_ok-push.ensures.items))
