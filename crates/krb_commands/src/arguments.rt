@@ -1,7 +1,8 @@
 //! The arguments of a program.
-ghost use Rattle.std.specs.Prelude.{◌≡◌, ◌∷◌, List, Some, Ok, IfOk, IfErr, codes, map, nat_eq, string_bytes};
+ghost use Rattle.std.specs.Prelude.{◌≡◌, ◌∷◌, ◌⊎◌, List, None, Some, Ok, IfOk, IfErr, IsErr, codes, map, nat_eq, string_bytes};
 ghost use Rattle.std.specs.Option.{option_copied};
 ghost use Rattle.std.specs.Cmp.Lexicographic.{pointwise};
+ghost use Rattle.krb_types.specs.NameReading.{octets, option_octets, principal_in};
 ghost use Rattle.krb_commands.specs.Arguments.{IsStopOf, Text, is_among, only_value, parts_after, parts_of, texts, values_of};
 ghost use Rattle.krb_commands.specs.Given.{parts};
 ghost use Rattle.krb_commands.specs.Stops.{IsUsage};
@@ -147,10 +148,23 @@ impl<'a> Given<'a> {
 }
 
 /// The principal that an argument names, with its realm where it has one (RFC 1964, section 2.1.1).
-pub fn principal_in(alloc: Global, argument: &str) -> Result<PrincipalText, Stop> {
+pub fn principal_in(alloc: Global, argument: &str) -> Result<PrincipalText, Stop>
+    ensures ok { IfOk result (λ name. principal_in argument.now ≡ Ok (octets name.components.items, option_octets name.realm)) }
+    ensures err { IfErr result (λ stop. (stop ≡ Stop.Memory) ⊎ (IsUsage None stop × IsErr (principal_in argument.now))) }
+{
     match principal_of_text(alloc, argument) {
         Ok(name) => Ok(name),
-        Err(NameTextFault::Memory) => Err(Stop::Memory),
-        Err(fault) => Err(usage(alloc, format_args!("{argument}: {fault}"))),
+        Err(fault) => Err(unnamed(alloc, argument, fault)),
+    }
+}
+
+// Why an argument names no principal.
+fn unnamed(alloc: Global, argument: &str, fault: NameTextFault) -> Stop
+    ensures memory { fault ≡ NameTextFault.Memory → result ≡ Stop.Memory }
+    ensures usage { IsUsage None result }
+{
+    match fault {
+        NameTextFault::Memory => Stop::Memory,
+        _ => usage(alloc, format_args!("{argument}: {fault}")),
     }
 }

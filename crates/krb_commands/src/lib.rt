@@ -7,8 +7,8 @@
 //! there no other run writes.
 //!
 //! Each call is safe and returns. `given_of` takes arguments apart, or refuses them in a text, both as `parts_of` says. `Given` has the
-//! words and values of those parts. A `Stop` has the text of `stop_text` and the status of `status_of`. No contract says what files, the
-//! program's arguments and standard output hold.
+//! words and values of those parts. `principal_in` reads a name as `krb_types` does, and refuses only what isn't one. A `Stop` has the
+//! text of `stop_text` and the status of `status_of`. No contract says what files, the program's arguments and standard output hold.
 #![tactic(auto)]
 
 mod arguments;
