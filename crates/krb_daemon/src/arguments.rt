@@ -1,4 +1,7 @@
 //! The program's arguments.
+ghost use Rattle.std.specs.Prelude.{◌≡◌, map, string_bytes};
+ghost use Rattle.std.specs.Option.{option_map};
+ghost use Rattle.krb_daemon.specs.Commands.{asked, command_in, command_named, served};
 
 /// What the arguments ask for.
 #[derive(Clone, Copy, Debug, PartialEq, Eq)]
@@ -24,13 +27,11 @@ pub struct Served<'a> {
 
 /// Returns what the arguments ask for, or none if they are none that the program takes: `DATABASE WORDS [--log]`, `--help` or
 /// `--version`. A path doesn't begin with `--`.
-pub fn command_of<'a>(arguments: &'a [String]) -> Option<Command<'a>> {
+pub fn command_of<'a>(arguments: &'a [String]) -> Option<Command<'a>>
+    ensures { option_map asked result ≡ command_in (map string_bytes arguments.now) }
+{
     match arguments {
-        [word] => match word.as_str() {
-            "--help" => Some(Command::Help),
-            "--version" => Some(Command::Version),
-            _ => None,
-        },
+        [word] => command_named(word),
         [database, words] => served_of(database, words, false),
         [database, words, option] if option.as_str() == "--log" => {
             served_of(database, words, true)
@@ -39,9 +40,24 @@ pub fn command_of<'a>(arguments: &'a [String]) -> Option<Command<'a>> {
     }
 }
 
+// Returns the command that is this one word, if it is one.
+fn command_named<'a>(word: &str) -> Option<Command<'a>>
+    ensures { option_map asked result ≡ command_named word.now }
+{
+    if word == "--help" {
+        return Some(Command::Help);
+    }
+    if word == "--version" {
+        return Some(Command::Version);
+    }
+    None
+}
+
 // Returns the command to serve these files, if both words are paths.
-fn served_of<'a>(database: &'a str, words: &'a str, is_logged: bool) -> Option<Command<'a>> {
-    if database.starts_with("--") || words.starts_with("--") {
+fn served_of<'a>(database: &'a str, words: &'a str, is_logged: bool) -> Option<Command<'a>>
+    ensures { option_map asked result ≡ served database.now words.now is_logged }
+{
+    if database.as_bytes().starts_with(b"--") || words.as_bytes().starts_with(b"--") {
         return None;
     }
     Some(Command::Serve(Served {

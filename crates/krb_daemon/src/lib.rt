@@ -5,8 +5,9 @@
 //! With `--log` each message has one line on standard error, which is written before its reply.
 //!
 //! [`serve_by_clock`] is the loop: its output is that of serving the stream, each message at a moment that the clock gave, by a responder
-//! that replies so. With [`FileRealm`](krb_file_realms::FileRealm) each reply is that of the realm of one opened file. [`serve_database`]
-//! and [`run_process`] have no contract: they are proved safe, and to return.
+//! that replies so. With [`FileRealm`](krb_file_realms::FileRealm) each reply is that of the realm of one opened file. [`command_of`]
+//! returns what the arguments ask for, as `command_in` says. A [`Stop`] is displayed as `stop_text`, where it shows no fault of the
+//! system's files. [`serve_database`] and [`run_process`] have no contract: they are proved safe, and to return.
 #![tactic(auto)]
 
 mod arguments;

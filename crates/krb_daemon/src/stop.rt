@@ -1,4 +1,6 @@
 //! Why the program stops before the end of its input.
+ghost use Rattle.std.specs.Prelude.{◌≡◌};
+ghost use Rattle.krb_daemon.specs.Stops.{serving_text};
 
 use krb_file_realms::FileFault;
 use krb_frames::ServeFault;
@@ -31,7 +33,6 @@ pub enum Device<'a> {
 }
 
 impl Stop<'_> {
-    ghost use Rattle.std.specs.Prelude.{◌≡◌};
     ghost use Rattle.krb_daemon.specs.Stops.{status_of};
 
     /// Returns the program's status: 1 if nothing was served, 2 if serving stopped early.
@@ -46,6 +47,10 @@ impl Stop<'_> {
 }
 
 impl<'a> fmt::Display for Stop<'a> {
+    ghost use Rattle.krb_daemon.specs.Stops.{stop_text};
+
+    ghost output = { stop_text };
+
     fn fmt<W: fmt::Write>(&self, f: &mut fmt::Formatter<W>) -> fmt::Result {
         match self {
             Stop::Arguments => {
@@ -66,6 +71,11 @@ impl<'a> fmt::Display for Stop<'a> {
 }
 
 impl<'a> fmt::Display for Device<'a> {
+    ghost use Rattle.std.specs.Prelude.{Some};
+    ghost use Rattle.krb_daemon.specs.Stops.{device_text};
+
+    ghost output = { λ device. Some (device_text device) };
+
     fn fmt<W: fmt::Write>(&self, f: &mut fmt::Formatter<W>) -> fmt::Result {
         match self {
             Device::Stream => Ok(()),
@@ -75,7 +85,9 @@ impl<'a> fmt::Display for Device<'a> {
 }
 
 // What is wrong where serving stopped, and what was expected.
-fn serving_text(fault: ServeFault) -> &'static str {
+fn serving_text(fault: ServeFault) -> &'static str
+    ensures { result.now ≡ serving_text fault }
+{
     match fault {
         ServeFault::Truncated => {
             "standard input: ended within a frame: expected a message of the length before it"
