@@ -55,7 +55,7 @@ pub(crate) fn is_read(alloc: Global, row: &KeyRow<'_>) -> Option<bool> {
     }
 }
 
-/// The group of some bits, which stands behind a fault.
+/// The group of some bits. Where the first word names a fault, the second one is the group.
 fn group_of_bits(row: &KeyRow<'_>) -> Option<Group> {
     group_named(if row.second.is_empty() {
         row.first
