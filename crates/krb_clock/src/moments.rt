@@ -13,8 +13,13 @@ pub struct ClockMoments<'a, C: Clock> {
 }
 
 impl<'a, C: Clock> ClockMoments<'a, C> {
-    /// Returns the moments of this clock.
-    pub fn new(clock: &'a C) -> ClockMoments<'a, C> {
+    ghost use Rattle.krb_clock.specs.Counts.{moments_left};
+
+    /// Returns the moments of this clock, none of which was taken.
+    pub fn new(clock: &'a C) -> ClockMoments<'a, C>
+        ensures clock { result.clock.now ≡ clock.now }
+        ensures all { moments_left result ≡ usize.MAX }
+    {
         ClockMoments {
             clock,
             left: usize::MAX,

@@ -17,8 +17,13 @@ const SHA256_WITH_RSA: [u8; 15] = [
 fn key_name(refusal: RsaKeyRefusal) -> &'static str {
     match refusal {
         RsaKeyRefusal::NotRsa => "NotRsa",
+        RsaKeyRefusal::NegativeNumber => "NegativeNumber",
         RsaKeyRefusal::KeyTooWeak => "KeyTooWeak",
-        RsaKeyRefusal::Unusable => "Unusable",
+        RsaKeyRefusal::ModulusTooLong => "ModulusTooLong",
+        RsaKeyRefusal::EvenModulus => "EvenModulus",
+        RsaKeyRefusal::ExponentTooSmall => "ExponentTooSmall",
+        RsaKeyRefusal::ExponentTooLong => "ExponentTooLong",
+        RsaKeyRefusal::ZeroInFront => "ZeroInFront",
     }
 }
 

@@ -1,5 +1,5 @@
 -- Two parties come to one secret.
-use Rattle.std.proofs.Common.{◌≡◌, ℕ, suc, ◌+◌, ◌/◌, ◌^◌, ◌%◌, ◌≤◌, pos, Bool, true, false, ◌&&◌, nat_le, nat_lt, cond, eqb, List, [], ◌∷◌, length, None, Some, refl, sym, ap, ◌∙◌, arith}
+use Rattle.std.proofs.Common.{◌≡◌, ℕ, Option, suc, ◌+◌, ◌/◌, ◌^◌, ◌%◌, ◌≤◌, pos, Bool, true, false, ◌&&◌, nat_le, nat_lt, cond, eqb, List, [], ◌∷◌, length, None, Some, refl, sym, ap, ◌∙◌, arith}
 use Prim.Native.Nat.{zero}
 use Rattle.std.proofs.lemmas.Bool.{and_from, and_parts, cond_both, eqb-true, le-leb}
 use Rattle.std.proofs.lemmas.Int.Digits.{number_digits_of}
@@ -13,9 +13,11 @@ use Rattle.picky_asn1.specs.Integer.{unsigned_octets}
 use Rattle.modular_arithmetic.specs.Naturals.{i2osp, os2ip}
 use Rattle.diffie_hellman.specs.Agreements.{in_range, prime_of, public_of, shared_of, size_of}
 use Rattle.diffie_hellman.specs.declared.group.Group.{Group}
-use Rattle.x509_dh_keys.specs.Values.{is_value, value_element}
-use Rattle.x509_dh_keys.proofs.Found.{bits-number, value-number}
-use Rattle.rsa_keys.specs.Agreements.{IsAgreed, own_bits, own_number, own_value}
+use Rattle.x509_dh_keys.specs.Numbers.{value_number}
+use Rattle.x509_dh_keys.specs.Values.{is_value, value_bytes, value_element}
+use Rattle.x509_dh_keys.proofs.Found.{bits-number, number-is, value-number}
+use Rattle.key_functions.specs.KeyFunctions.TheirValue.{WholeValue}
+use Rattle.rsa_keys.specs.Agreements.{IsAgreed, IsOfGroup, agreed, own_bits, own_number, own_value}
 
 length-i2osp : (len n : ℕ) → length (i2osp len n) ≡ len
 unfolding i2osp
@@ -83,3 +85,19 @@ agrees group ours theirs our_value their_value law e f =
           ap (λ found. option_and_then (λ n. shared_of group (unsigned_octets (pos n)) theirs) found) (bits-number (own_bits group ours) (os2ip (public_of group ours)) refl)
           ∙ shared-same group ours our.holds theirs ∙ sym (law our_range their_range) ∙ secret;
     }
+
+has_number : (f : ℕ → Option Bytes) (number : Option ℕ) (secret : Bytes) → option_and_then f number ≡ Some secret → (n : ℕ) × (number ≡ Some n)
+has_number f (Some n) secret e = (n, refl)
+has_number f None secret e = absurd (cc (e))
+
+-- what one shares a secret by is of the group
+pub theirs_of_group : (group : Group) (theirs : Raw) (words secret : Bytes) → agreed group (WholeValue theirs) words ≡ Some secret → IsOfGroup group theirs
+theirs_of_group group theirs words secret e =
+    let found = has_number (λ n. shared_of group (unsigned_octets (pos n)) words) (value_number group (raw_bytes theirs)) secret e in
+    record { number = found.0; is = number-is (λ n. value_bytes group (pos n)) (raw_bytes theirs) (raw_bytes theirs) found.0 found.1 }
+
+-- and so is the own value
+pub ours_of_group : (group : Group) (words : Bytes) (ours : Raw) → own_value group words ≡ Some ours → IsOfGroup group ours
+ours_of_group group words ours e =
+    let made = taken (is_value group (own_number group words)) (value_element group (own_number group words)) ours e in
+    record { number = os2ip (public_of group words); is = ap (λ element. raw_bytes element) (sym made.same) }

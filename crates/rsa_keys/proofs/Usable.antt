@@ -10,7 +10,7 @@ use Rattle.rsa_pkcs1.specs.declared.public_key.PublicKey.{PublicKey}
 use Rattle.rsa_keys.specs.OwnKeys.{IsUsable, has_naturals, key_refusal, refusal_in}
 use Rattle.rsa_keys.specs.Signatures.{Numbers, numbers_of, refusal_named}
 use Rattle.rsa_keys.specs.declared.refusal.RsaKeyRefusal.{RsaKeyRefusal}
-use Rattle.rsa_keys.specs.declared.refusal.RsaKeyRefusal.TheVariants.{Unusable}
+use Rattle.rsa_keys.specs.declared.refusal.RsaKeyRefusal.TheVariants.{NegativeNumber}
 
 record AreNumbers (b : Bool) (m x n e : List ℕ) : Type 0 where
   pub holds : b ≡ true
@@ -21,7 +21,7 @@ abbrev taken : Numbers → Result Numbers RsaKeyRefusal
 taken numbers = Ok numbers
 
 abbrev refused : Result Numbers RsaKeyRefusal
-refused = Err Unusable
+refused = Err NegativeNumber
 
 ok_one : (a b : Numbers) → taken a ≡ taken b → a ≡ b
 ok_one a b e = cc

@@ -78,7 +78,7 @@ whole_refused group element Unreadable read other =
     (number-none (λ n. value_bytes group (pos n)) (raw_bytes element) (raw_bytes element)
     (λ n e. read (record { algorithm = record { first = sequence_octet; content = algorithm_content group }; subject_public_key = record { 0 = pos n } }) refl e))
 whole_refused group element UnknownGroup read other =
-    none_theirs group (WholeValue element) (number-none (λ n. value_bytes group (pos n)) (raw_bytes element) (raw_bytes element) (λ n e. read group (pos n) e))
+    none_theirs group (WholeValue element) (number-none (λ n. value_bytes group (pos n)) (raw_bytes element) (raw_bytes element) (λ n e. read.1 group (pos n) e))
 whole_refused group element GroupTooWeak read other = absurd (cc (read.2))
 whole_refused group element OutOfRange read other =
     λ secret. and_none (λ n. shared_of group (unsigned_octets (pos n)) secret) (value_number group (raw_bytes element))

@@ -24,7 +24,7 @@ use Rattle.key_functions.specs.declared.signature_algorithm.SignatureAlgorithm.{
 use Rattle.rsa_keys.specs.Functions.{IsPublicPart, signed_by_own}
 use Rattle.rsa_keys.specs.Signatures.{Numbers, by_hash, by_key, by_numbers, by_refusal, checked, hash_behind, hash_of, is_valid, refusal_named, sha256_named, verdict}
 use Rattle.rsa_keys.specs.declared.refusal.SignatureRefusal.TheVariants.{Key}
-use Rattle.rsa_keys.specs.declared.refusal.RsaKeyRefusal.TheVariants.{Unusable}
+use Rattle.rsa_keys.specs.declared.refusal.RsaKeyRefusal.TheVariants.{NegativeNumber}
 use Rattle.rsa_keys.specs.declared.own_key.OwnKey.{OwnKey}
 
 -- a key verifies by its numbers
@@ -69,7 +69,7 @@ own_valid own key text signature part verified =
     ap (λ arcs. by_hash (hash_behind (octet_behind pkcs1 (oid_content arcs))) key.subject_public_key text signature) ((bytes_eq-Decides own.algorithm.algorithm.algorithm.0 oids.sha256_with_rsa_encryption).0 own.sha256)
     ∙ ap (λ hash. by_hash hash key.subject_public_key text signature) sha256_named
     ∙ ap (λ k. by_hash (Ok Sha256) k text signature) part
-    ∙ ap (λ b. by_key Sha256 (cond b (Ok numbers) (Err Unusable)) text signature) own.naturals
+    ∙ ap (λ b. by_key Sha256 (cond b (Ok numbers) (Err NegativeNumber)) text signature) own.naturals
     ∙ ap (λ refusal. by_refusal refusal Sha256 numbers text signature) (is_no_refusal (refusal_of n e) own.taken)
     ∙ ap verdict (sym (by_its_numbers own.private.public n e Sha256 text signature own.len own.exponent own.value) ∙ verified)
 

@@ -11,7 +11,7 @@ use Rattle.diffie_hellman.specs.Agreements.{public_of, shared_of}
 use Rattle.diffie_hellman.specs.declared.group.Group.{Group}
 use Rattle.x509_dh_keys.specs.Algorithms.{integer_bytes}
 use Rattle.x509_dh_keys.specs.Numbers.{bits_number, value_number}
-use Rattle.x509_dh_keys.specs.Values.{is_value, value_element}
+use Rattle.x509_dh_keys.specs.Values.{is_value, value_bytes, value_element}
 use Rattle.x509_dh_keys.specs.declared.public_value.DhPublicValue.{DhPublicValue}
 use Rattle.key_functions.specs.KeyFunctions.{TheirValue}
 use Rattle.key_functions.specs.KeyFunctions.TheirValue.{ValueBits, WholeValue}
@@ -21,7 +21,8 @@ abbrev pub their_number : Group → TheirValue → Option ℕ
 their_number group (WholeValue element) = value_number group (raw_bytes element)
 their_number group (ValueBits bits) = bits_number bits
 
--- the secret that is shared with the peer by the own secret number; none if the peer's value isn't one of 2 to the prime less 2
+-- The secret that is shared with the peer by the own secret number. There is one for a value of the party's group in its range alone (RFC
+-- 4556, section 3.2.2). Test: `agree 2`, `agree 14`, `agree 16`.
 abbrev pub agreed : Group → TheirValue → Bytes → Option Bytes
 agreed group theirs secret = option_and_then (λ number. shared_of group (unsigned_octets (pos number)) secret) (their_number group theirs)
 
@@ -46,6 +47,11 @@ pub record IsTheirs (group : Group) (theirs : TheirValue) (value : DhPublicValue
 -- no secret is shared with the peer
 abbrev pub IsRefused : Group → TheirValue → Type 0
 IsRefused group theirs = (secret : Bytes) → agreed group theirs secret ≡ None
+
+-- the element is the SubjectPublicKeyInfo of a number in the group
+pub record IsOfGroup (group : Group) (element : Raw) : Type 0 where
+  pub number : ℕ
+  pub is : raw_bytes element ≡ value_bytes group (pos number)
 
 -- each comes to the secret by the other's value: one has the whole of it, the other its bits
 pub record IsAgreed (group : Group) (ours theirs : Bytes) (their_value : Raw) : Type 0 where

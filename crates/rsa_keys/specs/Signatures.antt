@@ -13,6 +13,8 @@ use Rattle.x509_keys.specs.declared.public_key.PublicKey.TheVariants.{Rsa, Ec, E
 use Rattle.x509_keys.specs.declared.rsa_public_key.RsaPublicKey.{RsaPublicKey}
 use Rattle.x509_keys.specs.declared.subject_public_key_info.SubjectPublicKeyInfo.{SubjectPublicKeyInfo}
 use Rattle.modular_arithmetic.specs.Naturals.{i2osp, os2ip}
+use Rattle.modular_arithmetic.specs.declared.modulus.ModulusRefusal.{ModulusRefusal}
+use Rattle.modular_arithmetic.specs.declared.modulus.ModulusRefusal.TheVariants as modulus
 use Rattle.rsa_pkcs1.specs.Keys.{refusal_of}
 use Rattle.rsa_pkcs1.specs.Pkcs1.{encoded}
 use Rattle.rsa_pkcs1.specs.declared.hash.HashFunction.{HashFunction}
@@ -21,7 +23,7 @@ use Rattle.rsa_pkcs1.specs.declared.public_key.KeyRefusal.{KeyRefusal}
 use Rattle.rsa_pkcs1.specs.declared.public_key.KeyRefusal.TheVariants as by
 use Rattle.x509_dh_keys.specs.Values.{is_natural}
 use Rattle.rsa_keys.specs.declared.refusal.RsaKeyRefusal.{RsaKeyRefusal}
-use Rattle.rsa_keys.specs.declared.refusal.RsaKeyRefusal.TheVariants.{NotRsa, KeyTooWeak, Unusable}
+use Rattle.rsa_keys.specs.declared.refusal.RsaKeyRefusal.TheVariants.{NotRsa, NegativeNumber, KeyTooWeak, ModulusTooLong, EvenModulus, ExponentTooSmall, ExponentTooLong, ZeroInFront}
 use Rattle.rsa_keys.specs.declared.refusal.SignatureRefusal.{SignatureRefusal}
 use Rattle.rsa_keys.specs.declared.refusal.SignatureRefusal.TheVariants.{Md5, Sha1, OtherAlgorithm, Key, NotValid}
 
@@ -32,8 +34,11 @@ hash_named arc =
     if nat_eq arc 1 || nat_eq arc 11 then Ok Sha256
     else if nat_eq arc 12 then Ok Sha384
     else if nat_eq arc 13 then Ok Sha512
+    -- A signature isn't over MD5. Test: `check Md5`.
     else if nat_eq arc 4 then Err Md5
+    -- A signature isn't over SHA-1. Test: `check Sha1`.
     else if nat_eq arc 5 then Err Sha1
+    -- A signature is RSASSA-PKCS1-v1_5 with SHA-256, SHA-384 or SHA-512 (RFC 8017, section 8.2). Test: `check OtherAlgorithm`.
     else Err OtherAlgorithm
 
 abbrev pub hash_behind : Option ℕ → Result HashFunction SignatureRefusal
@@ -51,13 +56,25 @@ is_valid n e hash message signature =
     nat_eq (length signature) (length n) && nat_lt (os2ip signature) (os2ip n)
     && bytes_eq (i2osp (length n) (os2ip signature ^ os2ip e % os2ip n)) (encoded (length n) hash message)
 
+-- the name of a modulus's refusal; one of fewer than two octets is too weak
+abbrev pub modulus_named : ModulusRefusal → RsaKeyRefusal
+modulus_named modulus.TooShort = KeyTooWeak
+-- A modulus has at most 4,096 bits. Test: `check ModulusTooLong`, `own ModulusTooLong`.
+modulus_named modulus.TooLong = ModulusTooLong
+modulus_named modulus.ZeroInFront = ZeroInFront
+-- A modulus is odd (RFC 8017, section 3.1). Test: `check EvenModulus`, `own EvenModulus`.
+modulus_named modulus.Even = EvenModulus
+
 -- the name of a key's refusal
 abbrev pub refusal_named : KeyRefusal → RsaKeyRefusal
+refusal_named (by.Modulus refusal) = modulus_named refusal
+-- A modulus has at least 2,048 bits. Test: `check KeyTooWeak`, `own KeyTooWeak`.
 refusal_named by.KeyTooWeak = KeyTooWeak
-refusal_named (by.Modulus refusal) = Unusable
-refusal_named by.ExponentTooLong = Unusable
-refusal_named by.ExponentTooSmall = Unusable
-refusal_named by.ExponentZeroInFront = Unusable
+-- A public exponent has at most 64 bits. Test: `check ExponentTooLong`, `own ExponentTooLong`.
+refusal_named by.ExponentTooLong = ExponentTooLong
+-- A public exponent isn't 0 or 1 (RFC 8017, section 3.1). Test: `check ExponentTooSmall`, `own ExponentTooSmall`.
+refusal_named by.ExponentTooSmall = ExponentTooSmall
+refusal_named by.ExponentZeroInFront = ZeroInFront
 
 -- a modulus and a public exponent as octets, the most significant first
 abbrev pub Numbers : Type 0
@@ -66,17 +83,21 @@ Numbers = List ℕ × List ℕ
 -- those of a key, unless one of them is negative
 abbrev pub numbers_of : RsaPublicKey → Result Numbers RsaKeyRefusal
 numbers_of key =
-    if is_natural key.modulus && is_natural key.public_exponent then Ok (unsigned_octets key.modulus, unsigned_octets key.public_exponent) else Err Unusable
+    if is_natural key.modulus && is_natural key.public_exponent then Ok (unsigned_octets key.modulus, unsigned_octets key.public_exponent)
+    -- Modulus and public exponent aren't negative (RFC 8017, section 3.1). Test: `check NegativeNumber`, `own NegativeNumber`.
+    else Err NegativeNumber
 
 -- the same of any key
 abbrev pub numbers_in : PublicKey → Result Numbers RsaKeyRefusal
 numbers_in (Rsa key) = numbers_of key.0
+-- The key is one of RSA, as the signature's algorithm is. Test: `check NotRsa`.
 numbers_in (Ec point) = Err NotRsa
 numbers_in (Ed point) = Err NotRsa
 numbers_in (Mldsa bits) = Err NotRsa
 
 -- the answer to a signature that is valid or not
 abbrev pub verdict : Bool → Result (Unit {0}) SignatureRefusal
+-- A signature is that of the key over these bytes (RFC 8017, section 8.2.2). Test: `check NotValid`.
 verdict valid = if valid then Ok tt else Err NotValid
 
 -- what becomes of a signature under numbers that are refused for this reason, or for none

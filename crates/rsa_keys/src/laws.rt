@@ -4,7 +4,8 @@ ghost use Rattle.asn1_elements.specs.Raw.{Raw};
 ghost use Rattle.picky_asn1.specs.Bytes.{Bytes};
 ghost use Rattle.key_functions.specs.declared.functions.Signed.{Signed};
 ghost use Rattle.x509_keys.specs.declared.subject_public_key_info.SubjectPublicKeyInfo.{SubjectPublicKeyInfo};
-ghost use Rattle.rsa_keys.specs.Agreements.{IsAgreed, own_value};
+ghost use Rattle.key_functions.specs.KeyFunctions.TheirValue.{WholeValue};
+ghost use Rattle.rsa_keys.specs.Agreements.{IsAgreed, IsOfGroup, agreed, own_value};
 ghost use Rattle.rsa_keys.specs.Functions.{IsPublicPart, signed_by_own};
 ghost use Rattle.rsa_keys.specs.Signatures.{checked};
 
@@ -27,3 +28,10 @@ pub fn one_secret(group: Group)
 {
     diffie_hellman::agree(group);
 }
+
+/// Who comes to a secret by a peer's whole value has an own value of the same group, as a KDC that replies to a client (RFC 4556, section
+/// 3.2.3.1).
+pub fn reply_in_group(group: Group)
+    ensures { (theirs ours : Raw) (words secret : Bytes) → agreed group (WholeValue theirs) words ≡ Some secret → own_value group words ≡ Some ours
+        → IsOfGroup group theirs × IsOfGroup group ours }
+{}

@@ -7,12 +7,27 @@ pub enum RsaKeyRefusal {
     /// The key isn't one of RSA.
     #[error("the key is not an RSA key")]
     NotRsa,
+    /// The modulus or the public exponent is negative.
+    #[error("the RSA key's modulus or public exponent is negative")]
+    NegativeNumber,
     /// The modulus has fewer than 2,048 bits.
     #[error("the RSA key has fewer than 2,048 bits")]
     KeyTooWeak,
-    /// The modulus is negative, even or longer than 4,096 bits, or the public exponent is negative, 0, 1 or longer than 64 bits.
-    #[error("the RSA key's modulus or public exponent cannot be used")]
-    Unusable,
+    /// The modulus has more than 4,096 bits.
+    #[error("the RSA key has more than 4,096 bits")]
+    ModulusTooLong,
+    /// The modulus is even.
+    #[error("the RSA key's modulus is even")]
+    EvenModulus,
+    /// The public exponent is 0 or 1.
+    #[error("the RSA key's public exponent is 0 or 1")]
+    ExponentTooSmall,
+    /// The public exponent has more than 64 bits.
+    #[error("the RSA key's public exponent has more than 64 bits")]
+    ExponentTooLong,
+    /// A zero octet is in front of a number, as of none that is read.
+    #[error("the RSA key's modulus or public exponent has a zero octet in front")]
+    ZeroInFront,
 }
 
 /// Why a signature is refused.

@@ -1,8 +1,9 @@
 //! Signatures that are verified.
 ghost use Rattle.std.specs.Prelude.{◌≡◌, Ok, Err, MatchResult};
-ghost use Rattle.rsa_keys.specs.Signatures.{by_hash, by_numbers, checked, hash_named, hash_of, numbers_in, numbers_of, refusal_named, verdict};
+ghost use Rattle.rsa_keys.specs.Signatures.{by_hash, by_numbers, checked, hash_named, hash_of, modulus_named, numbers_in, numbers_of, refusal_named, verdict};
 
 use crate::refusal::{RsaKeyRefusal, SignatureRefusal};
+use modular_arithmetic::ModulusRefusal;
 use rsa_pkcs1::{HashFunction, KeyRefusal, PublicNumbers};
 use x509_algorithms::AlgorithmIdentifier;
 use x509_dh_keys::is_natural;
@@ -109,10 +110,10 @@ pub(crate) fn numbers_of(key: &RsaPublicKey) -> Result<PublicNumbers<'_>, RsaKey
     ensures { MatchResult result (λ numbers. numbers_of key.now ≡ Ok (numbers.modulus.now, numbers.exponent.now)) (λ refusal. numbers_of key.now ≡ Err refusal) }
 {
     if !is_natural(&key.modulus) {
-        return Err(RsaKeyRefusal::Unusable);
+        return Err(RsaKeyRefusal::NegativeNumber);
     }
     if !is_natural(&key.public_exponent) {
-        return Err(RsaKeyRefusal::Unusable);
+        return Err(RsaKeyRefusal::NegativeNumber);
     }
     Ok(PublicNumbers {
         modulus: key.modulus.as_unsigned_bytes_be(),
@@ -125,10 +126,21 @@ pub(crate) fn refusal_named(refusal: KeyRefusal) -> RsaKeyRefusal
     ensures { result ≡ refusal_named refusal }
 {
     match refusal {
+        KeyRefusal::Modulus(refusal) => modulus_named(refusal),
         KeyRefusal::KeyTooWeak => RsaKeyRefusal::KeyTooWeak,
-        KeyRefusal::Modulus(_) => RsaKeyRefusal::Unusable,
-        KeyRefusal::ExponentTooLong => RsaKeyRefusal::Unusable,
-        KeyRefusal::ExponentTooSmall => RsaKeyRefusal::Unusable,
-        KeyRefusal::ExponentZeroInFront => RsaKeyRefusal::Unusable,
+        KeyRefusal::ExponentTooLong => RsaKeyRefusal::ExponentTooLong,
+        KeyRefusal::ExponentTooSmall => RsaKeyRefusal::ExponentTooSmall,
+        KeyRefusal::ExponentZeroInFront => RsaKeyRefusal::ZeroInFront,
+    }
+}
+
+fn modulus_named(refusal: ModulusRefusal) -> RsaKeyRefusal
+    ensures { result ≡ modulus_named refusal }
+{
+    match refusal {
+        ModulusRefusal::TooShort => RsaKeyRefusal::KeyTooWeak,
+        ModulusRefusal::TooLong => RsaKeyRefusal::ModulusTooLong,
+        ModulusRefusal::ZeroInFront => RsaKeyRefusal::ZeroInFront,
+        ModulusRefusal::Even => RsaKeyRefusal::EvenModulus,
     }
 }

@@ -90,9 +90,11 @@ found_info bytes none read info e h = subst (λ o. MatchOption o none (λ i. byt
 -- why an algorithm's group is refused
 pub refused : (info : DhPublicKeyInfo) (bytes : List ℕ) (weak : WeakGroup) (refusal : GroupRefusal) → bytes ≡ info_bytes info → group_of (raw_bytes info.algorithm) weak ≡ Err refusal
     → Reads bytes weak (Err (fault_of refusal))
-refused info bytes weak UnknownGroup is e =
-    λ group number other.
-    unknown_group (raw_bytes info.algorithm) weak e group (same_front info.algorithm.first sequence_octet info.algorithm.content (algorithm_content group) _ _ (sym is ∙ other)).0
+refused info bytes weak UnknownGroup is e = (
+  (info, is),
+  λ group number other.
+      unknown_group (raw_bytes info.algorithm) weak e group (same_front info.algorithm.first sequence_octet info.algorithm.content (algorithm_content group) _ _ (sym is ∙ other)).0,
+)
 refused info bytes weak GroupTooWeak is e =
     let known = weak_is (raw_bytes info.algorithm) weak e in
     (info.subject_public_key.0, is ∙ ap (λ algorithm. element sequence_octet (key_content algorithm info.subject_public_key.0)) known.0, known.1)

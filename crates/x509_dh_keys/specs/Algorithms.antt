@@ -51,5 +51,7 @@ abbrev pub group_of : List ℕ → WeakGroup → Result Group GroupRefusal
 group_of algorithm weak =
     if bytes_eq algorithm (algorithm_of Modp2048) then Ok Modp2048
     else if bytes_eq algorithm (algorithm_of Modp4096) then Ok Modp4096
+    -- The 1024-bit group is refused, unless it is asked for (RFC 4556, section 3.2.1). Test: `read GroupTooWeak`, `read 2`.
     else if bytes_eq algorithm (algorithm_of Modp1024) then weak_group weak
+    -- The algorithm is dhpublicnumber with p, g and q of a known group (RFC 3279, section 2.3.3). Test: `read UnknownGroup`.
     else Err UnknownGroup
