@@ -1,7 +1,7 @@
 #!/bin/sh
 # MIT's gss-client logs in to the program example_acceptor, which has a keytab of MIT's ktutil, and sends it messages, by tickets of the
 # realm of examples/settings.toml, with keys made anew, behind socat on 127.0.0.1: with each suite of AES, with and without mutual authentication, with messages that are
-# encrypted, only protected by a checksum, and neither, and through SPNEGO. ntlm_first.py, over the same library, offers NTLM before
+# encrypted, only protected by a checksum, and neither, and through SPNEGO, each with and without a subkey of the acceptor, and in sequence. ntlm_first.py, over the same library, offers NTLM before
 # Kerberos, so that both sides' MICs of the list are due. It is refused as it should be with triple DES, for another
 # service, by a clock that is 10 minutes off, and where its frames come again or have one octet changed. Prints what each gave; the
 # status is 1 where one differs from what it should, and 2 where a tool is missing. All files are in a temporary folder, and what is
@@ -35,7 +35,7 @@ if [ ! -x "$program" ] || [ -n "$(find "$top/crates" -name out -prune -o -path '
 fi
 cat >"$work/acceptor" <<ACCEPTOR
 #!/bin/sh
-\${CLOCK:-} $program $work/host.keytab /dev/urandom now host/\${SERVICE:-$host}@EXAMPLE.COM 2>>$work/told
+\${CLOCK:-} $program $work/host.keytab /dev/urandom now host/\${SERVICE:-$host}@EXAMPLE.COM \${SUBKEY:-} 2>>$work/told
 echo "acceptor: status \$?" >>$work/told
 ACCEPTOR
 chmod +x "$work/acceptor"
@@ -139,16 +139,22 @@ login="user@EXAMPLE.COM logged in"
 echo "MIT: $(dpkg-query -W -f '${Version}' krb5-gss-samples 2>/dev/null)"
 for suite in aes128-cts-hmac-sha1-96 aes256-cts-hmac-sha1-96 aes128-cts-hmac-sha256-128 aes256-cts-hmac-sha384-192; do
     by_suite $suite
-    try "a message that is encrypted" yes "$login" served 1 client
-    try "without mutual authentication" yes "$login" served 1 client -nomutual
-    try "three messages" yes "$login" served 3 client -mcount 3
-    try "three messages that have a checksum alone" yes "$login" served 3 client -mcount 3 -nx
-    try "a message that isn't protected" yes "$login" served 1 client -nw
-    try "no checksum in return" yes "Response received" served 0 client -nm
-    try "SPNEGO" yes "$login" served 1 client -spnego
-    try "SPNEGO without mutual authentication, three messages" yes "$login" served 3 client -spnego -nomutual -mcount 3
-    try "SPNEGO with NTLM first, and MICs of the list" yes "$login" served 1 ntlm_first
-    try "the same without mutual authentication" yes "$login" served 1 ntlm_first -nomutual
+    for SUBKEY in '' subkey; do
+        export SUBKEY
+        [ -z "$SUBKEY" ] || echo "= with a subkey of the acceptor"
+        try "a message that is encrypted" yes "$login" served 1 client
+        try "without mutual authentication" yes "$login" served 1 client -nomutual
+        try "three messages" yes "$login" served 3 client -mcount 3
+        try "three messages in sequence" yes "$login" served 3 client -seq -mcount 3
+        try "three messages that have a checksum alone" yes "$login" served 3 client -mcount 3 -nx
+        try "a message that isn't protected" yes "$login" served 1 client -nw
+        try "no checksum in return" yes "Response received" served 0 client -nm
+        try "SPNEGO" yes "$login" served 1 client -spnego
+        try "SPNEGO without mutual authentication, three messages" yes "$login" served 3 client -spnego -nomutual -mcount 3
+        try "SPNEGO with NTLM first, and MICs of the list" yes "$login" served 1 ntlm_first
+        try "the same without mutual authentication" yes "$login" served 1 ntlm_first -nomutual
+    done
+    SUBKEY=
     try "two connections to one acceptor, and the first one's frames again: refused" yes "Krb(34)" one_for_all
 done
 

@@ -143,7 +143,7 @@ configuration() {
 CONF
 }
 
-# MIT's krb5kdc, with a database that is made anew; sets port and bridge.
+# start_mit [LINES]: MIT's krb5kdc, with a database that is made anew, and these settings of its realm; sets port and bridge.
 start_mit() {
     configuration 127.0.0.1:PORT "allow_weak_crypto = true" >"$work/mit.in"
     cat >"$work/kdc.in" <<CONF
@@ -156,6 +156,7 @@ start_mit() {
         key_stash_file = $work/stash
         acl_file = $work/acl
         supported_enctypes = aes256-cts-hmac-sha1-96:normal aes128-cts-hmac-sha1-96:normal aes256-cts-hmac-sha384-192:normal aes128-cts-hmac-sha256-128:normal des3-cbc-sha1:normal
+        ${1:-}
     }
 CONF
     export KRB5_KDC_PROFILE="$work/kdc.conf"

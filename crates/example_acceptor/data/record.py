@@ -114,15 +114,15 @@ def frame(flags, token=b""):
 
 
 def serve(peer, words, sent, given, negotiation=None):
-    """Answers a connection as gss-server does, and adds what came and went. Each token of a login has 16 of the random octets."""
+    """Answers a connection as gss-server does, and adds what came and went. Each token of a login has 64 of the random octets."""
     stream, end = peer.makefile("rb"), None
     while head := stream.read(5):
         token = stream.read(int.from_bytes(head[1:], "big"))
         sent += head + token
         answer = b""
         if head[0] & CONTEXT:
-            token, end = negotiation.answer(token, words[:16]) if negotiation else accept(token, words[:16])
-            words = words[16:]
+            token, end = negotiation.answer(token, words[:64]) if negotiation else accept(token, words[:64])
+            words = words[64:]
             answer = frame(CONTEXT, token) if token else b""
         elif not head[0] & NOOP:
             message = end.take_wrap(token)[1] if head[0] & WRAPPED else token
@@ -152,12 +152,12 @@ def main():
         for turn, options in enumerate((["-mcount", "2"], ["-spnego", "-nx"])):
             asked = [*at, "gss-client", "-port", str(listener.getsockname()[1]), *options, "127.0.0.1", "host@server.example.com", "a message"]
             client = subprocess.Popen(asked)
-            serve(listener.accept()[0], words[16 * turn :], sent, given)
+            serve(listener.accept()[0], words[64 * turn :], sent, given)
             assert client.wait() == 0
         # A second later: at a clock that stands, the authenticator of each process that has its ticket is of the same microsecond.
         asked = ["faketime", "-f", LATER, f"{HERE}/../../../examples/ntlm_first.py", "-port", str(listener.getsockname()[1]), "127.0.0.1", "host@server.example.com", "a message"]
         client = subprocess.Popen(asked)
-        serve(listener.accept()[0], words[32:], sent, given, Negotiation())
+        serve(listener.accept()[0], words[128:], sent, given, Negotiation())
         assert client.wait() == 0
     finally:
         bridge.terminate()

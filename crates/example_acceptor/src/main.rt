@@ -1,8 +1,9 @@
 //! The program `example_acceptor`: a service of MIT's sample protocol, as `gss-server` is, on standard input and output.
 //!
-//! `example_acceptor KEYTAB WORDS MOMENT SERVICE` is a service with its newest key in a keytab, such as
-//! `host/server.example.com@EXAMPLE.COM`. Tickets under its older keys are refused. The file WORDS has random octets, and MOMENT is `now` or `YYYYMMDDHHMMSSZ`. It serves the
-//! contexts of its stream in turn, and remembers each login until it ends. Clocks may differ by 300 seconds.
+//! `example_acceptor KEYTAB WORDS MOMENT SERVICE [subkey]` is a service with its newest key in a keytab, such as
+//! `host/server.example.com@EXAMPLE.COM`. Tickets under its older keys are refused. The file WORDS has random octets, of which each token of a
+//! login takes 64, and MOMENT is `now` or `YYYYMMDDHHMMSSZ`. It serves the contexts of its stream in turn, and remembers each login until it
+//! ends. Clocks may differ by 300 seconds. With `subkey` a subkey of its own protects each context whose initiator asks for an AP-REP.
 //!
 //! It says on standard error who logged in. The status is 0 at the end of a stream with a login. Else it is 1, after a line
 //! with the refusal's name.

@@ -12,7 +12,7 @@ use std::alloc::Global;
 use std::time::{Clock, SystemTime, UNIX_EPOCH};
 
 /// How many random octets each token of a login takes.
-const WORDS: usize = 16;
+const WORDS: usize = 64;
 
 /// The moments of a server.
 #[derive(Clone, Copy)]

@@ -3,7 +3,7 @@
 use crate::server::{Server, Time};
 use anyhow::{Context, bail};
 use byte_streams::Watched;
-use gss_acceptor::Acceptor;
+use gss_acceptor::{Acceptor, AcceptorTerms};
 use krb_accounts::{components_of, realm_name_of};
 use krb_commands::keytab_in;
 use krb_crypto::Key;
@@ -19,12 +19,14 @@ use std::fs::{self, Files};
 /// By how many seconds clocks may differ.
 const SKEW: u64 = 300;
 
-/// The server of the program's arguments: a keytab, a file of random octets, a moment and a service's name with its realm.
+/// The server of the program's arguments: a keytab, a file of random octets, a moment and a service's name with its realm. With `subkey`
+/// behind them the acceptor's subkeys protect the contexts.
 pub(crate) fn server_of(
     rt: &HostRuntime,
 ) -> anyhow::Result<Server<Watched<<HostRuntime as Files>::File>>> {
     let mut arguments = env::args(rt)?.skip(1);
-    let (Some(keytab), Some(words), Some(moment), Some(service), None) = (
+    let (Some(keytab), Some(words), Some(moment), Some(service), further, None) = (
+        arguments.next(),
         arguments.next(),
         arguments.next(),
         arguments.next(),
@@ -33,13 +35,28 @@ pub(crate) fn server_of(
     ) else {
         bail!("expected: a keytab, a file of random octets, a moment and a service with its realm");
     };
+    let terms = terms_of(&further).context("expected: subkey or nothing after the service")?;
     let time = time_of(moment.as_str()).context("no moment: expected now or YYYYMMDDHHMMSSZ")?;
     let service = service_in(rt, keytab.as_str(), service.as_str())?;
     let words = fs::open(rt, words.as_str())?;
     Ok(Server {
-        acceptor: Acceptor::new(service),
+        acceptor: Acceptor::new(service, terms),
         words: Watched::new(words),
         time,
+    })
+}
+
+// The acceptor's terms by the argument after the service. The sample protocol has no channel bindings.
+fn terms_of(further: &Option<String>) -> Option<AcceptorTerms> {
+    let Some(word) = further else {
+        return Some(AcceptorTerms::PLAIN);
+    };
+    if word.as_str() != "subkey" {
+        return None;
+    }
+    Some(AcceptorTerms {
+        with_subkey: true,
+        ..AcceptorTerms::PLAIN
     })
 }
 

@@ -1,6 +1,7 @@
 mod Held
 mod Offered
 mod Results
+pub mod Subkeys
 mod Concluded
 mod Handling
 mod Presented

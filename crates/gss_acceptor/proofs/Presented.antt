@@ -7,16 +7,17 @@ use Rattle.krb_crypto.specs.Keys.{KeyRecord}
 use Rattle.krb_service.specs.Pair.{PairRecord}
 use Rattle.krb_service.specs.Seen.{IsWindow}
 use Rattle.krb_service.specs.RememberingService.{IsStep}
-use Rattle.krb_service.specs.Service.{ServiceRecord}
-use Rattle.krb_service.proofs.Admitting.{admitted_as_presented}
-use Rattle.gss_contexts.specs.Contexts.{ContextRecord, is_newer}
+use Rattle.krb_service.proofs.Admitting.{presented_with}
+use Rattle.gss_contexts.specs.Contexts.{ContextRecord, context_of, is_newer}
 use Rattle.gss_contexts.specs.Judging.{TakesMic}
+use Rattle.gss_contexts.specs.declared.side.Side.TheVariants.{Acceptor}
+use Rattle.gss_contexts.specs.declared.terms.ContextTerms.{ContextTerms}
 use Rattle.gss_acceptor.proofs.Results.{given, same_ok}
-use Rattle.gss_acceptor.specs.Accepting.{AdmitRequest, Admits, AskFor, Handles, IsAnsweredAs, Takes, VerifyMic, carried, established_of, held, judged, negotiated, opened_by, then_judged}
-use Rattle.gss_acceptor.specs.Checksum.{initial_in}
-use Rattle.gss_acceptor.specs.Chosen.{IsChosen, IsChosenAfter}
+use Rattle.gss_acceptor.specs.Accepting.{AcceptorRecord, AdmitRequest, Admits, AskFor, Handles, IsAnsweredAs, Takes, VerifyMic, carried, context_under, established_of, held, judged, negotiated, opened_by, then_judged}
+use Rattle.gss_acceptor.specs.Checksum.{bound_by, initial_in, no_bindings}
+use Rattle.gss_acceptor.specs.Chosen.{IsChosen, IsChosenAfter, IsKeyOf}
 use Rattle.gss_acceptor.specs.Concluding.{Demands, ExchangesMics, IsConcludedWithout, IsGiven, IsMicAnswered, IsVerified, awaiting, completed}
-use Rattle.gss_acceptor.specs.Contexts.{context_in, context_key, first_number}
+use Rattle.gss_acceptor.specs.Contexts.{context_in, context_key, end_key, end_terms, fields_of, first_number, own_key}
 use Rattle.gss_acceptor.specs.Established.{EstablishedRecord}
 use Rattle.gss_acceptor.specs.declared.accepted.Accepted.{Accepted}
 use Rattle.gss_acceptor.specs.declared.accepted.Accepted.TheVariants.{Established}
@@ -26,7 +27,9 @@ use Rattle.gss_acceptor.specs.declared.exchange.Unverified.{Unverified}
 use Rattle.gss_acceptor.specs.declared.mechanism.Mechanism.{Mechanism}
 use Rattle.gss_acceptor.specs.declared.judge.Judged.{Judged}
 use Rattle.gss_acceptor.specs.declared.refusal.AcceptRefusal.{AcceptRefusal}
-use Rattle.gss_acceptor.specs.declared.refusal.AcceptRefusal.TheVariants.{NoMic, OldSuite}
+use Rattle.gss_acceptor.specs.declared.refusal.AcceptRefusal.TheVariants.{NoMic, OldSuite, OtherBindings}
+use Rattle.gss_acceptor.specs.declared.checksum.InitialChecksum.{InitialChecksum}
+use Rattle.gss_acceptor.specs.declared.terms.AcceptorTerms.{AcceptorTerms}
 
 -- what follows a value that there is
 then_ok : {A B : Type 0} (r : Result A AcceptRefusal) (rest : A → Result B AcceptRefusal) (b : B) → then_judged r rest ≡ Ok b → (a : A) × (r ≡ Ok a) × (rest a ≡ Ok b)
@@ -37,41 +40,63 @@ newer : (is : Bool) (made context : ContextRecord) → ◌≡◌ {A = Result Con
 newer true made context e = same_ok made context e
 newer false made context e = absurd (cc (e))
 
--- the end of a context has this key and this number
-record IsEnd (key : KeyRecord) (number : ℕ) (context : ContextRecord) : Type 0 where
+-- the end of a context is on these terms, with this key
+record IsEnd (key : KeyRecord) (terms : ContextTerms) (context : ContextRecord) : Type 0 where
   keyed : key ≡ context.key
-  numbered : number ≡ context.taking
+  numbered : terms.numbers.taking ≡ context.taking
+  flagged : terms.acceptor_subkey ≡ context.acceptor_subkey
 
-end_of : (key : KeyRecord) (number : ℕ) (has_reply : Bool) (context : ContextRecord) → context_in key number has_reply ≡ Ok context → IsEnd key number context
-end_of key number has_reply context e =
-    let same = newer (is_newer key.suite) _ context e in
-    record { keyed = ap (λ (c : ContextRecord). c.key) same; numbered = ap (λ (c : ContextRecord). c.taking) same }
-
--- what an admission was judged by
-record IsJudgedBy (admission : AdmissionRecord) (made : Judged) : Type 0 where
-  initial : initial_in admission.checksum ≡ Ok made.initial
-  number : first_number admission.seq_number ≡ Ok made.context.taking
-  key : context_key admission.subkey admission.session ≡ Ok made.context.key
-
-judged_by : (admission : AdmissionRecord) (made : Judged) → judged admission ≡ Ok made → IsJudgedBy admission made
-judged_by admission made e =
-    let first = then_ok (initial_in admission.checksum) _ made e in
-    let second = then_ok (first_number admission.seq_number) _ made first.2 in
-    let third = then_ok (context_key admission.subkey admission.session) _ made second.2 in
-    let last = then_ok (context_in third.0 second.0 (is_some admission.reply)) _ made third.2 in
-    let whole : record { initial = first.0; context = last.0 } ≡ made = same_ok _ made last.2 in
-    let ends = end_of third.0 second.0 (is_some admission.reply) last.0 last.1 in
-    let context : last.0 ≡ made.context = ap (λ (m : Judged). m.context) whole in
+end_of : (key : KeyRecord) (terms : ContextTerms) (context : ContextRecord) → context_in key terms ≡ Ok context → IsEnd key terms context
+end_of key terms context e =
+    let same : context_of key Acceptor terms ≡ context = newer (is_newer key.suite) (context_of key Acceptor terms) context e in
     record {
-      initial = first.1 ∙ ap (λ (m : Judged). Ok m.initial) whole;
-      number = second.1 ∙ ap Ok (ends.numbered ∙ ap (λ (c : ContextRecord). c.taking) context);
-      key = third.1 ∙ ap Ok (ends.keyed ∙ ap (λ (c : ContextRecord). c.key) context);
+      keyed = ap (λ (c : ContextRecord). c.key) same;
+      numbered = ap (λ (c : ContextRecord). c.taking) same;
+      flagged = ap (λ (c : ContextRecord). c.acceptor_subkey) same;
     }
 
+-- what is bound is what was told
+bound_past : (same : Bool) (told initial : InitialChecksum) → ◌≡◌ {A = Result InitialChecksum AcceptRefusal} (if same then Ok told else Err OtherBindings) (Ok initial) → told ≡ initial
+bound_past true told initial e = cc (e)
+bound_past false told initial e = absurd (cc (e))
+
+bound_same : (bindings : Option (List ℕ)) (told initial : InitialChecksum) → bound_by bindings told ≡ Ok initial → told ≡ initial
+bound_same None told initial e = bound_past true told initial e
+bound_same (Some bindings) told initial e = bound_past _ told initial e
+
+-- what an admission was judged by
+record IsJudgedBy (words : List ℕ) (admission : AdmissionRecord) (made : Judged) : Type 0 where
+  initial : initial_in admission.checksum ≡ Ok made.initial
+  number : first_number admission.seq_number ≡ Ok made.context.taking
+  key : end_key made.context.acceptor_subkey words admission ≡ Ok made.context.key
+
+judged_by : (terms : AcceptorTerms) (skew : ℕ) (words : List ℕ) (admission : AdmissionRecord) (made : Judged) → judged terms skew words admission ≡ Ok made → IsJudgedBy words admission made
+judged_by terms skew words admission made e =
+    let told = then_ok (initial_in admission.checksum) _ made e in
+    let bound = then_ok (bound_by terms.bindings told.0) _ made told.2 in
+    let numbered = then_ok (first_number admission.seq_number) _ made bound.2 in
+    let end : ContextTerms = end_terms terms skew words admission bound.0.flags numbered.0 in
+    let last = then_ok (context_under words admission end) _ made numbered.2 in
+    let whole : record { initial = bound.0; context = last.0 } ≡ made = same_ok _ made last.2 in
+    let keyed = then_ok (end_key end.acceptor_subkey words admission) (λ key. context_in key end) last.0 last.1 in
+    let ends = end_of keyed.0 end last.0 keyed.2 in
+    let context : last.0 ≡ made.context = ap (λ (m : Judged). m.context) whole in
+    record {
+      initial = told.1 ∙ ap Ok (bound_same terms.bindings told.0 bound.0 bound.1) ∙ ap (λ (m : Judged). Ok m.initial) whole;
+      number = numbered.1 ∙ ap Ok (ends.numbered ∙ ap (λ (c : ContextRecord). c.taking) context);
+      key = subst (λ b. end_key b words admission ≡ Ok made.context.key) (ends.flagged ∙ ap (λ (c : ContextRecord). c.acceptor_subkey) context)
+          (keyed.1 ∙ ap Ok (ends.keyed ∙ ap (λ (c : ContextRecord). c.key) context));
+    }
+
+-- its key is by the choice
+key_by : (own : Bool) (choice : Choice) (words : List ℕ) (admission : AdmissionRecord) (key : KeyRecord) → TellsOf choice admission → end_key own words admission ≡ Ok key → IsKeyOf own choice key
+key_by false choice words admission key tells e = sym (λ i. context_key (tells.subkey i) (tells.session i)) ∙ e
+key_by true choice words admission key tells e = (words, sym (λ i. own_key (tells.session i) words) ∙ e)
+
 -- it is the choice's
-chosen : (choice : Choice) (admission : AdmissionRecord) (made : Judged) (established : EstablishedRecord) → TellsOf choice admission
-    → IsJudgedBy admission made → established ≡ established_of admission made → IsChosen choice established
-chosen choice admission made established tells by is = record {
+chosen : (choice : Choice) (words : List ℕ) (admission : AdmissionRecord) (made : Judged) (established : EstablishedRecord) → TellsOf choice admission
+    → IsJudgedBy words admission made → established ≡ established_of admission made → IsChosen choice established
+chosen choice words admission made established tells by is = record {
   realm = ap (λ (e : EstablishedRecord). e.realm) is ∙ tells.realm;
   client = ap (λ (e : EstablishedRecord). e.client) is ∙ tells.client;
   authtime = ap (λ (e : EstablishedRecord). e.authtime) is ∙ tells.authtime;
@@ -82,17 +107,20 @@ chosen choice admission made established tells by is = record {
   first = established.context.taking;
   number = ap first_number (sym tells.seq_number) ∙ by.number ∙ ap (λ (e : EstablishedRecord). Ok e.context.taking) (sym is);
   from_first = omega arith;
-  key = sym (λ i. context_key (tells.subkey i) (tells.session i)) ∙ by.key ∙ ap (λ (e : EstablishedRecord). Ok e.context.key) (sym is);
+  key = subst (λ (e : EstablishedRecord). IsKeyOf e.context.acceptor_subkey choice e.context.key) (sym is)
+      (key_by made.context.acceptor_subkey choice words admission made.context.key tells by.key);
 }
 
 -- an end has the key of an earlier one, and takes no number below the earlier one's
 record Follows (before after : ContextRecord) : Type 0 where
   key : after.key ≡ before.key
+  flag : after.acceptor_subkey ≡ before.acceptor_subkey
   taking : before.taking ≤ after.taking
 
 by_taking : (before after : ContextRecord) (list theirs : List ℕ) → TakesMic before after list theirs → Follows before after
 by_taking before after list theirs takes = record {
   key = ap (λ (c : ContextRecord). c.key) takes.moved;
+  flag = ap (λ (c : ContextRecord). c.acceptor_subkey) takes.moved;
   taking = let least : before.taking ≤ takes.number + 1 = omega (arith, takes.is_new) in rw takes.moved least;
 }
 
@@ -101,6 +129,7 @@ by_exchange before after list theirs own x =
     let first = by_taking before x.between list theirs x.takes in
     record {
       key = ap (λ (c : ContextRecord). c.key) x.moved ∙ first.key;
+      flag = ap (λ (c : ContextRecord). c.acceptor_subkey) x.moved ∙ first.flag;
       taking = rw x.moved first.taking;
     }
 
@@ -118,7 +147,8 @@ kept choice established after reply is follows = record {
   first = is.first;
   number = is.number;
   from_first = omega (arith, is.from_first, follows.taking);
-  key = is.key ∙ ap Ok (sym follows.key);
+  key = subst (λ (k : KeyRecord). IsKeyOf after.acceptor_subkey choice k) (sym follows.key)
+      (subst (λ b. IsKeyOf b choice established.context.key) (sym follows.flag) is.key);
 }
 
 after_mic : (choice : Choice) (established : EstablishedRecord) (supported : Option Mechanism) (list theirs : List ℕ) (accepted : Accepted)
@@ -132,7 +162,7 @@ after_demand : (choice : Choice) (established : EstablishedRecord) (supported : 
     → IsChosen choice established → Demands established supported list (Ok accepted) → IsChosenAfter choice accepted
 after_demand choice established supported list accepted is (inl (own, writes, last)) =
     let same = given accepted (awaiting (record established { context = record established.context { sending = established.context.sending + 1 } }) supported list own) last in
-    subst (IsChosenAfter choice) (sym same) (kept choice established (record established.context { sending = established.context.sending + 1 }) None is (record { key = refl; taking = omega arith }))
+    subst (IsChosenAfter choice) (sym same) (kept choice established (record established.context { sending = established.context.sending + 1 }) None is (record { key = refl; flag = refl; taking = omega arith }))
 after_demand choice established supported list accepted is (inr (cause, why, never)) = absurd (cc (never))
 
 after_none : (choice : Choice) (established : EstablishedRecord) (supported : Option Mechanism) (list : List ℕ) (required replies : Bool) (accepted : Accepted)
@@ -143,7 +173,7 @@ after_none choice established supported list true true accepted is x = after_dem
 after_none choice established supported list true false accepted is never = absurd (cc (never))
 after_none choice established supported list false replies accepted is x =
     let same = given accepted (completed established supported None) x in
-    subst (IsChosenAfter choice) (sym same) (kept choice established established.context _ is (record { key = refl; taking = omega arith }))
+    subst (IsChosenAfter choice) (sym same) (kept choice established established.context _ is (record { key = refl; flag = refl; taking = omega arith }))
 
 after_exchange : (choice : Choice) (established : EstablishedRecord) (supported : Option Mechanism) (terms : Terms) (mic : Option (List ℕ)) (accepted : Accepted)
     → IsChosen choice established
@@ -162,22 +192,23 @@ after_answer choice (Some exchange) (Ok established) accepted is x =
 after_answer choice exchange (Err refusal) accepted is never = absurd (cc (never))
 
 -- what a step admits was presented
-presented : (service after : ServiceRecord) (moment : ℕ) (admitted : List PairRecord) (message random : List ℕ) (admission : AdmissionRecord) → IsWindow service.seen admitted
-    → Admits service moment message random (Ok admission) after → (choice : Choice) × Presents service.entry.key choice message × TellsOf choice admission
+presented : (acceptor after : AcceptorRecord) (moment : ℕ) (admitted : List PairRecord) (message random : List ℕ) (admission : AdmissionRecord) → IsWindow acceptor.service.seen admitted
+    → Admits (fields_of acceptor.terms) acceptor.service moment message random (Ok admission) after.service → (choice : Choice) × Presents acceptor.service.entry.key choice message × TellsOf choice admission
 unfolding IsStep
-presented service after moment admitted message random admission window admits =
+presented acceptor after moment admitted message random admission window admits =
     let step = admits.remembers admitted window in
-    admitted_as_presented service (max service.seen.greatest moment) admitted message random admission step.0 step.1
+    presented_with (fields_of acceptor.terms) acceptor.service (max acceptor.service.seen.greatest moment) admitted message random admission step.0 step.1
 
-pub admitted : (service after : ServiceRecord) (moment : ℕ) (message random : List ℕ) (exchange : Option Exchange) (admitted : List PairRecord) (accepted : Accepted)
-    → IsWindow service.seen admitted → Takes (AdmitRequest message exchange) service moment random (Ok accepted) after
-    → (choice : Choice) × Presents service.entry.key choice message × IsChosenAfter choice accepted
-admitted service after moment message random exchange before accepted window (Ok established, inl (admission, admits, (made, so, whole)), answers) =
-    let found = presented service after moment before message random admission window admits in
-    let is : IsChosen found.0 established = chosen found.0 admission made established found.2 (judged_by admission made so) whole in
+pub admitted : (acceptor after : AcceptorRecord) (moment : ℕ) (message random : List ℕ) (exchange : Option Exchange) (admitted : List PairRecord) (accepted : Accepted)
+    → IsWindow acceptor.service.seen admitted → Takes (AdmitRequest message exchange) acceptor moment random (Ok accepted) after
+    → (choice : Choice) × Presents acceptor.service.entry.key choice message × IsChosenAfter choice accepted
+admitted acceptor after moment message random exchange before accepted window (Ok established, (same_terms, inl (admission, admits, (made, so, whole))), answers) =
+    let found = presented acceptor after moment before message random admission window admits in
+    let is : IsChosen found.0 established = chosen found.0 random admission made established found.2
+    (judged_by acceptor.terms acceptor.service.seen.skew random admission made so) whole in
     (found.0, found.1, after_answer found.0 exchange (Ok established) accepted (λ (e : EstablishedRecord) same. subst (IsChosen found.0) (same_ok established e same) is) answers)
-admitted service after moment message random exchange before accepted window (Ok established, inr (cause, admits, never), answers) = absurd (cc (never))
-admitted service after moment message random exchange before accepted window (Err refusal, x, never) = absurd (cc (never))
+admitted acceptor after moment message random exchange before accepted window (Ok established, (same_terms, inr (cause, admits, never)), answers) = absurd (cc (never))
+admitted acceptor after moment message random exchange before accepted window (Err refusal, x, never) = absurd (cc (never))
 
 pub verified : (unverified : Unverified) (theirs : List ℕ) (choice : Choice) (accepted : Accepted) → IsChosen choice unverified.established
     → IsVerified unverified theirs (Ok accepted) → IsChosenAfter choice accepted
@@ -204,13 +235,13 @@ none_carried token theirs unverified (inl (message, is, never)) = cc (never)
 none_carried token theirs unverified (inr (none_is, inl (offer, is, x))) = none_opened offer.mechanism offer.terms offer.tokens.mechanism offer.tokens.mic theirs unverified x
 none_carried token theirs unverified (inr (none_is, inr (refusal, is, never))) = cc (never)
 
-pub first : (service after : ServiceRecord) (moment : ℕ) (token random : List ℕ) (before : List PairRecord) (established : EstablishedRecord)
-    → IsWindow service.seen before → Handles (carried token) service moment random (Ok (Established established)) after
+pub first : (acceptor after : AcceptorRecord) (moment : ℕ) (token random : List ℕ) (before : List PairRecord) (established : EstablishedRecord)
+    → IsWindow acceptor.service.seen before → Handles (carried token) acceptor moment random (Ok (Established established)) after
     → (message : List ℕ) × (exchange : Option Exchange) × (carried token).gives (Ok (AdmitRequest message exchange))
-    × (choice : Choice) × Presents service.entry.key choice message × IsChosen choice established
-first service after moment token random before established window (inl (AskFor mechanism terms, is, (same, x))) = absurd (let never = given (Established established) _ x in cc (never))
-first service after moment token random before established window (inl (AdmitRequest message exchange, is, x)) =
-    let found = admitted service after moment message random exchange before (Established established) window x in
+    × (choice : Choice) × Presents acceptor.service.entry.key choice message × IsChosen choice established
+first acceptor after moment token random before established window (inl (AskFor mechanism terms, is, (same, x))) = absurd (let never = given (Established established) _ x in cc (never))
+first acceptor after moment token random before established window (inl (AdmitRequest message exchange, is, x)) =
+    let found = admitted acceptor after moment message random exchange before (Established established) window x in
     (message, exchange, is, found.0, found.1, found.2)
-first service after moment token random before established window (inl (VerifyMic unverified theirs, is, x)) = absurd (none_carried token theirs unverified is)
-first service after moment token random before established window (inr (refusal, never, same, rest)) = absurd (cc (never))
+first acceptor after moment token random before established window (inl (VerifyMic unverified theirs, is, x)) = absurd (none_carried token theirs unverified is)
+first acceptor after moment token random before established window (inr (refusal, never, same, rest)) = absurd (cc (never))

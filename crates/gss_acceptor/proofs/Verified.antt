@@ -2,12 +2,11 @@
 use Rattle.std.proofs.Common.{◌≡◌, ℕ, Bool, true, false, List, Option, None, Some, Result, Ok, Err, refl, sym, ap, subst, ◌∙◌, inl, inr, if◌then◌else◌}
 use Rattle.std.specs.Prelude.{◌+◌, is_some, not, MatchBool, MatchOption}
 use Rattle.std.specs.Option.{option_map_or}
-use Rattle.krb_service.specs.Service.{ServiceRecord}
 use Rattle.picky_asn1.specs.declared.wrapper.ObjectIdentifierAsn1.{ObjectIdentifierAsn1}
 use Rattle.gss_contexts.specs.Contexts.{ContextRecord, sender_of}
 use Rattle.gss_contexts.specs.Judging.{TakesMic}
 use Rattle.gss_acceptor.proofs.Results.{given, same_ok}
-use Rattle.gss_acceptor.specs.Accepting.{AdmitRequest, AskFor, Handles, IsAnsweredAs, Step, Takes, VerifyMic, carried, held, negotiated, next, opened_by, responded_to, resumed, to_verify}
+use Rattle.gss_acceptor.specs.Accepting.{AcceptorRecord, AdmitRequest, AskFor, Handles, IsAnsweredAs, Step, Takes, VerifyMic, carried, held, negotiated, next, opened_by, responded_to, resumed, to_verify}
 use Rattle.gss_acceptor.specs.Concluding.{Demands, ExchangesMics, IsConcludedWithout, IsGiven, IsMicAnswered, IsVerified, asking, awaiting, completed}
 use Rattle.gss_acceptor.specs.Due.{HasMic, IsDue, IsDueAfter}
 use Rattle.gss_acceptor.specs.Established.{EstablishedRecord}
@@ -89,42 +88,42 @@ due_verified unverified theirs accepted (inl (after, takes, last)) =
 due_verified unverified theirs accepted (inr (cause, why, never)) = absurd (cc (never))
 
 -- a step that a token of Kerberos in a message asks
-due_held : (service after : ServiceRecord) (moment : ℕ) (token random : List ℕ) (exchange : Exchange) (step : Step) (accepted : Accepted) → exchange.terms.required ≡ true
-    → (held token exchange).gives (Ok step) → Takes step service moment random (Ok accepted) after → IsDueAfter exchange.terms.list accepted
+due_held : (acceptor after : AcceptorRecord) (moment : ℕ) (token random : List ℕ) (exchange : Exchange) (step : Step) (accepted : Accepted) → exchange.terms.required ≡ true
+    → (held token exchange).gives (Ok step) → Takes step acceptor moment random (Ok accepted) after → IsDueAfter exchange.terms.list accepted
 unfolding held
-due_held service after moment token random exchange step accepted is (inl (message, held_is, same)) x =
-    let taken = subst (λ (s : Step). Takes s service moment random (Ok accepted) after) (same_ok step (AdmitRequest message (Some exchange)) same) x in
+due_held acceptor after moment token random exchange step accepted is (inl (message, held_is, same)) x =
+    let taken = subst (λ (s : Step). Takes s acceptor moment random (Ok accepted) after) (same_ok step (AdmitRequest message (Some exchange)) same) x in
     due_after_answer exchange taken.0 accepted is taken.2
-due_held service after moment token random exchange step accepted is (inr (none_is, never)) x = absurd (cc (never))
+due_held acceptor after moment token random exchange step accepted is (inr (none_is, never)) x = absurd (cc (never))
 
-due_token : (service after : ServiceRecord) (moment : ℕ) (random : List ℕ) (terms : Terms) (token mic : Option (List ℕ)) (step : Step) (accepted : Accepted)
+due_token : (acceptor after : AcceptorRecord) (moment : ℕ) (random : List ℕ) (terms : Terms) (token mic : Option (List ℕ)) (step : Step) (accepted : Accepted)
     → terms.required ≡ true → (responded_to terms (record { mechanism = token; mic = mic })).gives (Ok step)
-    → Takes step service moment random (Ok accepted) after → IsDueAfter terms.list accepted
-due_token service after moment random terms None mic step accepted is never x = absurd (cc (never))
-due_token service after moment random terms (Some token) mic step accepted is held_is x =
-    due_held service after moment token random (record { supported = None; terms = terms; mic = mic }) step accepted is held_is x
+    → Takes step acceptor moment random (Ok accepted) after → IsDueAfter terms.list accepted
+due_token acceptor after moment random terms None mic step accepted is never x = absurd (cc (never))
+due_token acceptor after moment random terms (Some token) mic step accepted is held_is x =
+    due_held acceptor after moment token random (record { supported = None; terms = terms; mic = mic }) step accepted is held_is x
 
-due_mic_step : (service after : ServiceRecord) (moment : ℕ) (random : List ℕ) (unverified : Unverified) (found : Result (List ℕ) AcceptRefusal) (step : Step) (accepted : Accepted)
-    → Ok step ≡ to_verify unverified found → Takes step service moment random (Ok accepted) after → IsDueAfter unverified.list accepted
-due_mic_step service after moment random unverified (Ok theirs) step accepted same x =
-    let taken = subst (λ (s : Step). Takes s service moment random (Ok accepted) after) (same_ok step (VerifyMic unverified theirs) same) x in
+due_mic_step : (acceptor after : AcceptorRecord) (moment : ℕ) (random : List ℕ) (unverified : Unverified) (found : Result (List ℕ) AcceptRefusal) (step : Step) (accepted : Accepted)
+    → Ok step ≡ to_verify unverified found → Takes step acceptor moment random (Ok accepted) after → IsDueAfter unverified.list accepted
+due_mic_step acceptor after moment random unverified (Ok theirs) step accepted same x =
+    let taken = subst (λ (s : Step). Takes s acceptor moment random (Ok accepted) after) (same_ok step (VerifyMic unverified theirs) same) x in
     due_verified unverified theirs accepted taken.1
-due_mic_step service after moment random unverified (Err refusal) step accepted never x = absurd (cc (never))
+due_mic_step acceptor after moment random unverified (Err refusal) step accepted never x = absurd (cc (never))
 
-due_stage : (service after : ServiceRecord) (moment : ℕ) (list random : List ℕ) (stage : Stage) (tokens : Tokens) (step : Step) (accepted : Accepted)
-    → IsDue list stage → (next stage tokens).gives (Ok step) → Takes step service moment random (Ok accepted) after → IsDueAfter list accepted
-due_stage service after moment list random (Token terms) tokens step accepted due is x =
-    subst (λ (l : List ℕ). IsDueAfter l accepted) due.1 (due_token service after moment random terms tokens.mechanism tokens.mic step accepted due.0 is x)
-due_stage service after moment list random (Mic unverified) tokens step accepted due is x =
-    subst (λ (l : List ℕ). IsDueAfter l accepted) due (due_mic_step service after moment random unverified (due_mic tokens) step accepted is x)
+due_stage : (acceptor after : AcceptorRecord) (moment : ℕ) (list random : List ℕ) (stage : Stage) (tokens : Tokens) (step : Step) (accepted : Accepted)
+    → IsDue list stage → (next stage tokens).gives (Ok step) → Takes step acceptor moment random (Ok accepted) after → IsDueAfter list accepted
+due_stage acceptor after moment list random (Token terms) tokens step accepted due is x =
+    subst (λ (l : List ℕ). IsDueAfter l accepted) due.1 (due_token acceptor after moment random terms tokens.mechanism tokens.mic step accepted due.0 is x)
+due_stage acceptor after moment list random (Mic unverified) tokens step accepted due is x =
+    subst (λ (l : List ℕ). IsDueAfter l accepted) due (due_mic_step acceptor after moment random unverified (due_mic tokens) step accepted is x)
 
-pub later : (service after : ServiceRecord) (moment : ℕ) (token list random : List ℕ) (negotiation : Negotiation) (accepted : Accepted)
-    → IsDue list negotiation.stage → Handles (resumed negotiation token) service moment random (Ok accepted) after → IsDueAfter list accepted
+pub later : (acceptor after : AcceptorRecord) (moment : ℕ) (token list random : List ℕ) (negotiation : Negotiation) (accepted : Accepted)
+    → IsDue list negotiation.stage → Handles (resumed negotiation token) acceptor moment random (Ok accepted) after → IsDueAfter list accepted
 unfolding resumed
-later service after moment token list random negotiation accepted due (inl (step, inl (tokens, read, is), x)) =
-    due_stage service after moment list random negotiation.stage tokens step accepted due is x
-later service after moment token list random negotiation accepted due (inl (step, inr (refusal, read, never), x)) = absurd (cc (never))
-later service after moment token list random negotiation accepted due (inr (refusal, never, same, rest)) = absurd (cc (never))
+later acceptor after moment token list random negotiation accepted due (inl (step, inl (tokens, read, is), x)) =
+    due_stage acceptor after moment list random negotiation.stage tokens step accepted due is x
+later acceptor after moment token list random negotiation accepted due (inl (step, inr (refusal, read, never), x)) = absurd (cc (never))
+later acceptor after moment token list random negotiation accepted due (inr (refusal, never, same, rest)) = absurd (cc (never))
 
 -- where MICs are due, no token is Kerberos'
 some_of : {A : Type 0} (f : A → Result Offer AcceptRefusal) (found : Option A) (offer : Offer) → Ok offer ≡ option_map_or f found (Err NoKerberos) → (a : A) × (Ok offer ≡ f a)
@@ -153,22 +152,22 @@ no_token token offer (inl (message, read, is)) required =
     none_offered listed.0.0 (tokens_of message.neg_token_init.0) offer listed.1 required
 no_token token offer (inr (none_is, never)) required = absurd (cc (never))
 
-due_asked : (service after : ServiceRecord) (moment : ℕ) (random : List ℕ) (offer : Offer) (token : Option (List ℕ)) (step : Step) (accepted : Accepted) → offer.terms.required ≡ true
-    → token ≡ None → (opened_by offer.mechanism offer.terms token offer.tokens.mic).gives (Ok step) → Takes step service moment random (Ok accepted) after
+due_asked : (acceptor after : AcceptorRecord) (moment : ℕ) (random : List ℕ) (offer : Offer) (token : Option (List ℕ)) (step : Step) (accepted : Accepted) → offer.terms.required ≡ true
+    → token ≡ None → (opened_by offer.mechanism offer.terms token offer.tokens.mic).gives (Ok step) → Takes step acceptor moment random (Ok accepted) after
     → IsDueAfter offer.terms.list accepted
-due_asked service after moment random offer None step accepted required unsaid is x =
-    let taken = subst (λ (s : Step). Takes s service moment random (Ok accepted) after) (same_ok step (AskFor offer.mechanism offer.terms) is) x in
+due_asked acceptor after moment random offer None step accepted required unsaid is x =
+    let taken = subst (λ (s : Step). Takes s acceptor moment random (Ok accepted) after) (same_ok step (AskFor offer.mechanism offer.terms) is) x in
     subst (IsDueAfter offer.terms.list) (sym (given accepted (asking offer.mechanism offer.terms) taken.1)) (required, refl)
-due_asked service after moment random offer (Some token) step accepted required never is x = absurd (cc (never))
+due_asked acceptor after moment random offer (Some token) step accepted required never is x = absurd (cc (never))
 
-pub first : (service after : ServiceRecord) (moment : ℕ) (token random : List ℕ) (offer : Offer) (accepted : Accepted)
+pub first : (acceptor after : AcceptorRecord) (moment : ℕ) (token random : List ℕ) (offer : Offer) (accepted : Accepted)
     → ((message : List ℕ) → IsApReqToken token message → ⊥) → (offered token).gives (Ok offer) → offer.terms.required ≡ true
-    → Handles (carried token) service moment random (Ok accepted) after → IsDueAfter offer.terms.list accepted
+    → Handles (carried token) acceptor moment random (Ok accepted) after → IsDueAfter offer.terms.list accepted
 unfolding carried negotiated
-first service after moment token random offer accepted none_is read required (inl (step, inl (message, is, same), x)) = absurd (none_is message is)
-first service after moment token random offer accepted none_is read required (inl (step, inr (bare, inl (other, also, is)), x)) =
+first acceptor after moment token random offer accepted none_is read required (inl (step, inl (message, is, same), x)) = absurd (none_is message is)
+first acceptor after moment token random offer accepted none_is read required (inl (step, inr (bare, inl (other, also, is)), x)) =
     let same : other ≡ offer = same_ok other offer ((offered token).one (Ok other) (Ok offer) also read) in
     let here = subst (λ (o : Offer). (opened_by o.mechanism o.terms o.tokens.mechanism o.tokens.mic).gives (Ok step)) same is in
-    due_asked service after moment random offer offer.tokens.mechanism step accepted required (no_token token offer read required) here x
-first service after moment token random offer accepted none_is read required (inl (step, inr (bare, inr (refusal, also, never)), x)) = absurd (cc (never))
-first service after moment token random offer accepted none_is read required (inr (refusal, never, same, rest)) = absurd (cc (never))
+    due_asked acceptor after moment random offer offer.tokens.mechanism step accepted required (no_token token offer read required) here x
+first acceptor after moment token random offer accepted none_is read required (inl (step, inr (bare, inr (refusal, also, never)), x)) = absurd (cc (never))
+first acceptor after moment token random offer accepted none_is read required (inr (refusal, never, same, rest)) = absurd (cc (never))

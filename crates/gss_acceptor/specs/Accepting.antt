@@ -8,12 +8,15 @@ use Rattle.krb_service.specs.Seen.{IsWindow}
 use Rattle.krb_service.specs.Admission.{AdmissionRecord}
 use Rattle.krb_ap_requests.specs.declared.refusal.AdmitRefusal.{AdmitRefusal}
 use Rattle.krb_service.specs.Service.{ServiceRecord}
-use Rattle.krb_service.specs.RememberingService.{IsStep, remembering}
+use Rattle.krb_service.specs.declared.reply.ReplyFields.{ReplyFields}
+use Rattle.gss_contexts.specs.Contexts.{ContextRecord}
+use Rattle.gss_contexts.specs.declared.terms.ContextTerms.{ContextTerms}
+use Rattle.krb_service.specs.RememberingService.{IsStep, remembering_with}
 use Rattle.decision_tables.specs.Tables.{Table, and_then, ask, done, need}
 use Rattle.gss_acceptor.specs.Answers.{ap_rep_in}
-use Rattle.gss_acceptor.specs.Checksum.{initial_in}
+use Rattle.gss_acceptor.specs.Checksum.{bound_by, initial_in}
 use Rattle.gss_acceptor.specs.Concluding.{IsAnswered, IsGiven, IsVerified, asking}
-use Rattle.gss_acceptor.specs.Contexts.{context_in, context_key, first_number}
+use Rattle.gss_acceptor.specs.Contexts.{context_in, end_key, end_terms, fields_of, first_number}
 use Rattle.gss_acceptor.specs.Established.{EstablishedRecord}
 use Rattle.gss_acceptor.specs.Negotiation.{offered}
 use Rattle.gss_acceptor.specs.Responses.{due_mic, responded}
@@ -31,9 +34,12 @@ use Rattle.gss_acceptor.specs.declared.mechanism.Mechanism.{Mechanism}
 use Rattle.gss_acceptor.specs.declared.negotiation.Offer.{Offer}
 use Rattle.gss_acceptor.specs.declared.refusal.AcceptRefusal.{AcceptRefusal}
 use Rattle.gss_acceptor.specs.declared.refusal.AcceptRefusal.TheVariants.{NotAToken, Admit, Memory}
+use Rattle.gss_acceptor.specs.declared.terms.AcceptorTerms.{AcceptorTerms}
 
+-- an acceptor: its service, and what it goes by beside it
 pub record AcceptorRecord : Type 0 where
   pub service : ServiceRecord
+  pub terms : AcceptorTerms
 
 -- what a token asks of an acceptor: to ask for Kerberos' first token; to admit an AP-REQ, which came bare or in a message of SPNEGO;
 -- or to verify the MIC of a context's initiator
@@ -87,26 +93,30 @@ next (Mic unverified) tokens = done (to_verify unverified (due_mic tokens))
 unfoldable pub resumed : Negotiation → Bytes → Table (Result Step AcceptRefusal)
 resumed negotiation token = and_then (responded token) (next negotiation.stage)
 
--- what `Service::admit` ensures
-pub record Admits (service : ServiceRecord) (moment : Micros) (message : Bytes) (random : Random) (answer : Result AdmissionRecord AdmitRefusal) (after : ServiceRecord) : Type 0 where
+-- what `Service::admit_with` ensures
+pub record Admits (fields : ReplyFields) (service : ServiceRecord) (moment : Micros) (message : Bytes) (random : Random) (answer : Result AdmissionRecord AdmitRefusal) (after : ServiceRecord) : Type 0 where
   pub greatest : after.seen.greatest ≡ max service.seen.greatest moment
   pub skew : after.seen.skew ≡ service.seen.skew
   pub rest : after ≡ record service { seen = after.seen }
   pub remembers : (admitted : List PairRecord) → IsWindow service.seen admitted
-      → IsStep (remembering service (max service.seen.greatest moment) admitted message random).gives admitted answer after.seen
+      → IsStep (remembering_with fields service (max service.seen.greatest moment) admitted message random).gives admitted answer after.seen
 
 -- what follows a value, or its refusal
 abbrev pub then_judged : {A B : Type 0} → Result A AcceptRefusal → (A → Result B AcceptRefusal) → Result B AcceptRefusal
 then_judged (Ok a) rest = rest a
 then_judged (Err refusal) rest = Err refusal
 
--- what an admission is judged by, in this order: checksum, sequence number, key, suite (RFC 4121, sections 2 and 4.1.1)
-abbrev pub judged : AdmissionRecord → Result Judged AcceptRefusal
-judged admission =
-    then_judged (initial_in admission.checksum) (λ initial.
+-- the acceptor's end on these terms, with its key
+abbrev pub context_under : Random → AdmissionRecord → ContextTerms → Result ContextRecord AcceptRefusal
+context_under words admission terms = then_judged (end_key terms.acceptor_subkey words admission) (λ key. context_in key terms)
+
+-- what an admission is judged by, in this order: checksum, channel bindings, sequence number, key, suite (RFC 4121, sections 2 and 4.1.1)
+abbrev pub judged : AcceptorTerms → Micros → Random → AdmissionRecord → Result Judged AcceptRefusal
+judged terms skew words admission =
+    then_judged (initial_in admission.checksum) (λ told.
+    then_judged (bound_by terms.bindings told) (λ initial.
     then_judged (first_number admission.seq_number) (λ number.
-    then_judged (context_key admission.subkey admission.session) (λ key.
-    then_judged (context_in key number (is_some admission.reply)) (λ context.
+    then_judged (context_under words admission (end_terms terms skew words admission initial.flags number)) (λ context.
     Ok (record { initial = initial; context = context })))))
 
 -- the context of an admission that was judged so
@@ -125,34 +135,41 @@ established_of admission made = record {
 }
 
 -- so it is established; or it is refused as it is judged, or, if it isn't, because memory ran out
-abbrev pub IsEstablished : AdmissionRecord → Result EstablishedRecord AcceptRefusal → Type 0
-IsEstablished admission (Ok established) = (made : Judged) × (judged admission ≡ Ok made) × (established ≡ established_of admission made)
-IsEstablished admission (Err refusal) = (judged admission ≡ Err refusal) ⊎ ((refusal ≡ Memory) × ((made : Judged) × (judged admission ≡ Ok made)))
+abbrev pub IsEstablished : AcceptorTerms → Micros → Random → AdmissionRecord → Result EstablishedRecord AcceptRefusal → Type 0
+IsEstablished terms skew words admission (Ok established) =
+    (made : Judged) × (judged terms skew words admission ≡ Ok made) × (established ≡ established_of admission made)
+IsEstablished terms skew words admission (Err refusal) =
+    (judged terms skew words admission ≡ Err refusal)
+    ⊎ ((refusal ≡ Memory) × ((made : Judged) × (judged terms skew words admission ≡ Ok made)))
 
 -- The service admits the AP-REQ, and the context is established. What is refused after the admission is remembered: the same token is
 -- then a replay. Test: `Refused after the admission.`.
-abbrev pub Establishes : ServiceRecord → Micros → Bytes → Random → Result EstablishedRecord AcceptRefusal → ServiceRecord → Type 0
-Establishes service moment message random result after =
-    ((admission : AdmissionRecord) × Admits service moment message random (Ok admission) after × IsEstablished admission result)
+abbrev pub Establishes : AcceptorRecord → Micros → Bytes → Random → Result EstablishedRecord AcceptRefusal → AcceptorRecord → Type 0
+Establishes acceptor moment message random result after =
+    (after.terms ≡ acceptor.terms)
+    × (((admission : AdmissionRecord)
+    × Admits (fields_of acceptor.terms) acceptor.service moment message random (Ok admission) after.service
+    × IsEstablished acceptor.terms acceptor.service.seen.skew random admission result)
     -- The service refuses the AP-REQ, also one that it admitted before (RFC 4120, section 3.2.3). Test: `The same token`,
     -- `Another service.`.
-    ⊎ ((cause : AdmitRefusal) × Admits service moment message random (Err cause) after × (result ≡ Err (Admit cause)))
+    ⊎ ((cause : AdmitRefusal) × Admits (fields_of acceptor.terms) acceptor.service moment message random (Err cause) after.service
+    × (result ≡ Err (Admit cause))))
 
 -- what was made of the AP-REQ is answered as it came
 abbrev pub IsAnsweredAs : Option Exchange → Result EstablishedRecord AcceptRefusal → Result Accepted AcceptRefusal → Type 0
 IsAnsweredAs exchange (Ok established) result = IsAnswered exchange established result
 IsAnsweredAs exchange (Err refusal) result = result ≡ Err refusal
 
--- the step is taken. Only an AP-REQ changes the service
-abbrev pub Takes : Step → ServiceRecord → Micros → Random → Result Accepted AcceptRefusal → ServiceRecord → Type 0
-Takes (AskFor mechanism terms) service moment random result after = (after ≡ service) × IsGiven (asking mechanism terms) result
-Takes (AdmitRequest message exchange) service moment random result after =
-    (made : Result EstablishedRecord AcceptRefusal) × Establishes service moment message random made after × IsAnsweredAs exchange made result
-Takes (VerifyMic unverified theirs) service moment random result after = (after ≡ service) × IsVerified unverified theirs result
+-- the step is taken. Only an AP-REQ changes the acceptor, and of it the service alone
+abbrev pub Takes : Step → AcceptorRecord → Micros → Random → Result Accepted AcceptRefusal → AcceptorRecord → Type 0
+Takes (AskFor mechanism terms) acceptor moment random result after = (after ≡ acceptor) × IsGiven (asking mechanism terms) result
+Takes (AdmitRequest message exchange) acceptor moment random result after =
+    (made : Result EstablishedRecord AcceptRefusal) × Establishes acceptor moment message random made after × IsAnsweredAs exchange made result
+Takes (VerifyMic unverified theirs) acceptor moment random result after = (after ≡ acceptor) × IsVerified unverified theirs result
 
 -- What a token asks is done. A token that asks nothing is refused as the table says, or because memory ran out, and nothing changes.
 -- Test: `What is refused of an AP-REQ bare is refused in a negotiation.`.
-abbrev pub Handles : Table (Result Step AcceptRefusal) → ServiceRecord → Micros → Random → Result Accepted AcceptRefusal → ServiceRecord → Type 0
-Handles table service moment random result after =
-    ((step : Step) × table.gives (Ok step) × Takes step service moment random result after)
-    ⊎ ((refusal : AcceptRefusal) × (result ≡ Err refusal) × (after ≡ service) × ((refusal ≡ Memory) ⊎ table.gives (Err refusal)))
+abbrev pub Handles : Table (Result Step AcceptRefusal) → AcceptorRecord → Micros → Random → Result Accepted AcceptRefusal → AcceptorRecord → Type 0
+Handles table acceptor moment random result after =
+    ((step : Step) × table.gives (Ok step) × Takes step acceptor moment random result after)
+    ⊎ ((refusal : AcceptRefusal) × (result ≡ Err refusal) × (after ≡ acceptor) × ((refusal ≡ Memory) ⊎ table.gives (Err refusal)))

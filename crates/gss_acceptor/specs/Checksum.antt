@@ -1,6 +1,6 @@
 -- The checksum of an initiator's authenticator (RFC 4121, section 4.1.1): its type is 0x8003, and it has the length 16 of the channel
 -- bindings in four octets, the lowest first, the bindings, and the flags in four octets, the lowest first.
-use Rattle.std.specs.Prelude.{◌==◌, not, nat_lt, length, take, drop, Option, None, Some, Result, Ok, Err, if◌then◌else◌}
+use Rattle.std.specs.Prelude.{◌==◌, ◌||◌, not, bytes_eq, nat_lt, length, replicate, take, drop, Option, None, Some, Result, Ok, Err, if◌then◌else◌}
 use Rattle.picky_asn1.specs.Bytes.{Bytes}
 use Rattle.picky_asn1.specs.Numbers.{is_number}
 use Rattle.byte_layouts.specs.Numbers.{le32_at}
@@ -8,11 +8,11 @@ use Rattle.krb_constants.specs.declared.cksum_types.TheConstants.{GSS_API}
 use Rattle.krb_types.specs.declared.data_types.checksum.Checksum.{Checksum}
 use Rattle.gss_acceptor.specs.declared.checksum.InitialChecksum.{InitialChecksum}
 use Rattle.gss_acceptor.specs.declared.refusal.AcceptRefusal.{AcceptRefusal}
-use Rattle.gss_acceptor.specs.declared.refusal.AcceptRefusal.TheVariants.{NoChecksum, OtherChecksum}
+use Rattle.gss_acceptor.specs.declared.refusal.AcceptRefusal.TheVariants.{NoChecksum, OtherBindings, OtherChecksum}
 
 -- what a checksum's octets say
--- Not judged: the flags and the channel bindings, which the caller gets, and the octets after the flags, as those of a delegation (RFC
--- 4121, sections 4.1.1.1 and 4.1.1.2). Test: `Octets after the flags, which aren't read.`.
+-- Not judged: the flags, which the caller gets, and the octets after the flags, as those of a delegation (RFC 4121, sections 4.1.1.1 and
+-- 4.1.1.2). Test: `Octets after the flags, which aren't read.`.
 abbrev pub initial_sum : Bytes → Result InitialChecksum AcceptRefusal
 initial_sum octets =
     -- The checksum has 24 octets or more, and its first field, the length of the channel bindings, is 16 (RFC 4121, section 4.1.1).
@@ -29,3 +29,15 @@ initial_of checksum =
 abbrev pub initial_in : Option Checksum → Result InitialChecksum AcceptRefusal
 initial_in None = Err NoChecksum
 initial_in (Some checksum) = initial_of checksum
+
+-- the initiator hands in no channel bindings (RFC 4121, section 4.1.1.2)
+abbrev pub no_bindings : Bytes
+no_bindings = replicate 16 0
+
+-- what the checksum says, by the acceptor's channel bindings
+abbrev pub bound_by : Option Bytes → InitialChecksum → Result InitialChecksum AcceptRefusal
+bound_by None initial = Ok initial
+bound_by (Some bindings) initial =
+    -- Where both sides hand in channel bindings they are the same. An initiator without any has 16 zeros (RFC 2743, section 1.1.6; RFC 4121,
+    -- section 4.1.1.2). Test: `Channel bindings`.
+    if bytes_eq initial.bindings no_bindings || bytes_eq initial.bindings bindings then Ok initial else Err OtherBindings

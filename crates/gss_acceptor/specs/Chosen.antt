@@ -1,10 +1,12 @@
 -- What an established context has of the authenticator and the ticket of the AP-REQ (RFC 4121, sections 2, 4.1.1 and 4.2; RFC 4120,
 -- section 3.2.3).
-use Rattle.std.specs.Prelude.{◌≡◌, ◌≤◌, ℕ, Ok}
+use Rattle.std.specs.Prelude.{◌≡◌, ◌≤◌, ℕ, Bool, true, false, Ok}
+use Rattle.krb_crypto.specs.Keys.{KeyRecord}
+use Rattle.krb_types.specs.RandomBytes.{Random}
 use Rattle.krb_service.specs.Admission.{checksum_of, seq_number_of, subkey_of}
 use Rattle.krb_ap_requests.specs.Presents.{Choice}
 use Rattle.gss_acceptor.specs.Checksum.{initial_in}
-use Rattle.gss_acceptor.specs.Contexts.{context_key, first_number}
+use Rattle.gss_acceptor.specs.Contexts.{context_key, first_number, own_key}
 use Rattle.gss_acceptor.specs.Established.{EstablishedRecord}
 use Rattle.gss_acceptor.specs.declared.accepted.Accepted.{Accepted}
 use Rattle.gss_acceptor.specs.declared.accepted.Accepted.TheVariants.{ContinueNeeded, Established}
@@ -12,8 +14,13 @@ use Rattle.gss_acceptor.specs.declared.accepted.Stage.{Stage}
 use Rattle.gss_acceptor.specs.declared.accepted.Stage.TheVariants.{Token, Mic}
 use Rattle.krb_service.specs.Admission.{starttime_of}
 
--- the client, the times and the ticket's flags are the ticket's; flags and bindings are the authenticator's; the key is the authenticator's subkey if it has one, or else
--- the session key. No number below the authenticator's is taken: those of a verified MIC and before it aren't, too
+-- the key is the acceptor's subkey, of the session key's suite; or else the authenticator's subkey if it has one, or else the session key
+abbrev pub IsKeyOf : Bool → Choice → KeyRecord → Type 0
+IsKeyOf false choice key = context_key (subkey_of choice.authenticator) choice.part.key.0 ≡ Ok key
+IsKeyOf true choice key = (words : Random) × (own_key choice.part.key.0 words ≡ Ok key)
+
+-- the client, the times and the ticket's flags are the ticket's; flags and bindings are the authenticator's; the key is by both. No number
+-- below the authenticator's is taken: those of a verified MIC and before it aren't, too
 pub record IsChosen (choice : Choice) (established : EstablishedRecord) : Type 0 where
   pub realm : established.realm ≡ choice.part.crealm.0
   pub client : established.client ≡ choice.part.cname.0
@@ -25,7 +32,7 @@ pub record IsChosen (choice : Choice) (established : EstablishedRecord) : Type 0
   pub first : ℕ
   pub number : first_number (seq_number_of choice.authenticator) ≡ Ok first
   pub from_first : first ≤ established.context.taking
-  pub key : context_key (subkey_of choice.authenticator) choice.part.key.0 ≡ Ok established.context.key
+  pub key : IsKeyOf established.context.acceptor_subkey choice established.context.key
 
 -- so has the context that is handed out, or that waits for the initiator's MIC
 abbrev pub IsChosenAt : Choice → Stage → Type 0

@@ -10,6 +10,7 @@ use crate::exchange::{Exchange, Terms, Tokens, Unverified, due_mic};
 use crate::negotiation::{Offer, read_offer};
 use crate::refusal::AcceptRefusal;
 use crate::response::read_response;
+use crate::terms::AcceptorTerms;
 use crate::token::ap_req_in;
 use krb_service::Service;
 use krb_time::Moment;
@@ -20,6 +21,7 @@ use std::marker::Model;
 #[derive(Drop)]
 pub struct Acceptor {
     service: Service,
+    terms: AcceptorTerms,
 }
 
 impl Model for Acceptor {
@@ -27,25 +29,26 @@ impl Model for Acceptor {
 
     ghost Value = { AcceptorRecord };
 
-    ghost view = { λ a. record { service = a.service } };
+    ghost view = { λ a. record { service = a.service; terms = a.terms } };
 }
 
 impl Acceptor {
-    /// The acceptor of a service.
-    pub fn new(service: Service) -> Acceptor
-        ensures { result ≡ record { service = service } }
+    /// The acceptor of a service, on these terms.
+    pub fn new(service: Service, terms: AcceptorTerms) -> Acceptor
+        ensures { result ≡ record { service = service; terms = terms } }
     {
-        Acceptor { service }
+        Acceptor { service, terms }
     }
 
     /// Takes an initiator's first token, at a moment: one of Kerberos (RFC 4121, section 4.1), or one of SPNEGO that offers Kerberos
-    /// (RFC 4178, section 4.2.1). `words`: random bytes, of which the first 16 count.
+    /// (RFC 4178, section 4.2.1). `words`: random bytes that no other call had, of which the first 64 count: 0 to 15 are the AP-REP's
+    /// confounder, 16 to 19 its sequence number, and 32 to 63 its subkey's seed.
     ///
     /// A token of Kerberos establishes a context. It may be in one of SPNEGO, if Kerberos is the first mechanism. If it isn't, or has
     /// no token, the answer asks for Kerberos. The context is then established by [`Acceptor::resume`].
     ///
     /// The refusals, in this order: `NotAToken` or `NoKerberos`, which leave the acceptor as it was; `Admit`; and of what the service
-    /// admits `NoChecksum`, `OtherChecksum`, `BadSequenceNumber`, `UnknownKey`, `OldSuite`, `Mic`. `Memory` comes either before the
+    /// admits `NoChecksum`, `OtherChecksum`, `OtherBindings`, `BadSequenceNumber`, `UnknownKey`, `OldSuite`, `Mic`. `Memory` comes either before the
     /// admission, and leaves the acceptor as it was, or after it. A refusal after the admission leaves the service as `Service::admit`
     /// does: the client needs a new authenticator.
     pub fn accept(
@@ -55,8 +58,8 @@ impl Acceptor {
         moment: Moment,
         words: &[u8],
     ) -> Result<Accepted, AcceptRefusal>
-        requires { 16 ≤ length words.now }
-        ensures { Handles (carried token.now) self.old.service moment words.now result self.new.service }
+        requires { 64 ≤ length words.now }
+        ensures { Handles (carried token.now) self.old moment words.now result self.new }
     {
         match ap_req_in(token) {
             Some(request) => self.admit(alloc, request, None, moment, words),
@@ -64,8 +67,8 @@ impl Acceptor {
         }
     }
 
-    /// Takes the initiator's next token, which a negotiation waits for (RFC 4178, section 4.2.2), at a moment. `words`: random bytes, of
-    /// which the first 16 count.
+    /// Takes the initiator's next token, which a negotiation waits for (RFC 4178, section 4.2.2), at a moment. `words`: random bytes, as
+    /// [`Acceptor::accept`] takes them.
     ///
     /// The first token of Kerberos establishes a context. MICs of the list of mechanisms are due if Kerberos isn't the first of them. The
     /// initiator sends its MIC with its token, or, if there is an AP-REP, may send it after the acceptor's. A context whose initiator's
@@ -80,8 +83,8 @@ impl Acceptor {
         moment: Moment,
         words: &[u8],
     ) -> Result<Accepted, AcceptRefusal>
-        requires { 16 ≤ length words.now }
-        ensures { Handles (resumed negotiation token.now) self.old.service moment words.now result self.new.service }
+        requires { 64 ≤ length words.now }
+        ensures { Handles (resumed negotiation token.now) self.old moment words.now result self.new }
     {
         match read_response(alloc, token) {
             Ok(tokens) => self.take_next(alloc, negotiation, tokens, moment, words),
@@ -100,8 +103,8 @@ impl Acceptor {
         moment: Moment,
         words: &[u8],
     ) -> Result<Accepted, AcceptRefusal>
-        requires { 16 ≤ length words.now }
-        ensures { Handles (negotiated token.now) self.old.service moment words.now result self.new.service }
+        requires { 64 ≤ length words.now }
+        ensures { Handles (negotiated token.now) self.old moment words.now result self.new }
     {
         match read_offer(alloc, token) {
             Ok(offer) => self.take_offer(alloc, offer, moment, words),
@@ -117,8 +120,8 @@ impl Acceptor {
         moment: Moment,
         words: &[u8],
     ) -> Result<Accepted, AcceptRefusal>
-        requires { 16 ≤ length words.now }
-        ensures { Handles (opened offer) self.old.service moment words.now result self.new.service }
+        requires { 64 ≤ length words.now }
+        ensures { Handles (opened offer) self.old moment words.now result self.new }
     {
         let Offer {
             mechanism,
@@ -156,8 +159,8 @@ impl Acceptor {
         moment: Moment,
         words: &[u8],
     ) -> Result<Accepted, AcceptRefusal>
-        requires { 16 ≤ length words.now }
-        ensures { Handles (next negotiation.stage tokens) self.old.service moment words.now result self.new.service }
+        requires { 64 ≤ length words.now }
+        ensures { Handles (next negotiation.stage tokens) self.old moment words.now result self.new }
     {
         match negotiation.stage {
             Stage::Token(terms) => self.take_response(alloc, terms, tokens, moment, words),
@@ -174,8 +177,8 @@ impl Acceptor {
         moment: Moment,
         words: &[u8],
     ) -> Result<Accepted, AcceptRefusal>
-        requires { 16 ≤ length words.now }
-        ensures { Handles (responded_to terms tokens) self.old.service moment words.now result self.new.service }
+        requires { 64 ≤ length words.now }
+        ensures { Handles (responded_to terms tokens) self.old moment words.now result self.new }
     {
         let Tokens { mechanism, mic } = tokens;
         let exchange = Exchange {
@@ -205,8 +208,8 @@ impl Acceptor {
         moment: Moment,
         words: &[u8],
     ) -> Result<Accepted, AcceptRefusal>
-        requires { 16 ≤ length words.now }
-        ensures { Handles (held token.now exchange) self.old.service moment words.now result self.new.service }
+        requires { 64 ≤ length words.now }
+        ensures { Handles (held token.now exchange) self.old moment words.now result self.new }
     {
         match ap_req_in(token) {
             Some(request) => self.admit(alloc, request, Some(exchange), moment, words),
@@ -226,8 +229,8 @@ impl Acceptor {
         moment: Moment,
         words: &[u8],
     ) -> Result<Accepted, AcceptRefusal>
-        requires { 16 ≤ length words.now }
-        ensures { Takes (AdmitRequest request.now exchange) self.old.service moment words.now result self.new.service }
+        requires { 64 ≤ length words.now }
+        ensures { Takes (AdmitRequest request.now exchange) self.old moment words.now result self.new }
     {
         match self.establish(alloc, request, moment, words) {
             Ok(established) => answered(alloc, established, exchange),
@@ -246,11 +249,16 @@ impl Acceptor {
         moment: Moment,
         words: &[u8],
     ) -> Result<Established, AcceptRefusal>
-        requires { 16 ≤ length words.now }
-        ensures { Establishes self.old.service moment request.now words.now result self.new.service }
+        requires { 64 ≤ length words.now }
+        ensures { Establishes self.old moment request.now words.now result self.new }
     {
-        match self.service.admit(alloc, request, moment, words) {
-            Ok(admission) => established_by(alloc, admission),
+        let skew = self.service.seen().skew();
+        let fields = self.terms.fields();
+        match self
+            .service
+            .admit_with(alloc, request, moment, fields, words)
+        {
+            Ok(admission) => established_by(alloc, &self.terms, skew, words, admission),
             Err(cause) => Err(AcceptRefusal::Admit(cause)),
         }
     }

@@ -1,7 +1,7 @@
 //! The checksum of an initiator's authenticator (RFC 4121, section 4.1.1).
 ghost use Rattle.std.specs.Prelude.{◌≡◌, not, nat_eq};
 ghost use Rattle.std.specs.Int.Bits.{bit_and};
-ghost use Rattle.gss_acceptor.specs.Checksum.{initial_in, initial_of, initial_sum};
+ghost use Rattle.gss_acceptor.specs.Checksum.{bound_by, initial_in, initial_of, initial_sum};
 
 use crate::refusal::AcceptRefusal;
 use byte_layouts::{array_at, u32_le};
@@ -31,7 +31,7 @@ impl ContextFlags {
 /// The channel bindings and flags that the initiator chose for the context, of its authenticator's checksum (RFC 4121, section 4.1.1).
 #[derive(Clone, Copy, Debug, PartialEq, Eq)]
 pub struct InitialChecksum {
-    /// The hash of the channel bindings, or zeros (RFC 4121, section 4.1.1.2). It isn't judged.
+    /// The hash of the channel bindings, or zeros (RFC 4121, section 4.1.1.2).
     pub bindings: [u8; 16],
     /// The flags.
     pub flags: ContextFlags,
@@ -70,4 +70,21 @@ fn initial_sum(octets: &[u8]) -> Result<InitialChecksum, AcceptRefusal>
     let bindings = array_at::<16>(octets, 4);
     let flags = ContextFlags(u32_le(octets, 20));
     Ok(InitialChecksum { bindings, flags })
+}
+
+/// Judges the initiator's channel bindings by the acceptor's. They have to be the same where both sides have some.
+pub(crate) fn bound_by(
+    bindings: &Option<[u8; 16]>,
+    initial: InitialChecksum,
+) -> Result<InitialChecksum, AcceptRefusal>
+    ensures { result ≡ bound_by bindings.now initial }
+{
+    let Some(bindings) = bindings else {
+        return Ok(initial);
+    };
+    let own = initial.bindings.as_slice();
+    if own == [0; 16].as_slice() || own == bindings.as_slice() {
+        return Ok(initial);
+    }
+    Err(AcceptRefusal::OtherBindings)
 }

@@ -1,5 +1,5 @@
 //! Contexts that are established.
-ghost use Rattle.std.specs.Prelude.{◌≡◌, IfOk, IfErr};
+ghost use Rattle.std.specs.Prelude.{◌≡◌, ◌≤◌, length, IfOk, IfErr};
 ghost use Rattle.std.specs.Option.{option_map};
 ghost use Rattle.gss_acceptor.specs.Accepting.{IsEstablished, established_of};
 ghost use Rattle.gss_acceptor.specs.declared.refusal.AcceptRefusal.TheVariants.{Memory};
@@ -8,6 +8,7 @@ use crate::answer::ap_rep_in;
 use crate::checksum::{ContextFlags, InitialChecksum};
 use crate::judge::{Judged, judge};
 use crate::refusal::AcceptRefusal;
+use crate::terms::AcceptorTerms;
 use gss_contexts::Context;
 use krb_service::Admission;
 use krb_types::data_types::{KerberosFlags, PrincipalName, Realm};
@@ -17,7 +18,8 @@ use std::marker::Model;
 
 /// A context that is established: the client, its ticket's times and flags, the flags that it asks for, and the acceptor's end.
 ///
-/// A context doesn't end with its ticket. A caller that requires this compares `endtime` with the clock (`Moment::is_after`).
+/// A context's tokens don't end with its ticket. A caller that requires this asks `Context::check_end` before each token: it refuses past the
+/// ticket's endtime with the service's skew.
 #[derive(Drop)]
 pub struct Established {
     /// The client's realm.
@@ -32,10 +34,11 @@ pub struct Established {
     pub endtime: GeneralizedTime,
     /// The ticket's flags, which `krb_constants::ticket_flags` numbers (RFC 4120, section 5.3).
     pub ticket_flags: KerberosFlags,
-    /// The hash of the channel bindings, or zeros (RFC 4121, section 4.1.1.2). It isn't judged.
+    /// The hash of the initiator's channel bindings, or zeros (RFC 4121, section 4.1.1.2). It was judged only if the acceptor has some.
     pub bindings: [u8; 16],
-    /// The flags that the initiator asks for. They change nothing here. Where the flag of mutual authentication and the AP-REQ's
-    /// option mutual-required differ, the option decides whether there is an AP-REP. Each context protects messages in both ways.
+    /// The flags that the initiator asks for. By that of sequencing the context takes no token after a gap. Where the flag of mutual
+    /// authentication and the AP-REQ's option mutual-required differ, the option decides whether there is an AP-REP. Each context
+    /// protects messages in both ways.
     pub flags: ContextFlags,
     /// The acceptor's end of the context.
     pub context: Context,
@@ -63,14 +66,20 @@ impl Model for Established {
     } };
 }
 
-/// The context that an admission establishes, with the token of its AP-REP, if there is one.
+/// The context that an admission establishes, with the token of its AP-REP, if there is one. `words`: random bytes, of which the first 64
+/// count.
 pub(crate) fn established_by(
     alloc: Global,
+    terms: &AcceptorTerms,
+    skew: u64,
+    words: &[u8],
     admission: Admission,
 ) -> Result<Established, AcceptRefusal>
-    ensures { IsEstablished admission result }
+    requires skew { skew ≤ 86400000000 }
+    requires enough { 64 ≤ length words.now }
+    ensures { IsEstablished terms.now skew words.now admission result }
 {
-    match judge(&admission) {
+    match judge(terms, skew, words, &admission) {
         Ok(judged) => answered(alloc, admission, judged),
         Err(refusal) => {
             drop(admission);

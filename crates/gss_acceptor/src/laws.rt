@@ -3,8 +3,7 @@ ghost use Rattle.std.specs.Prelude.{◌≡◌, ℕ, List, Option, Ok, true};
 ghost use Rattle.krb_ap_requests.specs.Presents.{Choice, Presents};
 ghost use Rattle.krb_service.specs.Pair.{PairRecord};
 ghost use Rattle.krb_service.specs.Seen.{IsWindow};
-ghost use Rattle.krb_service.specs.Service.{ServiceRecord};
-ghost use Rattle.gss_acceptor.specs.Accepting.{AdmitRequest, Handles, Takes, VerifyMic, carried, resumed};
+ghost use Rattle.gss_acceptor.specs.Accepting.{AcceptorRecord, AdmitRequest, Handles, Takes, VerifyMic, carried, resumed};
 ghost use Rattle.gss_acceptor.specs.Chosen.{IsChosen, IsChosenAfter};
 ghost use Rattle.gss_acceptor.specs.Due.{IsDue, IsDueAfter};
 ghost use Rattle.gss_acceptor.specs.Established.{EstablishedRecord};
@@ -18,19 +17,20 @@ ghost use Rattle.gss_acceptor.specs.declared.exchange.Unverified.{Unverified};
 ghost use Rattle.gss_acceptor.specs.declared.negotiation.Offer.{Offer};
 
 /// The token of an established context holds an AP-REQ that a client presented, sealed under the service's key and the
-/// session key, and the context has what the client chose: its name, its ticket's times and flags, the flags and
-/// bindings, the key and the sequence number. So has a context that waits for its initiator's MIC, and what is handed
-/// out when the MIC was verified. It does nothing when it runs: its contract is the law.
+/// session key. The context has what the client chose: its name, its ticket's times and flags, the flags and bindings, and
+/// the sequence number. Its key is the client's, or the acceptor's subkey of the session key's suite. So has a context that
+/// waits for its initiator's MIC, and what is handed out when the MIC was verified. It does nothing when it runs: its
+/// contract is the law.
 pub fn established_as_presented()
-    ensures first { (service after : ServiceRecord) (moment : ℕ) (token random : List ℕ) (admitted : List PairRecord) (established : EstablishedRecord)
-        → IsWindow service.seen admitted → Handles (carried token) service moment random (Ok (Established established)) after
+    ensures first { (acceptor after : AcceptorRecord) (moment : ℕ) (token random : List ℕ) (admitted : List PairRecord) (established : EstablishedRecord)
+        → IsWindow acceptor.service.seen admitted → Handles (carried token) acceptor moment random (Ok (Established established)) after
         → (message : List ℕ) × (exchange : Option Exchange) × (carried token).gives (Ok (AdmitRequest message exchange))
-        × (choice : Choice) × Presents service.entry.key choice message × IsChosen choice established }
-    ensures admitted { (service after : ServiceRecord) (moment : ℕ) (message random : List ℕ) (exchange : Option Exchange) (admitted : List PairRecord) (accepted : Accepted)
-        → IsWindow service.seen admitted → Takes (AdmitRequest message exchange) service moment random (Ok accepted) after
-        → (choice : Choice) × Presents service.entry.key choice message × IsChosenAfter choice accepted }
-    ensures verified { (service after : ServiceRecord) (moment : ℕ) (theirs random : List ℕ) (unverified : Unverified) (choice : Choice) (accepted : Accepted)
-        → IsChosen choice unverified.established → Takes (VerifyMic unverified theirs) service moment random (Ok accepted) after
+        × (choice : Choice) × Presents acceptor.service.entry.key choice message × IsChosen choice established }
+    ensures admitted { (acceptor after : AcceptorRecord) (moment : ℕ) (message random : List ℕ) (exchange : Option Exchange) (admitted : List PairRecord) (accepted : Accepted)
+        → IsWindow acceptor.service.seen admitted → Takes (AdmitRequest message exchange) acceptor moment random (Ok accepted) after
+        → (choice : Choice) × Presents acceptor.service.entry.key choice message × IsChosenAfter choice accepted }
+    ensures verified { (acceptor after : AcceptorRecord) (moment : ℕ) (theirs random : List ℕ) (unverified : Unverified) (choice : Choice) (accepted : Accepted)
+        → IsChosen choice unverified.established → Takes (VerifyMic unverified theirs) acceptor moment random (Ok accepted) after
         → IsChosenAfter choice accepted }
 {}
 
@@ -38,10 +38,10 @@ pub fn established_as_presented()
 /// was verified, as the initiator makes it under the context's key. Who changes the list on its way needs that key. It
 /// does nothing.
 pub fn established_under_mic()
-    ensures first { (service after : ServiceRecord) (moment : ℕ) (token random : List ℕ) (offer : Offer) (accepted : Accepted)
+    ensures first { (acceptor after : AcceptorRecord) (moment : ℕ) (token random : List ℕ) (offer : Offer) (accepted : Accepted)
         → ((message : List ℕ) → IsApReqToken token message → ⊥) → (offered token).gives (Ok offer) → offer.terms.required ≡ true
-        → Handles (carried token) service moment random (Ok accepted) after → IsDueAfter offer.terms.list accepted }
-    ensures later { (service after : ServiceRecord) (moment : ℕ) (token list random : List ℕ) (negotiation : Negotiation) (accepted : Accepted)
-        → IsDue list negotiation.stage → Handles (resumed negotiation token) service moment random (Ok accepted) after
+        → Handles (carried token) acceptor moment random (Ok accepted) after → IsDueAfter offer.terms.list accepted }
+    ensures later { (acceptor after : AcceptorRecord) (moment : ℕ) (token list random : List ℕ) (negotiation : Negotiation) (accepted : Accepted)
+        → IsDue list negotiation.stage → Handles (resumed negotiation token) acceptor moment random (Ok accepted) after
         → IsDueAfter list accepted }
 {}

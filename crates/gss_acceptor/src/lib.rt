@@ -2,9 +2,9 @@
 //! service that admits each request once.
 //!
 //! `Acceptor::accept` and `Acceptor::resume` do what the table of tokens says, and refuse what it refuses (`Handles`). An AP-REQ makes a
-//! context if and only if `Service::admit` admits it and the admission fits a context, unless memory runs out (`Establishes`, `judged`).
-//! The context has the name, times, flags, bindings and key that the client presented (law `established_as_presented`). Where SPNEGO
-//! doesn't offer Kerberos first, a context is handed out only after the initiator's MIC was verified (law `established_under_mic`).
+//! context if and only if `Service::admit_with` admits it and the admission fits a context, unless memory runs out (`Establishes`,
+//! `judged`). The context has the name, times, flags and bindings that the client presented, and its key or the acceptor's subkey (law
+//! `established_as_presented`). Where SPNEGO doesn't offer Kerberos first, a context is handed out only after the initiator's MIC was verified (law `established_under_mic`).
 #![tactic(auto)]
 
 mod accepted;
@@ -23,6 +23,7 @@ mod mechanism;
 mod negotiation;
 mod refusal;
 mod response;
+mod terms;
 mod token;
 
 pub use accepted::{Accepted, Continuation, Negotiation};
@@ -35,4 +36,5 @@ pub use elements::{element_of, joined, octets_in};
 pub use established::Established;
 pub use mechanism::{Mechanism, kerberos_in};
 pub use refusal::AcceptRefusal;
+pub use terms::AcceptorTerms;
 pub use token::{AP_REP_FRONT, AP_REQ_FRONT, content_of};

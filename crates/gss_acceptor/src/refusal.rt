@@ -30,6 +30,10 @@ pub enum AcceptRefusal {
     #[error("the authenticator's checksum of type 0x8003 is malformed")]
     OtherChecksum,
 
+    /// The initiator's channel bindings differ from the acceptor's (GSS_S_BAD_BINDINGS of RFC 2743, section 1.1.6).
+    #[error("the initiator's channel bindings differ from the acceptor's")]
+    OtherBindings,
+
     /// The authenticator's sequence number doesn't fit 32 bits.
     #[error("the sequence number doesn't fit 32 bits")]
     BadSequenceNumber,

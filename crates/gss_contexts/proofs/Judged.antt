@@ -1,8 +1,8 @@
 -- Tokens whose headers are the peer's.
-use Rattle.std.proofs.Common.{◌≡◌, ℕ, ◌+◌, ◌^◌, ◌≤◌, ◌<◌, List, [], ◌∷◌, ◌++◌, length, get_or, take, drop, Bool, true, false, bytes_eq, refl, ap, sym, subst, ◌∙◌, arith}
+use Rattle.std.proofs.Common.{◌≡◌, ℕ, ◌+◌, ◌^◌, ◌≤◌, ◌<◌, List, [], ◌∷◌, ◌++◌, length, get_or, take, drop, Bool, true, false, bytes_eq, nat_lt, ◌&&◌, refl, ap, sym, subst, ◌∙◌, arith}
 use Rattle.std.proofs.lemmas.List.{get_or-drop}
 use Rattle.std.proofs.lemmas.Bool.{and_parts, leb-true, false≢true}
-use Rattle.std.proofs.lemmas.Bool.Decides.{Decides-eqb}
+use Rattle.std.proofs.lemmas.Bool.Decides.{Decides-eqb, nat_tests}
 use Rattle.std.proofs.lemmas.Slice.Eq.{bytes_eq-Decides}
 use Rattle.std.specs.Bool.{beq}
 use Rattle.byte_layouts.specs.Parts.{part, Stands}
@@ -25,6 +25,11 @@ other_flag true Initiator differs = refl
 other_flag false Initiator differs = absurd (false≢true (sym differs))
 other_flag true Acceptor differs = absurd (false≢true (sym differs))
 other_flag false Acceptor differs = refl
+
+-- a number that leaves none out is the next one, in sequence
+pub no_gap_left : (in_sequence : Bool) (taking number : ℕ) → (in_sequence && nat_lt taking number) ≡ false → taking ≤ number → in_sequence ≡ true → number ≡ taking
+no_gap_left true taking number none is_new e = grind (arith, nat_tests)
+no_gap_left false taking number none is_new e = absurd (false≢true e)
 
 -- the protection that a flag says
 sealed_again : (flag : Bool) → flag ≡ is_sealed (protection_of flag)
@@ -120,6 +125,7 @@ takes_wrap c new s p message token number is_peer is_flagged bytes is peers x on
     let carried = subst (λ q. IsCarried (peer c) q x.0 message token) is_flagged (subst (λ t. IsCarried t p x.0 message token) is_peer x.1) in
     record {
       is_new = peers.is_new;
+      in_order = peers.in_order;
       followed = peers.followed;
       confounder = x.0;
       is_wrap_of = subst (λ q. IsWrapOf (peer c) number q x.0 message token) (sym is_flagged) (wrap_taken c x.0 message token number bytes is peers carried);

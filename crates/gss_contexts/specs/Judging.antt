@@ -6,10 +6,10 @@ use Rattle.byte_layouts.specs.Parts.{part, Stands}
 use Rattle.aes_cts.specs.declared.error.KerberosCryptoError.{KerberosCryptoError}
 use Rattle.aes_cts.specs.declared.error.KerberosCryptoError.TheVariants as crypto
 use Rattle.krb_crypto.specs.Sealing.{IsSealedBy}
-use Rattle.gss_contexts.specs.Contexts.{ContextRecord, peer, last_number}
+use Rattle.gss_contexts.specs.Contexts.{ContextRecord, IsInOrder, is_gap, peer, last_number}
 use Rattle.gss_contexts.specs.Tokens.{is_acceptor, is_set, rotated_right, seal_usage, Carries, IsMicOf, IsWrapOf}
 use Rattle.gss_contexts.specs.declared.refusal.TokenRefusal.{TokenRefusal}
-use Rattle.gss_contexts.specs.declared.refusal.TokenRefusal.TheVariants.{NoSuchToken, OwnDirection, OtherKey, OldNumber, NumbersUsedUp, WrongChecksum, OtherHeader, Memory}
+use Rattle.gss_contexts.specs.declared.refusal.TokenRefusal.TheVariants.{NoSuchToken, OwnDirection, OtherKey, OldNumber, Gap, NumbersUsedUp, WrongChecksum, OtherHeader, Memory}
 use Rattle.gss_contexts.specs.declared.sender.Sender.{Sender}
 use Rattle.gss_contexts.specs.declared.side.Protection.{Protection}
 use Rattle.gss_contexts.specs.declared.side.Protection.TheVariants.{Sealed, Checksum}
@@ -40,15 +40,19 @@ judged c is_token token =
     -- The sequence number is the least that is taken, or a higher one: numbers may be left out (RFC 4121, section 4.2.1). Test: `unwrap
     -- OldNumber`, `verify_mic OldNumber`.
     else if nat_lt (be64_at 8 token) c.taking then Err OldNumber
+    -- Where the initiator asked for sequencing, the sequence number is the next one (RFC 2743, section 1.2.3, GSS_S_GAP_TOKEN). Test:
+    -- `unwrap Gap`, `verify_mic Gap`.
+    else if is_gap c (be64_at 8 token) then Err Gap
     -- The sequence number isn't the last of 64 bits, which none follows. Test: `unwrap NumbersUsedUp`, `verify_mic NumbersUsedUp`.
     else if nat_eq (be64_at 8 token) last_number then Err NumbersUsedUp
     else Ok (be64_at 8 token)
 
--- the header is the peer's, with a number that isn't old and isn't the last
+-- the header is the peer's, with a number that isn't old, isn't the last, and in sequence is the next one
 pub record IsPeersHeader (c : ContextRecord) (token : List ℕ) (number : ℕ) : Type 0 where
   pub by_acceptor : is_set (slice_index token 2) 1 ≡ is_acceptor (peer c).side
   pub under_subkey : is_set (slice_index token 2) 4 ≡ c.acceptor_subkey
   pub is_new : c.taking ≤ number
+  pub in_order : IsInOrder c number
   pub followed : number < last_number
   pub stands : Stands (part 8 (be64 number)) token
 
@@ -56,6 +60,7 @@ pub record IsPeersHeader (c : ContextRecord) (token : List ℕ) (number : ℕ) :
 pub record TakesMic (c new : ContextRecord) (message token : List ℕ) : Type 0 where
   pub number : ℕ
   pub is_new : c.taking ≤ number
+  pub in_order : IsInOrder c number
   pub followed : number < last_number
   pub is_mic_of : IsMicOf (peer c) number message token
   pub moved : new ≡ record c { taking = number + 1 }
@@ -71,6 +76,7 @@ IsMicRefusal c message token e =
 -- the end takes the wrap token: it is the peer's, of this message and no other, with this number, which isn't old
 pub record TakesWrap (c new : ContextRecord) (token : List ℕ) (number : ℕ) (protection : Protection) (message : List ℕ) : Type 0 where
   pub is_new : c.taking ≤ number
+  pub in_order : IsInOrder c number
   pub followed : number < last_number
   pub confounder : List ℕ
   pub is_wrap_of : IsWrapOf (peer c) number protection confounder message token

@@ -1,7 +1,7 @@
 //! One end of a context.
 ghost use Rattle.std.specs.Prelude.{◌≡◌, ◌+◌, ◌≤◌, ◌⊎◌, length, take, Err, IfOk, IfErr, IsTrue};
 ghost use Rattle.krb_crypto.specs.declared.suite.CipherSuite.TheVariants.{Des3CbcSha1Kd};
-ghost use Rattle.gss_contexts.specs.Contexts.{last_number, next_of, sender_of};
+ghost use Rattle.gss_contexts.specs.Contexts.{context_of, is_gap, last_number, lasting, next_of, sender_of};
 ghost use Rattle.gss_contexts.specs.Judging.{IsMicRefusal, IsPeersHeader, IsWrapRefusal, TakesMic, TakesWrap, judged};
 ghost use Rattle.gss_contexts.specs.Tokens.{WritesMic, WritesWrap};
 ghost use Rattle.gss_contexts.specs.declared.refusal.TokenRefusal.TheVariants.{Memory, NumbersUsedUp, OldSuite};
@@ -10,25 +10,20 @@ use crate::header::{ACCEPTOR_SUBKEY, SENT_BY_ACCEPTOR, is_mic, is_set, is_wrap, 
 use crate::refusal::TokenRefusal;
 use crate::sender::Sender;
 use crate::side::{Protection, Side};
+use crate::terms::{ContextTerms, SequenceNumbers};
 use byte_layouts::u64_be;
 use krb_crypto::{CipherSuite, Key};
+use krb_time::Moment;
 use std::alloc::Global;
 use std::marker::Model;
 
-/// The sequence numbers of one end (RFC 4121, section 4.2.1). Numbers may be left out, and a lower one is old.
-#[derive(Clone, Copy, Debug, PartialEq, Eq)]
-pub struct SequenceNumbers {
-    /// The number of the next token that is sent.
-    pub sending: u64,
-    /// The least number of a token that is taken.
-    pub taking: u64,
-}
-
-/// One end of a context: the key that protects its tokens, its side and its sequence numbers (RFC 4121, section 4.2). A
-/// contract sees these.
+/// One end of a context: the key that protects its tokens, its side, whether its numbers are in sequence, its end, and its sequence
+/// numbers (RFC 4121, section 4.2). A contract sees these.
 #[derive(Drop)]
 pub struct Context {
     sender: Sender,
+    in_sequence: bool,
+    ends: Option<u64>,
     numbers: SequenceNumbers,
 }
 
@@ -42,6 +37,8 @@ impl Model for Context {
       key = c.sender.key;
       side = c.sender.side;
       acceptor_subkey = c.sender.acceptor_subkey;
+      in_sequence = c.in_sequence;
+      ends = c.ends;
       sending = c.numbers.sending;
       taking = c.numbers.taking;
     } };
@@ -71,16 +68,11 @@ fn next_number(number: u64) -> Result<u64, TokenRefusal>
 }
 
 impl Context {
-    /// An end of a context. `acceptor_subkey` says whether the key is the acceptor's subkey (RFC 4121, section 4.2.2).
+    /// An end of a context, on these terms.
     ///
     /// Triple DES is refused (`OldSuite`), since its tokens are those of RFC 1964.
-    pub fn new(
-        key: Key,
-        side: Side,
-        acceptor_subkey: bool,
-        numbers: SequenceNumbers,
-    ) -> Result<Context, TokenRefusal>
-        ensures made { IfOk result (λ c. c ≡ record { key = key; side = side; acceptor_subkey = acceptor_subkey; sending = numbers.sending; taking = numbers.taking }) }
+    pub fn new(key: Key, side: Side, terms: ContextTerms) -> Result<Context, TokenRefusal>
+        ensures made { IfOk result (λ c. c ≡ context_of key side terms) }
         ensures refused { IfErr result (λ e. (e ≡ OldSuite) × (key.suite ≡ Des3CbcSha1Kd)) }
         ensures old_suite { key.suite ≡ Des3CbcSha1Kd → result ≡ Err OldSuite }
     {
@@ -90,9 +82,28 @@ impl Context {
         let sender = Sender {
             key,
             side,
-            acceptor_subkey,
+            acceptor_subkey: terms.acceptor_subkey,
         };
-        Ok(Context { sender, numbers })
+        Ok(Context {
+            sender,
+            in_sequence: terms.in_sequence,
+            ends: terms.ends,
+            numbers: terms.numbers,
+        })
+    }
+
+    /// Refuses a context that is over at this moment (`ContextExpired`; GSS_S_CONTEXT_EXPIRED of RFC 2743, section 1.2.1.1). A caller for
+    /// whom a context ends with its ticket asks this before each token. No other call judges the end.
+    pub fn check_end(&self, moment: Moment) -> Result<(), TokenRefusal>
+        ensures { result ≡ lasting self.now.ends moment }
+    {
+        let Some(end) = self.ends else {
+            return Ok(());
+        };
+        if end < moment.micros() {
+            return Err(TokenRefusal::ContextExpired);
+        }
+        Ok(())
     }
 
     /// The sequence numbers of the next tokens.
@@ -103,6 +114,13 @@ impl Context {
         ensures { result ≡ record { sending = self.now.sending; taking = self.now.taking } }
     {
         self.numbers
+    }
+
+    // Whether the numbers are in sequence, and a token of this number leaves some out.
+    fn leaves_gap(&self, number: u64) -> bool
+        ensures { result ≡ is_gap self.now number }
+    {
+        self.in_sequence && self.numbers.taking < number
     }
 
     // Returns the number of a token whose header is the peer's.
@@ -125,6 +143,9 @@ impl Context {
         let number = u64_be(token, 8);
         if number < self.numbers.taking {
             return Err(TokenRefusal::OldNumber);
+        }
+        if self.leaves_gap(number) {
+            return Err(TokenRefusal::Gap);
         }
         if number == u64::MAX {
             return Err(TokenRefusal::NumbersUsedUp);
@@ -150,7 +171,7 @@ impl Context {
     /// Takes the peer's MIC token of a message (RFC 4121, section 4.2.6.1). Only higher numbers are taken after it. The token's
     /// number is one less than the least number that [`Context::numbers`] has after the call.
     ///
-    /// The refusals, in this order: `NoSuchToken`, `OwnDirection`, `OtherKey`, `OldNumber`, `NumbersUsedUp`, `Memory`,
+    /// The refusals, in this order: `NoSuchToken`, `OwnDirection`, `OtherKey`, `OldNumber`, `Gap`, `NumbersUsedUp`, `Memory`,
     /// `WrongChecksum`. A refused call changes nothing.
     pub fn verify_mic(
         &mut self,
@@ -198,7 +219,7 @@ impl Context {
     /// Takes the message of the peer's wrap token (RFC 4121, section 4.2.6.2). Any RRC is undone. Only higher numbers are
     /// taken after it.
     ///
-    /// The refusals, in this order: `NoSuchToken`, `OwnDirection`, `OtherKey`, `OldNumber`, `NumbersUsedUp`, `Memory`,
+    /// The refusals, in this order: `NoSuchToken`, `OwnDirection`, `OtherKey`, `OldNumber`, `Gap`, `NumbersUsedUp`, `Memory`,
     /// `WrongChecksum`, `OtherHeader`. A refused call changes nothing.
     pub fn unwrap(&mut self, alloc: Global, token: &[u8]) -> Result<Unwrapped, TokenRefusal>
         ensures taken { IfOk result (λ u. TakesWrap self.old self.new token.now u.sequence_number u.protection u.message.items) }

@@ -20,6 +20,9 @@ pub enum TokenRefusal {
     /// The sequence number is below the least one that is taken.
     #[error("the sequence number is old")]
     OldNumber,
+    /// Tokens are missing before this one, of a context in sequence.
+    #[error("tokens are missing before this one")]
+    Gap,
     /// The sequence number is the last one of 64 bits.
     #[error("the sequence numbers are used up")]
     NumbersUsedUp,
@@ -29,6 +32,9 @@ pub enum TokenRefusal {
     /// The plaintext does not end with filler of EC octets and the token's header.
     #[error("what is sealed does not end with the filler and the token's header")]
     OtherHeader,
+    /// The context is over.
+    #[error("the context is over")]
+    ContextExpired,
     /// Triple DES, whose tokens are those of RFC 1964.
     #[error("the suite has no such tokens")]
     OldSuite,

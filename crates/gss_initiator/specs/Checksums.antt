@@ -34,3 +34,7 @@ is_beyond flags = is_set flags.0 1 || nat_le 64 flags.0
 -- the initiator asks for an AP-REP (RFC 4121, section 4.1.1.1)
 abbrev pub is_mutual : ContextFlags → Bool
 is_mutual flags = is_set flags.0 2
+
+-- the initiator asks for sequencing (RFC 4121, section 4.1.1.1)
+abbrev pub is_in_sequence : ContextFlags → Bool
+is_in_sequence flags = is_set flags.0 8

@@ -1,12 +1,12 @@
 -- The initiator's end of a context (RFC 4121, sections 2 and 4.2).
-use Rattle.std.specs.Prelude.{ℕ, ℤ, true, false, Option, None, Some, Result, Ok, Err, if◌then◌else◌}
+use Rattle.std.specs.Prelude.{ℕ, ℤ, Bool, true, false, Option, None, Some, Result, Ok, Err, if◌then◌else◌}
 use Rattle.std.specs.Option.{option_map}
 use Rattle.krb_crypto.specs.Keys.{KeyRecord}
 use Rattle.krb_encrypted_data.specs.Keys.{key_in}
 use Rattle.krb_types.specs.declared.data_types.enc_ap_rep_part.EncApRepPartInner.{EncApRepPartInner}
 use Rattle.krb_types.specs.declared.data_types.encryption_key.EncryptionKey.{EncryptionKey}
-use Rattle.gss_contexts.specs.Contexts.{ContextRecord, is_newer}
-use Rattle.gss_contexts.specs.declared.context.SequenceNumbers.{SequenceNumbers}
+use Rattle.gss_contexts.specs.Contexts.{ContextRecord, context_of, is_newer}
+use Rattle.gss_contexts.specs.declared.terms.SequenceNumbers.{SequenceNumbers}
 use Rattle.gss_contexts.specs.declared.side.Side.TheVariants.{Initiator}
 use Rattle.gss_acceptor.specs.Contexts.{number_of}
 use Rattle.gss_initiator.specs.declared.initiated.Pending.{Pending}
@@ -24,23 +24,23 @@ abbrev pub or_refused : {A : Type 0} → Option A → InitiateRefusal → Result
 or_refused (Some a) refusal = Ok a
 or_refused None refusal = Err refusal
 
--- an end with this key
-abbrev pub context_in : ContextKey → SequenceNumbers → Result ContextRecord InitiateRefusal
-context_in it numbers =
-    if is_newer it.key.suite then Ok (record {
-      key = it.key;
-      side = Initiator;
+-- An end with this key, without an end in time. It takes each number in turn where the initiator's flag 8 asks for sequencing (RFC 4121,
+-- section 4.1.1.1). Test: `An initiator in sequence`.
+abbrev pub context_in : ContextKey → Bool → SequenceNumbers → Result ContextRecord InitiateRefusal
+context_in it in_sequence numbers =
+    if is_newer it.key.suite then Ok (context_of it.key Initiator (record {
       acceptor_subkey = it.is_acceptors;
-      sending = numbers.sending;
-      taking = numbers.taking;
-    })
+      in_sequence = in_sequence;
+      ends = None;
+      numbers = numbers;
+    }))
     -- The key is of a suite of AES: triple DES has the tokens of RFC 1964. Test: `initiate OldSuite`.
     else Err OldSuite
 
 -- the end under the initiator's subkey; without an AP-REP the acceptor's numbers begin where the initiator's do. Test: `initiate Established`.
 abbrev pub own_context : Pending → Result ContextRecord InitiateRefusal
 own_context pending =
-    context_in (record { key = pending.key; is_acceptors = false }) (record { sending = pending.number; taking = pending.number })
+    context_in (record { key = pending.key; is_acceptors = false }) pending.in_sequence (record { sending = pending.number; taking = pending.number })
 
 -- the acceptor's first sequence number
 abbrev pub acceptor_number : Option ℤ → Result ℕ InitiateRefusal
@@ -66,4 +66,4 @@ abbrev pub context_by : Pending → EncApRepPartInner → Result ContextRecord I
 context_by pending part =
     then_judged (acceptor_number (option_map (λ tagged. tagged.0) part.seq_number.0)) (λ number.
     then_judged (context_key pending.key (option_map (λ tagged. tagged.0) part.subkey.0)) (λ key.
-    context_in key (record { sending = pending.number; taking = number })))
+    context_in key pending.in_sequence (record { sending = pending.number; taking = number })))

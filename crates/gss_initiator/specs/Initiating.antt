@@ -9,7 +9,7 @@ use Rattle.krb_client.specs.Requests.{nonce_of}
 use Rattle.gss_contexts.specs.Contexts.{is_newer}
 use Rattle.gss_acceptor.specs.declared.checksum.ContextFlags.{ContextFlags}
 use Rattle.gss_acceptor.specs.declared.checksum.InitialChecksum.{InitialChecksum}
-use Rattle.gss_initiator.specs.Checksums.{is_beyond, is_mutual}
+use Rattle.gss_initiator.specs.Checksums.{is_beyond, is_in_sequence, is_mutual}
 use Rattle.gss_initiator.specs.Contexts.{own_context, then_judged}
 use Rattle.gss_initiator.specs.FirstTokens.{first_token}
 use Rattle.gss_initiator.specs.Requests.{AsksContext, own_subkey}
@@ -37,6 +37,7 @@ pending_of credential flags form moment words = record {
   key = record { suite = credential.suite; bytes = own_subkey credential.suite words };
   number = nonce_of words;
   is_mutual = is_mutual flags;
+  in_sequence = is_in_sequence flags;
   form = form;
 }
 

@@ -9,7 +9,7 @@ use crate::checksum::is_beyond;
 use crate::initiated::{Initiated, Pending, Progress, TokenForm};
 use crate::refusal::InitiateRefusal;
 use crate::request::context_request;
-use gss_acceptor::context_flags::MUTUAL;
+use gss_acceptor::context_flags::{MUTUAL, SEQUENCE};
 use gss_acceptor::{AP_REQ_FRONT, ContextFlags, InitialChecksum, element_of, joined};
 use gss_context_tokens::{ApplicationTag0, GssApiNegInit, MechTypeList, NegTokenInit};
 use krb_client::{ApAsked, Client, Credential, nonce_of};
@@ -55,8 +55,8 @@ pub fn initiate(
     }
 }
 
-// Why no context is asked for.
-fn refusal_of(suite: CipherSuite, flags: ContextFlags) -> Option<InitiateRefusal>
+/// Why [`initiate`] asks for no context with these flags, under a session key of this suite.
+pub fn refusal_of(suite: CipherSuite, flags: ContextFlags) -> Option<InitiateRefusal>
     ensures { result ≡ refusal_of suite flags }
 {
     if is_beyond(flags) {
@@ -196,6 +196,7 @@ fn pending_of(
         key,
         number: nonce_of(words),
         is_mutual: flags.is_set(MUTUAL),
+        in_sequence: flags.is_set(SEQUENCE),
         form,
     })
 }

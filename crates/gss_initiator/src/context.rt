@@ -6,7 +6,7 @@ ghost use Rattle.gss_initiator.specs.Contexts.{acceptor_key, acceptor_number, co
 use crate::initiated::Pending;
 use crate::refusal::InitiateRefusal;
 use gss_acceptor::number_of;
-use gss_contexts::{Context, SequenceNumbers, Side};
+use gss_contexts::{Context, ContextTerms, SequenceNumbers, Side};
 use krb_crypto::Key;
 use krb_encrypted_data::key_of;
 use krb_types::data_types::{EncApRepPartInner, EncryptionKey};
@@ -21,10 +21,20 @@ pub(crate) struct ContextKey {
 }
 
 // An end with this key.
-fn context_in(it: ContextKey, numbers: SequenceNumbers) -> Result<Context, InitiateRefusal>
-    ensures { result ≡ context_in it numbers }
+fn context_in(
+    it: ContextKey,
+    in_sequence: bool,
+    numbers: SequenceNumbers,
+) -> Result<Context, InitiateRefusal>
+    ensures { result ≡ context_in it in_sequence numbers }
 {
-    match Context::new(it.key, Side::Initiator, it.is_acceptors, numbers) {
+    let terms = ContextTerms {
+        acceptor_subkey: it.is_acceptors,
+        in_sequence,
+        ends: None,
+        numbers,
+    };
+    match Context::new(it.key, Side::Initiator, terms) {
         Ok(context) => Ok(context),
         Err(_) => Err(InitiateRefusal::OldSuite),
     }
@@ -84,13 +94,11 @@ impl Pending {
             key: self.key.copied(),
             is_acceptors: false,
         };
-        context_in(
-            it,
-            SequenceNumbers {
-                sending: number,
-                taking: number,
-            },
-        )
+        let numbers = SequenceNumbers {
+            sending: number,
+            taking: number,
+        };
+        context_in(it, self.in_sequence, numbers)
     }
 
     /// The end that the AP-REP's part makes.
@@ -100,6 +108,6 @@ impl Pending {
         let taking = acceptor_number(&part.seq_number.0)?;
         let it = context_key(&self.key, &part.subkey.0)?;
         let sending = u64::from(self.number);
-        context_in(it, SequenceNumbers { sending, taking })
+        context_in(it, self.in_sequence, SequenceNumbers { sending, taking })
     }
 }

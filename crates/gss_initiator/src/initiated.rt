@@ -42,12 +42,13 @@ pub enum Progress {
 }
 
 /// A context that waits for the acceptor's answer: the session key and the authenticator's time, the initiator's subkey and first sequence
-/// number, whether an AP-REP is due, and the form of the first token.
+/// number, whether an AP-REP is due and the context is in sequence, and the form of the first token.
 #[derive(Drop)]
 pub struct Pending {
     pub(crate) asked: ApAsked,
     pub(crate) key: Key,
     pub(crate) number: u32,
     pub(crate) is_mutual: bool,
+    pub(crate) in_sequence: bool,
     pub(crate) form: TokenForm,
 }

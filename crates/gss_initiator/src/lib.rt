@@ -18,7 +18,7 @@ mod request;
 mod response;
 mod take;
 
-pub use asking::initiate;
+pub use asking::{initiate, refusal_of};
 pub use checksum::{NO_BINDINGS, bindings_of};
 pub use initiated::{Initiated, Pending, Progress, TokenForm};
 pub use refusal::InitiateRefusal;

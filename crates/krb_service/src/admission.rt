@@ -2,9 +2,9 @@
 ghost use Rattle.std.specs.Prelude.{◌≡◌, ◌≤◌, false, length, IfOk};
 ghost use Rattle.std.specs.Option.{option_map};
 ghost use Rattle.krb_service.specs.Admission.{admission_of, checksum_of, seq_number_of, starttime_of, subkey_of};
-ghost use Rattle.krb_service.specs.ApReply.{HasSessionKey, IsReplyTo};
+ghost use Rattle.krb_service.specs.ApReply.{HasSessionKey, IsReplyTo, IsReplyWith, random_size};
 
-use crate::reply::ap_reply;
+use crate::reply::{ReplyFields, ap_reply};
 use krb_ap_requests::Presented;
 use krb_crypto::Key;
 use krb_encrypted_data::key_of;
@@ -158,8 +158,8 @@ fn untagged<const N: u8, T: Drop>(tagged: Option<ExplicitContextTag<N, T>>) -> O
     None
 }
 
-/// The reply to what was presented, if one is required (RFC 4120, section 3.2.4). `words`: random bytes, of which the first 16
-/// count. This fails only if memory runs out. It takes no memory if no reply is required.
+/// The reply to what was presented, if one is required, with the authenticator's time alone (RFC 4120, section 3.2.4). `words`: random
+/// bytes, of which the first 16 count. This fails only if memory runs out. It takes no memory if no reply is required.
 ///
 /// The session key has to be one of the presented suite, as `KeytabEntry::receive` gives it.
 pub fn reply_to(
@@ -172,11 +172,26 @@ pub fn reply_to(
     ensures reply { IfOk result (λ reply. IsReplyTo presented.now words.now (option_map (λ bytes. bytes.items) reply)) }
     ensures unwanted { presented.now.wants_reply ≡ false → result ≡ Ok None }
 {
+    reply_with(alloc, presented, ReplyFields::TimeAlone, words)
+}
+
+/// The reply to what was presented, as [`reply_to`] makes it, but with these fields.
+pub fn reply_with(
+    alloc: Global,
+    presented: &Presented,
+    fields: ReplyFields,
+    words: &[u8],
+) -> Result<Option<Vec<u8>>, AllocError>
+    requires enough { random_size fields ≤ length words.now }
+    requires keyed { HasSessionKey presented.now }
+    ensures reply { IfOk result (λ reply. IsReplyWith fields presented.now words.now (option_map (λ bytes. bytes.items) reply)) }
+    ensures unwanted { presented.now.wants_reply ≡ false → result ≡ Ok None }
+{
     if !presented.wants_reply {
         return Ok(None);
     }
     let key = session_key(presented);
-    let bytes = ap_reply(alloc, &key, &presented.authenticator, words)?;
+    let bytes = ap_reply(alloc, &key, fields, &presented.authenticator, words)?;
     Ok(Some(bytes))
 }
 

@@ -5,13 +5,15 @@ ghost use Rattle.std.specs.Set.{distinct_count};
 ghost use Rattle.krb_accounts.specs.Names.{parts};
 ghost use Rattle.krb_service.specs.Pair.{PairRecord, is_recent, is_same_pair};
 ghost use Rattle.krb_service.specs.Seen.{IsWindow};
-ghost use Rattle.krb_service.specs.RememberingService.{IsStep, remembering};
+ghost use Rattle.krb_service.specs.ApReply.{random_size};
+ghost use Rattle.krb_service.specs.RememberingService.{IsStep, remembering, remembering_with};
 ghost use Rattle.krb_service.specs.Service.{IsService, made, making};
 ghost use Rattle.krb_accounts.specs.declared.refusal.RealmRefusal.{RealmRefusal};
 
 use crate::admission::Admission;
 use crate::entry::KeytabEntry;
-use crate::once::admit_once;
+use crate::once::admit_once_with;
+use crate::reply::ReplyFields;
 use crate::seen::Seen;
 use krb_accounts::{
     RealmRefusal, SKEW_LIMIT, are_components, components_of, is_realm_name, realm_name_of,
@@ -128,11 +130,31 @@ impl Service {
         ensures remembers { (admitted : List PairRecord) → IsWindow self.old.seen admitted
             → IsStep (remembering self.old (max self.old.seen.greatest moment) admitted message.now words.now).gives admitted result self.new.seen }
     {
+        self.admit_with(alloc, message, moment, ReplyFields::TimeAlone, words)
+    }
+
+    /// Admits an AP request as [`Service::admit`] does, with these fields in the AP-REP. `words`: random bytes, of which the first 16
+    /// count; with a subkey and a number 64: 16 to 19 are the number's, and 32 to 63 the subkey's seed.
+    pub fn admit_with(
+        &mut self,
+        alloc: Global,
+        message: &[u8],
+        moment: Moment,
+        fields: ReplyFields,
+        words: &[u8],
+    ) -> Result<Admission, AdmitRefusal>
+        requires { random_size fields ≤ length words.now }
+        ensures greatest { self.new.seen.greatest ≡ max self.old.seen.greatest moment }
+        ensures skew { self.new.seen.skew ≡ self.old.seen.skew }
+        ensures rest { self.new ≡ record self.old { seen = self.new.seen } }
+        ensures remembers { (admitted : List PairRecord) → IsWindow self.old.seen admitted
+            → IsStep (remembering_with fields self.old (max self.old.seen.greatest moment) admitted message.now words.now).gives admitted result self.new.seen }
+    {
         self.seen.raise(moment);
         let now = self.seen.greatest();
         let skew = self.seen.skew();
         let presented = self.entry.receive(alloc, skew, now, message)?;
-        admit_once(&mut self.seen, alloc, now, presented, words)
+        admit_once_with(&mut self.seen, alloc, now, presented, fields, words)
     }
 
     /// How many pairs of a client and a time the replay cache holds: of those that were admitted the ones that lie no further

@@ -64,16 +64,16 @@ KRB5, MS_KRB5 = bytes.fromhex("2a864886f712010202"), bytes.fromhex("2a864882f712
 SPNEGO, NTLM = bytes.fromhex("2b0601050502"), bytes.fromhex("2b06010401823702020a")
 TOKEN_ID_AP_REQ, TOKEN_ID_AP_REP = b"\x01\x00", b"\x02\x00"
 BINDINGS = octets("channel bindings", 16)
-# Mutual authentication, replay detection, confidentiality and integrity.
-FLAGS = 0x36
+# Mutual authentication, replay detection, confidentiality and integrity; and sequencing.
+FLAGS, SEQUENCE = 0x36, 8
 
 
 def oid(content):
     return der(0x06, content)
 
 
-def initial_checksum(flags=FLAGS, size=16, rest=b""):
-    return size.to_bytes(4, "little") + BINDINGS + flags.to_bytes(4, "little") + rest
+def initial_checksum(flags=FLAGS, size=16, rest=b"", bindings=BINDINGS):
+    return size.to_bytes(4, "little") + bindings + flags.to_bytes(4, "little") + rest
 
 
 def checksum(kind, content):
@@ -81,11 +81,13 @@ def checksum(kind, content):
 
 
 class Login:
-    """A client's login, and what it leads to. Each can be told to deviate."""
+    """A client's login, and what it leads to. Each can be told to deviate. `own`: the acceptor has a subkey and a first sequence number of its
+    own, where there is an AP-REP. Of its 64 random octets the first 16 are the confounder, 31 bits of the next four the number, and the
+    subkey's seed begins at 32. The subkey is of the ticket's suite."""
 
     count = 0
 
-    def __init__(self, suite, mutual=True, subkey=True, number=1000, initial=None, kind=0x8003, service=SERVICE, time=NOW, key_suite=None, key_size=None):
+    def __init__(self, suite, mutual=True, subkey=True, number=1000, initial=None, kind=0x8003, service=SERVICE, time=NOW, key_suite=None, key_size=None, own=False):
         Login.count += 1
         self.suite, self.mutual, self.time, self.micros = suite, mutual, time, Login.count
         self.number = number
@@ -95,6 +97,7 @@ class Login:
         self.initial = initial_checksum(FLAGS if mutual else FLAGS & ~2) if initial is None else initial
         self.checksum = checksum(kind, self.initial) if kind else None
         self.service = service
+        self.own = own and mutual
 
     def ap_req(self):
         part = application(
@@ -117,9 +120,20 @@ class Login:
         """The AP-REP's token, or nothing."""
         if not self.mutual:
             return b""
-        part = application(27, (0, der(0x18, self.time.encode())), (1, integer(self.micros)))
-        sealed = encrypted(self.suite, self.session, 12, words, part)
+        own = self.own and own_subkey(self.suite, words)
+        part = application(
+            27, (0, der(0x18, self.time.encode())), (1, integer(self.micros)), (2, key_of(self.suite, own) if own else None), (3, integer(own_number(words)) if own else None),
+        )
+        sealed = encrypted(self.suite, self.session, 12, words[:16], part)
         return der(0x60, oid(KRB5), TOKEN_ID_AP_REP, application(15, (0, integer(5)), (1, integer(15)), (2, sealed)))
+
+
+def own_subkey(suite, words):
+    return words[32 : 32 + KEY_SIZES[suite]]
+
+
+def own_number(words):
+    return int.from_bytes(words[16:20], "big") % 2**31
 
 
 def mech_types(*mechanisms):
@@ -145,9 +159,11 @@ def response(state=None, mechanism=None, token=None, mic=None):
 HEAD = """\
 # First tokens of GSS-API contexts, and what an acceptor makes of each. Written by first_tokens.py in this folder, an independent
 # writer by RFC 4120, RFC 4121 and RFC 4178. Further lines are those of tokens.txt, of the context that was established last.
-#   acceptor EXPECTED SUITE SKEW | KEY       begins an acceptor: host/server.example.com@EXAMPLE.COM, key number 1
+#   acceptor EXPECTED SUITE SKEW FLAG | KEY BINDINGS   begins an acceptor: host/server.example.com@EXAMPLE.COM, key number 1. FLAG is `subkey`
+#                                            if it has a subkey and a first number of its own, else `session`; BINDINGS are its channel bindings
 #   accept EXPECTED MOMENT CLIENT FLAGS | TOKEN WORDS REPLY BINDINGS   a first token
-#   resume EXPECTED MOMENT CLIENT FLAGS | TOKEN WORDS REPLY BINDINGS   the next token of the negotiation that the last ContinueNeeded began"""
+#   resume EXPECTED MOMENT CLIENT FLAGS | TOKEN WORDS REPLY BINDINGS   the next token of the negotiation that the last ContinueNeeded began
+#   check_end EXPECTED MOMENT | -            whether the context is over"""
 lines = []
 
 
@@ -163,25 +179,29 @@ def section(title):
     lines.append(f"# {title}")
 
 
-def begin(suite):
-    lines.append(f"acceptor ok {suite} 300 | {service_key(suite).hex()}")
+def begin(suite, own=False, bindings=b""):
+    lines.append(f"acceptor ok {suite} 300 {'subkey' if own else 'session'} | {service_key(suite).hex()} {shown(bindings)}")
 
 
 def words_of(login):
-    return octets(f"words {login.micros}", 16)
+    return octets(f"words {login.micros}", 64)
 
 
 def writers(login):
     """The initiator and the acceptor as writers of tokens, and the numbers of their first ones."""
     suite, key = (login.key_suite, login.subkey) if login.subkey else (login.suite, login.session)
     first = (login.number or 0) % 2**32
+    if login.own:
+        words = words_of(login)
+        key = own_subkey(login.suite, words)
+        return Writer(login.suite, key, INITIATOR, True), Writer(login.suite, key, ACCEPTOR, True), first, own_number(words)
     return Writer(suite, key, INITIATOR, False), Writer(suite, key, ACCEPTOR, False), first, 0 if login.mutual else first
 
 
 def establish(call, login, token, reply, moment=NOW, mics=0):
     """The token establishes a context, and then each side sends messages: behind so many MICs of the list of mechanisms."""
     flags = int.from_bytes(login.initial[20:24], "little")
-    lines.append(f"{call} ok {moment} {'/'.join(CLIENT)}@{REALM} {flags} | {token.hex()} {words_of(login).hex()} {shown(reply)} {BINDINGS.hex()}")
+    lines.append(f"{call} ok {moment} {'/'.join(CLIENT)}@{REALM} {flags} | {token.hex()} {words_of(login).hex()} {shown(reply)} {login.initial[4:20].hex()}")
     ours, theirs, first, sending = writers(login)
     first, sending = first + mics, sending + mics
     message, random = b"a message", octets(f"random {login.micros}", 16)
@@ -199,11 +219,11 @@ def accept(login, token=None, answer=lambda reply: reply, moment=NOW):
 
 def go_on(call, token, reply, words=None):
     """A further token of the initiator is due."""
-    lines.append(f"{call} ContinueNeeded {NOW} - 0 | {token.hex()} {(words or octets('words', 16)).hex()} {reply.hex()} -")
+    lines.append(f"{call} ContinueNeeded {NOW} - 0 | {token.hex()} {(words or octets('words', 64)).hex()} {reply.hex()} -")
 
 
 def refuse(outcome, token, moment=NOW, call="accept"):
-    lines.append(f"{call} {outcome} {moment} - 0 | {shown(token)} {octets('words', 16).hex()} - -")
+    lines.append(f"{call} {outcome} {moment} - 0 | {shown(token)} {octets('words', 64).hex()} - -")
 
 
 def changed(token, at):
@@ -362,6 +382,76 @@ def refused_steps(suite):
         refuse(outcome, response(token=token), call="resume")
 
 
+def own_subkeys(suite):
+    section("A subkey of the acceptor wins, whatever the initiator's is; without an AP-REP there is none. Its number is the first of its tokens.")
+    begin(suite, own=True)
+    accept(Login(suite, own=True))
+    accept(Login(suite, mutual=False, own=True))
+    accept(Login(suite, subkey=False, number=None, own=True))
+    accept(Login(suite, key_suite=19, own=True))
+    accept(Login(suite, key_suite=23, own=True))
+    accept(Login(suite, key_suite=16, own=True))
+    login = Login(suite, own=True)
+    accept(login, negotiated(login.token(), KRB5, NTLM), lambda reply: response(ACCEPT_COMPLETED, KRB5, reply))
+    ask_for_mics(Login(suite, own=True), (NTLM, KRB5), late=True)
+    ask_for_mics(Login(suite, own=True), (NTLM, KRB5))
+    section("With a subkey of the acceptor, tokens under another key: the initiator's subkey.")
+    login = Login(suite, own=True)
+    accept(login)
+    other = Writer(suite, login.subkey, INITIATOR, False)
+    lines.append(f"verify_mic OtherKey | {b'a message'.hex()} {other.mic(1002, b'a message').hex()}")
+    other = Writer(suite, login.subkey, INITIATOR, True)
+    lines.append(f"verify_mic WrongChecksum | {b'a message'.hex()} {other.mic(1002, b'a message').hex()}")
+
+
+def bindings(suite):
+    section("Channel bindings of the acceptor: the initiator's are the same, or it has none; or they differ, and the same token is then a replay.")
+    for own in False, True:
+        begin(suite, own=own, bindings=BINDINGS)
+        for mutual in True, False:
+            flags = FLAGS if mutual else FLAGS & ~2
+            accept(Login(suite, mutual=mutual, own=own))
+            accept(Login(suite, mutual=mutual, initial=initial_checksum(flags, bindings=bytes(16)), own=own))
+            for other in bytes(15) + b"\1", changed(BINDINGS, 0), changed(BINDINGS, -1), octets("other bindings", 16):
+                token = Login(suite, mutual=mutual, initial=initial_checksum(flags, bindings=other), own=own).token()
+                refuse("OtherBindings", token)
+                refuse("Admit(Krb(34))", token)
+    for outcome, deviation in (("OtherChecksum", {"initial": initial_checksum()[:-1]}), ("OtherBindings", {"number": 2**32, "initial": initial_checksum(bindings=changed(BINDINGS, 3))})):
+        refuse(outcome, Login(suite, **deviation).token())
+
+
+def in_sequence(suite):
+    section("Sequencing: numbers that are left out are refused, and the one that is due is taken behind them. Without it they may be left out.")
+    begin(suite)
+    message, random = b"a message", octets("random", 16)
+    for flags, gap in (FLAGS | SEQUENCE, "Gap"), (FLAGS, "ok"):
+        for mutual in True, False:
+            login = Login(suite, mutual=mutual, initial=initial_checksum(flags if mutual else flags & ~2))
+            accept(login)
+            ours, _, first, _ = writers(login)
+            due = first + 2
+            for number in due + 1, due + 2:
+                lines.append(f"verify_mic {gap} | {message.hex()} {ours.mic(number, message).hex()}")
+            lines.append(f"unwrap {'Gap' if gap == 'Gap' else 'Sealed'} | {ours.sealed(due + 3, message, random).hex()} {message.hex()}")
+            due = due if gap == "Gap" else due + 4
+            lines.append(f"verify_mic ok | {message.hex()} {ours.mic(due, message).hex()}")
+            lines.append(f"unwrap Checksum | {ours.summed(due + 1, message).hex()} {message.hex()}")
+            lines.append(f"verify_mic OldNumber | {message.hex()} {ours.mic(due, message).hex()}")
+    section("MICs of the list count.")
+    ask_for_mics(Login(suite, initial=initial_checksum(FLAGS | SEQUENCE)), (NTLM, KRB5), late=True)
+    login = Login(suite, mutual=False, initial=initial_checksum(FLAGS & ~2 | SEQUENCE))
+    begin_negotiation(login, (NTLM, KRB5))
+    refuse("Mic(Gap)", response(token=login.token(), mic=writers(login)[0].mic(1001, mech_types(NTLM, KRB5))), call="resume")
+
+
+def ends(suite):
+    section("A context is over by the skew of 300 seconds after its ticket's end. It takes tokens as before.")
+    begin(suite)
+    accept(Login(suite))
+    for outcome, moment in ("ok", NOW), ("ok", "20260101210500Z"), ("ContextExpired", "20260101210501Z"), ("ContextExpired", "20270101210500Z"), ("ok", "20200101000000Z"):
+        lines.append(f"check_end {outcome} {moment} | -")
+
+
 def main():
     check_against_the_standards()
     for suite in SUITES:
@@ -425,6 +515,12 @@ def main():
     further_mics(suite)
     refused_mics(suite)
     refused_steps(suite)
+    for suite in SUITES:
+        own_subkeys(suite)
+    for suite in 17, 18:
+        bindings(suite)
+        in_sequence(suite)
+    ends(suite)
     with open("first_tokens.txt", "w", encoding="ascii") as file:
         file.write(HEAD + "\n" + "\n".join(lines) + "\n")
     print(sum(not line.startswith("#") for line in lines), "lines")

@@ -135,6 +135,16 @@ def established(suite):
     asking.initiate("ContinueNeeded")
     take("ok", asking.reply(number=1000))
     talk(asking, 1000)
+    section("An initiator in sequence takes the next number alone; without sequencing numbers may be left out. Its context has no end.")
+    for flags, gap in (FLAGS, "Gap"), (FLAGS & ~8, "ok"):
+        asking = Asking(suite, flags=flags)
+        asking.initiate("ContinueNeeded")
+        take("ok", asking.reply())
+        talk(asking, 0)
+        _, theirs = writers(asking)
+        lines.append(f"verify_mic {gap} | {b'a message'.hex()} {theirs.mic(4, b'a message').hex()}")
+        lines.append(f"verify_mic {'ok' if gap == 'Gap' else 'OldNumber'} | {b'a message'.hex()} {theirs.mic(2, b'a message').hex()}")
+        lines.append("check_end ok 99991231235959Z | -")
     section("In SPNEGO, by either identifier or none")
     for mechanism in KRB5, MS_KRB5, None:
         asking = Asking(suite, form="Negotiated")
@@ -248,7 +258,8 @@ HEAD = """\
 #                                                       `-` for no octets of it, `none` for no channel bindings
 #   take EXPECTED | ANSWER REPLY                        the answer that the initiator waits for, and the last token to send
 #   take Refused | ..                                   where EXPECTED has the code of the KRB-ERROR
-#   take Mic | ..                                       where EXPECTED has what is wrong with the MIC"""
+#   take Mic | ..                                       where EXPECTED has what is wrong with the MIC
+#   check_end EXPECTED MOMENT | -                       whether the context is over"""
 
 
 def main():

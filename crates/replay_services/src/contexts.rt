@@ -78,6 +78,7 @@ fn calls_as_expected(alloc: Global, context: &mut Context, row: &Call<'_>) -> bo
         "wrap_sealed" => calls::wraps(alloc, context, Protection::Sealed, row),
         "wrap_checksum" => calls::wraps(alloc, context, Protection::Checksum, row),
         "unwrap" => calls::unwraps(alloc, context, row),
+        "check_end" => calls::checks_end(alloc, context, row),
         _ => false,
     }
 }

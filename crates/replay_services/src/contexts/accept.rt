@@ -1,10 +1,11 @@
-//! Lines of an acceptor: `acceptor EXPECTED SUITE SKEW | KEY`, and `accept EXPECTED MOMENT CLIENT FLAGS | TOKEN WORDS REPLY
+//! Lines of an acceptor: `acceptor EXPECTED SUITE SKEW FLAG | KEY BINDINGS`, and `accept EXPECTED MOMENT CLIENT FLAGS | TOKEN WORDS REPLY
 //! BINDINGS` of a first token. A line `resume` is the same of the negotiation's next token.
 
 use super::call::{Call, suite_of};
 use super::{Ends, is_named};
 use anyhow::{Context, bail};
-use gss_acceptor::{Accepted, Acceptor, Continuation, Established};
+use byte_layouts::array_at;
+use gss_acceptor::{Accepted, Acceptor, AcceptorTerms, Continuation, Established};
 use krb_crypto::CipherSuite;
 use krb_service::Service;
 use krb_time::Moment;
@@ -19,13 +20,26 @@ pub(crate) fn begins(
 ) -> anyhow::Result<bool> {
     let mut words = row.words;
     let (suite, skew) = (suite_of(&mut words), words.number::<u64>());
+    let with_subkey = words.word() == "subkey";
     words.ended()?;
-    let [key] = row.columns.as_slice() else {
+    let [key, bindings] = row.columns.as_slice() else {
         bail!("a line `acceptor` of another shape");
     };
     let service = service_of(alloc, suite, key, skew)?;
-    drop(acceptor.replace(Acceptor::new(service)));
+    let terms = AcceptorTerms {
+        with_subkey,
+        bindings: bindings_in(bindings),
+    };
+    drop(acceptor.replace(Acceptor::new(service, terms)));
     Ok(row.expected == "ok")
+}
+
+/// The acceptor's channel bindings, if there are any.
+fn bindings_in(octets: &[u8]) -> Option<[u8; 16]> {
+    if octets.len() < 16 {
+        return None;
+    }
+    Some(array_at::<16>(octets, 0))
 }
 
 /// The service host/server.example.com@EXAMPLE.COM, whose key has number 1.
@@ -41,7 +55,7 @@ pub(crate) fn accepts(alloc: Global, ends: &mut Ends, row: &Call<'_>) -> anyhow:
     let [token, words, ..] = row.columns.as_slice() else {
         bail!("a line `accept` or `resume` of another shape");
     };
-    if words.len() < 16 {
+    if words.len() < 64 {
         bail!("too few random octets");
     }
     let moment = moment_of(row)?;

@@ -3,7 +3,7 @@
 use super::call::{Call, suite_of};
 use super::is_named;
 use anyhow::bail;
-use gss_contexts::{Context, SequenceNumbers, Side};
+use gss_contexts::{Context, ContextTerms, SequenceNumbers, Side};
 use krb_crypto::Key;
 use std::alloc::Global;
 
@@ -29,7 +29,13 @@ pub(crate) fn begins(
         bail!("a line `new` of another shape");
     };
     let key = Key::new(suite, key)?;
-    match Context::new(key, side, is_subkey, numbers) {
+    let terms = ContextTerms {
+        acceptor_subkey: is_subkey,
+        in_sequence: false,
+        ends: None,
+        numbers,
+    };
+    match Context::new(key, side, terms) {
         Ok(made) => {
             drop(context.replace(made));
             Ok(row.expected == "ok")

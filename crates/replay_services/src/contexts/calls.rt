@@ -3,6 +3,7 @@
 use super::call::Call;
 use super::is_named;
 use gss_contexts::{Context, Protection, TokenRefusal};
+use krb_time::Moment;
 use std::alloc::Global;
 
 /// `get_mic EXPECTED | MESSAGE TOKEN`
@@ -75,6 +76,18 @@ pub(crate) fn unwraps(alloc: Global, context: &mut Context, row: &Call<'_>) -> b
                 && has_number(token, taken.sequence_number)
                 && taken.message.as_slice() == message.as_slice()
         }
+        Err(refusal) => is_named(alloc, &refusal, row.expected),
+    }
+}
+
+/// `check_end EXPECTED MOMENT | -`
+pub(crate) fn checks_end(alloc: Global, context: &Context, row: &Call<'_>) -> bool {
+    let mut words = row.words;
+    let Some(moment) = Moment::from_text(words.word().as_bytes()) else {
+        return false;
+    };
+    match context.check_end(moment) {
+        Ok(()) => row.expected == "ok",
         Err(refusal) => is_named(alloc, &refusal, row.expected),
     }
 }

@@ -12,6 +12,7 @@ returns-clause-taken c =
     record {
       number = c.in_ok-number.number;
       is_new = peers.is_new;
+      in_order = peers.in_order;
       followed = peers.followed;
       is_mic_of = mic_taken c.args.self.now c.args.message.now token c.in_ok-number.number (sym c.is_mic.ensures.test ∙ c.in_ok-number.ensures.is_token) peers
           (subst (λ r. bytes_eq (drop 16 token) (sum_of r.key (sign_usage (peer r).side) (c.args.message.now ++ take 16 token)) ≡ true) c.self.view_is same);
