@@ -1,8 +1,9 @@
 mod Unnamed
-mod Passing
 mod Conversation
 mod Presented
 mod Admitted
 mod Accepted
 mod Replied
 mod OneContext
+mod Negotiated
+mod Granted

@@ -1,5 +1,5 @@
 -- Which logins by GSS are honest.
-use Rattle.std.specs.Prelude.{◌≡◌, ◌≤◌, true, length, None}
+use Rattle.std.specs.Prelude.{◌≡◌, ◌≤◌, true, length, None, Ok}
 use Rattle.std.specs.Int.{cast_unsigned, w32}
 use Rattle.std.specs.List.{list_all}
 use Rattle.asn1_der.specs.Tagged.{tagged_tree}
@@ -17,6 +17,10 @@ use Rattle.krb_messages.specs.Messages.{enc_ticket_part_tree}
 use Rattle.krb_ap_requests.specs.Presents.{SealsTo}
 use Rattle.krb_service.specs.Admissible.{IsAdmissible}
 use Rattle.krb_service.specs.Seen.{IsWindow}
+use Rattle.krb_types.specs.RandomBytes.{Random}
+use Rattle.gss_acceptor.specs.Checksum.{bound_by}
+use Rattle.gss_acceptor.specs.declared.checksum.InitialChecksum.{InitialChecksum}
+use Rattle.gss_acceptor.specs.declared.terms.AcceptorTerms.{AcceptorTerms}
 use Rattle.gss_initiator.specs.Initiating.{refusal_of}
 use Rattle.gss_initiator.specs.Requests.{IsContextAuthenticator}
 use Rattle.gss_logins.specs.GssLogins.{GssLogin, choice_of, clock_of}
@@ -42,11 +46,18 @@ pub record IsTicketOf (login : GssLogin) : Type 0 where
   pub session : part.key.0 ≡ encryption_key login.credential.suite login.credential.key
   pub keyed : length login.credential.key ≡ cipher_key_size login.credential.suite
 
+-- the acceptor's channel bindings, if it has some, are the client's, or the client has none (RFC 2743, section 1.1.6); and it has random
+-- bytes enough
+pub record IsAnswering (terms : AcceptorTerms) (initial : InitialChecksum) (words : Random) : Type 0 where
+  pub bound : bound_by terms.bindings initial ≡ Ok initial
+  pub enough : 64 ≤ length words
+
 -- The client asks by a ticket that is for the service, and the service, which ever admitted these pairs, admits what the client chooses at
 -- its clock: names, times, kvno and clocks agree, and the authenticator is the first of its client and time (RFC 4120, section 3.2.3)
 pub record IsHonest (login : GssLogin) : Type 0 where
   pub asking : IsAsking login
   pub ticket : IsTicketOf login
+  pub answering : IsAnswering login.terms login.initial login.service_words
   pub window : IsWindow login.service.seen login.admitted
   pub admissible : (authenticator : AuthenticatorInner) → IsContextAuthenticator login.client login.credential login.initial login.client_at login.words authenticator
       → IsAdmissible login.service (clock_of login) login.admitted (choice_of login ticket.part ticket.confounder authenticator)

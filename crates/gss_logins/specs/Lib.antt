@@ -1,3 +1,4 @@
 pub mod GssLogins
 pub mod Honest
 pub mod OneContext
+pub mod Granted

@@ -2,14 +2,13 @@
 use Rattle.std.specs.Prelude.{◌≡◌, ◌⊎◌, ◌+◌, ℕ, None, Some, Result, Ok, Err}
 use Rattle.picky_asn1.specs.Bytes.{Bytes}
 use Rattle.krb_ap_requests.specs.declared.refusal.AdmitRefusal.TheVariants as admit_refusal
-use Rattle.krb_service.specs.Service.{ServiceRecord}
 use Rattle.gss_contexts.specs.Contexts.{ContextRecord, peer, sender_of}
 use Rattle.gss_contexts.specs.Judging.{IsMicRefusal, IsWrapRefusal, TakesMic, TakesWrap}
 use Rattle.gss_contexts.specs.declared.refusal.TokenRefusal.{TokenRefusal}
 use Rattle.gss_contexts.specs.declared.refusal.TokenRefusal.TheVariants as token_refusal
 use Rattle.gss_contexts.specs.declared.side.Protection.{Protection}
 use Rattle.gss_contexts.specs.declared.side.Side.TheVariants.{Acceptor, Initiator}
-use Rattle.gss_acceptor.specs.Accepting.{Handles, carried}
+use Rattle.gss_acceptor.specs.Accepting.{AcceptorRecord, Handles, carried}
 use Rattle.gss_acceptor.specs.Established.{EstablishedRecord}
 use Rattle.gss_acceptor.specs.declared.accepted.Accepted.{Accepted}
 use Rattle.gss_acceptor.specs.declared.accepted.Accepted.TheVariants.{ContinueNeeded, Established}
@@ -21,7 +20,7 @@ use Rattle.gss_initiator.specs.declared.initiated.Progress.{Progress}
 use Rattle.gss_initiator.specs.declared.initiated.Progress.TheVariants as progress
 use Rattle.gss_initiator.specs.declared.refusal.InitiateRefusal.{InitiateRefusal}
 use Rattle.gss_initiator.specs.declared.refusal.InitiateRefusal.TheVariants as initiate_refusal
-use Rattle.gss_logins.specs.GssLogins.{GssLogin}
+use Rattle.gss_logins.specs.GssLogins.{GssLogin, acceptor_of}
 
 -- two ends of one context: one key, opposite sides, and each takes the other's next number
 pub record AreEnds (one other : ContextRecord) : Type 0 where
@@ -61,8 +60,8 @@ IsEnded (progress.ContinueNeeded pending) established =
 -- so ends a first token that was sent
 abbrev pub IsOneContext : GssLogin → InitiatedRecord → Type 0
 IsOneContext login initiated =
-    (result : Result Accepted AcceptRefusal) (after : ServiceRecord)
-    → Handles (carried initiated.token) login.service login.service_at login.service_words result after
+    (result : Result Accepted AcceptRefusal) (after : AcceptorRecord)
+    → Handles (carried initiated.token) (acceptor_of login) login.service_at login.service_words result after
     → IsAccepted login result
     × ((established : EstablishedRecord) → result ≡ Ok (Established established) → IsEnded initiated.progress established)
 

@@ -1,8 +1,12 @@
 //! Logins by GSS (RFC 4121), over both ends: what an initiator and an acceptor are left with.
 //!
-//! An honest login ends with two ends of one context, or memory runs out (law `one_context`): one key, opposite sides, and each takes the
-//! other's next number. What one end wraps the other unwraps to the same message, and each MIC is right, as long as the numbers go up (law
-//! `one_conversation`).
+//! An honest login ends with two ends of one context, or memory runs out (laws `one_context`, and by SPNEGO `one_negotiated_context`): one
+//! key, opposite sides, and each takes the other's next number. What an honest login by password or certificate granted makes one by GSS
+//! honest (laws `granted_is_honest`, `exchanged_is_honest`), and `is_honest` answers true of such logins alone. What one end wraps the other
+//! unwraps to the same message, and each MIC is right, as long as the numbers go up (law `one_conversation`).
 #![tactic(auto)]
 
+mod honest;
 pub mod laws;
+
+pub use honest::is_honest;

@@ -1,38 +1,34 @@
 -- What a client writes to a service presents its choice.
 use Rattle.std.proofs.Common.{◌≡◌, ◌⊎◌, ℕ, ◌%◌, Bool, true, false, not, List, Option, None, Some, Ok, Err, inl, inr, refl, sym, ap, subst, ◌∙◌}
-use Rattle.std.proofs.lemmas.Bool.{eq-eqb}
-use Rattle.std.specs.Prelude.{pos}
 use Rattle.asn1_leaves.specs.CharSets.{is_general_string}
 use Rattle.asn1_leaves.specs.declared.date.GeneralizedTime.{GeneralizedTime}
-use Rattle.asn1_der.specs.Tagged.{tagged_tree}
-use Rattle.asn1_der.specs.Tree.{IsWhole, Tree, der, leaf}
+use Rattle.asn1_der.specs.Tree.{IsWhole, der, leaf}
 use Rattle.asn1_der.proofs.Spelling.{whole-wrapped}
 use Rattle.picky_asn1.specs.Bytes.{Bytes}
-use Rattle.picky_asn1.specs.Numbers.{is_number}
 use Rattle.decision_tables.specs.Tables.{Table, and_then, ask, done, need, refuse}
 use Rattle.krb_crypto.specs.Keys.{KeyRecord}
 use Rattle.krb_crypto.specs.Sealing.{IsSealedBy}
 use Rattle.krb_crypto.specs.Suites.{cipher_confounder_size, cipher_number}
 use Rattle.krb_crypto.specs.declared.suite.CipherSuite.{CipherSuite}
 use Rattle.krb_types.specs.RandomBytes.{authenticator_confounder}
-use Rattle.krb_types.specs.contracts.data_types.ticket.TicketInnerTagged.TheImpl as ticket_impl
 use Rattle.krb_types.specs.declared.data_types.authenticator.AuthenticatorInner.{AuthenticatorInner}
+use Rattle.krb_types.specs.declared.data_types.enc_ticket_part.EncTicketPartInner.{EncTicketPartInner}
 use Rattle.krb_types.specs.declared.data_types.encryption_key.EncryptionKey.{EncryptionKey}
 use Rattle.krb_types.specs.declared.data_types.ticket.TicketInner.{TicketInner}
 use Rattle.krb_messages.specs.declared.messages.ap_req.ApReqInner.{ApReqInner}
 use Rattle.krb_messages.specs.declared.messages.enc_kdc_rep_part.EncKdcRepPart.{EncKdcRepPart}
 use Rattle.krb_messages.specs.declared.messages.kdc_rep.KdcRep.{KdcRep}
-use Rattle.krb_messages.specs.Messages.{IsApReq, IsAsRep, IsTgsRep, ap_req_tree, authenticator_tree}
+use Rattle.krb_messages.specs.Messages.{IsApReq, IsAsRep, IsTgsRep, ap_req_tree, authenticator_tree, enc_ticket_part_tree}
 use Rattle.krb_messages.specs.Trees.{kdc_rep_inner_tree}
 use Rattle.krb_encrypted_data.specs.Keys.{suite_of}
 use Rattle.krb_encrypted_data.specs.Sealing.{encrypted_by}
-use Rattle.krb_ap_requests.specs.Presents.{Presents}
+use Rattle.krb_ap_requests.specs.Presents.{Presents, SealsTo}
 use Rattle.krb_ap_requests.proofs.Shown.{request-outer}
 use Rattle.krb_reply_match.specs.Answers.{is_answer}
 use Rattle.krb_client.specs.Asked.{AsAskedRecord, TgsAskedRecord}
 use Rattle.krb_client.specs.ApRequest.{presented_subkey}
 use Rattle.krb_client.specs.AsReply.{takes_as_reply, takes_reply, takes_sealed}
-use Rattle.krb_client.specs.Authenticators.{ap_request_of, authenticator_with, authenticator_parts_of}
+use Rattle.krb_client.specs.Authenticators.{IsApRequest, ap_request_of, authenticator_with, authenticator_parts_of}
 use Rattle.krb_client.specs.Client.{ClientRecord, CredentialRecord}
 use Rattle.krb_client.specs.Means.{MeansRecord}
 use Rattle.krb_client.specs.Messages.{ap_request_bytes, authenticator_bytes}
@@ -42,13 +38,11 @@ use Rattle.krb_client.specs.declared.refusal.TakeRefusal.{TakeRefusal}
 use Rattle.krb_client.specs.declared.refusal.TakeRefusal.TheVariants.{NotAsked, NotSealed, Unreadable}
 use Rattle.krb_logins.specs.Choices.{AsksService, IsOfReply, choice_by}
 use Rattle.krb_logins.proofs.Names.{are_texts, component_texts, realm_text}
-use Rattle.krb_logins.proofs.WholePresented.{whole_authenticator}
+use Rattle.krb_logins.proofs.Presenting.{own_number}
+use Rattle.krb_logins.proofs.WholePresented.{ticket_tree, whole_authenticator, whole_request}
 use Rattle.krb_logins.proofs.WholeRequests.{whole_text, whole_texts}
 
 -- ---- a credential's ticket has an encoding
-
-abbrev ticket_tree : TicketInner → Tree
-ticket_tree = tagged_tree 48 ticket_impl.ghosts.row_tree ticket_impl.ghosts.row_of
 
 -- the ticket of a reply that has one
 reply_ticket : (reply : KdcRep) → IsWhole (kdc_rep_inner_tree reply) → IsWhole (ticket_tree reply.ticket.0.0)
@@ -152,10 +146,6 @@ whole_ticket means credential (client, bytes, inr (asked, inr x)) = tgs_read cli
 
 -- ---- the request
 
-whole_request : (mutual_required : Bool) (ticket : TicketInner) (suite : CipherSuite) (cipher : Bytes) → IsWhole (ticket_tree ticket)
-    → IsWhole (ap_req_tree (ap_request_of mutual_required ticket (encrypted_by suite None cipher)))
-whole_request mutual_required ticket suite cipher whole = (((tt, tt), ((tt, tt), ((tt, tt), (((whole, tt), tt), ((((tt, tt), ((tt, tt), tt)), tt), tt))))), tt)
-
 -- its authenticator, with a subkey or none
 whole_own : (client : ClientRecord) (micros : ℕ) (second : GeneralizedTime) (subkey : Option EncryptionKey) → is_general_string client.realm ≡ true → are_texts client.components ≡ true
     → IsWhole (authenticator_tree (authenticator_with (authenticator_parts_of client micros) second None subkey))
@@ -163,32 +153,37 @@ whole_own client micros second None realm names = whole_authenticator client mic
 whole_own client micros second (Some key) realm names =
     (((tt, tt), (whole-wrapped 161 (leaf (is_general_string client.realm) 27 client.realm) (whole_text 27 client.realm realm), ((((tt, tt), ((whole_texts 27 client.components names, tt), tt)), tt), ((tt, tt), ((tt, tt), ((((tt, tt), ((tt, tt), tt)), tt), tt)))))), tt)
 
-own_number : (number : ℕ) → is_number number (pos number) ≡ true
-own_number number = eq-eqb number number refl
-
-pub presents : (client : ClientRecord) (means : MeansRecord) (credential : CredentialRecord) (mutual_required with_subkey : Bool) (moment : ℕ) (words bytes key : Bytes)
-    (by : AsksService client means credential mutual_required with_subkey moment words bytes key)
-    → Presents key (choice_by credential mutual_required by.part by.part_confounder by.asks.authenticator (authenticator_confounder (cipher_confounder_size credential.suite) words)) bytes
+-- a request by a credential whose ticket seals this part under a key, with a session key that is the credential's
+pub presents_choice : (credential : CredentialRecord) (mutual_required : Bool) (part : EncTicketPartInner) (authenticator : AuthenticatorInner) (part_confounder confounder bytes key : Bytes)
+    → IsWhole (ticket_tree credential.ticket)
+    → SealsTo {T = EncTicketPartInner} enc_ticket_part_tree credential.ticket.enc_part.0.etype.0 key 2 part_confounder part credential.ticket.enc_part.0.cipher.0
+    → part.key.0.key_value.0 ≡ credential.key → IsWhole (authenticator_tree authenticator) → IsApRequest credential 11 mutual_required authenticator confounder bytes
+    → Presents key (choice_by credential mutual_required part part_confounder authenticator confounder) bytes
 unfolding ap_request_bytes authenticator_bytes
-presents client means credential mutual_required with_subkey moment words bytes key by =
-    let shown = by.asks.presents in
-    let told = by.asks.authenticates in
+presents_choice credential mutual_required part authenticator part_confounder confounder bytes key whole sealed session whole_own shown =
     let cipher : Bytes = shown.sealed.cipher in
-    let confounder : Bytes = authenticator_confounder (cipher_confounder_size credential.suite) words in
     let request : ApReqInner = ap_request_of mutual_required credential.ticket (encrypted_by credential.suite None cipher) in
-    let encoding : bytes ≡ der (ap_req_tree request) = shown.encoding ∙ ap (λ part. der (ap_req_tree (ap_request_of mutual_required credential.ticket part))) shown.sealed.told in
-    let written : IsApReq bytes request = (whole_request mutual_required credential.ticket credential.suite cipher (whole_ticket means credential by.of_reply), encoding) in
-    let own = whole_own client (moment % 1000000) told.second (presented_subkey with_subkey credential.suite words) (realm_text client.realm by.realm) (component_texts client.components by.name) in
+    let encoding : bytes ≡ der (ap_req_tree request) = shown.encoding ∙ ap (λ p. der (ap_req_tree (ap_request_of mutual_required credential.ticket p))) shown.sealed.told in
+    let written : IsApReq bytes request = (whole_request mutual_required credential.ticket credential.suite cipher whole, encoding) in
     record {
       part_cipher = credential.ticket.enc_part.0.cipher.0;
       cipher = cipher;
       writes = subst (λ (r : ApReqInner). IsApReq bytes r) (sym (request-outer request)) written;
-      part = by.sealed;
+      part = sealed;
       authenticator = record {
         suite = credential.suite;
         numbered = own_number (cipher_number credential.suite);
-        plain = authenticator_bytes by.asks.authenticator;
-        writes = (subst (λ (a : AuthenticatorInner). IsWhole (authenticator_tree a)) (sym told.is_made) own, refl);
-        sealed = subst (λ k. IsSealedBy credential.suite k 11 confounder (authenticator_bytes by.asks.authenticator) cipher) (sym by.session) shown.sealed.seals;
+        plain = authenticator_bytes authenticator;
+        writes = (whole_own, refl);
+        sealed = subst (λ k. IsSealedBy credential.suite k 11 confounder (authenticator_bytes authenticator) cipher) (sym session) shown.sealed.seals;
       };
     }
+
+pub presents : (client : ClientRecord) (means : MeansRecord) (credential : CredentialRecord) (mutual_required with_subkey : Bool) (moment : ℕ) (words bytes key : Bytes)
+    (by : AsksService client means credential mutual_required with_subkey moment words bytes key)
+    → Presents key (choice_by credential mutual_required by.part by.part_confounder by.asks.authenticator (authenticator_confounder (cipher_confounder_size credential.suite) words)) bytes
+presents client means credential mutual_required with_subkey moment words bytes key by =
+    let told = by.asks.authenticates in
+    let own = whole_own client (moment % 1000000) told.second (presented_subkey with_subkey credential.suite words) (realm_text client.realm by.realm) (component_texts client.components by.name) in
+    presents_choice credential mutual_required by.part by.asks.authenticator by.part_confounder (authenticator_confounder (cipher_confounder_size credential.suite) words) bytes key
+    (whole_ticket means credential by.of_reply) by.sealed by.session (subst (λ (a : AuthenticatorInner). IsWhole (authenticator_tree a)) (sym told.is_made) own) by.asks.presents

@@ -1,26 +1,27 @@
-mod Passing
+pub mod Passing
 pub mod Giving
-mod Names
+pub mod Names
 mod LastSecond
 pub mod Times
-mod WholeRequests
+pub mod WholeRequests
 mod WholeReplies
 mod Opened
 mod NoErrors
-mod GrantTaken
+pub mod GrantTaken
 mod FirstGranted
 mod FirstTaken
 mod ByPassword
 mod FurtherTaken
 mod TicketTimes
-mod WholePresented
-mod Presenting
-mod ReplyTaken
-mod Outcomes
+pub mod WholePresented
+pub mod Presenting
+pub mod ReplyTaken
+pub mod Outcomes
 mod Replying
+pub mod Admissible
 mod Admitted
 mod FurtherGranted
 mod OneKey
 pub mod EndsWithOneKey
 mod OneLogin
-mod ChoicePresented
+pub mod ChoicePresented

@@ -188,7 +188,7 @@ module _ (client : ClientRecord) (means : MeansRecord) (realm : RealmRecord) (ro
       as_unasked
 
   -- the client holds the ticket for the service
-  abbrev HoldsFurther : CredentialRecord → Type 0
+  abbrev pub HoldsFurther : CredentialRecord → Type 0
   HoldsFurther credential =
       (first : Span) × IsFirstSpan realm login first × ((span : Span) × IsFurtherSpan realm login first span
       × IsHeld met.honest.service.account login.realm_words_tgs (further_grant client realm login first span) credential)
@@ -243,7 +243,7 @@ module _ (client : ClientRecord) (means : MeansRecord) (realm : RealmRecord) (ro
       (λ sent asked. tgs_answered granting holds sent asked result)
       (tgs_unasked granting)
 
-  exchanges_end : (result : Result CredentialRecord LoginRefusal) → Exchanges client means realm rows login result → Ends HoldsFurther result
+  pub exchanges_end : (result : Result CredentialRecord LoginRefusal) → Exchanges client means realm rows login result → Ends HoldsFurther result
   unfolding Exchanges
   exchanges_end result (inl x) = tgs_ends x.0 result (as_ends (Ok x.0) x.1) x.2
   exchanges_end result (inr x) = subst (Ends HoldsFurther) (sym x.2) (as_ends (Err x.0) x.1)

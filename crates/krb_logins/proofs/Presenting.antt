@@ -24,7 +24,7 @@ use Rattle.krb_client.specs.Authenticators.{IsApRequest, ap_request_of, options_
 use Rattle.krb_client.specs.Client.{CredentialRecord}
 use Rattle.krb_client.specs.Messages.{ap_request_bytes, authenticator_bytes}
 use Rattle.krb_logins.proofs.Names.{are_texts}
-use Rattle.krb_logins.proofs.WholePresented.{whole_request}
+use Rattle.krb_logins.proofs.WholePresented.{whole_request, whole_ticket}
 
 -- what is sealed under an account is sealed under the key of the service that the account is of
 pub under_entry : (account : AccountRecord) (entry : EntryRecord) (usage : ℕ) (confounder plain : Bytes) (sealed : EncryptedData) → account.suite ≡ entry.suite → account.key ≡ entry.key → account.kvno ≡ entry.kvno
@@ -35,7 +35,7 @@ under_entry account entry usage confounder plain sealed suite key kvno x =
     subst (λ s. Seals s entry.key (Some entry.kvno) usage confounder plain sealed) suite keyed
 
 -- a number is told as itself
-own_number : (number : ℕ) → is_number number (pos number) ≡ true
+pub own_number : (number : ℕ) → is_number number (pos number) ≡ true
 own_number number = eq-eqb number number refl
 
 -- what a client chooses with the ticket of a grant, where it wants a reply or none
@@ -59,6 +59,14 @@ choice_of wanted entry grant authenticator part_confounder confounder = record {
   confounder = confounder;
 }
 
+-- the part of its ticket is sealed under the service's key
+pub seals_part : (entry : EntryRecord) (grant : GrantRecord) (confounder : Bytes) (part : EncryptedData)
+    (sealed : Seals entry.suite entry.key (Some entry.kvno) 2 confounder (ticket_part_bytes (ticket_part grant)) part) → IsWhole (enc_ticket_part_tree (ticket_part grant))
+    → SealsTo {T = EncTicketPartInner} enc_ticket_part_tree (pos (cipher_number entry.suite)) entry.key 2 confounder (ticket_part grant) sealed.cipher
+unfolding ticket_part_bytes
+seals_part entry grant confounder part sealed whole =
+    record { suite = entry.suite; numbered = own_number (cipher_number entry.suite); plain = ticket_part_bytes (ticket_part grant); writes = (whole, refl); sealed = sealed.seals }
+
 module _ (usage : ℕ) (wanted : Bool) (entry : EntryRecord) (grant : GrantRecord) (credential : CredentialRecord) (authenticator : AuthenticatorInner) (part_confounder confounder bytes : Bytes) (part : EncryptedData)
     (sealed : Seals entry.suite entry.key (Some entry.kvno) 2 part_confounder (ticket_part_bytes (ticket_part grant)) part)
     (ticket : credential.ticket ≡ ticket_of grant part) (suite : credential.suite ≡ grant.suite) (key : credential.key ≡ grant.session)
@@ -70,16 +78,13 @@ module _ (usage : ℕ) (wanted : Bool) (entry : EntryRecord) (grant : GrantRecor
   written realm names =
       let carried = ticket ∙ ap (ticket_of grant) sealed.told in
       let shown = asks.sealed.told ∙ ap (λ s. encrypted_by s None asks.sealed.cipher) suite in
-      let whole = whole_request wanted grant entry.suite grant.suite entry.kvno sealed.cipher asks.sealed.cipher realm names in (
+      let ticket_whole = whole_ticket grant entry.suite entry.kvno sealed.cipher realm names in
+      let whole = whole_request wanted (ticket_of grant (encrypted_by entry.suite (Some entry.kvno) sealed.cipher)) grant.suite asks.sealed.cipher ticket_whole in (
         whole,
         asks.encoding
             ∙ ap (λ t. der (ap_req_tree (ap_request_of wanted t asks.part))) carried
             ∙ ap (λ a. der (ap_req_tree (ap_request_of wanted (ticket_of grant (encrypted_by entry.suite (Some entry.kvno) sealed.cipher)) a))) shown,
       )
-
-  pub seals_part : IsWhole (enc_ticket_part_tree (ticket_part grant)) → SealsTo {T = EncTicketPartInner} enc_ticket_part_tree (pos (cipher_number entry.suite)) entry.key 2 part_confounder (ticket_part grant) sealed.cipher
-  unfolding ticket_part_bytes
-  seals_part whole = record { suite = entry.suite; numbered = own_number (cipher_number entry.suite); plain = ticket_part_bytes (ticket_part grant); writes = (whole, refl); sealed = sealed.seals }
 
   pub seals_authenticator : IsWhole (authenticator_tree authenticator) → SealsTo {T = AuthenticatorInner} authenticator_tree (pos (cipher_number grant.suite)) grant.session usage confounder authenticator asks.sealed.cipher
   unfolding authenticator_bytes
@@ -102,6 +107,6 @@ presents wanted entry grant credential authenticator part_confounder confounder 
   part_cipher = sealed.cipher;
   cipher = asks.sealed.cipher;
   writes = written 11 wanted entry grant credential authenticator part_confounder confounder bytes part sealed ticket suite key asks realm names;
-  part = seals_part 11 wanted entry grant credential authenticator part_confounder confounder bytes part sealed ticket suite key asks whole_part;
+  part = seals_part entry grant part_confounder part sealed whole_part;
   authenticator = seals_authenticator 11 wanted entry grant credential authenticator part_confounder confounder bytes part sealed ticket suite key asks whole;
 }

@@ -33,12 +33,12 @@ whole_part : (authenticator : AuthenticatorInner) → IsWhole (enc_ap_rep_part_t
 whole_part authenticator = (((tt, tt), ((tt, tt), tt)), tt)
 
 -- the reply as it is read
-reply_read : (suite : CipherSuite) (key confounder bytes : Bytes) (authenticator : AuthenticatorInner) (x : IsReplyUnder suite key confounder authenticator bytes) → IsApRep bytes (ap_rep_of x.part)
+pub reply_read : (suite : CipherSuite) (key confounder bytes : Bytes) (authenticator : AuthenticatorInner) (x : IsReplyUnder suite key confounder authenticator bytes) → IsApRep bytes (ap_rep_of x.part)
 reply_read suite key confounder bytes authenticator x =
     (subst (λ part. IsWhole (ap_rep_tree (ap_rep_of part))) (sym x.sealed.told) (whole_reply suite x.sealed.cipher), x.encoding)
 
 -- and its part as it is opened
-part_opened : (asked : ApAskedRecord) (suite : CipherSuite) (key confounder bytes : Bytes) (authenticator : AuthenticatorInner) → suite ≡ asked.suite → key ≡ asked.key
+pub part_opened : (asked : ApAskedRecord) (suite : CipherSuite) (key confounder bytes : Bytes) (authenticator : AuthenticatorInner) → suite ≡ asked.suite → key ≡ asked.key
     → (x : IsReplyUnder suite key confounder authenticator bytes) → IsApPart asked x.part (ap_rep_part authenticator)
 unfolding IsApPart
 part_opened asked suite key confounder bytes authenticator same_suite same_key x =
@@ -48,7 +48,7 @@ part_opened asked suite key confounder bytes authenticator same_suite same_key x
     sealed_opens enc_ap_rep_part_tree (ap_rep_part authenticator) asked.suite asked.key None 12 confounder plain x.part (whole_part authenticator, refl) under
 
 -- the authenticator's time is the one that is told
-tells_time : (moment : Micros) (authenticator : AuthenticatorInner) → seconds_of authenticator.ctime.0.0 ≡ moment / 1000000 → authenticator.cusec.0 ≡ pos (moment % 1000000)
+pub tells_time : (moment : Micros) (authenticator : AuthenticatorInner) → seconds_of authenticator.ctime.0.0 ≡ moment / 1000000 → authenticator.cusec.0 ≡ pos (moment % 1000000)
     → tells moment (ap_rep_part authenticator) ≡ true
 tells_time moment authenticator second micros =
     let own = eq-eqb (moment % 1000000) (moment % 1000000) refl in

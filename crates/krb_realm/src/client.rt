@@ -255,7 +255,7 @@ impl Client {
     }
 
     /// Borrows the client's name and suite, by which it makes requests and takes replies.
-    pub(crate) fn asking(&self) -> &krb_client::Client
+    pub fn asking(&self) -> &krb_client::Client
         ensures { result.now ≡ self.now.client }
     {
         &self.asking

@@ -1,0 +1,39 @@
+//! Whether a login by GSS is honest: the premises of its laws, judged by what the parties hold.
+ghost use Rattle.std.specs.Prelude.{◌≤◌, IsTrue, length};
+ghost use Rattle.krb_logins.specs.Honest.{AreEnough};
+ghost use Rattle.krb_logins.specs.Input.{held_by, login_of, realm_of};
+ghost use Rattle.gss_logins.specs.Granted.{IsHonestGssLogin};
+
+use gss_acceptor::{AcceptorTerms, InitialChecksum};
+use gss_initiator::refusal_of;
+use krb_client::Client;
+use krb_kdc_requests::Call;
+use krb_logins::LoginInput;
+use krb_service::Service;
+use std::alloc::Global;
+
+/// Whether a login is honest of this client, at the realm that is called so and at this service, where the client asks for a context with
+/// these channel bindings and flags. What the service holds counts as what it admitted. If memory runs out, the answer is false, and so it is
+/// of an acceptor with channel bindings of its own.
+pub fn is_honest(
+    alloc: Global,
+    client: &Client,
+    realm: &Call<'_>,
+    service: &Service,
+    terms: AcceptorTerms,
+    input: &LoginInput<'_>,
+    initial: InitialChecksum,
+    words: &[u8],
+) -> bool
+    requires login { AreEnough (login_of input.now) }
+    requires context { 96 ≤ length words.now }
+    requires reply { 64 ≤ length input.now.service_words.now }
+    ensures { IsTrue result → IsHonestGssLogin client.now (realm_of realm.now) service.now terms (held_by service.now) (login_of input.now) initial words.now }
+{
+    client.is_well_formed();
+    service.is_well_formed();
+    service.holds_window();
+    terms.bindings.is_none()
+        && krb_logins::is_honest(alloc, client, realm, service, input)
+        && refusal_of(client.suite(), initial.flags).is_none()
+}

@@ -1,0 +1,153 @@
+-- What the client of an honest login presents by its ticket for the service is admissible, whatever its authenticator has beside the
+-- client's name and time.
+use Rattle.std.proofs.Common.{◌≡◌, ◌≤◌, ◌+◌, ◌*◌, ◌/◌, ◌%◌, Bool, true, false, None, Some, refl, sym, subst, arith}
+use Rattle.std.proofs.lemmas.Bool.{and_from}
+use Rattle.asn1_leaves.specs.CharSets.{is_general_string}
+use Rattle.asn1_leaves.specs.GeneralizedTime.{seconds_of}
+use Rattle.asn1_leaves.specs.declared.date.GeneralizedTime.{GeneralizedTime}
+use Rattle.picky_asn1.specs.BitString.{bit_of}
+use Rattle.picky_asn1.specs.Bytes.{Bytes}
+use Rattle.krb_time.specs.Units.{Micros}
+use Rattle.krb_constants.specs.declared.ap_options.TheConstants.{USE_SESSION_KEY}
+use Rattle.krb_crypto.specs.Suites.{cipher_confounder_size, cipher_number}
+use Rattle.krb_types.specs.Names.{is_same_name, is_same_realm}
+use Rattle.krb_types.specs.RandomBytes.{ticket_confounder}
+use Rattle.krb_types.specs.declared.data_types.authenticator.AuthenticatorInner.{AuthenticatorInner}
+use Rattle.krb_encrypted_data.specs.Sealing.{Seals}
+use Rattle.krb_tickets.specs.Grant.{GrantRecord}
+use Rattle.krb_tickets.specs.Parts.{session_key_of, ticket_part}
+use Rattle.krb_tickets.specs.Sealed.{ticket_part_bytes}
+use Rattle.krb_tickets.specs.Times.{asked_end}
+use Rattle.krb_kdc_requests.specs.declared.span.Span.{Span}
+use Rattle.krb_ap_requests.specs.Acceptable.{IsAcceptable}
+use Rattle.krb_ap_requests.specs.Presents.{Choice}
+use Rattle.krb_client.specs.Authenticators.{authenticator_parts_of, authenticator_with, options_of}
+use Rattle.krb_client.specs.Client.{ClientRecord, CredentialRecord}
+use Rattle.krb_service.specs.Admissible.{IsAdmissible, chosen_pair}
+use Rattle.krb_service.specs.Pair.{is_among}
+use Rattle.krb_service.specs.Service.{ServiceRecord}
+use Rattle.krb_logins.specs.Held.{IsFirstSpan, IsFurtherSpan, IsHeld, further_grant}
+use Rattle.krb_logins.specs.Honest.{AreEnough, AreParties, IsHonestLogin, clock_of, common_skew, login_pair}
+use Rattle.krb_logins.specs.Parties.{LoginRecord, RealmRecord, RememberedRecord}
+use Rattle.krb_logins.proofs.GrantTaken.{session_key_sized, suite_of_key}
+use Rattle.krb_logins.proofs.Names.{are_texts, component_texts, own_name, realm_text, same_name, same_realm}
+use Rattle.krb_logins.proofs.Presenting.{choice_of, own_number, under_entry}
+use Rattle.krb_logins.proofs.TicketTimes.{Reaches, has_begun, not_early, not_late, reaches_asked, reaches_end, reaches_first, reaches_lifetime}
+use Rattle.krb_logins.proofs.Times.{by_a_second, moment_told, near}
+
+-- the client's authenticator of a second, which has the checksum, the subkey and what else isn't the client's of another one
+abbrev pub authenticator_beside : ClientRecord → Micros → GeneralizedTime → AuthenticatorInner → AuthenticatorInner
+authenticator_beside client moment second other = record (authenticator_with (authenticator_parts_of client (moment % 1000000)) second None None) {
+  cksum = other.cksum;
+  subkey = other.subkey;
+  seq_number = other.seq_number;
+  authorization_data = other.authorization_data;
+}
+
+-- a client asks under the session key of its ticket, whether it wants a reply or not
+pub own_method : (wanted : Bool) → bit_of (options_of wanted) USE_SESSION_KEY ≡ false
+own_method true = refl
+own_method false = refl
+
+module _ (client : ClientRecord) (realm : RealmRecord) (service : ServiceRecord) (before : RememberedRecord) (login : LoginRecord)
+    (parties : AreParties client service) (enough : AreEnough login) (honest : IsHonestLogin client realm service before login) where
+  -- the lesser skew isn't greater than the service's
+  pub least : common_skew realm service ≤ service.seen.skew
+  least = omega arith
+
+  longer : common_skew realm service + 1000000 ≤ realm.settings.lifetime * 1000000
+  longer = by_a_second realm.settings.skew service.seen.skew realm.settings.lifetime parties.entry.0 honest.lasting.lifetime
+
+  abbrev clock : Micros
+  clock = clock_of before login
+
+  -- names can be written
+  pub client_realm : is_general_string client.realm ≡ true
+  client_realm = realm_text client.realm parties.realm
+
+  pub client_name : are_texts client.components ≡ true
+  client_name = component_texts client.components parties.name
+
+  pub realm_name : is_general_string realm.name ≡ true
+  realm_name = subst (λ name. is_general_string name ≡ true) honest.named.client client_realm
+
+  pub service_name : are_texts login.service ≡ true
+  service_name = subst (λ n. are_texts n ≡ true) (sym honest.named.asked) (component_texts service.entry.components parties.entry.1.1)
+
+  module _ (first span : Span) (first_is : IsFirstSpan realm login first) (further_is : IsFurtherSpan realm login first span) where
+    abbrev grant : GrantRecord
+    grant = further_grant client realm login first span
+
+    -- the ticket has begun
+    pub begun : seconds_of span.start * 1000000 ≤ clock + service.seen.skew
+    begun =
+        has_begun honest.near.start (common_skew realm service) service.seen.skew login.realm_tgs clock
+        honest.near.realm_tgs honest.near.clock least (seconds_of span.start) further_is.starts
+
+    -- and hasn't ended
+    first_reaches : Reaches service.seen.skew clock (seconds_of first.until)
+    first_reaches =
+        reaches_first service.seen.skew clock realm.settings.lifetime login.realm_as login.till first first_is
+        (reaches_asked honest.near.start (common_skew realm service) service.seen.skew login.realm_as clock
+        honest.near.realm_as honest.near.clock least (asked_end (seconds_of login.till)) honest.lasting.first)
+        (reaches_lifetime honest.near.start (common_skew realm service) service.seen.skew login.realm_as clock
+        honest.near.realm_as honest.near.clock least realm.settings.lifetime longer)
+
+    pub further_reaches : Reaches service.seen.skew clock (seconds_of span.until)
+    further_reaches =
+        reaches_end service.seen.skew clock realm.settings.lifetime login.realm_tgs (Some (seconds_of first.until)) login.till span further_is
+        (reaches_asked honest.near.start (common_skew realm service) service.seen.skew login.realm_tgs clock
+        honest.near.realm_tgs honest.near.clock least (asked_end (seconds_of login.till)) honest.lasting.further)
+        (reaches_lifetime honest.near.start (common_skew realm service) service.seen.skew login.realm_tgs clock
+        honest.near.realm_tgs honest.near.clock least realm.settings.lifetime longer)
+        first_reaches
+
+    -- the confounder of the ticket's part
+    abbrev pub for_part : Bytes
+    for_part = ticket_confounder (cipher_confounder_size honest.service.account.suite) login.realm_words_tgs
+
+    -- which is sealed under the service's key
+    pub part_sealed : (credential : CredentialRecord) (held : IsHeld honest.service.account login.realm_words_tgs grant credential)
+        → Seals service.entry.suite service.entry.key (Some service.entry.kvno) 2 for_part (ticket_part_bytes (ticket_part grant)) held.part
+    part_sealed credential held =
+        under_entry honest.service.account service.entry 2 for_part (ticket_part_bytes (ticket_part grant)) held.part honest.service.suite honest.service.key honest.service.kvno held.sealed
+
+    module _ (second : GeneralizedTime) (of_moment : seconds_of second ≡ login.client_ap / 1000000) (wanted : Bool) (other : AuthenticatorInner) (confounder : Bytes) where
+      abbrev choice : Choice
+      choice = choice_of wanted service.entry grant (authenticator_beside client login.client_ap second other) for_part confounder
+
+      unfoldable pub acceptable : IsAcceptable service.entry service.seen.skew clock choice
+      unfolding ticket_part
+      acceptable = record {
+        keyed = parties.entry.1.2;
+        method = own_method wanted;
+        version = refl;
+        ticket_version = refl;
+        kind = refl;
+        realm = same_realm realm.name service.entry.realm (sym honest.named.service);
+        name = same_name login.service service.entry.components honest.named.asked;
+        kvno = own_number service.entry.kvno;
+        part_etype = own_number (cipher_number service.entry.suite);
+        started = not_early grant service.seen.skew clock begun;
+        lasts = not_late grant service.seen.skew clock further_reaches;
+        suite = client.suite;
+        session = suite_of_key client.suite (session_key_of client.suite login.realm_words_tgs) (session_key_sized client.suite login.realm_words_tgs enough.realm_tgs);
+        etype = own_number (cipher_number client.suite);
+        authenticator_version = refl;
+        client = and_from (is_same_realm client.realm realm.name) (is_same_name client.components client.components) (same_realm client.realm realm.name honest.named.client) (own_name client.components);
+        time = login.client_ap;
+        ctime = moment_told login.client_ap (seconds_of second) of_moment;
+      }
+
+      -- its pair is the client's
+      pub pair : chosen_pair service clock choice acceptable ≡ login_pair client login
+      unfolding ticket_part acceptable
+      pair = let same = sym honest.named.client in λ i. record { realm = same i; components = client.components; time = login.client_ap }
+
+      unfoldable pub admissible : IsAdmissible service clock before.admitted choice
+      unfolding acceptable
+      admissible = record {
+        acceptable = acceptable;
+        near = near honest.near.start (common_skew realm service) service.seen.skew clock login.client_ap honest.near.clock honest.near.client_ap least;
+        first = subst (λ p. is_among p before.admitted ≡ false) (sym pair) honest.fresh;
+      }
