@@ -3,6 +3,5 @@ mod Again
 mod RealmAgain
 mod Said
 mod Written
-mod Replied
 mod Keyed
 mod Fitting

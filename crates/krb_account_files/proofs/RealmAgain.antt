@@ -1,11 +1,12 @@
 -- The realm's record is read as it was written.
-use Rattle.std.proofs.Common.{◌≡◌, ℕ, ◌+◌, ◌≤◌, List, ◌++◌, length, drop, slice_index, Option, None, Some, refl, ◌∙◌, arith, le-ltb, eq-eqb, ◌&&◌, nat_le, true, false, Bool, if◌then◌else◌}
+use Rattle.std.proofs.Common.{◌≡◌, ℕ, ◌+◌, ◌≤◌, List, [], ◌∷◌, ◌++◌, length, length-append, drop, take, slice_index, Option, None, Some, refl, ap, ◌∙◌, arith, le-ltb, eq-eqb, ◌&&◌, nat_le, true, false, Bool, if◌then◌else◌}
+use Rattle.std.proofs.Math.Seq.{drop-append-add, drop-append_seam, take-append_seam}
 use Rattle.std.proofs.lemmas.Bool.{le-leb, and_parts, leb-true}
 use Rattle.byteorder.specs.Numbers.{little_number-reads_back}
 use Rattle.byte_layouts.specs.Numbers.{le32, le32_at}
-use Rattle.krb_accounts.specs.Names.{IsRealmName}
+use Rattle.krb_accounts.specs.Names.{is_realm_name}
 use Rattle.krb_accounts.specs.Settings.{AreSettings, SettingsRecord}
-use Rattle.krb_account_files.specs.RealmRecords.{named_realm, realm_bytes, realm_in, settings_of}
+use Rattle.krb_account_files.specs.RealmRecords.{is_pkinit, is_recorded, named_realm, pkinit_in, pkinit_octets, realm_bytes, realm_in, settings_of}
 use Rattle.krb_account_files.specs.declared.realm_parameters.RealmParameters.{RealmParameters}
 
 -- Settings that are in their ranges, and others.
@@ -29,23 +30,45 @@ unsettled skew lifetime none = by (in_range skew lifetime) refl
         absurd (none (leb-true skew 86400 second.0, (leb-true 1 lifetime second.1, leb-true lifetime 31536000 first.1)))
     by false e = refl
 
-four : (n : ℕ) (tail : List ℕ) → length (le32 n ++ tail) ≡ 4 + length tail
-unfolding le32
-four n tail = omega arith
+-- What logins by certificate are answered by is read as it was written, and fits the record.
+pkinit_again : (pkinit : Option (List ℕ)) → is_pkinit pkinit ≡ true → pkinit_in (pkinit_octets pkinit) ≡ pkinit
+pkinit_again None is = refl
+pkinit_again (Some []) is = absurd (cc (is))
+pkinit_again (Some (octet ∷ octets)) is = refl
 
-whole : (octets name : List ℕ) (skew lifetime : ℕ) → 17 ≤ length octets → slice_index octets 0 ≡ 1 → le32_at 9 octets ≡ 0 → le32_at 13 octets ≡ 0
-    → le32_at 1 octets ≡ skew → le32_at 5 octets ≡ lifetime → drop 17 octets ≡ name → realm_in octets ≡ named_realm name (settings_of skew lifetime)
+pkinit_few : (pkinit : Option (List ℕ)) → is_pkinit pkinit ≡ true → length (pkinit_octets pkinit) ≤ 7920
+pkinit_few None is = omega arith
+pkinit_few (Some octets) is = leb-true (length octets) 7920 (and_parts (nat_le 1 (length octets)) (nat_le (length octets) 7920) is).1
+
+-- What is behind a front, and in between.
+behind : (front middle rest : List ℕ) → drop (length front + length middle) (front ++ (middle ++ rest)) ≡ rest
+behind front middle rest = drop-append-add front (middle ++ rest) (length middle) ∙ drop-append_seam middle rest
+
+between : (front middle rest : List ℕ) → take (length middle) (drop (length front) (front ++ (middle ++ rest))) ≡ middle
+between front middle rest = ap (take (length middle)) (drop-append_seam front (middle ++ rest)) ∙ take-append_seam middle rest
+
+whole : (octets name own : List ℕ) (skew lifetime size : ℕ) → 17 + size ≤ length octets → slice_index octets 0 ≡ 1 → le32_at 9 octets ≡ size → le32_at 13 octets ≡ 0
+    → le32_at 1 octets ≡ skew → le32_at 5 octets ≡ lifetime → drop (17 + size) octets ≡ name → take size (drop 17 octets) ≡ own
+    → realm_in octets ≡ named_realm name (settings_of skew lifetime) (pkinit_in own)
 unfolding realm_in
-whole octets name skew lifetime enough version anchor certificate first second behind =
-    rw (le-ltb (length octets) 17 enough, eq-eqb (slice_index octets 0) 1 version, anchor, certificate, first, second, behind) refl
+whole octets name own skew lifetime size enough version sized zeros first second rest part =
+    let some : 17 ≤ length octets = omega (arith, enough) in
+    rw (le-ltb (length octets) 17 some, eq-eqb (slice_index octets 0) 1 version, zeros, sized, le-ltb (length octets) (17 + size) enough, first, second, rest, part) refl
 
-pub realm_as_written : (realm : RealmParameters) → IsRealmName realm.name → AreSettings realm.settings.skew realm.settings.lifetime → realm_in (realm_bytes realm) ≡ Some realm
+pub realm_as_written : (realm : RealmParameters) → is_recorded realm ≡ true → AreSettings realm.settings.skew realm.settings.lifetime → realm_in (realm_bytes realm) ≡ Some realm
 unfolding realm_bytes le32 le32_at
 realm_as_written realm is are =
     let skew : ℕ = realm.settings.skew in
     let lifetime : ℕ = realm.settings.lifetime in
-    let long : length (realm_bytes realm) ≡ 17 + length realm.name =
-    omega (arith, four skew (le32 lifetime ++ (le32 0 ++ (le32 0 ++ realm.name))), four lifetime (le32 0 ++ (le32 0 ++ realm.name)), four 0 (le32 0 ++ realm.name), four 0 realm.name) in
-    whole (realm_bytes realm) realm.name skew lifetime (omega (arith, long)) refl refl refl
-    (little_number-reads_back 4 skew (le32 lifetime ++ (le32 0 ++ (le32 0 ++ realm.name))) (omega (arith, are.0))) (little_number-reads_back 4 lifetime (le32 0 ++ (le32 0 ++ realm.name)) (omega (arith, are.1.1))) refl
-    ∙ rw (settled skew lifetime are, is) refl
+    let own : List ℕ = pkinit_octets realm.pkinit in
+    let size : ℕ = length own in
+    let both = and_parts (is_realm_name realm.name) (is_pkinit realm.pkinit) is in
+    let few : size ≤ 7920 = pkinit_few realm.pkinit both.1 in
+    let front : List ℕ = 1 ∷ (le32 skew ++ (le32 lifetime ++ (le32 size ++ le32 0))) in
+    let long : length (realm_bytes realm) ≡ 17 + length (own ++ realm.name) = length-append front (own ++ realm.name) in
+    whole (realm_bytes realm) realm.name own skew lifetime size (omega (arith, long, length-append own realm.name)) refl
+    (little_number-reads_back 4 size (le32 0 ++ (own ++ realm.name)) (omega (arith, few))) refl
+    (little_number-reads_back 4 skew (le32 lifetime ++ (le32 size ++ (le32 0 ++ (own ++ realm.name)))) (omega (arith, are.0)))
+    (little_number-reads_back 4 lifetime (le32 size ++ (le32 0 ++ (own ++ realm.name))) (omega (arith, are.1.1)))
+    (behind front own realm.name) (between front own realm.name)
+    ∙ rw (settled skew lifetime are, both.0, pkinit_again realm.pkinit both.1) refl

@@ -4,4 +4,3 @@ pub mod RealmRecords
 pub mod Files
 pub mod Held
 pub mod Named
-pub mod Replies

@@ -1,14 +1,13 @@
 //! What holds of every record and of every file. Each is a function that does nothing when it runs: its contract is the law.
-ghost use Rattle.std.specs.Prelude.{◌≡◌, ◌≤◌, ◌<◌, ◌^◌, ℕ, List, Some, length};
+ghost use Rattle.std.specs.Prelude.{◌≡◌, ◌≤◌, ◌<◌, ◌^◌, ℕ, List, Some, IsTrue, length};
 ghost use Rattle.aes_cts.specs.Bytes.{IsBytes};
 ghost use Rattle.krb_accounts.specs.Account.{AccountRecord};
-ghost use Rattle.krb_accounts.specs.Names.{IsRealmName};
 ghost use Rattle.krb_accounts.specs.Settings.{AreSettings};
 ghost use Rattle.krb_crypto.specs.Suites.{cipher_key_size};
 ghost use Rattle.krb_kdc_requests.specs.Calls.{AreKeyed};
 ghost use Rattle.krb_account_files.specs.AccountRecords.{account_bytes, account_in};
 ghost use Rattle.krb_account_files.specs.Files.{IsLookOf, look_of};
-ghost use Rattle.krb_account_files.specs.RealmRecords.{realm_bytes, realm_in};
+ghost use Rattle.krb_account_files.specs.RealmRecords.{is_recorded, realm_bytes, realm_in};
 ghost use Rattle.krb_account_files.specs.declared.realm_parameters.RealmParameters.{RealmParameters};
 
 /// The record of an account is read as that account, if its key has its suite's length and its kvno is at least 1 and below 2^32.
@@ -17,14 +16,15 @@ pub fn account_as_written()
         → account_in (account_bytes account) ≡ Some account }
 {}
 
-/// The record of a realm is read as that realm, if its name is one of a realm and its settings are in their ranges.
+/// The record of a realm is read as that realm, if its name is one of a realm, its settings are in their ranges, and logins by
+/// certificate are answered by as many octets as have room.
 pub fn realm_as_written()
-    ensures { (realm : RealmParameters) → IsRealmName realm.name → AreSettings realm.settings.skew realm.settings.lifetime
+    ensures { (realm : RealmParameters) → IsTrue (is_recorded realm) → AreSettings realm.settings.skew realm.settings.lifetime
         → realm_in (realm_bytes realm) ≡ Some realm }
 {}
 
 /// There are accounts that a file may have, whatever its octets are: those that they say, with none where they are damaged. So what
-/// `FileReplies` says of all such accounts is said of some.
+/// is said of a reply for all such accounts is said for some.
 pub fn has_look()
     ensures { (bytes : List ℕ) → IsLookOf bytes (look_of bytes) }
 {}

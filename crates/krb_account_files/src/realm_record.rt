@@ -1,13 +1,15 @@
 //! The record of the realm.
-ghost use Rattle.std.specs.Prelude.{◌≡◌, Some, IfOk};
-ghost use Rattle.krb_account_files.specs.RealmRecords.{named_realm, realm_bytes, realm_in, settings_of};
+ghost use Rattle.std.specs.Prelude.{◌≡◌, Some, IfOk, IsTrue};
+ghost use Rattle.std.specs.Option.{option_copied};
+ghost use Rattle.krb_account_files.specs.RealmRecords.{is_pkinit, named_realm, pkinit_in, pkinit_octets, realm_bytes, realm_in, settings_of};
 ghost use Rattle.krb_account_files.specs.Reading.{IsReadAs};
 
 use crate::fault::RecordFault;
-use crate::format::{REALM_HEAD, RECORD_VERSION};
+use crate::format::{PKINIT_ROOM, REALM_HEAD, RECORD_VERSION};
 use crate::realm_parameters::RealmParameters;
 use byte_layouts::{u32_le, u32_le_bytes};
 use krb_accounts::{RealmRefusal, Settings, realm_name_of};
+use picky_asn1::wrapper::OctetStringAsn1;
 use std::alloc::{AllocError, Global};
 
 /// Returns the realm whose record the octets are. It refuses as `Damaged` if they are no realm's record, and as `Memory` if memory runs
@@ -19,7 +21,8 @@ pub fn read_realm(alloc: Global, bytes: &[u8]) -> Result<RealmParameters, Record
     if bytes.len() < REALM_HEAD || bytes[0] != RECORD_VERSION {
         return Err(RecordFault::Damaged);
     }
-    if u32_le(bytes, 9) != 0 || u32_le(bytes, 13) != 0 {
+    let size = u32_le(bytes, 9) as usize;
+    if u32_le(bytes, 13) != 0 || bytes.len() - REALM_HEAD < size {
         return Err(RecordFault::Damaged);
     }
     let skew = u64::from(u32_le(bytes, 1));
@@ -27,7 +30,19 @@ pub fn read_realm(alloc: Global, bytes: &[u8]) -> Result<RealmParameters, Record
     let Some(settings) = settings_of(skew, lifetime) else {
         return Err(RecordFault::Damaged);
     };
-    named_realm(alloc, &bytes[REALM_HEAD..], settings)
+    let pkinit = pkinit_in(alloc, &bytes[REALM_HEAD..REALM_HEAD + size])?;
+    named_realm(alloc, &bytes[REALM_HEAD + size..], settings, pkinit)
+}
+
+// Returns what logins by certificate are answered by, if there are octets.
+fn pkinit_in(alloc: Global, octets: &[u8]) -> Result<Option<OctetStringAsn1>, AllocError>
+    ensures { IfOk result (λ pkinit. pkinit ≡ pkinit_in octets.now) }
+{
+    if octets.is_empty() {
+        return Ok(None);
+    }
+    let own = Vec::from_slice(alloc, octets)?;
+    Ok(Some(OctetStringAsn1::from(own)))
 }
 
 // Returns the settings of this clock skew and greatest lifetime, if a realm may have them.
@@ -40,31 +55,62 @@ fn settings_of(skew: u64, lifetime: u64) -> Option<Settings>
     Some(settings)
 }
 
-// Returns the realm of this name and these settings, if the name may be a realm's.
+// Returns the realm of this name, these settings and these octets, if the name may be a realm's.
 fn named_realm(
     alloc: Global,
     name: &[u8],
     settings: Settings,
+    pkinit: Option<OctetStringAsn1>,
 ) -> Result<RealmParameters, RecordFault>
-    ensures { IsReadAs (named_realm name.now (Some settings)) result }
+    ensures { IsReadAs (named_realm name.now (Some settings) pkinit) result }
 {
     match realm_name_of(alloc, name) {
-        Ok(name) => Ok(RealmParameters { name, settings }),
+        Ok(name) => Ok(RealmParameters {
+            name,
+            settings,
+            pkinit,
+        }),
         Err(RealmRefusal::Memory) => Err(RecordFault::Memory),
         Err(_) => Err(RecordFault::Damaged),
+    }
+}
+
+/// Returns whether there are from 1 to [`PKINIT_ROOM`] octets, or none are given.
+pub fn is_pkinit(pkinit: &Option<OctetStringAsn1>) -> bool
+    ensures { result ≡ is_pkinit pkinit.now }
+{
+    match pkinit {
+        Some(octets) => {
+            let size = octets.as_bytes().len();
+            1 <= size && size <= PKINIT_ROOM
+        }
+        None => true,
+    }
+}
+
+// Returns the octets by which logins by certificate are answered.
+fn pkinit_octets(pkinit: &Option<OctetStringAsn1>) -> &[u8]
+    ensures { result.now ≡ pkinit_octets pkinit.now }
+{
+    match pkinit {
+        Some(octets) => octets.as_bytes(),
+        None => &[],
     }
 }
 
 /// Returns the record of a realm. It fails only if memory runs out.
 #[tactic(auto, unfolding(crate::specs::RealmRecords::realm_bytes))]
 pub fn realm_bytes(alloc: Global, realm: &RealmParameters) -> Result<Vec<u8>, AllocError>
+    requires { IsTrue (is_pkinit realm.now.pkinit) }
     ensures { IfOk result (λ bytes. bytes.items ≡ realm_bytes realm.now) }
 {
     let mut bytes = vec![in alloc; RECORD_VERSION]?;
     bytes.extend_from_slice(&u32_le_bytes(realm.settings.skew() as u32))?;
     bytes.extend_from_slice(&u32_le_bytes(realm.settings.lifetime() as u32))?;
+    let pkinit = pkinit_octets(&realm.pkinit);
+    bytes.extend_from_slice(&u32_le_bytes(pkinit.len() as u32))?;
     bytes.extend_from_slice(&u32_le_bytes(0))?;
-    bytes.extend_from_slice(&u32_le_bytes(0))?;
+    bytes.extend_from_slice(pkinit)?;
     bytes.extend_from_slice(realm.name.as_bytes())?;
     Ok(bytes)
 }

@@ -1,5 +1,5 @@
 //! Writing a file of accounts.
-ghost use Rattle.std.specs.Prelude.{◌≡◌, ◌⊎◌, false, List, Some, Ok, IfErr, IfOk, length};
+ghost use Rattle.std.specs.Prelude.{◌≡◌, ◌⊎◌, false, List, Some, Ok, IfErr, IfOk, IsTrue, length};
 ghost use Rattle.picky_asn1.specs.Bytes.{Bytes};
 ghost use Rattle.std.specs.List.{list_all};
 ghost use Rattle.krb_accounts.specs.Names.{IsRealmName, are_components, is_realm_name};
@@ -7,14 +7,14 @@ ghost use Rattle.krb_account_files.specs.declared.format.TheConstants.{RECORD_RO
 ghost use Rattle.krb_account_files.specs.Files.{account_said, realm_key, realm_said};
 ghost use Rattle.krb_account_files.specs.Named.{AreNamed, AreRecords, IsRealmRecord, IsRecordOf, look_among};
 ghost use Rattle.krb_account_files.specs.AccountRecords.{account_bytes, account_in};
-ghost use Rattle.krb_account_files.specs.RealmRecords.{realm_bytes, realm_in};
+ghost use Rattle.krb_account_files.specs.RealmRecords.{is_pkinit, is_recorded, realm_bytes, realm_in};
 
 use crate::account_file::pack;
 use crate::account_record::account_bytes;
 use crate::format::{REALM_KEY, RECORD_ROOM};
 use crate::laws::{account_as_written, realm_as_written};
 use crate::realm_parameters::RealmParameters;
-use crate::realm_record::realm_bytes;
+use crate::realm_record::{is_pkinit, realm_bytes};
 use arrayvec::ArrayVec;
 use cdb::{Record, WriteFault, write};
 use krb_accounts::{Account, BLOCK_ROOM, COMPONENT_LIMIT, is_realm_name};
@@ -34,7 +34,7 @@ pub struct NamedAccount {
 /// differs, and there by the first character that differs. In the file each name has its account, no other name has one, and the realm
 /// is this realm.
 ///
-/// It refuses as `Unsound` if the realm's name is none of a realm, if a name of an account is none of a principal, if two accounts that
+/// It refuses as `Unsound` if the realm has no record ([`record_of_realm`]), if a name of an account is none of a principal, if two accounts that
 /// differ have one name, if the accounts are not in the order of their names, or if an account's record has more than [`RECORD_ROOM`]
 /// octets. It refuses as `Large` if the file would have 2^32 octets or more, and as `Memory` if memory runs out.
 pub fn write_accounts(
@@ -149,18 +149,25 @@ fn account_reads_again(account: &Account)
 }
 
 /// Returns the record of the realm. It comes after those of the accounts, since its key does. It refuses as `Unsound` only if the
-/// realm's name is none of a realm, and as `Memory` if memory runs out.
+/// realm's name is none of a realm or logins by certificate are answered by none or too many octets, and as `Memory` if memory runs out.
 pub fn record_of_realm(alloc: Global, realm: &RealmParameters) -> Result<Record, WriteFault>
     ensures made { IfOk result (λ r. IsRealmRecord realm.now r) }
-    ensures refusal { IfErr result (λ e. (e ≡ WriteFault.Memory) ⊎ ((e ≡ WriteFault.Unsound) × (is_realm_name realm.now.name ≡ false))) }
+    ensures refusal { IfErr result (λ e. (e ≡ WriteFault.Memory) ⊎ ((e ≡ WriteFault.Unsound) × (is_recorded realm.now ≡ false))) }
 {
-    if !is_realm_name(realm.name.as_bytes()) {
+    if !is_recorded(realm) {
         return Err(WriteFault::Unsound);
     }
     realm_reads_again(realm);
     let key = realm_key(alloc)?;
     let content = realm_bytes(alloc, realm)?;
     Ok(Record { key, content })
+}
+
+// Returns whether the realm has a record.
+fn is_recorded(realm: &RealmParameters) -> bool
+    ensures { result ≡ is_recorded realm.now }
+{
+    is_realm_name(realm.name.as_bytes()) && is_pkinit(&realm.pkinit)
 }
 
 // Returns the key of the realm's record.
@@ -173,7 +180,7 @@ fn realm_key(alloc: Global) -> Result<Vec<u8>, AllocError>
 
 // What is written of a realm is read as that realm. It does nothing when it runs.
 fn realm_reads_again(realm: &RealmParameters)
-    requires { IsRealmName realm.now.name }
+    requires { IsTrue (is_recorded realm.now) }
     ensures { realm_in (realm_bytes realm.now) ≡ Some realm.now }
 {
     realm_as_written();

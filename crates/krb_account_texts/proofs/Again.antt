@@ -1,6 +1,8 @@
 -- What is written of a line is read as that line.
 use Rattle.std.proofs.Common.{◌≡◌, ℕ, ◌/◌, ◌<◌, ◌≤◌, ◌^◌, ◌==◌, ◌&&◌, nat_eq, nat_le, not, Bool, true, false, List, [], ◌∷◌, ◌++◌, length, slice_index, codes, Option, None, Some, Ok, IsTrue, refl, ap, ◌∙◌, arith}
 use Rattle.std.specs.List.{list_all}
+use Rattle.std.specs.Option.{option_map}
+use Rattle.std.proofs.lemmas.List.{append-nil}
 use Rattle.std.specs.Fmt.{decimal}
 use Rattle.std.specs.Cmp.Lexicographic.{pointwise}
 use Rattle.std.proofs.lemmas.Bool.{and_parts}
@@ -142,30 +144,54 @@ settings-again settings skew from_one lifetime =
     let third : nat_le settings.lifetime 31536000 ≡ true = grind (arith, nat_tests) in
     rw (first, second, third) refl
 
-realm-again : (name : Bytes) (settings : SettingsRecord) → IsRealm name settings → realm_in name (decimal settings.skew) (decimal settings.lifetime) ≡ Ok (realm name settings)
+realm-again : (name : Bytes) (settings : SettingsRecord) (pkinit : Option Bytes) → IsRealm name settings pkinit
+    → realm_in name (decimal settings.skew) (decimal settings.lifetime) (option_map encode_lower pkinit) ≡ Ok (realm name settings pkinit)
 unfolding realm_in realm_name_in
-realm-again name settings is =
+realm-again name settings None is =
     let skew = is.settings_are.0 in
     let from_one = is.settings_are.1.0 in
     let lifetime = is.settings_are.1.1 in
     rw (is.name_is, is.printed, seconds-again settings.skew (omega arith), seconds-again settings.lifetime (omega arith), settings-again settings skew from_one lifetime) refl
+realm-again name settings (Some octets) is =
+    let skew = is.settings_are.0 in
+    let from_one = is.settings_are.1.0 in
+    let lifetime = is.settings_are.1.1 in
+    let bytes = is.pkinit_are.0 in
+    let count = is.pkinit_are.1 in
+    let some : (length octets == 0) ≡ false = grind (arith, nat_tests) in
+    rw (is.name_is, is.printed, seconds-again settings.skew (omega arith), seconds-again settings.lifetime (omega arith), settings-again settings skew from_one lifetime, decode_of-encode_lower octets bytes, some) refl
 
-realm-fields : (name : Bytes) (settings : SettingsRecord) → IsRealm name settings
-    → fields (realm_text name settings) ≡ codes "realm" ∷ name ∷ decimal settings.skew ∷ decimal settings.lifetime ∷ []
-realm-fields name settings is =
+-- the parts of the realm's line
+realm-parts : (name : Bytes) (settings : SettingsRecord) (pkinit : Option Bytes) → IsRealm name settings pkinit → (last : List ℕ) (parts : List (List ℕ))
+    → fields (decimal settings.lifetime ++ last) ≡ decimal settings.lifetime ∷ parts
+    → fields (codes "realm" ++ 9 ∷ (name ++ 9 ∷ (decimal settings.skew ++ 9 ∷ (decimal settings.lifetime ++ last)))) ≡ codes "realm" ∷ name ∷ decimal settings.skew ∷ decimal settings.lifetime ∷ parts
+realm-parts name settings pkinit is last parts behind =
     let skew : List ℕ = decimal settings.skew in
-    let lifetime : List ℕ = decimal settings.lifetime in
+    let lifetime : List ℕ = decimal settings.lifetime ++ last in
     let skew_is = is.settings_are.0 in
-    let lifetime_is = is.settings_are.1.1 in
     tab-part (codes "realm") (name ++ 9 ∷ (skew ++ 9 ∷ lifetime)) refl
-    ∙ ap (λ parts. codes "realm" ∷ parts)
+    ∙ ap (λ more. codes "realm" ∷ more)
     (tab-part name (skew ++ 9 ∷ lifetime) (name-printed name is.printed)
-    ∙ ap (λ parts. name ∷ parts)
-    (tab-part skew lifetime (plain-decimal settings.skew (omega arith)) ∙ ap (λ parts. skew ∷ parts) (tab-last lifetime (plain-decimal settings.lifetime (omega arith)))))
+    ∙ ap (λ more. name ∷ more)
+    (tab-part skew lifetime (plain-decimal settings.skew (omega arith)) ∙ ap (λ more. skew ∷ more) behind))
 
-realm-line : (name : Bytes) (settings : SettingsRecord) → IsRealm name settings → line_in (realm_text name settings) ≡ Ok (realm name settings)
+plain-lifetime : (name : Bytes) (settings : SettingsRecord) (pkinit : Option Bytes) → IsRealm name settings pkinit → is_all_plain (decimal settings.lifetime) ≡ true
+plain-lifetime name settings pkinit is = let lifetime_is = is.settings_are.1.1 in plain-decimal settings.lifetime (omega arith)
+
+realm-line : (name : Bytes) (settings : SettingsRecord) (pkinit : Option Bytes) → IsRealm name settings pkinit → line_in (realm_text name settings pkinit) ≡ Ok (realm name settings pkinit)
 unfolding line_in
-realm-line name settings is = ap line_of (realm-fields name settings is) ∙ realm-again name settings is
+realm-line name settings None is =
+    let lifetime : List ℕ = decimal settings.lifetime in
+    let last : fields (lifetime ++ []) ≡ lifetime ∷ [] = rw append-nil (tab-last lifetime (plain-lifetime name settings None is)) in
+    let whole = realm-parts name settings None is [] [] last in
+    ap line_of (rw append-nil at whole) ∙ realm-again name settings None is
+realm-line name settings (Some octets) is =
+    let lifetime : List ℕ = decimal settings.lifetime in
+    let digits : List ℕ = encode_lower octets in
+    let last : fields (lifetime ++ 9 ∷ (codes "pkinit" ++ 9 ∷ digits)) ≡ lifetime ∷ codes "pkinit" ∷ digits ∷ [] =
+    tab-part lifetime (codes "pkinit" ++ 9 ∷ digits) (plain-lifetime name settings (Some octets) is)
+    ∙ ap (λ more. lifetime ∷ more) (tab-part (codes "pkinit") digits refl ∙ ap (λ more. codes "pkinit" ∷ more) (tab-last digits (plain-hex octets))) in
+    ap line_of (realm-parts name settings (Some octets) is (9 ∷ (codes "pkinit" ++ 9 ∷ digits)) (codes "pkinit" ∷ digits ∷ []) last) ∙ realm-again name settings (Some octets) is
 
 comment-line : (text : Bytes) → IsComment text → line_in text ≡ Ok (comment text)
 unfolding line_in
@@ -175,7 +201,7 @@ comment-line text is =
 
 pub line-again : (line : WrittenLine) → IsWritable line → line_in (line_text line) ≡ Ok line
 line-again (comment text) is = comment-line text is
-line-again (realm name settings) is = realm-line name settings is
+line-again (realm name settings pkinit) is = realm-line name settings pkinit is
 line-again (account name own) is = account-line name own is
 
 -- a plain text has no line feed
@@ -190,14 +216,29 @@ fed-part : (part rest : List ℕ) → is_all_plain part ≡ true → list_all (�
     → list_all (λ octet. not (octet == 10)) (part ++ 9 ∷ rest) ≡ true
 fed-part part rest plain fed = all-both (λ octet. not (octet == 10)) part (9 ∷ rest) (fed-plain part plain) fed
 
+realm-front : (name : Bytes) (settings : SettingsRecord) (pkinit : Option Bytes) → IsRealm name settings pkinit → (last : List ℕ)
+    → list_all (λ octet. not (octet == 10)) (decimal settings.lifetime ++ last) ≡ true
+    → list_all (λ octet. not (octet == 10)) (codes "realm" ++ 9 ∷ (name ++ 9 ∷ (decimal settings.skew ++ 9 ∷ (decimal settings.lifetime ++ last)))) ≡ true
+realm-front name settings pkinit is last fed =
+    let skew = is.settings_are.0 in
+    fed-part (codes "realm") (name ++ 9 ∷ (decimal settings.skew ++ 9 ∷ (decimal settings.lifetime ++ last))) refl
+    (fed-part name (decimal settings.skew ++ 9 ∷ (decimal settings.lifetime ++ last)) (name-printed name is.printed)
+    (fed-part (decimal settings.skew) (decimal settings.lifetime ++ last) (plain-decimal settings.skew (omega arith)) fed))
+
+realm-fed : (name : Bytes) (settings : SettingsRecord) (pkinit : Option Bytes) → IsRealm name settings pkinit → list_all (λ octet. not (octet == 10)) (realm_text name settings pkinit) ≡ true
+realm-fed name settings None is =
+    let lifetime : List ℕ = decimal settings.lifetime in
+    let whole = realm-front name settings None is [] (rw append-nil (fed-plain lifetime (plain-lifetime name settings None is))) in
+    rw append-nil at whole
+realm-fed name settings (Some octets) is =
+    let lifetime : List ℕ = decimal settings.lifetime in
+    let digits : List ℕ = encode_lower octets in
+    realm-front name settings (Some octets) is (9 ∷ (codes "pkinit" ++ 9 ∷ digits))
+    (fed-part lifetime (codes "pkinit" ++ 9 ∷ digits) (plain-lifetime name settings (Some octets) is) (fed-part (codes "pkinit") digits refl (fed-plain digits (plain-hex octets))))
+
 pub line-fed : (line : WrittenLine) → IsWritable line → list_all (λ octet. not (octet == 10)) (line_text line) ≡ true
 line-fed (comment text) is = is.line
-line-fed (realm name settings) is =
-    let skew = is.settings_are.0 in
-    let lifetime = is.settings_are.1.1 in
-    fed-part (codes "realm") (name ++ 9 ∷ (decimal settings.skew ++ 9 ∷ decimal settings.lifetime)) refl
-    (fed-part name (decimal settings.skew ++ 9 ∷ decimal settings.lifetime) (name-printed name is.printed)
-    (fed-part (decimal settings.skew) (decimal settings.lifetime) (plain-decimal settings.skew (omega arith)) (fed-plain (decimal settings.lifetime) (plain-decimal settings.lifetime (omega arith)))))
+line-fed (realm name settings pkinit) is = realm-fed name settings pkinit is
 line-fed (account name own) is =
     fed-part (name_text name) (suite_name own.suite ++ 9 ∷ (decimal own.kvno ++ 9 ∷ (salt_text own.salt ++ 9 ∷ encode_lower own.key))) (plain-name name (ascii-name name is.name_is))
     (fed-part (suite_name own.suite) (decimal own.kvno ++ 9 ∷ (salt_text own.salt ++ 9 ∷ encode_lower own.key)) (plain-suite own.suite)

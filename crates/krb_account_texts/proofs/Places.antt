@@ -3,7 +3,7 @@ use Rattle.std.proofs.Common.{◌≡◌, ℕ, zero, suc, ◌+◌, ◌<◌, Bool,
 use Rattle.std.specs.Prelude.{OnOk}
 use Rattle.std.specs.List.{insert, position_from, remove}
 use Rattle.std.proofs.lemmas.List.{take-append-drop}
-use Rattle.krb_account_texts.specs.Edits.{HasChanged, HasOneLess, HasOneMore, is_line_of, is_name_spent, is_spent, place_of}
+use Rattle.krb_account_texts.specs.Edits.{HasCertified, HasChanged, HasOneLess, HasOneMore, certified, is_line_of, is_name_spent, is_realm, is_spent, place_of, realm_place}
 use Rattle.krb_account_texts.specs.declared.edits.EditRefusal.{EditRefusal}
 use Rattle.krb_account_texts.specs.declared.edits.EditRefusal.TheVariants.{Exists, Memory, NumberSpent, Unknown}
 use Rattle.krb_account_texts.specs.declared.line.Line.{Line}
@@ -62,6 +62,13 @@ pub changed-at : (name : List Bytes) (change : Line → Line) (old new : List Li
     → new ≡ set old place (change (get_or old place d)) → HasChanged name change old new
 changed-at name change old new place d found inside is =
     (take place old, get_or old place d, drop (suc place) old, passes-at name old place d found, parts-at old place d inside, is ∙ set-parts old place (change (get_or old place d)) inside)
+
+pub certified-at : (pkinit : Option Bytes) (old new : List Line) (place : ℕ) (d : Line) → realm_place old ≡ Some place → place < length old
+    → new ≡ set old place (certified pkinit (get_or old place d)) → HasCertified pkinit old new
+certified-at pkinit old new place d found inside is =
+    let own = is-place is_realm 0 old place d found in
+    let same : place ≡ own.at = omega (arith, own.same) in
+    (take place old, get_or old place d, drop (suc place) old, ap (λ (i : ℕ). is_realm (get_or old i d)) same ∙ own.passes, parts-at old place d inside, is ∙ set-parts old place (certified pkinit (get_or old place d)) inside)
 
 pub one-less : (name : List Bytes) (old new : List Line) (place : ℕ) (d : Line) → place_of name old ≡ Some place → place < length old
     → new ≡ remove old place → HasOneLess name old new

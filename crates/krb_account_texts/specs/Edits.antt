@@ -40,6 +40,24 @@ abbrev pub rekeyed : CipherSuite → Bytes → Option Bytes → Line → Line
 rekeyed suite key salt (line.Account own) = line.Account (record { name = own.name; account = next_account suite key salt own.account })
 rekeyed suite key salt other = other
 
+-- The realm's line with what logins by certificate are answered by, or with nothing. Name and settings stay.
+abbrev pub certified : Option Bytes → Line → Line
+certified pkinit (line.Realm own) = line.Realm (record { name = own.name; settings = own.settings; pkinit = pkinit })
+certified pkinit other = other
+
+abbrev pub is_realm : Line → Bool
+is_realm (line.Realm own) = true
+is_realm other = false
+
+-- The place of the first line of a realm.
+abbrev pub realm_place : List Line → Option ℕ
+realm_place = position_from is_realm 0
+
+-- The new lines are the old ones but for the line of a realm, which has this in place of what logins by certificate were answered by.
+abbrev pub HasCertified : Option Bytes → List Line → List Line → Type 0
+HasCertified pkinit old new =
+    (front : List Line) × (own : Line) × (back : List Line) × (is_realm own ≡ true) × (old ≡ front ++ own ∷ back) × (new ≡ front ++ certified pkinit own ∷ back)
+
 -- The kvno of the line's account is the greatest of 32 bits.
 abbrev pub is_spent : Line → Bool
 is_spent (line.Account own) = own.account.kvno == 4294967295

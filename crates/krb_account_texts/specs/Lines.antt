@@ -12,16 +12,16 @@ use Rattle.krb_settings.specs.Fields.{suite_name}
 use Rattle.krb_account_texts.specs.declared.line.Line.{Line}
 use Rattle.krb_account_texts.specs.declared.line.Line.TheVariants as line
 
--- a comment, the realm's name and settings, or an account's name and what the realm knows of it
+-- a comment, the realm's name, its settings and what logins by certificate are answered by, or an account's name and what the realm knows of it
 pub data WrittenLine : Type 0 where
   comment : Bytes → WrittenLine
-  realm : Bytes → SettingsRecord → WrittenLine
+  realm : Bytes → SettingsRecord → Option Bytes → WrittenLine
   account : List Bytes → AccountRecord → WrittenLine
 
 -- What a line of the program says.
 abbrev pub written : Line → WrittenLine
 written (line.Comment text) = comment (string_bytes text)
-written (line.Realm own) = realm own.name own.settings
+written (line.Realm own) = realm own.name own.settings own.pkinit
 written (line.Account own) = account own.name.name_string.0 own.account
 
 -- The salt in hexadecimal digits, or `-` if there is none.
@@ -29,10 +29,13 @@ abbrev pub salt_text : Option Bytes → List ℕ
 salt_text None = codes "-"
 salt_text (Some salt) = encode_lower salt
 
--- The realm's line: the word `realm`, the name, the clock skew and the greatest lifetime in seconds.
-abbrev pub realm_text : Bytes → SettingsRecord → List ℕ
-realm_text name settings =
+-- The realm's line: the word `realm`, the name, the clock skew and the greatest lifetime in seconds. If logins by certificate are answered,
+-- the word `pkinit` follows, and what they are answered by in hexadecimal digits.
+abbrev pub realm_text : Bytes → SettingsRecord → Option Bytes → List ℕ
+realm_text name settings None =
     codes "realm" ++ (codes "\t" ++ (name ++ (codes "\t" ++ (decimal settings.skew ++ (codes "\t" ++ decimal settings.lifetime)))))
+realm_text name settings (Some octets) =
+    codes "realm" ++ (codes "\t" ++ (name ++ (codes "\t" ++ (decimal settings.skew ++ (codes "\t" ++ (decimal settings.lifetime ++ (codes "\tpkinit\t" ++ encode_lower octets)))))))
 
 -- An account's line: the name as RFC 1964 writes it (section 2.1.3), the suite, the kvno, the salt and the key.
 abbrev pub account_text : List Bytes → AccountRecord → List ℕ
@@ -41,7 +44,7 @@ account_text name own =
 
 abbrev pub line_text : WrittenLine → List ℕ
 line_text (comment text) = text
-line_text (realm name settings) = realm_text name settings
+line_text (realm name settings pkinit) = realm_text name settings pkinit
 line_text (account name own) = account_text name own
 
 -- Each line, and a line feed after it.

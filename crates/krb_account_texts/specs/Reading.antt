@@ -100,17 +100,28 @@ unfoldable pub settings_of : ℕ → ℕ → Result SettingsRecord LineFault
 settings_of skew lifetime =
     if nat_le skew SKEW_LIMIT && (nat_le 1 lifetime && nat_le lifetime LIFETIME_LIMIT) then Ok (record { skew = skew; lifetime = lifetime }) else Err fault.Seconds
 
-unfoldable pub realm_in : List ℕ → List ℕ → List ℕ → Result WrittenLine LineFault
-realm_in name skew lifetime = do
+-- What logins by certificate are answered by, if digits are given: one octet or more.
+abbrev pub some_pkinit : List ℕ → Result (Option Bytes) LineFault
+some_pkinit octets = if length octets == 0 then Err fault.Pkinit else Ok (Some octets)
+
+abbrev pub pkinit_in : Option (List ℕ) → Result (Option Bytes) LineFault
+pkinit_in None = Ok None
+pkinit_in (Some digits) = octets_told fault.Pkinit (decode_of digits) >>= some_pkinit
+
+unfoldable pub realm_in : List ℕ → List ℕ → List ℕ → Option (List ℕ) → Result WrittenLine LineFault
+realm_in name skew lifetime digits = do
   own_name ← realm_name_in name
   own_skew ← seconds_in skew
   own_lifetime ← seconds_in lifetime
   settings ← settings_of own_skew own_lifetime
-  Ok (realm own_name settings)
+  pkinit ← pkinit_in digits
+  Ok (realm own_name settings pkinit)
 
--- The line of these fields: of four, the first of which is the word `realm`, or of five.
+-- The line of these fields: of four, the first of which is the word `realm`, of these with the word `pkinit` and digits, or of five.
 abbrev pub line_of : List (List ℕ) → Result WrittenLine LineFault
-line_of (word ∷ name ∷ skew ∷ lifetime ∷ []) = if pointwise nat_eq word (codes "realm") then realm_in name skew lifetime else Err fault.Fields
+line_of (word ∷ name ∷ skew ∷ lifetime ∷ []) = if pointwise nat_eq word (codes "realm") then realm_in name skew lifetime None else Err fault.Fields
+line_of (word ∷ name ∷ skew ∷ lifetime ∷ further ∷ digits ∷ []) =
+    if pointwise nat_eq word (codes "realm") && pointwise nat_eq further (codes "pkinit") then realm_in name skew lifetime (Some digits) else Err fault.Fields
 line_of (name ∷ suite ∷ kvno ∷ salt ∷ key ∷ []) = account_in name suite kvno salt key
 line_of _ = Err fault.Fields
 

@@ -15,11 +15,17 @@ pub record IsComment (text : Bytes) : Type 0 where
   pub begins : slice_index text 0 ≡ 35
   pub line : IsTrue (list_all (λ octet. not (octet == 10)) text)
 
+-- Logins by certificate are answered by one octet or more, if they are.
+abbrev pub ArePkinitBytes : Option Bytes → Type 0
+ArePkinitBytes None = Unit {0}
+ArePkinitBytes (Some octets) = IsBytes octets × (1 ≤ length octets)
+
 -- A realm has a printable name and settings in their ranges.
-pub record IsRealm (name : Bytes) (settings : SettingsRecord) : Type 0 where
+pub record IsRealm (name : Bytes) (settings : SettingsRecord) (pkinit : Option Bytes) : Type 0 where
   pub name_is : IsRealmName name
   pub printed : IsTrue (is_printed name)
   pub settings_are : AreSettings settings.skew settings.lifetime
+  pub pkinit_are : ArePkinitBytes pkinit
 
 abbrev pub AreSaltBytes : Option Bytes → Type 0
 AreSaltBytes None = Unit {0}
@@ -38,7 +44,7 @@ pub record IsAccount (name : List Bytes) (own : AccountRecord) : Type 0 where
 
 abbrev pub IsWritable : WrittenLine → Type 0
 IsWritable (comment text) = IsComment text
-IsWritable (realm name settings) = IsRealm name settings
+IsWritable (realm name settings pkinit) = IsRealm name settings pkinit
 IsWritable (account name own) = IsAccount name own
 
 abbrev pub AreWritable : List WrittenLine → Type 0

@@ -1,7 +1,7 @@
-//! Changes of the line of one account.
+//! Changes of the line of one account, and of the realm.
 ghost use Rattle.std.specs.Prelude.{◌≡◌, ◌<◌, ◌↔◌, ◌⊎◌, true, length, if◌then◌else◌, IfErr, IfSome, IsSome, OnOk, OnErr, None, Ok, Err};
 ghost use Rattle.std.specs.List.{insert};
-ghost use Rattle.krb_account_texts.specs.Edits.{HasChanged, HasOneLess, HasOneMore, is_line_of, is_name_spent, is_spent, place_of, rekeyed};
+ghost use Rattle.krb_account_texts.specs.Edits.{HasCertified, HasChanged, HasOneLess, HasOneMore, certified, is_line_of, is_name_spent, is_realm, is_spent, place_of, realm_place, rekeyed};
 ghost use Rattle.krb_account_texts.specs.Order.{place_for};
 
 use crate::line::{AccountLine, Line};
@@ -136,4 +136,44 @@ pub fn remove(lines: &mut Vec<Line>, name: &[GeneralStringAsn1]) -> Result<(), E
     };
     let _line = lines.remove(place);
     Ok(())
+}
+
+/// Gives the realm what its logins by certificate are answered by, or takes it away. All other lines stay. It is refused as `Unknown` only if
+/// there is no line of a realm.
+pub fn certify(lines: &mut Vec<Line>, pkinit: Option<OctetStringAsn1>) -> Result<(), EditRefusal>
+    ensures ok { OnOk result (HasCertified pkinit lines.old.items lines.new.items) }
+    ensures refusal { IfErr result (λ e. (e ≡ EditRefusal.Unknown) × (realm_place lines.old.items ≡ None)) }
+    ensures err { OnErr result (lines.new.items ≡ lines.old.items) }
+{
+    let Some(place) = realm_place(lines) else {
+        return Err(EditRefusal::Unknown);
+    };
+    put_pkinit(&mut lines[place], pkinit);
+    Ok(())
+}
+
+// The place of the line of the realm, if there is one.
+fn realm_place(lines: &[Line]) -> Option<usize>
+    ensures first { result ≡ realm_place lines.now }
+    ensures within { IfSome result (λ place. place < length lines.now) }
+{
+    lines.iter().position(|line| is_realm(line))
+}
+
+fn is_realm(line: &Line) -> bool
+    ensures { result ≡ is_realm line.now }
+{
+    match line {
+        Line::Realm(_) => true,
+        _ => false,
+    }
+}
+
+fn put_pkinit(line: &mut Line, pkinit: Option<OctetStringAsn1>)
+    ensures { line.new ≡ certified pkinit line.old }
+{
+    let Line::Realm(own) = line else {
+        return;
+    };
+    own.pkinit = pkinit;
 }

@@ -8,7 +8,7 @@ ghost use Rattle.krb_accounts.specs.Names.{parts};
 ghost use Rattle.krb_crypto.specs.Suites.{cipher_suites};
 ghost use Rattle.krb_settings.specs.Fields.{suite_name};
 ghost use Rattle.krb_account_texts.specs.Lines.{WrittenLine};
-ghost use Rattle.krb_account_texts.specs.Reading.{digits_behind, is_printed, key_in, judged_name, kvno_in, name_in, next_number, number_in, octets_told, realm_name_in, salt_in, seconds_in, settings_of, sized_key, suite_in};
+ghost use Rattle.krb_account_texts.specs.Reading.{digits_behind, is_printed, key_in, judged_name, kvno_in, name_in, next_number, number_in, octets_told, pkinit_in, realm_name_in, salt_in, seconds_in, settings_of, sized_key, suite_in};
 ghost use Rattle.krb_account_texts.specs.Steps.{IsAside};
 
 use crate::fault::LineFault;
@@ -180,6 +180,23 @@ fn is_printed(name: &[u8]) -> bool
     ensures { result ≡ is_printed name.now }
 {
     name.iter().all(|character| 32 <= *character)
+}
+
+/// What logins by certificate are answered by, in hexadecimal digits, if they are given.
+pub(crate) fn pkinit_of(
+    alloc: Global,
+    digits: Option<&str>,
+) -> Result<Option<OctetStringAsn1>, LineFault>
+    ensures { IsAside LineFault.Memory (λ pkinit. pkinit) (pkinit_in (option_map (λ digits. digits.now) digits.entry)) result }
+{
+    let Some(digits) = digits else {
+        return Ok(None);
+    };
+    let octets = octets_of(alloc, digits, LineFault::Pkinit)?;
+    if octets.is_empty() {
+        return Err(LineFault::Pkinit);
+    }
+    Ok(Some(OctetStringAsn1::from(octets)))
 }
 
 /// A number of seconds.

@@ -2,18 +2,20 @@
 //!
 //! ```text
 //! # comments are kept
-//! realm    EXAMPLE.COM    300    36000
+//! realm    EXAMPLE.COM    300    36000    pkinit    3082..
 //! host/server.example.com    aes256-cts-hmac-sha1-96    1    -    (64 hexadecimal digits)
 //! user    aes128-cts-hmac-sha256-128    3    4558..    (32 hexadecimal digits)
 //! ```
 //!
 //! A tab, and no blank, is between each two fields. An account's are its name as RFC 1964 writes it, the suite, the kvno, the salt or
-//! `-`, and the key. The realm's are its name, the clock skew and the greatest lifetime of a ticket, both in seconds. `specs/Lines` has
-//! what each line is written as, and `specs/Reading` how a text is read.
+//! `-`, and the key. The realm's are its name, the clock skew and the greatest lifetime of a ticket, both in seconds. Where logins by
+//! certificate are answered, the word `pkinit` follows, and what they are answered by. `specs/Lines` has what each line is written as, and
+//! `specs/Reading` how a text is read.
 //!
 //! [`read_lines`] returns the lines that a text writes, or its first fault with the number of its line. [`text_of`] writes lines, and what
 //! is written is read as the same lines (law `written_is_read`). [`add`], [`change_key`] and [`remove`] change the line of one account and
-//! no other. They refuse a name that is there, a name that is not there, and a kvno that none follows.
+//! no other. They refuse a name that is there, a name that is not there, and a kvno that none follows. [`certify`] changes the line of the
+//! realm and no other.
 #![tactic(auto)]
 
 mod edits;
@@ -25,7 +27,7 @@ mod order;
 mod reading;
 mod showing;
 
-pub use edits::{EditRefusal, add, change_key, place_of, remove};
+pub use edits::{EditRefusal, add, certify, change_key, place_of, remove};
 pub use fault::{LineFault, TextFault};
 pub use fields::{read_key, suite_named};
 pub use line::{AccountLine, Line, RealmLine, principal_name};

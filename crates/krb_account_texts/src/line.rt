@@ -4,7 +4,7 @@ ghost use Rattle.std.specs.Prelude.{◌≡◌, IfOk, pos};
 use krb_accounts::{Account, Settings};
 use krb_constants::types::NT_PRINCIPAL;
 use krb_types::data_types::PrincipalName;
-use picky_asn1::wrapper::{Asn1SequenceOf, GeneralStringAsn1, IntegerAsn1};
+use picky_asn1::wrapper::{Asn1SequenceOf, GeneralStringAsn1, IntegerAsn1, OctetStringAsn1};
 use picky_asn1_der::ExplicitContextTag;
 use std::alloc::{AllocError, Global};
 
@@ -15,6 +15,8 @@ pub struct RealmLine {
     pub name: GeneralStringAsn1,
     /// Its clock skew and the greatest lifetime of a ticket.
     pub settings: Settings,
+    /// What logins by certificate are answered by, if there are any: DER of the KDC's certificate, of its private key and of the anchor.
+    pub pkinit: Option<OctetStringAsn1>,
 }
 
 /// The line of an account.

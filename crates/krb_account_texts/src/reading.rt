@@ -1,6 +1,7 @@
 //! Reading a text of accounts.
-ghost use Rattle.std.specs.Prelude.{◌≡◌, ◌==◌, ◌-◌, nat_eq, length, map, slice_index, take, pos, IfOk};
+ghost use Rattle.std.specs.Prelude.{◌≡◌, ◌==◌, ◌-◌, nat_eq, length, map, slice_index, take, pos, IfOk, List, [], ◌∷◌};
 ghost use Rattle.std.specs.List.{slice_split};
+ghost use Rattle.std.specs.Option.{option_map};
 ghost use Rattle.krb_constants.specs.declared.types.TheConstants.{NT_PRINCIPAL};
 ghost use Rattle.krb_account_texts.specs.Lines.{written};
 ghost use Rattle.krb_account_texts.specs.Reading.{account_in, fields, is_ended, line_in, line_of, lines_in, lines_of, name_in, numbered, realm_in};
@@ -8,7 +9,8 @@ ghost use Rattle.krb_account_texts.specs.Steps.{IsAside, each_from};
 
 use crate::fault::{LineFault, TextFault};
 use crate::fields::{
-    kvno_of, name_of, read_key, realm_name_of_text, salt_of, seconds_of, settings_of, suite_of,
+    kvno_of, name_of, pkinit_of, read_key, realm_name_of_text, salt_of, seconds_of, settings_of,
+    suite_of,
 };
 use crate::line::{AccountLine, Line, RealmLine, principal_name};
 use krb_accounts::Account;
@@ -103,27 +105,69 @@ fn line_of(alloc: Global, fields: &[&str]) -> Result<Line, LineFault>
     ensures { IsAside LineFault.Memory written (line_of (map (λ field. field.now) fields.now)) result }
 {
     match fields {
-        [word, name, skew, lifetime] => {
-            if *word == "realm" {
-                realm_of(alloc, name, skew, lifetime)
-            } else {
-                Err(LineFault::Fields)
-            }
+        [word, name, skew, lifetime] => plain_realm_of(alloc, word, name, skew, lifetime),
+        [word, name, skew, lifetime, further, digits] => {
+            certified_realm_of(alloc, word, name, skew, lifetime, further, digits)
         }
         [name, suite, kvno, salt, key] => account_of(alloc, name, suite, kvno, salt, key),
         _ => Err(LineFault::Fields),
     }
 }
 
+// The realm's line of four fields.
+fn plain_realm_of(
+    alloc: Global,
+    word: &str,
+    name: &str,
+    skew: &str,
+    lifetime: &str,
+) -> Result<Line, LineFault>
+    ensures { IsAside LineFault.Memory written (line_of (word.now ∷ name.now ∷ skew.now ∷ lifetime.now ∷ [])) result }
+{
+    if word == "realm" {
+        return realm_of(alloc, name, skew, lifetime, None);
+    }
+    Err(LineFault::Fields)
+}
+
+// The realm's line of six fields.
+fn certified_realm_of(
+    alloc: Global,
+    word: &str,
+    name: &str,
+    skew: &str,
+    lifetime: &str,
+    further: &str,
+    digits: &str,
+) -> Result<Line, LineFault>
+    ensures { IsAside LineFault.Memory written (line_of (word.now ∷ name.now ∷ skew.now ∷ lifetime.now ∷ further.now ∷ digits.now ∷ [])) result }
+{
+    if word == "realm" && further == "pkinit" {
+        return realm_of(alloc, name, skew, lifetime, Some(digits));
+    }
+    Err(LineFault::Fields)
+}
+
 #[tactic(auto, unfolding(crate::specs::Reading::realm_in))]
-fn realm_of(alloc: Global, name: &str, skew: &str, lifetime: &str) -> Result<Line, LineFault>
-    ensures { IsAside LineFault.Memory written (realm_in name.now skew.now lifetime.now) result }
+fn realm_of(
+    alloc: Global,
+    name: &str,
+    skew: &str,
+    lifetime: &str,
+    digits: Option<&str>,
+) -> Result<Line, LineFault>
+    ensures { IsAside LineFault.Memory written (realm_in name.now skew.now lifetime.now (option_map (λ digits. digits.now) digits.entry)) result }
 {
     let name = realm_name_of_text(alloc, name)?;
     let skew = seconds_of(skew)?;
     let lifetime = seconds_of(lifetime)?;
     let settings = settings_of(skew, lifetime)?;
-    Ok(Line::Realm(RealmLine { name, settings }))
+    let pkinit = pkinit_of(alloc, digits)?;
+    Ok(Line::Realm(RealmLine {
+        name,
+        settings,
+        pkinit,
+    }))
 }
 
 #[tactic(auto, unfolding(crate::specs::Reading::account_in))]

@@ -39,12 +39,18 @@ pub fn line_text(alloc: Global, line: &Line) -> Result<String, AllocError>
 }
 
 fn realm_text(alloc: Global, line: &RealmLine) -> Result<String, AllocError>
-    ensures { IfOk result (λ text. string_bytes text ≡ realm_text line.now.name line.now.settings) }
+    ensures { IfOk result (λ text. string_bytes text ≡ realm_text line.now.name line.now.settings line.now.pkinit) }
 {
     let name = &line.name;
     let skew = line.settings.skew();
     let lifetime = line.settings.lifetime();
-    format!(in alloc; "realm\t{name}\t{skew}\t{lifetime}")
+    match &line.pkinit {
+        None => format!(in alloc; "realm\t{name}\t{skew}\t{lifetime}"),
+        Some(octets) => {
+            let digits = hex::encode(alloc, octets.as_bytes())?;
+            format!(in alloc; "realm\t{name}\t{skew}\t{lifetime}\tpkinit\t{digits}")
+        }
+    }
 }
 
 fn account_text(alloc: Global, line: &AccountLine) -> Result<String, AllocError>

@@ -106,10 +106,15 @@ fn realm_line(alloc: Global, name: &str) -> Result<RealmLine, Stop> {
     ) else {
         return Err(refused(alloc, "REALM: expected 1 to 255 printable ASCII characters"));
     };
-    Ok(RealmLine { name, settings })
+    Ok(RealmLine {
+        name,
+        settings,
+        pkinit: None,
+    })
 }
 
-/// `list TEXT`: prints the realm, and each account's name, suite, kvno, and whether its key is of a password.
+/// `list TEXT`: prints the realm, and whether it answers logins by certificate, and each account's name, suite, kvno, and whether its key is
+/// of a password.
 pub(crate) fn list(rt: &HostRuntime, arguments: &[String]) -> Result<(), Stop> {
     let [path] = arguments else {
         return Err(expected(rt.alloc(), "list TEXT"));
@@ -139,7 +144,12 @@ fn realm_listed(alloc: Global, realm: &RealmLine) -> Result<String, Stop> {
     let name = &realm.name;
     let skew = realm.settings.skew();
     let lifetime = realm.settings.lifetime();
-    let listed = format!(in alloc; "realm\t{name}\t{skew}\t{lifetime}\n")?;
+    let further = if realm.pkinit.is_some() {
+        "\tpkinit"
+    } else {
+        ""
+    };
+    let listed = format!(in alloc; "realm\t{name}\t{skew}\t{lifetime}{further}\n")?;
     Ok(listed)
 }
 

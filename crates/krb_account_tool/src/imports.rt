@@ -140,7 +140,11 @@ fn realm_of(
         Err(_) => return Err(source.breaks(rt, Place::File, Rule::Name)),
     };
     match Settings::new(written.skew, written.lifetime) {
-        Ok(settings) => Ok(RealmLine { name, settings }),
+        Ok(settings) => Ok(RealmLine {
+            name,
+            settings,
+            pkinit: None,
+        }),
         Err(_) => Err(source.breaks(rt, Place::File, Rule::Range)),
     }
 }

@@ -1,7 +1,7 @@
 //! The program `krb_accounts`: an administrator's tool for the accounts of a realm.
 //!
 //! A text file is the master: `krb_account_texts` has its lines. The database that a KDC reads is made of it. `krb_accounts --help`
-//! prints the commands. Passwords and keys come by standard input alone, and none is shown.
+//! prints the commands. Passwords and accounts' keys come by standard input alone, and no key is shown.
 //!
 //! A file is written whole or not at all. The new file is made beside the old one, under its name with `.new`, with mode 0600, and takes
 //! its place once it is on disk. While it is there no other run writes. If a run fails, it removes its new file, and the old file stands.
@@ -15,6 +15,7 @@
 
 mod accounts;
 mod arguments;
+mod certificates;
 mod database;
 mod imports;
 mod keytabs;
@@ -36,13 +37,17 @@ const USAGE: &str = "usage:
   krb_accounts add [-e SUITE] [-k] TEXT NAME          adds an account, with kvno 1
   krb_accounts key [-e SUITE] [-k] TEXT NAME          gives an account its next key, with the next kvno
   krb_accounts remove TEXT NAME                       takes an account away
+  krb_accounts certify TEXT CERTIFICATE KEY ANCHOR    lets clients log in by certificate: with the KDC's certificate, its RSA key, and
+                                                      the certificate of the authority that issues the clients' certificates
+  krb_accounts uncertify TEXT                         takes certificate, key and anchor away
   krb_accounts keytab TEXT KEYTAB NAME..              writes the accounts' keys to KEYTAB, and keeps the keys that it has
   krb_accounts make TEXT DATABASE                     makes the database of TEXT
   krb_accounts warnings TEXT                          prints what make warns of
   krb_accounts check TEXT DATABASE                    says whether the database answers as TEXT does
   krb_accounts --help, krb_accounts --version
 Standard input is one line: the password, or with -k and for create the key in hexadecimal digits. NAME is as in host/server.example.com.
-SUITE is a name such as aes256-cts-hmac-sha1-96, which is also that of create and add if none is given. key keeps the account's suite.";
+SUITE is a name such as aes256-cts-hmac-sha1-96, which is also that of create and add if none is given. key keeps the account's suite.
+CERTIFICATE, KEY and ANCHOR are files, in PEM or DER. KEY has at least 2,048 bits, and is not encrypted.";
 
 fn main(rt: HostRuntime) -> ExitCode {
     let stop = match run(&rt) {
@@ -77,6 +82,8 @@ fn run_command(rt: &HostRuntime, command: &str, rest: &[String]) -> Result<(), S
         "add" => accounts::add_account(rt, rest),
         "key" => accounts::change_account(rt, rest),
         "remove" => accounts::remove_account(rt, rest),
+        "certify" => certificates::certify(rt, rest),
+        "uncertify" => certificates::uncertify(rt, rest),
         "keytab" => keytabs::keytab(rt, rest),
         "make" => database::make(rt, rest),
         "warnings" => database::warnings(rt, rest),

@@ -3,7 +3,7 @@
 use crate::texts::{stop_of, text_in};
 use crate::warner::Warner;
 use cdb::{Record, WriteFault};
-use krb_account_files::{RealmParameters, record_of_account};
+use krb_account_files::{PKINIT_ROOM, RealmParameters, record_of_account};
 use krb_account_texts::{
     AccountLine, Line, LineFault, RealmLine, TextFault, check_next, read_line,
 };
@@ -137,6 +137,7 @@ impl Made {
         let realm = RealmParameters {
             name: realm.name,
             settings: realm.settings,
+            pkinit: realm.pkinit,
         };
         Ok(RealmRecords {
             realm,
@@ -165,7 +166,9 @@ pub(crate) fn unwritten(alloc: Global, path: &str, fault: WriteFault) -> Stop {
         ),
         WriteFault::Unsound => refused(
             alloc,
-            format_args!("{path}: expected salts of at most 4300 octets"),
+            format_args!(
+                "{path}: expected salts of at most 8100 octets, and at most {PKINIT_ROOM} octets behind pkinit"
+            ),
         ),
     }
 }

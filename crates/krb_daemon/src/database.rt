@@ -5,7 +5,7 @@ use crate::serving::serve_by_clock;
 use crate::stop::{Device, Stop};
 use byte_streams::{Sink, Source, Watched};
 use krb_account_files::realm_of;
-use krb_file_realms::{AtPath, FileFault, FileRealm, NoPkinit, Opens, Tells};
+use krb_file_realms::{AtPath, FileFault, FileRealm, Opens, Tells};
 use krb_frames::ServeFault;
 use krb_log::Logged;
 use std::alloc::Global;
@@ -54,7 +54,7 @@ pub fn serve_database<'a, F: Files<File = File> + Clock + Eprint + AllocGlobal, 
     }
 }
 
-// Serves the realm of a database, which has no logins by certificate.
+// Serves the realm of a database.
 fn serve_opened<
     F: Files<File = File> + Clock + Eprint + AllocGlobal,
     K: Source,
@@ -74,7 +74,6 @@ fn serve_opened<
     };
     let realm = FileRealm {
         accounts,
-        pkinit: &NoPkinit,
         faults: &faults,
     };
     if is_logged {

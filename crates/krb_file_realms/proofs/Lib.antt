@@ -1,1 +1,4 @@
 mod Headers
+mod Unasked
+mod Parts
+mod Answered

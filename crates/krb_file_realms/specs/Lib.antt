@@ -1,4 +1,7 @@
+pub mod Asked
 pub mod Faults
 pub mod Headers
-pub mod NoRows
+pub mod Lacks
+pub mod Means
+pub mod Offers
 pub mod Replies

@@ -2,32 +2,30 @@
 ghost use Rattle.std.specs.Prelude.{◌≡◌};
 ghost use Rattle.krb_lookups.specs.Answers.{refusal_of};
 
+use crate::answer::answer_from;
 use crate::fault::{FileFault, Tells};
 use crate::opens::Opens;
-use krb_account_files::{AccountFile, answer_from};
+use krb_account_files::AccountFile;
 use krb_frames::{AnswerRefusal, Responder};
 use krb_lookups::{LookupRefusal, begins_request, refusal_of};
 use krb_time::Moment;
-use pkinit_interface::Pkinit;
 use std::alloc::Global;
 
 /// The realm of a file, as the responder of a frame loop. The file is opened anew for each request: its realm, its settings and its
-/// accounts count for that one. For bytes that begin no request nothing is opened.
+/// accounts count for that one, and so do its certificate, key and anchor. For bytes that begin no request nothing is opened.
 #[derive(Clone, Copy)]
-pub struct FileRealm<'a, O: Opens, P: Pkinit, T: Tells> {
+pub struct FileRealm<'a, O: Opens, T: Tells> {
     /// What opens the file.
     pub accounts: &'a O,
-    /// What requests by certificate are judged by.
-    pub pkinit: &'a P,
     /// What takes notice of a file that can't be used.
     pub faults: &'a T,
 }
 
-impl<'a, O: Opens, P: Pkinit, T: Tells> Responder for FileRealm<'a, O, P, T> {
+impl<'a, O: Opens, T: Tells> Responder for FileRealm<'a, O, T> {
     ghost use Rattle.krb_file_realms.specs.Replies.{MayLack, RepliesFrom};
     ghost use Rattle.krb_lookups.specs.Begins.{BeginsRequest};
 
-    ghost replies = { λ own. RepliesFrom (O.opens own.accounts.now) O.File.content (P.rows own.pkinit.now) };
+    ghost replies = { λ own. RepliesFrom (O.opens own.accounts.now) O.File.content };
 
     ghost may_want_memory = { λ _ message. BeginsRequest message };
 
@@ -51,7 +49,7 @@ impl<'a, O: Opens, P: Pkinit, T: Tells> Responder for FileRealm<'a, O, P, T> {
             }
         };
         let accounts = AccountFile { file };
-        let answered = answer_from(alloc, &accounts, self.pkinit, message, moment, words);
+        let answered = answer_from(alloc, &accounts, message, moment, words);
         drop(accounts);
         match answered {
             Ok(reply) => Ok(reply),

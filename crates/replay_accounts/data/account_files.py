@@ -25,7 +25,8 @@ sys.path.insert(0, "../../replay_services/data")
 from databases import HEADER, PAIR, Damaged, database, found, number, part, text, word
 from tokens import derive_by_blocks, derive_by_hmac, n_fold
 
-ROOM = 4400
+ROOM = 8192
+PKINIT_ROOM = ROOM - 17 - 255
 DES3, AES128, AES256, AES128_SHA2, AES256_SHA2 = 16, 17, 18, 19, 20
 KEY_SIZES = {DES3: 24, AES128: 16, AES256: 32, AES128_SHA2: 16, AES256_SHA2: 32}
 REALM_KEY = b"\xff"
@@ -82,8 +83,9 @@ def account_record(account):
 
 
 def realm_record(realm):
-    name, skew, lifetime = realm
-    return b"\1" + number(skew) + number(lifetime) + number(0) + number(0) + name
+    name, skew, lifetime, pkinit = realm
+    octets = pkinit or b""
+    return b"\1" + number(skew) + number(lifetime) + number(len(octets)) + number(0) + octets + name
 
 
 def account_of(record):
@@ -99,13 +101,13 @@ def account_of(record):
 def realm_of(record):
     if len(record) < 17 or record[0] != 1:
         raise Damaged
-    skew, lifetime, anchor, certificate = (int.from_bytes(record[at : at + 4], "little") for at in (1, 5, 9, 13))
-    name = record[17:]
-    if anchor or certificate or skew > 86400 or not 1 <= lifetime <= 31536000:
+    skew, lifetime, size, zeros = (int.from_bytes(record[at : at + 4], "little") for at in (1, 5, 9, 13))
+    if zeros or len(record) < 17 + size or skew > 86400 or not 1 <= lifetime <= 31536000:
         raise Damaged
+    pkinit, name = record[17 : 17 + size], record[17 + size :]
     if not 1 <= len(name) <= 255 or any(octet > 127 for octet in name):
         raise Damaged
-    return name, skew, lifetime
+    return name, skew, lifetime, pkinit or None
 
 
 def data_of(file, key):
@@ -136,8 +138,8 @@ def got(file, name):
 
 
 def realm_words(realm):
-    name, skew, lifetime = realm
-    return f"{word(name)} {skew} {lifetime}"
+    name, skew, lifetime, pkinit = realm
+    return f"{word(name)} {skew} {lifetime} {'none' if pkinit is None else word(pkinit)}"
 
 
 def realm_got(file):
@@ -195,11 +197,11 @@ SITE = in_order([
 LONG = in_order(SITE[:3] + [salted(AES256, (b"long",), 1, text("salt", ROOM - 7 - 32 + 1))])
 # Each file's realm, if it has one, and its accounts.
 FILES = {
-    "realm": ((b"R", 300, 36000), R),
-    "site": ((EXAMPLE, 86400, 31536000), SITE),
-    "alone": ((b"~" * 255, 0, 1), []),
+    "realm": ((b"R", 300, 36000, None), R),
+    "site": ((EXAMPLE, 86400, 31536000, text("pkinit", 300)), SITE),
+    "alone": ((b"~" * 255, 0, 1, text("pkinit", PKINIT_ROOM)), []),
     "unnamed": (None, SITE),
-    "long": ((EXAMPLE, 1, 2), LONG),
+    "long": ((EXAMPLE, 1, 2, None), LONG),
 }
 ABSENT = [(), (b"",), (b"nobody",), (b"a", b""), (b"", b"a"), (b"a" * 4095,), (b"a" * 4096,)]
 UNSOUND = [
@@ -247,9 +249,11 @@ def record_damages(file, realm, accounts):
     yield from ((at, bytes([octet])) for octet in ends)
     yield from ((at + 1, number(skew)) for skew in (0, 86400, 86401, 2**32 - 1))
     yield from ((at + 5, number(lifetime)) for lifetime in (0, 1, 31536000, 31536001, 2**32 - 1))
-    yield from ((at + place, number(1)) for place in (9, 13))
-    yield from ((at + 17, bytes([octet])) for octet in (0, 127, 128, 255))
-    yield from ((at - 5, number(count)) for count in (0, 16, 17, 18, 17 + 256, ROOM + 1))
+    size = len(realm[3] or b"")
+    yield from ((at + 9, number(count)) for count in (0, 1, size - 1, size + 1, size + len(realm[0]), size + len(realm[0]) + 1, 2**32 - 1) if count >= 0)
+    yield at + 13, number(1)
+    yield from ((at + 17 + size, bytes([octet])) for octet in (0, 127, 128, 255))
+    yield from ((at - 5, number(count)) for count in (0, 16, 17, 18, 17 + size, 17 + size + 1, 17 + size + 256, ROOM + 1))
 
 
 def chance_damages(file, count):
@@ -358,6 +362,7 @@ def rows():
             yield from damage_rows(file, accounts, record_damages(file, realm, accounts))
         if name == "site":
             file = database(records(realm, accounts))
+            yield from damage_rows(file, [], record_damages(file, realm, []))
             short = [(own, account) for own, account in accounts if len(account[3] or b"") < 64]
             yield from damage_rows(file, short, chance_damages(file, 200))
     yield "# A file that has no record of the realm gets no reply."
@@ -368,7 +373,11 @@ def rows():
         yield "open alone.cdb"
         for own, account in accounts:
             yield f"account {name_word(own)} {account_words(account)}"
-        yield f"written unsound {realm_words((realm, 1, 1))}"
+        yield f"written unsound {realm_words((realm, 1, 1, None))}"
+    for what, count in ("logins by certificate by no octet", 0), ("logins by certificate by more octets than a record has room for", PKINIT_ROOM + 1):
+        yield f"# {what}"
+        yield "open alone.cdb"
+        yield f"written unsound {realm_words((EXAMPLE, 1, 1, bytes(count)))}"
     yield "# A read of a folder fails."
     yield f"failing . {name_word((b'a',))}"
 

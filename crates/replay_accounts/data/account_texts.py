@@ -38,7 +38,7 @@ def text_of(accounts, head=HEAD):
     return head + "".join(line(*accounts[name]) for name in sorted(accounts))
 
 for _ in range(60):
-    accounts = {name: some_account(name) for name in {some_name() for _ in range(random.randrange(6))}}
+    accounts = {name: some_account(name) for name in sorted({some_name() for _ in range(random.randrange(6))})}
     text = text_of(accounts)
     row("read", fold(text), fold(text))
     names = sorted(accounts)
@@ -64,7 +64,7 @@ for _ in range(60):
 
 KEY = "00" * 16
 ONE = "a\taes128-cts-hmac-sha1-96\t1\t-\t" + KEY + "\n"
-FIELDS = "expected name, suite, kvno, salt and key, or realm, name, skew and lifetime, with a tab between each two"
+FIELDS = "expected name, suite, kvno, salt and key, or realm, name, skew and lifetime, and perhaps pkinit and its octets, with a tab between each two"
 NAME = "name: expected 1 to 16 components of 1 to 255 ASCII characters, with / between each two"
 SUITE = "suite: expected one of " + ", ".join(SUITES)
 KVNO = "kvno: expected a whole number from 1 to 4294967295"
@@ -72,7 +72,10 @@ SALT = "salt: expected pairs of hexadecimal digits, or - for none"
 KEYS = "key: expected as many hexadecimal digits as a key of the suite has: 32, 48 or 64"
 REALM = "realm: expected 1 to 255 printable ASCII characters"
 SECONDS = "realm: expected a skew from 0 to 86400 seconds and a lifetime from 1 to 31536000 seconds"
+# Five fields are those of an account, here of the name realm.
+NAME_OR_SUITE = SUITE
 NO_REALM = "expected the line of the realm before all accounts: realm, name, skew and lifetime"
+PKINIT = "pkinit: expected pairs of hexadecimal digits, as certify writes them"
 ORDER = "name: expected accounts in the order of their names, each name once"
 COMMENTED = "# first\n#\tsecond\n" + HEAD + "# third\n" + ONE + "#\n"
 row("read", fold(COMMENTED), fold(COMMENTED))
@@ -98,8 +101,24 @@ for text, fault in [
     (HEAD.replace("EXAMPLE.COM", ""), "1: " + REALM), (HEAD.replace("EXAMPLE.COM", "A\x01"), "1: " + REALM), (HEAD.replace("EXAMPLE.COM", "A" * 256), "1: " + REALM),
     (HEAD.replace("300", "86401"), "1: " + SECONDS), (HEAD.replace("36000", "0"), "1: " + SECONDS), (HEAD.replace("36000", "31536001"), "1: " + SECONDS),
     (HEAD.replace("300", "x"), "1: " + SECONDS),
+    (HEAD.replace("\n", "\tpkinit\t\n"), "1: " + PKINIT), (HEAD.replace("\n", "\tpkinit\t0\n"), "1: " + PKINIT), (HEAD.replace("\n", "\tpkinit\t0g\n"), "1: " + PKINIT),
+    (HEAD.replace("\n", "\tpkinit\t-\n"), "1: " + PKINIT), (HEAD.replace("\n", "\tpkinit\n"), "1: " + NAME_OR_SUITE), (HEAD.replace("\n", "\tPKINIT\t00\n"), "1: " + FIELDS),
+    (HEAD.replace("\n", "\tpkinit\t00\t\n"), "1: " + FIELDS), (HEAD.replace("realm", "Realm").replace("\n", "\tpkinit\t00\n"), "1: " + FIELDS),
+    (HEAD.replace("300", "86401").replace("\n", "\tpkinit\t0g\n"), "1: " + SECONDS),
 ]:
     row("read", fold(text), fault)
+
+# What logins by certificate are answered by, beside the realm.
+OCTETS = bytes(range(256)) * 20
+for octets in b"\0", b"\x30\x82", OCTETS:
+    certified = HEAD.replace("\n", f"\tpkinit\t{octets.hex()}\n")
+    row("read", fold(certified + ONE), fold(certified + ONE))
+    row("read", fold(certified.replace(octets.hex(), octets.hex().upper())), fold(certified))
+    row("certify", fold("#\n" + HEAD + ONE + "# end\n"), octets.hex(), fold("#\n" + certified + ONE + "# end\n"))
+    row("certify", fold(certified + ONE), "00ff", fold(HEAD.replace("\n", "\tpkinit\t00ff\n") + ONE))
+    row("certify", fold(certified + ONE), "-", fold(HEAD + ONE))
+    row("key", fold(certified + ONE), "a", "aes128-cts-hmac-sha1-96", "11" * 16, fold(certified + ONE.replace("\t1\t", "\t2\t").replace(KEY, "11" * 16)))
+    row("remove", fold(certified + ONE), "a", fold(certified))
 
 with open("account_texts.txt", "w", encoding="utf-8") as out:
     out.write("".join(row + "\n" for row in rows))

@@ -5,11 +5,12 @@
 
 use anyhow::bail;
 use krb_account_texts::{
-    AccountLine, EditRefusal, Line, LineFault, TextFault, add, change_key, check_order, read_key,
-    read_lines, read_name, remove, suite_named, text_of,
+    AccountLine, EditRefusal, Line, LineFault, TextFault, add, certify, change_key, check_order,
+    read_key, read_lines, read_name, remove, suite_named, text_of,
 };
 use krb_accounts::Account;
 use krb_crypto::Key;
+use picky_asn1::wrapper::OctetStringAsn1;
 use replay_rows::{Row, Rows, replay};
 use std::alloc::Global;
 
@@ -21,7 +22,8 @@ pub(crate) fn replay_account_texts(rt: &HostRuntime) -> anyhow::Result<()> {
 #[derive(Clone, Copy)]
 struct AccountTexts;
 
-/// What is done with a text, and its arguments, which are empty where there are none.
+/// What is done with a text, and its arguments, which are empty where there are none. The name of `certify` is what logins by certificate are
+/// answered by.
 #[derive(Clone, Copy)]
 struct Edit<'a> {
     what: &'a str,
@@ -89,6 +91,10 @@ fn edited(
     if edit.what == "read" {
         return Ok(None);
     }
+    if edit.what == "certify" {
+        let pkinit = pkinit_of(alloc, edit.name)?;
+        return Ok(certify(lines, pkinit).err());
+    }
     let Ok(name) = read_name(alloc, edit.name) else {
         bail!("no name");
     };
@@ -101,6 +107,15 @@ fn edited(
     }
     let account = Account::new(key, 1, None);
     Ok(add(lines, AccountLine { name, account }).err())
+}
+
+/// What logins by certificate are answered by, or nothing for `-`.
+fn pkinit_of(alloc: Global, digits: &str) -> anyhow::Result<Option<OctetStringAsn1>> {
+    if digits == "-" {
+        return Ok(None);
+    }
+    let octets = hex::decode(alloc, digits)?;
+    Ok(Some(OctetStringAsn1::from(octets)))
 }
 
 fn key_of(alloc: Global, edit: &Edit<'_>) -> anyhow::Result<Key> {

@@ -2,9 +2,9 @@
 
 use anyhow::Context;
 use cdb::ReadAt;
-use krb_account_files::{AccountFile, RealmParameters, answer_from, realm_of};
+use krb_account_files::{AccountFile, RealmParameters, realm_of};
 use krb_accounts::Account;
-use krb_file_realms::NoPkinit;
+use krb_file_realms::answer_from;
 use krb_lookups::{Lookup, LookupFault, LookupRefusal};
 use krb_time::Moment;
 use picky_asn1::wrapper::{GeneralStringAsn1, OctetStringAsn1};
@@ -65,7 +65,8 @@ fn words_of_realm(alloc: Global, realm: &RealmParameters) -> anyhow::Result<Stri
     let name = word_of(alloc, realm.name.as_bytes())?;
     let skew = realm.settings.skew();
     let lifetime = realm.settings.lifetime();
-    Ok(format!(in alloc; "{name} {skew} {lifetime}")?)
+    let pkinit = octets_word(alloc, realm.pkinit.as_ref())?;
+    Ok(format!(in alloc; "{name} {skew} {lifetime} {pkinit}")?)
 }
 
 /// Returns the words for the account that a file says.
@@ -85,13 +86,13 @@ fn words_of_account(alloc: Global, account: &Account) -> anyhow::Result<String> 
     let suite = u8::from(account.suite());
     let kvno = account.kvno();
     let key = word_of(alloc, account.key().as_bytes())?;
-    let salt = salt_word(alloc, account.salt())?;
+    let salt = octets_word(alloc, account.salt())?;
     Ok(format!(in alloc; "{suite} {kvno} {key} {salt}")?)
 }
 
-fn salt_word(alloc: Global, salt: Option<&OctetStringAsn1>) -> anyhow::Result<String> {
-    match salt {
-        Some(salt) => word_of(alloc, salt.as_bytes()),
+fn octets_word(alloc: Global, octets: Option<&OctetStringAsn1>) -> anyhow::Result<String> {
+    match octets {
+        Some(octets) => word_of(alloc, octets.as_bytes()),
         None => Ok(String::from_str(alloc, "none")?),
     }
 }
@@ -105,7 +106,7 @@ pub(crate) fn reply_words<F: ReadAt>(
     let moment = Moment::from_text(b"20000101000000Z").context("no moment")?;
     words_of_reply(
         alloc,
-        answer_from(alloc, accounts, &NoPkinit, message, moment, &random_words()),
+        answer_from(alloc, accounts, message, moment, &random_words()),
     )
 }
 

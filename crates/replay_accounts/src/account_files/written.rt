@@ -23,7 +23,7 @@ fn account_of(alloc: Global, row: &mut Row<'_>) -> anyhow::Result<Account> {
     let suite = row.number::<usize>();
     let kvno = row.number::<u32>();
     let key = row.octets(alloc);
-    let salt = salt_of(alloc, row.word())?;
+    let salt = some_octets(alloc, row.word())?;
     let key = key_of(suite, &key)?;
     if kvno == 0 {
         bail!("an account of kvno 0");
@@ -36,20 +36,25 @@ fn key_of(suite: usize, key: &[u8]) -> anyhow::Result<Key> {
     Key::new(suite, key).ok().context("a key of another length")
 }
 
-fn salt_of(alloc: Global, word: &str) -> anyhow::Result<Option<OctetStringAsn1>> {
+fn some_octets(alloc: Global, word: &str) -> anyhow::Result<Option<OctetStringAsn1>> {
     if word == "none" {
         return Ok(None);
     }
-    let salt = octets_of(alloc, word)?;
-    Ok(Some(OctetStringAsn1::from(salt)))
+    let octets = octets_of(alloc, word)?;
+    Ok(Some(OctetStringAsn1::from(octets)))
 }
 
-/// Reads a realm: its name, its clock skew and its greatest lifetime.
+/// Reads a realm: its name, its clock skew, its greatest lifetime, and what its logins by certificate are answered by.
 fn realm_of_row(alloc: Global, row: &mut Row<'_>) -> anyhow::Result<RealmParameters> {
     let name = text_of(alloc, row.word())?;
     let (skew, lifetime) = (row.number::<u64>(), row.number::<u64>());
     let settings = Settings::new(skew, lifetime).ok().context("no settings")?;
-    Ok(RealmParameters { name, settings })
+    let pkinit = some_octets(alloc, row.word())?;
+    Ok(RealmParameters {
+        name,
+        settings,
+        pkinit,
+    })
 }
 
 /// Returns whether the file of a row's realm and of these accounts is this one, octet by octet, or is refused by the row's word.
