@@ -8,13 +8,13 @@ CRATES := $(sort $(notdir $(patsubst %/src,%,$(wildcard crates/*/src))))
 REALM := out/realm
 
 .DEFAULT_GOAL := help
-.PHONY: help try messages certificate test listener check gate faults settings run clients logins gss initiator bench plant fmt docs budget crate-named bridge-there
+.PHONY: help try messages certificate test listener check gate faults settings run clients logins pkinit gss initiator bench plant fmt docs budget crate-named bridge-there
 
 help: ## list the targets
 	@sed -n 's/^\([a-z]*\):[^#]*## /\1\t/p' Makefile | expand -t 14
 
-try: ## run a recorded request and a login by password, without proof: one minute
-	cd crates/example_login && $(RT) try </dev/null
+try: ## run a recorded request, and logins by password and by certificate, without proof: some minutes
+	cd crates/example_login && $(RT) try $(foreach file,$(notdir $(wildcard crates/example_login/data/*.pem crates/example_login/data/*.key)),--data $(file)=data/$(file)) </dev/null
 
 messages: ## read, change and write messages through picky_krb, without proof: one minute
 	cd crates/example_messages && $(RT) try </dev/null
@@ -56,6 +56,9 @@ clients: ## log in to the realm with stock clients of MIT and Heimdal, step by s
 
 logins: ## log in with krb_login at MIT's krb5kdc and Heimdal's kdc, step by step
 	examples/stock_kdcs.sh
+
+pkinit: ## log in with krb_login by certificate at MIT's krb5kdc, step by step
+	examples/certificate_logins.sh
 
 gss: ## log in to the example acceptor with MIT's gss-client, step by step
 	examples/gss_clients.sh

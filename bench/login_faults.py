@@ -158,14 +158,23 @@ def refusals(program):
     """Arguments that need no KDC, with the status and the line that RUNNING.md has for them."""
     user = ["user@EXAMPLE.COM"]
     cache, password = ["-c", "cache"], ["-p", "password"]
+    one_means = "expected one of: -k KEYTAB; -p FILE; -C CERTIFICATE with -K KEY and -A ANCHOR"
+    together = "-C CERTIFICATE, -K KEY and -A ANCHOR go together: expected all three"
+    certified = lambda file: [*cache, "-C", file, "-K", file, "-A", file, *user]
+    wanted = "expected a certificate in PEM or DER"
     rows = [
-        ([], 2, "expected: -c CACHE, -k KEYTAB or -p FILE, and USER@REALM: see --help"),
+        ([], 2, f"{one_means}; and -c CACHE, USER@REALM: see --help"),
         (["-x", "1", *user], 2, "-x: no such option: expected one of --help"),
         ([*cache, *password, *user, "-s"], 2, "-s: expected its value after it"),
         ([*cache, *cache, *password, *user], 2, "-c: expected it once"),
         ([*password, *user], 2, "expected: -c CACHE"),
-        ([*cache, *user], 2, "expected: -k KEYTAB or -p FILE, and not both"),
-        ([*cache, *password, "-k", "keytab", *user], 2, "expected: -k KEYTAB or -p FILE, and not both"),
+        ([*cache, *user], 2, one_means),
+        ([*cache, *password, "-k", "keytab", *user], 2, one_means),
+        ([*password, *certified("words")], 2, one_means),
+        (["-k", "keytab", *certified("words")], 2, one_means),
+        ([*cache, "-C", "words", "-K", "words", *user], 2, together),
+        ([*cache, "-A", "words", *user], 2, together),
+        ([*cache, *password, "-K", "words", *user], 2, together),
         ([*cache, "-p", "-", *user], 2, "-p: standard input is the KDC's: expected a file, as /dev/fd/3"),
         ([*cache, *password], 2, "expected: one USER@REALM"),
         ([*cache, *password, *user, *user], 2, "expected: one USER@REALM"),
@@ -180,6 +189,9 @@ def refusals(program):
         ([*cache, "-p", "/dev/zero", *user], 1, "/dev/zero: expected a password of 1 to 4096 octets in its first line"),
         ([*cache, "-k", "missing", *user], 2, "missing can't be read: "),
         ([*cache, "-k", "words", *user], 1, "words: "),
+        (certified("missing"), 2, "missing can't be read: "),
+        (certified("words"), 1, f"words: what is at octet 0 of the file is not what is asked for: {wanted}"),
+        (certified("password"), 1, f"password: the file is text that has no BEGIN line of what is asked for: {wanted}"),
         ([*cache, *password, "-r", "missing", *user], 2, "missing can't be read: "),
         ([*cache, *password, "-r", "/dev/null", *user], 2, "/dev/null: expected 96 random octets for each request"),
         (["-c", "missing/cache", *ARGUMENTS[2:]], 2, "missing/cache.new can't be made: "),

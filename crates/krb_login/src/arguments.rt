@@ -9,7 +9,7 @@ use krb_types::PrincipalText;
 use std::alloc::Global;
 
 /// The options.
-const OPTIONS: [&str; 7] = ["-k", "-p", "-c", "-s", "-l", "-r", "-t"];
+const OPTIONS: [&str; 10] = ["-k", "-p", "-C", "-K", "-A", "-c", "-s", "-l", "-r", "-t"];
 
 /// For how many seconds tickets are asked for, if it isn't given: ten hours.
 const USUAL_LIFETIME: u64 = 36_000;
@@ -17,11 +17,35 @@ const USUAL_LIFETIME: u64 = 36_000;
 /// The random octets, if no file is given.
 const WORDS: &str = "/dev/urandom";
 
-/// What the client has its key of: a keytab, or the password in a file.
+/// What the arguments have to name.
+pub(crate) const ONE_MEANS: &str =
+    "expected one of: -k KEYTAB; -p FILE; -C CERTIFICATE with -K KEY and -A ANCHOR";
+
+/// By what the client authenticates itself.
 #[derive(Clone, Copy)]
 pub(crate) enum Means<'a> {
+    /// A key that it shares with the KDC.
+    Key(KeyFile<'a>),
+    /// A certificate (RFC 4556).
+    Certificate(CertificateFiles<'a>),
+}
+
+/// What the client has its key of: a keytab, or the password in a file.
+#[derive(Clone, Copy)]
+pub(crate) enum KeyFile<'a> {
     Keytab(&'a str),
     Password(&'a str),
+}
+
+/// The files of a login by certificate.
+#[derive(Clone, Copy)]
+pub(crate) struct CertificateFiles<'a> {
+    /// The path of the client's certificate.
+    pub(crate) certificate: &'a str,
+    /// The path of its private key.
+    pub(crate) key: &'a str,
+    /// The path of the certificate of the authority that the client trusts.
+    pub(crate) anchor: &'a str,
 }
 
 /// A login, as the arguments say it.
@@ -51,7 +75,7 @@ pub(crate) struct Service<'a> {
 /// The values of the options but `-s`.
 #[derive(Clone, Copy)]
 pub(crate) struct Settings<'a> {
-    /// What the client has its key of.
+    /// By what the client authenticates itself.
     pub(crate) means: Means<'a>,
     /// The path of the cache.
     pub(crate) cache: &'a str,
@@ -90,14 +114,48 @@ fn settings_of<'a>(alloc: Global, given: &Given<'a>) -> Result<Settings<'a>, Sto
 }
 
 fn means_of<'a>(alloc: Global, given: &Given<'a>) -> Result<Means<'a>, Stop> {
+    let key = key_file_of(alloc, given)?;
+    let certificate = certificate_files_of(alloc, given)?;
+    match (key, certificate) {
+        (Some(file), None) => Ok(Means::Key(file)),
+        (None, Some(files)) => Ok(Means::Certificate(files)),
+        _ => Err(usage(alloc, ONE_MEANS)),
+    }
+}
+
+// The file of the client's key, if it is given.
+fn key_file_of<'a>(alloc: Global, given: &Given<'a>) -> Result<Option<KeyFile<'a>>, Stop> {
     match (given.value(alloc, "-k")?, given.value(alloc, "-p")?) {
-        (Some(path), None) => Ok(Means::Keytab(path_of(path))),
+        (None, None) => Ok(None),
+        (Some(path), None) => Ok(Some(KeyFile::Keytab(path_of(path)))),
         (None, Some("-")) => Err(usage(
             alloc,
             "-p: standard input is the KDC's: expected a file, as /dev/fd/3",
         )),
-        (None, Some(path)) => Ok(Means::Password(path)),
-        _ => Err(usage(alloc, "expected: -k KEYTAB or -p FILE, and not both")),
+        (None, Some(path)) => Ok(Some(KeyFile::Password(path))),
+        _ => Err(usage(alloc, ONE_MEANS)),
+    }
+}
+
+// The files of a login by certificate, if they are given: all three, or none.
+fn certificate_files_of<'a>(
+    alloc: Global,
+    given: &Given<'a>,
+) -> Result<Option<CertificateFiles<'a>>, Stop> {
+    let certificate = given.value(alloc, "-C")?;
+    let key = given.value(alloc, "-K")?;
+    let anchor = given.value(alloc, "-A")?;
+    match (certificate, key, anchor) {
+        (None, None, None) => Ok(None),
+        (Some(certificate), Some(key), Some(anchor)) => Ok(Some(CertificateFiles {
+            certificate,
+            key,
+            anchor,
+        })),
+        _ => Err(usage(
+            alloc,
+            "-C CERTIFICATE, -K KEY and -A ANCHOR go together: expected all three",
+        )),
     }
 }
 

@@ -1,9 +1,10 @@
 //! The AS exchange and the TGS exchanges of a login.
 
 use crate::arguments::{Login, Service};
+use crate::certified::Certified;
 use crate::kdc::{Kdc, Occasion};
 use crate::secret::{SUITES, Secret, client_with};
-use krb_client::{AsAsked, AskRefusal, ByKey, Client, Credential, TakeRefusal};
+use krb_client::{AsAsked, AskRefusal, Client, Credential, Means, TakeRefusal};
 use krb_commands::{Stop, failed, refused};
 use krb_constants::error_codes::KDC_ERR_ETYPE_NOSUPP;
 use krb_crypto::CipherSuite;
@@ -12,6 +13,14 @@ use krb_time::{MICROSECONDS_IN_SECOND, Moment};
 use krb_types::krbtgt;
 use picky_asn1::date::GeneralizedTime;
 use std::alloc::Global;
+
+/// The suites of a login by certificate, in the order in which they are asked for: those of AES.
+const CERTIFIED_SUITES: [CipherSuite; 4] = [
+    CipherSuite::Aes256CtsHmacSha196,
+    CipherSuite::Aes128CtsHmacSha196,
+    CipherSuite::Aes256CtsHmacSha384192,
+    CipherSuite::Aes128CtsHmacSha256128,
+];
 
 /// What the KDC answered to the request without padata.
 #[derive(Drop)]
@@ -22,8 +31,8 @@ struct FirstAnswer {
     is_reply: bool,
 }
 
-/// Gets the ticket-granting ticket.
-pub(crate) fn authenticate(
+/// Gets the ticket-granting ticket by a key that the client shares with the KDC.
+pub(crate) fn authenticate_by_key(
     alloc: Global,
     kdc: &mut Kdc<'_>,
     login: &Login<'_>,
@@ -32,10 +41,43 @@ pub(crate) fn authenticate(
     let service = granting_service(alloc, login)?;
     let first = ask_first(alloc, kdc, login, secret, &service)?;
     let (client, means) = secret.client(alloc, login, &first.hint)?;
-    if first.is_reply {
-        return take_reply(alloc, login, &client, &means, &first.asked, &first.reply);
+    let taken = if first.is_reply {
+        client.take_as_reply(alloc, &means, &first.asked, &first.reply)
+    } else {
+        ask_with(alloc, kdc, login, &client, &means, &service)?
+    };
+    of_taking(alloc, login.user.argument, taken)
+}
+
+/// Gets the ticket-granting ticket by certificate (RFC 4556, section 3.1). A request names one suite: the next one is asked for where the
+/// KDC takes none of it.
+pub(crate) fn authenticate_by_certificate(
+    alloc: Global,
+    kdc: &mut Kdc<'_>,
+    login: &Login<'_>,
+    own: &Certified,
+) -> Result<Credential, Stop> {
+    let service = granting_service(alloc, login)?;
+    for suite in CERTIFIED_SUITES {
+        match ask_certified(alloc, kdc, login, own, &service, suite)? {
+            Err(TakeRefusal::Refused(code)) if code == KDC_ERR_ETYPE_NOSUPP => {}
+            taken => return of_taking(alloc, login.user.argument, taken),
+        }
     }
-    ask_again(alloc, kdc, login, &client, &means, &service)
+    let refusal = TakeRefusal::Refused(KDC_ERR_ETYPE_NOSUPP);
+    of_taking(alloc, login.user.argument, Err(refusal))
+}
+
+fn ask_certified(
+    alloc: Global,
+    kdc: &mut Kdc<'_>,
+    login: &Login<'_>,
+    own: &Certified,
+    service: &[Vec<u8>],
+    suite: CipherSuite,
+) -> Result<Result<Credential, TakeRefusal>, Stop> {
+    let client = client_with(alloc, login, suite)?;
+    ask_with(alloc, kdc, login, &client, &own.means(), service)
 }
 
 // The name of the realm's ticket-granting service.
@@ -107,15 +149,15 @@ fn hint_of(
     }
 }
 
-// Sends the request with the encrypted timestamp.
-fn ask_again(
+// Sends the request with the padata of the client's means, and takes the reply.
+fn ask_with<M: Means>(
     alloc: Global,
     kdc: &mut Kdc<'_>,
     login: &Login<'_>,
     client: &Client,
-    means: &ByKey,
+    means: &M,
     service: &[Vec<u8>],
-) -> Result<Credential, Stop> {
+) -> Result<Result<Credential, TakeRefusal>, Stop> {
     let occasion = kdc.occasion()?;
     let till = till_of(alloc, login, &occasion)?;
     let asked = client.as_request(
@@ -128,19 +170,7 @@ fn ask_again(
     );
     let (request, asked) = of_asking(alloc, login.user.argument, asked)?;
     let reply = kdc.ask(&request)?;
-    take_reply(alloc, login, client, means, &asked, &reply)
-}
-
-fn take_reply(
-    alloc: Global,
-    login: &Login<'_>,
-    client: &Client,
-    means: &ByKey,
-    asked: &AsAsked,
-    reply: &[u8],
-) -> Result<Credential, Stop> {
-    let taken = client.take_as_reply(alloc, means, asked, reply);
-    of_taking(alloc, login.user.argument, taken)
+    Ok(client.take_as_reply(alloc, means, &asked, &reply))
 }
 
 /// Gets a ticket for a service. A request names one suite: the next one is asked for where the KDC has no key of it for the service.

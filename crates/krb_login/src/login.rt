@@ -1,7 +1,8 @@
 //! A login, from its arguments to the cache.
 
-use crate::arguments::Login;
-use crate::exchange::{ask_for_service, authenticate};
+use crate::arguments::{CertificateFiles, KeyFile, Login, Means};
+use crate::certified::{Certified, certified_in};
+use crate::exchange::{ask_for_service, authenticate_by_certificate, authenticate_by_key};
 use crate::kdc::Kdc;
 use crate::secret::secret_of;
 use krb_client::Credential;
@@ -12,11 +13,39 @@ use std::alloc::Global;
 
 /// Gets the tickets of a login, and writes the cache.
 pub(crate) fn log_in(rt: &HostRuntime, login: &Login<'_>) -> Result<(), Stop> {
-    let secret = secret_of(rt, login)?;
+    match login.settings.means {
+        Means::Key(file) => log_in_by_key(rt, login, file),
+        Means::Certificate(files) => {
+            let own = certified_in(rt, &files)?;
+            let outcome = log_in_by_certificate(rt, login, &own);
+            drop(own);
+            outcome
+        }
+    }
+}
+
+fn log_in_by_key(rt: &HostRuntime, login: &Login<'_>, file: KeyFile<'_>) -> Result<(), Stop> {
+    let secret = secret_of(rt, login, file)?;
     let mut kdc = Kdc::open(rt, &login.settings)?;
-    let granting = authenticate(rt.alloc(), &mut kdc, login, &secret)?;
-    let further = tickets(rt.alloc(), &mut kdc, login, &granting)?;
-    let octets = cached(rt.alloc(), login, &granting, &further)?;
+    let granting = authenticate_by_key(rt.alloc(), &mut kdc, login, &secret)?;
+    log_in_with(rt, &mut kdc, login, &granting)
+}
+
+fn log_in_by_certificate(rt: &HostRuntime, login: &Login<'_>, own: &Certified) -> Result<(), Stop> {
+    let mut kdc = Kdc::open(rt, &login.settings)?;
+    let granting = authenticate_by_certificate(rt.alloc(), &mut kdc, login, own)?;
+    log_in_with(rt, &mut kdc, login, &granting)
+}
+
+// Gets the further tickets, and writes the cache.
+fn log_in_with(
+    rt: &HostRuntime,
+    kdc: &mut Kdc<'_>,
+    login: &Login<'_>,
+    granting: &Credential,
+) -> Result<(), Stop> {
+    let further = tickets(rt.alloc(), kdc, login, granting)?;
+    let octets = cached(rt.alloc(), login, granting, &further)?;
     write_file(rt, login.settings.cache, &octets)
 }
 

@@ -1,27 +1,28 @@
-//! The program `krb_login`: gets tickets from a KDC, by password or keytab, and writes them to a credential cache. It is a filter:
-//! requests go to standard output, and replies come from standard input, each in a frame of Kerberos over TCP (RFC 4120, section 7.2.2).
-//! A bridge sends each request to the KDC, over a new connection where the KDC closes it after each reply. `krb_login --help` prints the
-//! options.
+//! The program `krb_login`: gets tickets from a KDC, by password, keytab or certificate, and writes them to a credential cache. It is a
+//! filter: requests go to standard output, and replies come from standard input, each in a frame of Kerberos over TCP (RFC 4120, section
+//! 7.2.2). A bridge sends each request to the KDC, over a new connection where the KDC closes it after each reply. `krb_login --help` prints
+//! the options.
 //!
-//! First it sends an AS request without padata, which lists the suites. The KDC answers by error 25 with a suite and a salt, or by a
-//! reply. After the error it sends the request with an encrypted timestamp. Then it sends a TGS request for each service. The cache is
-//! written at the end, under its name with `.new`, with mode 0600, and takes its name once it is on disk. If a run fails, the old cache
-//! stays.
+//! By password or keytab it first sends an AS request without padata, which lists the suites. The KDC answers by error 25 with a suite and a
+//! salt, or by a reply. After the error it sends the request with an encrypted timestamp. By certificate its first AS request has the padata
+//! PA-PK-AS-REQ (RFC 4556). Then it sends a TGS request for each service. The cache is written at the end, under its name with `.new`, with
+//! mode 0600, and takes its name once it is on disk. If a run fails, the old cache stays.
 //!
-//! The status is 0 if the cache was written. It is 1 if the KDC refused, if its answer was refused, or if a file has no key or password of
-//! the user. It is 2 if the arguments are none, a file or a stream can't be read or written, or memory ran out. One line on standard error
-//! says what was expected, and names an error of the KDC with its code. No line shows a key or a password.
+//! The status is 0 if the cache was written. It is 1 if the KDC refused, if its answer was refused, or if a file has no key, password or
+//! certificate of the user. It is 2 if the arguments are none, a file or a stream can't be read or written, or memory ran out. One line on
+//! standard error says what was expected, and names an error of the KDC with its code. No line shows a key or a password.
 //!
 //! It is safe, returns, and meets what its calls require. `krb_login_caches` says what cache is made of the tickets.
 #![tactic(auto)]
 
 mod arguments;
+mod certified;
 mod exchange;
 mod kdc;
 mod login;
 mod secret;
 
-use crate::arguments::login_of;
+use crate::arguments::{ONE_MEANS, login_of};
 use crate::login::log_in;
 use krb_commands::{Stop, arguments_of, is_word, print_line, usage};
 use krb_version::VERSION;
@@ -29,10 +30,14 @@ use std::process::ExitCode;
 
 /// What `--help` prints.
 const USAGE: &str = "usage:
-  krb_login (-k KEYTAB | -p FILE) -c CACHE [-s SERVICE].. [-l SECONDS] [-r WORDS] [-t TIME] USER@REALM
+  krb_login MEANS -c CACHE [-s SERVICE].. [-l SECONDS] [-r WORDS] [-t TIME] USER@REALM
   krb_login --help, krb_login --version
+MEANS is one of: -k KEYTAB; -p FILE; -C CERTIFICATE -K KEY -A ANCHOR
   -k KEYTAB   a keytab with a key of the user
   -p FILE     a file whose first line is the user's password; /dev/fd/3 is the file descriptor 3
+  -C CERTIFICATE  the user's certificate, in PEM or DER
+  -K KEY      the certificate's private key of RSA, PKCS#8 or PKCS#1, in PEM or DER
+  -A ANCHOR   the certificate of the authority that issued the KDC's certificate
   -c CACHE    the credential cache that is written
   -s SERVICE  a service of the realm, as HTTP/server.example.com, for which a ticket is wanted; it may be given several times
   -l SECONDS  for how long tickets are asked for: 36000 if it isn't given
@@ -56,7 +61,7 @@ fn run(rt: &HostRuntime) -> Result<(), Stop> {
     match arguments.as_slice() {
         [] => Err(usage(
             rt.alloc(),
-            "expected: -c CACHE, -k KEYTAB or -p FILE, and USER@REALM: see --help",
+            format_args!("{ONE_MEANS}; and -c CACHE, USER@REALM: see --help"),
         )),
         [word] if is_word(word, "--help") => print_line(rt, USAGE),
         [word] if is_word(word, "--version") => print_line(rt, format_args!("krb_login {VERSION}")),

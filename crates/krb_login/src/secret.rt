@@ -1,6 +1,6 @@
 //! What the client has its key of: a password, or the keys of a keytab.
 
-use crate::arguments::{Login, Means};
+use crate::arguments::{KeyFile, Login};
 use krb_client::{ByKey, Client};
 use krb_commands::{Stop, failed, keytab_in, refused};
 use krb_crypto::{CipherSuite, Key};
@@ -31,10 +31,14 @@ pub(crate) enum Secret {
 }
 
 /// The secret of a login.
-pub(crate) fn secret_of(rt: &HostRuntime, login: &Login<'_>) -> Result<Secret, Stop> {
-    match login.settings.means {
-        Means::Password(path) => Ok(Secret::Password(password_in(rt, path)?)),
-        Means::Keytab(path) => Ok(Secret::Records(records_in(rt, path, login)?)),
+pub(crate) fn secret_of(
+    rt: &HostRuntime,
+    login: &Login<'_>,
+    file: KeyFile<'_>,
+) -> Result<Secret, Stop> {
+    match file {
+        KeyFile::Password(path) => Ok(Secret::Password(password_in(rt, path)?)),
+        KeyFile::Keytab(path) => Ok(Secret::Records(records_in(rt, path, login)?)),
     }
 }
 
