@@ -6,7 +6,6 @@
 mod certificate_run;
 mod replies;
 mod stored_run;
-mod toy_keys;
 
 use anyhow::Context;
 use certificate_run::log_in_by_certificate;
@@ -38,6 +37,13 @@ fn main(rt: HostRuntime) -> anyhow::Result<()> {
     log_in_by_certificate(&rt)
 }
 
+/// The key functions of client and realm.
+#[derive(Drop)]
+struct Keys<'a, K: KeyFunctions> {
+    client: &'a K,
+    realm: &'a K,
+}
+
 /// The client asks its realm for a ticket by its password, and uses it. That needs no key functions.
 fn log_in_by_password(rt: &HostRuntime) -> anyhow::Result<()> {
     let host_key = random_bytes::<32>(rt)?;
@@ -49,7 +55,11 @@ fn log_in_by_password(rt: &HostRuntime) -> anyhow::Result<()> {
 
 fn use_realm(rt: &HostRuntime, realm: &Realm, host_key: &[u8]) -> anyhow::Result<()> {
     let client = make_client(rt.alloc())?;
-    let used = use_ticket(rt, realm, &client, host_key, &NoKeys);
+    let keys = Keys {
+        client: &NoKeys,
+        realm: &NoKeys,
+    };
+    let used = use_ticket(rt, realm, &client, host_key, &keys);
     drop(client);
     used
 }
@@ -60,7 +70,7 @@ fn use_ticket<K: KeyFunctions>(
     realm: &Realm,
     client: &Client,
     host_key: &[u8],
-    keys: &K,
+    keys: &Keys<'_, K>,
 ) -> anyhow::Result<()> {
     let credential = log_in(rt, realm, client, keys)?;
     let used = use_service(rt, host_key, client, &credential);
@@ -94,13 +104,13 @@ fn log_in<K: KeyFunctions>(
     rt: &HostRuntime,
     realm: &Realm,
     client: &Client,
-    keys: &K,
+    keys: &Keys<'_, K>,
 ) -> anyhow::Result<Credential> {
-    let (request, asked) = ask_realm(rt, client, keys)?;
+    let (request, asked) = ask_realm(rt, client, keys.client)?;
     let words = random_bytes::<128>(rt)?;
-    let reply = realm.answer(rt.alloc(), &request, now()?, &words, keys)?;
+    let reply = realm.answer(rt.alloc(), &request, now()?, &words, keys.realm)?;
     print_reply(rt, &reply)?;
-    let credential = client.take_as_reply(rt.alloc(), &asked, &reply, keys)?;
+    let credential = client.take_as_reply(rt.alloc(), &asked, &reply, keys.client)?;
     Ok(credential)
 }
 
