@@ -4,7 +4,7 @@ use crate::row::Vector;
 use diffie_hellman::{Exchange, Group, GroupRefusal, WeakGroup};
 use std::alloc::Global;
 
-fn group_named(name: &str) -> Option<Group> {
+pub(crate) fn group_named(name: &str) -> Option<Group> {
     match name {
         "2" => Some(Group::Modp1024),
         "14" => Some(Group::Modp2048),

@@ -53,7 +53,7 @@ pub(crate) fn vector_of<'a>(alloc: Global, row: &mut Row<'a>) -> anyhow::Result<
 }
 
 /// The octets of each column, `-` for none.
-fn columns_of(alloc: Global, text: &str) -> anyhow::Result<Vec<Vec<u8>>> {
+pub(crate) fn columns_of(alloc: Global, text: &str) -> anyhow::Result<Vec<Vec<u8>>> {
     let mut columns = Vec::new(alloc);
     for column in text.split(' ') {
         let digits = if column == "-" { "" } else { column };

@@ -1,6 +1,6 @@
 //! What tests and replays share: devices that move a byte a call and fail in mid-stream, files of recorded lines, and key
 //! functions. A signature is the SHA-256 digest of the signer's key followed by the signed bytes, so anyone can make one.
-//! Another implementation computes the same (`replay_signed`).
+//! Another implementation computes the same (`replay_crypto`).
 #![tactic(auto)]
 
 mod columns;

@@ -1,6 +1,6 @@
 //! What is written as signed data.
 
-use crate::lines::bytes_of;
+use crate::signed::lines::bytes_of;
 use anyhow::bail;
 use cms_signed_data::{SignedContent, SignedFault};
 use key_functions::{KeyFunctions, SignatureAlgorithm};

@@ -1,9 +1,9 @@
 //! Lines of four kinds: what is read, what is written, who is trusted, and keys. Columns are divided by tabs, but those of keys.
 
-use crate::keys::is_made;
-use crate::read::{is_read, is_refused};
-use crate::trusted::{TrustRow, is_judged};
-use crate::written::{WrittenRow, is_written};
+use crate::signed::keys::is_made;
+use crate::signed::read::{is_read, is_refused};
+use crate::signed::trusted::{TrustRow, is_judged};
+use crate::signed::written::{WrittenRow, is_written};
 use std::alloc::Global;
 use test_support::Lines;
 

@@ -1,5 +1,6 @@
 //! Rows on keys: `KIND WORD WORD | OCTETS ..`, where a word may be missing.
 
+use crate::row::columns_of;
 use anyhow::Context;
 use std::alloc::Global;
 
@@ -28,14 +29,4 @@ pub(crate) fn row_of(alloc: Global, line: &str) -> anyhow::Result<KeyRow<'_>> {
         second,
         columns,
     })
-}
-
-/// The octets of each column, `-` for none.
-fn columns_of(alloc: Global, text: &str) -> anyhow::Result<Vec<Vec<u8>>> {
-    let mut columns = Vec::new(alloc);
-    for column in text.split(' ') {
-        let digits = if column == "-" { "" } else { column };
-        columns.push(hex::decode(alloc, digits)?)?;
-    }
-    Ok(columns)
 }

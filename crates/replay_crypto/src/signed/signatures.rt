@@ -1,6 +1,6 @@
 //! Keys and signatures of RSA.
 
-use crate::key_rows::KeyRow;
+use crate::signed::key_rows::KeyRow;
 use diffie_hellman::Group;
 use key_functions::{KeyFunctions, Signed};
 use rsa_keys::{OwnKey, RsaKeyRefusal, RsaKeys, SignatureRefusal, check_signature};

@@ -1,8 +1,8 @@
 //! Keys of RSA and Diffie-Hellman values, their signatures and secrets, and files of keys. `data/rsa_keys.py` and `data/key_files.py` write
 //! the rows.
 
-use crate::key_rows::{KeyRow, row_of};
-use crate::{agreements, files, signatures};
+use crate::signed::key_rows::{KeyRow, row_of};
+use crate::signed::{agreements, files, signatures};
 use std::alloc::Global;
 
 /// Whether what is made is what the line says. A line of another shape differs.

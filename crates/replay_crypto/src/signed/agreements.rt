@@ -1,6 +1,7 @@
 //! Diffie-Hellman values.
 
-use crate::key_rows::KeyRow;
+use crate::agreements::group_named;
+use crate::signed::key_rows::KeyRow;
 use diffie_hellman::{Group, WeakGroup};
 use key_functions::{KeyFunctions, Theirs};
 use picky_asn1::wrapper::BitStringAsn1;
@@ -8,15 +9,6 @@ use picky_asn1_der::Asn1RawDer;
 use rsa_keys::RsaKeys;
 use std::alloc::Global;
 use x509_dh_keys::{DhFault, DhPublicValue};
-
-fn group_named(name: &str) -> Option<Group> {
-    match name {
-        "2" => Some(Group::Modp1024),
-        "14" => Some(Group::Modp2048),
-        "16" => Some(Group::Modp4096),
-        _ => None,
-    }
-}
 
 fn name_of(fault: DhFault) -> &'static str {
     match fault {

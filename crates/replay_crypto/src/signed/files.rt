@@ -1,6 +1,6 @@
 //! Files of certificates and private keys.
 
-use crate::key_rows::KeyRow;
+use crate::signed::key_rows::KeyRow;
 use key_files::{FileFault, certificate_in, private_key_in};
 use std::alloc::Global;
 use x509_private_keys::RsaPrivateKey;

@@ -1,6 +1,4 @@
-//! Replays signed data (RFC 5652) and keys that others made, and compares what is read, written and trusted with the expected values:
-//! `replay_signed FILE ..`, or the recorded files where none is named. How many columns a line has says what it is of.
-#![tactic(auto)]
+//! Signed data (RFC 5652) and keys that others made: what is read, written and trusted. How many columns a line has says what it is of.
 
 mod agreements;
 mod files;
@@ -27,15 +25,16 @@ const RECORDED: [&str; 7] = [
     "key_files.txt",
 ];
 
-fn main(rt: HostRuntime) -> anyhow::Result<()> {
-    let mut names = env::args(&rt)?;
+/// Replays the files that the arguments name, or the recorded ones.
+pub(crate) fn replay_signed(rt: &HostRuntime) -> anyhow::Result<()> {
+    let mut names = env::args(rt)?;
     let _program = names.next();
     let Some(first) = names.next() else {
-        return replay_recorded(&rt);
+        return replay_recorded(rt);
     };
-    replay(&rt, &SignedLines, &first)?;
+    replay(rt, &SignedLines, &first)?;
     for name in names {
-        replay(&rt, &SignedLines, &name)?;
+        replay(rt, &SignedLines, &name)?;
     }
     Ok(())
 }

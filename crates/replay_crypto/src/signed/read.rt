@@ -1,7 +1,7 @@
 //! What is read of signed data.
 
-use crate::lines::{bytes_of, column_of};
-use crate::trusted::code_of;
+use crate::signed::lines::{bytes_of, column_of};
+use crate::signed::trusted::code_of;
 use anyhow::{Context, bail};
 use asn1_elements::part_at;
 use cms_signed_data::{ContentInfo, SignedContent, SignedFault};

@@ -1,7 +1,7 @@
 //! Whose signed data is trusted.
 
-use crate::lines::bytes_of;
-use crate::read::is_unreadable;
+use crate::signed::lines::bytes_of;
+use crate::signed::read::is_unreadable;
 use anyhow::{Context, bail};
 use cms_signed_data::SignedContent;
 use krb_time::Moment;
