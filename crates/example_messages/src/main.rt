@@ -3,7 +3,7 @@
 //! `picky_krb::from_bytes` reads a message that is the whole input; `picky_asn1_der::to_vec` writes one.
 //!
 //! What it has to print (`stdout`) comes from elsewhere. The request, and the KRB-ERROR that is made, are recorded in `clients.txt` of
-//! `replay_messages`. The changed request is the recorded one with other octets in the place of `till`, by sed. The ticket's
+//! `replay_encodings`. The changed request is the recorded one with other octets in the place of `till`, by sed. The ticket's
 //! realm and kvno are those of `messages.cnf`, of which OpenSSL wrote it.
 #![tactic(auto)]
 

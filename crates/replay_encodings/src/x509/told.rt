@@ -1,5 +1,5 @@
 //! One spelling, read, counted and rewritten.
-use crate::line::{Recorded, Wanted};
+use crate::x509::line::{Recorded, Wanted};
 use std::alloc::Global;
 use x509_codec::{deviations, encoded_len, from_bytes, to_vec};
 use x509_spelling::{Spelled, X509Fault};

@@ -1,7 +1,7 @@
 //! Certificates and requests, by the names of their types. Each type has a function of its own, since one match over all of them is dear to prove.
 
-use crate::line::Recorded;
-use crate::told::{Answer, is_told};
+use crate::x509::line::Recorded;
+use crate::x509::told::{Answer, is_told};
 use std::alloc::Global;
 use x509_certificates::{
     Certificate, CertificationRequest, CertificationRequestInfo, TbsCertificate,

@@ -1,5 +1,5 @@
 //! Values as text.
-use crate::told::Answer;
+use crate::x509::told::Answer;
 use anyhow::{Context, bail};
 use picky_asn1::wrapper::ObjectIdentifierAsn1;
 use picky_asn1_x509::{

@@ -1,6 +1,6 @@
 //! Values that calls make, beside recorded spellings of the same.
-use crate::line::Recorded;
-use crate::told::{Answer, is_told};
+use crate::x509::line::Recorded;
+use crate::x509::told::{Answer, is_told};
 use picky_asn1::wrapper::IntegerAsn1;
 use picky_asn1_x509::{AlgorithmIdentifier, KeyUsage, Spelled, SubjectPublicKeyInfo, to_vec};
 use std::alloc::Global;

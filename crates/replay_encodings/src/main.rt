@@ -1,5 +1,6 @@
 //! Reads recorded messages of Kerberos, tokens of the GSS-API, credentials of CredSSP, and messages of PKINIT and PKU2U as their
-//! types, compares them with what is expected, and writes them back.
+//! types, compares them with what is expected, and writes them back. `x509`: the same of X.509 values, certificates and requests, also
+//! where a spelling deviates from DER, and their printed text.
 #![tactic(auto)]
 
 mod credentials;
@@ -11,6 +12,7 @@ mod requests;
 mod sealed;
 mod tickets;
 mod tokens;
+mod x509;
 
 use anyhow::bail;
 use std::alloc::Global;
@@ -39,12 +41,13 @@ impl Lines for TokensAndCredentials {
 }
 
 fn main(rt: HostRuntime) -> anyhow::Result<()> {
-    for file in &["openssl.txt", "clients.txt", "odd.txt"] {
+    for file in &["messages.txt", "clients.txt", "odd.txt"] {
         replay(&rt, &Messages, file)?;
     }
     replay_tokens(&rt)?;
     replay(&rt, &Messages, "pkinit.txt")?;
-    tokens::print_first(&rt, "pkinit.txt")
+    tokens::print_first(&rt, "pkinit.txt")?;
+    x509::replay_x509(&rt)
 }
 
 fn replay_tokens(rt: &HostRuntime) -> anyhow::Result<()> {

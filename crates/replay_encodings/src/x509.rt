@@ -1,6 +1,5 @@
 //! Reads recorded spellings of X.509 values, certificates and requests, counts their deviations, rewrites and prints them. Compares
 //! all of it, and the part that is borrowed as signed, with what is expected.
-#![tactic(auto)]
 
 mod algorithms;
 mod certificates;
@@ -29,9 +28,10 @@ const FILES: [&str; 8] = [
     "openssl.txt",
 ];
 
-fn main(rt: HostRuntime) -> anyhow::Result<()> {
+/// Replays the files of spellings and texts.
+pub(crate) fn replay_x509(rt: &HostRuntime) -> anyhow::Result<()> {
     for file in FILES {
-        replay(&rt, &Spellings, file)?;
+        replay(rt, &Spellings, file)?;
     }
     Ok(())
 }

@@ -1,7 +1,7 @@
 //! Spellings of identifiers of algorithms, by the names of their types. Each type has a function of its own, since one match over
 //! all of them is dear to prove.
-use crate::line::Recorded;
-use crate::told::{Answer, is_told};
+use crate::x509::line::Recorded;
+use crate::x509::told::{Answer, is_told};
 use picky_asn1_x509::{AlgorithmIdentifier, DigestInfo, RawAlgorithmIdentifier};
 use std::alloc::Global;
 
