@@ -1,4 +1,5 @@
 //! Whole logins.
+ghost use Rattle.std.specs.Prelude.{◌≤◌, length};
 ghost use Rattle.krb_logins.specs.Honest.{AreEnough};
 ghost use Rattle.krb_logins.specs.Input.{login_of};
 
@@ -6,11 +7,16 @@ use crate::certificates::BothKeys;
 use crate::stage::{Conditions, Stage};
 use crate::told::{login_text, refused};
 use anyhow::Context;
+use gss_acceptor::{AcceptorTerms, ContextFlags, InitialChecksum};
+use gss_initiator::NO_BINDINGS;
+use gss_logins::is_honest;
 use krb_realm::{
-    Admission, EncryptionKey, LoginInput, LoginMoments, LoginRefusal, Moment,
-    is_honest_by_certificate, is_honest_by_password, login_by_certificate, login_by_password,
+    Admission, Client, EncryptionKey, LoginInput, LoginMoments, LoginRefusal, Moment, Realm,
+    Service, is_honest_by_certificate, is_honest_by_password, login_by_certificate,
+    login_by_password,
 };
 use replay_rows::{Row, Told};
+use result_pairs::both;
 use std::alloc::Global;
 
 /// A login by password, or by certificate with these key functions.
@@ -63,6 +69,44 @@ pub(crate) fn honest(
     Ok(())
 }
 
+/// Writes whether the login would be honest of a client that asks for a context with these flags and no channel bindings.
+pub(crate) fn honest_context(
+    stage: &Stage,
+    alloc: Global,
+    words: &mut Row<'_>,
+    told: &mut Told,
+) -> anyhow::Result<()> {
+    let name = words.name(alloc);
+    let initial = InitialChecksum {
+        bindings: NO_BINDINGS,
+        flags: ContextFlags(words.number::<u32>()),
+    };
+    let random = stage.conditions.random.bytes();
+    let input = input_of(stage.conditions, &name, &random, &random);
+    let (client, realm) = both(stage.client(), stage.realm())?;
+    let service = stage.service.as_ref().context("no service")?;
+    told.show(&is_context_honest(alloc, client, realm, service, &input, initial, &random));
+    Ok(())
+}
+
+// The context has the random octets of the client's steps.
+fn is_context_honest(
+    alloc: Global,
+    client: &Client,
+    realm: &Realm,
+    service: &Service,
+    input: &LoginInput<'_>,
+    initial: InitialChecksum,
+    random: &[u8; 128],
+) -> bool
+    requires login { AreEnough (login_of input.now) }
+    requires reply { 64 ≤ length input.now.service_words.now }
+{
+    let (client, call) = (client.asking(), realm.call(input.moments.realm_as, random));
+    let terms = AcceptorTerms::PLAIN;
+    is_honest(alloc, client, &call, service, terms, input, initial, random)
+}
+
 /// All steps have one moment. Those of the client have the same random bytes, and so have the others.
 pub(crate) fn input_of<'a>(
     at: Conditions,
@@ -70,7 +114,8 @@ pub(crate) fn input_of<'a>(
     random: &'a [u8; 128],
     realm_random: &'a [u8; 128],
 ) -> LoginInput<'a>
-    ensures { AreEnough (login_of result) }
+    ensures login { AreEnough (login_of result) }
+    ensures reply { 64 ≤ length result.service_words.now }
 {
     LoginInput {
         service,

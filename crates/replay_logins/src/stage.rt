@@ -189,6 +189,7 @@ fn tell_message(
         "admit_twice" => services::admit_twice(stage, alloc, told),
         "login" => login::login(stage, alloc, words, None, told),
         "honest" => login::honest(stage, alloc, words, None, told),
+        "honest_context" => login::honest_context(stage, alloc, words, told),
         _ => realms::tell_step(stage, alloc, step, words, told),
     }
 }
