@@ -1,5 +1,5 @@
 """Measures realms of many accounts by the program that is the first argument: see accounts.sh. It writes lists of commands and
-requests in the form that crates/replay_logins plays."""
+requests in the form that crates/replay_realm plays."""
 import os, random, shutil, subprocess, sys, tempfile
 
 PROGRAM, SIZES = os.path.abspath(sys.argv[1]), [int(word) for word in sys.argv[2:]] or [10, 1_000, 100_000, 1_000_000]

@@ -5,4 +5,4 @@
 set -e
 cd "$(dirname "$0")/.."
 (cd crates/bench_codecs && mkdir -p out && rt run -- $(cat args) > out/first_run.txt 2>&1) || { cat crates/bench_codecs/out/first_run.txt; exit 1; }
-exec python3 -B bench/der.py crates/bench_codecs/out/bench_codecs crates/replay_desk/data
+exec python3 -B bench/der.py crates/bench_codecs/out/bench_codecs crates/replay_realm/data

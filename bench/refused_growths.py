@@ -1,6 +1,6 @@
 """Refuses each request for memory of a row in turn: see refused_growths.sh.
 
-A row is a file of lines `STEP .. | WANTED`, as crates/replay_logins/data has them (with a message before what is wanted), or as
+A row is a file of lines `STEP .. | WANTED`, as crates/replay_realm/data has them (with a message before what is wanted), or as
 crates/bench_codecs takes them, those of single calls behind `row`. Each step that takes memory stands there twice, the one behind the
 other.
 
@@ -124,7 +124,10 @@ class Row:
 
 
 class Scripts:
-    """Rows that replay_logins plays: the last of its three scripts. It prints each line that tells something else than is wanted."""
+    """Rows that replay_realm plays: the last of its three scripts. It prints each line that tells something else than is wanted."""
+
+    # The statuses where all was played, and where it ended early. Behind the scripts the program ends for want of its other files.
+    played, stopped = 3, 3
 
     def words(self, row, folder):
         for name in ("clients.txt", "realms.txt"):
@@ -146,6 +149,8 @@ class Scripts:
 class Calls:
     """Rows that bench_codecs plays: its arguments. It prints a line for each call."""
 
+    played, stopped = 0, 1
+
     def words(self, row, folder):
         return " + ".join(step if step.startswith("slice ") else f"row {step}" for step in row.steps).split()
 
@@ -154,7 +159,7 @@ class Calls:
         return (lines, None) if len(lines) == len(row.lines) else (row.wanted, error)
 
 
-PROGRAMS = {"bench_codecs": Calls(), "replay_logins": Scripts()}
+PROGRAMS = {"bench_codecs": Calls(), "replay_realm": Scripts()}
 
 
 class Runs:
@@ -185,17 +190,17 @@ class Runs:
         others = [(step, text) for at, (step, text) in enumerate(zip(self.row.steps, told)) if not self.row.is_wanted(at, text)]
         if end is None:
             text = "; ".join(f"{step.split()[0]}: {text[:60]}" for step, text in others) or "as with ample memory"
-            return text, status in (0, 1) and self.row.is_allowed(told)
+            return text, status in (self.form.played, self.form.stopped) and self.row.is_allowed(told)
         if others:
             is_allowed = others == [(self.row.client, "refused: Memory")] and end == NO_CLIENT
-            return f"{others[-1][0].split()[0]}: {others[-1][1]}; then {end}", status == 1 and is_allowed
-        return f"ends in reading or telling: {end}", status == 1 and bool(STOPPED.match(end))
+            return f"{others[-1][0].split()[0]}: {others[-1][1]}; then {end}", status == self.form.stopped and is_allowed
+        return f"ends in reading or telling: {end}", status == self.form.stopped and bool(STOPPED.match(end))
 
     def sweep(self):
         """Prints how often each text was told, and answers how many texts the row doesn't allow."""
         status, output, error, count = self.run(0)
         told, end = self.form.told(self.row, output, error)
-        if status or end is not None or not all(map(self.row.is_wanted, range(len(told)), told)):
+        if status != self.form.played or end is not None or not all(map(self.row.is_wanted, range(len(told)), told)):
             print(f"== {self.row.name}: NOT AS WANTED with ample memory: status {status}, {error}\n{output}")
             return 1
         late = [ALL_ONCE_TOLD] if self.row.steps[0].startswith("slice ") else []

@@ -1,7 +1,7 @@
 #!/bin/sh
-# Writes the lines of clients.txt: the requests of MIT and Heimdal clients among the data of replay_desk, and the replies of an
+# Writes the lines of clients.txt: the requests of MIT and Heimdal clients among the data of replay_realm, and the replies of an
 # independent implementation there, each once.
-exchanges=$(dirname "$0")/../../replay_desk/data/real_clients.txt
+exchanges=$(dirname "$0")/../../replay_realm/data/real_clients.txt
 
 echo '# Requests that MIT 1.20 and Heimdal 7.8 clients sent, and replies of an independent implementation (clients.sh).'
 echo '# Type | bytes in hexadecimal.'

@@ -4,7 +4,7 @@
 This is an independent writer and reader of the records, by their description (the head of specs/AccountRecords and of
 specs/RealmRecords of krb_account_files). Databases are by the independent writer and reader databases.py. Neither
 shares code with the program that replays the rows. Keys of passwords are made by Python's `cryptography`, by RFC 3961, RFC 3962 and
-RFC 8009. Requests and replies are those of five_suites.txt of replay_desk, by an independent implementation of RFC 4120's rules. Damages
+RFC 8009. Requests and replies are those of five_suites.txt of replay_realm, by an independent implementation of RFC 4120's rules. Damages
 are fixed, so each run writes the same files.
 
 usage: python3 account_files.py                 in this folder: writes the files
@@ -302,7 +302,7 @@ def file_rows(name, realm, accounts):
 
 def exchanges():
     """Requests and replies by their labels."""
-    with open("../../replay_desk/data/five_suites.txt", encoding="ascii") as lines:
+    with open("../../replay_realm/data/five_suites.txt", encoding="ascii") as lines:
         columns = [line.rstrip("\n").split(" | ") for line in lines if not line.startswith("#")]
     return {label: (request, reply, why) for label, request, reply, why in columns}
 

@@ -2,7 +2,7 @@
 """Writes four_accounts.cdb, the database of a realm of four accounts, copies of it that are damaged, and file_realms.txt: requests with the reply of that
 realm, and with the entry of the log.
 
-The replies are those that an independent implementation of RFC 4120's rules gave (replay_desk/data/kdc_exchanges.txt): of each reason the
+The replies are those that an independent implementation of RFC 4120's rules gave (replay_realm/data/kdc_exchanges.txt): of each reason the
 first rows. Keys of passwords are derived here by RFC 3962 and RFC 3961 over Python's cryptography. Entries are read here off the messages'
 DER. The databases are made by the independent writer databases.py.
 
@@ -167,7 +167,7 @@ def entry(request, reply, is_request=True):
 def recorded():
     """Of each reason the first three rows."""
     counts = {}
-    with open(os.path.join(CRATES, "replay_desk", "data", "kdc_exchanges.txt"), encoding="ascii") as rows:
+    with open(os.path.join(CRATES, "replay_realm", "data", "kdc_exchanges.txt"), encoding="ascii") as rows:
         for line in rows:
             if line.startswith("#"):
                 continue

@@ -1,8 +1,8 @@
 //! AP requests to a service that has seen nothing, and its answers.
 
-use crate::columns::start;
-use crate::rows::Rows;
-use crate::telling::tell_admission;
+use crate::recorded::rows::Rows;
+use crate::recorded::telling::tell_admission;
+use crate::words::start;
 use krb_realm::{Admission, AdmitRefusal, CipherSuite, Service};
 use replay_rows::{Row, Told, components_of};
 use std::alloc::Global;

@@ -1,13 +1,14 @@
 //! Whole logins by certificate, each of a client, a realm and a service of its own.
 
-use crate::clients::made_client;
-use crate::columns::{moment_of, octets_of, second_of, start, suite_of};
 use crate::keys::{RowKeys, keys_of};
-use crate::parties::{Party, party_of};
-use crate::pkinit::settings_of;
-use crate::replies::{realm_with, words_by};
-use crate::rows::Rows;
-use crate::telling::tell_login;
+use crate::recorded::clients::made_client;
+use crate::recorded::parties::{Party, party_of};
+use crate::recorded::pkinit::settings_of;
+use crate::recorded::replies::{Secret, add_account, realm_with};
+use crate::recorded::rows::Rows;
+use crate::recorded::telling::tell_login;
+use crate::stage::Random;
+use crate::words::{moment_of, octets_of, second_of, start, suite_of};
 use krb_realm::{
     Admission, CipherSuite, Client, EncryptionKey, GeneralizedTime, KeyFunctions, LoginInput,
     LoginMoments, LoginRefusal, Realm, Service, login_by_certificate,
@@ -230,18 +231,12 @@ fn realm_by(
 }
 
 fn add_and_change(alloc: Global, realm: &mut Realm, parties: Parties<'_>) -> anyhow::Result<()> {
-    add_client(alloc, realm, parties.client)?;
+    // The client's words begin with its suite.
+    let mut words = Row::new(parties.client, " ");
+    let suite = suite_of(&mut words);
+    add_account(alloc, realm, "a", suite, Secret::Password)?;
     add_service(alloc, realm, parties.service)?;
     change(alloc, realm, parties.change)
-}
-
-/// Adds the client's account, of the suite that its words begin with.
-fn add_client(alloc: Global, realm: &mut Realm, words: &str) -> anyhow::Result<()> {
-    let mut words = Row::new(words, " ");
-    let suite = suite_of(&mut words);
-    let name = components_of(alloc, "a")?;
-    let added = realm.add_account_by_password(alloc, &name, suite, b"pw");
-    Ok(added?)
 }
 
 fn add_service(alloc: Global, realm: &mut Realm, words: ServiceWords<'_>) -> anyhow::Result<()> {
@@ -311,7 +306,11 @@ fn service_of(alloc: Global, words: ServiceWords<'_>) -> anyhow::Result<Service>
 fn times_of(count: u64, words: &str) -> anyhow::Result<Times> {
     let mut words = Row::new(words, " ");
     let (moments, till) = (words.word(), words.word());
-    let random = words_by(0, words.number::<u8>());
+    let random = Random {
+        first: 0,
+        step: words.number::<u8>(),
+    }
+    .bytes();
     words.ended()?;
     Ok(Times {
         count,

@@ -1,35 +1,28 @@
 //! Steps of a client and a realm that have certificates under one anchor. Signatures are digests, and each agreement has the
 //! same secret.
 
+use crate::keys::{RowKeys, keys_of};
 use crate::login::{honest, login};
 use crate::short_keys::{ShortKeys, Taker, taker_of};
 use crate::stage::Stage;
 use crate::take::keep_client;
-use crate::words::suite_of;
+use crate::words::{holder_of, suite_of};
 use crate::{ask, realms, take};
 use anyhow::{Context, bail};
-use krb_realm::{Anchor, Client, SignatureAlgorithm};
-use picky_asn1_der::Asn1RawDer;
+use krb_realm::{Anchor, Client};
 use replay_rows::{Row, Told};
+use result_pairs::both;
 use std::alloc::Global;
-use test_support::{DigestKeys, KnownKey};
-use x509_algorithms::AlgorithmIdentifier;
+use test_support::KnownKey;
 use x509_codec::to_vec;
-
-/// A SubjectPublicKeyInfo of RSA.
-const PUBLIC_VALUE: &str = "301a300d06092a864886f70d01010105000309003006020105020103";
-
-/// The secret of each agreement.
-const SECRET: [u8; 32] = [0x5A; 32];
 
 /// What the key functions of client and realm go by.
 #[derive(Drop)]
 pub(crate) struct Certified {
     /// The holders of the certificates of the anchor, the client and the realm.
     holders: Vec<Anchor>,
-    /// The algorithm that signatures name.
-    algorithm: SignatureAlgorithm,
-    public_value: Asn1RawDer,
+    /// How both sign and agree.
+    keys: RowKeys,
     /// The client's function that runs out of memory, and the realm's.
     client_short: Option<Taker>,
     realm_short: Option<Taker>,
@@ -82,7 +75,7 @@ fn tell_by_keys(
     told: &mut Told,
 ) -> anyhow::Result<()> {
     let known = known_of(alloc, &certified.holders)?;
-    let keys = keys_of(certified, &known)?;
+    let keys = both_keys(certified, &known)?;
     match step {
         "ask_by_certificate" => ask::as_request(stage, alloc, words, &keys.client, told),
         "answer_by_certificate" => realms::answer(stage, alloc, &keys.realm, told),
@@ -105,15 +98,15 @@ fn known_of(alloc: Global, holders: &[Anchor]) -> anyhow::Result<Vec<KnownKey<'_
 }
 
 /// Both know all three keys.
-fn keys_of<'a>(
+fn both_keys<'a>(
     certified: &'a Certified,
     known: &'a [KnownKey<'a>],
 ) -> anyhow::Result<BothKeys<'a>> {
     let [_, client, realm] = known else {
         bail!("other than three certificates");
     };
-    let client = party_keys(certified, known, &client.der);
-    let realm = party_keys(certified, known, &realm.der);
+    let client = certified.keys.functions(&client.der, known);
+    let realm = certified.keys.functions(&realm.der, known);
     Ok(BothKeys {
         client: ShortKeys {
             keys: client,
@@ -126,30 +119,13 @@ fn keys_of<'a>(
     })
 }
 
-fn party_keys<'a>(
-    certified: &'a Certified,
-    known: &'a [KnownKey<'a>],
-    own: &'a [u8],
-) -> DigestKeys<'a> {
-    DigestKeys {
-        own,
-        algorithm: Some(&certified.algorithm),
-        known,
-        public_value: Some(&certified.public_value),
-        secret: Some(&SECRET),
-    }
-}
-
 /// Takes the certificates of the anchor, the client and the realm.
 fn certificates(stage: &mut Stage, alloc: Global, words: &mut Row<'_>) -> anyhow::Result<()> {
-    let public_value = Asn1RawDer::new(hex::decode(alloc, PUBLIC_VALUE)?)?;
-    let algorithm = AlgorithmIdentifier::new_sha256_with_rsa_encryption(alloc)?;
-    let holders = holders_of(alloc, words)?;
+    let (holders, keys) = both(holders_of(alloc, words), keys_of(alloc, "test"))?;
     drop(
         stage.certified.replace(Certified {
             holders,
-            algorithm: SignatureAlgorithm::new(algorithm),
-            public_value,
+            keys,
             client_short: None,
             realm_short: None,
         }),
@@ -160,14 +136,9 @@ fn certificates(stage: &mut Stage, alloc: Global, words: &mut Row<'_>) -> anyhow
 fn holders_of(alloc: Global, words: &mut Row<'_>) -> anyhow::Result<Vec<Anchor>> {
     let mut holders = Vec::new(alloc);
     for _ in 0..3u8 {
-        holders.push(holder_of(alloc, words)?)?;
+        holders.push(holder_of(alloc, words.word())?)?;
     }
     Ok(holders)
-}
-
-fn holder_of(alloc: Global, words: &mut Row<'_>) -> anyhow::Result<Anchor> {
-    let certificate = words.octets(alloc);
-    Ok(Anchor::from_certificate(alloc, &certificate)?)
 }
 
 /// Has a key function of the client and one of the realm run out of memory.
@@ -188,7 +159,7 @@ fn client(
     let realm = words.text().as_bytes();
     let name = words.name(alloc);
     let suite = suite_of(words);
-    let anchor = holder_of(alloc, words)?;
+    let anchor = holder_of(alloc, words.word())?;
     let own = words.octets(alloc);
     let made = Client::by_certificate(alloc, realm, &name, suite, &own, anchor);
     keep_client(stage, made, told);

@@ -3,7 +3,7 @@
 use crate::certificates;
 use crate::stage::Stage;
 use crate::told::{done, refused};
-use crate::words::suite_of;
+use crate::words::{given, suite_of};
 use anyhow::{Context, bail};
 use krb_accounts::{Account, Accounts};
 use krb_crypto::Key;
@@ -50,11 +50,6 @@ fn settings(alloc: Global, words: &mut Row<'_>, told: &mut Told) {
         Ok(_) => told.put("ok"),
         Err(refusal) => refused(told, &refusal),
     }
-}
-
-/// The bytes, if there are any.
-fn given(bytes: &[u8]) -> Option<&[u8]> {
-    if bytes.is_empty() { None } else { Some(bytes) }
 }
 
 /// Makes a realm without accounts beside its own, with 300 seconds of skew and 36,000 of lifetime. Its name is given in

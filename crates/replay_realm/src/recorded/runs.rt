@@ -1,6 +1,6 @@
 //! Runs with a settings file: status, line and output.
 
-use crate::rows::Rows;
+use crate::recorded::rows::Rows;
 use krb_program::{Outcome, Stop, run_settings};
 use krb_realm::Moment;
 use replay_rows::{Row, Told};

@@ -1,17 +1,10 @@
-//! Replays what was recorded of a KDC, of clients and of a service, and compares what comes out with what is expected: requests and
-//! replies, runs of the program `krb_realm` with settings and with arguments, and faulty settings files.
-//!
-//! Last it is the program `krb_realm` itself, with its own arguments, one too many, and a frame on standard input. That it ends with
-//! status 1, and writes no reply, shows that the process's arguments are read and that the run's status is the process's. It ends with
-//! status 3 where a file of rows can't be replayed.
-#![tactic(auto)]
+//! What was recorded of a KDC, of clients and of a service: requests and replies, logins by certificate, runs of the program `krb_realm`
+//! with settings and with arguments, and faulty settings files. What comes out is compared with what is expected.
 
 mod admissions;
 mod arguments;
 mod clients;
-mod columns;
 mod files;
-mod keys;
 mod logins;
 mod parties;
 mod pkinit;
@@ -24,13 +17,10 @@ use admissions::{Admissions, Repetitions};
 use arguments::Arguments;
 use clients::clients_of;
 use files::{NamedFiles, SettingsFiles};
-use krb_program::run_process;
 use logins::PkinitLogins;
-use pkinit::realms_of;
-use replies::realm_of;
+use pkinit::{made_realm, realms_of};
 use rows::replay;
 use runs::Runs;
-use std::process::ExitCode;
 
 /// What the rows of a file are of.
 #[derive(Clone, Copy)]
@@ -66,18 +56,8 @@ const FILES: [(Recorded, &str); 13] = [
     (Recorded::Arguments, "arguments.txt"),
 ];
 
-fn main(rt: HostRuntime) -> ExitCode {
-    match replay_all(&rt) {
-        Ok(()) => run_process(&rt),
-        Err(fault) => {
-            let _ = eprintln!(rt; "{fault}");
-            ExitCode::from(3)
-        }
-    }
-}
-
 /// Replays each file of rows.
-fn replay_all(rt: &HostRuntime) -> anyhow::Result<()> {
+pub(crate) fn replay_recorded(rt: &HostRuntime) -> anyhow::Result<()> {
     for (rows, file) in FILES {
         replay_file(rt, rows, file)?;
     }
@@ -86,7 +66,7 @@ fn replay_all(rt: &HostRuntime) -> anyhow::Result<()> {
 
 fn replay_file(rt: &HostRuntime, rows: Recorded, file: &str) -> anyhow::Result<()> {
     match rows {
-        Recorded::Replies(count) => replay(rt, realm_of(rt.alloc(), count)?, file),
+        Recorded::Replies(count) => replay(rt, made_realm(rt.alloc(), "-", "-", count)?, file),
         Recorded::PkinitReplies => replay(rt, realms_of(rt, "pkinit_realms.txt")?, file),
         Recorded::PkinitSteps => replay(rt, clients_of(rt, "pkinit_clients.txt")?, file),
         Recorded::PkinitLogins => replay(rt, PkinitLogins, file),

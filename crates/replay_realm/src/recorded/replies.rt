@@ -1,11 +1,15 @@
 //! Requests to a realm, and its replies.
 
-use crate::columns::start;
-use crate::rows::Rows;
+use crate::recorded::rows::Rows;
+use crate::stage::Random;
+use crate::words::start;
 use krb_realm::{AnswerRefusal, CipherSuite, NoKeys, Realm, Settings};
 use replay_rows::{Row, Told, components_of};
 use result_pairs::if_passed;
 use std::alloc::Global;
+
+/// The random bytes of each reply: 0 to 127.
+pub(crate) const WORDS: Random = Random { first: 0, step: 1 };
 
 impl Rows for Realm {
     const NAME: &'static str = "requests";
@@ -17,7 +21,7 @@ impl Rows for Realm {
         let request = row.octets(rt.alloc());
         row.want();
         let _rule = row.word();
-        let reply = self.answer(rt.alloc(), &request, start()?, &words(), &NoKeys);
+        let reply = self.answer(rt.alloc(), &request, start()?, &WORDS.bytes(), &NoKeys);
         tell_reply(told, reply);
         Ok(())
     }
@@ -31,35 +35,13 @@ pub(crate) fn tell_reply(told: &mut Told, reply: Result<Vec<u8>, AnswerRefusal>)
     }
 }
 
-/// The random bytes of each reply: 0 to 127.
-pub(crate) fn words() -> [u8; 128] {
-    words_by(0, 1)
-}
-
-/// Random bytes by the first, and by how much each is more than the one before it.
-pub(crate) fn words_by(first: u8, step: u8) -> [u8; 128] {
-    let mut words = [0; 128];
-    let mut next = first;
-    for word in &mut words {
-        *word = next;
-        next = next.wrapping_add(step);
-    }
-    words
-}
-
 /// What an account's key is made of.
 #[derive(Clone, Copy)]
-enum Secret {
+pub(crate) enum Secret {
     /// The password `pw`.
     Password,
     /// 32 octets of this value.
     Key(u8),
-}
-
-/// The realm R with so many accounts beside its own service, and with no anchor.
-pub(crate) fn realm_of(alloc: Global, count: usize) -> anyhow::Result<Realm> {
-    let settings = Settings::new(alloc, 300, 36_000, None, None)?;
-    realm_with(alloc, settings, count)
 }
 
 /// The realm R with these settings and so many accounts beside its own service: the first of `a`, `h`, `b`, `d`, `e`, `f` and
@@ -87,7 +69,7 @@ fn add_accounts(alloc: Global, realm: &mut Realm, count: usize) -> anyhow::Resul
     Ok(())
 }
 
-fn add_account(
+pub(crate) fn add_account(
     alloc: Global,
     realm: &mut Realm,
     name: &str,

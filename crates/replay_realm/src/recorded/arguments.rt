@@ -1,6 +1,6 @@
 //! Runs with arguments, over files.
 
-use crate::rows::Rows;
+use crate::recorded::rows::Rows;
 use krb_program::{read_file, run_with_arguments};
 use replay_rows::{Row, Told};
 use std::alloc::{AllocError, Global};

@@ -1,16 +1,14 @@
 //! Clients by certificate: what they ask, and what they take.
 
-use crate::columns::{moment_of, octets_of, second_of, suite_of};
 use crate::keys::{RowKeys, keys_of, replier_of};
-use crate::parties::{Party, party_of};
-use crate::replies::words_by;
-use crate::rows::Rows;
-use crate::telling::tell_name;
+use crate::recorded::parties::{Party, party_of};
+use crate::recorded::pkinit::name_of;
+use crate::recorded::rows::Rows;
+use crate::stage::{Conditions, Random};
+use crate::told::name_text;
+use crate::words::{holder_of, moment_of, octets_of, second_of, suite_of};
 use anyhow::bail;
-use krb_realm::{
-    Anchor, AsAsked, AskRefusal, CipherSuite, Client, Credential, GeneralizedTime, Moment,
-    TakeRefusal,
-};
+use krb_realm::{Anchor, AsAsked, AskRefusal, CipherSuite, Client, Credential, TakeRefusal};
 use picky_asn1_der::to_vec;
 use replay_rows::{Row, Told, components_of};
 use result_pairs::both;
@@ -30,14 +28,6 @@ struct PkinitClient {
     party: Party,
     /// What it remembers of its request to its realm's ticket-granting service.
     asked: AsAsked,
-}
-
-/// What a request is made by, beside client and service.
-#[derive(Clone, Copy)]
-struct Asking {
-    till: GeneralizedTime,
-    moment: Moment,
-    random: [u8; 128],
 }
 
 impl Rows for PkinitClients {
@@ -90,11 +80,14 @@ fn tell_request(
     Ok(())
 }
 
-fn asking_of(row: &mut Row<'_>) -> anyhow::Result<Asking> {
-    Ok(Asking {
+fn asking_of(row: &mut Row<'_>) -> anyhow::Result<Conditions> {
+    Ok(Conditions {
         till: second_of(row.word())?,
         moment: moment_of(row.word())?,
-        random: words_by(row.number::<u8>(), row.number::<u8>()),
+        random: Random {
+            first: row.number::<u8>(),
+            step: row.number::<u8>(),
+        },
     })
 }
 
@@ -103,13 +96,13 @@ fn ask(
     client: &Client,
     party: &Party,
     service: &str,
-    asking: Asking,
+    asking: Conditions,
     keys: &str,
 ) -> anyhow::Result<Result<(Vec<u8>, AsAsked), AskRefusal>> {
     let keys = keys_of(alloc, keys)?;
     let service = components_of(alloc, service)?;
     let functions = party.functions(&keys, &[]);
-    let random = asking.random;
+    let random = asking.random.bytes();
     Ok(client.as_request(
         alloc,
         &service,
@@ -127,7 +120,7 @@ fn tell_made(alloc: Global, row: &mut Row<'_>, told: &mut Told) -> anyhow::Resul
     let realm = row.octets(alloc);
     let name = row.word();
     let own = row.octets(alloc);
-    let (name, anchor) = both(digits_name(alloc, name), issuer_of(alloc, row.word()))?;
+    let (name, anchor) = both(digits_name(alloc, name), holder_of(alloc, row.word()))?;
     match Client::by_certificate(alloc, &realm, &name, suite, &own, anchor) {
         Ok(client) => {
             drop(client);
@@ -136,12 +129,6 @@ fn tell_made(alloc: Global, row: &mut Row<'_>, told: &mut Told) -> anyhow::Resul
         Err(refusal) => told.debug(&refusal),
     }
     Ok(())
-}
-
-/// The holder of a certificate, who issues others.
-fn issuer_of(alloc: Global, certificate: &str) -> anyhow::Result<Anchor> {
-    let certificate = octets_of(alloc, certificate)?;
-    Ok(Anchor::from_certificate(alloc, &certificate)?)
 }
 
 /// The components of a name in hexadecimal, which are divided by commas. `none` represents no component.
@@ -215,7 +202,7 @@ fn tell_granted(told: &mut Told, credential: &Credential) {
     told.put(" ");
     told.utf8(credential.realm().as_bytes());
     told.put(" ");
-    tell_name(told, credential.service());
+    name_text(told, credential.service());
     told.put(" ");
 }
 
@@ -241,7 +228,7 @@ fn client_of(alloc: Global, line: &str) -> anyhow::Result<PkinitClient> {
     let client = made_client(alloc, (realm, name), suite, anchor, own);
     let (client, party) = both(client, party_of(alloc, anchor, own))?;
     let asked = first_asked(alloc, &client, &party, realm);
-    let called = called_of(alloc, called);
+    let called = name_of(alloc, called);
     let ((name, asked), (client, party)) = both(both(called, asked), Ok((client, party)))?;
     Ok(PkinitClient {
         name,
@@ -251,10 +238,6 @@ fn client_of(alloc: Global, line: &str) -> anyhow::Result<PkinitClient> {
     })
 }
 
-fn called_of(alloc: Global, called: &str) -> anyhow::Result<String> {
-    Ok(String::from_str(alloc, called)?)
-}
-
 pub(crate) fn made_client(
     alloc: Global,
     (realm, name): (&str, &str),
@@ -262,7 +245,7 @@ pub(crate) fn made_client(
     anchor: &str,
     own: &str,
 ) -> anyhow::Result<Client> {
-    let (own, anchor) = both(octets_of(alloc, own), issuer_of(alloc, anchor))?;
+    let (own, anchor) = both(octets_of(alloc, own), holder_of(alloc, anchor))?;
     let name = components_of(alloc, name)?;
     let client = Client::by_certificate(alloc, realm.as_bytes(), &name, suite, &own, anchor);
     drop(name);
@@ -284,10 +267,10 @@ fn first_asked(
 }
 
 /// What that request is made by.
-fn first_asking() -> anyhow::Result<Asking> {
-    Ok(Asking {
+fn first_asking() -> anyhow::Result<Conditions> {
+    Ok(Conditions {
         till: second_of("20000102000000Z")?,
         moment: moment_of("7")?,
-        random: words_by(0, 1),
+        random: Random { first: 0, step: 1 },
     })
 }

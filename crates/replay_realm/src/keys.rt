@@ -128,7 +128,7 @@ fn secret_of(alloc: Global, digits: Option<&str>) -> anyhow::Result<Option<Vec<u
 }
 
 /// The holder of the certificate in a request's padata, where one is read there.
-pub(crate) fn holder_of(alloc: Global, request: &[u8]) -> Option<Anchor> {
+pub(crate) fn requester_of(alloc: Global, request: &[u8]) -> Option<Anchor> {
     for place in 0..PADATA_LIMIT {
         let path = [0, 2, 0, place, 1, 0, 0, 0, 0, 1, 0, 3, 0];
         if let Some(holder) = holder_at(alloc, request, &path) {

@@ -2,9 +2,9 @@
 
 use crate::certificates::Certified;
 use crate::line::Line;
-use crate::words::second_of;
+use crate::words::{second_of, start};
 use crate::{ask, broken, login, many, parts, realms, services, take};
-use anyhow::Context;
+use anyhow::{Context, bail};
 use krb_realm::{
     ApAsked, AsAsked, Client, Credential, GeneralizedTime, Moment, NoKeys, Realm, Service, TgsAsked,
 };
@@ -65,8 +65,8 @@ impl Stage {
     /// An empty stage at the first second of 2000, with an end a day later and zeros as random bytes.
     pub(crate) fn new(alloc: Global) -> anyhow::Result<Stage> {
         let conditions = Conditions {
-            moment: Moment::from_text(b"20000101000000Z").context("no moment")?,
-            till: GeneralizedTime::from_text(b"20000102000000Z").context("no time")?,
+            moment: start()?,
+            till: second_of("20000102000000Z")?,
             random: Random { first: 0, step: 0 },
         };
         Ok(empty_stage(alloc, conditions))
@@ -145,10 +145,10 @@ fn tell_step(
     told: &mut Told,
 ) -> anyhow::Result<()> {
     match step {
-        "moment" => set_moment(stage, words),
-        "till" => set_till(stage, words),
         "random" => set_random(stage, words),
         "client" => take::client(stage, alloc, words, told),
+        "moment" => return set_moment(stage, words),
+        "till" => return set_till(stage, words),
         "answer_fronts" => return many::answer_fronts(stage, alloc, told),
         "answer_replaced" => return many::answer_replaced(stage, alloc, told),
         "serve_broken" => return broken::serve_broken(stage, alloc, told),
@@ -194,22 +194,19 @@ fn tell_message(
     }
 }
 
-fn set_moment(stage: &mut Stage, words: &mut Row<'_>) {
-    let second = second_of(words);
+fn set_moment(stage: &mut Stage, words: &mut Row<'_>) -> anyhow::Result<()> {
+    let second = second_of(words.word())?;
     let micros = words.number::<u32>();
     if micros >= 1_000_000 {
-        words.refuse("more than a second");
-        return;
+        bail!("more than a second");
     }
-    if let Some(second) = second {
-        stage.conditions.moment = Moment::at(second, micros);
-    }
+    stage.conditions.moment = Moment::at(second, micros);
+    Ok(())
 }
 
-fn set_till(stage: &mut Stage, words: &mut Row<'_>) {
-    if let Some(till) = second_of(words) {
-        stage.conditions.till = till;
-    }
+fn set_till(stage: &mut Stage, words: &mut Row<'_>) -> anyhow::Result<()> {
+    stage.conditions.till = second_of(words.word())?;
+    Ok(())
 }
 
 fn set_random(stage: &mut Stage, words: &mut Row<'_>) {

@@ -1,7 +1,7 @@
 //! Parties that have certificates: clients and realms.
 
-use crate::columns::octets_of;
 use crate::keys::RowKeys;
+use crate::words::octets_of;
 use krb_realm::Anchor;
 use result_pairs::both;
 use std::alloc::Global;

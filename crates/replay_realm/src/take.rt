@@ -1,7 +1,7 @@
 //! A client, and the replies that it takes.
 
 use crate::stage::Stage;
-use crate::told::{done, refused, sole_component, suite_key_text, times_text};
+use crate::told::{done, name_text, refused, suite_key_text, times_text};
 use crate::words::suite_of;
 use anyhow::Context;
 use krb_realm::{AskRefusal, Client, Credential, KeyFunctions, TakeRefusal};
@@ -85,7 +85,7 @@ pub(crate) fn credential_times(stage: &Stage, told: &mut Told) -> anyhow::Result
 /// What the credential is, and its ticket.
 pub(crate) fn credential(stage: &Stage, told: &mut Told) -> anyhow::Result<()> {
     let held = stage.credential()?;
-    sole_component(told, held.service());
+    name_text(told, held.service());
     told.put(" in ");
     told.utf8(held.realm().as_bytes());
     told.put(" key ");
@@ -97,7 +97,7 @@ pub(crate) fn credential(stage: &Stage, told: &mut Told) -> anyhow::Result<()> {
 fn ticket_text(told: &mut Told, credential: &Credential) {
     let ticket = &credential.ticket().0;
     told.put(" ticket for ");
-    sole_component(told, &ticket.sname.0);
+    name_text(told, &ticket.sname.0);
     told.put(" in ");
     told.utf8(ticket.realm.0.as_bytes());
     told.put(" sealed by ");

@@ -17,17 +17,19 @@ pub(crate) fn done<E: Debug + Drop>(told: &mut Told, made: Result<(), E>) {
     }
 }
 
-/// The name of one component.
-pub(crate) fn sole_component(told: &mut Told, name: &PrincipalName) {
-    match name.name_string.0.as_slice() {
-        [component] => told.utf8(component.as_bytes()),
-        _ => told.put("a name of several components"),
+/// A name's components, which slashes divide.
+pub(crate) fn name_text(told: &mut Told, name: &PrincipalName) {
+    let mut separator = "";
+    for component in name.name_string.0.as_slice() {
+        told.put(separator);
+        told.utf8(component.as_bytes());
+        separator = "/";
     }
 }
 
 pub(crate) fn admission_text(told: &mut Told, admission: &Admission) {
     told.put("client ");
-    sole_component(told, &admission.client);
+    name_text(told, &admission.client);
     told.put(" in ");
     told.utf8(admission.realm.as_bytes());
     told.put(" key ");
@@ -77,12 +79,17 @@ pub(crate) fn times_text(
     told.octets(flags);
 }
 
-/// A key with its suite's number.
-fn key_text(told: &mut Told, key: &EncryptionKey) {
+/// A key's type.
+pub(crate) fn key_type_text(told: &mut Told, key: &EncryptionKey) {
     match key.key_type.0.to_i64() {
-        Some(kind) => told.show(&kind),
+        Some(key_type) => told.show(&key_type),
         None => told.put("a key type of more than 64 bits"),
     }
+}
+
+/// A key with its suite's number.
+pub(crate) fn key_text(told: &mut Told, key: &EncryptionKey) {
+    key_type_text(told, key);
     told.put(" ");
     told.octets(key.key_value.0.as_bytes());
 }

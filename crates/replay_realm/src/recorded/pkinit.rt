@@ -1,10 +1,10 @@
 //! AS requests by certificate to realms that differ in anchor and own certificate.
 
-use crate::columns::{moment_of, octets_of};
-use crate::keys::{RowKeys, holder_of, keys_of};
-use crate::parties::{Party, anchor_of, party_of};
-use crate::replies::{realm_with, tell_reply, words};
-use crate::rows::Rows;
+use crate::keys::{RowKeys, keys_of, requester_of};
+use crate::recorded::parties::{Party, anchor_of, party_of};
+use crate::recorded::replies::{WORDS, realm_with, tell_reply};
+use crate::recorded::rows::Rows;
+use crate::words::{given, moment_of, octets_of};
 use anyhow::bail;
 use krb_realm::{Anchor, Moment, Realm, Settings};
 use replay_rows::{Row, Told};
@@ -63,7 +63,7 @@ fn tell_reply_to(
     told: &mut Told,
 ) -> anyhow::Result<()> {
     let keys = keys_of(alloc, keys)?;
-    let holder = holder_of(alloc, request);
+    let holder = requester_of(alloc, request);
     let outcome = tell_reply_by(alloc, realm, moment, request, &keys, holder.as_ref(), told);
     drop(keys);
     drop(holder);
@@ -84,7 +84,7 @@ fn tell_reply_by<'a>(
     let functions = realm.party.functions(keys, &known);
     let reply = realm
         .realm
-        .answer(alloc, request, moment, &words(), &functions);
+        .answer(alloc, request, moment, &WORDS.bytes(), &functions);
     tell_reply(told, reply);
     Ok(())
 }
@@ -101,23 +101,31 @@ pub(crate) fn realms_of(rt: &HostRuntime, file: &str) -> anyhow::Result<PkinitRe
     Ok(PkinitRealms { realms })
 }
 
+/// A realm without an own certificate grants to no client by certificate, and has four accounts alone.
 fn realm_of_line(alloc: Global, line: &str) -> anyhow::Result<PkinitRealm> {
     let mut row = Row::new(line, "\t");
     let (name, anchor, own) = (row.word(), row.word(), row.word());
     row.ended()?;
     let held = both(name_of(alloc, name), party_of(alloc, anchor, own));
-    let ((name, party), realm) = both(held, made_realm(alloc, anchor, own))?;
+    let count = if own == "-" { 4 } else { 7 };
+    let ((name, party), realm) = both(held, made_realm(alloc, anchor, own, count))?;
     Ok(PkinitRealm { name, realm, party })
 }
 
-fn name_of(alloc: Global, name: &str) -> anyhow::Result<String> {
+/// A name as text.
+pub(crate) fn name_of(alloc: Global, name: &str) -> anyhow::Result<String> {
     Ok(String::from_str(alloc, name)?)
 }
 
-/// A realm without an own certificate grants to no client by certificate, and has four accounts alone.
-fn made_realm(alloc: Global, anchor: &str, own: &str) -> anyhow::Result<Realm> {
+/// The realm R with these certificates and so many accounts beside its own service.
+pub(crate) fn made_realm(
+    alloc: Global,
+    anchor: &str,
+    own: &str,
+    count: usize,
+) -> anyhow::Result<Realm> {
     let settings = settings_of(alloc, (300, 36_000), anchor, own)?;
-    realm_with(alloc, settings, if own == "-" { 4 } else { 7 })
+    realm_with(alloc, settings, count)
 }
 
 /// Settings of this skew and lifetime, with these certificates.
@@ -128,11 +136,6 @@ pub(crate) fn settings_of(
     own: &str,
 ) -> anyhow::Result<Settings> {
     let (own, anchor) = both(octets_of(alloc, own), anchor_of(alloc, anchor))?;
-    let own = if own.is_empty() {
-        None
-    } else {
-        Some(own.as_slice())
-    };
-    let settings = Settings::new(alloc, skew, lifetime, anchor, own)?;
+    let settings = Settings::new(alloc, skew, lifetime, anchor, given(&own))?;
     Ok(settings)
 }

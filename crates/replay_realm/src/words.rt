@@ -1,7 +1,7 @@
-//! What the columns of the rows by certificate represent.
+//! What words of a row represent.
 
 use anyhow::{Context, bail};
-use krb_realm::{CipherSuite, GeneralizedTime, Moment};
+use krb_realm::{Anchor, CipherSuite, GeneralizedTime, Moment};
 use replay_rows::Row;
 use std::alloc::Global;
 
@@ -16,12 +16,21 @@ pub(crate) fn octets_of(alloc: Global, column: &str) -> anyhow::Result<Vec<u8>> 
     Ok(hex::decode(alloc, column)?)
 }
 
+/// The octets, if there are any.
+pub(crate) fn given(octets: &[u8]) -> Option<&[u8]> {
+    if octets.is_empty() {
+        None
+    } else {
+        Some(octets)
+    }
+}
+
 /// The suite of the next word's number.
-pub(crate) fn suite_of(row: &mut Row<'_>) -> CipherSuite {
-    match CipherSuite::try_from(row.number::<usize>()) {
+pub(crate) fn suite_of(words: &mut Row<'_>) -> CipherSuite {
+    match CipherSuite::try_from(words.number::<usize>()) {
         Ok(suite) => suite,
         Err(_) => {
-            row.refuse("no suite");
+            words.refuse("no suite");
             CipherSuite::Aes256CtsHmacSha196
         }
     }
@@ -45,4 +54,10 @@ pub(crate) fn moment_of(text: &str) -> anyhow::Result<Moment> {
 /// The second that a text names.
 pub(crate) fn second_of(text: &str) -> anyhow::Result<GeneralizedTime> {
     GeneralizedTime::from_text(text.as_bytes()).context("no second")
+}
+
+/// The holder of a certificate in hexadecimal, who may issue others.
+pub(crate) fn holder_of(alloc: Global, certificate: &str) -> anyhow::Result<Anchor> {
+    let certificate = octets_of(alloc, certificate)?;
+    Ok(Anchor::from_certificate(alloc, &certificate)?)
 }

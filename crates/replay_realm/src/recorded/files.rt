@@ -1,6 +1,6 @@
 //! Settings files, and what is said of them.
 
-use crate::rows::Rows;
+use crate::recorded::rows::Rows;
 use krb_program::{FileCheck, check_file, read_file};
 use replay_rows::{Row, Told};
 use std::alloc::Global;
