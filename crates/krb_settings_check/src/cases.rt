@@ -3,7 +3,7 @@ ghost use Rattle.std.specs.Prelude.{◌≡◌, ◌<◌, nat_eq, length, map, IfS
 ghost use Rattle.std.specs.Cmp.Lexicographic.{pointwise};
 ghost use Rattle.std.specs.List.{list_all, list_any, position_from};
 ghost use Rattle.krb_settings.specs.Written.{shown_account, shown_secret};
-ghost use Rattle.krb_settings_check.specs.Warnings.{ends_in_break, has_blank_end, has_many_rounds, holder_case, is_at, is_control, is_des3, is_lower, is_repeated, is_secret, is_slash, key_cases, name_cases, password_cases, realm_cases, shared_cases};
+ghost use Rattle.krb_settings_check.specs.Warnings.{ends_in_break, has_blank_end, has_many_rounds, holder_case, is_control, is_des3, is_lower, is_repeated, is_secret, key_cases, name_cases, password_cases, realm_cases, shared_cases};
 
 use crate::des3::{has_odd_parity, has_weak_part};
 use crate::warning::Warning;
@@ -50,23 +50,17 @@ pub(crate) fn name_cases(name: &[Vec<u8>]) -> [(bool, Warning); 4]
     ensures { result ≡ name_cases (map (λ part. part.items) name.now) }
 {
     [
-        (has_slash(name), Warning::NameSlash),
-        (has_at(name), Warning::NameAt),
+        (has_octet(name, b'/'), Warning::NameSlash),
+        (has_octet(name, b'@'), Warning::NameAt),
         (has_control_part(name), Warning::NameControl),
         (has_blank_part(name), Warning::NameBlank),
     ]
 }
 
-fn has_slash(name: &[Vec<u8>]) -> bool
-    ensures { result ≡ list_any (λ part. list_any is_slash part.items) name.now }
+fn has_octet(name: &[Vec<u8>], octet: u8) -> bool
+    ensures { result ≡ list_any (λ part. list_any (λ other. nat_eq other octet) part.items) name.now }
 {
-    name.iter().any(|part| part.contains(&b'/'))
-}
-
-fn has_at(name: &[Vec<u8>]) -> bool
-    ensures { result ≡ list_any (λ part. list_any is_at part.items) name.now }
-{
-    name.iter().any(|part| part.contains(&b'@'))
+    name.iter().any(|part| part.contains(&octet))
 }
 
 fn has_control_part(name: &[Vec<u8>]) -> bool

@@ -57,11 +57,8 @@ impl Section {
         number: usize,
     ) -> Result<Option<KeyLine>, AllocError> {
         let start = line.trim_start();
-        if let Some(header) = start.strip_prefix("[[") {
-            return self.header(alloc, header, number);
-        }
         if let Some(header) = start.strip_prefix("[") {
-            return self.header(alloc, header, number);
+            return self.header(alloc, header.strip_prefix("[").unwrap_or(header), number);
         }
         let Some(place) = self.place else {
             return Ok(None);
@@ -69,11 +66,7 @@ impl Section {
         let Some((key, _)) = key_of(alloc, start)? else {
             return Ok(None);
         };
-        Ok(Some(KeyLine {
-            place,
-            key,
-            line: number,
-        }))
+        Ok(Some(key_line(place, key, number)))
     }
 
     // Enters the table of a header, and gives the key that it names.
@@ -88,34 +81,23 @@ impl Section {
             return Ok(None);
         };
         if key.as_str() != Field::Account.name() {
-            return Ok(Some(in_file(key, line)));
+            return Ok(Some(key_line(Place::File, key, line)));
         }
-        Ok(Some(match below.filter(|_| 0 < self.accounts) {
-            Some(below) => self.below_account(below, line),
-            None => {
+        Ok(Some(match below {
+            Some(below) if 0 < self.accounts => {
+                key_line(Place::Account(self.accounts), below, line)
+            }
+            _ => {
                 self.accounts = self.accounts.saturating_add(1);
                 self.place = Some(Place::Account(self.accounts));
-                in_file(key, line)
+                key_line(Place::File, key, line)
             }
         }))
     }
-
-    // The key of a header of a table within the last account's.
-    fn below_account(&self, key: String, line: usize) -> KeyLine {
-        KeyLine {
-            place: Place::Account(self.accounts),
-            key,
-            line,
-        }
-    }
 }
 
-fn in_file(key: String, line: usize) -> KeyLine {
-    KeyLine {
-        place: Place::File,
-        key,
-        line,
-    }
+fn key_line(place: Place, key: String, line: usize) -> KeyLine {
+    KeyLine { place, key, line }
 }
 
 // The first part of the key with which a text begins, and the part behind the first dot.

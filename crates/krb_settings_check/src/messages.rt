@@ -7,13 +7,13 @@ use crate::words::{Names, Word, expected, kind};
 use crate::{Place, Remark};
 use krb_settings::{ACCOUNT_FIELDS, Field, REALM_FIELDS, SettingsFault, TableFault, is_among};
 use std::alloc::{AllocError, Global};
-use std::str;
+use std::{fmt, str};
 use toml::{Value, de};
 
 /// The message of a file's fault: its line, the word, and what was expected. It shows no key and no password.
 pub fn explain(alloc: Global, text: &[u8], fault: SettingsFault) -> Result<Remark, AllocError> {
     match fault {
-        SettingsFault::NotToml(error) => explain_toml(alloc, text, error),
+        SettingsFault::NotToml(error) => explain_toml(alloc, text, &error),
         SettingsFault::File(fault) => explain_table(alloc, text, Place::File, fault),
         SettingsFault::Account(number, fault) => {
             explain_table(alloc, text, Place::Account(number), fault)
@@ -25,109 +25,68 @@ pub fn explain(alloc: Global, text: &[u8], fault: SettingsFault) -> Result<Remar
 }
 
 // The message of a text that is no TOML.
-fn explain_toml(alloc: Global, text: &[u8], error: de::Error) -> Result<Remark, AllocError> {
+fn explain_toml(alloc: Global, text: &[u8], error: &de::Error) -> Result<Remark, AllocError> {
     if is_utf_16(text) {
         return Remark::on_file(alloc, "text in UTF-16: expected UTF-8");
     }
     let message = error.message();
-    let Some(span) = error.span() else {
-        return Remark::on_file(alloc, message);
-    };
-    let (before, rest) = match text.split_at_checked(span.start) {
-        Some(halves) => halves,
-        None => (text, text),
-    };
-    let (number, column) = place_after(before);
-    let line = line_at(text, number);
-    let line_key = first_key(alloc, line)?;
-    let rest_key = match str::from_utf8(rest) {
-        Ok(rest) => first_key(alloc, rest)?,
-        Err(_) => None,
-    };
-    let number = Some(number);
-    match toml_fault(message, rest, line, line_key, rest_key) {
-        TomlFault::Unclosed => {
-            let words = format_args!(
-                "column {column}: unclosed string: expected its closing quote"
-            );
-            Remark::on_table(alloc, Place::File, number, words)
-        }
-        TomlFault::OutOfRange(field) => {
-            let wanted = expected(field);
-            let words = format_args!("{field} is out of range: expected {wanted}");
-            Remark::on_table(alloc, Place::File, number, words)
-        }
-        TomlFault::SecondTable => {
-            let wanted = expected(Field::Account);
-            let words = format_args!("a second [account]: expected {wanted}");
-            Remark::on_table(alloc, Place::File, number, words)
-        }
-        TomlFault::Duplicate(key) => {
-            let key = Word(key.as_str());
-            let words = format_args!("duplicate key {key}: expected it once in a table");
-            Remark::on_table(alloc, Place::File, number, words)
-        }
-        TomlFault::Other => {
-            let words = format_args!("column {column}: {message}");
-            Remark::on_table(alloc, Place::File, number, words)
-        }
+    match error.span() {
+        Some(span) => explain_toml_at(alloc, text, span.start, message),
+        None => Remark::on_file(alloc, message),
     }
 }
 
-/// What is wrong with a text that is no TOML.
-#[derive(Drop)]
-enum TomlFault {
-    /// A string has no end.
-    Unclosed,
-    /// The number that this field holds doesn't fit 64 bits.
-    OutOfRange(Field),
-    /// A table `[account]` is the second.
-    SecondTable,
-    /// This key stands a second time.
-    Duplicate(String),
-    /// Another.
-    Other,
-}
-
-// The fault of this message: what follows its place, the line, and the keys with which both begin.
-fn toml_fault(
+// The message of a text that is no TOML from this byte on.
+fn explain_toml_at(
+    alloc: Global,
+    text: &[u8],
+    start: usize,
     message: &str,
-    rest: &[u8],
-    line: &str,
-    line_key: Option<String>,
-    rest_key: Option<String>,
-) -> TomlFault {
-    if message == "invalid string" && is_line_end(rest) {
-        return TomlFault::Unclosed;
-    }
-    if message == "number out of range" {
-        return out_of_range(line_key);
-    }
-    match rest_key {
-        Some(key) if message == "duplicate key" => {
-            if key.as_str() == Field::Account.name() && line.trim_start().starts_with('[') {
-                TomlFault::SecondTable
-            } else {
-                TomlFault::Duplicate(key)
-            }
+) -> Result<Remark, AllocError> {
+    let (before, rest) = text.split_at_checked(start).unwrap_or((text, text));
+    let spot = spot_after(before);
+    match message {
+        "duplicate key" => duplicate_key(alloc, spot, line_at(text, spot.line), rest),
+        "number out of range" => out_of_range(alloc, spot, line_at(text, spot.line)),
+        "invalid string" if is_line_end(rest) => {
+            spot.remark(alloc, "unclosed string: expected its closing quote")
         }
-        _ => TomlFault::Other,
+        _ => spot.remark(alloc, message),
     }
 }
 
-// The fault of a number that doesn't fit 64 bits, on a line that begins with this key.
-fn out_of_range(key: Option<String>) -> TomlFault {
-    let Some(key) = key else {
-        return TomlFault::Other;
+// The message of a key that stands a second time: in this line, and at the start of the rest.
+fn duplicate_key(alloc: Global, spot: Spot, line: &str, rest: &[u8]) -> Result<Remark, AllocError> {
+    let Some(key) = first_key(alloc, str::from_utf8(rest).unwrap_or(""))? else {
+        return spot.remark(alloc, "duplicate key");
     };
-    let key = key.as_str();
-    if key == Field::Skew.name() {
-        TomlFault::OutOfRange(Field::Skew)
-    } else if key == Field::Lifetime.name() {
-        TomlFault::OutOfRange(Field::Lifetime)
+    let number = Some(spot.line);
+    if key.as_str() == Field::Account.name() && line.trim_start().starts_with('[') {
+        let wanted = expected(Field::Account);
+        let words = format_args!("a second [account]: expected {wanted}");
+        Remark::on_table(alloc, Place::File, number, words)
     } else {
-        TomlFault::Other
+        let key = Word(key.as_str());
+        let words = format_args!("duplicate key {key}: expected it once in a table");
+        Remark::on_table(alloc, Place::File, number, words)
     }
+}
+
+// The message of a number in this line that doesn't fit 64 bits.
+fn out_of_range(alloc: Global, spot: Spot, line: &str) -> Result<Remark, AllocError> {
+    let key = first_key(alloc, line)?;
+    let key = match &key {
+        Some(key) => key.as_str(),
+        None => "",
+    };
+    let field = if key == Field::Skew.name() {
+        Field::Skew
+    } else if key == Field::Lifetime.name() {
+        Field::Lifetime
+    } else {
+        return spot.remark(alloc, "number out of range");
+    };
+    is_other(alloc, Place::File, Some(spot.line), field, "out of range")
 }
 
 // Whether a text ends here, or its line.
@@ -148,14 +107,28 @@ fn is_utf_16(text: &[u8]) -> bool {
 
 // The line of this number. A text that isn't UTF-8 has none.
 fn line_at(text: &[u8], number: usize) -> &str {
-    match str::from_utf8(text) {
-        Ok(text) => text.lines().nth(number.saturating_sub(1)).unwrap_or(""),
-        Err(_) => "",
+    let text = str::from_utf8(text).unwrap_or("");
+    text.lines().nth(number.saturating_sub(1)).unwrap_or("")
+}
+
+/// Where a text is no TOML: the line and the column, both from 1 on. A column counts characters.
+#[derive(Clone, Copy)]
+struct Spot {
+    line: usize,
+    column: usize,
+}
+
+impl Spot {
+    // What is said of the column.
+    fn remark(self, alloc: Global, words: &str) -> Result<Remark, AllocError> {
+        let column = self.column;
+        let words = format_args!("column {column}: {words}");
+        Remark::on_table(alloc, Place::File, Some(self.line), words)
     }
 }
 
-// The line and the column, both from 1 on, of what follows these bytes. A column counts characters.
-fn place_after(before: &[u8]) -> (usize, usize) {
+// The spot of what follows these bytes.
+fn spot_after(before: &[u8]) -> Spot {
     let mut line = 1usize;
     let mut column = 1usize;
     for byte in before {
@@ -166,7 +139,7 @@ fn place_after(before: &[u8]) -> (usize, usize) {
             column = column.saturating_add(1);
         }
     }
-    (line, column)
+    Spot { line, column }
 }
 
 // The key with which a text begins, or that its header names.
@@ -176,7 +149,10 @@ fn first_key(alloc: Global, text: &str) -> Result<Option<String>, AllocError> {
     };
     let mut section = Section::new();
     let found = section.read(alloc, line, 1)?;
-    Ok(found.map(|found| found.key))
+    Ok(match found {
+        Some(found) => Some(found.key),
+        None => None,
+    })
 }
 
 // The message of a fault of this table.
@@ -195,15 +171,16 @@ fn explain_table(
         TableFault::WrongType(field) => wrong_type(alloc, &outline, place, field),
         TableFault::UnknownSuite => unknown_suite(alloc, &outline, place),
         TableFault::BadDigits => key_digits(alloc, &outline, place),
-        TableFault::BothSecrets => both_secrets(alloc, &outline, place),
+        TableFault::BothSecrets => {
+            let password = outline.line(place, Field::Password);
+            let line = password.max(outline.line(place, Field::Key));
+            let words = "both password and key: expected one of them";
+            Remark::on_table(alloc, place, line, words)
+        }
         TableFault::NeitherSecret => {
             let line = outline.head(place);
-            Remark::on_table(
-                alloc,
-                place,
-                line,
-                "neither password nor key: expected one of them",
-            )
+            let words = "neither password nor key: expected one of them";
+            Remark::on_table(alloc, place, line, words)
         }
         TableFault::Memory => Remark::on_table(alloc, place, None, fault),
     }
@@ -253,27 +230,37 @@ fn wrong_type(
     field: Field,
 ) -> Result<Remark, AllocError> {
     let line = outline.line(place, field);
+    match outline.value(place, field) {
+        Some(Value::Integer(number)) if field == Field::Skew || field == Field::Lifetime => {
+            is_other(alloc, place, line, field, *number)
+        }
+        Some(Value::Array(values)) => wrong_list(alloc, place, line, field, values),
+        Some(value) => is_other(alloc, place, line, field, kind(value)),
+        None => is_other(alloc, place, line, field, "of another type"),
+    }
+}
+
+/// The message of a field that is not what it may be.
+pub(crate) fn is_other<D: fmt::Display + Drop>(
+    alloc: Global,
+    place: Place,
+    line: Option<usize>,
+    field: Field,
+    found: D,
+) -> Result<Remark, AllocError> {
     let wanted = expected(field);
-    let value = outline.value(place, field);
-    if let Some(Value::Integer(number)) = value {
-        if field == Field::Skew || field == Field::Lifetime {
-            let words = format_args!("{field} is {number}: expected {wanted}");
-            return Remark::on_table(alloc, place, line, words);
-        }
-    }
-    if let Some(Value::Array(values)) = value {
-        if let Some((number, kind)) = first_other(field, values) {
-            let words = format_args!("element {number} of {field} is {kind}: expected {wanted}");
-            return Remark::on_table(alloc, place, line, words);
-        }
-    }
-    let kind = value.map_or("of another type", kind);
-    let words = format_args!("{field} is {kind}: expected {wanted}");
+    let words = format_args!("{field} is {found}: expected {wanted}");
     Remark::on_table(alloc, place, line, words)
 }
 
-// The first element of a list that the field may not have: its number, and what it is.
-fn first_other(field: Field, values: &[Value]) -> Option<(usize, &'static str)> {
+// The message of a list: of its first element that the field may not have, by its number and what it is.
+fn wrong_list(
+    alloc: Global,
+    place: Place,
+    line: Option<usize>,
+    field: Field,
+    values: &[Value],
+) -> Result<Remark, AllocError> {
     for (index, value) in values.iter().enumerate() {
         let is_right = match field {
             Field::Account => value.as_table().is_some(),
@@ -281,10 +268,14 @@ fn first_other(field: Field, values: &[Value]) -> Option<(usize, &'static str)> 
             _ => true,
         };
         if !is_right {
-            return Some((index.saturating_add(1), kind(value)));
+            let number = index.saturating_add(1);
+            let kind = kind(value);
+            let wanted = expected(field);
+            let words = format_args!("element {number} of {field} is {kind}: expected {wanted}");
+            return Remark::on_table(alloc, place, line, words);
         }
     }
-    None
+    is_other(alloc, place, line, field, "a list")
 }
 
 fn unknown_suite(alloc: Global, outline: &Outline, place: Place) -> Result<Remark, AllocError> {
@@ -295,17 +286,5 @@ fn unknown_suite(alloc: Global, outline: &Outline, place: Place) -> Result<Remar
         place,
         line,
         format_args!("unknown suite: expected {wanted}"),
-    )
-}
-
-fn both_secrets(alloc: Global, outline: &Outline, place: Place) -> Result<Remark, AllocError> {
-    let password = outline.line(place, Field::Password);
-    let key = outline.line(place, Field::Key);
-    let line = password.max(key);
-    Remark::on_table(
-        alloc,
-        place,
-        line,
-        "both password and key: expected one of them",
     )
 }

@@ -51,23 +51,24 @@ impl Outline {
         self.table(place)?.get(field.name())
     }
 
-    /// The text that a field holds.
-    pub(crate) fn text(&self, place: Place, field: Field) -> Option<&str> {
-        self.value(place, field)?.as_str()
-    }
-
     /// The key of a table that is the name of none of the fields, the first in the file.
     pub(crate) fn unknown_key(&self, place: Place, fields: &[Field]) -> Option<&KeyLine> {
-        self.keys.iter().find(|key| key.place == place && !is_among(fields, key.key.as_str()))
+        for key in &self.keys {
+            if key.place == place && !is_among(fields, key.key.as_str()) {
+                return Some(key);
+            }
+        }
+        None
     }
 
     /// The line of a field. Where it isn't found, that on which its table begins.
     pub(crate) fn line(&self, place: Place, field: Field) -> Option<usize> {
-        let mut keys = self.keys.iter();
-        match keys.find(|key| key.place == place && key.key.as_str() == field.name()) {
-            Some(key) => Some(key.line),
-            None => self.head(place),
+        for key in &self.keys {
+            if key.place == place && key.key.as_str() == field.name() {
+                return Some(key.line);
+            }
         }
+        self.head(place)
     }
 
     /// The line on which a table begins.

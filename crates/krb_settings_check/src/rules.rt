@@ -1,7 +1,7 @@
 //! The messages of what a realm refuses in a settings file: line, word, and what was expected.
 
+use crate::messages::is_other;
 use crate::outline::Outline;
-use crate::words::expected;
 use crate::{Place, Remark};
 use krb_accounts::{CHARACTER_LIMIT, COMPONENT_LIMIT, SKEW_LIMIT};
 use krb_crypto::CipherSuite;
@@ -53,18 +53,14 @@ fn range(alloc: Global, outline: &Outline, place: Place) -> Result<Remark, Alloc
         )
     };
     let line = outline.line(place, field);
-    let wanted = expected(field);
-    Remark::on_table(
-        alloc,
-        place,
-        line,
-        format_args!("{field} is {number}: expected {wanted}"),
-    )
+    is_other(alloc, place, line, field, number)
 }
 
 fn whole_number(outline: &Outline, place: Place, field: Field) -> i64 {
-    let value = outline.value(place, field);
-    value.and_then(|value| value.as_integer()).unwrap_or(0)
+    match outline.value(place, field) {
+        Some(Value::Integer(number)) => *number,
+        _ => 0,
+    }
 }
 
 fn name(alloc: Global, outline: &Outline, place: Place) -> Result<Remark, AllocError> {
@@ -113,7 +109,7 @@ fn first_slip(components: &[Value]) -> Option<(usize, Slip)> {
 }
 
 /// Why a text is no name of a realm and no component.
-#[derive(Clone, Copy, Debug, PartialEq, Eq)]
+#[derive(Clone, Copy)]
 enum Slip {
     /// It is empty.
     Empty,
@@ -142,8 +138,10 @@ impl fmt::Display for Slip {
 }
 
 fn slip_of(text: &str) -> Option<Slip> {
-    if let Some(index) = text.chars().position(|character| !character.is_ascii()) {
-        return Some(Slip::NotAscii(index.saturating_add(1)));
+    for (index, character) in text.chars().enumerate() {
+        if !character.is_ascii() {
+            return Some(Slip::NotAscii(index.saturating_add(1)));
+        }
     }
     match text.len() {
         0 => Some(Slip::Empty),
@@ -159,18 +157,23 @@ pub(crate) fn key_digits(
     place: Place,
 ) -> Result<Remark, AllocError> {
     let line = outline.line(place, Field::Key);
-    let digits = outline.text(place, Field::Key).unwrap_or("");
+    let digits = match outline.value(place, Field::Key) {
+        Some(Value::String(digits)) => digits.as_str(),
+        _ => "",
+    };
     let Some(suite) = suite_of(outline, place) else {
         return Remark::on_table(alloc, place, line, "key is not pairs of hexadecimal digits");
     };
     let wanted = suite.key_size().saturating_mul(2);
     let name = suite_name(suite);
-    if let Some(index) = digits.chars().position(|digit| !digit.is_ascii_hexdigit()) {
-        let number = index.saturating_add(1);
-        let words = format_args!(
-            "character {number} of key is no hexadecimal digit: expected {wanted} digits for {name}"
-        );
-        return Remark::on_table(alloc, place, line, words);
+    for (index, digit) in digits.chars().enumerate() {
+        if !digit.is_ascii_hexdigit() {
+            let number = index.saturating_add(1);
+            let words = format_args!(
+                "character {number} of key is no hexadecimal digit: expected {wanted} digits for {name}"
+            );
+            return Remark::on_table(alloc, place, line, words);
+        }
     }
     let count = digits.len();
     let words = format_args!("key has {count} hexadecimal digits: expected {wanted} for {name}");
@@ -189,17 +192,16 @@ fn exists(alloc: Global, outline: &Outline, place: Place) -> Result<Remark, Allo
     let line = outline.line(place, Field::Name);
     let components = components_at(outline, place);
     let name = Components(components);
-    let Some(other) = first_of_name(outline, components).filter(|other| *other != place) else {
-        let words = format_args!(
-            "name {name} is the ticket-granting service's, whose key is the realm's: expected another name"
-        );
-        return Remark::on_table(alloc, place, line, words);
+    let number = match first_of_name(outline, components) {
+        Some(number) if Place::Account(number) != place => number,
+        _ => {
+            let words = format_args!(
+                "name {name} is the ticket-granting service's, whose key is the realm's: expected another name"
+            );
+            return Remark::on_table(alloc, place, line, words);
+        }
     };
-    let number = match other {
-        Place::Account(number) => number,
-        Place::File => 0,
-    };
-    match outline.line(other, Field::Name) {
+    match outline.line(Place::Account(number), Field::Name) {
         Some(other_line) => Remark::on_table(
             alloc,
             place,
@@ -217,12 +219,12 @@ fn exists(alloc: Global, outline: &Outline, place: Place) -> Result<Remark, Allo
     }
 }
 
-// The first account with these components.
-fn first_of_name(outline: &Outline, components: &[Value]) -> Option<Place> {
+// The number of the first account with these components.
+fn first_of_name(outline: &Outline, components: &[Value]) -> Option<usize> {
     for index in 0..outline.accounts() {
-        let place = Place::Account(index.saturating_add(1));
-        if are_same(components_at(outline, place), components) {
-            return Some(place);
+        let number = index.saturating_add(1);
+        if are_same(components_at(outline, Place::Account(number)), components) {
+            return Some(number);
         }
     }
     None
@@ -239,10 +241,12 @@ fn are_same(components: &[Value], others: &[Value]) -> bool {
     if components.len() != others.len() {
         return false;
     }
-    components
-        .iter()
-        .zip(others)
-        .all(|(component, other)| component.as_str() == other.as_str())
+    for (component, other) in components.iter().zip(others) {
+        if component.as_str() != other.as_str() {
+            return false;
+        }
+    }
+    true
 }
 
 /// The components of a name, as a settings file has them.
