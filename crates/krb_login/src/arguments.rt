@@ -6,6 +6,7 @@ use krb_commands::{Given, Stop, given_of, principal_in, usage};
 use krb_crypto::CipherSuite;
 use krb_time::Moment;
 use krb_types::PrincipalText;
+use result_pairs::both;
 use std::alloc::Global;
 
 /// The options.
@@ -90,9 +91,9 @@ pub(crate) struct Settings<'a> {
 /// The login of these arguments.
 pub(crate) fn login_of<'a>(alloc: Global, arguments: &'a [String]) -> Result<Login<'a>, Stop> {
     let given = given_of(alloc, &OPTIONS, arguments)?;
-    let settings = settings_of(alloc, &given)?;
-    let user = user_of(alloc, &given)?;
-    let services = services_of(alloc, &user.client, &given)?;
+    let (settings, user) = both(settings_of(alloc, &given), user_of(alloc, &given))?;
+    let services = services_of(alloc, &user.client, &given);
+    let (user, services) = both(Ok(user), services)?;
     Ok(Login {
         user,
         services,
@@ -101,22 +102,30 @@ pub(crate) fn login_of<'a>(alloc: Global, arguments: &'a [String]) -> Result<Log
 }
 
 fn settings_of<'a>(alloc: Global, given: &Given<'a>) -> Result<Settings<'a>, Stop> {
-    let Some(cache) = given.value(alloc, "-c")? else {
-        return Err(usage(alloc, "expected: -c CACHE"));
-    };
+    let files = both(cache_of(alloc, given), means_of(alloc, given));
+    let words = both(given.value(alloc, "-r"), moment_of(alloc, given));
+    let numbers = both(lifetime_of(alloc, given), words);
+    let ((cache, means), (lifetime, (words, moment))) = both(files, numbers)?;
     Ok(Settings {
-        means: means_of(alloc, given)?,
-        cache: path_of(cache),
-        lifetime: lifetime_of(alloc, given.value(alloc, "-l")?)?,
-        words: given.value(alloc, "-r")?.unwrap_or(WORDS),
-        moment: moment_of(alloc, given.value(alloc, "-t")?)?,
+        means,
+        cache,
+        lifetime,
+        words: words.unwrap_or(WORDS),
+        moment,
     })
 }
 
+// The path of the cache.
+fn cache_of<'a>(alloc: Global, given: &Given<'a>) -> Result<&'a str, Stop> {
+    match given.value(alloc, "-c")? {
+        Some(cache) => Ok(path_of(cache)),
+        None => Err(usage(alloc, "expected: -c CACHE")),
+    }
+}
+
 fn means_of<'a>(alloc: Global, given: &Given<'a>) -> Result<Means<'a>, Stop> {
-    let key = key_file_of(alloc, given)?;
-    let certificate = certificate_files_of(alloc, given)?;
-    match (key, certificate) {
+    let key = key_file_of(alloc, given);
+    match both(key, certificate_files_of(alloc, given))? {
         (Some(file), None) => Ok(Means::Key(file)),
         (None, Some(files)) => Ok(Means::Certificate(files)),
         _ => Err(usage(alloc, ONE_MEANS)),
@@ -125,7 +134,7 @@ fn means_of<'a>(alloc: Global, given: &Given<'a>) -> Result<Means<'a>, Stop> {
 
 // The file of the client's key, if it is given.
 fn key_file_of<'a>(alloc: Global, given: &Given<'a>) -> Result<Option<KeyFile<'a>>, Stop> {
-    match (given.value(alloc, "-k")?, given.value(alloc, "-p")?) {
+    match both(given.value(alloc, "-k"), given.value(alloc, "-p"))? {
         (None, None) => Ok(None),
         (Some(path), None) => Ok(Some(KeyFile::Keytab(path_of(path)))),
         (None, Some("-")) => Err(usage(
@@ -142,12 +151,10 @@ fn certificate_files_of<'a>(
     alloc: Global,
     given: &Given<'a>,
 ) -> Result<Option<CertificateFiles<'a>>, Stop> {
-    let certificate = given.value(alloc, "-C")?;
-    let key = given.value(alloc, "-K")?;
-    let anchor = given.value(alloc, "-A")?;
-    match (certificate, key, anchor) {
-        (None, None, None) => Ok(None),
-        (Some(certificate), Some(key), Some(anchor)) => Ok(Some(CertificateFiles {
+    let key_and_anchor = both(given.value(alloc, "-K"), given.value(alloc, "-A"));
+    match both(given.value(alloc, "-C"), key_and_anchor)? {
+        (None, (None, None)) => Ok(None),
+        (Some(certificate), (Some(key), Some(anchor))) => Ok(Some(CertificateFiles {
             certificate,
             key,
             anchor,
@@ -164,11 +171,12 @@ fn path_of(word: &str) -> &str {
     word.strip_prefix("FILE:").unwrap_or(word)
 }
 
-fn lifetime_of(alloc: Global, given: Option<&str>) -> Result<u64, Stop> {
-    let Some(word) = given else {
-        return Ok(USUAL_LIFETIME);
+fn lifetime_of(alloc: Global, given: &Given<'_>) -> Result<u64, Stop> {
+    let lifetime = match given.value(alloc, "-l")? {
+        Some(word) => word.parse::<u64>(),
+        None => Ok(USUAL_LIFETIME),
     };
-    match word.parse::<u64>() {
+    match lifetime {
         Ok(seconds) if 0 < seconds && seconds <= LIFETIME_LIMIT => Ok(seconds),
         _ => Err(usage(
             alloc,
@@ -177,8 +185,8 @@ fn lifetime_of(alloc: Global, given: Option<&str>) -> Result<u64, Stop> {
     }
 }
 
-fn moment_of(alloc: Global, given: Option<&str>) -> Result<Option<Moment>, Stop> {
-    let Some(word) = given else {
+fn moment_of(alloc: Global, given: &Given<'_>) -> Result<Option<Moment>, Stop> {
+    let Some(word) = given.value(alloc, "-t")? else {
         return Ok(None);
     };
     match Moment::from_text(word.as_bytes()) {

@@ -2,17 +2,16 @@
 
 use crate::arguments::{Login, Service};
 use crate::certified::Certified;
-use crate::kdc::{Kdc, Occasion};
+use crate::kdc::Kdc;
 use crate::secret::{SUITES, Secret, client_with};
 use krb_client::{AsAsked, AskRefusal, Client, Credential, Means, TakeRefusal};
-use krb_commands::{Stop, failed, refused};
+use krb_commands::{Stop, refused};
 use krb_constants::error_codes::KDC_ERR_ETYPE_NOSUPP;
 use krb_crypto::CipherSuite;
 use krb_etype_info::{HintRefusal, KeyHint, first_request, key_hint, key_hint_of_reply};
-use krb_time::{MICROSECONDS_IN_SECOND, Moment};
 use krb_types::krbtgt;
-use picky_asn1::date::GeneralizedTime;
-use std::alloc::Global;
+use result_pairs::both;
+use std::alloc::{AllocError, Global};
 
 /// The suites of a login by certificate, in the order in which they are asked for: those of AES.
 const CERTIFIED_SUITES: [CipherSuite; 4] = [
@@ -21,6 +20,9 @@ const CERTIFIED_SUITES: [CipherSuite; 4] = [
     CipherSuite::Aes256CtsHmacSha384192,
     CipherSuite::Aes128CtsHmacSha256128,
 ];
+
+/// What a reply grants, or why it isn't taken.
+type Taken = Result<Credential, TakeRefusal>;
 
 /// What the KDC answered to the request without padata.
 #[derive(Drop)]
@@ -38,15 +40,28 @@ pub(crate) fn authenticate_by_key(
     login: &Login<'_>,
     secret: &Secret,
 ) -> Result<Credential, Stop> {
-    let service = granting_service(alloc, login)?;
-    let first = ask_first(alloc, kdc, login, secret, &service)?;
+    let (service, suites) = both(granting_service(alloc, login), secret.suites(alloc))?;
+    let first = ask_first(alloc, kdc, login, &suites, &service)?;
+    let taken = take_or_ask(alloc, kdc, login, secret, &service, &first);
+    drop(first);
+    of_taking(alloc, login.user.argument, taken?)
+}
+
+// Takes the KDC's answer if it is a reply. Else it sends the request with the padata of the client's key, and takes the reply to that.
+fn take_or_ask(
+    alloc: Global,
+    kdc: &mut Kdc<'_>,
+    login: &Login<'_>,
+    secret: &Secret,
+    service: &[Vec<u8>],
+    first: &FirstAnswer,
+) -> Result<Taken, Stop> {
     let (client, means) = secret.client(alloc, login, &first.hint)?;
-    let taken = if first.is_reply {
-        client.take_as_reply(alloc, &means, &first.asked, &first.reply)
+    if first.is_reply {
+        Ok(client.take_as_reply(alloc, &means, &first.asked, &first.reply))
     } else {
-        ask_with(alloc, kdc, login, &client, &means, &service)?
-    };
-    of_taking(alloc, login.user.argument, taken)
+        ask_with(alloc, kdc, login, &client, &means, service)
+    }
 }
 
 /// Gets the ticket-granting ticket by certificate (RFC 4556, section 3.1). A request names one suite: the next one is asked for where the
@@ -75,15 +90,16 @@ fn ask_certified(
     own: &Certified,
     service: &[Vec<u8>],
     suite: CipherSuite,
-) -> Result<Result<Credential, TakeRefusal>, Stop> {
+) -> Result<Taken, Stop> {
     let client = client_with(alloc, login, suite)?;
     ask_with(alloc, kdc, login, &client, &own.means(), service)
 }
 
 // The name of the realm's ticket-granting service.
-fn granting_service(alloc: Global, login: &Login<'_>) -> Result<Vec<Vec<u8>>, Stop> {
-    let first = Vec::from_slice(alloc, krbtgt())?;
-    let second = Vec::from_slice(alloc, login.user.client.realm().as_bytes())?;
+fn granting_service(alloc: Global, login: &Login<'_>) -> Result<Vec<Vec<u8>>, AllocError> {
+    let first = Vec::from_slice(alloc, krbtgt());
+    let second = Vec::from_slice(alloc, login.user.client.realm().as_bytes());
+    let (first, second) = both(first, second)?;
     Ok(vec![in alloc; first, second]?)
 }
 
@@ -92,40 +108,28 @@ fn ask_first(
     alloc: Global,
     kdc: &mut Kdc<'_>,
     login: &Login<'_>,
-    secret: &Secret,
+    suites: &[CipherSuite],
     service: &[Vec<u8>],
 ) -> Result<FirstAnswer, Stop> {
-    let suites = secret.suites(alloc)?;
-    let (request, asked) = request_of(alloc, kdc, login, &suites, service)?;
-    let reply = kdc.ask(&request)?;
-    let (hint, is_reply) = hint_of(alloc, login, &suites, &reply)?;
+    let occasion = kdc.occasion()?;
+    let made = first_request(
+        alloc,
+        &login.user.client,
+        suites,
+        service,
+        occasion.till,
+        occasion.moment,
+        &occasion.words,
+    );
+    let (asked, reply) = ask(alloc, kdc, login.user.argument, made)?;
+    let hint = hint_of(alloc, login, suites, &reply);
+    let ((asked, reply), (hint, is_reply)) = both(Ok((asked, reply)), hint)?;
     Ok(FirstAnswer {
         asked,
         reply,
         hint,
         is_reply,
     })
-}
-
-fn request_of(
-    alloc: Global,
-    kdc: &mut Kdc<'_>,
-    login: &Login<'_>,
-    suites: &[CipherSuite],
-    service: &[Vec<u8>],
-) -> Result<(Vec<u8>, AsAsked), Stop> {
-    let occasion = kdc.occasion()?;
-    let till = till_of(alloc, login, &occasion)?;
-    let asked = first_request(
-        alloc,
-        &login.user.client,
-        suites,
-        service,
-        till,
-        occasion.moment,
-        &occasion.words,
-    );
-    of_asking(alloc, login.user.argument, asked)
 }
 
 // What the KDC says of the client's key, and whether it says so in a reply.
@@ -157,19 +161,17 @@ fn ask_with<M: Means>(
     client: &Client,
     means: &M,
     service: &[Vec<u8>],
-) -> Result<Result<Credential, TakeRefusal>, Stop> {
+) -> Result<Taken, Stop> {
     let occasion = kdc.occasion()?;
-    let till = till_of(alloc, login, &occasion)?;
-    let asked = client.as_request(
+    let made = client.as_request(
         alloc,
         means,
         service,
-        till,
+        occasion.till,
         occasion.moment,
         &occasion.words,
     );
-    let (request, asked) = of_asking(alloc, login.user.argument, asked)?;
-    let reply = kdc.ask(&request)?;
+    let (asked, reply) = ask(alloc, kdc, login.user.argument, made)?;
     Ok(client.take_as_reply(alloc, means, &asked, &reply))
 }
 
@@ -198,48 +200,36 @@ fn ask_by_suite(
     granting: &Credential,
     service: &Service<'_>,
     suite: CipherSuite,
-) -> Result<Result<Credential, TakeRefusal>, Stop> {
+) -> Result<Taken, Stop> {
     let client = client_with(alloc, login, suite)?;
     let occasion = kdc.occasion()?;
-    let till = till_of(alloc, login, &occasion)?;
-    let asked = client.tgs_request(
+    let made = client.tgs_request(
         alloc,
         granting,
         &service.components,
-        till,
+        occasion.till,
         occasion.moment,
         &occasion.words,
     );
-    let (request, asked) = of_asking(alloc, service.argument, asked)?;
-    let reply = kdc.ask(&request)?;
+    let (asked, reply) = ask(alloc, kdc, service.argument, made)?;
     Ok(client.take_tgs_reply(alloc, &asked, &reply))
 }
 
-// The end of the lifetime that is asked for.
-fn till_of(alloc: Global, login: &Login<'_>, occasion: &Occasion) -> Result<GeneralizedTime, Stop> {
-    let micros = login
-        .settings
-        .lifetime
-        .saturating_mul(MICROSECONDS_IN_SECOND);
-    match Moment::new(occasion.moment.micros().saturating_add(micros)) {
-        Some(moment) => Ok(moment.second()),
-        None => Err(failed(alloc, "-l: expected an end before the year 10000")),
-    }
-}
-
-fn of_asking<T: Drop>(alloc: Global, name: &str, made: Result<T, AskRefusal>) -> Result<T, Stop> {
+// Sends a request, if it was made. Returns what the client remembers of it, and the reply.
+fn ask<T: Drop>(
+    alloc: Global,
+    kdc: &mut Kdc<'_>,
+    name: &str,
+    made: Result<(Vec<u8>, T), AskRefusal>,
+) -> Result<(T, Vec<u8>), Stop> {
     match made {
-        Ok(made) => Ok(made),
+        Ok((request, asked)) => both(Ok(asked), kdc.ask(&request)),
         Err(AskRefusal::Memory) => Err(Stop::Memory),
         Err(refusal) => Err(refused(alloc, format_args!("{name}: {refusal}"))),
     }
 }
 
-fn of_taking(
-    alloc: Global,
-    name: &str,
-    taken: Result<Credential, TakeRefusal>,
-) -> Result<Credential, Stop> {
+fn of_taking(alloc: Global, name: &str, taken: Taken) -> Result<Credential, Stop> {
     match taken {
         Ok(credential) => Ok(credential),
         Err(TakeRefusal::Memory) => Err(Stop::Memory),

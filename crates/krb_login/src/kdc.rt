@@ -6,7 +6,8 @@ use byte_streams::Watched;
 use krb_clock::now;
 use krb_commands::{Stop, failed};
 use krb_frames::{FRAME_LIMIT, ServeFault, read_frame, write_frame};
-use krb_time::Moment;
+use krb_time::{MICROSECONDS_IN_SECOND, Moment};
+use picky_asn1::date::GeneralizedTime;
 use std::fs::{self, File};
 use std::io::{BufReader, Read, Stdin, Stdout};
 
@@ -24,17 +25,20 @@ pub(crate) struct Kdc<'a> {
     words_path: &'a str,
     /// The moment of each request, if it isn't the clock's.
     set_moment: Option<Moment>,
+    /// For how many seconds tickets are asked for.
+    lifetime: u64,
 }
 
-/// The moment of a request, and its random octets.
+/// The moment of a request, the end of the lifetime that it asks for, and its random octets.
 #[derive(Clone, Copy)]
 pub(crate) struct Occasion {
     pub(crate) moment: Moment,
+    pub(crate) till: GeneralizedTime,
     pub(crate) words: [u8; WORDS_TAKEN],
 }
 
 impl<'a> Kdc<'a> {
-    /// The KDC at standard input and output, with random octets and moments as the settings say.
+    /// The KDC at standard input and output, with random octets, moments and the lifetime as the settings say.
     pub(crate) fn open(rt: &'a HostRuntime, settings: &Settings<'a>) -> Result<Kdc<'a>, Stop> {
         let words = open_words(rt, settings.words)?;
         let Ok(input) = BufReader::new(rt.alloc(), rt.stdin()) else {
@@ -47,10 +51,11 @@ impl<'a> Kdc<'a> {
             words,
             words_path: settings.words,
             set_moment: settings.moment,
+            lifetime: settings.lifetime,
         })
     }
 
-    /// The moment of the next request, and the next random octets.
+    /// The moment and the end of the next request, and the next random octets.
     pub(crate) fn occasion(&mut self) -> Result<Occasion, Stop>
         ensures { IfOk result (λ occasion. length occasion.words ≡ 96) }
     {
@@ -66,7 +71,15 @@ impl<'a> Kdc<'a> {
                 ),
             ));
         }
-        Ok(Occasion { moment, words })
+        let micros = self.lifetime.saturating_mul(MICROSECONDS_IN_SECOND);
+        match Moment::new(moment.micros().saturating_add(micros)) {
+            Some(end) => Ok(Occasion {
+                moment,
+                till: end.second(),
+                words,
+            }),
+            None => Err(failed(alloc, "-l: expected an end before the year 10000")),
+        }
     }
 
     fn moment(&self) -> Result<Moment, Stop> {
@@ -89,10 +102,11 @@ impl<'a> Kdc<'a> {
         if FRAME_LIMIT < request.len() {
             return Err(failed(alloc, "the request has more than 65536 octets"));
         }
-        if let Err(fault) = write_frame(alloc, &mut self.writer, request) {
-            return Err(stop_of(self.rt, fault));
-        }
-        match read_frame(alloc, &mut self.reader) {
+        let replied = match write_frame(alloc, &mut self.writer, request) {
+            Ok(()) => read_frame(alloc, &mut self.reader),
+            Err(fault) => Err(fault),
+        };
+        match replied {
             Ok(Some(reply)) => Ok(reply),
             Ok(None) => Err(failed(
                 alloc,

@@ -1,10 +1,10 @@
 //! A login, from its arguments to the cache.
 
-use crate::arguments::{CertificateFiles, KeyFile, Login, Means};
+use crate::arguments::{Login, Means};
 use crate::certified::{Certified, certified_in};
 use crate::exchange::{ask_for_service, authenticate_by_certificate, authenticate_by_key};
 use crate::kdc::Kdc;
-use crate::secret::secret_of;
+use crate::secret::{Secret, secret_of};
 use krb_client::Credential;
 use krb_commands::{Stop, refused, write_file};
 use krb_credential_caches::CacheWriteFault;
@@ -14,7 +14,12 @@ use std::alloc::Global;
 /// Gets the tickets of a login, and writes the cache.
 pub(crate) fn log_in(rt: &HostRuntime, login: &Login<'_>) -> Result<(), Stop> {
     match login.settings.means {
-        Means::Key(file) => log_in_by_key(rt, login, file),
+        Means::Key(file) => {
+            let secret = secret_of(rt, login, file)?;
+            let outcome = log_in_by_key(rt, login, &secret);
+            drop(secret);
+            outcome
+        }
         Means::Certificate(files) => {
             let own = certified_in(rt, &files)?;
             let outcome = log_in_by_certificate(rt, login, &own);
@@ -24,10 +29,9 @@ pub(crate) fn log_in(rt: &HostRuntime, login: &Login<'_>) -> Result<(), Stop> {
     }
 }
 
-fn log_in_by_key(rt: &HostRuntime, login: &Login<'_>, file: KeyFile<'_>) -> Result<(), Stop> {
-    let secret = secret_of(rt, login, file)?;
+fn log_in_by_key(rt: &HostRuntime, login: &Login<'_>, secret: &Secret) -> Result<(), Stop> {
     let mut kdc = Kdc::open(rt, &login.settings)?;
-    let granting = authenticate_by_key(rt.alloc(), &mut kdc, login, &secret)?;
+    let granting = authenticate_by_key(rt.alloc(), &mut kdc, login, secret)?;
     log_in_with(rt, &mut kdc, login, &granting)
 }
 
@@ -45,8 +49,9 @@ fn log_in_with(
     granting: &Credential,
 ) -> Result<(), Stop> {
     let further = tickets(rt.alloc(), kdc, login, granting)?;
-    let octets = cached(rt.alloc(), login, granting, &further)?;
-    write_file(rt, login.settings.cache, &octets)
+    let octets = cached(rt.alloc(), login, granting, &further);
+    drop(further);
+    write_file(rt, login.settings.cache, &octets?)
 }
 
 // A ticket for each service, in their order.
@@ -71,7 +76,9 @@ fn cached(
     further: &[Credential],
 ) -> Result<Vec<u8>, Stop> {
     let cache = cache_of(alloc, &login.user.client, granting, further)?;
-    match cache.to_bytes(alloc) {
+    let octets = cache.to_bytes(alloc);
+    drop(cache);
+    match octets {
         Ok(octets) => Ok(octets),
         Err(CacheWriteFault::Memory) => Err(Stop::Memory),
         Err(fault) => Err(refused(alloc, format_args!("{}: {fault}", login.settings.cache))),

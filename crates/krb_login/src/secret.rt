@@ -7,6 +7,7 @@ use krb_crypto::{CipherSuite, Key};
 use krb_etype_info::{HintedClientRefusal, KeyHint, client_by_hint};
 use krb_keytabs::KeytabRecord;
 use krb_types::{is_same_name, is_same_realm};
+use result_pairs::both;
 use std::alloc::{AllocError, Global};
 use std::fs;
 use std::io::{self, ErrorKind, Read};
@@ -37,20 +38,14 @@ pub(crate) fn secret_of(
     file: KeyFile<'_>,
 ) -> Result<Secret, Stop> {
     match file {
-        KeyFile::Password(path) => Ok(Secret::Password(password_in(rt, path)?)),
-        KeyFile::Keytab(path) => Ok(Secret::Records(records_in(rt, path, login)?)),
+        KeyFile::Password(path) => password_in(rt, path),
+        KeyFile::Keytab(path) => records_in(rt, path, login),
     }
 }
 
 // The first line of a file.
-fn password_in(rt: &HostRuntime, path: &str) -> Result<Vec<u8>, Stop> {
-    let octets = match read_front(rt, path) {
-        Ok(octets) => octets,
-        Err(fault) if fault.kind() == ErrorKind::OutOfMemory => return Err(Stop::Memory),
-        Err(fault) => {
-            return Err(failed(rt.alloc(), format_args!("{path} can't be read: {fault}")));
-        }
-    };
+fn password_in(rt: &HostRuntime, path: &str) -> Result<Secret, Stop> {
+    let octets = front_of(rt, path)?;
     let line = first_line(&octets);
     if line.is_empty() || PASSWORD_LIMIT < line.len() {
         return Err(refused(
@@ -58,12 +53,21 @@ fn password_in(rt: &HostRuntime, path: &str) -> Result<Vec<u8>, Stop> {
             format_args!("{path}: expected a password of 1 to 4096 octets in its first line"),
         ));
     }
-    Ok(Vec::from_slice(rt.alloc(), line)?)
+    Ok(Secret::Password(Vec::from_slice(rt.alloc(), line)?))
+}
+
+// The octets of a file, of which one more than a password may have.
+fn front_of(rt: &HostRuntime, path: &str) -> Result<Vec<u8>, Stop> {
+    match read_front(rt, path) {
+        Ok(octets) => Ok(octets),
+        Err(fault) if fault.kind() == ErrorKind::OutOfMemory => Err(Stop::Memory),
+        Err(fault) => Err(failed(rt.alloc(), format_args!("{path} can't be read: {fault}"))),
+    }
 }
 
 fn read_front(rt: &HostRuntime, path: &str) -> io::Result<Vec<u8>> {
-    let mut octets = Vec::new(rt.alloc());
     let file = fs::open(rt, path)?;
+    let mut octets = Vec::new(rt.alloc());
     file.take(PASSWORD_LIMIT as u64 + 1)
         .read_to_end(&mut octets)?;
     Ok(octets)
@@ -78,7 +82,7 @@ fn first_line(octets: &[u8]) -> &[u8] {
 }
 
 // The client's records of a keytab.
-fn records_in(rt: &HostRuntime, path: &str, login: &Login<'_>) -> Result<Vec<KeytabRecord>, Stop> {
+fn records_in(rt: &HostRuntime, path: &str, login: &Login<'_>) -> Result<Secret, Stop> {
     let mut records = keytab_in(rt, path)?.into_records();
     records.retain(|record| is_of(&login.user.client, record));
     if records.is_empty() {
@@ -90,7 +94,7 @@ fn records_in(rt: &HostRuntime, path: &str, login: &Login<'_>) -> Result<Vec<Key
             ),
         ));
     }
-    Ok(records)
+    Ok(Secret::Records(records))
 }
 
 // Whether a record is of the client, and its key of a known suite.
@@ -153,17 +157,16 @@ fn by_records(
     records: &[KeytabRecord],
     suite: CipherSuite,
 ) -> Result<(Client, ByKey), Stop> {
-    let Some(key) = newest_key(records, suite) else {
-        return Err(refused(
+    match newest_key(records, suite) {
+        Some(key) => both(client_with(alloc, login, suite), Ok(ByKey { key })),
+        None => Err(refused(
             alloc,
             format_args!(
                 "{}: the keytab has no key of the KDC's suite",
                 login.user.argument
             ),
-        ));
-    };
-    let client = client_with(alloc, login, suite)?;
-    Ok((client, ByKey { key }))
+        )),
+    }
 }
 
 /// The client of a login, which asks for this suite. It is named as the one of the arguments, so memory is the only refusal.
