@@ -281,11 +281,21 @@ web_login() {
     [ "$got" -eq 0 ] && [ "$ended" -eq 0 ]
 }
 
+# served_more COUNT: waits until the server's log has more lines than so many. Apache writes a line after its answer.
+served_more() {
+    tries=50
+    until [ "$(wc -l <"$work/requests")" -gt "$1" ] || [ $((tries -= 1)) -eq 0 ]; do
+        sleep 0.1
+    done
+}
+
 # get OPTION..: the page by curl. It says the status of HTTP, and whom the server took for the user.
 get() {
+    before=$(wc -l <"$work/requests")
     KRB5CCNAME=FILE:$work/none curl -s -o "$work/page" -D "$work/head" "$@" --resolve "$host:$web_port:127.0.0.1" "http://$host:$web_port/" || return 1
     head -n 1 "$work/head"
     grep -i '^WWW-Authenticate' "$work/head" | cut -c 1-60
+    served_more "$before"
     tail -n 1 "$work/requests"
     head -n 1 "$work/head" | grep -q " 200 "
 }
