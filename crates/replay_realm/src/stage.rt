@@ -124,7 +124,7 @@ pub(crate) fn tell(
         keep_message(stage, step, hex::decode(alloc, digits)?);
     }
     let outcome = tell_step(stage, alloc, step, &mut words, told);
-    both(words.ended(), outcome)?;
+    both(outcome, words.ended())?;
     Ok(())
 }
 
