@@ -204,6 +204,21 @@ pub const KDC_ERR_CLIENT_NAME_MISMATCH: u32 = 75;
 /// The KDC isn't the one of its certificate.
 pub const KDC_ERR_KDC_NAME_MISMATCH: u32 = 76;
 
+/// The certificate's key is for another purpose (RFC 4556, section 3.1.3).
+pub const KDC_ERR_INCONSISTENT_KEY_PURPOSE: u32 = 77;
+
+/// The certificate is signed under a digest that isn't accepted (RFC 4556, section 3.1.3).
+pub const KDC_ERR_DIGEST_IN_CERT_NOT_ACCEPTED: u32 = 78;
+
+/// The request has to carry its body's checksum (RFC 4556, section 3.1.3).
+pub const KDC_ERR_PA_CHECKSUM_MUST_BE_INCLUDED: u32 = 79;
+
+/// The signed data is signed under a digest that isn't accepted (RFC 4556, section 3.1.3).
+pub const KDC_ERR_DIGEST_IN_SIGNED_DATA_NOT_ACCEPTED: u32 = 80;
+
+/// The KDC doesn't encrypt the reply's key under the certificate's (RFC 4556, section 3.1.3).
+pub const KDC_ERR_PUBLIC_KEY_ENCRYPTION_NOT_SUPPORTED: u32 = 81;
+
 /// The IAKERB proxy found no KDC (draft-ietf-kitten-iakerb, section 3).
 pub const KRB_AP_ERR_IAKERB_KDC_NOT_FOUND: u32 = 85;
 

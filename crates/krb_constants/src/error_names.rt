@@ -14,7 +14,7 @@ macro_rules! named {
 }
 
 /// Each error code beside its name (RFC 4120, section 7.5.9; RFC 4556, section 3.1.3; draft-ietf-kitten-iakerb, section 3).
-pub const ERROR_NAMES: [(u32, &str); 70] = named![
+pub const ERROR_NAMES: [(u32, &str); 75] = named![
     KDC_ERR_NONE,
     KDC_ERR_NAME_EXP,
     KDC_ERR_SERVICE_EXP,
@@ -83,6 +83,11 @@ pub const ERROR_NAMES: [(u32, &str); 70] = named![
     KDC_ERR_REVOCATION_STATUS_UNAVAILABLE,
     KDC_ERR_CLIENT_NAME_MISMATCH,
     KDC_ERR_KDC_NAME_MISMATCH,
+    KDC_ERR_INCONSISTENT_KEY_PURPOSE,
+    KDC_ERR_DIGEST_IN_CERT_NOT_ACCEPTED,
+    KDC_ERR_PA_CHECKSUM_MUST_BE_INCLUDED,
+    KDC_ERR_DIGEST_IN_SIGNED_DATA_NOT_ACCEPTED,
+    KDC_ERR_PUBLIC_KEY_ENCRYPTION_NOT_SUPPORTED,
     KRB_AP_ERR_IAKERB_KDC_NOT_FOUND,
     KRB_AP_ERR_IAKERB_KDC_NO_RESPONSE
 ];
