@@ -86,7 +86,7 @@ fn out_of_range(alloc: Global, spot: Spot, line: &str) -> Result<Remark, AllocEr
     } else {
         return spot.remark(alloc, "number out of range");
     };
-    is_other(alloc, Place::File, Some(spot.line), field, "out of range")
+    other_than_expected(alloc, Place::File, Some(spot.line), field, "out of range")
 }
 
 // Whether a text ends here, or its line.
@@ -232,16 +232,16 @@ fn wrong_type(
     let line = outline.line(place, field);
     match outline.value(place, field) {
         Some(Value::Integer(number)) if field == Field::Skew || field == Field::Lifetime => {
-            is_other(alloc, place, line, field, *number)
+            other_than_expected(alloc, place, line, field, *number)
         }
         Some(Value::Array(values)) => wrong_list(alloc, place, line, field, values),
-        Some(value) => is_other(alloc, place, line, field, kind(value)),
-        None => is_other(alloc, place, line, field, "of another type"),
+        Some(value) => other_than_expected(alloc, place, line, field, kind(value)),
+        None => other_than_expected(alloc, place, line, field, "of another type"),
     }
 }
 
-/// The message of a field that is not what it may be.
-pub(crate) fn is_other<D: fmt::Display + Drop>(
+/// The message of a field that is this, and may not be.
+pub(crate) fn other_than_expected<D: fmt::Display + Drop>(
     alloc: Global,
     place: Place,
     line: Option<usize>,
@@ -275,7 +275,7 @@ fn wrong_list(
             return Remark::on_table(alloc, place, line, words);
         }
     }
-    is_other(alloc, place, line, field, "a list")
+    other_than_expected(alloc, place, line, field, "a list")
 }
 
 fn unknown_suite(alloc: Global, outline: &Outline, place: Place) -> Result<Remark, AllocError> {

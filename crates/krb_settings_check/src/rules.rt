@@ -1,6 +1,6 @@
 //! The messages of what a realm refuses in a settings file: line, word, and what was expected.
 
-use crate::messages::is_other;
+use crate::messages::other_than_expected;
 use crate::outline::Outline;
 use crate::{Place, Remark};
 use krb_accounts::{CHARACTER_LIMIT, COMPONENT_LIMIT, SKEW_LIMIT};
@@ -53,7 +53,7 @@ fn range(alloc: Global, outline: &Outline, place: Place) -> Result<Remark, Alloc
         )
     };
     let line = outline.line(place, field);
-    is_other(alloc, place, line, field, number)
+    other_than_expected(alloc, place, line, field, number)
 }
 
 fn whole_number(outline: &Outline, place: Place, field: Field) -> i64 {
