@@ -2,14 +2,13 @@
 
 use crate::arguments::{Options, expected, name_of, options_of};
 use crate::secrets::{SaltedKey, key_of_digits, key_of_password, read_secret};
-use crate::texts::{begin_change, lines_of, realm_of};
-use crate::warnings::{RealmKey, Stream, warn_of_account, warn_of_realm};
+use crate::texts::{account_among, check_absent, finish_text, lines_of, realm_of};
+use crate::warnings::{RealmKey, Stream, is_service, warn_of_account, warn_of_realm};
 use krb_account_texts::{
-    AccountLine, EditRefusal, Line, RealmLine, add, change_key, place_of, principal_name,
-    realm_among, remove,
+    AccountLine, EditRefusal, Line, RealmLine, add, change_key, principal_name, realm_among, remove,
 };
 use krb_accounts::{Account, Settings, realm_name_of};
-use krb_commands::{Stop, failed, is_there, refused};
+use krb_commands::{Stop, begin, failed, refused};
 use krb_crypto::{CipherSuite, Key};
 use krb_settings::{Secret, suite_name};
 use krb_types::data_types::PrincipalName;
@@ -33,20 +32,14 @@ pub(crate) fn create(rt: &HostRuntime, arguments: &[String]) -> Result<(), Stop>
     };
     let path = path.as_str();
     let digits = read_secret(rt)?;
-    let change = begin_change(rt, path)?;
+    let new_file = begin(rt, path)?;
     let lines = created(rt, path, realm.as_str(), &digits);
-    change.finish(rt, lines)
+    finish_text(rt, new_file, lines)
 }
 
 fn created(rt: &HostRuntime, path: &str, realm: &str, digits: &[u8]) -> Result<Vec<Line>, Stop> {
-    let alloc = rt.alloc();
-    if is_there(rt, path) {
-        return Err(failed(
-            alloc,
-            format_args!("{path} is there: expected no such file"),
-        ));
-    }
-    let lines = first_lines(alloc, realm, digits)?;
+    check_absent(rt, path)?;
+    let lines = first_lines(rt.alloc(), realm, digits)?;
     warn_of_created(rt, &lines)?;
     Ok(lines)
 }
@@ -85,8 +78,7 @@ pub(crate) fn two_lines(
     realm: RealmLine,
     service: AccountLine,
 ) -> Result<Vec<Line>, Stop> {
-    let mut lines = vec![in alloc; Line::Realm(realm)]?;
-    lines.push(Line::Account(service))?;
+    let lines = vec![in alloc; Line::Realm(realm), Line::Account(service)]?;
     Ok(lines)
 }
 
@@ -119,28 +111,36 @@ pub(crate) fn list(rt: &HostRuntime, arguments: &[String]) -> Result<(), Stop> {
     let [path] = arguments else {
         return Err(expected(rt.alloc(), "list TEXT"));
     };
-    let lines = lines_of(rt, path.as_str())?;
-    let mut text = String::new(rt.alloc());
-    for line in &lines {
-        put_listed(rt.alloc(), &mut text, line)?;
-    }
+    let text = listed(rt, path.as_str())?;
     match print!(rt; "{text}") {
         Ok(()) => Ok(()),
         Err(_) => Err(failed(rt.alloc(), "standard output can't be written")),
     }
 }
 
-fn put_listed(alloc: Global, text: &mut String, line: &Line) -> Result<(), Stop> {
-    let listed = match line {
-        Line::Comment(_) => return Ok(()),
-        Line::Realm(realm) => realm_listed(alloc, realm)?,
-        Line::Account(own) => account_listed(alloc, own)?,
-    };
-    text.push_str(listed.as_str())?;
-    Ok(())
+fn listed(rt: &HostRuntime, path: &str) -> Result<String, Stop> {
+    let lines = lines_of(rt, path)?;
+    lines_listed(rt.alloc(), &lines)
 }
 
-fn realm_listed(alloc: Global, realm: &RealmLine) -> Result<String, Stop> {
+fn lines_listed(alloc: Global, lines: &[Line]) -> Result<String, Stop> {
+    let mut text = String::new(alloc);
+    for line in lines {
+        let listed = line_listed(alloc, line)?;
+        text.push_str(listed.as_str())?;
+    }
+    Ok(text)
+}
+
+fn line_listed(alloc: Global, line: &Line) -> Result<String, AllocError> {
+    match line {
+        Line::Comment(_) => Ok(String::new(alloc)),
+        Line::Realm(realm) => realm_listed(alloc, realm),
+        Line::Account(own) => account_listed(alloc, own),
+    }
+}
+
+fn realm_listed(alloc: Global, realm: &RealmLine) -> Result<String, AllocError> {
     let name = &realm.name;
     let skew = realm.settings.skew();
     let lifetime = realm.settings.lifetime();
@@ -149,11 +149,10 @@ fn realm_listed(alloc: Global, realm: &RealmLine) -> Result<String, Stop> {
     } else {
         ""
     };
-    let listed = format!(in alloc; "realm\t{name}\t{skew}\t{lifetime}{further}\n")?;
-    Ok(listed)
+    format!(in alloc; "realm\t{name}\t{skew}\t{lifetime}{further}\n")
 }
 
-fn account_listed(alloc: Global, own: &AccountLine) -> Result<String, Stop> {
+fn account_listed(alloc: Global, own: &AccountLine) -> Result<String, AllocError> {
     let name = &own.name;
     let suite = suite_name(own.account.suite());
     let kvno = own.account.kvno();
@@ -162,33 +161,53 @@ fn account_listed(alloc: Global, own: &AccountLine) -> Result<String, Stop> {
     } else {
         "key"
     };
-    let listed = format!(in alloc; "{name}\t{suite}\t{kvno}\t{kind}\n")?;
-    Ok(listed)
+    format!(in alloc; "{name}\t{suite}\t{kvno}\t{kind}\n")
+}
+
+/// What `add` and `key` are given.
+#[derive(Drop)]
+struct Given<'a> {
+    options: Options,
+    /// The path of the text.
+    path: &'a str,
+    name: PrincipalName,
+    /// The line of standard input.
+    secret: Vec<u8>,
+}
+
+// What these arguments and standard input give to a command that expects `command`.
+fn given_of<'a>(
+    rt: &HostRuntime,
+    command: &str,
+    arguments: &'a [String],
+) -> Result<Given<'a>, Stop> {
+    let (options, arguments) = options_of(rt.alloc(), arguments)?;
+    let [path, name] = arguments else {
+        return Err(expected(rt.alloc(), command));
+    };
+    let name = name_of(rt.alloc(), name.as_str())?;
+    let secret = read_secret(rt)?;
+    Ok(Given {
+        options,
+        path: path.as_str(),
+        name,
+        secret,
+    })
 }
 
 /// `add [-e SUITE] [-k] TEXT NAME`: adds an account, with kvno 1.
 pub(crate) fn add_account(rt: &HostRuntime, arguments: &[String]) -> Result<(), Stop> {
-    let (options, arguments) = options_of(rt.alloc(), arguments)?;
-    let [path, name] = arguments else {
-        return Err(expected(rt.alloc(), "add [-e SUITE] [-k] TEXT NAME"));
-    };
-    let name = name_of(rt.alloc(), name.as_str())?;
-    let secret = read_secret(rt)?;
-    let change = begin_change(rt, path.as_str())?;
-    let lines = added(rt, path.as_str(), options, name, &secret);
-    change.finish(rt, lines)
+    let given = given_of(rt, "add [-e SUITE] [-k] TEXT NAME", arguments)?;
+    let new_file = begin(rt, given.path)?;
+    let lines = added(rt, given);
+    finish_text(rt, new_file, lines)
 }
 
-fn added(
-    rt: &HostRuntime,
-    path: &str,
-    options: Options,
-    name: PrincipalName,
-    secret: &[u8],
-) -> Result<Vec<Line>, Stop> {
-    let mut lines = lines_of(rt, path)?;
-    let suite = options.suite.unwrap_or(SUITE);
-    let salted = salted_key(rt, path, &lines, &name, suite, options.is_key, secret)?;
+fn added(rt: &HostRuntime, given: Given<'_>) -> Result<Vec<Line>, Stop> {
+    let mut lines = lines_of(rt, given.path)?;
+    let suite = given.options.suite.unwrap_or(SUITE);
+    let salted = salted_key(rt, &given, &lines, suite)?;
+    let name = given.name;
     let account = Account::new(salted.key, 1, salted.salt);
     match add(&mut lines, AccountLine { name, account }) {
         Ok(()) => Ok(lines),
@@ -199,90 +218,97 @@ fn added(
 // The key of standard input, of which it warns.
 fn salted_key(
     rt: &HostRuntime,
-    path: &str,
+    given: &Given<'_>,
     lines: &[Line],
-    name: &PrincipalName,
     suite: CipherSuite,
-    is_key: bool,
-    secret: &[u8],
 ) -> Result<SaltedKey, Stop> {
-    let alloc = rt.alloc();
-    let realm = realm_of(rt, path, lines)?;
-    let salted = if is_key {
-        key_of_digits(alloc, suite, secret)?
-    } else {
-        let components = name.name_string.0.as_slice();
-        key_of_password(alloc, suite, secret, realm.name.as_bytes(), components)?
-    };
-    let told = told_secret(alloc, &salted.key, is_key, secret)?;
-    let own = key_beside(alloc, realm, lines, name)?;
-    warn_of_account(rt, Stream::Error, &own, name, suite, told)?;
+    let realm = realm_of(rt, given.path, lines)?;
+    let salted = key_of_secret(rt.alloc(), given, realm, suite)?;
+    warn_of_key(rt, given, realm, lines, &salted.key)?;
     Ok(salted)
 }
 
-// The realm's key, beside which the key of a name is judged. The realm's own account isn't judged beside the key that it has now.
-fn key_beside(
+fn key_of_secret(
     alloc: Global,
+    given: &Given<'_>,
+    realm: &RealmLine,
+    suite: CipherSuite,
+) -> Result<SaltedKey, Stop> {
+    if given.options.is_key {
+        key_of_digits(alloc, suite, &given.secret)
+    } else {
+        let components = given.name.name_string.0.as_slice();
+        key_of_password(
+            alloc,
+            suite,
+            &given.secret,
+            realm.name.as_bytes(),
+            components,
+        )
+    }
+}
+
+// Warns of a key, beside the realm's. That of the realm's own account isn't judged beside the key that it has now.
+fn warn_of_key(
+    rt: &HostRuntime,
+    given: &Given<'_>,
     realm: &RealmLine,
     lines: &[Line],
-    name: &PrincipalName,
-) -> Result<RealmKey, Stop> {
-    let own = RealmKey::among(alloc, realm, lines)?;
-    if own.is_of(name) {
-        return RealmKey::among(alloc, realm, &[]);
-    }
-    Ok(own)
+    key: &Key,
+) -> Result<(), Stop> {
+    let alloc = rt.alloc();
+    let others: &[Line] = if is_service(realm.name.as_bytes(), &given.name) {
+        &[]
+    } else {
+        lines
+    };
+    let own = RealmKey::among(alloc, realm, others)?;
+    let told = told_secret(alloc, given, key)?;
+    warn_of_account(rt, Stream::Error, &own, &given.name, key.suite(), told)
 }
 
 // The secret of which it warns: the key, or the password of which it was made.
-fn told_secret(alloc: Global, key: &Key, is_key: bool, secret: &[u8]) -> Result<Secret, Stop> {
+fn told_secret(alloc: Global, given: &Given<'_>, key: &Key) -> Result<Secret, AllocError> {
+    let is_key = given.options.is_key;
     let told = if is_key {
-        Secret::Key(Vec::from_slice(alloc, key.as_bytes())?)
+        key.as_bytes()
     } else {
-        Secret::Password(Vec::from_slice(alloc, secret)?)
+        given.secret.as_slice()
     };
-    Ok(told)
+    let told = Vec::from_slice(alloc, told)?;
+    Ok(if is_key {
+        Secret::Key(told)
+    } else {
+        Secret::Password(told)
+    })
 }
 
 /// `key [-e SUITE] [-k] TEXT NAME`: gives an account its next key, with the next kvno.
 pub(crate) fn change_account(rt: &HostRuntime, arguments: &[String]) -> Result<(), Stop> {
-    let (options, arguments) = options_of(rt.alloc(), arguments)?;
-    let [path, name] = arguments else {
-        return Err(expected(rt.alloc(), "key [-e SUITE] [-k] TEXT NAME"));
-    };
-    let name = name_of(rt.alloc(), name.as_str())?;
-    let secret = read_secret(rt)?;
-    let change = begin_change(rt, path.as_str())?;
-    let lines = changed(rt, path.as_str(), options, &name, &secret);
-    change.finish(rt, lines)
+    let given = given_of(rt, "key [-e SUITE] [-k] TEXT NAME", arguments)?;
+    let new_file = begin(rt, given.path)?;
+    let lines = changed(rt, &given);
+    finish_text(rt, new_file, lines)
 }
 
-fn changed(
-    rt: &HostRuntime,
-    path: &str,
-    options: Options,
-    name: &PrincipalName,
-    secret: &[u8],
-) -> Result<Vec<Line>, Stop> {
-    let mut lines = lines_of(rt, path)?;
-    let components = name.name_string.0.as_slice();
-    let Some(suite) = suite_among(&lines, name) else {
-        return Err(refusal_of(rt.alloc(), EditRefusal::Unknown));
-    };
-    let suite = options.suite.unwrap_or(suite);
-    let salted = salted_key(rt, path, &lines, name, suite, options.is_key, secret)?;
+fn changed(rt: &HostRuntime, given: &Given<'_>) -> Result<Vec<Line>, Stop> {
+    let mut lines = lines_of(rt, given.path)?;
+    let salted = next_key(rt, given, &lines)?;
+    let components = given.name.name_string.0.as_slice();
     match change_key(&mut lines, components, salted.key, salted.salt) {
         Ok(()) => Ok(lines),
         Err(refusal) => Err(refusal_of(rt.alloc(), refusal)),
     }
 }
 
-// The suite of the account of a name.
-fn suite_among(lines: &[Line], name: &PrincipalName) -> Option<CipherSuite> {
-    let place = place_of(lines, name.name_string.0.as_slice())?;
-    match &lines[place] {
-        Line::Account(own) => Some(own.account.suite()),
-        _ => None,
+// The next key of an account, of its suite where none is given.
+fn next_key(rt: &HostRuntime, given: &Given<'_>, lines: &[Line]) -> Result<SaltedKey, Stop> {
+    match account_among(lines, given.name.name_string.0.as_slice()) {
+        Some(own) => {
+            let suite = given.options.suite.unwrap_or(own.account.suite());
+            salted_key(rt, given, lines, suite)
+        }
+        None => Err(refusal_of(rt.alloc(), EditRefusal::Unknown)),
     }
 }
 
@@ -292,9 +318,9 @@ pub(crate) fn remove_account(rt: &HostRuntime, arguments: &[String]) -> Result<(
         return Err(expected(rt.alloc(), "remove TEXT NAME"));
     };
     let name = name_of(rt.alloc(), name.as_str())?;
-    let change = begin_change(rt, path.as_str())?;
+    let new_file = begin(rt, path.as_str())?;
     let lines = removed(rt, path.as_str(), &name);
-    change.finish(rt, lines)
+    finish_text(rt, new_file, lines)
 }
 
 fn removed(rt: &HostRuntime, path: &str, name: &PrincipalName) -> Result<Vec<Line>, Stop> {

@@ -2,11 +2,11 @@
 
 use crate::accounts::refusal_of;
 use crate::arguments::expected;
-use crate::texts::{begin_change, lines_of};
+use crate::texts::{finish_text, lines_of};
 use key_files::{FileFault, certificate_in, private_key_in};
 use krb_account_files::PKINIT_ROOM;
 use krb_account_texts::{Line, certify as put_certified};
-use krb_commands::{Stop, octets_of, refused};
+use krb_commands::{Stop, begin, octets_of, refused};
 use krb_file_realms::{PkinitFault, means_in};
 use picky_asn1::wrapper::OctetStringAsn1;
 use std::alloc::Global;
@@ -50,9 +50,9 @@ pub(crate) fn uncertify(rt: &HostRuntime, arguments: &[String]) -> Result<(), St
 }
 
 fn change_realm(rt: &HostRuntime, path: &str, pkinit: Option<OctetStringAsn1>) -> Result<(), Stop> {
-    let change = begin_change(rt, path)?;
+    let new_file = begin(rt, path)?;
     let lines = certified(rt, path, pkinit);
-    change.finish(rt, lines)
+    finish_text(rt, new_file, lines)
 }
 
 fn certified(
@@ -70,11 +70,16 @@ fn certified(
 // The DER of the certificate, of the key and of the anchor, one after the other.
 fn octets_in(rt: &HostRuntime, paths: Paths<'_>) -> Result<Vec<u8>, Stop> {
     let mut octets = certificate_of(rt, paths.certificate)?;
-    let key = key_of(rt, paths.key)?;
-    octets.extend_from_slice(&key)?;
-    let anchor = certificate_of(rt, paths.anchor)?;
-    octets.extend_from_slice(&anchor)?;
+    append(&mut octets, key_of(rt, paths.key))?;
+    append(&mut octets, certificate_of(rt, paths.anchor))?;
     Ok(octets)
+}
+
+// Puts the octets of a file behind those before it.
+fn append(octets: &mut Vec<u8>, further: Result<Vec<u8>, Stop>) -> Result<(), Stop> {
+    let further = further?;
+    octets.extend_from_slice(&further)?;
+    Ok(())
 }
 
 fn certificate_of(rt: &HostRuntime, path: &str) -> Result<Vec<u8>, Stop> {
@@ -119,10 +124,10 @@ fn check_means(alloc: Global, paths: Paths<'_>, octets: &[u8]) -> Result<(), Sto
             ),
         ));
     }
-    match means_in(alloc, octets) {
-        Ok(_) => Ok(()),
-        Err(PkinitFault::Memory) => Err(Stop::Memory),
-        Err(fault) => Err(refused(alloc, format_args!("{}: {fault}", path_of(paths, fault)))),
+    match means_in(alloc, octets).err() {
+        None => Ok(()),
+        Some(PkinitFault::Memory) => Err(Stop::Memory),
+        Some(fault) => Err(refused(alloc, format_args!("{}: {fault}", path_of(paths, fault)))),
     }
 }
 

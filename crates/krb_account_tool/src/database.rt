@@ -2,6 +2,7 @@
 
 use crate::arguments::expected;
 use crate::records::{RealmRecords, records_in, unwritten};
+use crate::texts::finish;
 use crate::warner::Warner;
 use crate::warnings::Stream;
 use cdb::{Record, answers_as};
@@ -15,13 +16,8 @@ pub(crate) fn make(rt: &HostRuntime, arguments: &[String]) -> Result<(), Stop> {
         return Err(expected(rt.alloc(), "make TEXT DATABASE"));
     };
     let new_file = begin(rt, database.as_str())?;
-    match made(rt, path.as_str()) {
-        Ok(octets) => new_file.finish(rt, &octets),
-        Err(stop) => {
-            new_file.discard(rt);
-            Err(stop)
-        }
-    }
+    let octets = made(rt, path.as_str());
+    finish(rt, new_file, octets)
 }
 
 // The octets of the database of a text.

@@ -3,10 +3,10 @@
 use crate::accounts::{refusal_of, service_name, two_lines};
 use crate::arguments::expected;
 use crate::secrets::{SaltedKey, key_of_password};
-use crate::texts::begin_change;
+use crate::texts::{check_absent, finish_text};
 use krb_account_texts::{AccountLine, EditRefusal, Line, RealmLine, add, principal_name};
 use krb_accounts::{Account, RealmRefusal, Settings, components_of, realm_name_of};
-use krb_commands::{Stop, failed, is_there, octets_of, refused};
+use krb_commands::{Stop, begin, octets_of, refused};
 use krb_crypto::{CipherSuite, Key};
 use krb_settings::{AccountSettings, RealmSettings, Secret, SettingsFault, read_settings_file};
 use krb_settings_check::{Place, Rule, explain, explain_rule, warnings_of};
@@ -19,36 +19,36 @@ pub(crate) fn import(rt: &HostRuntime, arguments: &[String]) -> Result<(), Stop>
         return Err(expected(rt.alloc(), "import SETTINGS TEXT"));
     };
     let path = path.as_str();
-    let change = begin_change(rt, path)?;
+    let new_file = begin(rt, path)?;
     let lines = imported(rt, settings.as_str(), path);
-    change.finish(rt, lines)
+    finish_text(rt, new_file, lines)
 }
 
 fn imported(rt: &HostRuntime, settings: &str, path: &str) -> Result<Vec<Line>, Stop> {
-    let alloc = rt.alloc();
-    if is_there(rt, path) {
-        return Err(failed(
-            alloc,
-            format_args!("{path} is there: expected no such file"),
-        ));
-    }
+    check_absent(rt, path)?;
+    let text = octets_of(rt, settings)?;
     let source = Source {
         path: settings,
-        text: octets_of(rt, settings)?,
+        text: &text,
     };
-    let written = settings_of(alloc, &source)?;
-    warn_of_settings(rt, &source, &written)?;
-    lines_of(rt, &source, &written)
+    lines_in(rt, source)
+}
+
+// The lines of the realm of a settings file, of which it warns.
+fn lines_in(rt: &HostRuntime, source: Source<'_>) -> Result<Vec<Line>, Stop> {
+    let written = settings_of(rt.alloc(), source)?;
+    warn_of_settings(rt, source, &written)?;
+    lines_of(rt, source, &written)
 }
 
 // What the settings file says.
-fn settings_of(alloc: Global, source: &Source<'_>) -> Result<RealmSettings, Stop> {
-    match read_settings_file(alloc, &source.text) {
+fn settings_of(alloc: Global, source: Source<'_>) -> Result<RealmSettings, Stop> {
+    match read_settings_file(alloc, source.text) {
         Ok(written) => Ok(written),
         Err(SettingsFault::Memory) => Err(Stop::Memory),
         Err(fault) => {
             let path = source.path;
-            let remark = explain(alloc, &source.text, fault)?;
+            let remark = explain(alloc, source.text, fault)?;
             Err(refused(alloc, format_args!("{path}{remark}")))
         }
     }
@@ -56,11 +56,11 @@ fn settings_of(alloc: Global, source: &Source<'_>) -> Result<RealmSettings, Stop
 
 fn warn_of_settings(
     rt: &HostRuntime,
-    source: &Source<'_>,
+    source: Source<'_>,
     written: &RealmSettings,
 ) -> Result<(), Stop> {
     let path = source.path;
-    for remark in &warnings_of(rt.alloc(), &source.text, written)? {
+    for remark in &warnings_of(rt.alloc(), source.text, written)? {
         // A warning that can't be written is no fault.
         let _ = eprintln!(rt; "krb_accounts: {path}{remark}");
     }
@@ -68,19 +68,27 @@ fn warn_of_settings(
 }
 
 /// A settings file.
-#[derive(Drop)]
+#[derive(Clone, Copy)]
 struct Source<'a> {
     path: &'a str,
-    text: Vec<u8>,
+    text: &'a [u8],
 }
 
 impl<'a> Source<'a> {
     // The stop of a rule that a table of the file breaks.
-    fn breaks(&self, rt: &HostRuntime, place: Place, rule: Rule) -> Stop {
+    fn breaks(self, rt: &HostRuntime, place: Place, rule: Rule) -> Stop {
         let path = self.path;
-        match explain_rule(rt.alloc(), &self.text, place, rule) {
+        match explain_rule(rt.alloc(), self.text, place, rule) {
             Ok(remark) => refused(rt.alloc(), format_args!("{path}{remark}")),
             Err(_) => Stop::Memory,
+        }
+    }
+
+    // The stop of a name that a table of the file writes, and a realm refuses.
+    fn refuses(self, rt: &HostRuntime, place: Place, refusal: RealmRefusal) -> Stop {
+        match refusal {
+            RealmRefusal::Memory => Stop::Memory,
+            _ => self.breaks(rt, place, Rule::Name),
         }
     }
 }
@@ -88,24 +96,32 @@ impl<'a> Source<'a> {
 // The lines of a realm.
 fn lines_of(
     rt: &HostRuntime,
-    source: &Source<'_>,
+    source: Source<'_>,
+    written: &RealmSettings,
+) -> Result<Vec<Line>, Stop> {
+    let mut lines = first_lines(rt, source, written)?;
+    for (index, account) in written.accounts.iter().enumerate() {
+        let place = Place::Account(index.saturating_add(1));
+        put_account(rt, source, place, &mut lines, &written.name, account)?;
+    }
+    Ok(lines)
+}
+
+// The lines of a realm without accounts.
+fn first_lines(
+    rt: &HostRuntime,
+    source: Source<'_>,
     written: &RealmSettings,
 ) -> Result<Vec<Line>, Stop> {
     let own = realm_of(rt, source, written)?;
     let service = service_of(rt, source, written, &own.name)?;
-    let mut lines = two_lines(rt.alloc(), own, service)?;
-    for (index, account) in written.accounts.iter().enumerate() {
-        let place = Place::Account(index.saturating_add(1));
-        let line = account_of(rt, source, place, &written.name, account)?;
-        put_line(rt, source, place, &mut lines, line)?;
-    }
-    Ok(lines)
+    two_lines(rt.alloc(), own, service)
 }
 
 // The line of the realm's ticket-granting service.
 fn service_of(
     rt: &HostRuntime,
-    source: &Source<'_>,
+    source: Source<'_>,
     written: &RealmSettings,
     realm: &GeneralStringAsn1,
 ) -> Result<AccountLine, Stop> {
@@ -115,13 +131,15 @@ fn service_of(
     Ok(AccountLine { name, account })
 }
 
-fn put_line(
+fn put_account(
     rt: &HostRuntime,
-    source: &Source<'_>,
+    source: Source<'_>,
     place: Place,
     lines: &mut Vec<Line>,
-    line: AccountLine,
+    realm: &[u8],
+    account: &AccountSettings,
 ) -> Result<(), Stop> {
+    let line = account_of(rt, source, place, realm, account)?;
     match add(lines, line) {
         Ok(()) => Ok(()),
         Err(EditRefusal::Exists) => Err(source.breaks(rt, place, Rule::Exists)),
@@ -131,13 +149,12 @@ fn put_line(
 
 fn realm_of(
     rt: &HostRuntime,
-    source: &Source<'_>,
+    source: Source<'_>,
     written: &RealmSettings,
 ) -> Result<RealmLine, Stop> {
     let name = match realm_name_of(rt.alloc(), &written.name) {
         Ok(name) => name,
-        Err(RealmRefusal::Memory) => return Err(Stop::Memory),
-        Err(_) => return Err(source.breaks(rt, Place::File, Rule::Name)),
+        Err(refusal) => return Err(source.refuses(rt, Place::File, refusal)),
     };
     match Settings::new(written.skew, written.lifetime) {
         Ok(settings) => Ok(RealmLine {
@@ -151,7 +168,7 @@ fn realm_of(
 
 fn key_of(
     rt: &HostRuntime,
-    source: &Source<'_>,
+    source: Source<'_>,
     place: Place,
     suite: CipherSuite,
     octets: &[u8],
@@ -165,7 +182,7 @@ fn key_of(
 // The line of an account.
 fn account_of(
     rt: &HostRuntime,
-    source: &Source<'_>,
+    source: Source<'_>,
     place: Place,
     realm: &[u8],
     account: &AccountSettings,
@@ -173,8 +190,7 @@ fn account_of(
     let alloc = rt.alloc();
     let components = match components_of(alloc, &account.name) {
         Ok(components) => components,
-        Err(RealmRefusal::Memory) => return Err(Stop::Memory),
-        Err(_) => return Err(source.breaks(rt, place, Rule::Name)),
+        Err(refusal) => return Err(source.refuses(rt, place, refusal)),
     };
     let salted = salted_key_of(rt, source, place, realm, &components, account)?;
     let name = principal_name(alloc, components)?;
@@ -185,7 +201,7 @@ fn account_of(
 // The key of an account.
 fn salted_key_of(
     rt: &HostRuntime,
-    source: &Source<'_>,
+    source: Source<'_>,
     place: Place,
     realm: &[u8],
     name: &[GeneralStringAsn1],

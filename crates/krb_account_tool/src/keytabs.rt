@@ -1,11 +1,11 @@
 //! The command `keytab`.
 
 use crate::arguments::{expected, name_of};
-use crate::texts::{lines_of, realm_of};
-use krb_account_texts::{AccountLine, Line, place_of};
-use krb_commands::{Stop, begin, is_there, octets_of, refused};
+use crate::texts::{account_among, finish, lines_of, realm_of};
+use krb_account_texts::{AccountLine, Line};
+use krb_commands::{Stop, begin, is_there, keytab_in, refused};
 use krb_constants::types::NT_PRINCIPAL;
-use krb_keytabs::{Keytab, KeytabFault, KeytabRecord, KeytabWriteFault};
+use krb_keytabs::{Keytab, KeytabRecord, KeytabWriteFault};
 use krb_types::is_same_name;
 use picky_asn1::wrapper::GeneralStringAsn1;
 use std::alloc::{AllocError, Global};
@@ -14,35 +14,36 @@ use std::time::{SystemTime, UNIX_EPOCH};
 /// `keytab TEXT KEYTAB NAME..`: writes the keys of these accounts to a keytab. What the keytab has already is kept, but for keys of the
 /// same name, kvno and etype.
 pub(crate) fn keytab(rt: &HostRuntime, arguments: &[String]) -> Result<(), Stop> {
-    let [path, keytab, first, further @ ..] = arguments else {
+    let [path, keytab, _, ..] = arguments else {
         return Err(expected(rt.alloc(), "keytab TEXT KEYTAB NAME.."));
     };
     let new_file = begin(rt, keytab.as_str())?;
-    match written(rt, path.as_str(), keytab.as_str(), first.as_str(), further) {
-        Ok(octets) => new_file.finish(rt, &octets),
-        Err(stop) => {
-            new_file.discard(rt);
-            Err(stop)
-        }
-    }
+    let octets = written(rt, path.as_str(), keytab.as_str(), &arguments[2..]);
+    finish(rt, new_file, octets)
 }
 
 // The octets of the keytab.
-fn written(
+fn written(rt: &HostRuntime, path: &str, keytab: &str, names: &[String]) -> Result<Vec<u8>, Stop> {
+    let lines = lines_of(rt, path)?;
+    let records = records_of(rt, path, keytab, &lines, names);
+    drop(lines);
+    keytab_of(rt.alloc(), keytab, records?)
+}
+
+// The records of the keytab, with those of the accounts of these names.
+fn records_of(
     rt: &HostRuntime,
     path: &str,
     keytab: &str,
-    first: &str,
-    further: &[String],
-) -> Result<Vec<u8>, Stop> {
-    let lines = lines_of(rt, path)?;
-    let realm = realm_of(rt, path, &lines)?;
+    lines: &[Line],
+    names: &[String],
+) -> Result<Vec<KeytabRecord>, Stop> {
+    let realm = realm_of(rt, path, lines)?;
     let mut records = kept(rt, keytab)?;
-    put_record(rt, &mut records, &realm.name, &lines, first)?;
-    for name in further {
-        put_record(rt, &mut records, &realm.name, &lines, name.as_str())?;
+    for name in names {
+        put_record(rt, &mut records, &realm.name, lines, name.as_str())?;
     }
-    keytab_of(rt.alloc(), keytab, records)
+    Ok(records)
 }
 
 // The octets of the keytab of these records.
@@ -56,37 +57,11 @@ fn keytab_of(alloc: Global, keytab: &str, records: Vec<KeytabRecord>) -> Result<
 
 // The records of the keytab that is there.
 fn kept(rt: &HostRuntime, path: &str) -> Result<Vec<KeytabRecord>, Stop> {
-    let alloc = rt.alloc();
-    let mut records = Vec::new(alloc);
     if !is_there(rt, path) {
-        return Ok(records);
+        return Ok(Vec::new(rt.alloc()));
     }
-    let octets = octets_of(rt, path)?;
-    let keytab = keytab_in(alloc, path, &octets)?;
-    for record in keytab.records() {
-        records.push(record_copy(alloc, record)?)?;
-    }
-    Ok(records)
-}
-
-fn keytab_in(alloc: Global, path: &str, octets: &[u8]) -> Result<Keytab, Stop> {
-    match Keytab::from_bytes(alloc, octets) {
-        Ok(keytab) => Ok(keytab),
-        Err(KeytabFault::Memory) => Err(Stop::Memory),
-        Err(fault) => Err(refused(alloc, format_args!("{path}: {fault}"))),
-    }
-}
-
-fn record_copy(alloc: Global, record: &KeytabRecord) -> Result<KeytabRecord, AllocError> {
-    Ok(KeytabRecord::new(
-        record.realm().clone()?,
-        copy_of(alloc, record.components())?,
-        record.name_type(),
-        record.timestamp(),
-        record.kvno(),
-        record.etype(),
-        Vec::from_slice(alloc, record.key_octets())?,
-    ))
+    let keytab = keytab_in(rt, path)?;
+    Ok(keytab.into_records())
 }
 
 // Puts the key of the account of a name at the end, in place of one of the same kvno and etype.
@@ -97,18 +72,24 @@ fn put_record(
     lines: &[Line],
     name: &str,
 ) -> Result<(), Stop> {
-    let alloc = rt.alloc();
-    let principal = name_of(alloc, name)?;
-    let Some(place) = place_of(lines, principal.name_string.0.as_slice()) else {
-        return Err(refused(alloc, format_args!("{principal}: no such account")));
-    };
-    let Line::Account(own) = &lines[place] else {
-        return Ok(());
-    };
+    let own = account_named(rt.alloc(), lines, name)?;
     let record = record_of(rt, realm, own)?;
     records.retain(|other| !is_same_key(other, &record));
     records.push(record)?;
     Ok(())
+}
+
+// The account of the name that an argument writes.
+fn account_named<'a>(
+    alloc: Global,
+    lines: &'a [Line],
+    name: &str,
+) -> Result<&'a AccountLine, Stop> {
+    let principal = name_of(alloc, name)?;
+    match account_among(lines, principal.name_string.0.as_slice()) {
+        Some(own) => Ok(own),
+        None => Err(refused(alloc, format_args!("{principal}: no such account"))),
+    }
 }
 
 fn record_of(

@@ -25,7 +25,7 @@ mod texts;
 mod warner;
 mod warnings;
 
-use krb_commands::{Stop, arguments_of, failed, is_word, print_line};
+use krb_commands::{Stop, arguments_of, failed, print_line};
 use krb_version::VERSION;
 use std::process::ExitCode;
 
@@ -62,20 +62,16 @@ fn main(rt: HostRuntime) -> ExitCode {
 /// Runs the command of the arguments.
 fn run(rt: &HostRuntime) -> Result<(), Stop> {
     let arguments = arguments_of(rt)?;
-    let [command, rest @ ..] = arguments.as_slice() else {
-        return Err(failed(rt.alloc(), "no command: expected one of --help"));
-    };
-    if is_word(command, "--help") {
-        return print_line(rt, USAGE);
+    match arguments.as_slice() {
+        [command, rest @ ..] => run_command(rt, command.as_str(), rest),
+        [] => Err(failed(rt.alloc(), "no command: expected one of --help")),
     }
-    if is_word(command, "--version") {
-        return print_line(rt, format_args!("krb_accounts {VERSION}"));
-    }
-    run_command(rt, command.as_str(), rest)
 }
 
 fn run_command(rt: &HostRuntime, command: &str, rest: &[String]) -> Result<(), Stop> {
     match command {
+        "--help" => print_line(rt, USAGE),
+        "--version" => print_line(rt, format_args!("krb_accounts {VERSION}")),
         "create" => accounts::create(rt, rest),
         "import" => imports::import(rt, rest),
         "list" => accounts::list(rt, rest),

@@ -113,12 +113,23 @@ impl Made {
         number: usize,
         own: AccountLine,
     ) -> Result<(), Stop> {
-        if let Some(warner) = &mut self.warner {
-            warner.see_account(rt, number, self.records.len(), &own)?;
-        }
-        let record = record_in(rt.alloc(), path, &own)?;
-        self.records.push(record)?;
+        let put = self.put_record(rt, path, number, &own);
         self.last = Some(own);
+        put
+    }
+
+    fn put_record(
+        &mut self,
+        rt: &HostRuntime,
+        path: &str,
+        number: usize,
+        own: &AccountLine,
+    ) -> Result<(), Stop> {
+        if let Some(warner) = &mut self.warner {
+            warner.see_account(rt, number, self.records.len(), own)?;
+        }
+        let record = record_in(rt.alloc(), path, own)?;
+        self.records.push(record)?;
         Ok(())
     }
 

@@ -76,8 +76,7 @@ pub(crate) fn key_of_password(
     realm: &[u8],
     name: &[GeneralStringAsn1],
 ) -> Result<SaltedKey, Stop> {
-    let components = octets_of(alloc, name)?;
-    let salt = password_salt(alloc, realm, &components)?;
+    let salt = salt_of(alloc, realm, name)?;
     match Key::of_password(alloc, suite, password, &salt) {
         Ok(key) => Ok(SaltedKey {
             key,
@@ -86,6 +85,11 @@ pub(crate) fn key_of_password(
         Err(KerberosCryptoError::Memory) => Err(Stop::Memory),
         Err(_) => Err(refused(alloc, "standard input: expected a password")),
     }
+}
+
+fn salt_of(alloc: Global, realm: &[u8], name: &[GeneralStringAsn1]) -> Result<Vec<u8>, AllocError> {
+    let components = octets_of(alloc, name)?;
+    password_salt(alloc, realm, &components)
 }
 
 /// The octets of each component.

@@ -1,21 +1,29 @@
 //! Texts of accounts in files.
 
 use krb_account_texts::{
-    Line, RealmLine, TextFault, check_order, read_lines, realm_among, text_of,
+    AccountLine, Line, RealmLine, TextFault, check_order, place_of, read_lines, realm_among,
+    text_of,
 };
-use krb_commands::{NewFile, Stop, begin, octets_of, refused};
+use krb_commands::{NewFile, Stop, failed, is_there, octets_of, refused};
+use picky_asn1::wrapper::GeneralStringAsn1;
+use std::alloc::Global;
 
 /// The lines of the text in a file.
 pub(crate) fn lines_of(rt: &HostRuntime, path: &str) -> Result<Vec<Line>, Stop> {
     let octets = octets_of(rt, path)?;
     let text = text_in(rt, path, &octets)?;
-    let lines = match read_lines(rt.alloc(), text) {
-        Ok(lines) => lines,
-        Err(fault) => return Err(stop_of(rt, path, fault)),
-    };
+    match ordered_lines(rt.alloc(), text) {
+        Ok(lines) => Ok(lines),
+        Err(fault) => Err(stop_of(rt, path, fault)),
+    }
+}
+
+// The lines of a text, if they are in order.
+fn ordered_lines(alloc: Global, text: &str) -> Result<Vec<Line>, TextFault> {
+    let lines = read_lines(alloc, text)?;
     match check_order(&lines) {
         Ok(()) => Ok(lines),
-        Err(fault) => Err(stop_of(rt, path, fault)),
+        Err(fault) => Err(fault),
     }
 }
 
@@ -55,41 +63,59 @@ pub(crate) fn realm_of<'a>(
     }
 }
 
-/// A text that is being changed: no other run changes it.
-#[derive(Drop)]
-pub(crate) struct Change {
+/// The account of a name.
+pub(crate) fn account_among<'a>(
+    lines: &'a [Line],
+    name: &[GeneralStringAsn1],
+) -> Option<&'a AccountLine> {
+    let place = place_of(lines, name)?;
+    match &lines[place] {
+        Line::Account(own) => Some(own),
+        _ => None,
+    }
+}
+
+/// Stops where there is a file of this path.
+pub(crate) fn check_absent(rt: &HostRuntime, path: &str) -> Result<(), Stop> {
+    if is_there(rt, path) {
+        return Err(failed(
+            rt.alloc(),
+            format_args!("{path} is there: expected no such file"),
+        ));
+    }
+    Ok(())
+}
+
+/// Puts the octets into the place of the file that is made, or nothing if they were refused.
+pub(crate) fn finish(
+    rt: &HostRuntime,
     new_file: NewFile,
-}
-
-/// Begins a change of the text of this path.
-pub(crate) fn begin_change(rt: &HostRuntime, path: &str) -> Result<Change, Stop> {
-    let new_file = begin(rt, path)?;
-    Ok(Change { new_file })
-}
-
-impl Change {
-    /// Puts the changed lines into the text's place, or nothing if they were refused.
-    pub(crate) fn finish(
-        self,
-        rt: &HostRuntime,
-        changed: Result<Vec<Line>, Stop>,
-    ) -> Result<(), Stop> {
-        match changed {
-            Ok(lines) => self.write(rt, &lines),
-            Err(stop) => {
-                self.new_file.discard(rt);
-                Err(stop)
-            }
+    octets: Result<Vec<u8>, Stop>,
+) -> Result<(), Stop> {
+    match octets {
+        Ok(octets) => new_file.finish(rt, &octets),
+        Err(stop) => {
+            new_file.discard(rt);
+            Err(stop)
         }
     }
+}
 
-    fn write(self, rt: &HostRuntime, lines: &[Line]) -> Result<(), Stop> {
-        match whole_text(rt, lines) {
-            Ok(text) => self.new_file.finish(rt, text.as_bytes()),
-            Err(stop) => {
-                self.new_file.discard(rt);
-                Err(stop)
-            }
+/// Puts the changed lines into the place of the text that is made, or nothing if they were refused.
+pub(crate) fn finish_text(
+    rt: &HostRuntime,
+    new_file: NewFile,
+    changed: Result<Vec<Line>, Stop>,
+) -> Result<(), Stop> {
+    let text = match changed {
+        Ok(lines) => whole_text(rt, &lines),
+        Err(stop) => Err(stop),
+    };
+    match text {
+        Ok(text) => new_file.finish(rt, text.as_bytes()),
+        Err(stop) => {
+            new_file.discard(rt);
+            Err(stop)
         }
     }
 }
@@ -99,8 +125,8 @@ impl Change {
 fn whole_text(rt: &HostRuntime, lines: &[Line]) -> Result<String, Stop> {
     let alloc = rt.alloc();
     let text = text_of(alloc, lines)?;
-    let is_read = match read_lines(alloc, text.as_str()) {
-        Ok(again) => are_alike(&again, lines) && check_order(&again).is_ok(),
+    let is_read = match ordered_lines(alloc, text.as_str()) {
+        Ok(again) => are_alike(&again, lines),
         Err(TextFault::Memory) => return Err(Stop::Memory),
         Err(_) => false,
     };
@@ -115,11 +141,12 @@ fn whole_text(rt: &HostRuntime, lines: &[Line]) -> Result<String, Stop> {
 
 // Whether there are as many lines, of the same kinds.
 fn are_alike(lines: &[Line], others: &[Line]) -> bool {
+    for (line, other) in lines.iter().zip(others) {
+        if kind_of(line) != kind_of(other) {
+            return false;
+        }
+    }
     lines.len() == others.len()
-        && lines
-            .iter()
-            .zip(others)
-            .all(|(line, other)| kind_of(line) == kind_of(other))
 }
 
 fn kind_of(line: &Line) -> u8 {

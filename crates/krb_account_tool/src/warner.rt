@@ -1,6 +1,6 @@
 //! What `make` and `warnings` warn of: likely slips in each account, and keys that two accounts share.
 
-use crate::warnings::{RealmKey, Stream, say, warn_of_account, warn_of_realm};
+use crate::warnings::{RealmKey, Stream, is_service, say, warn_of_account, warn_of_realm};
 use cdb::Record;
 use krb_account_files::ACCOUNT_HEAD;
 use krb_account_texts::{AccountLine, RealmLine, principal_name};
@@ -79,7 +79,7 @@ impl Warner {
                 own.account.suite(),
                 secret,
             )?;
-            if realm.is_of(&own.name) {
+            if is_service(&realm.name, &own.name) {
                 self.service = Some(index);
             }
         }

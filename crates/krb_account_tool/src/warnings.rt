@@ -1,14 +1,15 @@
 //! What is likely a slip in an account, by the rules for settings files.
 
 use crate::secrets::octets_of;
-use krb_account_texts::{Line, RealmLine, place_of};
+use crate::texts::account_among;
+use krb_account_texts::{Line, RealmLine};
 use krb_commands::{Stop, print_line};
 use krb_crypto::CipherSuite;
 use krb_settings::{AccountSettings, RealmSettings, Secret};
 use krb_settings_check::warnings_of;
 use krb_types::data_types::PrincipalName;
 use krb_types::{krbtgt, krbtgt_of};
-use std::alloc::Global;
+use std::alloc::{AllocError, Global};
 use std::fmt::Display;
 
 /// Where warnings are written.
@@ -29,9 +30,18 @@ const OF_REALM: &str = "warning: ";
 /// The name of a realm, and the key of its ticket-granting service.
 #[derive(Drop)]
 pub(crate) struct RealmKey {
-    name: Vec<u8>,
+    /// The name.
+    pub(crate) name: Vec<u8>,
     suite: CipherSuite,
     key: Vec<u8>,
+}
+
+/// Whether a name is that of the ticket-granting service of the realm of this name.
+pub(crate) fn is_service(realm: &[u8], name: &PrincipalName) -> bool {
+    let [first, second] = name.name_string.0.as_slice() else {
+        return false;
+    };
+    first.as_bytes() == krbtgt() && second.as_bytes() == realm
 }
 
 impl RealmKey {
@@ -40,26 +50,19 @@ impl RealmKey {
         alloc: Global,
         realm: &RealmLine,
         lines: &[Line],
-    ) -> Result<RealmKey, Stop> {
-        let name = Vec::from_slice(alloc, realm.name.as_bytes())?;
+    ) -> Result<RealmKey, AllocError> {
         let service = krbtgt_of(alloc, &realm.name)?;
-        let mut suite = CipherSuite::Aes256CtsHmacSha196;
-        let mut key = Vec::new(alloc);
-        if let Some(place) = place_of(lines, &service) {
-            if let Line::Account(own) = &lines[place] {
-                suite = own.account.suite();
-                key = Vec::from_slice(alloc, own.account.key().as_bytes())?;
-            }
-        }
-        Ok(RealmKey { name, suite, key })
-    }
-
-    /// Whether a name is that of the realm's ticket-granting service.
-    pub(crate) fn is_of(&self, name: &PrincipalName) -> bool {
-        let [first, second] = name.name_string.0.as_slice() else {
-            return false;
+        let own = account_among(lines, &service);
+        drop(service);
+        let (suite, key) = match own {
+            Some(own) => (own.account.suite(), own.account.key().as_bytes()),
+            None => (CipherSuite::Aes256CtsHmacSha196, "".as_bytes()),
         };
-        first.as_bytes() == krbtgt() && second.as_bytes() == self.name.as_slice()
+        Ok(RealmKey {
+            name: Vec::from_slice(alloc, realm.name.as_bytes())?,
+            suite,
+            key: Vec::from_slice(alloc, key)?,
+        })
     }
 
     // The settings of the realm, with these accounts.
@@ -67,7 +70,7 @@ impl RealmKey {
         &self,
         alloc: Global,
         accounts: Vec<AccountSettings>,
-    ) -> Result<RealmSettings, Stop> {
+    ) -> Result<RealmSettings, AllocError> {
         Ok(RealmSettings {
             name: Vec::from_slice(alloc, &self.name)?,
             suite: self.suite,
@@ -101,12 +104,7 @@ pub(crate) fn warn_of_realm(
     realm: &RealmKey,
 ) -> Result<(), Stop> {
     let settings = realm.settings(rt.alloc(), Vec::new(rt.alloc()))?;
-    for remark in &warnings_of(rt.alloc(), b"", &settings)? {
-        if let Some(words) = remark.text.as_str().strip_prefix(OF_REALM) {
-            say(rt, stream, format_args!("warning: {words}"))?;
-        }
-    }
-    Ok(())
+    warn_by(rt, stream, &settings, OF_REALM, "")
 }
 
 /// Warns of an account's name, and of its password or key.
@@ -118,17 +116,38 @@ pub(crate) fn warn_of_account(
     suite: CipherSuite,
     secret: Secret,
 ) -> Result<(), Stop> {
-    let alloc = rt.alloc();
-    let components = octets_of(alloc, name.name_string.0.as_slice())?;
+    let settings = settings_of_account(rt.alloc(), realm, name, suite, secret)?;
+    warn_by(rt, stream, &settings, OF_ACCOUNT, format_args!("{name}: "))
+}
+
+// The settings of a realm with this account.
+fn settings_of_account(
+    alloc: Global,
+    realm: &RealmKey,
+    name: &PrincipalName,
+    suite: CipherSuite,
+    secret: Secret,
+) -> Result<RealmSettings, AllocError> {
+    let name = octets_of(alloc, name.name_string.0.as_slice())?;
     let account = AccountSettings {
-        name: components,
+        name,
         suite,
         secret,
     };
-    let settings = realm.settings(alloc, vec![in alloc; account]?)?;
-    for remark in &warnings_of(alloc, b"", &settings)? {
-        if let Some(words) = remark.text.as_str().strip_prefix(OF_ACCOUNT) {
-            say(rt, stream, format_args!("warning: {name}: {words}"))?;
+    realm.settings(alloc, vec![in alloc; account]?)
+}
+
+// Warns by the settings' warnings that begin so, each with `of` before its words.
+fn warn_by<D: Display + Drop>(
+    rt: &HostRuntime,
+    stream: Stream,
+    settings: &RealmSettings,
+    start: &str,
+    of: D,
+) -> Result<(), Stop> {
+    for remark in &warnings_of(rt.alloc(), b"", settings)? {
+        if let Some(words) = remark.text.as_str().strip_prefix(start) {
+            say(rt, stream, format_args!("warning: {of}{words}"))?;
         }
     }
     Ok(())
