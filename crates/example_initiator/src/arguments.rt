@@ -5,6 +5,7 @@ use gss_contexts::Protection;
 use gss_initiator::{NO_BINDINGS, TokenForm, bindings_of};
 use krb_commands::{Given, Stop, given_of, usage};
 use krb_time::Moment;
+use result_pairs::both;
 use std::alloc::Global;
 
 /// The options.
@@ -98,11 +99,14 @@ fn words_of<'a>(alloc: Global, words: &[&'a str]) -> Result<Words<'a>, Stop> {
 }
 
 fn settings_of<'a>(alloc: Global, given: &Given<'a>) -> Result<Settings<'a>, Stop> {
+    let first = both(cache_of(alloc, given), choice_of(alloc, given));
+    let last = both(given.value(alloc, "-r"), moment_of(alloc, given));
+    let ((cache, choice), (words, moment)) = both(first, last)?;
     Ok(Settings {
-        cache: cache_of(alloc, given)?,
-        choice: choice_of(alloc, given)?,
-        words: given.value(alloc, "-r")?.unwrap_or(WORDS),
-        moment: moment_of(alloc, given)?,
+        cache,
+        choice,
+        words: words.unwrap_or(WORDS),
+        moment,
     })
 }
 
@@ -115,11 +119,14 @@ fn cache_of<'a>(alloc: Global, given: &Given<'a>) -> Result<&'a str, Stop> {
 }
 
 fn choice_of(alloc: Global, given: &Given<'_>) -> Result<Choice, Stop> {
+    let first = both(form_of(alloc, given), is_mutual_by(alloc, given));
+    let last = both(protection_of(alloc, given), hash_of(alloc, given));
+    let ((form, is_mutual), (protection, bindings)) = both(first, last)?;
     Ok(Choice {
-        form: form_of(alloc, given)?,
-        is_mutual: is_mutual_by(alloc, given)?,
-        protection: protection_of(alloc, given)?,
-        bindings: hash_of(alloc, given)?,
+        form,
+        is_mutual,
+        protection,
+        bindings,
     })
 }
 

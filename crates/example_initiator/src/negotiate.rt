@@ -35,9 +35,10 @@ pub(crate) fn negotiate(
             concluded
         }
     };
-    concluded?;
-    say_established(rt, asked);
-    Ok(())
+    if concluded.is_ok() {
+        say_established(rt, asked);
+    }
+    concluded
 }
 
 // Prints a token as a field of a request.

@@ -120,11 +120,17 @@ fn key_of(cached: &CachedCredential) -> Option<Key> {
 }
 
 fn times_of(times: &CredentialTimes) -> Option<TicketTimes> {
-    Some(TicketTimes {
-        authtime: time_of(times.authtime)?,
-        starttime: time_of(times.starttime)?,
-        endtime: time_of(times.endtime)?,
-    })
+    let authtime = time_of(times.authtime);
+    let starttime = time_of(times.starttime);
+    let endtime = time_of(times.endtime);
+    match (authtime, starttime, endtime) {
+        (Some(authtime), Some(starttime), Some(endtime)) => Some(TicketTimes {
+            authtime,
+            starttime,
+            endtime,
+        }),
+        _ => None,
+    }
 }
 
 fn time_of(seconds: u32) -> Option<GeneralizedTime> {

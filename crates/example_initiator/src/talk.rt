@@ -94,13 +94,7 @@ fn send_message(
     let token = message_token(rt.alloc(), asked, occasions, context, message)?;
     peer.send(flags_of(asked.settings.choice.protection), &token)?;
     let mic = peer.receive(MIC, "the service's MIC of the message")?;
-    verify(rt.alloc(), context, message, &mic)?;
-    // The MIC is right where standard error takes nothing.
-    let _ = eprintln!(rt;
-        "the service's MIC of a message of {} octets is right",
-        message.len()
-    );
-    Ok(())
+    verify(rt, context, message, &mic)
 }
 
 // The flags of a message's frame.

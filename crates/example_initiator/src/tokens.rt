@@ -90,16 +90,23 @@ pub(crate) fn message_token(
     }
 }
 
-/// Verifies the service's MIC of a message.
+/// Verifies the service's MIC of a message, and says on standard error that it is right.
 pub(crate) fn verify(
-    alloc: Global,
+    rt: &HostRuntime,
     context: &mut Context,
     message: &str,
     mic: &[u8],
 ) -> Result<(), Stop> {
-    match context.verify_mic(alloc, message.as_bytes(), mic) {
-        Ok(()) => Ok(()),
-        Err(refusal) => Err(stop_of_message(alloc, "the service's MIC of a message", refusal)),
+    match context.verify_mic(rt.alloc(), message.as_bytes(), mic) {
+        Ok(()) => {
+            // The MIC is right where standard error takes nothing.
+            let _ = eprintln!(rt;
+                "the service's MIC of a message of {} octets is right",
+                message.len()
+            );
+            Ok(())
+        }
+        Err(refusal) => Err(stop_of_message(rt.alloc(), "the service's MIC of a message", refusal)),
     }
 }
 
