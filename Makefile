@@ -81,6 +81,7 @@ docs: ## check that the documents name what exists, that no number of a standard
 	tools/pages --check
 	tools/numbers
 	tools/oids --check
+	python3 -B bench/gate.py --budget
 
 budget: ## the gate in a clean clone, with its minutes crate by crate
 	bench/gate.sh
