@@ -4,7 +4,7 @@ ghost use Rattle.std.specs.Bool.{Decides};
 ghost use Rattle.asn1_equality.specs.Views.{ShowOneAttribute, ShowOneExtension};
 
 use x509_extensions::ExtensionView;
-use x509_names::{AttributeTypeAndValueParameters, NamePrettyFormatter};
+use x509_names::{AttributeTypeAndValueParameters, NamePrettyFormatter, Rfc4514};
 
 /// Two values of attributes that are borrowed are equal exactly where they are of one attribute, and what is borrowed is one value.
 pub fn attribute_views()
@@ -20,4 +20,9 @@ pub fn extension_views()
 /// Two names that are borrowed to be printed are equal exactly where they are one name.
 pub fn name_views()
     ensures { (v w : NamePrettyFormatter) → Decides (⟦<NamePrettyFormatter<'static> as PartialEq>⟧.eq v w) (v.0.now ≡ w.0.now) }
+{}
+
+/// The same of two names that are borrowed to be printed in the notation of RFC 4514.
+pub fn rfc4514_views()
+    ensures { (v w : Rfc4514) → Decides (⟦<Rfc4514<'static> as PartialEq>⟧.eq v w) (v.0.now ≡ w.0.now) }
 {}
