@@ -5,7 +5,7 @@
 //!
 //! `==` of two values whose type has [`Equality`] is true exactly where they are one value (`is_equality`), and [`is_one_value`]
 //! compares them so. `==` of two views is true exactly where they borrow one value ([`attribute_views`], [`extension_views`],
-//! [`name_views`], [`rfc4514_views`]).
+//! [`name_views`]).
 #![tactic(auto)]
 
 ghost use Rattle.std.specs.Prelude.{◌≡◌};
@@ -37,7 +37,7 @@ mod usages;
 mod views;
 mod wrapped;
 
-pub use views::{attribute_views, extension_views, name_views, rfc4514_views};
+pub use views::{attribute_views, extension_views, name_views};
 
 /// Types of which `==` is equality of values: it is true of two values where they are one, and of no others.
 pub trait Equality: PartialEq {

@@ -17,12 +17,8 @@ pub fn extension_views()
     ensures { (v w : ExtensionView) → Decides (⟦<ExtensionView<'static> as PartialEq>⟧.eq v w) (ShowOneExtension v w) }
 {}
 
-/// Two names that are borrowed to be printed are equal exactly where they are one name.
+/// Two names that are borrowed to be printed are equal exactly where they are one name, also in the notation of RFC 4514.
 pub fn name_views()
-    ensures { (v w : NamePrettyFormatter) → Decides (⟦<NamePrettyFormatter<'static> as PartialEq>⟧.eq v w) (v.0.now ≡ w.0.now) }
-{}
-
-/// The same of two names that are borrowed to be printed in the notation of RFC 4514.
-pub fn rfc4514_views()
-    ensures { (v w : Rfc4514) → Decides (⟦<Rfc4514<'static> as PartialEq>⟧.eq v w) (v.0.now ≡ w.0.now) }
+    ensures printed { (v w : NamePrettyFormatter) → Decides (⟦<NamePrettyFormatter<'static> as PartialEq>⟧.eq v w) (v.0.now ≡ w.0.now) }
+    ensures rfc4514 { (v w : Rfc4514) → Decides (⟦<Rfc4514<'static> as PartialEq>⟧.eq v w) (v.0.now ≡ w.0.now) }
 {}
