@@ -89,6 +89,7 @@ NotWroteFields refusal bytes old new fault =
 abbrev pub Measured : Option Unsupported → List ℕ → ℕ → Type 0
 Measured refusal bytes count = (count ≡ length bytes) × (refusal ≡ None)
 
+-- the length of a spelling isn't known: the type refuses the value, or no number says the length
 abbrev pub NotMeasured : Asn1DerError → Option Unsupported → List ℕ → Asn1DerError → Type 0
 NotMeasured too_long refusal bytes fault = RefusedAs refusal fault ⊎ ((fault ≡ too_long) × IsTooLong bytes)
 

@@ -2,6 +2,7 @@
 use Rattle.std.specs.Prelude.{ℕ, ◌%◌, Bool, not, ◌==◌, List}
 use Rattle.asn1_der.specs.Tree.{Tree, leaf}
 
+-- an element of any type: its identifier octet, and its content octets
 pub record Raw : Type 0 where
   pub first : ℕ
   pub content : List ℕ

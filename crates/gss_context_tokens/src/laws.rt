@@ -21,7 +21,7 @@ pub fn one_krb_message<T: FromDer>()
         → Alike (seen_message T.seen) m n }
 {}
 
-/// The same of messages that go through a service. It does nothing.
+/// The same octets begin one IAKERB proxy message alone, up to what is seen of it. It does nothing when it runs.
 pub fn one_proxy_message<T: FromDer>()
     ensures { (m n : IAKerbProxyMessage T) (bytes : List ℕ) → BeginsProxyMessage T.reads m bytes → BeginsProxyMessage T.reads n bytes
         → Alike (seen_proxy_message T.seen) m n }

@@ -42,6 +42,7 @@ abbrev pub account_text : List Bytes → AccountRecord → List ℕ
 account_text name own =
     name_text name ++ (codes "\t" ++ (suite_name own.suite ++ (codes "\t" ++ (decimal own.kvno ++ (codes "\t" ++ (salt_text own.salt ++ (codes "\t" ++ encode_lower own.key)))))))
 
+-- the text of a line, without its line feed
 abbrev pub line_text : WrittenLine → List ℕ
 line_text (comment text) = text
 line_text (realm name settings pkinit) = realm_text name settings pkinit

@@ -29,6 +29,7 @@ abbrev pub judged_name : Result (List Bytes) NameTextFault → Result (List Byte
 judged_name (Ok name) = if are_components name then Ok name else Err fault.Name
 judged_name (Err _) = Err fault.Name
 
+-- The name that a text spells, in its components, or that it spells none.
 unfoldable pub name_in : List ℕ → Result (List Bytes) LineFault
 name_in text = judged_name (components_in text)
 
@@ -74,6 +75,7 @@ salt_in text = if pointwise nat_eq text (codes "-") then Ok None else octets_tol
 abbrev pub sized_key : CipherSuite → List ℕ → Result Bytes LineFault
 sized_key suite octets = if length octets == cipher_key_size suite then Ok octets else Err fault.Key
 
+-- The key that hexadecimal digits spell, of its suite's length.
 unfoldable pub key_in : CipherSuite → List ℕ → Result Bytes LineFault
 key_in suite text = octets_told fault.Key (decode_of text) >>= sized_key suite
 
@@ -146,5 +148,6 @@ is_ended parts = length (slice_index_or parts (length parts - 1) []) == 0
 abbrev pub lines_of : List (List ℕ) → Result (List WrittenLine) TextFault
 lines_of parts = if is_ended parts then each_from numbered 1 (take (length parts - 1) parts) else Err (text_fault.NoEnd (length parts))
 
+-- The lines of a text, or its first fault with the number of its line.
 unfoldable pub lines_in : List ℕ → Result (List WrittenLine) TextFault
 lines_in text = lines_of (slice_split (λ octet. octet == 10) text)

@@ -47,5 +47,6 @@ IsWritable (comment text) = IsComment text
 IsWritable (realm name settings pkinit) = IsRealm name settings pkinit
 IsWritable (account name own) = IsAccount name own
 
+-- each line of the list can be written
 abbrev pub AreWritable : List WrittenLine → Type 0
 AreWritable = AllByRecursion IsWritable

@@ -18,6 +18,7 @@ and_then (Err e) next = Err e
 abbrev pub GivesOr : {A B E : Type 0} → E → (A → B) → Result A E → Result B E → Type 0
 GivesOr memory view result told = MatchResult result (λ a. told ≡ Ok (view a)) (λ e. (e ≡ memory) ⊎ (told ≡ Err e))
 
+-- the call returns this value or fault, or memory ran out
 abbrev pub Gives : {A B : Type 0} → (A → B) → Result A KeytabFault → Result B KeytabFault → Type 0
 Gives = GivesOr Memory
 

@@ -29,6 +29,7 @@ pub record IsWritable (e : Entry) : Type 0 where
   pub kvno : e.kvno < 2 ^ 32
   pub size : length (written e) < 2 ^ 31
 
+-- each entry of the list can be written
 abbrev pub AreWritable : List Entry → Type 0
 AreWritable [] = Unit {0}
 AreWritable (e ∷ es) = IsWritable e × AreWritable es

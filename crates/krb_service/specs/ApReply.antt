@@ -27,13 +27,15 @@ abbrev pub further_size : ReplyFields → ℕ
 further_size TimeAlone = 0
 further_size SubkeyAndNumber = 48
 
+-- how many random bytes a reply with these fields takes: a confounder of 16, and those of its further fields
 abbrev pub random_size : ReplyFields → ℕ
 random_size fields = 16 + further_size fields
 
--- the service's subkey, of a suite, and its first sequence number: of four of the random bytes, big-endian, 31 bits
+-- the service's subkey, of this suite, which the random bytes seed
 abbrev pub reply_subkey : CipherSuite → Random → Bytes
 reply_subkey suite words = seed_key_of suite (subkey_seed (cipher_seed_size suite) words)
 
+-- the service's first sequence number: 31 bits of four of the random bytes, big-endian
 abbrev pub reply_number : Random → ℕ
 reply_number words = from_be_bytes w32 (nonce_bytes words) % 2147483648
 

@@ -44,7 +44,7 @@ impl AlgorithmIdentifier {
         &self.algorithm.0
     }
 
-    /// The same as a value of messages.
+    /// The object identifier as the type that messages hold.
     pub fn oid_asn1(&self) -> &ObjectIdentifierAsn1
         ensures { result.now ≡ self.now.algorithm }
     {

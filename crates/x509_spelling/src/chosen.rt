@@ -52,7 +52,7 @@ pub fn read_chosen_in<A: Identified, K: Kinds>(
     Ok(read)
 }
 
-/// The same behind a field in front of them.
+/// A field, and then a value and the fields of the kind that its identifier denotes, which take up all of the content of one element.
 pub fn read_chosen_behind<H: Spelled, A: Identified, K: Kinds>(
     alloc: Global,
     first: u8,
