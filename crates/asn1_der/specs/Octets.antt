@@ -1,5 +1,5 @@
--- Identifier octets of types of the class universal (X.690, section 8.1.2; X.680, section 8.4). Those of SEQUENCE and SET say that
--- the encoding is constructed.
+-- Identifier octets of types of the class universal (X.690, section 8.1.2; X.680, section 8.4), and of tags of the class
+-- context-specific. Those of SEQUENCE and SET say that the encoding is constructed.
 use Rattle.std.specs.Prelude.{ℕ}
 
 -- the identifier octet of BOOLEAN: universal 1, primitive (X.680, section 8.4)
@@ -61,3 +61,27 @@ sequence_octet = 48
 -- the identifier octet of SET and SET OF: universal 17, constructed (X.680, section 8.4)
 abbrev pub set_octet : ℕ
 set_octet = 49
+
+-- the identifier octet of the tag [0]: context-specific 0, constructed (X.690, section 8.1.2)
+abbrev pub context_0_octet : ℕ
+context_0_octet = 160
+
+-- the identifier octet of the tag [1]: context-specific 1, constructed (X.690, section 8.1.2)
+abbrev pub context_1_octet : ℕ
+context_1_octet = 161
+
+-- the identifier octet of the tag [2]: context-specific 2, constructed (X.690, section 8.1.2)
+abbrev pub context_2_octet : ℕ
+context_2_octet = 162
+
+-- the identifier octet of the tag [3]: context-specific 3, constructed (X.690, section 8.1.2)
+abbrev pub context_3_octet : ℕ
+context_3_octet = 163
+
+-- the identifier octet of the tag [4]: context-specific 4, constructed (X.690, section 8.1.2)
+abbrev pub context_4_octet : ℕ
+context_4_octet = 164
+
+-- the identifier octet of the tag [5]: context-specific 5, constructed (X.690, section 8.1.2)
+abbrev pub context_5_octet : ℕ
+context_5_octet = 165

@@ -1,5 +1,5 @@
-//! Identifier octets of types of the class universal (X.690, section 8.1.2; X.680, section 8.4). Those of SEQUENCE and SET say that
-//! the encoding is constructed.
+//! Identifier octets of types of the class universal (X.690, section 8.1.2; X.680, section 8.4), and of tags of the class
+//! context-specific. Those of SEQUENCE and SET say that the encoding is constructed.
 
 /// BOOLEAN.
 pub const BOOLEAN: u8 = 1;
@@ -45,3 +45,36 @@ pub const SEQUENCE: u8 = 48;
 
 /// SET and SET OF.
 pub const SET: u8 = 49;
+
+/// \[0\], constructed (X.690, section 8.1.2).
+pub const CONTEXT_0: u8 = 0xA0;
+
+/// \[1\], constructed (X.690, section 8.1.2).
+pub const CONTEXT_1: u8 = 0xA1;
+
+/// \[2\], constructed (X.690, section 8.1.2).
+pub const CONTEXT_2: u8 = 0xA2;
+
+/// \[3\], constructed (X.690, section 8.1.2).
+pub const CONTEXT_3: u8 = 0xA3;
+
+/// \[4\], constructed (X.690, section 8.1.2).
+pub const CONTEXT_4: u8 = 0xA4;
+
+/// \[5\], constructed (X.690, section 8.1.2).
+pub const CONTEXT_5: u8 = 0xA5;
+
+/// \[1\], primitive (X.690, section 8.1.2).
+pub const CONTEXT_PRIMITIVE_1: u8 = 0x81;
+
+/// \[2\], primitive (X.690, section 8.1.2).
+pub const CONTEXT_PRIMITIVE_2: u8 = 0x82;
+
+/// \[6\], primitive (X.690, section 8.1.2).
+pub const CONTEXT_PRIMITIVE_6: u8 = 0x86;
+
+/// \[7\], primitive (X.690, section 8.1.2).
+pub const CONTEXT_PRIMITIVE_7: u8 = 0x87;
+
+/// \[8\], primitive (X.690, section 8.1.2).
+pub const CONTEXT_PRIMITIVE_8: u8 = 0x88;

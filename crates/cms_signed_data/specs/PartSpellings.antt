@@ -12,7 +12,7 @@ use Rattle.cms_signed_data.specs.declared.encapsulated_content_info.Encapsulated
 use Rattle.cms_signed_data.specs.declared.signed_attributes.SignedAttributes.{SignedAttributes}
 use Rattle.cms_signed_data.specs.declared.signer_info.IssuerAndSerialNumber.{IssuerAndSerialNumber}
 use Rattle.cms_signed_data.specs.SpelledElements.{SpellsElements}
-use Rattle.asn1_der.specs.Octets.{object_identifier_octet, octet_string_octet, sequence_octet, set_octet}
+use Rattle.asn1_der.specs.Octets.{context_0_octet, object_identifier_octet, octet_string_octet, sequence_octet, set_octet}
 
 -- the spelling of each part, which is an element; and where content and digest are in the two parts that hold them
 pub record PartSpellings : Type 1 where
@@ -43,24 +43,24 @@ oid_element valid oid whole = (object_identifier_octet, oid, refl, der-leaf vali
 
 -- a content of this type (RFC 5652, section 5.2)
 pub content_at : (valid : Bool) (oid octets b : List ℕ)
-    → IsWhole (constructed sequence_octet (more (leaf valid object_identifier_octet oid) (more (wrapped 160 (primitive octet_string_octet octets)) none)))
-    → b ≡ der (constructed sequence_octet (more (leaf valid object_identifier_octet oid) (more (wrapped 160 (primitive octet_string_octet octets)) none)))
+    → IsWhole (constructed sequence_octet (more (leaf valid object_identifier_octet oid) (more (wrapped context_0_octet (primitive octet_string_octet octets)) none)))
+    → b ≡ der (constructed sequence_octet (more (leaf valid object_identifier_octet oid) (more (wrapped context_0_octet (primitive octet_string_octet octets)) none)))
     → LeadsTo b (1 ∷ 0 ∷ []) (element octet_string_octet octets)
 content_at valid oid octets b whole is =
-    go_on b (element 160 (element octet_string_octet octets ++ [])) (element octet_string_octet octets) (1 ∷ []) (0 ∷ [])
-    (second_at sequence_octet (der (leaf valid object_identifier_octet oid)) (element 160 (element octet_string_octet octets ++ [])) b refl (oid_element valid oid whole.0) (160, element octet_string_octet octets ++ [], refl, refl) is)
-    (alone_at 160 (element octet_string_octet octets) (element 160 (element octet_string_octet octets ++ [])) refl (octet_string_octet, octets, refl, refl) refl)
+    go_on b (element context_0_octet (element octet_string_octet octets ++ [])) (element octet_string_octet octets) (1 ∷ []) (0 ∷ [])
+    (second_at sequence_octet (der (leaf valid object_identifier_octet oid)) (element context_0_octet (element octet_string_octet octets ++ [])) b refl (oid_element valid oid whole.0) (context_0_octet, element octet_string_octet octets ++ [], refl, refl) is)
+    (alone_at context_0_octet (element octet_string_octet octets) (element context_0_octet (element octet_string_octet octets ++ [])) refl (octet_string_octet, octets, refl, refl) refl)
 
 -- the attribute message-digest that follows another one (RFC 5652, sections 5.3 and 11.2)
 pub digest_at : (valid : Bool) (oid octets : List ℕ) (first : Tree) (b : List ℕ) → IsElement (der first)
-    → IsWhole (constructed 160 (more first (more (constructed sequence_octet (more (leaf valid object_identifier_octet oid) (more (wrapped set_octet (primitive octet_string_octet octets)) none))) none)))
-    → b ≡ der (constructed 160 (more first (more (constructed sequence_octet (more (leaf valid object_identifier_octet oid) (more (wrapped set_octet (primitive octet_string_octet octets)) none))) none)))
+    → IsWhole (constructed context_0_octet (more first (more (constructed sequence_octet (more (leaf valid object_identifier_octet oid) (more (wrapped set_octet (primitive octet_string_octet octets)) none))) none)))
+    → b ≡ der (constructed context_0_octet (more first (more (constructed sequence_octet (more (leaf valid object_identifier_octet oid) (more (wrapped set_octet (primitive octet_string_octet octets)) none))) none)))
     → LeadsTo b (1 ∷ 1 ∷ 0 ∷ []) (element octet_string_octet octets)
 digest_at valid oid octets first b front whole is =
     let set : List ℕ = element set_octet (element octet_string_octet octets ++ []) in
     let attribute : List ℕ = element sequence_octet (der (leaf valid object_identifier_octet oid) ++ (set ++ [])) in
     let outer : LeadsTo b (1 ∷ []) attribute =
-    second_at 160 (der first) attribute b refl front (sequence_octet, der (leaf valid object_identifier_octet oid) ++ (set ++ []), refl, refl) is in
+    second_at context_0_octet (der first) attribute b refl front (sequence_octet, der (leaf valid object_identifier_octet oid) ++ (set ++ []), refl, refl) is in
     let inner : LeadsTo attribute (1 ∷ []) set =
     second_at sequence_octet (der (leaf valid object_identifier_octet oid)) set attribute refl (oid_element valid oid whole.1.0.0) (set_octet, element octet_string_octet octets ++ [], refl, refl) refl in
     let alone : LeadsTo set (0 ∷ []) (element octet_string_octet octets) = alone_at set_octet (element octet_string_octet octets) set refl (octet_string_octet, octets, refl, refl) refl in

@@ -17,7 +17,7 @@ use Rattle.cms_signed_data.specs.contracts.form.ContentInfoOfForm.TheImpl as of_
 use Rattle.cms_signed_data.specs.PartSpellings.{PartSpellings}
 use Rattle.cms_signed_data.specs.SignedRows.{signer_row, signed_row, content_row}
 use Rattle.cms_signed_data.specs.SpelledElements.{SpellsElements, Ends, Row, Found, ended, held_are, row_some, row_front, row_behind, found_on, alone_in, second_in}
-use Rattle.asn1_der.specs.Octets.{octet_string_octet, sequence_octet, set_octet}
+use Rattle.asn1_der.specs.Octets.{context_0_octet, octet_string_octet, sequence_octet, set_octet}
 
 -- The path from the ContentInfo to the OCTET STRING eContent (RFC 5652, section 5.2).
 abbrev pub content_place : List ℕ
@@ -182,7 +182,7 @@ module _ (p : PartSpellings) where
   AreDigests v = Holds set_octet p.digest_algorithm v.0
 
   abbrev pub AreCertificates : Explicit 0 Certificate → List ℕ → ℕ → Type 0
-  AreCertificates v = Holds 160 p.certificate v.0
+  AreCertificates v = Holds context_0_octet p.certificate v.0
 
   abbrev pub AreSigners : SetOfOne SignerInfo → List ℕ → ℕ → Type 0
   AreSigners v = Holds set_octet IsSignerInfo v.0
@@ -191,7 +191,7 @@ module _ (p : PartSpellings) where
   IsSignedData v = Holds sequence_octet (Row p.version (Row AreDigests (Row p.encapsulated (Row AreCertificates (Row AreSigners Ends))))) (signed_row v)
 
   abbrev pub IsTagged : Explicit 0 SignedData → List ℕ → ℕ → Type 0
-  IsTagged v = Holds 160 IsSignedData v.0
+  IsTagged v = Holds context_0_octet IsSignedData v.0
 
   abbrev pub IsContentInfo : ContentInfo → List ℕ → ℕ → Type 0
   IsContentInfo v = Holds sequence_octet (Row p.oid (Row IsTagged Ends)) (content_row v)
@@ -206,13 +206,13 @@ module _ (p : PartSpellings) where
   digests_are = held_are p.digest_algorithm set_octet refl (λ w. w.0)
 
   pub certificates_are : SpellsElements AreCertificates
-  certificates_are = held_are p.certificate 160 refl (λ w. w.0)
+  certificates_are = held_are p.certificate context_0_octet refl (λ w. w.0)
 
   pub signers_are : SpellsElements AreSigners
   signers_are = held_are IsSignerInfo set_octet refl (λ w. w.0)
 
   pub tagged_are : SpellsElements IsTagged
-  tagged_are = held_are IsSignedData 160 refl (λ w. w.0)
+  tagged_are = held_are IsSignedData context_0_octet refl (λ w. w.0)
 
   abbrev pub Holding : ContentInfo → List ℕ → Type 0
   Holding v bytes =
@@ -227,7 +227,7 @@ module _ (p : PartSpellings) where
     signer = v.content.0.signer_infos.0
 
     signed_at : Found (IsSignedData signs) b (1 ∷ 0 ∷ [])
-    signed_at = alone_in IsSignedData signed_are 160 refl signs b (1 ∷ []) (second_in p.oid p.oid_are IsTagged tagged_are (content_row v) b n s)
+    signed_at = alone_in IsSignedData signed_are context_0_octet refl signs b (1 ∷ []) (second_in p.oid p.oid_are IsTagged tagged_are (content_row v) b n s)
 
     encapsulated_at : Found (p.encapsulated signs.encap_content_info) signed_at.inner (2 ∷ [])
     encapsulated_at =
@@ -236,7 +236,7 @@ module _ (p : PartSpellings) where
 
     certificate_in : Found (p.certificate signs.certificates.0) signed_at.inner (3 ∷ 0 ∷ [])
     certificate_in =
-        alone_in p.certificate p.certificate_are 160 refl signs.certificates.0 signed_at.inner (3 ∷ [])
+        alone_in p.certificate p.certificate_are context_0_octet refl signs.certificates.0 signed_at.inner (3 ∷ [])
         (certificates_in p.version p.version_are AreDigests digests_are p.encapsulated p.encapsulated_are AreCertificates certificates_are AreSigners signers_are
         (signed_row signs) signed_at.inner signed_at.count signed_at.is)
 

@@ -5,6 +5,7 @@ use Rattle.asn1_der.specs.Tagged.{tagged_tree}
 use Rattle.cms_signed_data.specs.contracts.signed_attributes.SignedAttributesTagged.TheImpl as attributes_impl
 use Rattle.cms_signed_data.specs.declared.content_info.ContentInfo.{ContentInfo}
 use Rattle.cms_signed_data.specs.declared.signed_attributes.SignedAttributes.{SignedAttributes}
+use Rattle.asn1_der.specs.Octets.{context_0_octet}
 
 -- Signed data, with the octets of its certificate and of its signed attributes as they are in the input (RFC 5652, section 5).
 pub record SignedParts : Type 0 where
@@ -26,4 +27,4 @@ signature_of info = info.content.0.signer_infos.0.signature
 
 -- the signed attributes under their tag [0] (RFC 5652, section 5.3)
 abbrev pub attributes_tree : SignedAttributes → Tree
-attributes_tree = tagged_tree 160 attributes_impl.ghosts.row_tree attributes_impl.ghosts.row_of
+attributes_tree = tagged_tree context_0_octet attributes_impl.ghosts.row_tree attributes_impl.ghosts.row_of

@@ -19,6 +19,7 @@ use Rattle.cms_signed_data.specs.declared.signer_info.SignerInfo.{SignerInfo}
 use Rattle.x509_parts.specs.declared.raw_algorithm_identifier.RawAlgorithmIdentifier.{RawAlgorithmIdentifier}
 use Rattle.cms_signed_data.specs.Written.{IsUnsigned, IsWritten, info_of}
 use Rattle.cms_signed_data.specs.SignedRowLaws.{HasOneStrict, held_strict, fourth_leads, five_same, second_leads, two_same, none_before, whole_count}
+use Rattle.asn1_der.specs.Octets.{context_0_octet}
 
 abbrev p : PartSpellings
 p = of_form.ghosts.spellings
@@ -56,12 +57,12 @@ module _ (info : ContentInfo) (given : List ℕ) (n : ℕ) (is_given : p.certifi
         let certificates = is_data.1.4.4.4.3.0 in
         let to_data : LeadsTo b (1 ∷ 0 ∷ []) held =
         go_on b tagged held (1 ∷ []) (0 ∷ []) (second_leads p.oid (IsTagged p) (content_row info) p.oid_are (tagged_are p) b n s)
-        (held_at 160 held tagged refl (signed_are p info.content.0 held s.1.4.1 is_data) s.1.4.3.1.2) in
+        (held_at context_0_octet held tagged refl (signed_are p info.content.0 held s.1.4.1 is_data) s.1.4.3.1.2) in
         let to_certificates : LeadsTo held (3 ∷ []) certificates =
         fourth_leads p.version (AreDigests p) p.encapsulated (AreCertificates p) (AreSigners p) (signed_row info.content.0)
         p.version_are (digests_are p) p.encapsulated_are (certificates_are p) (signers_are p) held s.1.4.1 is_data in
         let to_inner : LeadsTo certificates (0 ∷ []) inner =
-        held_at 160 inner certificates refl (p.certificate_are info.content.0.certificates.0 inner is_data.1.4.4.4.1 is_data.1.4.4.4.3.1.1) is_data.1.4.4.4.3.1.2 in
+        held_at context_0_octet inner certificates refl (p.certificate_are info.content.0.certificates.0 inner is_data.1.4.4.4.1 is_data.1.4.4.4.3.1.1) is_data.1.4.4.4.3.1.2 in
         part_there b inner certificate_place
         (go_on b held inner (1 ∷ 0 ∷ []) (3 ∷ 0 ∷ []) to_data (go_on held certificates inner (3 ∷ []) (0 ∷ []) to_certificates to_inner))
 
@@ -89,13 +90,13 @@ module _ (info : ContentInfo) (given : List ℕ) (n : ℕ) (is_given : p.certifi
       let x : IsSignedData p info.content.0 s.1.4.3.1.0 s.1.4.1 = s.1.4.3.1.1 in
       let y : IsSignedData p info.content.0 t.1.4.3.1.0 t.1.4.1 = t.1.4.3.1.1 in
       let certificates : x.1.4.4.4.3.0 ≡ y.1.4.4.4.3.0 =
-      x.1.4.4.4.3.1.2 ∙ ap (element 160) (inner_is a s at ∙ sym (inner_is b t also)) ∙ sym y.1.4.4.4.3.1.2 in
+      x.1.4.4.4.3.1.2 ∙ ap (element context_0_octet) (inner_is a s at ∙ sym (inner_is b t also)) ∙ sym y.1.4.4.4.3.1.2 in
       let held : s.1.4.3.1.0 ≡ t.1.4.3.1.0 =
       five_same p.version (AreDigests p) p.encapsulated (AreCertificates p) (AreSigners p) (signed_row info.content.0)
       one_version (held_strict p.digest_algorithm one_digest 49 (λ (w : SetOfOne RawAlgorithmIdentifier). w.0)) one_encapsulated
       (held_strict signer_info.ghosts.spells one_signer 49 (λ (w : SetOfOne SignerInfo). w.0))
       s.1.4.3.1.0 t.1.4.3.1.0 s.1.4.1 t.1.4.1 x y (counts a s at).1 (counts b t also).1 certificates in
-      let tagged : s.1.4.3.0 ≡ t.1.4.3.0 = s.1.4.3.1.2 ∙ ap (element 160) held ∙ sym t.1.4.3.1.2 in
+      let tagged : s.1.4.3.0 ≡ t.1.4.3.0 = s.1.4.3.1.2 ∙ ap (element context_0_octet) held ∙ sym t.1.4.3.1.2 in
       two_same p.oid (IsTagged p) (content_row info) one_oid a b n n s t (no_count a s at) (no_count b t also) tagged
 
 -- what is written is one

@@ -7,7 +7,7 @@ ghost use Rattle.cms_signed_data.specs.Around.{IsDataAround, IsInfoAround};
 use crate::assembling::{element_of, sequence_of, spelled};
 use crate::signer_info::SignerInfo;
 use crate::written_parts::{encapsulated_bytes, sha256_bytes, signed_data_oid};
-use asn1_der::octets::SET;
+use asn1_der::octets::{CONTEXT_0, SET};
 use picky_asn1::oid::ObjectIdentifier;
 use std::alloc::{AllocError, Global};
 use x509_certificates::Certificate;
@@ -26,7 +26,7 @@ pub(crate) fn info_around(
         → IsInfoAround content_type.now content.now value n made certificate.now bytes.items) }
 {
     let signed = data_around(alloc, content_type, content, certificate, signer)?;
-    let tagged = element_of(alloc, 160, &signed)?;
+    let tagged = element_of(alloc, CONTEXT_0, &signed)?;
     let oid = signed_data_oid(alloc)?;
     let bytes = sequence_of(alloc, &[oid.as_slice(), tagged.as_slice()])?;
     Ok(bytes)
@@ -48,7 +48,7 @@ fn data_around(
     let digest_algorithm = sha256_bytes(alloc)?;
     let digest_algorithms = element_of(alloc, SET, &digest_algorithm)?;
     let encapsulated = encapsulated_bytes(alloc, content_type, content)?;
-    let certificates = element_of(alloc, 160, certificate)?;
+    let certificates = element_of(alloc, CONTEXT_0, certificate)?;
     let signers = element_of(alloc, SET, signer)?;
     let bytes = sequence_of(
         alloc,

@@ -1,9 +1,9 @@
 //! The attributes that a signature covers (RFC 5652, sections 5.3 and 11).
 ghost use Rattle.std.specs.Prelude.{◌≡◌, MatchResult};
-ghost use Rattle.asn1_der.specs.Octets.{sequence_octet};
+ghost use Rattle.asn1_der.specs.Octets.{context_0_octet, sequence_octet};
 
 use crate::set_of_one::SetOfOne;
-use asn1_der::octets::SEQUENCE;
+use asn1_der::octets::{CONTEXT_0, SEQUENCE};
 use byte_streams::{Sink, Source};
 use picky_asn1::wrapper::{ObjectIdentifierAsn1, OctetStringAsn1};
 use picky_asn1_der::{
@@ -142,9 +142,9 @@ impl Tagged for SignedAttributes {
 
     type Row = SignedAttributesRow;
 
-    const FIRST: u8 = 160;
+    const FIRST: u8 = CONTEXT_0;
 
-    ghost FIRST = { 160 };
+    ghost FIRST = { context_0_octet };
 
     ghost row_tree = { sequence ⟦<SignedAttributesRow as Fields>⟧.trees };
 

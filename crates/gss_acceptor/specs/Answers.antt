@@ -8,7 +8,7 @@ use Rattle.gss_acceptor.specs.Tokens.{ap_rep_token}
 use Rattle.gss_acceptor.specs.declared.answer.NegState.{NegState}
 use Rattle.gss_acceptor.specs.declared.answer.NegState.TheVariants.{AcceptCompleted, AcceptIncomplete, RequestMic}
 use Rattle.gss_acceptor.specs.declared.mechanism.Mechanism.{Mechanism}
-use Rattle.asn1_der.specs.Octets.{object_identifier_octet, octet_string_octet, sequence_octet}
+use Rattle.asn1_der.specs.Octets.{context_0_octet, context_1_octet, context_2_octet, context_3_octet, object_identifier_octet, octet_string_octet, sequence_octet}
 
 abbrev pub ap_rep_in : Option Bytes → Option Bytes
 ap_rep_in reply = option_map ap_rep_token reply
@@ -20,12 +20,12 @@ state_number AcceptIncomplete = 1
 state_number RequestMic = 3
 
 abbrev pub state_field : NegState → Bytes
-state_field state = 160 ∷ 3 ∷ 10 ∷ 1 ∷ state_number state ∷ []
+state_field state = context_0_octet ∷ 3 ∷ 10 ∷ 1 ∷ state_number state ∷ []
 
 -- [1] supportedMech, if it is named
 abbrev pub supported_field : Option Mechanism → Bytes
 supported_field None = []
-supported_field (Some mechanism) = element 161 (element object_identifier_octet (mechanism_octets mechanism))
+supported_field (Some mechanism) = element context_1_octet (element object_identifier_octet (mechanism_octets mechanism))
 
 -- [2] responseToken or [3] mechListMIC, if there is one
 abbrev pub octets_field : ℕ → Option Bytes → Bytes
@@ -37,4 +37,4 @@ octets_field tag (Some octets) = element tag (element octet_string_octet octets)
 -- token`.
 abbrev pub neg_token_resp : NegState → Option Mechanism → Option Bytes → Option Bytes → Bytes
 neg_token_resp state supported token mic =
-    element 161 (element sequence_octet (state_field state ++ (supported_field supported ++ (octets_field 162 token ++ octets_field 163 mic))))
+    element context_1_octet (element sequence_octet (state_field state ++ (supported_field supported ++ (octets_field context_2_octet token ++ octets_field context_3_octet mic))))

@@ -22,10 +22,11 @@ use Rattle.gss_acceptor.specs.declared.negotiation.Offer.{Offer}
 use Rattle.gss_acceptor.specs.declared.refusal.AcceptRefusal.{AcceptRefusal}
 use Rattle.gss_acceptor.specs.declared.refusal.AcceptRefusal.TheVariants.{NoKerberos, NotAToken, Memory}
 use Rattle.asn1_der.specs.Octets.{sequence_octet}
+use Rattle.krb_constants.specs.declared.gss_api.TheConstants.{INITIAL_TOKEN}
 
 -- under [APPLICATION 0] (RFC 2743, section 3.1)
 abbrev pub neg_init_tree : GssApiNegInit → Tree
-neg_init_tree = tagged_tree 96 neg_init_impl.ghosts.row_tree neg_init_impl.ghosts.row_of
+neg_init_tree = tagged_tree INITIAL_TOKEN neg_init_impl.ghosts.row_tree neg_init_impl.ghosts.row_of
 
 -- the token is the one encoding of the message
 abbrev pub IsNegInit : Bytes → GssApiNegInit → Type 0
@@ -33,7 +34,7 @@ IsNegInit token message = Writes neg_init_tree message token
 
 pub sole_neg_init : (token : Bytes) → IsSole (IsNegInit token)
 sole_neg_init token v w p q =
-    tagged-injective 96 neg_init_impl.ghosts.row_tree neg_init_impl.ghosts.row_laws neg_init_impl.ghosts.row_of neg_init_impl.ghosts.one_row v w p.0 q.0 (sym p.1 ∙ q.1)
+    tagged-injective INITIAL_TOKEN neg_init_impl.ghosts.row_tree neg_init_impl.ghosts.row_laws neg_init_impl.ghosts.row_of neg_init_impl.ghosts.one_row v w p.0 q.0 (sym p.1 ∙ q.1)
 
 abbrev pub is_spnego : ObjectIdentifierAsn1 → Bool
 is_spnego identifier = pointwise nat_eq (oid_content identifier.0) spnego_octets

@@ -14,7 +14,7 @@ use Rattle.gss_context_tokens.specs.contracts.neg_token_targ.NegTokenTargTagged.
 use Rattle.gss_acceptor.specs.declared.exchange.Tokens.{Tokens}
 use Rattle.gss_acceptor.specs.declared.refusal.AcceptRefusal.{AcceptRefusal}
 use Rattle.gss_acceptor.specs.declared.refusal.AcceptRefusal.TheVariants.{NoMic, NotAToken}
-use Rattle.asn1_der.specs.Octets.{sequence_octet}
+use Rattle.asn1_der.specs.Octets.{context_1_octet, sequence_octet}
 
 abbrev pub neg_resp_tree : NegTokenTarg → Tree
 neg_resp_tree = tagged_tree sequence_octet targ_impl.ghosts.row_tree targ_impl.ghosts.row_of
@@ -24,10 +24,10 @@ neg_resp-injective = tagged-injective 48 targ_impl.ghosts.row_tree targ_impl.gho
 
 -- the token is the one encoding of the message: negTokenResp [1]
 abbrev pub IsNegResp : Bytes → NegTokenTarg → Type 0
-IsNegResp token message = Writes (λ (m : NegTokenTarg). wrapped 161 (neg_resp_tree m)) message token
+IsNegResp token message = Writes (λ (m : NegTokenTarg). wrapped context_1_octet (neg_resp_tree m)) message token
 
 pub sole_neg_resp : (token : Bytes) → IsSole (IsNegResp token)
-sole_neg_resp token v w p q = wrapped-injective 161 neg_resp_tree neg_resp-injective v w p.0 q.0 (sym p.1 ∙ q.1)
+sole_neg_resp token v w p q = wrapped-injective context_1_octet neg_resp_tree neg_resp-injective v w p.0 q.0 (sym p.1 ∙ q.1)
 
 -- the message's tokens
 -- Not judged: the state that the initiator's message names. Test: `The state that the initiator tells isn't judged.`.

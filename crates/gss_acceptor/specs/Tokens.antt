@@ -7,6 +7,7 @@ use Rattle.asn1_der.proofs.Elements.{element-one}
 use Rattle.decision_tables.specs.One.{IsSole}
 use Rattle.gss_acceptor.specs.Mechanisms.{mechanism_octets}
 use Rattle.gss_acceptor.specs.declared.mechanism.Mechanism.TheVariants.{Standard}
+use Rattle.krb_constants.specs.declared.gss_api.TheConstants.{INITIAL_TOKEN}
 
 -- the mechanism's identifier (`06 09 ..`), and the token ids of an AP-REQ and of an AP-REP
 abbrev pub ap_req_front : Bytes
@@ -24,15 +25,15 @@ ap_rep_mechanism = refl
 
 -- the token holds this AP-REQ, and nothing follows it
 abbrev pub IsApReqToken : Bytes → Bytes → Type 0
-IsApReqToken token request = token ≡ element 96 (ap_req_front ++ request)
+IsApReqToken token request = token ≡ element INITIAL_TOKEN (ap_req_front ++ request)
 
 -- a token holds one at most
 pub sole_ap_req : (token : Bytes) → IsSole (IsApReqToken token)
 sole_ap_req token a b x y =
-    let tokens : element 96 (ap_req_front ++ a) ++ [] ≡ element 96 (ap_req_front ++ b) ++ [] = ap (λ (t : Bytes). t ++ []) (sym x ∙ y) in
-    let contents : ap_req_front ++ a ≡ ap_req_front ++ b = (element-one 96 96 (ap_req_front ++ a) (ap_req_front ++ b) [] [] tokens).1 in
+    let tokens : element INITIAL_TOKEN (ap_req_front ++ a) ++ [] ≡ element INITIAL_TOKEN (ap_req_front ++ b) ++ [] = ap (λ (t : Bytes). t ++ []) (sym x ∙ y) in
+    let contents : ap_req_front ++ a ≡ ap_req_front ++ b = (element-one INITIAL_TOKEN INITIAL_TOKEN (ap_req_front ++ a) (ap_req_front ++ b) [] [] tokens).1 in
     ap (drop 13) contents
 
 -- An AP-REP is sent in a token with the id 02 00 (RFC 4121, section 4.1). Test: `Etype 17.`, `Etype 18.`, `Etype 19.`, `Etype 20.`.
 abbrev pub ap_rep_token : Bytes → Bytes
-ap_rep_token reply = element 96 (ap_rep_front ++ reply)
+ap_rep_token reply = element INITIAL_TOKEN (ap_rep_front ++ reply)

@@ -6,6 +6,7 @@ ghost use Rattle.gss_acceptor.specs.Answers.{ap_rep_in, neg_token_resp, octets_f
 use crate::elements::{element_of, joined};
 use crate::mechanism::Mechanism;
 use crate::token::ap_rep_token;
+use asn1_der::octets::{CONTEXT_0, CONTEXT_2, CONTEXT_3};
 use std::alloc::{AllocError, Global};
 
 /// Where a negotiation stands (RFC 4178, section 4.2.2).
@@ -25,9 +26,9 @@ impl NegState {
         ensures { result ≡ state_field self }
     {
         match self {
-            NegState::AcceptCompleted => [0xa0, 0x03, 0x0a, 0x01, 0x00],
-            NegState::AcceptIncomplete => [0xa0, 0x03, 0x0a, 0x01, 0x01],
-            NegState::RequestMic => [0xa0, 0x03, 0x0a, 0x01, 0x03],
+            NegState::AcceptCompleted => [CONTEXT_0, 0x03, 0x0a, 0x01, 0x00],
+            NegState::AcceptIncomplete => [CONTEXT_0, 0x03, 0x0a, 0x01, 0x01],
+            NegState::RequestMic => [CONTEXT_0, 0x03, 0x0a, 0x01, 0x03],
         }
     }
 }
@@ -56,8 +57,8 @@ pub fn neg_token_resp(
 ) -> Result<Vec<u8>, AllocError>
     ensures { IfOk result (λ answer. answer.items ≡ neg_token_resp state supported (option_map (λ v. v.items) token) (option_map (λ v. v.items) mic)) }
 {
-    let token = octets_field::<0xa2>(alloc, token)?;
-    let mic = octets_field::<0xa3>(alloc, mic)?;
+    let token = octets_field::<CONTEXT_2>(alloc, token)?;
+    let mic = octets_field::<CONTEXT_3>(alloc, mic)?;
     let tokens = joined(alloc, &token, &mic)?;
     let supported = supported_field(alloc, supported)?;
     let behind = joined(alloc, &supported, &tokens)?;

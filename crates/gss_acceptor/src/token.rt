@@ -1,6 +1,7 @@
 //! Tokens of the Kerberos mechanism that establish a context (RFC 4121, section 4.1).
 ghost use Rattle.std.specs.Prelude.{◌≡◌, ◌++◌, ℕ, List, IfOk, MatchOption};
 ghost use Rattle.asn1_der.specs.Length.{element};
+ghost use Rattle.krb_constants.specs.declared.gss_api.TheConstants.{INITIAL_TOKEN};
 ghost use Rattle.gss_acceptor.specs.Tokens.{IsApReqToken, ap_rep_token, ap_req_front};
 
 use crate::elements::{element_of, joined};
@@ -28,7 +29,7 @@ pub(crate) fn ap_req_in(token: &[u8]) -> Option<&[u8]>
 
 /// Returns the content of a token that establishes a context, if the octets are one (RFC 2743, section 3.1).
 pub fn content_of(token: &[u8]) -> Option<&[u8]>
-    ensures { MatchOption result ((content : List ℕ) → token.now ≡ element 96 content → ⊥) (λ content. token.now ≡ element 96 content.now) }
+    ensures { MatchOption result ((content : List ℕ) → token.now ≡ element INITIAL_TOKEN content → ⊥) (λ content. token.now ≡ element INITIAL_TOKEN content.now) }
 {
     let (element, rest) = match split_element(token) {
         Ok(split) => split,

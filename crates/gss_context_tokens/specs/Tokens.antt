@@ -10,6 +10,7 @@ use Rattle.picky_asn1.specs.declared.wrapper.ObjectIdentifierAsn1.{ObjectIdentif
 use Rattle.x509_oids.specs.Identifiers.{iakerb5}
 use Rattle.gss_context_tokens.specs.Fronts.{Leads}
 use Rattle.asn1_der.specs.Octets.{object_identifier_octet}
+use Rattle.krb_constants.specs.declared.gss_api.TheConstants.{INITIAL_TOKEN}
 
 -- an OBJECT IDENTIFIER (X.690, section 8.19)
 abbrev pub mechanism_tree : ObjectIdentifierAsn1 → Tree
@@ -17,7 +18,7 @@ mechanism_tree = tagged_tree object_identifier_octet (leaf_as (λ oid. is_object
 
 -- the bytes begin with a token that has this content
 abbrev pub BeginsToken : List ℕ → List ℕ → Type 0
-BeginsToken content bytes = (rest : List ℕ) × (bytes ≡ element 96 content ++ rest)
+BeginsToken content bytes = (rest : List ℕ) × (bytes ≡ element INITIAL_TOKEN content ++ rest)
 
 -- the bytes begin with a token of this mechanism, and this is in it behind the mechanism
 abbrev pub IsOfMechanism : List ℕ → ObjectIdentifierAsn1 → List ℕ → Type 0
@@ -44,4 +45,4 @@ told_content mechanism id message = der (mechanism_tree mechanism) ++ (id ++ mes
 
 -- An initial context token with this content: the content under the tag 0x60 (RFC 2743, section 3.1).
 abbrev pub token_bytes : List ℕ → List ℕ
-token_bytes content = element 96 content
+token_bytes content = element INITIAL_TOKEN content

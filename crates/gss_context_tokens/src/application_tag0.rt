@@ -1,7 +1,9 @@
 //! The application tag of a first token of the GSS-API.
 ghost use Rattle.std.specs.Prelude.{◌≡◌};
+ghost use Rattle.krb_constants.specs.declared.gss_api.TheConstants.{INITIAL_TOKEN};
 
 use byte_streams::{Sink, Source};
+use krb_constants::gss_api::INITIAL_TOKEN;
 use picky_asn1_der::{Asn1DerError, Deserializer, Serializer, Tagged};
 
 /// A value under the constructed application tag 0 in place of its own (RFC 2743, section 3.1): the value's content
@@ -16,9 +18,9 @@ impl<T: Tagged> Tagged for ApplicationTag0<T> {
 
     type Row = T::Row;
 
-    const FIRST: u8 = 0x60;
+    const FIRST: u8 = INITIAL_TOKEN;
 
-    ghost FIRST = { 96 };
+    ghost FIRST = { INITIAL_TOKEN };
 
     ghost row_tree = { T.row_tree };
 

@@ -11,10 +11,11 @@ use Rattle.gss_acceptor.specs.Negotiation.{mech_types_octets, neg_init_tree}
 use Rattle.gss_acceptor.specs.Tokens.{ap_req_front}
 use Rattle.gss_initiator.specs.declared.initiated.TokenForm.{TokenForm}
 use Rattle.gss_initiator.specs.declared.initiated.TokenForm.TheVariants.{Bare, Negotiated}
+use Rattle.krb_constants.specs.declared.gss_api.TheConstants.{INITIAL_TOKEN}
 
 -- the token of an AP-REQ (RFC 4121, section 4.1)
 abbrev pub ap_req_token : Bytes → Bytes
-ap_req_token request = element 96 (ap_req_front ++ request)
+ap_req_token request = element INITIAL_TOKEN (ap_req_front ++ request)
 
 -- The list of mechanisms has Kerberos alone, by 1.2.840.113554.1.2.2. So Kerberos is the first, and its token comes with the list (RFC
 -- 4178, section 4.2.1). Test: `In SPNEGO, by either identifier or none`.

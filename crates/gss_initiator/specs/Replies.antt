@@ -21,10 +21,11 @@ use Rattle.gss_initiator.specs.Contexts.{context_by}
 use Rattle.gss_initiator.specs.declared.initiated.Pending.{Pending}
 use Rattle.gss_initiator.specs.declared.refusal.InitiateRefusal.{InitiateRefusal}
 use Rattle.gss_initiator.specs.declared.refusal.InitiateRefusal.TheVariants.{Memory, NotAToken, NotAsked, NotSealed, Refused}
+use Rattle.krb_constants.specs.declared.gss_api.TheConstants.{INITIAL_TOKEN}
 
 -- the token of a message: an element 60 with the mechanism's identifier and the token id in front of the message, and nothing follows it
 abbrev pub IsTokenOf : Bytes → Bytes → Bytes → Type 0
-IsTokenOf front token message = token ≡ element 96 (front ++ message)
+IsTokenOf front token message = token ≡ element INITIAL_TOKEN (front ++ message)
 
 -- the front of a KRB-ERROR's token, whose id is 03 00 (RFC 4121, section 4.1)
 abbrev pub error_front : Bytes
@@ -33,8 +34,8 @@ error_front = 6 ∷ 9 ∷ 42 ∷ 134 ∷ 72 ∷ 134 ∷ 247 ∷ 18 ∷ 1 ∷ 2 �
 -- a token holds one message at most
 sole_in : (front token a b : Bytes) → IsTokenOf front token a → IsTokenOf front token b → front ++ a ≡ front ++ b
 sole_in front token a b x y =
-    let tokens : element 96 (front ++ a) ++ [] ≡ element 96 (front ++ b) ++ [] = ap (λ (t : Bytes). t ++ []) (sym x ∙ y) in
-    (element-one 96 96 (front ++ a) (front ++ b) [] [] tokens).1
+    let tokens : element INITIAL_TOKEN (front ++ a) ++ [] ≡ element INITIAL_TOKEN (front ++ b) ++ [] = ap (λ (t : Bytes). t ++ []) (sym x ∙ y) in
+    (element-one INITIAL_TOKEN INITIAL_TOKEN (front ++ a) (front ++ b) [] [] tokens).1
 
 pub sole_reply : (token : Bytes) → IsSole (IsTokenOf ap_rep_front token)
 sole_reply token a b x y = ap (drop 13) (sole_in ap_rep_front token a b x y)

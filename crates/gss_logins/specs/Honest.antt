@@ -24,9 +24,10 @@ use Rattle.gss_acceptor.specs.declared.terms.AcceptorTerms.{AcceptorTerms}
 use Rattle.gss_initiator.specs.Initiating.{refusal_of}
 use Rattle.gss_initiator.specs.Requests.{IsContextAuthenticator}
 use Rattle.gss_logins.specs.GssLogins.{GssLogin, choice_of, clock_of}
+use Rattle.asn1_der.specs.Octets.{sequence_octet}
 
 abbrev pub ticket_tree : TicketInner → Tree
-ticket_tree = tagged_tree 48 ticket_impl.ghosts.row_tree ticket_impl.ghosts.row_of
+ticket_tree = tagged_tree sequence_octet ticket_impl.ghosts.row_tree ticket_impl.ghosts.row_of
 
 -- what the client chooses is offered, its name can be written, and it has random bytes enough
 pub record IsAsking (login : GssLogin) : Type 0 where

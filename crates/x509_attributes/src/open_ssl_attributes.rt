@@ -1,8 +1,10 @@
 //! Attributes as a certification request has them (RFC 2986, section 4.1).
 ghost use Rattle.std.specs.Prelude.{◌≡◌, MatchResult, IsTrue, IfOk};
+ghost use Rattle.asn1_der.specs.Octets.{context_0_octet};
 
 use crate::attribute::Attribute;
 use crate::attributes::Attributes;
+use asn1_der::octets::CONTEXT_0;
 use byte_streams::Sink;
 use picky_asn1_der::{Asn1DerError, HasDefault, Serialize, Serializer};
 use std::alloc::{AllocError, Global};
@@ -46,20 +48,20 @@ impl Serialize for OpenSslAttributes {
     ghost use Rattle.asn1_der.proofs.Rows.{many-injective};
     ghost use Rattle.asn1_der.proofs.Tagged.{sequence_laws};
 
-    ghost tree = { λ v. sequence ⟦<Many<Attribute> as SpelledFields>⟧.row_trees 160 v.0 };
+    ghost tree = { λ v. sequence ⟦<Many<Attribute> as SpelledFields>⟧.row_trees context_0_octet v.0 };
 
-    ghost firsts = { only 160 };
+    ghost firsts = { only context_0_octet };
 
-    ghost begins = { λ _. may_begin-only 160 };
+    ghost begins = { λ _. may_begin-only context_0_octet };
 
     ghost injective = { λ v w whole also e.
         let laws = sequence_laws ⟦<Many<Attribute> as SpelledFields>⟧.row_trees (many-injective _ ⟦<Attribute as Serialize>⟧.tree ⟦<Attribute as Serialize>⟧.injective) in
-        let same = laws.injective 160 v.0 w.0 whole also e
+        let same = laws.injective context_0_octet v.0 w.0 whole also e
         in λ i. record { 0 = same i } };
 
     fn serialize<W: Sink>(&self, to: &mut Serializer<W>) -> Result<usize, Asn1DerError> {
         let items = self.as_slice();
-        to.list(160, &items)
+        to.list(CONTEXT_0, &items)
     }
 }
 
@@ -70,24 +72,24 @@ impl Spelled for OpenSslAttributes {
     ghost use Rattle.x509_spelling.specs.Spellings.{Holds};
     ghost use Rattle.x509_spelling.specs.RowLaws.{struct_laws};
 
-    ghost spells = { λ v. Holds 160 ⟦<Many<Attribute> as SpelledFields>⟧.spells v.0 };
+    ghost spells = { λ v. Holds context_0_octet ⟦<Many<Attribute> as SpelledFields>⟧.spells v.0 };
 
-    ghost written = { λ v. sequence ⟦<Many<Attribute> as SpelledFields>⟧.row_trees 160 v.0 };
+    ghost written = { λ v. sequence ⟦<Many<Attribute> as SpelledFields>⟧.row_trees context_0_octet v.0 };
 
-    ghost begun = { only 160 };
+    ghost begun = { only context_0_octet };
 
     ghost has_low_tags = { true };
 
-    ghost laws = { struct_laws 160 refl ⟦<Many<Attribute> as SpelledFields>⟧.row_firsts ⟦<Many<Attribute> as SpelledFields>⟧.row_trees
+    ghost laws = { struct_laws context_0_octet refl ⟦<Many<Attribute> as SpelledFields>⟧.row_firsts ⟦<Many<Attribute> as SpelledFields>⟧.row_trees
         ⟦<Many<Attribute> as SpelledFields>⟧.spells (⟦<Many<Attribute> as SpelledFields>⟧.row_laws (refl {a = true}))
         (λ v. v.0) (λ v w e. λ i. record { 0 = e i }) };
 
     fn may_begin_with(first: u8) -> bool {
-        first == 160
+        first == CONTEXT_0
     }
 
     fn read_counted(alloc: Global, bytes: &[u8]) -> Result<Counted<Self>, X509Fault> {
-        let read: Counted<Many<Attribute>> = read_fields(alloc, 160, bytes)?;
+        let read: Counted<Many<Attribute>> = read_fields(alloc, CONTEXT_0, bytes)?;
         let count = read.count;
         let attributes = Attributes::from(read.into_value().into_vec());
         let value = OpenSslAttributes(attributes);
@@ -129,5 +131,5 @@ impl Deviates for OpenSslAttributes {
 impl Implies for OpenSslAttributes {
     ghost use Rattle.x509_attributes.specs.NoAttributes.{empty_whole};
 
-    ghost default_is_whole = { λ attributes none. empty_whole ⟦<Attribute as Spelled>⟧.written 160 attributes.0 none };
+    ghost default_is_whole = { λ attributes none. empty_whole ⟦<Attribute as Spelled>⟧.written context_0_octet attributes.0 none };
 }

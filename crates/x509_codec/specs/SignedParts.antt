@@ -49,7 +49,7 @@ module _ {P A B : Type 0} (part_spells : P → List ℕ → ℕ → Type 0)
     (b_low : Bool) (b_firsts : Firsts) (b_tree : B → Tree) (b_spells : B → List ℕ → ℕ → Type 0) (b_laws : SpellingLaws b_low b_firsts b_tree b_spells) where
   -- the part in front of two further fields
   pub holds_first : (p : P) (a : A) (b : B) (bytes : List ℕ) (n : ℕ)
-      → Holds 48 (λ (f : P × (A × (B × ⊤))). Joins (Leads part_spells) (λ (g : A × (B × ⊤)). Joins (Leads a_spells) (λ (h : B × ⊤). Joins (Leads b_spells) (λ (end : ⊤) (l : List ℕ) (k : ℕ). IsEnd l k) h.0 h.1) g.0 g.1) f.0 f.1)
+      → Holds sequence_octet (λ (f : P × (A × (B × ⊤))). Joins (Leads part_spells) (λ (g : A × (B × ⊤)). Joins (Leads a_spells) (λ (h : B × ⊤). Joins (Leads b_spells) (λ (end : ⊤) (l : List ℕ) (k : ℕ). IsEnd l k) h.0 h.1) g.0 g.1) f.0 f.1)
       (p, (a, (b, tt))) bytes n
       → HoldsFirst part_spells p bytes n
   holds_first p a b bytes n s =

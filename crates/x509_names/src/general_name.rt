@@ -5,6 +5,10 @@ ghost use Rattle.x509_names.specs.GeneralNames.{general_choice};
 use crate::edi_party_name::EdiPartyName;
 use crate::name::Name;
 use crate::other_name::OtherName;
+use asn1_der::octets::{
+    CONTEXT_0, CONTEXT_4, CONTEXT_5, CONTEXT_PRIMITIVE_1, CONTEXT_PRIMITIVE_2, CONTEXT_PRIMITIVE_6,
+    CONTEXT_PRIMITIVE_7, CONTEXT_PRIMITIVE_8,
+};
 use byte_streams::{Sink, Source};
 use picky_asn1::wrapper::{
     Asn1SequenceOf, ExplicitContextTag, ExplicitContextTag4, IA5StringAsn1, ImplicitContextTag,
@@ -146,14 +150,14 @@ impl Serialize for GeneralName {
 
     fn serialize<W: Sink>(&self, to: &mut Serializer<W>) -> Result<usize, Asn1DerError> {
         match self {
-            GeneralName::OtherName(name) => name.write_row(160, to),
-            GeneralName::Rfc822Name(address) => address.write_row(129, to),
-            GeneralName::DnsName(host) => host.write_row(130, to),
-            GeneralName::DirectoryName(name) => to.wrapped(164, name),
-            GeneralName::EdiPartyName(name) => name.write_row(165, to),
-            GeneralName::Uri(uri) => uri.write_row(134, to),
-            GeneralName::IpAddress(address) => address.write_row(135, to),
-            GeneralName::RegisteredId(oid) => oid.write_row(136, to),
+            GeneralName::OtherName(name) => name.write_row(CONTEXT_0, to),
+            GeneralName::Rfc822Name(address) => address.write_row(CONTEXT_PRIMITIVE_1, to),
+            GeneralName::DnsName(host) => host.write_row(CONTEXT_PRIMITIVE_2, to),
+            GeneralName::DirectoryName(name) => to.wrapped(CONTEXT_4, name),
+            GeneralName::EdiPartyName(name) => name.write_row(CONTEXT_5, to),
+            GeneralName::Uri(uri) => uri.write_row(CONTEXT_PRIMITIVE_6, to),
+            GeneralName::IpAddress(address) => address.write_row(CONTEXT_PRIMITIVE_7, to),
+            GeneralName::RegisteredId(oid) => oid.write_row(CONTEXT_PRIMITIVE_8, to),
         }
     }
 }

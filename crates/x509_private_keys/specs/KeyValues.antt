@@ -30,9 +30,9 @@ rest_of (primitive octet content) = none
 rest_of absent = none
 
 -- keys of RSA have the version 0, and those on elliptic curves the version 1
-pub versions_apart : (a b : Trees) → der (constructed 48 (more (primitive integer_octet (0 ∷ [])) a)) ≡ der (constructed 48 (more (primitive integer_octet (1 ∷ [])) b)) → ⊥
+pub versions_apart : (a b : Trees) → der (constructed sequence_octet (more (primitive integer_octet (0 ∷ [])) a)) ≡ der (constructed sequence_octet (more (primitive integer_octet (1 ∷ [])) b)) → ⊥
 versions_apart a b e =
-    let contents = element-content 48 (element integer_octet (0 ∷ []) ++ ders a) (element integer_octet (1 ∷ []) ++ ders b) e in
+    let contents = element-content sequence_octet (element integer_octet (0 ∷ []) ++ ders a) (element integer_octet (1 ∷ []) ++ ders b) e in
     let versions : 0 ≡ 1 = heads 0 1 [] [] (element-one 2 2 (0 ∷ []) (1 ∷ []) (ders a) (ders b) contents).1 in
     omega (arith, versions)
 

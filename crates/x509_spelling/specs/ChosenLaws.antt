@@ -9,6 +9,7 @@ use Rattle.x509_spelling.specs.Spellings.{Joins, Holds}
 use Rattle.x509_spelling.specs.Laws.{RowLaws, FieldLaws, SpellingLaws}
 use Rattle.x509_spelling.specs.RowLaws.{sequence_laws}
 use Rattle.x509_spelling.specs.KindLaws.{KindLaws, joined_laws}
+use Rattle.asn1_der.specs.Octets.{sequence_octet}
 
 -- a truth has one proof
 pub one_truth : (b : Bool) (p q : IsTrue b) → p ≡ q
@@ -38,7 +39,7 @@ module _ {A K : Type 0} (before : Firsts → Firsts) (is_told : Firsts → Bool)
   -- a SEQUENCE of both
   pub chosen_info_laws : {T : Type 0} → IsTrue (is_told others) → (arcs_of : A → List ℕ) (row_of : T → A × K) → ((v w : T) → row_of v ≡ row_of w → v ≡ w)
       → ((v : T) → IsTrue (belongs (arcs_of (row_of v).0) (row_of v).1))
-      → SpellingLaws true (only 48) (λ v. sequence (λ (f : A × K). place f.0 (trees f.1)) 48 (row_of v)) (λ v. Holds 48 (λ (f : A × K). Joins leads spells f.0 f.1) (row_of v))
+      → SpellingLaws true (only sequence_octet) (λ v. sequence (λ (f : A × K). place f.0 (trees f.1)) sequence_octet (row_of v)) (λ v. Holds sequence_octet (λ (f : A × K). Joins leads spells f.0 f.1) (row_of v))
   chosen_info_laws {T} told arcs_of row_of same holds =
-      sequence_laws 48 refl (before others) (λ (v : T). place (row_of v).0 (trees (row_of v).1)) (λ v. Joins leads spells (row_of v).0 (row_of v).1)
+      sequence_laws sequence_octet refl (before others) (λ (v : T). place (row_of v).0 (trees (row_of v).1)) (λ v. Joins leads spells (row_of v).0 (row_of v).1)
       (chosen_laws told arcs_of (λ v. (row_of v).0) (λ v. (row_of v).1) (λ v w choosers fields. same v w (λ i. (choosers i, fields i))) holds)

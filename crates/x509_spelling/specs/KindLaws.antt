@@ -14,6 +14,7 @@ use Rattle.x509_spelling.specs.declared.kinds.KindOf.{KindOf}
 use Rattle.x509_spelling.specs.declared.kinds.LastKind.{LastKind}
 use Rattle.x509_spelling.specs.declared.kinds.KindOf.TheVariants.{This, Other}
 use Rattle.x509_spelling.specs.Kinds.{case_belongs, case_trees, CaseSpells}
+use Rattle.asn1_der.specs.Octets.{sequence_octet}
 
 -- as `RowLaws`, but that bytes have one value among those that belong to one identifier
 pub record KindLaws {K : Type 0} (belongs : List ℕ → K → Bool) (firsts : Firsts) (trees : K → Trees) (spells : K → List ℕ → ℕ → Type 0) : Type 0 where
@@ -112,9 +113,9 @@ module _ {K : Type 0} (before : Firsts → Firsts) (is_told : Firsts → Bool) (
     (belongs : List ℕ → K → Bool) (others : Firsts) (trees : K → Trees) (spells : K → List ℕ → ℕ → Type 0) (laws : KindLaws belongs others trees spells) where
   pub identified_laws : {T : Type 0} → IsTrue (is_told others) → (row_of : T → ObjectIdentifierAsn1 × K) → ((v w : T) → row_of v ≡ row_of w → v ≡ w)
       → ((v : T) → IsTrue (belongs (row_of v).0.0 (row_of v).1))
-      → SpellingLaws true (only 48) (λ v. sequence (λ (f : ObjectIdentifierAsn1 × K). place f.0 (trees f.1)) 48 (row_of v)) (λ v. Holds 48 (λ (f : ObjectIdentifierAsn1 × K). Joins leads spells f.0 f.1) (row_of v))
+      → SpellingLaws true (only sequence_octet) (λ v. sequence (λ (f : ObjectIdentifierAsn1 × K). place f.0 (trees f.1)) sequence_octet (row_of v)) (λ v. Holds sequence_octet (λ (f : ObjectIdentifierAsn1 × K). Joins leads spells f.0 f.1) (row_of v))
   identified_laws {T} told row_of same holds =
-      sequence_laws 48 refl (before others) (λ (v : T). place (row_of v).0 (trees (row_of v).1)) (λ v. Joins leads spells (row_of v).0 (row_of v).1) (record {
+      sequence_laws sequence_octet refl (before others) (λ (v : T). place (row_of v).0 (trees (row_of v).1)) (λ v. Joins leads spells (row_of v).0 (row_of v).1) (record {
         strict = λ v. joined-strict before is_told place leads field belongs others trees spells laws told (row_of v).0 (row_of v).1;
         only = λ v. joined-only before is_told place leads field belongs others trees spells laws (row_of v).0 (row_of v).1;
         whole = λ v. joined-whole before is_told place leads field belongs others trees spells laws (row_of v).0 (row_of v).1;

@@ -36,10 +36,10 @@ impl<T: Serialize> Serialize for Enclosed<T> {
 
     ghost firsts = { only octet_string_octet };
 
-    ghost begins = { λ value. wrapped-begins 4 (T.tree value.0) };
+    ghost begins = { λ value. wrapped-begins octet_string_octet (T.tree value.0) };
 
     ghost injective = { λ v w whole also e.
-        let same = wrapped-injective_as (Alike T.seen) 4 T.tree T.injective v.0 w.0 whole also e
+        let same = wrapped-injective_as (Alike T.seen) octet_string_octet T.tree T.injective v.0 w.0 whole also e
         in alike-part T.seen v w (λ value. value.0) (λ held. record { 0 = held }) (λ value. refl) same };
 
     fn serialize<W: Sink>(&self, to: &mut Serializer<W>) -> Result<usize, Asn1DerError> {
@@ -52,7 +52,7 @@ impl<T: Spelled> Spelled for Enclosed<T> {
     ghost use Rattle.x509_spelling.specs.Laws.{held_laws};
     ghost use Rattle.x509_spelling.specs.HeldLaws.{holding_laws};
 
-    ghost spells = { λ value. Holds 4 T.spells value.0 };
+    ghost spells = { λ value. Holds octet_string_octet T.spells value.0 };
 
     ghost written = { λ value. wrapped octet_string_octet (T.written value.0) };
 
@@ -60,8 +60,8 @@ impl<T: Spelled> Spelled for Enclosed<T> {
 
     ghost has_low_tags = { true };
 
-    ghost laws = { held_laws true (only octet_string_octet) (λ v. wrapped octet_string_octet (T.written v)) (Holds 4 T.spells)
-        (holding_laws 4 refl T.has_low_tags T.begun T.written T.spells T.laws) (λ value. value.0) (λ v w e. λ i. record { 0 = e i }) };
+    ghost laws = { held_laws true (only octet_string_octet) (λ v. wrapped octet_string_octet (T.written v)) (Holds octet_string_octet T.spells)
+        (holding_laws octet_string_octet refl T.has_low_tags T.begun T.written T.spells T.laws) (λ value. value.0) (λ v w e. λ i. record { 0 = e i }) };
 
     fn may_begin_with(first: u8) -> bool {
         first == OCTET_STRING
