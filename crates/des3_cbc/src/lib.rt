@@ -19,7 +19,7 @@ mod seed;
 use aes_cts::{KerberosCryptoError, KerberosCryptoResult};
 pub use decrypt::decrypt_des;
 pub use encrypt::encrypt_des;
-pub use seed::random_to_key;
+pub use seed::{is_weak, random_to_key};
 
 /// The bytes of a block (RFC 3961, section 6.3).
 pub const DES3_BLOCK_SIZE: usize = 8;

@@ -85,15 +85,16 @@ fn mended(key: [u8; 8]) -> [u8; 8]
     ensures { result ≡ mended key }
 {
     let mut key = key;
-    if is_weak(&key) {
+    if is_weak(&key[..]) {
         key[7] ^= 0xf0;
     }
     key
 }
 
-/// Whether a key is weak or semi-weak.
-fn is_weak(key: &[u8; 8]) -> bool
+/// Whether eight bytes are a weak or semi-weak key of DES (NIST SP 800-67). Other numbers of bytes are none.
+#[tactic(auto, unfolding(crate::specs::Seeds::is_weak, crate::specs::Seeds::weak_keys))]
+pub fn is_weak(key: &[u8]) -> bool
     ensures { result ≡ is_weak key.now }
 {
-    WEAK_KEYS.contains(key)
+    WEAK_KEYS.iter().any(|weak| &weak[..] == key)
 }
