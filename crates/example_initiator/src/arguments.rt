@@ -100,7 +100,7 @@ fn words_of<'a>(alloc: Global, words: &[&'a str]) -> Result<Words<'a>, Stop> {
 
 fn settings_of<'a>(alloc: Global, given: &Given<'a>) -> Result<Settings<'a>, Stop> {
     let first = both(cache_of(alloc, given), choice_of(alloc, given));
-    let last = both(given.value(alloc, "-r"), moment_of(alloc, given));
+    let last = both(given.value(alloc, "-r"), given.moment(alloc, "-t"));
     let ((cache, choice), (words, moment)) = both(first, last)?;
     Ok(Settings {
         cache,
@@ -163,15 +163,5 @@ fn hash_of(alloc: Global, given: &Given<'_>) -> Result<[u8; 16], Stop> {
     match bindings_of(data.as_bytes()) {
         Some(hash) => Ok(hash),
         None => Err(usage(alloc, "-b: expected fewer than 4294967296 octets")),
-    }
-}
-
-fn moment_of(alloc: Global, given: &Given<'_>) -> Result<Option<Moment>, Stop> {
-    let Some(word) = given.value(alloc, "-t")? else {
-        return Ok(None);
-    };
-    match Moment::from_text(word.as_bytes()) {
-        Some(moment) => Ok(Some(moment)),
-        None => Err(usage(alloc, "-t: expected a time (UTC), as 20261128040000Z")),
     }
 }

@@ -1,2 +1,3 @@
 mod Apart
+mod Moments
 mod Named

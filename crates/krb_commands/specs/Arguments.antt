@@ -1,8 +1,12 @@
 -- The arguments of a program: options with their values, and the words beside them.
-use Rattle.std.specs.Prelude.{◌≡◌, ℕ, ◌==◌, Bool, nat_eq, if◌then◌else◌, List, [], ◌∷◌, ◌++◌, map, filter, codes, Option, None, Some, Result, Ok, Err, slice_index}
+use Rattle.std.specs.Prelude.{◌≡◌, ◌≢◌, ◌⊎◌, ℕ, ◌==◌, Bool, nat_eq, if◌then◌else◌, List, [], ◌∷◌, ◌++◌, map, filter, codes, Option, None, Some, Result, Ok, Err, slice_index}
 use Rattle.std.specs.List.{list_any}
 use Rattle.std.specs.Borrow.{Bor}
 use Rattle.std.specs.Cmp.Lexicographic.{pointwise}
+use Rattle.asn1_leaves.specs.declared.date.GeneralizedTime.{GeneralizedTime}
+use Rattle.asn1_leaves.specs.GeneralizedTime.{time_text}
+use Rattle.krb_time.specs.Units.{Micros}
+use Rattle.krb_time.specs.Calendar.{IsMomentOfText}
 use Rattle.krb_commands.specs.declared.stop.Stop.{Stop}
 use Rattle.krb_commands.specs.declared.stop.Stop.TheVariants.{Memory}
 use Rattle.krb_commands.specs.Stops.{IsUsage}
@@ -66,3 +70,15 @@ only_value option (value ∷ other ∷ more) = Err (option ++ codes ": expected 
 abbrev pub IsStopOf : {T : Type 0} → Result T Text → Stop → Type 0
 IsStopOf (Ok made) stop = stop ≡ Memory
 IsStopOf (Err text) stop = IsUsage (Some text) stop
+
+-- The moment that an option's value names. There is none where the option isn't given.
+abbrev pub IsGivenMoment : Result (Option Text) Text → Option Micros → Type 0
+IsGivenMoment (Ok None) None = Unit {0}
+IsGivenMoment (Ok (Some text)) (Some moment) = IsMomentOfText text moment
+IsGivenMoment value moment = ⊥
+
+-- The stop of an option whose value names no moment, or that is given twice. Another one stops only if memory runs out.
+abbrev pub IsNoMoment : Text → Result (Option Text) Text → Stop → Type 0
+IsNoMoment option (Ok (Some text)) stop =
+    (stop ≡ Memory) ⊎ (IsUsage (Some (option ++ codes ": expected a time (UTC), as 20261128040000Z")) stop × ((time : GeneralizedTime) → time_text time ≢ text))
+IsNoMoment option value stop = IsStopOf value stop

@@ -3,11 +3,12 @@ ghost use Rattle.std.specs.Prelude.{◌≡◌, ◌∷◌, ◌⊎◌, List, None,
 ghost use Rattle.std.specs.Option.{option_copied};
 ghost use Rattle.std.specs.Cmp.Lexicographic.{pointwise};
 ghost use Rattle.krb_types.specs.NameReading.{octets, option_octets, principal_in};
-ghost use Rattle.krb_commands.specs.Arguments.{IsStopOf, Text, is_among, only_value, parts_after, parts_of, texts, values_of};
+ghost use Rattle.krb_commands.specs.Arguments.{IsGivenMoment, IsNoMoment, IsStopOf, Text, is_among, only_value, parts_after, parts_of, texts, values_of};
 ghost use Rattle.krb_commands.specs.Given.{parts};
 ghost use Rattle.krb_commands.specs.Stops.{IsUsage};
 
 use crate::stop::{Stop, usage};
+use krb_time::Moment;
 use krb_types::{NameTextFault, PrincipalText, principal_of_text};
 use std::alloc::{AllocError, Global};
 use std::env;
@@ -130,6 +131,23 @@ impl<'a> Given<'a> {
             [] => Ok(None),
             [value] => Ok(Some(*value)),
             _ => Err(usage(alloc, format_args!("{option}: expected it once"))),
+        }
+    }
+
+    /// The moment that an option's value names (UTC, as 20261128040000Z), if it is given. A value that names none is refused.
+    pub fn moment(&self, alloc: Global, option: &str) -> Result<Option<Moment>, Stop>
+        ensures ok { IfOk result (IsGivenMoment (only_value option.now (values_of (parts self.now).options option.now))) }
+        ensures err { IfErr result (IsNoMoment option.now (only_value option.now (values_of (parts self.now).options option.now))) }
+    {
+        let Some(value) = self.value(alloc, option)? else {
+            return Ok(None);
+        };
+        match Moment::from_text(value.as_bytes()) {
+            Some(moment) => Ok(Some(moment)),
+            None => Err(usage(
+                alloc,
+                format_args!("{option}: expected a time (UTC), as 20261128040000Z"),
+            )),
         }
     }
 

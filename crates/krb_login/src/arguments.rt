@@ -103,7 +103,7 @@ pub(crate) fn login_of<'a>(alloc: Global, arguments: &'a [String]) -> Result<Log
 
 fn settings_of<'a>(alloc: Global, given: &Given<'a>) -> Result<Settings<'a>, Stop> {
     let files = both(cache_of(alloc, given), means_of(alloc, given));
-    let words = both(given.value(alloc, "-r"), moment_of(alloc, given));
+    let words = both(given.value(alloc, "-r"), given.moment(alloc, "-t"));
     let numbers = both(lifetime_of(alloc, given), words);
     let ((cache, means), (lifetime, (words, moment))) = both(files, numbers)?;
     Ok(Settings {
@@ -182,16 +182,6 @@ fn lifetime_of(alloc: Global, given: &Given<'_>) -> Result<u64, Stop> {
             alloc,
             "-l: expected a whole number of seconds from 1 to 31536000",
         )),
-    }
-}
-
-fn moment_of(alloc: Global, given: &Given<'_>) -> Result<Option<Moment>, Stop> {
-    let Some(word) = given.value(alloc, "-t")? else {
-        return Ok(None);
-    };
-    match Moment::from_text(word.as_bytes()) {
-        Some(moment) => Ok(Some(moment)),
-        None => Err(usage(alloc, "-t: expected a time (UTC), as 20261128040000Z")),
     }
 }
 
