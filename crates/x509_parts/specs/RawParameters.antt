@@ -16,7 +16,7 @@ use Rattle.asn1_der.specs.Octets.{null_octet}
 
 -- NULL (X.690, section 8.8)
 abbrev pub is_null : Raw → Bool
-is_null raw = (raw.first == 5) && (length raw.content == 0)
+is_null raw = (raw.first == null_octet) && (length raw.content == 0)
 
 abbrev pub null : Raw
 null = record { first = null_octet; content = [] }
@@ -30,10 +30,10 @@ empty : (content : List ℕ) → length content ≡ 0 → content ≡ []
 empty [] e = refl
 empty (octet ∷ content) e = absurd (omega arith)
 
-null_is : (raw : Raw) → IsTrue (is_null raw) → (raw.first ≡ 5) × (raw.content ≡ [])
+null_is : (raw : Raw) → IsTrue (is_null raw) → (raw.first ≡ null_octet) × (raw.content ≡ [])
 null_is raw null =
-    let parts = and_parts (raw.first == 5) (length raw.content == 0) null in
-    (eqb-true raw.first 5 parts.0, empty raw.content (eqb-true (length raw.content) 0 parts.1))
+    let parts = and_parts (raw.first == null_octet) (length raw.content == 0) null in
+    (eqb-true raw.first null_octet parts.0, empty raw.content (eqb-true (length raw.content) 0 parts.1))
 
 pub one_null : (v w : Raw) → IsTrue (is_null v) → IsTrue (is_null w) → v ≡ w
 one_null v w left right =

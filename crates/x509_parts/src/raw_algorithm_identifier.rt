@@ -121,7 +121,7 @@ impl Implies for RawParameters {
 fn null_parameters(alloc: Global) -> RawParameters
     ensures { result.0 ≡ null }
 {
-    match RawElement::new(5, Vec::new(alloc)) {
+    match RawElement::new(NULL, Vec::new(alloc)) {
         Some(raw) => RawParameters(raw),
         None => unreachable!(),
     }
