@@ -8,6 +8,7 @@ ghost use Rattle.asn1_der.specs.Octets.{integer_octet};
 use crate::misc::uint::UInt;
 use asn1_codec::{Serializer, unsigned_of, write_unsigned};
 use asn1_der::Asn1DerError;
+use asn1_der::octets::INTEGER;
 use byte_streams::Sink;
 
 /// An INTEGER (X.690, section 8.3) that isn't negative.
@@ -23,7 +24,7 @@ impl UnsignedInteger {
             (WroteValue None (element integer_octet (unsigned_content (T.number_of value))) to.old to.new)
             (NotWroteValue None (element integer_octet (unsigned_content (T.number_of value))) to.old to.new) }
     {
-        write_unsigned(2, to, value.into_u128())
+        write_unsigned(INTEGER, to, value.into_u128())
     }
 
     /// The number whose content octets these are: `TruncatedData` for no octet, `InvalidData` for a needless zero octet
