@@ -11,7 +11,7 @@ ghost use Rattle.asn1_der.specs.Octets.{ia5_string_octet, sequence_octet};
 use crate::agreed::{Agreed, read_agreed};
 use crate::attribute_parameters::AttributeTypeAndValueParameters;
 use crate::name_attr::NameAttr;
-use asn1_der::octets::{IA5_STRING, SEQUENCE};
+use asn1_der::octets::{BMP_STRING, IA5_STRING, PRINTABLE_STRING, SEQUENCE, UTF8_STRING};
 use byte_streams::{Sink, Source};
 use picky_asn1::oid::ObjectIdentifier;
 use picky_asn1::wrapper::{
@@ -400,19 +400,17 @@ fn directory_of(alloc: Global, raw: &RawElement) -> Result<Option<DirectoryStrin
         ((string : DirectoryString) → IsTrue (is_directory_text string) → directory_raw string ≡ raw.now → ⊥)
         (λ string. IsTrue (is_directory_text string) × (directory_raw string ≡ raw.now))) }
 {
-    match raw.first() {
-        19 => {
-            let string = PrintableStringAsn1::from_content(alloc, raw.content())?;
-            Ok(string.map(DirectoryString::PrintableString))
-        }
-        12 => {
-            let string = Utf8StringAsn1::from_content(alloc, raw.content())?;
-            Ok(string.map(DirectoryString::Utf8String))
-        }
-        30 => {
-            let string = BmpStringAsn1::from_content(alloc, raw.content())?;
-            Ok(string.map(DirectoryString::BmpString))
-        }
-        _ => Ok(None),
+    if raw.first() == PRINTABLE_STRING {
+        let string = PrintableStringAsn1::from_content(alloc, raw.content())?;
+        return Ok(string.map(DirectoryString::PrintableString));
     }
+    if raw.first() == UTF8_STRING {
+        let string = Utf8StringAsn1::from_content(alloc, raw.content())?;
+        return Ok(string.map(DirectoryString::Utf8String));
+    }
+    if raw.first() == BMP_STRING {
+        let string = BmpStringAsn1::from_content(alloc, raw.content())?;
+        return Ok(string.map(DirectoryString::BmpString));
+    }
+    Ok(None)
 }
