@@ -6,6 +6,7 @@ ghost use Rattle.cms_signed_data.specs.declared.content_info.ContentInfo.{Conten
 ghost use Rattle.asn1_der.specs.Octets.{octet_string_octet};
 
 use crate::content_info::ContentInfo;
+use asn1_der::octets::OCTET_STRING;
 use asn1_elements::part_at;
 use x509_spelling::{Spelled, content_of};
 
@@ -50,7 +51,7 @@ fn octets_at<'a>(bytes: &'a [u8], path: &[usize]) -> Option<&'a [u8]>
     let Some(part) = part_at(bytes, path) else {
         return None;
     };
-    match content_of(4, part) {
+    match content_of(OCTET_STRING, part) {
         Ok(octets) => Some(octets),
         Err(_) => None,
     }
