@@ -1,5 +1,5 @@
 -- The credential cache of a login (MIT's file credential cache format, version 0x0504).
-use Rattle.std.specs.Prelude.{ℕ, List, [], ◌∷◌, ◌++◌, map}
+use Rattle.std.specs.Prelude.{ℕ, ◌+◌, List, [], ◌∷◌, ◌++◌, map}
 use Rattle.asn1_der.specs.Octets.{sequence_octet}
 use Rattle.asn1_der.specs.Tagged.{tagged_tree}
 use Rattle.asn1_der.specs.Tree.{der, wrapped}
@@ -7,7 +7,7 @@ use Rattle.asn1_leaves.specs.GeneralizedTime.{seconds_of}
 use Rattle.picky_asn1.specs.BitString.{Bits}
 use Rattle.picky_asn1.specs.Bytes.{Bytes}
 use Rattle.krb_clock.specs.Epoch.{since_epoch}
-use Rattle.krb_constants.specs.declared.types.TheConstants.{NT_PRINCIPAL, NT_SRV_INST}
+use Rattle.krb_constants.specs.declared.types.TheConstants.{APPLICATION, NT_PRINCIPAL, NT_SRV_INST, TICKET_TYPE}
 use Rattle.krb_crypto.specs.Suites.{cipher_number}
 use Rattle.krb_types.specs.contracts.data_types.ticket.TicketInnerTagged.TheImpl as ticket_impl
 use Rattle.krb_types.specs.declared.data_types.ticket.TicketInner.{TicketInner}
@@ -18,7 +18,7 @@ use Rattle.krb_keytabs.specs.Numbers.{be32_at}
 
 -- the encoding of a ticket, [APPLICATION 1] (RFC 4120, section 5.3)
 unfoldable pub ticket_bytes : TicketInner → Bytes
-ticket_bytes ticket = der (wrapped 97 (tagged_tree sequence_octet ticket_impl.ghosts.row_tree ticket_impl.ghosts.row_of ticket))
+ticket_bytes ticket = der (wrapped (APPLICATION + TICKET_TYPE) (tagged_tree sequence_octet ticket_impl.ghosts.row_tree ticket_impl.ghosts.row_of ticket))
 
 -- Ticket flags are a number of 32 bits, the first flag the highest. Flags that are missing are 0 (RFC 4120, section 5.2.8).
 abbrev pub flags_number : Bits → ℕ
