@@ -11,7 +11,7 @@ use Rattle.krb_types.specs.RandomBytes.{Random, reply_confounder, ticket_confoun
 use Rattle.krb_tickets.specs.Grant.{GrantRecord}
 use Rattle.krb_tickets.specs.Parts.{kdc_reply_of, reply_part, ticket_of, ticket_part}
 use Rattle.krb_tickets.specs.Sealed.{IsSealedData, IsSealedReply, kdc_reply_bytes, reply_part_bytes, sole_sealed_data, sole_sealed_reply, ticket_part_bytes}
-pub use Rattle.krb_tickets.specs.ReplyKeys.{ReplyKeyRecord, agreed_reply_key, as_reply_key, reply_key_of, tgs_reply_key, tgs_subkey_reply_key}
+use Rattle.krb_tickets.specs.ReplyKeys.{ReplyKeyRecord}
 
 -- the bytes are the encoding of the reply in which the ticket's part is encrypted under the service's key (key usage 2; RFC 4120,
 -- section 7.5.1), and the reply's own part under the reply key

@@ -2,7 +2,8 @@
 
 ghost use Rattle.std.specs.Prelude.{◌≤◌, length, IfOk};
 ghost use Rattle.krb_tickets.specs.Grant.{grant_of};
-ghost use Rattle.krb_tickets.specs.Granted.{IsTicketReply, reply_key_of};
+ghost use Rattle.krb_tickets.specs.Granted.{IsTicketReply};
+ghost use Rattle.krb_tickets.specs.ReplyKeys.{reply_key_of};
 
 use crate::grant::{Grant, sealed_ticket};
 use crate::reply::{ReplyKey, reply_bytes, sealed_reply};
