@@ -4,11 +4,8 @@ ghost use Rattle.asn1_leaves.specs.GeneralizedTime.{seconds_of};
 ghost use Rattle.krb_time.specs.Moment.{IsMoment};
 ghost use Rattle.krb_clock.specs.Epoch.{micros_after_epoch, since_epoch};
 
-use krb_time::Moment;
+use krb_time::{EPOCH, Moment};
 use picky_asn1::date::GeneralizedTime;
-
-/// The seconds from 0000-01-01 00:00:00 UTC to 1970-01-01 00:00:00 UTC.
-const EPOCH: u64 = 62_167_219_200;
 
 /// The first second from 1970-01-01 00:00:00 UTC on that is past the year 9999.
 const SECOND_LIMIT: u64 = 253_402_300_800;

@@ -11,6 +11,9 @@ use picky_asn1::date::GeneralizedTime;
 /// How many microseconds a second has.
 pub const MICROSECONDS_IN_SECOND: u64 = 1_000_000;
 
+/// The seconds from 0000-01-01 00:00:00 UTC to 1970-01-01 00:00:00 UTC, which are 719,528 days.
+pub const EPOCH: u64 = 62_167_219_200;
+
 impl Moment {
     /// The beginning of the second that the 15 characters `YYYYMMDDHHMMSSZ` name, none where they name no
     /// time of the calendar.
