@@ -2,15 +2,16 @@
 use Rattle.std.specs.Prelude.{◌≡◌, ℕ, ◌+◌, List, [], ◌∷◌, ◌++◌, length}
 use Rattle.byte_layouts.specs.Parts.{Part, part, Stands, IsLaidOut}
 use Rattle.byte_layouts.specs.Numbers.{be16}
+use Rattle.krb_constants.specs.declared.krb_priv.TheConstants.{PROTOCOL_VERSION}
 
 -- the header has six octets, and the version 1 in octets 2 and 3
 -- Not judged: the two lengths of the header. Test: `lengths` of `priv_frames.rt`.
 abbrev pub IsHeader : List ℕ → Type 0
-IsHeader header = (length header ≡ 6) × Stands (part 2 (be16 1)) header
+IsHeader header = (length header ≡ 6) × Stands (part 2 (be16 PROTOCOL_VERSION)) header
 
 -- octets 2 and 3 the version, from 6 on the AP message, followed by the KRB-PRIV
 abbrev pub frame_parts : List ℕ → List ℕ → List Part
-frame_parts ap private = part 2 (be16 1) ∷ part 6 ap ∷ part (6 + length ap) private ∷ []
+frame_parts ap private = part 2 (be16 PROTOCOL_VERSION) ∷ part 6 ap ∷ part (6 + length ap) private ∷ []
 
 -- the parts are laid out in the bytes, and nothing follows them
 pub record IsFramed (ap private whole : List ℕ) : Type 0 where
@@ -29,7 +30,7 @@ pub record IsFrame (ap private whole : List ℕ) : Type 0 where
 
 -- a header with these lengths, and the parts
 abbrev pub framed : ℕ → ℕ → List ℕ → List ℕ → List ℕ
-framed count size ap private = be16 count ++ (be16 1 ++ (be16 size ++ (ap ++ private)))
+framed count size ap private = be16 count ++ (be16 PROTOCOL_VERSION ++ (be16 size ++ (ap ++ private)))
 
 -- The octets of a frame with its true lengths (RFC 3244, section 2).
 abbrev pub frame_bytes : List ℕ → List ℕ → List ℕ

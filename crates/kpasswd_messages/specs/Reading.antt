@@ -9,12 +9,13 @@ use Rattle.asn1_der.specs.declared.error.Asn1DerError.TheVariants as der
 use Rattle.asn1_der.specs.Seen.{Seen, seen_pair, seen_part}
 use Rattle.byte_layouts.specs.Stops.{FailedAtMostOnce, IsReadStop}
 use Rattle.byte_layouts.specs.Numbers.{be16_at}
+use Rattle.krb_constants.specs.declared.krb_priv.TheConstants.{PROTOCOL_VERSION}
 use Rattle.kpasswd_messages.specs.Frames.{IsFramed}
 use Rattle.kpasswd_messages.specs.declared.frame.KrbPrivFrame.{KrbPrivFrame}
 
 -- a version is there, and it isn't 1
 abbrev pub HasOtherVersion : List ℕ → Type 0
-HasOtherVersion bytes = (4 ≤ length bytes) × (be16_at 2 bytes ≡ 1 → ⊥)
+HasOtherVersion bytes = (4 ≤ length bytes) × (be16_at 2 bytes ≡ PROTOCOL_VERSION → ⊥)
 
 -- what is wrong with bytes as the front of a frame: another version, or else their end before the sixth
 abbrev pub IsHeaderFault : List ℕ → ErrorKind → Type 0
@@ -70,7 +71,7 @@ IsUnframed {A} {P} reads_ap reads_private bytes = (a : A) (p : P) → BeginsFram
 -- a header is in front, and behind it no two parts
 pub record HasNoParts {A P : Type 0} (reads_ap : A → List ℕ → Type 0) (reads_private : P → List ℕ → Type 0) (bytes : List ℕ) : Type 0 where
   pub long : 6 ≤ length bytes
-  pub version : be16_at 2 bytes ≡ 1
+  pub version : be16_at 2 bytes ≡ PROTOCOL_VERSION
   pub none : IsUnframed reads_ap reads_private bytes
 
 -- why no frame was read: memory ran out, a device failed, or the header or the parts are wrong

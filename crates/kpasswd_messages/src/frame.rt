@@ -10,11 +10,12 @@ ghost use Rattle.kpasswd_messages.specs.Writing.{IsTooLong, IsUnframable};
 ghost use Rattle.asn1_der.specs.Refusals.{refusal_of};
 
 use crate::error::KrbPrivFrameError;
-use crate::header::{HEADER_LEN, VERSION, read_header};
+use crate::header::{HEADER_LEN, read_header};
 use crate::part::{part_bytes, read_part};
 use asn1_codec::{Deserialize, FromDer, Serialize};
 use byte_layouts::{u16_be_bytes, write_bytes};
 use byte_streams::{Sink, Source};
+use krb_constants::krb_priv::PROTOCOL_VERSION;
 use std::alloc::{AllocError, Global};
 use std::io::ErrorKind;
 
@@ -72,7 +73,7 @@ fn put_frame(
     ensures { IfOk result (λ _. to.new.items ≡ to.old.items ++ framed count size ap_message.now krb_priv.now) }
 {
     to.extend_from_slice(&u16_be_bytes(count))?;
-    to.extend_from_slice(&u16_be_bytes(VERSION))?;
+    to.extend_from_slice(&u16_be_bytes(PROTOCOL_VERSION))?;
     to.extend_from_slice(&u16_be_bytes(size))?;
     to.extend_from_slice(ap_message)?;
     to.extend_from_slice(krb_priv)?;

@@ -4,26 +4,26 @@ ghost use Rattle.std.specs.Io.KnownBytes.{Consumes};
 ghost use Rattle.std.specs.declared.io.ErrorKind.{ErrorKind};
 ghost use Rattle.byte_layouts.specs.Parts.{part, Stands};
 ghost use Rattle.byte_layouts.specs.Numbers.{be16};
+ghost use Rattle.krb_constants.specs.declared.krb_priv.TheConstants.{PROTOCOL_VERSION};
 ghost use Rattle.kpasswd_messages.specs.Frames.{IsHeader};
 ghost use Rattle.kpasswd_messages.specs.Reading.{HasOtherVersion, IsHeaderRefusal, TellsRead};
 
 use byte_layouts::{read_front, u16_be};
 use byte_streams::Source;
+use krb_constants::krb_priv::PROTOCOL_VERSION;
 use std::io::ErrorKind;
 
 pub(crate) const HEADER_LEN: usize = 6;
 
-pub(crate) const VERSION: u16 = 1;
-
 // Judges that a header begins with these bytes; where they end inside it, `short` says why. The lengths aren't judged.
 fn judge_header(bytes: &[u8], short: ErrorKind) -> Result<(), ErrorKind>
-    ensures fine { IfOk result (λ _. Stands (part 2 (be16 1)) bytes.now × (6 ≤ length bytes.now)) }
+    ensures fine { IfOk result (λ _. Stands (part 2 (be16 PROTOCOL_VERSION)) bytes.now × (6 ≤ length bytes.now)) }
     ensures wrong { IfErr result (λ e. ((e ≡ ErrorKind.InvalidData) × HasOtherVersion bytes.now) ⊎ ((e ≡ short) × (length bytes.now < 6) × (HasOtherVersion bytes.now → ⊥))) }
 {
     if bytes.len() < 4 {
         return Err(short);
     }
-    if u16_be(bytes, 2) != VERSION {
+    if u16_be(bytes, 2) != PROTOCOL_VERSION {
         return Err(ErrorKind::InvalidData);
     }
     if bytes.len() < HEADER_LEN {
