@@ -2,7 +2,7 @@
 ghost use Rattle.std.specs.Prelude.{◌≡◌, ◌⊎◌, ◌≤◌, ℕ, List, Some, IfErr, IfOk, length};
 ghost use Rattle.krb_accounts.specs.Accounts.{Look};
 ghost use Rattle.krb_lookups.specs.Answers.{IsAnswerBy, MayRefuse};
-ghost use Rattle.krb_lookups.specs.Begins.{BeginsRequest};
+ghost use Rattle.krb_kdc_requests.specs.Begins.{BeginsRequest};
 ghost use Rattle.krb_lookups.specs.Calls.{call_with};
 ghost use Rattle.krb_account_files.specs.Files.{Holds, IsFallible};
 ghost use Rattle.krb_file_realms.specs.Faults.{lookup_fault_of};

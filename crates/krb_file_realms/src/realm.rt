@@ -23,7 +23,7 @@ pub struct FileRealm<'a, O: Opens, T: Tells> {
 
 impl<'a, O: Opens, T: Tells> Responder for FileRealm<'a, O, T> {
     ghost use Rattle.krb_file_realms.specs.Replies.{MayLack, RepliesFrom};
-    ghost use Rattle.krb_lookups.specs.Begins.{BeginsRequest};
+    ghost use Rattle.krb_kdc_requests.specs.Begins.{BeginsRequest};
 
     ghost replies = { λ own. RepliesFrom (O.opens own.accounts.now) O.File.content };
 

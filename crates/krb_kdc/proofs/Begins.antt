@@ -6,10 +6,10 @@ use Rattle.std.specs.Prelude.{Bool, slice_get}
 use Rattle.asn1_der.specs.Length.{element}
 use Rattle.krb_messages.specs.declared.messages.kdc_req.KdcReq.{KdcReq}
 use Rattle.krb_messages.specs.Messages.{IsAsReq, IsTgsReq}
+use Rattle.krb_kdc_requests.specs.Begins.{is_request_octet}
 use Rattle.krb_kdc_requests.specs.Call.{CallRecord}
 use Rattle.pkinit_interface.specs.Rows.{PkinitRows}
 use Rattle.krb_replies.specs.Replies.{Replies}
-use Rattle.krb_kdc.specs.Answers.{is_request_octet}
 
 -- whether they begin with the identifier octet of one
 abbrev begins : List ℕ → Bool

@@ -1,6 +1,5 @@
 //! Realms.
-ghost use Rattle.std.specs.Prelude.{◌≡◌, ◌≤◌, ◌<◌, ◌^◌, true, false, ℕ, List, Ok, Err, Some, None, OnOk, OnErr, IfOk, IfErr, MatchResult, length, slice_get, ◌⊎◌};
-ghost use Rattle.std.specs.Option.{option_map_or};
+ghost use Rattle.std.specs.Prelude.{◌≡◌, ◌≤◌, ◌<◌, ◌^◌, true, ℕ, List, Ok, Err, Some, None, OnOk, OnErr, IfOk, IfErr, MatchResult, length, ◌⊎◌};
 ghost use Rattle.std.specs.FinMap as finite;
 ghost use Rattle.aes_cts.specs.Bytes.{IsBytes};
 ghost use Rattle.krb_accounts.specs.Names.{parts};
@@ -11,7 +10,6 @@ ghost use Rattle.krb_kdc_requests.specs.Calls.{AreKeyed, IsKeyed};
 ghost use Rattle.krb_replies.specs.Replies.{Replies};
 ghost use Rattle.pkinit_requests.specs.PkinitRows.{pkinit_rows};
 ghost use Rattle.pkinit_requests.specs.Trust.{trust_of};
-ghost use Rattle.krb_kdc.specs.Answers.{is_request_octet};
 ghost use Rattle.krb_kdc.specs.Realm.{call_to, is_krbtgt};
 
 use crate::laws::has_reply;
@@ -20,10 +18,9 @@ use key_functions::KeyFunctions;
 use krb_accounts::{
     Account, Accounts, RealmRefusal, are_components, is_realm_name, password_salt, realm_name_of,
 };
-use krb_constants::types::{APPLICATION, AS_REQ_MSG_TYPE, TGS_REQ_MSG_TYPE};
 use krb_crypto::CipherSuite;
 use krb_frames::AnswerRefusal;
-use krb_kdc_requests::{Call, read_as_req, read_tgs_req};
+use krb_kdc_requests::{Call, has_request_octet, read_as_req, read_tgs_req};
 use krb_replies::{as_reply, tgs_reply};
 use krb_time::Moment;
 use krb_types::{krbtgt, krbtgt_of};
@@ -75,7 +72,8 @@ impl Realm {
     ghost use Rattle.krb_accounts.specs.Passwords.{password_account, password_salt};
     ghost use Rattle.krb_accounts.specs.declared.refusal.RealmRefusal.{RealmRefusal};
     ghost use Rattle.krb_accounts.specs.Accounts.{look_in};
-    ghost use Rattle.krb_kdc.specs.Answers.{BeginsRequest, IsAnswer};
+    ghost use Rattle.krb_kdc_requests.specs.Begins.{BeginsRequest};
+    ghost use Rattle.krb_kdc.specs.Answers.{IsAnswer};
 
     /// Makes a realm of this name, whose ticket-granting service `krbtgt/name` has this key (RFC 4120, section 7.3).
     pub fn new(
@@ -268,7 +266,7 @@ impl Realm {
         ensures answer { IsAnswer (Replies (call_to self.now moment words.now) (pkinit_rows self.now.trust (K.functions keys.now)) message.now) result }
         ensures memory { IfErr result (λ refusal. refusal ≡ AnswerRefusal.Memory → BeginsRequest message.now) }
     {
-        if !begins_request(message) {
+        if !has_request_octet(message) {
             return Err(AnswerRefusal::Unreadable);
         }
         if let Some(request) = read_as_req(alloc, message)? {
@@ -303,18 +301,6 @@ impl Realm {
         ensures keys { result.keys.now ≡ keys.now }
     {
         self.settings.pkinit(keys)
-    }
-}
-
-// Whether a message begins with the identifier octet of an AS request or of a TGS request.
-fn begins_request(message: &[u8]) -> bool
-    ensures { result ≡ option_map_or is_request_octet (slice_get message.now 0) false }
-{
-    match message.first() {
-        Some(&octet) => {
-            octet == APPLICATION + AS_REQ_MSG_TYPE || octet == APPLICATION + TGS_REQ_MSG_TYPE
-        }
-        None => false,
     }
 }
 

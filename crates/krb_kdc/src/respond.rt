@@ -2,7 +2,8 @@
 ghost use Rattle.std.specs.Prelude.{◌≡◌, ◌≢◌, ℕ, ◌++◌, List, Err};
 ghost use Rattle.std.specs.Iterator.{IsFinite, DrainsIf};
 ghost use Rattle.krb_frames.specs.Serving.{CountsReadFault, CountsWriteFault, IsFinal, IsServed, KeepsReadCounts, KeepsWriteCount, Left, Serves, at, device_bytes};
-ghost use Rattle.krb_kdc.specs.Answers.{BeginsRequest, RealmReplies};
+ghost use Rattle.krb_kdc_requests.specs.Begins.{BeginsRequest};
+ghost use Rattle.krb_kdc.specs.Answers.{RealmReplies};
 
 use crate::realm::Realm;
 use byte_streams::{Sink, Source};
@@ -21,7 +22,8 @@ pub struct Answering<'a, K: KeyFunctions> {
 }
 
 impl<'a, K: KeyFunctions> Responder for Answering<'a, K> {
-    ghost use Rattle.krb_kdc.specs.Answers.{BeginsRequest, RealmReplies};
+    ghost use Rattle.krb_kdc_requests.specs.Begins.{BeginsRequest};
+    ghost use Rattle.krb_kdc.specs.Answers.{RealmReplies};
 
     ghost replies = { λ own message moment words reply. RealmReplies own.realm.now (K.functions own.keys.now) message moment words reply };
 

@@ -1,3 +1,4 @@
+pub mod Begins
 pub mod Call
 pub mod Requests
 pub mod Calls

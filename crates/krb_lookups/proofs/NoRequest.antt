@@ -6,7 +6,8 @@ use Rattle.std.specs.Prelude.{Bool, slice_get}
 use Rattle.asn1_der.specs.Length.{element}
 use Rattle.krb_messages.specs.declared.messages.kdc_req.KdcReq.{KdcReq}
 use Rattle.krb_messages.specs.Messages.{IsAsReq, IsTgsReq}
-use Rattle.krb_lookups.specs.Begins.{IsNoRequest, is_request_octet}
+use Rattle.krb_kdc_requests.specs.Begins.{is_request_octet}
+use Rattle.krb_lookups.specs.Begins.{IsNoRequest}
 
 -- Whether they begin with the identifier octet of one.
 abbrev begins : List ℕ → Bool

@@ -4,7 +4,7 @@ use Rattle.std.specs.Prelude.{Vec}
 use Rattle.std.specs.Global.{Global}
 use Rattle.std.specs.Result.{IsErrAnd}
 use Rattle.krb_lookups.specs.Answers.{IsAnswerBy, MayRefuse}
-use Rattle.krb_lookups.specs.Begins.{BeginsRequest}
+use Rattle.krb_kdc_requests.specs.Begins.{BeginsRequest}
 use Rattle.krb_lookups.specs.Faults.{MayFail}
 use Rattle.krb_lookups.specs.declared.fault.LookupFault.{LookupFault}
 use Rattle.krb_lookups.specs.declared.fault.LookupRefusal.{LookupRefusal}

@@ -4,7 +4,8 @@ use Rattle.std.specs.Global.{Global}
 use Rattle.picky_asn1.specs.Bytes.{Bytes}
 use Rattle.krb_frames.specs.declared.fault.AnswerRefusal.{AnswerRefusal}
 use Rattle.krb_frames.specs.declared.fault.AnswerRefusal.TheVariants as responder
-use Rattle.krb_lookups.specs.Begins.{BeginsRequest, IsNoRequest}
+use Rattle.krb_kdc_requests.specs.Begins.{BeginsRequest}
+use Rattle.krb_lookups.specs.Begins.{IsNoRequest}
 use Rattle.krb_lookups.specs.Faults.{MayFail}
 use Rattle.krb_lookups.specs.declared.fault.LookupFault.TheVariants as fault
 use Rattle.krb_lookups.specs.declared.fault.LookupRefusal.{LookupRefusal}

@@ -29,7 +29,7 @@ pub struct LookupRealm<'a, L: Lookup, P: Pkinit> {
 
 impl<'a, L: Lookup, P: Pkinit> Responder for LookupRealm<'a, L, P> {
     ghost use Rattle.krb_accounts.specs.Accounts.{Look};
-    ghost use Rattle.krb_lookups.specs.Begins.{BeginsRequest};
+    ghost use Rattle.krb_kdc_requests.specs.Begins.{BeginsRequest};
     ghost use Rattle.krb_lookups.specs.RealmReplies.{RealmReplies};
 
     ghost replies = { λ own message moment words reply. (all : Look) → L.holds own.accounts.now all

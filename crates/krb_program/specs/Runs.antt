@@ -4,7 +4,8 @@ use Rattle.krb_time.specs.Units.{Micros}
 use Rattle.krb_frames.specs.declared.fault.ServeFault.{ServeFault}
 use Rattle.krb_frames.specs.declared.fault.ServeFault.TheVariants as serve_fault
 use Rattle.key_functions.specs.KeyFunctions.{no_functions}
-use Rattle.krb_kdc.specs.Answers.{BeginsRequest, RealmReplies}
+use Rattle.krb_kdc_requests.specs.Begins.{BeginsRequest}
+use Rattle.krb_kdc.specs.Answers.{RealmReplies}
 use Rattle.krb_kdc.specs.Realm.{RealmState}
 use Rattle.krb_program.specs.Devices.{Devices, Serves}
 use Rattle.krb_program.specs.declared.outcome.Stop.{Stop}

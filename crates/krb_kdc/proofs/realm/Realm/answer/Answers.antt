@@ -6,10 +6,10 @@ use Rattle.krb_kdc.proofs.Answered.{as_replied, same_rows, tgs_replied}
 use Rattle.krb_kdc.proofs.Begins.{unread}
 use Rattle.krb_kdc.proofs.realm.Realm.answer.Goals as goal
 
-pub returns-then-not-begins_request-clause-answer : goal.returns-then-not-begins_request-clause-answer
-returns-then-not-begins_request-clause-answer g c =
+pub returns-then-not-has_request_octet-clause-answer : goal.returns-then-not-has_request_octet-clause-answer
+returns-then-not-has_request_octet-clause-answer g c =
     unread (call_to c.args.self.now c.args.moment c.args.words.now) (pkinit_rows c.args.self.now.trust (g.K.KeyFunctions.functions c.args.keys.now))
-    c.args.message.now c.begins_request.result c.begins_request.ensures c.if-not-begins_request.true
+    c.args.message.now c.has_request_octet.result c.has_request_octet.ensures c.if-not-has_request_octet.true
 
 pub returns-in-Some-clause-answer : goal.returns-in-Some-clause-answer
 returns-in-Some-clause-answer g c =

@@ -1,0 +1,13 @@
+-- What a request begins with.
+use Rattle.std.specs.Prelude.{ℕ, Bool, false, ◌==◌, ◌||◌, ◌+◌, slice_get, IsTrue}
+use Rattle.std.specs.Option.{option_map_or}
+use Rattle.picky_asn1.specs.Bytes.{Bytes}
+use Rattle.krb_constants.specs.declared.types.TheConstants.{APPLICATION, AS_REQ_MSG_TYPE, TGS_REQ_MSG_TYPE}
+
+-- the identifier octet of an AS request or of a TGS request, `[APPLICATION 10]` or `[APPLICATION 12]` (RFC 4120, section 5.4.1)
+abbrev pub is_request_octet : ℕ → Bool
+is_request_octet octet = octet == (APPLICATION + AS_REQ_MSG_TYPE) || octet == (APPLICATION + TGS_REQ_MSG_TYPE)
+
+-- the bytes begin with such an octet. No others are read, so they are answered however little memory there is
+abbrev pub BeginsRequest : Bytes → Type 0
+BeginsRequest bytes = IsTrue (option_map_or is_request_octet (slice_get bytes 0) false)
