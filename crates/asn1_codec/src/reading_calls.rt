@@ -6,7 +6,7 @@ ghost use Rattle.asn1_der.specs.Length.{element};
 ghost use Rattle.asn1_codec.specs.Reading.{Took, TookNone, TookValue, Refused, IsSpelling, IsElement, IsList, HasOctets};
 ghost use Rattle.asn1_codec.specs.Unsigned.{unsigned_tree};
 ghost use Rattle.asn1_codec.specs.Values.{bool_tree, null_tree, character_tree, IsAnyElement, IsTextElement, IsUnsupported};
-ghost use Rattle.asn1_der.specs.Octets.{octet_string_octet, sequence_octet, utf8_string_octet};
+ghost use Rattle.asn1_der.specs.Octets.{integer_octet, octet_string_octet, sequence_octet, utf8_string_octet};
 
 use crate::de::{Deserialize, Deserializer};
 use crate::elements::Elements;
@@ -28,8 +28,8 @@ impl<R: Source> Deserializer<R> {
     /// Takes an INTEGER below 2^8 (X.690, section 8.3).
     pub fn deserialize_u8(&mut self) -> Result<u8, Asn1DerError>
         ensures { MatchResult result
-            (λ value. TookValue (unsigned_tree (2 ^ 8) 2) value self.old self.new)
-            (λ fault. Refused (IsSpelling (unsigned_tree (2 ^ 8) 2)) self.old self.new fault) }
+            (λ value. TookValue (unsigned_tree (2 ^ 8) integer_octet) value self.old self.new)
+            (λ fault. Refused (IsSpelling (unsigned_tree (2 ^ 8) integer_octet)) self.old self.new fault) }
     {
         u8::deserialize(self)
     }
@@ -37,8 +37,8 @@ impl<R: Source> Deserializer<R> {
     /// Takes an INTEGER below 2^16 (X.690, section 8.3).
     pub fn deserialize_u16(&mut self) -> Result<u16, Asn1DerError>
         ensures { MatchResult result
-            (λ value. TookValue (unsigned_tree (2 ^ 16) 2) value self.old self.new)
-            (λ fault. Refused (IsSpelling (unsigned_tree (2 ^ 16) 2)) self.old self.new fault) }
+            (λ value. TookValue (unsigned_tree (2 ^ 16) integer_octet) value self.old self.new)
+            (λ fault. Refused (IsSpelling (unsigned_tree (2 ^ 16) integer_octet)) self.old self.new fault) }
     {
         u16::deserialize(self)
     }
@@ -46,8 +46,8 @@ impl<R: Source> Deserializer<R> {
     /// Takes an INTEGER below 2^32 (X.690, section 8.3).
     pub fn deserialize_u32(&mut self) -> Result<u32, Asn1DerError>
         ensures { MatchResult result
-            (λ value. TookValue (unsigned_tree (2 ^ 32) 2) value self.old self.new)
-            (λ fault. Refused (IsSpelling (unsigned_tree (2 ^ 32) 2)) self.old self.new fault) }
+            (λ value. TookValue (unsigned_tree (2 ^ 32) integer_octet) value self.old self.new)
+            (λ fault. Refused (IsSpelling (unsigned_tree (2 ^ 32) integer_octet)) self.old self.new fault) }
     {
         u32::deserialize(self)
     }
@@ -55,8 +55,8 @@ impl<R: Source> Deserializer<R> {
     /// Takes an INTEGER below 2^64 (X.690, section 8.3).
     pub fn deserialize_u64(&mut self) -> Result<u64, Asn1DerError>
         ensures { MatchResult result
-            (λ value. TookValue (unsigned_tree (2 ^ 64) 2) value self.old self.new)
-            (λ fault. Refused (IsSpelling (unsigned_tree (2 ^ 64) 2)) self.old self.new fault) }
+            (λ value. TookValue (unsigned_tree (2 ^ 64) integer_octet) value self.old self.new)
+            (λ fault. Refused (IsSpelling (unsigned_tree (2 ^ 64) integer_octet)) self.old self.new fault) }
     {
         u64::deserialize(self)
     }
@@ -64,8 +64,8 @@ impl<R: Source> Deserializer<R> {
     /// Takes an INTEGER below 2^128 (X.690, section 8.3).
     pub fn deserialize_u128(&mut self) -> Result<u128, Asn1DerError>
         ensures { MatchResult result
-            (λ value. TookValue (unsigned_tree (2 ^ 128) 2) value self.old self.new)
-            (λ fault. Refused (IsSpelling (unsigned_tree (2 ^ 128) 2)) self.old self.new fault) }
+            (λ value. TookValue (unsigned_tree (2 ^ 128) integer_octet) value self.old self.new)
+            (λ fault. Refused (IsSpelling (unsigned_tree (2 ^ 128) integer_octet)) self.old self.new fault) }
     {
         u128::deserialize(self)
     }
