@@ -124,13 +124,13 @@ class Row:
 
 
 class Scripts:
-    """Rows that replay_realm plays: the last of its three scripts. It prints each line that tells something else than is wanted."""
+    """Rows that replay_realm plays: the last of its four scripts. It prints each line that tells something else than is wanted."""
 
     # The statuses where all was played, and where it ended early. Behind the scripts the program ends for want of its other files.
     played, stopped = 3, 3
 
     def words(self, row, folder):
-        for name in ("clients.txt", "realms.txt"):
+        for name in ("clients.txt", "changed_replies.txt", "realms.txt"):
             open(os.path.join(folder, name), "w").close()
         with open(os.path.join(folder, "logins.txt"), "w") as it:
             it.write("\n".join(row.lines) + "\n")

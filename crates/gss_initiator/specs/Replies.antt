@@ -61,7 +61,7 @@ told asked part =
 -- an AP-REP
 abbrev pub opened : ApAskedRecord → ApRepInner → Table Part
 opened asked reply =
-    -- The AP-REP's pvno is 5, and its msg-type is KRB_AP_REP (RFC 4120, section 5.5.2). No test: the contract alone covers it.
+    -- The AP-REP's pvno is 5, and its msg-type is KRB_AP_REP (RFC 4120, section 5.5.2). Test: `take NotAToken`.
     refuse (not (is_of_type AP_REP_MSG_TYPE reply.pvno.0 reply.msg_type.0)) NotAToken
     -- The enc-part decrypts under the session key for key usage 12 (RFC 4120, section 3.2.5). Test: `take NotSealed`.
     (ask (IsApPart asked reply.enc_part.0) (sole_ap_part asked reply.enc_part.0) (done (Err NotSealed))

@@ -46,7 +46,8 @@ takes_time asked part =
 -- what the client takes of a reply that was read
 abbrev pub takes_answer : ApAskedRecord → ApRepInner → Table Shown
 takes_answer asked reply =
-    -- The reply's pvno is 5, and its msg-type is KRB_AP_REP (RFC 4120, section 5.5.2). No test: the contract alone covers it.
+    -- The reply's pvno is 5, and its msg-type is KRB_AP_REP (RFC 4120, section 5.5.2). Test: `take_ap_reply pvno`, `take_ap_reply msg-type`
+    -- of `changed_replies.txt`.
     refuse (not (is_of_type AP_REP_MSG_TYPE reply.pvno.0 reply.msg_type.0)) Unreadable
     -- The enc-part decrypts under the session key for key usage 12 (RFC 4120, section 3.2.5). Test: `take_ap_reply` of `clients.txt`.
     (ask (IsApPart asked reply.enc_part.0) (sole_ap_part asked reply.enc_part.0) (done (Err NotSealed))

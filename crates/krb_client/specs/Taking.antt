@@ -72,9 +72,10 @@ credential_of reply part suite = record {
 abbrev pub takes_part : ClientRecord → List Bytes → ℕ → KdcRep → EncKdcRepPart → Table Taken
 takes_part client service nonce reply part =
     -- The part's nonce is the request's; crealm and cname are the client's; srealm and sname are those that it asked for; the name type
-    -- is ignored (RFC 4120, sections 3.1.5, 3.3.4). Test: 'one to another nonce' of `logins.txt`; `take_as_reply service`, `client type`
-    -- of `clients.txt`.
+    -- is ignored (RFC 4120, sections 3.1.5, 3.3.4). Test: `take_as_reply other nonce` of `logins.txt`; `take_as_reply service`,
+    -- `client type` of `clients.txt`.
     refuse (not (is_answer client.realm client.components service nonce reply part)) NotAsked
-    -- The session key's type and length are a suite's (RFC 3961, section 3). No test: the contract alone covers it.
+    -- The session key's type and length are a suite's (RFC 3961, section 3). Test: `take_tgs_reply key type`,
+    -- `take_tgs_reply key length` of `changed_replies.txt`.
     (need (suite_of part.key.0) NotAsked (λ suite.
     done (Ok (credential_of reply part suite))))

@@ -15,7 +15,8 @@ use Rattle.krb_client.specs.declared.refusal.TakeRefusal.TheVariants.{NotSealed,
 -- what the client takes of a reply that was read: its part is encrypted under the session key (RFC 4120, section 7.5.1)
 abbrev pub takes_further : ClientRecord → TgsAskedRecord → KdcRep → Table Taken
 takes_further client asked reply =
-    -- The reply's pvno is 5, and its msg-type is KRB_TGS_REP (RFC 4120, section 5.4.2). No test: the contract alone covers it.
+    -- The reply's pvno is 5, and its msg-type is KRB_TGS_REP (RFC 4120, section 5.4.2). Test: `take_tgs_reply pvno`,
+    -- `take_tgs_reply msg-type` of `changed_replies.txt`.
     refuse (not (is_of_type TGS_REP_MSG_TYPE reply.pvno.0 reply.msg_type.0)) Unreadable
     -- The enc-part decrypts under the session key for key usage 8, to an EncTGSRepPart (RFC 4120, section 3.3.4). Test: `take_tgs_reply` of
     -- `clients.txt`.

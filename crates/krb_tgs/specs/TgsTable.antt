@@ -206,7 +206,7 @@ of_ticket call body ap_req part =
 -- the rows that read the AP-REQ: its ticket is for the realm's ticket-granting service, and its authenticator the client's
 abbrev pub of_carried : CallRecord → KdcReqBody → ApReqInner → Table (Result Bytes Code)
 of_carried call body ap_req =
-    -- The realm has the account of `krbtgt` (RFC 4120, section 7.3). No test: each realm has this account.
+    -- The realm has the account of `krbtgt` (RFC 4120, section 7.3). Test: `tgs no krbtgt` of `file_realms.txt`.
     need (call.look (krbtgt_of call.realm)) KDC_ERR_S_PRINCIPAL_UNKNOWN (λ granting.
     and_then (ticket_granting call granting ap_req)
     (of_ticket call body ap_req))

@@ -183,6 +183,28 @@ def row(label, request, reply, is_request=True):
     return f"ask | {label} | {request} | {reply} | {entry(octets, told, is_request)}\n"
 
 
+def der(first, content):
+    size = len(content)
+    return bytes([first]) + (bytes([size]) if size < 128 else bytes([0x81, size])) + content
+
+
+def error_to(request, code):
+    """The KRB-ERROR of this code to a TGS request for a service (RFC 4120, section 5.9.1)."""
+    body = fields(fields(content(request))[4])
+    given = {0: b"\2\1\5", 1: b"\2\1\x1e", 4: b"\x18\x0f20000101000000Z", 5: b"\2\1\0", 6: bytes([2, 1, code]), 9: b"\x1b\1R", 10: body[3]}
+    return der(0x7E, der(0x30, b"".join(der(0xA0 + tag, field) for tag, field in given.items())))
+
+
+def without_krbtgt(rows):
+    """TGS requests to a realm without the account of krbtgt: error 7 comes before all that is judged of the AP-REQ."""
+    of_label = {label: (bytes.fromhex(request), reply) for label, request, reply in rows}
+    request, reply = of_label["tgs AP-REQ type"]
+    assert error_to(request, 40) == bytes.fromhex(reply)
+    for label, other in ("tgs no krbtgt", "tgs honest"), ("tgs no krbtgt, AP-REQ type", "tgs AP-REQ type"):
+        request = of_label[other][0]
+        yield row(label, request.hex(), error_to(request, 7).hex())
+
+
 def write(path, octets):
     with open(os.path.join(HERE, path), "wb") as file:
         file.write(octets)
@@ -193,6 +215,7 @@ def main():
     # The realm's record has another version, there is none, and the account of h has the kvno 0.
     write("other_version.cdb", databases.database(ACCOUNTS + [(b"\xff", b"\2" + REALM[0][1][1:])]))
     write("no_realm.cdb", databases.database(ACCOUNTS))
+    write("no_krbtgt.cdb", databases.database(ACCOUNTS[:-1] + REALM))
     damaged = [(key, account(18, bytes([1]) * 32, kvno=0) if key == key_of(b"h") else record) for key, record in ACCOUNTS]
     write("damaged_h.cdb", databases.database(damaged + REALM))
     rows = list(recorded())
@@ -207,6 +230,7 @@ def main():
             out.write(f"open {path}\n" + row(*granted[:2], "Accounts") + row(*begun[:2], "Accounts", False) + row(*other))
         out.write("open damaged_h.cdb\n" + row(*of_h[:2], "Accounts") + row(*granted))
         out.write("open four_accounts.cdb\n" + row(*of_h))
+        out.write("open no_krbtgt.cdb\n" + "".join(without_krbtgt(rows)))
 
 
 def asks_h(request, reply):

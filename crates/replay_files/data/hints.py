@@ -372,6 +372,8 @@ def changed_replies(rows, mit):
         ("reply, other rounds", by_info(info_of([(18, salt, bytes([0, 0, 16, 1]))])), "OtherParameters"),
         ("reply, damaged info", by_info(info_of([(18, salt, None)]) + b"\0"), "NoHint"),
         ("cut reply", own[:-1], "Unreadable"),
+        ("reply, other pvno", write_again(own, {0: number(4)}), "Unreadable"),
+        ("reply, other msg-type", write_again(own, {1: number(13)}), "Unreadable"),
     ):
         rows.put(label, "reply", [18, 17], name, octets, f"refused: {why}")
 

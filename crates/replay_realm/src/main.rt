@@ -47,6 +47,7 @@ fn main(rt: HostRuntime) -> ExitCode {
 
 fn replay_all(rt: &HostRuntime) -> anyhow::Result<()> {
     play(rt, "clients.txt")?;
+    play(rt, "changed_replies.txt")?;
     play(rt, "realms.txt")?;
     play(rt, "logins.txt")?;
     certified_logins::replay_rsa_logins(rt)?;

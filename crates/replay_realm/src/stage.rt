@@ -178,8 +178,14 @@ fn tell_message(
             words.pass_rest();
             take::as_reply(stage, alloc, &NoKeys, told)
         }
-        "take_tgs_reply" => take::tgs_reply(stage, alloc, told),
-        "take_ap_reply" => take::ap_reply(stage, alloc, told),
+        "take_tgs_reply" => {
+            words.pass_rest();
+            take::tgs_reply(stage, alloc, told)
+        }
+        "take_ap_reply" => {
+            words.pass_rest();
+            take::ap_reply(stage, alloc, told)
+        }
         "credential" => take::credential(stage, told),
         "credential_times" => take::credential_times(stage, told),
         "service" => services::service(stage, alloc, words, told),
