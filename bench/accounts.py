@@ -39,7 +39,7 @@ def write_lines(folder, size, answers, parts=4):
     """The commands and the requests, of which there are so many parts: the realm, its accounts, and answers of each kind. What is
     wanted of a marked line isn't told, so that the program prints it."""
     mark = "words_needed | mark\n"
-    for name in ("clients.txt", "logins.txt"):
+    for name in ("clients.txt", "changed_replies.txt", "logins.txt"):
         open(os.path.join(folder, name), "w").close()
     with open(os.path.join(folder, "realms.txt"), "w") as lines:
         lines.write(f"realm 52 {KEY}\n{mark}")
