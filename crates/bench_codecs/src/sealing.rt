@@ -44,7 +44,7 @@ fn derived(alloc: Global, times: u32) -> anyhow::Result<Vec<u8>> {
     Ok(key)
 }
 
-/// The same with HMAC-SHA-256, 32,768 rounds and 16 bytes, as for a key of type 19.
+/// A key of 16 bytes by HMAC-SHA-256 and 32,768 rounds, as for a key of type 19, then one with that key as its password, and so on.
 fn derived_by_sha256(alloc: Global, times: u32) -> anyhow::Result<Vec<u8>> {
     let mut key = Vec::from_slice(alloc, b"password")?;
     for _ in 0..times {
@@ -53,7 +53,7 @@ fn derived_by_sha256(alloc: Global, times: u32) -> anyhow::Result<Vec<u8>> {
     Ok(key)
 }
 
-/// The same with HMAC-SHA-384, 32,768 rounds and 32 bytes, as for a key of type 20.
+/// A key of 32 bytes by HMAC-SHA-384 and 32,768 rounds, as for a key of type 20, then one with that key as its password, and so on.
 fn derived_by_sha384(alloc: Global, times: u32) -> anyhow::Result<Vec<u8>> {
     let mut key = Vec::from_slice(alloc, b"password")?;
     for _ in 0..times {

@@ -17,9 +17,9 @@ const WORDS: usize = 64;
 /// The moments of a server.
 #[derive(Clone, Copy)]
 pub(crate) enum Time {
-    /// Those of the machine's clock.
+    /// The moments of the machine's clock.
     Now,
-    /// One for all tokens.
+    /// One moment for all tokens.
     Fixed(Moment),
 }
 

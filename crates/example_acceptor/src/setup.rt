@@ -16,7 +16,7 @@ use std::alloc::Global;
 use std::env;
 use std::fs::{self, Files};
 
-/// By how many seconds clocks may differ.
+/// The clock skew in seconds.
 const SKEW: u64 = 300;
 
 /// The server of the program's arguments: a keytab, a file of random octets, a moment and a service's name with its realm. With `subkey`

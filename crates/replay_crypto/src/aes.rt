@@ -13,7 +13,7 @@ fn size_of(row: &Vector<'_>) -> AesSize {
     }
 }
 
-/// Key, text and what it is enciphered to, both ways.
+/// Whether CBC mode encrypts the row's text to its ciphertext under its key, and decrypts that to the text.
 pub(crate) fn is_chained(alloc: Global, row: &Vector<'_>) -> bool {
     let [key, text, cipher] = row.columns.as_slice() else {
         return false;
@@ -23,7 +23,8 @@ pub(crate) fn is_chained(alloc: Global, row: &Vector<'_>) -> bool {
         && is(decrypt_aes_cbc(alloc, key, cipher, &size), text)
 }
 
-/// The same with stolen text.
+/// Whether CBC mode with ciphertext stealing encrypts the row's text to its ciphertext, and decrypts that to the text (RFC 3962,
+/// section 5).
 pub(crate) fn is_stolen(alloc: Global, row: &Vector<'_>) -> bool {
     let [key, text, cipher] = row.columns.as_slice() else {
         return false;

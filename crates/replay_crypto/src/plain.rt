@@ -66,7 +66,7 @@ pub struct RoundKeys {
 }
 
 impl RoundKeys {
-    /// Of a key of 16 or 32 bytes.
+    /// The round keys of a key of 16 or 32 bytes.
     pub fn new(substitution: &Substitution, key: &[u8]) -> RoundKeys
         requires { (length key.now ≡ 16) ⊎ (length key.now ≡ 32) }
     {

@@ -60,7 +60,7 @@ fn is_spelled(alloc: Global, recorded: &Recorded<'_>) -> anyhow::Result<bool> {
     }
 }
 
-/// The same of a type that a module knows.
+/// The answer of the first module that knows the spelling's type. There is none if no module knows it.
 fn answer_of(alloc: Global, recorded: &Recorded<'_>) -> Option<Answer> {
     if let Some(answer) = algorithms::agrees(alloc, recorded) {
         return Some(answer);

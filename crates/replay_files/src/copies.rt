@@ -8,7 +8,7 @@ use std::alloc::Global;
 pub(crate) struct Copies {
     /// The file's octets.
     pub(crate) whole: Vec<u8>,
-    /// The same, or a damaged copy.
+    /// A copy of the file's octets, whole or damaged.
     pub(crate) bytes: Vec<u8>,
     pub(crate) is_damaged: bool,
 }

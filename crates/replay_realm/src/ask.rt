@@ -48,7 +48,7 @@ pub(crate) fn tgs_request(
     Ok(())
 }
 
-/// With or without a wish for a reply, and a subkey, each distinguished by 1 or 0.
+/// Makes an AP request. A word 1 or 0 says whether a reply is requested, and another whether there is a subkey.
 pub(crate) fn ap_request(
     stage: &mut Stage,
     alloc: Global,

@@ -50,7 +50,7 @@ fn tell_login(alloc: Global, client: &Party, realm: &Party, told: &mut Told) -> 
     }
 }
 
-/// The same of a client that has keys.
+/// Writes how the login of a client with these keys ends, or why the realm's key is refused.
 fn tell_by_client(
     alloc: Global,
     client: &Party,

@@ -92,7 +92,7 @@ pub(crate) fn admit_twice(stage: &mut Stage, alloc: Global, told: &mut Told) -> 
     outcome
 }
 
-/// That the first is admitted, and how the second is refused.
+/// Writes that the first request is admitted, and how the second is refused.
 fn answers_text(
     answers: &[Result<Admission, AdmitRefusal>],
     told: &mut Told,

@@ -87,14 +87,14 @@ pub(crate) fn key_type_text(told: &mut Told, key: &EncryptionKey) {
     }
 }
 
-/// A key with its suite's number.
+/// Writes a key's type and its octets.
 pub(crate) fn key_text(told: &mut Told, key: &EncryptionKey) {
     key_type_text(told, key);
     told.put(" ");
     told.octets(key.key_value.0.as_bytes());
 }
 
-/// The same of a key that stands apart from its suite.
+/// Writes the number of a key's suite and the key's octets.
 pub(crate) fn suite_key_text(told: &mut Told, suite: CipherSuite, key: &[u8]) {
     told.show(&usize::from(suite));
     told.put(" ");

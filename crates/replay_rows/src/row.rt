@@ -113,7 +113,7 @@ impl<'a> Row<'a> {
         Vec::new(alloc)
     }
 
-    /// The same of a word that may be missing: there are no octets then.
+    /// The next word as octets, in hexadecimal. There are no octets if no word is left.
     pub fn further_octets(&mut self, alloc: Global) -> Vec<u8> {
         if self.rest.is_none() {
             return Vec::new(alloc);
@@ -133,7 +133,7 @@ impl<'a> Row<'a> {
         }
     }
 
-    /// That the row was read to its end, and without a fault.
+    /// Fails unless the row was read to its end without a fault.
     pub fn ended(&self) -> anyhow::Result<()> {
         if let Some(fault) = self.fault {
             bail!("{fault}");

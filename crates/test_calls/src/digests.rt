@@ -42,7 +42,7 @@ fn exchanged(alloc: Global) -> KerberosCryptoResult<Vec<u8>> {
     Ok(chain)
 }
 
-// Of whole blocks a plain chain with its last two exchanged is what stealing gives (RFC 3962, section 5).
+// Ciphertext stealing over whole blocks gives the plain chain with its last two blocks exchanged (RFC 3962, section 5).
 #[test]
 fn exchanged_blocks(rt: HostRuntime) {
     assert!(rt; is(exchanged(rt.alloc()), STOLEN));

@@ -46,7 +46,7 @@ fn components(rt: HostRuntime) {
     assert!(rt; is_read(alloc, "\u{fc}", &[&[0xC3, 0xBC]]));
 }
 
-// Of a separator, of a backslash, of control characters, and of another octet, which is itself.
+// A backslash quotes a separator, a backslash, a control character's letter, and another octet, which represents itself.
 #[test]
 fn quoted(rt: HostRuntime) {
     let alloc = rt.alloc();

@@ -51,7 +51,7 @@ const STREAM: &[u8] = b"\0\0\0\x01a\0\0\0\x02bc";
 
 const REPLIES: &[u8] = b"\0\0\0\x02Aa\0\0\0\x03Bbc";
 
-// As many random bytes for each of two messages: `A` for the first and `B` for the second.
+// The random bytes that two messages need: `A` for the first and `B` for the second.
 fn words_of_two(alloc: Global) -> Result<Vec<u8>, AllocError> {
     let mut words = vec![in alloc; b'A'; WORDS_NEEDED]?;
     words.extend_from_slice(&[b'B'; WORDS_NEEDED])?;

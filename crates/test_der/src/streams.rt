@@ -127,7 +127,8 @@ fn read_fault(alloc: Global, count: usize) -> (Option<Asn1DerError>, u64) {
     (fault, Source::failures(&reader))
 }
 
-// The same of one writing. What was written is to be a front of the value's bytes.
+// The fault of one writing to a sink that fails after so many bytes, and how often it failed. What was written is expected to be a
+// front of the value's bytes.
 fn write_fault(
     alloc: Global,
     sample: &Sample,

@@ -101,9 +101,10 @@ fn row_fault(bytes: &[u8], count: usize) -> Option<ErrorKind> {
     }
 }
 
-// Of version 1, and then of a type that is none.
+// A PAC of version 1.
 const VERSION_1: &[u8] = b"\x01\x00\x00\x00\x01\x00\x00\x00\x0a\x00\x00\x00";
 
+// A PAC with a buffer of type 3, which is no type.
 const TYPE_3: &[u8] = b"\x01\x00\x00\x00\x00\x00\x00\x00\x03\x00\x00\x00";
 
 // What is wrong in the bytes that came is answered before the device's fault.

@@ -33,7 +33,7 @@ const REPLY: &[u8] = b"\x00\x44\x00\x01\x00\x1f\
 const PART: &[u8] = b"\x7c\x1d\x30\x1b\xa0\x08\x04\x06secret\
     \xa4\x0f\x30\x0d\xa0\x03\x02\x01\x02\xa1\x06\x04\x04\x0a\x00\x00\x01";
 
-// The same with a time and 999,999 microseconds, number 7, and the receiver's address 10.0.0.2.
+// The part of a KRB-PRIV with a time and 999,999 microseconds, number 7, and the receiver's address 10.0.0.2.
 const LONG_PART: &[u8] = b"\x7c\x4d\x30\x4b\xa0\x08\x04\x06secret\
     \xa1\x11\x18\x0f20000101000000Z\xa2\x05\x02\x03\x0f\x42\x3f\xa3\x03\x02\x01\x07\
     \xa4\x0f\x30\x0d\xa0\x03\x02\x01\x02\xa1\x06\x04\x04\x0a\x00\x00\x01\
@@ -196,7 +196,7 @@ fn parts(rt: HostRuntime) {
         (PART, true),
         (LONG_PART, true),
         (&PART[..30], false),
-        // Without the sender's address.
+        // The sender's address is missing.
         (b"\x7c\x0c\x30\x0a\xa0\x08\x04\x06secret", false),
     ];
     for (bytes, wanted) in cases {

@@ -16,13 +16,13 @@ pub struct Recorded<'a> {
 /// What is expected of a message.
 #[derive(Drop)]
 pub enum Wanted {
-    /// To be read, and written back as it was.
+    /// The message is read, and written back as it was.
     Itself,
-    /// To be read, and written as these bytes.
+    /// The message is read, and written as these bytes.
     Other(Vec<u8>),
-    /// To be read as a value that holds these octets, of which some may be missing.
+    /// The message is read as a value that holds these octets, of which some may be missing.
     Held(Vec<Option<Vec<u8>>>),
-    /// To be refused.
+    /// The message is refused.
     Refused,
 }
 

@@ -12,7 +12,7 @@ pub fn is_told<T: Deserialize + Drop>(alloc: Global, recorded: &Recorded<'_>) ->
     is_read_told::<T>(alloc, recorded)
 }
 
-/// The same of a type that is read in a way of its own.
+/// Whether a message is read and written as expected. Its type may be read in a way of its own.
 pub fn is_read_told<T: FromDer + Serialize>(alloc: Global, recorded: &Recorded<'_>) -> Answer {
     match from_exact_bytes::<T>(alloc, &recorded.bytes) {
         Ok(value) => is_written(alloc, &value, recorded),

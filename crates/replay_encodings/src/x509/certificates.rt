@@ -19,7 +19,7 @@ pub fn agrees(alloc: Global, recorded: &Recorded<'_>) -> Option<Answer> {
     }
 }
 
-/// Of a certificate the signed part is borrowed too.
+/// Whether a certificate is read and rewritten as expected, and its signed part is the expected one.
 fn certificate(alloc: Global, recorded: &Recorded<'_>) -> Answer {
     let lent = Certificate::with_signed_part(alloc, &recorded.bytes);
     if !is_lent(recorded, lent)? {
@@ -28,7 +28,7 @@ fn certificate(alloc: Global, recorded: &Recorded<'_>) -> Answer {
     is_told::<Certificate>(alloc, recorded)
 }
 
-/// Of a request too.
+/// Whether a certification request is read and rewritten as expected, and its signed part is the expected one.
 fn certification_request(alloc: Global, recorded: &Recorded<'_>) -> Answer {
     let lent = CertificationRequest::with_signed_part(alloc, &recorded.bytes);
     if !is_lent(recorded, lent)? {

@@ -29,7 +29,7 @@ impl Rows for Admissions {
     }
 }
 
-/// The same requests, each presented for the second time. None is admitted then.
+/// The recorded requests, each presented for the second time. None is admitted then.
 #[derive(Clone, Copy)]
 pub(crate) struct Repetitions;
 

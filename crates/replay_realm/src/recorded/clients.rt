@@ -159,7 +159,7 @@ fn tell_taken(
     outcome
 }
 
-/// The same, by key functions that know the keys of the anchor and of the holder of the reply's certificate.
+/// Writes what a client takes of a reply. Its key functions know the keys of the anchor and of the holder of the reply's certificate.
 fn tell_taken_by<'a>(
     alloc: Global,
     client: &'a PkinitClient,

@@ -100,7 +100,7 @@ fn tell_logins(
     outcome
 }
 
-/// The same, by key functions that know the keys of the own anchor and of the other party.
+/// Writes the outcome of the logins. The key functions of each party know the keys of its own anchor and of the other party.
 fn tell_logins_by<'a>(
     alloc: Global,
     client: &'a Keyed<Client>,

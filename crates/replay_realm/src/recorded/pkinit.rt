@@ -70,7 +70,7 @@ fn tell_reply_to(
     outcome
 }
 
-/// The same, by key functions that know the keys of the anchor and of the holder of the request's certificate.
+/// Writes what the realm answers. Its key functions know the keys of the anchor and of the holder of the request's certificate.
 fn tell_reply_by<'a>(
     alloc: Global,
     realm: &'a PkinitRealm,
