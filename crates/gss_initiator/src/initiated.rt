@@ -10,7 +10,7 @@ use std::marker::Model;
 pub enum TokenForm {
     /// A token of Kerberos (RFC 4121, section 4.1).
     Bare,
-    /// One of SPNEGO that offers Kerberos alone, with Kerberos' token in it (RFC 4178, section 4.2.1).
+    /// A token of SPNEGO that offers Kerberos alone, with Kerberos' token in it (RFC 4178, section 4.2.1).
     Negotiated,
 }
 

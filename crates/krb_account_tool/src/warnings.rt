@@ -45,7 +45,7 @@ pub(crate) fn is_service(realm: &[u8], name: &PrincipalName) -> bool {
 }
 
 impl RealmKey {
-    /// That of the realm of these lines. A realm that has no key yet has an empty one here.
+    /// The name and key of the realm of these lines. The key is empty where the realm has none yet.
     pub(crate) fn among(
         alloc: Global,
         realm: &RealmLine,

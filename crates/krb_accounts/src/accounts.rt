@@ -25,7 +25,7 @@ const SHORT_ROOM: usize = 256;
 /// Commands and look-ups take steps by the logarithm of the number of accounts.
 #[derive(Drop)]
 pub struct Accounts {
-    // By the blocks of the names, which have the order of the names.
+    // The accounts by the blocks of their names. Blocks have the order of the names.
     entries: BTreeMap<Vec<u8>, Account>,
 }
 
@@ -74,7 +74,7 @@ impl Accounts {
         entries.get(block.as_slice())
     }
 
-    // The same, of a name of any length. It stands apart, so that few calls clear the room of its block.
+    // The account of a name of any length. It is a function of its own, so that few calls clear the room of its block.
     #[inline(never)]
     fn get_long(&self, name: &[GeneralStringAsn1]) -> Option<&Account>
         ensures { option_copied result ≡ finite.get self.now name.now }
@@ -142,7 +142,7 @@ impl Accounts {
         put_new(entries, alloc, block.as_slice(), account)
     }
 
-    // The same, of a name of any length. It stands apart, so that few calls clear the room of its block.
+    // Adds the account of a name of any length. It is a function of its own, so that few calls clear the room of its block.
     #[inline(never)]
     fn insert_long(
         &mut self,
@@ -226,7 +226,8 @@ fn pack_name<const N: usize>(block: &mut ArrayVec<u8, N>, name: &[GeneralStringA
     true
 }
 
-/// The same of the name that has these components. The answer is false, too, where a character isn't below 128.
+/// Makes an empty block that of the name with these components. The result is false where the block has no room for it, or where a
+/// character isn't below 128.
 fn pack_parts<const N: usize>(block: &mut ArrayVec<u8, N>, name: &[Vec<u8>]) -> bool
     requires { block.old.items ≡ [] }
     ensures fits { result ≡ fit_in N (parts name.now) }

@@ -63,9 +63,9 @@ fn is_listed(suite: CipherSuite, body: &KdcReqBody) -> bool
 /// The preauthentication by which a client was authenticated.
 #[derive(Drop)]
 pub(crate) enum Preauthentication {
-    /// By an encrypted timestamp.
+    /// The client sent an encrypted timestamp (RFC 4120, section 5.2.7.2).
     ByTimestamp,
-    /// By certificate, with the key that both agreed on, and the data of PA-PK-AS-REP.
+    /// The client sent a certificate (RFC 4556). The key is the one that client and KDC agreed on, and the bytes are PA-PK-AS-REP's data.
     ByCertificate(Key, Vec<u8>),
 }
 

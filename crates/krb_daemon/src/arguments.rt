@@ -6,11 +6,11 @@ ghost use Rattle.krb_daemon.specs.Commands.{asked, command_in, command_named, se
 /// What the arguments ask for.
 #[derive(Clone, Copy, Debug, PartialEq, Eq)]
 pub enum Command<'a> {
-    /// To serve a database.
+    /// The program serves a database.
     Serve(Served<'a>),
-    /// To say how the program is used.
+    /// The program prints how it is used.
     Help,
-    /// To say which version the program is.
+    /// The program prints its version.
     Version,
 }
 

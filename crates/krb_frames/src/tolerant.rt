@@ -7,7 +7,7 @@ use std::alloc::Global;
 
 /// A responder with the replies of another one, and with the empty reply to a message that is no request.
 ///
-/// By it [`serve`](crate::serve) writes a frame of length 0 for such a message, and goes on with the next frame. It never stops with
+/// With it, [`serve`](crate::serve) writes a frame of length 0 for such a message, and goes on with the next frame. It never stops with
 /// `NoRequest` (law [`goes_on`](crate::goes_on)). It is for a program behind a listener, where a hostile message may not end the
 /// process. The other faults stop it as before.
 ///

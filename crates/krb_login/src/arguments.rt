@@ -12,7 +12,7 @@ use std::alloc::Global;
 /// The options.
 const OPTIONS: [&str; 10] = ["-k", "-p", "-C", "-K", "-A", "-c", "-s", "-l", "-r", "-t"];
 
-/// For how many seconds tickets are asked for, if it isn't given: ten hours.
+/// The lifetime that is requested of tickets, in seconds, if none is given: ten hours.
 const USUAL_LIFETIME: u64 = 36_000;
 
 /// The random octets, if no file is given.
@@ -22,7 +22,7 @@ const WORDS: &str = "/dev/urandom";
 pub(crate) const ONE_MEANS: &str =
     "expected one of: -k KEYTAB; -p FILE; -C CERTIFICATE with -K KEY and -A ANCHOR";
 
-/// By what the client authenticates itself.
+/// How the client authenticates itself.
 #[derive(Clone, Copy)]
 pub(crate) enum Means<'a> {
     /// A key that it shares with the KDC.
@@ -76,11 +76,11 @@ pub(crate) struct Service<'a> {
 /// The values of the options but `-s`.
 #[derive(Clone, Copy)]
 pub(crate) struct Settings<'a> {
-    /// By what the client authenticates itself.
+    /// How the client authenticates itself.
     pub(crate) means: Means<'a>,
     /// The path of the cache.
     pub(crate) cache: &'a str,
-    /// For how many seconds tickets are asked for.
+    /// The lifetime that is requested of tickets, in seconds.
     pub(crate) lifetime: u64,
     /// The path of the random octets.
     pub(crate) words: &'a str,

@@ -32,14 +32,14 @@ pub struct LoginInput<'a> {
     pub moments: LoginMoments,
     /// The client's random bytes in the AS exchange.
     pub words_as: &'a [u8],
-    /// Those in the TGS exchange.
+    /// The client's random bytes in the TGS exchange.
     pub words_tgs: &'a [u8],
-    /// Those in the AP exchange.
+    /// The client's random bytes in the AP exchange.
     pub words_ap: &'a [u8],
-    /// The realm's in the AS exchange.
+    /// The realm's random bytes in the AS exchange.
     pub realm_words_as: &'a [u8],
-    /// Those in the TGS exchange.
+    /// The realm's random bytes in the TGS exchange.
     pub realm_words_tgs: &'a [u8],
-    /// The service's.
+    /// The service's random bytes.
     pub service_words: &'a [u8],
 }

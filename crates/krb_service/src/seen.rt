@@ -70,7 +70,7 @@ impl Seen {
         self.greatest
     }
 
-    /// By how many microseconds clocks may differ: whole seconds, a day at most.
+    /// The clock skew in microseconds: whole seconds, a day at most.
     pub fn skew(&self) -> u64
         ensures value { result ≡ self.now.skew }
         ensures bound { result ≤ 86400000000 }

@@ -41,7 +41,7 @@ pub(crate) struct Section {
 }
 
 impl Section {
-    /// That of a file's first line.
+    /// The section of a file's first line.
     pub(crate) fn new() -> Section {
         Section {
             place: Some(Place::File),

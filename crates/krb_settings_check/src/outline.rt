@@ -15,7 +15,7 @@ pub(crate) struct Outline {
 }
 
 impl Outline {
-    /// That of a text. What is no TOML has none.
+    /// The outline of a text. A text that is no TOML has none.
     pub(crate) fn read(alloc: Global, text: &[u8]) -> Result<Option<Outline>, AllocError> {
         let Ok(text) = str::from_utf8(text) else {
             return Ok(None);

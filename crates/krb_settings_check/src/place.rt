@@ -7,7 +7,7 @@ use std::fmt;
 pub enum Place {
     /// The file's own table.
     File,
-    /// That of an account. The first has number 1.
+    /// The table of the account with this number. The first account has number 1.
     Account(usize),
 }
 

@@ -117,7 +117,7 @@ enum Slip {
     TooLong(usize),
     /// The character of this number isn't ASCII.
     NotAscii(usize),
-    /// Another.
+    /// It is wrong in another way.
     Other,
 }
 

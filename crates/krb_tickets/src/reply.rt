@@ -31,9 +31,9 @@ use std::alloc::{AllocError, Global};
 /// The exchange that a ticket is granted in (RFC 4120, sections 3.1 and 3.3).
 #[derive(Clone, Copy, Debug, PartialEq, Eq)]
 pub enum Exchange {
-    /// By the client's own key.
+    /// The AS exchange, in which the client authenticates itself by its own key or certificate.
     As,
-    /// By a ticket that the client was granted before.
+    /// The TGS exchange, in which the client presents a ticket that it was granted before.
     Tgs,
 }
 

@@ -5,7 +5,8 @@ ghost use Rattle.std.specs.Fmt.{digit_glyph};
 use crate::integer::IntegerAsn1;
 use std::{fmt, str};
 
-/// In decimal where 64 bits hold the number with its sign, else `0x` and its two's complement in hexadecimal digits.
+/// Displays the number in decimal where 64 bits hold it with its sign. Else it displays `0x` and the two's complement in hexadecimal
+/// digits.
 impl fmt::Display for IntegerAsn1 {
     ghost use Rattle.std.specs.Prelude.{Some};
     ghost use Rattle.picky_asn1.specs.IntegerText.{integer_text};

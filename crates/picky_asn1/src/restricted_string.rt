@@ -26,7 +26,7 @@ pub type PrintableString = RestrictedString<PrintableCharSet>;
 /// The text of an IA5String, by the ported crate's name.
 pub type IA5String = RestrictedString<Ia5CharSet>;
 
-/// The same by the ported crate's other name.
+/// The text of an IA5String, by the ported crate's second name for it.
 pub type Ia5String = IA5String;
 
 /// The text of a BMPString, by the ported crate's name.

@@ -33,7 +33,7 @@ pub type PrintableStringAsn1 = RestrictedString<PrintableCharSet>;
 /// An IA5String.
 pub type IA5StringAsn1 = RestrictedString<Ia5CharSet>;
 
-/// The same by the ported crate's other name.
+/// An IA5String, by the ported crate's second name for it.
 pub type Ia5StringAsn1 = IA5StringAsn1;
 
 /// A BMPString.

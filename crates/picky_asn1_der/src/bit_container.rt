@@ -10,7 +10,7 @@ use byte_streams::{Sink, Source};
 
 /// A BIT STRING whose bits, of which none is unused, are the encoding of one value (X.690, section 8.6).
 ///
-/// Another count of unused bits than 0 is `InvalidData`.
+/// If the count of unused bits isn't 0, reading fails with `InvalidData`.
 #[derive(Clone, Copy, Debug, Drop, PartialEq, Eq)]
 pub struct BitStringContainer<T>(pub T);
 

@@ -48,7 +48,7 @@ pub struct Last<T>(pub T);
 pub enum Choice<A, B> {
     /// The first alternative.
     This(A),
-    /// One of the others.
+    /// One of the other alternatives.
     Other(B),
 }
 

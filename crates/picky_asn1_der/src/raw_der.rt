@@ -198,7 +198,7 @@ impl PartialOrd for Asn1RawDer {
     }
 }
 
-/// The order of their bytes.
+/// Compares two values by the order of their bytes.
 impl Ord for Asn1RawDer {
     ghost use Rattle.std.specs.Prelude.{refl};
     ghost use Rattle.std.specs.Ordering.{nat_cmp};
@@ -219,7 +219,7 @@ impl Ord for Asn1RawDer {
     }
 }
 
-/// By their bytes.
+/// Hashes the value's bytes.
 impl Hash for Asn1RawDer {
     ghost use Rattle.std.specs.Hash as fed;
     ghost use Rattle.std.specs.Cmp.Rules.{hashing};

@@ -84,7 +84,7 @@ impl OwnKey {
         }
     }
 
-    // The same key, which signs by the primes of these numbers if they are taken.
+    // This key, which then signs by the primes of these numbers if they are taken.
     fn by_numbers(self, numbers: PrimeNumbers) -> OwnKey
         ensures public { result.public ≡ self.public }
         ensures exponent { result.private.exponent ≡ self.private.exponent }

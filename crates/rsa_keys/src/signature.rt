@@ -93,7 +93,7 @@ fn hash_named(arc: u8) -> Result<HashFunction, SignatureRefusal>
     }
 }
 
-/// The modulus and the exponent of a key of RSA.
+/// The modulus and the exponent of a public key, which has to be an RSA key.
 fn numbers_in(key: &PublicKey) -> Result<PublicNumbers<'_>, RsaKeyRefusal>
     ensures { MatchResult result (λ numbers. numbers_in key.now ≡ Ok (numbers.modulus.now, numbers.exponent.now)) (λ refusal. numbers_in key.now ≡ Err refusal) }
 {
@@ -105,7 +105,7 @@ fn numbers_in(key: &PublicKey) -> Result<PublicNumbers<'_>, RsaKeyRefusal>
     }
 }
 
-/// The same of a key that is one of RSA.
+/// The modulus and the exponent of an RSA key. Neither may be negative.
 pub(crate) fn numbers_of(key: &RsaPublicKey) -> Result<PublicNumbers<'_>, RsaKeyRefusal>
     ensures { MatchResult result (λ numbers. numbers_of key.now ≡ Ok (numbers.modulus.now, numbers.exponent.now)) (λ refusal. numbers_of key.now ≡ Err refusal) }
 {

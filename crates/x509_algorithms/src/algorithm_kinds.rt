@@ -15,15 +15,15 @@ use x509_spelling::{Implied, KindOf, LastKind, ToldBy};
 /// The parameters of an algorithm. The algorithm's identifier decides their kind.
 #[derive(Debug, Drop, PartialEq, Eq)]
 pub enum AlgorithmIdentifierParameters {
-    /// None.
+    /// There are no parameters.
     None,
     /// NULL.
     Null,
-    /// Those of AES.
+    /// The parameters of AES.
     Aes(AesParameters),
     /// An elliptic curve.
     Ec(EcParameters),
-    /// Those of an RSASSA-PSS signature.
+    /// The parameters of an RSASSA-PSS signature.
     RsassaPss(RsassaPssParams),
 }
 

@@ -61,7 +61,7 @@ impl Attribute {
         &self.value
     }
 
-    /// The request for a certificate with these extensions.
+    /// The attribute that requests these extensions of a certificate (RFC 2985, section 5.4.2).
     pub fn new_extension_request(
         alloc: Global,
         extensions: Vec<Extension>,
@@ -76,7 +76,7 @@ impl Attribute {
         })
     }
 
-    /// That the signed content is data (RFC 5652, section 4).
+    /// The attribute whose value says that the signed content is data (RFC 5652, sections 4 and 11.1).
     pub fn new_content_type_pkcs7(alloc: Global) -> Result<Attribute, AllocError>
         ensures { IfOk result (λ made. IsMade oids.content_type (kind.ContentType (record { 0 = id_data } ∷ [])) made) }
     {
@@ -89,7 +89,7 @@ impl Attribute {
         })
     }
 
-    /// When the content was signed.
+    /// The attribute whose value says when the content was signed (RFC 5652, section 11.3).
     pub fn new_signing_time(alloc: Global, time: Time) -> Result<Attribute, AllocError>
         ensures { IfOk result (λ made. IsMade oids.signing_time (kind.SigningTime (time ∷ [])) made) }
     {
@@ -101,7 +101,7 @@ impl Attribute {
         })
     }
 
-    /// The digest of the signed content.
+    /// The attribute whose value is the digest of the signed content (RFC 5652, section 11.2).
     pub fn new_message_digest(
         alloc: Global,
         digest: OctetStringAsn1,

@@ -30,9 +30,9 @@ use x509_spelling::{Ahead, Counted, Spelled, SpelledFields, X509Fault, read_fiel
 /// ```
 #[derive(Debug, Drop, PartialEq, Eq)]
 pub struct Certificate {
-    /// What is signed.
+    /// The part that is signed.
     pub tbs_certificate: TbsCertificate,
-    /// With which algorithm.
+    /// The algorithm of the signature.
     pub signature_algorithm: AlgorithmIdentifier,
     /// The signature.
     pub signature_value: BitStringAsn1,

@@ -25,9 +25,9 @@ use x509_spelling::{Ahead, Counted, Spelled, SpelledFields, X509Fault, read_fiel
 /// ```
 #[derive(Debug, Drop, PartialEq, Eq)]
 pub struct CertificationRequest {
-    /// What is signed.
+    /// The part that is signed.
     pub certification_request_info: CertificationRequestInfo,
-    /// With which algorithm.
+    /// The algorithm of the signature.
     pub signature_algorithm: AlgorithmIdentifier,
     /// The signature.
     pub signature: BitStringAsn1,

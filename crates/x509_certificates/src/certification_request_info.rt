@@ -29,11 +29,11 @@ use x509_spelling::{
 pub struct CertificationRequestInfo {
     /// The version 0.
     pub version: FixedNumber<0>,
-    /// Whose key it is.
+    /// The name of the key's holder.
     pub subject: Name,
     /// The key.
     pub subject_public_key_info: SubjectPublicKeyInfo,
-    /// What is asked beside.
+    /// The attributes that are requested of the certificate, such as its extensions.
     pub attributes: OpenSslAttributes,
 }
 

@@ -41,13 +41,13 @@ pub struct TbsCertificate {
     pub version: Version,
     /// The issuer's number for the certificate.
     pub serial_number: IntegerAsn1,
-    /// With which algorithm the issuer signs.
+    /// The algorithm of the issuer's signature.
     pub signature: AlgorithmIdentifier,
-    /// Who signs.
+    /// The issuer's name.
     pub issuer: Name,
     /// When the certificate is valid.
     pub validity: Validity,
-    /// Whose key it is.
+    /// The name of the key's holder.
     pub subject: Name,
     /// The key.
     pub subject_public_key_info: SubjectPublicKeyInfo,

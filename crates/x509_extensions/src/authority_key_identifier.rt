@@ -292,7 +292,7 @@ fn is_there<T>(field: &Option<T>) -> bool
     }
 }
 
-// Of two fields of one tag, the later one. If none follows, this field.
+// The later of two fields of one tag. If none follows, it is this field.
 fn kept<T>(behind: Option<T>, field: T) -> Option<T>
 where
     T: Drop,

@@ -45,7 +45,7 @@ impl Model for ExtendedKeyUsage {
 impl ExtendedKeyUsage {
     ghost use Rattle.x509_extensions.specs.Lent.{LendsPurposes};
 
-    /// These purposes.
+    /// The extension's value with these purposes.
     pub fn new(purposes: Vec<ObjectIdentifierAsn1>) -> ExtendedKeyUsage
         ensures { result ≡ purposes.items }
     {

@@ -209,7 +209,7 @@ impl KeyUsage {
     }
 }
 
-// So many bits, all zero.
+// A string of `count` bits, which are all zero.
 fn zero_bits(alloc: Global, count: usize) -> Result<BitStringAsn1, AllocError>
     ensures { IfOk result (λ bits. (bit_count bits ≡ count) × ((k : ℕ) → bit_of bits k ≡ false)) }
 {
@@ -218,7 +218,7 @@ fn zero_bits(alloc: Global, count: usize) -> Result<BitStringAsn1, AllocError>
     bits_of(alloc, octets.as_slice(), unused as u8)
 }
 
-// The same bits with zeros behind them, `count` in all, which are more.
+// These bits with zeros after them: `count` bits in all, which are more.
 fn widened(alloc: Global, bits: &BitStringAsn1, count: usize) -> Result<BitStringAsn1, AllocError>
     requires more { bit_count bits.now < count }
     requires few { count ≤ 9 }

@@ -25,7 +25,7 @@ impl fmt::Display for KeyUsage {
     }
 }
 
-// Of the uses with these numbers those that there are.
+// The uses with these numbers that the usage has.
 #[derive(Clone, Copy)]
 struct UsesAmong<'a> {
     usage: &'a KeyUsage,

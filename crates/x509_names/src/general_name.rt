@@ -39,7 +39,7 @@ use x509_spelling::Exact;
 ///      registeredID                    [8]     OBJECT IDENTIFIER }
 /// ```
 ///
-/// Of X.400 none is read.
+/// A name of X.400 isn't read.
 #[derive(Debug, Drop, PartialEq, Eq)]
 pub enum GeneralName {
     /// A name of another kind.

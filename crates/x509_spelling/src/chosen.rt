@@ -36,7 +36,8 @@ pub fn read_chosen<A: Identified, K: Kinds>(
     })
 }
 
-/// The same in the one element with the identifier octet `first` that the bytes are.
+/// A value and the fields of the kind that its identifier denotes. The bytes are one element with the identifier octet `first`, whose
+/// content they take up.
 pub fn read_chosen_in<A: Identified, K: Kinds>(
     alloc: Global,
     first: u8,

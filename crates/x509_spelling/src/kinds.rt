@@ -54,7 +54,7 @@ pub struct LastKind<K>(pub K);
 pub enum KindOf<K, B> {
     /// The first kind.
     This(K),
-    /// One of the others.
+    /// One of the other kinds.
     Other(B),
 }
 

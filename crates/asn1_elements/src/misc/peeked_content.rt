@@ -58,7 +58,7 @@ impl PeekedContent {
         self.octets
     }
 
-    // The same octets.
+    // A copy of the octets.
     pub(crate) fn copy(&self) -> PeekedContent
         ensures { result ≡ self.now }
     {

@@ -28,8 +28,8 @@ pub struct EtypeInfo2Entry {
     pub s2kparams: Optional<Option<ExplicitContextTag2<OctetStringAsn1>>>,
 }
 
-/// Such entries, those that the KDC prefers first (RFC 4120, section 5.2.7.5). The standard's are never empty; an empty list is read
-/// and written.
+/// The entries of ETYPE-INFO2, in the KDC's order of preference (RFC 4120, section 5.2.7.5). The standard's list is never empty. An
+/// empty list is read and written.
 ///
 /// ```text
 /// ETYPE-INFO2 ::= SEQUENCE SIZE (1..MAX)
