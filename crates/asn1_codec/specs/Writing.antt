@@ -75,7 +75,7 @@ abbrev pub NotWroteValue : Option Unsupported → List ℕ → Writing → Writi
 NotWroteValue refusal bytes old new fault =
     (RefusedAs refusal fault × Wrote [] old new) ⊎ NotWrote refusal bytes old new fault
 
--- the same of a whole serializer, of which nothing is known behind a failed call but its sink
+-- a call on a whole serializer wrote nothing of a value that its type refuses, or failed; after a failed call only its sink is known
 abbrev pub NotWroteTo : Option Unsupported → List ℕ → Writing → Writing → Asn1DerError → Type 0
 NotWroteTo refusal bytes old new fault =
     (RefusedAs refusal fault × Wrote [] old new) ⊎ NotWrote refusal bytes old (halted new) fault

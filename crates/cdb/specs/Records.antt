@@ -4,7 +4,7 @@ use Rattle.std.specs.Cmp.Lexicographic.{pointwise}
 use Rattle.cdb.specs.Find.{looked_up}
 use Rattle.cdb.specs.declared.records.Record.{Record}
 
--- One of the records has the key.
+-- Some record has the key.
 abbrev pub Has : List Record → List ℕ → Type 0
 Has [] key = ⊥
 Has (r ∷ rs) key = (r.key.items ≡ key) ⊎ Has rs key

@@ -36,7 +36,7 @@ use Rattle.gss_acceptor.specs.declared.refusal.AcceptRefusal.{AcceptRefusal}
 use Rattle.gss_acceptor.specs.declared.refusal.AcceptRefusal.TheVariants.{NotAToken, Admit, Memory}
 use Rattle.gss_acceptor.specs.declared.terms.AcceptorTerms.{AcceptorTerms}
 
--- an acceptor: its service, and what it goes by beside it
+-- an acceptor: its service, and its terms
 pub record AcceptorRecord : Type 0 where
   pub service : ServiceRecord
   pub terms : AcceptorTerms
@@ -48,14 +48,14 @@ pub data Step : Type 0 where
   AdmitRequest : Bytes → Option Exchange → Step
   VerifyMic : Unverified → Bytes → Step
 
--- by a token of Kerberos in a message of SPNEGO
+-- the step after a token of Kerberos that is in a message of SPNEGO
 unfoldable pub held : Bytes → Exchange → Table (Result Step AcceptRefusal)
 held token exchange =
     -- The mechanism's token in a message of SPNEGO is Kerberos' first token (RFC 4178, sections 4.2.1 and 4.2.2; RFC 4121, section 4.1).
     -- Test: `other mechanisms, no mechanism, another token, and octets after it.`, `Not the token that is due.`.
     ask (IsApReqToken token) (sole_ap_req token) (done (Err NotAToken)) (λ message. done (Ok (AdmitRequest message (Some exchange))))
 
--- by the tokens of SPNEGO's first message. If Kerberos' token isn't there, it is asked for
+-- the step after the tokens of SPNEGO's first message. If Kerberos' token isn't there, it is asked for
 abbrev pub opened_by : Mechanism → Terms → Option Bytes → Option Bytes → Table (Result Step AcceptRefusal)
 opened_by mechanism terms None mic = done (Ok (AskFor mechanism terms))
 opened_by mechanism terms (Some token) mic = held token (record { supported = Some mechanism; terms = terms; mic = mic })
@@ -63,24 +63,24 @@ opened_by mechanism terms (Some token) mic = held token (record { supported = So
 abbrev pub opened : Offer → Table (Result Step AcceptRefusal)
 opened offer = opened_by offer.mechanism offer.terms offer.tokens.mechanism offer.tokens.mic
 
--- by a first token of SPNEGO
+-- the step after a first token of SPNEGO
 unfoldable pub negotiated : Bytes → Table (Result Step AcceptRefusal)
 negotiated token = and_then (offered token) opened
 
--- by a first token: one of Kerberos, or else of SPNEGO
+-- the step after a first token: one of Kerberos, or else of SPNEGO
 unfoldable pub carried : Bytes → Table (Result Step AcceptRefusal)
 carried token =
     -- A first token of Kerberos is the element 60 with the mechanism's identifier, the token id 01 00 and the AP-REQ, and nothing
     -- follows it (RFC 4121, section 4.1; RFC 2743, section 3.1). Another token is one of SPNEGO. Test: `No such tokens.`.
     ask (IsApReqToken token) (sole_ap_req token) (negotiated token) (λ message. done (Ok (AdmitRequest message None)))
 
--- by the tokens of a later message, where Kerberos' first token is due
+-- the step after the tokens of a later message, where Kerberos' first token is due
 abbrev pub responded_to : Terms → Tokens → Table (Result Step AcceptRefusal)
 responded_to terms tokens =
     -- A later message has Kerberos' first token where that is due (RFC 4178, section 4.2.2). Test: `Not the token that is due.`.
     need tokens.mechanism NotAToken (λ token. held token (record { supported = None; terms = terms; mic = tokens.mic }))
 
--- where the initiator's MIC is due
+-- the step where the initiator's MIC is due: the acceptor verifies it, or refuses the message that has none
 abbrev pub to_verify : Unverified → Result Bytes AcceptRefusal → Result Step AcceptRefusal
 to_verify unverified (Ok mic) = Ok (VerifyMic unverified mic)
 to_verify unverified (Err refusal) = Err refusal
@@ -89,7 +89,7 @@ abbrev pub next : Stage → Tokens → Table (Result Step AcceptRefusal)
 next (Token terms) tokens = responded_to terms tokens
 next (Mic unverified) tokens = done (to_verify unverified (due_mic tokens))
 
--- by a later token
+-- the step after a later token
 unfoldable pub resumed : Negotiation → Bytes → Table (Result Step AcceptRefusal)
 resumed negotiation token = and_then (responded token) (next negotiation.stage)
 

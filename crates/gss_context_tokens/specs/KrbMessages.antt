@@ -16,12 +16,12 @@ abbrev pub BeginsKrbMessage : {T : Type 0} → (T → List ℕ → Type 0) → K
 BeginsKrbMessage reads m bytes =
     (inner message : List ℕ) × IsOfMechanism bytes m.krb5_oid inner × IsTold inner m.krb5_token_id message × reads m.krb_msg message
 
--- the same of a message after its header
+-- The octets begin with a token of IAKERB, whose content is a header and the message after it (draft-ietf-kitten-iakerb-03, section 3).
 abbrev pub BeginsProxyMessage : {T : Type 0} → (T → List ℕ → Type 0) → IAKerbProxyMessage T → List ℕ → Type 0
 BeginsProxyMessage reads m bytes =
     (message body : List ℕ) × IsProxied bytes message × Leads header_reading.ghosts.reads m.header message body × reads m.krb_msg body
 
--- what two such messages of one token have in common: all, where two values that are read alike are the same
+-- what two messages of one Kerberos token have in common: all, where two values that are read alike are the same
 abbrev pub seen_message : {T : Type 0} → Seen T → Seen (KrbMessage T)
 seen_message seen = seen_part (λ m. (m.krb5_oid, (m.krb5_token_id, m.krb_msg))) (seen_pair as_is (seen_pair as_is seen))
 
@@ -29,7 +29,7 @@ seen_message seen = seen_part (λ m. (m.krb5_oid, (m.krb5_token_id, m.krb_msg)))
 abbrev pub seen_proxy_message : {T : Type 0} → Seen T → Seen (IAKerbProxyMessage T)
 seen_proxy_message seen = seen_part (λ m. (m.header, m.krb_msg)) (seen_pair as_is seen)
 
--- what is written of each, inside its token
+-- The content of a Kerberos token: the mechanism, the token id and the message.
 abbrev pub krb_message_content : {T : Type 0} → (T → Tree) → KrbMessage T → List ℕ
 krb_message_content tree m = told_content m.krb5_oid m.krb5_token_id (der (tree m.krb_msg))
 

@@ -35,7 +35,7 @@ account_found (Ok (Some octets)) = account_or_none (account_in octets)
 account_found (Ok None) = Ok None
 account_found (Err fault) = Err (fault_of fault)
 
--- The same, of the record that is so many octets of the front of a buffer, if one was found.
+-- The account of the record that is the first `n` octets of a buffer, if a record was found.
 abbrev pub account_front : List ℕ → Option ℕ → Result (Option AccountRecord) LookupFault
 account_front buffer None = Ok None
 account_front buffer (Some n) = account_or_none (account_in (take n buffer))
@@ -50,7 +50,7 @@ realm_found (Ok (Some octets)) = or_damaged (realm_in octets)
 realm_found (Ok None) = Err Damaged
 realm_found (Err fault) = Err (fault_of fault)
 
--- The same, of the record that is so many octets of the front of a buffer, if one was found.
+-- The realm of the record that is the first `n` octets of a buffer. Without a record the file is damaged.
 abbrev pub realm_front : List ℕ → Option ℕ → Result RealmParameters LookupFault
 realm_front buffer None = Err Damaged
 realm_front buffer (Some n) = or_damaged (realm_in (take n buffer))
@@ -67,7 +67,7 @@ realm_said bytes = realm_found (looked_up RECORD_ROOM bytes realm_key)
 abbrev pub IsLookOf : List ℕ → Look → Type 0
 IsLookOf bytes all = (name : List Bytes) (account : Option AccountRecord) → account_said bytes name ≡ Ok account → all name ≡ account
 
--- The same of a file whose octets may not be known.
+-- The octets of a file are known, and these may be all its accounts.
 abbrev pub Holds : Option (List ℕ) → Look → Type 0
 Holds content all = (bytes : List ℕ) × (content ≡ Some bytes) × IsLookOf bytes all
 

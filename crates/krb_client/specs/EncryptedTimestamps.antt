@@ -54,7 +54,7 @@ sole_pa_enc_timestamp suite key moment words a b x y =
     ∙ ap (λ encrypted_timestamp. pa_data_of PA_ENC_TIMESTAMP (encrypted_bytes encrypted_timestamp)) (sole_sealed_time suite key moment (timestamp_confounder (cipher_confounder_size suite) words) x.encrypted_timestamp y.encrypted_timestamp x.sealed_time y.sealed_time)
     ∙ sym y.made
 
--- by a key of a suite
+-- the means of a client that has a key of this suite: it sends PA-ENC-TIMESTAMP, and the key opens the reply
 abbrev pub by_key : CipherSuite → Bytes → MeansRecord
 by_key suite key = record {
   asks = λ body moment words. IsPaEncTimestamp suite key moment words;

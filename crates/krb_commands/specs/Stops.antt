@@ -17,21 +17,21 @@ stop_text (Failed text) = string_bytes text
 stop_text (Usage text) = string_bytes text
 stop_text Memory = codes "out of memory"
 
--- The stop is a refusal in what is displayed so, or memory ran out.
+-- The stop is a refusal with this text, if the text is known, or memory ran out.
 abbrev pub IsRefusal : Option (List ℕ) → Stop → Type 0
 IsRefusal words (Refused text) = IfSome words (λ shown. string_bytes text ≡ shown)
 IsRefusal words (Failed text) = ⊥
 IsRefusal words (Usage text) = ⊥
 IsRefusal words Memory = Unit {0}
 
--- The same of a failure.
+-- The stop is a failure with this text, if the text is known, or memory ran out.
 abbrev pub IsFailure : Option (List ℕ) → Stop → Type 0
 IsFailure words (Refused text) = ⊥
 IsFailure words (Failed text) = IfSome words (λ shown. string_bytes text ≡ shown)
 IsFailure words (Usage text) = ⊥
 IsFailure words Memory = Unit {0}
 
--- The same of arguments that the program doesn't take.
+-- The stop says that the program doesn't take its arguments, with this text, if the text is known, or memory ran out.
 abbrev pub IsUsage : Option (List ℕ) → Stop → Type 0
 IsUsage words (Refused text) = ⊥
 IsUsage words (Failed text) = ⊥

@@ -1,4 +1,4 @@
--- By which entry of its keytab a service judges a request (RFC 4120, section 3.2.3).
+-- The entry of its keytab by which a service judges a request (RFC 4120, section 3.2.3).
 use Rattle.std.specs.Prelude.{◌≡◌, Bool, true, false, ◌&&◌, List, [], get_or, if◌then◌else◌}
 use Rattle.std.specs.List.{find, list_any}
 use Rattle.std.specs.Option.{unwrap_or}

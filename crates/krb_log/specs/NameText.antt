@@ -31,7 +31,7 @@ name_text (component ∷ components) = component_text component ++ flat_map (λ 
 abbrev pub principal_text : List Bytes → Bytes → List ℕ
 principal_text components realm = name_text components ++ 64 ∷ component_text realm
 
--- the same, or `(long)` where that has more than 512 octets
+-- a name in its realm, or `(long)` where its text has more than 512 octets
 abbrev pub shown_name : List Bytes → Bytes → List ℕ
 shown_name components realm = if nat_le (length (principal_text components realm)) NAME_ROOM then principal_text components realm else LONG_NAME.now
 

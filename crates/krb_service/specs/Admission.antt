@@ -12,8 +12,9 @@ use Rattle.krb_types.specs.declared.data_types.principal_name.PrincipalName.{Pri
 use Rattle.krb_ap_requests.specs.Presents.{Choice}
 use Rattle.krb_ap_requests.specs.declared.presented.Presented.{Presented}
 
--- Of the ticket: the client's realm and name, the session key, authtime, start, endtime and flags. Of the authenticator: subkey,
--- checksum and sequence number, if it has them (RFC 4120, section 5.5.1). And the AP-REP, if the client asked for one.
+-- What an admission holds. The ticket gives the client's realm and name, the session key, authtime, starttime, endtime and flags.
+-- The authenticator gives the subkey, checksum and sequence number, if it has them (RFC 4120, section 5.5.1). The AP-REP is there
+-- if the client asked for one.
 pub record AdmissionRecord : Type 0 where
   pub realm : Bytes
   pub client : PrincipalName

@@ -40,6 +40,6 @@ abbrev pub TellsRead : {A : Type 0} → (List ℕ → Result A PacError) → Opt
 TellsRead reads after old new last (IoError cause) = IsReadStop after old new last cause
 TellsRead reads after old new last fault = FailedAtMostOnce old new × (came : List ℕ) × (reads came ≡ Err fault)
 
--- the same of a whole PAC, which takes memory
+-- what a refusal to read a whole PAC says of any device: memory ran out, or what `TellsRead` says of a PAC
 abbrev pub TellsPac : Option (List ℕ) → ℕ → ℕ → Option ErrorKind → PacError → Type 0
 TellsPac after old new last fault = ((fault ≡ Memory) × FailedAtMostOnce old new) ⊎ TellsRead (pac_at None) after old new last fault

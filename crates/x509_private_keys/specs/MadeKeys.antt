@@ -18,7 +18,8 @@ pub record AreParts (algorithm : AlgorithmIdentifier) (key : PrivateKeyValue) (p
   pub of_key : made.private_key ≡ key
   pub of_public : key_of_field made.public_key ≡ public
 
--- the same of an algorithm by its identifier and parameters
+-- the key has the algorithm with this identifier and these parameters, this private key and this public key, and the version that
+-- belongs to the public key
 pub record AreMade (arcs : List ℕ) (parameters : AlgorithmIdentifierParameters) (key : PrivateKeyValue) (public : Option Bits) (made : PrivateKeyFields) : Type 0 where
   pub version : made.version ≡ version_with public
   pub of_algorithm : IsMade arcs parameters made.private_key_algorithm

@@ -1,4 +1,4 @@
--- In what an accepted spelling may deviate from the strict one. A value's count is the sum over its parts.
+-- The ways in which an accepted spelling may deviate from the strict one. A value's count is the sum over its parts.
 use Rattle.std.specs.Prelude.{ℕ, Bool, true, false}
 
 pub data Deviation : Type 0 where
