@@ -106,6 +106,7 @@ round_count key = length key / 4 + 6
 unfoldable pub key_schedule : List ℕ → List ℕ
 key_schedule key = expansion key (4 * (round_count key + 1) - length key / 4)
 
+-- the round key of this number: four words of the key schedule (FIPS 197, section 5.2)
 abbrev pub round_key : List ℕ → ℕ → List ℕ
 round_key w n = take 16 (drop (16 * n) w)
 

@@ -4,6 +4,7 @@ use Rattle.byte_streams.specs.declared.exact.WholeFault.TheVariants as whole
 use Rattle.asn1_der.specs.declared.error.Asn1DerError.{Asn1DerError}
 use Rattle.asn1_der.specs.declared.error.Asn1DerError.TheVariants.{InvalidSink, UnsupportedValue, Memory, Other}
 
+-- the error of a serializer whose sink has this fault
 abbrev pub sink_fault : WholeFault → Asn1DerError
 sink_fault whole.Full = InvalidSink
 sink_fault (whole.Failed kind) = Other kind

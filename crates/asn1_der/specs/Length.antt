@@ -7,6 +7,7 @@ digits_within zero number = []
 digits_within (suc steps) zero = []
 digits_within (suc steps) (suc number) = digits_within steps (suc number / 256) ++ (suc number % 256) ∷ []
 
+-- the digits of a number to the base 256, of which the first isn't zero
 unfoldable pub digits : ℕ → List ℕ
 digits number = digits_within number number
 

@@ -31,6 +31,7 @@ shown_text year month day hour minute second =
     two_digits (year / 100) ++ two_digits (year % 100) ++ codes "-" ++ two_digits month ++ codes "-" ++ two_digits day
     ++ codes " " ++ two_digits hour ++ codes ":" ++ two_digits minute ++ codes ":" ++ two_digits second ++ codes "Z"
 
+-- the text of a time as it is shown, in 20 characters
 abbrev pub shown_time : GeneralizedTime → List ℕ
 shown_time t = shown_text t.year t.month t.day t.hour t.minute t.second
 

@@ -6,15 +6,16 @@ use Rattle.byte_streams.specs.declared.sink.SinkFault.TheVariants as some
 use Rattle.byte_streams.specs.declared.exact.WholeFault.{WholeFault}
 use Rattle.byte_streams.specs.declared.exact.WholeFault.TheVariants as whole
 
+-- the sink names the device's kind of fault, if the device failed
 abbrev pub TellsFault : Option ErrorKind → SinkFault → Type 0
 TellsFault last (some.Failed kind) = last ≡ Some kind
 TellsFault last some.Memory = ⊤
 
--- after a write of so many bytes
+-- what the sink says after a write of so many bytes: no fault of the device, if it took none of them, or the write's own fault
 abbrev pub TellsWrite : Option ErrorKind → Result ℕ SinkFault → ℕ → Type 0
 TellsWrite last r offered = MatchResult r (λ n. n ≡ 0 → 0 < offered → last ≡ None) (TellsFault last)
 
--- after a whole write that stopped
+-- what the sink says after a whole write that stopped
 abbrev pub TellsWholeFault : Option ErrorKind → WholeFault → Type 0
 TellsWholeFault last whole.Full = last ≡ None
 TellsWholeFault last (whole.Failed kind) = last ≡ Some kind

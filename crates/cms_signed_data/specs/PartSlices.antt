@@ -6,6 +6,7 @@ use Rattle.cms_signed_data.specs.declared.content_info.ContentInfo.{ContentInfo}
 use Rattle.cms_signed_data.specs.declared.slices.Slices.{Slices}
 use Rattle.cms_signed_data.specs.SignedParts.{content_of, digest_of, signature_of}
 
+-- the slices are the content, the certificate, the signed attributes, the digest and the signature of the signed data
 pub record AreSlices (info : ContentInfo) (bytes : List ℕ) (slices : Slices) : Type 0 where
   pub content_is : slices.content.now ≡ content_of info
   pub certificate_is : IsPart bytes certificate_place slices.certificate.now

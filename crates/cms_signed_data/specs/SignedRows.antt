@@ -19,6 +19,7 @@ use Rattle.cms_signed_data.specs.declared.signer_info.SignerInfo.{SignerInfo}
 abbrev pub SignerRow : Type 0
 SignerRow = ℕ × (IssuerAndSerialNumber × (RawAlgorithmIdentifier × (SignedAttributes × (AlgorithmIdentifier × (List ℕ × ⊤)))))
 
+-- the fields of a SignerInfo as its row (RFC 5652, section 5.3)
 abbrev pub signer_row : SignerInfo → SignerRow
 signer_row v = (v.version, (v.sid, (v.digest_algorithm, (v.signed_attributes, (v.signature_algorithm, (v.signature, tt))))))
 
@@ -38,6 +39,7 @@ one_signer v w e =
 abbrev pub SignedRow : Type 0
 SignedRow = ℕ × (SetOfOne RawAlgorithmIdentifier × (EncapsulatedContentInfo × (Explicit 0 Certificate × (SetOfOne SignerInfo × ⊤))))
 
+-- the fields of a SignedData as its row (RFC 5652, section 5.1)
 abbrev pub signed_row : SignedData → SignedRow
 signed_row v = (v.version, (v.digest_algorithms, (v.encap_content_info, (v.certificates, (v.signer_infos, tt)))))
 
@@ -54,6 +56,7 @@ one_signed v w e =
 abbrev pub ContentRow : Type 0
 ContentRow = ObjectIdentifierAsn1 × (Explicit 0 SignedData × ⊤)
 
+-- the fields of a ContentInfo as its row (RFC 5652, section 3)
 abbrev pub content_row : ContentInfo → ContentRow
 content_row v = (v.content_type, (v.content, tt))
 

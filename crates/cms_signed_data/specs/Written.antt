@@ -39,15 +39,19 @@ attributes_of content_type content = record {
 abbrev pub signed_bytes : List ℕ → List ℕ → List ℕ
 signed_bytes content_type content = as_set (der (attributes_tree (attributes_of content_type content)))
 
+-- The issuer and serial number of a certificate (RFC 5652, section 10.2.4).
 abbrev pub id_of : Certificate → IssuerAndSerialNumber
 id_of value = record { issuer = value.tbs_certificate.issuer; serial_number = value.tbs_certificate.serial_number }
 
+-- The DER tree of an IssuerAndSerialNumber (RFC 5652, section 10.2.4).
 abbrev pub id_tree : IssuerAndSerialNumber → Tree
 id_tree = tagged_tree sequence_octet id_impl.ghosts.row_tree id_impl.ghosts.row_of
 
+-- The EncapsulatedContentInfo with this content type and content (RFC 5652, section 5.2).
 abbrev pub encapsulated_of : List ℕ → List ℕ → EncapsulatedContentInfo
 encapsulated_of content_type content = record { content_type = record { 0 = content_type }; content = record { 0 = content } }
 
+-- The SignerInfo with this sid, these signed attributes and this signature. Its digest algorithm is SHA-256 (RFC 5652, section 5.3).
 abbrev pub signer_of : IssuerAndSerialNumber → SignedAttributes → Signed → SignerInfo
 signer_of id attributes signed = record {
   version = 1;

@@ -60,6 +60,7 @@ abbrev pub opened_by : Mechanism → Terms → Option Bytes → Option Bytes →
 opened_by mechanism terms None mic = done (Ok (AskFor mechanism terms))
 opened_by mechanism terms (Some token) mic = held token (record { supported = Some mechanism; terms = terms; mic = mic })
 
+-- the step after what SPNEGO's first message offers
 abbrev pub opened : Offer → Table (Result Step AcceptRefusal)
 opened offer = opened_by offer.mechanism offer.terms offer.tokens.mechanism offer.tokens.mic
 
@@ -85,6 +86,7 @@ abbrev pub to_verify : Unverified → Result Bytes AcceptRefusal → Result Step
 to_verify unverified (Ok mic) = Ok (VerifyMic unverified mic)
 to_verify unverified (Err refusal) = Err refusal
 
+-- the step after the tokens of a later message, by what is due
 abbrev pub next : Stage → Tokens → Table (Result Step AcceptRefusal)
 next (Token terms) tokens = responded_to terms tokens
 next (Mic unverified) tokens = done (to_verify unverified (due_mic tokens))

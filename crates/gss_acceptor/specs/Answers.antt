@@ -10,19 +10,21 @@ use Rattle.gss_acceptor.specs.declared.answer.NegState.TheVariants.{AcceptComple
 use Rattle.gss_acceptor.specs.declared.mechanism.Mechanism.{Mechanism}
 use Rattle.asn1_der.specs.Octets.{context_0_octet, context_1_octet, context_2_octet, context_3_octet, object_identifier_octet, octet_string_octet, sequence_octet}
 
+-- the token of the AP-REP, if there is one (RFC 4121, section 4.1)
 abbrev pub ap_rep_in : Option Bytes → Option Bytes
 ap_rep_in reply = option_map ap_rep_token reply
 
--- [0] negState
+-- the number of a negState (RFC 4178, section 4.2.2)
 abbrev pub state_number : NegState → ℕ
 state_number AcceptCompleted = 0
 state_number AcceptIncomplete = 1
 state_number RequestMic = 3
 
+-- the field negState, under the tag [0] (RFC 4178, section 4.2.2)
 abbrev pub state_field : NegState → Bytes
 state_field state = context_0_octet ∷ 3 ∷ 10 ∷ 1 ∷ state_number state ∷ []
 
--- [1] supportedMech, if it is named
+-- the field supportedMech, under the tag [1], if a mechanism is named (RFC 4178, section 4.2.2)
 abbrev pub supported_field : Option Mechanism → Bytes
 supported_field None = []
 supported_field (Some mechanism) = element context_1_octet (element object_identifier_octet (mechanism_octets mechanism))

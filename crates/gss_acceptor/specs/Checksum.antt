@@ -21,11 +21,13 @@ initial_sum octets =
     else (if not (le32_at 0 octets == 16) then Err OtherChecksum
     else Ok (record { bindings = take 16 (drop 4 octets); flags = record { 0 = le32_at 20 octets } }))
 
+-- what a checksum says, or that it isn't an initiator's
 abbrev pub initial_of : Checksum → Result InitialChecksum AcceptRefusal
 initial_of checksum =
     -- The authenticator has a checksum of type 0x8003 (RFC 4121, section 4.1.1). Test: `Refused after the admission.`.
     if not (is_number GSS_API checksum.cksumtype.0) then Err NoChecksum else initial_sum checksum.checksum.0
 
+-- what the checksum of an authenticator says, if it has one
 abbrev pub initial_in : Option Checksum → Result InitialChecksum AcceptRefusal
 initial_in None = Err NoChecksum
 initial_in (Some checksum) = initial_of checksum

@@ -27,6 +27,7 @@ use Rattle.gss_acceptor.specs.declared.refusal.AcceptRefusal.TheVariants.{Memory
 abbrev pub IsGiven : Accepted → Result Accepted AcceptRefusal → Type 0
 IsGiven accepted result = (result ≡ Err Memory) ⊎ (result ≡ Ok accepted)
 
+-- the answer after which the negotiation goes on: the token to send, and what is due next
 abbrev pub waiting : Bytes → Stage → Accepted
 waiting reply at = ContinueNeeded (record { reply = reply; negotiation = record { stage = at } })
 
@@ -75,6 +76,7 @@ awaiting established supported list own =
     waiting (neg_token_resp AcceptIncomplete supported established.reply (Some own))
     (stage.Mic (record { established = record established { reply = None }; list = list }))
 
+-- the acceptor sends its MIC and demands the initiator's, or it can't make its MIC
 abbrev pub Demands : EstablishedRecord → Option Mechanism → Bytes → Result Accepted AcceptRefusal → Type 0
 Demands established supported list result =
     ((own : Bytes) × WritesMic (sender_of established.context) established.context.sending list own
@@ -90,6 +92,7 @@ IsConcludedWithout established supported terms result =
     (MatchBool (is_some established.reply) (Demands established supported terms.list result) (result ≡ Err NoMic))
     (IsGiven (completed established supported None) result)
 
+-- the negotiation goes on or ends by the initiator's MIC, which came with its token or didn't
 abbrev pub IsConcluded : Exchange → EstablishedRecord → Result Accepted AcceptRefusal → Type 0
 IsConcluded exchange established result =
     MatchOption exchange.mic (IsConcludedWithout established exchange.supported exchange.terms result)

@@ -80,6 +80,7 @@ end_terms terms skew words admission flags number = record {
   numbers = record { sending = sending_number (sends_subkey terms admission) (is_some admission.reply) words number; taking = number };
 }
 
+-- the acceptor's end of a context under this key, or that the key's suite is refused
 abbrev pub context_in : KeyRecord → ContextTerms → Result ContextRecord AcceptRefusal
 context_in key terms =
     if is_newer key.suite then Ok (context_of key Acceptor terms)

@@ -36,6 +36,7 @@ pub sole_neg_init : (token : Bytes) → IsSole (IsNegInit token)
 sole_neg_init token v w p q =
     tagged-injective INITIAL_TOKEN neg_init_impl.ghosts.row_tree neg_init_impl.ghosts.row_laws neg_init_impl.ghosts.row_of neg_init_impl.ghosts.one_row v w p.0 q.0 (sym p.1 ∙ q.1)
 
+-- the identifier is SPNEGO's
 abbrev pub is_spnego : ObjectIdentifierAsn1 → Bool
 is_spnego identifier = pointwise nat_eq (oid_content identifier.0) spnego_octets
 
@@ -62,17 +63,21 @@ offer_by mechanism list tokens = record {
   tokens = optimistic (is_first list) tokens;
 }
 
+-- what a list of mechanisms and these tokens offer
 abbrev pub offer_among : List ObjectIdentifierAsn1 → Tokens → Result Offer AcceptRefusal
 -- Kerberos is among the mechanisms that SPNEGO offers, by either identifier; the first such identifier counts (RFC 4178, section 4.2.1;
 -- MS-SPNG, section 3.1.5.2). Test: `SPNEGO: either identifier`, `other mechanisms, no mechanism, another token, and octets after it.`.
 offer_among list tokens = option_map_or (λ mechanism. Ok (offer_by mechanism list tokens)) (kerberos_among list) (Err NoKerberos)
 
+-- the tokens of a NegTokenInit: mechToken and mechListMIC (RFC 4178, section 4.2.1)
 abbrev pub tokens_of : NegTokenInit → Tokens
 tokens_of init = record { mechanism = option_map (λ token. token.0) init.mech_token.0; mic = option_map (λ mic. mic.0) init.mech_list_mic.0 }
 
+-- what a NegTokenInit offers (RFC 4178, section 4.2.1)
 abbrev pub offer_of : NegTokenInit → Result Offer AcceptRefusal
 offer_of init = option_map_or (λ list. offer_among list.0 (tokens_of init)) init.mech_types.0 (Err NoKerberos)
 
+-- what a first token of SPNEGO offers, or that it is none
 abbrev pub offer_in : GssApiNegInit → Result Offer AcceptRefusal
 offer_in message = if is_spnego message.oid then offer_of message.neg_token_init.0 else Err NotAToken
 

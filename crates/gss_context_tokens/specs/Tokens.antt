@@ -28,10 +28,11 @@ IsOfMechanism bytes mechanism inner = (content : List ℕ) × BeginsToken conten
 abbrev pub IsTold : List ℕ → List ℕ → List ℕ → Type 0
 IsTold inner id message = (inner ≡ id ++ message) × (length id ≡ 2)
 
--- the mechanism IAKERB (draft-ietf-kitten-iakerb-03, section 2), and its token id (section 3)
+-- the mechanism IAKERB (draft-ietf-kitten-iakerb-03, section 2)
 abbrev pub iakerb : ObjectIdentifierAsn1
 iakerb = record { 0 = iakerb5 }
 
+-- the token id of an IAKERB message (draft-ietf-kitten-iakerb-03, section 3)
 abbrev pub proxy_id : List ℕ
 proxy_id = 5 ∷ 1 ∷ []
 
@@ -39,7 +40,7 @@ proxy_id = 5 ∷ 1 ∷ []
 abbrev pub IsProxied : List ℕ → List ℕ → Type 0
 IsProxied bytes message = (inner : List ℕ) × IsOfMechanism bytes iakerb inner × IsTold inner proxy_id message
 
--- the content of a token, and the token
+-- the content of a token: the mechanism, the token id and the message
 abbrev pub told_content : ObjectIdentifierAsn1 → List ℕ → List ℕ → List ℕ
 told_content mechanism id message = der (mechanism_tree mechanism) ++ (id ++ message)
 

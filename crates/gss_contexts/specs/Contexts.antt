@@ -57,6 +57,7 @@ other_side Acceptor = Initiator
 abbrev pub sender_of : ContextRecord → Sender
 sender_of c = record { key = c.key; side = c.side; acceptor_subkey = c.acceptor_subkey }
 
+-- who protects the tokens that the other end sends
 abbrev pub peer_of : Sender → Sender
 peer_of s = record { key = s.key; side = other_side s.side; acceptor_subkey = s.acceptor_subkey }
 

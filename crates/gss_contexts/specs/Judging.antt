@@ -109,6 +109,7 @@ IsUnread s Sealed token text OtherHeader =
 IsUnread s Checksum token text WrongChecksum = (d m : List ℕ) → Carries s Checksum (be16_at 4 token) d m token text → ⊥
 IsUnread s protection token text e = ⊥
 
+-- the data that follow the token's header are no message's, by this refusal
 abbrev pub IsUnopened : Sender → Protection → List ℕ → TokenRefusal → Type 0
 IsUnopened s protection token e = (text : List ℕ) × IsTextOf token text × IsUnread s protection token text e
 

@@ -13,11 +13,12 @@ use Rattle.gss_contexts.specs.declared.side.Side.TheVariants.{Initiator, Accepto
 use Rattle.gss_contexts.specs.declared.side.Protection.{Protection}
 use Rattle.gss_contexts.specs.declared.side.Protection.TheVariants.{Sealed, Checksum}
 
--- the key usages of what a side sends (section 2): of wrap tokens, and of MIC tokens
+-- the key usage of the wrap tokens that a side sends (RFC 4121, section 2)
 abbrev pub seal_usage : Side → ℕ
 seal_usage Initiator = cast_unsigned w32 INITIATOR_SEAL
 seal_usage Acceptor = cast_unsigned w32 ACCEPTOR_SEAL
 
+-- the key usage of the MIC tokens that a side sends (RFC 4121, section 2)
 abbrev pub sign_usage : Side → ℕ
 sign_usage Initiator = cast_unsigned w32 INITIATOR_SIGN
 sign_usage Acceptor = cast_unsigned w32 ACCEPTOR_SIGN
@@ -60,10 +61,11 @@ pub record IsMicOf (sender : Sender) (number : ℕ) (message token : List ℕ) :
     checksum = sum_of sender.key (sign_usage sender.side) (message ++ take 16 token);
   }) token
 
--- a token's header with RRC zero, and with EC and RRC zero
+-- a token's header with RRC zero
 abbrev pub header_without_rrc : List ℕ → List ℕ
 header_without_rrc token = take 6 token ++ (0 ∷ 0 ∷ take 8 (drop 8 token))
 
+-- a token's header with EC and RRC zero
 abbrev pub header_without_counts : List ℕ → List ℕ
 header_without_counts token = take 4 token ++ (0 ∷ 0 ∷ 0 ∷ 0 ∷ take 8 (drop 8 token))
 

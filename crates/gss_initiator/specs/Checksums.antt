@@ -23,6 +23,7 @@ bindings_of application = if nat_lt (length application) 4294967296 then Some (m
 abbrev pub initial_octets : InitialChecksum → Bytes
 initial_octets initial = (le32 16 ++ initial.bindings) ++ le32 initial.flags.0
 
+-- the checksum of an authenticator with these bindings and flags (RFC 4121, section 4.1.1)
 abbrev pub initial_checksum : InitialChecksum → Checksum
 initial_checksum initial = record { cksumtype = record { 0 = pos GSS_API }; checksum = record { 0 = initial_octets initial } }
 

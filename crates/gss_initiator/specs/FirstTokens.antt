@@ -44,6 +44,7 @@ neg_init token = record {
   };
 }
 
+-- the first token of SPNEGO that has this token of Kerberos, as DER (RFC 4178, section 4.2.1)
 unfoldable pub neg_init_token : Bytes → Bytes
 neg_init_token token = der (neg_init_tree (neg_init token))
 

@@ -35,6 +35,7 @@ due_by octets =
     else if is_as octets (10 ∷ 1 ∷ 2 ∷ []) then Err Rejected
     else Err NotAToken
 
+-- whether a further token of the initiator is due, by the field negState
 abbrev pub due_in : Option (ExplicitContextTag 0 Raw) → Result Bool InitiateRefusal
 -- The acceptor's first answer has a state (RFC 4178, section 4.2.2). Test: `take NotAToken`.
 due_in None = Err NotAToken
@@ -57,6 +58,7 @@ answer_in message = then_judged (judged_answer message) (λ due. Ok (record {
   mic = option_map (λ mic. mic.0) message.mech_list_mic.0;
 }))
 
+-- what the acceptor's answer of SPNEGO says, or its refusal
 unfoldable pub responded : Bytes → Table (Result Answer InitiateRefusal)
 responded token =
     -- The answer is the DER encoding of a NegTokenResp (RFC 4178, section 4.2.2). Test: `take NotAToken`.
@@ -79,8 +81,10 @@ abbrev pub settled : Pending → Option Bytes → Table (Result ContextRecord In
 settled pending None = settled_without pending
 settled pending (Some token) = settled_with pending token
 
+-- the context of an answer, and what the answer says of MICs
 abbrev pub settled_by : Pending → Answer → Table (Result Heard InitiateRefusal)
 settled_by pending answer = and_then (settled pending answer.token) (λ context. done (Ok (record { context = context; is_due = answer.is_due; mic = answer.mic })))
 
+-- the context of the acceptor's answer of SPNEGO, and what the answer says of MICs
 abbrev pub negotiated : Pending → Bytes → Table (Result Heard InitiateRefusal)
 negotiated pending token = and_then (responded token) (settled_by pending)

@@ -32,9 +32,11 @@ abbrev pub heard_as : TokenForm → Pending → Bytes → Table (Result Heard In
 heard_as Bare pending token = and_then (ended pending token) (λ context. done (Ok (unasked context)))
 heard_as Negotiated pending token = negotiated pending token
 
+-- what the answer to the initiator's first token says
 abbrev pub heard : Pending → Bytes → Table (Result Heard InitiateRefusal)
 heard pending token = heard_as pending.form pending token
 
+-- the established context, with this token to send if there is one
 abbrev pub kept : ContextRecord → Option Bytes → Result TakenRecord InitiateRefusal
 kept context reply = Ok (record { context = context; reply = reply })
 

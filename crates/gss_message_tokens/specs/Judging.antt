@@ -24,15 +24,17 @@ abbrev pub id_judged : TokenKind → List ℕ → Verdict
 id_judged kind whole =
     if nat_le 2 (length whole) && not (bytes_eq (take 2 whole) (id_of kind)) then Err (InvalidId (id_of kind) (take 2 whole)) else Ok tt
 
--- a filler that is there isn't all FF
+-- a MIC token's filler that is there isn't all FF (RFC 4121, section 4.2.6.1)
 abbrev pub mic_filler_judged : List ℕ → Verdict
 mic_filler_judged whole =
     if nat_le 8 (length whole) && not (bytes_eq (take 5 (drop 3 whole)) mic_filler) then Err (InvalidMicFiller (take 5 (drop 3 whole))) else Ok tt
 
+-- a wrap token's filler that is there isn't FF (RFC 4121, section 4.2.6.2)
 abbrev pub wrap_filler_judged : List ℕ → Verdict
 wrap_filler_judged whole =
     if nat_le 4 (length whole) && not (nat_eq (slice_index whole 3) 255) then Err (InvalidWrapFiller (slice_index whole 3)) else Ok tt
 
+-- the verdict on the filler of a token of this kind
 abbrev pub filler_judged : TokenKind → List ℕ → Verdict
 filler_judged Mic = mic_filler_judged
 filler_judged Wrap = wrap_filler_judged

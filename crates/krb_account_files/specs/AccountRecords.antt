@@ -12,6 +12,7 @@ abbrev suite_among : ℕ → List CipherSuite → Option CipherSuite
 suite_among number [] = None
 suite_among number (suite ∷ suites) = if cipher_number suite == number then Some suite else suite_among number suites
 
+-- The suite that has this number, if one has it.
 abbrev pub suite_numbered : ℕ → Option CipherSuite
 suite_numbered number = suite_among number cipher_suites
 

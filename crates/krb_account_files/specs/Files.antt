@@ -25,11 +25,12 @@ fault_of (database.Failed kind) = Failed kind
 fault_of database.Damaged = Damaged
 fault_of database.Long = Damaged
 
--- The account whose record was found, none if no record was found, or the file is damaged.
+-- The account of a record that was found. If the record is no account's, the file is damaged.
 abbrev pub account_or_none : Option AccountRecord → Result (Option AccountRecord) LookupFault
 account_or_none None = Err Damaged
 account_or_none (Some account) = Ok (Some account)
 
+-- The account whose record was found, none if no record was found, or the file's fault.
 abbrev pub account_found : Result (Option (List ℕ)) Fault → Result (Option AccountRecord) LookupFault
 account_found (Ok (Some octets)) = account_or_none (account_in octets)
 account_found (Ok None) = Ok None

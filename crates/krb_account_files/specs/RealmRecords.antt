@@ -19,6 +19,7 @@ abbrev pub pkinit_in : List ℕ → Option (List ℕ)
 pkinit_in [] = None
 pkinit_in (octet ∷ octets) = Some (octet ∷ octets)
 
+-- The octets of a record by which logins by certificate are answered, none if none are given.
 abbrev pub pkinit_octets : Option (List ℕ) → List ℕ
 pkinit_octets None = []
 pkinit_octets (Some octets) = octets

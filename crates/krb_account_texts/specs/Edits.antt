@@ -45,6 +45,7 @@ abbrev pub certified : Option Bytes → Line → Line
 certified pkinit (line.Realm own) = line.Realm (record { name = own.name; settings = own.settings; pkinit = pkinit })
 certified pkinit other = other
 
+-- The line is a realm's.
 abbrev pub is_realm : Line → Bool
 is_realm (line.Realm own) = true
 is_realm other = false

@@ -48,6 +48,7 @@ abbrev pub digits_behind : ℕ → List ℕ → Option ℕ
 digits_behind number [] = Some number
 digits_behind number (digit ∷ digits) = option_and_then (λ (next : ℕ). digits_behind next digits) (next_number number digit)
 
+-- The number below 2^32 that decimal digits write, if there is a digit.
 unfoldable pub number_in : List ℕ → Option ℕ
 number_in digits = if length digits == 0 then None else digits_behind 0 digits
 
@@ -56,6 +57,7 @@ abbrev pub judged_kvno : Option ℕ → Result ℕ LineFault
 judged_kvno None = Err fault.Kvno
 judged_kvno (Some kvno) = if kvno == 0 then Err fault.Kvno else Ok kvno
 
+-- The kvno that decimal digits write.
 abbrev pub kvno_in : List ℕ → Result ℕ LineFault
 kvno_in digits = judged_kvno (number_in digits)
 
@@ -64,10 +66,11 @@ abbrev pub octets_told : {E : Type 0} → LineFault → Result (List ℕ) E → 
 octets_told otherwise (Ok octets) = Ok octets
 octets_told otherwise (Err _) = Err otherwise
 
--- A salt, or none for `-`.
+-- The salt of these octets.
 abbrev pub some_octets : List ℕ → Result (Option Bytes) LineFault
 some_octets octets = Ok (Some octets)
 
+-- The salt that hexadecimal digits write, or none for `-`.
 unfoldable pub salt_in : List ℕ → Result (Option Bytes) LineFault
 salt_in text = if pointwise nat_eq text (codes "-") then Ok None else octets_told fault.Salt (decode_of text) >>= some_octets
 
@@ -79,6 +82,7 @@ sized_key suite octets = if length octets == cipher_key_size suite then Ok octet
 unfoldable pub key_in : CipherSuite → List ℕ → Result Bytes LineFault
 key_in suite text = octets_told fault.Key (decode_of text) >>= sized_key suite
 
+-- The account's line of these fields, or the first fault in their order.
 unfoldable pub account_in : List ℕ → List ℕ → List ℕ → List ℕ → List ℕ → Result WrittenLine LineFault
 account_in name suite kvno salt key = do
   own_name ← name_in name
@@ -92,12 +96,15 @@ account_in name suite kvno salt key = do
 abbrev pub is_printed : Bytes → Bool
 is_printed = list_all (λ character. nat_le 32 character)
 
+-- The realm's name that a text is, if it has no control character.
 unfoldable pub realm_name_in : List ℕ → Result Bytes LineFault
 realm_name_in text = if is_realm_name text && is_printed text then Ok text else Err fault.RealmName
 
+-- The seconds that decimal digits write.
 unfoldable pub seconds_in : List ℕ → Result ℕ LineFault
 seconds_in digits = ok_or (number_in digits) fault.Seconds
 
+-- The settings of this clock skew and greatest lifetime, if both are in their ranges.
 unfoldable pub settings_of : ℕ → ℕ → Result SettingsRecord LineFault
 settings_of skew lifetime =
     if nat_le skew SKEW_LIMIT && (nat_le 1 lifetime && nat_le lifetime LIFETIME_LIMIT) then Ok (record { skew = skew; lifetime = lifetime }) else Err fault.Seconds
@@ -106,10 +113,12 @@ settings_of skew lifetime =
 abbrev pub some_pkinit : List ℕ → Result (Option Bytes) LineFault
 some_pkinit octets = if length octets == 0 then Err fault.Pkinit else Ok (Some octets)
 
+-- What logins by certificate are answered by, as hexadecimal digits write it, if digits are given.
 abbrev pub pkinit_in : Option (List ℕ) → Result (Option Bytes) LineFault
 pkinit_in None = Ok None
 pkinit_in (Some digits) = octets_told fault.Pkinit (decode_of digits) >>= some_pkinit
 
+-- The realm's line of these fields, or the first fault in their order.
 unfoldable pub realm_in : List ℕ → List ℕ → List ℕ → Option (List ℕ) → Result WrittenLine LineFault
 realm_in name skew lifetime digits = do
   own_name ← realm_name_in name
@@ -131,12 +140,13 @@ line_of _ = Err fault.Fields
 unfoldable pub line_in : List ℕ → Result WrittenLine LineFault
 line_in text = if slice_index text 0 == 35 then Ok (comment text) else line_of (fields text)
 
--- The line of this number.
+-- The result of reading the line of this number, whose fault names the number.
 abbrev pub at_line : {A : Type 0} → ℕ → Result A LineFault → Result A TextFault
 at_line number (Ok x) = Ok x
 at_line number (Err fault.Memory) = Err text_fault.Memory
 at_line number (Err e) = Err (text_fault.Line number e)
 
+-- The line of this text, or its fault with the number of the line.
 abbrev pub numbered : ℕ → List ℕ → Result WrittenLine TextFault
 numbered number text = at_line number (line_in text)
 

@@ -13,6 +13,7 @@ use Rattle.krb_accounts.specs.Account.{AccountRecord}
 abbrev pub IsBlock : Bytes → Type 0
 IsBlock block = (packed (unpacked block) ≡ block) × (fit (unpacked block) ≡ true)
 
+-- each is the block of a name, for which there is room
 abbrev pub AreBlocks : List (Vec ℕ Global) → Type 0
 AreBlocks = All (λ block. IsBlock block.items)
 
@@ -20,6 +21,7 @@ AreBlocks = All (λ block. IsBlock block.items)
 abbrev pub block_cmp : Bytes → Vec ℕ Global → Ordering
 block_cmp block key = slice_cmp nat_cmp block key.items
 
+-- the order of the blocks of two entries
 abbrev pub cmp_blocks : Vec ℕ Global → Vec ℕ Global → Ordering
 cmp_blocks block = block_cmp block.items
 

@@ -8,6 +8,7 @@ use Rattle.picky_asn1.specs.Bytes.{Bytes}
 abbrev pub packed_text : Bytes → Bytes
 packed_text text = map (λ character. character + 1) text ++ 0 ∷ []
 
+-- the block of some texts
 abbrev pub packed : List Bytes → Bytes
 packed = flat_map packed_text
 

@@ -33,6 +33,7 @@ IsStep {E = E} seen does own (Err refusal) = (cause : E) × does (Err cause) × 
 abbrev pub sent_as : {A : Type 0} → Made × A → Bytes × A
 sent_as sent = (sent.0.items, sent.1)
 
+-- the client's AP request of a login and what it then remembers, or why the login ends there (RFC 4120, section 3.2.2)
 unfoldable pub ApAsk : ClientRecord → LoginRecord → CredentialRecord → Result (Made × ApAskedRecord) LoginRefusal → Type 0
 ApAsk client login credential = IsStep sent_as (IsApAsked client credential login.client_ap login.words_ap) Asked
 

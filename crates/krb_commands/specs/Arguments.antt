@@ -11,6 +11,7 @@ use Rattle.krb_commands.specs.declared.stop.Stop.{Stop}
 use Rattle.krb_commands.specs.declared.stop.Stop.TheVariants.{Memory}
 use Rattle.krb_commands.specs.Stops.{IsUsage}
 
+-- The octets of a text.
 abbrev pub Text : Type 0
 Text = List ℕ
 

@@ -26,13 +26,15 @@ number size octets at = record {
   read = λ place whole. if nat_lt (length whole - place) size then Err (PastEnd place) else Ok (at place whole, place + size);
 }
 
--- Numbers have their highest octet first.
+-- a number of 8 bits
 abbrev pub number8 : Format ℕ
 number8 = number 1 (λ n. n ∷ []) (λ place whole. get_or whole place 0)
 
+-- a number of 16 bits, its highest octet first
 abbrev pub number16 : Format ℕ
 number16 = number 2 be16 be16_at
 
+-- a number of 32 bits, its highest octet first
 abbrev pub number32 : Format ℕ
 number32 = number 4 be32 be32_at
 
@@ -85,6 +87,7 @@ abbrev pub list_bytes : {A : Type 0} → Format A → List A → List ℕ → Li
 list_bytes F [] more = more
 list_bytes F (x ∷ xs) more = F.bytes x (list_bytes F xs more)
 
+-- each of the values fits the format
 abbrev pub AllFit : {A : Type 0} → Format A → List A → Type 0
 AllFit F [] = Unit {0}
 AllFit F (x ∷ xs) = F.Fits x × AllFit F xs

@@ -12,11 +12,12 @@ use Rattle.krb_file_realms.specs.declared.pkinit_fault.PkinitFault.TheVariants.{
 abbrev pub AreUnusable : Bytes → Type 0
 AreUnusable octets = (fault : PkinitFault) × (fault ≢ Memory) × IsUnusable octets fault
 
--- The realm has octets for logins by certificate, by which none can be answered.
+-- There are octets for logins by certificate, by which none can be answered.
 abbrev pub IsWithoutBy : Option Bytes → Type 0
 IsWithoutBy None = ⊥
 IsWithoutBy (Some octets) = AreUnusable octets
 
+-- The realm has octets for logins by certificate, by which none can be answered.
 abbrev pub IsWithout : RealmParameters → Type 0
 IsWithout realm = IsWithoutBy realm.pkinit
 

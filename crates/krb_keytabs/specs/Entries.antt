@@ -53,6 +53,7 @@ pub record FitsText (t : List ℕ) : Type 0 where
   pub size : length t < 2 ^ 16
   pub characters : is_general_string t ≡ true
 
+-- Each of the texts fits.
 abbrev pub TextsFit : List (List ℕ) → Type 0
 TextsFit [] = Unit {0}
 TextsFit (t ∷ ts) = FitsText t × TextsFit ts

@@ -30,6 +30,7 @@ number_at place front = if nat_lt (length front - place) 2 then Err (PastRecord 
 abbrev pub fitting : ℕ → List ℕ → ℕ → Result ℕ KeytabFault
 fitting place front n = if nat_lt (length front - (place + 2)) n then Err (PastRecord place) else Ok n
 
+-- the length of 16 bits at this place, if so many octets follow it in the record
 abbrev pub count_at : ℕ → List ℕ → Result ℕ KeytabFault
 count_at place front = and_then (number_at place front) (fitting place front)
 

@@ -18,6 +18,7 @@ abbrev pub shown_or_dash : Option (String Global) → List ℕ
 shown_or_dash None = codes "-"
 shown_or_dash (Some text) = string_bytes text
 
+-- the exchange that was asked for, or a dash
 abbrev pub exchange_text : Asked → List ℕ
 exchange_text (As names) = codes "AS"
 exchange_text (Tgs names) = codes "TGS"
@@ -33,6 +34,7 @@ abbrev pub client_text : Asked → Answer → List ℕ
 client_text asked (Ticket granted) = string_bytes granted.client
 client_text asked _ = asked_client asked
 
+-- the service that was asked for, or a dash
 abbrev pub service_text : Asked → List ℕ
 service_text (As names) = shown_or_dash names.service
 service_text (Tgs names) = shown_or_dash names.service
@@ -50,6 +52,7 @@ name_or_number code (Some name) = name
 abbrev pub code_text : ℕ → List ℕ
 code_text code = name_or_number code (error_name code)
 
+-- the word for a refusal to answer
 abbrev pub refusal_text : AnswerRefusal → List ℕ
 refusal_text Unreadable = codes "no-request"
 refusal_text Memory = codes "no-memory"

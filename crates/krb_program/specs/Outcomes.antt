@@ -12,6 +12,7 @@ status_of (Err BadArguments) = 1
 status_of (Err BadSettings) = 1
 status_of (Err (Fault _)) = 2
 
+-- the line of a fault that stopped serving
 abbrev pub fault_line : ServeFault → List ℕ
 fault_line Truncated = codes "krb_realm: Truncated"
 fault_line FrameTooLong = codes "krb_realm: FrameTooLong"

@@ -22,10 +22,12 @@ settings_of skew lifetime =
     if nat_le skew 86400 && nat_le 1 lifetime && nat_le lifetime 31536000 then Ok (settings_by skew lifetime None None)
     else Err (Realm BadSetting)
 
+-- the result of a step on the realm itself, whose refusal is a fault of the realm
 abbrev pub in_realm : {A : Type 0} → Result A RealmRefusal → Result A KdcFault
 in_realm (Ok x) = Ok x
 in_realm (Err refusal) = Err (Realm refusal)
 
+-- the result of a step on the account with this number, whose refusal is a fault of that account
 abbrev pub in_account : {A : Type 0} → ℕ → Result A RealmRefusal → Result A KdcFault
 in_account number (Ok x) = Ok x
 in_account number (Err refusal) = Err (Account number refusal)
@@ -38,14 +40,16 @@ adding_secret accounts name suite (password _) = adding_by_password accounts nam
 -- A key has as many octets as the keys of its suite. Test: `key has 64 hexadecimal digits`, `key has 62 hexadecimal digits`.
 adding_secret accounts name suite (key bytes) = adding accounts name suite bytes
 
+-- whether an account of a file is added to the realm
 abbrev pub adding_account : RealmState → WrittenAccount → Result (Unit {0}) RealmRefusal
 adding_account realm account = adding_secret realm.accounts account.name account.suite account.secret
 
--- the account that it is
+-- the account that a name, suite and secret of a file make in the realm of this name
 abbrev pub secret_account : List ℕ → List (List ℕ) → CipherSuite → WrittenSecret → AccountRecord
 secret_account realm name suite (password bytes) = password_account suite bytes (password_salt realm name)
 secret_account realm name suite (key bytes) = first_key suite bytes
 
+-- the realm with an account of a file added
 abbrev pub with_account : RealmState → WrittenAccount → RealmState
 with_account realm account = record realm {
   accounts = finite.insert realm.accounts account.name (secret_account realm.name account.name account.suite account.secret);

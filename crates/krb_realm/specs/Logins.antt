@@ -20,9 +20,11 @@ use Rattle.krb_logins.specs.declared.refusal.LoginRefusal.TheVariants.{Answered,
 use Rattle.krb_ap_exchange.specs.ApExchanges.{IsStep, Made, sent_as}
 use Rattle.krb_kdc.specs.Realm.{RealmState}
 
+-- the client's AS request of a login and what it then remembers, or why the login ends there (RFC 4120, section 3.1.1)
 unfoldable pub AsAsk : ClientRecord → MeansRecord → LoginRecord → Result (Made × AsAskedRecord) LoginRefusal → Type 0
 AsAsk client means login = IsStep sent_as (IsAsAsked client means (krbtgt_of client.realm) login.till login.client_as login.words_as) Asked
 
+-- the client's TGS request of a login and what it then remembers, or why the login ends there (RFC 4120, section 3.3.1)
 unfoldable pub TgsAsk : ClientRecord → LoginRecord → CredentialRecord → Result (Made × TgsAskedRecord) LoginRefusal → Type 0
 TgsAsk client login granting = IsStep sent_as (IsTgsAsked client granting login.service login.till login.client_tgs login.words_tgs) Asked
 
@@ -34,11 +36,14 @@ realm_record realm = record { name = realm.name; settings = realm.settings; look
 abbrev pub realm_rows : RealmState → KeysRecord → PkinitRows
 realm_rows realm keys = pkinit_rows realm.trust keys
 
+-- what the realm replies to a request, or why the login ends there
 unfoldable pub Answer : CallRecord → PkinitRows → Bytes → Result Made LoginRefusal → Type 0
 Answer call rows request = IsStep (λ reply. reply.items) (IsAnswered call rows request) Answered
 
+-- the credential that the client takes from the AS reply, or why the login ends there (RFC 4120, section 3.1.5)
 unfoldable pub AsTake : ClientRecord → MeansRecord → AsAskedRecord → Bytes → Result CredentialRecord LoginRefusal → Type 0
 AsTake client means asked reply = IsStep (λ credential. credential) (IsTaken (takes_as_reply client means asked reply)) Taken
 
+-- the credential that the client takes from the TGS reply, or why the login ends there (RFC 4120, section 3.3.4)
 unfoldable pub TgsTake : ClientRecord → TgsAskedRecord → Bytes → Result CredentialRecord LoginRefusal → Type 0
 TgsTake client asked reply = IsStep (λ credential. credential) (IsTaken (takes_tgs_reply client asked reply)) Taken

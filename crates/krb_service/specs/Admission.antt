@@ -32,12 +32,15 @@ pub record AdmissionRecord : Type 0 where
 abbrev pub starttime_of : EncTicketPartInner → GeneralizedTime
 starttime_of part = option_map_or (λ tagged. tagged.0.0) part.starttime.0 part.auth_time.0.0
 
+-- the authenticator's subkey, if it has one (RFC 4120, section 5.5.1)
 abbrev pub subkey_of : AuthenticatorInner → Option EncryptionKey
 subkey_of authenticator = option_map (λ tagged. tagged.0) authenticator.subkey.0
 
+-- the authenticator's checksum, if it has one (RFC 4120, section 5.5.1)
 abbrev pub checksum_of : AuthenticatorInner → Option Checksum
 checksum_of authenticator = option_map (λ tagged. tagged.0) authenticator.cksum.0
 
+-- the authenticator's sequence number, if it has one (RFC 4120, section 5.5.1)
 abbrev pub seq_number_of : AuthenticatorInner → Option ℤ
 seq_number_of authenticator = option_map (λ tagged. tagged.0) authenticator.seq_number.0
 

@@ -58,6 +58,7 @@ ap_rep_part_with SubkeyAndNumber suite words authenticator = record {
   seq_number = record { 0 = Some (record { 0 = pos (reply_number words) }) };
 }
 
+-- the AP-REP with this encrypted part (RFC 4120, section 5.5.2)
 abbrev pub ap_rep_of : EncryptedData → ApRepInner
 ap_rep_of part = record {
   pvno = record { 0 = pos KERBEROS_VERSION };

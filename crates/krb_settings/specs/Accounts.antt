@@ -21,12 +21,15 @@ account_fields = Key ∷ Name ∷ Password ∷ Suite ∷ []
 abbrev pub texts_of : Items → Result (List (List ℕ)) TableFault
 texts_of = each_from (λ _. text_of Name) 0
 
+-- the components in the field `name` of an account's table
 abbrev pub name_at : Members → Result (List (List ℕ)) TableFault
 name_at document = value_at Name document >>= list_of Name >>= texts_of
 
+-- the secret of an account whose field `password` holds this value
 abbrev pub password_of : Data → Result WrittenSecret TableFault
 password_of value = text_of Password value >>= (λ text. Ok (password text))
 
+-- the secret of an account whose field `key` holds this value
 abbrev pub key_of : Data → Result WrittenSecret TableFault
 key_of value = text_of Key value >>= bytes_of >>= (λ bytes. Ok (key bytes))
 
@@ -39,6 +42,7 @@ secret_of None (Some value) = key_of value
 -- An account hasn't both a password and a key. Test: `both password and key`.
 secret_of (Some _) (Some _) = Err BothSecrets
 
+-- the secret in the fields `password` and `key` of an account's table
 abbrev pub secret_at : Members → Result WrittenSecret TableFault
 secret_at document = secret_of (get_member (field_name Password) document) (get_member (field_name Key) document)
 
@@ -50,11 +54,12 @@ account_of document =
     only account_fields document >>= (λ _. name_at document >>= (λ name. suite_at document >>= (λ suite.
     secret_at document >>= (λ secret. Ok (record { name = name; suite = suite; secret = secret })))))
 
--- where a fault is: in the file's own table, or in that of an account, which are numbered from 1
+-- the fault of a file whose own table has this fault. Accounts are numbered from 1
 abbrev pub fault_in_file : TableFault → SettingsFault
 fault_in_file table_fault.Memory = fault.Memory
 fault_in_file e = fault.File e
 
+-- the fault of a file whose account with this number has this fault
 abbrev pub fault_in_account : ℕ → TableFault → SettingsFault
 fault_in_account number table_fault.Memory = fault.Memory
 fault_in_account number e = fault.Account number e
@@ -67,6 +72,7 @@ abbrev pub in_account : {A : Type 0} → ℕ → Result A TableFault → Result 
 in_account number (Ok x) = Ok x
 in_account number (Err e) = Err (fault_in_account number e)
 
+-- the account with this number that a list's value writes, or its first fault
 abbrev pub numbered : ℕ → Data → Result WrittenAccount SettingsFault
 numbered number (toml.table document) = in_account number (account_of document)
 numbered number _ = Err (fault.File (WrongType Account))
@@ -81,5 +87,6 @@ accounts_of None = Ok []
 accounts_of (Some (array items)) = accounts_in items
 accounts_of (Some _) = Err (fault.File (WrongType Account))
 
+-- the accounts in the field `account` of a file's table
 abbrev pub accounts_at : Members → Result (List WrittenAccount) SettingsFault
 accounts_at document = accounts_of (get_member (field_name Account) document)

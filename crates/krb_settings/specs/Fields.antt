@@ -37,6 +37,7 @@ keys_in (member key value rest) = key ∷ keys_in rest
 abbrev pub has_only : List Field → Members → Bool
 has_only fields document = list_all (is_among fields) (keys_in document)
 
+-- each key of a table is the name of one of the fields, or there is an unknown key
 abbrev pub only : List Field → Members → Result (Unit {0}) TableFault
 -- Each key of a table is the name of a field. Test: `unknown key "skwe"`, `unknown key "pasword"`.
 only fields document = if has_only fields document then Ok tt else Err UnknownKey
@@ -47,28 +48,33 @@ abbrev pub present : Field → Option Data → Result Data TableFault
 present field None = Err (Missing field)
 present field (Some value) = Ok value
 
+-- what a field of a table holds, or that it is missing
 abbrev pub value_at : Field → Members → Result Data TableFault
 value_at field document = present field (get_member (field_name field) document)
 
--- a text, a whole number that isn't negative, a list
+-- the text that a field holds
 abbrev pub text_of : Field → Data → Result (List ℕ) TableFault
 text_of field (string text) = Ok text
 -- A component, a realm, a suite, a key and a password are texts. Test: `realm is a whole number`, `password is a whole number`.
 text_of field _ = Err (WrongType field)
 
+-- the whole number that a field holds, which isn't negative
 abbrev pub natural_of : Field → Data → Result ℕ TableFault
 natural_of field (integer (pos n)) = Ok n
 -- The skew and the lifetime are whole numbers that aren't negative. Test: `skew is a number with a fraction`, `skew is a text`.
 natural_of field _ = Err (WrongType field)
 
+-- the list that a field holds
 abbrev pub list_of : Field → Data → Result Items TableFault
 list_of field (array items) = Ok items
 -- The name of an account is a list. Test: `name is a text`.
 list_of field _ = Err (WrongType field)
 
+-- the text in a field of a table
 abbrev pub text_at : Field → Members → Result (List ℕ) TableFault
 text_at field document = value_at field document >>= text_of field
 
+-- the whole number in a field of a table, which isn't negative
 abbrev pub natural_at : Field → Members → Result ℕ TableFault
 natural_at field document = value_at field document >>= natural_of field
 
@@ -95,8 +101,10 @@ digits_told (Ok bytes) = Ok bytes
 -- A key is pairs of hexadecimal digits. Test: `character 10 of key is no hexadecimal digit`, `key has 63 hexadecimal digits`.
 digits_told (Err _) = Err BadDigits
 
+-- the bytes that hexadecimal digits write, or that the digits are wrong
 abbrev pub bytes_of : List ℕ → Result (List ℕ) TableFault
 bytes_of digits = digits_told (decode_of digits)
 
+-- the bytes in the field `key` of a table
 abbrev pub key_at : Members → Result (List ℕ) TableFault
 key_at document = text_at Key document >>= bytes_of

@@ -25,11 +25,12 @@ pub record WrittenRealm : Type 0 where
   pub lifetime : ℕ
   pub accounts : List WrittenAccount
 
--- what the values of the program say
+-- The secret that the value of the program holds.
 abbrev pub shown_secret : Secret → WrittenSecret
 shown_secret (Password bytes) = password bytes.items
 shown_secret (Key bytes) = key bytes.items
 
+-- The account that the value of the program holds.
 abbrev pub shown_account : AccountSettings → WrittenAccount
 shown_account a = record { name = map (λ part. part.items) a.name.items; suite = a.suite; secret = shown_secret a.secret }
 

@@ -21,19 +21,23 @@ Case = Bool × Warning
 unfoldable pub met : Place → List Case → List Found
 met place cases = map (λ (case : Case). record { place = place; warning = case.1 }) (filter (λ case. case.0) cases)
 
--- characters: a blank, a control character, a lower-case letter, an @, a slash
+-- the character is a blank
 abbrev pub is_blank : ℕ → Bool
 is_blank c = nat_eq c 32
 
+-- the character is a control character of ASCII
 abbrev pub is_control : ℕ → Bool
 is_control c = nat_lt c 32 || nat_eq c 127
 
+-- the character is a lower-case letter of ASCII
 abbrev pub is_lower : ℕ → Bool
 is_lower c = nat_le 97 c && nat_le c 122
 
+-- the character is `@`
 abbrev pub is_at : ℕ → Bool
 is_at c = nat_eq c 64
 
+-- the character is `/`
 abbrev pub is_slash : ℕ → Bool
 is_slash c = nat_eq c 47
 
@@ -87,6 +91,7 @@ password_cases suite text =
 abbrev pub is_repeated : List ℕ → Bool
 is_repeated octets = if nat_eq (length octets) 0 then false else list_all (λ octet. nat_eq octet (slice_index octets 0)) octets
 
+-- the suite is that of triple DES
 abbrev pub is_des3 : CipherSuite → Bool
 is_des3 Des3CbcSha1Kd = true
 is_des3 _ = false
@@ -120,16 +125,18 @@ shared_cases realm_key earlier octets =
     ∷ holder_case (position_from (λ (account : WrittenAccount). is_secret octets account.secret) 0 earlier)
     ∷ []
 
--- the warnings of an account, by those before it
+-- the warnings of an account's secret, by the accounts before it
 abbrev pub secret_found : Place → WrittenRealm → List WrittenAccount → CipherSuite → WrittenSecret → List Found
 secret_found at realm earlier suite (password text) = met at (password_cases suite text)
 secret_found at realm earlier suite (key octets) = met at (key_cases suite octets) ++ met at (shared_cases realm.key earlier octets)
 
+-- the warnings of the account at this index of the realm's accounts
 abbrev pub account_found : WrittenRealm → ℕ → WrittenAccount → List Found
 account_found realm index account =
     let at = place.Account (index + 1) in
     met at (name_cases account.name) ++ secret_found at realm (take index realm.accounts) account.suite account.secret
 
+-- the warnings of these accounts, the first of which is at this index of the realm's accounts
 abbrev pub accounts_found : WrittenRealm → ℕ → List WrittenAccount → List Found
 accounts_found realm index [] = []
 accounts_found realm index (account ∷ rest) = account_found realm index account ++ accounts_found realm (suc index) rest

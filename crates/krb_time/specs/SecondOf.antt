@@ -6,6 +6,7 @@ use Rattle.asn1_leaves.proofs.TimeLemmas.{seconds_of-injective}
 use Rattle.asn1_leaves.specs.GeneralizedTime.{seconds_of}
 use Rattle.krb_time.specs.Units.{Micros}
 
+-- the time is the second in which the moment lies
 abbrev pub IsSecondOf : Micros → GeneralizedTime → Type 0
 IsSecondOf moment time = seconds_of time ≡ moment / 1000000
 

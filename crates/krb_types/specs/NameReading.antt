@@ -61,6 +61,7 @@ sole_part (Ok (part ∷ [])) = Ok part
 sole_part (Ok _) = Err SlashInRealm
 sole_part (Err fault) = Err fault
 
+-- the realm that a text spells
 unfoldable pub realm_in : Octets → Result Octets NameTextFault
 realm_in text = sole_part (components_in text)
 
@@ -74,6 +75,7 @@ split_from quoted [] = ([], None)
 split_from true (octet ∷ text) = before octet (split_from false text)
 split_from false (octet ∷ text) = if octet == 64 then ([], Some text) else before octet (split_from (octet == 92) text)
 
+-- what precedes the first `@` of a text that isn't quoted, and what follows it
 unfoldable pub split_realm : Octets → Octets × Option Octets
 split_realm = split_from false
 

@@ -56,6 +56,7 @@ pac_parts bs = part 0 (le32 (length bs)) ∷ part 4 (le32 0) ∷ buffer_parts 8 
 abbrev pub IsSized : ℕ → Buffer → Type 0
 IsSized n b = (b.info.cb_buffer_size ≡ length b.content) × (b.info.offset + b.info.cb_buffer_size ≤ n)
 
+-- each content has its row's size, and ends within n bytes
 abbrev pub AreSized : ℕ → List Buffer → Type 0
 AreSized n [] = Unit {0}
 AreSized n (b ∷ bs) = IsSized n b × AreSized n bs

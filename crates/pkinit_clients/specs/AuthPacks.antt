@@ -37,5 +37,6 @@ auth_pack_of authenticator value = record {
   client_dh_nonce = record { 0 = None };
 }
 
+-- The DER encoding of an AuthPack (RFC 4556, section 3.2.1).
 unfoldable pub auth_pack_bytes : AuthPack Raw → Bytes
 auth_pack_bytes pack = der (pack_impl.ghosts.pack_tree pack)

@@ -26,6 +26,7 @@ pk_as_req_of signed = record {
   kdc_pk_id = record { 0 = None };
 }
 
+-- The DER encoding of a PA-PK-AS-REQ (RFC 4556, section 3.2.1).
 unfoldable pub pk_as_req_bytes : PaPkAsReq → Bytes
 pk_as_req_bytes request = der (tagged_tree sequence_octet request_impl.ghosts.row_tree request_impl.ghosts.row_of request)
 

@@ -16,6 +16,7 @@ pub record JudgingRecord : Type 0 where
   pub body : KdcReqBody
   pub words : Random
 
+-- what a request is judged by, as the program's value holds it
 abbrev pub judging_of : held.Judging → JudgingRecord
 judging_of judging = record {
   expected = expected_of judging.expected;

@@ -36,6 +36,7 @@ key_info_of value nonce = record {
   dh_key_expiration = record { 0 = None };
 }
 
+-- The DER encoding of a KDCDHKeyInfo (RFC 4556, section 3.2.3.1).
 unfoldable pub key_info_bytes : KdcDhKeyInfo → Bytes
 key_info_bytes info = der (tagged_tree sequence_octet info_impl.ghosts.row_tree info_impl.ghosts.row_of info)
 
@@ -44,6 +45,7 @@ key_info_bytes info = der (tagged_tree sequence_octet info_impl.ghosts.row_tree 
 abbrev pub dh_reply_of : Bytes → PaPkAsRep
 dh_reply_of signed = DhInfo (record { 0 = record { dh_signed_data = record { 0 = signed }; server_dh_nonce = record { 0 = None } } })
 
+-- The DER encoding of a PA-PK-AS-REP (RFC 4556, section 3.2.3).
 unfoldable pub dh_reply_bytes : PaPkAsRep → Bytes
 dh_reply_bytes reply = der (reply_impl.ghosts.tree reply)
 

@@ -61,6 +61,7 @@ abbrev pub first_element : List GeneralName → Option Raw
 first_element [] = None
 first_element (name ∷ names) = or_else (principal_element name) (first_element names)
 
+-- The element of the first otherName of the type id-pkinit-san in a subjectAltName.
 abbrev pub element_held : ExtensionValue → Option Raw
 element_held (kind.SubjectAltName held) = first_element held.0
 element_held other = None

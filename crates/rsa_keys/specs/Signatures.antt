@@ -105,10 +105,11 @@ abbrev pub by_refusal : Option KeyRefusal → HashFunction → Numbers → Bytes
 by_refusal (Some refusal) hash numbers message signature = Err (Key (refusal_named refusal))
 by_refusal None hash numbers message signature = verdict (is_valid numbers.0 numbers.1 hash message signature)
 
+-- what becomes of a signature under these numbers of a key: the modulus and the exponent
 abbrev pub by_numbers : HashFunction → Numbers → Bytes → Bytes → Result (Unit {0}) SignatureRefusal
 by_numbers hash numbers message signature = by_refusal (refusal_of numbers.0 numbers.1) hash numbers message signature
 
--- the same under a key that has numbers
+-- what becomes of a signature under a key: its numbers decide it, or the key is refused
 abbrev pub by_key : HashFunction → Result Numbers RsaKeyRefusal → Bytes → Bytes → Result (Unit {0}) SignatureRefusal
 by_key hash (Ok numbers) message signature = by_numbers hash numbers message signature
 by_key hash (Err refusal) message signature = Err (Key refusal)

@@ -21,6 +21,7 @@ abbrev pub TbsRow : Type 0
 TbsRow =
     DefaultField VersionField × (ℤ × (AlgorithmIdentifier × (NameSets × (Validity × (NameSets × (SubjectPublicKeyInfo × CertificateExtensions))))))
 
+-- the fields of a TBSCertificate as its row (RFC 5280, section 4.1)
 abbrev pub tbs_row : TbsCertificate → TbsRow
 tbs_row v = (
   record { 0 = record { 0 = record { 0 = v.version } } },
@@ -43,6 +44,7 @@ one_tbs v w e =
 abbrev pub CertificateRow : Type 0
 CertificateRow = TbsCertificate × (AlgorithmIdentifier × (Bits × ⊤))
 
+-- the fields of a Certificate as its row (RFC 5280, section 4.1)
 abbrev pub certificate_row : Certificate → CertificateRow
 certificate_row v = (v.tbs_certificate, (v.signature_algorithm, (v.signature_value, tt)))
 

@@ -15,6 +15,7 @@ use Rattle.x509_certificates.specs.declared.certification_request_info.Certifica
 abbrev pub InfoRow : Type 0
 InfoRow = Strict (FixedNumber 0) × (List (List AttributeTypeAndValue) × (SubjectPublicKeyInfo × (Implied OpenSslAttributes × ⊤)))
 
+-- the fields of a CertificationRequestInfo as its row (RFC 2986, section 4.1)
 abbrev pub info_row : CertificationRequestInfo → InfoRow
 info_row v = (record { 0 = v.version }, (v.subject, (v.subject_public_key_info, (record { 0 = v.attributes }, tt))))
 
@@ -25,6 +26,7 @@ one_info v w e =
 abbrev pub RequestRow : Type 0
 RequestRow = CertificationRequestInfo × (AlgorithmIdentifier × (Bits × ⊤))
 
+-- the fields of a CertificationRequest as its row (RFC 2986, section 4.2)
 abbrev pub request_row : CertificationRequest → RequestRow
 request_row v = (v.certification_request_info, (v.signature_algorithm, (v.signature, tt)))
 

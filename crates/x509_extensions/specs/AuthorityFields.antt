@@ -16,6 +16,7 @@ use Rattle.x509_spelling.specs.Deviations.{fields_out_of_order, field_repeated, 
 abbrev pub FieldChoice : Type 0
 FieldChoice = Choice (ImplicitContextTag 0 (List ℕ)) (Choice (ExplicitContextTag 1 GeneralName) (Last (ImplicitContextTag 2 ℤ)))
 
+-- the alternative that a field is, under its tag
 abbrev pub field_choice : AuthorityField → FieldChoice
 field_choice (KeyIdentifier key) = This key
 field_choice (Issuer issuer) = Other (This issuer)
@@ -43,6 +44,7 @@ abbrev pub explicit : {T : Type 0} (n : ℕ) → Option T → Option (ExplicitCo
 explicit n None = None
 explicit n (Some field) = Some (record { 0 = field })
 
+-- the field is there
 abbrev pub stands : {A : Type 0} → Option A → Bool
 stands None = false
 stands (Some field) = true
@@ -52,6 +54,7 @@ abbrev pub kept : {A : Type 0} → Option A → A → Option A
 kept None field = Some field
 kept (Some behind) field = Some behind
 
+-- the gathered fields before the first one: no field is there, none is out of order and none is repeated
 abbrev pub nothing : Gathered
 nothing = record {
   value = record {

@@ -29,6 +29,7 @@ is_string_content (first ∷ second ∷ number ∷ other ∷ octets) = false
 abbrev pub email_content : List ℕ
 email_content = 0x2A ∷ 0x86 ∷ 0x48 ∷ 0x86 ∷ 0xF7 ∷ 0x0D ∷ 1 ∷ 9 ∷ 1 ∷ []
 
+-- the content octets are those of emailAddress (RFC 2985, section 5.2.1)
 abbrev pub is_email_content : List ℕ → Bool
 is_email_content content = pointwise nat_eq content email_content
 
@@ -46,6 +47,7 @@ is_directory_text (PrintableString octets) = is_printable_string octets
 is_directory_text (Utf8String octets) = is_utf8 octets
 is_directory_text (BmpString octets) = is_bmp_string octets
 
+-- the element that a DirectoryString is written as (RFC 5280, section 4.1.2.4)
 abbrev pub directory_raw : DirectoryString → Raw
 directory_raw (PrintableString octets) = record { first = printable_string_octet; content = octets }
 directory_raw (Utf8String octets) = record { first = utf8_string_octet; content = octets }

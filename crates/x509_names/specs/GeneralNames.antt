@@ -17,6 +17,7 @@ GeneralChoice =
     Choice (ImplicitContextTag 0 OtherName) (Choice (ImplicitContextTag 1 (List ℕ)) (Choice (ImplicitContextTag 2 (List ℕ)) (Choice (ExplicitContextTag 4 (List (List AttributeTypeAndValue)))
     (Choice (ImplicitContextTag 5 EdiPartyName) (Choice (ImplicitContextTag 6 (List ℕ)) (Choice (ImplicitContextTag 7 (List ℕ)) (Last (ImplicitContextTag 8 ObjectIdentifierAsn1))))))))
 
+-- the alternative of GeneralName that a name is (RFC 5280, section 4.2.1.6)
 abbrev pub general_choice : GeneralName → GeneralChoice
 general_choice (kind.OtherName value) = This (record { 0 = value })
 general_choice (kind.Rfc822Name value) = Other (This (record { 0 = value }))

@@ -16,6 +16,7 @@ use Rattle.x509_names.specs.declared.general_name.GeneralName.TheVariants as kin
 abbrev pub group_text : ℕ → List ℕ
 group_text = digits 16 true
 
+-- the group of this number in an address of version 6: two octets, of which the first is the higher
 abbrev pub group_at : List ℕ → ℕ → ℕ
 group_at octets number = slice_index octets (2 * number) * 256 + slice_index octets (2 * number + 1)
 

@@ -28,6 +28,7 @@ attribute_number attribute.Phone = 20
 abbrev pub attribute_arcs : NameAttr → List ℕ
 attribute_arcs name = 2 ∷ 5 ∷ 4 ∷ attribute_number name ∷ []
 
+-- the content octets of an attribute's object identifier: id-at and its number (X.690, section 8.19; X.520, section 6)
 abbrev pub attribute_content : NameAttr → List ℕ
 attribute_content name = 0x55 ∷ 4 ∷ attribute_number name ∷ []
 

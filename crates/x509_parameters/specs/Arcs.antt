@@ -19,6 +19,7 @@ octet_behind [] content = only_octet content
 octet_behind (first ∷ prefix) [] = None
 octet_behind (first ∷ prefix) (octet ∷ content) = when (nat_eq octet first) (octet_behind prefix content)
 
+-- there is an octet, and it satisfies the predicate
 abbrev pub is_among : (ℕ → Bool) → Option ℕ → Bool
 is_among holds None = false
 is_among holds (Some octet) = holds octet

@@ -6,6 +6,7 @@ use Rattle.x509_parameters.specs.declared.sha_variant.ShaVariant.TheVariants as 
 use Rattle.x509_parameters.specs.declared.unsupported.Algorithm.{Algorithm}
 use Rattle.x509_parameters.specs.declared.unsupported.Algorithm.TheVariants.{Hash, Identifier}
 
+-- the name of a hash function, as an error displays it
 abbrev pub hash_name : ShaVariant → List ℕ
 hash_name hash.MD5 = codes "MD5"
 hash_name hash.SHA1 = codes "SHA1"

@@ -14,10 +14,11 @@ use Rattle.x509_spelling.specs.Laws.{SpellingLaws}
 use Rattle.x509_parts.specs.declared.raw_algorithm_identifier.RawParameters.{RawParameters}
 use Rattle.asn1_der.specs.Octets.{null_octet}
 
--- NULL (X.690, section 8.8)
+-- the element is NULL (X.690, section 8.8)
 abbrev pub is_null : Raw → Bool
 is_null raw = (raw.first == null_octet) && (length raw.content == 0)
 
+-- the element NULL (X.690, section 8.8)
 abbrev pub null : Raw
 null = record { first = null_octet; content = [] }
 
