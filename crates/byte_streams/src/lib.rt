@@ -8,7 +8,7 @@
 //!
 //! [`read_full`] reads the next bytes of the source in their order, and fewer than there is room for only where the source ends. After
 //! `Ok`, [`write_whole`] has written all bytes, and after a fault the first of them. A fault is answered only where the device's count of
-//! failures rose or stood at its maximum, and with the device's own kind if it named one. A refused growth is no failure of the device, and
+//! failures rose or was at its maximum, and with the device's own kind if it named one. A refused growth is no failure of the device, and
 //! writes nothing. A [`PeekableReader`] gives the octet that was peeked at, and then the rest in order.
 #![tactic(auto)]
 

@@ -24,7 +24,7 @@ pub part_is : (position size : ℕ) (bytes buffer : List ℕ) → position + siz
 unfolding part_at
 part_is position size bytes buffer within same = rw (le-ltb (length bytes) (position + size) within) (ap (λ (part : List ℕ). Ok part) (sym same))
 
--- a read that failed, and one that filled a buffer
+-- a read that failed, and one that was complete
 pub part_fails : (fails : ErrorKind → Type 0) (fault : Fault) (position size : ℕ) (bytes buffer : List ℕ) → length buffer ≡ size → ReadsAt fails (Err fault) position bytes buffer → Fails fails fault (part_at position size bytes)
 part_fails fails (Failed kind) position size bytes buffer sized read = read
 part_fails fails Damaged position size bytes buffer sized read = part_damaged position size bytes (omega (arith, sized, read))

@@ -33,7 +33,7 @@ pub record IsContextAsked (client : ClientRecord) (initial : InitialChecksum) (w
   pub hashed : length initial.bindings ≡ 16
   pub enough : 96 ≤ length words
 
--- what the service holds is what the login says that it goes by
+-- the service remembers what the login says that it remembers
 pub record IsRemembered (service : ServiceRecord) (before : RememberedRecord) : Type 0 where
   pub greatest : before.greatest ≡ service.seen.greatest
   pub window : IsWindow service.seen before.admitted

@@ -7,7 +7,7 @@ use pkinit_interface::{Agreed, Pkinit, PkinitCall};
 use std::alloc::Global;
 
 /// A realm that refuses each request by certificate with KDC_ERR_PADATA_TYPE_NOSUPP (RFC 4120, section 7.5.9). It may offer logins by
-/// certificate all the same: it stands for each realm that does, as long as no request is by certificate.
+/// certificate all the same: it represents each realm that does, as long as no request is by certificate.
 #[derive(Clone, Copy, Debug)]
 pub struct Offer {
     /// Whether METHOD-DATA offers PA-PK-AS-REQ.

@@ -17,7 +17,7 @@ impl<'a, T> Model for Lent<'a, T> {
 }
 
 impl<'a, T> Lent<'a, T> {
-    /// Lends the value.
+    /// Borrows the value.
     pub fn new(value: &'a T) -> Self
         ensures { result ≡ value.now }
     {

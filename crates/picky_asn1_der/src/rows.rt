@@ -8,7 +8,7 @@ macro_rules! row {
     ($first:ident $(, $more:ident)* $(; $rest:ident)?) => { ($first, $crate::row![$($more),* $(; $rest)?]) };
 }
 
-/// The row of these fields of a value, borrowed: `fields_of![self; a, b]`. A last `; rest` lends [`Elements`](crate::Elements).
+/// The row of these fields of a value, borrowed: `fields_of![self; a, b]`. A last `; rest` borrows [`Elements`](crate::Elements).
 #[macro_export]
 macro_rules! fields_of {
     ($value:expr;) => { () };

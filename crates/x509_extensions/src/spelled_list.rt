@@ -42,7 +42,7 @@ impl<const OCTET: u8, T> SpelledList<OCTET, T> {
         self.items.as_slice()
     }
 
-    /// Adds an element behind the others.
+    /// Adds an element after the others.
     pub fn push(&mut self, element: T) -> Result<(), AllocError>
     where
         T: Drop,
