@@ -32,7 +32,7 @@ ReadsWhole {T} seen reads input answer =
     (answer ≡ Err Memory)
     ⊎ ((value : T) → (answer ≡ Ok value → reads value input) × (reads value input → Gives seen answer value))
 
--- the same of the one spelling of a value
+-- the one encoding of the value begins the input
 abbrev pub BeginsWith : {T : Type 0} → (T → Tree) → T → List ℕ → Type 0
 BeginsWith tree value input = BeginsBy (Writes tree) value input
 

@@ -28,12 +28,12 @@ abbrev pub seen_option : {A : Type 0} → Seen A → Seen (Option A)
 seen_option as_is = as_is
 seen_option (by V f) = by (Option V) (map_option f)
 
--- of a value that holds just another
+-- what is seen of a value that holds just another: what is seen of that one
 abbrev pub seen_part : {A B : Type 0} → (B → A) → Seen A → Seen B
 seen_part part as_is = as_is
 seen_part part (by V f) = by V (λ b. f (part b))
 
--- of two sequences of elements that a value holds in its memory
+-- what is seen of a value that holds elements in its memory: what is seen of each element
 abbrev pub seen_items : {A B : Type 0} → (B → List A) → Seen A → Seen B
 seen_items {A} items as_is = by (List A) items
 seen_items items (by V f) = by (List V) (λ b. map f (items b))

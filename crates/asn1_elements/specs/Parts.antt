@@ -23,7 +23,7 @@ IsPart bytes [] part = part ≡ bytes
 IsPart bytes (n ∷ path) part =
     (raw : Raw) × (inner : List ℕ) × SplitsInto bytes raw [] × IsElementAt n raw.content inner × IsPart inner path part
 
--- the same of a path whose first number counts the elements that the bytes are
+-- the bytes are elements, and a path from the one with the number n leads to the part
 abbrev pub IsPartIn : List ℕ → ℕ → List ℕ → List ℕ → Type 0
 IsPartIn bytes n path part = (inner : List ℕ) × IsElementAt n bytes inner × IsPart inner path part
 

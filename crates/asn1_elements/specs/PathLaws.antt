@@ -17,7 +17,7 @@ AreSome bytes = (raws : List Raw) × AreElements raws bytes
 abbrev pub LeadsTo : List ℕ → List ℕ → List ℕ → Type 0
 LeadsTo outer path inner = (further part : List ℕ) → IsPart inner further part → IsPart outer (path ++ further) part
 
--- the same of a path whose first number counts the elements that the outer bytes are
+-- the number n leads from the outer bytes, which are elements, to the inner ones, and on from there
 abbrev pub LeadsIn : List ℕ → ℕ → List ℕ → Type 0
 LeadsIn outer n inner = (further part : List ℕ) → IsPart inner further part → IsPartIn outer n further part
 

@@ -5,7 +5,7 @@ use Rattle.std.specs.Str.{bytes_eq}
 use Rattle.aes_cts.specs.Chains.{block_at}
 use Rattle.des3_cbc.specs.Bits.{low_bits, number, bits_of_bytes, permuted}
 
--- where the 56 bits stand that are put into eight bytes, seven into each
+-- the places of the 56 bits that are put into eight bytes, seven into each
 unfoldable pub stretching : List ℕ
 stretching =
     1 ∷ 2 ∷ 3 ∷ 4 ∷ 5 ∷ 6 ∷ 7 ∷

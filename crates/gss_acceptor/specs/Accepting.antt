@@ -136,7 +136,7 @@ established_of admission made = record {
   reply = ap_rep_in admission.reply;
 }
 
--- so it is established; or it is refused as it is judged, or, if it isn't, because memory ran out
+-- the context of an admission is established as it is judged; or it is refused as it is judged, or because memory ran out
 abbrev pub IsEstablished : AcceptorTerms → Micros → Random → AdmissionRecord → Result EstablishedRecord AcceptRefusal → Type 0
 IsEstablished terms skew words admission (Ok established) =
     (made : Judged) × (judged terms skew words admission ≡ Ok made) × (established ≡ established_of admission made)

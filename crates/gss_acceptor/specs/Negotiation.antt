@@ -24,7 +24,7 @@ use Rattle.gss_acceptor.specs.declared.refusal.AcceptRefusal.TheVariants.{NoKerb
 use Rattle.asn1_der.specs.Octets.{sequence_octet}
 use Rattle.krb_constants.specs.declared.gss_api.TheConstants.{INITIAL_TOKEN}
 
--- under [APPLICATION 0] (RFC 2743, section 3.1)
+-- the DER tree of a first token of SPNEGO, under the tag [APPLICATION 0] (RFC 2743, section 3.1)
 abbrev pub neg_init_tree : GssApiNegInit → Tree
 neg_init_tree = tagged_tree INITIAL_TOKEN neg_init_impl.ghosts.row_tree neg_init_impl.ghosts.row_of
 

@@ -8,12 +8,12 @@ use Rattle.asn1_der.specs.declared.error.Asn1DerError.TheVariants.{Memory}
 abbrev pub Leads : {T : Type 0} → (T → List ℕ → Type 0) → T → List ℕ → List ℕ → Type 0
 Leads reads value bytes rest = (front : List ℕ) × reads value front × (bytes ≡ front ++ rest)
 
--- one of these octets comes first
+-- the bytes begin with one of these octets
 abbrev pub begins : Firsts → List ℕ → Bool
 begins firsts [] = false
 begins firsts (octet ∷ bytes) = may_begin firsts octet
 
--- the same of a value that may be missing: it is there exactly where its first octet is
+-- the bytes begin with a value that may be missing, and `rest` follows: it is there exactly where one of its first octets is
 abbrev pub LeadsOptional : {T : Type 0} → Firsts → (T → List ℕ → Type 0) → Option T → List ℕ → List ℕ → Type 0
 LeadsOptional firsts reads None bytes rest = (begins firsts bytes ≡ false) × (rest ≡ bytes)
 LeadsOptional firsts reads (Some value) bytes rest = (begins firsts bytes ≡ true) × Leads reads value bytes rest

@@ -74,13 +74,13 @@ unfoldable pub rotated_right : ℕ → List ℕ → List ℕ
 rotated_right count text =
     drop (length text - count % length text) text ++ take (length text - count % length text) text
 
--- with confidentiality, the data: message, filler of EC octets and header, encrypted after a confounder (section 4.2.4)
+-- the data with confidentiality: message, filler of EC octets and header, encrypted after a confounder (RFC 4121, section 4.2.4)
 pub record IsSealedText (sender : Sender) (ec : ℕ) (confounder message token text : List ℕ) : Type 0 where
   pub filler : List ℕ
   pub counted : length filler ≡ ec
   pub sealed : IsSealedBy sender.key.suite sender.key.bytes (seal_usage sender.side) confounder (message ++ (filler ++ header_without_rrc token)) text
 
--- without confidentiality, the data: message, and checksum of EC octets over message and header (section 4.2.4)
+-- the data without confidentiality: message, and checksum of EC octets over message and header (RFC 4121, section 4.2.4)
 pub record IsSummedText (sender : Sender) (ec : ℕ) (message token text : List ℕ) : Type 0 where
   pub sum : List ℕ
   pub is_sum : sum ≡ sum_of sender.key (seal_usage sender.side) (message ++ header_without_counts token)

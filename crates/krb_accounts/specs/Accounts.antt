@@ -12,7 +12,7 @@ use Rattle.krb_accounts.specs.Account.{AccountRecord}
 use Rattle.krb_accounts.specs.declared.refusal.RealmRefusal.{RealmRefusal}
 use Rattle.krb_accounts.specs.declared.refusal.RealmRefusal.TheVariants.{Exists, Unknown, BadKeyLength, NumberSpent}
 
--- by the first component that differs, and there by the first character that differs
+-- the order of names: by the first component that differs, and there by the first character that differs
 abbrev pub name_cmp : List Bytes → List Bytes → Ordering
 name_cmp = slice_cmp (slice_cmp nat_cmp)
 

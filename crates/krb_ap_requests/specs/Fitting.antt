@@ -22,7 +22,7 @@ pub record FitsSuite {T : Type 0} (tree : T → Tree) (etype : ℤ) (key confoun
   pub whole : IsWhole (tree value)
   pub encoded : IsBytes (der (tree value))
 
--- so it is of the ticket's part under the service's key, and of the authenticator under the part's key; and the fields outside
+-- the ticket's part fits the service's key, and the authenticator fits the part's key; the fields outside
 -- have an encoding
 pub record IsFitting (key : Bytes) (choice : Choice) : Type 0 where
   pub part : FitsSuite {T = EncTicketPartInner} enc_ticket_part_tree choice.outer.part_etype key choice.part_confounder choice.part

@@ -12,7 +12,7 @@ use Rattle.picky_asn1.specs.Bytes.{Bytes}
 abbrev pub IsPaddedBy : {T : Type 0} → (T → Tree) → CipherSuite → Bytes → T → Type 0
 IsPaddedBy tree suite text value = (encoding : Bytes) × Writes tree value encoding × (cipher_padded suite encoding ≡ text)
 
--- such a value, or, memory aside, there is none
+-- the result is a value whose padded encoding the text is; or there is no such value, unless memory ran out
 abbrev pub ReadsPadded : {T : Type 0} → (T → Tree) → CipherSuite → Bytes → Result T Asn1DerError → Type 0
 ReadsPadded {T} tree suite text result =
     MatchResult result (IsPaddedBy tree suite text) (λ fault. (fault ≡ Memory) ⊎ ((value : T) → IsPaddedBy tree suite text value → ⊥))

@@ -19,7 +19,7 @@ pub record DeviceBytes : Type 0 where
   pub words : Option (List ℕ)
   pub written : Option (List ℕ)
 
--- such bytes
+-- the bytes of the devices: of the stream, of the random bytes and of what was written
 abbrev pub device_bytes : Option (List ℕ) → Option (List ℕ) → Option (List ℕ) → DeviceBytes
 device_bytes stream words written = record { stream = stream; words = words; written = written }
 

@@ -82,7 +82,7 @@ module _ (client : ClientRecord) (means : MeansRecord) (realm : RealmRecord) (ro
       → (credential : CredentialRecord) × (taken ≡ Ok credential)
       × IsHeld met.granting.account login.realm_words_as (first_grant client realm login span) credential
 
-  -- and the one for the service
+  -- the client takes the ticket for the service that is granted
   unfoldable pub IsFurtherTaken : Type 0
   IsFurtherTaken = (first span : Span) (granting : CredentialRecord) (granted : Bytes) (taken : Taken)
       → IsHeld met.granting.account login.realm_words_as (first_grant client realm login first) granting

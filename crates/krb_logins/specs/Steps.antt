@@ -33,17 +33,17 @@ IsAsAsked client means service till moment words (Ok sent) =
 IsAsAsked client means service till moment words (Err refusal) =
     IsUnasked client means service till moment words refusal × (are_components service ≡ false → refusal ≡ ask_refusal.BadName)
 
--- by a ticket a client asks for exactly the services whose names are names, unless memory runs out
+-- a client refuses to ask for a service by a ticket: the service's name is none, or memory ran out
 abbrev pub IsUnnamed : List Bytes → AskRefusal → Type 0
 IsUnnamed service refusal = (refusal ≡ ask_refusal.Memory) ⊎ ((refusal ≡ ask_refusal.BadName) × (are_components service ≡ false))
 
--- by a ticket it asks for a further one
+-- the client asks for a service ticket by its TGT, or refuses to
 unfoldable pub IsTgsAsked : ClientRecord → CredentialRecord → List Bytes → GeneralizedTime → Micros → Random → Result (Bytes × TgsAskedRecord) AskRefusal → Type 0
 IsTgsAsked client credential service till moment words (Ok sent) =
     AsksTgs client credential service till moment words sent.0 × (sent.1 ≡ tgs_asked credential service words) × (are_components service ≡ true)
 IsTgsAsked client credential service till moment words (Err refusal) = IsUnnamed service refusal
 
--- by a ticket for the service it asks the service, which is to reply, and chooses no subkey
+-- the client makes the AP-REQ by its service ticket, requests a reply and chooses no subkey, or memory ran out
 unfoldable pub IsApAsked : ClientRecord → CredentialRecord → Micros → Random → Result (Bytes × ApAskedRecord) AskRefusal → Type 0
 IsApAsked client credential moment words (Ok sent) =
     AsksAp client credential true false moment words sent.0 × (sent.1 ≡ ap_asked credential false moment words)

@@ -11,7 +11,7 @@ pub record Device : Type 0 where
   pub bytes : Option (List ℕ)
   pub failed : ℕ
 
--- those that random bytes and messages are read from, and the one that replies are written to
+-- the devices that random bytes and messages are read from, and the one that replies are written to
 pub record Devices : Type 0 where
   pub words : Device
   pub reader : Device

@@ -16,7 +16,7 @@ use Rattle.pkinit_trust.specs.Anchors.{AnchorRecord}
 use Rattle.pkinit_clients.specs.Means.{by_certificate}
 use Rattle.krb_kdc.specs.Settings.{IsCertificateIf}
 
--- by a key that the client shares with its realm; or by a certificate, with the authority that the client trusts to issue the realm's
+-- how a client authenticates itself: by a key shared with its realm, or by a certificate, with the anchor of the realm's certificate
 pub data ClientBy : Type 0 where
   ByKey : KeyRecord → ClientBy
   ByCertificate : Bytes → AnchorRecord → ClientBy

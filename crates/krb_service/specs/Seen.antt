@@ -13,7 +13,7 @@ pub record SeenRecord : Type 0 where
 abbrev pub IsWholeSeconds : Micros → Type 0
 IsWholeSeconds span = span % 1000000 ≡ 0
 
--- of the pairs ever admitted those are held that are recent, and no other
+-- exactly those pairs are held that were ever admitted and are recent
 abbrev pub IsWindow : SeenRecord → List PairRecord → Type 0
 IsWindow seen admitted =
     (pair : PairRecord) → is_among pair seen.held ≡ (is_among pair admitted && is_recent seen.skew seen.greatest pair)

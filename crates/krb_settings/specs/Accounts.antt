@@ -33,7 +33,7 @@ password_of value = text_of Password value >>= (λ text. Ok (password text))
 abbrev pub key_of : Data → Result WrittenSecret TableFault
 key_of value = text_of Key value >>= bytes_of >>= (λ bytes. Ok (key bytes))
 
--- of a password and a key there is just one
+-- the secret of an account, which has just one of a password and a key
 abbrev pub secret_of : Option Data → Option Data → Result WrittenSecret TableFault
 -- An account has a password or a key. Test: `neither password nor key`.
 secret_of None None = Err NeitherSecret

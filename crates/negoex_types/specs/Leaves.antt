@@ -73,7 +73,7 @@ signature_layout = judged_layout 6004521257897772366 InvalidData long_layout
 abbrev pub scheme_layout : Layout ℕ
 scheme_layout = judged_layout 1 InvalidInput number_layout
 
--- so many bytes, the first of these; zeros where they are fewer
+-- the first n of these bytes, with zeros after them where they are fewer
 abbrev pub first_bytes : ℕ → List ℕ → List ℕ
 first_bytes n bytes = take n (bytes ++ replicate n 0)
 

@@ -25,7 +25,7 @@ AllFit l (x ∷ xs) = l.Fits x × AllFit l xs
 abbrev pub VectorFits : {V : Type 0} → Layout V → List V → Type 0
 VectorFits l xs = (length xs < 2 ^ 32) × AllFit l xs
 
--- so many elements, or the first fault among them
+-- a vector's elements, or the first fault among them
 abbrev pub elements_at : {V : Type 0} → Layout V → ℕ → ℕ → List ℕ → Answer (List V)
 elements_at l zero place whole = Ok []
 elements_at l (suc n) place whole =

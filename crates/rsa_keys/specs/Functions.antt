@@ -24,7 +24,7 @@ IsPublicPart own key = key.subject_public_key ≡ Rsa (record { 0 = own.public }
 abbrev pub signed_by_own : OwnKey → Bytes → Option Signed
 signed_by_own own text = option_map (λ signature. signed_by own.algorithm signature) (signed own.private Sha256 text)
 
--- the same by the key that there is
+-- the signature by a key over SHA-256, if there is a key and the signature verifies
 abbrev pub signed_by_any : Option OwnKey → Bytes → Option Signed
 signed_by_any (Some own) text = signed_by_own own text
 signed_by_any None text = None

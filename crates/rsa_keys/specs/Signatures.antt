@@ -80,14 +80,14 @@ refusal_named by.ExponentZeroInFront = ZeroInFront
 abbrev pub Numbers : Type 0
 Numbers = List ℕ × List ℕ
 
--- those of a key, unless one of them is negative
+-- the modulus and public exponent of an RSA key, unless one of them is negative
 abbrev pub numbers_of : RsaPublicKey → Result Numbers RsaKeyRefusal
 numbers_of key =
     if is_natural key.modulus && is_natural key.public_exponent then Ok (unsigned_octets key.modulus, unsigned_octets key.public_exponent)
     -- Modulus and public exponent aren't negative (RFC 8017, section 3.1). Test: `check NegativeNumber`, `own NegativeNumber`.
     else Err NegativeNumber
 
--- the same of any key
+-- the modulus and public exponent of a public key, if it is an RSA key
 abbrev pub numbers_in : PublicKey → Result Numbers RsaKeyRefusal
 numbers_in (Rsa key) = numbers_of key.0
 -- The key is one of RSA, as the signature's algorithm is. Test: `check NotRsa`.
@@ -114,7 +114,7 @@ abbrev pub by_key : HashFunction → Result Numbers RsaKeyRefusal → Bytes → 
 by_key hash (Ok numbers) message signature = by_numbers hash numbers message signature
 by_key hash (Err refusal) message signature = Err (Key refusal)
 
--- the same by an algorithm that has a hash function
+-- what becomes of a signature under a key and the hash function of its algorithm, if it has one
 abbrev pub by_hash : Result HashFunction SignatureRefusal → PublicKey → Bytes → Bytes → Result (Unit {0}) SignatureRefusal
 by_hash (Ok hash) key message signature = by_key hash (numbers_in key) message signature
 by_hash (Err refusal) key message signature = Err refusal

@@ -18,7 +18,7 @@ exponent_refusal e =
     else if nat_eq (slice_index e 0) 0 then Some ExponentZeroInFront
     else None
 
--- the same of both numbers, where the modulus is odd and of a fit length
+-- why modulus and public exponent are refused, where the modulus is odd and of a fit length
 abbrev pub further_refusal : List ℕ → List ℕ → Option KeyRefusal
 further_refusal n e = if is_weak n then Some KeyTooWeak else exponent_refusal e
 

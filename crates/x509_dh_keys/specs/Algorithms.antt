@@ -40,7 +40,7 @@ algorithm_content group = element object_identifier_octet (oid_content dh_public
 abbrev pub algorithm_of : Group → List ℕ
 algorithm_of group = element sequence_octet (algorithm_content group)
 
--- the same as the program holds it (law `tables`)
+-- the AlgorithmIdentifier of a group's public values as the program holds it (law `tables`)
 abbrev pub table_of : Group → List ℕ
 table_of Modp1024 = ALGORITHM_1024
 table_of Modp2048 = ALGORITHM_2048

@@ -49,7 +49,7 @@ abbrev pub stands : {A : Type 0} → Option A → Bool
 stands None = false
 stands (Some field) = true
 
--- of two fields of one tag, the later one is kept
+-- the later one of two fields of one tag
 abbrev pub kept : {A : Type 0} → Option A → A → Option A
 kept None field = Some field
 kept (Some behind) field = Some behind

@@ -19,7 +19,7 @@ use_name number =
 abbrev pub further_use : Bits → ℕ → List ℕ
 further_use bits number = if bit_of bits number then codes ", " ++ use_name number else []
 
--- of the uses with these numbers those that the bits have, with `, ` between each two
+-- the uses with these numbers that the bits have, with `, ` between each two
 abbrev pub uses_among : Bits → List ℕ → List ℕ
 uses_among bits [] = []
 uses_among bits (number ∷ numbers) =

@@ -3,7 +3,7 @@ use Rattle.std.specs.Prelude.{◌≡◌, ℕ, ◌+◌, max, Bool, ◌==◌, if�
 use Rattle.picky_asn1.specs.BitString.{Bits, bit_count, bit_of}
 use Rattle.x509_extensions.specs.declared.key_usage.KeyUsage.{KeyUsage}
 
--- the same bits, and zeros behind them
+-- the wider string has `count` bits: these bits, and zeros after them
 abbrev pub IsWidened : Bits → ℕ → Bits → Type 0
 IsWidened bits count wider = (bit_count wider ≡ count) × ((k : ℕ) → bit_of wider k ≡ bit_of bits k)
 

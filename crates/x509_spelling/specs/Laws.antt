@@ -20,7 +20,7 @@ IsElementOf firsts bytes =
 pub record SpellingLaws {T : Type 0} (is_low : Bool) (firsts : Firsts) (tree : T → Tree) (spells : T → List ℕ → ℕ → Type 0) : Type 0 where
   -- the DER spelling is one, with no deviation
   pub strict : (v : T) → IsWhole (tree v) → spells v (der (tree v)) 0
-  -- and is the only one without
+  -- no other spelling is without a deviation
   pub only : (v : T) (b : List ℕ) → spells v b 0 → b ≡ der (tree v)
   -- what is spelled can be written
   pub whole : (v : T) (b : List ℕ) (n : ℕ) → spells v b n → IsWhole (tree v)
@@ -29,11 +29,11 @@ pub record SpellingLaws {T : Type 0} (is_low : Bool) (firsts : Firsts) (tree : T
   pub element_of : (v : T) (b : List ℕ) (n : ℕ) → spells v b n → IsElementOf firsts b
   pub low : IsTrue is_low → (v : T) (b : List ℕ) (n : ℕ) → spells v b n → has_low_tag b ≡ true
 
--- where anything is there, it begins with one of these
+-- the bytes are empty, or begin with one of these octets
 abbrev pub Starts : Firsts → List ℕ → Type 0
 Starts firsts bytes = (octet : ℕ) (rest : List ℕ) → bytes ≡ octet ∷ rest → IsTrue (may_begin firsts octet)
 
--- the same of the fields of a SEQUENCE
+-- the laws of the spellings of the fields of a SEQUENCE
 pub record RowLaws {T : Type 0} (firsts : Firsts) (trees : T → Trees) (spells : T → List ℕ → ℕ → Type 0) : Type 0 where
   pub strict : (v : T) → AreWhole (trees v) → spells v (ders (trees v)) 0
   pub only : (v : T) (b : List ℕ) → spells v b 0 → b ≡ ders (trees v)
@@ -41,7 +41,7 @@ pub record RowLaws {T : Type 0} (firsts : Firsts) (trees : T → Trees) (spells 
   pub one : (v w : T) (b : List ℕ) (m n : ℕ) → spells v b m → spells w b n → (v ≡ w) × (m ≡ n)
   pub starts : (v : T) (b : List ℕ) (n : ℕ) → spells v b n → Starts firsts b
 
--- the same of one field in front of others, which are written as `ts` and begin with one of `others`
+-- the laws of the spellings of a field in front of others, which are written as `ts` and begin with one of `others`
 pub record FieldLaws {T : Type 0} (before : Firsts → Firsts) (is_told : Firsts → Bool) (put : T → Trees → Trees)
     (leads : T → List ℕ → List ℕ → ℕ → Type 0) : Type 0 where
   pub strict : (v : T) (ts : Trees) (others : Firsts) → IsTrue (is_told others) → (AreWhole ts → Starts others (ders ts))
