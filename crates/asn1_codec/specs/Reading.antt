@@ -156,7 +156,7 @@ pub record Tells (firsts : Firsts) (answer : Bool) (old : Reading) : Type 0 wher
   pub some : answer ≡ true → 1 ≤ old.limit
   pub first : (octet : ℕ) (bytes : List ℕ) → old.left ≡ Some (octet ∷ bytes) → 1 ≤ old.limit → may_begin firsts octet ≡ answer
 
--- the same reading with another limit
+-- the reading with another limit
 abbrev pub within : ℕ → Reading → Reading
 within limit r = record {
   left = r.left;
@@ -168,7 +168,7 @@ within limit r = record {
   through = r.through;
 }
 
--- the same reading after a refusal
+-- the reading after a refusal
 abbrev pub stopped : Reading → Reading
 stopped r = record {
   left = r.left;

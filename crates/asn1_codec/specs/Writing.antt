@@ -54,7 +54,7 @@ pub record NotWrote (refusal : Option Unsupported) (bytes : List ℕ) (old new :
   pub cause : ((old.failed ≡ true) × (fault ≡ InvalidSink) × (new.faults ≡ old.faults))
       ⊎ ((old.failed ≡ false) × IsSinkFault bytes old new fault × ((refusal ≡ None) ⊎ IsTooLong bytes))
 
--- the same writing after a failed call
+-- the writing after a failed call
 abbrev pub halted : Writing → Writing
 halted w = record {
   held = w.held;

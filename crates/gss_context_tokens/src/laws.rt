@@ -21,7 +21,8 @@ pub fn one_krb_message<T: FromDer>()
         → Alike (seen_message T.seen) m n }
 {}
 
-/// The same octets begin one IAKERB proxy message alone, up to what is seen of it. It does nothing when it runs.
+/// The law that bytes begin with the token of one IAKERB proxy message at most, up to what is seen of it. It does nothing when it runs:
+/// its contract is the law.
 pub fn one_proxy_message<T: FromDer>()
     ensures { (m n : IAKerbProxyMessage T) (bytes : List ℕ) → BeginsProxyMessage T.reads m bytes → BeginsProxyMessage T.reads n bytes
         → Alike (seen_proxy_message T.seen) m n }

@@ -53,11 +53,11 @@ progress_of pending =
     if waits pending pending.form then Ok (ContinueNeeded pending)
     else then_judged (own_context pending) (λ context. Ok (Established context))
 
--- the context stands as wanted, or memory ran out
+-- the result is the wanted progress or refusal, or memory ran out
 abbrev pub IsProgress : Result Progress InitiateRefusal → Result Progress InitiateRefusal → Type 0
 IsProgress wanted result = (result ≡ Err Memory) ⊎ (result ≡ wanted)
 
--- the result has this token to send and stands as wanted, or memory ran out
+-- the result is this token to send with the wanted progress, or the wanted refusal, or memory ran out
 abbrev pub IsSent : Bytes → Result Progress InitiateRefusal → Result InitiatedRecord InitiateRefusal → Type 0
 IsSent token wanted (Ok made) = (made.token ≡ token) × (wanted ≡ Ok made.progress)
 IsSent token wanted (Err refusal) = (refusal ≡ Memory) ⊎ (wanted ≡ Err refusal)

@@ -9,8 +9,8 @@ ghost use Rattle.krb_frames.specs.declared.fault.ServeFault.TheVariants.{NoReque
 
 use crate::{Responder, SoleResponder};
 
-/// Of two runs over the same moments, stream and random bytes, the replies of one are the first
-/// replies of the other. It does nothing when it runs: its contract is the law.
+/// Two runs over the same moments, stream and random bytes agree: the replies of one are the first replies of the other. It does
+/// nothing when it runs: its contract is the law.
 pub fn runs_agree<A: SoleResponder>()
     ensures { (responder : A) (start s t : Left) (done more : List (List ℕ)) → Run (A.replies responder) start done s
         → Run (A.replies responder) start more t → IsFrontOf done more ⊎ IsFrontOf more done }
@@ -32,7 +32,7 @@ pub fn output_is_whole<A: SoleResponder>()
         → length written ≤ length (concat (map framed more)) → IsFrontOf written (concat (map framed more)) }
 {}
 
-/// By a [`Tolerant`](crate::Tolerant) responder serving never stops at a message that is no request, which gets the empty reply. Each
+/// Serving by a [`Tolerant`](crate::Tolerant) responder never stops at a message that is no request, which gets the empty reply. Each
 /// reply of the responder within stays. It does nothing when it runs: its contract is the law.
 pub fn goes_on<A: Responder>()
     ensures never { (responder : A) → ¬ MayRefuse (Tolerates (A.replies responder)) }

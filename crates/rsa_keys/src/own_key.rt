@@ -95,7 +95,7 @@ impl OwnKey {
         }
     }
 
-    /// The same key, which signs by its two primes, in a third of the time (RFC 8017, section 5.2.1). Where their length doesn't fit the
+    /// This key, which then signs by its two primes, in a third of the time (RFC 8017, section 5.2.1). Where their length doesn't fit the
     /// modulus's, it signs by the exponent.
     pub fn with_primes(self, primes: Primes) -> OwnKey
         ensures public { result.public ≡ self.public }

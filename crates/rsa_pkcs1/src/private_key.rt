@@ -36,7 +36,7 @@ impl PrivateKey {
         }
     }
 
-    /// The same key, which signs by these primes. Where their length doesn't fit the modulus's, it signs by the exponent.
+    /// This key, which then signs by these primes. Where their length doesn't fit the modulus's, it signs by the exponent.
     pub fn with_primes(self, primes: Primes) -> PrivateKey
         ensures public { result.public ≡ self.public }
         ensures exponent { result.exponent ≡ self.exponent }
