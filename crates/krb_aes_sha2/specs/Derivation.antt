@@ -8,6 +8,7 @@ use Rattle.aes_cts.specs.declared.aes.AesSize.TheVariants.{Aes128, Aes256}
 use Rattle.krb_profile.specs.Hmac.{hmac_of}
 use Rattle.krb_profile.specs.Pbkdf2.{pbkdf2_of}
 use Rattle.krb_profile.specs.Kdf.{kdf_of}
+use Rattle.krb_aes_sha2.specs.declared.derivation.TheConstants.{AES_SHA2_ITERATIONS}
 
 -- HMAC-SHA-256 with keys of 128 bits, HMAC-SHA-384 with keys of 256 bits (RFC 8009, section 5)
 unfoldable pub hmac_sha2_of : AesSize → List ℕ → List ℕ → List ℕ
@@ -39,4 +40,4 @@ sha2_derived_key_of aes size key label = kdf_of (hmac_sha2_of aes) key label siz
 unfoldable pub sha2_password_key_of : AesSize → List ℕ → List ℕ → List ℕ
 sha2_password_key_of aes password salt =
     sha2_derived_key_of aes (key_length_of aes)
-    (pbkdf2_of (hmac_sha2_of aes) (hmac_size_of aes) password (name_of aes ++ 0 ∷ salt) 32768 (key_length_of aes)) (codes "kerberos")
+    (pbkdf2_of (hmac_sha2_of aes) (hmac_size_of aes) password (name_of aes ++ 0 ∷ salt) AES_SHA2_ITERATIONS (key_length_of aes)) (codes "kerberos")

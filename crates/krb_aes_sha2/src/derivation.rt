@@ -4,16 +4,17 @@ ghost use Rattle.std.specs.Prelude.{◌≡◌, ◌≢◌, [], ◌∷◌, ◌++�
 ghost use Rattle.aes_cts.specs.AesSize.{key_length_of};
 ghost use Rattle.aes_cts.specs.declared.error.KerberosCryptoError.TheVariants.{KeyLength, Memory};
 ghost use Rattle.krb_profile.specs.Pbkdf2.{pbkdf2_of};
+ghost use Rattle.krb_aes_sha2.specs.declared.derivation.TheConstants.{AES_SHA2_ITERATIONS};
 ghost use Rattle.krb_aes_sha2.specs.Derivation.{hmac_sha2_of, hmac_size_of, name_of, sha2_derived_key_of, sha2_password_key_of};
 
 use crate::mac::{check_key_length, derived};
-use aes_cts::{AesSize, KerberosCryptoResult};
+use aes_cts::{AES128_KEY_SIZE, AES256_KEY_SIZE, AesSize, KerberosCryptoResult};
 use krb_profile::{KERBEROS, pbkdf2_hmac};
 use sha2::{Sha256, Sha384};
 use std::alloc::{AllocError, Global};
 
-// The rounds of PBKDF2 where no others are asked for (RFC 8009, section 4).
-const ROUNDS: u32 = 32_768;
+/// The default iteration count of PBKDF2 (RFC 8009, section 4).
+pub const AES_SHA2_ITERATIONS: u32 = 32_768;
 
 /// The key that is derived from another one and a label: as long as the key. A key of another length is refused
 /// (`KeyLength`).
@@ -83,11 +84,23 @@ fn password_seed(
     aes_size: &AesSize,
 ) -> Result<Vec<u8>, AllocError>
     ensures { IfOk result (λ v. v.items ≡ pbkdf2_of (hmac_sha2_of aes_size.now) (hmac_size_of aes_size.now)
-        password.now salt.now 32768 (key_length_of aes_size.now)) }
+        password.now salt.now AES_SHA2_ITERATIONS (key_length_of aes_size.now)) }
 {
     match aes_size {
-        AesSize::Aes128 => pbkdf2_hmac::<Sha256, 32, 64>(alloc, password, salt, ROUNDS, 16),
-        AesSize::Aes256 => pbkdf2_hmac::<Sha384, 48, 128>(alloc, password, salt, ROUNDS, 32),
+        AesSize::Aes128 => pbkdf2_hmac::<Sha256, 32, 64>(
+            alloc,
+            password,
+            salt,
+            AES_SHA2_ITERATIONS,
+            AES128_KEY_SIZE,
+        ),
+        AesSize::Aes256 => pbkdf2_hmac::<Sha384, 48, 128>(
+            alloc,
+            password,
+            salt,
+            AES_SHA2_ITERATIONS,
+            AES256_KEY_SIZE,
+        ),
     }
 }
 

@@ -11,7 +11,7 @@ mod mac;
 mod opening;
 mod sealing;
 
-pub use derivation::{derive_key, derive_key_from_password, random_to_key};
+pub use derivation::{AES_SHA2_ITERATIONS, derive_key, derive_key_from_password, random_to_key};
 pub use opening::{decrypt_message, decrypt_message_no_checksum};
 pub use sealing::{
     checksum_sha2, encrypt_message, encrypt_message_no_checksum, encryption_checksum,

@@ -2,14 +2,10 @@
 ghost use Rattle.std.specs.Prelude.{◌≡◌};
 ghost use Rattle.krb_etype_info.specs.Parameters.{are_parameters, has_own_parameters, iterations};
 
+use krb_aes::AES_ITERATIONS;
+use krb_aes_sha2::AES_SHA2_ITERATIONS;
 use krb_crypto::CipherSuite;
 use krb_types::data_types::EtypeInfo2Entry;
-
-/// The iteration count of AES (RFC 3962, section 4).
-pub const AES_ITERATIONS: u32 = 4096;
-
-/// The iteration count of AES with SHA-2 (RFC 8009, section 4).
-pub const AES_SHA2_ITERATIONS: u32 = 32768;
 
 /// Whether the entry has no `s2kparams`, or the suite's own.
 pub(crate) fn has_own_parameters(suite: CipherSuite, entry: &EtypeInfo2Entry) -> bool
