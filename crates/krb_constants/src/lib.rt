@@ -1,4 +1,4 @@
-//! Numbers of the standards: each stands here once. Those of encryption types that are supported are `krb_crypto::CipherSuite`'s own.
+//! Numbers of the standards: each stands here once. `krb_crypto` gives its suites their numbers by these names.
 //!
 //! `picky_krb` hands them on under the paths of the ported crate.
 //!

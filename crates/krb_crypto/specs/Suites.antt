@@ -7,6 +7,8 @@ use Rattle.krb_profile.specs.Profile.{Profile}
 use Rattle.krb_aes.specs.Suites.{aes_profile}
 use Rattle.krb_aes_sha2.specs.Suites.{aes_sha2_profile}
 use Rattle.krb_des3.specs.Suite.{des3_profile}
+use Rattle.krb_constants.specs.declared.etypes.TheConstants.{AES128_CTS_HMAC_SHA1_96, AES128_CTS_HMAC_SHA256_128, AES256_CTS_HMAC_SHA1_96, AES256_CTS_HMAC_SHA384_192, DES3_CBC_SHA1_KD}
+use Rattle.krb_constants.specs.declared.cksum_types.TheConstants.{HMAC_SHA1_96_AES128, HMAC_SHA1_96_AES256, HMAC_SHA1_DES3_KD, HMAC_SHA256_128_AES128, HMAC_SHA384_192_AES256}
 use Rattle.krb_crypto.specs.declared.family.Family.{Family}
 use Rattle.krb_crypto.specs.declared.family.Family.TheVariants.{Aes, TripleDes, AesSha2}
 use Rattle.krb_crypto.specs.declared.suite.CipherSuite.{CipherSuite}
@@ -38,11 +40,11 @@ cipher_suites = Aes128CtsHmacSha196 ∷ Aes256CtsHmacSha196 ∷ Des3CbcSha1Kd �
 -- The etypes are 17 and 18 (AES), 19 and 20 (AES with SHA-2) and 16 (triple DES) (RFC 3962, section 7; RFC 3961, section 8; RFC 8009,
 -- section 7). Test: `numbers` of `aes_sha2.rt`, `numbers` of `des.rt`.
 abbrev pub cipher_number : CipherSuite → ℕ
-cipher_number Aes128CtsHmacSha196 = 17
-cipher_number Aes256CtsHmacSha196 = 18
-cipher_number Des3CbcSha1Kd = 16
-cipher_number Aes128CtsHmacSha256128 = 19
-cipher_number Aes256CtsHmacSha384192 = 20
+cipher_number Aes128CtsHmacSha196 = AES128_CTS_HMAC_SHA1_96
+cipher_number Aes256CtsHmacSha196 = AES256_CTS_HMAC_SHA1_96
+cipher_number Des3CbcSha1Kd = DES3_CBC_SHA1_KD
+cipher_number Aes128CtsHmacSha256128 = AES128_CTS_HMAC_SHA256_128
+cipher_number Aes256CtsHmacSha384192 = AES256_CTS_HMAC_SHA384_192
 
 -- how many bytes a suite's key has
 abbrev pub cipher_key_size : CipherSuite → ℕ
@@ -79,11 +81,11 @@ checksum_suites = HmacSha196Aes128 ∷ HmacSha196Aes256 ∷ HmacSha1Des3Kd ∷ H
 -- The cksumtypes are 15 and 16 (AES), 19 and 20 (AES with SHA-2) and 12 (triple DES) (RFC 3962, section 7; RFC 3961, section 8; RFC
 -- 8009, section 7). Test: `numbers` of `aes_sha2.rt`, `numbers` of `des.rt`.
 abbrev pub checksum_number : ChecksumSuite → ℕ
-checksum_number HmacSha196Aes128 = 15
-checksum_number HmacSha196Aes256 = 16
-checksum_number HmacSha1Des3Kd = 12
-checksum_number HmacSha256128Aes128 = 19
-checksum_number HmacSha384192Aes256 = 20
+checksum_number HmacSha196Aes128 = HMAC_SHA1_96_AES128
+checksum_number HmacSha196Aes256 = HMAC_SHA1_96_AES256
+checksum_number HmacSha1Des3Kd = HMAC_SHA1_DES3_KD
+checksum_number HmacSha256128Aes128 = HMAC_SHA256_128_AES128
+checksum_number HmacSha384192Aes256 = HMAC_SHA384_192_AES256
 
 -- the checksum that belongs to a suite (RFC 3962, section 7; RFC 3961, section 6.3; RFC 8009, section 6)
 abbrev pub cipher_checksum : CipherSuite → ChecksumSuite

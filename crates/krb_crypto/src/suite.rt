@@ -3,7 +3,16 @@
 ghost use Rattle.std.specs.Prelude.{◌≡◌};
 ghost use Rattle.krb_crypto.specs.Suites.{IsChecksumOf, IsCipherOf, IsCipherOfByte, checksum_number, checksum_suites, cipher_key_size, cipher_number, cipher_suites};
 
-use aes_cts::KerberosCryptoError;
+use aes_cts::{AES128_KEY_SIZE, AES256_KEY_SIZE, KerberosCryptoError};
+use des3_cbc::DES3_KEY_SIZE;
+use krb_constants::cksum_types::{
+    HMAC_SHA1_96_AES128, HMAC_SHA1_96_AES256, HMAC_SHA1_DES3_KD, HMAC_SHA256_128_AES128,
+    HMAC_SHA384_192_AES256,
+};
+use krb_constants::etypes::{
+    AES128_CTS_HMAC_SHA1_96, AES128_CTS_HMAC_SHA256_128, AES256_CTS_HMAC_SHA1_96,
+    AES256_CTS_HMAC_SHA384_192, DES3_CBC_SHA1_KD,
+};
 
 /// The ways to encrypt (RFC 3962, section 7; RFC 3961, section 6.3; RFC 8009, section 5).
 #[derive(Clone, Copy, Debug, PartialEq, Eq)]
@@ -43,11 +52,11 @@ impl CipherSuite {
         ensures { result ≡ cipher_key_size self }
     {
         match self {
-            CipherSuite::Aes128CtsHmacSha196 => 16,
-            CipherSuite::Aes256CtsHmacSha196 => 32,
-            CipherSuite::Des3CbcSha1Kd => 24,
-            CipherSuite::Aes128CtsHmacSha256128 => 16,
-            CipherSuite::Aes256CtsHmacSha384192 => 32,
+            CipherSuite::Aes128CtsHmacSha196 => AES128_KEY_SIZE,
+            CipherSuite::Aes256CtsHmacSha196 => AES256_KEY_SIZE,
+            CipherSuite::Des3CbcSha1Kd => DES3_KEY_SIZE,
+            CipherSuite::Aes128CtsHmacSha256128 => AES128_KEY_SIZE,
+            CipherSuite::Aes256CtsHmacSha384192 => AES256_KEY_SIZE,
         }
     }
 }
@@ -58,11 +67,11 @@ impl From<CipherSuite> for u8 {
 
     fn from(suite: CipherSuite) -> u8 {
         match suite {
-            CipherSuite::Aes128CtsHmacSha196 => 17,
-            CipherSuite::Aes256CtsHmacSha196 => 18,
-            CipherSuite::Des3CbcSha1Kd => 16,
-            CipherSuite::Aes128CtsHmacSha256128 => 19,
-            CipherSuite::Aes256CtsHmacSha384192 => 20,
+            CipherSuite::Aes128CtsHmacSha196 => AES128_CTS_HMAC_SHA1_96 as u8,
+            CipherSuite::Aes256CtsHmacSha196 => AES256_CTS_HMAC_SHA1_96 as u8,
+            CipherSuite::Des3CbcSha1Kd => DES3_CBC_SHA1_KD as u8,
+            CipherSuite::Aes128CtsHmacSha256128 => AES128_CTS_HMAC_SHA256_128 as u8,
+            CipherSuite::Aes256CtsHmacSha384192 => AES256_CTS_HMAC_SHA384_192 as u8,
         }
     }
 }
@@ -101,13 +110,18 @@ impl TryFrom<usize> for CipherSuite {
     ghost try_from_gives = { λ number result. IsCipherOf number result };
 
     fn try_from(number: usize) -> Result<CipherSuite, KerberosCryptoError> {
-        match number {
-            16 => Ok(CipherSuite::Des3CbcSha1Kd),
-            17 => Ok(CipherSuite::Aes128CtsHmacSha196),
-            18 => Ok(CipherSuite::Aes256CtsHmacSha196),
-            19 => Ok(CipherSuite::Aes128CtsHmacSha256128),
-            20 => Ok(CipherSuite::Aes256CtsHmacSha384192),
-            _ => Err(KerberosCryptoError::AlgorithmIdentifier(number)),
+        if number == DES3_CBC_SHA1_KD {
+            Ok(CipherSuite::Des3CbcSha1Kd)
+        } else if number == AES128_CTS_HMAC_SHA1_96 {
+            Ok(CipherSuite::Aes128CtsHmacSha196)
+        } else if number == AES256_CTS_HMAC_SHA1_96 {
+            Ok(CipherSuite::Aes256CtsHmacSha196)
+        } else if number == AES128_CTS_HMAC_SHA256_128 {
+            Ok(CipherSuite::Aes128CtsHmacSha256128)
+        } else if number == AES256_CTS_HMAC_SHA384_192 {
+            Ok(CipherSuite::Aes256CtsHmacSha384192)
+        } else {
+            Err(KerberosCryptoError::AlgorithmIdentifier(number))
         }
     }
 }
@@ -119,13 +133,13 @@ impl TryFrom<&[u8]> for CipherSuite {
     ghost try_from_gives = { λ bytes result. IsCipherOfByte bytes.now result };
 
     fn try_from(bytes: &[u8]) -> Result<CipherSuite, KerberosCryptoError> {
+        let refused = KerberosCryptoError::AlgorithmIdentifierData(bytes.len());
         match bytes {
-            [16] => Ok(CipherSuite::Des3CbcSha1Kd),
-            [17] => Ok(CipherSuite::Aes128CtsHmacSha196),
-            [18] => Ok(CipherSuite::Aes256CtsHmacSha196),
-            [19] => Ok(CipherSuite::Aes128CtsHmacSha256128),
-            [20] => Ok(CipherSuite::Aes256CtsHmacSha384192),
-            _ => Err(KerberosCryptoError::AlgorithmIdentifierData(bytes.len())),
+            [number] => match CipherSuite::try_from(usize::from(*number)) {
+                Ok(suite) => Ok(suite),
+                Err(_) => Err(refused),
+            },
+            _ => Err(refused),
         }
     }
 }
@@ -170,11 +184,11 @@ impl From<ChecksumSuite> for u8 {
 
     fn from(suite: ChecksumSuite) -> u8 {
         match suite {
-            ChecksumSuite::HmacSha196Aes128 => 15,
-            ChecksumSuite::HmacSha196Aes256 => 16,
-            ChecksumSuite::HmacSha1Des3Kd => 12,
-            ChecksumSuite::HmacSha256128Aes128 => 19,
-            ChecksumSuite::HmacSha384192Aes256 => 20,
+            ChecksumSuite::HmacSha196Aes128 => HMAC_SHA1_96_AES128 as u8,
+            ChecksumSuite::HmacSha196Aes256 => HMAC_SHA1_96_AES256 as u8,
+            ChecksumSuite::HmacSha1Des3Kd => HMAC_SHA1_DES3_KD as u8,
+            ChecksumSuite::HmacSha256128Aes128 => HMAC_SHA256_128_AES128 as u8,
+            ChecksumSuite::HmacSha384192Aes256 => HMAC_SHA384_192_AES256 as u8,
         }
     }
 }
@@ -222,13 +236,18 @@ impl TryFrom<usize> for ChecksumSuite {
     ghost try_from_gives = { λ number result. IsChecksumOf number result };
 
     fn try_from(number: usize) -> Result<ChecksumSuite, KerberosCryptoError> {
-        match number {
-            12 => Ok(ChecksumSuite::HmacSha1Des3Kd),
-            15 => Ok(ChecksumSuite::HmacSha196Aes128),
-            16 => Ok(ChecksumSuite::HmacSha196Aes256),
-            19 => Ok(ChecksumSuite::HmacSha256128Aes128),
-            20 => Ok(ChecksumSuite::HmacSha384192Aes256),
-            _ => Err(KerberosCryptoError::AlgorithmIdentifier(number)),
+        if number == HMAC_SHA1_DES3_KD {
+            Ok(ChecksumSuite::HmacSha1Des3Kd)
+        } else if number == HMAC_SHA1_96_AES128 {
+            Ok(ChecksumSuite::HmacSha196Aes128)
+        } else if number == HMAC_SHA1_96_AES256 {
+            Ok(ChecksumSuite::HmacSha196Aes256)
+        } else if number == HMAC_SHA256_128_AES128 {
+            Ok(ChecksumSuite::HmacSha256128Aes128)
+        } else if number == HMAC_SHA384_192_AES256 {
+            Ok(ChecksumSuite::HmacSha384192Aes256)
+        } else {
+            Err(KerberosCryptoError::AlgorithmIdentifier(number))
         }
     }
 }
