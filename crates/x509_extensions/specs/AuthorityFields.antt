@@ -32,8 +32,6 @@ field_back (KeyIdentifier key) = refl
 field_back (Issuer issuer) = refl
 field_back (SerialNumber number) = refl
 
--- a field under its tag
-
 -- A field that may be missing, under its implicit tag (X.680, section 31.2).
 abbrev pub implicit : {T : Type 0} (n : ℕ) → Option T → Option (ImplicitContextTag n T)
 implicit n None = None
